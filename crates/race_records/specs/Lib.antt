@@ -1,1 +1,3 @@
 pub mod Name
+pub mod Declarations
+pub mod Tables

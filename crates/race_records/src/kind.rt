@@ -1,4 +1,15 @@
 //! What can be declared, and the numbers by which events name it.
+ghost use Rattle.std.specs.Prelude.{◌≡◌};
+ghost use Rattle.race_records.specs.Declarations as spec;
+
+/// The most goroutines of a trace, main included.
+pub const MAX_GOROUTINES: u32 = 1024;
+
+/// The most variables, channels, locks and onces of a trace, of each.
+pub const MAX_OBJECTS: u32 = 65_535;
+
+/// The greatest capacity of a channel.
+pub const MAX_CAPACITY: u32 = 65_535;
 
 /// The kinds of things that a trace declares.
 #[derive(Clone, Copy, Debug, PartialEq, Eq)]
@@ -13,6 +24,34 @@ pub enum Kind {
     Lock,
     /// Onces.
     Once,
+}
+
+impl Kind {
+    /// The most of this kind that a trace can have, main among the goroutines.
+    pub fn limit(self) -> u32
+        ensures { result ≡ spec.limit_of self }
+    {
+        match self {
+            Kind::Goroutine => MAX_GOROUTINES,
+            Kind::Var => MAX_OBJECTS,
+            Kind::Chan => MAX_OBJECTS,
+            Kind::Lock => MAX_OBJECTS,
+            Kind::Once => MAX_OBJECTS,
+        }
+    }
+
+    // The number of the first one that is declared: main is goroutine 0 and isn't declared.
+    pub(crate) fn first_number(self) -> u32
+        ensures { result ≡ spec.first_number self }
+    {
+        match self {
+            Kind::Goroutine => 1,
+            Kind::Var => 0,
+            Kind::Chan => 0,
+            Kind::Lock => 0,
+            Kind::Once => 0,
+        }
+    }
 }
 
 /// One declared thing: its kind, and its number among those of its kind.
@@ -43,4 +82,45 @@ pub enum Object {
     Lock(bool),
     /// A once.
     Once,
+}
+
+impl Object {
+    /// The kind of what is declared.
+    pub fn kind(self) -> Kind
+        ensures { result ≡ spec.kind_of self }
+    {
+        match self {
+            Object::Goroutine => Kind::Goroutine,
+            Object::Var => Kind::Var,
+            Object::Chan(_) => Kind::Chan,
+            Object::Lock(_) => Kind::Lock,
+            Object::Once => Kind::Once,
+        }
+    }
+
+    // The object of this number.
+    pub(crate) fn named(self, number: u32) -> Named
+        ensures { result ≡ spec.named self number }
+    {
+        match self {
+            Object::Goroutine => Named::Goroutine(number),
+            Object::Var => Named::Var(number),
+            Object::Chan(_) => Named::Chan(number),
+            Object::Lock(_) => Named::Lock(number),
+            Object::Once => Named::Once(number),
+        }
+    }
+
+    // Whether a channel's capacity is over its limit.
+    pub(crate) fn is_too_wide(self) -> bool
+        ensures { result ≡ spec.is_too_wide self }
+    {
+        match self {
+            Object::Chan(capacity) => capacity > MAX_CAPACITY,
+            Object::Goroutine => false,
+            Object::Var => false,
+            Object::Lock(_) => false,
+            Object::Once => false,
+        }
+    }
 }

@@ -1,10 +1,21 @@
 //! Names, events and traces: what a run of goroutines is recorded as, before any judgement.
 #![tactic(auto)]
 
+mod declarations;
 mod event;
+mod indexes;
 mod kind;
 mod name;
+mod names;
+mod places;
 
+pub use declarations::{DeclFault, MAX_PLACES};
 pub use event::{Event, Op};
-pub use kind::{Kind, Named, Object};
+pub use kind::{Kind, MAX_CAPACITY, MAX_GOROUTINES, MAX_OBJECTS, Named, Object};
 pub use name::{MAX_NAME_LEN, MAX_PLACE_LEN, is_name, is_place};
+#[doc(hidden)]
+pub use indexes::Indexes;
+#[doc(hidden)]
+pub use names::{Names, Slot};
+#[doc(hidden)]
+pub use places::Places;

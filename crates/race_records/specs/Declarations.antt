@@ -1,0 +1,155 @@
+-- What a list of declarations and a table of places say to a caller: numbers, names, and when an addition is refused.
+use Rattle.std.specs.Prelude.{◌≡◌, ◌≢◌, ℕ, ◌+◌, ◌-◌, ◌<◌, ◌≤◌, ◌==◌, Bool, true, false, not, if◌then◌else◌, nat_le, nat_lt, List, [], ◌∷◌, ◌++◌, length, filter, take, position, slice_get, Option, Some, None, is_some, option_and_then, IsTrue, All, AllPairs}
+use Rattle.std.specs.List.{list_any, position_or_len}
+use Rattle.std.specs.Option.{option_map}
+use Rattle.std.specs.Str.{bytes_eq}
+use Rattle.race_records.specs.declared.kind.Kind.{Kind}
+use Rattle.race_records.specs.declared.kind.Named.{Named}
+use Rattle.race_records.specs.declared.kind.Object.{Object}
+use Rattle.race_records.specs.declared.declarations.DeclFault.{DeclFault}
+use Rattle.race_records.specs.declared.declarations.DeclFault.TheVariants.{BadName, Taken, TooMany, BadCapacity}
+use Rattle.race_records.specs.declared.kind.TheConstants.{MAX_GOROUTINES, MAX_OBJECTS, MAX_CAPACITY}
+use Rattle.race_records.specs.declared.declarations.TheConstants.{MAX_PLACES}
+use Rattle.race_records.specs.Name.{main, is_name, is_place}
+
+-- a name, and what it is declared as
+pub record Declaration : Type 0 where
+  pub name : List ℕ
+  pub object : Object
+
+-- a `Decls` as its callers see it: the declarations in order, and the places in the order in which they came
+pub record DeclsState : Type 0 where
+  pub declarations : List Declaration
+  pub places : List (List ℕ)
+
+-- the kind of what is declared
+abbrev pub kind_of : Object → Kind
+kind_of Object.Goroutine = Kind.Goroutine
+kind_of Object.Var = Kind.Var
+kind_of (Object.Chan capacity) = Kind.Chan
+kind_of (Object.Lock rw) = Kind.Lock
+kind_of Object.Once = Kind.Once
+
+-- the object is of the kind
+abbrev pub is_of_kind : Kind → Object → Bool
+is_of_kind Kind.Goroutine Object.Goroutine = true
+is_of_kind Kind.Var Object.Var = true
+is_of_kind Kind.Chan (Object.Chan capacity) = true
+is_of_kind Kind.Lock (Object.Lock rw) = true
+is_of_kind Kind.Once Object.Once = true
+is_of_kind _ _ = false
+
+-- the first number that a declaration of the kind can have: main is goroutine 0 and isn't declared
+abbrev pub first_number : Kind → ℕ
+first_number Kind.Goroutine = 1
+first_number _ = 0
+
+-- the most of the kind that a trace can have, main among the goroutines
+abbrev pub limit_of : Kind → ℕ
+limit_of Kind.Goroutine = MAX_GOROUTINES
+limit_of _ = MAX_OBJECTS
+
+-- the declarations of the kind, in order
+abbrev pub of_kind : Kind → List Declaration → List Declaration
+of_kind kind ds = filter (λ d. is_of_kind kind d.object) ds
+
+-- how many of the kind there are, main counted: also the number that the next one gets
+abbrev pub count_of : Kind → List Declaration → ℕ
+count_of kind ds = first_number kind + length (of_kind kind ds)
+
+-- the object by its kind and its number
+abbrev pub named : Object → ℕ → Named
+named Object.Goroutine n = Named.Goroutine n
+named Object.Var n = Named.Var n
+named (Object.Chan capacity) n = Named.Chan n
+named (Object.Lock rw) n = Named.Lock n
+named Object.Once n = Named.Once n
+
+-- what declaration i declares: its number counts those of its kind before it
+abbrev pub declared_at : List Declaration → ℕ → Option Named
+declared_at ds i = option_map (λ d. named d.object (count_of (kind_of d.object) (take i ds))) (slice_get ds i)
+
+-- what the word names
+abbrev pub find_name : List Declaration → List ℕ → Option Named
+find_name ds word =
+    if bytes_eq word main then Some (Named.Goroutine 0)
+    else option_and_then (declared_at ds) (position (λ d. bytes_eq word d.name) ds)
+
+-- the kind of what is named, and its number
+abbrev pub kind_of_named : Named → Kind
+kind_of_named (Named.Goroutine n) = Kind.Goroutine
+kind_of_named (Named.Var n) = Kind.Var
+kind_of_named (Named.Chan n) = Kind.Chan
+kind_of_named (Named.Lock n) = Kind.Lock
+kind_of_named (Named.Once n) = Kind.Once
+
+abbrev pub number_of : Named → ℕ
+number_of (Named.Goroutine n) = n
+number_of (Named.Var n) = n
+number_of (Named.Chan n) = n
+number_of (Named.Lock n) = n
+number_of (Named.Once n) = n
+
+-- the number is in range: there is such an object
+abbrev pub IsDeclared : List Declaration → Named → Type 0
+IsDeclared ds name = number_of name < count_of (kind_of_named name) ds
+
+-- the name of the nth declaration of the kind, n counted from 0
+abbrev pub nth_name : Kind → List Declaration → ℕ → Option (List ℕ)
+nth_name kind ds n = option_map (λ d. d.name) (slice_get (of_kind kind ds) n)
+
+-- the name by which the object was declared, or `main`
+abbrev pub name_of : List Declaration → Named → Option (List ℕ)
+name_of ds (Named.Goroutine n) = if n == 0 then Some main else nth_name Kind.Goroutine ds (n - 1)
+name_of ds (Named.Var n) = nth_name Kind.Var ds n
+name_of ds (Named.Chan n) = nth_name Kind.Chan ds n
+name_of ds (Named.Lock n) = nth_name Kind.Lock ds n
+name_of ds (Named.Once n) = nth_name Kind.Once ds n
+
+-- a channel's capacity is over its limit
+abbrev pub is_too_wide : Object → Bool
+is_too_wide (Object.Chan capacity) = nat_lt MAX_CAPACITY capacity
+is_too_wide _ = false
+
+-- why the declaration is refused: the first cause, in the order in which they are tested
+unfoldable pub decl_fault : List Declaration → Object → List ℕ → Option DeclFault
+decl_fault ds object word =
+    if not (is_name word) then Some BadName
+    else (if is_some (find_name ds word) then Some Taken
+    else (if nat_le (limit_of (kind_of object)) (count_of (kind_of object) ds) then Some TooMany
+    else (if is_too_wide object then Some BadCapacity else None)))
+
+-- the state with one more declaration, at the end
+abbrev pub with_declaration : DeclsState → List ℕ → Object → DeclsState
+with_declaration decls word object =
+    record { declarations = decls.declarations ++ record { name = word; object = object } ∷ []; places = decls.places }
+
+-- why the place is refused: a known place never is
+unfoldable pub place_fault : List (List ℕ) → List ℕ → Option DeclFault
+place_fault places word =
+    if not (is_place word) then Some BadName
+    else (if list_any (bytes_eq word) places then None
+    else (if nat_le MAX_PLACES (length places) then Some TooMany else None))
+
+-- the number of the place: its own where it is known, else the next
+abbrev pub place_number : List (List ℕ) → List ℕ → ℕ
+place_number places word = position_or_len (bytes_eq word) places
+
+-- the state with the place at the end of the table, unless it is known
+abbrev pub with_place : DeclsState → List ℕ → DeclsState
+with_place decls word =
+    record { declarations = decls.declarations; places = if list_any (bytes_eq word) decls.places then decls.places else decls.places ++ word ∷ [] }
+
+-- what holds of every `Decls`
+pub record IsWellFormed (decls : DeclsState) : Type 0 where
+  -- each name has a name's form, isn't `main`, and is declared once
+  pub names : All (λ d. IsTrue (is_name d.name)) decls.declarations
+  pub not_main : All (λ d. d.name ≢ main) decls.declarations
+  pub distinct : AllPairs (λ d e. d.name ≢ e.name) decls.declarations
+  -- no kind is over its limit, and no channel's capacity
+  pub limited : (kind : Kind) → count_of kind decls.declarations ≤ limit_of kind
+  pub capacities : All (λ d. is_too_wide d.object ≡ false) decls.declarations
+  -- each place has a place's form and stands once, and there are not too many
+  pub places : All (λ p. IsTrue (is_place p)) decls.places
+  pub places_distinct : AllPairs (λ p q. p ≢ q) decls.places
+  pub places_limited : length decls.places ≤ MAX_PLACES

@@ -1,0 +1,94 @@
+//! The table of names: what each was declared as, in the order of the declarations.
+ghost use Rattle.std.specs.Prelude.{◌≡◌, ◌<◌, [], ◌∷◌, ◌++◌, length, Some, slice_get, position, option_map, IfOk, OnOk, OnErr, IsNone};
+ghost use Rattle.std.specs.Str.{bytes_eq};
+ghost use Rattle.race_records.specs.Tables.{Row, row};
+
+use crate::Object;
+use indexmap::IndexMap;
+use std::alloc::{AllocError, Allocator};
+use std::hash::{BuildHasherDefault, FoldHasher};
+use std::marker::Model;
+
+/// What a name stands for.
+#[derive(Clone, Copy)]
+pub struct Slot {
+    pub(crate) object: Object,
+    pub(crate) number: u32,
+}
+
+/// The declared names, each found by its bytes or by its index.
+#[derive(Drop)]
+pub struct Names<A: Allocator> {
+    slots: IndexMap<String<A>, Slot, BuildHasherDefault<FoldHasher>, A>,
+}
+
+impl<A: Allocator> Model for Names<A> {
+    ghost use Rattle.std.specs.Prelude.{List, map};
+    ghost use Rattle.std.specs.String.{string_bytes};
+    ghost use Rattle.race_records.specs.Tables.{Row, row};
+
+    ghost Value = { List Row };
+
+    ghost view = { λ n. map (λ e. row (string_bytes e.0) e.1) n.slots.entries };
+}
+
+impl<A: Allocator> Names<A> {
+    pub(crate) fn new(alloc: A) -> Names<A>
+    where
+        A: Copy,
+        ensures { result ≡ [] }
+    {
+        Names {
+            slots: IndexMap::new(alloc),
+        }
+    }
+
+    pub(crate) fn len(&self) -> usize
+        ensures { result ≡ length self.now }
+    {
+        self.slots.len()
+    }
+
+    pub(crate) fn index_of(&self, name: &str) -> Option<usize>
+        ensures { result ≡ position (λ r. bytes_eq name.now r.name) self.now }
+    {
+        self.slots.get_index_of(name)
+    }
+
+    pub(crate) fn name(&self, index: usize) -> &str
+        requires { index < length self.now }
+        ensures { option_map (λ r. r.name) (slice_get self.now index) ≡ Some result.now }
+    {
+        self.slots.get_index(index).unwrap().0.as_str()
+    }
+
+    pub(crate) fn slot(&self, index: usize) -> Slot
+        requires { index < length self.now }
+        ensures { option_map (λ r. r.slot) (slice_get self.now index) ≡ Some result }
+    {
+        *self.slots.get_index(index).unwrap().1
+    }
+
+    // Puts a new name last.
+    pub(crate) fn push(&mut self, name: &str, slot: Slot) -> Result<(), AllocError>
+    where
+        A: Copy,
+        requires { IsNone (position (λ r. bytes_eq name.now r.name) self.old) }
+        ensures ok { OnOk result (self.new ≡ self.old ++ row name.now slot ∷ []) }
+        ensures err { OnErr result (self.new ≡ self.old) }
+    {
+        let name = String::from_str(*self.slots.allocator(), name)?;
+        self.slots.insert(name, slot)?;
+        Ok(())
+    }
+
+    pub(crate) fn copy(&self) -> Result<Names<A>, AllocError>
+    where
+        A: Copy,
+        ensures { IfOk result (λ copy. copy ≡ self.now) }
+    {
+        Ok(Names {
+            slots: self.slots.clone()?,
+        })
+    }
+}

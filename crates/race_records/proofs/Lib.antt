@@ -1,2 +1,6 @@
 pub mod TextLemmas
 pub mod NameLemmas
+pub mod DeclsLemmas
+pub mod ListLemmas
+pub mod DeclFaultLemmas
+pub mod DeclsKept

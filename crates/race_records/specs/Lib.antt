@@ -1,3 +1,4 @@
 pub mod Name
 pub mod Declarations
 pub mod Tables
+pub mod DeclsHold

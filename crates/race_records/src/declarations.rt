@@ -1,4 +1,14 @@
 //! The declarations of a trace, and its table of places.
+ghost use Rattle.std.specs.Prelude.{◌≡◌, ◌<◌, ◌≤◌, ◌↔◌, ℕ, [], length, position, IsTrue, Some, None, slice_get, option_map, is_some, IsNone, IsOkUnless, IfOk, OnOk, OnErr};
+ghost use Rattle.std.specs.Str.{bytes_eq};
+ghost use Rattle.race_records.specs.Declarations as spec;
+
+use crate::indexes::Indexes;
+use crate::names::{Names, Slot};
+use crate::places::Places;
+use crate::{Kind, Named, Object, is_name, is_place};
+use std::alloc::{AllocError, Allocator, Global};
+use std::marker::Model;
 use thiserror::Error;
 
 /// The most different places of a trace.
@@ -22,4 +32,215 @@ pub enum DeclFault {
     /// A growth was refused.
     #[error("out of memory")]
     OutOfMemory,
+}
+
+/// A list of declarations in order, and a table of places.
+///
+/// The number of an object is the count of objects of its kind that were declared before it;
+/// goroutines count from 1, since `main` is 0 and isn't declared. All kinds share one table of
+/// names. Each look-up costs the same however many names and places there are.
+#[derive(Drop)]
+pub struct Decls<A: Allocator = Global> {
+    names: Names<A>,
+    indexes: Indexes<A>,
+    places: Places<A>,
+}
+
+impl<A: Allocator> Model for Decls<A> {
+    ghost use Rattle.race_records.specs.Declarations.{DeclsState};
+
+    ghost Value = { DeclsState };
+
+    ghost use Rattle.race_records.specs.DeclsHold.{decls_state, DeclsHold};
+
+    ghost view = { decls_state };
+
+    ghost invariant = { DeclsHold };
+}
+
+impl<A: Allocator> Decls<A> {
+    /// No declaration and no place. Takes no memory.
+    pub fn new(alloc: A) -> Decls<A>
+    where
+        A: Copy,
+        ensures declarations { result.declarations ≡ [] }
+        ensures places { result.places ≡ [] }
+    {
+        Decls {
+            names: Names::new(alloc),
+            indexes: Indexes::new(alloc),
+            places: Places::new(alloc),
+        }
+    }
+
+    /// How many declarations there are. What holds of every `Decls` stands here.
+    pub fn len(&self) -> usize
+        ensures len { result ≡ length self.now.declarations }
+        ensures well_formed { spec.IsWellFormed self.now }
+    {
+        self.names.len()
+    }
+
+    /// Whether nothing is declared.
+    pub fn is_empty(&self) -> bool
+        ensures { IsTrue result ↔ (self.now.declarations ≡ []) }
+    {
+        self.len() == 0
+    }
+
+    /// What declaration `i` declares, counted from 0.
+    pub fn declared(&self, i: usize) -> Named
+        requires { i < length self.now.declarations }
+        ensures { spec.declared_at self.now.declarations i ≡ Some result }
+    {
+        let slot = self.names.slot(i);
+        slot.object.named(slot.number)
+    }
+
+    /// What the name stands for; `main` is goroutine 0.
+    pub fn find(&self, name: &str) -> Option<Named>
+        ensures { result ≡ spec.find_name self.now.declarations name.now }
+    {
+        if name == "main" {
+            return Some(Named::Goroutine(0));
+        }
+        match self.index_of(name) {
+            Some(index) => Some(self.declared(index)),
+            None => None,
+        }
+    }
+
+    // The index of the declaration of the name.
+    fn index_of(&self, name: &str) -> Option<usize>
+        ensures { result ≡ position (λ d. bytes_eq name.now d.name) self.now.declarations }
+    {
+        self.names.index_of(name)
+    }
+
+    /// How many of the kind there are, main counted.
+    pub fn count(&self, kind: Kind) -> u32
+        ensures count { result ≡ spec.count_of kind self.now.declarations }
+        ensures limited { result ≤ spec.limit_of kind }
+    {
+        kind.first_number() + self.indexes.len(kind) as u32
+    }
+
+    /// The name by which an object was declared, or `main`.
+    pub fn name(&self, named: Named) -> &str
+        requires { spec.IsDeclared self.now.declarations named }
+        ensures { spec.name_of self.now.declarations named ≡ Some result.now }
+    {
+        match named {
+            Named::Goroutine(0) => "main",
+            Named::Goroutine(g) => self.nth_name(Kind::Goroutine, g as usize - 1),
+            Named::Var(x) => self.nth_name(Kind::Var, x as usize),
+            Named::Chan(c) => self.nth_name(Kind::Chan, c as usize),
+            Named::Lock(l) => self.nth_name(Kind::Lock, l as usize),
+            Named::Once(o) => self.nth_name(Kind::Once, o as usize),
+        }
+    }
+
+    // The name of the nth declaration of the kind.
+    fn nth_name(&self, kind: Kind, n: usize) -> &str
+        requires { n < length (spec.of_kind kind self.now.declarations) }
+        ensures { spec.nth_name kind self.now.declarations n ≡ Some result.now }
+    {
+        self.names.name(self.indexes.get(kind, n))
+    }
+
+    /// How many places there are.
+    pub fn place_count(&self) -> u32
+        ensures { result ≡ length self.now.places }
+    {
+        self.places.len() as u32
+    }
+
+    /// The text of a place.
+    pub fn place_text(&self, place: u32) -> &str
+        requires { place < length self.now.places }
+        ensures { slice_get self.now.places place ≡ Some result.now }
+    {
+        self.places.get(place as usize)
+    }
+}
+
+impl<A: Allocator + Copy> Decls<A> {
+    /// Declares a goroutine beside main, and gives its number. The first has number 1.
+    pub fn add_goroutine(&mut self, name: &str) -> Result<u32, DeclFault>
+        ensures refused { (fault : DeclFault) → spec.decl_fault self.old.declarations Object.Goroutine name.now ≡ Some fault → result ≡ Err fault }
+        ensures allowed { spec.decl_fault self.old.declarations Object.Goroutine name.now ≡ None → IsOkUnless result DeclFault.OutOfMemory }
+        ensures number { IfOk result (λ number. number ≡ spec.count_of Kind.Goroutine self.old.declarations) }
+        ensures added { OnOk result (self.new ≡ spec.with_declaration self.old name.now Object.Goroutine) }
+        ensures err { OnErr result (self.new ≡ self.old) }
+    {
+        self.declare(name, Object::Goroutine)
+    }
+
+    /// Declares a variable, 0 at first, and gives its number.
+    pub fn add_var(&mut self, name: &str) -> Result<u32, DeclFault>
+        ensures refused { (fault : DeclFault) → spec.decl_fault self.old.declarations Object.Var name.now ≡ Some fault → result ≡ Err fault }
+        ensures allowed { spec.decl_fault self.old.declarations Object.Var name.now ≡ None → IsOkUnless result DeclFault.OutOfMemory }
+        ensures number { IfOk result (λ number. number ≡ spec.count_of Kind.Var self.old.declarations) }
+        ensures added { OnOk result (self.new ≡ spec.with_declaration self.old name.now Object.Var) }
+        ensures err { OnErr result (self.new ≡ self.old) }
+    {
+        self.declare(name, Object::Var)
+    }
+
+    // Declares the object under the name, after every test.
+    fn declare(&mut self, name: &str, object: Object) -> Result<u32, DeclFault>
+        ensures refused { (fault : DeclFault) → spec.decl_fault self.old.declarations object name.now ≡ Some fault → result ≡ Err fault }
+        ensures allowed { spec.decl_fault self.old.declarations object name.now ≡ None → IsOkUnless result DeclFault.OutOfMemory }
+        ensures number { IfOk result (λ number. number ≡ spec.count_of (spec.kind_of object) self.old.declarations) }
+        ensures added { OnOk result (self.new ≡ spec.with_declaration self.old name.now object) }
+        ensures err { OnErr result (self.new ≡ self.old) }
+    {
+        match self.fault_of(name, object) {
+            Some(fault) => Err(fault),
+            None => match self.append(name, object) {
+                Ok(number) => Ok(number),
+                Err(_) => Err(DeclFault::OutOfMemory),
+            },
+        }
+    }
+
+    // Why the declaration is refused, memory aside.
+    #[tactic(auto, unfolding(crate::specs::Declarations::decl_fault))]
+    fn fault_of(&self, name: &str, object: Object) -> Option<DeclFault>
+        ensures { result ≡ spec.decl_fault self.now.declarations object name.now }
+    {
+        if !is_name(name.as_bytes()) {
+            return Some(DeclFault::BadName);
+        }
+        if self.find(name).is_some() {
+            return Some(DeclFault::Taken);
+        }
+        if self.count(object.kind()) >= object.kind().limit() {
+            return Some(DeclFault::TooMany);
+        }
+        if object.is_too_wide() {
+            return Some(DeclFault::BadCapacity);
+        }
+        None
+    }
+
+    // Puts an allowed declaration last. The table of names grows last, so that a refusal there
+    // has only the index to take back.
+    fn append(&mut self, name: &str, object: Object) -> Result<u32, AllocError>
+        requires { spec.decl_fault self.old.declarations object name.now ≡ None }
+        ensures number { IfOk result (λ number. number ≡ spec.count_of (spec.kind_of object) self.old.declarations) }
+        ensures added { OnOk result (self.new ≡ spec.with_declaration self.old name.now object) }
+        ensures err { OnErr result (self.new ≡ self.old) }
+    {
+        let kind = object.kind();
+        let number = self.count(kind);
+        self.indexes.push(kind, self.names.len())?;
+        match self.names.push(name, Slot { object, number }) {
+            Ok(()) => Ok(number),
+            Err(refused) => {
+                self.indexes.undo_push(kind);
+                Err(refused)
+            }
+        }
+    }
 }

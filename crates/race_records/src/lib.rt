@@ -9,7 +9,7 @@ mod name;
 mod names;
 mod places;
 
-pub use declarations::{DeclFault, MAX_PLACES};
+pub use declarations::{DeclFault, Decls, MAX_PLACES};
 pub use event::{Event, Op};
 pub use kind::{Kind, MAX_CAPACITY, MAX_GOROUTINES, MAX_OBJECTS, Named, Object};
 pub use name::{MAX_NAME_LEN, MAX_PLACE_LEN, is_name, is_place};

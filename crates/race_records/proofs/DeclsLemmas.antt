@@ -1,0 +1,39 @@
+-- What the tables of a `Decls` say of its declarations.
+use Rattle.std.proofs.Common.{◌≡◌, ℕ, zero, suc, ◌<◌, List, [], ◌∷◌, length, map, position, slice_get, Option, Some, None, option_map, refl, sym, ap, ◌∙◌, arith}
+use Rattle.std.proofs.lemmas.Option.{slice_get-map, slice_get-get_or, none-some}
+use Rattle.std.specs.Str.{bytes_eq}
+use Rattle.race_records.specs.declared.kind.Kind.{Kind}
+use Rattle.race_records.specs.Declarations.{Declaration, of_kind}
+use Rattle.race_records.specs.DeclsHold.{declaration_of, declarations_of, AreNumbered}
+use Rattle.race_records.specs.Tables.{Row, IndexesState, indexes_of}
+use Rattle.race_records.proofs.TextLemmas.{position-map}
+
+option_map-option_map : {A B C : Type 0} (f : A → B) (g : B → C) (o : Option A) → option_map g (option_map f o) ≡ option_map (λ x. g (f x)) o
+option_map-option_map f g None = refl
+option_map-option_map f g (Some x) = refl
+
+-- an element of which something is told stands in the list
+pub within_by_map : {A B : Type 0} (f : A → B) (xs : List A) (i : ℕ) (y : B) → option_map f (slice_get xs i) ≡ Some y → i < length xs
+within_by_map f [] i y h = absurd (none-some _ h)
+within_by_map f (x ∷ xs) zero y h = omega arith
+within_by_map f (x ∷ xs) (suc i) y h = let n = within_by_map f xs i y h in omega arith
+
+-- the index of a name among the rows is its index among the declarations
+pub position-names : (rows : List Row) (name : List ℕ) → position (λ (r : Row). bytes_eq name r.name) rows ≡ position (λ (d : Declaration). bytes_eq name d.name) (declarations_of rows)
+position-names rows name = sym (position-map declaration_of (λ (d : Declaration). bytes_eq name d.name) rows)
+
+module _ (rows : List Row) (indexes : IndexesState) (numbered : AreNumbered rows indexes) (kind : Kind) (n i : ℕ)
+    (at : slice_get (indexes_of kind indexes) n ≡ Some i) where
+  -- the row that the nth index of a kind leads to has the name of the nth declaration of the kind
+  pub name-indexed : option_map (λ (r : Row). r.name) (slice_get rows i) ≡ option_map (λ (d : Declaration). d.name) (slice_get (of_kind kind (declarations_of rows)) n)
+  name-indexed =
+      sym (option_map-option_map declaration_of (λ (d : Declaration). d.name) (slice_get rows i))
+      ∙ ap (option_map (λ (d : Declaration). d.name)) (sym (slice_get-map declaration_of rows i) ∙ (numbered.indexed kind).to n i at)
+
+  -- and such a row there is
+  pub index_within : n < length (of_kind kind (declarations_of rows)) → i < length rows
+  index_within within = by (of_kind kind (declarations_of rows)) within (name-indexed)
+    where
+      by : (ds : List Declaration) → n < length ds → option_map (λ (r : Row). r.name) (slice_get rows i) ≡ option_map (λ (d : Declaration). d.name) (slice_get ds n) → i < length rows
+      by [] h e = absurd (omega arith)
+      by (d ∷ ds) h e = within_by_map (λ (r : Row). r.name) rows i _ (e ∙ ap (option_map (λ (x : Declaration). x.name)) (slice_get-get_or (d ∷ ds) n d h))

@@ -1,0 +1,10 @@
+use Rattle.std.proofs.Common.{◌≡◌, [], sym, subst, List, ℕ}
+use Rattle.race_records.specs.Declarations.{IsWellFormed}
+use Rattle.race_records.specs.DeclsHold.{DeclsHold, AreNumbered}
+use Rattle.race_records.specs.Tables.{no_indexes}
+use Rattle.race_records.proofs.DeclsKept.{empty_numbered, empty_well_formed}
+use Rattle.race_records.proofs.declarations.Decls.new.Goals as goal
+
+pub invariant_of-result : goal.invariant_of-result
+invariant_of-result g c =
+    rw (c.new.ensures, c.new-2.ensures, c.new-3.ensures) (record { numbered = empty_numbered; well_formed = empty_well_formed })

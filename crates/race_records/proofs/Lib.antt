@@ -4,3 +4,5 @@ pub mod DeclsLemmas
 pub mod ListLemmas
 pub mod DeclFaultLemmas
 pub mod DeclsKept
+pub mod PlaceLemmas
+pub mod EventLemmas

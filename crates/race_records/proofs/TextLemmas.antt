@@ -2,6 +2,7 @@
 use Rattle.std.proofs.Common.{◌≡◌, ℕ, ◌+◌, Bool, true, false, not, cond, ◌||◌, nat_lt, List, [], ◌∷◌, ◌++◌, length, map, position, String, Option, Some, None, IsNone, refl, sym, ap, subst, ◌∙◌, true≢false, arith}
 use Rattle.std.proofs.lemmas.List.{length-map, map-append}
 use Rattle.std.proofs.lemmas.Bool.Decides.{nat_tests}
+use Rattle.std.proofs.lemmas.Option.{cond_some}
 use Rattle.std.proofs.lemmas.Slice.Zip.{AllZip-map}
 use Rattle.std.specs.List.{prefix_len, position_or_len, list_any, AllZip}
 use Rattle.std.specs.Str.{bytes_eq}
@@ -33,6 +34,27 @@ list_any-absent p xs none = by (nat_lt (position_or_len p xs) (length xs)) (list
     by : (b : Bool) → list_any p xs ≡ b → IsNone (cond b (Some (position_or_len p xs)) None) → list_any p xs ≡ false
     by true e h = absurd (true≢false h)
     by false e h = e
+
+-- where nothing passes, a search finds nothing
+pub position-absent : {X : Type 0} (p : X → Bool) (xs : List X) → list_any p xs ≡ false → IsNone (position p xs)
+position-absent p xs absent = by (nat_lt (position_or_len p xs) (length xs)) (sym (list_any-within p xs) ∙ absent)
+  where
+    by : (b : Bool) → b ≡ false → IsNone (cond b (Some (position_or_len p xs)) None)
+    by true e = absurd (true≢false e)
+    by false e = refl
+
+-- where a search finds something, something passes
+pub list_any-found : {X : Type 0} (p : X → Bool) (xs : List X) (i : ℕ) → position p xs ≡ Some i → list_any p xs ≡ true
+list_any-found p xs i found = list_any-within p xs ∙ (cond_some (nat_lt (position_or_len p xs) (length xs)) (position_or_len p xs) i found).0
+
+-- where nothing passes, the length stands for the index
+pub position_or_len-absent : {X : Type 0} (p : X → Bool) (xs : List X) → list_any p xs ≡ false → position_or_len p xs ≡ length xs
+position_or_len-absent p [] absent = refl
+position_or_len-absent p (x ∷ xs) absent = by (p x) absent (position_or_len-absent p xs)
+  where
+    by : (b : Bool) → (b || list_any p xs) ≡ false → (list_any p xs ≡ false → position_or_len p xs ≡ length xs) → cond (not b) (1 + position_or_len p xs) 0 ≡ length (x ∷ xs)
+    by true h rest = absurd (true≢false h)
+    by false h rest = let e = rest h in omega arith
 
 module _ {Z : Type 0} (ks : List (String Z)) (texts : List (List ℕ)) (view_is : map string_bytes ks ≡ texts) where
   -- a text that is new to the set goes last

@@ -124,11 +124,15 @@ abbrev pub with_declaration : DeclsState → List ℕ → Object → DeclsState
 with_declaration decls word object =
     record { declarations = decls.declarations ++ record { name = word; object = object } ∷ []; places = decls.places }
 
+-- the place is in the table
+abbrev pub is_known : List (List ℕ) → List ℕ → Bool
+is_known places word = list_any (bytes_eq word) places
+
 -- why the place is refused: a known place never is
 unfoldable pub place_fault : List (List ℕ) → List ℕ → Option DeclFault
 place_fault places word =
     if not (is_place word) then Some BadName
-    else (if list_any (bytes_eq word) places then None
+    else (if is_known places word then None
     else (if nat_le MAX_PLACES (length places) then Some TooMany else None))
 
 -- the number of the place: its own where it is known, else the next
@@ -138,7 +142,7 @@ place_number places word = position_or_len (bytes_eq word) places
 -- the state with the place at the end of the table, unless it is known
 abbrev pub with_place : DeclsState → List ℕ → DeclsState
 with_place decls word =
-    record { declarations = decls.declarations; places = if list_any (bytes_eq word) decls.places then decls.places else decls.places ++ word ∷ [] }
+    record { declarations = decls.declarations; places = if is_known decls.places word then decls.places else decls.places ++ word ∷ [] }
 
 -- what holds of every `Decls`
 pub record IsWellFormed (decls : DeclsState) : Type 0 where

@@ -1,4 +1,6 @@
 pub mod Name
 pub mod Declarations
+pub mod Events
 pub mod Tables
 pub mod DeclsHold
+pub mod TraceHolds

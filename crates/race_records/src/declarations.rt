@@ -1,12 +1,13 @@
 //! The declarations of a trace, and its table of places.
-ghost use Rattle.std.specs.Prelude.{◌≡◌, ◌<◌, ◌≤◌, ◌↔◌, ℕ, [], length, position, IsTrue, Some, None, slice_get, option_map, is_some, IsNone, IsOkUnless, IfOk, OnOk, OnErr};
+ghost use Rattle.std.specs.Prelude.{◌≡◌, ◌<◌, ◌≤◌, ◌↔◌, ℕ, [], length, position, IsTrue, true, false, Some, None, slice_get, IsOk, IsOkUnless, IfSome, IfNone, OnSome, IfOk, OnOk, OnErr};
 ghost use Rattle.std.specs.Str.{bytes_eq};
 ghost use Rattle.race_records.specs.Declarations as spec;
+ghost use Rattle.race_records.specs.Events as events;
 
 use crate::indexes::Indexes;
 use crate::names::{Names, Slot};
 use crate::places::Places;
-use crate::{Kind, Named, Object, is_name, is_place};
+use crate::{Event, Kind, Named, Object, Op, is_name, is_place};
 use std::alloc::{AllocError, Allocator, Global};
 use std::marker::Model;
 use thiserror::Error;
@@ -71,6 +72,10 @@ impl<A: Allocator> Decls<A> {
             indexes: Indexes::new(alloc),
             places: Places::new(alloc),
         }
+    }
+
+    pub(crate) fn allocator(&self) -> &A {
+        self.places.allocator()
     }
 
     /// How many declarations there are. What holds of every `Decls` stands here.
@@ -162,6 +167,30 @@ impl<A: Allocator> Decls<A> {
     {
         self.places.get(place as usize)
     }
+
+    /// Whether all numbers of the event are declared, each of the kind that it stands for, and a
+    /// second place is there exactly where its operation has one.
+    #[tactic(auto, unfolding(crate::specs::Events::fits))]
+    pub fn fits(&self, event: &Event) -> bool
+        ensures { result ≡ events.fits self.now event.now }
+    {
+        event.who < self.count(Kind::Goroutine)
+            && self.op_fits(&event.op)
+            && event.place < self.place_count()
+            && event.place2.is_none()
+    }
+
+    // Whether the numbers that the operation names are declared.
+    fn op_fits(&self, op: &Op) -> bool
+        ensures { result ≡ events.op_fits self.now.declarations op.now }
+    {
+        match op {
+            Op::Go(goroutine) => *goroutine < self.count(Kind::Goroutine),
+            Op::Exit => true,
+            Op::Read(var, _) => *var < self.count(Kind::Var),
+            Op::Write(var, _) => *var < self.count(Kind::Var),
+        }
+    }
 }
 
 impl<A: Allocator + Copy> Decls<A> {
@@ -242,5 +271,80 @@ impl<A: Allocator + Copy> Decls<A> {
                 Err(refused)
             }
         }
+    }
+
+    /// Gives the number of the place, which is added where it is new. A place that is known
+    /// takes no memory.
+    pub fn add_place(&mut self, text: &str) -> Result<u32, DeclFault>
+        ensures refused { (fault : DeclFault) → spec.place_fault self.old.places text.now ≡ Some fault → result ≡ Err fault }
+        ensures allowed { spec.place_fault self.old.places text.now ≡ None → IsOkUnless result DeclFault.OutOfMemory }
+        ensures known { spec.is_known self.old.places text.now ≡ true → IsOk result }
+        ensures number { IfOk result (λ number. number ≡ spec.place_number self.old.places text.now) }
+        ensures added { OnOk result (self.new ≡ spec.with_place self.old text.now) }
+        ensures err { OnErr result (self.new ≡ self.old) }
+    {
+        // The look-up comes first: in a long trace most places are known, and those are well formed.
+        if let Some(number) = self.known_place(text) {
+            return Ok(number);
+        }
+        if let Some(fault) = self.new_place_fault(text) {
+            return Err(fault);
+        }
+        match self.append_place(text) {
+            Ok(number) => Ok(number),
+            Err(_) => Err(DeclFault::OutOfMemory),
+        }
+    }
+
+    // The number of a place that is in the table.
+    fn known_place(&self, text: &str) -> Option<u32>
+        ensures allowed { OnSome result (spec.place_fault self.now.places text.now ≡ None) }
+        ensures number { IfSome result (λ number. number ≡ spec.place_number self.now.places text.now) }
+        ensures same { OnSome result (spec.with_place self.now text.now ≡ self.now) }
+        ensures absent { IfNone result (spec.is_known self.now.places text.now ≡ false) }
+    {
+        match self.places.index_of(text) {
+            Some(index) => Some(index as u32),
+            None => None,
+        }
+    }
+
+    // Why a place that isn't in the table is refused, memory aside.
+    #[tactic(auto, unfolding(crate::specs::Declarations::place_fault))]
+    fn new_place_fault(&self, text: &str) -> Option<DeclFault>
+        requires { spec.is_known self.now.places text.now ≡ false }
+        ensures { result ≡ spec.place_fault self.now.places text.now }
+    {
+        if !is_place(text.as_bytes()) {
+            return Some(DeclFault::BadName);
+        }
+        if self.place_count() >= MAX_PLACES {
+            return Some(DeclFault::TooMany);
+        }
+        None
+    }
+
+    // Puts an allowed place last.
+    fn append_place(&mut self, text: &str) -> Result<u32, AllocError>
+        requires new { spec.is_known self.old.places text.now ≡ false }
+        requires allowed { spec.place_fault self.old.places text.now ≡ None }
+        ensures number { IfOk result (λ number. number ≡ spec.place_number self.old.places text.now) }
+        ensures added { OnOk result (self.new ≡ spec.with_place self.old text.now) }
+        ensures err { OnErr result (self.new ≡ self.old) }
+    {
+        let number = self.place_count();
+        self.places.push(text)?;
+        Ok(number)
+    }
+
+    /// An equal one, with the same places.
+    pub fn copy(&self) -> Result<Decls<A>, AllocError>
+        ensures { IfOk result (λ copy. copy ≡ self.now) }
+    {
+        Ok(Decls {
+            names: self.names.copy()?,
+            indexes: self.indexes.copy()?,
+            places: self.places.copy()?,
+        })
     }
 }

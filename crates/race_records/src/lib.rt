@@ -8,6 +8,7 @@ mod kind;
 mod name;
 mod names;
 mod places;
+mod trace;
 
 pub use declarations::{DeclFault, Decls, MAX_PLACES};
 pub use event::{Event, Op};
@@ -19,3 +20,4 @@ pub use indexes::Indexes;
 pub use names::{Names, Slot};
 #[doc(hidden)]
 pub use places::Places;
+pub use trace::{MAX_EVENTS, PushFault, Trace};

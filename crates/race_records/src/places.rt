@@ -33,6 +33,10 @@ impl<A: Allocator> Places<A> {
         }
     }
 
+    pub(crate) fn allocator(&self) -> &A {
+        self.texts.allocator()
+    }
+
     pub(crate) fn len(&self) -> usize
         ensures { result ≡ length self.now }
     {

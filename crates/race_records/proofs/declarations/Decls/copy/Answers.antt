@@ -1,0 +1,4 @@
+use Rattle.race_records.proofs.declarations.Decls.copy.Goals as goal
+
+pub invariant_of-result : goal.invariant_of-result
+invariant_of-result g c = rw (c.in_ok-copy.ensures, c.in_ok-copy-2.ensures, c.in_ok-copy-3.ensures) c.self.invariant

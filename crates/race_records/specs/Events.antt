@@ -1,0 +1,45 @@
+-- Which events fit the declarations, and when a trace takes one.
+use Rattle.std.specs.Prelude.{◌≡◌, ℕ, ◌≤◌, ◌&&◌, Bool, true, not, if◌then◌else◌, nat_lt, nat_le, List, length, Option, Some, None, is_none, IsTrue, All}
+use Rattle.race_records.specs.declared.event.Event.{Event}
+use Rattle.race_records.specs.declared.event.Op.{Op}
+use Rattle.race_records.specs.declared.event.Op.TheVariants.{Go, Exit, Read, Write}
+use Rattle.race_records.specs.declared.kind.Kind.{Kind}
+use Rattle.race_records.specs.declared.trace.PushFault.{PushFault}
+use Rattle.race_records.specs.declared.trace.PushFault.TheVariants.{BadNumber, Full}
+use Rattle.race_records.specs.declared.trace.TheConstants.{MAX_EVENTS}
+use Rattle.race_records.specs.Declarations.{Declaration, DeclsState, count_of}
+
+-- the numbers that the operation names are declared, each of its kind
+abbrev pub op_fits : List Declaration → Op → Bool
+op_fits ds (Go goroutine) = nat_lt goroutine (count_of Kind.Goroutine ds)
+op_fits ds Exit = true
+op_fits ds (Read var value) = nat_lt var (count_of Kind.Var ds)
+op_fits ds (Write var value) = nat_lt var (count_of Kind.Var ds)
+
+-- all numbers of the event are in range and of the right kind, and no operation has a second place
+unfoldable pub fits : DeclsState → Event → Bool
+fits decls e =
+    nat_lt e.who (count_of Kind.Goroutine decls.declarations) && op_fits decls.declarations e.op
+    && nat_lt e.place (length decls.places) && is_none e.place2
+
+-- a `Trace` as its callers see it. `spare` is for how many more events there is room
+pub record TraceState : Type 0 where
+  pub decls : DeclsState
+  pub events : List Event
+  pub spare : ℕ
+
+-- why the event is refused: the first cause, in the order in which they are tested
+unfoldable pub push_fault : TraceState → Event → Option PushFault
+push_fault trace e =
+    if not (fits trace.decls e) then Some BadNumber
+    else (if nat_le MAX_EVENTS (length trace.events) then Some Full else None)
+
+-- what holds of every `Trace`: each event fits its declarations, and there are not too many
+pub record IsTrace (trace : TraceState) : Type 0 where
+  pub fit : All (λ e. IsTrue (fits trace.decls e)) trace.events
+  pub limited : length trace.events ≤ MAX_EVENTS
+
+-- all but the spare room is as before
+pub record IsUnchanged (old new : TraceState) : Type 0 where
+  pub decls : new.decls ≡ old.decls
+  pub events : new.events ≡ old.events

@@ -1,0 +1,193 @@
+//! A trace: declarations, and the events of a run in one order in which it could have gone.
+ghost use Rattle.std.specs.Prelude.{◌≡◌, ◌-◌, ◌<◌, ◌≤◌, ◌↔◌, [], ◌∷◌, ◌++◌, length, IsTrue, Some, None, true, slice_get, IsOk, IsOkUnless, IfOk, OnOk, OnErr};
+ghost use Rattle.race_records.specs.Declarations as declarations;
+ghost use Rattle.race_records.specs.Events as spec;
+
+use crate::{DeclFault, Decls, Event};
+use std::alloc::{AllocError, Allocator, Global};
+use std::marker::Model;
+use thiserror::Error;
+
+/// The most events of a trace.
+pub const MAX_EVENTS: usize = 16_777_216;
+
+/// Why an event was refused. The first that holds is told.
+#[derive(Clone, Copy, Debug, PartialEq, Eq, Error)]
+pub enum PushFault {
+    /// A number isn't declared, or the second place is wrongly there or missing.
+    #[error("a number is out of range")]
+    BadNumber,
+    /// The lock isn't an rwmutex, and the operation wants one.
+    #[error("the lock is of the wrong kind")]
+    WrongKind,
+    /// The trace has as many events as a trace can have.
+    #[error("the trace is full")]
+    Full,
+    /// A growth was refused.
+    #[error("out of memory")]
+    OutOfMemory,
+}
+
+/// Declarations and a list of events, each of which fits them.
+#[derive(Drop)]
+pub struct Trace<A: Allocator = Global> {
+    decls: Decls<A>,
+    events: Vec<Event, A>,
+    // For how many more events there is room for certain.
+    spare: usize,
+}
+
+impl<A: Allocator> Model for Trace<A> {
+    ghost use Rattle.race_records.specs.Events.{TraceState};
+
+    ghost Value = { TraceState };
+
+    ghost use Rattle.race_records.specs.TraceHolds.{trace_state, TraceHolds};
+
+    ghost view = { trace_state };
+
+    ghost invariant = { TraceHolds };
+}
+
+impl<A: Allocator> Trace<A> {
+    /// A trace of these declarations with no event. Takes no memory.
+    pub fn new(decls: Decls<A>) -> Trace<A>
+    where
+        A: Copy,
+        ensures decls { result.decls ≡ decls }
+        ensures events { result.events ≡ [] }
+        ensures spare { result.spare ≡ 0 }
+    {
+        let alloc = *decls.allocator();
+        Trace {
+            decls,
+            events: Vec::new(alloc),
+            spare: 0,
+        }
+    }
+
+    /// Appends an event. Where there is spare room, memory isn't refused.
+    pub fn push(&mut self, event: Event) -> Result<(), PushFault>
+        ensures refused { (fault : PushFault) → spec.push_fault self.old event ≡ Some fault → result ≡ Err fault }
+        ensures allowed { spec.push_fault self.old event ≡ None → IsOkUnless result PushFault.OutOfMemory }
+        ensures room { spec.push_fault self.old event ≡ None → 0 < self.old.spare → IsOk result }
+        ensures events { OnOk result (self.new.events ≡ self.old.events ++ event ∷ []) }
+        ensures decls { OnOk result (self.new.decls ≡ self.old.decls) }
+        ensures taken { OnOk result (self.new.spare ≡ self.old.spare - 1) }
+        ensures err { OnErr result (self.new ≡ self.old) }
+    {
+        match self.fault_of(&event) {
+            Some(fault) => Err(fault),
+            None => match self.append(event) {
+                Ok(()) => Ok(()),
+                Err(_) => Err(PushFault::OutOfMemory),
+            },
+        }
+    }
+
+    // Appends an allowed event.
+    fn append(&mut self, event: Event) -> Result<(), AllocError>
+        requires { spec.push_fault self.old event ≡ None }
+        ensures room { 0 < self.old.spare → IsOk result }
+        ensures events { OnOk result (self.new.events ≡ self.old.events ++ event ∷ []) }
+        ensures decls { OnOk result (self.new.decls ≡ self.old.decls) }
+        ensures taken { OnOk result (self.new.spare ≡ self.old.spare - 1) }
+        ensures err { OnErr result (self.new ≡ self.old) }
+    {
+        if self.spare > 0 {
+            self.events.push_reserved(event);
+            self.spare -= 1;
+            return Ok(());
+        }
+        self.events.push(event)?;
+        Ok(())
+    }
+
+    // Why the event is refused, memory aside.
+    #[tactic(auto, unfolding(crate::specs::Events::push_fault))]
+    fn fault_of(&self, event: &Event) -> Option<PushFault>
+        ensures { result ≡ spec.push_fault self.now event.now }
+    {
+        if !self.decls.fits(event) {
+            return Some(PushFault::BadNumber);
+        }
+        if self.events.len() >= MAX_EVENTS {
+            return Some(PushFault::Full);
+        }
+        None
+    }
+
+    /// Makes spare room for at least one event.
+    pub fn reserve(&mut self) -> Result<(), AllocError>
+        ensures room { OnOk result (0 < self.new.spare) }
+        ensures grown { self.old.spare ≤ self.new.spare }
+        ensures unchanged { spec.IsUnchanged self.old self.new }
+    {
+        if self.spare == 0 {
+            self.events.reserve(1)?;
+            self.spare = self.events.capacity() - self.events.len();
+        }
+        Ok(())
+    }
+
+    /// How many events there are. What holds of every `Trace` stands here.
+    pub fn len(&self) -> usize
+        ensures len { result ≡ length self.now.events }
+        ensures is_trace { spec.IsTrace self.now }
+    {
+        self.events.len()
+    }
+
+    /// Whether there is no event.
+    pub fn is_empty(&self) -> bool
+        ensures { IsTrue result ↔ (self.now.events ≡ []) }
+    {
+        self.events.is_empty()
+    }
+
+    /// Event `i`, counted from 0.
+    pub fn event(&self, i: usize) -> &Event
+        requires { i < length self.now.events }
+        ensures { slice_get self.now.events i ≡ Some result.now }
+    {
+        &self.events[i]
+    }
+
+    /// The events in order.
+    pub fn events(&self) -> &[Event]
+        ensures { result.now ≡ self.now.events }
+    {
+        self.events.as_slice()
+    }
+
+    /// The declarations.
+    pub fn decls(&self) -> &Decls<A>
+        ensures { result.now ≡ self.now.decls }
+    {
+        &self.decls
+    }
+
+    /// The text of a place.
+    pub fn place_text(&self, place: u32) -> &str
+        requires { place < length self.now.decls.places }
+        ensures { slice_get self.now.decls.places place ≡ Some result.now }
+    {
+        self.decls.place_text(place)
+    }
+
+    /// Gives the number of the place, which is added where it is new, as `Decls::add_place` does.
+    pub fn add_place(&mut self, text: &str) -> Result<u32, DeclFault>
+    where
+        A: Copy,
+        ensures refused { (fault : DeclFault) → declarations.place_fault self.old.decls.places text.now ≡ Some fault → result ≡ Err fault }
+        ensures allowed { declarations.place_fault self.old.decls.places text.now ≡ None → IsOkUnless result DeclFault.OutOfMemory }
+        ensures known { declarations.is_known self.old.decls.places text.now ≡ true → IsOk result }
+        ensures number { IfOk result (λ number. number ≡ declarations.place_number self.old.decls.places text.now) }
+        ensures added { OnOk result (self.new.decls ≡ declarations.with_place self.old.decls text.now) }
+        ensures events { self.new.events ≡ self.old.events }
+        ensures spare { self.new.spare ≡ self.old.spare }
+        ensures err { OnErr result (self.new ≡ self.old) }
+    {
+        self.decls.add_place(text)
+    }
+}

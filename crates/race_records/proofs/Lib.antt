@@ -6,3 +6,4 @@ pub mod DeclFaultLemmas
 pub mod DeclsKept
 pub mod PlaceLemmas
 pub mod EventLemmas
+pub mod DeviceLemmas

@@ -4,3 +4,4 @@ pub mod Events
 pub mod Tables
 pub mod DeclsHold
 pub mod TraceHolds
+pub mod Devices

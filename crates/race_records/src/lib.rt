@@ -8,6 +8,8 @@ mod kind;
 mod name;
 mod names;
 mod places;
+mod sink;
+mod source;
 mod trace;
 
 pub use declarations::{DeclFault, Decls, MAX_PLACES};
@@ -20,4 +22,6 @@ pub use indexes::Indexes;
 pub use names::{Names, Slot};
 #[doc(hidden)]
 pub use places::Places;
+pub use sink::{Sink, WriteFault};
+pub use source::Source;
 pub use trace::{MAX_EVENTS, PushFault, Trace};

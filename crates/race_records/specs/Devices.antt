@@ -1,0 +1,38 @@
+-- What a reader and a writer with a count of failures show.
+use Rattle.std.specs.Prelude.{ℕ, ◌+◌, ◌-◌, ◌^◌, ◌==◌, ◌&&◌, Bool, true, false, min, not, if◌then◌else◌, List, length, Result, Ok, Err}
+use Rattle.race_records.specs.declared.source.Source.{Source}
+use Rattle.race_records.specs.declared.sink.Sink.{Sink}
+
+-- the reader itself
+abbrev pub reader_of : {R : Type 0} → Source R → R
+reader_of source = source.reader
+
+-- how many reads failed
+abbrev pub source_failures : {R : Type 0} → Source R → ℕ
+source_failures source = source.failures
+
+-- the writer itself
+abbrev pub writer_of : {W : Type 0} → Sink W → W
+writer_of sink = sink.writer
+
+-- how many writes failed, or took none of some bytes
+abbrev pub sink_failures : {W : Type 0} → Sink W → ℕ
+sink_failures sink = sink.failures
+
+-- one more, short of the greatest count
+abbrev pub one_more : ℕ → ℕ
+one_more count = min (count + 1) (2 ^ 64 - 1)
+
+-- the read failed
+abbrev pub is_failed_read : {E : Type 0} → Result ℕ E → Bool
+is_failed_read (Ok taken) = false
+is_failed_read (Err e) = true
+
+-- the write failed, or took none of some bytes
+abbrev pub is_failed_write : {E : Type 0} → Result ℕ E → List ℕ → Bool
+is_failed_write (Ok taken) bytes = (taken == 0) && not (length bytes == 0)
+is_failed_write (Err e) bytes = true
+
+-- the count after a call
+abbrev pub counted : Bool → ℕ → ℕ
+counted failed count = if failed then one_more count else count

@@ -1,20 +1,18 @@
 -- What it means that nothing refuses a declaration or a place.
-use Rattle.std.proofs.Common.{◌≡◌, ◌≢◌, ℕ, ◌<◌, ◌≤◌, Bool, true, false, not, cond, nat_le, nat_lt, List, [], ◌∷◌, length, position, slice_get, get_or, Option, Some, None, IsNone, IsTrue, is_some, option_map, if◌then◌else◌, take, refl, sym, ap, ◌∙◌, true≢false, arith}
+use Rattle.std.proofs.Common.{◌≡◌, ◌≢◌, ℕ, ◌<◌, Bool, true, false, not, nat_le, List, [], length, position, get_or, Option, Some, None, IsNone, IsTrue, is_some, option_map, if◌then◌else◌, take, refl, sym, ap, ◌∙◌, true≢false, arith}
 use Rattle.std.proofs.lemmas.Bool.Decides.{nat_tests}
 use Rattle.std.proofs.lemmas.List.Folds.{list_any_at}
 use Rattle.std.proofs.lemmas.List.Quantifiers.{position-Some}
 use Rattle.std.proofs.lemmas.Option.{none-some}
 use Rattle.std.proofs.lemmas.Slice.Eq.{bytes_eq-Decides}
-use Rattle.std.specs.List.{list_any}
 use Rattle.std.specs.Option.{option_and_then}
 use Rattle.std.specs.Str.{bytes_eq}
 use Rattle.race_records.specs.declared.kind.Named.{Named}
 use Rattle.race_records.specs.declared.kind.Object.{Object}
 use Rattle.race_records.specs.declared.declarations.DeclFault.{DeclFault}
 use Rattle.race_records.specs.declared.declarations.DeclFault.TheVariants.{BadName, Taken, TooMany, BadCapacity}
-use Rattle.race_records.specs.declared.declarations.TheConstants.{MAX_PLACES}
-use Rattle.race_records.specs.Name.{main, is_name, is_place}
-use Rattle.race_records.specs.Declarations.{Declaration, decl_fault, declared_at, find_name, named, kind_of, count_of, limit_of, is_too_wide, place_fault}
+use Rattle.race_records.specs.Name.{main, is_name}
+use Rattle.race_records.specs.Declarations.{Declaration, decl_fault, declared_at, find_name, named, kind_of, count_of, limit_of, is_too_wide}
 use Rattle.race_records.proofs.ListLemmas.{slice_get-within}
 use Rattle.race_records.proofs.TextLemmas.{list_any-absent}
 
@@ -35,14 +33,14 @@ bytes_differ a b h e = true≢false (sym ((bytes_eq-Decides a b).1 e) ∙ h)
 
 -- an absent name is none of the names
 pub differs_from_absent : (ds : List Declaration) (word : List ℕ) → IsNone (position (λ (d : Declaration). bytes_eq word d.name) ds)
-  → (k : ℕ) (e : Declaration) → k < length ds → word ≢ (get_or ds k e).name
+    → (k : ℕ) (e : Declaration) → k < length ds → word ≢ (get_or ds k e).name
 differs_from_absent ds word none k e within same =
     let T = λ (d : Declaration). bytes_eq word d.name in
     true≢false (sym (list_any_at T ds k e within ((bytes_eq-Decides word (get_or ds k e).name).1 same)) ∙ list_any-absent T ds none)
 
 -- an absent name is found nowhere, so a name that is found nowhere is absent
 no_index : (ds : List Declaration) (word : List ℕ) (p : Option ℕ) → position (λ (d : Declaration). bytes_eq word d.name) ds ≡ p
-  → is_some (option_and_then (declared_at ds) p) ≡ false → IsNone p
+    → is_some (option_and_then (declared_at ds) p) ≡ false → IsNone p
 no_index ds word None e h = refl
 no_index ds word (Some i) e h =
     let within = position-Some (λ (d : Declaration). bytes_eq word d.name) ds i (record { name = []; object = Object.Var }) e in
@@ -53,7 +51,7 @@ pub free_from_find : (ds : List Declaration) (word : List ℕ) → is_some (find
 free_from_find ds word h = by (bytes_eq word main) refl h
   where
     by : (b : Bool) → bytes_eq word main ≡ b
-      → is_some (if b then Some (Named.Goroutine 0) else option_and_then (declared_at ds) (position (λ (d : Declaration). bytes_eq word d.name) ds)) ≡ false → IsFree ds word
+        → is_some (if b then Some (Named.Goroutine 0) else option_and_then (declared_at ds) (position (λ (d : Declaration). bytes_eq word d.name) ds)) ≡ false → IsFree ds word
     by true e h = absurd (true≢false h)
     by false e h = record { not_main = bytes_differ word main e; absent = no_index ds word (position (λ (d : Declaration). bytes_eq word d.name) ds) refl h }
 
@@ -64,9 +62,9 @@ allowed_from_no_fault ds object word h =
     by (is_name word) refl (is_some (find_name ds word)) refl (nat_le (limit_of (kind_of object)) (count_of (kind_of object) ds)) refl (is_too_wide object) refl h
   where
     by : (b : Bool) → is_name word ≡ b → (c : Bool) → is_some (find_name ds word) ≡ c → (full : Bool) → nat_le (limit_of (kind_of object)) (count_of (kind_of object) ds) ≡ full
-      → (wide : Bool) → is_too_wide object ≡ wide
-      → ◌≡◌ {A = Option DeclFault} (if not b then Some BadName else (if c then Some Taken else (if full then Some TooMany else (if wide then Some BadCapacity else None)))) None
-      → IsAllowed ds object word
+        → (wide : Bool) → is_too_wide object ≡ wide
+        → ◌≡◌ {A = Option DeclFault} (if not b then Some BadName else (if c then Some Taken else (if full then Some TooMany else (if wide then Some BadCapacity else None)))) None
+        → IsAllowed ds object word
     by false _ _ _ _ _ _ _ h = absurd (none-some _ (sym h))
     by true _ true _ _ _ _ _ h = absurd (none-some _ (sym h))
     by true _ false _ true _ _ _ h = absurd (none-some _ (sym h))

@@ -1,19 +1,18 @@
 -- The invariant of a `Decls`: with nothing declared, and after one more declaration.
-use Rattle.std.proofs.Common.{◌≡◌, ◌≢◌, ℕ, ◌+◌, ◌<◌, ◌≤◌, Bool, true, false, cond, List, [], ◌∷◌, ◌++◌, length, map, filter, take, position, slice_get, get_or, Option, Some, None, IsNone, IsTrue, if◌then◌else◌, refl, sym, ap, subst, ◌∙◌, append-nil, inl, inr, arith, All, AllPairs, true≢false}
+use Rattle.std.proofs.Common.{◌≡◌, ◌≢◌, ℕ, ◌+◌, ◌<◌, ◌≤◌, Bool, true, false, cond, List, [], ◌∷◌, ◌++◌, length, take, slice_get, Some, IsTrue, if◌then◌else◌, refl, sym, ap, subst, ◌∙◌, append-nil, inl, inr, arith, true≢false}
 use Rattle.std.proofs.lemmas.List.{length-append, length-map, map-append, take-append-le}
 use Rattle.std.proofs.lemmas.List.Elements.{All-push, filter-append}
 use Rattle.std.proofs.lemmas.List.Quantifiers.{all_pairs_push}
-use Rattle.std.proofs.lemmas.Option.{none-some, slice_get_within, slice_get-get_or}
+use Rattle.std.proofs.lemmas.Option.{none-some, slice_get_within}
 use Rattle.std.proofs.Math.Seq.{take-append_seam}
-use Rattle.std.specs.Str.{bytes_eq}
 use Rattle.race_records.specs.declared.kind.Kind.{Kind}
 use Rattle.race_records.specs.declared.kind.Object.{Object}
 use Rattle.race_records.specs.Name.{main, is_name}
 use Rattle.race_records.specs.Declarations.{Declaration, DeclsState, IsWellFormed, with_declaration, is_of_kind, kind_of, of_kind, count_of, limit_of, first_number, is_too_wide}
 use Rattle.race_records.specs.declared.declarations.Decls.TheInside.{Inside}
-use Rattle.race_records.specs.DeclsHold.{declaration_of, declarations_of, decls_state, Leads, AreNumbered, DeclsHold}
+use Rattle.race_records.specs.DeclsHold.{decls_state, Leads, AreNumbered, DeclsHold}
+use Rattle.race_records.specs.Rows.{declaration_of, declarations_of}
 use Rattle.race_records.specs.Tables.{Row, row, IndexesState, indexes_of, no_indexes, with_index}
-use Rattle.race_records.specs.declared.names.Slot.{Slot}
 use Rattle.race_records.proofs.DeclFaultLemmas.{IsAllowed, differs_from_absent}
 use Rattle.race_records.proofs.ListLemmas.{slice_get-push_cases, Leads-same, Leads-other}
 
@@ -28,7 +27,7 @@ kind_is _ _ h = absurd (true≢false (sym h))
 
 -- one more index of a kind
 indexes_of-with_index : (kind : Kind) (object : Object) (last : ℕ) (indexes : IndexesState)
-  → indexes_of kind (with_index (kind_of object) last indexes) ≡ (if is_of_kind kind object then indexes_of kind indexes ++ last ∷ [] else indexes_of kind indexes)
+    → indexes_of kind (with_index (kind_of object) last indexes) ≡ (if is_of_kind kind object then indexes_of kind indexes ++ last ∷ [] else indexes_of kind indexes)
 indexes_of-with_index Kind.Goroutine Object.Goroutine last indexes = refl
 indexes_of-with_index Kind.Var Object.Var last indexes = refl
 indexes_of-with_index Kind.Chan (Object.Chan capacity) last indexes = refl
@@ -46,43 +45,45 @@ of_kind-push kind ds d = filter-append (λ (e : Declaration). is_of_kind kind e.
 
 pub empty_numbered : AreNumbered [] no_indexes
 empty_numbered = record {
-    numbers = λ i r at. absurd (none-some r at);
-    indexed = elim [ Kind.Goroutine ↦ nowhere | Kind.Var ↦ nowhere | Kind.Chan ↦ nowhere | Kind.Lock ↦ nowhere | Kind.Once ↦ nowhere ];
-  }
+  numbers = λ i r at. absurd (none-some r at);
+  indexed = elim [ Kind.Goroutine ↦ nowhere | Kind.Var ↦ nowhere | Kind.Chan ↦ nowhere | Kind.Lock ↦ nowhere | Kind.Once ↦ nowhere ];
+}
   where
     nowhere : Leads {X = Declaration} [] [] []
     nowhere = record { to = λ n i at. refl; sized = refl }
 
 pub empty_well_formed : IsWellFormed (record { declarations = []; places = [] })
 empty_well_formed = record {
-    names = λ k d h. absurd (omega arith);
-    not_main = λ k d h. absurd (omega arith);
-    distinct = λ i j d h k. absurd (omega arith);
-    limited = elim [ Kind.Goroutine ↦ omega arith | Kind.Var ↦ omega arith | Kind.Chan ↦ omega arith | Kind.Lock ↦ omega arith | Kind.Once ↦ omega arith ];
-    capacities = λ k d h. absurd (omega arith);
-    places = λ k d h. absurd (omega arith);
-    places_distinct = λ i j d h k. absurd (omega arith);
-    places_limited = omega arith;
-  }
+  names = λ k d h. absurd (omega arith);
+  not_main = λ k d h. absurd (omega arith);
+  distinct = λ i j d h k. absurd (omega arith);
+  limited = elim [ Kind.Goroutine ↦ omega arith | Kind.Var ↦ omega arith | Kind.Chan ↦ omega arith | Kind.Lock ↦ omega arith | Kind.Once ↦ omega arith ];
+  capacities = λ k d h. absurd (omega arith);
+  places = λ k d h. absurd (omega arith);
+  places_distinct = λ i j d h k. absurd (omega arith);
+  places_limited = omega arith;
+}
 
 module _ (rows : List Row) (indexes : IndexesState) (numbered : AreNumbered rows indexes) (name : List ℕ) (object : Object) (number : ℕ)
     (is : number ≡ count_of (kind_of object) (declarations_of rows)) where
   abbrev ds : List Declaration
   ds = declarations_of rows
+
   abbrev d : Declaration
   d = record { name = name; object = object }
+
   abbrev new : Row
   new = row name (record { object = object; number = number })
 
   numbers_pushed : (i : ℕ) (r : Row) → slice_get (rows ++ new ∷ []) i ≡ Some r → r.slot.number ≡ count_of (kind_of r.slot.object) (take i (ds ++ d ∷ []))
   numbers_pushed i r at = elim (slice_get-push_cases rows new i r at) [
-      | inl old ↦
-          let within : i ≤ length ds = omega (arith, slice_get_within rows i r old, length-map rows declaration_of) in
-          numbered.numbers i r old ∙ ap (count_of (kind_of r.slot.object)) (sym (take-append-le i ds (d ∷ []) within))
-      | inr last ↦
-          let all : take i (ds ++ d ∷ []) ≡ ds = ap (λ n. take n (ds ++ d ∷ [])) (last.0 ∙ sym (length-map rows declaration_of)) ∙ take-append_seam ds (d ∷ []) in
-          ap (λ (x : Row). x.slot.number) last.1 ∙ is ∙ (λ j. count_of (kind_of object) (sym all j)) ∙ (λ j. count_of (kind_of (sym last.1 j).slot.object) (take i (ds ++ d ∷ [])))
-    ]
+    | inl old ↦
+        let within : i ≤ length ds = omega (arith, slice_get_within rows i r old, length-map rows declaration_of) in
+        numbered.numbers i r old ∙ ap (count_of (kind_of r.slot.object)) (sym (take-append-le i ds (d ∷ []) within))
+    | inr last ↦
+        let all : take i (ds ++ d ∷ []) ≡ ds = ap (λ n. take n (ds ++ d ∷ [])) (last.0 ∙ sym (length-map rows declaration_of)) ∙ take-append_seam ds (d ∷ []) in
+        ap (λ (x : Row). x.slot.number) last.1 ∙ is ∙ (λ j. count_of (kind_of object) (sym all j)) ∙ (λ j. count_of (kind_of (sym last.1 j).slot.object) (take i (ds ++ d ∷ [])))
+  ]
 
   indexed_pushed : (kind : Kind) → Leads (ds ++ d ∷ []) (of_kind kind (ds ++ d ∷ [])) (indexes_of kind (with_index (kind_of object) (length rows) indexes))
   indexed_pushed kind =
@@ -117,24 +118,24 @@ module _ (decls : DeclsState) (holds : IsWellFormed decls) (name : List ℕ) (ob
 
   pub push_well_formed : IsWellFormed (with_declaration decls name object)
   push_well_formed = record {
-      names = All-push (λ (x : Declaration). IsTrue (is_name x.name)) decls.declarations added holds.names allowed.name;
-      not_main = All-push (λ (x : Declaration). x.name ≢ main) decls.declarations added holds.not_main allowed.free.not_main;
-      distinct = all_pairs_push (λ (x y : Declaration). x.name ≢ y.name) decls.declarations added holds.distinct (λ k e within same. differs_from_absent decls.declarations name allowed.free.absent k e within (sym same));
-      limited = limited_pushed;
-      capacities = All-push (λ (x : Declaration). is_too_wide x.object ≡ false) decls.declarations added holds.capacities allowed.narrow;
-      places = holds.places;
-      places_distinct = holds.places_distinct;
-      places_limited = holds.places_limited;
-    }
+    names = All-push (λ (x : Declaration). IsTrue (is_name x.name)) decls.declarations added holds.names allowed.name;
+    not_main = All-push (λ (x : Declaration). x.name ≢ main) decls.declarations added holds.not_main allowed.free.not_main;
+    distinct = all_pairs_push (λ (x y : Declaration). x.name ≢ y.name) decls.declarations added holds.distinct (λ k e within same. differs_from_absent decls.declarations name allowed.free.absent k e within (sym same));
+    limited = limited_pushed;
+    capacities = All-push (λ (x : Declaration). is_too_wide x.object ≡ false) decls.declarations added holds.capacities allowed.narrow;
+    places = holds.places;
+    places_distinct = holds.places_distinct;
+    places_limited = holds.places_limited;
+  }
 
 -- the invariant after one more declaration, from what the tables became
 module _ {A : Type 0} (decls : Inside A) (holds : DeclsHold decls) (name : List ℕ) (object : Object) (allowed : IsAllowed (declarations_of decls.names) object name)
     (number : ℕ) (is : number ≡ count_of (kind_of object) (declarations_of decls.names)) where
   pub push_holds : (next : Inside A) → next.names ≡ decls.names ++ row name (record { object = object; number = number }) ∷ []
-    → next.indexes ≡ with_index (kind_of object) (length decls.names) decls.indexes → next.places ≡ decls.places → DeclsHold next
+      → next.indexes ≡ with_index (kind_of object) (length decls.names) decls.indexes → next.places ≡ decls.places → DeclsHold next
   push_holds next names indexes places = record {
-      numbered = subst (λ (p : List Row × IndexesState). AreNumbered p.0 p.1) (λ i. (sym names i, sym indexes i)) (push_numbered decls.names decls.indexes holds.numbered name object number is);
-      well_formed = subst IsWellFormed
+    numbered = subst (λ (p : List Row × IndexesState). AreNumbered p.0 p.1) (λ i. (sym names i, sym indexes i)) (push_numbered decls.names decls.indexes holds.numbered name object number is);
+    well_formed = subst IsWellFormed
         (λ i. record { declarations = (sym (map-append declaration_of decls.names (row name (record { object = object; number = number }) ∷ [])) ∙ ap declarations_of (sym names)) i; places = sym places i })
         (push_well_formed (decls_state decls) holds.well_formed name object allowed);
-    }
+  }

@@ -1,10 +1,11 @@
 -- What the tables of a `Decls` say of its declarations.
-use Rattle.std.proofs.Common.{◌≡◌, ℕ, zero, suc, ◌<◌, List, [], ◌∷◌, length, map, position, slice_get, Option, Some, None, option_map, refl, sym, ap, ◌∙◌, arith}
+use Rattle.std.proofs.Common.{◌≡◌, ℕ, zero, suc, ◌<◌, List, [], ◌∷◌, length, position, slice_get, Option, Some, None, option_map, refl, sym, ap, ◌∙◌, arith}
 use Rattle.std.proofs.lemmas.Option.{slice_get-map, slice_get-get_or, none-some}
 use Rattle.std.specs.Str.{bytes_eq}
 use Rattle.race_records.specs.declared.kind.Kind.{Kind}
 use Rattle.race_records.specs.Declarations.{Declaration, of_kind}
-use Rattle.race_records.specs.DeclsHold.{declaration_of, declarations_of, AreNumbered}
+use Rattle.race_records.specs.DeclsHold.{AreNumbered}
+use Rattle.race_records.specs.Rows.{declaration_of, declarations_of}
 use Rattle.race_records.specs.Tables.{Row, IndexesState, indexes_of}
 use Rattle.race_records.proofs.TextLemmas.{position-map}
 

@@ -1,16 +1,15 @@
 -- What keeps a trace a trace.
-use Rattle.std.proofs.Common.{◌≡◌, ℕ, ◌+◌, ◌<◌, ◌≤◌, ◌&&◌, Bool, true, false, not, nat_lt, nat_le, List, [], ◌∷◌, ◌++◌, length, Option, Some, None, is_none, IsTrue, if◌then◌else◌, refl, sym, ap, subst, ◌∙◌, get_or, arith, All}
+use Rattle.std.proofs.Common.{◌≡◌, ℕ, ◌<◌, ◌≤◌, Bool, true, false, not, nat_le, List, [], ◌∷◌, ◌++◌, length, Option, Some, None, IsTrue, if◌then◌else◌, refl, sym, subst, get_or, arith, All}
 use Rattle.std.proofs.lemmas.Bool.Decides.{nat_tests}
 use Rattle.std.proofs.lemmas.List.{length-append}
 use Rattle.std.proofs.lemmas.List.Elements.{All-push}
 use Rattle.std.proofs.lemmas.Option.{none-some}
 use Rattle.race_records.specs.declared.event.Event.{Event}
-use Rattle.race_records.specs.declared.kind.Kind.{Kind}
 use Rattle.race_records.specs.declared.trace.PushFault.{PushFault}
 use Rattle.race_records.specs.declared.trace.PushFault.TheVariants.{BadNumber, Full}
 use Rattle.race_records.specs.declared.trace.TheConstants.{MAX_EVENTS}
-use Rattle.race_records.specs.Declarations.{Declaration, DeclsState, count_of, is_known, with_place}
-use Rattle.race_records.specs.Events.{TraceState, IsTrace, fits, op_fits, push_fault}
+use Rattle.race_records.specs.Declarations.{Declaration, DeclsState, is_known, with_place}
+use Rattle.race_records.specs.Events.{TraceState, IsTrace, fits, push_fault}
 
 -- what no fault means for an event
 pub record IsAllowedEvent (trace : TraceState) (e : Event) : Type 0 where
@@ -22,14 +21,14 @@ unfolding push_fault
 allowed_from_no_push_fault trace e h = by (fits trace.decls e) refl (nat_le MAX_EVENTS (length trace.events)) refl h
   where
     by : (b : Bool) → fits trace.decls e ≡ b → (full : Bool) → nat_le MAX_EVENTS (length trace.events) ≡ full
-      → ◌≡◌ {A = Option PushFault} (if not b then Some BadNumber else (if full then Some Full else None)) None → IsAllowedEvent trace e
+        → ◌≡◌ {A = Option PushFault} (if not b then Some BadNumber else (if full then Some Full else None)) None → IsAllowedEvent trace e
     by false _ _ _ h = absurd (none-some _ (sym h))
     by true _ true _ h = absurd (none-some _ (sym h))
     by true fit false room h = record { fit = fit; room = grind (arith, nat_tests) }
 
 -- one more event that fits
 pub push_is_trace : (trace : TraceState) (e : Event) (events : List Event) (spare : ℕ) → IsTrace trace → push_fault trace e ≡ None → events ≡ trace.events ++ e ∷ []
-  → IsTrace (record { decls = trace.decls; events = events; spare = spare })
+    → IsTrace (record { decls = trace.decls; events = events; spare = spare })
 push_is_trace trace e events spare holds none is =
     let allowed = allowed_from_no_push_fault trace e none in
     let room = allowed.room in
@@ -45,9 +44,9 @@ fits-more_places ds places more e grown h = grind (arith, nat_tests)
 
 pub with_place_is_trace : (trace : TraceState) (word : List ℕ) (decls : DeclsState) → IsTrace trace → decls ≡ with_place trace.decls word → IsTrace (record { decls = decls; events = trace.events; spare = trace.spare })
 with_place_is_trace trace word decls holds is = record {
-    fit = λ k d within. subst (λ (x : DeclsState). IsTrue (fits x (get_or trace.events k d))) (sym is) (fits-more_places trace.decls.declarations trace.decls.places _ (get_or trace.events k d) (grown (is_known trace.decls.places word)) (holds.fit k d within));
-    limited = holds.limited;
-  }
+  fit = λ k d within. subst (λ (x : DeclsState). IsTrue (fits x (get_or trace.events k d))) (sym is) (fits-more_places trace.decls.declarations trace.decls.places _ (get_or trace.events k d) (grown (is_known trace.decls.places word)) (holds.fit k d within));
+  limited = holds.limited;
+}
   where
     grown : (b : Bool) → length trace.decls.places ≤ length (if b then trace.decls.places else trace.decls.places ++ word ∷ [])
     grown true = omega arith

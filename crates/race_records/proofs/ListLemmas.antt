@@ -1,5 +1,5 @@
 -- One more element at the end of a list.
-use Rattle.std.proofs.Common.{◌≡◌, ℕ, zero, suc, ◌+◌, ◌<◌, ◌⊎◌, inl, inr, List, [], ◌∷◌, ◌++◌, length, slice_get, Option, Some, None, refl, sym, ap, ◌∙◌, arith}
+use Rattle.std.proofs.Common.{◌≡◌, ℕ, zero, suc, ◌<◌, ◌⊎◌, inl, inr, List, [], ◌∷◌, ◌++◌, length, slice_get, Some, refl, sym, ◌∙◌, arith}
 use Rattle.std.proofs.lemmas.List.{length-append}
 use Rattle.std.proofs.lemmas.Option.{none-some, same_Some, slice_get_within}
 use Rattle.race_records.specs.DeclsHold.{Leads}
@@ -31,6 +31,16 @@ module _ {X : Type 0} where
   slice_get-within (x ∷ xs) zero h = (x, refl)
   slice_get-within (x ∷ xs) (suc i) h = slice_get-within xs i (omega arith)
 
+  -- lists with the same elements at all indexes are the same
+  pub same_elements : (xs ys : List X) → length xs ≡ length ys → ((k : ℕ) → k < length xs → slice_get xs k ≡ slice_get ys k) → xs ≡ ys
+  same_elements [] [] e h = refl
+  same_elements [] (y ∷ ys) e h = absurd (omega arith)
+  same_elements (x ∷ xs) [] e h = absurd (omega arith)
+  same_elements (x ∷ xs) (y ∷ ys) e h =
+      let first = same_Some x y (h 0 (omega arith)) in
+      let rest = same_elements xs ys (omega arith) (λ k l. h (suc k) (omega arith)) in
+      λ i. first i ∷ rest i
+
   -- an index that leads somewhere stands within the list
   pub leads_within : (list part : List X) (indexes : List ℕ) → Leads list part indexes → (n i : ℕ) → slice_get indexes n ≡ Some i → i < length list
   leads_within list part indexes leads n i at =
@@ -50,9 +60,9 @@ module _ {X : Type 0} (list part : List X) (indexes : List ℕ) (leads : Leads l
   -- an element of the part is added
   pub Leads-same : (last : ℕ) → last ≡ length list → Leads (list ++ x ∷ []) (part ++ x ∷ []) (indexes ++ last ∷ [])
   Leads-same last e = record {
-      to = λ n i at. elim (slice_get-push_cases indexes last n i at) [
-        | inl old ↦ stays n i old ∙ sym (slice_get-push_within part x n (omega (arith, slice_get_within indexes n i old, leads.sized)))
-        | inr new ↦ slice_get-push_last list x i (new.1 ∙ e) ∙ sym (slice_get-push_last part x n (new.0 ∙ leads.sized))
-      ];
-      sized = omega (arith, length-append indexes (last ∷ []), length-append part (x ∷ []), leads.sized);
-    }
+    to = λ n i at. elim (slice_get-push_cases indexes last n i at) [
+      | inl old ↦ stays n i old ∙ sym (slice_get-push_within part x n (omega (arith, slice_get_within indexes n i old, leads.sized)))
+      | inr new ↦ slice_get-push_last list x i (new.1 ∙ e) ∙ sym (slice_get-push_last part x n (new.0 ∙ leads.sized))
+    ];
+    sized = omega (arith, length-append indexes (last ∷ []), length-append part (x ∷ []), leads.sized);
+  }

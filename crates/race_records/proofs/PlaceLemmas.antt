@@ -1,5 +1,5 @@
 -- The table of places: a known place is never refused, and a new one keeps the table well formed.
-use Rattle.std.proofs.Common.{◌≡◌, ◌≢◌, ℕ, ◌<◌, ◌≤◌, Bool, true, false, not, cond, nat_le, List, [], ◌∷◌, ◌++◌, length, get_or, Option, Some, None, IsTrue, if◌then◌else◌, refl, sym, ap, subst, ◌∙◌, arith, All, AllPairs, true≢false}
+use Rattle.std.proofs.Common.{◌≡◌, ◌≢◌, ℕ, ◌<◌, Bool, true, false, not, nat_le, List, [], ◌∷◌, ◌++◌, length, get_or, Option, Some, None, IsTrue, if◌then◌else◌, refl, sym, subst, ◌∙◌, arith, All, true≢false}
 use Rattle.std.proofs.lemmas.Bool.Decides.{nat_tests}
 use Rattle.std.proofs.lemmas.List.{length-append}
 use Rattle.std.proofs.lemmas.List.Elements.{All-push}
@@ -12,7 +12,7 @@ use Rattle.race_records.specs.declared.declarations.DeclFault.{DeclFault}
 use Rattle.race_records.specs.declared.declarations.DeclFault.TheVariants.{BadName, TooMany}
 use Rattle.race_records.specs.declared.declarations.TheConstants.{MAX_PLACES}
 use Rattle.race_records.specs.Name.{is_place}
-use Rattle.race_records.specs.Declarations.{DeclsState, IsWellFormed, is_known, place_fault, with_place}
+use Rattle.race_records.specs.Declarations.{DeclsState, IsWellFormed, is_known, place_fault}
 
 -- a known place has a place's form
 known_is_place : (places : List (List ℕ)) (word : List ℕ) → All (λ (p : List ℕ). IsTrue (is_place p)) places → is_known places word ≡ true → is_place word ≡ true
@@ -28,7 +28,7 @@ known_is_allowed decls word holds known =
     by (is_place word) (is_known decls.places word) (known_is_place decls.places word holds.places known) known
   where
     by : (b c : Bool) → b ≡ true → c ≡ true
-      → ◌≡◌ {A = Option DeclFault} (if not b then Some BadName else (if c then None else (if nat_le MAX_PLACES (length decls.places) then Some TooMany else None))) None
+        → ◌≡◌ {A = Option DeclFault} (if not b then Some BadName else (if c then None else (if nat_le MAX_PLACES (length decls.places) then Some TooMany else None))) None
     by true true e f = refl
     by false _ e f = absurd (true≢false (sym e))
     by true false e f = absurd (true≢false (sym f))
@@ -43,7 +43,7 @@ unfolding place_fault
 allowed_from_no_place_fault places word new h = by (is_place word) refl (is_known places word) new (nat_le MAX_PLACES (length places)) refl h
   where
     by : (b : Bool) → is_place word ≡ b → (c : Bool) → c ≡ false → (full : Bool) → nat_le MAX_PLACES (length places) ≡ full
-      → ◌≡◌ {A = Option DeclFault} (if not b then Some BadName else (if c then None else (if full then Some TooMany else None))) None → IsAllowedPlace places word
+        → ◌≡◌ {A = Option DeclFault} (if not b then Some BadName else (if c then None else (if full then Some TooMany else None))) None → IsAllowedPlace places word
     by false _ _ _ _ _ h = absurd (none-some _ (sym h))
     by true _ true e _ _ h = absurd (true≢false e)
     by true _ false _ true _ h = absurd (none-some _ (sym h))
@@ -51,15 +51,15 @@ allowed_from_no_place_fault places word new h = by (is_place word) refl (is_know
 
 -- the table with a new place
 pub place_well_formed : (decls : DeclsState) (word : List ℕ) → IsWellFormed decls → is_known decls.places word ≡ false → IsAllowedPlace decls.places word
-  → IsWellFormed (record { declarations = decls.declarations; places = decls.places ++ word ∷ [] })
+    → IsWellFormed (record { declarations = decls.declarations; places = decls.places ++ word ∷ [] })
 place_well_formed decls word holds new allowed = record {
-    names = holds.names;
-    not_main = holds.not_main;
-    distinct = holds.distinct;
-    limited = holds.limited;
-    capacities = holds.capacities;
-    places = All-push (λ (p : List ℕ). IsTrue (is_place p)) decls.places word holds.places allowed.form;
-    places_distinct = all_pairs_push (λ (p q : List ℕ). p ≢ q) decls.places word holds.places_distinct
+  names = holds.names;
+  not_main = holds.not_main;
+  distinct = holds.distinct;
+  limited = holds.limited;
+  capacities = holds.capacities;
+  places = All-push (λ (p : List ℕ). IsTrue (is_place p)) decls.places word holds.places allowed.form;
+  places_distinct = all_pairs_push (λ (p q : List ℕ). p ≢ q) decls.places word holds.places_distinct
       (λ k d within same. true≢false (sym (list_any_at (bytes_eq word) decls.places k d within ((bytes_eq-Decides word (get_or decls.places k d)).1 (sym same))) ∙ new));
-    places_limited = let room = allowed.room in omega (arith, room, length-append decls.places (word ∷ []));
-  }
+  places_limited = let room = allowed.room in omega (arith, room, length-append decls.places (word ∷ []));
+}

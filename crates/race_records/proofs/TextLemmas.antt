@@ -1,9 +1,8 @@
 -- Tables of texts: what a look-up and an insertion say of the texts as lists of bytes.
-use Rattle.std.proofs.Common.{◌≡◌, ℕ, ◌+◌, Bool, true, false, not, cond, ◌||◌, nat_lt, List, [], ◌∷◌, ◌++◌, length, map, position, String, Option, Some, None, IsNone, refl, sym, ap, subst, ◌∙◌, true≢false, arith}
+use Rattle.std.proofs.Common.{◌≡◌, ℕ, ◌+◌, Bool, true, false, not, cond, ◌||◌, nat_lt, List, [], ◌∷◌, ◌++◌, length, map, position, String, Some, None, IsNone, refl, sym, ap, subst, ◌∙◌, true≢false, arith}
 use Rattle.std.proofs.lemmas.List.{length-map, map-append}
 use Rattle.std.proofs.lemmas.Bool.Decides.{nat_tests}
 use Rattle.std.proofs.lemmas.Option.{cond_some}
-use Rattle.std.proofs.lemmas.Slice.Zip.{AllZip-map}
 use Rattle.std.specs.List.{prefix_len, position_or_len, list_any, AllZip}
 use Rattle.std.specs.Str.{bytes_eq}
 use Rattle.std.specs.String.{string_bytes, string_eq}
@@ -61,7 +60,7 @@ module _ {Z : Type 0} (ks : List (String Z)) (texts : List (List ℕ)) (view_is 
   pub insert_key-new : (k : String Z) (text : List ℕ) → string_bytes k ≡ text → IsNone (position (bytes_eq text) texts) → map string_bytes (insert_key string_eq ks k) ≡ texts ++ text ∷ []
   insert_key-new k text e none =
       let found : position (bytes_eq text) texts ≡ position (λ x. bytes_eq (string_bytes k) (string_bytes x)) ks =
-        (λ i. position (bytes_eq (sym e i)) (sym view_is i)) ∙ position-map string_bytes (bytes_eq (string_bytes k)) ks in
+      (λ i. position (bytes_eq (sym e i)) (sym view_is i)) ∙ position-map string_bytes (bytes_eq (string_bytes k)) ks in
       let absent = list_any-absent (λ x. bytes_eq (string_bytes k) (string_bytes x)) ks (subst IsNone found none) in
       ap (λ b. map string_bytes (cond b ks (ks ++ k ∷ []))) absent ∙ map-append string_bytes ks (k ∷ []) ∙ (λ i. view_is i ++ e i ∷ [])
 

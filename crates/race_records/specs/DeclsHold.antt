@@ -1,17 +1,10 @@
 -- What the fields of a `Decls` stand for, and what holds of them.
-use Rattle.std.specs.Prelude.{◌≡◌, ℕ, List, length, map, take, slice_get, Some}
+use Rattle.std.specs.Prelude.{◌≡◌, ℕ, List, length, take, slice_get, Some}
 use Rattle.race_records.specs.declared.kind.Kind.{Kind}
 use Rattle.race_records.specs.declared.declarations.Decls.TheInside.{Inside}
-use Rattle.race_records.specs.Declarations.{Declaration, DeclsState, IsWellFormed, kind_of, of_kind, count_of}
+use Rattle.race_records.specs.Declarations.{DeclsState, IsWellFormed, kind_of, of_kind, count_of}
+use Rattle.race_records.specs.Rows.{declarations_of}
 use Rattle.race_records.specs.Tables.{Row, IndexesState, indexes_of}
-
--- the declaration that a row of the table of names tells
-abbrev pub declaration_of : Row → Declaration
-declaration_of row = record { name = row.name; object = row.slot.object }
-
--- the declarations that the table of names tells
-abbrev pub declarations_of : List Row → List Declaration
-declarations_of names = map declaration_of names
 
 -- the indexes lead, in order, to just those of the list that stand in part
 pub record Leads {X : Type 0} (list part : List X) (indexes : List ℕ) : Type 0 where
@@ -21,7 +14,7 @@ pub record Leads {X : Type 0} (list part : List X) (indexes : List ℕ) : Type 0
 -- each row has its object's number, and the indexes of each kind lead to its declarations
 pub record AreNumbered (names : List Row) (indexes : IndexesState) : Type 0 where
   pub numbers : (i : ℕ) (row : Row) → slice_get names i ≡ Some row
-    → row.slot.number ≡ count_of (kind_of row.slot.object) (take i (declarations_of names))
+      → row.slot.number ≡ count_of (kind_of row.slot.object) (take i (declarations_of names))
   pub indexed : (kind : Kind) → Leads (declarations_of names) (of_kind kind (declarations_of names)) (indexes_of kind indexes)
 
 module _ {A : Type 0} where

@@ -1,7 +1,10 @@
 pub mod Name
+pub mod Refusal
 pub mod Declarations
+pub mod Equality
 pub mod Events
 pub mod Tables
+pub mod Rows
 pub mod DeclsHold
 pub mod TraceHolds
 pub mod Devices

@@ -1,5 +1,5 @@
 -- What the fields of a `Trace` stand for, and what holds of them.
-use Rattle.std.specs.Prelude.{ℕ, ◌+◌, ◌≤◌, vec_len, vec_capacity}
+use Rattle.std.specs.Prelude.{◌+◌, ◌≤◌, vec_len, vec_capacity}
 use Rattle.race_records.specs.declared.trace.Trace.TheInside.{Inside}
 use Rattle.race_records.specs.Events.{TraceState, IsTrace}
 

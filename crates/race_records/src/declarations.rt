@@ -1,7 +1,8 @@
 //! The declarations of a trace, and its table of places.
-ghost use Rattle.std.specs.Prelude.{◌≡◌, ◌<◌, ◌≤◌, ◌↔◌, ℕ, [], length, position, IsTrue, true, false, Some, None, slice_get, IsOk, IsOkUnless, IfSome, IfNone, OnSome, IfOk, OnOk, OnErr};
+ghost use Rattle.std.specs.Prelude.{◌≡◌, ◌<◌, ◌≤◌, ◌↔◌, ℕ, [], length, position, IsTrue, true, false, Some, None, slice_get, IsOk, IfSome, IfNone, OnSome, IfOk, OnOk, OnErr};
 ghost use Rattle.std.specs.Str.{bytes_eq};
 ghost use Rattle.race_records.specs.Declarations as spec;
+ghost use Rattle.race_records.specs.Refusal.{Refuses, AllowsUnless};
 ghost use Rattle.race_records.specs.Events as events;
 
 use crate::indexes::Indexes;
@@ -40,7 +41,7 @@ pub enum DeclFault {
 /// The number of an object is the count of objects of its kind that were declared before it;
 /// goroutines count from 1, since `main` is 0 and isn't declared. All kinds share one table of
 /// names. Each look-up costs the same however many names and places there are.
-#[derive(Drop)]
+#[derive(Debug, Drop)]
 pub struct Decls<A: Allocator = Global> {
     names: Names<A>,
     indexes: Indexes<A>,
@@ -196,8 +197,10 @@ impl<A: Allocator> Decls<A> {
 impl<A: Allocator + Copy> Decls<A> {
     /// Declares a goroutine beside main, and gives its number. The first has number 1.
     pub fn add_goroutine(&mut self, name: &str) -> Result<u32, DeclFault>
-        ensures refused { (fault : DeclFault) → spec.decl_fault self.old.declarations Object.Goroutine name.now ≡ Some fault → result ≡ Err fault }
-        ensures allowed { spec.decl_fault self.old.declarations Object.Goroutine name.now ≡ None → IsOkUnless result DeclFault.OutOfMemory }
+        ensures refused { Refuses (spec.decl_fault self.old.declarations Object.Goroutine name.now)
+            result }
+        ensures allowed { AllowsUnless (spec.decl_fault self.old.declarations Object.Goroutine name.now)
+            result DeclFault.OutOfMemory }
         ensures number { IfOk result (λ number. number ≡ spec.count_of Kind.Goroutine self.old.declarations) }
         ensures added { OnOk result (self.new ≡ spec.with_declaration self.old name.now Object.Goroutine) }
         ensures err { OnErr result (self.new ≡ self.old) }
@@ -207,8 +210,10 @@ impl<A: Allocator + Copy> Decls<A> {
 
     /// Declares a variable, 0 at first, and gives its number.
     pub fn add_var(&mut self, name: &str) -> Result<u32, DeclFault>
-        ensures refused { (fault : DeclFault) → spec.decl_fault self.old.declarations Object.Var name.now ≡ Some fault → result ≡ Err fault }
-        ensures allowed { spec.decl_fault self.old.declarations Object.Var name.now ≡ None → IsOkUnless result DeclFault.OutOfMemory }
+        ensures refused { Refuses (spec.decl_fault self.old.declarations Object.Var name.now)
+            result }
+        ensures allowed { AllowsUnless (spec.decl_fault self.old.declarations Object.Var name.now)
+            result DeclFault.OutOfMemory }
         ensures number { IfOk result (λ number. number ≡ spec.count_of Kind.Var self.old.declarations) }
         ensures added { OnOk result (self.new ≡ spec.with_declaration self.old name.now Object.Var) }
         ensures err { OnErr result (self.new ≡ self.old) }
@@ -218,8 +223,9 @@ impl<A: Allocator + Copy> Decls<A> {
 
     // Declares the object under the name, after every test.
     fn declare(&mut self, name: &str, object: Object) -> Result<u32, DeclFault>
-        ensures refused { (fault : DeclFault) → spec.decl_fault self.old.declarations object name.now ≡ Some fault → result ≡ Err fault }
-        ensures allowed { spec.decl_fault self.old.declarations object name.now ≡ None → IsOkUnless result DeclFault.OutOfMemory }
+        ensures refused { Refuses (spec.decl_fault self.old.declarations object name.now) result }
+        ensures allowed { AllowsUnless (spec.decl_fault self.old.declarations object name.now)
+            result DeclFault.OutOfMemory }
         ensures number { IfOk result (λ number. number ≡ spec.count_of (spec.kind_of object) self.old.declarations) }
         ensures added { OnOk result (self.new ≡ spec.with_declaration self.old name.now object) }
         ensures err { OnErr result (self.new ≡ self.old) }
@@ -276,8 +282,9 @@ impl<A: Allocator + Copy> Decls<A> {
     /// Gives the number of the place, which is added where it is new. A place that is known
     /// takes no memory.
     pub fn add_place(&mut self, text: &str) -> Result<u32, DeclFault>
-        ensures refused { (fault : DeclFault) → spec.place_fault self.old.places text.now ≡ Some fault → result ≡ Err fault }
-        ensures allowed { spec.place_fault self.old.places text.now ≡ None → IsOkUnless result DeclFault.OutOfMemory }
+        ensures refused { Refuses (spec.place_fault self.old.places text.now) result }
+        ensures allowed { AllowsUnless (spec.place_fault self.old.places text.now)
+            result DeclFault.OutOfMemory }
         ensures known { spec.is_known self.old.places text.now ≡ true → IsOk result }
         ensures number { IfOk result (λ number. number ≡ spec.place_number self.old.places text.now) }
         ensures added { OnOk result (self.new ≡ spec.with_place self.old text.now) }
@@ -346,5 +353,22 @@ impl<A: Allocator + Copy> Decls<A> {
             indexes: self.indexes.copy()?,
             places: self.places.copy()?,
         })
+    }
+}
+
+/// Equal where the declarations are; places don't count.
+impl<A: Allocator> PartialEq for Decls<A> {
+    ghost use Rattle.std.specs.Prelude.{◌≡◌, ◌↔◌, IsTrue};
+    ghost use Rattle.race_records.specs.Equality.{same_declarations, same_declarations_laws};
+
+    ghost eq = { λ d e. same_declarations d.declarations e.declarations };
+
+    ghost laws = { same_declarations_laws };
+
+    fn eq(&self, other: &Decls<A>) -> bool
+        ensures eq { result ≡ same_declarations self.now.declarations other.now.declarations }
+        ensures same { IsTrue result ↔ (self.now.declarations ≡ other.now.declarations) }
+    {
+        self.names.declare_alike(&other.names)
     }
 }

@@ -14,10 +14,10 @@ mod trace;
 
 pub use declarations::{DeclFault, Decls, MAX_PLACES};
 pub use event::{Event, Op};
-pub use kind::{Kind, MAX_CAPACITY, MAX_GOROUTINES, MAX_OBJECTS, Named, Object};
-pub use name::{MAX_NAME_LEN, MAX_PLACE_LEN, is_name, is_place};
 #[doc(hidden)]
 pub use indexes::Indexes;
+pub use kind::{Kind, MAX_CAPACITY, MAX_GOROUTINES, MAX_OBJECTS, Named, Object};
+pub use name::{MAX_NAME_LEN, MAX_PLACE_LEN, is_name, is_place};
 #[doc(hidden)]
 pub use names::{Names, Slot};
 #[doc(hidden)]

@@ -1,6 +1,7 @@
 //! The table of names: what each was declared as, in the order of the declarations.
-ghost use Rattle.std.specs.Prelude.{◌≡◌, ◌<◌, [], ◌∷◌, ◌++◌, length, Some, slice_get, position, option_map, IfOk, OnOk, OnErr, IsNone};
+ghost use Rattle.std.specs.Prelude.{◌≡◌, ◌<◌, [], ◌∷◌, ◌++◌, length, ◌↔◌, Some, slice_get, position, option_map, IsTrue, IfOk, OnOk, OnErr, IsNone};
 ghost use Rattle.std.specs.Str.{bytes_eq};
+ghost use Rattle.race_records.specs.Rows.{declarations_of};
 ghost use Rattle.race_records.specs.Tables.{Row, row};
 
 use crate::Object;
@@ -9,15 +10,21 @@ use std::alloc::{AllocError, Allocator};
 use std::hash::{BuildHasherDefault, FoldHasher};
 use std::marker::Model;
 
+fn is_same(a: Object, b: Object) -> bool
+    ensures { IsTrue result ↔ (a ≡ b) }
+{
+    a == b
+}
+
 /// What a name stands for.
-#[derive(Clone, Copy)]
+#[derive(Clone, Copy, Debug)]
 pub struct Slot {
     pub(crate) object: Object,
     pub(crate) number: u32,
 }
 
 /// The declared names, each found by its bytes or by its index.
-#[derive(Drop)]
+#[derive(Debug, Drop)]
 pub struct Names<A: Allocator> {
     slots: IndexMap<String<A>, Slot, BuildHasherDefault<FoldHasher>, A>,
 }
@@ -67,6 +74,30 @@ impl<A: Allocator> Names<A> {
         ensures { option_map (λ r. r.slot) (slice_get self.now index) ≡ Some result }
     {
         *self.slots.get_index(index).unwrap().1
+    }
+
+    // Whether the two declare the same names alike, in the same order.
+    pub(crate) fn declare_alike(&self, other: &Names<A>) -> bool
+        ensures { IsTrue result ↔ (declarations_of self.now ≡ declarations_of other.now) }
+    {
+        if self.len() != other.len() {
+            return false;
+        }
+        for index in 0..self.len() {
+            if !self.declare_alike_at(other, index) {
+                return false;
+            }
+        }
+        true
+    }
+
+    fn declare_alike_at(&self, other: &Names<A>, index: usize) -> bool
+        requires here { index < length self.now }
+        requires there { index < length other.now }
+        ensures { IsTrue result ↔ (slice_get (declarations_of self.now) index ≡ slice_get (declarations_of other.now) index) }
+    {
+        self.name(index) == other.name(index)
+            && is_same(self.slot(index).object, other.slot(index).object)
     }
 
     // Puts a new name last.

@@ -9,7 +9,7 @@ use std::io::Read;
 /// A reader, and how many of its reads failed.
 ///
 /// The count lets a caller tell whether a refusal came from the device.
-#[derive(Drop)]
+#[derive(Debug, Drop)]
 pub struct Source<R: Read> {
     reader: R,
     failures: u64,

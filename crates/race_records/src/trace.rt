@@ -1,6 +1,7 @@
 //! A trace: declarations, and the events of a run in one order in which it could have gone.
-ghost use Rattle.std.specs.Prelude.{◌≡◌, ◌-◌, ◌<◌, ◌≤◌, ◌↔◌, [], ◌∷◌, ◌++◌, length, IsTrue, Some, None, true, slice_get, IsOk, IsOkUnless, IfOk, OnOk, OnErr};
+ghost use Rattle.std.specs.Prelude.{◌≡◌, ◌-◌, ◌<◌, ◌≤◌, ◌↔◌, [], ◌∷◌, ◌++◌, length, IsTrue, Some, None, true, slice_get, IsOk, IfOk, OnOk, OnErr};
 ghost use Rattle.race_records.specs.Declarations as declarations;
+ghost use Rattle.race_records.specs.Refusal.{Refuses, AllowsUnless};
 ghost use Rattle.race_records.specs.Events as spec;
 
 use crate::{DeclFault, Decls, Event};
@@ -29,7 +30,7 @@ pub enum PushFault {
 }
 
 /// Declarations and a list of events, each of which fits them.
-#[derive(Drop)]
+#[derive(Debug, Drop)]
 pub struct Trace<A: Allocator = Global> {
     decls: Decls<A>,
     events: Vec<Event, A>,
@@ -68,8 +69,9 @@ impl<A: Allocator> Trace<A> {
 
     /// Appends an event. Where there is spare room, memory isn't refused.
     pub fn push(&mut self, event: Event) -> Result<(), PushFault>
-        ensures refused { (fault : PushFault) → spec.push_fault self.old event ≡ Some fault → result ≡ Err fault }
-        ensures allowed { spec.push_fault self.old event ≡ None → IsOkUnless result PushFault.OutOfMemory }
+        ensures refused { Refuses (spec.push_fault self.old event) result }
+        ensures allowed { AllowsUnless (spec.push_fault self.old event)
+            result PushFault.OutOfMemory }
         ensures room { spec.push_fault self.old event ≡ None → 0 < self.old.spare → IsOk result }
         ensures events { OnOk result (self.new.events ≡ self.old.events ++ event ∷ []) }
         ensures decls { OnOk result (self.new.decls ≡ self.old.decls) }
@@ -179,8 +181,9 @@ impl<A: Allocator> Trace<A> {
     pub fn add_place(&mut self, text: &str) -> Result<u32, DeclFault>
     where
         A: Copy,
-        ensures refused { (fault : DeclFault) → declarations.place_fault self.old.decls.places text.now ≡ Some fault → result ≡ Err fault }
-        ensures allowed { declarations.place_fault self.old.decls.places text.now ≡ None → IsOkUnless result DeclFault.OutOfMemory }
+        ensures refused { Refuses (declarations.place_fault self.old.decls.places text.now) result }
+        ensures allowed { AllowsUnless (declarations.place_fault self.old.decls.places text.now)
+            result DeclFault.OutOfMemory }
         ensures known { declarations.is_known self.old.decls.places text.now ≡ true → IsOk result }
         ensures number { IfOk result (λ number. number ≡ declarations.place_number self.old.decls.places text.now) }
         ensures added { OnOk result (self.new.decls ≡ declarations.with_place self.old.decls text.now) }

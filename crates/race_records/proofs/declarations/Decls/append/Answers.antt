@@ -1,6 +1,6 @@
-use Rattle.std.proofs.Common.{◌≡◌, ℕ, None, IsNone, position, refl, sym, ap, subst, ◌∙◌}
+use Rattle.std.proofs.Common.{◌≡◌, None, IsNone, position, refl, sym, subst, ◌∙◌}
 use Rattle.std.specs.Str.{bytes_eq}
-use Rattle.race_records.specs.Declarations.{Declaration, DeclsState, decl_fault, kind_of, count_of}
+use Rattle.race_records.specs.Declarations.{Declaration, DeclsState, decl_fault, count_of}
 use Rattle.race_records.specs.Tables.{with_index}
 use Rattle.race_records.proofs.DeclFaultLemmas.{allowed_from_no_fault}
 use Rattle.race_records.proofs.DeclsKept.{push_holds}

@@ -1,7 +1,3 @@
-use Rattle.std.proofs.Common.{◌≡◌, [], sym, subst, List, ℕ}
-use Rattle.race_records.specs.Declarations.{IsWellFormed}
-use Rattle.race_records.specs.DeclsHold.{DeclsHold, AreNumbered}
-use Rattle.race_records.specs.Tables.{no_indexes}
 use Rattle.race_records.proofs.DeclsKept.{empty_numbered, empty_well_formed}
 use Rattle.race_records.proofs.declarations.Decls.new.Goals as goal
 

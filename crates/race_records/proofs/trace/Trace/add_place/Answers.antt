@@ -1,4 +1,4 @@
-use Rattle.std.proofs.Common.{◌≡◌, ◌⊎◌, inl, inr, Result, Ok, Err, OnOk, OnErr, sym, subst}
+use Rattle.std.proofs.Common.{◌⊎◌, inl, inr, Result, Ok, Err, OnOk, OnErr, sym, subst}
 use Rattle.race_records.specs.Declarations.{DeclsState}
 use Rattle.race_records.specs.Events.{IsTrace}
 use Rattle.race_records.specs.TraceHolds.{trace_state}

@@ -10,7 +10,7 @@ invariant_of-self g c =
     let room = holds.room in
     record {
       is_trace = push_is_trace (trace_state c.self.inside) c.args.event c.push_reserved.new.self.items (c.self.inside.spare - 1) holds.is_trace
-        (subst (λ (t : TraceState). push_fault t c.args.event ≡ None) (sym c.self.view_is) c.requires) c.push_reserved.ensures.items;
+          (subst (λ (t : TraceState). push_fault t c.args.event ≡ None) (sym c.self.view_is) c.requires) c.push_reserved.ensures.items;
       room = omega (arith, room);
     }
 
@@ -19,6 +19,6 @@ invariant_of-self-2 g c =
     let holds = c.self.invariant in
     record {
       is_trace = push_is_trace (trace_state c.self.inside) c.args.event c.push.new.self.items c.self.inside.spare holds.is_trace
-        (subst (λ (t : TraceState). push_fault t c.args.event ≡ None) (sym c.self.view_is) c.requires) c.in_ok-push.ensures.items;
+          (subst (λ (t : TraceState). push_fault t c.args.event ≡ None) (sym c.self.view_is) c.requires) c.in_ok-push.ensures.items;
       room = omega (arith, c.push.new.self.ok.0);
     }

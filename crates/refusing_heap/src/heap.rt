@@ -5,7 +5,8 @@ use std::sync::atomic::{AtomicU64, Ordering};
 
 /// An allocator over another one that refuses one growth, once, and serves all others.
 ///
-/// A growth is any call that asks for a block, so `shrink` is one too. Collections share it by `&`, in one thread or in several.
+/// A growth is a call for a block or for a larger one, as `Vec::push` makes when it is full; shrinking is none. Collections share it
+/// by `&`, also across threads, where the growths of all of them count together.
 pub struct RefusingHeap<B: Allocator> {
     inner: B,
     left: AtomicU64,
@@ -42,7 +43,11 @@ impl<B: Allocator> Drop for RefusingHeap<B> {
 
 // The count stays at 0, so one growth alone takes it from 1.
 fn refuses(left: &AtomicU64) -> bool {
-    let before = left.fetch_update(Ordering::SeqCst, Ordering::SeqCst, |left| left.checked_sub(1));
+    let before = left.fetch_update(
+        Ordering::SeqCst,
+        Ordering::SeqCst,
+        |left| left.checked_sub(1),
+    );
     before == Ok(1)
 }
 
@@ -58,5 +63,16 @@ unsafe impl<B: Allocator> Allocator for RefusingHeap<B> {
 
     unsafe fn deallocate(&self, ptr: *mut u8, size: usize, align: usize) {
         self.inner.deallocate(ptr, size, align);
+    }
+
+    // The trait's own body asks for a smaller block, which would count as a growth.
+    unsafe fn shrink<T>(
+        &self,
+        ptr: *mut T,
+        len: usize,
+        old_cap: usize,
+        new_cap: usize,
+    ) -> Result<*mut T, AllocError> {
+        self.inner.shrink(ptr, len, old_cap, new_cap)
     }
 }

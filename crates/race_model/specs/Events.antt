@@ -1,0 +1,80 @@
+-- What can be said of events one by one: who takes part, of which kind they are, and how many stand in a list. (The Go Memory Model, "Memory Model": memory operations)
+use Rattle.std.specs.Prelude.{ℕ, ◌≡◌, ◌==◌, ◌||◌, ◌&&◌, nat_lt, Bool, true, false, cond, IsTrue, List, [], ◌∷◌, Option, Some, None, count_by, take, slice_get}
+use Rattle.race_records.specs.declared.event.Event.{Event}
+use Rattle.race_records.specs.declared.event.Op.{Op}
+use Rattle.race_records.specs.declared.event.Op.TheVariants.{Go, Exit, Read, Write}
+
+-- the event stands at that index of the list; indexes count from 0
+abbrev pub At : List Event → ℕ → Event → Type 0
+At events i e = slice_get events i ≡ Some e
+
+-- the second participant: the goroutine that a Go starts
+abbrev pub partner : Op → Option ℕ
+partner (Go h) = Some h
+partner _ = None
+
+-- the answer is there, and it is n
+abbrev pub gives : Option ℕ → ℕ → Bool
+gives None n = false
+gives (Some m) n = m == n
+
+-- g takes part in the event: it is the event's goroutine or the second participant
+abbrev pub takes_part : ℕ → Event → Bool
+takes_part g e = (e.who == g) || gives (partner e.op) g
+
+-- g takes part in the event at index i
+abbrev pub TakesPart : List Event → ℕ → ℕ → Type 0
+TakesPart events i g = (e : Event) × At events i e × IsTrue (takes_part g e)
+
+-- kinds of operations, most of them on one object
+
+-- a Go that starts h
+abbrev pub starts : ℕ → Op → Bool
+starts h (Go k) = k == h
+starts h _ = false
+
+-- an Exit
+abbrev pub is_exit : Op → Bool
+is_exit Exit = true
+is_exit _ = false
+
+-- a Read of x
+abbrev pub reads : ℕ → Op → Bool
+reads x (Read y v) = y == x
+reads x _ = false
+
+-- a Write of x
+abbrev pub writes : ℕ → Op → Bool
+writes x (Write y v) = y == x
+writes x _ = false
+
+-- a Read or a Write of x
+abbrev pub accesses : ℕ → Op → Bool
+accesses x o = reads x o || writes x o
+
+-- a Read or a Write of any variable
+abbrev pub is_access : Op → Bool
+is_access (Read x v) = true
+is_access (Write x v) = true
+is_access _ = false
+
+-- how many events of the kind are among the events
+abbrev pub count : (Op → Bool) → List Event → ℕ
+count kind events = count_by (λ e. kind e.op) events
+
+-- an event of the kind is among the events
+abbrev pub has : (Op → Bool) → List Event → Bool
+has kind events = nat_lt 0 (count kind events)
+
+-- the operation at index i is number k of its kind: as many of that kind stand before it
+abbrev pub IsKth : (Op → Bool) → ℕ → List Event → ℕ → Op → Type 0
+IsKth kind k events i o = IsTrue (kind o) × (count kind (take i events) ≡ k)
+
+-- g's exit is among the events
+abbrev pub has_exited : ℕ → List Event → Bool
+has_exited g events = nat_lt 0 (count_by (λ e. (e.who == g) && is_exit e.op) events)
+
+-- what f gives at the last element at which it gives something
+abbrev pub last_of : {X A : Type 0} → (X → Option A) → List X → Option A
+last_of f [] = None
+last_of f (x ∷ xs) = elim (last_of f xs) [ Some a ↦ Some a | None ↦ f x ]

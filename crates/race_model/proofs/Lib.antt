@@ -4,3 +4,6 @@ pub mod CountSteps
 pub mod Ranks
 pub mod ReorderLemmas
 pub mod OwnOrder
+pub mod Uniqueness
+pub mod Grow
+pub mod SeenSteps

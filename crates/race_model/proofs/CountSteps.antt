@@ -1,5 +1,5 @@
 -- Counts of events one event on, and the kth event of a kind.
-use Rattle.std.proofs.Common.{◌≡◌, ◌⊎◌, ℕ, zero, suc, ◌+◌, ◌-◌, ◌<◌, ◌≤◌, ◌==◌, ◌||◌, ◌&&◌, Bool, true, false, cond, nat_lt, List, [], ◌∷◌, ◌++◌, Some, take, slice_get, length, refl, sym, ap, ◌∙◌, inl, inr, arith, IsTrue, take-take, add-zero, lt-ltb}
+use Rattle.std.proofs.Common.{◌≡◌, ℕ, suc, ◌+◌, ◌-◌, ◌<◌, ◌≤◌, ◌==◌, ◌||◌, ◌&&◌, Bool, true, false, cond, nat_lt, List, [], ◌∷◌, ◌++◌, take, refl, sym, ap, ◌∙◌, inl, inr, arith, IsTrue, take-take, add-zero, lt-ltb}
 use Rattle.std.proofs.lemmas.Bool.{cases_order, cases_eq}
 use Rattle.std.proofs.Math.Bool.{or-true, or-false}
 use Rattle.std.proofs.lemmas.List.Sums.{sum_by_push, sum_by-cons, sum_by-take-le, count_by_more_yes}
@@ -64,8 +64,10 @@ kth kind k (e ∷ events) less = go (kind e.op) refl (λ m. kth kind m events)
   where
     total : count kind (e ∷ events) ≡ as_number (kind e.op) + count kind events
     total = count_cons kind e events
+
     behind : (m : ℕ) → as_number (kind e.op) + m ≡ k → HasKth kind m events → HasKth kind k (e ∷ events)
     behind m sum (i, s, at, (is, n)) = (suc i, s, at, (is, count_cons kind e (take i events) ∙ ap (λ n. as_number (kind e.op) + n) n ∙ sum))
+
     go : (b : Bool) → kind e.op ≡ b → ((m : ℕ) → m < count kind events → HasKth kind m events) → HasKth kind k (e ∷ events)
     go false is rest = let one : as_number (kind e.op) ≡ 0 = ap as_number is in behind k (omega (arith, one)) (rest k (omega (arith, one, total)))
     go true is rest =

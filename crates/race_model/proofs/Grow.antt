@@ -1,15 +1,14 @@
 -- Events behind the list change nothing among the points of the list.
-use Rattle.std.proofs.Common.{◌≡◌, ◌⊎◌, ℕ, ◌+◌, ◌<◌, ◌≤◌, List, ◌++◌, Some, take, length, slice_get, sym, ap, ◌∙◌, subst, inl, inr, arith}
+use Rattle.std.proofs.Common.{◌≡◌, ℕ, ◌<◌, ◌≤◌, List, ◌++◌, take, length, sym, ◌∙◌, subst, inl, inr, arith}
 use Rattle.std.proofs.lemmas.Option.{slice_get_within}
 use Rattle.std.proofs.lemmas.List.{take-append-le}
 use Rattle.race_records.specs.declared.event.Event.{Event}
 use Rattle.race_model.specs.Events.{At, TakesPart}
-use Rattle.race_model.specs.Order.{Point, Begin, End, SynchronizedBefore, SynchronizedInside, IsSource, Step, Reaches, one_step, then_step}
+use Rattle.race_model.specs.Order.{Point, Begin, End, SynchronizedBefore, IsSource, Step, Reaches, one_step, then_step}
 use Rattle.race_model.proofs.Indexes.{slice_get-append, append_at_old}
-use Rattle.race_model.proofs.Ranks.{index_of, rank, step_up, synchronized_up}
+use Rattle.race_model.proofs.Ranks.{index_of, synchronized_up}
 
 module _ (caps : ℕ → ℕ) (events more : List Event) where
-
   pub takes_part_grow : (i g : ℕ) → TakesPart events i g → TakesPart (events ++ more) i g
   takes_part_grow i g (e, at, is) = (e, append_at_old events more i e at, is)
 

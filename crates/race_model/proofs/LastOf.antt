@@ -1,5 +1,5 @@
 -- The last element at which a function gives something.
-use Rattle.std.proofs.Common.{◌≡◌, ◌⊎◌, ℕ, zero, suc, ◌+◌, ◌<◌, ◌≤◌, List, [], ◌∷◌, ◌++◌, Option, Some, None, slice_get, length, refl, sym, ap, ◌∙◌, arith}
+use Rattle.std.proofs.Common.{◌≡◌, ℕ, zero, suc, ◌<◌, List, [], ◌∷◌, ◌++◌, Option, Some, None, slice_get, refl, sym, ap, ◌∙◌, arith}
 use Rattle.race_model.specs.Events.{last_of}
 
 -- f gives a at index i, and nothing behind it
@@ -25,6 +25,7 @@ last_of_is {X} {A} f (x ∷ xs) = go (last_of f xs) (last_of_is f xs)
     first : (o : Option A) → f x ≡ o → GivesNone f xs → IsLast f (x ∷ xs) o
     first None e none = λ k. elim k as (λ k. (y : X) → slice_get (x ∷ xs) k ≡ Some y → f y ≡ None) [ zero ↦ λ y at. let same : x ≡ y = cc in ap f (sym same) ∙ e | suc k ↦ none k ]
     first (Some a) e none = (0, record { element = x; at = refl; given = e; behind = λ k. elim k as (λ k. (y : X) → 0 < k → slice_get (x ∷ xs) k ≡ Some y → f y ≡ None) [ zero ↦ λ y h at. absurd (omega arith) | suc k ↦ λ y h. none k y ] })
+
     go : (o : Option A) → IsLast f xs o → IsLast f (x ∷ xs) (elim o [ Some a ↦ Some a | None ↦ f x ])
     go None none = first (f x) refl none
     go (Some a) (i, l) = (suc i, record { element = l.element; at = l.at; given = l.given; behind = λ k. elim k as (λ k. (y : X) → suc i < k → slice_get (x ∷ xs) k ≡ Some y → f y ≡ None) [ zero ↦ λ y h at. absurd (omega arith) | suc k ↦ λ y h. l.behind k y (omega arith) ] })

@@ -7,3 +7,7 @@ pub mod OwnOrder
 pub mod Uniqueness
 pub mod Grow
 pub mod SeenSteps
+pub mod StateSteps
+pub mod LegalSteps
+pub mod ExampleLemmas
+pub mod ExampleVerdicts

@@ -1,7 +1,7 @@
 -- What happens before stands before in the list: each step goes up in rank.
-use Rattle.std.proofs.Common.{◌≡◌, ◌⊎◌, ℕ, ◌+◌, ◌<◌, ◌≤◌, List, Some, take, slice_get, inl, inr, arith}
+use Rattle.std.proofs.Common.{◌≡◌, ℕ, ◌+◌, ◌<◌, ◌≤◌, List, inl, inr, arith}
 use Rattle.race_records.specs.declared.event.Event.{Event}
-use Rattle.race_model.specs.Order.{Point, Begin, End, SequencedBefore, SynchronizedBefore, Step, Reaches, one_step, then_step, HappensBefore}
+use Rattle.race_model.specs.Order.{Point, Begin, End, SynchronizedBefore, Step, Reaches, one_step, then_step, HappensBefore}
 use Rattle.race_model.proofs.Indexes.{take_within}
 
 -- the index of the point's event

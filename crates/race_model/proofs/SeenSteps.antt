@@ -1,5 +1,5 @@
 -- What a goroutine has seen, one event on; and that an access happens before a later one exactly where the later one's goroutine has seen it.
-use Rattle.std.proofs.Common.{◌≡◌, ◌⊎◌, ℕ, ◌+◌, ◌<◌, ◌≤◌, ◌==◌, ◌||◌, Bool, true, false, List, [], ◌∷◌, ◌++◌, Option, Some, None, take, drop, length, slice_get, refl, sym, ap, ◌∙◌, subst, inl, inr, arith, eq-eqb, eqb-true, IsTrue, take-append-drop}
+use Rattle.std.proofs.Common.{◌≡◌, ◌⊎◌, ℕ, ◌<◌, ◌≤◌, ◌==◌, ◌||◌, true, List, [], ◌∷◌, ◌++◌, take, drop, length, slice_get, refl, sym, ap, ◌∙◌, subst, inl, inr, arith, eq-eqb, IsTrue, take-append-drop}
 use Rattle.std.proofs.lemmas.Bool.{or_left, or_right}
 use Rattle.std.proofs.lemmas.Option.{slice_get_within}
 use Rattle.std.proofs.lemmas.List.{take_at, length-take-le}
@@ -7,10 +7,10 @@ use Rattle.race_records.specs.declared.event.Event.{Event}
 use Rattle.race_records.specs.declared.event.Op.{Op}
 use Rattle.race_records.specs.declared.event.Op.TheVariants.{Go, Exit, Read, Write}
 use Rattle.race_model.specs.Events.{At, partner, gives, takes_part, TakesPart, is_access}
-use Rattle.race_model.specs.Order.{Point, Begin, End, SequencedBefore, SynchronizedInside, IsSource, SynchronizedBefore, Step, Reaches, one_step, then_step, HappensBefore}
+use Rattle.race_model.specs.Order.{Point, Begin, End, SynchronizedInside, IsSource, SynchronizedBefore, Step, Reaches, one_step, then_step, HappensBefore}
 use Rattle.race_model.specs.Known.{SeenBy, SeenAt, Brings}
-use Rattle.race_model.proofs.Indexes.{at_same, slice_get-push, push_at, append_at_old, slice_get-take, take_within, take_at_old}
-use Rattle.race_model.proofs.Ranks.{index_of, rank, reaches_up, synchronized_up}
+use Rattle.race_model.proofs.Indexes.{at_same, slice_get-push, push_at, slice_get-take, take_within, take_at_old}
+use Rattle.race_model.proofs.Ranks.{index_of}
 use Rattle.race_model.proofs.Grow.{takes_part_grow, takes_part_old, reaches_grow, reaches_old}
 
 -- reaching goes on behind reaching
@@ -66,33 +66,34 @@ out_of_seen i h k f j g (inr w) s = then_step w s
 
 -- the list events with e behind it
 module _ (caps : ℕ → ℕ) (events : List Event) (e : Event) where
-
   -- g's part in e
   pub new_part : (g : ℕ) → IsTrue (takes_part g e) → TakesPart (events ++ e ∷ []) (length events) g
   new_part g is = (e, slice_get-push events e, is)
 
   -- an edge to an end in e comes from inside e, or from a source before it
   pub new_edge : (k f g : ℕ) → SynchronizedBefore caps (events ++ e ∷ []) k f (length events) g
-    → ((k ≡ length events) × SynchronizedInside e.who e.op f g)
-    ⊎ ((s : Event) × At events k s × IsSource caps events k s.op e.op × (s.who ≡ f) × (e.who ≡ g))
+      → ((k ≡ length events) × SynchronizedInside e.who e.op f g)
+      ⊎ ((s : Event) × At events k s × IsSource caps events k s.op e.op × (s.who ≡ f) × (e.who ≡ g))
   new_edge k f g (x, at, by) = go by
     where
       same : x ≡ e
       same = at_same (events ++ e ∷ []) (length events) x e at (slice_get-push events e)
+
       front : take (length events) (events ++ e ∷ []) ≡ events
       front = take_at events (e ∷ []) (length events) refl
+
       go : (((k ≡ length events) × SynchronizedInside x.who x.op f g)
           ⊎ ((s : Event) × At (take (length events) (events ++ e ∷ [])) k s × IsSource caps (take (length events) (events ++ e ∷ [])) k s.op x.op × (s.who ≡ f) × (x.who ≡ g)))
-        → ((k ≡ length events) × SynchronizedInside e.who e.op f g)
-        ⊎ ((s : Event) × At events k s × IsSource caps events k s.op e.op × (s.who ≡ f) × (e.who ≡ g))
+          → ((k ≡ length events) × SynchronizedInside e.who e.op f g)
+          ⊎ ((s : Event) × At events k s × IsSource caps events k s.op e.op × (s.who ≡ f) × (e.who ≡ g))
       go (inl (here, inside)) = inl (here, subst (λ (x : Event). SynchronizedInside x.who x.op f g) same inside)
       go (inr (s, ats, source, from, to)) = inr (
-          s,
-          subst (λ past. At past k s) front ats,
-          subst (λ (x : Event). IsSource caps events k s.op x.op) same (subst (λ past. IsSource caps past k s.op x.op) front source),
-          from,
-          ap (λ (x : Event). x.who) (sym same) ∙ to
-        )
+        s,
+        subst (λ past. At past k s) front ats,
+        subst (λ (x : Event). IsSource caps events k s.op x.op) same (subst (λ past. IsSource caps past k s.op x.op) front source),
+        from,
+        ap (λ (x : Event). x.who) (sym same) ∙ to,
+      )
 
   -- what f has seen by its begin in e it saw before, unless it is that begin
   pub seen_at_new : (i h k f : ℕ) → k ≡ length events → SeenAt caps (events ++ e ∷ []) i h k f → ((i ≡ length events) × (h ≡ f)) ⊎ SeenBy caps events i h f
@@ -134,24 +135,25 @@ module _ (caps : ℕ → ℕ) (events : List Event) (e : Event) where
       go (inr (inr (k, s, at, source, to, seen))) =
           let front : events ≡ take (length events) (events ++ e ∷ []) = sym (take_at events (e ∷ []) (length events) refl) in
           out_of_seen i h k s.who (length events) g (seen_at_grow i h k s.who seen)
-            (inr (e, slice_get-push events e, inr (s, subst (λ past. At past k s) front at, subst (λ past. IsSource caps past k s.op e.op) front source, refl, to)))
+          (inr (e, slice_get-push events e, inr (s, subst (λ past. At past k s) front at, subst (λ past. IsSource caps past k s.op e.op) front source, refl, to)))
 
   -- what is seen was seen before, or e brings it
   pub seen_step : (i h g : ℕ) → SeenBy caps (events ++ e ∷ []) i h g → SeenBy caps events i h g ⊎ (IsTrue (takes_part g e) × Brings caps events e i h g)
   seen_step i h g (j, (x, at, is), w) = elim (push_at events e j x at) [
-      | inl old ↦ inl (j, (x, old, is), reaches_old caps events (e ∷ []) (slice_get_within events j x old) w)
-      | inr new ↦ go (subst (λ (x : Event). IsTrue (takes_part g x)) (sym new.1) is) (into_end i h (length events) g (subst (λ j. Reaches caps (events ++ e ∷ []) (Begin i h) (End j g)) new.0 w))
-    ]
+    | inl old ↦ inl (j, (x, old, is), reaches_old caps events (e ∷ []) (slice_get_within events j x old) w)
+    | inr new ↦ go (subst (λ (x : Event). IsTrue (takes_part g x)) (sym new.1) is) (into_end i h (length events) g (subst (λ j. Reaches caps (events ++ e ∷ []) (Begin i h) (End j g)) new.0 w))
+  ]
     where
       own : IsTrue (takes_part g e) → ((i ≡ length events) × (h ≡ g)) ⊎ SeenBy caps events i h g → SeenBy caps events i h g ⊎ (IsTrue (takes_part g e) × Brings caps events e i h g)
       own is (inl here) = inr (is, inl here)
       own is (inr before) = inl before
+
       go : IsTrue (takes_part g e) → ((k f : ℕ) × SeenAt caps (events ++ e ∷ []) i h k f × Step caps (events ++ e ∷ []) (Begin k f) (End (length events) g)) → SeenBy caps events i h g ⊎ (IsTrue (takes_part g e) × Brings caps events e i h g)
       go is (k, f, seen, inl (same, who, part)) = own is (subst (λ f. ((i ≡ length events) × (h ≡ f)) ⊎ SeenBy caps events i h f) who (seen_at_new i h k f same seen))
       go is (k, f, seen, inr edge) = elim (new_edge k f g edge) [
-          | inl inside ↦ inr (is, inr (inl (f, inside.1, seen_at_new i h k f inside.0 seen)))
-          | inr source ↦ inr (is, inr (inr (k, source.0, source.1, source.2, source.4, subst (SeenAt caps events i h k) (sym source.3) (seen_at_old i h k f (slice_get_within events k source.0 source.1) seen))))
-        ]
+        | inl inside ↦ inr (is, inr (inl (f, inside.1, seen_at_new i h k f inside.0 seen)))
+        | inr source ↦ inr (is, inr (inr (k, source.0, source.1, source.2, source.4, subst (SeenAt caps events i h k) (sym source.3) (seen_at_old i h k f (slice_get_within events k source.0 source.1) seen))))
+      ]
 
 -- an access has no edge inside its event
 pub access_alone : (who : ℕ) (o : Op) (g h : ℕ) → IsTrue (is_access o) → SynchronizedInside who o g h → ⊥
@@ -165,7 +167,6 @@ pub access_no_source : (caps : ℕ → ℕ) (past : List Event) (i : ℕ) (s o :
 access_no_source caps past i s o is source = source
 
 module _ (caps : ℕ → ℕ) (events : List Event) where
-
   -- no edge leaves an access
   pub access_no_edge : (i : ℕ) (a : Event) → At events i a → IsTrue (is_access a.op) → (g k h : ℕ) → SynchronizedBefore caps events i g k h → ⊥
   access_no_edge i a at is g k h (x, atx, inl (here, inside)) =
@@ -205,6 +206,7 @@ module _ (caps : ℕ → ℕ) (events : List Event) where
     where
       from_a : Reaches caps events (End i a.who) (Begin j b.who)
       from_a = subst (λ (b : Event). Reaches caps events (End i a.who) (Begin j b.who)) (at_same events j y b aty atb) (subst (λ (a : Event). Reaches caps events (End i a.who) (Begin j y.who)) (at_same events i x a atx ata) w)
+
       go : ((m : ℕ) × (m < j) × TakesPart events m b.who × TakesPart events j b.who × Reaches caps events (Begin i a.who) (End m b.who)) → SeenBy caps (take j events) i a.who b.who
       go (m, less, (s, ats, part), to, v) =
           let long : j < length events = slice_get_within events j b atb in
@@ -216,6 +218,7 @@ module _ (caps : ℕ → ℕ) (events : List Event) where
     where
       to_b : Reaches caps events (Begin i a.who) (Begin j b.who)
       to_b = then_step (front_grow j w) (take_within j events m s ats, refl, (s, take_at_old j events m s ats, part), (b, atb, who_takes_part b))
+
       go : (Begin j b.who ≡ End i a.who) ⊎ Reaches caps events (End i a.who) (Begin j b.who) → HappensBefore caps events i j
       go (inl same) = cc
       go (inr v) = (a, b, ata, atb, v)

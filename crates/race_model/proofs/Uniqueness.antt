@@ -1,10 +1,10 @@
 -- A variable has one reported race, and a list of events one verdict.
-use Rattle.std.proofs.Common.{◌≡◌, ◌≢◌, ◌⊎◌, ℕ, zero, suc, ◌+◌, ◌<◌, ◌≤◌, List, [], ◌∷◌, Option, Some, None, take, slice_get, refl, sym, ap, ◌∙◌, subst, inl, inr, arith, le_antisymm, take-take}
+use Rattle.std.proofs.Common.{◌≡◌, ◌≢◌, ℕ, zero, suc, ◌<◌, ◌≤◌, List, [], ◌∷◌, Some, None, take, slice_get, refl, sym, ap, ◌∙◌, subst, inl, inr, arith, le_antisymm, take-take}
 use Rattle.std.proofs.lemmas.Bool.{cases_order}
 use Rattle.race_records.specs.declared.event.Event.{Event}
 use Rattle.race_model.specs.Events.{At}
 use Rattle.race_model.specs.Legal.{broken, IsLegal, IsIllegalAt}
-use Rattle.race_model.specs.Race.{RaceBy, IsReportedBy, IsRace, IsDataRaceFree, IsReportedRace}
+use Rattle.race_model.specs.Race.{RaceBy, IsReportedBy, IsDataRaceFree, IsReportedRace}
 use Rattle.race_model.specs.Verdict.{Race, Verdict, Illegal, Clean, Races, AreReportedRaces, IsVerdict}
 use Rattle.race_model.proofs.Indexes.{at_same, slice_get-take}
 
@@ -14,8 +14,10 @@ reported_unique {conflicts} {ordered} i j k m p q = (le_antisymm i_le k_le, late
   where
     later : j ≡ m
     later = le_antisymm (p.least k m q.in_order q.race) (q.least i j p.in_order p.race)
+
     k_le : k ≤ i
     k_le = p.greatest k (subst (λ n. k < n) (sym later) q.in_order) (subst (RaceBy conflicts ordered k) (sym later) q.race)
+
     i_le : i ≤ k
     i_le = q.greatest i (subst (λ n. i < n) later p.in_order) (subst (RaceBy conflicts ordered i) later p.race)
 
@@ -28,10 +30,10 @@ legal_front caps events i j n e at is legal less =
 
 pub illegal_unique : (caps : ℕ → ℕ) (events : List Event) (i n j m : ℕ) → IsIllegalAt caps events i n → IsIllegalAt caps events j m → (i ≡ j) × (n ≡ m)
 illegal_unique caps events i n j m (e, ate, ise, legal_e) (s, ats, iss, legal_s) = elim (cases_order i j) [
-    | inl same ↦ (same, rule same)
-    | inr (inl less) ↦ absurd (legal_front caps events i j n e ate ise legal_s less)
-    | inr (inr more) ↦ absurd (legal_front caps events j i m s ats iss legal_e more)
-  ]
+  | inl same ↦ (same, rule same)
+  | inr (inl less) ↦ absurd (legal_front caps events i j n e ate ise legal_s less)
+  | inr (inr more) ↦ absurd (legal_front caps events j i m s ats iss legal_e more)
+]
   where
     rule : i ≡ j → n ≡ m
     rule same =
@@ -64,6 +66,7 @@ part_behind r races others p part k s at = go (part (suc k) s at)
   where
     up : r.var < s.var
     up = p.up 0 (suc k) r s (omega arith) refl at
+
     go : ((m : ℕ) × (slice_get (r ∷ others) m ≡ Some s)) → (m : ℕ) × (slice_get others m ≡ Some s)
     go (zero, atm) = let same : r ≡ s = cc in let vars : r.var ≡ s.var = ap (λ (r : Race). r.var) same in absurd (omega (arith, up))
     go (suc m, atm) = (m, atm)

@@ -9,9 +9,12 @@ use Rattle.race_model.specs.Verdict.{Race}
 abbrev pub main : ℕ
 main = 0
 
--- a goroutine that main may start
+-- two goroutines that main may start
 abbrev pub w : ℕ
 w = 1
+
+abbrev pub v : ℕ
+v = 2
 
 -- a variable
 abbrev pub x : ℕ
@@ -36,6 +39,10 @@ go_then_write = does main (Go w) ∷ does main (Write x 1) ∷ does w (Read x 1)
 -- the new goroutine writes and exits, then main reads
 abbrev pub exit_then_read : List Event
 exit_then_read = does main (Go w) ∷ does w (Write x 1) ∷ does w Exit ∷ does main (Read x 1) ∷ []
+
+-- the new goroutine writes and exits, then main starts another and reads
+abbrev pub exit_then_go : List Event
+exit_then_go = does main (Go w) ∷ does w (Write x 1) ∷ does w Exit ∷ does main (Go v) ∷ does main (Read x 1) ∷ []
 
 -- two goroutines read, with nothing to order them
 abbrev pub two_reads : List Event

@@ -16,5 +16,5 @@ SeenAt caps events i h k f = ((i ≡ k) × (h ≡ f)) ⊎ Reaches caps events (B
 abbrev pub Brings : (ℕ → ℕ) → List Event → Event → ℕ → ℕ → ℕ → Type 0
 Brings caps events e i h g =
     ((i ≡ length events) × (h ≡ g))
-  ⊎ (((f : ℕ) × SynchronizedInside e.who e.op f g × (((i ≡ length events) × (h ≡ f)) ⊎ SeenBy caps events i h f))
-  ⊎ ((k : ℕ) × (s : Event) × At events k s × IsSource caps events k s.op e.op × (e.who ≡ g) × SeenAt caps events i h k s.who))
+    ⊎ (((f : ℕ) × SynchronizedInside e.who e.op f g × (((i ≡ length events) × (h ≡ f)) ⊎ SeenBy caps events i h f))
+    ⊎ ((k : ℕ) × (s : Event) × At events k s × IsSource caps events k s.op e.op × (e.who ≡ g) × SeenAt caps events i h k s.who))

@@ -1,18 +1,19 @@
 -- The verdicts on the small lists of specs/Examples.
-use Rattle.std.proofs.Common.{◌≡◌, ◌⊎◌, ℕ, zero, suc, ◌<◌, ◌≤◌, false, [], ◌∷◌, take, refl, sym, ap, inl, inr, arith, eqb-true, IsTrue}
+use Rattle.std.proofs.Common.{◌≡◌, ◌⊎◌, ℕ, zero, suc, ◌<◌, ◌≤◌, false, [], ◌∷◌, Some, slice_get, take, subst, refl, sym, ap, inl, inr, arith, eqb-true, IsTrue}
 use Rattle.race_records.specs.declared.event.Event.{Event}
 use Rattle.race_records.specs.declared.event.Op.TheVariants.{Go, Exit, Read, Write}
-use Rattle.race_model.specs.Events.{At, takes_part, accesses, writes}
+use Rattle.race_model.specs.Events.{At, takes_part, accesses, is_access, writes}
 use Rattle.race_model.specs.Order.{Begin, End, one_step, then_step, HappensBefore}
 use Rattle.race_model.specs.Race.{IsRace, IsWriteOf}
-use Rattle.race_model.specs.Reorder.{op_passes}
+use Rattle.race_model.specs.Reorder.{op_passes, IsReordering}
 use Rattle.race_model.specs.Verdict.{IsVerdict, Clean, Races, Illegal}
 use Rattle.race_model.specs.Known.{SeenBy}
 use Rattle.race_model.specs.Examples.{main, w, v, x, does, race_on_x, write_then_go, go_then_write, exit_then_read, exit_then_go, two_reads, exit_twice, write_unstarted, go_main, read_unwritten}
 use Rattle.race_model.proofs.Ranks.{happens_before_up}
 use Rattle.race_model.proofs.ReorderLemmas.{passes_from}
 use Rattle.race_model.proofs.LegalSteps.{legal_none, legal_by, illegal_push}
-use Rattle.race_model.proofs.SeenSteps.{seen_from_before, seen_step}
+use Rattle.race_model.proofs.SeenSteps.{seen_step}
+use Rattle.race_model.proofs.BeforeSeen.{race_from_unseen}
 use Rattle.race_model.proofs.ExampleLemmas.{unseen, only_two, read_of, two_race, two_ordered}
 
 module _ (caps : ℕ → ℕ) where
@@ -39,8 +40,19 @@ module _ (caps : ℕ → ℕ) where
       only y (suc (suc (suc zero))) is = cc
       only y (suc (suc (suc (suc i)))) is = cc
 
+  -- w has no part behind the go, so it hasn't seen main's write
+  pub go_then_write_race : IsRace caps go_then_write x 1 2
+  go_then_write_race = race_from_unseen caps go_then_write x 1 2 (does main (Write x 1)) (does w (Read x 1)) (omega arith) refl refl
+      ((λ same. absurd (omega arith)), (does main (Write x 1), refl, refl), (does w (Read x 1), refl, refl), inl (does main (Write x 1), refl, refl))
+      (unseen caps (take 2 go_then_write) 1 main w no_part)
+    where
+      no_part : (j : ℕ) (e : Event) → 1 ≤ j → At (take 2 go_then_write) j e → takes_part w e ≡ false
+      no_part zero e le at = absurd (omega arith)
+      no_part (suc zero) e le at = let same : does main (Write x 1) ≡ e = cc in ap (takes_part w) (sym same)
+      no_part (suc (suc j)) e le at = cc
+
   pub go_then_write_races : IsVerdict caps go_then_write (Races (race_on_x 1 2))
-  go_then_write_races = (legal_by caps [] go_then_write (legal_none caps) (refl, (refl, (refl, tt))), (λ none. cc), two_race caps go_then_write x 1 2 (only_two go_then_write x 1 2 only) (omega arith) race)
+  go_then_write_races = (legal_by caps [] go_then_write (legal_none caps) (refl, (refl, (refl, tt))), (λ none. cc), two_race caps go_then_write x 1 2 (only_two go_then_write x 1 2 only) (omega arith) go_then_write_race)
     where
       only : (y i : ℕ) → IsTrue (op_passes (accesses y) go_then_write i) → ((i ≡ 1) ⊎ (i ≡ 2)) × (x ≡ y)
       only y zero is = cc
@@ -48,17 +60,44 @@ module _ (caps : ℕ → ℕ) where
       only y (suc (suc zero)) is = (inr refl, read_of y is)
       only y (suc (suc (suc i))) is = cc
 
-      no_part : (j : ℕ) (e : Event) → 1 ≤ j → At (take 2 go_then_write) j e → takes_part w e ≡ false
-      no_part zero e le at = absurd (omega arith)
-      no_part (suc zero) e le at = let same : does main (Write x 1) ≡ e = cc in ap (takes_part w) (sym same)
-      no_part (suc (suc j)) e le at = cc
+  -- the read first, then the write
+  pub read_first : IsReordering caps go_then_write (2 ∷ 1 ∷ [])
+  read_first = record { only = only; each = each; once = once; kept = λ a b is_a is_b h. absurd (kept a b is_a is_b h) }
+    where
+      only : (i a : ℕ) → slice_get (2 ∷ 1 ∷ []) i ≡ Some a → IsTrue (op_passes is_access go_then_write a)
+      only zero a at = let same : 2 ≡ a = cc in subst (λ a. IsTrue (op_passes is_access go_then_write a)) same refl
+      only (suc zero) a at = let same : 1 ≡ a = cc in subst (λ a. IsTrue (op_passes is_access go_then_write a)) same refl
+      only (suc (suc i)) a at = cc
 
-      race : IsRace caps go_then_write x 1 2
-      race = record {
-        conflict = ((λ same. absurd (omega arith)), (does main (Write x 1), refl, refl), (does w (Read x 1), refl, refl), inl (does main (Write x 1), refl, refl));
-        not_before = λ h. unseen caps (take 2 go_then_write) 1 main w no_part (seen_from_before caps go_then_write 1 2 (does main (Write x 1)) (does w (Read x 1)) refl refl h);
-        not_after = λ h. let up : 2 < 1 = happens_before_up caps go_then_write 2 1 h in absurd (omega arith);
-      }
+      each : (a : ℕ) → IsTrue (op_passes is_access go_then_write a) → (i : ℕ) × (slice_get (2 ∷ 1 ∷ []) i ≡ Some a)
+      each zero is = cc
+      each (suc zero) is = (1, refl)
+      each (suc (suc zero)) is = (0, refl)
+      each (suc (suc (suc a))) is = cc
+
+      once : (i j a : ℕ) → slice_get (2 ∷ 1 ∷ []) i ≡ Some a → slice_get (2 ∷ 1 ∷ []) j ≡ Some a → i ≡ j
+      once zero zero a p q = refl
+      once zero (suc zero) a p q = cc
+      once (suc zero) zero a p q = cc
+      once (suc zero) (suc zero) a p q = refl
+      once (suc (suc i)) j a p q = cc
+      once zero (suc (suc j)) a p q = cc
+      once (suc zero) (suc (suc j)) a p q = cc
+
+      kept : (a b : ℕ) → IsTrue (op_passes is_access go_then_write a) → IsTrue (op_passes is_access go_then_write b) → HappensBefore caps go_then_write a b → ⊥
+      kept a zero is_a is_b h = cc
+      kept a (suc zero) is_a is_b h = go a is_a (happens_before_up caps go_then_write a 1 h)
+        where
+          go : (a : ℕ) → IsTrue (op_passes is_access go_then_write a) → a < 1 → ⊥
+          go zero is up = cc
+          go (suc a) is up = absurd (omega arith)
+      kept a (suc (suc zero)) is_a is_b h = go a is_a (happens_before_up caps go_then_write a 2 h) h
+        where
+          go : (a : ℕ) → IsTrue (op_passes is_access go_then_write a) → a < 2 → HappensBefore caps go_then_write a 2 → ⊥
+          go zero is up h = cc
+          go (suc zero) is up h = go_then_write_race.not_before h
+          go (suc (suc a)) is up h = absurd (omega arith)
+      kept a (suc (suc (suc b))) is_a is_b h = cc
 
   pub exit_then_read_races : IsVerdict caps exit_then_read (Races (race_on_x 1 3))
   exit_then_read_races = (legal_by caps [] exit_then_read (legal_none caps) (refl, (refl, (refl, (refl, tt)))), (λ none. cc), two_race caps exit_then_read x 1 3 (only_two exit_then_read x 1 3 only) (omega arith) race)
@@ -77,11 +116,7 @@ module _ (caps : ℕ → ℕ) where
       no_part (suc (suc (suc j))) e le at = cc
 
       race : IsRace caps exit_then_read x 1 3
-      race = record {
-        conflict = ((λ same. absurd (omega arith)), (does w (Write x 1), refl, refl), (does main (Read x 1), refl, refl), inl (does w (Write x 1), refl, refl));
-        not_before = λ h. unseen caps (take 3 exit_then_read) 1 w main no_part (seen_from_before caps exit_then_read 1 3 (does w (Write x 1)) (does main (Read x 1)) refl refl h);
-        not_after = λ h. let up : 3 < 1 = happens_before_up caps exit_then_read 3 1 h in absurd (omega arith);
-      }
+      race = race_from_unseen caps exit_then_read x 1 3 (does w (Write x 1)) (does main (Read x 1)) (omega arith) refl refl ((λ same. absurd (omega arith)), (does w (Write x 1), refl, refl), (does main (Read x 1), refl, refl), inl (does w (Write x 1), refl, refl)) (unseen caps (take 3 exit_then_read) 1 w main no_part)
 
   pub exit_then_go_races : IsVerdict caps exit_then_go (Races (race_on_x 1 4))
   exit_then_go_races = (legal_by caps [] exit_then_go (legal_none caps) (refl, (refl, (refl, (refl, (refl, tt))))), (λ none. cc), two_race caps exit_then_go x 1 4 (only_two exit_then_go x 1 4 only) (omega arith) race)
@@ -110,11 +145,7 @@ module _ (caps : ℕ → ℕ) where
       ]
 
       race : IsRace caps exit_then_go x 1 4
-      race = record {
-        conflict = ((λ same. absurd (omega arith)), (does w (Write x 1), refl, refl), (does main (Read x 1), refl, refl), inl (does w (Write x 1), refl, refl));
-        not_before = λ h. not_seen (seen_from_before caps exit_then_go 1 4 (does w (Write x 1)) (does main (Read x 1)) refl refl h);
-        not_after = λ h. let up : 4 < 1 = happens_before_up caps exit_then_go 4 1 h in absurd (omega arith);
-      }
+      race = race_from_unseen caps exit_then_go x 1 4 (does w (Write x 1)) (does main (Read x 1)) (omega arith) refl refl ((λ same. absurd (omega arith)), (does w (Write x 1), refl, refl), (does main (Read x 1), refl, refl), inl (does w (Write x 1), refl, refl)) not_seen
 
   pub two_reads_clean : IsVerdict caps two_reads Clean
   two_reads_clean = (

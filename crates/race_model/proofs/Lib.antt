@@ -6,7 +6,10 @@ pub mod ReorderLemmas
 pub mod OwnOrder
 pub mod Uniqueness
 pub mod Grow
+pub mod Reaching
 pub mod SeenSteps
+pub mod BeforeSeen
+pub mod RaceSteps
 pub mod StateSteps
 pub mod LegalSteps
 pub mod ExampleLemmas

@@ -1,68 +1,21 @@
--- What a goroutine has seen, one event on; and that an access happens before a later one exactly where the later one's goroutine has seen it.
-use Rattle.std.proofs.Common.{◌≡◌, ◌⊎◌, ℕ, ◌<◌, ◌≤◌, ◌==◌, ◌||◌, true, List, [], ◌∷◌, ◌++◌, take, drop, length, slice_get, refl, sym, ap, ◌∙◌, subst, inl, inr, arith, eq-eqb, IsTrue, take-append-drop}
-use Rattle.std.proofs.lemmas.Bool.{or_left, or_right}
+-- What a goroutine has seen, one event on.
+use Rattle.std.proofs.Common.{◌≡◌, ◌⊎◌, ◌↔◌, ℕ, ◌<◌, List, [], ◌∷◌, ◌++◌, take, length, refl, sym, ap, ◌∙◌, subst, inl, inr, arith, IsTrue, take_at}
 use Rattle.std.proofs.lemmas.Option.{slice_get_within}
-use Rattle.std.proofs.lemmas.List.{take_at, length-take-le}
 use Rattle.race_records.specs.declared.event.Event.{Event}
-use Rattle.race_records.specs.declared.event.Op.{Op}
-use Rattle.race_records.specs.declared.event.Op.TheVariants.{Go, Exit, Read, Write}
-use Rattle.race_model.specs.Events.{At, partner, gives, takes_part, TakesPart, is_access}
-use Rattle.race_model.specs.Order.{Point, Begin, End, SynchronizedInside, IsSource, SynchronizedBefore, Step, Reaches, one_step, then_step, HappensBefore}
+use Rattle.race_model.specs.Events.{At, takes_part, TakesPart}
+use Rattle.race_model.specs.Order.{Begin, End, SynchronizedInside, IsSource, SynchronizedBefore, Step, Reaches, one_step, then_step}
 use Rattle.race_model.specs.Known.{SeenBy, SeenAt, Brings}
-use Rattle.race_model.proofs.Indexes.{at_same, slice_get-push, push_at, slice_get-take, take_within, take_at_old}
-use Rattle.race_model.proofs.Ranks.{index_of}
+use Rattle.race_model.proofs.Indexes.{at_same, slice_get-push, push_at}
 use Rattle.race_model.proofs.Grow.{takes_part_grow, takes_part_old, reaches_grow, reaches_old}
+use Rattle.race_model.proofs.Reaching.{inside_from, into_begin, into_end, out_of_seen}
 
--- reaching goes on behind reaching
-pub reaches_on : {caps : ℕ → ℕ} {events : List Event} {p q r : Point} → Reaches caps events p q → Reaches caps events q r → Reaches caps events p r
-reaches_on w (one_step s) = then_step w s
-reaches_on w (then_step v s) = then_step (reaches_on w v) s
+-- before the first event nothing is seen
+pub seen_none : (caps : ℕ → ℕ) (i h g : ℕ) → SeenBy caps [] i h g → ⊥
+seen_none caps i h g (j, (e, at, is), w) = cc
 
--- an event's own goroutine takes part
-pub who_takes_part : (e : Event) → IsTrue (takes_part e.who e)
-who_takes_part e = or_left (e.who == e.who) (gives (partner e.op) e.who) (eq-eqb e.who e.who refl)
-
--- both ends of an edge inside an event take part in it
-pub inside_from : (e : Event) (g h : ℕ) → SynchronizedInside e.who e.op g h → IsTrue (takes_part g e)
-inside_from e g h s = go e.op s
-  where
-    go : (o : Op) → SynchronizedInside e.who o g h → ((e.who == g) || gives (partner o) g) ≡ true
-    go (Go k) (who, new) = or_left (e.who == g) (k == g) (eq-eqb e.who g who)
-    go Exit s = absurd s
-    go (Read x v) s = absurd s
-    go (Write x v) s = absurd s
-
-pub inside_to : (e : Event) (g h : ℕ) → SynchronizedInside e.who e.op g h → IsTrue (takes_part h e)
-inside_to e g h s = go e.op s
-  where
-    go : (o : Op) → SynchronizedInside e.who o g h → ((e.who == h) || gives (partner o) h) ≡ true
-    go (Go k) (who, new) = or_right (e.who == h) (k == h) (eq-eqb k h new)
-    go Exit s = absurd s
-    go (Read x v) s = absurd s
-    go (Write x v) s = absurd s
-
--- a way to a begin comes from an earlier end of the same goroutine
-pub into_begin : {caps : ℕ → ℕ} {events : List Event} (i h j f : ℕ) → Reaches caps events (Begin i h) (Begin j f) → (m : ℕ) × (m < j) × TakesPart events m f × TakesPart events j f × Reaches caps events (Begin i h) (End m f)
-into_begin i h j f (one_step s) = absurd s
-into_begin {caps} {events} i h j f (then_step {q} w s) = go q w s
-  where
-    go : (q : Point) → Reaches caps events (Begin i h) q → Step caps events q (Begin j f) → (m : ℕ) × (m < j) × TakesPart events m f × TakesPart events j f × Reaches caps events (Begin i h) (End m f)
-    go (Begin m g) w s = absurd s
-    go (End m g) w (less, who, from, to) = (m, less, subst (TakesPart events m) who from, to, subst (λ g. Reaches caps events (Begin i h) (End m g)) who w)
-
--- a way to an end comes from a begin, by one step
-pub into_end : {caps : ℕ → ℕ} {events : List Event} (i h j g : ℕ) → Reaches caps events (Begin i h) (End j g) → (k f : ℕ) × SeenAt caps events i h k f × Step caps events (Begin k f) (End j g)
-into_end i h j g (one_step s) = (i, h, inl (refl, refl), s)
-into_end {caps} {events} i h j g (then_step {q} w s) = go q w s
-  where
-    go : (q : Point) → Reaches caps events (Begin i h) q → Step caps events q (End j g) → (k f : ℕ) × SeenAt caps events i h k f × Step caps events (Begin k f) (End j g)
-    go (Begin k f) w s = (k, f, inr w, s)
-    go (End k f) w s = absurd s
-
--- and such a step goes on
-pub out_of_seen : {caps : ℕ → ℕ} {events : List Event} (i h k f j g : ℕ) → SeenAt caps events i h k f → Step caps events (Begin k f) (End j g) → Reaches caps events (Begin i h) (End j g)
-out_of_seen {caps} {events} i h k f j g (inl (same, who)) s = one_step (subst (λ i. Step caps events (Begin i h) (End j g)) (sym same) (subst (λ h. Step caps events (Begin k h) (End j g)) (sym who) s))
-out_of_seen i h k f j g (inr w) s = then_step w s
+-- a goroutine has seen its own begins
+pub own_seen : (caps : ℕ → ℕ) (events : List Event) (i g : ℕ) → TakesPart events i g → SeenBy caps events i g g
+own_seen caps events i g part = (i, part, one_step (inl (refl, refl, part)))
 
 -- the list events with e behind it
 module _ (caps : ℕ → ℕ) (events : List Event) (e : Event) where
@@ -155,76 +108,6 @@ module _ (caps : ℕ → ℕ) (events : List Event) (e : Event) where
         | inr source ↦ inr (is, inr (inr (k, source.0, source.1, source.2, source.4, subst (SeenAt caps events i h k) (sym source.3) (seen_at_old i h k f (slice_get_within events k source.0 source.1) seen))))
       ]
 
--- an access has no edge inside its event
-pub access_alone : (who : ℕ) (o : Op) (g h : ℕ) → IsTrue (is_access o) → SynchronizedInside who o g h → ⊥
-access_alone who (Go k) g h is s = cc
-access_alone who Exit g h is s = s
-access_alone who (Read x v) g h is s = s
-access_alone who (Write x v) g h is s = s
-
--- and is no source
-pub access_no_source : (caps : ℕ → ℕ) (past : List Event) (i : ℕ) (s o : Op) → IsTrue (is_access s) → IsSource caps past i s o → ⊥
-access_no_source caps past i s o is source = source
-
-module _ (caps : ℕ → ℕ) (events : List Event) where
-  -- no edge leaves an access
-  pub access_no_edge : (i : ℕ) (a : Event) → At events i a → IsTrue (is_access a.op) → (g k h : ℕ) → SynchronizedBefore caps events i g k h → ⊥
-  access_no_edge i a at is g k h (x, atx, inl (here, inside)) =
-      let same : a ≡ x = at_same events i a x at (ap (slice_get events) here ∙ atx) in
-      access_alone x.who x.op g h (subst (λ (x : Event). IsTrue (is_access x.op)) same is) inside
-  access_no_edge i a at is g k h (x, atx, inr (s, ats, source, from, to)) =
-      let same : a ≡ s = at_same events i a s at (take_at_old k events i s ats) in
-      access_no_source caps (take k events) i s.op x.op (subst (λ (s : Event). IsTrue (is_access s.op)) same is) source
-
-  -- what leaves an access leaves it by its end
-  pub leaves_by_end : (i g : ℕ) → ((k h : ℕ) → SynchronizedBefore caps events i g k h → ⊥) → {q : Point} → Reaches caps events (Begin i g) q → (q ≡ End i g) ⊎ Reaches caps events (End i g) q
-  leaves_by_end i g alone (one_step {q} s) = go q s
-    where
-      go : (q : Point) → Step caps events (Begin i g) q → (q ≡ End i g) ⊎ Reaches caps events (End i g) q
-      go (Begin k h) s = absurd s
-      go (End k h) (inl (same, who, part)) = inl (ap (λ k. End k h) (sym same) ∙ ap (End i) (sym who))
-      go (End k h) (inr edge) = absurd (alone k h edge)
-  leaves_by_end i g alone (then_step {q} {r} w s) = go (leaves_by_end i g alone w)
-    where
-      go : (q ≡ End i g) ⊎ Reaches caps events (End i g) q → (r ≡ End i g) ⊎ Reaches caps events (End i g) r
-      go (inl here) = inr (one_step (subst (λ q. Step caps events q r) here s))
-      go (inr v) = inr (then_step v s)
-
-  -- the events before event j hold all that reaches a point before it
-  pub front_reaches : (j : ℕ) → j ≤ length events → {p q : Point} → index_of q < j → Reaches caps events p q → Reaches caps (take j events) p q
-  front_reaches j le {p} {q} less w =
-      let long : length (take j events) ≡ j = length-take-le j events le in
-      reaches_old caps (take j events) (drop j events) (omega (arith, long)) (subst (λ es. Reaches caps es p q) (sym (take-append-drop j events)) w)
-
-  -- and no more
-  pub front_grow : (j : ℕ) {p q : Point} → Reaches caps (take j events) p q → Reaches caps events p q
-  front_grow j {p} {q} w = subst (λ es. Reaches caps es p q) (take-append-drop j events) (reaches_grow caps (take j events) (drop j events) w)
-
-  -- what happens before event j is seen by its goroutine among the events before j
-  pub seen_from_before : (i j : ℕ) (a b : Event) → At events i a → At events j b → HappensBefore caps events i j → SeenBy caps (take j events) i a.who b.who
-  seen_from_before i j a b ata atb (x, y, atx, aty, w) = go (into_begin i a.who j b.who (reaches_on (one_step (inl (refl, refl, (a, ata, who_takes_part a)))) from_a))
-    where
-      from_a : Reaches caps events (End i a.who) (Begin j b.who)
-      from_a = subst (λ (b : Event). Reaches caps events (End i a.who) (Begin j b.who)) (at_same events j y b aty atb) (subst (λ (a : Event). Reaches caps events (End i a.who) (Begin j y.who)) (at_same events i x a atx ata) w)
-
-      go : ((m : ℕ) × (m < j) × TakesPart events m b.who × TakesPart events j b.who × Reaches caps events (Begin i a.who) (End m b.who)) → SeenBy caps (take j events) i a.who b.who
-      go (m, less, (s, ats, part), to, v) =
-          let long : j < length events = slice_get_within events j b atb in
-          (m, (s, slice_get-take j events m less ∙ ats, part), front_reaches j (omega arith) less v)
-
-  -- an access that is so seen happens before event j
-  pub before_from_seen : (i j : ℕ) (a b : Event) → At events i a → At events j b → IsTrue (is_access a.op) → SeenBy caps (take j events) i a.who b.who → HappensBefore caps events i j
-  before_from_seen i j a b ata atb is (m, (s, ats, part), w) = go (leaves_by_end i a.who (access_no_edge i a ata is a.who) to_b)
-    where
-      to_b : Reaches caps events (Begin i a.who) (Begin j b.who)
-      to_b = then_step (front_grow j w) (take_within j events m s ats, refl, (s, take_at_old j events m s ats, part), (b, atb, who_takes_part b))
-
-      go : (Begin j b.who ≡ End i a.who) ⊎ Reaches caps events (End i a.who) (Begin j b.who) → HappensBefore caps events i j
-      go (inl same) = cc
-      go (inr v) = (a, b, ata, atb, v)
-
-  pub happens_before_on : (i j k : ℕ) → HappensBefore caps events i j → HappensBefore caps events j k → HappensBefore caps events i k
-  happens_before_on i j k (a, b, ata, atb, v) (x, c, atx, atc, w) = (a, c, ata, atc, reaches_on (then_step v (inl (refl, refl, (b, atb, who_takes_part b)))) from_b)
-    where
-      from_b : Reaches caps events (End j b.who) (Begin k c.who)
-      from_b = subst (λ (b : Event). Reaches caps events (End j b.who) (Begin k c.who)) (at_same events j x b atx atb) w
+  -- both ways at once: exactly what was seen, and what e brings to its participants
+  pub seen_one_on : (i h g : ℕ) → SeenBy caps (events ++ e ∷ []) i h g ↔ (SeenBy caps events i h g ⊎ (IsTrue (takes_part g e) × Brings caps events e i h g))
+  seen_one_on i h g = (seen_step i h g, λ seen. elim seen [ inl before ↦ seen_grow i h g before | inr by ↦ seen_brings i h g by.0 by.1 ])

@@ -1,6 +1,7 @@
 //! Small lists of events with their verdicts. Each function does nothing, and its contract is the example.
-ghost use Rattle.std.specs.Prelude.{ℕ, ◌≡◌};
+ghost use Rattle.std.specs.Prelude.{ℕ, ◌≡◌, [], ◌∷◌};
 ghost use Rattle.race_model.specs.Order.{HappensBefore};
+ghost use Rattle.race_model.specs.Reorder.{IsReordering, own_order, finds};
 ghost use Rattle.race_model.specs.Verdict.{IsVerdict, Clean, Races, Illegal};
 ghost use Rattle.race_model.specs.Examples.{
   write_then_go,
@@ -13,6 +14,7 @@ ghost use Rattle.race_model.specs.Examples.{
   go_main,
   read_unwritten,
   race_on_x,
+  x,
 };
 
 /// A write before the `go` happens before what the new goroutine reads.
@@ -24,6 +26,13 @@ pub fn write_before_the_go_is_ordered()
 /// A write behind the `go` races with it.
 pub fn write_behind_the_go_races()
     ensures { (caps : ℕ → ℕ) → IsVerdict caps go_then_write (Races (race_on_x 1 2)) }
+{}
+
+/// Where there is a race, a reordering may let a read find another write: here none, so the initial value.
+pub fn a_race_lets_a_read_find_another_write()
+    ensures reordering { (caps : ℕ → ℕ) → IsReordering caps go_then_write (2 ∷ 1 ∷ []) }
+    ensures in_own_order { finds go_then_write (own_order go_then_write) x 2 ≡ Some 1 }
+    ensures in_the_reordering { finds go_then_write (2 ∷ 1 ∷ []) x 2 ≡ None }
 {}
 
 /// A goroutine's exit orders nothing, whatever main does next.

@@ -28,7 +28,7 @@ access_no_source caps past i s o is source = source
 
 module _ (caps : ℕ → ℕ) (events : List Event) where
   -- no edge leaves an access
-  pub access_no_edge : (i : ℕ) (a : Event) → At events i a → IsTrue (is_access a.op) → (g k h : ℕ) → SynchronizedBefore caps events i g k h → ⊥
+  pub access_no_edge : (i : ℕ) (a : Event) → At events i a → IsTrue (is_access a.op) → (g k h : ℕ) → SynchronizedBefore caps events (Begin i g) (End k h) → ⊥
   access_no_edge i a at is g k h (x, atx, inl (here, inside)) =
       let same : a ≡ x = at_same events i a x at (ap (slice_get events) here ∙ atx) in
       access_alone x.who x.op g h (subst (λ (x : Event). IsTrue (is_access x.op)) same is) inside
@@ -37,11 +37,12 @@ module _ (caps : ℕ → ℕ) (events : List Event) where
       access_no_source caps (take k events) i s.op x.op (subst (λ (s : Event). IsTrue (is_access s.op)) same is) source
 
   -- what leaves an access leaves it by its end
-  pub leaves_by_end : (i g : ℕ) → ((k h : ℕ) → SynchronizedBefore caps events i g k h → ⊥) → {q : Point} → Reaches caps events (Begin i g) q → (q ≡ End i g) ⊎ Reaches caps events (End i g) q
+  pub leaves_by_end : (i g : ℕ) → ((k h : ℕ) → SynchronizedBefore caps events (Begin i g) (End k h) → ⊥) → {q : Point} → Reaches caps events (Begin i g) q → (q ≡ End i g) ⊎ Reaches caps events (End i g) q
   leaves_by_end i g alone (one_step {q} s) = go q s
     where
       go : (q : Point) → Step caps events (Begin i g) q → (q ≡ End i g) ⊎ Reaches caps events (End i g) q
-      go (Begin k h) s = absurd s
+      go (Begin k h) (inl s) = absurd s
+      go (Begin k h) (inr s) = absurd s
       go (End k h) (inl (same, who, part)) = inl (ap (λ k. End k h) (sym same) ∙ ap (End i) (sym who))
       go (End k h) (inr edge) = absurd (alone k h edge)
   leaves_by_end i g alone (then_step {q} {r} w s) = go (leaves_by_end i g alone w)
@@ -77,7 +78,7 @@ module _ (caps : ℕ → ℕ) (events : List Event) where
   before_from_seen i j a b ata atb is (m, (s, ats, part), w) = go (leaves_by_end i a.who (access_no_edge i a ata is a.who) to_b)
     where
       to_b : Reaches caps events (Begin i a.who) (Begin j b.who)
-      to_b = then_step (front_grow j w) (take_within j events m s ats, refl, (s, take_at_old j events m s ats, part), (b, atb, who_takes_part b))
+      to_b = then_step (front_grow j w) (inl (take_within j events m s ats, refl, (s, take_at_old j events m s ats, part), (b, atb, who_takes_part b)))
 
       go : (Begin j b.who ≡ End i a.who) ⊎ Reaches caps events (End i a.who) (Begin j b.who) → HappensBefore caps events i j
       go (inl same) = cc

@@ -25,9 +25,9 @@ module _ (caps : ℕ → ℕ) where
     refl,
     refl,
     then_step {q = End 1 w} (then_step {q = Begin 1 main}
-        (one_step {p = End 0 main} (omega arith, refl, (does main (Write x 7), refl, refl), (does main (Go w), refl, refl)))
+        (one_step {p = End 0 main} (inl (omega arith, refl, (does main (Write x 7), refl, refl), (does main (Go w), refl, refl))))
         (inr (does main (Go w), refl, inl (refl, (refl, refl)))))
-        (omega arith, refl, (does main (Go w), refl, refl), (does w (Read x 7), refl, refl)),
+        (inl (omega arith, refl, (does main (Go w), refl, refl), (does w (Read x 7), refl, refl))),
   )
 
   pub write_then_go_clean : IsVerdict caps write_then_go Clean

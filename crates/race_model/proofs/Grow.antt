@@ -19,13 +19,13 @@ module _ (caps : ℕ → ℕ) (events more : List Event) where
   pub front_same : (j : ℕ) → j ≤ length events → take j (events ++ more) ≡ take j events
   front_same j le = take-append-le j events more le
 
-  pub synchronized_grow : (i g j h : ℕ) → SynchronizedBefore caps events i g j h → SynchronizedBefore caps (events ++ more) i g j h
+  pub synchronized_grow : (i g j h : ℕ) → SynchronizedBefore caps events (Begin i g) (End j h) → SynchronizedBefore caps (events ++ more) (Begin i g) (End j h)
   synchronized_grow i g j h (e, at, inl inside) = (e, append_at_old events more j e at, inl inside)
   synchronized_grow i g j h (e, at, inr source) =
       let less : j < length events = slice_get_within events j e at in
       (e, append_at_old events more j e at, inr (subst (λ past. (s : Event) × At past i s × IsSource caps past i s.op e.op × (s.who ≡ g) × (e.who ≡ h)) (sym (front_same j (omega arith))) source))
 
-  pub synchronized_old : (i g j h : ℕ) → j < length events → SynchronizedBefore caps (events ++ more) i g j h → SynchronizedBefore caps events i g j h
+  pub synchronized_old : (i g j h : ℕ) → j < length events → SynchronizedBefore caps (events ++ more) (Begin i g) (End j h) → SynchronizedBefore caps events (Begin i g) (End j h)
   synchronized_old i g j h less (e, at, inl inside) = (e, sym (slice_get-append events more j less) ∙ at, inl inside)
   synchronized_old i g j h less (e, at, inr source) =
       (e, sym (slice_get-append events more j less) ∙ at, inr (subst (λ past. (s : Event) × At past i s × IsSource caps past i s.op e.op × (s.who ≡ g) × (e.who ≡ h)) (front_same j (omega arith)) source))
@@ -33,14 +33,16 @@ module _ (caps : ℕ → ℕ) (events more : List Event) where
   pub step_grow : (p q : Point) → Step caps events p q → Step caps (events ++ more) p q
   step_grow (Begin i g) (End j h) (inl (same, who, part)) = inl (same, who, takes_part_grow i g part)
   step_grow (Begin i g) (End j h) (inr s) = inr (synchronized_grow i g j h s)
-  step_grow (End i g) (Begin j h) (less, who, from, to) = (less, who, takes_part_grow i g from, takes_part_grow j h to)
+  step_grow (End i g) (Begin j h) (inl (less, who, from, to)) = inl (less, who, takes_part_grow i g from, takes_part_grow j h to)
+  step_grow (End i g) (Begin j h) (inr s) = absurd s
   step_grow (Begin i g) (Begin j h) s = s
   step_grow (End i g) (End j h) s = s
 
   pub step_old : (p q : Point) → index_of q < length events → Step caps (events ++ more) p q → Step caps events p q
   step_old (Begin i g) (End j h) less (inl (same, who, part)) = inl (same, who, takes_part_old i g (omega arith) part)
   step_old (Begin i g) (End j h) less (inr s) = inr (synchronized_old i g j h less s)
-  step_old (End i g) (Begin j h) less (under, who, from, to) = (under, who, takes_part_old i g (omega arith) from, takes_part_old j h less to)
+  step_old (End i g) (Begin j h) less (inl (under, who, from, to)) = inl (under, who, takes_part_old i g (omega arith) from, takes_part_old j h less to)
+  step_old (End i g) (Begin j h) less (inr s) = absurd s
   step_old (Begin i g) (Begin j h) less s = s
   step_old (End i g) (End j h) less s = s
 
@@ -57,6 +59,9 @@ module _ (caps : ℕ → ℕ) (events more : List Event) where
       before_step : (p q : Point) → Step caps events p q → index_of q < length events → index_of p < length events
       before_step (Begin i g) (End j h) (inl s) less = let same : i ≡ j = s.0 in omega arith
       before_step (Begin i g) (End j h) (inr s) less = let up : i ≤ j = synchronized_up caps events i g j h s in omega arith
-      before_step (End i g) (Begin j h) s less = let under : i < j = s.0 in omega arith
-      before_step (Begin i g) (Begin j h) s less = absurd s
-      before_step (End i g) (End j h) s less = absurd s
+      before_step (End i g) (Begin j h) (inl s) less = let under : i < j = s.0 in omega arith
+      before_step (End i g) (Begin j h) (inr s) less = absurd s
+      before_step (Begin i g) (Begin j h) (inl s) less = absurd s
+      before_step (Begin i g) (Begin j h) (inr s) less = absurd s
+      before_step (End i g) (End j h) (inl s) less = absurd s
+      before_step (End i g) (End j h) (inr s) less = absurd s

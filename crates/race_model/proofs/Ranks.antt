@@ -15,16 +15,19 @@ rank (Begin i g) = i + i
 rank (End i g) = i + i + 1
 
 -- an edge never leads to an earlier event
-pub synchronized_up : (caps : ℕ → ℕ) (events : List Event) (i g j h : ℕ) → SynchronizedBefore caps events i g j h → i ≤ j
+pub synchronized_up : (caps : ℕ → ℕ) (events : List Event) (i g j h : ℕ) → SynchronizedBefore caps events (Begin i g) (End j h) → i ≤ j
 synchronized_up caps events i g j h (e, at, inl inside) = let same : i ≡ j = inside.0 in omega arith
 synchronized_up caps events i g j h (e, at, inr (s, here, source, from, to)) = let less : i < j = take_within j events i s here in omega arith
 
 pub step_up : (caps : ℕ → ℕ) (events : List Event) (p q : Point) → Step caps events p q → rank p < rank q
 step_up caps events (Begin i g) (End j h) (inl s) = let same : i ≡ j = s.0 in omega arith
 step_up caps events (Begin i g) (End j h) (inr s) = let up : i ≤ j = synchronized_up caps events i g j h s in omega arith
-step_up caps events (End i g) (Begin j h) s = let less : i < j = s.0 in omega arith
-step_up caps events (Begin i g) (Begin j h) s = absurd s
-step_up caps events (End i g) (End j h) s = absurd s
+step_up caps events (End i g) (Begin j h) (inl s) = let less : i < j = s.0 in omega arith
+step_up caps events (End i g) (Begin j h) (inr s) = absurd s
+step_up caps events (Begin i g) (Begin j h) (inl s) = absurd s
+step_up caps events (Begin i g) (Begin j h) (inr s) = absurd s
+step_up caps events (End i g) (End j h) (inl s) = absurd s
+step_up caps events (End i g) (End j h) (inr s) = absurd s
 
 pub reaches_up : {caps : ℕ → ℕ} {events : List Event} {p q : Point} → Reaches caps events p q → rank p < rank q
 reaches_up {caps} {events} (one_step {p} {q} s) = step_up caps events p q s

@@ -38,12 +38,15 @@ inside_to e g h s = go e.op s
 
 -- a way to a begin comes from an earlier end of the same goroutine
 pub into_begin : {caps : ℕ → ℕ} {events : List Event} (i h j f : ℕ) → Reaches caps events (Begin i h) (Begin j f) → (m : ℕ) × (m < j) × TakesPart events m f × TakesPart events j f × Reaches caps events (Begin i h) (End m f)
-into_begin i h j f (one_step s) = absurd s
+into_begin i h j f (one_step (inl s)) = absurd s
+into_begin i h j f (one_step (inr s)) = absurd s
 into_begin {caps} {events} i h j f (then_step {q} w s) = go q w s
   where
     go : (q : Point) → Reaches caps events (Begin i h) q → Step caps events q (Begin j f) → (m : ℕ) × (m < j) × TakesPart events m f × TakesPart events j f × Reaches caps events (Begin i h) (End m f)
-    go (Begin m g) w s = absurd s
-    go (End m g) w (less, who, from, to) = (m, less, subst (TakesPart events m) who from, to, subst (λ g. Reaches caps events (Begin i h) (End m g)) who w)
+    go (Begin m g) w (inl s) = absurd s
+    go (Begin m g) w (inr s) = absurd s
+    go (End m g) w (inr s) = absurd s
+    go (End m g) w (inl (less, who, from, to)) = (m, less, subst (TakesPart events m) who from, to, subst (λ g. Reaches caps events (Begin i h) (End m g)) who w)
 
 -- a way to an end comes from a begin, by one step
 pub into_end : {caps : ℕ → ℕ} {events : List Event} (i h j g : ℕ) → Reaches caps events (Begin i h) (End j g) → (k f : ℕ) × SeenAt caps events i h k f × Step caps events (Begin k f) (End j g)
@@ -52,7 +55,8 @@ into_end {caps} {events} i h j g (then_step {q} w s) = go q w s
   where
     go : (q : Point) → Reaches caps events (Begin i h) q → Step caps events q (End j g) → (k f : ℕ) × SeenAt caps events i h k f × Step caps events (Begin k f) (End j g)
     go (Begin k f) w s = (k, f, inr w, s)
-    go (End k f) w s = absurd s
+    go (End k f) w (inl s) = absurd s
+    go (End k f) w (inr s) = absurd s
 
 -- and such a step goes on
 pub out_of_seen : {caps : ℕ → ℕ} {events : List Event} (i h k f j g : ℕ) → SeenAt caps events i h k f → Step caps events (Begin k f) (End j g) → Reaches caps events (Begin i h) (End j g)

@@ -24,7 +24,7 @@ module _ (caps : ℕ → ℕ) (events : List Event) (e : Event) where
   new_part g is = (e, slice_get-push events e, is)
 
   -- an edge to an end in e comes from inside e, or from a source before it
-  pub new_edge : (k f g : ℕ) → SynchronizedBefore caps (events ++ e ∷ []) k f (length events) g
+  pub new_edge : (k f g : ℕ) → SynchronizedBefore caps (events ++ e ∷ []) (Begin k f) (End (length events) g)
       → ((k ≡ length events) × SynchronizedInside e.who e.op f g)
       ⊎ ((s : Event) × At events k s × IsSource caps events k s.op e.op × (s.who ≡ f) × (e.who ≡ g))
   new_edge k f g (x, at, by) = go by
@@ -62,7 +62,7 @@ module _ (caps : ℕ → ℕ) (events : List Event) (e : Event) where
   pub seen_at_from : (i h f : ℕ) → IsTrue (takes_part f e) → ((i ≡ length events) × (h ≡ f)) ⊎ SeenBy caps events i h f → SeenAt caps (events ++ e ∷ []) i h (length events) f
   seen_at_from i h f is (inl own) = inl own
   seen_at_from i h f is (inr (m, (s, at, part), w)) =
-      inr (then_step (reaches_grow caps events (e ∷ []) w) (slice_get_within events m s at, refl, takes_part_grow caps events (e ∷ []) m f (s, at, part), new_part f is))
+      inr (then_step (reaches_grow caps events (e ∷ []) w) (inl (slice_get_within events m s at, refl, takes_part_grow caps events (e ∷ []) m f (s, at, part), new_part f is)))
 
   -- what was seen by a begin of the list stays so
   pub seen_at_grow : (i h k f : ℕ) → SeenAt caps events i h k f → SeenAt caps (events ++ e ∷ []) i h k f

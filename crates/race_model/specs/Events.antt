@@ -1,10 +1,10 @@
--- What can be said of events one by one: who takes part, of which kind they are, and how many stand in a list. (The Go Memory Model, "Memory Model": memory operations)
+-- What can be said of one event, who takes part and what it does, and how many events of a kind a list has. (The Go Memory Model, "Memory Model": memory operation)
 use Rattle.std.specs.Prelude.{ℕ, ◌≡◌, ◌==◌, ◌||◌, ◌&&◌, nat_lt, Bool, true, false, IsTrue, List, [], ◌∷◌, Option, Some, None, count_by, take, slice_get}
 use Rattle.race_records.specs.declared.event.Event.{Event}
 use Rattle.race_records.specs.declared.event.Op.{Op}
 use Rattle.race_records.specs.declared.event.Op.TheVariants.{Go, Exit, Read, Write}
 
--- the event stands at that index of the list; indexes count from 0
+-- e is the event at index i of the list; indexes count from 0
 abbrev pub At : List Event → ℕ → Event → Type 0
 At events i e = slice_get events i ≡ Some e
 
@@ -13,12 +13,12 @@ abbrev pub partner : Op → Option ℕ
 partner (Go h) = Some h
 partner _ = None
 
--- the answer is there, and it is n
+-- there is a number, and it is n
 abbrev pub gives : Option ℕ → ℕ → Bool
 gives None n = false
 gives (Some m) n = m == n
 
--- g takes part in the event: it is the event's goroutine or the second participant
+-- g takes part in the event: it is the goroutine of the event, or the second participant
 abbrev pub takes_part : ℕ → Event → Bool
 takes_part g e = (e.who == g) || gives (partner e.op) g
 
@@ -26,7 +26,7 @@ takes_part g e = (e.who == g) || gives (partner e.op) g
 abbrev pub TakesPart : List Event → ℕ → ℕ → Type 0
 TakesPart events i g = (e : Event) × At events i e × IsTrue (takes_part g e)
 
--- kinds of operations, most of them on one object
+-- Kinds of operations, most of them on one object.
 
 -- a Go that starts h
 abbrev pub starts : ℕ → Op → Bool
@@ -58,19 +58,19 @@ is_access (Read x v) = true
 is_access (Write x v) = true
 is_access _ = false
 
--- how many events of the kind are among the events
+-- how many events of a kind the list has
 abbrev pub count : (Op → Bool) → List Event → ℕ
 count kind events = count_by (λ e. kind e.op) events
 
--- an event of the kind is among the events
+-- the list has an event of the kind
 abbrev pub has : (Op → Bool) → List Event → Bool
 has kind events = nat_lt 0 (count kind events)
 
--- the operation at index i is number k of its kind: as many of that kind stand before it
+-- the operation o at index i is of the kind, and as many as k of that kind stand before it: counted from 0, it is number k
 abbrev pub IsKth : (Op → Bool) → ℕ → List Event → ℕ → Op → Type 0
 IsKth kind k events i o = IsTrue (kind o) × (count kind (take i events) ≡ k)
 
--- g's exit is among the events
+-- the list has an Exit of g
 abbrev pub has_exited : ℕ → List Event → Bool
 has_exited g events = nat_lt 0 (count_by (λ e. (e.who == g) && is_exit e.op) events)
 

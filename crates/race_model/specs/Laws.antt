@@ -1,4 +1,4 @@
--- The laws of the definitions; each is proved as the contract of a function of the same name. (The Go Memory Model, "Memory Model": DRF-SC)
+-- The laws of the definitions. Each is the contract of a function in src/laws.rt that does nothing. (The Go Memory Model, "Memory Model": DRF-SC)
 use Rattle.std.specs.Prelude.{ℕ, ◌≡◌, ◌<◌, IsTrue, List}
 use Rattle.race_records.specs.declared.event.Event.{Event}
 use Rattle.race_model.specs.Events.{reads}
@@ -11,7 +11,7 @@ use Rattle.race_model.specs.Verdict.{Verdict, IsVerdict}
 abbrev pub HappensBeforeGoesUp : List Event → Type 0
 HappensBeforeGoesUp events = (caps : ℕ → ℕ) (i j : ℕ) → HappensBefore caps events i j → i < j
 
--- what happens before something that happens before a third happens before the third
+-- where i happens before j and j before k, i happens before k
 abbrev pub HappensBeforeIsTransitive : List Event → Type 0
 HappensBeforeIsTransitive events = (caps : ℕ → ℕ) (i j k : ℕ) → HappensBefore caps events i j → HappensBefore caps events j k → HappensBefore caps events i k
 

@@ -1,4 +1,4 @@
--- Which rules an event breaks after the events before it, and which lists of events break none. (The Go Programming Language Specification, "Go statements", "Program execution"; The Go Memory Model, "Memory Model", requirement 1)
+-- Which rules an event breaks after the events before it, and which lists of events are legal. (The Go Programming Language Specification, "Program execution", "Go statements")
 use Rattle.std.specs.Prelude.{ℕ, ◌≡◌, ◌==◌, ◌||◌, not, Bool, cond, List, [], ◌∷◌, Option, Some, None, take}
 use Rattle.race_records.specs.declared.event.Event.{Event}
 use Rattle.race_records.specs.declared.event.Op.{Op}
@@ -6,26 +6,26 @@ use Rattle.race_records.specs.declared.event.Op.TheVariants.{Go, Exit, Read, Wri
 use Rattle.race_model.specs.Events.{At}
 use Rattle.race_model.specs.State.{over, started, runs, last_value}
 
--- The rules have fixed numbers. caps gives each channel's capacity, by the channel's number.
+-- Each rule has a number of its own for good, so there are gaps. caps gives the capacity of each channel; no rule on Go, Exit, Read and Write looks at it.
 
--- the rules on the operation alone: each number in rising order, with whether the operation breaks that rule
+-- the rules on what goroutine g does, in rising order: each rule's number, with whether the operation breaks it after the events past
 abbrev pub op_rules : (ℕ → ℕ) → List Event → ℕ → Op → List (ℕ × Bool)
--- 3: starts main, or a goroutine that was started before
+-- 3: it starts main, or a goroutine that was started before
 op_rules caps past g (Go h) = (3, h == 0 || started h past) ∷ []
 op_rules caps past g Exit = []
--- 21: reads another value than that of the last Write, or 0
+-- 21: it reads another value than the last one written, or than 0 where none was
 op_rules caps past g (Read x v) = (21, not (last_value x past == v)) ∷ []
 op_rules caps past g (Write x v) = []
 
--- who has to run does: the goroutine of the event, and not the one that a Go starts
+-- whoever acts in the event runs: the goroutine of the event, and not the one that a Go starts
 abbrev pub actors_run : List Event → Event → Bool
 actors_run past e = runs e.who past
 
--- all rules in rising order, each with whether e breaks it: 1 comes after the end of the run, 2 is by a goroutine that doesn't run
+-- all rules in rising order; 1 says that the run is over, 2 that who acts doesn't run
 abbrev pub rules : (ℕ → ℕ) → List Event → Event → List (ℕ × Bool)
 rules caps past e = (1, over past) ∷ (2, not (actors_run past e)) ∷ op_rules caps past e.who e.op
 
--- the first rule in the list that is broken, hence the least, since rules stand in rising order
+-- the first broken rule of the list, and so the least, since rules stand in rising order
 abbrev pub least_broken : List (ℕ × Bool) → Option ℕ
 least_broken [] = None
 least_broken (r ∷ rs) = cond (r.1) (Some (r.0)) (least_broken rs)

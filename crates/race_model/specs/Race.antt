@@ -16,13 +16,13 @@ IsWriteOf events x i = (e : Event) × At events i e × IsTrue (writes x e.op)
 abbrev pub Conflict : List Event → ℕ → ℕ → ℕ → Type 0
 Conflict events x i j = (i ≢ j) × IsAccessOf events x i × IsAccessOf events x j × (IsWriteOf events x i ⊎ IsWriteOf events x j)
 
--- i and j race by an order: they conflict, and neither stands before the other in that order
+-- i and j race by an order: they conflict, and neither is ordered before the other
 pub record RaceBy (conflicts ordered : ℕ → ℕ → Type 0) (i j : ℕ) : Type 0 where
   pub conflict : conflicts i j
   pub not_before : ¬ ordered i j
   pub not_after : ¬ ordered j i
 
--- of all pairs that race by an order, j is the least later member, and i is the greatest earlier one that races with j
+-- the reported pair of all that race by an order: j is the least later member of any, and i the greatest earlier one that races with j
 pub record IsReportedBy (conflicts ordered : ℕ → ℕ → Type 0) (i j : ℕ) : Type 0 where
   pub race : RaceBy conflicts ordered i j
   pub in_order : i < j
@@ -37,6 +37,6 @@ IsRace caps events x i j = RaceBy (Conflict events x) (HappensBefore caps events
 abbrev pub IsDataRaceFree : (ℕ → ℕ) → List Event → Type 0
 IsDataRaceFree caps events = (x i j : ℕ) → ¬ IsRace caps events x i j
 
--- the race on x that is reported
+-- the race on x that is reported, by happens before
 abbrev pub IsReportedRace : (ℕ → ℕ) → List Event → ℕ → ℕ → ℕ → Type 0
 IsReportedRace caps events x i j = IsReportedBy (Conflict events x) (HappensBefore caps events) i j

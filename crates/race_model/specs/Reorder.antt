@@ -1,4 +1,4 @@
--- Reorderings of the accesses, and what a read finds in one. (The Go Memory Model, "Memory Model": sequentially consistent interleaving)
+-- The orders in which the accesses could as well have come, and what a read finds in each. (The Go Memory Model, "Memory Model": sequentially consistent interleaving)
 use Rattle.std.specs.Prelude.{ℕ, ◌≡◌, ◌<◌, ◌+◌, ◌==◌, Bool, false, cond, IsTrue, List, [], ◌∷◌, Option, Some, None, slice_get}
 use Rattle.std.specs.List.{before_first}
 use Rattle.race_records.specs.declared.event.Event.{Event}
@@ -14,7 +14,7 @@ op_passes test events i = elim (slice_get events i) [ Some e ↦ test e.op | Non
 abbrev pub StandsBefore : List ℕ → ℕ → ℕ → Type 0
 StandsBefore order a b = (i j : ℕ) × (i < j) × (slice_get order i ≡ Some a) × (slice_get order j ≡ Some b)
 
--- the indexes of all accesses, each once, where what happens before stands before
+-- a reordering: the indexes of all accesses, each once, where what happens before stands before
 pub record IsReordering (caps : ℕ → ℕ) (events : List Event) (order : List ℕ) : Type 0 where
   pub only : (i a : ℕ) → slice_get order i ≡ Some a → IsTrue (op_passes is_access events a)
   pub each : (a : ℕ) → IsTrue (op_passes is_access events a) → (i : ℕ) × (slice_get order i ≡ Some a)

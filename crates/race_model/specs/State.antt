@@ -1,4 +1,4 @@
--- What the events so far say of goroutines and variables. (The Go Memory Model, "Goroutine creation"; The Go Programming Language Specification, "Go statements", "Program execution")
+-- What the events so far say of the run, its goroutines and its variables. (The Go Programming Language Specification, "Program execution", "Go statements")
 use Rattle.std.specs.Prelude.{ℕ, ◌==◌, ◌||◌, ◌&&◌, not, Bool, cond, List, Option, Some, None, unwrap_or}
 use Rattle.race_records.specs.declared.event.Event.{Event}
 use Rattle.race_records.specs.declared.event.Op.{Op}
@@ -9,7 +9,7 @@ use Rattle.race_model.specs.Events.{starts, has, has_exited, last_of}
 abbrev pub over : List Event → Bool
 over past = has_exited 0 past
 
--- a Go of g is among the events; never so of main, which no Go starts
+-- a Go started g; main is never started so
 abbrev pub started : ℕ → List Event → Bool
 started g past = has (starts g) past
 

@@ -14,3 +14,4 @@ pub mod StateSteps
 pub mod LegalSteps
 pub mod ExampleLemmas
 pub mod ExampleVerdicts
+pub mod SeenByOperation

@@ -3,7 +3,7 @@ use Rattle.std.proofs.Common.{◌≡◌, ℕ, ◌<◌, ◌==◌, ◌||◌, true,
 use Rattle.std.proofs.lemmas.Bool.{or_left, or_right}
 use Rattle.race_records.specs.declared.event.Event.{Event}
 use Rattle.race_records.specs.declared.event.Op.{Op}
-use Rattle.race_records.specs.declared.event.Op.TheVariants.{Go, Exit, Read, Write}
+use Rattle.race_records.specs.declared.event.Op.TheVariants.{Go}
 use Rattle.race_model.specs.Events.{partner, gives, takes_part, TakesPart}
 use Rattle.race_model.specs.Order.{Point, Begin, End, SynchronizedInside, Step, Reaches, one_step, then_step}
 use Rattle.race_model.specs.Known.{SeenAt}
@@ -23,18 +23,14 @@ inside_from e g h s = go e.op s
   where
     go : (o : Op) → SynchronizedInside e.who o g h → ((e.who == g) || gives (partner o) g) ≡ true
     go (Go k) (who, new) = or_left (e.who == g) (k == g) (eq-eqb e.who g who)
-    go Exit s = absurd s
-    go (Read x v) s = absurd s
-    go (Write x v) s = absurd s
+    go _ s = absurd s
 
 pub inside_to : (e : Event) (g h : ℕ) → SynchronizedInside e.who e.op g h → IsTrue (takes_part h e)
 inside_to e g h s = go e.op s
   where
     go : (o : Op) → SynchronizedInside e.who o g h → ((e.who == h) || gives (partner o) h) ≡ true
     go (Go k) (who, new) = or_right (e.who == h) (k == h) (eq-eqb k h new)
-    go Exit s = absurd s
-    go (Read x v) s = absurd s
-    go (Write x v) s = absurd s
+    go _ s = absurd s
 
 -- a way to a begin comes from an earlier end of the same goroutine
 pub into_begin : {caps : ℕ → ℕ} {events : List Event} (i h j f : ℕ) → Reaches caps events (Begin i h) (Begin j f) → (m : ℕ) × (m < j) × TakesPart events m f × TakesPart events j f × Reaches caps events (Begin i h) (End m f)

@@ -4,7 +4,7 @@ use Rattle.std.proofs.lemmas.Bool.{cases_order, cases_eq, or_left, or_right, con
 use Rattle.std.proofs.lemmas.Option.{cond_some}
 use Rattle.race_records.specs.declared.event.Event.{Event}
 use Rattle.race_records.specs.declared.event.Op.{Op}
-use Rattle.race_records.specs.declared.event.Op.TheVariants.{Go, Exit, Read, Write}
+use Rattle.race_records.specs.declared.event.Op.TheVariants.{Read, Write}
 use Rattle.race_model.specs.Events.{At, reads, writes, accesses, is_access, last_of}
 use Rattle.race_model.specs.Race.{IsAccessOf, IsWriteOf, Conflict, IsDataRaceFree}
 use Rattle.race_model.specs.Reorder.{op_passes, StandsBefore, IsReordering, write_at, finds}
@@ -25,17 +25,14 @@ passes_from test events i e at is = rw (at, op_passes) is
 
 -- what accesses one variable is an access
 pub is_access_from : (x : ℕ) (o : Op) → IsTrue (accesses x o) → IsTrue (is_access o)
-is_access_from x (Go h) is = is
-is_access_from x Exit is = is
 is_access_from x (Read y v) is = refl
 is_access_from x (Write y v) is = refl
+is_access_from x _ is = is
 
 -- one operation doesn't both read and write
 pub read_or_write : (x : ℕ) (o : Op) → IsTrue (reads x o) → IsTrue (writes x o) → ⊥
-read_or_write x (Go h) r w = cc
-read_or_write x Exit r w = cc
 read_or_write x (Read y v) r w = cc
-read_or_write x (Write y v) r w = cc
+read_or_write x _ r w = cc
 
 module _ (caps : ℕ → ℕ) (events : List Event) where
   pub access_passes : (x a : ℕ) → IsAccessOf events x a → IsTrue (op_passes is_access events a)

@@ -22,21 +22,17 @@ plain_part who o g plain part = elim (or_cases (who == g) (gives (partner o) g) 
   where
     none : (o : Op) → IsTrue (is_plain o) → gives (partner o) g ≡ true → ⊥
     none (Go k) plain other = cc
-    none Exit plain other = cc
-    none (Read x v) plain other = cc
-    none (Write x v) plain other = cc
+    none _ plain other = cc
 
 pub plain_inside : (who : ℕ) (o : Op) (f g : ℕ) → IsTrue (is_plain o) → SynchronizedInside who o f g → ⊥
 plain_inside who (Go k) f g plain s = cc
-plain_inside who Exit f g plain s = s
-plain_inside who (Read x v) f g plain s = s
-plain_inside who (Write x v) f g plain s = s
+plain_inside who _ f g plain s = s
 
 pub plain_no_target : (caps : ℕ → ℕ) (past : List Event) (k : ℕ) (s o : Op) → IsTrue (is_plain o) → IsSource caps past k s o → ⊥
-plain_no_target caps past k s (Go h) plain source = cc
 plain_no_target caps past k s Exit plain source = source
 plain_no_target caps past k s (Read x v) plain source = source
 plain_no_target caps past k s (Write x v) plain source = source
+plain_no_target caps past k s _ plain source = cc
 
 -- what g has seen after a Go of k by who: that Go's begins, its own or the starter's, and as k all that the starter had seen
 abbrev pub SeenAfterGo : (ℕ → ℕ) → List Event → ℕ → ℕ → ℕ → ℕ → ℕ → Type 0

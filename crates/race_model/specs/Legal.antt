@@ -1,5 +1,5 @@
 -- Which rules an event breaks after the events before it, and which lists of events are legal. (The Go Programming Language Specification, "Program execution", "Go statements")
-use Rattle.std.specs.Prelude.{ℕ, ◌≡◌, ◌==◌, ◌||◌, not, Bool, cond, List, [], ◌∷◌, Option, Some, None, take}
+use Rattle.std.specs.Prelude.{ℕ, if◌then◌else◌, ◌≡◌, ◌==◌, ◌||◌, not, Bool, List, [], ◌∷◌, Option, Some, None, take}
 use Rattle.race_records.specs.declared.event.Event.{Event}
 use Rattle.race_records.specs.declared.event.Op.{Op}
 use Rattle.race_records.specs.declared.event.Op.TheVariants.{Go, Exit, Read, Write}
@@ -28,7 +28,7 @@ rules caps past e = (1, over past) ∷ (2, not (actors_run past e)) ∷ op_rules
 -- the first broken rule of the list, and so the least, since rules stand in rising order
 abbrev pub least_broken : List (ℕ × Bool) → Option ℕ
 least_broken [] = None
-least_broken (r ∷ rs) = cond (r.1) (Some (r.0)) (least_broken rs)
+least_broken (r ∷ rs) = if r.1 then Some r.0 else least_broken rs
 
 -- the least rule that e breaks after the events past
 abbrev pub broken : (ℕ → ℕ) → List Event → Event → Option ℕ

@@ -1,5 +1,5 @@
 -- The orders in which the accesses could as well have come, and what a read finds in each. (The Go Memory Model, "Memory Model": sequentially consistent interleaving)
-use Rattle.std.specs.Prelude.{ℕ, ◌≡◌, ◌<◌, ◌+◌, ◌==◌, Bool, false, cond, IsTrue, List, [], ◌∷◌, Option, Some, None, slice_get}
+use Rattle.std.specs.Prelude.{ℕ, if◌then◌else◌, ◌≡◌, ◌<◌, ◌+◌, ◌==◌, Bool, false, IsTrue, List, [], ◌∷◌, Option, Some, None, slice_get}
 use Rattle.std.specs.List.{before_first}
 use Rattle.race_records.specs.declared.event.Event.{Event}
 use Rattle.race_records.specs.declared.event.Op.{Op}
@@ -24,7 +24,7 @@ pub record IsReordering (caps : ℕ → ℕ) (events : List Event) (order : List
 -- the indexes of the accesses in the order of the list, where the first event has index n
 abbrev pub accesses_from : ℕ → List Event → List ℕ
 accesses_from n [] = []
-accesses_from n (e ∷ es) = cond (is_access e.op) (n ∷ accesses_from (n + 1) es) (accesses_from (n + 1) es)
+accesses_from n (e ∷ es) = if is_access e.op then n ∷ accesses_from (n + 1) es else accesses_from (n + 1) es
 
 -- the trace's own order: the indexes of the accesses as they stand in the trace
 abbrev pub own_order : List Event → List ℕ
@@ -32,7 +32,7 @@ own_order events = accesses_from 0 events
 
 -- a, where the event at index a is a Write of x
 abbrev pub write_at : List Event → ℕ → ℕ → Option ℕ
-write_at events x a = cond (op_passes (writes x) events a) (Some a) None
+write_at events x a = if op_passes (writes x) events a then Some a else None
 
 -- what the read r of x finds in the order: the index of the last Write of x before r, or None for the initial value
 abbrev pub finds : List Event → List ℕ → ℕ → ℕ → Option ℕ

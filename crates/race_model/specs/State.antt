@@ -1,5 +1,5 @@
 -- What the events so far say of the run, its goroutines and its variables. (The Go Programming Language Specification, "Program execution", "Go statements")
-use Rattle.std.specs.Prelude.{ℕ, ◌==◌, ◌||◌, ◌&&◌, not, Bool, cond, List, Option, Some, None, unwrap_or}
+use Rattle.std.specs.Prelude.{ℕ, if◌then◌else◌, ◌==◌, ◌||◌, ◌&&◌, not, Bool, List, Option, Some, None, unwrap_or}
 use Rattle.race_records.specs.declared.event.Event.{Event}
 use Rattle.race_records.specs.declared.event.Op.{Op}
 use Rattle.race_records.specs.declared.event.Op.TheVariants.{Write}
@@ -19,7 +19,7 @@ runs g past = (g == 0 || started g past) && not (has_exited g past)
 
 -- the value that the operation writes to x
 abbrev pub written : ℕ → Op → Option ℕ
-written x (Write y v) = cond (y == x) (Some v) None
+written x (Write y v) = if y == x then Some v else None
 written x _ = None
 
 -- the value of the last Write of x, or 0 where there is none

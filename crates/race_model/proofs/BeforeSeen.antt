@@ -5,14 +5,14 @@ use Rattle.std.proofs.lemmas.List.{length-take-le}
 use Rattle.race_records.specs.declared.event.Event.{Event}
 use Rattle.race_records.specs.declared.event.Op.{Op}
 use Rattle.race_records.specs.declared.event.Op.TheVariants.{Go}
-use Rattle.race_model.specs.Events.{At, TakesPart, accesses, is_access}
+use Rattle.race_model.specs.Events.{At, accesses, is_access}
 use Rattle.race_model.specs.Order.{Point, Begin, End, SynchronizedInside, IsSource, SynchronizedBefore, Step, Reaches, one_step, then_step, HappensBefore}
 use Rattle.race_model.specs.Race.{Conflict, IsRace}
 use Rattle.race_model.specs.Known.{SeenBy}
 use Rattle.race_model.proofs.Indexes.{at_same, slice_get-take, take_within, take_at_old}
 use Rattle.race_model.proofs.Ranks.{index_of, happens_before_up}
 use Rattle.race_model.proofs.Grow.{reaches_grow, reaches_old}
-use Rattle.race_model.proofs.Reaching.{reaches_on, who_takes_part, into_begin}
+use Rattle.race_model.proofs.Reaching.{reaches_on, who_takes_part, ReachesEarlier, into_begin}
 use Rattle.race_model.proofs.ReorderLemmas.{is_access_from}
 
 -- an access has no edge inside its event
@@ -35,7 +35,8 @@ module _ (caps : ℕ → ℕ) (events : List Event) where
       access_no_source caps (take k events) i s.op x.op (subst (λ (s : Event). IsTrue (is_access s.op)) same is) source
 
   -- what leaves an access leaves it by its end
-  pub leaves_by_end : (i g : ℕ) → ((k h : ℕ) → SynchronizedBefore caps events (Begin i g) (End k h) → ⊥) → {q : Point} → Reaches caps events (Begin i g) q → (q ≡ End i g) ⊎ Reaches caps events (End i g) q
+  pub leaves_by_end : (i g : ℕ) → ((k h : ℕ) → SynchronizedBefore caps events (Begin i g) (End k h) → ⊥)
+      → {q : Point} → Reaches caps events (Begin i g) q → (q ≡ End i g) ⊎ Reaches caps events (End i g) q
   leaves_by_end i g alone (one_step {q} s) = go q s
     where
       go : (q : Point) → Step caps events (Begin i g) q → (q ≡ End i g) ⊎ Reaches caps events (End i g) q
@@ -64,9 +65,11 @@ module _ (caps : ℕ → ℕ) (events : List Event) where
   seen_from_before i j a b ata atb (x, y, atx, aty, w) = go (into_begin i a.who j b.who (reaches_on (one_step (inl (refl, refl, (a, ata, who_takes_part a)))) from_a))
     where
       from_a : Reaches caps events (End i a.who) (Begin j b.who)
-      from_a = subst (λ (b : Event). Reaches caps events (End i a.who) (Begin j b.who)) (at_same events j y b aty atb) (subst (λ (a : Event). Reaches caps events (End i a.who) (Begin j y.who)) (at_same events i x a atx ata) w)
+      from_a =
+          subst (λ (b : Event). Reaches caps events (End i a.who) (Begin j b.who)) (at_same events j y b aty atb)
+          (subst (λ (a : Event). Reaches caps events (End i a.who) (Begin j y.who)) (at_same events i x a atx ata) w)
 
-      go : ((m : ℕ) × (m < j) × TakesPart events m b.who × TakesPart events j b.who × Reaches caps events (Begin i a.who) (End m b.who)) → SeenBy caps (take j events) i a.who b.who
+      go : ReachesEarlier caps events i a.who j b.who → SeenBy caps (take j events) i a.who b.who
       go (m, less, (s, ats, part), to, v) =
           let long : j < length events = slice_get_within events j b atb in
           (m, (s, slice_get-take j events m less ∙ ats, part), front_reaches j (omega arith) less v)
@@ -82,6 +85,7 @@ module _ (caps : ℕ → ℕ) (events : List Event) where
       go (inl same) = cc
       go (inr v) = (a, b, ata, atb, v)
 
+  -- happens before is transitive
   pub happens_before_on : (i j k : ℕ) → HappensBefore caps events i j → HappensBefore caps events j k → HappensBefore caps events i k
   happens_before_on i j k (a, b, ata, atb, v) (x, c, atx, atc, w) = (a, c, ata, atc, reaches_on (then_step v (inl (refl, refl, (b, atb, who_takes_part b)))) from_b)
     where

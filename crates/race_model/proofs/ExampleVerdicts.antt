@@ -30,6 +30,7 @@ module _ (caps : ℕ → ℕ) where
         (inl (omega arith, refl, (does main (Go w), refl, refl), (does w (Read x 7), refl, refl))),
   )
 
+  -- two accesses, one before the other
   pub write_then_go_clean : IsVerdict caps write_then_go Clean
   write_then_go_clean = (legal_by caps [] write_then_go (legal_none caps) (refl, (refl, (refl, (refl, tt)))), two_ordered caps write_then_go x 0 2 (only_two write_then_go x 0 2 only) write_then_go_ordered)
     where
@@ -51,6 +52,7 @@ module _ (caps : ℕ → ℕ) where
       no_part (suc zero) e le at = let same : does main (Write x 1) ≡ e = cc in ap (takes_part w) (sym same)
       no_part (suc (suc j)) e le at = cc
 
+  -- two accesses that race
   pub go_then_write_races : IsVerdict caps go_then_write (Races (race_on_x 1 2))
   go_then_write_races = (legal_by caps [] go_then_write (legal_none caps) (refl, (refl, (refl, tt))), (λ none. cc), two_race caps go_then_write x 1 2 (only_two go_then_write x 1 2 only) (omega arith) go_then_write_race)
     where
@@ -99,6 +101,7 @@ module _ (caps : ℕ → ℕ) where
           go (suc (suc a)) is up h = absurd (omega arith)
       kept a (suc (suc (suc b))) is_a is_b h = cc
 
+  -- main has no part from w's write to w's exit
   pub exit_then_read_races : IsVerdict caps exit_then_read (Races (race_on_x 1 3))
   exit_then_read_races = (legal_by caps [] exit_then_read (legal_none caps) (refl, (refl, (refl, (refl, tt)))), (λ none. cc), two_race caps exit_then_read x 1 3 (only_two exit_then_read x 1 3 only) (omega arith) race)
     where
@@ -116,8 +119,11 @@ module _ (caps : ℕ → ℕ) where
       no_part (suc (suc (suc j))) e le at = cc
 
       race : IsRace caps exit_then_read x 1 3
-      race = race_from_unseen caps exit_then_read x 1 3 (does w (Write x 1)) (does main (Read x 1)) (omega arith) refl refl ((λ same. absurd (omega arith)), (does w (Write x 1), refl, refl), (does main (Read x 1), refl, refl), inl (does w (Write x 1), refl, refl)) (unseen caps (take 3 exit_then_read) 1 w main no_part)
+      race = race_from_unseen caps exit_then_read x 1 3 (does w (Write x 1)) (does main (Read x 1)) (omega arith) refl refl
+          ((λ same. absurd (omega arith)), (does w (Write x 1), refl, refl), (does main (Read x 1), refl, refl), inl (does w (Write x 1), refl, refl))
+          (unseen caps (take 3 exit_then_read) 1 w main no_part)
 
+  -- main has a part behind w's exit, which brings it nothing of w
   pub exit_then_go_races : IsVerdict caps exit_then_go (Races (race_on_x 1 4))
   exit_then_go_races = (legal_by caps [] exit_then_go (legal_none caps) (refl, (refl, (refl, (refl, (refl, tt))))), (λ none. cc), two_race caps exit_then_go x 1 4 (only_two exit_then_go x 1 4 only) (omega arith) race)
     where
@@ -145,8 +151,11 @@ module _ (caps : ℕ → ℕ) where
       ]
 
       race : IsRace caps exit_then_go x 1 4
-      race = race_from_unseen caps exit_then_go x 1 4 (does w (Write x 1)) (does main (Read x 1)) (omega arith) refl refl ((λ same. absurd (omega arith)), (does w (Write x 1), refl, refl), (does main (Read x 1), refl, refl), inl (does w (Write x 1), refl, refl)) not_seen
+      race = race_from_unseen caps exit_then_go x 1 4 (does w (Write x 1)) (does main (Read x 1)) (omega arith) refl refl
+          ((λ same. absurd (omega arith)), (does w (Write x 1), refl, refl), (does main (Read x 1), refl, refl), inl (does w (Write x 1), refl, refl))
+          not_seen
 
+  -- no write, so no conflict
   pub two_reads_clean : IsVerdict caps two_reads Clean
   two_reads_clean = (
     legal_by caps [] two_reads (legal_none caps) (refl, (refl, (refl, tt))),
@@ -165,14 +174,18 @@ module _ (caps : ℕ → ℕ) where
       no_write : (y i : ℕ) → IsWriteOf two_reads y i → ⊥
       no_write y i (e, at, is) = none y i (passes_from (writes y) two_reads i e at is)
 
+  -- rule 1 at the second exit
   pub exit_twice_illegal : IsVerdict caps exit_twice (Illegal 1 1)
   exit_twice_illegal = illegal_push caps (does main Exit ∷ []) [] (does main Exit) 1 (legal_by caps [] (does main Exit ∷ []) (legal_none caps) (refl, tt)) refl
 
+  -- rule 2 at once
   pub write_unstarted_illegal : IsVerdict caps write_unstarted (Illegal 0 2)
   write_unstarted_illegal = illegal_push caps [] [] (does w (Write x 1)) 2 (legal_none caps) refl
 
+  -- rule 3 at once
   pub go_main_illegal : IsVerdict caps go_main (Illegal 0 3)
   go_main_illegal = illegal_push caps [] [] (does main (Go main)) 3 (legal_none caps) refl
 
+  -- rule 21 at once
   pub read_unwritten_illegal : IsVerdict caps read_unwritten (Illegal 0 21)
   read_unwritten_illegal = illegal_push caps [] [] (does main (Read x 1)) 21 (legal_none caps) refl

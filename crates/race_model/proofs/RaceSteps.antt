@@ -18,9 +18,11 @@ race_turned caps events x i j r = record {
 }
 
 module _ (caps : ℕ → ℕ) (events more : List Event) where
+  -- what happens before stays
   pub happens_before_grow : (i j : ℕ) → HappensBefore caps events i j → HappensBefore caps (events ++ more) i j
   happens_before_grow i j (a, b, ata, atb, w) = (a, b, append_at_old events more i a ata, append_at_old events more j b atb, reaches_grow caps events more w)
 
+  -- nothing comes to happen before an event of the list
   pub happens_before_old : (i j : ℕ) → j < length events → HappensBefore caps (events ++ more) i j → HappensBefore caps events i j
   happens_before_old i j less h = go h
     where
@@ -46,12 +48,15 @@ module _ (caps : ℕ → ℕ) (events more : List Event) where
   pub access_within : (x i : ℕ) → IsAccessOf events x i → i < length events
   access_within x i (e, at, is) = slice_get_within events i e at
 
+  -- a conflict stays
   pub conflict_grow : (x i j : ℕ) → Conflict events x i j → Conflict (events ++ more) x i j
   conflict_grow x i j (differ, a, b, w) = (differ, access_grow x i a, access_grow x j b, elim w [ inl a ↦ inl (write_grow x i a) | inr b ↦ inr (write_grow x j b) ])
 
+  -- no conflict comes between events of the list
   pub conflict_old : (x i j : ℕ) → i < length events → j < length events → Conflict (events ++ more) x i j → Conflict events x i j
   conflict_old x i j less under (differ, a, b, w) = (differ, access_old x i less a, access_old x j under b, elim w [ inl a ↦ inl (write_old x i less a) | inr b ↦ inr (write_old x j under b) ])
 
+  -- a race stays
   pub race_grow : (x i j : ℕ) → IsRace caps events x i j → IsRace caps (events ++ more) x i j
   race_grow x i j r = record {
     conflict = conflict_grow x i j r.conflict;
@@ -59,6 +64,7 @@ module _ (caps : ℕ → ℕ) (events more : List Event) where
     not_after = λ h. r.not_after (happens_before_old j i (access_within x i r.conflict.1) h);
   }
 
+  -- no race comes between events of the list
   pub race_old : (x i j : ℕ) → i < length events → j < length events → IsRace caps (events ++ more) x i j → IsRace caps events x i j
   race_old x i j less under r = record {
     conflict = conflict_old x i j less under r.conflict;

@@ -17,7 +17,7 @@ reaches_on w (then_step v s) = then_step (reaches_on w v) s
 pub who_takes_part : (e : Event) → IsTrue (takes_part e.who e)
 who_takes_part e = or_left (e.who == e.who) (gives (partner e.op) e.who) (eq-eqb e.who e.who refl)
 
--- both ends of an edge inside an event take part in it
+-- the source of an edge inside an event takes part in it
 pub inside_from : (e : Event) (g h : ℕ) → SynchronizedInside e.who e.op g h → IsTrue (takes_part g e)
 inside_from e g h s = go e.op s
   where
@@ -25,6 +25,7 @@ inside_from e g h s = go e.op s
     go (Go k) (who, new) = or_left (e.who == g) (k == g) (eq-eqb e.who g who)
     go _ s = absurd s
 
+-- so does its target
 pub inside_to : (e : Event) (g h : ℕ) → SynchronizedInside e.who e.op g h → IsTrue (takes_part h e)
 inside_to e g h s = go e.op s
   where
@@ -32,13 +33,17 @@ inside_to e g h s = go e.op s
     go (Go k) (who, new) = or_right (e.who == h) (k == h) (eq-eqb k h new)
     go _ s = absurd s
 
+-- h's begin in event i reaches an end of f before event j, in which f takes part
+abbrev pub ReachesEarlier : (ℕ → ℕ) → List Event → ℕ → ℕ → ℕ → ℕ → Type 0
+ReachesEarlier caps events i h j f = (m : ℕ) × (m < j) × TakesPart events m f × TakesPart events j f × Reaches caps events (Begin i h) (End m f)
+
 -- a way to a begin comes from an earlier end of the same goroutine
-pub into_begin : {caps : ℕ → ℕ} {events : List Event} (i h j f : ℕ) → Reaches caps events (Begin i h) (Begin j f) → (m : ℕ) × (m < j) × TakesPart events m f × TakesPart events j f × Reaches caps events (Begin i h) (End m f)
+pub into_begin : {caps : ℕ → ℕ} {events : List Event} (i h j f : ℕ) → Reaches caps events (Begin i h) (Begin j f) → ReachesEarlier caps events i h j f
 into_begin i h j f (one_step (inl s)) = absurd s
 into_begin i h j f (one_step (inr s)) = absurd s
 into_begin {caps} {events} i h j f (then_step {q} w s) = go q w s
   where
-    go : (q : Point) → Reaches caps events (Begin i h) q → Step caps events q (Begin j f) → (m : ℕ) × (m < j) × TakesPart events m f × TakesPart events j f × Reaches caps events (Begin i h) (End m f)
+    go : (q : Point) → Reaches caps events (Begin i h) q → Step caps events q (Begin j f) → ReachesEarlier caps events i h j f
     go (Begin m g) w (inl s) = absurd s
     go (Begin m g) w (inr s) = absurd s
     go (End m g) w (inr s) = absurd s

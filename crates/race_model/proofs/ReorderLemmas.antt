@@ -35,6 +35,7 @@ read_or_write x (Read y v) r w = cc
 read_or_write x _ r w = cc
 
 module _ (caps : ℕ → ℕ) (events : List Event) where
+  -- an access of a variable is an access
   pub access_passes : (x a : ℕ) → IsAccessOf events x a → IsTrue (op_passes is_access events a)
   access_passes x a (e, at, is) = passes_from is_access events a e at (is_access_from x e.op is)
 
@@ -86,7 +87,8 @@ write_at_write events x a (e, at, is) = cond-true _ (Some a) None (passes_from (
 pub found_is : (events : List Event) (order : List ℕ) (x r k : ℕ) → slice_get order k ≡ Some r → ((i j a : ℕ) → slice_get order i ≡ Some a → slice_get order j ≡ Some a → i ≡ j)
     → IsFound events order x r (finds events order x r)
 found_is events order x r k here once =
-    subst (λ front. IsFound events order x r (last_of (write_at events x) front)) (sym (before_only order r k here (λ j at. once j k r at here))) (go (last_of (write_at events x) (take k order)) (last_of_is (write_at events x) (take k order)))
+    subst (λ front. IsFound events order x r (last_of (write_at events x) front)) (sym (before_only order r k here (λ j at. once j k r at here)))
+    (go (last_of (write_at events x) (take k order)) (last_of_is (write_at events x) (take k order)))
   where
     in_front : (i j b : ℕ) → i < j → slice_get order i ≡ Some b → slice_get order j ≡ Some r → slice_get (take k order) i ≡ Some b
     in_front i j b less ati atj = let same : j ≡ k = once j k r atj here in slice_get-take k order i (omega arith) ∙ ati

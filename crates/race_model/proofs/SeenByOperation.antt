@@ -24,10 +24,12 @@ plain_part who o g plain part = elim (or_cases (who == g) (gives (partner o) g) 
     none (Go k) plain other = cc
     none _ plain other = cc
 
+-- it has no edge inside
 pub plain_inside : (who : ℕ) (o : Op) (f g : ℕ) → IsTrue (is_plain o) → SynchronizedInside who o f g → ⊥
 plain_inside who (Go k) f g plain s = cc
 plain_inside who _ f g plain s = s
 
+-- and none into it
 pub plain_no_target : (caps : ℕ → ℕ) (past : List Event) (k : ℕ) (s o : Op) → IsTrue (is_plain o) → IsSource caps past k s o → ⊥
 plain_no_target caps past k s Exit plain source = source
 plain_no_target caps past k s (Read x v) plain source = source

@@ -6,12 +6,15 @@ use Rattle.race_model.specs.State.{over, started, runs, written, last_value}
 use Rattle.race_model.proofs.LastOf.{last_of_push_some, last_of_push_none}
 use Rattle.race_model.proofs.CountSteps.{has_push, has_exited_push}
 
+-- the run is over with main's exit
 pub over_push : (past : List Event) (e : Event) → over (past ++ e ∷ []) ≡ (over past || ((e.who == 0) && is_exit e.op))
 over_push past e = has_exited_push 0 past e
 
+-- a Go of g starts it
 pub started_push : (g : ℕ) (past : List Event) (e : Event) → started g (past ++ e ∷ []) ≡ (started g past || starts g e.op)
 started_push g past e = has_push (starts g) past e
 
+-- g runs from its start to its exit
 pub runs_push : (g : ℕ) (past : List Event) (e : Event) → runs g (past ++ e ∷ []) ≡ ((g == 0 || (started g past || starts g e.op)) && not (has_exited g past || ((e.who == g) && is_exit e.op)))
 runs_push g past e =
     ap (λ s. (g == 0 || s) && not (has_exited g (past ++ e ∷ []))) (started_push g past e)

@@ -28,6 +28,7 @@ legal_front caps events i j n e at is legal less =
     let none : broken caps (take i events) e ≡ None = subst (λ past. broken caps past e ≡ None) front (legal i e (slice_get-take j events i less ∙ at)) in
     cc
 
+-- one event is the first that breaks a rule, and one rule the least
 pub illegal_unique : (caps : ℕ → ℕ) (events : List Event) (i n j m : ℕ) → IsIllegalAt caps events i n → IsIllegalAt caps events j m → (i ≡ j) × (n ≡ m)
 illegal_unique caps events i n j m (e, ate, ise, legal_e) (s, ats, iss, legal_s) = elim (cases_order i j) [
   | inl same ↦ (same, rule same)
@@ -44,6 +45,7 @@ illegal_unique caps events i n j m (e, ate, ise, legal_e) (s, ats, iss, legal_s)
         same_both : i ≡ j → e ≡ s → broken caps (take i events) e ≡ broken caps (take j events) s
         same_both p q = ap (λ i. broken caps (take i events) e) p ∙ ap (broken caps (take j events)) q
 
+-- an illegal list is not legal
 pub illegal_not_legal : (caps : ℕ → ℕ) (events : List Event) (i n : ℕ) → IsIllegalAt caps events i n → IsLegal caps events → ⊥
 illegal_not_legal caps events i n (e, at, is, front) legal = let none : broken caps (take i events) e ≡ None = legal i e at in cc
 
@@ -55,6 +57,7 @@ same_race r s v f g = λ i. record { var = v i; first = f i; second = g i }
 pub record Rises (races : List Race) : Type 0 where
   pub up : (k m : ℕ) (r s : Race) → k < m → slice_get races k ≡ Some r → slice_get races m ≡ Some s → r.var < s.var
 
+-- each race of one list stands in the other
 abbrev pub IsPartOf : List Race → List Race → Type 0
 IsPartOf races others = (k : ℕ) (r : Race) → slice_get races k ≡ Some r → (m : ℕ) × (slice_get others m ≡ Some r)
 
@@ -71,7 +74,8 @@ part_behind r races others p part k s at = go (part (suc k) s at)
     go (zero, atm) = let same : r ≡ s = cc in let vars : r.var ≡ s.var = ap (λ (r : Race). r.var) same in absurd (omega (arith, up))
     go (suc m, atm) = (m, atm)
 
-same_head : (r s : Race) (races others : List Race) → Rises (r ∷ races) → Rises (s ∷ others) → ((m : ℕ) × (slice_get (s ∷ others) m ≡ Some r)) → ((k : ℕ) × (slice_get (r ∷ races) k ≡ Some s)) → r ≡ s
+same_head : (r s : Race) (races others : List Race) → Rises (r ∷ races) → Rises (s ∷ others)
+    → ((m : ℕ) × (slice_get (s ∷ others) m ≡ Some r)) → ((k : ℕ) × (slice_get (r ∷ races) k ≡ Some s)) → r ≡ s
 same_head r s races others p q (zero, at) (k, atk) = cc
 same_head r s races others p q (suc m, at) (zero, atk) = cc
 same_head r s races others p q (suc m, at) (suc k, atk) =
@@ -79,6 +83,7 @@ same_head r s races others p q (suc m, at) (suc k, atk) =
     let down : s.var < r.var = q.up 0 (suc m) s r (omega arith) refl at in
     absurd (omega arith)
 
+-- then they are one list
 pub same_rising : (races others : List Race) → Rises races → Rises others → IsPartOf races others → IsPartOf others races → races ≡ others
 same_rising [] [] p q a b = refl
 same_rising [] (s ∷ others) p q a b = let none : (m : ℕ) × (slice_get {X = Race} [] m ≡ Some s) = b 0 s refl in let e = none.1 in cc
@@ -107,6 +112,7 @@ pub not_free : (caps : ℕ → ℕ) (events : List Event) (races : List Race) �
 not_free caps events [] some are free = some refl
 not_free caps events (r ∷ races) some are free = free r.var r.first r.second (are.each 0 r refl).race
 
+-- a list of events has one verdict at most
 pub verdict_unique : (caps : ℕ → ℕ) (events : List Event) (v w : Verdict) → IsVerdict caps events v → IsVerdict caps events w → v ≡ w
 verdict_unique caps events (Illegal i n) (Illegal j m) p q = let same : (i ≡ j) × (n ≡ m) = illegal_unique caps events i n j m p q in cc
 verdict_unique caps events (Illegal i n) Clean p q = absurd (illegal_not_legal caps events i n p q.0)

@@ -1,4 +1,4 @@
--- What can be said of one event, who takes part and what it does, and how many events of a kind a list has. (The Go Memory Model, "Memory Model": memory operation)
+-- Who takes part in an event, what it does, and how many events of a kind there are. (The Go Memory Model, "Memory Model": memory operation)
 use Rattle.std.specs.Prelude.{ℕ, ◌≡◌, ◌==◌, ◌||◌, ◌&&◌, nat_lt, Bool, true, false, IsTrue, List, [], ◌∷◌, Option, Some, None, count_by, take, slice_get}
 use Rattle.race_records.specs.declared.event.Event.{Event}
 use Rattle.race_records.specs.declared.event.Op.{Op}
@@ -66,7 +66,7 @@ count kind events = count_by (λ e. kind e.op) events
 abbrev pub has : (Op → Bool) → List Event → Bool
 has kind events = nat_lt 0 (count kind events)
 
--- the operation o at index i is of the kind, and as many as k of that kind stand before it: counted from 0, it is number k
+-- o, at index i, is number k of its kind, counted from 0: it is of the kind, and k of that kind stand before it
 abbrev pub IsKth : (Op → Bool) → ℕ → List Event → ℕ → Op → Type 0
 IsKth kind k events i o = IsTrue (kind o) × (count kind (take i events) ≡ k)
 

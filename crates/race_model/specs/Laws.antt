@@ -13,7 +13,9 @@ HappensBeforeGoesUp events = (caps : ℕ → ℕ) (i j : ℕ) → HappensBefore 
 
 -- where i happens before j and j before k, i happens before k
 abbrev pub HappensBeforeIsTransitive : List Event → Type 0
-HappensBeforeIsTransitive events = (caps : ℕ → ℕ) (i j k : ℕ) → HappensBefore caps events i j → HappensBefore caps events j k → HappensBefore caps events i k
+HappensBeforeIsTransitive events =
+    (caps : ℕ → ℕ) (i j k : ℕ) → HappensBefore caps events i j → HappensBefore caps events j k
+    → HappensBefore caps events i k
 
 -- the trace's own order is a reordering
 abbrev pub OwnOrderIsReordering : List Event → Type 0
@@ -28,7 +30,8 @@ ReorderingsFindTheSame events =
 -- a variable has at most one reported race
 abbrev pub HasOneReportedRace : List Event → Type 0
 HasOneReportedRace events =
-    (caps : ℕ → ℕ) (x i j k m : ℕ) → IsReportedRace caps events x i j → IsReportedRace caps events x k m → (i ≡ k) × (j ≡ m)
+    (caps : ℕ → ℕ) (x i j k m : ℕ) → IsReportedRace caps events x i j → IsReportedRace caps events x k m
+    → (i ≡ k) × (j ≡ m)
 
 -- a list of events has at most one verdict
 abbrev pub HasOneVerdict : List Event → Type 0

@@ -6,9 +6,10 @@ use Rattle.race_records.specs.declared.event.Op.TheVariants.{Go, Exit, Read, Wri
 use Rattle.race_model.specs.Events.{At}
 use Rattle.race_model.specs.State.{over, started, runs, last_value}
 
--- Each rule has a number of its own for good, so there are gaps. caps gives the capacity of each channel; no rule on Go, Exit, Read and Write looks at it.
+-- Each rule has a number of its own for good, so there are gaps. caps gives the capacity of each channel; no rule on Go,
+-- Exit, Read and Write looks at it.
 
--- the rules on what goroutine g does, in rising order: each rule's number, with whether the operation breaks it after the events past
+-- the rules on what goroutine g does after the events past, in rising order: the number, and whether the rule is broken
 abbrev pub op_rules : (ℕ → ℕ) → List Event → ℕ → Op → List (ℕ × Bool)
 -- 3: it starts main, or a goroutine that was started before
 op_rules caps past g (Go h) = (3, h == 0 || started h past) ∷ []
@@ -40,4 +41,5 @@ IsLegal caps events = (i : ℕ) (e : Event) → At events i e → broken caps (t
 
 -- the event at index i is the first that breaks a rule, and n is the least rule that it breaks
 abbrev pub IsIllegalAt : (ℕ → ℕ) → List Event → ℕ → ℕ → Type 0
-IsIllegalAt caps events i n = (e : Event) × At events i e × (broken caps (take i events) e ≡ Some n) × IsLegal caps (take i events)
+IsIllegalAt caps events i n =
+    (e : Event) × At events i e × (broken caps (take i events) e ≡ Some n) × IsLegal caps (take i events)

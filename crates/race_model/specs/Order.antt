@@ -10,7 +10,7 @@ pub data Point : Type 0 where
   Begin : (i g : ℕ) → Point
   End : (i g : ℕ) → Point
 
--- p is sequenced before q: the begin of a part before its end, and that end before the begin of each later part of the same goroutine
+-- p is sequenced before q: a part's begin before its end, and that end before the begin of each later part of the goroutine
 abbrev pub SequencedBefore : List Event → Point → Point → Type 0
 SequencedBefore events (Begin i g) (End j h) = (i ≡ j) × (g ≡ h) × TakesPart events i g
 SequencedBefore events (End i g) (Begin j h) = (i < j) × (g ≡ h) × TakesPart events i g × TakesPart events j h
@@ -22,7 +22,8 @@ abbrev pub SynchronizedInside : ℕ → Op → ℕ → ℕ → Type 0
 SynchronizedInside who (Go k) g h = (who ≡ g) × (k ≡ h)
 SynchronizedInside who _ g h = ⊥
 
--- the operation s, at index i of the events past, is synchronized before the completion of the operation o that comes next; no Go, Exit, Read or Write is
+-- the operation s, at index i of the events past, is synchronized before the completion of o, the operation that comes next;
+-- no Go, Exit, Read or Write is
 abbrev pub IsSource : (ℕ → ℕ) → List Event → ℕ → Op → Op → Type 0
 IsSource caps past i s o = ⊥
 
@@ -43,6 +44,7 @@ pub data Reaches (caps : ℕ → ℕ) (events : List Event) : Point → Point �
   one_step : {p q : Point} → Step caps events p q → Reaches caps events p q
   then_step : {p q r : Point} → Reaches caps events p q → Step caps events q r → Reaches caps events p r
 
--- event i happens before event j: the end of event i reaches the begin of event j; meant for accesses, and said of any events by the goroutine whose event each is
+-- event i happens before event j: i's end reaches j's begin, each for the goroutine whose event it is; meant for accesses
 abbrev pub HappensBefore : (ℕ → ℕ) → List Event → ℕ → ℕ → Type 0
-HappensBefore caps events i j = (a : Event) × (b : Event) × At events i a × At events j b × Reaches caps events (End i a.who) (Begin j b.who)
+HappensBefore caps events i j =
+    (a : Event) × (b : Event) × At events i a × At events j b × Reaches caps events (End i a.who) (Begin j b.who)

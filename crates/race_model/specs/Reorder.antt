@@ -10,16 +10,20 @@ use Rattle.race_model.specs.Order.{HappensBefore}
 abbrev pub op_passes : (Op → Bool) → List Event → ℕ → Bool
 op_passes test events i = elim (slice_get events i) [ Some e ↦ test e.op | None ↦ false ]
 
+-- the event at index a is a Read or a Write
+abbrev pub IsAccess : List Event → ℕ → Type 0
+IsAccess events a = IsTrue (op_passes is_access events a)
+
 -- a stands in the list, and b somewhere behind it
 abbrev pub StandsBefore : List ℕ → ℕ → ℕ → Type 0
 StandsBefore order a b = (i j : ℕ) × (i < j) × (slice_get order i ≡ Some a) × (slice_get order j ≡ Some b)
 
 -- a reordering: the indexes of all accesses, each once, where what happens before stands before
 pub record IsReordering (caps : ℕ → ℕ) (events : List Event) (order : List ℕ) : Type 0 where
-  pub only : (i a : ℕ) → slice_get order i ≡ Some a → IsTrue (op_passes is_access events a)
-  pub each : (a : ℕ) → IsTrue (op_passes is_access events a) → (i : ℕ) × (slice_get order i ≡ Some a)
+  pub only : (i a : ℕ) → slice_get order i ≡ Some a → IsAccess events a
+  pub each : (a : ℕ) → IsAccess events a → (i : ℕ) × (slice_get order i ≡ Some a)
   pub once : (i j a : ℕ) → slice_get order i ≡ Some a → slice_get order j ≡ Some a → i ≡ j
-  pub kept : (a b : ℕ) → IsTrue (op_passes is_access events a) → IsTrue (op_passes is_access events b) → HappensBefore caps events a b → StandsBefore order a b
+  pub kept : (a b : ℕ) → IsAccess events a → IsAccess events b → HappensBefore caps events a b → StandsBefore order a b
 
 -- the indexes of the accesses in the order of the list, where the first event has index n
 abbrev pub accesses_from : ℕ → List Event → List ℕ

@@ -1,0 +1,17 @@
+pub mod Indexes
+pub mod LastOf
+pub mod CountSteps
+pub mod StateSteps
+pub mod LegalSteps
+pub mod Ranks
+pub mod Grow
+pub mod Reaching
+pub mod SeenSteps
+pub mod SeenByOperation
+pub mod BeforeSeen
+pub mod RaceSteps
+pub mod ReorderLemmas
+pub mod OwnOrder
+pub mod Uniqueness
+pub mod ExampleLemmas
+pub mod ExampleVerdicts

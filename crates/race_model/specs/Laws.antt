@@ -1,0 +1,38 @@
+-- The laws of the definitions. Each is the contract of a function in src/laws.rt that does nothing. (The Go Memory Model, "Memory Model": DRF-SC)
+use Rattle.std.specs.Prelude.{ℕ, ◌≡◌, ◌<◌, IsTrue, List}
+use Rattle.race_records.specs.declared.event.Event.{Event}
+use Rattle.race_model.specs.Events.{reads}
+use Rattle.race_model.specs.Order.{HappensBefore}
+use Rattle.race_model.specs.Race.{IsDataRaceFree, IsReportedRace}
+use Rattle.race_model.specs.Reorder.{IsReordering, own_order, op_passes, finds}
+use Rattle.race_model.specs.Verdict.{Verdict, IsVerdict}
+
+-- what happens before stands before in the list
+abbrev pub HappensBeforeGoesUp : List Event → Type 0
+HappensBeforeGoesUp events = (caps : ℕ → ℕ) (i j : ℕ) → HappensBefore caps events i j → i < j
+
+-- where i happens before j and j before k, i happens before k
+abbrev pub HappensBeforeIsTransitive : List Event → Type 0
+HappensBeforeIsTransitive events =
+    (caps : ℕ → ℕ) (i j k : ℕ) → HappensBefore caps events i j → HappensBefore caps events j k
+    → HappensBefore caps events i k
+
+-- the trace's own order is a reordering
+abbrev pub OwnOrderIsReordering : List Event → Type 0
+OwnOrderIsReordering events = (caps : ℕ → ℕ) → IsReordering caps events (own_order events)
+
+-- without a data race, every reordering lets every read find the write that it finds in the trace's own order
+abbrev pub ReorderingsFindTheSame : List Event → Type 0
+ReorderingsFindTheSame events =
+    (caps : ℕ → ℕ) → IsDataRaceFree caps events → (order : List ℕ) → IsReordering caps events order
+    → (x r : ℕ) → IsTrue (op_passes (reads x) events r) → finds events order x r ≡ finds events (own_order events) x r
+
+-- a variable has at most one reported race
+abbrev pub HasOneReportedRace : List Event → Type 0
+HasOneReportedRace events =
+    (caps : ℕ → ℕ) (x i j k m : ℕ) → IsReportedRace caps events x i j → IsReportedRace caps events x k m
+    → (i ≡ k) × (j ≡ m)
+
+-- a list of events has at most one verdict
+abbrev pub HasOneVerdict : List Event → Type 0
+HasOneVerdict events = (caps : ℕ → ℕ) (v w : Verdict) → IsVerdict caps events v → IsVerdict caps events w → v ≡ w

@@ -1,0 +1,10 @@
+pub mod Events
+pub mod State
+pub mod Legal
+pub mod Order
+pub mod Race
+pub mod Verdict
+pub mod Reorder
+pub mod Known
+pub mod Laws
+pub mod Examples

@@ -1,0 +1,50 @@
+-- Which event happens before which. (The Go Memory Model, "Memory Model": sequenced before, synchronized before, happens before; "Goroutine creation", "Goroutine destruction")
+use Rattle.std.specs.Prelude.{ℕ, ◌≡◌, ◌<◌, ◌⊎◌, List, take}
+use Rattle.race_records.specs.declared.event.Event.{Event}
+use Rattle.race_records.specs.declared.event.Op.{Op}
+use Rattle.race_records.specs.declared.event.Op.TheVariants.{Go}
+use Rattle.race_model.specs.Events.{At, TakesPart}
+
+-- the begin of goroutine g's part in the event at index i, and its end, which the memory model calls its completion
+pub data Point : Type 0 where
+  Begin : (i g : ℕ) → Point
+  End : (i g : ℕ) → Point
+
+-- p is sequenced before q: a part's begin before its end, and that end before the begin of each later part of the goroutine
+abbrev pub SequencedBefore : List Event → Point → Point → Type 0
+SequencedBefore events (Begin i g) (End j h) = (i ≡ j) × (g ≡ h) × TakesPart events i g
+SequencedBefore events (End i g) (Begin j h) = (i < j) × (g ≡ h) × TakesPart events i g × TakesPart events j h
+SequencedBefore events _ _ = ⊥
+
+-- in one event, in which goroutine who does o: g's begin is synchronized before h's end
+abbrev pub SynchronizedInside : ℕ → Op → ℕ → ℕ → Type 0
+-- a go statement before the start of the new goroutine, which is that goroutine's part in the Go
+SynchronizedInside who (Go k) g h = (who ≡ g) × (k ≡ h)
+SynchronizedInside who _ g h = ⊥
+
+-- the operation s, at index i of the events past, is synchronized before the completion of o, the operation that comes next;
+-- no Go, Exit, Read or Write is
+abbrev pub IsSource : (ℕ → ℕ) → List Event → ℕ → Op → Op → Type 0
+IsSource caps past i s o = ⊥
+
+-- p is synchronized before q, always from a begin to an end: inside one event, or from a source among the events before
+abbrev pub SynchronizedBefore : (ℕ → ℕ) → List Event → Point → Point → Type 0
+SynchronizedBefore caps events (Begin i g) (End j h) =
+    (e : Event) × At events j e
+    × (((i ≡ j) × SynchronizedInside e.who e.op g h)
+    ⊎ ((s : Event) × At (take j events) i s × IsSource caps (take j events) i s.op e.op × (s.who ≡ g) × (e.who ≡ h)))
+SynchronizedBefore caps events _ _ = ⊥
+
+-- one step: p is sequenced before q, or synchronized before q
+abbrev pub Step : (ℕ → ℕ) → List Event → Point → Point → Type 0
+Step caps events p q = SequencedBefore events p q ⊎ SynchronizedBefore caps events p q
+
+-- p reaches q in one step or more: the transitive closure, not reflexive
+pub data Reaches (caps : ℕ → ℕ) (events : List Event) : Point → Point → Type 0 where
+  one_step : {p q : Point} → Step caps events p q → Reaches caps events p q
+  then_step : {p q r : Point} → Reaches caps events p q → Step caps events q r → Reaches caps events p r
+
+-- event i happens before event j: i's end reaches j's begin, each for the goroutine whose event it is; meant for accesses
+abbrev pub HappensBefore : (ℕ → ℕ) → List Event → ℕ → ℕ → Type 0
+HappensBefore caps events i j =
+    (a : Event) × (b : Event) × At events i a × At events j b × Reaches caps events (End i a.who) (Begin j b.who)

@@ -1,11 +1,15 @@
 -- What a reader and a writer with a count of failures show.
-use Rattle.std.specs.Prelude.{ℕ, ◌+◌, ◌-◌, ◌^◌, ◌==◌, ◌&&◌, Bool, true, false, min, not, if◌then◌else◌, List, length, Result, Ok, Err}
+use Rattle.std.specs.Prelude.{ℕ, ◌+◌, ◌-◌, ◌^◌, ◌==◌, ◌&&◌, Bool, true, false, min, not, if◌then◌else◌, List, length, Option, Result, Ok, Err}
 use Rattle.race_records.specs.declared.source.Source.{Source}
 use Rattle.race_records.specs.declared.sink.Sink.{Sink}
 
 -- the reader itself
 abbrev pub reader_of : {R : Type 0} → Source R → R
 reader_of source = source.reader
+
+-- the bytes that it has left, where its type tells them
+abbrev pub unread : {R : Type 0} → (R → Option (List ℕ)) → Source R → Option (List ℕ)
+unread remaining source = remaining source.reader
 
 -- how many reads failed
 abbrev pub source_failures : {R : Type 0} → Source R → ℕ
@@ -14,6 +18,10 @@ source_failures source = source.failures
 -- the writer itself
 abbrev pub writer_of : {W : Type 0} → Sink W → W
 writer_of sink = sink.writer
+
+-- the bytes that it holds, where its type tells them
+abbrev pub written : {W : Type 0} → (W → Option (List ℕ)) → Sink W → Option (List ℕ)
+written contents sink = contents sink.writer
 
 -- how many writes failed, or took none of some bytes
 abbrev pub sink_failures : {W : Type 0} → Sink W → ℕ

@@ -199,10 +199,11 @@ impl<A: Allocator + Copy> Decls<A> {
     pub fn add_goroutine(&mut self, name: &str) -> Result<u32, DeclFault>
         ensures refused { Refuses (spec.decl_fault self.old.declarations Object.Goroutine name.now)
             result }
-        ensures allowed { AllowsUnless (spec.decl_fault self.old.declarations Object.Goroutine name.now)
-            result DeclFault.OutOfMemory }
-        ensures number { IfOk result (λ number. number ≡ spec.count_of Kind.Goroutine self.old.declarations) }
-        ensures added { OnOk result (self.new ≡ spec.with_declaration self.old name.now Object.Goroutine) }
+        ensures allowed { AllowsUnless
+            (spec.decl_fault self.old.declarations Object.Goroutine name.now) result DeclFault.OutOfMemory }
+        ensures number { IfOk result (λ n. n ≡ spec.count_of Kind.Goroutine self.old.declarations) }
+        ensures added { OnOk result (self.new ≡
+            spec.with_declaration self.old name.now Object.Goroutine) }
         ensures err { OnErr result (self.new ≡ self.old) }
     {
         self.declare(name, Object::Goroutine)
@@ -214,8 +215,9 @@ impl<A: Allocator + Copy> Decls<A> {
             result }
         ensures allowed { AllowsUnless (spec.decl_fault self.old.declarations Object.Var name.now)
             result DeclFault.OutOfMemory }
-        ensures number { IfOk result (λ number. number ≡ spec.count_of Kind.Var self.old.declarations) }
-        ensures added { OnOk result (self.new ≡ spec.with_declaration self.old name.now Object.Var) }
+        ensures number { IfOk result (λ n. n ≡ spec.count_of Kind.Var self.old.declarations) }
+        ensures added { OnOk result (self.new ≡
+            spec.with_declaration self.old name.now Object.Var) }
         ensures err { OnErr result (self.new ≡ self.old) }
     {
         self.declare(name, Object::Var)
@@ -226,7 +228,8 @@ impl<A: Allocator + Copy> Decls<A> {
         ensures refused { Refuses (spec.decl_fault self.old.declarations object name.now) result }
         ensures allowed { AllowsUnless (spec.decl_fault self.old.declarations object name.now)
             result DeclFault.OutOfMemory }
-        ensures number { IfOk result (λ number. number ≡ spec.count_of (spec.kind_of object) self.old.declarations) }
+        ensures number { IfOk result (λ n. n ≡
+            spec.count_of (spec.kind_of object) self.old.declarations) }
         ensures added { OnOk result (self.new ≡ spec.with_declaration self.old name.now object) }
         ensures err { OnErr result (self.new ≡ self.old) }
     {
@@ -263,7 +266,8 @@ impl<A: Allocator + Copy> Decls<A> {
     // has only the index to take back.
     fn append(&mut self, name: &str, object: Object) -> Result<u32, AllocError>
         requires { spec.decl_fault self.old.declarations object name.now ≡ None }
-        ensures number { IfOk result (λ number. number ≡ spec.count_of (spec.kind_of object) self.old.declarations) }
+        ensures number { IfOk result (λ n. n ≡
+            spec.count_of (spec.kind_of object) self.old.declarations) }
         ensures added { OnOk result (self.new ≡ spec.with_declaration self.old name.now object) }
         ensures err { OnErr result (self.new ≡ self.old) }
     {
@@ -286,11 +290,11 @@ impl<A: Allocator + Copy> Decls<A> {
         ensures allowed { AllowsUnless (spec.place_fault self.old.places text.now)
             result DeclFault.OutOfMemory }
         ensures known { spec.is_known self.old.places text.now ≡ true → IsOk result }
-        ensures number { IfOk result (λ number. number ≡ spec.place_number self.old.places text.now) }
+        ensures number { IfOk result (λ n. n ≡ spec.place_number self.old.places text.now) }
         ensures added { OnOk result (self.new ≡ spec.with_place self.old text.now) }
         ensures err { OnErr result (self.new ≡ self.old) }
     {
-        // The look-up comes first: in a long trace most places are known, and those are well formed.
+        // First the look-up: in a long trace most places are known, and those are well formed.
         if let Some(number) = self.known_place(text) {
             return Ok(number);
         }
@@ -306,7 +310,7 @@ impl<A: Allocator + Copy> Decls<A> {
     // The number of a place that is in the table.
     fn known_place(&self, text: &str) -> Option<u32>
         ensures allowed { OnSome result (spec.place_fault self.now.places text.now ≡ None) }
-        ensures number { IfSome result (λ number. number ≡ spec.place_number self.now.places text.now) }
+        ensures number { IfSome result (λ n. n ≡ spec.place_number self.now.places text.now) }
         ensures same { OnSome result (spec.with_place self.now text.now ≡ self.now) }
         ensures absent { IfNone result (spec.is_known self.now.places text.now ≡ false) }
     {
@@ -335,7 +339,7 @@ impl<A: Allocator + Copy> Decls<A> {
     fn append_place(&mut self, text: &str) -> Result<u32, AllocError>
         requires new { spec.is_known self.old.places text.now ≡ false }
         requires allowed { spec.place_fault self.old.places text.now ≡ None }
-        ensures number { IfOk result (λ number. number ≡ spec.place_number self.old.places text.now) }
+        ensures number { IfOk result (λ n. n ≡ spec.place_number self.old.places text.now) }
         ensures added { OnOk result (self.new ≡ spec.with_place self.old text.now) }
         ensures err { OnErr result (self.new ≡ self.old) }
     {

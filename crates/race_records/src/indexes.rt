@@ -80,7 +80,8 @@ impl<A: Allocator> Indexes<A> {
 
     // Takes back the last `push`, which was of this kind.
     pub(crate) fn undo_push(&mut self, kind: Kind)
-        ensures { (index : ℕ) (before : IndexesState) → self.old ≡ with_index kind index before → self.new ≡ before }
+        ensures { (index : ℕ) (before : IndexesState) → self.old ≡ with_index kind index before
+            → self.new ≡ before }
     {
         match kind {
             Kind::Goroutine => self.goroutines.pop(),

@@ -10,6 +10,8 @@ mod names;
 mod places;
 mod sink;
 mod source;
+#[cfg(test)]
+mod tests;
 mod trace;
 
 pub use declarations::{DeclFault, Decls, MAX_PLACES};

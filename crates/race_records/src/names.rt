@@ -94,7 +94,8 @@ impl<A: Allocator> Names<A> {
     fn declare_alike_at(&self, other: &Names<A>, index: usize) -> bool
         requires here { index < length self.now }
         requires there { index < length other.now }
-        ensures { IsTrue result ↔ (slice_get (declarations_of self.now) index ≡ slice_get (declarations_of other.now) index) }
+        ensures { IsTrue result
+            ↔ (slice_get (declarations_of self.now) index ≡ slice_get (declarations_of other.now) index) }
     {
         self.name(index) == other.name(index)
             && is_same(self.slot(index).object, other.slot(index).object)

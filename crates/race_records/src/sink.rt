@@ -25,7 +25,7 @@ pub struct Sink<W: Write> {
 }
 
 impl<W: Write> Sink<W> {
-    ghost use Rattle.race_records.specs.Devices.{writer_of, sink_failures, is_failed_write, counted, one_more};
+    ghost use Rattle.race_records.specs.Devices.{writer_of, written, sink_failures, is_failed_write, counted, one_more};
 
     /// The writer with no failure so far.
     pub fn new(writer: W) -> Sink<W>
@@ -41,8 +41,10 @@ impl<W: Write> Sink<W> {
     /// Writes as the writer does, maybe only the first bytes.
     pub fn write(&mut self, buf: &[u8]) -> io::Result<usize>
         ensures bound { WritesAtMost result buf.now }
-        ensures bytes { WriteAppends (W.contents (writer_of self.old)) (W.contents (writer_of self.new)) result buf.now }
-        ensures failures { sink_failures self.new ≡ counted (is_failed_write result buf.now) (sink_failures self.old) }
+        ensures bytes { WriteAppends (written W.contents self.old) (written W.contents self.new)
+            result buf.now }
+        ensures failures { sink_failures self.new ≡ counted (is_failed_write result buf.now)
+            (sink_failures self.old) }
     {
         let outcome = self.writer.write(buf);
         let failed = match &outcome {
@@ -58,8 +60,10 @@ impl<W: Write> Sink<W> {
     /// Writes all the bytes by a loop over `write`, which ends at the first failure and at a write
     /// that takes none.
     pub fn send(&mut self, bytes: &[u8]) -> Result<(), WriteFault>
-        ensures ok { OnOk result (Appends (W.contents (writer_of self.old)) (W.contents (writer_of self.new)) bytes.now) }
-        ensures sent { IfErr result (λ fault. Appends (W.contents (writer_of self.old)) (W.contents (writer_of self.new)) (take fault.sent bytes.now)) }
+        ensures ok { OnOk result
+            (Appends (written W.contents self.old) (written W.contents self.new) bytes.now) }
+        ensures sent { IfErr result (λ fault.
+            Appends (written W.contents self.old) (written W.contents self.new) (take fault.sent bytes.now)) }
         ensures short { IfErr result (λ fault. fault.sent < length bytes.now) }
 
         // A fault is one failure more of the device, and without one the count stays.
@@ -81,7 +85,7 @@ impl<W: Write> Sink<W> {
         Ok(())
     }
 
-    /// How many writes failed or took none of some bytes since `new`; at `u64::MAX` the count stays.
+    /// How many writes failed, or took none of some bytes, since `new`; it stays at `u64::MAX`.
     pub fn failures(&self) -> u64
         ensures { result ≡ sink_failures self.now }
     {

@@ -16,7 +16,7 @@ pub struct Source<R: Read> {
 }
 
 impl<R: Read> Source<R> {
-    ghost use Rattle.race_records.specs.Devices.{reader_of, source_failures, is_failed_read, counted};
+    ghost use Rattle.race_records.specs.Devices.{reader_of, unread, source_failures, is_failed_read, counted};
 
     /// The reader with no failure so far.
     pub fn new(reader: R) -> Source<R>
@@ -32,8 +32,10 @@ impl<R: Read> Source<R> {
     /// Reads as the reader does.
     pub fn read(&mut self, buf: &mut [u8]) -> io::Result<usize>
         ensures bound { ReadsAtMost result buf.new }
-        ensures bytes { ReadConsumes (R.remaining (reader_of self.old)) (R.remaining (reader_of self.new)) result buf.new }
-        ensures failures { source_failures self.new ≡ counted (is_failed_read result) (source_failures self.old) }
+        ensures bytes { ReadConsumes (unread R.remaining self.old) (unread R.remaining self.new)
+            result buf.new }
+        ensures failures { source_failures self.new ≡ counted (is_failed_read result)
+            (source_failures self.old) }
     {
         let outcome = self.reader.read(buf);
         if outcome.is_err() {
@@ -42,7 +44,7 @@ impl<R: Read> Source<R> {
         outcome
     }
 
-    /// How many reads failed since `new`; at `u64::MAX` the count stays.
+    /// How many reads failed since `new`; it stays at `u64::MAX`.
     pub fn failures(&self) -> u64
         ensures { result ≡ source_failures self.now }
     {

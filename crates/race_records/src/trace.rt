@@ -185,8 +185,10 @@ impl<A: Allocator> Trace<A> {
         ensures allowed { AllowsUnless (declarations.place_fault self.old.decls.places text.now)
             result DeclFault.OutOfMemory }
         ensures known { declarations.is_known self.old.decls.places text.now ≡ true → IsOk result }
-        ensures number { IfOk result (λ number. number ≡ declarations.place_number self.old.decls.places text.now) }
-        ensures added { OnOk result (self.new.decls ≡ declarations.with_place self.old.decls text.now) }
+        ensures number { IfOk result (λ n. n ≡
+            declarations.place_number self.old.decls.places text.now) }
+        ensures added { OnOk result (self.new.decls ≡
+            declarations.with_place self.old.decls text.now) }
         ensures events { self.new.events ≡ self.old.events }
         ensures spare { self.new.spare ≡ self.old.spare }
         ensures err { OnErr result (self.new ≡ self.old) }

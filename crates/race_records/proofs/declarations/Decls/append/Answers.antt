@@ -1,6 +1,7 @@
 use Rattle.std.proofs.Common.{◌≡◌, None, IsNone, position, refl, sym, subst, ◌∙◌}
 use Rattle.std.specs.Str.{bytes_eq}
-use Rattle.race_records.specs.Declarations.{Declaration, DeclsState, decl_fault, count_of}
+use Rattle.race_records.specs.Declarations.{Declaration, DeclsState, decl_fault, count_of, kind_of}
+use Rattle.race_records.specs.Rows.{declarations_of}
 use Rattle.race_records.specs.Tables.{with_index}
 use Rattle.race_records.proofs.DeclFaultLemmas.{allowed_from_no_fault}
 use Rattle.race_records.proofs.DeclsKept.{push_holds}
@@ -17,6 +18,7 @@ pub invariant_of-self-in-Ok : goal.invariant_of-self-in-Ok
 invariant_of-self-in-Ok g c =
     let name = c.args.name.now in
     let at_fields = subst (λ (s : DeclsState). decl_fault s.declarations c.args.object name ≡ None) (sym c.self.view_is) c.requires in
-    let is = c.count-number.ensures.count ∙ (λ i. count_of (c.kind-kind.ensures i) (sym c.self.view_is i).declarations) in
+    let is : c.count-number.result ≡ count_of (kind_of c.args.object) (declarations_of c.self.inside.names) =
+    c.count-number.ensures.count ∙ (λ i. count_of (c.kind-kind.ensures i) (sym c.self.view_is i).declarations) in
     push_holds c.self.inside c.self.invariant name c.args.object (allowed_from_no_fault _ c.args.object name at_fields) c.count-number.result is _
     c.in-Ok.ensures.ok (c.in_ok-push.ensures.ok ∙ (λ i. with_index (c.kind-kind.ensures i) (c.len.ensures i) c.self.inside.indexes)) refl

@@ -5,23 +5,31 @@ use std::sync::atomic::{AtomicU64, Ordering};
 
 /// An allocator over another one that refuses one growth, once, and serves all others.
 ///
-/// A growth is a call for a block or for a larger one, as `Vec::push` makes when it is full; shrinking is none. Collections share it
-/// by `&`, also across threads, where the growths of all of them count together.
+/// A growth is a call for a block or for a larger one, as `Vec::push` makes when it is full;
+/// shrinking is none. Collections share it by `&`, also across threads, where the growths of all
+/// of them count together.
 pub struct RefusingHeap<B: Allocator> {
     inner: B,
     left: AtomicU64,
 }
 
 impl<B: Allocator> RefusingHeap<B> {
-    /// An allocator that refuses growth number `nth`, counted from 1.
-    pub fn new(inner: B, nth: u64) -> RefusingHeap<B>
-        requires { 0 < nth }
+    /// An allocator that serves every growth until `refuse` is called.
+    pub fn new(inner: B) -> RefusingHeap<B>
         ensures { result.inner ≡ inner }
     {
+        // More growths than any run makes.
         RefusingHeap {
             inner,
-            left: AtomicU64::new(nth),
+            left: AtomicU64::new(u64::MAX),
         }
+    }
+
+    /// Refuses growth number `nth` from here on, counted from 1, and no other.
+    pub fn refuse(&self, nth: u64)
+        requires { 0 < nth }
+    {
+        self.left.store(nth, Ordering::SeqCst);
     }
 
     /// How many growths are left up to and with the refused one, so 0 once it was refused.

@@ -21,7 +21,8 @@ fn grow_each<A: Allocator + Copy>(heap: A) -> Result<usize, AllocError> {
 #[test]
 fn each_growth_in_turn_is_refused_once(rt: HostRuntime) {
     for nth in 1..7u64 {
-        let heap = RefusingHeap::new(rt.alloc(), nth);
+        let heap = RefusingHeap::new(rt.alloc());
+        heap.refuse(nth);
         let answer = grow_each(&heap);
         assert_eq!(rt; heap.has_refused(), nth < 6, "at {nth}");
         if heap.has_refused() {
@@ -51,7 +52,8 @@ fn nine_twice<R: Threads, A: Allocator + Copy + Send + Sync>(rt: &R, heap: A) ->
 #[test]
 fn one_growth_of_two_threads_is_refused(rt: HostRuntime) {
     for nth in 1..6u64 {
-        let heap = RefusingHeap::new(rt.alloc(), nth);
+        let heap = RefusingHeap::new(rt.alloc());
+        heap.refuse(nth);
         let served = nine_twice(&rt, &heap);
         assert_eq!(rt; heap.has_refused(), nth < 5, "at {nth}");
         assert_eq!(rt; served, if nth < 5 { 1 } else { 2 }, "at {nth}");

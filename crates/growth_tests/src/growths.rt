@@ -1,0 +1,43 @@
+use refusing_heap::RefusingHeap;
+use std::alloc::Global;
+
+/// How a run went in which one growth of the call was to be refused.
+#[derive(Clone, Copy, Debug, PartialEq, Eq)]
+pub enum Outcome {
+    /// The growth was refused, and the call and its value were as they must be then.
+    Refused,
+    /// The call has no such growth, and answered right.
+    Done,
+    /// Anything else.
+    Wrong,
+}
+
+/// The outcome of a run: `refused` tells whether it is right with a refusal, `done` without one.
+pub fn judge(heap: &RefusingHeap<Global>, refused: bool, done: bool) -> Outcome {
+    let has_refused = heap.has_refused();
+    if has_refused && refused {
+        Outcome::Refused
+    } else if !has_refused && done {
+        Outcome::Done
+    } else {
+        Outcome::Wrong
+    }
+}
+
+/// Lets growth 1, 2, 3 and so on be refused until a run meets no refusal, and asserts that there
+/// were so many refusals.
+macro_rules! assert_refusals {
+    ($rt:ident, $run:ident, $refusals:expr) => {{
+        let mut refusals = 0;
+        for nth in 1..64u64 {
+            match $run($rt.alloc(), nth)? {
+                Outcome::Refused => refusals = nth,
+                Outcome::Done => break,
+                Outcome::Wrong => assert!($rt; false, "wrong where growth {nth} is refused"),
+            }
+        }
+        assert_eq!($rt; refusals, $refusals);
+    }};
+}
+
+pub(crate) use assert_refusals;

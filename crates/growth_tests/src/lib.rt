@@ -1,0 +1,11 @@
+//! Each growth of each call refused in turn: the call answers want of memory, and what it works on
+//! is as before.
+//!
+//! A test makes its value, calls `heap.refuse(nth)` and then the one call: growth 1, 2, 3 and so on
+//! is refused, until a run meets no refusal. `each_growth!` is that loop.
+#![tactic(auto)]
+
+#[cfg(test)]
+mod growths;
+#[cfg(test)]
+mod records;

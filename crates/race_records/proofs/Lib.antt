@@ -7,3 +7,4 @@ pub mod DeclsKept
 pub mod PlaceLemmas
 pub mod EventLemmas
 pub mod DeviceLemmas
+pub mod PageLemmas

@@ -8,3 +8,4 @@ pub mod Rows
 pub mod DeclsHold
 pub mod TraceHolds
 pub mod Devices
+pub mod Page

@@ -7,6 +7,7 @@ mod indexes;
 mod kind;
 mod name;
 mod names;
+mod page;
 mod places;
 mod sink;
 mod source;
@@ -22,6 +23,7 @@ pub use kind::{Kind, MAX_CAPACITY, MAX_GOROUTINES, MAX_OBJECTS, Named, Object};
 pub use name::{MAX_NAME_LEN, MAX_PLACE_LEN, is_name, is_place};
 #[doc(hidden)]
 pub use names::{Names, Slot};
+pub use page::{BLOCK, Page};
 #[doc(hidden)]
 pub use places::Places;
 pub use sink::{Sink, WriteFault};

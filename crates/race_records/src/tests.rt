@@ -1,6 +1,6 @@
 use crate::{
-    DeclFault, Decls, Event, Kind, Named, Op, PushFault, Sink, Source, Trace, WriteFault, is_name,
-    is_place,
+    BLOCK, DeclFault, Decls, Event, Kind, Named, Op, Page, PushFault, Sink, Source, Trace,
+    WriteFault, is_name, is_place,
 };
 use std::io;
 use std::io::{Read, Write};
@@ -212,4 +212,28 @@ fn a_whole_text_is_sent(rt: HostRuntime) -> Result<(), Fail> {
     assert_eq!(rt; sink.failures(), 0);
     assert_eq!(rt; text.as_slice(), b"gotrace 1\n".as_slice());
     Ok(())
+}
+
+#[test]
+fn a_text_is_printed_in_blocks(rt: HostRuntime) -> Result<(), Fail> {
+    let long = Vec::from_array(rt.alloc(), [b'x'; BLOCK + 1])?;
+    let mut text = Vec::new(rt.alloc());
+    let mut sink = Sink::new(&mut text);
+    let mut page = Page::new();
+    for bytes in [b"events: ".as_slice(), long.as_slice(), b"\n".as_slice()] {
+        assert_eq!(rt; page.put(&mut sink, bytes), Ok(()));
+    }
+    assert_eq!(rt; page.put_number(&mut sink, u64::MAX), Ok(()));
+    assert_eq!(rt; page.flush(&mut sink), Ok(()));
+    assert_eq!(rt; text.len(), 8 + BLOCK + 1 + 1 + 20);
+    assert!(rt; text.as_slice().ends_with(b"x\n18446744073709551615"));
+    Ok(())
+}
+
+#[test]
+fn a_broken_print_tells_how_much_is_out(rt: HostRuntime) {
+    let mut sink = Sink::new(Broken { calls: 0 });
+    let mut page = Page::new();
+    assert_eq!(rt; page.put(&mut sink, b"abcdef"), Ok(()));
+    assert_eq!(rt; page.flush(&mut sink), Err(WriteFault { sent: 4 }));
 }

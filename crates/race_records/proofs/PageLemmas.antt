@@ -1,0 +1,63 @@
+-- What one more write makes of a text that is printed piece by piece.
+use Rattle.std.proofs.Common.{◌≡◌, ℕ, ◌+◌, ◌-◌, ◌^◌, ◌<◌, min, List, [], ◌++◌, length, take, drop, Option, refl, sym, ap, ◌∙◌, arith, append-nil, append_assoc, length-append, length-drop}
+use Rattle.std.proofs.KnownBytes.{Appends-trans}
+use Rattle.std.proofs.lemmas.List.{take-append-drop, length-take-le}
+use Rattle.std.specs.Io.KnownBytes.{Appends}
+use Rattle.race_records.specs.Page.{PageState, IsPrinted, IsCutOff, count_of_bytes}
+
+-- a count goes on where it stopped
+counted_more : (sent : ℕ) (out bytes : List ℕ) (more : ℕ) → sent ≡ count_of_bytes (length out) → more ≡ length bytes → min (sent + more) (2 ^ 64 - 1) ≡ count_of_bytes (length (out ++ bytes))
+counted_more sent out bytes more is len = omega (arith, is, len, length-append out bytes)
+
+module _ (start before after : Option (List ℕ)) (page : PageState) (text : List ℕ) (printed : IsPrinted start before page text) where
+  -- all that waited went out
+  pub all_out : (sent : ℕ) → Appends before after page.waiting → sent ≡ min (page.sent + length page.waiting) (2 ^ 64 - 1) → IsPrinted start after (record { waiting = []; sent = sent }) text
+  all_out sent went is = record {
+    out = printed.out ++ page.waiting;
+    split = printed.split ∙ sym (append-nil (printed.out ++ page.waiting));
+    appended = Appends-trans start before after printed.out page.waiting printed.appended went;
+    counted = is ∙ counted_more page.sent printed.out page.waiting (length page.waiting) printed.counted refl;
+  }
+
+  -- only the first n bytes of what waited went out
+  pub part_out : (n sent : ℕ) → n < length page.waiting → Appends before after (take n page.waiting) → sent ≡ min (page.sent + n) (2 ^ 64 - 1) → IsCutOff start after sent text
+  part_out n sent short went is = record {
+    out = printed.out ++ take n page.waiting;
+    rest = drop n page.waiting;
+    split = printed.split ∙ ap (λ l. printed.out ++ l) (sym (take-append-drop n page.waiting)) ∙ sym (append_assoc printed.out (take n page.waiting) (drop n page.waiting));
+    short = omega (arith, short, length-drop n page.waiting);
+    appended = Appends-trans start before after printed.out (take n page.waiting) printed.appended went;
+    counted = is ∙ counted_more page.sent printed.out (take n page.waiting) n printed.counted (sym (length-take-le n page.waiting (omega (arith, short))));
+  }
+
+  -- bytes that went out at once, where nothing waited
+  pub all_sent : (bytes : List ℕ) (sent : ℕ) → page.waiting ≡ [] → Appends before after bytes → sent ≡ min (page.sent + length bytes) (2 ^ 64 - 1)
+      → IsPrinted start after (record { waiting = []; sent = sent }) (text ++ bytes)
+  all_sent bytes sent none went is = record {
+    out = printed.out ++ bytes;
+    split = ap (λ l. l ++ bytes) (printed.split ∙ ap (λ l. printed.out ++ l) none ∙ append-nil printed.out) ∙ sym (append-nil (printed.out ++ bytes));
+    appended = Appends-trans start before after printed.out bytes printed.appended went;
+    counted = is ∙ counted_more page.sent printed.out bytes (length bytes) printed.counted refl;
+  }
+
+  pub part_sent : (bytes : List ℕ) (n sent : ℕ) → page.waiting ≡ [] → n < length bytes → Appends before after (take n bytes) → sent ≡ min (page.sent + n) (2 ^ 64 - 1) → IsCutOff start after sent (text ++ bytes)
+  part_sent bytes n sent none short went is = record {
+    out = printed.out ++ take n bytes;
+    rest = drop n bytes;
+    split = ap (λ l. l ++ bytes) (printed.split ∙ ap (λ l. printed.out ++ l) none ∙ append-nil printed.out)
+        ∙ ap (λ l. printed.out ++ l) (sym (take-append-drop n bytes)) ∙ sym (append_assoc printed.out (take n bytes) (drop n bytes));
+    short = omega (arith, short, length-drop n bytes);
+    appended = Appends-trans start before after printed.out (take n bytes) printed.appended went;
+    counted = is ∙ counted_more page.sent printed.out (take n bytes) n printed.counted (sym (length-take-le n bytes (omega (arith, short))));
+  }
+
+-- a text that is cut off is so with more behind it
+pub cut_off_more : (start now : Option (List ℕ)) (sent : ℕ) (text bytes : List ℕ) → IsCutOff start now sent text → IsCutOff start now sent (text ++ bytes)
+cut_off_more start now sent text bytes cut = record {
+  out = cut.out;
+  rest = cut.rest ++ bytes;
+  split = ap (λ l. l ++ bytes) cut.split ∙ append_assoc cut.out cut.rest bytes;
+  short = let short = cut.short in omega (arith, short, length-append cut.rest bytes);
+  appended = cut.appended;
+  counted = cut.counted;
+}

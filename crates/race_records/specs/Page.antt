@@ -1,0 +1,38 @@
+-- A text that is printed piece by piece: what is out, and what waits for the next write.
+use Rattle.std.specs.Prelude.{◌≡◌, ℕ, ◌+◌, ◌-◌, ◌^◌, ◌<◌, min, List, ◌++◌, length, Option}
+use Rattle.std.specs.Io.KnownBytes.{Appends}
+
+-- the bytes that wait, and how many are out
+pub record PageState : Type 0 where
+  pub waiting : List ℕ
+  pub sent : ℕ
+
+-- what a count of bytes shows of n: n itself, short of the greatest count
+abbrev pub count_of_bytes : ℕ → ℕ
+count_of_bytes n = min n (2 ^ 64 - 1)
+
+-- the text is what was put so far: its front is out, behind what the writer held at the start, and the rest waits
+pub record IsPrinted (start now : Option (List ℕ)) (page : PageState) (text : List ℕ) : Type 0 where
+  pub out : List ℕ
+  pub split : text ≡ out ++ page.waiting
+  pub appended : Appends start now out
+  pub counted : page.sent ≡ count_of_bytes (length out)
+
+-- only a front of the text is out, and sent tells how long it is
+pub record IsCutOff (start now : Option (List ℕ)) (sent : ℕ) (text : List ℕ) : Type 0 where
+  pub out : List ℕ
+  pub rest : List ℕ
+  pub split : text ≡ out ++ rest
+  pub short : 0 < length rest
+  pub appended : Appends start now out
+  pub counted : sent ≡ count_of_bytes (length out)
+
+-- a call puts the bytes behind whatever text was put before
+abbrev pub Prints : Option (List ℕ) → Option (List ℕ) → PageState → PageState → List ℕ → Type 0
+Prints before after old new bytes =
+    (start : Option (List ℕ)) (text : List ℕ) → IsPrinted start before old text → IsPrinted start after new (text ++ bytes)
+
+-- a call breaks off: whatever text was put before, only a front of it and the bytes is out
+abbrev pub BreaksOff : Option (List ℕ) → Option (List ℕ) → PageState → ℕ → List ℕ → Type 0
+BreaksOff before after old sent bytes =
+    (start : Option (List ℕ)) (text : List ℕ) → IsPrinted start before old text → IsCutOff start after sent (text ++ bytes)

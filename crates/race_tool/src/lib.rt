@@ -1,0 +1,4 @@
+//! The engines: bytes in, bytes out.
+#![tactic(auto)]
+
+mod input;

@@ -1,3 +1,5 @@
 pub mod Rules
 pub mod ReplayState
 pub mod StandsFor
+pub mod SeenTable
+pub mod IsTable

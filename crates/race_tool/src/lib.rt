@@ -3,3 +3,4 @@
 
 mod replay;
 mod rule;
+mod table;

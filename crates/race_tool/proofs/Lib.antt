@@ -1,2 +1,4 @@
 pub mod ReplayLemmas
 pub mod Fronts
+pub mod RowLemmas
+pub mod TableSteps

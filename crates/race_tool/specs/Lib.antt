@@ -3,3 +3,5 @@ pub mod ReplayState
 pub mod StandsFor
 pub mod SeenTable
 pub mod IsTable
+pub mod Partners
+pub mod Answers

@@ -2,3 +2,5 @@ pub mod ReplayLemmas
 pub mod Fronts
 pub mod RowLemmas
 pub mod TableSteps
+pub mod PartnerLemmas
+pub mod FoundSteps

@@ -4,3 +4,5 @@ pub mod RowLemmas
 pub mod TableSteps
 pub mod PartnerLemmas
 pub mod FoundSteps
+pub mod JudgeSteps
+pub mod RaceLists

@@ -12,7 +12,7 @@ use Rattle.race_records.specs.Events.{TraceState, IsTrace}
 use Rattle.race_model.specs.Events.{accesses}
 use Rattle.race_model.specs.Race.{IsAccessOf, IsRace}
 use Rattle.race_tool.specs.declared.races.Race.{Race}
-use Rattle.race_tool.specs.ReplayState.{Sizes, OpIsInRange, IsInRange}
+use Rattle.race_tool.specs.ReplayState.{Sizes, sizes_of, OpIsInRange, IsInRange}
 use Rattle.race_tool.specs.SeenTable.{StartsBelow, HasRows, rows_after}
 use Rattle.race_tool.specs.IsTable.{IsTable}
 use Rattle.race_tool.specs.Partners.{found_after, sizes_of_tables}
@@ -35,6 +35,13 @@ rows_from_range rows vars e (who, within) = (who, go e.op within)
     go (Go k) less = less
     go Exit less = tt
     go _ less = tt
+
+-- an event of a trace is in range of tables of its sizes
+pub range_of_tables : (trace : TraceState) (i : ℕ) (e : Event) (rows : List (List Bool)) (found : List (Option Race)) → IsTrace trace → slice_get trace.events i ≡ Some e
+    → length rows ≡ count_of Kind.Goroutine trace.decls.declarations → length found ≡ count_of Kind.Var trace.decls.declarations → IsInRange (sizes_of_tables rows found) e
+range_of_tables trace i e rows found holds at goroutines vars =
+    let same : sizes_of trace.decls ≡ sizes_of_tables rows found = λ i. record { goroutines = sym goroutines i; vars = sym vars i } in
+    subst (λ (n : Sizes). IsInRange n e) same (range_in_trace trace i e holds at)
 
 -- a race is on a declared variable
 pub race_declared : (caps : ℕ → ℕ) (trace : TraceState) (x i j : ℕ) → IsTrace trace → IsRace caps trace.events x i j → x < count_of Kind.Var trace.decls.declarations

@@ -5,3 +5,4 @@ pub mod SeenTable
 pub mod IsTable
 pub mod Partners
 pub mod Answers
+pub mod Verdicts

@@ -1,6 +1,7 @@
 //! The engines of the race detector: bytes in, bytes out.
 #![tactic(auto)]
 
+mod judge;
 mod races;
 mod replay;
 mod rule;

@@ -55,15 +55,22 @@ module _ (caps : ℕ → ℕ) (events : List Event) (at : ℕ) (e : Event) (here
   long = let less : at < length events = slice_get_within events at e here in length-take-le at events (omega arith)
 
   -- the table behind the event at an index
-  pub table_next : at < limit → e.who < length rows → IsTable caps (rows_after rows at e.who e.op) limit (take (at + 1) events)
-  table_next room row =
-      subst (IsTable caps (rows_after rows at e.who e.op) limit) (sym (take_next events at e here))
+  pub table_next : (next : List (List Bool)) → next ≡ rows_after rows at e.who e.op → at < limit → e.who < length rows → IsTable caps next limit (take (at + 1) events)
+  table_next next is room row =
+      subst (λ rows. IsTable caps rows limit (take (at + 1) events)) (sym is)
+      (subst (IsTable caps (rows_after rows at e.who e.op) limit) (sym (take_next events at e here))
       (subst (λ n. IsTable caps (rows_after rows n e.who e.op) limit (take at events ++ e ∷ [])) long
-      (table_after caps rows limit (take at events) table e (omega (arith, room, long)) row))
+      (table_after caps rows limit (take at events) table e (omega (arith, room, long)) row)))
 
   -- what is noted behind it
-  pub found_next : (found : List (Option Race)) → IsInRange (sizes_of_tables rows found) e → AreFound caps (take at events) found
-      → AreFound caps (take (at + 1) events) (found_after rows (take at events) (length (take at events)) e e.op found)
-  found_next found (row, within) right =
-      subst (λ es. AreFound caps es (found_after rows (take at events) (length (take at events)) e e.op found)) (sym (take_next events at e here))
-      (found_step caps (take at events) e rows limit table row found right e.op refl (λ x is. accessed_in_range (sizes_of_tables rows found) e.op x within is))
+  pub found_next : (found next : List (Option Race)) → next ≡ found_after rows (take at events) (length (take at events)) e e.op found → IsInRange (sizes_of_tables rows found) e
+      → AreFound caps (take at events) found → AreFound caps (take (at + 1) events) next
+  found_next found next is (row, within) right =
+      subst (AreFound caps (take (at + 1) events)) (sym is)
+      (subst (λ es. AreFound caps es (found_after rows (take at events) (length (take at events)) e e.op found)) (sym (take_next events at e here))
+      (found_step caps (take at events) e rows limit table row found right e.op refl (λ x is. accessed_in_range (sizes_of_tables rows found) e.op x within is)))
+
+-- the events of which what is noted is told are those of the trace
+pub noted_of_trace : (es events : List Event) (at : ℕ) (e : Event) (rows : List (List Bool)) (found next : List (Option Race)) → es ≡ events
+    → next ≡ found_after rows (take at es) (length (take at es)) e e.op found → next ≡ found_after rows (take at events) (length (take at events)) e e.op found
+noted_of_trace es events at e rows found next same is = subst (λ es. next ≡ found_after rows (take at es) (length (take at es)) e e.op found) same is

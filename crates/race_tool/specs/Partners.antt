@@ -22,7 +22,8 @@ conflicts _ _ = false
 
 -- an operation of goroutine g conflicts with event i, which g hasn't seen
 abbrev pub is_partner : List (List Bool) → List Event → ℕ → Op → ℕ → Bool
-is_partner rows events g o i = elim (slice_get events i) [ Some a ↦ conflicts a.op o && not (sees rows g i) | None ↦ false ]
+is_partner rows events g o i =
+    elim (slice_get events i) [ Some a ↦ conflicts a.op o && not (sees rows g i) | None ↦ false ]
 
 -- the greatest number below n that passes
 abbrev pub greatest_below : (ℕ → Bool) → ℕ → Option ℕ

@@ -43,7 +43,8 @@ pub(crate) fn plain_judge<A: Allocator + Copy, B: Allocator>(
 ) -> Result<Verdict<A>, EdgeFault>
     ensures right { IfOk result (λ verdict. (caps : ℕ → ℕ) →
         IsVerdict caps trace.now.events (verdict_of verdict)) }
-    ensures too_long { (result ≡ Err EdgeFault.TooLong) ↔ (MAX_PLAIN_EVENTS < length trace.now.events) }
+    ensures too_long { (result ≡ Err EdgeFault.TooLong)
+        ↔ (MAX_PLAIN_EVENTS < length trace.now.events) }
 {
     if trace.len() > MAX_PLAIN_EVENTS {
         return Err(EdgeFault::TooLong);
@@ -75,7 +76,7 @@ fn verdict_on<A: Allocator + Copy, B: Allocator>(
     }
 }
 
-// The race of each variable that has one. The table grows event by event, behind the look for races.
+// The race of each variable that has one. Each event is looked at before the table takes it.
 fn races_in<A: Allocator + Copy, B: Allocator>(
     alloc: A,
     trace: &Trace<B>,

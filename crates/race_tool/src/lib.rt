@@ -6,3 +6,5 @@ mod races;
 mod replay;
 mod rule;
 mod table;
+#[cfg(test)]
+mod tests;

@@ -141,7 +141,8 @@ impl<A: Allocator> Found<A> {
         requires row { event.now.who < length table.now }
         requires var { var < length self.old }
         requires few { length past.now < 2 ^ 32 }
-        ensures noted { self.new ≡ noted table.now past.now (length past.now) event.now var self.old }
+        ensures noted { self.new ≡ noted table.now past.now (length past.now) event.now var
+            self.old }
         ensures len { length self.new ≡ length self.old }
     {
         if self.races[var as usize].is_some() {

@@ -41,7 +41,12 @@ pub(crate) struct Replay<A: Allocator = Global> {
 impl<A: Allocator> Model for Replay<A> {
     ghost Value = { ReplayState };
 
-    ghost view = { λ r. record { over = r.over; started = r.started.items; exited = r.exited.items; values = r.values.items } };
+    ghost view = { λ r. record {
+      over = r.over;
+      started = r.started.items;
+      exited = r.exited.items;
+      values = r.values.items;
+    } };
 
     ghost invariant = { λ r. length r.exited.items ≡ length r.started.items };
 }

@@ -1,12 +1,10 @@
 -- Behind each event the tables are right for the front up to it; at the end they are for all events.
-use Rattle.std.proofs.Common.{◌≡◌, ◌∙◌, ◌+◌, ℕ, Bool, List, length, take, sym, subst, arith}
+use Rattle.std.proofs.Common.{◌≡◌, ◌∙◌, ℕ, List, length, sym, subst, arith}
 use Rattle.std.proofs.lemmas.List.{take_all}
 use Rattle.std.proofs.lemmas.Result.{IfOk-weaker}
 use Rattle.race_records.specs.declared.event.Event.{Event}
-use Rattle.race_tool.specs.IsTable.{IsTable}
-use Rattle.race_tool.specs.Partners.{found_after}
 use Rattle.race_tool.specs.Answers.{AreFound, AreRaces, races_of}
-use Rattle.race_tool.proofs.JudgeSteps.{range_of_tables, rows_from_range, race_declared, table_next, found_next}
+use Rattle.race_tool.proofs.JudgeSteps.{range_of_tables, rows_from_range, race_declared, table_next, found_next, noted_of_trace}
 use Rattle.race_tool.proofs.RaceLists.{are_races}
 use Rattle.race_tool.proofs.judge.races_in.Goals as goal
 
@@ -26,12 +24,13 @@ loop-at-preserved g c =
       rows = c.step.ensures.len ∙ c.loop-at.invariant.rows;
       vars = c.look.ensures.len ∙ c.loop-at.invariant.vars;
       table = λ caps.
-          subst (λ (rows : List (List Bool)). IsTable caps rows (length c.args.trace.now.events) (take (c.loop-at.at + 1) c.args.trace.now.events)) (sym c.step.ensures.rows)
-          (table_next caps c.args.trace.now.events c.loop-at.at c.event-event.result.now c.event-event.ensures c.loop-at.table (length c.args.trace.now.events) (c.loop-at.invariant.table caps) (omega arith) within.0);
+          table_next caps c.args.trace.now.events c.loop-at.at c.event-event.result.now c.event-event.ensures c.loop-at.table (length c.args.trace.now.events) (c.loop-at.invariant.table caps)
+          c.step.new.self c.step.ensures.rows (omega arith) within.0;
       found = λ caps.
-          subst (AreFound caps (take (c.loop-at.at + 1) c.args.trace.now.events)) (sym c.look.ensures.found)
-          (subst (λ (es : List Event). AreFound caps (take (c.loop-at.at + 1) c.args.trace.now.events) (found_after c.loop-at.table (take c.loop-at.at es) (length (take c.loop-at.at es)) c.event-event.result.now c.event-event.result.now.op c.loop-at.found)) (sym c.events.ensures)
-          (found_next caps c.args.trace.now.events c.loop-at.at c.event-event.result.now c.event-event.ensures c.loop-at.table (length c.args.trace.now.events) (c.loop-at.invariant.table caps) c.loop-at.found within (c.loop-at.invariant.found caps)));
+          found_next caps c.args.trace.now.events c.loop-at.at c.event-event.result.now c.event-event.ensures c.loop-at.table (length c.args.trace.now.events) (c.loop-at.invariant.table caps)
+          c.loop-at.found c.look.new.self
+          (noted_of_trace c.events.result.now c.args.trace.now.events c.loop-at.at c.event-event.result.now c.loop-at.table c.loop-at.found c.look.new.self c.events.ensures c.look.ensures.found)
+          within (c.loop-at.invariant.found caps);
     }
 
 pub returns : goal.returns

@@ -33,6 +33,11 @@ started_step started (Go h) g less = rw (get_or-set started h g true false less)
     go false = or-false (get_or started g false)
 started_step started _ g less = or-false (get_or started g false)
 
+-- what is no exit adds nothing
+none_more : (old b : Bool) → (old || (b && false)) ≡ old
+none_more old true = or-false old
+none_more old false = or-false old
+
 -- an Exit ends its goroutine, and nothing else does
 exited_step : (exited : List Bool) (who : ℕ) (o : Op) (g : ℕ) → g < length exited → (get_or exited g false || ((who == g) && is_exit o)) ≡ get_or (exited_after exited who o) g false
 exited_step exited who Exit g less = rw (get_or-set exited who g true false less) (go (who == g))
@@ -40,21 +45,8 @@ exited_step exited who Exit g less = rw (get_or-set exited who g true false less
     go : (b : Bool) → (get_or exited g false || (b && true)) ≡ (if b then true else get_or exited g false)
     go true = or-true (get_or exited g false)
     go false = or-false (get_or exited g false)
-exited_step exited who (Go h) g less = none (who == g)
-  where
-    none : (b : Bool) → (get_or exited g false || (b && false)) ≡ get_or exited g false
-    none true = or-false (get_or exited g false)
-    none false = or-false (get_or exited g false)
-exited_step exited who (Read x v) g less = none (who == g)
-  where
-    none : (b : Bool) → (get_or exited g false || (b && false)) ≡ get_or exited g false
-    none true = or-false (get_or exited g false)
-    none false = or-false (get_or exited g false)
-exited_step exited who (Write x v) g less = none (who == g)
-  where
-    none : (b : Bool) → (get_or exited g false || (b && false)) ≡ get_or exited g false
-    none true = or-false (get_or exited g false)
-    none false = or-false (get_or exited g false)
+exited_step exited who (Go h) g less = none_more (get_or exited g false) (who == g)
+exited_step exited who _ g less = none_more (get_or exited g false) (who == g)
 
 -- a Write gives its variable a value, and nothing else does
 values_step : (values : List ℕ) (o : Op) (x : ℕ) → x < length values → unwrap_or (written x o) (get_or values x 0) ≡ get_or (values_after values o) x 0

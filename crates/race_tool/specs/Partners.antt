@@ -1,4 +1,4 @@
--- The race that is noted for a variable: the event, when it comes, and the greatest earlier access that it races with.
+-- The race that is noted for a variable: an event, and the greatest earlier access that it races with.
 use Rattle.std.specs.Prelude.{ℕ, zero, suc, ◌==◌, ◌&&◌, not, if◌then◌else◌, Bool, false, List, length, Option, Some, None, is_some, slice_get, slice_set}
 use Rattle.std.specs.List.{slice_index_or}
 use Rattle.std.specs.Option.{option_map}

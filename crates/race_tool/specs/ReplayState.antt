@@ -1,4 +1,4 @@
--- What a replay keeps: the state words as tables, how an event changes them, and the rules read off them.
+-- What a replay keeps: tables, how an event changes them, and the rules read off them.
 use Rattle.std.specs.Prelude.{ℕ, ◌<◌, ◌==◌, ◌||◌, ◌&&◌, not, Bool, true, false, List, [], ◌∷◌, length, Option, slice_set}
 use Rattle.std.specs.List.{slice_index_or}
 use Rattle.race_records.specs.declared.kind.Kind.{Kind}
@@ -30,7 +30,10 @@ sizes k = record { goroutines = length k.started; vars = length k.values }
 -- the counts of the declarations
 abbrev pub sizes_of : DeclsState → Sizes
 sizes_of decls =
-    record { goroutines = count_of Kind.Goroutine decls.declarations; vars = count_of Kind.Var decls.declarations }
+    record {
+      goroutines = count_of Kind.Goroutine decls.declarations;
+      vars = count_of Kind.Var decls.declarations;
+    }
 
 -- the numbers that the operation names are below the sizes
 abbrev pub OpIsInRange : Sizes → Op → Type 0
@@ -43,6 +46,7 @@ OpIsInRange n (Write x v) = x < n.vars
 abbrev pub IsInRange : Sizes → Event → Type 0
 IsInRange n e = (e.who < n.goroutines) × OpIsInRange n e.op
 
+-- what the tables say of a goroutine: a Go started it, it has exited, it runs
 abbrev pub started_in : ReplayState → ℕ → Bool
 started_in k g = slice_index_or k.started g false
 
@@ -52,6 +56,7 @@ exited_in k g = slice_index_or k.exited g false
 abbrev pub runs_in : ReplayState → ℕ → Bool
 runs_in k g = (g == 0 || started_in k g) && not (exited_in k g)
 
+-- what they say of a variable: its last value
 abbrev pub value_in : ReplayState → ℕ → ℕ
 value_in k x = slice_index_or k.values x 0
 
@@ -66,18 +71,21 @@ op_rules_in k (Write x v) = []
 abbrev pub broken_in : ReplayState → Event → Option ℕ
 broken_in k e = least_broken ((1, k.over) ∷ (2, not (runs_in k e.who)) ∷ op_rules_in k e.op)
 
--- how an event changes each table
+-- how the operation o of goroutine who changes each table: the run is over with main's exit
 abbrev pub over_after : Bool → ℕ → Op → Bool
 over_after over who o = over || ((who == 0) && is_exit o)
 
+-- a Go starts its goroutine
 abbrev pub started_after : List Bool → Op → List Bool
 started_after started (Go h) = slice_set started h true
 started_after started _ = started
 
+-- an Exit ends its own
 abbrev pub exited_after : List Bool → ℕ → Op → List Bool
 exited_after exited who Exit = slice_set exited who true
 exited_after exited who _ = exited
 
+-- a Write gives its variable a value
 abbrev pub values_after : List ℕ → Op → List ℕ
 values_after values (Write x v) = slice_set values x v
 values_after values _ = values

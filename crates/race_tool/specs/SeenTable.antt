@@ -26,15 +26,16 @@ abbrev pub passed : List (List Bool) → ℕ → ℕ → ℕ → List (List Bool
 passed rows from to zero = rows
 passed rows from to (suc n) = passed_one (passed rows from to n) from to n
 
--- the rows behind event n, in which goroutine who does o: a new goroutine has seen all that its starter had
+-- the rows behind event n, in which who does o: a new goroutine has seen all that its starter had
 abbrev pub rows_after : List (List Bool) → ℕ → ℕ → Op → List (List Bool)
 rows_after rows n who (Go k) = with_seen (with_seen (passed rows who k n) who n) k n
 rows_after rows n who _ = with_seen rows who n
 
--- each goroutine that takes part in the event has a row
+-- a goroutine that the operation starts has a number below n
 abbrev pub StartsBelow : ℕ → Op → Type 0
 StartsBelow n (Go k) = k < n
 StartsBelow n _ = Unit {0}
 
+-- each goroutine that takes part in the event has a row
 abbrev pub HasRows : List (List Bool) → Event → Type 0
 HasRows rows e = (e.who < length rows) × StartsBelow (length rows) e.op

@@ -1,9 +1,12 @@
 -- What one more write makes of a text that is printed piece by piece.
-use Rattle.std.proofs.Common.{◌≡◌, ℕ, ◌+◌, ◌-◌, ◌^◌, ◌<◌, min, List, [], ◌++◌, length, take, drop, Option, refl, sym, ap, ◌∙◌, arith, append-nil, append_assoc, length-append, length-drop}
+use Rattle.std.proofs.Common.{◌≡◌, ℕ, suc, ◌+◌, ◌-◌, ◌^◌, ◌<◌, min, List, [], ◌∷◌, ◌++◌, get_or, subst, length, take, drop, Option, refl, sym, ap, ◌∙◌, arith, append-nil, append_assoc, length-append, length-drop}
 use Rattle.std.proofs.KnownBytes.{Appends-trans}
+use Rattle.std.proofs.Math.Seq.{drop-cons}
+use Rattle.std.proofs.lemmas.Grind.{flat_map-append}
+use Rattle.std.specs.Borrow.{Bor}
 use Rattle.std.proofs.lemmas.List.{take-append-drop, length-take-le}
 use Rattle.std.specs.Io.KnownBytes.{Appends}
-use Rattle.race_records.specs.Page.{PageState, IsPrinted, IsCutOff, count_of_bytes}
+use Rattle.race_records.specs.Page.{PageState, IsPrinted, IsCutOff, count_of_bytes, joined}
 
 -- a count goes on where it stopped
 counted_more : (sent : ℕ) (out bytes : List ℕ) (more : ℕ) → sent ≡ count_of_bytes (length out) → more ≡ length bytes → min (sent + more) (2 ^ 64 - 1) ≡ count_of_bytes (length (out ++ bytes))
@@ -61,3 +64,14 @@ cut_off_more start now sent text bytes cut = record {
   appended = cut.appended;
   counted = cut.counted;
 }
+
+-- a list of parts that is cut off within part i
+pub cut_off_in_parts : (start now : Option (List ℕ)) (sent : ℕ) (text : List ℕ) (parts : List (Bor (List ℕ))) (i : ℕ) (d : Bor (List ℕ)) → i < length parts
+    → IsCutOff start now sent ((text ++ joined (take i parts)) ++ (get_or parts i d).now) → IsCutOff start now sent (text ++ joined parts)
+cut_off_in_parts start now sent text parts i d within cut =
+    let rest = joined (drop (suc i) parts) in
+    let split : joined parts ≡ joined (take i parts) ++ ((get_or parts i d).now ++ rest) =
+    ap joined (sym (take-append-drop i parts) ∙ ap (λ l. take i parts ++ l) (drop-cons parts i d within)) ∙ flat_map-append (λ (p : Bor (List ℕ)). p.now) (take i parts) (get_or parts i d ∷ drop (suc i) parts) in
+    subst (λ (l : List ℕ). IsCutOff start now sent l)
+    (append_assoc (text ++ joined (take i parts)) (get_or parts i d).now rest ∙ append_assoc text (joined (take i parts)) ((get_or parts i d).now ++ rest) ∙ ap (λ l. text ++ l) (sym split))
+    (cut_off_more start now sent ((text ++ joined (take i parts)) ++ (get_or parts i d).now) rest cut)

@@ -7,3 +7,4 @@ pub mod IsTable
 pub mod Partners
 pub mod Answers
 pub mod Verdicts
+pub mod Report

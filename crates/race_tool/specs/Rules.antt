@@ -1,5 +1,5 @@
 -- The rules of legality: the number of each, and its text.
-use Rattle.std.specs.Prelude.{ℕ, List, codes}
+use Rattle.std.specs.Prelude.{ℕ, ◌-◌, List, [], ◌∷◌, codes, slice_get, unwrap_or}
 use Rattle.race_tool.specs.declared.rule.Rule.{Rule}
 
 -- the number of a rule; the least broken one is told
@@ -28,28 +28,15 @@ number_of Rule.StaleRead = 21
 number_of Rule.CaseReady = 22
 number_of Rule.NoFault = 23
 
--- the text of a rule
-abbrev pub text_of : Rule → List ℕ
-text_of Rule.AfterEnd = codes "after end"
-text_of Rule.NotRunning = codes "not running"
-text_of Rule.AlreadyStarted = codes "already started"
-text_of Rule.MeetsItself = codes "meets itself"
-text_of Rule.WrongForm = codes "wrong form"
-text_of Rule.SendOnClosed = codes "send on closed"
-text_of Rule.BufferFull = codes "buffer full"
-text_of Rule.BufferEmpty = codes "buffer empty"
-text_of Rule.WrongValue = codes "wrong value"
-text_of Rule.NotClosed = codes "not closed"
-text_of Rule.NotDrained = codes "not drained"
-text_of Rule.CloseOfClosed = codes "close of closed"
-text_of Rule.Held = codes "held"
-text_of Rule.ReadHeld = codes "read held"
-text_of Rule.NotHeld = codes "not held"
-text_of Rule.NotReadHeld = codes "not read held"
-text_of Rule.OnceAgain = codes "once again"
-text_of Rule.OnceNotInner = codes "once not inner"
-text_of Rule.OnceNotDone = codes "once not done"
-text_of Rule.OnceOpen = codes "once open"
-text_of Rule.StaleRead = codes "stale read"
-text_of Rule.CaseReady = codes "case ready"
-text_of Rule.NoFault = codes "no fault"
+-- the text of each rule, in order; the first is that of rule 1
+abbrev pub rule_texts : List (List ℕ)
+rule_texts =
+    codes "after end" ∷ codes "not running" ∷ codes "already started" ∷ codes "meets itself" ∷ codes "wrong form"
+    ∷ codes "send on closed" ∷ codes "buffer full" ∷ codes "buffer empty" ∷ codes "wrong value" ∷ codes "not closed"
+    ∷ codes "not drained" ∷ codes "close of closed" ∷ codes "held" ∷ codes "read held" ∷ codes "not held"
+    ∷ codes "not read held" ∷ codes "once again" ∷ codes "once not inner" ∷ codes "once not done" ∷ codes "once open"
+    ∷ codes "stale read" ∷ codes "case ready" ∷ codes "no fault" ∷ []
+
+-- the text of a rule, by its number
+abbrev pub rule_text : ℕ → List ℕ
+rule_text rule = unwrap_or (slice_get rule_texts (rule - 1)) []

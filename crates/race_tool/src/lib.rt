@@ -5,6 +5,7 @@ mod input;
 mod judge;
 mod races;
 mod replay;
+mod report;
 mod rule;
 mod table;
 #[cfg(test)]

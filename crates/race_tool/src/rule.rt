@@ -1,6 +1,6 @@
 //! The rules of legality.
 ghost use Rattle.std.specs.Prelude.{◌≡◌};
-ghost use Rattle.race_tool.specs.Rules.{text_of};
+ghost use Rattle.race_tool.specs.Rules.{number_of, rule_text};
 
 /// A rule that an event can break, in the order in which they are tested. The first has number 1.
 #[derive(Clone, Copy, Debug, PartialEq, Eq)]
@@ -56,7 +56,7 @@ pub(crate) enum Rule {
 impl Rule {
     /// The rule in two or three words.
     pub(crate) fn text(self) -> &'static str
-        ensures { result.now ≡ text_of self }
+        ensures { result.now ≡ rule_text (number_of self) }
     {
         match self {
             Rule::AfterEnd => "after end",

@@ -10,24 +10,24 @@ use Rattle.race_tool.proofs.judge.races_in.Goals as goal
 
 pub look-requires-clause-fits : goal.look-requires-clause-fits
 look-requires-clause-fits g c =
-    range_of_tables c.args.trace.now c.loop-at.at c.event-event.result.now c.loop-at.table c.loop-at.found c.len.ensures.is_trace c.event-event.ensures c.loop-at.invariant.rows c.loop-at.invariant.vars
+    range_of_tables c.args.trace.now c.loop-at.at c.event-event.result.now c.loop-at.table c.loop-at.found c.len.ensures.is_trace c.event-event.ensures.event c.loop-at.invariant.rows c.loop-at.invariant.vars
 
 pub step-requires : goal.step-requires
 step-requires g c =
     rows_from_range c.loop-at.table (length c.loop-at.found) c.event-event.result.now
-    (range_of_tables c.args.trace.now c.loop-at.at c.event-event.result.now c.loop-at.table c.loop-at.found c.len.ensures.is_trace c.event-event.ensures c.loop-at.invariant.rows c.loop-at.invariant.vars)
+    (range_of_tables c.args.trace.now c.loop-at.at c.event-event.result.now c.loop-at.table c.loop-at.found c.len.ensures.is_trace c.event-event.ensures.event c.loop-at.invariant.rows c.loop-at.invariant.vars)
 
 pub loop-at-preserved : goal.loop-at-preserved
 loop-at-preserved g c =
-    let within = range_of_tables c.args.trace.now c.loop-at.at c.event-event.result.now c.loop-at.table c.loop-at.found c.len.ensures.is_trace c.event-event.ensures c.loop-at.invariant.rows c.loop-at.invariant.vars in
+    let within = range_of_tables c.args.trace.now c.loop-at.at c.event-event.result.now c.loop-at.table c.loop-at.found c.len.ensures.is_trace c.event-event.ensures.event c.loop-at.invariant.rows c.loop-at.invariant.vars in
     record {
       rows = c.step.ensures.len ∙ c.loop-at.invariant.rows;
       vars = c.look.ensures.len ∙ c.loop-at.invariant.vars;
       table = λ caps.
-          table_next caps c.args.trace.now.events c.loop-at.at c.event-event.result.now c.event-event.ensures c.loop-at.table (length c.args.trace.now.events) (c.loop-at.invariant.table caps)
+          table_next caps c.args.trace.now.events c.loop-at.at c.event-event.result.now c.event-event.ensures.event c.loop-at.table (length c.args.trace.now.events) (c.loop-at.invariant.table caps)
           c.step.new.self c.step.ensures.rows (omega arith) within.0;
       found = λ caps.
-          found_next caps c.args.trace.now.events c.loop-at.at c.event-event.result.now c.event-event.ensures c.loop-at.table (length c.args.trace.now.events) (c.loop-at.invariant.table caps)
+          found_next caps c.args.trace.now.events c.loop-at.at c.event-event.result.now c.event-event.ensures.event c.loop-at.table (length c.args.trace.now.events) (c.loop-at.invariant.table caps)
           c.loop-at.found c.look.new.self
           (noted_of_trace c.events.result.now c.args.trace.now.events c.loop-at.at c.event-event.result.now c.loop-at.table c.loop-at.found c.look.new.self c.events.ensures c.look.ensures.found)
           within (c.loop-at.invariant.found caps);

@@ -7,3 +7,4 @@ pub mod PartnerLemmas
 pub mod FoundSteps
 pub mod JudgeSteps
 pub mod RaceLists
+pub mod ReportLemmas

@@ -3,9 +3,11 @@ ghost use Rattle.std.specs.Prelude.{◌≡◌, ◌<◌, ◌+◌, [], ◌∷◌, 
 ghost use Rattle.race_records.specs.Devices.{written, sink_failures, one_more};
 ghost use Rattle.race_records.specs.Page.{Prints, BreaksOff};
 ghost use Rattle.race_model.specs.Events.{count, is_access};
+ghost use Rattle.race_tool.specs.Answers.{race_of};
 ghost use Rattle.race_tool.specs.Rules.{number_of};
 ghost use Rattle.race_tool.specs.Report as spec;
 
+use crate::races::Race;
 use crate::replay::Illegal;
 use itoa::Buffer;
 use race_records::{Named, Op, Page, Sink, Trace, WriteFault};
@@ -102,6 +104,50 @@ fn print_race_count<W: Write>(
         b"races: ".as_slice(),
         number.format(count).as_bytes(),
         b"\n".as_slice(),
+    ];
+    page.put_all(sink, &parts)
+}
+
+/// Prints a race.
+fn print_race<W: Write, A: Allocator>(
+    page: &mut Page,
+    sink: &mut Sink<W>,
+    trace: &Trace<A>,
+    race: Race,
+) -> Result<(), WriteFault>
+    requires { spec.IsOf trace.now (race_of race) }
+    ensures ok { OnOk result (Prints (written W.contents sink.old) (written W.contents sink.new)
+        page.old page.new (spec.race_line trace.now (race_of race))) }
+    ensures sent { IfErr result (λ fault. BreaksOff (written W.contents sink.old)
+        (written W.contents sink.new) page.old fault.sent
+        (spec.race_line trace.now (race_of race))) }
+    ensures calm { OnOk result (sink_failures sink.new ≡ sink_failures sink.old) }
+    ensures failed { OnErr result (sink_failures sink.new ≡ one_more (sink_failures sink.old)) }
+{
+    let first = access_words(trace, race.first as usize);
+    let second = access_words(trace, race.second as usize);
+    let mut first_number = Buffer::new();
+    let mut second_number = Buffer::new();
+    let parts = [
+        b"race on ".as_slice(),
+        trace.decls().name(Named::Var(race.var)).as_bytes(),
+        b": ".as_slice(),
+        first.what,
+        b" by ".as_slice(),
+        first.who,
+        b" at ".as_slice(),
+        first.place,
+        b" (event ".as_slice(),
+        first_number.format(u64::from(race.first) + 1).as_bytes(),
+        b"), ".as_slice(),
+        second.what,
+        b" by ".as_slice(),
+        second.who,
+        b" at ".as_slice(),
+        second.place,
+        b" (event ".as_slice(),
+        second_number.format(u64::from(race.second) + 1).as_bytes(),
+        b")\n".as_slice(),
     ];
     page.put_all(sink, &parts)
 }

@@ -1,0 +1,34 @@
+-- The lines of a report, from the words that are put into them.
+use Rattle.std.proofs.Common.{◌≡◌, ℕ, ◌+◌, ◌<◌, List, [], ◌∷◌, ◌++◌, length, codes, decimal, slice_get, Option, Some, None, IfSome, unwrap_or, refl, sym, ap, ◌∙◌, arith}
+use Rattle.std.specs.List.{concat}
+use Rattle.race_records.specs.declared.event.Event.{Event}
+use Rattle.race_records.specs.Events.{TraceState}
+use Rattle.race_records.proofs.ListLemmas.{slice_get-within}
+use Rattle.race_model.specs.Verdict.{Race}
+use Rattle.race_tool.specs.Report.{access_text, access_word, goroutine_name, place_text, race_line, newline, var_name}
+
+-- the words are those of the access at the index
+abbrev pub AreWordsOf : TraceState → ℕ → List ℕ → List ℕ → List ℕ → Type 0
+AreWordsOf trace index what who place =
+    IfSome (slice_get trace.events index) (λ (e : Event). (what ≡ access_word e.op) × (who ≡ goroutine_name trace.decls e.who) × (place ≡ place_text trace.decls e.place))
+
+access_text_is : (trace : TraceState) (index : ℕ) (what who place number : List ℕ) → index < length trace.events → AreWordsOf trace index what who place → number ≡ decimal (index + 1)
+  → access_text trace index ≡ what ∷ codes " by " ∷ who ∷ codes " at " ∷ place ∷ codes " (event " ∷ number ∷ codes ")" ∷ []
+unfolding access_text
+access_text_is trace index what who place number within words numbered = by (slice_get trace.events index) (slice_get-within trace.events index within) words
+  where
+    by : (o : Option Event) → (x : Event) × (o ≡ Some x)
+      → IfSome o (λ (e : Event). (what ≡ access_word e.op) × (who ≡ goroutine_name trace.decls e.who) × (place ≡ place_text trace.decls e.place))
+      → elim o as (λ _. List (List ℕ)) [ None ↦ [] | Some e ↦ access_word e.op ∷ codes " by " ∷ goroutine_name trace.decls e.who ∷ codes " at " ∷ place_text trace.decls e.place ∷ codes " (event " ∷ decimal (index + 1) ∷ codes ")" ∷ [] ]
+      ≡ what ∷ codes " by " ∷ who ∷ codes " at " ∷ place ∷ codes " (event " ∷ number ∷ codes ")" ∷ []
+    by None (x, e) w = cc
+    by (Some e) x w = λ i. sym w.0 i ∷ codes " by " ∷ sym w.1 i ∷ codes " at " ∷ sym w.2 i ∷ codes " (event " ∷ sym numbered i ∷ codes ")" ∷ []
+
+pub race_line_is : (trace : TraceState) (race : Race) (var what who place number what2 who2 place2 number2 : List ℕ) → var ≡ var_name trace.decls race.var
+  → race.first < length trace.events → AreWordsOf trace race.first what who place → number ≡ decimal (race.first + 1)
+  → race.second < length trace.events → AreWordsOf trace race.second what2 who2 place2 → number2 ≡ decimal (race.second + 1)
+  → race_line trace race ≡ codes "race on " ++ (var ++ (codes ": " ++ (what ++ (codes " by " ++ (who ++ (codes " at " ++ (place ++ (codes " (event " ++ (number
+    ++ (codes "), " ++ (what2 ++ (codes " by " ++ (who2 ++ (codes " at " ++ (place2 ++ (codes " (event " ++ (number2 ++ (codes ")" ++ (newline ++ [])))))))))))))))))))
+unfolding race_line
+race_line_is trace race var what who place number what2 who2 place2 number2 named in_first first numbered in_second second numbered2 =
+    λ i. concat (codes "race on " ∷ sym named i ∷ codes ": " ∷ (access_text_is trace race.first what who place number in_first first numbered i ++ codes ", " ∷ (access_text_is trace race.second what2 who2 place2 number2 in_second second numbered2 i ++ newline ∷ [])))

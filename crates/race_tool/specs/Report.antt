@@ -55,11 +55,15 @@ race_line trace race =
 unfoldable pub races_line : ℕ → List ℕ
 races_line n = concat (codes "races: " ∷ decimal n ∷ newline ∷ [])
 
+-- a line for each race, and their count
+abbrev pub races_text : TraceState → List Race → List ℕ
+races_text trace races = flat_map (race_line trace) races ++ races_line (length races)
+
 -- the report of a verdict on a trace
 abbrev pub report : TraceState → Verdict → List ℕ
 report trace (Illegal index rule) = illegal_line index rule
 report trace Clean = clean_line trace
-report trace (Races races) = flat_map (race_line trace) races ++ races_line (length races)
+report trace (Races races) = races_text trace races
 
 -- the numbers of the race are the trace's
 pub record IsOf (trace : TraceState) (race : Race) : Type 0 where

@@ -1,5 +1,5 @@
 //! The printed report of a verdict.
-ghost use Rattle.std.specs.Prelude.{◌≡◌, ◌<◌, ◌+◌, [], ◌∷◌, length, slice_get, Some, IfSome, IfErr, OnOk, OnErr, count_by};
+ghost use Rattle.std.specs.Prelude.{◌≡◌, ◌<◌, ◌+◌, [], ◌∷◌, All, map, length, slice_get, Some, IfSome, IfErr, OnOk, OnErr, count_by};
 ghost use Rattle.race_records.specs.Devices.{written, sink_failures, one_more};
 ghost use Rattle.race_records.specs.Page.{Prints, BreaksOff};
 ghost use Rattle.race_model.specs.Events.{count, is_access};
@@ -7,7 +7,7 @@ ghost use Rattle.race_tool.specs.Answers.{race_of};
 ghost use Rattle.race_tool.specs.Rules.{number_of};
 ghost use Rattle.race_tool.specs.Report as spec;
 
-use crate::races::Race;
+use crate::races::{Race, RaceList};
 use crate::replay::Illegal;
 use itoa::Buffer;
 use race_records::{Named, Op, Page, Sink, Trace, WriteFault};
@@ -18,7 +18,11 @@ use std::io::Write;
 fn access_count<A: Allocator>(trace: &Trace<A>) -> usize
     ensures { result ≡ count is_access trace.now.events }
 {
-    trace.events().iter().filter(|event| is_access(&event.op)).count()
+    trace
+        .events()
+        .iter()
+        .filter(|event| is_access(&event.op))
+        .count()
 }
 
 fn is_access(op: &Op) -> bool
@@ -106,6 +110,30 @@ fn print_race_count<W: Write>(
         b"\n".as_slice(),
     ];
     page.put_all(sink, &parts)
+}
+
+/// Prints the races, and how many there are.
+pub(crate) fn print_races<W: Write, A: Allocator, B: Allocator>(
+    page: &mut Page,
+    sink: &mut Sink<W>,
+    trace: &Trace<A>,
+    races: &RaceList<B>,
+) -> Result<(), WriteFault>
+    requires { All (λ r. spec.IsOf trace.now (race_of r)) races.now }
+    ensures ok { OnOk result (Prints (written W.contents sink.old) (written W.contents sink.new)
+        page.old page.new (spec.races_text trace.now (map race_of races.now))) }
+    ensures sent { IfErr result (λ fault. BreaksOff (written W.contents sink.old)
+        (written W.contents sink.new) page.old fault.sent
+        (spec.races_text trace.now (map race_of races.now))) }
+    ensures calm { OnOk result (sink_failures sink.new ≡ sink_failures sink.old) }
+    ensures failed { OnErr result (sink_failures sink.new ≡ one_more (sink_failures sink.old)) }
+{
+    for race in races.as_slice() {
+        if let Err(fault) = print_race(page, sink, trace, *race) {
+            return Err(fault);
+        }
+    }
+    print_race_count(page, sink, races.as_slice().len())
 }
 
 /// Prints a race.

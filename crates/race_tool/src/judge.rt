@@ -1,4 +1,8 @@
 //! The plain judge: the verdict on a short trace, read off a table of what each goroutine has seen.
+//!
+//! An access happens before a later event exactly where that event's goroutine has seen it before.
+//! So a row of flags for each goroutine decides every pair of accesses when the later one comes. It
+//! takes time in the square of the events, and is what faster judges are compared with.
 ghost use Rattle.std.specs.Prelude.{◌≡◌, ◌↔◌, ◌<◌, ◌≤◌, ℕ, length, IfOk};
 ghost use Rattle.race_model.specs.Verdict.{IsVerdict};
 ghost use Rattle.race_tool.specs.Answers.{AreRaces};

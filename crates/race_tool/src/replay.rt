@@ -1,4 +1,7 @@
 //! Which events are legal: the run so far as tables, against which each next event is tested.
+//!
+//! The tables are a state machine of their own, with exact contracts; that they answer as the words
+//! of the memory model on the list of events do is a matter of lists alone (proofs/ReplayLemmas).
 ghost use Rattle.std.specs.Prelude.{◌≡◌, ◌<◌, ℕ, length, IfOk, OnOk, IfErr, OnErr};
 ghost use Rattle.std.specs.Option.{option_map};
 ghost use Rattle.race_tool.specs.Rules.{number_of};

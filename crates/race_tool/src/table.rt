@@ -1,4 +1,7 @@
 //! What each goroutine has seen of the others, event by event.
+//!
+//! By its own events a goroutine sees their begins, and by its start all that its starter has seen.
+//! No other operation so far lets it see anything.
 ghost use Rattle.std.specs.Prelude.{◌≡◌, ◌<◌, Bool, List, false, true, length, replicate, slice_set, IfOk};
 ghost use Rattle.std.specs.List.{slice_index_or};
 ghost use Rattle.race_tool.specs.SeenTable as spec;

@@ -104,7 +104,7 @@ fn ordered_accesses_do_not_race(rt: HostRuntime) -> Result<(), Fail> {
 }
 
 #[test]
-fn each_variable_has_its_least_race(rt: HostRuntime) -> Result<(), Fail> {
+fn accesses_that_nothing_orders_race(rt: HostRuntime) -> Result<(), Fail> {
     check(
         &rt,
         &[
@@ -123,6 +123,15 @@ fn each_variable_has_its_least_race(rt: HostRuntime) -> Result<(), Fail> {
                 ],
                 Ok(&[race(X, 1, 3)]),
             ),
+        ],
+    )
+}
+
+#[test]
+fn one_race_is_named_for_each_variable(rt: HostRuntime) -> Result<(), Fail> {
+    check(
+        &rt,
+        &[
             // Two reads race with the write, and the later one is named.
             (
                 &[

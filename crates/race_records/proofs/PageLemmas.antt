@@ -1,9 +1,12 @@
 -- What one more write makes of a text that is printed piece by piece.
-use Rattle.std.proofs.Common.{◌≡◌, ℕ, ◌+◌, ◌-◌, ◌^◌, ◌<◌, min, List, [], ◌++◌, length, take, drop, Option, refl, sym, ap, ◌∙◌, arith, append-nil, append_assoc, length-append, length-drop}
+use Rattle.std.proofs.Common.{◌≡◌, ℕ, suc, ◌+◌, ◌-◌, ◌^◌, ◌<◌, min, List, [], ◌∷◌, ◌++◌, get_or, subst, length, take, drop, Option, refl, sym, ap, ◌∙◌, arith, append-nil, append_assoc, length-append, length-drop}
 use Rattle.std.proofs.KnownBytes.{Appends-trans}
+use Rattle.std.proofs.Math.Seq.{drop-cons}
+use Rattle.std.proofs.lemmas.Grind.{flat_map-append}
+use Rattle.std.specs.List.{flat_map}
 use Rattle.std.proofs.lemmas.List.{take-append-drop, length-take-le}
 use Rattle.std.specs.Io.KnownBytes.{Appends}
-use Rattle.race_records.specs.Page.{PageState, IsPrinted, IsCutOff, count_of_bytes}
+use Rattle.race_records.specs.Page.{PageState, IsPrinted, IsCutOff, Prints, BreaksOff, count_of_bytes}
 
 -- a count goes on where it stopped
 counted_more : (sent : ℕ) (out bytes : List ℕ) (more : ℕ) → sent ≡ count_of_bytes (length out) → more ≡ length bytes → min (sent + more) (2 ^ 64 - 1) ≡ count_of_bytes (length (out ++ bytes))
@@ -61,3 +64,24 @@ cut_off_more start now sent text bytes cut = record {
   appended = cut.appended;
   counted = cut.counted;
 }
+
+-- pieces that are cut off within piece i
+pub cut_off_in_pieces : {X : Type 0} (piece : X → List ℕ) (start now : Option (List ℕ)) (sent : ℕ) (text : List ℕ) (xs : List X) (i : ℕ) (d : X) → i < length xs
+  → IsCutOff start now sent ((text ++ flat_map piece (take i xs)) ++ piece (get_or xs i d)) → IsCutOff start now sent (text ++ flat_map piece xs)
+cut_off_in_pieces piece start now sent text xs i d within cut =
+    let rest = flat_map piece (drop (suc i) xs) in
+    let split : flat_map piece xs ≡ flat_map piece (take i xs) ++ (piece (get_or xs i d) ++ rest) =
+      ap (flat_map piece) (sym (take-append-drop i xs) ∙ ap (λ l. take i xs ++ l) (drop-cons xs i d within)) ∙ flat_map-append piece (take i xs) (get_or xs i d ∷ drop (suc i) xs) in
+    subst (λ (l : List ℕ). IsCutOff start now sent l)
+    (append_assoc (text ++ flat_map piece (take i xs)) (piece (get_or xs i d)) rest ∙ append_assoc text (flat_map piece (take i xs)) (piece (get_or xs i d) ++ rest) ∙ ap (λ l. text ++ l) (sym split))
+    (cut_off_more start now sent ((text ++ flat_map piece (take i xs)) ++ piece (get_or xs i d)) rest cut)
+
+-- bytes that go on behind what was put
+pub prints_on : (a b c : Option (List ℕ)) (p q r : PageState) (xs ys : List ℕ) → Prints a b p q xs → Prints b c q r ys → Prints a c p r (xs ++ ys)
+prints_on a b c p q r xs ys first next =
+    λ start text printed. subst (λ (l : List ℕ). IsPrinted start c r l) (append_assoc text xs ys) (next start (text ++ xs) (first start text printed))
+
+-- bytes that break off behind what was put
+pub breaks_off_on : (a b c : Option (List ℕ)) (p q : PageState) (sent : ℕ) (xs ys : List ℕ) → Prints a b p q xs → BreaksOff b c q sent ys → BreaksOff a c p sent (xs ++ ys)
+breaks_off_on a b c p q sent xs ys first next =
+    λ start text printed. subst (λ (l : List ℕ). IsCutOff start c sent l) (append_assoc text xs ys) (next start (text ++ xs) (first start text printed))

@@ -1,5 +1,7 @@
 -- A text that is printed piece by piece: what is out, and what waits for the next write.
 use Rattle.std.specs.Prelude.{◌≡◌, ℕ, ◌+◌, ◌-◌, ◌^◌, ◌<◌, min, List, ◌++◌, length, Option}
+use Rattle.std.specs.Borrow.{Bor}
+use Rattle.std.specs.List.{flat_map}
 use Rattle.std.specs.Io.KnownBytes.{Appends}
 
 -- the bytes that wait, and how many are out
@@ -36,3 +38,7 @@ Prints before after old new bytes =
 abbrev pub BreaksOff : Option (List ℕ) → Option (List ℕ) → PageState → ℕ → List ℕ → Type 0
 BreaksOff before after old sent bytes =
     (start : Option (List ℕ)) (text : List ℕ) → IsPrinted start before old text → IsCutOff start after sent (text ++ bytes)
+
+-- the parts one behind the other
+abbrev pub joined : List (Bor (List ℕ)) → List ℕ
+joined parts = flat_map (λ (p : Bor (List ℕ)). p.now) parts

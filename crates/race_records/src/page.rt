@@ -1,12 +1,11 @@
 //! A text on its way to a writer, gathered into blocks so that a short word costs no write.
-ghost use Rattle.std.specs.Prelude.{◌≡◌, ◌≤◌, ℕ, ◌+◌, ◌<◌, [], ◌++◌, decimal, length, min, ◌^◌, ◌-◌, List, Option, OnOk, OnErr, IfErr};
+ghost use Rattle.std.specs.Prelude.{◌≡◌, ◌≤◌, ℕ, ◌+◌, ◌<◌, [], ◌++◌, length, min, ◌^◌, ◌-◌, List, Option, OnOk, OnErr, IfErr};
 ghost use Rattle.arrayvec.specs.ArrayVec.{array_vec_len};
 ghost use Rattle.race_records.specs.Devices.{written, sink_failures, one_more};
-ghost use Rattle.race_records.specs.Page.{IsPrinted, IsCutOff, Prints, BreaksOff};
+ghost use Rattle.race_records.specs.Page.{IsPrinted, IsCutOff, Prints, BreaksOff, joined};
 
 use crate::{Sink, WriteFault};
 use arrayvec::ArrayVec;
-use itoa::Buffer;
 use std::io::Write;
 use std::marker::Model;
 
@@ -63,20 +62,25 @@ impl Page {
         Ok(())
     }
 
-    /// Puts the number behind the text so far, in decimal.
-    pub fn put_number<W: Write>(
+    /// Puts all the parts behind the text so far, in order.
+    pub fn put_all<W: Write>(
         &mut self,
         sink: &mut Sink<W>,
-        number: u64,
+        parts: &[&[u8]],
     ) -> Result<(), WriteFault>
         ensures ok { OnOk result (Prints (written W.contents sink.old) (written W.contents sink.new)
-            self.old self.new (decimal number)) }
+            self.old self.new (joined parts.now)) }
         ensures sent { IfErr result (λ fault. BreaksOff (written W.contents sink.old)
-            (written W.contents sink.new) self.old fault.sent (decimal number)) }
+            (written W.contents sink.new) self.old fault.sent (joined parts.now)) }
         ensures calm { OnOk result (sink_failures sink.new ≡ sink_failures sink.old) }
         ensures failed { OnErr result (sink_failures sink.new ≡ one_more (sink_failures sink.old)) }
     {
-        self.put(sink, Buffer::new().format(number).as_bytes())
+        for part in parts {
+            if let Err(fault) = self.put(sink, *part) {
+                return Err(fault);
+            }
+        }
+        Ok(())
     }
 
     /// Sends what waits.

@@ -220,13 +220,12 @@ fn a_text_is_printed_in_blocks(rt: HostRuntime) -> Result<(), Fail> {
     let mut text = Vec::new(rt.alloc());
     let mut sink = Sink::new(&mut text);
     let mut page = Page::new();
-    for bytes in [b"events: ".as_slice(), long.as_slice(), b"\n".as_slice()] {
-        assert_eq!(rt; page.put(&mut sink, bytes), Ok(()));
-    }
-    assert_eq!(rt; page.put_number(&mut sink, u64::MAX), Ok(()));
+    let parts = [b"events: ".as_slice(), long.as_slice(), b"\n".as_slice()];
+    assert_eq!(rt; page.put_all(&mut sink, &parts), Ok(()));
     assert_eq!(rt; page.flush(&mut sink), Ok(()));
-    assert_eq!(rt; text.len(), 8 + BLOCK + 1 + 1 + 20);
-    assert!(rt; text.as_slice().ends_with(b"x\n18446744073709551615"));
+    assert_eq!(rt; text.len(), 8 + BLOCK + 1 + 1);
+    assert!(rt; text.as_slice().starts_with(b"events: x"));
+    assert!(rt; text.as_slice().ends_with(b"x\n"));
     Ok(())
 }
 

@@ -147,10 +147,11 @@ impl<A: Allocator> Trace<A> {
         self.events.is_empty()
     }
 
-    /// Event `i`, counted from 0.
+    /// Event `i`, counted from 0. It fits the declarations.
     pub fn event(&self, i: usize) -> &Event
         requires { i < length self.now.events }
-        ensures { slice_get self.now.events i ≡ Some result.now }
+        ensures event { slice_get self.now.events i ≡ Some result.now }
+        ensures fits { IsTrue (spec.fits self.now.decls result.now) }
     {
         &self.events[i]
     }

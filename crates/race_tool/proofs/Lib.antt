@@ -1,1 +1,10 @@
 pub mod InputLemmas
+pub mod ReplayLemmas
+pub mod Fronts
+pub mod RowLemmas
+pub mod TableSteps
+pub mod PartnerLemmas
+pub mod FoundSteps
+pub mod JudgeSteps
+pub mod RaceLists
+pub mod ReportLemmas

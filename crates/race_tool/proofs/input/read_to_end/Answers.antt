@@ -8,11 +8,11 @@ use Rattle.race_tool.proofs.input.read_to_end.Goals as goal
 
 pub loop-init : goal.loop-init
 loop-init g c = record {
-    consumed = subst (λ (l : List ℕ). Consumes (unread g.R.Read.remaining c.args.source.now) (unread g.R.Read.remaining c.args.source.now) l) (sym c.new-bytes.ensures.items) (Consumes-nil (unread g.R.Read.remaining c.args.source.now));
-    many = omega arith;
-    calm = refl;
-    room = c.in-Ok.ensures;
-  }
+  consumed = subst (λ (l : List ℕ). Consumes (unread g.R.Read.remaining c.args.source.now) (unread g.R.Read.remaining c.args.source.now) l) (sym c.new-bytes.ensures.items) (Consumes-nil (unread g.R.Read.remaining c.args.source.now));
+  many = omega arith;
+  calm = refl;
+  room = c.in-Ok.ensures;
+}
 
 pub returns-then-not-more-clause-ok : goal.returns-then-not-more-clause-ok
 returns-then-not-more-clause-ok g c =

@@ -7,8 +7,8 @@ use Rattle.race_tool.proofs.input.read_to_end.Given as goal
 -- the bytes so far were read, at least one in each turn, and no read failed
 abbrev pub invariant-loop : goal.invariant-loop
 invariant-loop g l = record {
-    consumed : Consumes (unread g.R.Read.remaining l.initial.source) (unread g.R.Read.remaining l.source) l.bytes.items;
-    many : l.counter ≤ length l.bytes.items;
-    calm : source_failures l.source ≡ source_failures l.initial.source;
-    room : vec_len l.block ≡ BLOCK;
-  }
+  consumed : Consumes (unread g.R.Read.remaining l.initial.source) (unread g.R.Read.remaining l.source) l.bytes.items;
+  many : l.counter ≤ length l.bytes.items;
+  calm : source_failures l.source ≡ source_failures l.initial.source;
+  room : vec_len l.block ≡ BLOCK;
+}

@@ -1,0 +1,11 @@
+use Rattle.std.proofs.Common.{◌≡◌, take}
+use Rattle.race_records.specs.Devices.{written, sink_failures}
+use Rattle.race_records.specs.Page.{Prints, joined}
+use Rattle.race_records.proofs.page.Page.put_all.Given as goal
+
+-- the parts before the index are put, and no write failed
+abbrev pub invariant-loop-part : goal.invariant-loop-part
+invariant-loop-part g l = record {
+  printed : Prints (written g.W.Write.contents l.initial.sink) (written g.W.Write.contents l.sink) l.initial.self l.self (joined (take l.part-index l.parts));
+  calm : sink_failures l.sink ≡ sink_failures l.initial.sink;
+}

@@ -1,0 +1,10 @@
+-- The state behind the event stands for the longer list.
+use Rattle.std.proofs.Common.{[], ◌∷◌, ◌++◌, sym, subst}
+use Rattle.race_tool.specs.ReplayState.{ReplayState}
+use Rattle.race_tool.specs.StandsFor.{StandsFor}
+use Rattle.race_tool.proofs.ReplayLemmas.{stands_after}
+use Rattle.race_tool.proofs.replay.Replay.accept.Goals as goal
+
+pub returns-in-None-clause-goes_on : goal.returns-in-None-clause-goes_on
+returns-in-None-clause-goes_on g c caps past S =
+    subst (λ (k : ReplayState). StandsFor caps k (past ++ c.args.event.now ∷ [])) (sym c.step.ensures) (stands_after caps c.args.self.now past S c.args.event.now c.requires (sym c.in-None.ensures))

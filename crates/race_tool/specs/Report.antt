@@ -1,0 +1,72 @@
+-- The printed report of a verdict. Events are printed with numbers from 1.
+use Rattle.std.specs.Prelude.{ℕ, ◌+◌, ◌<◌, List, [], ◌∷◌, ◌++◌, All, length, codes, decimal, slice_get, Some, None, unwrap_or}
+use Rattle.std.specs.List.{concat, flat_map}
+use Rattle.race_records.specs.declared.event.Op.{Op}
+use Rattle.race_records.specs.declared.event.Op.TheVariants.{Read, Write}
+use Rattle.race_records.specs.declared.kind.Kind.{Kind}
+use Rattle.race_records.specs.declared.kind.Named.{Named}
+use Rattle.race_records.specs.Declarations.{DeclsState, name_of, count_of}
+use Rattle.race_records.specs.Events.{TraceState}
+use Rattle.race_model.specs.Events.{count, is_access}
+use Rattle.race_tool.specs.Rules.{rule_text}
+use Rattle.race_model.specs.Verdict.{Race, Verdict, Illegal, Clean, Races}
+
+-- the names by which a number is printed
+abbrev pub goroutine_name : DeclsState → ℕ → List ℕ
+goroutine_name decls n = unwrap_or (name_of decls.declarations (Named.Goroutine n)) []
+
+abbrev pub var_name : DeclsState → ℕ → List ℕ
+var_name decls n = unwrap_or (name_of decls.declarations (Named.Var n)) []
+
+abbrev pub place_text : DeclsState → ℕ → List ℕ
+place_text decls n = unwrap_or (slice_get decls.places n) []
+
+-- the end of a line
+abbrev pub newline : List ℕ
+newline = 10 ∷ []
+
+unfoldable pub clean_line : TraceState → List ℕ
+clean_line trace =
+    concat (codes "clean: " ∷ decimal (length trace.events) ∷ codes " events, " ∷ decimal (count is_access trace.events) ∷ codes " accesses" ∷ newline ∷ [])
+
+unfoldable pub illegal_line : ℕ → ℕ → List ℕ
+illegal_line index rule = concat (codes "illegal: event " ∷ decimal (index + 1) ∷ codes ": " ∷ rule_text rule ∷ newline ∷ [])
+
+-- what an access does, in a word
+abbrev pub access_word : Op → List ℕ
+access_word (Read x v) = codes "read"
+access_word (Write x v) = codes "write"
+access_word _ = []
+
+-- an access with its goroutine, its place and its number
+unfoldable pub access_text : TraceState → ℕ → List (List ℕ)
+access_text trace index =
+    elim (slice_get trace.events index) [
+      | None ↦ []
+      | Some e ↦
+          access_word e.op ∷ codes " by " ∷ goroutine_name trace.decls e.who ∷ codes " at " ∷ place_text trace.decls e.place
+          ∷ codes " (event " ∷ decimal (index + 1) ∷ codes ")" ∷ []
+    ]
+
+unfoldable pub race_line : TraceState → Race → List ℕ
+race_line trace race =
+    concat (codes "race on " ∷ var_name trace.decls race.var ∷ codes ": " ∷ (access_text trace race.first ++ codes ", " ∷ (access_text trace race.second ++ newline ∷ [])))
+
+unfoldable pub races_line : ℕ → List ℕ
+races_line n = concat (codes "races: " ∷ decimal n ∷ newline ∷ [])
+
+-- a line for each race, and their count
+abbrev pub races_text : TraceState → List Race → List ℕ
+races_text trace races = flat_map (race_line trace) races ++ races_line (length races)
+
+-- the report of a verdict on a trace
+abbrev pub report : TraceState → Verdict → List ℕ
+report trace (Illegal index rule) = illegal_line index rule
+report trace Clean = clean_line trace
+report trace (Races races) = races_text trace races
+
+-- the numbers of the race are the trace's
+pub record IsOf (trace : TraceState) (race : Race) : Type 0 where
+  pub var : race.var < count_of Kind.Var trace.decls.declarations
+  pub first : race.first < length trace.events
+  pub second : race.second < length trace.events

@@ -1,0 +1,42 @@
+-- The rules of legality: the number of each, and its text.
+use Rattle.std.specs.Prelude.{ℕ, ◌-◌, List, [], ◌∷◌, codes, slice_get, unwrap_or}
+use Rattle.race_tool.specs.declared.rule.Rule.{Rule}
+
+-- the number of a rule; the least broken one is told
+abbrev pub number_of : Rule → ℕ
+number_of Rule.AfterEnd = 1
+number_of Rule.NotRunning = 2
+number_of Rule.AlreadyStarted = 3
+number_of Rule.MeetsItself = 4
+number_of Rule.WrongForm = 5
+number_of Rule.SendOnClosed = 6
+number_of Rule.BufferFull = 7
+number_of Rule.BufferEmpty = 8
+number_of Rule.WrongValue = 9
+number_of Rule.NotClosed = 10
+number_of Rule.NotDrained = 11
+number_of Rule.CloseOfClosed = 12
+number_of Rule.Held = 13
+number_of Rule.ReadHeld = 14
+number_of Rule.NotHeld = 15
+number_of Rule.NotReadHeld = 16
+number_of Rule.OnceAgain = 17
+number_of Rule.OnceNotInner = 18
+number_of Rule.OnceNotDone = 19
+number_of Rule.OnceOpen = 20
+number_of Rule.StaleRead = 21
+number_of Rule.CaseReady = 22
+number_of Rule.NoFault = 23
+
+-- the text of each rule, in order; the first is that of rule 1
+abbrev pub rule_texts : List (List ℕ)
+rule_texts =
+    codes "after end" ∷ codes "not running" ∷ codes "already started" ∷ codes "meets itself" ∷ codes "wrong form"
+    ∷ codes "send on closed" ∷ codes "buffer full" ∷ codes "buffer empty" ∷ codes "wrong value" ∷ codes "not closed"
+    ∷ codes "not drained" ∷ codes "close of closed" ∷ codes "held" ∷ codes "read held" ∷ codes "not held"
+    ∷ codes "not read held" ∷ codes "once again" ∷ codes "once not inner" ∷ codes "once not done" ∷ codes "once open"
+    ∷ codes "stale read" ∷ codes "case ready" ∷ codes "no fault" ∷ []
+
+-- the text of a rule, by its number
+abbrev pub rule_text : ℕ → List ℕ
+rule_text rule = unwrap_or (slice_get rule_texts (rule - 1)) []

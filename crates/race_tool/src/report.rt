@@ -1,0 +1,217 @@
+//! The printed report of a verdict.
+ghost use Rattle.std.specs.Prelude.{◌≡◌, ◌<◌, ◌+◌, [], ◌∷◌, All, map, length, slice_get, Some, IfSome, IfErr, OnOk, OnErr, count_by};
+ghost use Rattle.race_records.specs.Devices.{written, sink_failures, one_more};
+ghost use Rattle.race_records.specs.Page.{Prints, BreaksOff};
+ghost use Rattle.race_model.specs.Events.{count, is_access};
+ghost use Rattle.race_tool.specs.Answers.{race_of};
+ghost use Rattle.race_tool.specs.Rules.{number_of};
+ghost use Rattle.race_tool.specs.Report as spec;
+
+use crate::races::{Race, RaceList};
+use crate::replay::Illegal;
+use itoa::Buffer;
+use race_records::{Named, Op, Page, Sink, Trace, WriteFault};
+use std::alloc::Allocator;
+use std::io::Write;
+
+// How many of the events are accesses.
+fn access_count<A: Allocator>(trace: &Trace<A>) -> usize
+    ensures { result ≡ count is_access trace.now.events }
+{
+    trace
+        .events()
+        .iter()
+        .filter(|event| is_access(&event.op))
+        .count()
+}
+
+fn is_access(op: &Op) -> bool
+    ensures { result ≡ is_access op.now }
+{
+    match op {
+        Op::Go(_) => false,
+        Op::Exit => false,
+        Op::Read(_, _) => true,
+        Op::Write(_, _) => true,
+    }
+}
+
+/// Prints that the trace is clean.
+#[tactic(auto, unfolding(crate::specs::Report::clean_line))]
+pub(crate) fn print_clean<W: Write, A: Allocator>(
+    page: &mut Page,
+    sink: &mut Sink<W>,
+    trace: &Trace<A>,
+) -> Result<(), WriteFault>
+    ensures ok { OnOk result (Prints (written W.contents sink.old) (written W.contents sink.new)
+        page.old page.new (spec.clean_line trace.now)) }
+    ensures sent { IfErr result (λ fault. BreaksOff (written W.contents sink.old)
+        (written W.contents sink.new) page.old fault.sent (spec.clean_line trace.now)) }
+    ensures calm { OnOk result (sink_failures sink.new ≡ sink_failures sink.old) }
+    ensures failed { OnErr result (sink_failures sink.new ≡ one_more (sink_failures sink.old)) }
+{
+    let mut events = Buffer::new();
+    let mut accesses = Buffer::new();
+    let parts = [
+        b"clean: ".as_slice(),
+        events.format(trace.len()).as_bytes(),
+        b" events, ".as_slice(),
+        accesses.format(access_count(trace)).as_bytes(),
+        b" accesses".as_slice(),
+        b"\n".as_slice(),
+    ];
+    page.put_all(sink, &parts)
+}
+
+/// Prints the first event that breaks a rule, with its rule.
+#[tactic(auto, unfolding(crate::specs::Report::illegal_line))]
+pub(crate) fn print_illegal<W: Write>(
+    page: &mut Page,
+    sink: &mut Sink<W>,
+    illegal: Illegal,
+) -> Result<(), WriteFault>
+    ensures ok { OnOk result (Prints (written W.contents sink.old) (written W.contents sink.new)
+        page.old page.new (spec.illegal_line illegal.at (number_of illegal.rule))) }
+    ensures sent { IfErr result (λ fault. BreaksOff (written W.contents sink.old)
+        (written W.contents sink.new) page.old fault.sent
+        (spec.illegal_line illegal.at (number_of illegal.rule))) }
+    ensures calm { OnOk result (sink_failures sink.new ≡ sink_failures sink.old) }
+    ensures failed { OnErr result (sink_failures sink.new ≡ one_more (sink_failures sink.old)) }
+{
+    let mut number = Buffer::new();
+    let parts = [
+        b"illegal: event ".as_slice(),
+        number.format(u64::from(illegal.at) + 1).as_bytes(),
+        b": ".as_slice(),
+        illegal.rule.text().as_bytes(),
+        b"\n".as_slice(),
+    ];
+    page.put_all(sink, &parts)
+}
+
+/// Prints how many variables have a race.
+#[tactic(auto, unfolding(crate::specs::Report::races_line))]
+fn print_race_count<W: Write>(
+    page: &mut Page,
+    sink: &mut Sink<W>,
+    count: usize,
+) -> Result<(), WriteFault>
+    ensures ok { OnOk result (Prints (written W.contents sink.old) (written W.contents sink.new)
+        page.old page.new (spec.races_line count)) }
+    ensures sent { IfErr result (λ fault. BreaksOff (written W.contents sink.old)
+        (written W.contents sink.new) page.old fault.sent (spec.races_line count)) }
+    ensures calm { OnOk result (sink_failures sink.new ≡ sink_failures sink.old) }
+    ensures failed { OnErr result (sink_failures sink.new ≡ one_more (sink_failures sink.old)) }
+{
+    let mut number = Buffer::new();
+    let parts = [
+        b"races: ".as_slice(),
+        number.format(count).as_bytes(),
+        b"\n".as_slice(),
+    ];
+    page.put_all(sink, &parts)
+}
+
+/// Prints the races, and how many there are.
+pub(crate) fn print_races<W: Write, A: Allocator, B: Allocator>(
+    page: &mut Page,
+    sink: &mut Sink<W>,
+    trace: &Trace<A>,
+    races: &RaceList<B>,
+) -> Result<(), WriteFault>
+    requires { All (λ r. spec.IsOf trace.now (race_of r)) races.now }
+    ensures ok { OnOk result (Prints (written W.contents sink.old) (written W.contents sink.new)
+        page.old page.new (spec.races_text trace.now (map race_of races.now))) }
+    ensures sent { IfErr result (λ fault. BreaksOff (written W.contents sink.old)
+        (written W.contents sink.new) page.old fault.sent
+        (spec.races_text trace.now (map race_of races.now))) }
+    ensures calm { OnOk result (sink_failures sink.new ≡ sink_failures sink.old) }
+    ensures failed { OnErr result (sink_failures sink.new ≡ one_more (sink_failures sink.old)) }
+{
+    for race in races.as_slice() {
+        if let Err(fault) = print_race(page, sink, trace, *race) {
+            return Err(fault);
+        }
+    }
+    print_race_count(page, sink, races.as_slice().len())
+}
+
+/// Prints a race.
+fn print_race<W: Write, A: Allocator>(
+    page: &mut Page,
+    sink: &mut Sink<W>,
+    trace: &Trace<A>,
+    race: Race,
+) -> Result<(), WriteFault>
+    requires { spec.IsOf trace.now (race_of race) }
+    ensures ok { OnOk result (Prints (written W.contents sink.old) (written W.contents sink.new)
+        page.old page.new (spec.race_line trace.now (race_of race))) }
+    ensures sent { IfErr result (λ fault. BreaksOff (written W.contents sink.old)
+        (written W.contents sink.new) page.old fault.sent
+        (spec.race_line trace.now (race_of race))) }
+    ensures calm { OnOk result (sink_failures sink.new ≡ sink_failures sink.old) }
+    ensures failed { OnErr result (sink_failures sink.new ≡ one_more (sink_failures sink.old)) }
+{
+    let first = access_words(trace, race.first as usize);
+    let second = access_words(trace, race.second as usize);
+    let mut first_number = Buffer::new();
+    let mut second_number = Buffer::new();
+    let parts = [
+        b"race on ".as_slice(),
+        trace.decls().name(Named::Var(race.var)).as_bytes(),
+        b": ".as_slice(),
+        first.what,
+        b" by ".as_slice(),
+        first.who,
+        b" at ".as_slice(),
+        first.place,
+        b" (event ".as_slice(),
+        first_number.format(u64::from(race.first) + 1).as_bytes(),
+        b"), ".as_slice(),
+        second.what,
+        b" by ".as_slice(),
+        second.who,
+        b" at ".as_slice(),
+        second.place,
+        b" (event ".as_slice(),
+        second_number.format(u64::from(race.second) + 1).as_bytes(),
+        b")\n".as_slice(),
+    ];
+    page.put_all(sink, &parts)
+}
+
+// How an access is told: what it does, by whom and where.
+#[derive(Clone, Copy)]
+struct AccessWords<'a> {
+    what: &'a [u8],
+    who: &'a [u8],
+    place: &'a [u8],
+}
+
+// The words for the event at the index.
+#[tactic(auto, unfolding(race_records::specs::Events::fits))]
+fn access_words<A: Allocator>(trace: &Trace<A>, index: usize) -> AccessWords<'_>
+    requires { index < length trace.now.events }
+    ensures { IfSome (slice_get trace.now.events index) (λ e.
+        (result.what.now ≡ spec.access_word e.op)
+        × (result.who.now ≡ spec.goroutine_name trace.now.decls e.who)
+        × (result.place.now ≡ spec.place_text trace.now.decls e.place)) }
+{
+    let event = trace.event(index);
+    AccessWords {
+        what: access_word(&event.op).as_bytes(),
+        who: trace.decls().name(Named::Goroutine(event.who)).as_bytes(),
+        place: trace.place_text(event.place).as_bytes(),
+    }
+}
+
+fn access_word(op: &Op) -> &'static str
+    ensures { result.now ≡ spec.access_word op.now }
+{
+    match op {
+        Op::Go(_) => "",
+        Op::Exit => "",
+        Op::Read(_, _) => "read",
+        Op::Write(_, _) => "write",
+    }
+}

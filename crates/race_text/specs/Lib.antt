@@ -1,0 +1,5 @@
+pub mod Words
+pub mod Text
+pub mod Form
+pub mod Fault
+pub mod Declaring

@@ -3,3 +3,10 @@ pub mod NumberLemmas
 pub mod WordLemmas
 pub mod CauseLemmas
 pub mod DeclarationLemmas
+pub mod FoundLemmas
+pub mod EventWords
+pub mod EventCauses
+pub mod EventLines
+pub mod TraceLemmas
+pub mod ReaderLemmas
+pub mod ParseLemmas

@@ -84,7 +84,7 @@ fn answered(added: Result<u32, DeclFault>) -> Result<bool, TextCause>
 }
 
 // The cause that a refused declaration gives. No declaration here has a capacity.
-fn cause_of(fault: DeclFault) -> TextCause
+pub(crate) fn cause_of(fault: DeclFault) -> TextCause
     ensures { result ≡ spec.cause_of fault }
 {
     match fault {

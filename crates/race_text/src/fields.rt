@@ -23,7 +23,7 @@ pub(crate) fn as_text(word: &[u8]) -> &str
 }
 
 // What a name stands for.
-fn look_up<A: Allocator>(decls: &Decls<A>, word: &[u8]) -> Option<Named>
+pub(crate) fn look_up<A: Allocator>(decls: &Decls<A>, word: &[u8]) -> Option<Named>
     requires { name.is_name word.now ≡ true }
     ensures { result ≡ find_name decls.now.declarations word.now }
 {

@@ -4,16 +4,25 @@
 mod cause;
 mod cut;
 mod declaration;
+mod event;
 mod fields;
 mod finder;
 mod form;
 mod number;
+mod parse;
+mod reader;
+mod taking;
 mod words;
 
 pub use cause::{TextCause, TextFault};
 pub use declaration::read_declaration;
 #[doc(hidden)]
+pub use event::Draft;
+#[doc(hidden)]
 pub use form::{Field, Word};
 pub use number::read_number;
+pub use parse::parse_trace;
 pub use race_records::{is_name, is_place};
+#[doc(hidden)]
+pub use reader::Reader;
 pub use words::{Words, split_words};

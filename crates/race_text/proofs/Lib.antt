@@ -10,3 +10,4 @@ pub mod EventLines
 pub mod TraceLemmas
 pub mod ReaderLemmas
 pub mod ParseLemmas
+pub mod ExampleRows

@@ -6,3 +6,4 @@ pub mod Declaring
 pub mod Reading
 pub mod Taking
 pub mod Reader
+pub mod Examples

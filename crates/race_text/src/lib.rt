@@ -5,6 +5,7 @@ mod cause;
 mod cut;
 mod declaration;
 mod event;
+pub mod examples;
 mod fields;
 mod finder;
 mod form;
@@ -26,3 +27,6 @@ pub use race_records::{is_name, is_place};
 #[doc(hidden)]
 pub use reader::Reader;
 pub use words::{Words, split_words};
+
+#[cfg(test)]
+mod tests;

@@ -1,6 +1,7 @@
 pub mod CutLemmas
 pub mod NumberLemmas
 pub mod WordLemmas
+pub mod CleanLemmas
 pub mod CauseLemmas
 pub mod DeclarationLemmas
 pub mod FoundLemmas

@@ -179,9 +179,9 @@ unfolding line_cause
 clean_line s line clean = ap (λ b. if b then Some TextCause.BadByte else word_cause s (word_named (first_word (words_of line))) (arguments (words_of line))) clean
 
 -- an event that was appended, or refused
-module _ (old new : TraceState) (line : List ℕ) (o : Occurrence) (read : IsRead old) (holds : IsTrace old) (is : IsEventLine old.decls.declarations line o) (clean : has_bad_byte line ≡ false) where
+module _ (old new : TraceState) (line : List ℕ) (o : Occurrence) (read : IsRead old) (holds : IsTrace old) (is : IsEventLine old.decls.declarations line o) where
   event_cause : cause (lines old) line true ≡ room_cause (state_of old) None
-  event_cause = cause_behind old line read ∙ clean_line (state_of old) line clean ∙ is.cause_is (length old.events)
+  event_cause = cause_behind old line read ∙ clean_line (state_of old) line is.clean ∙ is.cause_is (length old.events)
 
   room_is : (b : Bool) → nat_le MAX_EVENTS (length old.events) ≡ b → cause (lines old) line true ≡ (if b then Some TextCause.TooMany else None)
   room_is b e = event_cause ∙ ap (λ c. if c then Some TextCause.TooMany else None) e
@@ -258,10 +258,13 @@ no_word : word_named [] ≡ None
 unfolding word_named
 no_word = refl
 
-pub no_event_is_told : (ds : List Declaration) (events : ℕ) (line : List ℕ) → has_bad_byte line ≡ false → event_in ds (words_of line) ≡ None → (is_declaration_line line ≡ true → 0 < events)
+pub no_event_is_told : (ds : List Declaration) (events : ℕ) (line : List ℕ) → event_in ds (words_of line) ≡ None → (is_declaration_line line ≡ true → 0 < events)
     → line_cause (seen_so_far ds events) line ≡ None → ⊥
-no_event_is_told ds events line clean none behind h = by (words_of line) none behind (sym (clean_line (seen_so_far ds events) line clean) ∙ h)
+no_event_is_told ds events line none behind h = cases (has_bad_byte line) refl (λ clean. by (words_of line) none behind (sym (clean_line (seen_so_far ds events) line clean) ∙ h))
   where
+    cases : (b : Bool) → has_bad_byte line ≡ b → (has_bad_byte line ≡ false → ⊥) → ⊥
+    cases true bad rest = none-some TextCause.BadByte (sym h ∙ bad_byte_is_told (seen_so_far ds events) line bad)
+    cases false clean rest = rest clean
     by : (ws : List (List ℕ)) → event_in ds ws ≡ None → (is_declaration_word (word_named (first_word ws)) ≡ true → 0 < events)
         → word_cause (seen_so_far ds events) (word_named (first_word ws)) (arguments ws) ≡ None → ⊥
     by [] none behind h = none-some TextCause.UnknownWord (sym (sym (ap (λ w. word_cause (seen_so_far ds events) w []) no_word) ∙ h))

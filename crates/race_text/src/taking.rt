@@ -6,7 +6,6 @@ ghost use Rattle.race_text.specs.Text.{lines};
 ghost use Rattle.race_text.specs.Taking as spec;
 
 use crate::cause::TextCause;
-use crate::cut::has_bad_byte;
 use crate::declaration::cause_of;
 use crate::event::{Draft, read_event};
 use crate::fields::as_text;
@@ -28,9 +27,6 @@ pub(crate) fn take_event<A: Allocator + Copy>(
     let count = trace.len();
     let decls = trace.decls();
     let _declarations = decls.len();
-    if has_bad_byte(line) {
-        return Err(TextCause::BadByte);
-    }
     match read_event(decls, line) {
         Some(draft) => append(trace, draft),
         None => Err(line_cause(decls, count, line).unwrap()),

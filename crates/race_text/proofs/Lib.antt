@@ -1,4 +1,6 @@
 pub mod CutLemmas
+pub mod SeenLemmas
+pub mod UnseenLemmas
 pub mod NumberLemmas
 pub mod WordLemmas
 pub mod CleanLemmas

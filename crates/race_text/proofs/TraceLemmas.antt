@@ -265,6 +265,7 @@ no_event_is_told ds events line none behind h = cases (has_bad_byte line) refl (
     cases : (b : Bool) → has_bad_byte line ≡ b → (has_bad_byte line ≡ false → ⊥) → ⊥
     cases true bad rest = none-some TextCause.BadByte (sym h ∙ bad_byte_is_told (seen_so_far ds events) line bad)
     cases false clean rest = rest clean
+
     by : (ws : List (List ℕ)) → event_in ds ws ≡ None → (is_declaration_word (word_named (first_word ws)) ≡ true → 0 < events)
         → word_cause (seen_so_far ds events) (word_named (first_word ws)) (arguments ws) ≡ None → ⊥
     by [] none behind h = none-some TextCause.UnknownWord (sym (sym (ap (λ w. word_cause (seen_so_far ds events) w []) no_word) ∙ h))

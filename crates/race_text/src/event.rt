@@ -1,15 +1,17 @@
 //! Lines that are events.
 ghost use Rattle.std.specs.Prelude.{◌≡◌, ◌-◌, ◌^◌, true};
+ghost use Rattle.std.specs.List.{list_all};
 ghost use Rattle.std.specs.Option.{option_map};
+ghost use Rattle.race_records.specs.Name.{is_place_byte};
 ghost use Rattle.race_records.specs.Declarations.{find_name};
 ghost use Rattle.race_text.specs.Words.{parts_left, words_of};
 ghost use Rattle.race_text.specs.Reading as spec;
 
-use crate::cut::cut_at;
-use crate::fields::look_up;
+use crate::cut::cut_word;
+use crate::fields::as_text;
 use crate::form::{Word, word_named};
 use crate::number::read_number;
-use race_records::{Decls, Named, Op, is_name, is_place};
+use race_records::{Decls, MAX_PLACE_LEN, Named, Op};
 use std::alloc::Allocator;
 
 /// An event with its place as it is spelled.
@@ -25,24 +27,28 @@ pub struct Draft<'a> {
 
 // The event that the line is. Nothing where the line isn't one.
 pub(crate) fn read_event<'a, A: Allocator>(decls: &Decls<A>, line: &'a [u8]) -> Option<Draft<'a>>
-    ensures { option_map spec.drafted result ≡ spec.event_in decls.now.declarations (words_of line.now) }
+    ensures { option_map spec.drafted result
+        ≡ spec.event_in decls.now.declarations (words_of line.now) }
 {
-    let (first, rest) = cut_at(line, b' ');
-    match word_named(first) {
+    match cut_word(line) {
         None => None,
-        Some(word) => match word {
-            Word::Goroutine => None,
-            Word::Var => None,
-            Word::Go => read_go(decls, rest),
-            Word::Exit => read_exit(decls, rest),
-            Word::Read => read_read(decls, rest),
-            Word::Write => read_write(decls, rest),
+        Some((first, rest)) => match word_named(first) {
+            None => None,
+            Some(word) => match word {
+                Word::Goroutine => None,
+                Word::Var => None,
+                Word::Go => read_go(decls, rest),
+                Word::Exit => read_exit(decls, rest),
+                Word::Read => read_read(decls, rest),
+                Word::Write => read_write(decls, rest),
+            },
         },
     }
 }
 
 fn read_go<'a, A: Allocator>(decls: &Decls<A>, rest: Option<&'a [u8]>) -> Option<Draft<'a>>
-    ensures { option_map spec.drafted result ≡ spec.go_of decls.now.declarations (parts_left 32 rest.entry) }
+    ensures { option_map spec.drafted result ≡ spec.go_of decls.now.declarations
+        (parts_left 32 rest.entry) }
 {
     let (who, rest) = next_goroutine(decls, rest)?;
     let (started, rest) = next_goroutine(decls, rest)?;
@@ -55,7 +61,8 @@ fn read_go<'a, A: Allocator>(decls: &Decls<A>, rest: Option<&'a [u8]>) -> Option
 }
 
 fn read_exit<'a, A: Allocator>(decls: &Decls<A>, rest: Option<&'a [u8]>) -> Option<Draft<'a>>
-    ensures { option_map spec.drafted result ≡ spec.exit_of decls.now.declarations (parts_left 32 rest.entry) }
+    ensures { option_map spec.drafted result ≡ spec.exit_of decls.now.declarations
+        (parts_left 32 rest.entry) }
 {
     let (who, rest) = next_goroutine(decls, rest)?;
     let place = last_place(rest)?;
@@ -67,7 +74,8 @@ fn read_exit<'a, A: Allocator>(decls: &Decls<A>, rest: Option<&'a [u8]>) -> Opti
 }
 
 fn read_read<'a, A: Allocator>(decls: &Decls<A>, rest: Option<&'a [u8]>) -> Option<Draft<'a>>
-    ensures { option_map spec.drafted result ≡ spec.access_of Op.Read decls.now.declarations (parts_left 32 rest.entry) }
+    ensures { option_map spec.drafted result ≡ spec.access_of Op.Read decls.now.declarations
+        (parts_left 32 rest.entry) }
 {
     let (who, rest) = next_goroutine(decls, rest)?;
     let (var, rest) = next_var(decls, rest)?;
@@ -81,7 +89,8 @@ fn read_read<'a, A: Allocator>(decls: &Decls<A>, rest: Option<&'a [u8]>) -> Opti
 }
 
 fn read_write<'a, A: Allocator>(decls: &Decls<A>, rest: Option<&'a [u8]>) -> Option<Draft<'a>>
-    ensures { option_map spec.drafted result ≡ spec.access_of Op.Write decls.now.declarations (parts_left 32 rest.entry) }
+    ensures { option_map spec.drafted result ≡ spec.access_of Op.Write decls.now.declarations
+        (parts_left 32 rest.entry) }
 {
     let (who, rest) = next_goroutine(decls, rest)?;
     let (var, rest) = next_var(decls, rest)?;
@@ -99,24 +108,30 @@ fn next_goroutine<'a, A: Allocator>(
     decls: &Decls<A>,
     rest: Option<&'a [u8]>,
 ) -> Option<(u32, Option<&'a [u8]>)>
-    ensures { option_map spec.read_so_far result ≡ spec.first_goroutine decls.now.declarations (parts_left 32 rest.entry) }
+    ensures { option_map spec.read_so_far result ≡ spec.first_goroutine decls.now.declarations
+        (parts_left 32 rest.entry) }
 {
     match rest {
         None => None,
-        Some(bytes) => {
-            let (word, others) = cut_at(bytes, b' ');
-            match goroutine(decls, word) {
+        Some(bytes) => match cut_word(bytes) {
+            None => {
+                // What holds of every `Decls` is known once its length is.
+                let _count = decls.len();
+                None
+            }
+            Some((word, others)) => match goroutine(decls, word) {
                 None => None,
                 Some(number) => Some((number, others)),
-            }
-        }
+            },
+        },
     }
 }
 
 fn goroutine<A: Allocator>(decls: &Decls<A>, word: &[u8]) -> Option<u32>
+    requires { list_all is_place_byte word.now ≡ true }
     ensures { result ≡ spec.goroutine_number (find_name decls.now.declarations word.now) }
 {
-    match find(decls, word) {
+    match decls.find(as_text(word)) {
         None => None,
         Some(named) => match named {
             Named::Goroutine(number) => Some(number),
@@ -133,24 +148,30 @@ fn next_var<'a, A: Allocator>(
     decls: &Decls<A>,
     rest: Option<&'a [u8]>,
 ) -> Option<(u32, Option<&'a [u8]>)>
-    ensures { option_map spec.read_so_far result ≡ spec.first_var decls.now.declarations (parts_left 32 rest.entry) }
+    ensures { option_map spec.read_so_far result ≡ spec.first_var decls.now.declarations
+        (parts_left 32 rest.entry) }
 {
     match rest {
         None => None,
-        Some(bytes) => {
-            let (word, others) = cut_at(bytes, b' ');
-            match var(decls, word) {
+        Some(bytes) => match cut_word(bytes) {
+            None => {
+                // What holds of every `Decls` is known once its length is.
+                let _count = decls.len();
+                None
+            }
+            Some((word, others)) => match var(decls, word) {
                 None => None,
                 Some(number) => Some((number, others)),
-            }
-        }
+            },
+        },
     }
 }
 
 fn var<A: Allocator>(decls: &Decls<A>, word: &[u8]) -> Option<u32>
+    requires { list_all is_place_byte word.now ≡ true }
     ensures { result ≡ spec.var_number (find_name decls.now.declarations word.now) }
 {
-    match find(decls, word) {
+    match decls.find(as_text(word)) {
         None => None,
         Some(named) => match named {
             Named::Goroutine(_) => None,
@@ -162,31 +183,19 @@ fn var<A: Allocator>(decls: &Decls<A>, word: &[u8]) -> Option<u32>
     }
 }
 
-// What the word names. A word that is no name names nothing.
-fn find<A: Allocator>(decls: &Decls<A>, word: &[u8]) -> Option<Named>
-    ensures { result ≡ find_name decls.now.declarations word.now }
-{
-    // What holds of every `Decls` is known once its length is.
-    let _count = decls.len();
-    if is_name(word) {
-        return look_up(decls, word);
-    }
-    None
-}
-
 // The value that the next word is, and what is left behind it.
 fn next_value<'a>(rest: Option<&'a [u8]>) -> Option<(u64, Option<&'a [u8]>)>
     ensures { option_map spec.read_so_far result ≡ spec.first_value (parts_left 32 rest.entry) }
 {
     match rest {
         None => None,
-        Some(bytes) => {
-            let (word, others) = cut_at(bytes, b' ');
-            match read_number(word, u64::MAX) {
+        Some(bytes) => match cut_word(bytes) {
+            None => None,
+            Some((word, others)) => match read_number(word, u64::MAX) {
                 None => None,
                 Some(value) => Some((value, others)),
-            }
-        }
+            },
+        },
     }
 }
 
@@ -196,12 +205,18 @@ fn last_place<'a>(rest: Option<&'a [u8]>) -> Option<&'a [u8]>
 {
     match rest {
         None => None,
-        Some(bytes) => {
-            let (word, others) = cut_at(bytes, b' ');
-            match others {
+        Some(bytes) => match cut_word(bytes) {
+            None => None,
+            Some((word, others)) => match others {
                 Some(_) => None,
-                None => { if is_place(word) { Some(word) } else { None } }
-            }
-        }
+                None => {
+                    if word.is_empty() || word.len() > MAX_PLACE_LEN {
+                        None
+                    } else {
+                        Some(word)
+                    }
+                }
+            },
+        },
     }
 }

@@ -25,7 +25,8 @@ pub fn a_line_has_one_spelling()
 
 /// Words are known, and names are declared, before the first event and as what they are used for.
 pub fn names_are_declared_first()
-    ensures late { text_fault text.late_declaration ≡ Some (text.fault_at 4 TextCause.LateDeclaration) }
+    ensures late { text_fault text.late_declaration
+        ≡ Some (text.fault_at 4 TextCause.LateDeclaration) }
     ensures word { text_fault text.unknown_word ≡ Some (text.fault_at 9 TextCause.UnknownWord) }
     ensures unknown { text_fault text.unknown_name ≡ Some (text.fault_at 4 TextCause.Unknown) }
     ensures kind { text_fault text.wrong_kind ≡ Some (text.fault_at 4 TextCause.WrongKind) }

@@ -23,7 +23,7 @@ pub(crate) fn as_text(word: &[u8]) -> &str
 }
 
 // What a name stands for.
-pub(crate) fn look_up<A: Allocator>(decls: &Decls<A>, word: &[u8]) -> Option<Named>
+fn look_up<A: Allocator>(decls: &Decls<A>, word: &[u8]) -> Option<Named>
     requires { name.is_name word.now ≡ true }
     ensures { result ≡ find_name decls.now.declarations word.now }
 {
@@ -175,7 +175,8 @@ pub(crate) fn fields_cause<A: Allocator>(
     fields: &[Field],
     rest: Option<&[u8]>,
 ) -> Option<TextCause>
-    ensures { result ≡ spec.fields_cause decls.now.declarations fields.now (parts_left 32 rest.entry) }
+    ensures { result ≡ spec.fields_cause decls.now.declarations fields.now
+        (parts_left 32 rest.entry) }
 {
     let mut least = None;
     let mut left = rest;

@@ -16,7 +16,8 @@ use std::alloc::Allocator;
 pub fn parse_trace<A: Allocator + Copy>(alloc: A, bytes: &[u8]) -> Result<Trace<A>, TextFault>
     ensures text { IfOk result (λ trace. bytes.now ≡ text trace) }
     ensures fine { OnOk result (text_fault bytes.now ≡ None) }
-    ensures fault { IfErr result (λ told. told.cause ≢ TextCause.OutOfMemory → text_fault bytes.now ≡ Some told) }
+    ensures fault { IfErr result
+        (λ told. told.cause ≢ TextCause.OutOfMemory → text_fault bytes.now ≡ Some told) }
     ensures memory { IfErr result (λ told. IsNoneBefore told.line (text_fault bytes.now)) }
 {
     let mut reader = Reader::new(alloc);

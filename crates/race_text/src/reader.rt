@@ -48,7 +48,8 @@ impl<A: Allocator + Copy> Reader<A> {
             (spec.lines_read self.new.has_header self.new.decls self.new.trace))
             (λ told. told ≢ TextCause.OutOfMemory
             → fault.cause (spec.lines_read self.old.has_header self.old.decls self.old.trace) line.now true ≡ Some told) }
-        ensures reading { OnOk result (spec.IsReading self.new.has_header self.new.decls self.new.trace) }
+        ensures reading { OnOk result
+            (spec.IsReading self.new.has_header self.new.decls self.new.trace) }
     {
         if !self.has_header {
             return self.take_header(line);
@@ -61,7 +62,8 @@ impl<A: Allocator + Copy> Reader<A> {
 
     // The cause of the last part of a text, which no newline ends.
     pub(crate) fn end_cause(&self, last: &[u8]) -> Option<TextCause>
-        ensures { result ≡ spec.end_cause (spec.lines_read self.now.has_header self.now.decls self.now.trace) last.now }
+        ensures { result ≡ spec.end_cause
+            (spec.lines_read self.now.has_header self.now.decls self.now.trace) last.now }
     {
         if self.has_header {
             return if last.is_empty() {
@@ -100,7 +102,8 @@ impl<A: Allocator + Copy> Reader<A> {
         ensures taken { MatchResult result
             (λ _. spec.GoesOn [] line.now (spec.lines_read self.new.has_header self.new.decls self.new.trace))
             (λ told. fault.cause [] line.now true ≡ Some told) }
-        ensures reading { OnOk result (spec.IsReading self.new.has_header self.new.decls self.new.trace) }
+        ensures reading { OnOk result
+            (spec.IsReading self.new.has_header self.new.decls self.new.trace) }
     {
         if line == b"gotrace 1".as_slice() {
             self.has_header = true;
@@ -119,7 +122,8 @@ impl<A: Allocator + Copy> Reader<A> {
             (spec.lines_read self.new.has_header self.new.decls self.new.trace))
             (λ told. told ≢ TextCause.OutOfMemory
             → fault.cause (lines (begun self.old.decls)) line.now true ≡ Some told) }
-        ensures reading { OnOk result (spec.IsReading self.new.has_header self.new.decls self.new.trace) }
+        ensures reading { OnOk result
+            (spec.IsReading self.new.has_header self.new.decls self.new.trace) }
     {
         match take_declaration(&mut self.decls, line) {
             Err(cause) => Err(cause),

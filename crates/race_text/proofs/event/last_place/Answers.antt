@@ -7,5 +7,5 @@ use Rattle.race_text.proofs.event.last_place.Goals as goal
 
 pub returns-in-Some-others : goal.returns-in-Some-others
 returns-in-Some-others c =
-    sym (ap (λ r. last_place (parts_left 32 r)) c.in-Some.is ∙ ap last_place c.cut_at.ensures
-    ∙ last_place-more c.cut_at.result.0.now (parts_left 32 c.cut_at.result.1) (some_part 32 c.cut_at.result.1 _ c.in-Some-others.is))
+    sym (ap (λ r. last_place (parts_left 32 r)) c.in-Some.is ∙ ap last_place c.in-Some-cut_word.ensures.0
+    ∙ last_place-more c.in-Some-cut_word.word.now (parts_left 32 c.in-Some-cut_word.others) (some_part 32 c.in-Some-cut_word.others _ c.in-Some-others.is))

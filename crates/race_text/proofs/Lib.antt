@@ -1,0 +1,16 @@
+pub mod CutLemmas
+pub mod SeenLemmas
+pub mod UnseenLemmas
+pub mod NumberLemmas
+pub mod WordLemmas
+pub mod CleanLemmas
+pub mod CauseLemmas
+pub mod DeclarationLemmas
+pub mod FoundLemmas
+pub mod EventWords
+pub mod EventCauses
+pub mod EventLines
+pub mod TraceLemmas
+pub mod ReaderLemmas
+pub mod ParseLemmas
+pub mod ExampleRows

@@ -1,0 +1,87 @@
+-- Which words are numbers.
+use Rattle.std.proofs.Common.{◌≡◌, ℕ, zero, suc, ◌⊎◌, inl, inr, ◌≢◌, ◌<◌, ◌≤◌, ◌^◌, Bool, true, false, ◌&&◌, if◌then◌else◌, nat_le, List, length, get_or, Option, Some, None, refl, sym, ap, subst, ◌∙◌, arith, true≢false}
+use Rattle.std.proofs.lemmas.Bool.Decides.{nat_tests}
+use Rattle.std.proofs.lemmas.Fmt.{decimal_is_IsNumeral, decimal_digit, first_decimal, decimal_nonempty, decimal-digits_value, IsAscii-decimal}
+use Rattle.std.proofs.lemmas.Slice.Eq.{bytes_eq-Decides}
+use Rattle.std.proofs.lemmas.Str.{IsUtf8-from_ascii}
+use Rattle.std.proofs.lemmas.Str.Parse.{digit_at, numerals_by_value, tells_digits, without_leading_plus_none}
+use Rattle.std.specs.Fmt.{decimal}
+use Rattle.std.specs.Str.{bytes_eq, IsUtf8, IsAscii}
+use Rattle.std.specs.Str.Parse.{AllDigits, IsNumeral, digits_value, without_leading_plus}
+use Rattle.race_text.specs.Words.{number}
+
+-- what is no number's text is no number
+pub number-none : (max : ℕ) (word : List ℕ) → ((n : ℕ) → n ≤ max → word ≡ decimal n → ⊥) → number max word ≡ None
+unfolding number
+number-none max word h = by (bytes_eq word (decimal (digits_value 10 word))) refl (nat_le (digits_value 10 word) max) refl
+  where
+    by : (b : Bool) → bytes_eq word (decimal (digits_value 10 word)) ≡ b → (c : Bool) → nat_le (digits_value 10 word) max ≡ c
+        → ◌≡◌ {A = Option ℕ} (if b && c then Some (digits_value 10 word) else None) None
+    by true e true f = absurd (h (digits_value 10 word) (grind (arith, nat_tests)) ((bytes_eq-Decides word (decimal (digits_value 10 word))).0 e))
+    by true e false f = refl
+    by false e c f = refl
+
+-- and a number's text is it
+pub number-some : (max n : ℕ) (word : List ℕ) → max < 2 ^ 64 → n ≤ max → word ≡ decimal n → number max word ≡ Some n
+unfolding number
+number-some max n word small low e =
+    let value : digits_value 10 word ≡ n = ap (digits_value 10) e ∙ (decimal_is_IsNumeral n (omega arith)).1 in
+    by (bytes_eq word (decimal (digits_value 10 word))) ((bytes_eq-Decides word (decimal (digits_value 10 word))).1 (e ∙ ap decimal (sym value)))
+    (nat_le (digits_value 10 word) max) (grind (arith, nat_tests)) ∙ ap Some value
+  where
+    by : (b : Bool) → b ≡ true → (c : Bool) → c ≡ true → ◌≡◌ {A = Option ℕ} (if b && c then Some (digits_value 10 word) else None) (Some (digits_value 10 word))
+    by true e true f = refl
+    by true e false f = absurd (true≢false (sym f))
+    by false e c f = absurd (true≢false (sym e))
+
+-- a leading zero stands alone, where the code has tested so
+pub zero_alone : (word : List ℕ) → 0 < length word → (((get_or word 0 0 ≡ 48) × (length word ≤ 1)) ⊎ (get_or word 0 0 ≢ 48)) → get_or word 0 0 ≡ 48 → length word ≡ 1
+zero_alone word some (inl short) h = let s = short.1 in omega (arith, s, some)
+zero_alone word some (inr other) h = absurd (other h)
+
+module _ (max : ℕ) (word : List ℕ) (small : max < 2 ^ 64) where
+  digits_of_text : (n : ℕ) → n ≤ max → word ≡ decimal n → IsNumeral 10 word × (digits_value 10 word ≡ n)
+  digits_of_text n low e = subst (λ w. IsNumeral 10 w × (digits_value 10 w ≡ n)) (sym e) (decimal_is_IsNumeral n (omega arith))
+
+  pub number-empty : length word ≡ 0 → number max word ≡ None
+  number-empty h = number-none max word (λ n low e. let d = decimal_nonempty n (omega arith) in let l = ap length e in omega arith)
+
+  pub number-plus : 0 < length word → get_or word 0 0 ≡ 43 → number max word ≡ None
+  number-plus some h = number-none max word (λ n low e. let d = digit_at word 0 (digits_of_text n low e).0.1 some in omega (arith, d.0, d.1))
+
+  pub number-zero : get_or word 0 0 ≡ 48 → 1 < length word → number max word ≡ None
+  number-zero h long = number-none max word (λ n low e. by n low e)
+    where
+      by : (n : ℕ) → n ≤ max → word ≡ decimal n → ⊥
+      by zero low e = let l = ap length (e ∙ decimal_digit 0 (omega arith)) in omega arith
+      by (suc n) low e =
+          let first = first_decimal (suc n) (omega arith) (omega arith) in
+          let same : get_or word 0 0 ≡ get_or (decimal (suc n)) 0 0 = λ i. get_or (e i) 0 0 in
+          omega (arith, first, same, h)
+
+  pub number-not_text : (IsUtf8 word → ⊥) → number max word ≡ None
+  number-not_text h = number-none max word (λ n low e. h (IsUtf8-from_ascii word (subst IsAscii (sym e) (IsAscii-decimal n (omega arith)))))
+
+  module _ (plain : get_or word 0 0 ≢ 43) (alone : get_or word 0 0 ≡ 48 → length word ≡ 1) where
+    -- where `parse` reads nothing, there is no number
+    pub number-unread : ((IsNumeral 10 (without_leading_plus word) × (digits_value 10 (without_leading_plus word) < 2 ^ 64)) → ⊥) → number max word ≡ None
+    number-unread h = number-none max word (λ n low e.
+        let d = digits_of_text n low e in
+        h (subst (λ w. IsNumeral 10 w × (digits_value 10 w < 2 ^ 64)) (sym (without_leading_plus_none word plain)) (d.0, omega (arith, d.1))))
+
+    -- and what it reads is the number, where that is in the limit
+    module _ (value : ℕ) (numeral : IsNumeral 10 (without_leading_plus word)) (fits : digits_value 10 (without_leading_plus word) < 2 ^ 64)
+        (is : digits_value 10 (without_leading_plus word) ≡ value) where
+      value_is : digits_value 10 word ≡ value
+      value_is = ap (digits_value 10) (sym (without_leading_plus_none word plain)) ∙ is
+
+      text_is : word ≡ decimal value
+      text_is =
+          let n : IsNumeral 10 word = subst (IsNumeral 10) (without_leading_plus_none word plain) numeral in
+          sym (decimal-digits_value (numerals_by_value (AllDigits 10) tells_digits) word n.1 n.0 alone (omega (arith, value_is, is, fits))) ∙ ap decimal value_is
+
+      pub number-read : value ≤ max → number max word ≡ Some value
+      number-read low = number-some max value word small low text_is
+
+      pub number-over : max < value → number max word ≡ None
+      number-over over = number-none max word (λ n low e. let d = digits_of_text n low e in omega (arith, d.1, value_is))

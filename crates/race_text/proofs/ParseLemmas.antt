@@ -1,0 +1,174 @@
+-- A text that is read part by part: what is left of it, and its first fault.
+use Rattle.std.proofs.Common.{◌≡◌, ℕ, ◌+◌, ◌<◌, ◌≤◌, ◌==◌, ◌&&◌, nat_lt, Bool, true, false, not, if◌then◌else◌, List, [], ◌∷◌, ◌++◌, length, Option, Some, None, refl, sym, ap, ◌∙◌, arith, append-nil, append_assoc}
+use Rattle.std.proofs.lemmas.Bool.Decides.{nat_tests}
+use Rattle.std.proofs.lemmas.List.{length-append}
+use Rattle.std.proofs.lemmas.List.Splits.{join_with_byte-slice_split, length-slice_split}
+use Rattle.std.proofs.lemmas.Grind.{flat_map-append}
+use Rattle.std.proofs.lemmas.Option.{none-some, same_Some}
+use Rattle.std.specs.List.{flat_map, join_with_byte}
+use Rattle.std.specs.Str.{bytes_eq}
+use Rattle.race_records.specs.Declarations.{DeclsState}
+use Rattle.race_records.specs.Events.{TraceState}
+use Rattle.race_text.specs.declared.cause.TextCause.{TextCause}
+use Rattle.race_text.specs.declared.cause.TextFault.{TextFault}
+use Rattle.race_text.specs.Words.{parts_of}
+use Rattle.race_text.specs.Text.{header, ended, lines}
+use Rattle.race_text.specs.Fault.{cause, or_later, fault_after, text_fault}
+use Rattle.race_text.proofs.WordLemmas.{both}
+use Rattle.race_text.specs.Reader.{lines_read, end_cause, IsNoneBefore}
+
+abbrev told : ℕ → TextCause → TextFault
+told line c = record { line = line; cause = c }
+
+-- a part behind which another stands
+fault_step : (before : List (List ℕ)) (line : List ℕ) (parts : List (List ℕ)) → 0 < length parts
+    → fault_after before (line ∷ parts) ≡ or_later (length before + 1) (cause before line true) (fault_after (before ++ line ∷ []) parts)
+unfolding fault_after
+fault_step before line [] h = absurd (omega arith)
+fault_step before line (next ∷ others) h = refl
+
+-- the last part
+fault_end : (before : List (List ℕ)) (last : List ℕ) → fault_after before (last ∷ []) ≡ or_later (length before + 1) (end_cause before last) None
+unfolding fault_after
+fault_end before last = by ((length last == 0) && nat_lt 0 (length before))
+  where
+    by : (b : Bool) → (if b then None else or_later (length before + 1) (cause before last false) None) ≡ or_later (length before + 1) (if b then None else cause before last false) None
+    by true = refl
+    by false = refl
+
+-- a fault is none of the lines before
+or_later_from : (n : ℕ) (o : Option TextCause) (later : Option TextFault) (f : TextFault) → or_later n o later ≡ Some f → ((g : TextFault) → later ≡ Some g → n ≤ g.line) → n ≤ f.line
+or_later_from n None later f h rest = rest f h
+or_later_from n (Some c) later f h rest = let same : n ≡ f.line = ap (λ (x : TextFault). x.line) (same_Some (told n c) f h) in omega (arith, same)
+
+fault_from : (parts before : List (List ℕ)) (f : TextFault) → fault_after before parts ≡ Some f → length before + 1 ≤ f.line
+unfolding fault_after
+fault_from [] before f h = absurd (none-some f h)
+fault_from (last ∷ []) before f h = or_later_from (length before + 1) (end_cause before last) None f (sym (fault_end before last) ∙ h) (λ g e. absurd (none-some g e))
+fault_from (line ∷ next ∷ others) before f h =
+    or_later_from (length before + 1) (cause before line true) (fault_after (before ++ line ∷ []) (next ∷ others)) f h
+    (λ g e. let later = fault_from (next ∷ others) (before ++ line ∷ []) g e in omega (arith, later, length-append before (line ∷ [])))
+
+-- a part that no newline ends is at fault where it is a line
+unended : (before : List (List ℕ)) (last : List ℕ) → cause before last false ≡ None → ⊥
+unfolding cause
+unended [] last h = by (bytes_eq last header) h
+  where
+    by : (b : Bool) → (if not b then Some TextCause.BadHeader else Some TextCause.NoNewline) ≡ None → ⊥
+    by true h = none-some TextCause.NoNewline (sym h)
+    by false h = none-some TextCause.BadHeader (sym h)
+unended (first ∷ before) last h = none-some TextCause.NoNewline (sym h)
+
+end_empty : (before : List (List ℕ)) (last : List ℕ) → end_cause before last ≡ None → (length last ≡ 0) × (0 < length before)
+end_empty before last h = by ((length last == 0) && nat_lt 0 (length before)) refl h
+  where
+    by : (b : Bool) → ((length last == 0) && nat_lt 0 (length before)) ≡ b → (if b then None else cause before last false) ≡ None → (length last ≡ 0) × (0 < length before)
+    by true e h = let p = both (length last == 0) (nat_lt 0 (length before)) e in let a = p.0 in let b = p.1 in (grind (arith, nat_tests, a), grind (arith, nat_tests, b))
+    by false e h = absurd (unended before last h)
+
+no_bytes : (last : List ℕ) → length last ≡ 0 → last ≡ []
+no_bytes [] h = refl
+no_bytes (b ∷ bs) h = absurd (omega (arith, h))
+
+some_line : (t : TraceState) → nat_lt 0 (length (lines t)) ≡ true
+unfolding lines
+some_line t = grind (arith, nat_tests)
+
+-- the cause of the last part, by what was read
+pub end_behind : (t : TraceState) (last : List ℕ) (b : Bool) → (length last == 0) ≡ b → end_cause (lines t) last ≡ (if b then None else Some TextCause.NoNewline)
+unfolding lines cause
+end_behind t last true e = (λ i. if e i && nat_lt 0 (length (lines t)) then None else Some TextCause.NoNewline) ∙ ap (λ b. if b then None else Some TextCause.NoNewline) (some_line t)
+end_behind t last false e = λ i. if e i && nat_lt 0 (length (lines t)) then None else Some TextCause.NoNewline
+
+end_first : (last : List ℕ) → end_cause [] last ≡ cause [] last false
+end_first last = by (length last == 0)
+  where
+    by : (b : Bool) → (if b && nat_lt 0 0 then None else cause [] last false) ≡ cause [] last false
+    by true = refl
+    by false = refl
+
+pub end_header : (last : List ℕ) → bytes_eq last header ≡ true → end_cause [] last ≡ Some TextCause.NoNewline
+unfolding cause
+end_header last h = end_first last ∙ ap (λ b. if not b then Some TextCause.BadHeader else Some TextCause.NoNewline) h
+
+pub end_other : (last : List ℕ) → bytes_eq last header ≡ false → end_cause [] last ≡ Some TextCause.BadHeader
+unfolding cause
+end_other last h = end_first last ∙ ap (λ b. if not b then Some TextCause.BadHeader else Some TextCause.NoNewline) h
+
+-- an end without a cause stands behind the header
+pub header_before_end : (has_header : Bool) (decls : DeclsState) (trace : Option TraceState) (last : List ℕ) → end_cause (lines_read has_header decls trace) last ≡ None → has_header ≡ true
+header_before_end true decls trace last h = refl
+header_before_end false decls trace last h = let e = end_empty [] last h in let some = e.1 in absurd (omega (arith, some))
+
+-- so many lines were read of the bytes, with no fault, and these are left
+pub record IsAt (bytes : List ℕ) (before : List (List ℕ)) (left : List ℕ) (line : ℕ) : Type 0 where
+  pub fault : fault_after before (parts_of left) ≡ text_fault bytes
+  pub bytes_are : flat_map ended before ++ left ≡ bytes
+  pub number : line ≡ length before + 1
+  pub short : line + length left ≤ length bytes + 1
+
+pub at_start : (bytes : List ℕ) → IsAt bytes [] bytes 1
+unfolding text_fault
+at_start bytes = record { fault = refl; bytes_are = refl; number = refl; short = omega arith }
+
+-- a part that a newline ends
+cut_joined : (left part others : List ℕ) → parts_of left ≡ part ∷ parts_of others → left ≡ part ++ 10 ∷ others
+cut_joined left part others e = sym (join_with_byte-slice_split 10 left) ∙ ap (join_with_byte 10) e ∙ by (parts_of others) some (join_with_byte-slice_split 10 others)
+  where
+    some : 0 < length (parts_of others)
+    some = let l = length-slice_split (λ b. b == 10) others in omega (arith, l)
+
+    by : (ps : List (List ℕ)) → 0 < length ps → join_with_byte 10 ps ≡ others → join_with_byte 10 (part ∷ ps) ≡ part ++ 10 ∷ others
+    by [] h e = absurd (omega arith)
+    by (p ∷ ps) h e = ap (λ l. part ++ 10 ∷ l) e
+
+module _ (bytes : List ℕ) (before : List (List ℕ)) (left : List ℕ) (line : ℕ) (at : IsAt bytes before left line) where
+  pub none_before : IsNoneBefore line (text_fault bytes)
+  none_before f h = let from = fault_from (parts_of left) before f (at.fault ∙ h) in let n = at.number in omega (arith, from, n)
+
+  module _ (part others : List ℕ) (parts : parts_of left ≡ part ∷ parts_of others) where
+    step_is : text_fault bytes ≡ or_later (length before + 1) (cause before part true) (fault_after (before ++ part ∷ []) (parts_of others))
+    step_is = sym at.fault ∙ ap (fault_after before) parts
+        ∙ fault_step before part (parts_of others) (let l = length-slice_split (λ b. b == 10) others in omega (arith, l))
+
+    shorter_by : length left ≡ length part + length others + 1
+    shorter_by = let l = ap length (cut_joined left part others parts) ∙ length-append part (10 ∷ others) in omega (arith, l)
+
+    pub is_shorter : length others < length left
+    is_shorter = let l = shorter_by in omega (arith, l)
+
+    pub number_fits : line + 1 ≤ length bytes + 1
+    number_fits = let l = shorter_by in let short = at.short in omega (arith, l, short)
+
+    -- a fault is told at its line
+    pub told_at : (c : TextCause) → cause before part true ≡ Some c → text_fault bytes ≡ Some (told line c)
+    told_at c h = step_is ∙ (λ i. or_later (sym at.number i) (h i) (fault_after (before ++ part ∷ []) (parts_of others)))
+
+    -- and where there is none, the next line is read
+    pub at_next : (after : List (List ℕ)) → after ≡ before ++ part ∷ [] → cause before part true ≡ None → IsAt bytes after others (line + 1)
+    at_next after e h = record {
+      fault = ap (λ b. fault_after b (parts_of others)) e ∙ sym (step_is ∙ ap (λ o. or_later (length before + 1) o (fault_after (before ++ part ∷ []) (parts_of others))) h);
+      bytes_are = ap (λ b. flat_map ended b ++ others) e
+          ∙ ap (λ b. b ++ others) (flat_map-append ended before (part ∷ []) ∙ ap (λ l. flat_map ended before ++ l) (append-nil (ended part)))
+          ∙ append_assoc (flat_map ended before) (ended part) others
+          ∙ ap (λ l. flat_map ended before ++ l) (append_assoc part (10 ∷ []) others ∙ sym (cut_joined left part others parts))
+          ∙ at.bytes_are;
+      number = let n = at.number in let l = ap length e ∙ length-append before (part ∷ []) in omega (arith, n, l);
+      short = let l = shorter_by in let short = at.short in omega (arith, l, short);
+    }
+
+  module _ (last : List ℕ) (parts : parts_of left ≡ last ∷ []) where
+    end_is : text_fault bytes ≡ or_later (length before + 1) (end_cause before last) None
+    end_is = sym at.fault ∙ ap (fault_after before) parts ∙ fault_end before last
+
+    pub end_told_at : (c : TextCause) → end_cause before last ≡ Some c → text_fault bytes ≡ Some (told line c)
+    end_told_at c h = end_is ∙ (λ i. or_later (sym at.number i) (h i) None)
+
+    pub end_fine : end_cause before last ≡ None → text_fault bytes ≡ None
+    end_fine h = end_is ∙ ap (λ o. or_later (length before + 1) o None) h
+
+    -- then nothing is left
+    pub end_bytes : end_cause before last ≡ None → bytes ≡ flat_map ended before
+    end_bytes h =
+        let none_left : left ≡ [] = sym (join_with_byte-slice_split 10 left) ∙ ap (join_with_byte 10) parts ∙ no_bytes last (end_empty before last h).0 in
+        sym at.bytes_are ∙ ap (λ l. flat_map ended before ++ l) none_left ∙ append-nil _

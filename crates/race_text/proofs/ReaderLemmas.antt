@@ -1,0 +1,165 @@
+-- The header, and lines that declare.
+use Rattle.std.proofs.Common.{◌≡◌, ◌≢◌, ℕ, ◌≤◌, length, Bool, true, false, not, if◌then◌else◌, List, [], ◌∷◌, ◌++◌, Option, Some, None, Result, Ok, Err, IfOk, refl, sym, ap, subst, ◌∙◌, arith, true≢false}
+use Rattle.std.proofs.lemmas.List.Splits.{join_with_byte-slice_split}
+use Rattle.std.proofs.lemmas.Option.{none-some}
+use Rattle.std.proofs.lemmas.Slice.Eq.{bytes_eq-Decides}
+use Rattle.std.specs.Option.{option_map}
+use Rattle.std.specs.Str.{bytes_eq}
+use Rattle.race_records.specs.declared.kind.Object.{Object}
+use Rattle.race_records.specs.Declarations.{Declaration, DeclsState, decl_fault, with_declaration}
+use Rattle.race_records.specs.Events.{TraceState}
+use Rattle.race_records.specs.Refusal.{Refuses, AllowsUnless}
+use Rattle.race_text.specs.declared.cause.TextCause.{TextCause}
+use Rattle.race_text.specs.declared.form.Word.{Word}
+use Rattle.race_text.specs.Words.{words_of, has_bad_byte}
+use Rattle.race_text.specs.Text.{header, line_of, declaration_line, lines}
+use Rattle.race_text.specs.Form.{word_named, first_word, arguments}
+use Rattle.race_text.specs.Fault.{seen, seen_so_far, or_else, cause, word_cause, declaration_in, is_event_line, is_event_word, declared_as}
+use Rattle.race_text.specs.Declaring.{is_declaration_line, is_declaration_word, declaration_cause, only_name_cause, cause_of, with_declared, with_declaration_in}
+use Rattle.race_text.specs.Taking.{state_of, IsRead, TakesLine, begun}
+use Rattle.race_text.specs.Reader.{trace_read, lines_read, IsReading, GoesOn, TakesIfDeclared, TakesDeclaration}
+use Rattle.race_text.proofs.DeclarationLemmas.{goroutine_line, var_line, declaration_in-words}
+use Rattle.race_text.proofs.EventLines.{word_spelled}
+use Rattle.race_text.proofs.TraceLemmas.{cause_behind, clean_line, lines_declaration, seen_declaration}
+
+abbrev empty : DeclsState
+empty = record { declarations = []; places = [] }
+
+-- the first line
+pub header_told : (line : List ℕ) → bytes_eq line header ≡ false → cause [] line true ≡ Some TextCause.BadHeader
+unfolding cause
+header_told line h = ap (λ b. if not b then Some TextCause.BadHeader else None) h
+
+header_fine : (line : List ℕ) → bytes_eq line header ≡ true → cause [] line true ≡ None
+unfolding cause
+header_fine line h = ap (λ b. if not b then Some TextCause.BadHeader else None) h
+
+header_lines : lines (begun empty) ≡ header ∷ []
+unfolding lines
+header_lines = refl
+
+header_says : seen (header ∷ []) ≡ seen_so_far [] 0
+unfolding seen word_named
+header_says = refl
+
+pub header_taken : (decls : DeclsState) (trace : Option TraceState) (line : List ℕ) → IsReading false decls trace → bytes_eq line header ≡ true → GoesOn [] line (lines_read true decls trace)
+header_taken decls trace line reading h = record {
+  no_cause = header_fine line h;
+  lines = (λ i. lines (trace_read (reading.0 i) (reading.1 i))) ∙ header_lines ∙ (λ i. sym ((bytes_eq-Decides line header).0 h) i ∷ []);
+}
+
+pub header_reading : (decls : DeclsState) (trace : Option TraceState) → IsReading false decls trace → IsReading true decls trace
+header_reading decls trace reading =
+    subst (λ (p : DeclsState × Option TraceState). IsReading true p.0 p.1) (λ i. (sym reading.0 i, sym reading.1 i))
+    (record { seen_is = ap seen header_lines ∙ header_says; few_places = omega arith })
+
+-- a line that declares, and is not refused
+pub record IsDeclaration (line : List ℕ) : Type 0 where
+  pub d : Declaration
+  pub is : declaration_in line ≡ Some d
+  pub text : line ≡ declaration_line d
+  pub event : is_event_line line ≡ false
+
+or_else_nothing : (a b : Option TextCause) → or_else a b ≡ None → a ≡ None
+or_else_nothing None b h = refl
+or_else_nothing (Some c) b h = absurd (none-some c (sym h))
+
+one_word : (args : List (List ℕ)) → only_name_cause args ≡ None → (name : List ℕ) × (args ≡ name ∷ [])
+one_word [] h = absurd (none-some TextCause.WrongCount (sym h))
+one_word (name ∷ []) h = (name, refl)
+one_word (name ∷ other ∷ others) h = absurd (none-some TextCause.WrongCount (sym h))
+
+module _ (ds : List Declaration) (line first : List ℕ) (args : List (List ℕ)) (words : words_of line ≡ first ∷ args) where
+  joined : line ≡ line_of (first ∷ args)
+  joined = sym (join_with_byte-slice_split 32 line) ∙ ap line_of words
+
+  named_line : (word : Word) → word_named first ≡ Some word → word_named (first_word (words_of line)) ≡ Some word
+  named_line word named = ap (λ ws. word_named (first_word ws)) words ∙ named
+
+  by_word : (word : Option Word) → word_named first ≡ word → is_declaration_word word ≡ true → declaration_cause ds line ≡ None → IsDeclaration line
+  by_word None named h none = absurd (true≢false (sym h))
+  by_word (Some Word.Goroutine) named h none =
+      let one = one_word args (or_else_nothing (only_name_cause args) (option_map cause_of (decl_fault ds Object.Goroutine (first_word args))) (sym (goroutine_line ds line first args words named) ∙ none)) in
+      record {
+        d = record { name = one.0; object = Object.Goroutine };
+        is = declaration_in-words line first args (Some Word.Goroutine) words (sym named) ∙ (λ i. declared_as (Some Object.Goroutine) (one.1 i));
+        text = joined ∙ (λ i. line_of (word_spelled first Word.Goroutine named i ∷ one.1 i));
+        event = ap is_event_word (named_line Word.Goroutine named);
+      }
+  by_word (Some Word.Var) named h none =
+      let one = one_word args (or_else_nothing (only_name_cause args) (option_map cause_of (decl_fault ds Object.Var (first_word args))) (sym (var_line ds line first args words named) ∙ none)) in
+      record {
+        d = record { name = one.0; object = Object.Var };
+        is = declaration_in-words line first args (Some Word.Var) words (sym named) ∙ (λ i. declared_as (Some Object.Var) (one.1 i));
+        text = joined ∙ (λ i. line_of (word_spelled first Word.Var named i ∷ one.1 i));
+        event = ap is_event_word (named_line Word.Var named);
+      }
+  by_word (Some Word.Go) named h none = absurd (true≢false (sym h))
+  by_word (Some Word.Exit) named h none = absurd (true≢false (sym h))
+  by_word (Some Word.Read) named h none = absurd (true≢false (sym h))
+  by_word (Some Word.Write) named h none = absurd (true≢false (sym h))
+
+no_first : word_named [] ≡ None
+unfolding word_named
+no_first = refl
+
+declaration_of_line : (ds : List Declaration) (line : List ℕ) → is_declaration_line line ≡ true → declaration_cause ds line ≡ None → IsDeclaration line
+declaration_of_line ds line h none = by (words_of line) refl h
+  where
+    by : (ws : List (List ℕ)) → words_of line ≡ ws → is_declaration_word (word_named (first_word ws)) ≡ true → IsDeclaration line
+    by [] e h = absurd (true≢false (sym h ∙ ap is_declaration_word no_first))
+    by (first ∷ args) e h = by_word ds line first args e (word_named first) refl h none
+
+-- a declaration that was read, or refused
+module _ (old new : DeclsState) (line : List ℕ) (read : IsRead (begun old)) (clean : has_bad_byte line ≡ false) where
+  cause_of_line : is_declaration_line line ≡ true → cause (lines (begun old)) line true ≡ declaration_cause old.declarations line
+  cause_of_line h = cause_behind (begun old) line read ∙ clean_line (state_of (begun old)) line clean
+      ∙ sym (ap (λ b. if b then word_cause (seen_so_far old.declarations 0) (word_named (first_word (words_of line))) (arguments (words_of line)) else None) h)
+
+  taken_declaration : is_declaration_line line ≡ true → declaration_cause old.declarations line ≡ None → new ≡ with_declaration_in old line → TakesLine (lines (begun old)) line (begun new)
+  taken_declaration h none added =
+      let is = declaration_of_line old.declarations line h none in
+      let new_is : new ≡ with_declaration old is.d.name is.d.object = added ∙ ap (with_declared old) is.is in
+      let after : lines (begun new) ≡ lines (begun old) ++ line ∷ [] = ap (λ (d : DeclsState). lines (begun d)) new_is ∙ lines_declaration old line is.d is.text in
+      record {
+        no_cause = cause_of_line h ∙ none;
+        lines = after;
+        is_read = record {
+          seen_is = ap seen after ∙ seen_declaration (lines (begun old)) line old.declarations is.d read.seen_is is.is is.event
+              ∙ (λ i. seen_so_far (sym new_is i).declarations 0);
+          few_places = subst (λ (d : DeclsState). length d.places ≤ 0) (sym new_is) read.few_places;
+        };
+      }
+
+  is_declared : (f : TextCause) → declaration_cause old.declarations line ≡ Some f → is_declaration_line line ≡ true
+  is_declared f h = by (is_declaration_line line) refl h
+    where
+      by : (b : Bool) → is_declaration_line line ≡ b → (if b then word_cause (seen_so_far old.declarations 0) (word_named (first_word (words_of line))) (arguments (words_of line)) else None) ≡ Some f → is_declaration_line line ≡ true
+      by true e h = e
+      by false e h = absurd (none-some f h)
+
+  pub declaration_answered : (r : Result Bool TextCause) → Refuses (declaration_cause old.declarations line) r → AllowsUnless (declaration_cause old.declarations line) r TextCause.OutOfMemory
+      → IfOk r (λ added. added ≡ is_declaration_line line) → (r ≡ Ok true → new ≡ with_declaration_in old line) → (r ≡ Ok false → new ≡ old) → TakesDeclaration old line r new
+  declaration_answered (Ok true) refused allowed ok added same = taken_declaration (sym ok) (by (declaration_cause old.declarations line) refused) (added refl)
+    where
+      by : (o : Option TextCause) → Refuses {T = Bool} o (Ok true) → o ≡ None
+      by None h = refl
+      by (Some f) h = let wrong = h f refl in absurd (cc)
+  declaration_answered (Ok false) refused allowed ok added same = (same refl, sym ok)
+  declaration_answered (Err e) refused allowed ok added same = λ other. by (declaration_cause old.declarations line) refl refused allowed other
+    where
+      by : (o : Option TextCause) → declaration_cause old.declarations line ≡ o → Refuses {T = Bool} o (Err e) → AllowsUnless {T = Bool} o (Err e) TextCause.OutOfMemory → e ≢ TextCause.OutOfMemory
+          → cause (lines (begun old)) line true ≡ Some e
+      by None is refused allowed other = absurd (other (allowed refl))
+      by (Some f) is refused allowed other =
+          let told = refused f refl in
+          let same : f ≡ e = cc in
+          cause_of_line (is_declared f is) ∙ is ∙ ap Some same
+
+pub not_declared : (old new : DeclsState) (line : List ℕ) (added : Bool) → TakesIfDeclared old line added new → added ≡ false → new ≡ old
+not_declared old new line true taken h = absurd (true≢false h)
+not_declared old new line false taken h = taken.0
+
+-- a trace of declarations alone
+pub fresh : (t : TraceState) (decls : DeclsState) → t.decls ≡ decls → t.events ≡ [] → t.spare ≡ 0 → t ≡ begun decls
+fresh t decls d e s = λ i. record { decls = d i; events = e i; spare = s i }

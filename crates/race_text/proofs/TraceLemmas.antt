@@ -1,0 +1,281 @@
+-- One more event, or one more declaration: the lines of a trace, and what they say to the next one.
+use Rattle.std.proofs.Common.{◌≡◌, ℕ, suc, ◌+◌, ◌*◌, ◌<◌, ◌≤◌, ◌==◌, ◌||◌, Bool, true, false, not, if◌then◌else◌, nat_lt, nat_le, cond, List, [], ◌∷◌, ◌++◌, length, map, get_or, slice_get, unwrap_or, Option, Some, None, ◌≢◌, Result, Ok, Err, MatchResult, IsOkUnless, IsSome, OnOk, refl, sym, ap, subst, ◌∙◌, arith, true≢false, append-nil, append_assoc}
+use Rattle.std.proofs.lemmas.Bool.Decides.{nat_tests}
+use Rattle.std.proofs.lemmas.List.{length-append, map-append}
+use Rattle.std.proofs.lemmas.List.Elements.{filter_map-append}
+use Rattle.std.proofs.lemmas.List.Sums.{sum_by-append}
+use Rattle.std.proofs.lemmas.Option.{none-some, slice_get_within}
+use Rattle.std.proofs.lemmas.Slice.Eq.{bytes_eq-Decides}
+use Rattle.std.specs.List.{filter_map, cons_option, position_or_len, list_any, count_by}
+use Rattle.std.specs.Str.{bytes_eq}
+use Rattle.race_records.specs.declared.event.Event.{Event}
+use Rattle.race_records.specs.declared.declarations.DeclFault.{DeclFault}
+use Rattle.race_records.specs.declared.kind.Object.{Object}
+use Rattle.race_records.specs.declared.trace.PushFault.{PushFault}
+use Rattle.race_records.specs.declared.trace.TheConstants.{MAX_EVENTS}
+use Rattle.race_records.specs.declared.declarations.TheConstants.{MAX_PLACES}
+use Rattle.race_records.specs.Name.{is_place}
+use Rattle.race_records.specs.Declarations.{Declaration, DeclsState, is_known, place_number, with_place, place_fault, with_declaration, IsWellFormed, kind_of, count_of, limit_of}
+use Rattle.race_records.specs.Events.{TraceState, IsTrace, fits, push_fault}
+use Rattle.race_records.proofs.ListLemmas.{slice_get-push_within, slice_get-push_last}
+use Rattle.race_records.proofs.TextLemmas.{position_or_len-absent}
+use Rattle.race_text.specs.declared.cause.TextCause.{TextCause}
+use Rattle.race_text.specs.declared.form.Word.{Word}
+use Rattle.race_text.specs.Words.{words_of, has_bad_byte}
+use Rattle.race_text.specs.Form.{word_named, fields_of, object_of, first_word, arguments}
+use Rattle.race_text.specs.Declaring.{is_declaration_word, is_declaration_line}
+use Rattle.race_text.specs.Text.{header, declaration_line, event_line, op_words, goroutine_name, line_of, lines}
+use Rattle.race_text.specs.Fault.{Seen, seen, seen_so_far, declaration_in, is_event_line, or_else, fields_cause, room_cause, line_cause, cause, word_cause}
+use Rattle.race_text.specs.Reading.{Occurrence, event_by, event_in}
+use Rattle.race_text.specs.Taking.{state_of, IsRead, begun, IsFitting, event_of, AppendsEvent, IsFull, TakesLine, TakesOrTells}
+use Rattle.race_text.proofs.EventCauses.{go_complete, exit_complete, read_complete, write_complete}
+use Rattle.race_text.proofs.EventLines.{IsEventLine, event_line as event_line_of}
+
+map_same : {X Y : Type 0} (f g : X → Y) (xs : List X) → ((k : ℕ) (d : X) → k < length xs → f (get_or xs k d) ≡ g (get_or xs k d)) → map f xs ≡ map g xs
+map_same f g [] h = refl
+map_same f g (x ∷ xs) h = λ i. h 0 x (omega arith) i ∷ map_same f g xs (λ k d l. h (suc k) d (omega arith)) i
+
+-- the number of a place leads to it
+known_at : (places : List (List ℕ)) (word : List ℕ) → list_any (bytes_eq word) places ≡ true → slice_get places (position_or_len (bytes_eq word) places) ≡ Some word
+known_at [] word h = absurd (true≢false (sym h))
+known_at (p ∷ ps) word h = by (bytes_eq word p) refl h (known_at ps word)
+  where
+    by : (b : Bool) → bytes_eq word p ≡ b → (b || list_any (bytes_eq word) ps) ≡ true
+        → (list_any (bytes_eq word) ps ≡ true → slice_get ps (position_or_len (bytes_eq word) ps) ≡ Some word)
+        → slice_get (p ∷ ps) (cond (not b) (1 + position_or_len (bytes_eq word) ps) 0) ≡ Some word
+    by true e h rest = ap Some (sym ((bytes_eq-Decides word p).0 e))
+    by false e h rest = let n = position_or_len (bytes_eq word) ps in let one : 1 + n ≡ suc n = omega arith in ap (slice_get (p ∷ ps)) one ∙ rest h
+
+place_is_there : (decls : DeclsState) (word : List ℕ) → slice_get (with_place decls word).places (place_number decls.places word) ≡ Some word
+place_is_there decls word = by (is_known decls.places word) refl
+  where
+    by : (b : Bool) → is_known decls.places word ≡ b → slice_get (if b then decls.places else decls.places ++ word ∷ []) (place_number decls.places word) ≡ Some word
+    by true e = known_at decls.places word e
+    by false e = slice_get-push_last decls.places word (place_number decls.places word) (position_or_len-absent (bytes_eq word) decls.places e)
+
+-- a place that was there stays
+place_stays : (decls : DeclsState) (word : List ℕ) (n : ℕ) → n < length decls.places → slice_get (with_place decls word).places n ≡ slice_get decls.places n
+place_stays decls word n within = by (is_known decls.places word)
+  where
+    by : (b : Bool) → slice_get (if b then decls.places else decls.places ++ word ∷ []) n ≡ slice_get decls.places n
+    by true = refl
+    by false = slice_get-push_within decls.places word n within
+
+fit_place : (decls : DeclsState) (e : Event) → fits decls e ≡ true → e.place < length decls.places
+unfolding fits
+fit_place decls e h = grind (arith, nat_tests)
+
+-- the lines of the events before stay
+events_stay : (t : TraceState) (word : List ℕ) → IsTrace t → map (event_line (with_place t.decls word)) t.events ≡ map (event_line t.decls) t.events
+events_stay t word holds = map_same (event_line (with_place t.decls word)) (event_line t.decls) t.events
+    (λ k d within. let e = get_or t.events k d in
+    let stays = place_stays t.decls word e.place (fit_place t.decls e (holds.fit k d within)) in
+    λ i. line_of (op_words t.decls.declarations (goroutine_name t.decls.declarations e.who) (unwrap_or (stays i) []) e.op))
+
+-- the line of the event that is appended
+event_line_is : (decls : DeclsState) (line : List ℕ) (o : Occurrence) → IsEventLine decls.declarations line o → event_line (with_place decls o.place) (event_of decls.places o) ≡ line
+event_line_is decls line o is =
+    (λ i. line_of (op_words decls.declarations (goroutine_name decls.declarations o.who) (unwrap_or (place_is_there decls o.place i) []) o.op)) ∙ sym is.line_is
+
+lines_event : (old new : TraceState) (line : List ℕ) (o : Occurrence) → IsTrace old → IsEventLine old.decls.declarations line o → AppendsEvent old new o → lines new ≡ lines old ++ line ∷ []
+unfolding lines
+lines_event old new line o holds is added =
+    let decls = with_place old.decls o.place in
+    let e = event_of old.decls.places o in
+    let before = header ∷ map declaration_line old.decls.declarations in
+    (λ i. (header ∷ map declaration_line (added.decls i).declarations) ++ map (event_line (added.decls i)) (added.events i))
+    ∙ ap (λ l. before ++ l) (map-append (event_line decls) old.events (e ∷ []))
+    ∙ (λ i. before ++ (events_stay old o.place holds i ++ event_line_is old.decls line o is i ∷ []))
+    ∙ sym (append_assoc before (map (event_line old.decls) old.events) (line ∷ []))
+
+-- what the lines say after an event
+seen_event : (before : List (List ℕ)) (line : List ℕ) (ds : List Declaration) (events : ℕ) → seen before ≡ seen_so_far ds events → declaration_in line ≡ None → is_event_line line ≡ true
+    → seen (before ++ line ∷ []) ≡ seen_so_far ds (events + 1)
+unfolding seen
+seen_event before line ds events h none event =
+    let declared : filter_map declaration_in (before ++ line ∷ []) ≡ filter_map declaration_in before =
+    filter_map-append declaration_in before (line ∷ []) ∙ (λ i. filter_map declaration_in before ++ cons_option (none i) []) ∙ append-nil _ in
+    let counted : count_by is_event_line (before ++ line ∷ []) ≡ count_by is_event_line before + 1 =
+    sum_by-append (λ l. cond (is_event_line l) 1 0) before (line ∷ []) ∙ (λ i. count_by is_event_line before + (0 + cond (event i) 1 0)) in
+    (λ i. seen_so_far (declared i) (counted i)) ∙ ap (λ (s : Seen). seen_so_far s.declarations (s.events + 1)) h
+
+-- and after a declaration
+pub seen_declaration : (before : List (List ℕ)) (line : List ℕ) (ds : List Declaration) (d : Declaration) → seen before ≡ seen_so_far ds 0 → declaration_in line ≡ Some d → is_event_line line ≡ false
+    → seen (before ++ line ∷ []) ≡ seen_so_far (ds ++ d ∷ []) 0
+unfolding seen
+seen_declaration before line ds d h is event =
+    let declared : filter_map declaration_in (before ++ line ∷ []) ≡ filter_map declaration_in before ++ d ∷ [] =
+    filter_map-append declaration_in before (line ∷ []) ∙ (λ i. filter_map declaration_in before ++ cons_option (is i) []) in
+    let counted : count_by is_event_line (before ++ line ∷ []) ≡ count_by is_event_line before + 0 =
+    sum_by-append (λ l. cond (is_event_line l) 1 0) before (line ∷ []) ∙ (λ i. count_by is_event_line before + (0 + cond (event i) 1 0)) in
+    (λ i. seen_so_far (declared i) (counted i)) ∙ ap (λ (s : Seen). seen_so_far (s.declarations ++ d ∷ []) (s.events + 0)) h
+
+pub lines_declaration : (decls : DeclsState) (line : List ℕ) (d : Declaration) → line ≡ declaration_line d → lines (begun (with_declaration decls d.name d.object)) ≡ lines (begun decls) ++ line ∷ []
+unfolding lines
+lines_declaration decls line d is =
+    ap (λ l. (header ∷ l) ++ []) (map-append declaration_line decls.declarations (d ∷ []))
+    ∙ append-nil _ ∙ (λ i. (header ∷ map declaration_line decls.declarations) ++ sym is i ∷ [])
+    ∙ ap (λ l. l ++ line ∷ []) (sym (append-nil (header ∷ map declaration_line decls.declarations)))
+
+-- there is room for the place of one more event
+pub place_has_room : (t : TraceState) (word : List ℕ) → is_place word ≡ true → length t.decls.places ≤ 2 * length t.events → length t.events < MAX_EVENTS → place_fault t.decls.places word ≡ None
+unfolding place_fault
+place_has_room t word form few room = by (is_place word) form (is_known t.decls.places word) (nat_le MAX_PLACES (length t.decls.places)) (grind (arith, nat_tests))
+  where
+    by : (a : Bool) → a ≡ true → (b c : Bool) → c ≡ false → ◌≡◌ {A = Option DeclFault} (if not a then Some DeclFault.BadName else (if b then None else (if c then Some DeclFault.TooMany else None))) None
+    by true e true c f = refl
+    by true e false true f = absurd (true≢false f)
+    by true e false false f = refl
+    by false e b c f = absurd (true≢false (sym e))
+
+-- and for the event
+pub event_fits : (decls : DeclsState) (o : Occurrence) → IsFitting decls o → fits (with_place decls o.place) (event_of decls.places o) ≡ true
+unfolding fits
+event_fits decls o fitting =
+    let within = slice_get_within (with_place decls o.place).places (place_number decls.places o.place) o.place (place_is_there decls o.place) in
+    let who = fitting.who in
+    let op = fitting.op in
+    grind (arith, nat_tests, who, op, within)
+
+-- what is refused with room for it is refused for memory
+pub memory_alone : {T E : Type 0} (r : Result T E) (e m : E) → IsOkUnless r m → r ≡ Err e → e ≡ m
+memory_alone (Ok x) e m h is = cc
+memory_alone (Err d) e m h is = cc
+
+pub event_has_room : (t : TraceState) (e : Event) → fits t.decls e ≡ true → length t.events < MAX_EVENTS → push_fault t e ≡ None
+unfolding push_fault
+event_has_room t e fit room = by (fits t.decls e) fit (nat_le MAX_EVENTS (length t.events)) (grind (arith, nat_tests))
+  where
+    by : (a : Bool) → a ≡ true → (b : Bool) → b ≡ false → ◌≡◌ {A = Option PushFault} (if not a then Some PushFault.BadNumber else (if b then Some PushFault.Full else None)) None
+    by true e true f = absurd (true≢false f)
+    by true e false f = refl
+    by false e b f = absurd (true≢false (sym e))
+
+-- after its place was added there is room for the event
+pub draft_has_room : (old mid : TraceState) (o : Occurrence) (place : ℕ) → IsFitting old.decls o → length old.events < MAX_EVENTS
+    → mid.decls ≡ with_place old.decls o.place → mid.events ≡ old.events → place ≡ place_number old.decls.places o.place
+    → push_fault mid (record { who = o.who; op = o.op; place = place; place2 = None }) ≡ None
+draft_has_room old mid o place fitting room decls events number =
+    event_has_room mid (record { who = o.who; op = o.op; place = place; place2 = None })
+    ((λ i. fits (decls i) (record { who = o.who; op = o.op; place = number i; place2 = None })) ∙ event_fits old.decls o fitting)
+    (subst (λ (es : List Event). length es < MAX_EVENTS) (sym events) room)
+
+-- what is not nothing is something
+pub is_there : {A : Type 0} (o : Option A) → (o ≡ None → ⊥) → IsSome o
+is_there None h = absurd (h refl)
+is_there (Some x) h = refl
+
+-- the cause of a line behind others is told by what they say
+pub cause_behind : (t : TraceState) (line : List ℕ) → IsRead t → cause (lines t) line true ≡ line_cause (state_of t) line
+unfolding lines cause
+cause_behind t line read = ap (λ s. line_cause s line) read.seen_is
+
+pub bad_byte_is_told : (s : Seen) (line : List ℕ) → has_bad_byte line ≡ true → line_cause s line ≡ Some TextCause.BadByte
+unfolding line_cause
+bad_byte_is_told s line bad = ap (λ b. if b then Some TextCause.BadByte else word_cause s (word_named (first_word (words_of line))) (arguments (words_of line))) bad
+
+pub clean_line : (s : Seen) (line : List ℕ) → has_bad_byte line ≡ false → line_cause s line ≡ word_cause s (word_named (first_word (words_of line))) (arguments (words_of line))
+unfolding line_cause
+clean_line s line clean = ap (λ b. if b then Some TextCause.BadByte else word_cause s (word_named (first_word (words_of line))) (arguments (words_of line))) clean
+
+-- an event that was appended, or refused
+module _ (old new : TraceState) (line : List ℕ) (o : Occurrence) (read : IsRead old) (holds : IsTrace old) (is : IsEventLine old.decls.declarations line o) where
+  event_cause : cause (lines old) line true ≡ room_cause (state_of old) None
+  event_cause = cause_behind old line read ∙ clean_line (state_of old) line is.clean ∙ is.cause_is (length old.events)
+
+  room_is : (b : Bool) → nat_le MAX_EVENTS (length old.events) ≡ b → cause (lines old) line true ≡ (if b then Some TextCause.TooMany else None)
+  room_is b e = event_cause ∙ ap (λ c. if c then Some TextCause.TooMany else None) e
+
+  places_grow : length (with_place old.decls o.place).places ≤ length old.decls.places + 1
+  places_grow = by (is_known old.decls.places o.place)
+    where
+      by : (b : Bool) → length (if b then old.decls.places else old.decls.places ++ o.place ∷ []) ≤ length old.decls.places + 1
+      by true = omega arith
+      by false = omega (arith, length-append old.decls.places (o.place ∷ []))
+
+  event_taken : AppendsEvent old new o → TakesLine (lines old) line new
+  event_taken added =
+      let more : length new.events ≡ length old.events + 1 = ap length added.events ∙ length-append old.events (event_of old.decls.places o ∷ []) in
+      let after = lines_event old new line o holds is added in
+      record {
+        no_cause = let room = added.room in room_is false (grind (arith, nat_tests, room));
+        lines = after;
+        is_read = record {
+          seen_is = ap seen after ∙ seen_event (lines old) line old.decls.declarations (length old.events) read.seen_is is.declares is.is_event
+              ∙ (λ i. seen_so_far (sym added.decls i).declarations (sym more i));
+          few_places =
+              let few = read.few_places in
+              let same : length new.decls.places ≡ length (with_place old.decls o.place).places = ap (λ (d : DeclsState). length d.places) added.decls in
+              omega (arith, few, same, places_grow, more);
+        };
+      }
+
+  pub event_answered : (r : Result (Unit {0}) TextCause) → MatchResult r (λ _. AppendsEvent old new o) (λ told. told ≢ TextCause.OutOfMemory → IsFull old told) → TakesOrTells (lines old) line r new
+  event_answered (Ok u) added = event_taken added
+  event_answered (Err told) full = λ other.
+      let h = full other in
+      let over = h.full in
+      room_is true (grind (arith, nat_tests, over)) ∙ ap Some (sym h.cause)
+
+pub event_grown : (old new : TraceState) (o : Occurrence) (r : Result (Unit {0}) TextCause) → MatchResult r (λ _. AppendsEvent old new o) (λ told. told ≢ TextCause.OutOfMemory → IsFull old told) → OnOk r (0 < length new.events)
+event_grown old new o (Ok u) added = let more = ap length added.events ∙ length-append old.events (event_of old.decls.places o ∷ []) in omega (arith, more)
+event_grown old new o (Err told) full = tt
+
+-- a line that says no event is at fault, where an event stands before it or it declares nothing
+or_else_some : (a : Option TextCause) (b : TextCause) → or_else a (Some b) ≡ None → ⊥
+or_else_some None b h = none-some b (sym h)
+or_else_some (Some c) b h = none-some c (sym h)
+
+late : (ds : List Declaration) (events : ℕ) (object : Object) → 0 < events → (c : TextCause) × (room_cause (seen_so_far ds events) (Some object) ≡ Some c)
+late ds events object some = by (nat_le (limit_of (kind_of object)) (count_of (kind_of object) ds)) (nat_lt 0 events) (grind (arith, nat_tests))
+  where
+    by : (a b : Bool) → b ≡ true → (c : TextCause) × ((if a then Some TextCause.TooMany else (if b then Some TextCause.LateDeclaration else None)) ≡ Some c)
+    by true b e = (TextCause.TooMany, refl)
+    by false true e = (TextCause.LateDeclaration, refl)
+    by false false e = absurd (true≢false (sym e))
+
+late_declaration : (ds : List Declaration) (events : ℕ) (word : Word) (object : Object) (words : List (List ℕ)) → object_of word ≡ Some object → 0 < events
+    → word_cause (seen_so_far ds events) (Some word) words ≡ None → ⊥
+late_declaration ds events word object words is some h = by (length words == length (fields_of word)) h
+  where
+    by : (b : Bool) → (if not b then Some TextCause.WrongCount else or_else (fields_cause ds (fields_of word) words) (room_cause (seen_so_far ds events) (object_of word))) ≡ None → ⊥
+    by false h = none-some TextCause.WrongCount (sym h)
+    by true h =
+        let told = late ds events object some in
+        or_else_some (fields_cause ds (fields_of word) words) told.0 (ap (or_else (fields_cause ds (fields_of word) words)) (sym (ap (room_cause (seen_so_far ds events)) is ∙ told.1)) ∙ h)
+
+no_event : (ds : List Declaration) (events : ℕ) (word : Option Word) (args : List (List ℕ)) → event_by ds word args ≡ None → (is_declaration_word word ≡ true → 0 < events)
+    → word_cause (seen_so_far ds events) word args ≡ None → ⊥
+no_event ds events None args none behind h = none-some TextCause.UnknownWord (sym h)
+no_event ds events (Some Word.Goroutine) args none behind h = late_declaration ds events Word.Goroutine Object.Goroutine args refl (behind refl) h
+no_event ds events (Some Word.Var) args none behind h = late_declaration ds events Word.Var Object.Var args refl (behind refl) h
+no_event ds events (Some Word.Go) args none behind h = go_complete ds events args h none
+no_event ds events (Some Word.Exit) args none behind h = exit_complete ds events args h none
+no_event ds events (Some Word.Read) args none behind h = read_complete ds events args h none
+no_event ds events (Some Word.Write) args none behind h = write_complete ds events args h none
+
+no_word : word_named [] ≡ None
+unfolding word_named
+no_word = refl
+
+pub no_event_is_told : (ds : List Declaration) (events : ℕ) (line : List ℕ) → event_in ds (words_of line) ≡ None → (is_declaration_line line ≡ true → 0 < events)
+    → line_cause (seen_so_far ds events) line ≡ None → ⊥
+no_event_is_told ds events line none behind h = cases (has_bad_byte line) refl (λ clean. by (words_of line) none behind (sym (clean_line (seen_so_far ds events) line clean) ∙ h))
+  where
+    cases : (b : Bool) → has_bad_byte line ≡ b → (has_bad_byte line ≡ false → ⊥) → ⊥
+    cases true bad rest = none-some TextCause.BadByte (sym h ∙ bad_byte_is_told (seen_so_far ds events) line bad)
+    cases false clean rest = rest clean
+
+    by : (ws : List (List ℕ)) → event_in ds ws ≡ None → (is_declaration_word (word_named (first_word ws)) ≡ true → 0 < events)
+        → word_cause (seen_so_far ds events) (word_named (first_word ws)) (arguments ws) ≡ None → ⊥
+    by [] none behind h = none-some TextCause.UnknownWord (sym (sym (ap (λ w. word_cause (seen_so_far ds events) w []) no_word) ∙ h))
+    by (first ∷ args) none behind h = no_event ds events (word_named first) args none behind h
+
+-- a line that says an event of these declarations, under another name
+pub says_event : (lent decls : DeclsState) (line : List ℕ) (o : Occurrence) → IsWellFormed lent → lent ≡ decls → event_in lent.declarations (words_of line) ≡ Some o → IsEventLine decls.declarations line o
+says_event lent decls line o holds is h = subst (λ (d : DeclsState). IsEventLine d.declarations line o) is (event_line_of lent line o holds h)
+
+-- where a fact fails only without events, there is one
+pub behind_events : (events : List Event) (count : ℕ) (b : Bool) → count ≡ length events → (events ≡ [] → b ≡ false) → b ≡ true → 0 < count
+behind_events [] count b e ready h = absurd (true≢false (sym h ∙ ready refl))
+behind_events (x ∷ xs) count b e ready h = omega (arith, e)

@@ -1,0 +1,42 @@
+-- Small texts, whose first faults are proved in src/examples.rt.
+use Rattle.std.specs.Prelude.{ℕ, List, codes}
+use Rattle.race_text.specs.declared.cause.TextCause.{TextCause}
+use Rattle.race_text.specs.declared.cause.TextFault.{TextFault}
+
+abbrev pub fault_at : ℕ → TextCause → TextFault
+fault_at line cause = record { line = line; cause = cause }
+
+-- a trace: four events, and no fault
+abbrev pub fine : List ℕ
+fine = codes "gotrace 1\ngoroutine w\nvar x\nwrite main x 7 a.go:1\ngo main w a.go:2\nread w x 7 a.go:5\nexit main a.go:3\n"
+
+-- the header alone, without a newline
+abbrev pub no_newline : List ℕ
+no_newline = codes "gotrace 1"
+
+-- a value with a leading zero
+abbrev pub leading_zero : List ℕ
+leading_zero = codes "gotrace 1\nvar x\nwrite main x 01 p\n"
+
+-- two spaces, so an empty word
+abbrev pub two_spaces : List ℕ
+two_spaces = codes "gotrace 1\nvar x\nwrite main  x 1 p\n"
+
+-- a declaration behind an event
+abbrev pub late_declaration : List ℕ
+late_declaration = codes "gotrace 1\nvar x\nwrite main x 1 p\nvar y\n"
+
+-- a name of 65 letters
+abbrev pub long_name : List ℕ
+long_name = codes "gotrace 1\nvar aaaaaaaaaaaaaaaaaaaaaaaaaaaaaaaaaaaaaaaaaaaaaaaaaaaaaaaaaaaaaaaaa\n"
+
+-- a word that begins no line, behind events of which the first isn't legal
+abbrev pub unknown_word : List ℕ
+unknown_word = codes "gotrace 1\ngoroutine w\nvar x\nvar y\nread main x 1 p\ngo main w p\nexit w p\nwrite main y 1 p\njump main p\n"
+
+-- a variable that nothing declares, and names in each other's place
+abbrev pub unknown_name : List ℕ
+unknown_name = codes "gotrace 1\ngoroutine a\nvar x\nread a y 0 p\n"
+
+abbrev pub wrong_kind : List ℕ
+wrong_kind = codes "gotrace 1\ngoroutine a\nvar x\nread x a 0 p\n"

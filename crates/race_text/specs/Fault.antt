@@ -1,0 +1,142 @@
+-- The first fault of a text: the first line at which a cause holds, and the least cause that holds there.
+use Rattle.std.specs.Prelude.{ℕ, ◌+◌, ◌-◌, ◌==◌, ◌&&◌, ◌^◌, Bool, true, false, not, if◌then◌else◌, nat_le, nat_lt, List, [], ◌∷◌, ◌++◌, length, count_by, fold, Option, Some, None, is_some, is_none}
+use Rattle.std.specs.List.{filter_map, zip}
+use Rattle.std.specs.Option.{option_and_then}
+use Rattle.std.specs.Str.{bytes_eq}
+use Rattle.race_records.specs.declared.kind.Named.{Named}
+use Rattle.race_records.specs.declared.kind.Object.{Object}
+use Rattle.race_records.specs.declared.trace.TheConstants.{MAX_EVENTS}
+use Rattle.race_records.specs.Name.{is_name, is_place}
+use Rattle.race_records.specs.Declarations.{Declaration, find_name, kind_of, count_of, limit_of}
+use Rattle.race_text.specs.declared.cause.TextCause.{TextCause}
+use Rattle.race_text.specs.declared.cause.TextFault.{TextFault}
+use Rattle.race_text.specs.declared.form.Word.{Word}
+use Rattle.race_text.specs.declared.form.Field.{Field}
+use Rattle.race_text.specs.Words.{parts_of, words_of, has_bad_byte, number}
+use Rattle.race_text.specs.Text.{header}
+use Rattle.race_text.specs.Form.{word_named, fields_of, object_of, first_word, arguments, is_goroutine, is_var}
+
+-- the place of a cause in the order in which a line is tested
+abbrev pub rank : TextCause → ℕ
+rank TextCause.BadHeader = 1
+rank TextCause.NoNewline = 2
+rank TextCause.BadByte = 3
+rank TextCause.UnknownWord = 4
+rank TextCause.WrongCount = 5
+rank TextCause.BadName = 6
+rank TextCause.Taken = 7
+rank TextCause.Unknown = 8
+rank TextCause.WrongKind = 9
+rank TextCause.BadNumber = 10
+rank TextCause.TooMany = 11
+rank TextCause.LateDeclaration = 12
+rank TextCause.BadBlock = 13
+rank TextCause.OutOfMemory = 14
+
+-- of two causes that may hold, the lesser
+abbrev pub lesser : Option TextCause → Option TextCause → Option TextCause
+lesser None b = b
+lesser (Some a) None = Some a
+lesser (Some a) (Some b) = if nat_le (rank a) (rank b) then Some a else Some b
+
+-- a later cause, looked at where no earlier one holds
+abbrev pub or_else : Option TextCause → Option TextCause → Option TextCause
+or_else None later = later
+or_else (Some cause) later = Some cause
+
+-- what the lines before say: what they declare, and how many events they are
+pub record Seen : Type 0 where
+  pub declarations : List Declaration
+  pub events : ℕ
+
+abbrev pub seen_so_far : List Declaration → ℕ → Seen
+seen_so_far ds events = record { declarations = ds; events = events }
+
+-- what the words of a line declare
+abbrev pub declared_as : Option Object → List (List ℕ) → Option Declaration
+declared_as None words = None
+declared_as (Some object) [] = None
+declared_as (Some object) (name ∷ others) = Some (record { name = name; object = object })
+
+abbrev pub declaration_in : List ℕ → Option Declaration
+declaration_in line =
+    declared_as (option_and_then object_of (word_named (first_word (words_of line)))) (arguments (words_of line))
+
+abbrev pub is_event_word : Option Word → Bool
+is_event_word None = false
+is_event_word (Some word) = is_none (object_of word)
+
+abbrev pub is_event_line : List ℕ → Bool
+is_event_line line = is_event_word (word_named (first_word (words_of line)))
+
+unfoldable pub seen : List (List ℕ) → Seen
+seen before = seen_so_far (filter_map declaration_in before) (count_by is_event_line before)
+
+-- what is found for a used name is nothing, or of another kind than is wanted
+abbrev pub use_cause : (Named → Bool) → Option Named → Option TextCause
+use_cause is_wanted None = Some TextCause.Unknown
+use_cause is_wanted (Some named) = if is_wanted named then None else Some TextCause.WrongKind
+
+abbrev pub used_name_cause : (Named → Bool) → List Declaration → List ℕ → Option TextCause
+used_name_cause is_wanted ds w = if not (is_name w) then Some TextCause.BadName else use_cause is_wanted (find_name ds w)
+
+abbrev pub new_name_cause : List Declaration → List ℕ → Option TextCause
+new_name_cause ds w =
+    if not (is_name w) then Some TextCause.BadName
+    else (if is_some (find_name ds w) then Some TextCause.Taken else None)
+
+-- the least cause that holds at one word behind the first
+unfoldable pub field_cause : List Declaration → Field → List ℕ → Option TextCause
+field_cause ds Field.NewName w = new_name_cause ds w
+field_cause ds Field.Goroutine w = used_name_cause is_goroutine ds w
+field_cause ds Field.Var w = used_name_cause is_var ds w
+field_cause ds Field.Value w = if is_none (number (2 ^ 64 - 1) w) then Some TextCause.BadNumber else None
+field_cause ds Field.Place w = if not (is_place w) then Some TextCause.BadName else None
+
+-- the least cause of them all
+abbrev pub fields_cause : List Declaration → List Field → List (List ℕ) → Option TextCause
+fields_cause ds fields words = fold (λ cause pair. lesser cause (field_cause ds pair.0 pair.1)) None (zip fields words)
+
+-- a limit is reached, or a declaration stands after an event. Events have two places at most, so the limit on places is
+-- never passed before that on events
+abbrev pub room_cause : Seen → Option Object → Option TextCause
+room_cause s None = if nat_le MAX_EVENTS s.events then Some TextCause.TooMany else None
+room_cause s (Some object) =
+    if nat_le (limit_of (kind_of object)) (count_of (kind_of object) s.declarations) then Some TextCause.TooMany
+    else (if nat_lt 0 s.events then Some TextCause.LateDeclaration else None)
+
+abbrev pub word_cause : Seen → Option Word → List (List ℕ) → Option TextCause
+word_cause s None words = Some TextCause.UnknownWord
+word_cause s (Some word) words =
+    if not (length words == length (fields_of word)) then Some TextCause.WrongCount
+    else or_else (fields_cause s.declarations (fields_of word) words) (room_cause s (object_of word))
+
+-- the least cause of a line behind the first
+unfoldable pub line_cause : Seen → List ℕ → Option TextCause
+line_cause s line =
+    if has_bad_byte line then Some TextCause.BadByte
+    else word_cause s (word_named (first_word (words_of line))) (arguments (words_of line))
+
+-- the least cause of a line that stands after others, and ends with a newline or not
+unfoldable pub cause : List (List ℕ) → List ℕ → Bool → Option TextCause
+cause [] line newline =
+    if not (bytes_eq line header) then Some TextCause.BadHeader
+    else (if newline then None else Some TextCause.NoNewline)
+cause (first ∷ before) line newline = if newline then line_cause (seen (first ∷ before)) line else Some TextCause.NoNewline
+
+-- the fault of a line by its cause, or else a later one
+abbrev pub or_later : ℕ → Option TextCause → Option TextFault → Option TextFault
+or_later line None later = later
+or_later line (Some c) later = Some (record { line = line; cause = c })
+
+-- the first fault of the parts that stand after these lines. The last part is a line only where it has a byte, or is the first
+unfoldable pub fault_after : List (List ℕ) → List (List ℕ) → Option TextFault
+fault_after before [] = None
+fault_after before (last ∷ []) =
+    if (length last == 0) && nat_lt 0 (length before) then None
+    else or_later (length before + 1) (cause before last false) None
+fault_after before (line ∷ next ∷ others) =
+    or_later (length before + 1) (cause before line true) (fault_after (before ++ line ∷ []) (next ∷ others))
+
+unfoldable pub text_fault : List ℕ → Option TextFault
+text_fault bytes = fault_after [] (parts_of bytes)

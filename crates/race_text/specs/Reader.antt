@@ -1,0 +1,49 @@
+-- How far a trace is read, line by line.
+use Rattle.std.specs.Prelude.{◌≡◌, ℕ, ◌<◌, ◌≤◌, Bool, true, false, List, [], ◌∷◌, ◌++◌, length, Option, Some, None, Result, Ok, Err, nat_lt, ◌==◌, ◌&&◌, if◌then◌else◌}
+use Rattle.std.specs.Prelude.{◌≢◌}
+use Rattle.race_records.specs.Declarations.{DeclsState}
+use Rattle.race_records.specs.Events.{TraceState}
+use Rattle.race_text.specs.declared.cause.TextCause.{TextCause}
+use Rattle.race_text.specs.declared.cause.TextFault.{TextFault}
+use Rattle.race_text.specs.Text.{lines}
+use Rattle.race_text.specs.Fault.{cause}
+use Rattle.race_text.specs.Declaring.{is_declaration_line}
+use Rattle.race_text.specs.Taking.{IsRead, TakesLine, begun}
+
+-- the trace that is read so far: declarations alone, until the first event
+abbrev pub trace_read : DeclsState → Option TraceState → TraceState
+trace_read decls None = begun decls
+trace_read decls (Some trace) = trace
+
+-- the lines that were taken, the header among them
+abbrev pub lines_read : Bool → DeclsState → Option TraceState → List (List ℕ)
+lines_read false decls trace = []
+lines_read true decls trace = lines (trace_read decls trace)
+
+-- what holds between two lines
+abbrev pub IsReading : Bool → DeclsState → Option TraceState → Type 0
+IsReading false decls trace = (decls ≡ record { declarations = []; places = [] }) × (trace ≡ None)
+IsReading true decls None = IsRead (begun decls)
+IsReading true decls (Some trace) = IsRead trace × (0 < length trace.events)
+
+-- one more line, at which no cause holds
+pub record GoesOn (before : List (List ℕ)) (line : List ℕ) (after : List (List ℕ)) : Type 0 where
+  pub no_cause : cause before line true ≡ None
+  pub lines : after ≡ before ++ line ∷ []
+
+-- a declaration is taken, or the line is none, or its least cause is told, memory aside
+abbrev pub TakesIfDeclared : DeclsState → List ℕ → Bool → DeclsState → Type 0
+TakesIfDeclared old line true new = TakesLine (lines (begun old)) line (begun new)
+TakesIfDeclared old line false new = (new ≡ old) × (is_declaration_line line ≡ false)
+
+abbrev pub TakesDeclaration : DeclsState → List ℕ → Result Bool TextCause → DeclsState → Type 0
+TakesDeclaration old line (Ok added) new = TakesIfDeclared old line added new
+TakesDeclaration old line (Err told) new = told ≢ TextCause.OutOfMemory → cause (lines (begun old)) line true ≡ Some told
+
+-- the cause of the last part of a text, behind these lines. It is a line only where it has a byte, or is the first
+abbrev pub end_cause : List (List ℕ) → List ℕ → Option TextCause
+end_cause before last = if (length last == 0) && nat_lt 0 (length before) then None else cause before last false
+
+-- no fault stands on an earlier line
+abbrev pub IsNoneBefore : ℕ → Option TextFault → Type 0
+IsNoneBefore line fault = (f : TextFault) → fault ≡ Some f → line ≤ f.line

@@ -1,0 +1,60 @@
+-- The text of a trace. It prints: nothing here reads.
+use Rattle.std.specs.Prelude.{ℕ, List, [], ◌∷◌, ◌++◌, map, codes, slice_get, unwrap_or}
+use Rattle.std.specs.List.{flat_map, join_with_byte}
+use Rattle.std.specs.Fmt.{decimal}
+use Rattle.race_records.specs.declared.event.Event.{Event}
+use Rattle.race_records.specs.declared.event.Op.{Op}
+use Rattle.race_records.specs.declared.event.Op.TheVariants.{Go, Exit, Read, Write}
+use Rattle.race_records.specs.declared.kind.Named.{Named}
+use Rattle.race_records.specs.declared.kind.Object.{Object}
+use Rattle.race_records.specs.Declarations.{Declaration, DeclsState, name_of}
+use Rattle.race_records.specs.Events.{TraceState}
+
+-- the first line
+abbrev pub header : List ℕ
+header = codes "gotrace 1"
+
+-- words with single spaces between them
+abbrev pub line_of : List (List ℕ) → List ℕ
+line_of words = join_with_byte 32 words
+
+-- the words of a declaration. Channels, locks and onces have none
+abbrev pub object_words : List ℕ → Object → List (List ℕ)
+object_words name Object.Goroutine = codes "goroutine" ∷ name ∷ []
+object_words name Object.Var = codes "var" ∷ name ∷ []
+object_words name _ = []
+
+abbrev pub declaration_line : Declaration → List ℕ
+declaration_line d = line_of (object_words d.name d.object)
+
+-- the names and the place by which an event's numbers are printed
+abbrev pub goroutine_name : List Declaration → ℕ → List ℕ
+goroutine_name ds n = unwrap_or (name_of ds (Named.Goroutine n)) []
+
+abbrev pub var_name : List Declaration → ℕ → List ℕ
+var_name ds n = unwrap_or (name_of ds (Named.Var n)) []
+
+abbrev pub place_text : List (List ℕ) → ℕ → List ℕ
+place_text places n = unwrap_or (slice_get places n) []
+
+-- the words of an event of this goroutine at this place
+abbrev pub op_words : List Declaration → List ℕ → List ℕ → Op → List (List ℕ)
+op_words ds who place (Go h) = codes "go" ∷ who ∷ goroutine_name ds h ∷ place ∷ []
+op_words ds who place Exit = codes "exit" ∷ who ∷ place ∷ []
+op_words ds who place (Read x v) = codes "read" ∷ who ∷ var_name ds x ∷ decimal v ∷ place ∷ []
+op_words ds who place (Write x v) = codes "write" ∷ who ∷ var_name ds x ∷ decimal v ∷ place ∷ []
+
+abbrev pub event_line : DeclsState → Event → List ℕ
+event_line decls e =
+    line_of (op_words decls.declarations (goroutine_name decls.declarations e.who) (place_text decls.places e.place) e.op)
+
+-- the header, a line for each declaration and a line for each event
+unfoldable pub lines : TraceState → List (List ℕ)
+lines t = header ∷ map declaration_line t.decls.declarations ++ map (event_line t.decls) t.events
+
+-- each line is ended by a newline
+abbrev pub ended : List ℕ → List ℕ
+ended line = line ++ 10 ∷ []
+
+unfoldable pub text : TraceState → List ℕ
+text t = flat_map ended (lines t)

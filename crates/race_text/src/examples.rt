@@ -1,0 +1,33 @@
+//! Small texts with their first faults. Each function does nothing, and its contract is the example.
+ghost use Rattle.std.specs.Prelude.{◌≡◌, [], Some, None};
+ghost use Rattle.race_text.specs.Fault.{text_fault};
+ghost use Rattle.race_text.specs.Examples as text;
+
+use crate::TextCause;
+
+/// A trace has no fault, whether it is legal or not.
+pub fn a_trace_has_no_fault()
+    ensures { text_fault text.fine ≡ None }
+{}
+
+/// The first line is the header, and a newline ends each line.
+pub fn the_header_comes_first()
+    ensures empty { text_fault [] ≡ Some (text.fault_at 1 TextCause.BadHeader) }
+    ensures no_newline { text_fault text.no_newline ≡ Some (text.fault_at 1 TextCause.NoNewline) }
+{}
+
+/// Each word has one spelling, and single spaces stand between words.
+pub fn a_line_has_one_spelling()
+    ensures number { text_fault text.leading_zero ≡ Some (text.fault_at 3 TextCause.BadNumber) }
+    ensures spaces { text_fault text.two_spaces ≡ Some (text.fault_at 3 TextCause.WrongCount) }
+    ensures name { text_fault text.long_name ≡ Some (text.fault_at 2 TextCause.BadName) }
+{}
+
+/// Words are known, and names are declared, before the first event and as what they are used for.
+pub fn names_are_declared_first()
+    ensures late { text_fault text.late_declaration
+        ≡ Some (text.fault_at 4 TextCause.LateDeclaration) }
+    ensures word { text_fault text.unknown_word ≡ Some (text.fault_at 9 TextCause.UnknownWord) }
+    ensures unknown { text_fault text.unknown_name ≡ Some (text.fault_at 4 TextCause.Unknown) }
+    ensures kind { text_fault text.wrong_kind ≡ Some (text.fault_at 4 TextCause.WrongKind) }
+{}

@@ -1,0 +1,194 @@
+//! The words behind the first, and the least cause that holds of them.
+ghost use Rattle.std.specs.Prelude.{◌≡◌, true, length, IsTrue};
+ghost use Rattle.std.specs.List.{list_all};
+ghost use Rattle.race_records.specs.Name as name;
+ghost use Rattle.race_records.specs.Declarations.{find_name};
+ghost use Rattle.race_text.specs.Words.{parts_left};
+ghost use Rattle.race_text.specs.Form as form;
+ghost use Rattle.race_text.specs.Fault as spec;
+
+use crate::cause::TextCause;
+use crate::cut::cut_at;
+use crate::form::Field;
+use crate::number::read_number;
+use race_records::{Decls, Named, is_name, is_place};
+use std::alloc::Allocator;
+
+// Bytes that can be seen, as text.
+pub(crate) fn as_text(word: &[u8]) -> &str
+    requires { list_all name.is_place_byte word.now ≡ true }
+    ensures { result.now ≡ word.now }
+{
+    unsafe { std::str::from_utf8_unchecked(word) }
+}
+
+// What a name stands for.
+fn look_up<A: Allocator>(decls: &Decls<A>, word: &[u8]) -> Option<Named>
+    requires { name.is_name word.now ≡ true }
+    ensures { result ≡ find_name decls.now.declarations word.now }
+{
+    decls.find(as_text(word))
+}
+
+fn is_goroutine(named: Named) -> bool
+    ensures { result ≡ form.is_goroutine named }
+{
+    match named {
+        Named::Goroutine(_) => true,
+        Named::Var(_) => false,
+        Named::Chan(_) => false,
+        Named::Lock(_) => false,
+        Named::Once(_) => false,
+    }
+}
+
+fn is_var(named: Named) -> bool
+    ensures { result ≡ form.is_var named }
+{
+    match named {
+        Named::Goroutine(_) => false,
+        Named::Var(_) => true,
+        Named::Chan(_) => false,
+        Named::Lock(_) => false,
+        Named::Once(_) => false,
+    }
+}
+
+fn new_name_cause<A: Allocator>(decls: &Decls<A>, word: &[u8]) -> Option<TextCause>
+    ensures { result ≡ spec.new_name_cause decls.now.declarations word.now }
+{
+    if !is_name(word) {
+        return Some(TextCause::BadName);
+    }
+    if look_up(decls, word).is_some() {
+        return Some(TextCause::Taken);
+    }
+    None
+}
+
+fn goroutine_cause<A: Allocator>(decls: &Decls<A>, word: &[u8]) -> Option<TextCause>
+    ensures { result ≡ spec.used_name_cause form.is_goroutine decls.now.declarations word.now }
+{
+    if !is_name(word) {
+        return Some(TextCause::BadName);
+    }
+    match look_up(decls, word) {
+        None => Some(TextCause::Unknown),
+        Some(named) => {
+            if is_goroutine(named) {
+                None
+            } else {
+                Some(TextCause::WrongKind)
+            }
+        }
+    }
+}
+
+fn var_cause<A: Allocator>(decls: &Decls<A>, word: &[u8]) -> Option<TextCause>
+    ensures { result ≡ spec.used_name_cause form.is_var decls.now.declarations word.now }
+{
+    if !is_name(word) {
+        return Some(TextCause::BadName);
+    }
+    match look_up(decls, word) {
+        None => Some(TextCause::Unknown),
+        Some(named) => {
+            if is_var(named) {
+                None
+            } else {
+                Some(TextCause::WrongKind)
+            }
+        }
+    }
+}
+
+// The least cause that holds at one word behind the first.
+#[tactic(auto, unfolding(crate::specs::Fault::field_cause))]
+fn field_cause<A: Allocator>(decls: &Decls<A>, field: Field, word: &[u8]) -> Option<TextCause>
+    ensures { result ≡ spec.field_cause decls.now.declarations field word.now }
+{
+    match field {
+        Field::NewName => new_name_cause(decls, word),
+        Field::Goroutine => goroutine_cause(decls, word),
+        Field::Var => var_cause(decls, word),
+        Field::Value => {
+            if read_number(word, u64::MAX).is_none() {
+                Some(TextCause::BadNumber)
+            } else {
+                None
+            }
+        }
+        Field::Place => {
+            if is_place(word) {
+                None
+            } else {
+                Some(TextCause::BadName)
+            }
+        }
+    }
+}
+
+// The place of a cause in the order in which a line is tested.
+fn rank(cause: TextCause) -> u8
+    ensures { result ≡ spec.rank cause }
+{
+    match cause {
+        TextCause::BadHeader => 1,
+        TextCause::NoNewline => 2,
+        TextCause::BadByte => 3,
+        TextCause::UnknownWord => 4,
+        TextCause::WrongCount => 5,
+        TextCause::BadName => 6,
+        TextCause::Taken => 7,
+        TextCause::Unknown => 8,
+        TextCause::WrongKind => 9,
+        TextCause::BadNumber => 10,
+        TextCause::TooMany => 11,
+        TextCause::LateDeclaration => 12,
+        TextCause::BadBlock => 13,
+        TextCause::OutOfMemory => 14,
+    }
+}
+
+// Of two causes that may hold, the lesser.
+fn lesser(a: Option<TextCause>, b: Option<TextCause>) -> Option<TextCause>
+    ensures { result ≡ spec.lesser a b }
+{
+    match a {
+        None => b,
+        Some(first) => match b {
+            None => Some(first),
+            Some(second) => {
+                if rank(first) <= rank(second) {
+                    Some(first)
+                } else {
+                    Some(second)
+                }
+            }
+        },
+    }
+}
+
+// The least cause of the words behind the first.
+pub(crate) fn fields_cause<A: Allocator>(
+    decls: &Decls<A>,
+    fields: &[Field],
+    rest: Option<&[u8]>,
+) -> Option<TextCause>
+    ensures { result ≡ spec.fields_cause decls.now.declarations fields.now
+        (parts_left 32 rest.entry) }
+{
+    let mut least = None;
+    let mut left = rest;
+    for field in fields {
+        match left {
+            None => return least,
+            Some(bytes) => {
+                let (word, others) = cut_at(bytes, b' ');
+                least = lesser(least, field_cause(decls, *field, word));
+                left = others;
+            }
+        }
+    }
+    least
+}

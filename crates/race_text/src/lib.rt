@@ -1,0 +1,32 @@
+//! The text of a trace: which bytes are one, which trace it is, and else the line at fault and why.
+#![tactic(auto)]
+
+mod cause;
+mod cut;
+mod declaration;
+mod event;
+pub mod examples;
+mod fields;
+mod finder;
+mod form;
+mod number;
+mod parse;
+mod reader;
+mod taking;
+mod words;
+
+pub use cause::{TextCause, TextFault};
+pub use declaration::read_declaration;
+#[doc(hidden)]
+pub use event::Draft;
+#[doc(hidden)]
+pub use form::{Field, Word};
+pub use number::read_number;
+pub use parse::parse_trace;
+pub use race_records::{is_name, is_place};
+#[doc(hidden)]
+pub use reader::Reader;
+pub use words::{Words, split_words};
+
+#[cfg(test)]
+mod tests;

@@ -1,0 +1,42 @@
+//! A trace from its bytes.
+ghost use Rattle.std.specs.Prelude.{◌≡◌, ◌≢◌, ◌<◌, None, Some, IfOk, IfErr, OnOk};
+ghost use Rattle.race_text.specs.Text.{text};
+ghost use Rattle.race_text.specs.Fault.{text_fault};
+ghost use Rattle.race_text.specs.Reader.{IsNoneBefore};
+
+use crate::cause::{TextCause, TextFault};
+use crate::cut::cut_at;
+use crate::reader::Reader;
+use race_records::Trace;
+use std::alloc::Allocator;
+
+/// The trace whose text the bytes are, or else their first fault.
+///
+/// Where memory runs out, the fault says so, at the line that was being read.
+pub fn parse_trace<A: Allocator + Copy>(alloc: A, bytes: &[u8]) -> Result<Trace<A>, TextFault>
+    ensures text { IfOk result (λ trace. bytes.now ≡ text trace) }
+    ensures fine { OnOk result (text_fault bytes.now ≡ None) }
+    ensures fault { IfErr result
+        (λ told. told.cause ≢ TextCause.OutOfMemory → text_fault bytes.now ≡ Some told) }
+    ensures memory { IfErr result (λ told. IsNoneBefore told.line (text_fault bytes.now)) }
+{
+    let mut reader = Reader::new(alloc);
+    let mut left = bytes;
+    let mut line = 1;
+    loop {
+        let (part, rest) = cut_at(left, b'\n');
+        match rest {
+            None => match reader.end_cause(part) {
+                Some(cause) => return Err(TextFault { line, cause }),
+                None => return Ok(reader.into_trace()),
+            },
+            Some(others) => match reader.take_line(part) {
+                Err(cause) => return Err(TextFault { line, cause }),
+                Ok(()) => {
+                    line += 1;
+                    left = others;
+                }
+            },
+        }
+    }
+}

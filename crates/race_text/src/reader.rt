@@ -1,0 +1,159 @@
+//! A trace that is read line by line.
+ghost use Rattle.std.specs.Prelude.{◌≡◌, ◌≢◌, [], true, false, Some, None, MatchResult, OnOk};
+ghost use Rattle.race_text.specs.Fault as fault;
+ghost use Rattle.race_text.specs.Text.{lines};
+ghost use Rattle.race_text.specs.Taking.{IsRead, begun};
+ghost use Rattle.race_text.specs.Reader as spec;
+
+use crate::cause::TextCause;
+use crate::cut::has_bad_byte;
+use crate::declaration::read_declaration;
+use crate::taking::take_event;
+use race_records::{Decls, Trace};
+use std::alloc::Allocator;
+use std::mem;
+
+/// What was read so far: the header or not, declarations, and the trace from its first event on.
+#[derive(Debug, Drop)]
+pub struct Reader<A: Allocator> {
+    /// The memory for what is read.
+    pub alloc: A,
+    /// Whether the header was read.
+    pub has_header: bool,
+    /// The declarations, until the first event.
+    pub decls: Decls<A>,
+    /// The trace, from the first event on.
+    pub trace: Option<Trace<A>>,
+}
+
+impl<A: Allocator + Copy> Reader<A> {
+    // Nothing is read yet. Takes no memory.
+    pub(crate) fn new(alloc: A) -> Reader<A>
+        ensures header { result.has_header ≡ false }
+        ensures reading { spec.IsReading result.has_header result.decls result.trace }
+    {
+        Reader {
+            alloc,
+            has_header: false,
+            decls: Decls::new(alloc),
+            trace: None,
+        }
+    }
+
+    // Takes the next line, or tells its least cause. After a cause nothing more is to be taken.
+    pub(crate) fn take_line(&mut self, line: &[u8]) -> Result<(), TextCause>
+        requires { spec.IsReading self.old.has_header self.old.decls self.old.trace }
+        ensures taken { MatchResult result
+            (λ _. spec.GoesOn (spec.lines_read self.old.has_header self.old.decls self.old.trace) line.now
+            (spec.lines_read self.new.has_header self.new.decls self.new.trace))
+            (λ told. told ≢ TextCause.OutOfMemory
+            → fault.cause (spec.lines_read self.old.has_header self.old.decls self.old.trace) line.now true ≡ Some told) }
+        ensures reading { OnOk result
+            (spec.IsReading self.new.has_header self.new.decls self.new.trace) }
+    {
+        if !self.has_header {
+            return self.take_header(line);
+        }
+        match &mut self.trace {
+            Some(trace) => take_event(trace, line),
+            None => self.take_before_events(line),
+        }
+    }
+
+    // The cause of the last part of a text, which no newline ends.
+    pub(crate) fn end_cause(&self, last: &[u8]) -> Option<TextCause>
+        ensures { result ≡ spec.end_cause
+            (spec.lines_read self.now.has_header self.now.decls self.now.trace) last.now }
+    {
+        if self.has_header {
+            return if last.is_empty() {
+                None
+            } else {
+                Some(TextCause::NoNewline)
+            };
+        }
+        if last == b"gotrace 1".as_slice() {
+            return Some(TextCause::NoNewline);
+        }
+        Some(TextCause::BadHeader)
+    }
+
+    // The trace that was read. Takes no memory.
+    pub(crate) fn into_trace(self) -> Trace<A>
+        requires { self.has_header ≡ true }
+        ensures { lines result ≡ spec.lines_read self.has_header self.decls self.trace }
+    {
+        let Reader {
+            alloc: _,
+            has_header: _,
+            decls,
+            trace,
+        } = self;
+        match trace {
+            Some(trace) => trace,
+            None => Trace::new(decls),
+        }
+    }
+
+    // Takes the first line.
+    fn take_header(&mut self, line: &[u8]) -> Result<(), TextCause>
+        requires header { self.old.has_header ≡ false }
+        requires reading { spec.IsReading self.old.has_header self.old.decls self.old.trace }
+        ensures taken { MatchResult result
+            (λ _. spec.GoesOn [] line.now (spec.lines_read self.new.has_header self.new.decls self.new.trace))
+            (λ told. fault.cause [] line.now true ≡ Some told) }
+        ensures reading { OnOk result
+            (spec.IsReading self.new.has_header self.new.decls self.new.trace) }
+    {
+        if line == b"gotrace 1".as_slice() {
+            self.has_header = true;
+            return Ok(());
+        }
+        Err(TextCause::BadHeader)
+    }
+
+    // Takes a line before which no event stands.
+    fn take_before_events(&mut self, line: &[u8]) -> Result<(), TextCause>
+        requires header { self.old.has_header ≡ true }
+        requires trace { self.old.trace ≡ None }
+        requires read { IsRead (begun self.old.decls) }
+        ensures taken { MatchResult result
+            (λ _. spec.GoesOn (lines (begun self.old.decls)) line.now
+            (spec.lines_read self.new.has_header self.new.decls self.new.trace))
+            (λ told. told ≢ TextCause.OutOfMemory
+            → fault.cause (lines (begun self.old.decls)) line.now true ≡ Some told) }
+        ensures reading { OnOk result
+            (spec.IsReading self.new.has_header self.new.decls self.new.trace) }
+    {
+        match take_declaration(&mut self.decls, line) {
+            Err(cause) => Err(cause),
+            Ok(added) => {
+                if added {
+                    return Ok(());
+                }
+                let mut trace = Trace::new(mem::replace(&mut self.decls, Decls::new(self.alloc)));
+                match take_event(&mut trace, line) {
+                    Err(cause) => Err(cause),
+                    Ok(()) => {
+                        self.trace = Some(trace);
+                        Ok(())
+                    }
+                }
+            }
+        }
+    }
+}
+
+// Takes a line that declares, where no event stands before it.
+fn take_declaration<A: Allocator + Copy>(
+    decls: &mut Decls<A>,
+    line: &[u8],
+) -> Result<bool, TextCause>
+    requires { IsRead (begun decls.old) }
+    ensures { spec.TakesDeclaration decls.old line.now result decls.new }
+{
+    if has_bad_byte(line) {
+        return Err(TextCause::BadByte);
+    }
+    read_declaration(decls, line)
+}

@@ -1,0 +1,224 @@
+use crate::TextCause::{
+    BadByte, BadHeader, BadName, BadNumber, LateDeclaration, NoNewline, Taken, TooMany, Unknown,
+    UnknownWord, WrongCount, WrongKind,
+};
+use crate::{TextCause, TextFault, parse_trace, read_declaration, read_number, split_words};
+use race_records::{Decls, Op};
+use std::alloc::Allocator;
+use std::test::Fail;
+
+// The first fault of the bytes.
+fn fault_of<A: Allocator + Copy>(alloc: A, bytes: &[u8]) -> Option<TextFault> {
+    match parse_trace(alloc, bytes) {
+        Ok(_) => None,
+        Err(fault) => Some(fault),
+    }
+}
+
+// The fault of one line behind `goroutine a`, `var x` and one event, which is line 5.
+fn fault_of_line<A: Allocator + Copy>(alloc: A, line: &[u8]) -> Result<Option<TextFault>, Fail> {
+    let mut bytes = Vec::new(alloc);
+    bytes.extend_from_slice(b"gotrace 1\ngoroutine a\nvar x\nread main x 0 p\n")?;
+    bytes.extend_from_slice(line)?;
+    bytes.extend_from_slice(b"\n")?;
+    Ok(fault_of(alloc, bytes.as_slice()))
+}
+
+#[test]
+fn tells_the_first_fault_of_a_text(rt: HostRuntime) {
+    let texts: [(&[u8], u64, TextCause); 16] = [
+        (b"", 1, BadHeader),
+        (b"\n", 1, BadHeader),
+        (b"gotrace 1", 1, NoNewline),
+        (b"gotrace 2", 1, BadHeader),
+        (b"gotrace 2\n", 1, BadHeader),
+        (b"gotrace 1\r\n", 1, BadHeader),
+        (b"gotrace 1\nvar x\nwrite main x 01 p\n", 3, BadNumber),
+        (b"gotrace 1\nvar x\nwrite main  x 1 p\n", 3, WrongCount),
+        (
+            b"gotrace 1\nvar x\nwrite main x 1 p\nvar y\n",
+            4,
+            LateDeclaration,
+        ),
+        (
+            b"gotrace 1\nvar aaaaaaaaaaaaaaaaaaaaaaaaaaaaaaaaaaaaaaaaaaaaaaaaaaaaaaaaaaaaaaaaa\n",
+            2,
+            BadName,
+        ),
+        (
+            b"gotrace 1\ngoroutine w\nvar x\nvar y\nread main x 1 p\ngo main w p\nexit w p\nwrite main y 1 p\njump main p\n",
+            9,
+            UnknownWord,
+        ),
+        (b"gotrace 1\ngoroutine a\nvar x\nread a y 0 p\n", 4, Unknown),
+        (
+            b"gotrace 1\ngoroutine a\nvar x\nread x a 0 p\n",
+            4,
+            WrongKind,
+        ),
+        (
+            b"gotrace 1\nvar x\nwrite main x 18446744073709551616 p\n",
+            3,
+            BadNumber,
+        ),
+        (b"gotrace 1\nvar x\nexit main q", 3, NoNewline),
+        (b"gotrace 1\nvar -\nvar x y\nexit main q", 2, BadName),
+    ];
+    for (bytes, line, cause) in texts {
+        let fault = fault_of(rt.alloc(), bytes);
+        assert_eq!(rt; fault, Some(TextFault { line, cause }), "in {bytes:?}");
+    }
+}
+
+// One line for each cause, and the lesser of each two that one line can have at once.
+#[test]
+fn tells_the_least_cause_of_a_line(rt: HostRuntime) -> Result<(), Fail> {
+    let lines: [(&[u8], TextCause); 37] = [
+        (b"exit main \x80", BadByte),
+        (b"exit main p\r", BadByte),
+        (b"jump\t", BadByte),
+        (b"exit\t", BadByte),
+        (b"exit -\t p", BadByte),
+        (b"var x\t", BadByte),
+        (b"exit q p\t", BadByte),
+        (b"exit x p\t", BadByte),
+        (b"read main x 01 p\t", BadByte),
+        (b"var y\t", BadByte),
+        (b"", UnknownWord),
+        (b" exit main p", UnknownWord),
+        (b"chan c 0", UnknownWord),
+        (b"exit main", WrongCount),
+        (b"exit main p ", WrongCount),
+        (b"var - y", WrongCount),
+        (b"var x y", WrongCount),
+        (b"exit q", WrongCount),
+        (b"exit x", WrongCount),
+        (b"read main x 01", WrongCount),
+        (b"var y z", WrongCount),
+        (b"exit main ", BadName),
+        (b"exit nil p", BadName),
+        (b"go q - p", BadName),
+        (b"read x - 0 p", BadName),
+        (b"read main x 01 ", BadName),
+        (b"var -", BadName),
+        (b"var main", Taken),
+        (b"var a", Taken),
+        (b"go main q p", Unknown),
+        (b"read x q 0 p", Unknown),
+        (b"read main q 01 p", Unknown),
+        (b"read main a 0 p", WrongKind),
+        (b"read x x 01 p", WrongKind),
+        (b"read main x - p", BadNumber),
+        (b"read main x +1 p", BadNumber),
+        (b"var y", LateDeclaration),
+    ];
+    for (line, cause) in lines {
+        let fault = fault_of_line(rt.alloc(), line)?;
+        assert_eq!(rt; fault, Some(TextFault { line: 5, cause }), "in {line:?}");
+    }
+    Ok(())
+}
+
+// 1,023 goroutines and one more. Where the last line is malformed, taken or late besides, `too many` is
+// told only where no cause before it holds.
+#[test]
+fn holds_the_limit_on_goroutines(rt: HostRuntime) -> Result<(), Fail> {
+    let mut many = String::from_str(rt.alloc(), "gotrace 1\n")?;
+    for n in 1..1024u32 {
+        many.push_str(format!(in rt.alloc(); "goroutine g{n}\n")?.as_str())?;
+    }
+    let lasts: [(&[u8], Option<TextCause>); 6] = [
+        (b"", None),
+        (b"goroutine g1024\n", Some(TooMany)),
+        (b"goroutine -\n", Some(BadName)),
+        (b"goroutine g7\n", Some(Taken)),
+        (b"goroutine g1024 p\n", Some(WrongCount)),
+        (b"goroutine g1024\t\n", Some(BadByte)),
+    ];
+    for (last, cause) in lasts {
+        let mut bytes = Vec::new(rt.alloc());
+        bytes.extend_from_slice(many.as_bytes())?;
+        bytes.extend_from_slice(last)?;
+        let fault = fault_of(rt.alloc(), bytes.as_slice());
+        assert_eq!(rt;
+            fault,
+            cause.map(|cause| TextFault { line: 1025, cause }),
+            "at {last:?}"
+        );
+    }
+    many.push_str("exit main p\ngoroutine g1024\n")?;
+    let late = fault_of(rt.alloc(), many.as_bytes());
+    assert_eq!(rt;
+        late,
+        Some(TextFault {
+            line: 1026,
+            cause: TooMany
+        })
+    );
+    Ok(())
+}
+
+#[test]
+fn holds_the_limit_on_places(rt: HostRuntime) -> Result<(), Fail> {
+    for (len, cause) in [(1, None), (128, None), (129, Some(BadName))] {
+        let mut line = Vec::new(rt.alloc());
+        line.extend_from_slice(b"exit main ")?;
+        for _i in 0..len {
+            line.push(b'~')?;
+        }
+        let fault = fault_of_line(rt.alloc(), line.as_slice())?;
+        assert_eq!(rt;
+            fault,
+            cause.map(|cause| TextFault { line: 5, cause }),
+            "at {len}"
+        );
+    }
+    Ok(())
+}
+
+#[test]
+fn reads_a_trace(rt: HostRuntime) -> Result<(), Fail> {
+    let text =
+        "gotrace 1\ngoroutine w\nvar x\nwrite main x 18446744073709551615 a.go:1\ngo main w a.go:2\nread w x 7 a.go:1\nexit main a.go:3\n";
+    let trace = parse_trace(rt.alloc(), text.as_bytes())?;
+    let ops = [Op::Write(0, u64::MAX), Op::Go(1), Op::Read(0, 7), Op::Exit];
+    let seen = [(0, "a.go:1"), (0, "a.go:2"), (1, "a.go:1"), (0, "a.go:3")];
+    assert_eq!(rt; trace.len(), 4);
+    for (i, op) in ops.iter().enumerate() {
+        let event = &trace.events()[i];
+        assert!(rt; event.op == *op, "at {i}");
+        assert_eq!(rt; event.who, seen[i].0, "at {i}");
+        assert!(rt; event.place < trace.decls().place_count(), "at {i}");
+        assert_eq!(rt; trace.place_text(event.place), seen[i].1, "at {i}");
+    }
+    Ok(())
+}
+
+#[test]
+fn reads_fields(rt: HostRuntime) {
+    assert_eq!(rt; split_words(b" a  b").count(), 4);
+    let numbers: [(&[u8], u64, Option<u64>); 6] = [
+        (b"0", 0, Some(0)),
+        (b"65535", 65535, Some(65535)),
+        (b"65536", 65535, None),
+        (b"00", 9, None),
+        (b"", 9, None),
+        (b"+1", 9, None),
+    ];
+    for (word, max, number) in numbers {
+        assert_eq!(rt; read_number(word, max), number, "at {word:?}");
+    }
+    let mut decls = Decls::new(rt.alloc());
+    let lines: [(&[u8], Result<bool, TextCause>); 5] = [
+        (b"var x", Ok(true)),
+        (b"exit main p", Ok(false)),
+        (b"var x", Err(Taken)),
+        (b"goroutine", Err(WrongCount)),
+        (b"goroutine w", Ok(true)),
+    ];
+    for (line, answer) in lines {
+        let told = read_declaration(&mut decls, line);
+        assert!(rt; told == answer, "at {line:?}");
+    }
+    assert_eq!(rt; decls.len(), 2);
+}

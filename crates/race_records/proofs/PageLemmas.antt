@@ -67,11 +67,11 @@ cut_off_more start now sent text bytes cut = record {
 
 -- pieces that are cut off within piece i
 pub cut_off_in_pieces : {X : Type 0} (piece : X → List ℕ) (start now : Option (List ℕ)) (sent : ℕ) (text : List ℕ) (xs : List X) (i : ℕ) (d : X) → i < length xs
-  → IsCutOff start now sent ((text ++ flat_map piece (take i xs)) ++ piece (get_or xs i d)) → IsCutOff start now sent (text ++ flat_map piece xs)
+    → IsCutOff start now sent ((text ++ flat_map piece (take i xs)) ++ piece (get_or xs i d)) → IsCutOff start now sent (text ++ flat_map piece xs)
 cut_off_in_pieces piece start now sent text xs i d within cut =
     let rest = flat_map piece (drop (suc i) xs) in
     let split : flat_map piece xs ≡ flat_map piece (take i xs) ++ (piece (get_or xs i d) ++ rest) =
-      ap (flat_map piece) (sym (take-append-drop i xs) ∙ ap (λ l. take i xs ++ l) (drop-cons xs i d within)) ∙ flat_map-append piece (take i xs) (get_or xs i d ∷ drop (suc i) xs) in
+    ap (flat_map piece) (sym (take-append-drop i xs) ∙ ap (λ l. take i xs ++ l) (drop-cons xs i d within)) ∙ flat_map-append piece (take i xs) (get_or xs i d ∷ drop (suc i) xs) in
     subst (λ (l : List ℕ). IsCutOff start now sent l)
     (append_assoc (text ++ flat_map piece (take i xs)) (piece (get_or xs i d)) rest ∙ append_assoc text (flat_map piece (take i xs)) (piece (get_or xs i d) ++ rest) ∙ ap (λ l. text ++ l) (sym split))
     (cut_off_more start now sent ((text ++ flat_map piece (take i xs)) ++ piece (get_or xs i d)) rest cut)

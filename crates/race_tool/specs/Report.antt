@@ -1,5 +1,5 @@
 -- The printed report of a verdict. Events are printed with numbers from 1.
-use Rattle.std.specs.Prelude.{ℕ, ◌+◌, ◌<◌, List, [], ◌∷◌, ◌++◌, All, length, codes, decimal, slice_get, Some, None, unwrap_or}
+use Rattle.std.specs.Prelude.{ℕ, ◌+◌, ◌<◌, List, [], ◌∷◌, ◌++◌, length, codes, decimal, slice_get, Some, None, unwrap_or}
 use Rattle.std.specs.List.{concat, flat_map}
 use Rattle.race_records.specs.declared.event.Op.{Op}
 use Rattle.race_records.specs.declared.event.Op.TheVariants.{Read, Write}

@@ -1,7 +1,7 @@
-use Rattle.std.proofs.Common.{◌≡◌, ◌≤◌, Bool, true, false, List, ℕ, length, refl, sym, ap, subst, ◌∙◌, arith}
+use Rattle.std.proofs.Common.{Bool, List, ℕ, refl, sym, subst, ◌∙◌, arith}
 use Rattle.std.proofs.KnownBytes.{Consumes-nil}
 use Rattle.std.specs.Io.KnownBytes.{Consumes}
-use Rattle.race_records.specs.Devices.{unread, source_failures}
+use Rattle.race_records.specs.Devices.{unread}
 use Rattle.race_tool.specs.Input.{ReadsMore}
 use Rattle.race_tool.proofs.InputLemmas.{consumed_more, longer, read_all}
 use Rattle.race_tool.proofs.input.read_to_end.Goals as goal

@@ -1,4 +1,4 @@
-use Rattle.std.proofs.Common.{◌≡◌, ℕ, List, [], ◌∷◌, decimal, codes, subst, IfErr, ap, rules}
+use Rattle.std.proofs.Common.{◌≡◌, ℕ, List, [], ◌∷◌, subst, IfErr, rules}
 use Rattle.race_records.specs.declared.sink.WriteFault.{WriteFault}
 use Rattle.race_records.specs.Page.{BreaksOff, joined}
 use Rattle.race_tool.specs.Report.{clean_line}

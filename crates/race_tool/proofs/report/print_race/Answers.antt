@@ -3,7 +3,7 @@ use Rattle.race_records.specs.declared.sink.WriteFault.{WriteFault}
 use Rattle.race_records.specs.Declarations.{DeclsState}
 use Rattle.race_records.specs.Page.{BreaksOff, Prints, joined}
 use Rattle.race_tool.specs.Answers.{race_of}
-use Rattle.race_tool.specs.Report.{race_line, var_name}
+use Rattle.race_tool.specs.Report.{var_name}
 use Rattle.race_tool.proofs.ReportLemmas.{race_line_is}
 use Rattle.race_tool.proofs.report.print_race.Goals as goal
 

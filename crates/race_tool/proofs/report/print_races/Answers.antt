@@ -1,11 +1,11 @@
-use Rattle.std.proofs.Common.{◌≡◌, ℕ, ◌≤◌, ◌++◌, List, map, take, length, sym, subst, ◌∙◌, ap, append_assoc}
+use Rattle.std.proofs.Common.{◌≡◌, ℕ, ◌≤◌, ◌++◌, List, take, length, sym, subst, ◌∙◌, ap, append_assoc}
 use Rattle.std.specs.List.{flat_map}
 use Rattle.race_records.specs.declared.sink.WriteFault.{WriteFault}
 use Rattle.race_records.specs.Page.{IsCutOff, Prints, BreaksOff}
 use Rattle.race_records.proofs.PageLemmas.{cut_off_in_pieces, cut_off_more, prints_on, breaks_off_on}
 use Rattle.race_tool.specs.declared.races.Race.{Race}
 use Rattle.race_tool.specs.Answers.{race_of}
-use Rattle.race_tool.specs.Report.{race_line, races_line, races_text}
+use Rattle.race_tool.specs.Report.{race_line, races_line}
 use Rattle.race_tool.proofs.ReportLemmas.{races_text_is, take_all, OnOk-map, IfErr-map}
 use Rattle.race_tool.proofs.report.print_races.Goals as goal
 

@@ -1,4 +1,4 @@
-use Rattle.std.proofs.Common.{◌≡◌, map, take}
+use Rattle.std.proofs.Common.{◌≡◌, take}
 use Rattle.std.specs.List.{flat_map}
 use Rattle.race_records.specs.Devices.{written, sink_failures}
 use Rattle.race_records.specs.Page.{Prints}

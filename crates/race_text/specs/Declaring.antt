@@ -16,6 +16,7 @@ abbrev pub is_declaration_word : Option Word → Bool
 is_declaration_word None = false
 is_declaration_word (Some word) = is_some (object_of word)
 
+-- a line that declares
 abbrev pub is_declaration_line : List ℕ → Bool
 is_declaration_line line = is_declaration_word (word_named (first_word (words_of line)))
 
@@ -31,6 +32,7 @@ abbrev pub with_declared : DeclsState → Option Declaration → DeclsState
 with_declared decls None = decls
 with_declared decls (Some d) = with_declaration decls d.name d.object
 
+-- the state after a line that declares
 abbrev pub with_declaration_in : DeclsState → List ℕ → DeclsState
 with_declaration_in decls line = with_declared decls (declaration_in line)
 

@@ -3,6 +3,7 @@ use Rattle.std.specs.Prelude.{ℕ, List, codes}
 use Rattle.race_text.specs.declared.cause.TextCause.{TextCause}
 use Rattle.race_text.specs.declared.cause.TextFault.{TextFault}
 
+-- a fault by its line and its cause
 abbrev pub fault_at : ℕ → TextCause → TextFault
 fault_at line cause = record { line = line; cause = cause }
 
@@ -34,9 +35,10 @@ long_name = codes "gotrace 1\nvar aaaaaaaaaaaaaaaaaaaaaaaaaaaaaaaaaaaaaaaaaaaaaa
 abbrev pub unknown_word : List ℕ
 unknown_word = codes "gotrace 1\ngoroutine w\nvar x\nvar y\nread main x 1 p\ngo main w p\nexit w p\nwrite main y 1 p\njump main p\n"
 
--- a variable that nothing declares, and names in each other's place
+-- a variable that nothing declares
 abbrev pub unknown_name : List ℕ
 unknown_name = codes "gotrace 1\ngoroutine a\nvar x\nread a y 0 p\n"
 
+-- names in each other's place
 abbrev pub wrong_kind : List ℕ
 wrong_kind = codes "gotrace 1\ngoroutine a\nvar x\nread x a 0 p\n"

@@ -49,6 +49,7 @@ pub record Seen : Type 0 where
   pub declarations : List Declaration
   pub events : ℕ
 
+-- so many declarations, and so many events
 abbrev pub seen_so_far : List Declaration → ℕ → Seen
 seen_so_far ds events = record { declarations = ds; events = events }
 
@@ -58,17 +59,21 @@ declared_as None words = None
 declared_as (Some object) [] = None
 declared_as (Some object) (name ∷ others) = Some (record { name = name; object = object })
 
+-- what a line declares, where its first word declares anything
 abbrev pub declaration_in : List ℕ → Option Declaration
 declaration_in line =
     declared_as (option_and_then object_of (word_named (first_word (words_of line)))) (arguments (words_of line))
 
+-- the first word is one of an event
 abbrev pub is_event_word : Option Word → Bool
 is_event_word None = false
 is_event_word (Some word) = is_none (object_of word)
 
+-- a line that is an event
 abbrev pub is_event_line : List ℕ → Bool
 is_event_line line = is_event_word (word_named (first_word (words_of line)))
 
+-- each line before is looked at alone
 unfoldable pub seen : List (List ℕ) → Seen
 seen before = seen_so_far (filter_map declaration_in before) (count_by is_event_line before)
 
@@ -77,9 +82,11 @@ abbrev pub use_cause : (Named → Bool) → Option Named → Option TextCause
 use_cause is_wanted None = Some TextCause.Unknown
 use_cause is_wanted (Some named) = if is_wanted named then None else Some TextCause.WrongKind
 
+-- the least cause of a used name
 abbrev pub used_name_cause : (Named → Bool) → List Declaration → List ℕ → Option TextCause
 used_name_cause is_wanted ds w = if not (is_name w) then Some TextCause.BadName else use_cause is_wanted (find_name ds w)
 
+-- the least cause of a name that is declared
 abbrev pub new_name_cause : List Declaration → List ℕ → Option TextCause
 new_name_cause ds w =
     if not (is_name w) then Some TextCause.BadName
@@ -97,14 +104,14 @@ field_cause ds Field.Place w = if not (is_place w) then Some TextCause.BadName e
 abbrev pub fields_cause : List Declaration → List Field → List (List ℕ) → Option TextCause
 fields_cause ds fields words = fold (λ cause pair. lesser cause (field_cause ds pair.0 pair.1)) None (zip fields words)
 
--- a limit is reached, or a declaration stands after an event. Events have two places at most, so the limit on places is
--- never passed before that on events
+-- a limit is reached, or a declaration is late. An event has two places at most, so places never run out before events
 abbrev pub room_cause : Seen → Option Object → Option TextCause
 room_cause s None = if nat_le MAX_EVENTS s.events then Some TextCause.TooMany else None
 room_cause s (Some object) =
     if nat_le (limit_of (kind_of object)) (count_of (kind_of object) s.declarations) then Some TextCause.TooMany
     else (if nat_lt 0 s.events then Some TextCause.LateDeclaration else None)
 
+-- the least cause of a line by its words: of the first, of how many there are, of each, and of what is full or late
 abbrev pub word_cause : Seen → Option Word → List (List ℕ) → Option TextCause
 word_cause s None words = Some TextCause.UnknownWord
 word_cause s (Some word) words =
@@ -138,5 +145,6 @@ fault_after before (last ∷ []) =
 fault_after before (line ∷ next ∷ others) =
     or_later (length before + 1) (cause before line true) (fault_after (before ++ line ∷ []) (next ∷ others))
 
+-- the first fault of a text
 unfoldable pub text_fault : List ℕ → Option TextFault
 text_fault bytes = fault_after [] (parts_of bytes)

@@ -34,20 +34,22 @@ object_of Word.Exit = None
 object_of Word.Read = None
 object_of Word.Write = None
 
--- the first of the words, and the others
+-- the first of the words
 abbrev pub first_word : List (List ℕ) → List ℕ
 first_word [] = []
 first_word (w ∷ others) = w
 
+-- the words behind the first
 abbrev pub arguments : List (List ℕ) → List (List ℕ)
 arguments [] = []
 arguments (w ∷ others) = others
 
--- what is named is a goroutine, or a variable
+-- what is named is a goroutine
 abbrev pub is_goroutine : Named → Bool
 is_goroutine (Named.Goroutine n) = true
 is_goroutine _ = false
 
+-- what is named is a variable
 abbrev pub is_var : Named → Bool
 is_var (Named.Var n) = true
 is_var _ = false

@@ -1,6 +1,5 @@
 -- How far a trace is read, line by line.
-use Rattle.std.specs.Prelude.{◌≡◌, ℕ, ◌<◌, ◌≤◌, Bool, true, false, List, [], ◌∷◌, ◌++◌, length, Option, Some, None, Result, Ok, Err, nat_lt, ◌==◌, ◌&&◌, if◌then◌else◌}
-use Rattle.std.specs.Prelude.{◌≢◌}
+use Rattle.std.specs.Prelude.{◌≡◌, ◌≢◌, ℕ, ◌<◌, ◌≤◌, Bool, true, false, List, [], ◌∷◌, ◌++◌, length, Option, Some, None, Result, Ok, Err, nat_lt, ◌==◌, ◌&&◌, if◌then◌else◌}
 use Rattle.race_records.specs.Declarations.{DeclsState}
 use Rattle.race_records.specs.Events.{TraceState}
 use Rattle.race_text.specs.declared.cause.TextCause.{TextCause}
@@ -36,6 +35,7 @@ abbrev pub TakesIfDeclared : DeclsState → List ℕ → Bool → DeclsState →
 TakesIfDeclared old line true new = TakesLine (lines (begun old)) line (begun new)
 TakesIfDeclared old line false new = (new ≡ old) × (is_declaration_line line ≡ false)
 
+-- the same of an answer, which may be a cause
 abbrev pub TakesDeclaration : DeclsState → List ℕ → Result Bool TextCause → DeclsState → Type 0
 TakesDeclaration old line (Ok added) new = TakesIfDeclared old line added new
 TakesDeclaration old line (Err told) new = told ≢ TextCause.OutOfMemory → cause (lines (begun old)) line true ≡ Some told

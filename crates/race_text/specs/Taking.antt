@@ -31,6 +31,7 @@ pub record IsFitting (decls : DeclsState) (o : Occurrence) : Type 0 where
   pub who : o.who < count_of Kind.Goroutine decls.declarations
   pub op : op_fits decls.declarations o.op ≡ true
 
+-- the event, with the number that its place has or gets
 abbrev pub event_of : List (List ℕ) → Occurrence → Event
 event_of places o = record { who = o.who; op = o.op; place = place_number places o.place; place2 = None }
 

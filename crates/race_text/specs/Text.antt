@@ -24,16 +24,19 @@ object_words name Object.Goroutine = codes "goroutine" ∷ name ∷ []
 object_words name Object.Var = codes "var" ∷ name ∷ []
 object_words name _ = []
 
+-- the line of a declaration
 abbrev pub declaration_line : Declaration → List ℕ
 declaration_line d = line_of (object_words d.name d.object)
 
--- the names and the place by which an event's numbers are printed
+-- the name by which a goroutine's number is printed
 abbrev pub goroutine_name : List Declaration → ℕ → List ℕ
 goroutine_name ds n = unwrap_or (name_of ds (Named.Goroutine n)) []
 
+-- the name by which a variable's number is printed
 abbrev pub var_name : List Declaration → ℕ → List ℕ
 var_name ds n = unwrap_or (name_of ds (Named.Var n)) []
 
+-- the place by which its number is printed
 abbrev pub place_text : List (List ℕ) → ℕ → List ℕ
 place_text places n = unwrap_or (slice_get places n) []
 
@@ -44,6 +47,7 @@ op_words ds who place Exit = codes "exit" ∷ who ∷ place ∷ []
 op_words ds who place (Read x v) = codes "read" ∷ who ∷ var_name ds x ∷ decimal v ∷ place ∷ []
 op_words ds who place (Write x v) = codes "write" ∷ who ∷ var_name ds x ∷ decimal v ∷ place ∷ []
 
+-- the line of an event
 abbrev pub event_line : DeclsState → Event → List ℕ
 event_line decls e =
     line_of (op_words decls.declarations (goroutine_name decls.declarations e.who) (place_text decls.places e.place) e.op)
@@ -56,5 +60,6 @@ lines t = header ∷ map declaration_line t.decls.declarations ++ map (event_lin
 abbrev pub ended : List ℕ → List ℕ
 ended line = line ++ 10 ∷ []
 
+-- the text of a trace
 unfoldable pub text : TraceState → List ℕ
 text t = flat_map ended (lines t)

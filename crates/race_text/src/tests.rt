@@ -26,7 +26,7 @@ fn fault_of_line<A: Allocator + Copy>(alloc: A, line: &[u8]) -> Result<Option<Te
 
 #[test]
 fn tells_the_first_fault_of_a_text(rt: HostRuntime) {
-    let texts: [(&[u8], u64, TextCause); 16] = [
+    let texts: [(&[u8], u64, TextCause); 17] = [
         (b"", 1, BadHeader),
         (b"\n", 1, BadHeader),
         (b"gotrace 1", 1, NoNewline),
@@ -62,6 +62,7 @@ fn tells_the_first_fault_of_a_text(rt: HostRuntime) {
             BadNumber,
         ),
         (b"gotrace 1\nvar x\nexit main q", 3, NoNewline),
+        (b"gotrace 1\njump\x80", 2, NoNewline),
         (b"gotrace 1\nvar -\nvar x y\nexit main q", 2, BadName),
     ];
     for (bytes, line, cause) in texts {
@@ -73,11 +74,12 @@ fn tells_the_first_fault_of_a_text(rt: HostRuntime) {
 // One line for each cause, and the lesser of each two that one line can have at once.
 #[test]
 fn tells_the_least_cause_of_a_line(rt: HostRuntime) -> Result<(), Fail> {
-    let lines: [(&[u8], TextCause); 37] = [
+    let lines: [(&[u8], TextCause); 38] = [
         (b"exit main \x80", BadByte),
         (b"exit main p\r", BadByte),
         (b"jump\t", BadByte),
-        (b"exit\t", BadByte),
+        (b"exit main\t", BadByte),
+        (b"go q a p\t", BadByte),
         (b"exit -\t p", BadByte),
         (b"var x\t", BadByte),
         (b"exit q p\t", BadByte),

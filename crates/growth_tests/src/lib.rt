@@ -2,10 +2,12 @@
 //! is as before.
 //!
 //! A test makes its value, calls `heap.refuse(nth)` and then the one call: growth 1, 2, 3 and so on
-//! is refused, until a run meets no refusal. `each_growth!` is that loop.
+//! is refused, until a run meets no refusal. `assert_refusals!` is that loop.
 #![tactic(auto)]
 
 #[cfg(test)]
 mod growths;
 #[cfg(test)]
 mod records;
+#[cfg(test)]
+mod texts;

@@ -24,19 +24,21 @@ pub fn judge(heap: &RefusingHeap<Global>, refused: bool, done: bool) -> Outcome 
     }
 }
 
-/// Lets growth 1, 2, 3 and so on be refused until a run meets no refusal, and asserts that there
-/// were so many refusals.
+/// Lets growth 1, 2, 3 and so on of each call be refused until a run meets no refusal, and asserts
+/// that there were so many refusals.
 macro_rules! assert_refusals {
-    ($rt:ident, $run:ident, $refusals:expr) => {{
-        let mut refusals = 0;
-        for nth in 1..64u64 {
-            match $run($rt.alloc(), nth)? {
-                Outcome::Refused => refusals = nth,
-                Outcome::Done => break,
-                Outcome::Wrong => assert!($rt; false, "wrong where growth {nth} is refused"),
+    ($rt:ident, $run:ident, $calls:expr) => {{
+        for (call, want) in $calls {
+            let mut refusals = 0;
+            for nth in 1..64u64 {
+                match $run($rt.alloc(), call, nth) {
+                    Outcome::Refused => refusals = nth,
+                    Outcome::Done => break,
+                    Outcome::Wrong => assert!($rt; false, "{call:?}: wrong at growth {nth}"),
+                }
             }
+            assert_eq!($rt; refusals, want, "{call:?}");
         }
-        assert_eq!($rt; refusals, $refusals);
     }};
 }
 

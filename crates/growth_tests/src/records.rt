@@ -3,173 +3,192 @@ ghost use Rattle.std.specs.Prelude.{◌<◌};
 
 use crate::growths::{Outcome, assert_refusals, judge};
 use race_records::{DeclFault, Decls, Event, Kind, Named, Op, PushFault, Trace};
+use race_text::{TextFault, parse_trace};
 use refusing_heap::RefusingHeap;
 use std::alloc::{AllocError, Allocator, Global};
-use std::test::Fail;
 
-// A goroutine, a variable and a place.
-fn declared<A: Allocator + Copy>(heap: A) -> Result<Decls<A>, DeclFault> {
-    let mut decls = Decls::new(heap);
-    decls.add_goroutine("w")?;
-    decls.add_var("x")?;
-    decls.add_place("a.go:1")?;
-    Ok(decls)
+// A goroutine, two variables, three places and four events, which fill their tables.
+fn traced<A: Allocator + Copy>(heap: A) -> Result<Trace<A>, TextFault> {
+    parse_trace(
+        heap,
+        b"gotrace 1\ngoroutine w\nvar x\nvar z\nexit w p\nexit w q\nexit w r\nexit w r\n",
+    )
 }
 
 fn is_as_declared<A: Allocator>(decls: &Decls<A>) -> bool {
-    decls.len() == 2
+    decls.len() == 3
         && decls.count(Kind::Goroutine) == 2
-        && decls.count(Kind::Var) == 1
-        && decls.place_count() == 1
+        && decls.count(Kind::Var) == 2
+        && decls.place_count() == 3
         && decls.find("x") == Some(Named::Var(0))
         && decls.find("y") == None
 }
 
-// As many names as the first table holds, so that one more makes every list grow.
-fn filled<A: Allocator + Copy>(heap: A) -> Result<Decls<A>, DeclFault> {
-    let mut decls = Decls::new(heap);
-    for name in ["a", "b", "c", "d", "e", "f", "g", "h"] {
-        decls.add_var(name)?;
-    }
-    decls.add_goroutine("w")?;
-    Ok(decls)
-}
-
-fn is_as_filled<A: Allocator>(decls: &Decls<A>) -> bool {
-    decls.len() == 9
-        && decls.count(Kind::Var) == 8
-        && decls.find("h") == Some(Named::Var(7))
-        && decls.find("y") == None
-}
-
 fn is_as_traced<A: Allocator>(trace: &Trace<A>) -> bool {
-    trace.is_empty() && is_as_declared(trace.decls())
+    trace.len() == 4 && is_as_declared(trace.decls())
 }
 
-// The calls under test, each in a function whose callers need nothing of its contract.
-
-fn add_goroutine<A: Allocator + Copy>(decls: &mut Decls<A>) -> Result<u32, DeclFault> {
-    decls.add_goroutine("w")
+// A copy, whose lists have no room for more.
+fn copied<A: Allocator + Copy>(trace: &Trace<A>) -> Result<Decls<A>, AllocError> {
+    trace.decls().copy()
 }
 
-fn add_var<A: Allocator + Copy>(decls: &mut Decls<A>) -> Result<u32, DeclFault> {
-    decls.add_var("y")
+/// A call that changes declarations.
+#[derive(Clone, Copy, Debug)]
+enum Addition {
+    Goroutine,
+    Var,
+    Place,
 }
 
-fn add_place<A: Allocator + Copy>(decls: &mut Decls<A>) -> Result<u32, DeclFault> {
-    decls.add_place("a.go:1")
+fn add<A: Allocator + Copy>(decls: &mut Decls<A>, addition: Addition) -> Result<u32, DeclFault> {
+    match addition {
+        Addition::Goroutine => decls.add_goroutine("v"),
+        Addition::Var => decls.add_var("y"),
+        Addition::Place => decls.add_place("s"),
+    }
 }
 
-fn copies_alike<A: Allocator + Copy>(decls: &Decls<A>) -> Result<bool, AllocError> {
-    let copy = decls.copy()?;
-    Ok(copy == *decls && copy.place_count() == decls.place_count())
+/// What a call adds to.
+#[derive(Clone, Copy, Debug)]
+enum Start {
+    Nothing,
+    Copy,
 }
 
-fn push<A: Allocator>(trace: &mut Trace<A>) -> Result<(), PushFault> {
-    trace.push(Event {
+fn started<A: Allocator + Copy>(heap: A, start: Start) -> Option<Decls<A>> {
+    match start {
+        Start::Nothing => Some(Decls::new(heap)),
+        Start::Copy => copied(&traced(heap).ok()?).ok(),
+    }
+}
+
+fn is_as_started<A: Allocator>(decls: &Decls<A>, start: Start) -> bool {
+    match start {
+        Start::Nothing => decls.is_empty() && decls.place_count() == 0,
+        Start::Copy => is_as_declared(decls),
+    }
+}
+
+fn one_more(alloc: Global, call: (Start, Addition, u32), nth: u64) -> Outcome
+    requires { 0 < nth }
+{
+    let (start, addition, number) = call;
+    let heap = RefusingHeap::new(alloc);
+    let Some(mut decls) = started(&heap, start) else {
+        return Outcome::Wrong;
+    };
+    heap.refuse(nth);
+    let answer = add(&mut decls, addition);
+    let refused = answer == Err(DeclFault::OutOfMemory) && is_as_started(&decls, start);
+    judge(&heap, refused, answer == Ok(number))
+}
+
+/// A call on a trace.
+#[derive(Clone, Copy, Debug)]
+enum Call {
+    Copy,
+    Reserve,
+    Push,
+    AddPlace,
+}
+
+/// What a call answered.
+#[derive(Clone, Copy, Debug, PartialEq, Eq)]
+enum Reply {
+    OutOfMemory,
+    Right,
+    Wrong,
+}
+
+fn push<A: Allocator>(trace: &mut Trace<A>) -> Reply {
+    let event = Event {
         who: 0,
         op: Op::Write(0, 7),
         place: 0,
         place2: None,
-    })
+    };
+    match trace.push(event) {
+        Ok(()) => Reply::Right,
+        Err(PushFault::OutOfMemory) => Reply::OutOfMemory,
+        Err(_) => Reply::Wrong,
+    }
 }
 
-fn add_place_of_a_trace<A: Allocator + Copy>(trace: &mut Trace<A>) -> Result<u32, DeclFault> {
-    trace.add_place("b.go:1")
+fn add_place<A: Allocator + Copy>(trace: &mut Trace<A>) -> Reply {
+    match trace.add_place("s") {
+        Ok(3) => Reply::Right,
+        Err(DeclFault::OutOfMemory) => Reply::OutOfMemory,
+        _ => Reply::Wrong,
+    }
 }
 
-// One run of each, in which growth `nth` of the call is to be refused.
+fn reserve<A: Allocator>(trace: &mut Trace<A>) -> Reply {
+    match trace.reserve() {
+        Ok(()) => Reply::Right,
+        Err(_) => Reply::OutOfMemory,
+    }
+}
 
-fn first_goroutine(alloc: Global, nth: u64) -> Result<Outcome, DeclFault>
+fn copy<A: Allocator + Copy>(trace: &Trace<A>) -> Reply {
+    match copied(trace) {
+        Ok(copy) => if is_as_declared(&copy) {
+            Reply::Right
+        } else {
+            Reply::Wrong
+        },
+        Err(_) => Reply::OutOfMemory,
+    }
+}
+
+fn make<A: Allocator + Copy>(trace: &mut Trace<A>, call: Call) -> Reply {
+    match call {
+        Call::Copy => copy(trace),
+        Call::Reserve => reserve(trace),
+        Call::Push => push(trace),
+        Call::AddPlace => add_place(trace),
+    }
+}
+
+fn on_a_trace(alloc: Global, call: Call, nth: u64) -> Outcome
     requires { 0 < nth }
 {
     let heap = RefusingHeap::new(alloc);
-    let mut decls = Decls::new(&heap);
+    let Ok(mut trace) = traced(&heap) else {
+        return Outcome::Wrong;
+    };
     heap.refuse(nth);
-    let answer = add_goroutine(&mut decls);
-    let refused = answer == Err(DeclFault::OutOfMemory) && decls.is_empty();
-    Ok(judge(&heap, refused, answer == Ok(1)))
-}
-
-fn one_more_variable(alloc: Global, nth: u64) -> Result<Outcome, DeclFault>
-    requires { 0 < nth }
-{
-    let heap = RefusingHeap::new(alloc);
-    let mut decls = filled(&heap)?;
-    heap.refuse(nth);
-    let answer = add_var(&mut decls);
-    let refused = answer == Err(DeclFault::OutOfMemory) && is_as_filled(&decls);
-    Ok(judge(&heap, refused, answer == Ok(8)))
-}
-
-fn first_place(alloc: Global, nth: u64) -> Result<Outcome, DeclFault>
-    requires { 0 < nth }
-{
-    let heap = RefusingHeap::new(alloc);
-    let mut decls = Decls::new(&heap);
-    heap.refuse(nth);
-    let answer = add_place(&mut decls);
-    let refused = answer == Err(DeclFault::OutOfMemory) && decls.place_count() == 0;
-    Ok(judge(&heap, refused, answer == Ok(0)))
-}
-
-fn copy(alloc: Global, nth: u64) -> Result<Outcome, DeclFault>
-    requires { 0 < nth }
-{
-    let heap = RefusingHeap::new(alloc);
-    let decls = declared(&heap)?;
-    heap.refuse(nth);
-    let answer = copies_alike(&decls);
-    let refused = answer == Err(AllocError) && is_as_declared(&decls);
-    Ok(judge(&heap, refused, answer == Ok(true)))
-}
-
-fn reserve(alloc: Global, nth: u64) -> Result<Outcome, DeclFault>
-    requires { 0 < nth }
-{
-    let heap = RefusingHeap::new(alloc);
-    let mut trace = Trace::new(declared(&heap)?);
-    heap.refuse(nth);
-    let answer = trace.reserve();
-    let refused = answer == Err(AllocError) && is_as_traced(&trace);
-    Ok(judge(&heap, refused, answer == Ok(())))
-}
-
-fn first_event(alloc: Global, nth: u64) -> Result<Outcome, DeclFault>
-    requires { 0 < nth }
-{
-    let heap = RefusingHeap::new(alloc);
-    let mut trace = Trace::new(declared(&heap)?);
-    heap.refuse(nth);
-    let answer = push(&mut trace);
-    let refused = answer == Err(PushFault::OutOfMemory) && is_as_traced(&trace);
-    Ok(judge(&heap, refused, answer == Ok(())))
-}
-
-fn one_more_place(alloc: Global, nth: u64) -> Result<Outcome, DeclFault>
-    requires { 0 < nth }
-{
-    let heap = RefusingHeap::new(alloc);
-    let mut trace = Trace::new(declared(&heap)?);
-    heap.refuse(nth);
-    let answer = add_place_of_a_trace(&mut trace);
-    let refused = answer == Err(DeclFault::OutOfMemory) && is_as_traced(&trace);
-    Ok(judge(&heap, refused, answer == Ok(1)))
+    let answer = make(&mut trace, call);
+    let refused = answer == Reply::OutOfMemory && is_as_traced(&trace);
+    judge(&heap, refused, answer == Reply::Right)
 }
 
 #[test]
-fn names_and_places(rt: HostRuntime) -> Result<(), Fail> {
-    assert_refusals!(rt, first_goroutine, 6);
-    assert_refusals!(rt, one_more_variable, 6);
-    assert_refusals!(rt, first_place, 5);
-    assert_refusals!(rt, copy, 13);
-    Ok(())
+fn names_and_places(rt: HostRuntime) {
+    assert_refusals!(
+        rt,
+        one_more,
+        [
+            ((Start::Nothing, Addition::Goroutine, 1), 6),
+            ((Start::Nothing, Addition::Var, 0), 6),
+            ((Start::Nothing, Addition::Place, 0), 5),
+            ((Start::Copy, Addition::Goroutine, 2), 4),
+            ((Start::Copy, Addition::Var, 2), 4),
+            ((Start::Copy, Addition::Place, 3), 3)
+        ]
+    );
 }
 
 #[test]
-fn events(rt: HostRuntime) -> Result<(), Fail> {
-    assert_refusals!(rt, reserve, 1);
-    assert_refusals!(rt, first_event, 1);
-    assert_refusals!(rt, one_more_place, 1);
-    Ok(())
+fn traces(rt: HostRuntime) {
+    assert_refusals!(
+        rt,
+        on_a_trace,
+        [
+            (Call::Copy, 16),
+            (Call::Reserve, 1),
+            (Call::Push, 1),
+            (Call::AddPlace, 1)
+        ]
+    );
 }

@@ -6,7 +6,6 @@ use race_records::Trace;
 use race_text::{TextCause, TextFault, parse_trace};
 use refusing_heap::RefusingHeap;
 use std::alloc::{Allocator, Global};
-use std::test::Fail;
 
 // A function round the call, so that the run's proof needs nothing of its contract.
 fn parse<A: Allocator + Copy>(alloc: A) -> Result<Trace<A>, TextFault> {
@@ -18,7 +17,7 @@ fn line_of_growth(nth: u64) -> u64 {
     if nth <= 6 { 2 } else { 3 }
 }
 
-fn text(alloc: Global, nth: u64) -> Result<Outcome, TextFault>
+fn text(alloc: Global, _call: (), nth: u64) -> Outcome
     requires { 0 < nth }
 {
     let heap = RefusingHeap::new(alloc);
@@ -33,11 +32,10 @@ fn text(alloc: Global, nth: u64) -> Result<Outcome, TextFault>
             (fault == told, false)
         }
     };
-    Ok(judge(&heap, refused, done))
+    judge(&heap, refused, done)
 }
 
 #[test]
-fn texts(rt: HostRuntime) -> Result<(), Fail> {
-    assert_refusals!(rt, text, 12);
-    Ok(())
+fn texts(rt: HostRuntime) {
+    assert_refusals!(rt, text, [((), 12)]);
 }

@@ -7,4 +7,8 @@ pub mod IsTable
 pub mod Partners
 pub mod Answers
 pub mod Verdicts
+pub mod Causes
 pub mod Report
+pub mod Finding
+pub mod Findings
+pub mod Outcome

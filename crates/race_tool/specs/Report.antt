@@ -1,29 +1,29 @@
 -- The printed report of a verdict. Events are printed with numbers from 1.
-use Rattle.std.specs.Prelude.{ℕ, ◌+◌, ◌<◌, List, [], ◌∷◌, ◌++◌, length, codes, decimal, slice_get, Some, None, unwrap_or}
+use Rattle.std.specs.Prelude.{ℕ, ◌+◌, ◌<◌, List, [], ◌∷◌, ◌++◌, length, codes, decimal, slice_get, Some, None}
 use Rattle.std.specs.List.{concat, flat_map}
 use Rattle.race_records.specs.declared.event.Op.{Op}
 use Rattle.race_records.specs.declared.event.Op.TheVariants.{Read, Write}
 use Rattle.race_records.specs.declared.kind.Kind.{Kind}
-use Rattle.race_records.specs.declared.kind.Named.{Named}
-use Rattle.race_records.specs.Declarations.{DeclsState, name_of, count_of}
+use Rattle.race_records.specs.Declarations.{count_of}
 use Rattle.race_records.specs.Events.{TraceState}
 use Rattle.race_model.specs.Events.{count, is_access}
-use Rattle.race_tool.specs.Rules.{rule_text}
 use Rattle.race_model.specs.Verdict.{Race, Verdict, Illegal, Clean, Races}
-
--- the names by which a number is printed
-abbrev pub goroutine_name : DeclsState → ℕ → List ℕ
-goroutine_name decls n = unwrap_or (name_of decls.declarations (Named.Goroutine n)) []
-
-abbrev pub var_name : DeclsState → ℕ → List ℕ
-var_name decls n = unwrap_or (name_of decls.declarations (Named.Var n)) []
-
-abbrev pub place_text : DeclsState → ℕ → List ℕ
-place_text decls n = unwrap_or (slice_get decls.places n) []
+use Rattle.race_text.specs.declared.cause.TextFault.{TextFault}
+use Rattle.race_text.specs.Text.{goroutine_name, var_name, place_text}
+use Rattle.race_tool.specs.Causes.{cause_text}
+use Rattle.race_tool.specs.Rules.{rule_text}
 
 -- the end of a line
 abbrev pub newline : List ℕ
 newline = 10 ∷ []
+
+-- the line at fault, and its least cause
+unfoldable pub fault_line : TextFault → List ℕ
+fault_line fault = concat (codes "line " ∷ decimal fault.line ∷ codes ": " ∷ cause_text fault.cause ∷ newline ∷ [])
+
+-- there are more events than are judged
+unfoldable pub too_long_line : ℕ → List ℕ
+too_long_line events = concat (codes "too long: " ∷ decimal events ∷ codes " events" ∷ newline ∷ [])
 
 unfoldable pub clean_line : TraceState → List ℕ
 clean_line trace =
@@ -44,13 +44,14 @@ access_text trace index =
     elim (slice_get trace.events index) [
       | None ↦ []
       | Some e ↦
-          access_word e.op ∷ codes " by " ∷ goroutine_name trace.decls e.who ∷ codes " at " ∷ place_text trace.decls e.place
+          access_word e.op ∷ codes " by " ∷ goroutine_name trace.decls.declarations e.who
+          ∷ codes " at " ∷ place_text trace.decls.places e.place
           ∷ codes " (event " ∷ decimal (index + 1) ∷ codes ")" ∷ []
     ]
 
 unfoldable pub race_line : TraceState → Race → List ℕ
 race_line trace race =
-    concat (codes "race on " ∷ var_name trace.decls race.var ∷ codes ": " ∷ (access_text trace race.first ++ codes ", " ∷ (access_text trace race.second ++ newline ∷ [])))
+    concat (codes "race on " ∷ var_name trace.decls.declarations race.var ∷ codes ": " ∷ (access_text trace race.first ++ codes ", " ∷ (access_text trace race.second ++ newline ∷ [])))
 
 unfoldable pub races_line : ℕ → List ℕ
 races_line n = concat (codes "races: " ∷ decimal n ∷ newline ∷ [])

@@ -1,5 +1,5 @@
 //! Reading an input to its end.
-ghost use Rattle.std.specs.Prelude.{◌≡◌, ◌≢◌, ◌<◌, length, vec_len, IfOk, OnOk};
+ghost use Rattle.std.specs.Prelude.{◌≡◌, ◌≢◌, ◌<◌, length, vec_len, IfOk};
 ghost use Rattle.race_records.specs.Devices.{unread, source_failures, one_more};
 ghost use Rattle.race_tool.specs.Input.{ReadsAll, ReadsOn, ReadsMore};
 
@@ -35,7 +35,8 @@ pub(crate) fn read_to_end<R: Read, A: Allocator + Copy>(
 ) -> Result<Vec<u8, A>, ReadFault>
     ensures ok { IfOk result (λ bytes.
         ReadsAll (unread R.remaining source.old) (unread R.remaining source.new) bytes.items) }
-    ensures calm { OnOk result (source_failures source.new ≡ source_failures source.old) }
+    ensures calm { result ≢ Err ReadFault.Failed
+        → source_failures source.new ≡ source_failures source.old }
     ensures failed { result ≡ Err ReadFault.Failed
         → source_failures source.new ≡ one_more (source_failures source.old) }
     ensures endless { result ≡ Err ReadFault.Endless
@@ -69,7 +70,8 @@ fn read_block<R: Read, A: Allocator>(
     requires { 0 < length block.old }
     ensures ok { IfOk result (λ more. ReadsMore (unread R.remaining source.old)
         (unread R.remaining source.new) bytes.old.items bytes.new.items more) }
-    ensures calm { OnOk result (source_failures source.new ≡ source_failures source.old) }
+    ensures calm { result ≢ Err ReadFault.Failed
+        → source_failures source.new ≡ source_failures source.old }
     ensures failed { result ≡ Err ReadFault.Failed
         → source_failures source.new ≡ one_more (source_failures source.old) }
     ensures ends { result ≢ Err ReadFault.Endless }

@@ -1,12 +1,19 @@
 //! The engines of the race detector: bytes in, bytes out.
 #![tactic(auto)]
 
+mod cause;
+mod check;
+mod finding;
 mod input;
 mod judge;
+mod printing;
 mod races;
 mod replay;
 mod report;
 mod rule;
+pub mod status;
 mod table;
 #[cfg(test)]
 mod tests;
+
+pub use check::{CheckOptions, MAX_BLOCK, MAX_SHARDS, run_check};

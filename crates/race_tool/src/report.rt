@@ -1,8 +1,9 @@
-//! The printed report of a verdict.
+//! The lines of a verdict.
 ghost use Rattle.std.specs.Prelude.{◌≡◌, ◌<◌, ◌+◌, [], ◌∷◌, All, map, length, slice_get, Some, IfSome, IfErr, OnOk, OnErr, count_by};
 ghost use Rattle.race_records.specs.Devices.{written, sink_failures, one_more};
 ghost use Rattle.race_records.specs.Page.{Prints, BreaksOff};
 ghost use Rattle.race_model.specs.Events.{count, is_access};
+ghost use Rattle.race_text.specs.Text.{goroutine_name, place_text};
 ghost use Rattle.race_tool.specs.Answers.{race_of};
 ghost use Rattle.race_tool.specs.Rules.{number_of};
 ghost use Rattle.race_tool.specs.Report as spec;
@@ -194,8 +195,8 @@ fn access_words<A: Allocator>(trace: &Trace<A>, index: usize) -> AccessWords<'_>
     requires { index < length trace.now.events }
     ensures { IfSome (slice_get trace.now.events index) (λ e.
         (result.what.now ≡ spec.access_word e.op)
-        × (result.who.now ≡ spec.goroutine_name trace.now.decls e.who)
-        × (result.place.now ≡ spec.place_text trace.now.decls e.place)) }
+        × (result.who.now ≡ goroutine_name trace.now.decls.declarations e.who)
+        × (result.place.now ≡ place_text trace.now.decls.places e.place)) }
 {
     let event = trace.event(index);
     AccessWords {

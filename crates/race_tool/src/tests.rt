@@ -1,69 +1,92 @@
-use crate::judge::{Verdict, plain_judge};
-use crate::races::Race;
-use race_records::{Decls, Event, Op, Trace};
+use crate::{CheckOptions, run_check, status};
+use race_records::{Sink, Source};
 use std::alloc::Global;
+use std::io;
+use std::io::{Read, Write};
 use std::process::Abort;
 use std::test::Fail;
 
-const X: u32 = 0;
-
-const Y: u32 = 1;
-
-const Z: u32 = 2;
-
-fn copy_of(op: &Op) -> Op {
-    match op {
-        Op::Go(goroutine) => Op::Go(*goroutine),
-        Op::Exit => Op::Exit,
-        Op::Read(var, value) => Op::Read(*var, *value),
-        Op::Write(var, value) => Op::Write(*var, *value),
+// The lines of a row, each with its newline.
+fn text_of(alloc: Global, row: &str) -> Result<Vec<u8>, Fail> {
+    let mut text = Vec::new(alloc);
+    for line in row.split(" / ") {
+        text.extend_from_slice(line.as_bytes())?;
+        text.push(b'\n')?;
     }
+    Ok(text)
 }
 
-// Goroutines main, a and b are 0, 1 and 2; variables x, y and z are 0, 1 and 2.
-fn trace_of(alloc: Global, events: &[(u32, Op)]) -> Result<Trace, Fail> {
-    let mut decls = Decls::new(alloc);
-    for name in ["a", "b"] {
-        decls.add_goroutine(name)?;
-    }
-    for name in ["x", "y", "z"] {
-        decls.add_var(name)?;
-    }
-    let mut trace = Trace::new(decls);
-    let place = trace.add_place("p")?;
-    for (who, op) in events {
-        trace.push(Event {
-            who: *who,
-            op: copy_of(op),
-            place,
-            place2: None,
-        })?;
-    }
-    Ok(trace)
+// Checks the bytes with the default options.
+fn checked(alloc: Global, bytes: &[u8]) -> (u8, Vec<u8>) {
+    let mut source = Source::new(bytes);
+    let mut output = Vec::new(alloc);
+    let mut sink = Sink::new(&mut output);
+    let answer = run_check(&(), alloc, &mut source, &mut sink, &CheckOptions::default());
+    (answer, output)
 }
 
-// The races, or the first illegal event and the text of its rule.
-fn answer(verdict: &Verdict) -> Result<&[Race], (u32, &str)> {
-    match verdict {
-        Verdict::Illegal(illegal) => Err((illegal.at, illegal.rule.text())),
-        Verdict::Clean => Ok([].as_slice()),
-        Verdict::Races(races) => Ok(races.as_slice()),
-    }
-}
-
-fn race(var: u32, first: u32, second: u32) -> Race {
-    Race { var, first, second }
-}
-
-type Case<'a> = (&'a [(u32, Op)], Result<&'a [Race], (u32, &'a str)>);
-
-fn check(rt: &(impl Abort + AllocGlobal), cases: &[Case<'_>]) -> Result<(), Fail> {
-    for (number, (events, want)) in cases.iter().enumerate() {
-        let trace = trace_of(rt.alloc(), events)?;
-        let verdict = plain_judge(rt.alloc(), &trace)?;
-        assert_eq!(rt; answer(&verdict), *want, "case {number}");
+fn check(rt: &(impl Abort + AllocGlobal), rows: &[(&str, &str, u8)]) -> Result<(), Fail> {
+    for (row, report, status) in rows {
+        let (answer, output) = checked(rt.alloc(), text_of(rt.alloc(), *row)?.as_slice());
+        let want = text_of(rt.alloc(), *report)?;
+        assert_eq!(rt; answer, *status, "{row}");
+        assert_eq!(rt; output.as_slice(), want.as_slice(), "{row}");
     }
     Ok(())
+}
+
+#[test]
+fn ordered_accesses_are_clean(rt: HostRuntime) -> Result<(), Fail> {
+    check(
+        &rt,
+        &[
+            ("gotrace 1", "clean: 0 events, 0 accesses", status::CLEAN),
+            // A write before the go.
+            (
+                "gotrace 1 / goroutine w / var x / write main x 7 a.go:1 / go main w a.go:2 / read w x 7 a.go:5 / exit main a.go:3",
+                "clean: 4 events, 2 accesses",
+                status::CLEAN,
+            ),
+            (
+                "gotrace 1 / var x / write main x 18446744073709551615 r / read main x 18446744073709551615 s",
+                "clean: 2 events, 2 accesses",
+                status::CLEAN,
+            ),
+        ],
+    )
+}
+
+#[test]
+fn each_variable_with_a_race_has_one_line(rt: HostRuntime) -> Result<(), Fail> {
+    check(
+        &rt,
+        &[
+            // A write behind the go.
+            (
+                "gotrace 1 / goroutine w / var x / go main w a.go:2 / write main x 1 a.go:3 / read w x 1 a.go:6",
+                "race on x: write by main at a.go:3 (event 2), read by w at a.go:6 (event 3) / races: 1",
+                status::RACES,
+            ),
+            // An exit orders nothing.
+            (
+                "gotrace 1 / goroutine w / var x / go main w m:1 / write w x 1 w:1 / exit w w:2 / read main x 1 m:2",
+                "race on x: write by w at w:1 (event 2), read by main at m:2 (event 4) / races: 1",
+                status::RACES,
+            ),
+            // Two reads race with the write, and the later one is named.
+            (
+                "gotrace 1 / goroutine a / goroutine b / var x / var y / go main a m:1 / go main b m:2 / write main y 1 m:3 / read a x 0 a:1 / write main y 2 m:4 / read b x 0 b:1 / write main x 1 m:5",
+                "race on x: read by b at b:1 (event 6), write by main at m:5 (event 7) / races: 1",
+                status::RACES,
+            ),
+            // Two variables, in rising order, though the race on z comes first.
+            (
+                "gotrace 1 / goroutine a / var x / var y / var z / go main a m:1 / write main z 1 m:2 / write a z 2 a:1 / write main y 1 m:3 / write main x 1 m:4 / write a x 2 a:2",
+                "race on x: write by main at m:4 (event 5), write by a at a:2 (event 6) / race on z: write by main at m:2 (event 2), write by a at a:1 (event 3) / races: 2",
+                status::RACES,
+            ),
+        ],
+    )
 }
 
 #[test]
@@ -71,92 +94,243 @@ fn the_first_illegal_event_is_told_with_its_rule(rt: HostRuntime) -> Result<(), 
     check(
         &rt,
         &[
-            (&[(0, Op::Exit), (0, Op::Exit)], Err((1, "after end"))),
-            (&[(1, Op::Write(X, 1))], Err((0, "not running"))),
-            (&[(0, Op::Go(0))], Err((0, "already started"))),
-            (&[(0, Op::Read(X, 1))], Err((0, "stale read"))),
-        ],
-    )
-}
-
-#[test]
-fn ordered_accesses_do_not_race(rt: HostRuntime) -> Result<(), Fail> {
-    check(
-        &rt,
-        &[
-            (&[], Ok(&[])),
             (
-                &[(0, Op::Write(X, u64::MAX)), (0, Op::Read(X, u64::MAX))],
-                Ok(&[]),
+                "gotrace 1 / goroutine a / var x / exit main p / exit main q",
+                "illegal: event 2: after end",
+                status::ILLEGAL,
             ),
-            // A write before the go.
             (
-                &[
-                    (0, Op::Write(X, 7)),
-                    (0, Op::Go(1)),
-                    (1, Op::Read(X, 7)),
-                    (0, Op::Exit),
-                ],
-                Ok(&[]),
+                "gotrace 1 / goroutine a / var x / write a x 1 p",
+                "illegal: event 1: not running",
+                status::ILLEGAL,
+            ),
+            (
+                "gotrace 1 / goroutine a / var x / go main main p",
+                "illegal: event 1: already started",
+                status::ILLEGAL,
+            ),
+            (
+                "gotrace 1 / var x / read main x 1 p",
+                "illegal: event 1: stale read",
+                status::ILLEGAL,
             ),
         ],
     )
 }
 
 #[test]
-fn accesses_that_nothing_orders_race(rt: HostRuntime) -> Result<(), Fail> {
+fn the_first_line_at_fault_is_told_with_its_cause(rt: HostRuntime) -> Result<(), Fail> {
     check(
         &rt,
         &[
-            // A write behind the go.
+            ("", "line 1: bad header", status::TEXT_FAULT),
             (
-                &[(0, Op::Go(1)), (0, Op::Write(X, 1)), (1, Op::Read(X, 1))],
-                Ok(&[race(X, 1, 2)]),
+                "gotrace 1 / goroutine a / var x / read a y 0 p",
+                "line 4: unknown name",
+                status::TEXT_FAULT,
             ),
-            // An exit orders nothing.
             (
-                &[
-                    (0, Op::Go(1)),
-                    (1, Op::Write(X, 1)),
-                    (1, Op::Exit),
-                    (0, Op::Read(X, 1)),
-                ],
-                Ok(&[race(X, 1, 3)]),
+                "gotrace 1 / goroutine a / var x / read x a 0 p",
+                "line 4: wrong kind",
+                status::TEXT_FAULT,
+            ),
+            (
+                "gotrace 1 / var x / write main x 01 p",
+                "line 3: bad number",
+                status::TEXT_FAULT,
+            ),
+            (
+                "gotrace 1 / var x / write main x 18446744073709551616 r",
+                "line 3: bad number",
+                status::TEXT_FAULT,
+            ),
+            (
+                "gotrace 1 / var x / write main  x 1 p",
+                "line 3: wrong count",
+                status::TEXT_FAULT,
+            ),
+            (
+                "gotrace 1 / var x / write main x 1 p / var y",
+                "line 4: late declaration",
+                status::TEXT_FAULT,
+            ),
+            (
+                "gotrace 1 / var aaaaaaaaaaaaaaaaaaaaaaaaaaaaaaaaaaaaaaaaaaaaaaaaaaaaaaaaaaaaaaaaa",
+                "line 2: bad name",
+                status::TEXT_FAULT,
+            ),
+            (
+                "gotrace 1 / var x / var x",
+                "line 3: taken",
+                status::TEXT_FAULT,
+            ),
+            ("gotrace 1 / var\tx", "line 2: bad byte", status::TEXT_FAULT),
+            // Line 5 is an illegal event.
+            (
+                "gotrace 1 / goroutine w / var x / var y / read main x 1 p / go main w p / exit w p / write main y 1 p / jump main p",
+                "line 9: unknown word",
+                status::TEXT_FAULT,
             ),
         ],
     )
 }
 
 #[test]
-fn one_race_is_named_for_each_variable(rt: HostRuntime) -> Result<(), Fail> {
-    check(
-        &rt,
-        &[
-            // Two reads race with the write, and the later one is named.
-            (
-                &[
-                    (0, Op::Go(1)),
-                    (0, Op::Go(2)),
-                    (0, Op::Write(Y, 1)),
-                    (1, Op::Read(X, 0)),
-                    (0, Op::Write(Y, 2)),
-                    (2, Op::Read(X, 0)),
-                    (0, Op::Write(X, 1)),
-                ],
-                Ok(&[race(X, 5, 6)]),
-            ),
-            // Two variables, in rising order, though the race on z comes first.
-            (
-                &[
-                    (0, Op::Go(1)),
-                    (0, Op::Write(Z, 1)),
-                    (1, Op::Write(Z, 2)),
-                    (0, Op::Write(Y, 1)),
-                    (0, Op::Write(X, 1)),
-                    (1, Op::Write(X, 2)),
-                ],
-                Ok(&[race(X, 4, 5), race(Z, 1, 2)]),
-            ),
-        ],
-    )
+fn a_text_ends_with_a_newline(rt: HostRuntime) {
+    for (bytes, report) in [
+        (b"".as_slice(), b"line 1: bad header\n".as_slice()),
+        (b"gotrace 1".as_slice(), b"line 1: no newline\n".as_slice()),
+    ] {
+        let (answer, output) = checked(rt.alloc(), bytes);
+        assert_eq!(rt; answer, status::TEXT_FAULT);
+        assert_eq!(rt; output.as_slice(), report);
+    }
+}
+
+#[test]
+fn at_most_2000_events_are_judged(rt: HostRuntime) -> Result<(), Fail> {
+    for (first, writes, report, status) in [
+        (
+            "write main x 1 p",
+            1_999,
+            "clean: 2000 events, 2000 accesses",
+            status::CLEAN,
+        ),
+        (
+            "write main x 1 p",
+            2_000,
+            "too long: 2001 events",
+            status::USAGE,
+        ),
+        // Length is looked at before legality.
+        (
+            "read main x 1 p",
+            1_999,
+            "illegal: event 1: stale read",
+            status::ILLEGAL,
+        ),
+        (
+            "read main x 1 p",
+            2_000,
+            "too long: 2001 events",
+            status::USAGE,
+        ),
+    ] {
+        let mut text = text_of(rt.alloc(), "gotrace 1 / var x")?;
+        text.extend_from_slice(text_of(rt.alloc(), first)?.as_slice())?;
+        for _ in 0..writes {
+            text.extend_from_slice(b"write main x 1 p\n")?;
+        }
+        let (answer, output) = checked(rt.alloc(), text.as_slice());
+        assert_eq!(rt; answer, status, "{report}");
+        assert_eq!(rt; output.as_slice(), text_of(rt.alloc(), report)?.as_slice());
+    }
+    Ok(())
+}
+
+#[test]
+fn options_out_of_their_limits_leave_the_input_unread(rt: HostRuntime) {
+    for (shards, block, allowed) in [
+        (0, 65_536, false),
+        (1, 65_536, true),
+        (64, 65_536, true),
+        (65, 65_536, false),
+        (1, 0, false),
+        (1, 1, true),
+        (1, 65_537, false),
+    ] {
+        for plain in [false, true] {
+            let mut source = Source::new(b"gotrace 1\n".as_slice());
+            let mut output = Vec::new(rt.alloc());
+            let mut sink = Sink::new(&mut output);
+            let options = CheckOptions {
+                shards,
+                block,
+                plain,
+            };
+            let answer = run_check(&rt, rt.alloc(), &mut source, &mut sink, &options);
+            let mut left = [0u8; 16];
+            let unread = source.read(&mut left).unwrap_or(16);
+            let want = if allowed {
+                (status::CLEAN, 28, 0)
+            } else {
+                (status::USAGE, 0, 10)
+            };
+            assert_eq!(rt; (answer, output.len(), unread), want, "{shards} {block}");
+        }
+    }
+}
+
+// Gives its bytes, and then fails.
+#[derive(Drop)]
+struct FailingReader<'a> {
+    bytes: &'a [u8],
+}
+
+impl Read for FailingReader<'_> {
+    fn read(&mut self, buf: &mut [u8]) -> io::Result<usize> {
+        if self.bytes.is_empty() {
+            return Err(io::ErrorKind::Other.into());
+        }
+        self.bytes.read(buf)
+    }
+}
+
+#[test]
+fn a_failed_read_writes_nothing(rt: HostRuntime) {
+    // The second has a faulty line before the failure.
+    for bytes in [b"gotrace 1\nvar x\n".as_slice(), b"gotrace 2\n".as_slice()] {
+        let mut source = Source::new(FailingReader { bytes });
+        let mut output = Vec::new(rt.alloc());
+        let mut sink = Sink::new(&mut output);
+        let answer = run_check(
+            &rt,
+            rt.alloc(),
+            &mut source,
+            &mut sink,
+            &CheckOptions::default(),
+        );
+        assert_eq!(rt; answer, status::DEVICE);
+        assert_eq!(rt; source.failures(), 1);
+        assert_eq!(rt; output.len(), 0);
+    }
+}
+
+// Takes five bytes, and then fails or takes none.
+#[derive(Drop)]
+struct FullWriter {
+    taken: Vec<u8>,
+    fails: bool,
+}
+
+impl Write for FullWriter {
+    fn write(&mut self, buf: &[u8]) -> io::Result<usize> {
+        let count = buf.len().min(5usize.saturating_sub(self.taken.len()));
+        if count == 0 && self.fails {
+            return Err(io::ErrorKind::Other.into());
+        }
+        self.taken.extend_from_slice(&buf[..count])?;
+        Ok(count)
+    }
+
+    fn flush(&mut self) -> io::Result<()> {
+        Ok(())
+    }
+}
+
+#[test]
+fn a_failed_write_leaves_a_front_of_the_report(rt: HostRuntime) {
+    for fails in [false, true] {
+        let mut source = Source::new(b"gotrace 1\n".as_slice());
+        let mut writer = FullWriter {
+            taken: Vec::new(rt.alloc()),
+            fails,
+        };
+        let mut sink = Sink::new(&mut writer);
+        let options = CheckOptions::default();
+        let answer = run_check(&rt, rt.alloc(), &mut source, &mut sink, &options);
+        assert_eq!(rt; answer, status::DEVICE);
+        assert_eq!(rt; sink.failures(), 1);
+        assert_eq!(rt; writer.taken.as_slice(), b"clean".as_slice());
+    }
 }

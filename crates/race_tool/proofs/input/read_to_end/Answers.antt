@@ -31,6 +31,6 @@ loop-preserved g c =
     record {
       consumed = consumed_more start before after c.loop.bytes.items c.read_block.new.bytes.items held.consumed c.in_ok-more.ensures.ok;
       many = longer start before after c.loop.bytes.items c.read_block.new.bytes.items held.consumed c.loop.counter held.many (subst (λ (b : Bool). ReadsMore before after c.loop.bytes.items c.read_block.new.bytes.items b) c.if-not-more.false c.in_ok-more.ensures.ok);
-      calm = c.in_ok-more.ensures.calm ∙ held.calm;
+      calm = c.in_ok-more.ensures.calm (λ e. cc) ∙ held.calm;
       room = held.room;
     }

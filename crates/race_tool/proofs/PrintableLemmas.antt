@@ -1,0 +1,68 @@
+-- Races of a right verdict have the trace's numbers, so they can be printed.
+use Rattle.std.proofs.Common.{◌≡◌, ℕ, ◌<◌, ◌==◌, ◌||◌, Bool, true, false, IsTrue, List, length, map, Some, slice_get, get_or, All, ap, ◌∙◌, arith}
+use Rattle.std.proofs.lemmas.Bool.Decides.{nat_tests}
+use Rattle.std.proofs.lemmas.Option.{slice_get_within, slice_get-map, slice_get-get_or}
+use Rattle.std.specs.Option.{option_map}
+use Rattle.race_records.specs.declared.event.Op.{Op}
+use Rattle.race_records.specs.declared.event.Op.TheVariants.{Go, Exit, Read, Write}
+use Rattle.race_records.specs.declared.kind.Kind.{Kind}
+use Rattle.race_records.specs.Declarations.{count_of}
+use Rattle.race_records.specs.Events.{TraceState, IsTrace}
+use Rattle.race_model.specs.Events.{accesses}
+use Rattle.race_model.specs.Race.{IsReportedRace}
+use Rattle.race_model.specs.Verdict as model
+use Rattle.race_tool.specs.declared.finding.Finding.{Finding}
+use Rattle.race_tool.specs.declared.judge.Verdict.{Verdict}
+use Rattle.race_tool.specs.declared.races.Race as tool
+use Rattle.race_tool.specs.Answers.{race_of}
+use Rattle.race_tool.specs.Finding as spec
+use Rattle.race_tool.specs.Findings.{finding_of, RacesAreOf, IsPrintable}
+use Rattle.race_tool.specs.Report.{IsOf}
+use Rattle.race_tool.specs.ReplayState.{OpIsInRange, sizes_of}
+use Rattle.race_tool.proofs.Fronts.{range_in_trace}
+
+either : (b : Bool) → IsTrue (b || false) → IsTrue b
+either true is = is
+either false is = is
+
+-- a number that is tested to be another one is in its range
+access_below : (x y : ℕ) {n : ℕ} → IsTrue (y == x) → y < n → x < n
+access_below x y is below = grind (arith, nat_tests)
+
+module _ (trace : TraceState) (is_trace : IsTrace trace) where
+  -- the variable of an access is declared
+  access_var : (x : ℕ) (o : Op) → IsTrue (accesses x o) → OpIsInRange (sizes_of trace.decls) o → x < count_of Kind.Var trace.decls.declarations
+  access_var x (Go h) is range = cc
+  access_var x Exit is range = cc
+  access_var x (Read y v) is range = access_below x y (either (y == x) is) range
+  access_var x (Write y v) is range = access_below x y is range
+
+  race_is_of : (caps : ℕ → ℕ) (race : model.Race) → IsReportedRace caps trace.events race.var race.first race.second → IsOf trace race
+  race_is_of caps race reported =
+      let conflict = reported.race.conflict in
+      let first = conflict.1 in
+      let second = conflict.2 in
+      record {
+        var = access_var race.var first.0.op first.2 (range_in_trace trace race.first first.0 is_trace first.1).1;
+        first = slice_get_within trace.events race.first first.0 first.1;
+        second = slice_get_within trace.events race.second second.0 second.1;
+      }
+
+-- what holds of each race in the model's list holds of each race in the code's
+all_races : (P : model.Race → Type 0) (races : List tool.Race) → ((k : ℕ) (r : model.Race) → slice_get (map race_of races) k ≡ Some r → P r) → All (λ (r : tool.Race). P (race_of r)) races
+all_races P races each =
+    λ i d within. each i (race_of (get_or races i d)) (slice_get-map race_of races i ∙ ap (option_map race_of) (slice_get-get_or races i d within))
+
+races_are_of : {A : Type 0} (trace : TraceState) (verdict : Verdict A) (bytes : List ℕ) → spec.IsFinding bytes (finding_of (Finding.Judged trace verdict)) → RacesAreOf trace verdict
+races_are_of trace (Verdict.Illegal illegal) bytes right = tt
+races_are_of trace Verdict.Clean bytes right = tt
+races_are_of trace (Verdict.Races races) bytes right =
+    let caps : ℕ → ℕ = λ _. 0 in
+    let verdict = right.2 caps in
+    all_races (IsOf trace) races (λ k r at. race_is_of trace right.0.is_trace caps r (verdict.2.each k r at))
+
+-- a right finding can be printed
+pub is_printable : {A : Type 0} (finding : Finding A) (bytes : List ℕ) → spec.IsFinding bytes (finding_of finding) → IsPrintable finding
+is_printable (Finding.Faulty fault) bytes right = tt
+is_printable (Finding.TooLong events) bytes right = tt
+is_printable (Finding.Judged trace verdict) bytes right = races_are_of trace verdict bytes right

@@ -1,0 +1,55 @@
+-- What a check finds of a list of bytes, what it prints of it, and with which status.
+use Rattle.std.specs.Prelude.{ℕ, ◌≡◌, ◌<◌, ◌≤◌, List, length, Some, None}
+use Rattle.race_records.specs.Events.{TraceState, IsTrace}
+use Rattle.race_model.specs.Verdict.{Verdict, IsVerdict, Illegal, Clean, Races}
+use Rattle.race_text.specs.declared.cause.TextFault.{TextFault}
+use Rattle.race_text.specs.Fault.{text_fault}
+use Rattle.race_text.specs.Text as trace_text
+use Rattle.race_tool.specs.declared.judge.TheConstants.{MAX_PLAIN_EVENTS}
+use Rattle.race_tool.specs.declared.status.TheConstants as status
+use Rattle.race_tool.specs.Report.{fault_line, too_long_line, report}
+
+-- what there is to say of a list of bytes
+pub data Finding : Type 0 where
+  -- it is the text of no trace: its first line at fault, with the least cause
+  Faulty : (fault : TextFault) → Finding
+  -- it is the text of a trace of so many events, more than are judged
+  TooLong : (events : ℕ) → Finding
+  -- it is the text of this trace, with this verdict
+  Judged : (trace : TraceState) (verdict : Verdict) → Finding
+
+-- the bytes are the text of the trace
+pub record IsTextOf (trace : TraceState) (bytes : List ℕ) : Type 0 where
+  pub is_trace : IsTrace trace
+  pub text : bytes ≡ trace_text.text trace
+  pub no_fault : text_fault bytes ≡ None
+
+-- the verdict on a trace. No rule and no edge of its operations looks at a channel's capacity
+abbrev pub HasVerdict : TraceState → Verdict → Type 0
+HasVerdict trace verdict = (caps : ℕ → ℕ) → IsVerdict caps trace.events verdict
+
+-- the finding is right for the bytes
+abbrev pub IsFinding : List ℕ → Finding → Type 0
+IsFinding bytes (Faulty fault) = text_fault bytes ≡ Some fault
+IsFinding bytes (TooLong events) =
+    (trace : TraceState) × IsTextOf trace bytes × (length trace.events ≡ events) × (MAX_PLAIN_EVENTS < events)
+IsFinding bytes (Judged trace verdict) =
+    IsTextOf trace bytes × (length trace.events ≤ MAX_PLAIN_EVENTS) × HasVerdict trace verdict
+
+-- what is printed
+abbrev pub report_of : Finding → List ℕ
+report_of (Faulty fault) = fault_line fault
+report_of (TooLong events) = too_long_line events
+report_of (Judged trace verdict) = report trace verdict
+
+-- the status of a verdict
+abbrev pub verdict_status : Verdict → ℕ
+verdict_status Clean = status.CLEAN
+verdict_status (Races races) = status.RACES
+verdict_status (Illegal index rule) = status.ILLEGAL
+
+-- the status
+abbrev pub status_of : Finding → ℕ
+status_of (Faulty fault) = status.TEXT_FAULT
+status_of (TooLong events) = status.USAGE
+status_of (Judged trace verdict) = verdict_status verdict

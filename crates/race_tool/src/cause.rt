@@ -1,0 +1,58 @@
+//! The line of a text fault.
+ghost use Rattle.std.specs.Prelude.{◌≡◌, OnOk, OnErr, IfErr};
+ghost use Rattle.race_records.specs.Devices.{written, sink_failures, one_more};
+ghost use Rattle.race_records.specs.Page.{Prints, BreaksOff};
+ghost use Rattle.race_tool.specs.Causes.{cause_text};
+ghost use Rattle.race_tool.specs.Report as spec;
+
+use itoa::Buffer;
+use race_records::{Page, Sink, WriteFault};
+use race_text::{TextCause, TextFault};
+use std::io::Write;
+
+/// Prints the line at fault, and its least cause.
+#[tactic(auto, unfolding(crate::specs::Report::fault_line))]
+pub(crate) fn print_fault<W: Write>(
+    page: &mut Page,
+    sink: &mut Sink<W>,
+    fault: TextFault,
+) -> Result<(), WriteFault>
+    ensures ok { OnOk result (Prints (written W.contents sink.old) (written W.contents sink.new)
+        page.old page.new (spec.fault_line fault)) }
+    ensures sent { IfErr result (λ write. BreaksOff (written W.contents sink.old)
+        (written W.contents sink.new) page.old write.sent (spec.fault_line fault)) }
+    ensures calm { OnOk result (sink_failures sink.new ≡ sink_failures sink.old) }
+    ensures failed { OnErr result (sink_failures sink.new ≡ one_more (sink_failures sink.old)) }
+{
+    let mut line = Buffer::new();
+    let parts = [
+        b"line ".as_slice(),
+        line.format(fault.line).as_bytes(),
+        b": ".as_slice(),
+        cause_text(fault.cause).as_bytes(),
+        b"\n".as_slice(),
+    ];
+    page.put_all(sink, &parts)
+}
+
+// The cause in two or three words.
+fn cause_text(cause: TextCause) -> &'static str
+    ensures { result.now ≡ cause_text cause }
+{
+    match cause {
+        TextCause::BadHeader => "bad header",
+        TextCause::NoNewline => "no newline",
+        TextCause::BadByte => "bad byte",
+        TextCause::UnknownWord => "unknown word",
+        TextCause::WrongCount => "wrong count",
+        TextCause::BadName => "bad name",
+        TextCause::Taken => "taken",
+        TextCause::Unknown => "unknown name",
+        TextCause::WrongKind => "wrong kind",
+        TextCause::BadNumber => "bad number",
+        TextCause::TooMany => "too many",
+        TextCause::LateDeclaration => "late declaration",
+        TextCause::BadBlock => "bad block",
+        TextCause::OutOfMemory => "out of memory",
+    }
+}

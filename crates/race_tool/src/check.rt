@@ -1,0 +1,125 @@
+//! The engine of `gorace check`: a trace's text in, its report out.
+ghost use Rattle.std.specs.Prelude.{◌≡◌, ◌≢◌, ◌⊎◌, IsTrue, false, IfOk, IfErr};
+ghost use Rattle.race_records.specs.Devices.{unread, written, source_failures, sink_failures};
+ghost use Rattle.race_tool.specs.Outcome.{
+  are_in_limits,
+  IsReported,
+  IsCutShort,
+  Reports,
+  FailsToRead,
+  NeverEnds,
+  FailsToWrite,
+};
+ghost use Rattle.race_tool.specs.declared.status.TheConstants as status;
+
+use crate::finding::find;
+use crate::input::{ReadFault, read_to_end};
+use crate::printing::write_report;
+use crate::status;
+use race_records::{Sink, Source};
+use std::alloc::Allocator;
+use std::io::{Read, Write};
+
+/// The most shards.
+pub const MAX_SHARDS: usize = 64;
+
+/// The most events of a block.
+pub const MAX_BLOCK: usize = 65_536;
+
+/// How a trace is judged.
+#[derive(Clone, Copy, Debug, PartialEq, Eq)]
+pub struct CheckOptions {
+    /// How many shards share the variables among them, 1 to 64.
+    pub shards: usize,
+    /// How many events the shards are handed at a time, 1 to 65,536.
+    pub block: usize,
+    /// Whether the plain judge judges, which takes at most 2,000 events.
+    pub plain: bool,
+}
+
+impl Default for CheckOptions {
+    /// One shard, the longest blocks, and not the plain judge.
+    fn default() -> CheckOptions
+        ensures shards { result.shards ≡ 1 }
+        ensures block { result.block ≡ MAX_BLOCK }
+        ensures plain { result.plain ≡ false }
+    {
+        CheckOptions {
+            shards: 1,
+            block: MAX_BLOCK,
+            plain: false,
+        }
+    }
+}
+
+impl CheckOptions {
+    // Whether each is in its limits.
+    fn are_in_limits(&self) -> bool
+        ensures { result ≡ are_in_limits self.now }
+    {
+        1 <= self.shards && self.shards <= MAX_SHARDS && 1 <= self.block && self.block <= MAX_BLOCK
+    }
+}
+
+/// Reads a trace's text to its end, and writes its report.
+///
+/// The answer is one of the statuses.
+pub fn run_check<T, R: Read, W: Write, A: Allocator + Copy>(
+    _rt: &T,
+    alloc: A,
+    source: &mut Source<R>,
+    sink: &mut Sink<W>,
+    options: &CheckOptions,
+) -> u8
+    // An option is out of its limits: nothing is read, and nothing is written.
+    ensures usage { are_in_limits options.now ≡ false → result ≡ status.USAGE }
+    ensures untouched { are_in_limits options.now ≡ false
+        → (source.new ≡ source.old) × (sink.new ≡ sink.old) }
+
+    // Otherwise, where no memory was refused and no device failed, the report is out.
+    ensures reported { IsTrue (are_in_limits options.now)
+        → result ≢ status.REFUSED → result ≢ status.DEVICE
+        → Reports (unread R.remaining source.old) (unread R.remaining source.new)
+        (written W.contents sink.old) (written W.contents sink.new) result }
+
+    // A growth was refused: nothing is written.
+    ensures refused { result ≡ status.REFUSED → sink.new ≡ sink.old }
+
+    // A device failed, which its count shows, or the input had no end.
+    ensures device { result ≡ status.DEVICE
+        → FailsToRead source.old source.new sink.old sink.new
+        ⊎ NeverEnds (unread R.remaining source.old) (unread R.remaining source.new)
+        sink.old sink.new
+        ⊎ FailsToWrite (unread R.remaining source.old) (unread R.remaining source.new)
+        W.contents sink.old sink.new }
+    ensures calm { result ≢ status.DEVICE
+        → (source_failures source.new ≡ source_failures source.old)
+        × (sink_failures sink.new ≡ sink_failures sink.old) }
+{
+    if !options.are_in_limits() {
+        return status::USAGE;
+    }
+    match read_to_end(alloc, source) {
+        Ok(bytes) => report(alloc, bytes.as_slice(), sink),
+        Err(ReadFault::OutOfMemory) => status::REFUSED,
+        Err(_) => status::DEVICE,
+    }
+}
+
+// Writes the report on the bytes.
+fn report<W: Write, A: Allocator + Copy>(alloc: A, bytes: &[u8], sink: &mut Sink<W>) -> u8
+    ensures reported { result ≢ status.REFUSED → result ≢ status.DEVICE
+        → IsReported bytes.now (written W.contents sink.old) (written W.contents sink.new) result }
+    ensures refused { result ≡ status.REFUSED → sink.new ≡ sink.old }
+    ensures device { result ≡ status.DEVICE
+        → IsCutShort bytes.now W.contents sink.old sink.new }
+    ensures calm { result ≢ status.DEVICE → sink_failures sink.new ≡ sink_failures sink.old }
+{
+    match find(alloc, bytes) {
+        Ok(finding) => match write_report(sink, &finding) {
+            Ok(()) => finding.status(),
+            Err(_) => status::DEVICE,
+        },
+        Err(_) => status::REFUSED,
+    }
+}

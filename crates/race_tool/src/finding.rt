@@ -1,0 +1,66 @@
+//! What there is to say of a list of bytes.
+ghost use Rattle.std.specs.Prelude.{◌≡◌, IfOk};
+ghost use Rattle.race_tool.specs.Finding as spec;
+ghost use Rattle.race_tool.specs.Findings.{finding_of, IsFindingOn};
+
+use crate::judge::{EdgeFault, Verdict, plain_judge};
+use crate::status;
+use race_records::Trace;
+use race_text::{TextCause, TextFault, parse_trace};
+use std::alloc::{AllocError, Allocator};
+
+/// What there is to say of a list of bytes.
+#[derive(Debug, Drop)]
+pub(crate) enum Finding<A: Allocator> {
+    /// It is no trace: its first line at fault.
+    Faulty(TextFault),
+    /// It is a trace of so many events, more than are judged.
+    TooLong(usize),
+    /// It is this trace, with this verdict.
+    Judged(Trace<A>, Verdict<A>),
+}
+
+/// Finds what there is to say of the bytes.
+pub(crate) fn find<A: Allocator + Copy>(alloc: A, bytes: &[u8]) -> Result<Finding<A>, AllocError>
+    ensures { IfOk result (λ finding. spec.IsFinding bytes.now (finding_of finding)) }
+{
+    match parse_trace(alloc, bytes) {
+        Ok(trace) => find_verdict(alloc, trace),
+        Err(fault) => {
+            if fault.cause == TextCause::OutOfMemory {
+                Err(AllocError)
+            } else {
+                Ok(Finding::Faulty(fault))
+            }
+        }
+    }
+}
+
+// What there is to say of a trace.
+fn find_verdict<A: Allocator + Copy>(alloc: A, trace: Trace<A>) -> Result<Finding<A>, AllocError>
+    ensures { IfOk result (λ finding. IsFindingOn trace (finding_of finding)) }
+{
+    let events = trace.len();
+    match plain_judge(alloc, &trace) {
+        Ok(verdict) => Ok(Finding::Judged(trace, verdict)),
+        Err(EdgeFault::TooLong) => Ok(Finding::TooLong(events)),
+        Err(EdgeFault::OutOfMemory) => Err(AllocError),
+    }
+}
+
+impl<A: Allocator> Finding<A> {
+    /// The status of the finding.
+    pub(crate) fn status(&self) -> u8
+        ensures { result ≡ spec.status_of (finding_of self.now) }
+    {
+        match self {
+            Finding::Faulty(_) => status::TEXT_FAULT,
+            Finding::TooLong(_) => status::USAGE,
+            Finding::Judged(_, verdict) => match verdict {
+                Verdict::Illegal(_) => status::ILLEGAL,
+                Verdict::Clean => status::CLEAN,
+                Verdict::Races(_) => status::RACES,
+            },
+        }
+    }
+}

@@ -1,4 +1,5 @@
--- The text of each cause of a text fault.
+-- The text of each cause of a text fault. No trace's text has the last two: BadBlock is for programs, and want of memory
+-- is no fault of a text.
 use Rattle.std.specs.Prelude.{ℕ, List, codes}
 use Rattle.race_text.specs.declared.cause.TextCause.{TextCause}
 

@@ -9,6 +9,16 @@ use Rattle.race_tool.specs.declared.judge.TheConstants.{MAX_PLAIN_EVENTS}
 use Rattle.race_tool.specs.declared.status.TheConstants as status
 use Rattle.race_tool.specs.Report.{fault_line, too_long_line, report}
 
+-- the bytes are the text of the trace, and have no fault. A trace could declare what no line of a text declares
+pub record IsTextOf (trace : TraceState) (bytes : List ℕ) : Type 0 where
+  pub is_trace : IsTrace trace
+  pub text : bytes ≡ trace_text.text trace
+  pub no_fault : text_fault bytes ≡ None
+
+-- the verdict on the trace, whatever the channels' capacities: no rule and no edge of Go, Exit, Read or Write looks at one
+abbrev pub HasVerdict : TraceState → Verdict → Type 0
+HasVerdict trace verdict = (caps : ℕ → ℕ) → IsVerdict caps trace.events verdict
+
 -- what there is to say of a list of bytes
 pub data Finding : Type 0 where
   -- it is the text of no trace: its first line at fault, with the least cause
@@ -17,16 +27,6 @@ pub data Finding : Type 0 where
   TooLong : (events : ℕ) → Finding
   -- it is the text of this trace, with this verdict
   Judged : (trace : TraceState) (verdict : Verdict) → Finding
-
--- the bytes are the text of the trace
-pub record IsTextOf (trace : TraceState) (bytes : List ℕ) : Type 0 where
-  pub is_trace : IsTrace trace
-  pub text : bytes ≡ trace_text.text trace
-  pub no_fault : text_fault bytes ≡ None
-
--- the verdict on a trace. No rule and no edge of its operations looks at a channel's capacity
-abbrev pub HasVerdict : TraceState → Verdict → Type 0
-HasVerdict trace verdict = (caps : ℕ → ℕ) → IsVerdict caps trace.events verdict
 
 -- the finding is right for the bytes
 abbrev pub IsFinding : List ℕ → Finding → Type 0
@@ -42,14 +42,10 @@ report_of (Faulty fault) = fault_line fault
 report_of (TooLong events) = too_long_line events
 report_of (Judged trace verdict) = report trace verdict
 
--- the status of a verdict
-abbrev pub verdict_status : Verdict → ℕ
-verdict_status Clean = status.CLEAN
-verdict_status (Races races) = status.RACES
-verdict_status (Illegal index rule) = status.ILLEGAL
-
 -- the status
 abbrev pub status_of : Finding → ℕ
 status_of (Faulty fault) = status.TEXT_FAULT
 status_of (TooLong events) = status.USAGE
-status_of (Judged trace verdict) = verdict_status verdict
+status_of (Judged trace (Illegal index rule)) = status.ILLEGAL
+status_of (Judged trace Clean) = status.CLEAN
+status_of (Judged trace (Races races)) = status.RACES

@@ -8,8 +8,8 @@ pub record ReadsAll (before after : Option (List ℕ)) (bytes : List ℕ) : Type
   pub consumed : Consumes before after bytes
   pub at_end : IsAtEnd after
 
--- so many bytes were read, with no end in sight
-pub record ReadsOn (before after : Option (List ℕ)) : Type 0 where
+-- a byte at least was read in each of the turns that an input may take
+pub record ReadsMany (before after : Option (List ℕ)) : Type 0 where
   pub bytes : List ℕ
   pub consumed : Consumes before after bytes
   pub many : MAX_TURNS ≤ length bytes

@@ -1,4 +1,5 @@
--- The rules of legality: the number of each, and its text.
+-- The rules of legality: the number of each, and its text, which says what an event that breaks it meets. Go, Exit, Read
+-- and Write can break rules 1, 2, 3 and 21.
 use Rattle.std.specs.Prelude.{ℕ, ◌-◌, List, [], ◌∷◌, codes, slice_get, unwrap_or}
 use Rattle.race_tool.specs.declared.rule.Rule.{Rule}
 

@@ -1,13 +1,13 @@
 //! The engine of `gorace check`: a trace's text in, its report out.
-ghost use Rattle.std.specs.Prelude.{◌≡◌, ◌≢◌, ◌⊎◌, IsTrue, false, IfOk, IfErr};
+ghost use Rattle.std.specs.Prelude.{◌≡◌, ◌≢◌, ◌⊎◌, true, false};
 ghost use Rattle.race_records.specs.Devices.{unread, written, source_failures, sink_failures};
 ghost use Rattle.race_tool.specs.Outcome.{
   are_in_limits,
-  IsReported,
-  IsCutShort,
-  Reports,
+  WritesReport,
+  WritesFront,
+  ReadsAndReports,
   FailsToRead,
-  NeverEnds,
+  GivesUpReading,
   FailsToWrite,
 };
 ghost use Rattle.race_tool.specs.declared.status.TheConstants as status;
@@ -29,11 +29,11 @@ pub const MAX_BLOCK: usize = 65_536;
 /// How a trace is judged.
 #[derive(Clone, Copy, Debug, PartialEq, Eq)]
 pub struct CheckOptions {
-    /// How many shards share the variables among them, 1 to 64.
+    /// How many shards share the variables among them, 1 to 64. It changes nothing yet.
     pub shards: usize,
-    /// How many events the shards are handed at a time, 1 to 65,536.
+    /// How many events the shards are handed at a time, 1 to 65,536. It changes nothing yet.
     pub block: usize,
-    /// Whether the plain judge judges, which takes at most 2,000 events.
+    /// Whether the plain judge is wanted. It is the only one yet, and takes at most 2,000 events.
     pub plain: bool,
 }
 
@@ -61,9 +61,12 @@ impl CheckOptions {
     }
 }
 
-/// Reads a trace's text to its end, and writes its report.
+/// Judges a trace: reads its text to the end, and writes the report.
 ///
-/// The answer is one of the statuses.
+/// The answer is a status. 0 clean, 66 races, 1 illegal and 2 text fault are told by the report; 3
+/// says that an option is out of its limits, or that there are more than 2,000 events, which the
+/// report tells; 4 that memory was refused; 5 that a device failed. No runtime is needed, so any
+/// value will do for one.
 pub fn run_check<T, R: Read, W: Write, A: Allocator + Copy>(
     _rt: &T,
     alloc: A,
@@ -76,22 +79,23 @@ pub fn run_check<T, R: Read, W: Write, A: Allocator + Copy>(
     ensures untouched { are_in_limits options.now ≡ false
         → (source.new ≡ source.old) × (sink.new ≡ sink.old) }
 
-    // Otherwise, where no memory was refused and no device failed, the report is out.
-    ensures reported { IsTrue (are_in_limits options.now)
+    // Otherwise, unless memory or a device was wanting: the whole input was read, exactly its
+    // report was written, and the status is the report's.
+    ensures reported { are_in_limits options.now ≡ true
         → result ≢ status.REFUSED → result ≢ status.DEVICE
-        → Reports (unread R.remaining source.old) (unread R.remaining source.new)
-        (written W.contents sink.old) (written W.contents sink.new) result }
+        → ReadsAndReports (unread R.remaining source.old) (unread R.remaining source.new)
+            (written W.contents sink.old) (written W.contents sink.new) result }
 
-    // A growth was refused: nothing is written.
+    // Memory was refused: nothing is written.
     ensures refused { result ≡ status.REFUSED → sink.new ≡ sink.old }
 
-    // A device failed, which its count shows, or the input had no end.
+    // A device failed, which its count shows, or the input didn't end.
     ensures device { result ≡ status.DEVICE
         → FailsToRead source.old source.new sink.old sink.new
-        ⊎ NeverEnds (unread R.remaining source.old) (unread R.remaining source.new)
-        sink.old sink.new
-        ⊎ FailsToWrite (unread R.remaining source.old) (unread R.remaining source.new)
-        W.contents sink.old sink.new }
+        ⊎ GivesUpReading R.remaining source.old source.new sink.old sink.new
+        ⊎ FailsToWrite R.remaining W.contents source.old source.new sink.old sink.new }
+
+    // With every other status no device failed.
     ensures calm { result ≢ status.DEVICE
         → (source_failures source.new ≡ source_failures source.old)
         × (sink_failures sink.new ≡ sink_failures sink.old) }
@@ -109,10 +113,10 @@ pub fn run_check<T, R: Read, W: Write, A: Allocator + Copy>(
 // Writes the report on the bytes.
 fn report<W: Write, A: Allocator + Copy>(alloc: A, bytes: &[u8], sink: &mut Sink<W>) -> u8
     ensures reported { result ≢ status.REFUSED → result ≢ status.DEVICE
-        → IsReported bytes.now (written W.contents sink.old) (written W.contents sink.new) result }
+        → WritesReport bytes.now (written W.contents sink.old) (written W.contents sink.new) result }
     ensures refused { result ≡ status.REFUSED → sink.new ≡ sink.old }
     ensures device { result ≡ status.DEVICE
-        → IsCutShort bytes.now W.contents sink.old sink.new }
+        → WritesFront bytes.now W.contents sink.old sink.new }
     ensures calm { result ≢ status.DEVICE → sink_failures sink.new ≡ sink_failures sink.old }
 {
     match find(alloc, bytes) {

@@ -1,7 +1,7 @@
 //! Reading an input to its end.
 ghost use Rattle.std.specs.Prelude.{◌≡◌, ◌≢◌, ◌<◌, length, vec_len, IfOk};
 ghost use Rattle.race_records.specs.Devices.{unread, source_failures, one_more};
-ghost use Rattle.race_tool.specs.Input.{ReadsAll, ReadsOn, ReadsMore};
+ghost use Rattle.race_tool.specs.Input.{ReadsAll, ReadsMany, ReadsMore};
 
 use race_records::Source;
 use std::alloc::{AllocError, Allocator};
@@ -40,7 +40,7 @@ pub(crate) fn read_to_end<R: Read, A: Allocator + Copy>(
     ensures failed { result ≡ Err ReadFault.Failed
         → source_failures source.new ≡ one_more (source_failures source.old) }
     ensures endless { result ≡ Err ReadFault.Endless
-        → ReadsOn (unread R.remaining source.old) (unread R.remaining source.new) }
+        → ReadsMany (unread R.remaining source.old) (unread R.remaining source.new) }
 {
     let Ok(mut block) = blank_block(alloc) else {
         return Err(ReadFault::OutOfMemory);

@@ -3,7 +3,7 @@
 /// The trace is legal and has no race.
 pub const CLEAN: u8 = 0;
 
-/// The trace is legal and has races.
+/// The trace is legal and has races. Go's own race detector exits with it too.
 pub const RACES: u8 = 66;
 
 /// An event breaks a rule.
@@ -12,11 +12,12 @@ pub const ILLEGAL: u8 = 1;
 /// The input isn't the text of a trace.
 pub const TEXT_FAULT: u8 = 2;
 
-/// An option is out of its limits, or there are more events than are judged.
+/// An option is out of its limits, of which nothing is printed, or there are more events than are
+/// judged, of which a line tells.
 pub const USAGE: u8 = 3;
 
-/// A growth was refused.
+/// Memory was refused.
 pub const REFUSED: u8 = 4;
 
-/// Reading or writing failed.
+/// A read or a write failed, or reading was given up after 2^32 reads.
 pub const DEVICE: u8 = 5;

@@ -1,4 +1,3 @@
-use Rattle.std.proofs.Common.{◌≡◌, ℕ, List, OnOk, IfErr}
 use Rattle.race_records.specs.declared.sink.WriteFault.{WriteFault}
 use Rattle.race_records.specs.Page.{IsCutOff}
 use Rattle.race_tool.specs.Finding.{report_of}

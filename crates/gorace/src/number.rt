@@ -1,0 +1,14 @@
+//! Numbers of the command line.
+ghost use Rattle.std.specs.Prelude.{◌≡◌, ◌≤◌, IfSome};
+ghost use Rattle.gorace.specs.Number as spec;
+
+use race_text::read_number;
+
+/// The number that a word is, where it lies in its limits.
+pub(crate) fn number_in(word: &str, least: u64, most: u64) -> Option<u64>
+    ensures value { result ≡ spec.number_in least most word.now }
+    ensures in_limits { IfSome result (λ n. (least ≤ n) × (n ≤ most)) }
+{
+    let number = read_number(word.as_bytes(), most)?;
+    if number < least { None } else { Some(number) }
+}

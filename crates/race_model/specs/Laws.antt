@@ -1,10 +1,9 @@
 -- The laws of the definitions. Each is the contract of a function in src/laws.rt that does nothing. (The Go Memory Model, "Memory Model": DRF-SC)
-use Rattle.std.specs.Prelude.{ℕ, ◌≡◌, ◌<◌, IsTrue, List}
+use Rattle.std.specs.Prelude.{ℕ, ◌≡◌, ◌<◌, List}
 use Rattle.race_records.specs.declared.event.Event.{Event}
-use Rattle.race_model.specs.Events.{reads}
 use Rattle.race_model.specs.Order.{HappensBefore}
 use Rattle.race_model.specs.Race.{IsDataRaceFree, IsReportedRace}
-use Rattle.race_model.specs.Reorder.{IsReordering, own_order, op_passes, finds}
+use Rattle.race_model.specs.Reorder.{IsReordering, own_order, EachReadFindsTheSame}
 use Rattle.race_model.specs.Verdict.{Verdict, IsVerdict}
 
 -- what happens before stands before in the list
@@ -23,9 +22,7 @@ OwnOrderIsReordering events = (caps : ℕ → ℕ) → IsReordering caps events 
 
 -- without a data race, every reordering lets every read find the write that it finds in the trace's own order
 abbrev pub ReorderingsFindTheSame : List Event → Type 0
-ReorderingsFindTheSame events =
-    (caps : ℕ → ℕ) → IsDataRaceFree caps events → (order : List ℕ) → IsReordering caps events order
-    → (x r : ℕ) → IsTrue (op_passes (reads x) events r) → finds events order x r ≡ finds events (own_order events) x r
+ReorderingsFindTheSame events = (caps : ℕ → ℕ) → IsDataRaceFree caps events → EachReadFindsTheSame caps events
 
 -- a variable has at most one reported race
 abbrev pub HasOneReportedRace : List Event → Type 0

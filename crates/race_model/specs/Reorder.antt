@@ -3,7 +3,7 @@ use Rattle.std.specs.Prelude.{ℕ, if◌then◌else◌, ◌≡◌, ◌<◌, ◌+
 use Rattle.std.specs.List.{before_first}
 use Rattle.race_records.specs.declared.event.Event.{Event}
 use Rattle.race_records.specs.declared.event.Op.{Op}
-use Rattle.race_model.specs.Events.{is_access, writes, last_of}
+use Rattle.race_model.specs.Events.{is_access, reads, writes, last_of}
 use Rattle.race_model.specs.Order.{HappensBefore}
 
 -- there is an event at index i, and its operation passes the test
@@ -41,3 +41,9 @@ write_at events x a = if op_passes (writes x) events a then Some a else None
 -- what the read r of x finds in the order: the index of the last Write of x before r, or None for the initial value
 abbrev pub finds : List Event → List ℕ → ℕ → ℕ → Option ℕ
 finds events order x r = last_of (write_at events x) (before_first (λ a. a == r) order)
+
+-- every reordering lets every read find the write that it finds in the trace's own order
+abbrev pub EachReadFindsTheSame : (ℕ → ℕ) → List Event → Type 0
+EachReadFindsTheSame caps events =
+    (order : List ℕ) → IsReordering caps events order
+    → (x r : ℕ) → IsTrue (op_passes (reads x) events r) → finds events order x r ≡ finds events (own_order events) x r

@@ -10,3 +10,4 @@ pub mod RaceLists
 pub mod ReportLemmas
 mod PrintingLemmas
 pub mod PrintableLemmas
+pub mod CleanLemmas

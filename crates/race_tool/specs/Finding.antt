@@ -1,6 +1,8 @@
 -- What a check finds of a list of bytes, what it prints of it, and with which status.
 use Rattle.std.specs.Prelude.{ℕ, ◌≡◌, ◌<◌, ◌≤◌, List, length, Some, None}
 use Rattle.race_records.specs.Events.{TraceState, IsTrace}
+use Rattle.race_model.specs.Legal.{IsLegal}
+use Rattle.race_model.specs.Reorder.{EachReadFindsTheSame}
 use Rattle.race_model.specs.Verdict.{Verdict, IsVerdict, Illegal, Clean, Races}
 use Rattle.race_text.specs.declared.cause.TextFault.{TextFault}
 use Rattle.race_text.specs.Fault.{text_fault}
@@ -49,3 +51,10 @@ status_of (TooLong events) = status.USAGE
 status_of (Judged trace (Illegal index rule)) = status.ILLEGAL
 status_of (Judged trace Clean) = status.CLEAN
 status_of (Judged trace (Races races)) = status.RACES
+
+-- the bytes are the text of a legal trace, in which every reordering of the accesses lets every read find the same write
+pub record IsCleanText (bytes : List ℕ) : Type 0 where
+  pub trace : TraceState
+  pub text : IsTextOf trace bytes
+  pub legal : (caps : ℕ → ℕ) → IsLegal caps trace.events
+  pub same : (caps : ℕ → ℕ) → EachReadFindsTheSame caps trace.events

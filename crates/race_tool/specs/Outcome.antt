@@ -8,7 +8,7 @@ use Rattle.race_records.specs.Page.{IsCutOff}
 use Rattle.race_tool.specs.declared.check.CheckOptions.{CheckOptions}
 use Rattle.race_tool.specs.declared.check.TheConstants.{MAX_SHARDS, MAX_BLOCK}
 use Rattle.race_tool.specs.Input.{ReadsAll, ReadsMany}
-use Rattle.race_tool.specs.Finding.{Finding, IsFinding, report_of, status_of}
+use Rattle.race_tool.specs.Finding.{Finding, IsFinding, IsCleanText, report_of, status_of}
 
 -- each option is in its limits
 abbrev pub are_in_limits : CheckOptions → Bool
@@ -26,6 +26,12 @@ pub record ReadsAndReports (input input_left output output_now : Option (List �
   pub bytes : List ℕ
   pub read : ReadsAll input input_left bytes
   pub reported : WritesReport bytes output output_now status
+
+-- the input was read to its end, and it is the text of a legal trace in which every reordering lets every read find the same
+pub record ReadsCleanText (input input_left : Option (List ℕ)) : Type 0 where
+  pub bytes : List ℕ
+  pub read : ReadsAll input input_left bytes
+  pub clean : IsCleanText bytes
 
 -- a write failed, and only a front of the report on the bytes was written
 pub record WritesFront {W : Type 0} (bytes : List ℕ) (contents : W → Option (List ℕ)) (sink sink_now : Sink W) : Type 0 where

@@ -1,11 +1,13 @@
 //! The engine of `gorace check`: a trace's text in, its report out.
 ghost use Rattle.std.specs.Prelude.{◌≡◌, ◌≢◌, ◌⊎◌, true, false};
 ghost use Rattle.race_records.specs.Devices.{unread, written, source_failures, sink_failures};
+ghost use Rattle.race_tool.specs.Finding.{IsCleanText};
 ghost use Rattle.race_tool.specs.Outcome.{
   are_in_limits,
   WritesReport,
   WritesFront,
   ReadsAndReports,
+  ReadsCleanText,
   FailsToRead,
   GivesUpReading,
   FailsToWrite,
@@ -74,6 +76,7 @@ pub fn run_check<T, R: Read, W: Write, A: Allocator + Copy>(
     sink: &mut Sink<W>,
     options: &CheckOptions,
 ) -> u8
+    // One clause or two for each ending, and so more than are usual.
     // An option is out of its limits: nothing is read, and nothing is written.
     ensures usage { are_in_limits options.now ≡ false → result ≡ status.USAGE }
     ensures untouched { are_in_limits options.now ≡ false
@@ -84,7 +87,11 @@ pub fn run_check<T, R: Read, W: Write, A: Allocator + Copy>(
     ensures reported { are_in_limits options.now ≡ true
         → result ≢ status.REFUSED → result ≢ status.DEVICE
         → ReadsAndReports (unread R.remaining source.old) (unread R.remaining source.new)
-            (written W.contents sink.old) (written W.contents sink.new) result }
+        (written W.contents sink.old) (written W.contents sink.new) result }
+
+    // What clean means: no read hangs on how unordered accesses happened to be interleaved.
+    ensures clean { result ≡ status.CLEAN
+        → ReadsCleanText (unread R.remaining source.old) (unread R.remaining source.new) }
 
     // Memory was refused: nothing is written.
     ensures refused { result ≡ status.REFUSED → sink.new ≡ sink.old }
@@ -114,6 +121,7 @@ pub fn run_check<T, R: Read, W: Write, A: Allocator + Copy>(
 fn report<W: Write, A: Allocator + Copy>(alloc: A, bytes: &[u8], sink: &mut Sink<W>) -> u8
     ensures reported { result ≢ status.REFUSED → result ≢ status.DEVICE
         → WritesReport bytes.now (written W.contents sink.old) (written W.contents sink.new) result }
+    ensures clean { result ≡ status.CLEAN → IsCleanText bytes.now }
     ensures refused { result ≡ status.REFUSED → sink.new ≡ sink.old }
     ensures device { result ≡ status.DEVICE
         → WritesFront bytes.now W.contents sink.old sink.new }

@@ -1,5 +1,11 @@
+use Rattle.std.proofs.Common.{sym, ◌∙◌}
+use Rattle.race_tool.specs.Findings.{finding_of}
+use Rattle.race_tool.proofs.CleanLemmas.{clean_text}
 use Rattle.race_tool.proofs.PrintableLemmas.{is_printable}
 use Rattle.race_tool.proofs.check.report.Goals as goal
 
 pub write_report-requires : goal.write_report-requires
 write_report-requires g c = is_printable c.in-Ok.finding c.args.bytes.now c.in-Ok.ensures
+
+pub returns-in-Ok-write_report-clause-clean : goal.returns-in-Ok-write_report-clause-clean
+returns-in-Ok-write_report-clause-clean g c = λ is. clean_text (finding_of c.in-Ok.finding) c.args.bytes.now c.in-Ok.ensures (sym c.status.ensures ∙ is)

@@ -6,5 +6,6 @@ pub mod DeclFaultLemmas
 pub mod DeclsKept
 pub mod PlaceLemmas
 pub mod EventLemmas
+pub mod AlikeLemmas
 pub mod DeviceLemmas
 pub mod PageLemmas

@@ -2,6 +2,7 @@ pub mod Name
 pub mod Refusal
 pub mod Declarations
 pub mod Equality
+pub mod TraceEquality
 pub mod Events
 pub mod Tables
 pub mod Rows

@@ -1,6 +1,7 @@
 //! Names, events and traces: what a run of goroutines is recorded as, before any judgement.
 #![tactic(auto)]
 
+mod alike;
 mod declarations;
 mod event;
 mod indexes;

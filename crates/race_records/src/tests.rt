@@ -2,6 +2,7 @@ use crate::{
     BLOCK, DeclFault, Decls, Event, Kind, Named, Op, Page, PushFault, Sink, Source, Trace,
     WriteFault, is_name, is_place,
 };
+use std::alloc::Global;
 use std::io;
 use std::io::{Read, Write};
 use std::mem::size_of;
@@ -136,6 +137,50 @@ fn a_place_of_a_trace_is_found_again(rt: HostRuntime) -> Result<(), Fail> {
     assert!(rt; trace.decls().place_count() == 1);
     assert_eq!(rt; trace.place_text(0), "a.go:1");
     assert!(rt; trace.events().is_empty());
+    Ok(())
+}
+
+// A write at the place, in a trace that knows these places.
+fn trace_at(alloc: Global, places: &[&str], used: &str) -> Result<Trace, Fail> {
+    let mut decls = Decls::new(alloc);
+    decls.add_var("x")?;
+    for place in places {
+        decls.add_place(*place)?;
+    }
+    let place = decls.add_place(used)?;
+    let mut trace = Trace::new(decls);
+    trace.push(Event {
+        who: 0,
+        op: Op::Write(0, 7),
+        place,
+        place2: None,
+    })?;
+    Ok(trace)
+}
+
+#[test]
+fn traces_are_equal_by_the_texts_of_their_places(rt: HostRuntime) -> Result<(), Fail> {
+    let trace = trace_at(rt.alloc(), &["p", "q"], "p")?;
+    for (places, used, equal) in [
+        (["p", "q"], "p", true),
+        // In another order, with and without a place that isn't used.
+        (["q", "p"], "p", true),
+        (["p", "p"], "p", true),
+        // The same number, but another text.
+        (["q", "p"], "q", false),
+        (["p", "q"], "q", false),
+    ] {
+        let other = trace_at(rt.alloc(), &places, used)?;
+        assert_eq!(rt; trace == other, equal, "{places:?} {used}");
+    }
+    let mut longer = trace_at(rt.alloc(), &["p", "q"], "p")?;
+    longer.push(Event {
+        who: 0,
+        op: Op::Exit,
+        place: 0,
+        place2: None,
+    })?;
+    assert!(rt; trace != longer);
     Ok(())
 }
 

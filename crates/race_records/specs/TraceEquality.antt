@@ -1,0 +1,103 @@
+-- What `==` of two `Trace`s tests, and that it holds just where the two record the same.
+use Rattle.std.proofs.Common.{◌≡◌, ◌==◌, ◌&&◌, ℕ, Bool, true, false, List, Option, Some, None, map, slice_get, Decides, refl, sym, ap, true≢false}
+use Rattle.std.proofs.lemmas.Bool.Decides.{Decides-eqb}
+use Rattle.std.proofs.lemmas.Slice.Eq.{bytes_eq-Decides, slice_eq-Decides}
+use Rattle.std.specs.Option.{option_and_then}
+use Rattle.std.specs.Cmp.Lexicographic.{pointwise}
+use Rattle.std.specs.Cmp.{IsPartialEquivalence, partial_equiv_from_equiv, decided, on_per}
+use Rattle.std.specs.Str.{bytes_eq}
+use Rattle.race_records.specs.declared.event.Event.{Event}
+use Rattle.race_records.specs.declared.event.Op.{Op}
+use Rattle.race_records.specs.declared.event.Op.TheVariants.{Go, Exit, Read, Write}
+use Rattle.race_records.specs.Declarations.{Declaration}
+use Rattle.race_records.specs.Events.{TraceState}
+use Rattle.race_records.specs.Equality.{same_declarations, same_declarations-Decides}
+
+-- an event with the texts of its places
+pub record PlacedEvent : Type 0 where
+  pub who : ℕ
+  pub op : Op
+  pub place : Option (List ℕ)
+  pub place2 : Option (List ℕ)
+
+-- what a trace records: places that no event uses don't count, nor does the order of places
+pub record Recorded : Type 0 where
+  pub declarations : List Declaration
+  pub events : List PlacedEvent
+
+abbrev pub placed : List (List ℕ) → Event → PlacedEvent
+placed places e =
+    record { who = e.who; op = e.op; place = slice_get places e.place; place2 = option_and_then (slice_get places) e.place2 }
+
+abbrev pub placed_events : TraceState → List PlacedEvent
+placed_events trace = map (placed trace.decls.places) trace.events
+
+abbrev pub recorded : TraceState → Recorded
+recorded trace = record { declarations = trace.decls.declarations; events = placed_events trace }
+
+-- the operations are the same
+abbrev pub same_op : Op → Op → Bool
+same_op (Go g) (Go h) = g == h
+same_op Exit Exit = true
+same_op (Read x v) (Read y w) = (x == y) && (v == w)
+same_op (Write x v) (Write y w) = (x == y) && (v == w)
+same_op _ _ = false
+
+-- there is no text, or the same one
+abbrev pub same_text : Option (List ℕ) → Option (List ℕ) → Bool
+same_text None None = true
+same_text (Some a) (Some b) = bytes_eq a b
+same_text _ _ = false
+
+abbrev pub same_placed : PlacedEvent → PlacedEvent → Bool
+same_placed d e = (d.who == e.who) && same_op d.op e.op && same_text d.place e.place && same_text d.place2 e.place2
+
+-- what `==` of two `Trace`s tests
+abbrev pub same_recorded : Recorded → Recorded → Bool
+same_recorded a b = same_declarations a.declarations b.declarations && pointwise same_placed a.events b.events
+
+both : {P Q : Type 0} {m n : Bool} → Decides m P → Decides n Q → Decides (m && n) (P × Q)
+both {m = m} {n = n} p q = by m n p q
+  where
+    by : {P Q : Type 0} (m n : Bool) → Decides m P → Decides n Q → Decides (m && n) (P × Q)
+    by true true p q = (λ _. (p.0 refl, q.0 refl), λ _. refl)
+    by false n p q = (λ h. absurd (true≢false (sym h)), λ h. absurd (true≢false (sym (p.1 h.0))))
+    by true false p q = (λ h. absurd (true≢false (sym h)), λ h. absurd (true≢false (sym (q.1 h.1))))
+
+decides_by : {P Q : Type 0} (b : Bool) → Decides b P → (P → Q) → (Q → P) → Decides b Q
+decides_by b p f g = (λ e. f (p.0 e), λ h. p.1 (g h))
+
+-- numbers of an operation that both have
+pub same_op-Decides : (a b : Op) → Decides (same_op a b) (a ≡ b)
+same_op-Decides (Go g) (Go h) = (λ e. ap Go ((Decides-eqb g h).0 e), λ e. (Decides-eqb g h).1 cc)
+same_op-Decides Exit Exit = (λ _. refl, λ _. refl)
+same_op-Decides (Read x v) (Read y w) =
+    decides_by ((x == y) && (v == w)) (both (Decides-eqb x y) (Decides-eqb v w)) (λ e i. Read (e.0 i) (e.1 i)) (λ e. (cc, cc))
+same_op-Decides (Write x v) (Write y w) =
+    decides_by ((x == y) && (v == w)) (both (Decides-eqb x y) (Decides-eqb v w)) (λ e i. Write (e.0 i) (e.1 i)) (λ e. (cc, cc))
+same_op-Decides _ _ = (λ e. absurd (true≢false (sym e)), λ e. cc)
+
+same_text-Decides : (a b : Option (List ℕ)) → Decides (same_text a b) (a ≡ b)
+same_text-Decides None None = (λ _. refl, λ _. refl)
+same_text-Decides (Some a) (Some b) = (λ e. ap Some ((bytes_eq-Decides a b).0 e), λ e. (bytes_eq-Decides a b).1 cc)
+same_text-Decides _ _ = (λ e. absurd (true≢false (sym e)), λ e. cc)
+
+pub same_placed-Decides : (d e : PlacedEvent) → Decides (same_placed d e) (d ≡ e)
+same_placed-Decides d e =
+    decides_by (same_placed d e)
+    (both (both (both (Decides-eqb d.who e.who) (same_op-Decides d.op e.op)) (same_text-Decides d.place e.place)) (same_text-Decides d.place2 e.place2))
+    (λ h i. record { who = h.0.0.0 i; op = h.0.0.1 i; place = h.0.1 i; place2 = h.1 i })
+    (λ h. (((ap (λ (x : PlacedEvent). x.who) h, ap (λ (x : PlacedEvent). x.op) h), ap (λ (x : PlacedEvent). x.place) h), ap (λ (x : PlacedEvent). x.place2) h))
+
+pub same_recorded-Decides : (a b : Recorded) → Decides (same_recorded a b) (a ≡ b)
+same_recorded-Decides a b =
+    decides_by (same_recorded a b)
+    (both (same_declarations-Decides a.declarations b.declarations) (slice_eq-Decides {E = same_placed} same_placed-Decides a.events b.events (pointwise same_placed a.events b.events) refl))
+    (λ h i. record { declarations = h.0 i; events = h.1 i })
+    (λ h. (ap (λ (x : Recorded). x.declarations) h, ap (λ (x : Recorded). x.events) h))
+
+abbrev pub same_traces : TraceState → TraceState → Bool
+same_traces a b = same_recorded (recorded a) (recorded b)
+
+pub same_traces_laws : IsPartialEquivalence same_traces
+same_traces_laws = on_per recorded (partial_equiv_from_equiv (decided same_recorded same_recorded-Decides))

@@ -1,0 +1,74 @@
+//! Which traces are equal.
+ghost use Rattle.std.specs.Prelude.{◌≡◌, ◌↔◌, ◌<◌, length, slice_get, IsTrue};
+ghost use Rattle.race_records.specs.TraceEquality.{placed_events, same_op};
+
+use crate::{Op, Trace};
+use std::alloc::Allocator;
+
+/// Equal where the declarations and the events are, each event with the texts of its places. A
+/// place that no event uses doesn't count, nor does the order of the places.
+impl<A: Allocator> PartialEq for Trace<A> {
+    ghost use Rattle.std.specs.Prelude.{◌≡◌, ◌↔◌, IsTrue};
+    ghost use Rattle.race_records.specs.TraceEquality.{recorded, same_traces, same_traces_laws};
+
+    ghost eq = { same_traces };
+
+    ghost laws = { same_traces_laws };
+
+    fn eq(&self, other: &Trace<A>) -> bool
+        ensures eq { result ≡ same_traces self.now other.now }
+        ensures same { IsTrue result ↔ (recorded self.now ≡ recorded other.now) }
+    {
+        self.decls() == other.decls() && are_events_alike(self, other)
+    }
+}
+
+// Whether the events are equal, with the texts of their places.
+fn are_events_alike<A: Allocator>(trace: &Trace<A>, other: &Trace<A>) -> bool
+    ensures { IsTrue result ↔ (placed_events trace.now ≡ placed_events other.now) }
+{
+    if trace.len() != other.len() {
+        return false;
+    }
+    for index in 0..trace.len() {
+        if !are_alike_at(trace, other, index) {
+            return false;
+        }
+    }
+    true
+}
+
+// Whether the two events at the index are equal. An event that fits has no second place.
+#[tactic(auto, unfolding(crate::specs::Events::fits))]
+fn are_alike_at<A: Allocator>(trace: &Trace<A>, other: &Trace<A>, index: usize) -> bool
+    requires here { index < length trace.now.events }
+    requires there { index < length other.now.events }
+    ensures { IsTrue result
+        ↔ (slice_get (placed_events trace.now) index ≡ slice_get (placed_events other.now) index) }
+{
+    let here = trace.event(index);
+    let there = other.event(index);
+    if here.who != there.who {
+        return false;
+    }
+    if !is_same_op(&here.op, &there.op) {
+        return false;
+    }
+    trace.place_text(here.place) == other.place_text(there.place)
+}
+
+fn is_same_op(op: &Op, other: &Op) -> bool
+    ensures { result ≡ same_op op.now other.now }
+{
+    match (op, other) {
+        (Op::Go(goroutine), Op::Go(another)) => goroutine == another,
+        (Op::Exit, Op::Exit) => true,
+        (Op::Read(var, value), Op::Read(another, other_value)) => {
+            var == another && value == other_value
+        }
+        (Op::Write(var, value), Op::Write(another, other_value)) => {
+            var == another && value == other_value
+        }
+        _ => false,
+    }
+}

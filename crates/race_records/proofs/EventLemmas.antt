@@ -9,7 +9,7 @@ use Rattle.race_records.specs.declared.trace.PushFault.{PushFault}
 use Rattle.race_records.specs.declared.trace.PushFault.TheVariants.{BadNumber, Full}
 use Rattle.race_records.specs.declared.trace.TheConstants.{MAX_EVENTS}
 use Rattle.race_records.specs.Declarations.{Declaration, DeclsState, is_known, with_place}
-use Rattle.race_records.specs.Events.{TraceState, IsTrace, fits, push_fault}
+use Rattle.race_records.specs.Events.{TraceState, IsTrace, fits, value_fits, push_fault}
 
 -- what no fault means for an event
 pub record IsAllowedEvent (trace : TraceState) (e : Event) : Type 0 where
@@ -27,13 +27,14 @@ allowed_from_no_push_fault trace e h = by (fits trace.decls e) refl (nat_le MAX_
     by true fit false room h = record { fit = fit; room = grind (arith, nat_tests) }
 
 -- one more event that fits
-pub push_is_trace : (trace : TraceState) (e : Event) (events : List Event) (spare : ℕ) → IsTrace trace → push_fault trace e ≡ None → events ≡ trace.events ++ e ∷ []
+pub push_is_trace : (trace : TraceState) (e : Event) (events : List Event) (spare : ℕ) → IsTrace trace → IsTrue (value_fits e.op) → push_fault trace e ≡ None → events ≡ trace.events ++ e ∷ []
     → IsTrace (record { decls = trace.decls; events = events; spare = spare })
-push_is_trace trace e events spare holds none is =
+push_is_trace trace e events spare holds value none is =
     let allowed = allowed_from_no_push_fault trace e none in
     let room = allowed.room in
     record {
       fit = subst (λ (es : List Event). All (λ (x : Event). IsTrue (fits trace.decls x)) es) (sym is) (All-push (λ (x : Event). IsTrue (fits trace.decls x)) trace.events e holds.fit allowed.fit);
+      values = subst (λ (es : List Event). All (λ (x : Event). IsTrue (value_fits x.op)) es) (sym is) (All-push (λ (x : Event). IsTrue (value_fits x.op)) trace.events e holds.values value);
       limited = subst (λ (es : List Event). length es ≤ MAX_EVENTS) (sym is) (omega (arith, room, length-append trace.events (e ∷ [])));
     }
 
@@ -45,6 +46,7 @@ fits-more_places ds places more e grown h = grind (arith, nat_tests)
 pub with_place_is_trace : (trace : TraceState) (word : List ℕ) (decls : DeclsState) → IsTrace trace → decls ≡ with_place trace.decls word → IsTrace (record { decls = decls; events = trace.events; spare = trace.spare })
 with_place_is_trace trace word decls holds is = record {
   fit = λ k d within. subst (λ (x : DeclsState). IsTrue (fits x (get_or trace.events k d))) (sym is) (fits-more_places trace.decls.declarations trace.decls.places _ (get_or trace.events k d) (grown (is_known trace.decls.places word)) (holds.fit k d within));
+  values = holds.values;
   limited = holds.limited;
 }
   where

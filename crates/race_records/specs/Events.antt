@@ -1,5 +1,5 @@
 -- Which events fit the declarations, and when a trace takes one.
-use Rattle.std.specs.Prelude.{◌≡◌, ℕ, ◌≤◌, ◌&&◌, Bool, true, not, if◌then◌else◌, nat_lt, nat_le, List, length, Option, Some, None, is_none, IsTrue, All}
+use Rattle.std.specs.Prelude.{◌≡◌, ℕ, ◌≤◌, ◌^◌, ◌&&◌, Bool, true, not, if◌then◌else◌, nat_lt, nat_le, List, length, Option, Some, None, is_none, IsTrue, All}
 use Rattle.race_records.specs.declared.event.Event.{Event}
 use Rattle.race_records.specs.declared.event.Op.{Op}
 use Rattle.race_records.specs.declared.event.Op.TheVariants.{Go, Exit, Read, Write}
@@ -22,6 +22,13 @@ fits decls e =
     nat_lt e.who (count_of Kind.Goroutine decls.declarations) && op_fits decls.declarations e.op
     && nat_lt e.place (length decls.places) && is_none e.place2
 
+-- a value that the operation names is a u64
+abbrev pub value_fits : Op → Bool
+value_fits (Go goroutine) = true
+value_fits Exit = true
+value_fits (Read var value) = nat_lt value (2 ^ 64)
+value_fits (Write var value) = nat_lt value (2 ^ 64)
+
 -- a `Trace` as its callers see it. `spare` is for how many more events there is room
 pub record TraceState : Type 0 where
   pub decls : DeclsState
@@ -34,9 +41,10 @@ push_fault trace e =
     if not (fits trace.decls e) then Some BadNumber
     else (if nat_le MAX_EVENTS (length trace.events) then Some Full else None)
 
--- what holds of every `Trace`: each event fits its declarations, and there are not too many
+-- what holds of every `Trace`: each event fits its declarations, each value is a u64, and there are not too many events
 pub record IsTrace (trace : TraceState) : Type 0 where
   pub fit : All (λ e. IsTrue (fits trace.decls e)) trace.events
+  pub values : All (λ e. IsTrue (value_fits e.op)) trace.events
   pub limited : length trace.events ≤ MAX_EVENTS
 
 -- all but the spare room is as before

@@ -4,7 +4,7 @@ ghost use Rattle.race_records.specs.Declarations as declarations;
 ghost use Rattle.race_records.specs.Refusal.{Refuses, AllowsUnless};
 ghost use Rattle.race_records.specs.Events as spec;
 
-use crate::{DeclFault, Decls, Event};
+use crate::{DeclFault, Decls, Event, Op};
 use std::alloc::{AllocError, Allocator, Global};
 use std::marker::Model;
 use thiserror::Error;
@@ -78,6 +78,7 @@ impl<A: Allocator> Trace<A> {
         ensures taken { OnOk result (self.new.spare ≡ self.old.spare - 1) }
         ensures err { OnErr result (self.new ≡ self.old) }
     {
+        look_at_value(&event.op);
         match self.fault_of(&event) {
             Some(fault) => Err(fault),
             None => match self.append(event) {
@@ -89,7 +90,8 @@ impl<A: Allocator> Trace<A> {
 
     // Appends an allowed event.
     fn append(&mut self, event: Event) -> Result<(), AllocError>
-        requires { spec.push_fault self.old event ≡ None }
+        requires allowed { spec.push_fault self.old event ≡ None }
+        requires value { IsTrue (spec.value_fits event.op) }
         ensures room { 0 < self.old.spare → IsOk result }
         ensures events { OnOk result (self.new.events ≡ self.old.events ++ event ∷ []) }
         ensures decls { OnOk result (self.new.decls ≡ self.old.decls) }
@@ -195,5 +197,21 @@ impl<A: Allocator> Trace<A> {
         ensures err { OnErr result (self.new ≡ self.old) }
     {
         self.decls.add_place(text)
+    }
+}
+
+// A proof knows the range of a number in an enum once the body has read it.
+fn look_at_value(op: &Op)
+    ensures { IsTrue (spec.value_fits op.now) }
+{
+    match op {
+        Op::Go(_) => {}
+        Op::Exit => {}
+        Op::Read(_, value) => {
+            let _value = *value;
+        }
+        Op::Write(_, value) => {
+            let _value = *value;
+        }
     }
 }

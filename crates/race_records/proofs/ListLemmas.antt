@@ -1,6 +1,8 @@
 -- One more element at the end of a list.
-use Rattle.std.proofs.Common.{◌≡◌, ℕ, zero, suc, ◌<◌, ◌⊎◌, inl, inr, List, [], ◌∷◌, ◌++◌, length, slice_get, Some, refl, sym, ◌∙◌, arith}
+use Rattle.std.proofs.Common.{◌≡◌, ℕ, zero, suc, ◌<◌, ◌⊎◌, inl, inr, List, [], ◌∷◌, ◌++◌, length, slice_get, map, Some, refl, sym, ap, ◌∙◌, arith}
 use Rattle.std.proofs.lemmas.List.{length-append}
+use Rattle.std.proofs.lemmas.List.Concat.{flat_map-cons}
+use Rattle.std.specs.List.{flat_map}
 use Rattle.std.proofs.lemmas.Option.{none-some, same_Some, slice_get_within}
 use Rattle.race_records.specs.DeclsHold.{Leads}
 
@@ -66,3 +68,8 @@ module _ {X : Type 0} (list part : List X) (indexes : List ℕ) (leads : Leads l
     ];
     sized = omega (arith, length-append indexes (last ∷ []), length-append part (x ∷ []), leads.sized);
   }
+
+-- pieces of what is mapped
+pub flat_map-map : {X Y : Type 0} (f : Y → List ℕ) (h : X → Y) (xs : List X) → flat_map f (map h xs) ≡ flat_map (λ x. f (h x)) xs
+flat_map-map f h [] = refl
+flat_map-map f h (x ∷ xs) = flat_map-cons f (h x) (map h xs) ∙ ap (λ l. f (h x) ++ l) (flat_map-map f h xs) ∙ sym (flat_map-cons (λ y. f (h y)) x xs)

@@ -1,6 +1,7 @@
 -- What one more write makes of a text that is printed piece by piece.
-use Rattle.std.proofs.Common.{◌≡◌, ℕ, suc, ◌+◌, ◌-◌, ◌^◌, ◌<◌, min, List, [], ◌∷◌, ◌++◌, get_or, subst, length, take, drop, Option, refl, sym, ap, ◌∙◌, arith, append-nil, append_assoc, length-append, length-drop}
-use Rattle.std.proofs.KnownBytes.{Appends-trans}
+use Rattle.std.proofs.Common.{◌≡◌, ℕ, suc, ◌+◌, ◌-◌, ◌^◌, ◌<◌, min, List, [], ◌∷◌, ◌++◌, get_or, subst, length, take, drop, Option, Result, Ok, Err, OnOk, IfErr, refl, sym, ap, ◌∙◌, arith, append-nil, append_assoc, length-append, length-drop}
+use Rattle.std.proofs.KnownBytes.{Appends-trans, Appends-nil}
+use Rattle.std.specs.Bool.{⊤}
 use Rattle.std.proofs.Math.Seq.{drop-cons}
 use Rattle.std.proofs.lemmas.Grind.{flat_map-append}
 use Rattle.std.specs.List.{flat_map}
@@ -85,3 +86,41 @@ prints_on a b c p q r xs ys first next =
 pub breaks_off_on : (a b c : Option (List ℕ)) (p q : PageState) (sent : ℕ) (xs ys : List ℕ) → Prints a b p q xs → BreaksOff b c q sent ys → BreaksOff a c p sent (xs ++ ys)
 breaks_off_on a b c p q sent xs ys first next =
     λ start text printed. subst (λ (l : List ℕ). IsCutOff start c sent l) (append_assoc text xs ys) (next start (text ++ xs) (first start text printed))
+
+-- nothing is printed on a page on which nothing waits
+first_page : (start : Option (List ℕ)) (page : PageState) → page.waiting ≡ [] → page.sent ≡ 0 → IsPrinted start start page []
+first_page start page none unsent = record { out = []; split = sym none; appended = Appends-nil start; counted = unsent }
+
+-- where nothing waits, all is out
+all_is_out : (start now : Option (List ℕ)) (page : PageState) (text : List ℕ) → page.waiting ≡ [] → IsPrinted start now page text → Appends start now text
+all_is_out start now page text none printed =
+    subst (λ (l : List ℕ). Appends start now l) (sym (printed.split ∙ ap (λ l. printed.out ++ l) none ∙ append-nil printed.out)) printed.appended
+
+module _ (start middle : Option (List ℕ)) (page next : PageState) (text : List ℕ) (none : page.waiting ≡ []) (unsent : page.sent ≡ 0) where
+  -- what was put on the page
+  put_on : Prints start middle page next text → IsPrinted start middle next text
+  put_on prints = prints start [] (first_page start page none unsent)
+
+  -- and was sent to its end
+  pub flushed : {E : Type 0} (r : Result ⊤ E) (now : Option (List ℕ)) (last : PageState) → Prints start middle page next text
+      → OnOk r (last.waiting ≡ []) → OnOk r ((s : Option (List ℕ)) (t : List ℕ) → IsPrinted s middle next t → IsPrinted s now last t) → OnOk r (Appends start now text)
+  flushed (Ok x) now last prints empty sends = all_is_out start now last text empty (sends start text (put_on prints))
+  flushed (Err e) now last prints empty sends = tt
+
+  pub cut_off : (now : Option (List ℕ)) (sent : ℕ) → Prints start middle page next text
+      → ((s : Option (List ℕ)) (t : List ℕ) → IsPrinted s middle next t → IsCutOff s now sent t) → IsCutOff start now sent text
+  cut_off now sent prints cuts = cuts start text (put_on prints)
+
+-- a page that breaks off at once
+pub broken_off : (start now : Option (List ℕ)) (page : PageState) (sent : ℕ) (text : List ℕ) → page.waiting ≡ [] → page.sent ≡ 0
+    → BreaksOff start now page sent text → IsCutOff start now sent text
+broken_off start now page sent text none unsent breaks = breaks start [] (first_page start page none unsent)
+
+-- what holds of an answer, by what holds of it already
+pub OnOk-map : {T E : Type 0} (r : Result T E) (P Q : Type 0) → (P → Q) → OnOk r P → OnOk r Q
+OnOk-map (Ok x) P Q f h = f h
+OnOk-map (Err e) P Q f h = tt
+
+pub IfErr-map : {T E : Type 0} (r : Result T E) (P Q : E → Type 0) → ((e : E) → P e → Q e) → IfErr r P → IfErr r Q
+IfErr-map (Ok x) P Q f h = tt
+IfErr-map (Err e) P Q f h = f e h

@@ -11,6 +11,9 @@ pub mod EventWords
 pub mod EventCauses
 pub mod EventLines
 pub mod TraceLemmas
+pub mod WritingLemmas
+pub mod PieceLemmas
+pub mod ShortLemmas
 pub mod ReaderLemmas
 pub mod ParseLemmas
 pub mod ExampleRows

@@ -7,3 +7,4 @@ pub mod Reading
 pub mod Taking
 pub mod Reader
 pub mod Examples
+pub mod Writing

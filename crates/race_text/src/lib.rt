@@ -14,6 +14,7 @@ mod parse;
 mod reader;
 mod taking;
 mod words;
+mod writing;
 
 pub use cause::{TextCause, TextFault};
 pub use declaration::read_declaration;
@@ -27,6 +28,9 @@ pub use race_records::{is_name, is_place};
 #[doc(hidden)]
 pub use reader::Reader;
 pub use words::{Words, split_words};
+#[doc(hidden)]
+pub use writing::Access;
+pub use writing::write_trace;
 
 #[cfg(test)]
 mod tests;

@@ -2,9 +2,13 @@ use crate::TextCause::{
     BadByte, BadHeader, BadName, BadNumber, LateDeclaration, NoNewline, Taken, TooMany, Unknown,
     UnknownWord, WrongCount, WrongKind,
 };
-use crate::{TextCause, TextFault, parse_trace, read_declaration, read_number, split_words};
-use race_records::{Decls, Op};
+use crate::{
+    TextCause, TextFault, parse_trace, read_declaration, read_number, split_words, write_trace,
+};
+use race_records::{Decls, Op, Sink};
 use std::alloc::Allocator;
+use std::io;
+use std::io::Write;
 use std::test::Fail;
 
 // The first fault of the bytes.
@@ -223,4 +227,55 @@ fn reads_fields(rt: HostRuntime) {
         assert!(rt; told == answer, "at {line:?}");
     }
     assert_eq!(rt; decls.len(), 2);
+}
+
+// Takes so many bytes a call, and fails where its room is used up.
+#[derive(Drop)]
+struct SlowWriter {
+    taken: Vec<u8>,
+    step: usize,
+    room: usize,
+}
+
+impl Write for SlowWriter {
+    fn write(&mut self, buf: &[u8]) -> io::Result<usize> {
+        let room = self.room.saturating_sub(self.taken.len());
+        if room == 0 {
+            return Err(io::ErrorKind::Other.into());
+        }
+        let count = buf.len().min(self.step).min(room);
+        self.taken.extend_from_slice(&buf[..count])?;
+        Ok(count)
+    }
+
+    fn flush(&mut self) -> io::Result<()> {
+        Ok(())
+    }
+}
+
+#[test]
+fn a_trace_is_written_as_it_was_read(rt: HostRuntime) -> Result<(), Fail> {
+    let text =
+        b"gotrace 1\ngoroutine w\nvar x\nwrite main x 7 a.go:1\ngo main w a.go:2\nread w x 7 a.go:5\nexit main a.go:3\n";
+    let trace = parse_trace(rt.alloc(), text)?;
+    for (step, room, sent) in [
+        (1, 1_000, None),
+        (7, 1_000, None),
+        (1_000, 1_000, None),
+        (1_000, 10, Some(10)),
+        (7, 10, Some(10)),
+    ] {
+        let mut writer = SlowWriter {
+            taken: Vec::new(rt.alloc()),
+            step,
+            room,
+        };
+        let mut sink = Sink::new(&mut writer);
+        let answer = write_trace(&trace, &mut sink).err().map(|fault| fault.sent);
+        assert_eq!(rt; answer, sent, "{step} {room}");
+        let all = text.as_slice();
+        let out = sent.map_or(all, |sent| &all[..sent as usize]);
+        assert_eq!(rt; writer.taken.as_slice(), out, "{step} {room}");
+    }
+    Ok(())
 }

@@ -8,6 +8,5 @@ pub mod FoundSteps
 pub mod JudgeSteps
 pub mod RaceLists
 pub mod ReportLemmas
-mod PrintingLemmas
 pub mod PrintableLemmas
 pub mod CleanLemmas

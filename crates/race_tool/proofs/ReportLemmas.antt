@@ -1,11 +1,10 @@
 -- The lines of a report, from the words that are put into them.
-use Rattle.std.proofs.Common.{◌≡◌, ℕ, zero, suc, take, ◌+◌, ◌<◌, ◌≤◌, List, [], ◌∷◌, ◌++◌, length, codes, decimal, slice_get, Option, Some, None, IfSome, Result, Ok, Err, OnOk, IfErr, map, refl, sym, ap, ◌∙◌, arith}
+use Rattle.std.proofs.Common.{◌≡◌, ℕ, zero, suc, take, ◌+◌, ◌<◌, ◌≤◌, List, [], ◌∷◌, ◌++◌, length, codes, decimal, slice_get, Option, Some, None, IfSome, map, refl, sym, ap, arith}
 use Rattle.std.specs.List.{concat, flat_map}
 use Rattle.std.proofs.lemmas.List.{length-map}
-use Rattle.std.proofs.lemmas.List.Concat.{flat_map-cons}
 use Rattle.race_records.specs.declared.event.Event.{Event}
 use Rattle.race_records.specs.Events.{TraceState}
-use Rattle.race_records.proofs.ListLemmas.{slice_get-within}
+use Rattle.race_records.proofs.ListLemmas.{slice_get-within, flat_map-map}
 use Rattle.race_model.specs.Verdict.{Race}
 use Rattle.race_text.specs.Text.{goroutine_name, var_name, place_text}
 use Rattle.race_tool.specs.declared.races.Race as tool
@@ -38,21 +37,9 @@ unfolding race_line
 race_line_is trace race var what who place number what2 who2 place2 number2 named in_first first numbered in_second second numbered2 =
     λ i. concat (codes "race on " ∷ sym named i ∷ codes ": " ∷ (access_text_is trace race.first what who place number in_first first numbered i ++ codes ", " ∷ (access_text_is trace race.second what2 who2 place2 number2 in_second second numbered2 i ++ newline ∷ [])))
 
-flat_map-map : {X Y : Type 0} (f : Y → List ℕ) (h : X → Y) (xs : List X) → flat_map f (map h xs) ≡ flat_map (λ x. f (h x)) xs
-flat_map-map f h [] = refl
-flat_map-map f h (x ∷ xs) = flat_map-cons f (h x) (map h xs) ∙ ap (λ l. f (h x) ++ l) (flat_map-map f h xs) ∙ sym (flat_map-cons (λ y. f (h y)) x xs)
-
 -- the text of races, as lines and their count
 pub races_text_is : (trace : TraceState) (races : List tool.Race) → races_text trace (map race_of races) ≡ flat_map (λ r. race_line trace (race_of r)) races ++ races_line (length races)
 races_text_is trace races = λ i. flat_map-map (race_line trace) race_of races i ++ races_line (length-map races race_of i)
-
-pub OnOk-map : {T E : Type 0} (r : Result T E) (P Q : Type 0) → (P → Q) → OnOk r P → OnOk r Q
-OnOk-map (Ok x) P Q f h = f h
-OnOk-map (Err e) P Q f h = tt
-
-pub IfErr-map : {T E : Type 0} (r : Result T E) (P Q : E → Type 0) → ((e : E) → P e → Q e) → IfErr r P → IfErr r Q
-IfErr-map (Ok x) P Q f h = tt
-IfErr-map (Err e) P Q f h = f e h
 
 pub take_all : {X : Type 0} (xs : List X) (n : ℕ) → length xs ≤ n → take n xs ≡ xs
 take_all [] zero h = refl

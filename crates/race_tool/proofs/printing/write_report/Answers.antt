@@ -2,8 +2,7 @@ use Rattle.race_records.specs.declared.sink.WriteFault.{WriteFault}
 use Rattle.race_records.specs.Page.{IsCutOff}
 use Rattle.race_tool.specs.Finding.{report_of}
 use Rattle.race_tool.specs.Findings.{finding_of}
-use Rattle.race_tool.proofs.PrintingLemmas.{flushed, cut_off, broken_off}
-use Rattle.race_tool.proofs.ReportLemmas.{IfErr-map}
+use Rattle.race_records.proofs.PageLemmas.{flushed, cut_off, broken_off, IfErr-map}
 use Rattle.race_tool.proofs.printing.write_report.Goals as goal
 
 pub returns-in-Ok-clause-ok : goal.returns-in-Ok-clause-ok

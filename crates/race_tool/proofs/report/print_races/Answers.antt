@@ -2,11 +2,11 @@ use Rattle.std.proofs.Common.{◌≡◌, ℕ, ◌≤◌, ◌++◌, List, take, l
 use Rattle.std.specs.List.{flat_map}
 use Rattle.race_records.specs.declared.sink.WriteFault.{WriteFault}
 use Rattle.race_records.specs.Page.{IsCutOff, Prints, BreaksOff}
-use Rattle.race_records.proofs.PageLemmas.{cut_off_in_pieces, cut_off_more, prints_on, breaks_off_on}
+use Rattle.race_records.proofs.PageLemmas.{cut_off_in_pieces, cut_off_more, prints_on, breaks_off_on, OnOk-map, IfErr-map}
 use Rattle.race_tool.specs.declared.races.Race.{Race}
 use Rattle.race_tool.specs.Answers.{race_of}
 use Rattle.race_tool.specs.Report.{race_line, races_line}
-use Rattle.race_tool.proofs.ReportLemmas.{races_text_is, take_all, OnOk-map, IfErr-map}
+use Rattle.race_tool.proofs.ReportLemmas.{races_text_is, take_all}
 use Rattle.race_tool.proofs.report.print_races.Goals as goal
 
 pub returns-in-Err-clause-sent : goal.returns-in-Err-clause-sent

@@ -1,0 +1,11 @@
+use Rattle.std.proofs.Common.{◌≡◌, ℕ, List, [], ◌∷◌, ◌++◌, decimal, sym, ◌∙◌, subst, IfErr, rules}
+use Rattle.race_records.specs.declared.sink.WriteFault.{WriteFault}
+use Rattle.race_records.specs.Page.{BreaksOff, joined}
+use Rattle.race_text.proofs.WritingLemmas.{line_of_5}
+use Rattle.race_text.proofs.writing.print_access.Goals as goal
+
+pub returns-clause-sent : goal.returns-clause-sent
+returns-clause-sent g c =
+    let parts = c.as_bytes.result ∷ c.as_slice.result ∷ c.as_bytes-2.result ∷ c.as_slice-2.result ∷ c.as_bytes-3.result ∷ c.as_slice-3.result ∷ c.as_bytes-4.result ∷ c.as_slice-4.result ∷ c.as_bytes-5.result ∷ c.as_slice-5.result ∷ [] in
+    let line : joined parts ≡ c.args.access.word.now ++ 32 ∷ (c.args.access.who.now ++ 32 ∷ (c.args.access.var.now ++ 32 ∷ (decimal c.args.access.value ++ 32 ∷ (c.args.access.place.now ++ 10 ∷ [])))) = search rules in
+    subst (λ (l : List ℕ). IfErr c.put_all.result (λ (fault : WriteFault). BreaksOff (g.W.Write.contents c.args.sink.now.writer) (g.W.Write.contents c.put_all.new.sink.writer) c.args.page.now fault.sent l)) (line ∙ sym (line_of_5 c.args.access.word.now c.args.access.who.now c.args.access.var.now (decimal c.args.access.value) c.args.access.place.now)) c.put_all.ensures.sent

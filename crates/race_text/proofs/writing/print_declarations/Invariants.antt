@@ -1,0 +1,12 @@
+use Rattle.std.proofs.Common.{◌≡◌, take}
+use Rattle.race_records.specs.Devices.{written, sink_failures}
+use Rattle.race_records.specs.Page.{Prints}
+use Rattle.race_text.specs.Writing.{declarations_text}
+use Rattle.race_text.proofs.writing.print_declarations.Given as goal
+
+-- the declarations before the index are printed, and no write failed
+abbrev pub invariant-loop-index : goal.invariant-loop-index
+invariant-loop-index g l = record {
+  printed : Prints (written g.W.Write.contents l.initial.sink) (written g.W.Write.contents l.sink) l.initial.page l.page (declarations_text (take l.index l.decls.declarations));
+  calm : sink_failures l.sink ≡ sink_failures l.initial.sink;
+}

@@ -1,0 +1,53 @@
+use Rattle.std.proofs.Common.{◌<◌, length, take, subst}
+use Rattle.std.specs.Io.KnownBytes.{Appends}
+use Rattle.race_records.specs.declared.sink.WriteFault.{WriteFault}
+use Rattle.race_records.specs.Declarations.{IsWellFormed}
+use Rattle.race_records.proofs.PageLemmas.{flushed, cut_off, broken_off, IfErr-map}
+use Rattle.race_text.specs.Text.{text}
+use Rattle.race_text.proofs.PieceLemmas.{cut_is_exact}
+use Rattle.race_text.proofs.ShortLemmas.{text_short}
+use Rattle.race_text.proofs.writing.write_trace.Goals as goal
+
+pub returns-in-Ok-clause-ok : goal.returns-in-Ok-clause-ok
+returns-in-Ok-clause-ok g c =
+    flushed (g.W.Write.contents c.args.sink.now.writer) (g.W.Write.contents c.print_trace.new.sink.writer) c.new-page.result c.print_trace.new.page
+    (text c.args.trace.now) c.new-page.ensures.waiting c.new-page.ensures.sent c.flush.result (g.W.Write.contents c.flush.new.sink.writer) c.flush.new.self
+    c.in-Ok.ensures.ok c.flush.ensures.empty c.flush.ensures.ok
+
+pub returns-in-Ok-clause-sent : goal.returns-in-Ok-clause-sent
+returns-in-Ok-clause-sent g c =
+    let trace = c.args.trace.now in
+    let start = g.W.Write.contents c.args.sink.now.writer in
+    let middle = g.W.Write.contents c.print_trace.new.sink.writer in
+    let now = g.W.Write.contents c.flush.new.sink.writer in
+    let bounded = text_short trace c.len-events.ensures.is_trace (subst IsWellFormed c.decls.ensures c.len-declarations.ensures.well_formed) in
+    IfErr-map c.flush.result _ (λ (fault : WriteFault). Appends start now (take fault.sent (text trace)))
+    (λ (fault : WriteFault) cuts. (cut_is_exact start now fault.sent (text trace) bounded (cut_off start middle c.new-page.result c.print_trace.new.page (text trace) c.new-page.ensures.waiting c.new-page.ensures.sent now fault.sent c.in-Ok.ensures.ok cuts)).0)
+    c.flush.ensures.sent
+
+pub returns-in-Ok-clause-short : goal.returns-in-Ok-clause-short
+returns-in-Ok-clause-short g c =
+    let trace = c.args.trace.now in
+    let start = g.W.Write.contents c.args.sink.now.writer in
+    let middle = g.W.Write.contents c.print_trace.new.sink.writer in
+    let now = g.W.Write.contents c.flush.new.sink.writer in
+    let bounded = text_short trace c.len-events.ensures.is_trace (subst IsWellFormed c.decls.ensures c.len-declarations.ensures.well_formed) in
+    IfErr-map c.flush.result _ (λ (fault : WriteFault). fault.sent < length (text trace))
+    (λ (fault : WriteFault) cuts. (cut_is_exact start now fault.sent (text trace) bounded (cut_off start middle c.new-page.result c.print_trace.new.page (text trace) c.new-page.ensures.waiting c.new-page.ensures.sent now fault.sent c.in-Ok.ensures.ok cuts)).1)
+    c.flush.ensures.sent
+
+pub returns-in-Err-clause-sent : goal.returns-in-Err-clause-sent
+returns-in-Err-clause-sent g c =
+    let trace = c.args.trace.now in
+    let start = g.W.Write.contents c.args.sink.now.writer in
+    let now = g.W.Write.contents c.print_trace.new.sink.writer in
+    let bounded = text_short trace c.len-events.ensures.is_trace (subst IsWellFormed c.decls.ensures c.len-declarations.ensures.well_formed) in
+    (cut_is_exact start now c.in-Err.fault.sent (text trace) bounded (broken_off start now c.new-page.result c.in-Err.fault.sent (text trace) c.new-page.ensures.waiting c.new-page.ensures.sent c.in-Err.ensures.sent)).0
+
+pub returns-in-Err-clause-short : goal.returns-in-Err-clause-short
+returns-in-Err-clause-short g c =
+    let trace = c.args.trace.now in
+    let start = g.W.Write.contents c.args.sink.now.writer in
+    let now = g.W.Write.contents c.print_trace.new.sink.writer in
+    let bounded = text_short trace c.len-events.ensures.is_trace (subst IsWellFormed c.decls.ensures c.len-declarations.ensures.well_formed) in
+    (cut_is_exact start now c.in-Err.fault.sent (text trace) bounded (broken_off start now c.new-page.result c.in-Err.fault.sent (text trace) c.new-page.ensures.waiting c.new-page.ensures.sent c.in-Err.ensures.sent)).1

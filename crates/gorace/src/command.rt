@@ -33,10 +33,10 @@ Here the write and the read race, for nothing orders them:
 Statuses:
   0   clean: legal, and no data race
   66  data races, one line for each variable
-  1   an event that no run can have; its number and the rule that it breaks
+  1   an event that breaks a rule of traces; its number, and the rule
   2   not a trace; the line at fault and why
   3   usage, or more events than are judged (2,000)
-  4   no memory
+  4   memory was refused
   5   reading or writing failed";
 
 /// What the words ask for.
@@ -74,14 +74,16 @@ fn check<'a>(alloc: Global) -> Result<Command<'a>, AllocError> {
     let shards = Arg::new(alloc, "shards")
         .long("shards")
         .value_name("N")
-        .help("How many shards share the variables among them, 1 to 64 [default: 1]");
+        .help(
+            "How many shards share the variables among them, 1 to 64 [default: 1] (no effect yet)",
+        );
     let block = Arg::new(alloc, "block").long("block").value_name("N").help(
         "How many events the shards are handed at a time, 1 to 65536 [default: 65536]",
     );
     let plain = Arg::new(alloc, "plain")
         .long("plain")
         .action(ArgAction::SetTrue)
-        .help("Judge with the plain judge, a table of what each goroutine has seen");
+        .help("Judge with the plain judge, the only one so far");
     Command::new(alloc, "check")
         .about(CHECK_ABOUT)
         .after_help(CHECK_HELP)

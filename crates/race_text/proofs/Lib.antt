@@ -11,9 +11,13 @@ pub mod EventWords
 pub mod EventCauses
 pub mod EventLines
 pub mod TraceLemmas
+pub mod WordsAgain
+pub mod NamesAgain
+pub mod EventsAgain
 pub mod WritingLemmas
 pub mod PieceLemmas
 pub mod ShortLemmas
+pub mod TextLaws
 pub mod ReaderLemmas
 pub mod ParseLemmas
 pub mod ExampleRows

@@ -61,7 +61,7 @@ place_stays decls word n within = by (is_known decls.places word)
     by true = refl
     by false = slice_get-push_within decls.places word n within
 
-fit_place : (decls : DeclsState) (e : Event) → fits decls e ≡ true → e.place < length decls.places
+pub fit_place : (decls : DeclsState) (e : Event) → fits decls e ≡ true → e.place < length decls.places
 unfolding fits
 fit_place decls e h = grind (arith, nat_tests)
 
@@ -89,7 +89,7 @@ lines_event old new line o holds is added =
     ∙ sym (append_assoc before (map (event_line old.decls) old.events) (line ∷ []))
 
 -- what the lines say after an event
-seen_event : (before : List (List ℕ)) (line : List ℕ) (ds : List Declaration) (events : ℕ) → seen before ≡ seen_so_far ds events → declaration_in line ≡ None → is_event_line line ≡ true
+pub seen_event : (before : List (List ℕ)) (line : List ℕ) (ds : List Declaration) (events : ℕ) → seen before ≡ seen_so_far ds events → declaration_in line ≡ None → is_event_line line ≡ true
     → seen (before ++ line ∷ []) ≡ seen_so_far ds (events + 1)
 unfolding seen
 seen_event before line ds events h none event =
@@ -193,7 +193,7 @@ module _ (old new : TraceState) (line : List ℕ) (o : Occurrence) (read : IsRea
       by true = omega arith
       by false = omega (arith, length-append old.decls.places (o.place ∷ []))
 
-  event_taken : AppendsEvent old new o → TakesLine (lines old) line new
+  pub event_taken : AppendsEvent old new o → TakesLine (lines old) line new
   event_taken added =
       let more : length new.events ≡ length old.events + 1 = ap length added.events ∙ length-append old.events (event_of old.decls.places o ∷ []) in
       let after = lines_event old new line o holds is added in

@@ -6,5 +6,6 @@ pub mod Declaring
 pub mod Reading
 pub mod Taking
 pub mod Reader
+pub mod Laws
 pub mod Examples
 pub mod Writing

@@ -1,5 +1,5 @@
 -- The text of a trace. It prints: nothing here reads.
-use Rattle.std.specs.Prelude.{ℕ, List, [], ◌∷◌, ◌++◌, map, codes, slice_get, unwrap_or}
+use Rattle.std.specs.Prelude.{ℕ, Bool, true, false, List, [], ◌∷◌, ◌++◌, map, codes, slice_get, unwrap_or}
 use Rattle.std.specs.List.{flat_map, join_with_byte}
 use Rattle.std.specs.Fmt.{decimal}
 use Rattle.race_records.specs.declared.event.Event.{Event}
@@ -23,6 +23,12 @@ abbrev pub object_words : List ℕ → Object → List (List ℕ)
 object_words name Object.Goroutine = codes "goroutine" ∷ name ∷ []
 object_words name Object.Var = codes "var" ∷ name ∷ []
 object_words name _ = []
+
+-- a declaration has words
+abbrev pub has_words : Object → Bool
+has_words Object.Goroutine = true
+has_words Object.Var = true
+has_words _ = false
 
 -- the line of a declaration
 abbrev pub declaration_line : Declaration → List ℕ

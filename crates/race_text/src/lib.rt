@@ -9,6 +9,7 @@ pub mod examples;
 mod fields;
 mod finder;
 mod form;
+pub mod laws;
 mod number;
 mod parse;
 mod reader;

@@ -1,0 +1,107 @@
+-- The name by which a number is printed leads back to the number.
+use Rattle.std.proofs.Common.{◌≡◌, ◌≢◌, ℕ, zero, suc, ◌+◌, ◌-◌, ◌<◌, ◌==◌, Bool, true, false, nat_lt, cond, if◌then◌else◌, List, [], ◌∷◌, length, position, take, get_or, slice_get, unwrap_or, Option, Some, None, option_map, refl, sym, ap, ◌∙◌, arith, true≢false}
+use Rattle.std.proofs.lemmas.Bool.Decides.{nat_tests}
+use Rattle.std.proofs.lemmas.List.Sums.{position_or_len_is}
+use Rattle.std.proofs.lemmas.Option.{none-some, same_Some, slice_get_within, get_or_from_slice_get}
+use Rattle.std.proofs.lemmas.Slice.Eq.{bytes_eq-Decides}
+use Rattle.std.specs.List.{position_or_len}
+use Rattle.std.specs.Option.{option_and_then}
+use Rattle.std.specs.Str.{bytes_eq}
+use Rattle.race_records.specs.declared.kind.Kind.{Kind}
+use Rattle.race_records.specs.declared.kind.Named.{Named}
+use Rattle.race_records.specs.declared.kind.Object.{Object}
+use Rattle.race_records.specs.Name.{main}
+use Rattle.race_records.specs.Declarations.{Declaration, DeclsState, IsWellFormed, is_of_kind, of_kind, kind_of, count_of, named, declared_at, find_name, nth_name}
+use Rattle.race_records.proofs.ListLemmas.{slice_get-within}
+use Rattle.race_text.specs.Text.{goroutine_name, var_name}
+
+differ : (a b : List ℕ) → a ≢ b → bytes_eq a b ≡ false
+differ a b other = by (bytes_eq a b) refl
+  where
+    by : (t : Bool) → bytes_eq a b ≡ t → t ≡ false
+    by true e = absurd (other ((bytes_eq-Decides a b).0 e))
+    by false e = refl
+
+-- where the nth declaration of a kind stands
+record StandsAt (kind : Kind) (ds : List Declaration) (n : ℕ) (d : Declaration) : Type 0 where
+  i : ℕ
+  at : slice_get ds i ≡ Some d
+  of : is_of_kind kind d.object ≡ true
+  number : length (of_kind kind (take i ds)) ≡ n
+
+stands_at : (kind : Kind) (ds : List Declaration) (n : ℕ) (d : Declaration) → slice_get (of_kind kind ds) n ≡ Some d → StandsAt kind ds n d
+stands_at kind [] n d at = absurd (none-some d at)
+stands_at kind (e ∷ ds) n d at = by (is_of_kind kind e.object) refl n at (λ n at. stands_at kind ds n d at)
+  where
+    by : (b : Bool) → is_of_kind kind e.object ≡ b → (n : ℕ) → slice_get (if b then e ∷ of_kind kind ds else of_kind kind ds) n ≡ Some d
+        → ((n : ℕ) → slice_get (of_kind kind ds) n ≡ Some d → StandsAt kind ds n d) → StandsAt kind (e ∷ ds) n d
+    by true is zero at rest = record { i = 0; at = at; of = ap (λ (x : Declaration). is_of_kind kind x.object) (sym (same_Some e d at)) ∙ is; number = refl }
+    by true is (suc n) at rest =
+        let s = rest n at in
+        record { i = suc s.i; at = s.at; of = s.of; number = ap (λ b. length (if b then e ∷ of_kind kind (take s.i ds) else of_kind kind (take s.i ds))) is ∙ ap suc s.number }
+    by false is n at rest =
+        let s = rest n at in
+        record { i = suc s.i; at = s.at; of = s.of; number = ap (λ b. length (if b then e ∷ of_kind kind (take s.i ds) else of_kind kind (take s.i ds))) is ∙ s.number }
+
+module _ (decls : DeclsState) (holds : IsWellFormed decls) where
+  abbrev ds : List Declaration
+  ds = decls.declarations
+
+  module _ (i : ℕ) (d : Declaration) (at : slice_get ds i ≡ Some d) where
+    within : i < length ds
+    within = slice_get_within ds i d at
+
+    here : get_or ds i d ≡ d
+    here = get_or_from_slice_get ds i d d at
+
+    -- it is the first that has its name
+    differs_before : (k : ℕ) → k < i → bytes_eq d.name (get_or ds k d).name ≡ false
+    differs_before k less = differ d.name (get_or ds k d).name (λ same. holds.distinct k i d less within (sym same ∙ ap (λ (x : Declaration). x.name) (sym here)))
+
+    first_is : position (λ (e : Declaration). bytes_eq d.name e.name) ds ≡ Some i
+    first_is =
+        let first = position_or_len_is (λ (e : Declaration). bytes_eq d.name e.name) ds i d (let w = within in omega (arith, w)) differs_before
+        (λ _. (bytes_eq-Decides d.name (get_or ds i d).name).1 (ap (λ (x : Declaration). x.name) (sym here))) in
+        let less : nat_lt i (length ds) ≡ true = let w = within in grind (arith, nat_tests, w) in
+        (λ j. cond (nat_lt (first j) (length ds)) (Some (first j)) None) ∙ ap (λ t. cond t (Some i) None) less
+
+    not_main : bytes_eq d.name main ≡ false
+    not_main = differ d.name main (λ same. holds.not_main i d within (ap (λ (x : Declaration). x.name) here ∙ same))
+
+    -- so its name stands for what it declares
+    pub found_again : find_name ds d.name ≡ Some (named d.object (count_of (kind_of d.object) (take i ds)))
+    found_again =
+        (λ j. if not_main j then Some (Named.Goroutine 0) else option_and_then (declared_at ds) (first_is j))
+        ∙ ap (option_map (λ (x : Declaration). named x.object (count_of (kind_of x.object) (take i ds)))) at
+
+  as_goroutine : (o : Object) (i n : ℕ) → is_of_kind Kind.Goroutine o ≡ true → 1 + length (of_kind Kind.Goroutine (take i ds)) ≡ n → named o (count_of (kind_of o) (take i ds)) ≡ Named.Goroutine n
+  as_goroutine Object.Goroutine i n of number = ap Named.Goroutine number
+  as_goroutine _ i n of number = absurd (true≢false (sym of))
+
+  as_var : (o : Object) (i m : ℕ) → is_of_kind Kind.Var o ≡ true → length (of_kind Kind.Var (take i ds)) ≡ m → named o (count_of (kind_of o) (take i ds)) ≡ Named.Var m
+  as_var Object.Var i m of number = let n : count_of Kind.Var (take i ds) ≡ m = omega (arith, number) in ap Named.Var n
+  as_var _ i m of number = absurd (true≢false (sym of))
+
+  -- the name of any goroutine but main
+  other_again : (n m : ℕ) → 1 + m ≡ n → m < length (of_kind Kind.Goroutine ds) → find_name ds (unwrap_or (nth_name Kind.Goroutine ds m) []) ≡ Some (Named.Goroutine n)
+  other_again n m next less =
+      let found = slice_get-within (of_kind Kind.Goroutine ds) m less in
+      let s = stands_at Kind.Goroutine ds m found.0 found.1 in
+      ap (λ o. find_name ds (unwrap_or (option_map (λ (d : Declaration). d.name) o) [])) found.1
+      ∙ found_again s.i found.0 s.at ∙ ap Some (as_goroutine found.0.object s.i n s.of (ap (λ k. 1 + k) s.number ∙ next))
+
+  pub goroutine_again : (n : ℕ) → n < count_of Kind.Goroutine ds → find_name ds (goroutine_name ds n) ≡ Some (Named.Goroutine n)
+  goroutine_again n less = by (n == 0) refl
+    where
+      by : (b : Bool) → (n == 0) ≡ b → find_name ds (unwrap_or (if b then Some main else nth_name Kind.Goroutine ds (n - 1)) []) ≡ Some (Named.Goroutine n)
+      by true e = let zero : 0 ≡ n = grind (arith, nat_tests) in ap (λ k. Some (Named.Goroutine k)) zero
+      by false e =
+          let some : 0 < n = grind (arith, nat_tests) in
+          other_again n (n - 1) (omega (arith, some)) (omega (arith, less, some))
+
+  pub var_again : (n : ℕ) → n < count_of Kind.Var ds → find_name ds (var_name ds n) ≡ Some (Named.Var n)
+  var_again n less =
+      let found = slice_get-within (of_kind Kind.Var ds) n (omega (arith, less)) in
+      let s = stands_at Kind.Var ds n found.0 found.1 in
+      ap (λ o. find_name ds (unwrap_or (option_map (λ (d : Declaration). d.name) o) [])) found.1
+      ∙ found_again s.i found.0 s.at ∙ ap Some (as_var found.0.object s.i n s.of s.number)

@@ -1,0 +1,183 @@
+-- What the lines of a trace say: its declarations, and its events.
+use Rattle.std.proofs.Common.{◌≡◌, ℕ, zero, suc, ◌+◌, ◌<◌, ◌&&◌, Bool, true, false, true≢false, nat_lt, if◌then◌else◌, is_none, List, [], ◌∷◌, ◌++◌, length, map, get_or, slice_get, unwrap_or, Option, Some, None, option_map, IsTrue, All, refl, sym, ap, subst, ◌∙◌, arith, codes, append-nil}
+use Rattle.std.proofs.lemmas.List.{append_cancel_right}
+use Rattle.std.proofs.lemmas.List.Elements.{filter_map-append}
+use Rattle.std.proofs.lemmas.Option.{slice_get-get_or}
+use Rattle.std.specs.List.{list_all, filter_map, cons_option, AllByRecursion}
+use Rattle.std.specs.Option.{option_and_then}
+use Rattle.race_records.specs.declared.event.Event.{Event}
+use Rattle.race_records.specs.declared.kind.Object.{Object}
+use Rattle.race_records.specs.Name.{is_name, is_place_byte}
+use Rattle.race_records.specs.Declarations.{Declaration, DeclsState, count_of}
+use Rattle.race_records.specs.declared.kind.Kind.{Kind}
+use Rattle.race_records.specs.Events.{TraceState, IsTrace, fits, op_fits, value_fits}
+use Rattle.race_records.specs.TraceEquality.{PlacedEvent, placed, placed_events, Recorded, recorded}
+use Rattle.race_text.specs.declared.form.Word.{Word}
+use Rattle.race_text.specs.Words.{parts_of, words_of, has_bad_byte}
+use Rattle.race_text.specs.Text.{header, line_of, object_words, declaration_line, event_line, has_words, lines, text}
+use Rattle.race_text.specs.Form.{word_named, object_of, first_word, arguments}
+use Rattle.race_text.specs.Fault.{declaration_in, declared_as, is_event_line, is_event_word}
+use Rattle.race_text.specs.Laws.{HasText}
+use Rattle.race_text.specs.Reading.{Occurrence, event_by, event_in}
+use Rattle.race_text.proofs.EventLines.{spelled, IsEventLine, event_line as event_line_of}
+use Rattle.race_text.proofs.EventsAgain.{said, named_again, event_again}
+use Rattle.race_text.proofs.TraceLemmas.{fit_place}
+use Rattle.race_text.proofs.WordLemmas.{name_is_visible}
+use Rattle.race_text.proofs.WordsAgain.{AreVisible, words_again, visible_line_clean, parts_again}
+
+-- the first word of a declaration
+abbrev pub word_for : Object → Word
+word_for Object.Goroutine = Word.Goroutine
+word_for _ = Word.Var
+
+-- what holds of the line of a declaration, whose name has a name's form
+pub record IsDeclarationLine (d : Declaration) (line : List ℕ) : Type 0 where
+  pub words : words_of line ≡ spelled (word_for d.object) ∷ d.name ∷ []
+  pub named : word_named (first_word (words_of line)) ≡ Some (word_for d.object)
+  pub object : object_of (word_for d.object) ≡ Some d.object
+  pub clean : has_bad_byte line ≡ false
+
+module _ (name : List ℕ) (form : is_name name ≡ true) where
+  line_again : (word : Word) (object : Object) → word_for object ≡ word → object_words name object ≡ spelled word ∷ name ∷ [] → object_of word ≡ Some object → list_all is_place_byte (spelled word) ≡ true
+      → IsDeclarationLine (record { name = name; object = object }) (line_of (object_words name object))
+  line_again word object is printed declares seen =
+      let visible : AreVisible (spelled word ∷ name ∷ []) = (seen, (name_is_visible name form, tt)) in
+      let again = ap (λ ws. words_of (line_of ws)) printed ∙ words_again (spelled word) (name ∷ []) visible in
+      record {
+        words = again ∙ (λ j. spelled (sym is j) ∷ name ∷ []);
+        named = ap (λ ws. word_named (first_word ws)) again ∙ named_again word ∙ ap Some (sym is);
+        object = ap object_of is ∙ declares;
+        clean = ap (λ ws. has_bad_byte (line_of ws)) printed ∙ visible_line_clean (spelled word ∷ name ∷ []) visible;
+      }
+
+  object_again : (object : Object) → IsTrue (has_words object) → IsDeclarationLine (record { name = name; object = object }) (line_of (object_words name object))
+  object_again Object.Goroutine has = line_again Word.Goroutine Object.Goroutine refl refl refl refl
+  object_again Object.Var has = line_again Word.Var Object.Var refl refl refl refl
+  object_again _ has = cc
+
+pub declaration_again : (d : Declaration) → is_name d.name ≡ true → IsTrue (has_words d.object) → IsDeclarationLine d (declaration_line d)
+declaration_again d form has = object_again d.name form d.object has
+
+-- it declares what it is printed of, and says no event
+pub declares_again : (d : Declaration) (line : List ℕ) → IsDeclarationLine d line → declaration_in line ≡ Some d
+declares_again d line is =
+    (λ j. declared_as (option_and_then object_of (is.named j)) (arguments (is.words j)))
+    ∙ ap (λ o. declared_as o (d.name ∷ [])) is.object
+
+no_event_word : (ds : List Declaration) (word : Word) (object : Object) (ws : List (List ℕ)) → object_of word ≡ Some object → event_by ds (Some word) ws ≡ None
+no_event_word ds Word.Goroutine object ws is = refl
+no_event_word ds Word.Var object ws is = refl
+no_event_word ds _ object ws is = cc
+
+pub says_no_event : (ds : List Declaration) (d : Declaration) (line : List ℕ) → IsDeclarationLine d line → event_in ds (words_of line) ≡ None
+says_no_event ds d line is =
+    ap (event_in ds) is.words ∙ ap (λ w. event_by ds w (d.name ∷ [])) (named_again (word_for d.object)) ∙ no_event_word ds (word_for d.object) d.object (d.name ∷ []) is.object
+
+pub is_no_event : (d : Declaration) (line : List ℕ) → IsDeclarationLine d line → is_event_line line ≡ false
+is_no_event d line is = ap is_event_word is.named ∙ ap is_none is.object
+
+-- what holds of all elements, by recursion over a list that is printed line by line
+each_line : {X : Type 0} (P : List ℕ → Type 0) (line : X → List ℕ) (xs : List X) → ((i : ℕ) (d : X) → i < length xs → P (line (get_or xs i d))) → AllByRecursion P (map line xs)
+each_line P line [] each = tt
+each_line P line (x ∷ xs) each = (each 0 x (omega arith), each_line P line xs (λ i d less. each (suc i) d (omega (arith, less))))
+
+joined_each : (P : List ℕ → Type 0) (xs ys : List (List ℕ)) → AllByRecursion P xs → AllByRecursion P ys → AllByRecursion P (xs ++ ys)
+joined_each P [] ys h k = k
+joined_each P (x ∷ xs) ys h k = (h.0, joined_each P xs ys h.1 k)
+
+-- what a scan of printed lines gives
+scan_none : {X Y : Type 0} (f : List ℕ → Option Y) (line : X → List ℕ) (xs : List X) → ((i : ℕ) (d : X) → i < length xs → f (line (get_or xs i d)) ≡ None) → filter_map f (map line xs) ≡ []
+scan_none f line [] each = refl
+scan_none f line (x ∷ xs) each = (λ j. cons_option (each 0 x (omega arith) j) (filter_map f (map line xs))) ∙ scan_none f line xs (λ i d less. each (suc i) d (omega (arith, less)))
+
+scan_some : {X Y : Type 0} (f : List ℕ → Option Y) (line : X → List ℕ) (g : X → Y) (xs : List X) → ((i : ℕ) (d : X) → i < length xs → f (line (get_or xs i d)) ≡ Some (g (get_or xs i d))) → filter_map f (map line xs) ≡ map g xs
+scan_some f line g [] each = refl
+scan_some f line g (x ∷ xs) each = λ j. cons_option (each 0 x (omega arith) j) (scan_some f line g xs (λ i d less. each (suc i) d (omega (arith, less))) j)
+
+-- an event that fits has no second place
+no_second : (decls : DeclsState) (e : Event) → fits decls e ≡ true → e.place2 ≡ None
+unfolding fits
+no_second decls e h = by (nat_lt e.who (count_of Kind.Goroutine decls.declarations)) (op_fits decls.declarations e.op) (nat_lt e.place (length decls.places)) e.place2 h
+  where
+    by : (a b c : Bool) (o : Option ℕ) → (a && b && c && is_none o) ≡ true → o ≡ None
+    by a b c None h = refl
+    by true true true (Some n) h = absurd (true≢false (sym h))
+    by true true false (Some n) h = absurd (true≢false (sym h))
+    by true false c (Some n) h = absurd (true≢false (sym h))
+    by false b c (Some n) h = absurd (true≢false (sym h))
+
+-- what an event is recorded as, by what its line says
+abbrev recorded_as : Occurrence → PlacedEvent
+recorded_as o = record { who = o.who; op = o.op; place = Some o.place; place2 = None }
+
+module _ (t : TraceState) (has : HasText t) where
+  abbrev ds : List Declaration
+  ds = t.decls.declarations
+
+  declaration_at : (i : ℕ) (d : Declaration) → i < length ds → IsDeclarationLine (get_or ds i d) (declaration_line (get_or ds i d))
+  declaration_at i d less = declaration_again (get_or ds i d) (has.well_formed.names i d less) (has.words i d less)
+
+  says_at : (i : ℕ) (e : Event) → i < length t.events → event_in ds (words_of (event_line t.decls (get_or t.events i e))) ≡ Some (said t.decls (get_or t.events i e))
+  says_at i e less = event_again t.decls has.well_formed (get_or t.events i e) (has.is_trace.fit i e less) (has.is_trace.values i e less)
+
+  event_at : (i : ℕ) (e : Event) → i < length t.events → IsEventLine ds (event_line t.decls (get_or t.events i e)) (said t.decls (get_or t.events i e))
+  event_at i e less = event_line_of t.decls (event_line t.decls (get_or t.events i e)) (said t.decls (get_or t.events i e)) has.well_formed (says_at i e less)
+
+  header_scanned : (declaration_in header ≡ None) × (event_in ds (words_of header) ≡ None)
+  unfolding word_named
+  header_scanned = (refl, refl)
+
+  -- no line has a bad byte, so the text is cut into its lines again
+  lines_clean : AllByRecursion (λ l. has_bad_byte l ≡ false) (lines t)
+  unfolding lines
+  lines_clean = (refl, joined_each (λ l. has_bad_byte l ≡ false) (map declaration_line ds) (map (event_line t.decls) t.events)
+      (each_line (λ l. has_bad_byte l ≡ false) declaration_line ds (λ i d less. (declaration_at i d less).clean))
+      (each_line (λ l. has_bad_byte l ≡ false) (event_line t.decls) t.events (λ i e less. (event_at i e less).clean)))
+
+  pub lines_again : parts_of (text t) ≡ lines t ++ [] ∷ []
+  unfolding text
+  lines_again = parts_again (lines t) lines_clean
+
+  -- the lines say the declarations and the events
+  declarations_again : filter_map declaration_in (lines t) ≡ ds
+  unfolding lines
+  declarations_again =
+      (λ j. cons_option (header_scanned.0 j) (filter_map declaration_in (map declaration_line ds ++ map (event_line t.decls) t.events)))
+      ∙ filter_map-append declaration_in (map declaration_line ds) (map (event_line t.decls) t.events)
+      ∙ (λ j. scan_some declaration_in declaration_line (λ d. d) ds (λ i d less. declares_again (get_or ds i d) (declaration_line (get_or ds i d)) (declaration_at i d less)) j
+      ++ scan_none declaration_in (event_line t.decls) t.events (λ i e less. (event_at i e less).declares) j)
+      ∙ append-nil _ ∙ map-id ds
+    where
+      map-id : (ds : List Declaration) → map (λ d. d) ds ≡ ds
+      map-id [] = refl
+      map-id (d ∷ ds) = ap (λ l. d ∷ l) (map-id ds)
+
+  events_again : filter_map (λ l. event_in ds (words_of l)) (lines t) ≡ map (said t.decls) t.events
+  unfolding lines
+  events_again =
+      (λ j. cons_option (header_scanned.1 j) (filter_map (λ l. event_in ds (words_of l)) (map declaration_line ds ++ map (event_line t.decls) t.events)))
+      ∙ filter_map-append (λ l. event_in ds (words_of l)) (map declaration_line ds) (map (event_line t.decls) t.events)
+      ∙ (λ j. scan_none (λ l. event_in ds (words_of l)) declaration_line ds (λ i d less. says_no_event ds (get_or ds i d) (declaration_line (get_or ds i d)) (declaration_at i d less)) j
+      ++ scan_some (λ l. event_in ds (words_of l)) (event_line t.decls) (said t.decls) t.events says_at j)
+
+  recorded_again : (events : List Event) → ((i : ℕ) (e : Event) → i < length events → fits t.decls (get_or events i e) ≡ true) → map recorded_as (map (said t.decls) events) ≡ map (placed t.decls.places) events
+  recorded_again [] fit = refl
+  recorded_again (e ∷ es) fit = λ j. one e (fit 0 e (omega arith)) j ∷ recorded_again es (λ i e less. fit (suc i) e (omega (arith, less))) j
+    where
+      one : (e : Event) → fits t.decls e ≡ true → recorded_as (said t.decls e) ≡ placed t.decls.places e
+      one e fit =
+          let at = slice_get-get_or t.decls.places e.place [] (fit_place t.decls e fit) in
+          λ j. record { who = e.who; op = e.op; place = (ap (λ o. Some (unwrap_or o [])) at ∙ sym at) j; place2 = sym (ap (option_and_then (slice_get t.decls.places)) (no_second t.decls e fit)) j }
+
+  pub placed_again : map recorded_as (filter_map (λ l. event_in ds (words_of l)) (lines t)) ≡ placed_events t
+  placed_again = ap (map recorded_as) events_again ∙ recorded_again t.events (λ i e less. has.is_trace.fit i e less)
+
+-- equal texts come from equal traces
+pub equal_texts : (t u : TraceState) → HasText t → HasText u → text t ≡ text u → recorded t ≡ recorded u
+equal_texts t u has other same =
+    let cut : lines t ≡ lines u = append_cancel_right (lines t) (lines u) ([] ∷ []) (sym (lines_again t has) ∙ ap parts_of same ∙ lines_again u other) in
+    let declared : t.decls.declarations ≡ u.decls.declarations = sym (declarations_again t has) ∙ ap (filter_map declaration_in) cut ∙ declarations_again u other in
+    λ j. record {
+      declarations = declared j;
+      events = (sym (placed_again t has) ∙ (λ k. map recorded_as (filter_map (λ l. event_in (declared k) (words_of l)) (cut k))) ∙ placed_again u other) j;
+    }

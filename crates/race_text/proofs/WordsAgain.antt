@@ -1,0 +1,54 @@
+-- What was joined is cut again: the words of a line, and the lines of a text.
+use Rattle.std.proofs.Common.{◌≡◌, ℕ, ◌==◌, Bool, true, false, List, [], ◌∷◌, ◌++◌, get_or, All, refl, sym, ap, ◌∙◌, arith, true≢false, append_assoc}
+use Rattle.std.proofs.lemmas.Bool.Decides.{nat_tests}
+use Rattle.std.proofs.lemmas.List.Concat.{flat_map-cons}
+use Rattle.std.proofs.lemmas.List.Folds.{list_any_at}
+use Rattle.std.proofs.lemmas.List.Splits.{slice_split_none, slice_split_at}
+use Rattle.std.proofs.lemmas.List.Sums.{AllPass-from_list_all}
+use Rattle.std.specs.List.{list_all, AllByRecursion, flat_map}
+use Rattle.race_records.specs.Name.{is_place_byte}
+use Rattle.race_text.specs.Words.{parts_of, words_of, is_bad_byte, has_bad_byte}
+use Rattle.race_text.specs.Text.{line_of, ended}
+use Rattle.race_text.proofs.CleanLemmas.{joined_clean, visible_clean}
+
+-- the byte is nowhere in the list
+abbrev IsWithout : ℕ → List ℕ → Type 0
+IsWithout byte bytes = All (λ b. (b == byte) ≡ false) bytes
+
+without_space : (word : List ℕ) → list_all is_place_byte word ≡ true → IsWithout 32 word
+without_space word visible = λ i d within. let v = AllPass-from_list_all is_place_byte word visible i d within in grind (arith, nat_tests, v)
+
+without_newline : (line : List ℕ) → has_bad_byte line ≡ false → IsWithout 10 line
+without_newline line clean = λ i d within. fine (get_or line i d) (by (is_bad_byte (get_or line i d)) (list_any_at is_bad_byte line i d within))
+  where
+    by : (b : Bool) → (b ≡ true → has_bad_byte line ≡ true) → b ≡ false
+    by true h = absurd (true≢false (sym (h refl) ∙ clean))
+    by false h = refl
+
+    fine : (byte : ℕ) → is_bad_byte byte ≡ false → (byte == 10) ≡ false
+    fine byte h = grind (arith, nat_tests)
+
+-- each byte of each word can be seen
+abbrev pub AreVisible : List (List ℕ) → Type 0
+AreVisible words = AllByRecursion (λ w. list_all is_place_byte w ≡ true) words
+
+-- words that can be seen are the words of their line
+pub words_again : (w : List ℕ) (ws : List (List ℕ)) → AreVisible (w ∷ ws) → words_of (line_of (w ∷ ws)) ≡ w ∷ ws
+words_again w [] visible = slice_split_none (λ byte. byte == 32) w (without_space w visible.0)
+words_again w (v ∷ ws) visible = slice_split_at (λ byte. byte == 32) w 32 (line_of (v ∷ ws)) (without_space w visible.0) refl ∙ ap (λ l. w ∷ l) (words_again v ws visible.1)
+
+-- and the line has no bad byte
+pub visible_line_clean : (ws : List (List ℕ)) → AreVisible ws → has_bad_byte (line_of ws) ≡ false
+visible_line_clean ws visible = joined_clean ws (each ws visible)
+  where
+    each : (ws : List (List ℕ)) → AreVisible ws → AllByRecursion (λ w. has_bad_byte w ≡ false) ws
+    each [] visible = tt
+    each (w ∷ ws) visible = (visible_clean w visible.0, each ws visible.1)
+
+-- lines without bad bytes are the parts of their text, before an empty one
+pub parts_again : (ls : List (List ℕ)) → AllByRecursion (λ l. has_bad_byte l ≡ false) ls → parts_of (flat_map ended ls) ≡ ls ++ [] ∷ []
+parts_again [] clean = refl
+parts_again (l ∷ ls) clean =
+    ap parts_of (flat_map-cons ended l ls ∙ append_assoc l (10 ∷ []) (flat_map ended ls))
+    ∙ slice_split_at (λ byte. byte == 10) l 10 (flat_map ended ls) (without_newline l clean.0) refl
+    ∙ ap (λ ps. l ∷ ps) (parts_again ls clean.1)

@@ -17,7 +17,9 @@ pub mod EventsAgain
 pub mod WritingLemmas
 pub mod PieceLemmas
 pub mod ShortLemmas
-pub mod TextLaws
 pub mod ReaderLemmas
 pub mod ParseLemmas
+pub mod TextLaws
+pub mod TextFine
+pub mod Scanning
 pub mod ExampleRows

@@ -15,7 +15,7 @@ use Rattle.race_records.specs.Declarations.{Declaration, DeclsState, IsWellForme
 use Rattle.race_records.proofs.ListLemmas.{slice_get-within}
 use Rattle.race_text.specs.Text.{goroutine_name, var_name}
 
-differ : (a b : List ℕ) → a ≢ b → bytes_eq a b ≡ false
+pub differ : (a b : List ℕ) → a ≢ b → bytes_eq a b ≡ false
 differ a b other = by (bytes_eq a b) refl
   where
     by : (t : Bool) → bytes_eq a b ≡ t → t ≡ false

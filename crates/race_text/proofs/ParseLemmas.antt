@@ -21,14 +21,14 @@ abbrev told : ℕ → TextCause → TextFault
 told line c = record { line = line; cause = c }
 
 -- a part behind which another stands
-fault_step : (before : List (List ℕ)) (line : List ℕ) (parts : List (List ℕ)) → 0 < length parts
+pub fault_step : (before : List (List ℕ)) (line : List ℕ) (parts : List (List ℕ)) → 0 < length parts
     → fault_after before (line ∷ parts) ≡ or_later (length before + 1) (cause before line true) (fault_after (before ++ line ∷ []) parts)
 unfolding fault_after
 fault_step before line [] h = absurd (omega arith)
 fault_step before line (next ∷ others) h = refl
 
 -- the last part
-fault_end : (before : List (List ℕ)) (last : List ℕ) → fault_after before (last ∷ []) ≡ or_later (length before + 1) (end_cause before last) None
+pub fault_end : (before : List (List ℕ)) (last : List ℕ) → fault_after before (last ∷ []) ≡ or_later (length before + 1) (end_cause before last) None
 unfolding fault_after
 fault_end before last = by ((length last == 0) && nat_lt 0 (length before))
   where
@@ -59,14 +59,14 @@ unended [] last h = by (bytes_eq last header) h
     by false h = none-some TextCause.BadHeader (sym h)
 unended (first ∷ before) last h = none-some TextCause.NoNewline (sym h)
 
-end_empty : (before : List (List ℕ)) (last : List ℕ) → end_cause before last ≡ None → (length last ≡ 0) × (0 < length before)
+pub end_empty : (before : List (List ℕ)) (last : List ℕ) → end_cause before last ≡ None → (length last ≡ 0) × (0 < length before)
 end_empty before last h = by ((length last == 0) && nat_lt 0 (length before)) refl h
   where
     by : (b : Bool) → ((length last == 0) && nat_lt 0 (length before)) ≡ b → (if b then None else cause before last false) ≡ None → (length last ≡ 0) × (0 < length before)
     by true e h = let p = both (length last == 0) (nat_lt 0 (length before)) e in let a = p.0 in let b = p.1 in (grind (arith, nat_tests, a), grind (arith, nat_tests, b))
     by false e h = absurd (unended before last h)
 
-no_bytes : (last : List ℕ) → length last ≡ 0 → last ≡ []
+pub no_bytes : (last : List ℕ) → length last ≡ 0 → last ≡ []
 no_bytes [] h = refl
 no_bytes (b ∷ bs) h = absurd (omega (arith, h))
 

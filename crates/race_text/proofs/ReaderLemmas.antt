@@ -1,10 +1,11 @@
 -- The header, and lines that declare.
-use Rattle.std.proofs.Common.{◌≡◌, ◌≢◌, ℕ, ◌≤◌, length, Bool, true, false, not, if◌then◌else◌, List, [], ◌∷◌, ◌++◌, Option, Some, None, Result, Ok, Err, IfOk, refl, sym, ap, subst, ◌∙◌, arith, true≢false}
+use Rattle.std.proofs.Common.{◌≡◌, ◌≢◌, ℕ, ◌≤◌, length, Bool, true, false, not, if◌then◌else◌, List, [], ◌∷◌, ◌++◌, Option, Some, None, Result, Ok, Err, IfOk, IsTrue, refl, sym, ap, subst, ◌∙◌, arith, true≢false}
 use Rattle.std.proofs.lemmas.List.Splits.{join_with_byte-slice_split}
 use Rattle.std.proofs.lemmas.Option.{none-some}
 use Rattle.std.proofs.lemmas.Slice.Eq.{bytes_eq-Decides}
 use Rattle.std.specs.Option.{option_map}
 use Rattle.std.specs.Str.{bytes_eq}
+use Rattle.race_records.specs.declared.declarations.DeclFault.{DeclFault}
 use Rattle.race_records.specs.declared.kind.Object.{Object}
 use Rattle.race_records.specs.Declarations.{Declaration, DeclsState, decl_fault, with_declaration}
 use Rattle.race_records.specs.Events.{TraceState}
@@ -12,7 +13,7 @@ use Rattle.race_records.specs.Refusal.{Refuses, AllowsUnless}
 use Rattle.race_text.specs.declared.cause.TextCause.{TextCause}
 use Rattle.race_text.specs.declared.form.Word.{Word}
 use Rattle.race_text.specs.Words.{words_of, has_bad_byte}
-use Rattle.race_text.specs.Text.{header, line_of, declaration_line, lines}
+use Rattle.race_text.specs.Text.{header, line_of, declaration_line, has_words, lines}
 use Rattle.race_text.specs.Form.{word_named, first_word, arguments}
 use Rattle.race_text.specs.Fault.{seen, seen_so_far, or_else, cause, word_cause, declaration_in, is_event_line, is_event_word, declared_as}
 use Rattle.race_text.specs.Declaring.{is_declaration_line, is_declaration_word, declaration_cause, only_name_cause, cause_of, with_declared, with_declaration_in}
@@ -34,11 +35,11 @@ header_fine : (line : List ℕ) → bytes_eq line header ≡ true → cause [] l
 unfolding cause
 header_fine line h = ap (λ b. if not b then Some TextCause.BadHeader else None) h
 
-header_lines : lines (begun empty) ≡ header ∷ []
+pub header_lines : lines (begun empty) ≡ header ∷ []
 unfolding lines
 header_lines = refl
 
-header_says : seen (header ∷ []) ≡ seen_so_far [] 0
+pub header_says : seen (header ∷ []) ≡ seen_so_far [] 0
 unfolding seen word_named
 header_says = refl
 
@@ -54,15 +55,22 @@ header_reading decls trace reading =
     (record { seen_is = ap seen header_lines ∙ header_says; few_places = omega arith })
 
 -- a line that declares, and is not refused
-pub record IsDeclaration (line : List ℕ) : Type 0 where
+pub record IsDeclaration (ds : List Declaration) (line : List ℕ) : Type 0 where
   pub d : Declaration
   pub is : declaration_in line ≡ Some d
   pub text : line ≡ declaration_line d
   pub event : is_event_line line ≡ false
+  pub fine : decl_fault ds d.object d.name ≡ None
+  pub words : IsTrue (has_words d.object)
 
 or_else_nothing : (a b : Option TextCause) → or_else a b ≡ None → a ≡ None
 or_else_nothing None b h = refl
 or_else_nothing (Some c) b h = absurd (none-some c (sym h))
+
+no_fault : (a : Option TextCause) (fault : Option DeclFault) → or_else a (option_map cause_of fault) ≡ None → fault ≡ None
+no_fault None None h = refl
+no_fault None (Some f) h = absurd (none-some (cause_of f) (sym h))
+no_fault (Some c) fault h = absurd (none-some c (sym h))
 
 one_word : (args : List (List ℕ)) → only_name_cause args ≡ None → (name : List ℕ) × (args ≡ name ∷ [])
 one_word [] h = absurd (none-some TextCause.WrongCount (sym h))
@@ -76,23 +84,29 @@ module _ (ds : List Declaration) (line first : List ℕ) (args : List (List ℕ)
   named_line : (word : Word) → word_named first ≡ Some word → word_named (first_word (words_of line)) ≡ Some word
   named_line word named = ap (λ ws. word_named (first_word ws)) words ∙ named
 
-  by_word : (word : Option Word) → word_named first ≡ word → is_declaration_word word ≡ true → declaration_cause ds line ≡ None → IsDeclaration line
+  by_word : (word : Option Word) → word_named first ≡ word → is_declaration_word word ≡ true → declaration_cause ds line ≡ None → IsDeclaration ds line
   by_word None named h none = absurd (true≢false (sym h))
   by_word (Some Word.Goroutine) named h none =
-      let one = one_word args (or_else_nothing (only_name_cause args) (option_map cause_of (decl_fault ds Object.Goroutine (first_word args))) (sym (goroutine_line ds line first args words named) ∙ none)) in
+      let nothing = sym (goroutine_line ds line first args words named) ∙ none in
+      let one = one_word args (or_else_nothing (only_name_cause args) (option_map cause_of (decl_fault ds Object.Goroutine (first_word args))) nothing) in
       record {
         d = record { name = one.0; object = Object.Goroutine };
         is = declaration_in-words line first args (Some Word.Goroutine) words (sym named) ∙ (λ i. declared_as (Some Object.Goroutine) (one.1 i));
         text = joined ∙ (λ i. line_of (word_spelled first Word.Goroutine named i ∷ one.1 i));
         event = ap is_event_word (named_line Word.Goroutine named);
+        fine = ap (λ ws. decl_fault ds Object.Goroutine (first_word ws)) (sym one.1) ∙ no_fault (only_name_cause args) (decl_fault ds Object.Goroutine (first_word args)) nothing;
+        words = refl;
       }
   by_word (Some Word.Var) named h none =
-      let one = one_word args (or_else_nothing (only_name_cause args) (option_map cause_of (decl_fault ds Object.Var (first_word args))) (sym (var_line ds line first args words named) ∙ none)) in
+      let nothing = sym (var_line ds line first args words named) ∙ none in
+      let one = one_word args (or_else_nothing (only_name_cause args) (option_map cause_of (decl_fault ds Object.Var (first_word args))) nothing) in
       record {
         d = record { name = one.0; object = Object.Var };
         is = declaration_in-words line first args (Some Word.Var) words (sym named) ∙ (λ i. declared_as (Some Object.Var) (one.1 i));
         text = joined ∙ (λ i. line_of (word_spelled first Word.Var named i ∷ one.1 i));
         event = ap is_event_word (named_line Word.Var named);
+        fine = ap (λ ws. decl_fault ds Object.Var (first_word ws)) (sym one.1) ∙ no_fault (only_name_cause args) (decl_fault ds Object.Var (first_word args)) nothing;
+        words = refl;
       }
   by_word (Some Word.Go) named h none = absurd (true≢false (sym h))
   by_word (Some Word.Exit) named h none = absurd (true≢false (sym h))
@@ -103,20 +117,20 @@ no_first : word_named [] ≡ None
 unfolding word_named
 no_first = refl
 
-declaration_of_line : (ds : List Declaration) (line : List ℕ) → is_declaration_line line ≡ true → declaration_cause ds line ≡ None → IsDeclaration line
+pub declaration_of_line : (ds : List Declaration) (line : List ℕ) → is_declaration_line line ≡ true → declaration_cause ds line ≡ None → IsDeclaration ds line
 declaration_of_line ds line h none = by (words_of line) refl h
   where
-    by : (ws : List (List ℕ)) → words_of line ≡ ws → is_declaration_word (word_named (first_word ws)) ≡ true → IsDeclaration line
+    by : (ws : List (List ℕ)) → words_of line ≡ ws → is_declaration_word (word_named (first_word ws)) ≡ true → IsDeclaration ds line
     by [] e h = absurd (true≢false (sym h ∙ ap is_declaration_word no_first))
     by (first ∷ args) e h = by_word ds line first args e (word_named first) refl h none
 
 -- a declaration that was read, or refused
 module _ (old new : DeclsState) (line : List ℕ) (read : IsRead (begun old)) (clean : has_bad_byte line ≡ false) where
-  cause_of_line : is_declaration_line line ≡ true → cause (lines (begun old)) line true ≡ declaration_cause old.declarations line
+  pub cause_of_line : is_declaration_line line ≡ true → cause (lines (begun old)) line true ≡ declaration_cause old.declarations line
   cause_of_line h = cause_behind (begun old) line read ∙ clean_line (state_of (begun old)) line clean
       ∙ sym (ap (λ b. if b then word_cause (seen_so_far old.declarations 0) (word_named (first_word (words_of line))) (arguments (words_of line)) else None) h)
 
-  taken_declaration : is_declaration_line line ≡ true → declaration_cause old.declarations line ≡ None → new ≡ with_declaration_in old line → TakesLine (lines (begun old)) line (begun new)
+  pub taken_declaration : is_declaration_line line ≡ true → declaration_cause old.declarations line ≡ None → new ≡ with_declaration_in old line → TakesLine (lines (begun old)) line (begun new)
   taken_declaration h none added =
       let is = declaration_of_line old.declarations line h none in
       let new_is : new ≡ with_declaration old is.d.name is.d.object = added ∙ ap (with_declared old) is.is in

@@ -120,7 +120,7 @@ module _ (t : TraceState) (has : HasText t) where
   says_at : (i : ℕ) (e : Event) → i < length t.events → event_in ds (words_of (event_line t.decls (get_or t.events i e))) ≡ Some (said t.decls (get_or t.events i e))
   says_at i e less = event_again t.decls has.well_formed (get_or t.events i e) (has.is_trace.fit i e less) (has.is_trace.values i e less)
 
-  event_at : (i : ℕ) (e : Event) → i < length t.events → IsEventLine ds (event_line t.decls (get_or t.events i e)) (said t.decls (get_or t.events i e))
+  pub event_at : (i : ℕ) (e : Event) → i < length t.events → IsEventLine ds (event_line t.decls (get_or t.events i e)) (said t.decls (get_or t.events i e))
   event_at i e less = event_line_of t.decls (event_line t.decls (get_or t.events i e)) (said t.decls (get_or t.events i e)) has.well_formed (says_at i e less)
 
   header_scanned : (declaration_in header ≡ None) × (event_in ds (words_of header) ≡ None)

@@ -180,7 +180,7 @@ clean_line s line clean = ap (λ b. if b then Some TextCause.BadByte else word_c
 
 -- an event that was appended, or refused
 module _ (old new : TraceState) (line : List ℕ) (o : Occurrence) (read : IsRead old) (holds : IsTrace old) (is : IsEventLine old.decls.declarations line o) where
-  event_cause : cause (lines old) line true ≡ room_cause (state_of old) None
+  pub event_cause : cause (lines old) line true ≡ room_cause (state_of old) None
   event_cause = cause_behind old line read ∙ clean_line (state_of old) line is.clean ∙ is.cause_is (length old.events)
 
   room_is : (b : Bool) → nat_le MAX_EVENTS (length old.events) ≡ b → cause (lines old) line true ≡ (if b then Some TextCause.TooMany else None)

@@ -1,0 +1,228 @@
+-- Bytes without a fault are some trace's text: line by line, each is taken into a trace.
+use Rattle.std.proofs.Common.{◌≡◌, ℕ, ◌+◌, ◌*◌, ◌^◌, ◌-◌, ◌<◌, ◌≤◌, ◌&&◌, Bool, true, false, not, nat_le, nat_lt, ◌==◌, if◌then◌else◌, List, [], ◌∷◌, ◌++◌, length, map, Option, Some, None, IsTrue, refl, sym, ap, subst, ◌∙◌, arith, true≢false, append-nil, append_assoc}
+use Rattle.std.proofs.lemmas.Bool.Decides.{nat_tests}
+use Rattle.std.proofs.lemmas.Grind.{flat_map-append}
+use Rattle.std.proofs.lemmas.List.Elements.{All-push}
+use Rattle.std.proofs.lemmas.List.Splits.{join_with_byte-slice_split, length-slice_split}
+use Rattle.std.proofs.lemmas.Option.{none-some, same_Some}
+use Rattle.std.proofs.lemmas.Slice.Eq.{bytes_eq-Decides}
+use Rattle.std.specs.Fmt.{decimal}
+use Rattle.std.specs.List.{flat_map, join_with_byte}
+use Rattle.std.specs.Str.{bytes_eq}
+use Rattle.std.specs.Str.Parse.{digits_value}
+use Rattle.race_records.specs.declared.event.Event.{Event}
+use Rattle.race_records.specs.declared.event.Op.TheVariants.{Read, Write}
+use Rattle.race_records.specs.declared.trace.TheConstants.{MAX_EVENTS}
+use Rattle.race_records.specs.Name.{is_place}
+use Rattle.race_records.specs.Declarations.{Declaration, DeclsState, IsWellFormed, is_known, place_fault, with_place, with_declaration}
+use Rattle.race_records.specs.Events.{TraceState, IsTrace, fits, value_fits}
+use Rattle.race_records.proofs.DeclFaultLemmas.{allowed_from_no_fault}
+use Rattle.race_records.proofs.DeclsKept.{empty_well_formed, push_well_formed}
+use Rattle.race_records.proofs.EventLemmas.{push_is_trace, with_place_is_trace}
+use Rattle.race_records.proofs.PlaceLemmas.{allowed_from_no_place_fault, place_well_formed}
+use Rattle.race_text.specs.declared.cause.TextCause.{TextCause}
+use Rattle.race_text.specs.declared.cause.TextFault.{TextFault}
+use Rattle.race_text.specs.declared.form.Word.{Word}
+use Rattle.race_text.specs.Words.{parts_of, words_of, has_bad_byte, number}
+use Rattle.race_text.specs.Text.{header, ended, event_line, has_words, lines, text}
+use Rattle.race_text.specs.Form.{word_named}
+use Rattle.race_text.specs.Fault.{seen, seen_so_far, line_cause, cause, or_later, fault_after, text_fault}
+use Rattle.race_text.specs.Declaring.{is_declaration_line, declaration_cause, with_declared}
+use Rattle.race_text.specs.Laws.{HasText, IsTraceText}
+use Rattle.race_text.specs.Reading.{Occurrence, event_by, event_in}
+use Rattle.race_text.specs.Reader.{end_cause}
+use Rattle.race_text.specs.Taking.{state_of, IsRead, begun, event_of}
+use Rattle.race_text.proofs.EventLines.{event_line as event_line_of}
+use Rattle.race_text.proofs.EventWords.{is_go, is_exit, is_access}
+use Rattle.race_text.proofs.ParseLemmas.{fault_step, fault_end, end_empty, no_bytes}
+use Rattle.race_text.proofs.ReaderLemmas.{header_lines, header_says, declaration_of_line, cause_of_line, taken_declaration}
+use Rattle.race_text.proofs.TraceLemmas.{cause_behind, bad_byte_is_told, no_event_is_told, event_cause, event_taken, event_fits, event_has_room, place_has_room}
+
+-- a number that is read is in its limit
+number_within : (limit : ℕ) (w : List ℕ) (n : ℕ) → number limit w ≡ Some n → n ≤ limit
+unfolding number
+number_within limit w n h = by (bytes_eq w (decimal (digits_value 10 w))) (nat_le (digits_value 10 w) limit) refl h
+  where
+    by : (b c : Bool) → nat_le (digits_value 10 w) limit ≡ c → (if b && c then Some (digits_value 10 w) else None) ≡ Some n → n ≤ limit
+    by true true e h = let same = same_Some (digits_value 10 w) n h in subst (λ k. k ≤ limit) same (grind (arith, nat_tests))
+    by true false e h = absurd (none-some n h)
+    by false c e h = absurd (none-some n h)
+
+value_within : (w : List ℕ) (v : ℕ) (b : Bool) → number (2 ^ 64 - 1) w ≡ Some v → nat_lt v (2 ^ 64) ≡ b → b ≡ true
+value_within w v true h e = refl
+value_within w v false h e = let low = number_within (2 ^ 64 - 1) w v h in absurd (grind (arith, nat_tests, low))
+
+-- a value that is said is a u64
+value_said : (ds : List Declaration) (ws : List (List ℕ)) (o : Occurrence) → event_in ds ws ≡ Some o → value_fits o.op ≡ true
+value_said ds [] o h = absurd (none-some o h)
+value_said ds (first ∷ args) o h = by (word_named first) h
+  where
+    by : (word : Option Word) → event_by ds word args ≡ Some o → value_fits o.op ≡ true
+    by None h = absurd (none-some o h)
+    by (Some Word.Goroutine) h = absurd (none-some o h)
+    by (Some Word.Var) h = absurd (none-some o h)
+    by (Some Word.Go) h = let is = is_go ds args o h in ap value_fits is.op_is
+    by (Some Word.Exit) h = let is = is_exit ds args o h in ap value_fits is.op_is
+    by (Some Word.Read) h = let is = is_access ds args o Read h in ap value_fits is.op_is ∙ value_within is.value is.v (nat_lt is.v (2 ^ 64)) is.value_is refl
+    by (Some Word.Write) h = let is = is_access ds args o Write h in ap value_fits is.op_is ∙ value_within is.value is.v (nat_lt is.v (2 ^ 64)) is.value_is refl
+
+-- the table of places with one more, which may be known
+place_kept : (decls : DeclsState) (word : List ℕ) → IsWellFormed decls → place_fault decls.places word ≡ None → IsWellFormed (with_place decls word)
+place_kept decls word holds none = by (is_known decls.places word) refl
+  where
+    by : (b : Bool) → is_known decls.places word ≡ b → IsWellFormed (record { declarations = decls.declarations; places = if b then decls.places else decls.places ++ word ∷ [] })
+    by true e = holds
+    by false e = place_well_formed decls word holds e (allowed_from_no_place_fault decls.places word e none)
+
+-- a trace with one more line
+record IsNext (t : TraceState) (line : List ℕ) : Type 0 where
+  next : TraceState
+  has : HasText next
+  read : IsRead next
+  lines_are : lines next ≡ lines t ++ line ∷ []
+
+module _ (t : TraceState) (has : HasText t) (read : IsRead t) (line : List ℕ) (none : cause (lines t) line true ≡ None) where
+  abbrev ds : List Declaration
+  ds = t.decls.declarations
+
+  with_event : (o : Occurrence) → event_in ds (words_of line) ≡ Some o → IsNext t line
+  with_event o says =
+      let is = event_line_of t.decls line o has.well_formed says in
+      let decls = with_place t.decls o.place in
+      let e = event_of t.decls.places o in
+      let next : TraceState = record { decls = decls; events = t.events ++ e ∷ []; spare = 0 } in
+      let room : length t.events < MAX_EVENTS = by (nat_le MAX_EVENTS (length t.events)) refl (sym (event_cause t next line o read has.is_trace is) ∙ none) in
+      let few = read.few_places in
+      let taken = event_taken t next line o read has.is_trace is (record { room = room; decls = refl; events = refl }) in
+      let mid : TraceState = record { decls = decls; events = t.events; spare = t.spare } in
+      let fit = event_fits t.decls o (record { place = is.place; who = is.who; op = is.op }) in
+      record {
+        next = next;
+        has = record {
+          well_formed = place_kept t.decls o.place has.well_formed (place_has_room t o.place is.place few room);
+          is_trace = push_is_trace mid e (t.events ++ e ∷ []) 0 (with_place_is_trace t o.place decls has.is_trace refl) (value_said ds (words_of line) o says) (event_has_room mid e fit room) refl;
+          words = has.words;
+        };
+        read = taken.is_read;
+        lines_are = taken.lines;
+      }
+    where
+      by : (b : Bool) → nat_le MAX_EVENTS (length t.events) ≡ b → (if b then Some TextCause.TooMany else None) ≡ None → length t.events < MAX_EVENTS
+      by true e h = absurd (none-some TextCause.TooMany (sym h))
+      by false e h = grind (arith, nat_tests)
+
+  is_clean : has_bad_byte line ≡ false
+  is_clean = by (has_bad_byte line) refl
+    where
+      by : (b : Bool) → has_bad_byte line ≡ b → b ≡ false
+      by true bad = absurd (none-some TextCause.BadByte (sym (sym (cause_behind t line read ∙ bad_byte_is_told (state_of t) line bad) ∙ none)))
+      by false e = refl
+
+  lines_begun : t.events ≡ [] → lines (begun t.decls) ≡ lines t
+  unfolding lines
+  lines_begun e = λ i. lines (record { decls = t.decls; events = sym e i; spare = 0 })
+
+  with_declared_line : t.events ≡ [] → is_declaration_line line ≡ true → IsNext t line
+  with_declared_line empty declares =
+      let same = lines_begun empty in
+      let before : IsRead (begun t.decls) = record {
+        seen_is = ap seen same ∙ read.seen_is ∙ (λ i. seen_so_far ds (length (empty i)));
+        few_places = subst (λ (es : List Event). length t.decls.places ≤ 2 * length es) empty read.few_places;
+      } in
+      let fine = sym (cause_of_line t.decls t.decls line before is_clean declares) ∙ ap (λ ls. cause ls line true) same ∙ none in
+      let is = declaration_of_line ds line declares fine in
+      let new = with_declaration t.decls is.d.name is.d.object in
+      let taken = taken_declaration t.decls new line before is_clean declares fine (sym (ap (with_declared t.decls) is.is)) in
+      record {
+        next = begun new;
+        has = record {
+          well_formed = push_well_formed t.decls has.well_formed is.d.name is.d.object (allowed_from_no_fault ds is.d.object is.d.name is.fine);
+          is_trace = record { fit = λ i d less. absurd (omega (arith, less)); values = λ i d less. absurd (omega (arith, less)); limited = omega arith };
+          words = All-push (λ (d : Declaration). IsTrue (has_words d.object)) ds is.d has.words is.words;
+        };
+        read = taken.is_read;
+        lines_are = taken.lines ∙ ap (λ ls. ls ++ line ∷ []) same;
+      }
+
+  told_none : line_cause (seen_so_far ds (length t.events)) line ≡ None
+  told_none = sym (cause_behind t line read) ∙ none
+
+  with_line : IsNext t line
+  with_line = by (event_in ds (words_of line)) refl (is_declaration_line line) refl t.events refl
+    where
+      by : (o : Option Occurrence) → event_in ds (words_of line) ≡ o → (b : Bool) → is_declaration_line line ≡ b → (es : List Event) → t.events ≡ es → IsNext t line
+      by (Some o) says b declares es are = with_event o says
+      by None says false declares es are = absurd (no_event_is_told ds (length t.events) line says (λ h. absurd (true≢false (sym h ∙ declares))) told_none)
+      by None says true declares [] are = with_declared_line are declares
+      by None says true declares (e ∷ es) are = absurd (no_event_is_told ds (length t.events) line says (λ _. let l = ap length are in omega (arith, l)) told_none)
+
+-- where a fault is none, neither the first cause is one, nor a later fault
+or_later_none : (n : ℕ) (o : Option TextCause) (later : Option TextFault) → or_later n o later ≡ None → (o ≡ None) × (later ≡ None)
+or_later_none n None later h = (refl, h)
+or_later_none n (Some c) later h = absurd (none-some (record { line = n; cause = c }) (sym h))
+
+-- the parts that are left, behind the lines of a trace
+scanned : (parts : List (List ℕ)) (t : TraceState) → HasText t → IsRead t → 0 < length parts → fault_after (lines t) parts ≡ None
+    → (u : TraceState) × HasText u × (flat_map ended (lines u) ≡ flat_map ended (lines t) ++ join_with_byte 10 parts)
+scanned [] t has read some none = absurd (omega (arith, some))
+scanned (last ∷ []) t has read some none =
+    let empty = end_empty (lines t) last (or_later_none (length (lines t) + 1) (end_cause (lines t) last) None (sym (fault_end (lines t) last) ∙ none)).0 in
+    (t, has, sym (ap (λ l. flat_map ended (lines t) ++ l) (no_bytes last empty.0) ∙ append-nil (flat_map ended (lines t))))
+scanned (line ∷ part ∷ others) t has read some none =
+    let parts = part ∷ others in
+    let split = or_later_none (length (lines t) + 1) (cause (lines t) line true) (fault_after (lines t ++ line ∷ []) parts) (sym (fault_step (lines t) line parts (omega arith)) ∙ none) in
+    let next = with_line t has read line split.0 in
+    let rest = scanned (part ∷ others) next.next next.has next.read (omega arith) (ap (λ ls. fault_after ls parts) next.lines_are ∙ split.1) in
+    let front = flat_map ended (lines t) in
+    (
+      rest.0,
+      rest.1,
+      rest.2 ∙ ap (λ ls. flat_map ended ls ++ join_with_byte 10 parts) next.lines_are
+      ∙ ap (λ l. l ++ join_with_byte 10 parts) (flat_map-append ended (lines t) (line ∷ []) ∙ ap (λ l. front ++ l) (append-nil (ended line)))
+      ∙ append_assoc front (ended line) (join_with_byte 10 parts)
+      ∙ ap (λ l. front ++ l) (append_assoc line (10 ∷ []) (join_with_byte 10 parts)),
+    )
+
+-- the trace that the header begins
+abbrev empty_trace : TraceState
+empty_trace = begun (record { declarations = []; places = [] })
+
+empty_has_text : HasText empty_trace
+empty_has_text = record {
+  well_formed = empty_well_formed;
+  is_trace = record { fit = λ i d less. absurd (omega (arith, less)); values = λ i d less. absurd (omega (arith, less)); limited = omega arith };
+  words = λ i d less. absurd (omega (arith, less));
+}
+
+empty_is_read : IsRead empty_trace
+empty_is_read = record { seen_is = ap seen header_lines ∙ header_says; few_places = omega arith }
+
+-- the first line is the header
+is_header : (line : List ℕ) → cause [] line true ≡ None → line ≡ header
+unfolding cause
+is_header line h = by (bytes_eq line header) refl h
+  where
+    by : (b : Bool) → bytes_eq line header ≡ b → (if not b then Some TextCause.BadHeader else None) ≡ None → line ≡ header
+    by true e h = (bytes_eq-Decides line header).0 e
+    by false e h = absurd (none-some TextCause.BadHeader (sym h))
+
+pub faultless_is_text : (bytes : List ℕ) → text_fault bytes ≡ None → IsTraceText bytes
+unfolding text_fault text
+faultless_is_text bytes none = by (parts_of bytes) refl none
+  where
+    by : (parts : List (List ℕ)) → parts_of bytes ≡ parts → fault_after [] parts ≡ None → IsTraceText bytes
+    by [] e h = let some = sym (ap length e) ∙ length-slice_split (λ b. b == 10) bytes in absurd (omega (arith, some))
+    by (last ∷ []) e h =
+        let empty = end_empty [] last (or_later_none 1 (end_cause [] last) None (sym (fault_end [] last) ∙ h)).0 in
+        let some = empty.1 in
+        absurd (omega (arith, some))
+    by (line ∷ part ∷ others) e h =
+        let parts = part ∷ others in
+        let split = or_later_none 1 (cause [] line true) (fault_after (line ∷ []) parts) (sym (fault_step [] line parts (omega arith)) ∙ h) in
+        let first = is_header line split.0 in
+        let rest = scanned parts empty_trace empty_has_text empty_is_read (omega arith) (ap (λ ls. fault_after ls parts) (header_lines ∙ (λ i. sym first i ∷ [])) ∙ split.1) in
+        (
+          rest.0,
+          rest.1,
+          sym (join_with_byte-slice_split 10 bytes) ∙ ap (join_with_byte 10) e ∙ (λ i. first i ++ 10 ∷ join_with_byte 10 parts) ∙ sym (rest.2 ∙ ap (λ ls. flat_map ended ls ++ join_with_byte 10 parts) header_lines),
+        )

@@ -1,0 +1,210 @@
+-- The text of a trace has no fault.
+use Rattle.std.proofs.Common.{◌≡◌, ◌≢◌, ℕ, suc, ◌+◌, ◌<◌, ◌≤◌, Bool, true, false, not, nat_le, nat_lt, cond, if◌then◌else◌, List, [], ◌∷◌, ◌++◌, length, map, position, get_or, Option, Some, None, is_some, option_map, IsTrue, refl, sym, ap, subst, ◌∙◌, arith, true≢false, append-nil, append_assoc}
+use Rattle.std.proofs.lemmas.Bool.Decides.{nat_tests}
+use Rattle.std.proofs.lemmas.List.{length-append, map-append}
+use Rattle.std.proofs.lemmas.List.Elements.{filter-append}
+use Rattle.std.proofs.lemmas.List.Sums.{position_or_len_is}
+use Rattle.std.proofs.Math.ListN.{get_or-append}
+use Rattle.std.proofs.Math.Seq.{get_or-append_seam}
+use Rattle.std.specs.List.{position_or_len}
+use Rattle.std.specs.Option.{option_and_then}
+use Rattle.std.specs.Str.{bytes_eq}
+use Rattle.race_records.specs.declared.declarations.DeclFault.{DeclFault}
+use Rattle.race_records.specs.declared.event.Event.{Event}
+use Rattle.race_records.specs.declared.kind.Named.{Named}
+use Rattle.race_records.specs.declared.kind.Object.{Object}
+use Rattle.race_records.specs.declared.trace.TheConstants.{MAX_EVENTS}
+use Rattle.race_records.specs.Name.{main, is_name}
+use Rattle.race_records.specs.Declarations.{Declaration, DeclsState, IsWellFormed, kind_of, is_of_kind, of_kind, count_of, limit_of, first_number, is_too_wide, declared_at, find_name, decl_fault}
+use Rattle.race_records.specs.Events.{TraceState}
+use Rattle.race_text.specs.declared.cause.TextCause.{TextCause}
+use Rattle.race_text.specs.declared.form.Word.{Word}
+use Rattle.race_text.specs.Words.{parts_of, words_of}
+use Rattle.race_text.specs.Text.{header, declaration_line, event_line, has_words, lines, text}
+use Rattle.race_text.specs.Form.{word_named, first_word, arguments}
+use Rattle.race_text.specs.Fault.{Seen, seen, seen_so_far, line_cause, word_cause, cause, or_later, fault_after, text_fault}
+use Rattle.race_text.specs.Declaring.{cause_of}
+use Rattle.race_text.specs.Laws.{HasText}
+use Rattle.race_text.specs.Reader.{end_cause}
+use Rattle.race_text.proofs.DeclarationLemmas.{goroutine_causes, var_causes, one_name}
+use Rattle.race_text.proofs.NamesAgain.{differ}
+use Rattle.race_text.proofs.ParseLemmas.{fault_step, fault_end}
+use Rattle.race_text.proofs.ReaderLemmas.{header_says}
+use Rattle.race_text.proofs.TextLaws.{IsDeclarationLine, word_for, declaration_again, declares_again, is_no_event, event_at, lines_again}
+use Rattle.race_text.proofs.TraceLemmas.{clean_line, seen_declaration, seen_event}
+
+-- no cause holds at any of the lines, each behind those before it
+abbrev AreFine : List (List ℕ) → List (List ℕ) → Type 0
+AreFine before [] = Unit
+AreFine before (l ∷ ls) = (cause before l true ≡ None) × AreFine (before ++ l ∷ []) ls
+
+fine_both : (before xs ys : List (List ℕ)) → AreFine before xs → AreFine (before ++ xs) ys → AreFine before (xs ++ ys)
+fine_both before [] ys h k = subst (λ b. AreFine b ys) (append-nil before) k
+fine_both before (x ∷ xs) ys h k = (h.0, fine_both (before ++ x ∷ []) xs ys h.1 (subst (λ b. AreFine b ys) (sym (append_assoc before (x ∷ []) xs)) k))
+
+no_end_cause : (before : List (List ℕ)) → 0 < length before → end_cause before [] ≡ None
+no_end_cause before some = by (nat_lt 0 (length before)) (grind (arith, nat_tests, some))
+  where
+    by : (b : Bool) → b ≡ true → (if b then None else cause before [] false) ≡ None
+    by true h = refl
+    by false h = absurd (true≢false (sym h))
+
+-- fine lines, each ended by a newline, have no fault
+fine_lines : (before ls : List (List ℕ)) → 0 < length before + length ls → AreFine before ls → fault_after before (ls ++ [] ∷ []) ≡ None
+fine_lines before [] some fine = fault_end before [] ∙ ap (λ o. or_later (length before + 1) o None) (no_end_cause before (omega (arith, some)))
+fine_lines before (l ∷ ls) some fine =
+    fault_step before l (ls ++ [] ∷ []) (omega (arith, length-append ls ([] ∷ [])))
+    ∙ (λ j. or_later (length before + 1) (fine.0 j) (fine_lines (before ++ l ∷ []) ls (omega (arith, length-append before (l ∷ []))) fine.1 j))
+
+of_own_kind : (o : Object) → is_of_kind (kind_of o) o ≡ true
+of_own_kind Object.Goroutine = refl
+of_own_kind Object.Var = refl
+of_own_kind (Object.Chan capacity) = refl
+of_own_kind (Object.Lock rw) = refl
+of_own_kind Object.Once = refl
+
+-- a declaration among others: nothing refuses it behind those before it
+module _ (decls : DeclsState) (holds : IsWellFormed decls) (before after : List Declaration) (d : Declaration) (is : before ++ d ∷ after ≡ decls.declarations) where
+  abbrev ds : List Declaration
+  ds = decls.declarations
+
+  pub here : get_or ds (length before) d ≡ d
+  here = ap (λ l. get_or l (length before) d) (sym is) ∙ get_or-append_seam before d after d
+
+  pub within : length before < length ds
+  within = let l = ap length (sym is) ∙ length-append before (d ∷ after) in omega (arith, l)
+
+  form : is_name d.name ≡ true
+  form = ap (λ (x : Declaration). is_name x.name) (sym here) ∙ holds.names (length before) d within
+
+  not_main : bytes_eq d.name main ≡ false
+  not_main = differ d.name main (λ same. holds.not_main (length before) d within (ap (λ (x : Declaration). x.name) here ∙ same))
+
+  differs_before : (k : ℕ) → k < length before → bytes_eq d.name (get_or before k d).name ≡ false
+  differs_before k less =
+      let there : get_or ds k d ≡ get_or before k d = ap (λ l. get_or l k d) (sym is) ∙ get_or-append before (d ∷ after) d k less in
+      differ d.name (get_or before k d).name (λ same. holds.distinct k (length before) d less within (ap (λ (x : Declaration). x.name) there ∙ sym same ∙ ap (λ (x : Declaration). x.name) (sym here)))
+
+  is_new : find_name before d.name ≡ None
+  is_new =
+      let last = position_or_len_is (λ (e : Declaration). bytes_eq d.name e.name) before (length before) d (omega arith) differs_before (λ less. absurd (omega (arith, less))) in
+      let over : nat_lt (length before) (length before) ≡ false = grind (arith, nat_tests) in
+      (λ j. if not_main j then Some (Named.Goroutine 0) else option_and_then (declared_at before) (cond (nat_lt (last j) (length before)) (Some (last j)) None))
+      ∙ ap (λ t. option_and_then (declared_at before) (cond t (Some (length before)) None)) over
+
+  has_room : count_of (kind_of d.object) before < limit_of (kind_of d.object)
+  has_room =
+      let kind = kind_of d.object in
+      let all : length (of_kind kind ds) ≡ length (of_kind kind before) + length (of_kind kind (d ∷ after)) =
+      ap (λ l. length (of_kind kind l)) (sym is) ∙ ap length (filter-append (λ (x : Declaration). is_of_kind kind x.object) before (d ∷ after)) ∙ length-append (of_kind kind before) (of_kind kind (d ∷ after)) in
+      let own : length (of_kind kind (d ∷ after)) ≡ suc (length (of_kind kind after)) = ap (λ b. length (if b then d ∷ of_kind kind after else of_kind kind after)) (of_own_kind d.object) in
+      let limited = holds.limited kind in
+      omega (arith, all, own, limited)
+
+  pub allowed : decl_fault before d.object d.name ≡ None
+  unfolding decl_fault
+  allowed =
+      by (is_name d.name) (is_some (find_name before d.name)) (nat_le (limit_of (kind_of d.object)) (count_of (kind_of d.object) before)) (is_too_wide d.object)
+      form (ap is_some is_new) (let room = has_room in grind (arith, nat_tests, room)) (ap (λ (x : Declaration). is_too_wide x.object) (sym here) ∙ holds.capacities (length before) d within)
+    where
+      by : (a b c e : Bool) → a ≡ true → b ≡ false → c ≡ false → e ≡ false
+          → ◌≡◌ {A = Option DeclFault} (if not a then Some DeclFault.BadName else (if b then Some DeclFault.Taken else (if c then Some DeclFault.TooMany else (if e then Some DeclFault.BadCapacity else None)))) None
+      by true false false false _ _ _ _ = refl
+      by true false false true _ _ _ h = absurd (true≢false h)
+      by true false true e _ _ h _ = absurd (true≢false h)
+      by true true c e _ h _ _ = absurd (true≢false h)
+      by false b c e h _ _ _ = absurd (true≢false (sym h))
+
+  -- so no cause holds at its line
+  pub no_cause : IsTrue (has_words d.object) → line_cause (seen_so_far before 0) (declaration_line d) ≡ None
+  no_cause has =
+      let line = declaration_again d form has in
+      clean_line (seen_so_far before 0) (declaration_line d) line.clean
+      ∙ (λ j. word_cause (seen_so_far before 0) (line.named j) (arguments (line.words j)))
+      ∙ by d.object has allowed
+    where
+      by : (o : Object) → IsTrue (has_words o) → decl_fault before o d.name ≡ None → word_cause (seen_so_far before 0) (Some (word_for o)) (d.name ∷ []) ≡ None
+      by Object.Goroutine has none = goroutine_causes before (d.name ∷ []) ∙ one_name before Object.Goroutine (d.name ∷ []) d.name refl form ∙ ap (option_map cause_of) none
+      by Object.Var has none = var_causes before (d.name ∷ []) ∙ one_name before Object.Var (d.name ∷ []) d.name refl form ∙ ap (option_map cause_of) none
+      by _ has none = cc
+
+-- the cause of a line behind the header and others
+cause_by_seen : (others : List (List ℕ)) (line : List ℕ) (s : Seen) → seen (header ∷ others) ≡ s → cause (header ∷ others) line true ≡ line_cause s line
+unfolding cause
+cause_by_seen others line s is = ap (λ x. line_cause x line) is
+
+module _ (t : TraceState) (has : HasText t) where
+  abbrev declared : List Declaration
+  declared = t.decls.declarations
+
+  abbrev print : Event → List ℕ
+  print e = event_line t.decls e
+
+  declarations_fine : (before after : List Declaration) → before ++ after ≡ declared → seen (header ∷ map declaration_line before) ≡ seen_so_far before 0
+      → AreFine (header ∷ map declaration_line before) (map declaration_line after) × (seen (header ∷ map declaration_line declared) ≡ seen_so_far declared 0)
+  declarations_fine before [] is says = (tt, subst (λ (ds : List Declaration). seen (header ∷ map declaration_line ds) ≡ seen_so_far ds 0) (sym (append-nil before) ∙ is) says)
+  declarations_fine before (d ∷ after) is says =
+      let at = here t.decls has.well_formed before after d is in
+      let less = within t.decls has.well_formed before after d is in
+      let words : IsTrue (has_words d.object) = ap (λ (x : Declaration). has_words x.object) (sym at) ∙ has.words (length before) d less in
+      let name : is_name d.name ≡ true = ap (λ (x : Declaration). is_name x.name) (sym at) ∙ has.well_formed.names (length before) d less in
+      let line = declaration_again d name words in
+      let more = map-append declaration_line before (d ∷ []) in
+      let rest = declarations_fine (before ++ d ∷ []) after (append_assoc before (d ∷ []) after ∙ is)
+      (ap (λ ls. seen (header ∷ ls)) more
+      ∙ seen_declaration (header ∷ map declaration_line before) (declaration_line d) before d says (declares_again d (declaration_line d) line) (is_no_event d (declaration_line d) line)) in
+      (
+        (
+          cause_by_seen (map declaration_line before) (declaration_line d) (seen_so_far before 0) says ∙ no_cause t.decls has.well_formed before after d is words,
+          subst (λ ls. AreFine (header ∷ ls) (map declaration_line after)) more rest.0,
+        ),
+        rest.1,
+      )
+
+  events_fine : (done rest : List Event) → done ++ rest ≡ t.events → seen (header ∷ map declaration_line declared ++ map print done) ≡ seen_so_far declared (length done)
+      → AreFine (header ∷ map declaration_line declared ++ map print done) (map print rest)
+  events_fine done [] is says = tt
+  events_fine done (e ∷ rest) is says =
+      let at : get_or t.events (length done) e ≡ e = ap (λ l. get_or l (length done) e) (sym is) ∙ get_or-append_seam done e rest e in
+      let all = ap length (sym is) ∙ length-append done (e ∷ rest) in
+      let less : length done < length t.events = omega (arith, all) in
+      let line = event_at t has (length done) e less in
+      let same : print (get_or t.events (length done) e) ≡ print e = ap print at in
+      let limited = has.is_trace.limited in
+      let room : nat_le MAX_EVENTS (length done) ≡ false = grind (arith, nat_tests, less, limited) in
+      let head = map declaration_line declared ++ map print done in
+      let fine : line_cause (seen_so_far declared (length done)) (print (get_or t.events (length done) e)) ≡ None =
+      clean_line (seen_so_far declared (length done)) (print (get_or t.events (length done) e)) line.clean ∙ line.cause_is (length done) ∙ ap (λ b. if b then Some TextCause.TooMany else None) room in
+      let more : map declaration_line declared ++ map print (done ++ e ∷ []) ≡ head ++ print e ∷ [] =
+      ap (λ l. map declaration_line declared ++ l) (map-append print done (e ∷ [])) ∙ sym (append_assoc (map declaration_line declared) (map print done) (print e ∷ [])) in
+      let told : seen (header ∷ head ++ print e ∷ []) ≡ seen_so_far declared (length done + 1) =
+      ap (λ l. seen (header ∷ head ++ l ∷ [])) (sym same) ∙ seen_event (header ∷ head) (print (get_or t.events (length done) e)) declared (length done) says line.declares line.is_event in
+      let next = events_fine (done ++ e ∷ []) rest (append_assoc done (e ∷ []) rest ∙ is)
+      (ap (λ ls. seen (header ∷ ls)) more ∙ told ∙ ap (seen_so_far declared) (sym (length-append done (e ∷ [])))) in
+      (
+        ap (λ l. cause (header ∷ head) l true) (sym same) ∙ cause_by_seen head (print (get_or t.events (length done) e)) (seen_so_far declared (length done)) says ∙ fine,
+        subst (λ ls. AreFine (header ∷ ls) (map print rest)) more next,
+      )
+
+  header_fine : cause [] header true ≡ None
+  unfolding cause
+  header_fine = refl
+
+  lines_fine : AreFine [] (lines t)
+  unfolding lines
+  lines_fine =
+      let first = declarations_fine [] declared refl header_says in
+      let none_done : header ∷ map declaration_line declared ++ [] ≡ header ∷ map declaration_line declared = append-nil (header ∷ map declaration_line declared) in
+      (
+        header_fine,
+        fine_both (header ∷ []) (map declaration_line declared) (map print t.events) first.0
+        (subst (λ ls. AreFine ls (map print t.events)) none_done (events_fine [] t.events refl (ap seen none_done ∙ first.1))),
+      )
+
+  some_lines : 0 < 0 + length (lines t)
+  unfolding lines
+  some_lines = omega arith
+
+  pub text_has_no_fault : text_fault (text t) ≡ None
+  unfolding text_fault
+  text_has_no_fault = ap (fault_after []) (lines_again t has) ∙ fine_lines [] (lines t) some_lines lines_fine

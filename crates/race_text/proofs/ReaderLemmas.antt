@@ -1,5 +1,6 @@
 -- The header, and lines that declare.
-use Rattle.std.proofs.Common.{◌≡◌, ◌≢◌, ℕ, ◌≤◌, length, Bool, true, false, not, if◌then◌else◌, List, [], ◌∷◌, ◌++◌, Option, Some, None, Result, Ok, Err, IfOk, IsTrue, refl, sym, ap, subst, ◌∙◌, arith, true≢false}
+use Rattle.std.proofs.Common.{◌≡◌, ◌≢◌, ℕ, ◌≤◌, length, Bool, true, false, not, if◌then◌else◌, List, [], ◌∷◌, ◌++◌, Option, Some, None, Result, Ok, Err, IfOk, IsTrue, All, refl, sym, ap, subst, ◌∙◌, arith, true≢false}
+use Rattle.std.proofs.lemmas.List.Elements.{All-push}
 use Rattle.std.proofs.lemmas.List.Splits.{join_with_byte-slice_split}
 use Rattle.std.proofs.lemmas.Option.{none-some}
 use Rattle.std.proofs.lemmas.Slice.Eq.{bytes_eq-Decides}
@@ -52,7 +53,7 @@ header_taken decls trace line reading h = record {
 pub header_reading : (decls : DeclsState) (trace : Option TraceState) → IsReading false decls trace → IsReading true decls trace
 header_reading decls trace reading =
     subst (λ (p : DeclsState × Option TraceState). IsReading true p.0 p.1) (λ i. (sym reading.0 i, sym reading.1 i))
-    (record { seen_is = ap seen header_lines ∙ header_says; few_places = omega arith })
+    (record { seen_is = ap seen header_lines ∙ header_says; words = λ i d less. absurd (omega (arith, less)); few_places = omega arith })
 
 -- a line that declares, and is not refused
 pub record IsDeclaration (ds : List Declaration) (line : List ℕ) : Type 0 where
@@ -141,6 +142,7 @@ module _ (old new : DeclsState) (line : List ℕ) (read : IsRead (begun old)) (c
         is_read = record {
           seen_is = ap seen after ∙ seen_declaration (lines (begun old)) line old.declarations is.d read.seen_is is.is is.event
               ∙ (λ i. seen_so_far (sym new_is i).declarations 0);
+          words = subst (λ (d : DeclsState). All (λ (x : Declaration). IsTrue (has_words x.object)) d.declarations) (sym new_is) (All-push (λ (x : Declaration). IsTrue (has_words x.object)) old.declarations is.d read.words is.words);
           few_places = subst (λ (d : DeclsState). length d.places ≤ 0) (sym new_is) read.few_places;
         };
       }
@@ -177,3 +179,8 @@ not_declared old new line false taken h = taken.0
 -- a trace of declarations alone
 pub fresh : (t : TraceState) (decls : DeclsState) → t.decls ≡ decls → t.events ≡ [] → t.spare ≡ 0 → t ≡ begun decls
 fresh t decls d e s = λ i. record { decls = d i; events = e i; spare = s i }
+
+-- what was read, before or behind the first event
+pub read_of : (decls : DeclsState) (trace : Option TraceState) → IsReading true decls trace → IsRead (trace_read decls trace)
+read_of decls None reading = reading
+read_of decls (Some trace) reading = reading.0

@@ -127,6 +127,7 @@ module _ (t : TraceState) (has : HasText t) (read : IsRead t) (line : List ℕ) 
       let same = lines_begun empty in
       let before : IsRead (begun t.decls) = record {
         seen_is = ap seen same ∙ read.seen_is ∙ (λ i. seen_so_far ds (length (empty i)));
+        words = read.words;
         few_places = subst (λ (es : List Event). length t.decls.places ≤ 2 * length es) empty read.few_places;
       } in
       let fine = sym (cause_of_line t.decls t.decls line before is_clean declares) ∙ ap (λ ls. cause ls line true) same ∙ none in
@@ -195,7 +196,7 @@ empty_has_text = record {
 }
 
 empty_is_read : IsRead empty_trace
-empty_is_read = record { seen_is = ap seen header_lines ∙ header_says; few_places = omega arith }
+empty_is_read = record { seen_is = ap seen header_lines ∙ header_says; words = λ i d less. absurd (omega (arith, less)); few_places = omega arith }
 
 -- the first line is the header
 is_header : (line : List ℕ) → cause [] line true ≡ None → line ≡ header

@@ -1,9 +1,10 @@
 -- The text of a trace has no fault.
-use Rattle.std.proofs.Common.{◌≡◌, ◌≢◌, ℕ, suc, ◌+◌, ◌<◌, ◌≤◌, Bool, true, false, not, nat_le, nat_lt, cond, if◌then◌else◌, List, [], ◌∷◌, ◌++◌, length, map, position, get_or, Option, Some, None, is_some, option_map, IsTrue, refl, sym, ap, subst, ◌∙◌, arith, true≢false, append-nil, append_assoc}
+use Rattle.std.proofs.Common.{◌≡◌, ◌≢◌, ℕ, suc, ◌+◌, ◌<◌, ◌≤◌, Bool, true, false, not, nat_le, nat_lt, cond, if◌then◌else◌, List, [], ◌∷◌, ◌++◌, length, map, position, get_or, Option, Some, None, ◌⊎◌, inl, inr, is_some, option_map, IsTrue, refl, sym, ap, subst, ◌∙◌, arith, true≢false, append-nil, append_assoc}
 use Rattle.std.proofs.lemmas.Bool.Decides.{nat_tests}
 use Rattle.std.proofs.lemmas.List.{length-append, map-append}
 use Rattle.std.proofs.lemmas.List.Elements.{filter-append}
 use Rattle.std.proofs.lemmas.List.Sums.{position_or_len_is}
+use Rattle.std.proofs.lemmas.Option.{none-some}
 use Rattle.std.proofs.Math.ListN.{get_or-append}
 use Rattle.std.proofs.Math.Seq.{get_or-append_seam}
 use Rattle.std.specs.List.{position_or_len}
@@ -18,13 +19,14 @@ use Rattle.race_records.specs.Name.{main, is_name}
 use Rattle.race_records.specs.Declarations.{Declaration, DeclsState, IsWellFormed, kind_of, is_of_kind, of_kind, count_of, limit_of, first_number, is_too_wide, declared_at, find_name, decl_fault}
 use Rattle.race_records.specs.Events.{TraceState}
 use Rattle.race_text.specs.declared.cause.TextCause.{TextCause}
+use Rattle.race_text.specs.declared.cause.TextFault.{TextFault}
 use Rattle.race_text.specs.declared.form.Word.{Word}
 use Rattle.race_text.specs.Words.{parts_of, words_of}
 use Rattle.race_text.specs.Text.{header, declaration_line, event_line, has_words, lines, text}
 use Rattle.race_text.specs.Form.{word_named, first_word, arguments}
 use Rattle.race_text.specs.Fault.{Seen, seen, seen_so_far, line_cause, word_cause, cause, or_later, fault_after, text_fault}
 use Rattle.race_text.specs.Declaring.{cause_of}
-use Rattle.race_text.specs.Laws.{HasText}
+use Rattle.race_text.specs.Laws.{HasText, IsTraceText}
 use Rattle.race_text.specs.Reader.{end_cause}
 use Rattle.race_text.proofs.DeclarationLemmas.{goroutine_causes, var_causes, one_name}
 use Rattle.race_text.proofs.NamesAgain.{differ}
@@ -208,3 +210,14 @@ module _ (t : TraceState) (has : HasText t) where
   pub text_has_no_fault : text_fault (text t) ≡ None
   unfolding text_fault
   text_has_no_fault = ap (fault_after []) (lines_again t has) ∙ fine_lines [] (lines t) some_lines lines_fine
+
+memory_or_not : (c : TextCause) → (c ≡ TextCause.OutOfMemory) ⊎ (c ≢ TextCause.OutOfMemory)
+memory_or_not TextCause.OutOfMemory = inl refl
+memory_or_not _ = inr (λ e. cc)
+
+-- so a trace's text is refused for memory alone
+pub text_is_accepted : (bytes : List ℕ) (told : TextFault) → (told.cause ≢ TextCause.OutOfMemory → text_fault bytes ≡ Some told) → IsTraceText bytes → told.cause ≡ TextCause.OutOfMemory
+text_is_accepted bytes told is_fault is = elim (memory_or_not told.cause) [
+  | inl memory ↦ memory
+  | inr other ↦ absurd (none-some told (sym (ap text_fault is.2 ∙ text_has_no_fault is.0 is.1) ∙ is_fault other))
+]

@@ -1,5 +1,5 @@
 -- One more event, or one more declaration: the lines of a trace, and what they say to the next one.
-use Rattle.std.proofs.Common.{◌≡◌, ℕ, suc, ◌+◌, ◌*◌, ◌<◌, ◌≤◌, ◌==◌, ◌||◌, Bool, true, false, not, if◌then◌else◌, nat_lt, nat_le, cond, List, [], ◌∷◌, ◌++◌, length, map, get_or, slice_get, unwrap_or, Option, Some, None, ◌≢◌, Result, Ok, Err, MatchResult, IsOkUnless, IsSome, OnOk, refl, sym, ap, subst, ◌∙◌, arith, true≢false, append-nil, append_assoc}
+use Rattle.std.proofs.Common.{◌≡◌, ℕ, suc, ◌+◌, ◌*◌, ◌<◌, ◌≤◌, ◌==◌, ◌||◌, Bool, true, false, not, if◌then◌else◌, nat_lt, nat_le, cond, List, [], ◌∷◌, ◌++◌, length, map, get_or, slice_get, unwrap_or, Option, Some, None, ◌≢◌, Result, Ok, Err, MatchResult, IsOkUnless, IsSome, IsTrue, All, OnOk, refl, sym, ap, subst, ◌∙◌, arith, true≢false, append-nil, append_assoc}
 use Rattle.std.proofs.lemmas.Bool.Decides.{nat_tests}
 use Rattle.std.proofs.lemmas.List.{length-append, map-append}
 use Rattle.std.proofs.lemmas.List.Elements.{filter_map-append}
@@ -24,7 +24,7 @@ use Rattle.race_text.specs.declared.form.Word.{Word}
 use Rattle.race_text.specs.Words.{words_of, has_bad_byte}
 use Rattle.race_text.specs.Form.{word_named, fields_of, object_of, first_word, arguments}
 use Rattle.race_text.specs.Declaring.{is_declaration_word, is_declaration_line}
-use Rattle.race_text.specs.Text.{header, declaration_line, event_line, op_words, goroutine_name, line_of, lines}
+use Rattle.race_text.specs.Text.{header, has_words, declaration_line, event_line, op_words, goroutine_name, line_of, lines}
 use Rattle.race_text.specs.Fault.{Seen, seen, seen_so_far, declaration_in, is_event_line, or_else, fields_cause, room_cause, line_cause, cause, word_cause}
 use Rattle.race_text.specs.Reading.{Occurrence, event_by, event_in}
 use Rattle.race_text.specs.Taking.{state_of, IsRead, begun, IsFitting, event_of, AppendsEvent, IsFull, TakesLine, TakesOrTells}
@@ -203,6 +203,7 @@ module _ (old new : TraceState) (line : List ℕ) (o : Occurrence) (read : IsRea
         is_read = record {
           seen_is = ap seen after ∙ seen_event (lines old) line old.decls.declarations (length old.events) read.seen_is is.declares is.is_event
               ∙ (λ i. seen_so_far (sym added.decls i).declarations (sym more i));
+          words = subst (λ (d : DeclsState). All (λ (x : Declaration). IsTrue (has_words x.object)) d.declarations) (sym added.decls) read.words;
           few_places =
               let few = read.few_places in
               let same : length new.decls.places ≡ length (with_place old.decls o.place).places = ap (λ (d : DeclsState). length d.places) added.decls in

@@ -16,6 +16,10 @@ pub record HasText (t : TraceState) : Type 0 where
 abbrev pub IsTraceText : List ℕ → Type 0
 IsTraceText bytes = (t : TraceState) × HasText t × (bytes ≡ text t)
 
+-- no other trace has the bytes as its text
+abbrev pub IsOnlyTraceOf : List ℕ → TraceState → Type 0
+IsOnlyTraceOf bytes t = (u : TraceState) → HasText u → bytes ≡ text u → recorded u ≡ recorded t
+
 -- the text of a trace has no fault
 abbrev pub TextsHaveNoFault : Type 0
 TextsHaveNoFault = (t : TraceState) → HasText t → text_fault (text t) ≡ None

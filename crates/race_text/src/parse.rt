@@ -2,6 +2,7 @@
 ghost use Rattle.std.specs.Prelude.{◌≡◌, ◌≢◌, ◌<◌, None, Some, IfOk, IfErr, OnOk};
 ghost use Rattle.race_text.specs.Text.{text};
 ghost use Rattle.race_text.specs.Fault.{text_fault};
+ghost use Rattle.race_text.specs.Laws.{HasText, IsOnlyTraceOf, IsTraceText};
 ghost use Rattle.race_text.specs.Reader.{IsNoneBefore};
 
 use crate::cause::{TextCause, TextFault};
@@ -10,11 +11,16 @@ use crate::reader::Reader;
 use race_records::Trace;
 use std::alloc::Allocator;
 
-/// The trace whose text the bytes are, or else their first fault.
+/// The one trace whose text the bytes are, or else their first fault.
 ///
+/// Every text of a trace is read, where memory suffices, and nothing else is.
 /// Where memory runs out, the fault says so, at the line that was being read.
 pub fn parse_trace<A: Allocator + Copy>(alloc: A, bytes: &[u8]) -> Result<Trace<A>, TextFault>
     ensures text { IfOk result (λ trace. bytes.now ≡ text trace) }
+    ensures has_text { IfOk result (λ trace. HasText trace) }
+    ensures only { IfOk result (λ trace. IsOnlyTraceOf bytes.now trace) }
+    ensures accepted { IsTraceText bytes.now
+        → IfErr result (λ told. told.cause ≡ TextCause.OutOfMemory) }
     ensures fine { OnOk result (text_fault bytes.now ≡ None) }
     ensures fault { IfErr result
         (λ told. told.cause ≢ TextCause.OutOfMemory → text_fault bytes.now ≡ Some told) }

@@ -1,6 +1,7 @@
 //! A trace that is read line by line.
 ghost use Rattle.std.specs.Prelude.{◌≡◌, ◌≢◌, [], true, false, Some, None, MatchResult, OnOk};
 ghost use Rattle.race_text.specs.Fault as fault;
+ghost use Rattle.race_text.specs.Laws.{HasText};
 ghost use Rattle.race_text.specs.Text.{lines};
 ghost use Rattle.race_text.specs.Taking.{IsRead, begun};
 ghost use Rattle.race_text.specs.Reader as spec;
@@ -80,8 +81,10 @@ impl<A: Allocator + Copy> Reader<A> {
 
     // The trace that was read. Takes no memory.
     pub(crate) fn into_trace(self) -> Trace<A>
-        requires { self.has_header ≡ true }
-        ensures { lines result ≡ spec.lines_read self.has_header self.decls self.trace }
+        requires header { self.has_header ≡ true }
+        requires reading { spec.IsReading self.has_header self.decls self.trace }
+        ensures lines { lines result ≡ spec.lines_read self.has_header self.decls self.trace }
+        ensures has_text { HasText result }
     {
         let Reader {
             alloc: _,
@@ -89,10 +92,14 @@ impl<A: Allocator + Copy> Reader<A> {
             decls,
             trace,
         } = self;
-        match trace {
+        let trace = match trace {
             Some(trace) => trace,
             None => Trace::new(decls),
-        }
+        };
+        // What holds of every `Decls` and of every `Trace` is known once its length is.
+        let _declarations = trace.decls().len();
+        let _events = trace.len();
+        trace
     }
 
     // Takes the first line.

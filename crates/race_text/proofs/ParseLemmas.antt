@@ -164,9 +164,6 @@ module _ (bytes : List ℕ) (before : List (List ℕ)) (left : List ℕ) (line :
     pub end_told_at : (c : TextCause) → end_cause before last ≡ Some c → text_fault bytes ≡ Some (told line c)
     end_told_at c h = end_is ∙ (λ i. or_later (sym at.number i) (h i) None)
 
-    pub end_fine : end_cause before last ≡ None → text_fault bytes ≡ None
-    end_fine h = end_is ∙ ap (λ o. or_later (length before + 1) o None) h
-
     -- then nothing is left
     pub end_bytes : end_cause before last ≡ None → bytes ≡ flat_map ended before
     end_bytes h =

@@ -28,7 +28,7 @@ use Rattle.race_text.specs.Text.{header, ended, event_line, has_words, lines, te
 use Rattle.race_text.specs.Form.{word_named}
 use Rattle.race_text.specs.Fault.{seen, seen_so_far, line_cause, cause, or_later, fault_after, text_fault}
 use Rattle.race_text.specs.Declaring.{is_declaration_line, declaration_cause, with_declared}
-use Rattle.race_text.specs.Laws.{HasText, IsTraceText}
+use Rattle.race_text.specs.Text.{HasText, IsTraceText}
 use Rattle.race_text.specs.Reading.{Occurrence, event_by, event_in}
 use Rattle.race_text.specs.Reader.{end_cause}
 use Rattle.race_text.specs.Taking.{state_of, IsRead, begun, event_of}
@@ -222,8 +222,6 @@ faultless_is_text bytes none = by (parts_of bytes) refl none
         let split = or_later_none 1 (cause [] line true) (fault_after (line ∷ []) parts) (sym (fault_step [] line parts (omega arith)) ∙ h) in
         let first = is_header line split.0 in
         let rest = scanned parts empty_trace empty_has_text empty_is_read (omega arith) (ap (λ ls. fault_after ls parts) (header_lines ∙ (λ i. sym first i ∷ [])) ∙ split.1) in
-        (
-          rest.0,
-          rest.1,
-          sym (join_with_byte-slice_split 10 bytes) ∙ ap (join_with_byte 10) e ∙ (λ i. first i ++ 10 ∷ join_with_byte 10 parts) ∙ sym (rest.2 ∙ ap (λ ls. flat_map ended ls ++ join_with_byte 10 parts) header_lines),
-        )
+        let printed = sym (join_with_byte-slice_split 10 bytes) ∙ ap (join_with_byte 10) e ∙ (λ i. first i ++ 10 ∷ join_with_byte 10 parts)
+        ∙ sym (rest.2 ∙ ap (λ ls. flat_map ended ls ++ join_with_byte 10 parts) header_lines) in
+        (rest.0, record { has_text = rest.1; printed = printed })

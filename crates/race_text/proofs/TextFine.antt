@@ -26,7 +26,7 @@ use Rattle.race_text.specs.Text.{header, declaration_line, event_line, has_words
 use Rattle.race_text.specs.Form.{word_named, first_word, arguments}
 use Rattle.race_text.specs.Fault.{Seen, seen, seen_so_far, line_cause, word_cause, cause, or_later, fault_after, text_fault}
 use Rattle.race_text.specs.Declaring.{cause_of}
-use Rattle.race_text.specs.Laws.{HasText, IsTraceText}
+use Rattle.race_text.specs.Text.{HasText, IsTraceText}
 use Rattle.race_text.specs.Reader.{end_cause}
 use Rattle.race_text.proofs.DeclarationLemmas.{goroutine_causes, var_causes, one_name}
 use Rattle.race_text.proofs.NamesAgain.{differ}
@@ -219,5 +219,5 @@ memory_or_not _ = inr (λ e. cc)
 pub text_is_accepted : (bytes : List ℕ) (told : TextFault) → (told.cause ≢ TextCause.OutOfMemory → text_fault bytes ≡ Some told) → IsTraceText bytes → told.cause ≡ TextCause.OutOfMemory
 text_is_accepted bytes told is_fault is = elim (memory_or_not told.cause) [
   | inl memory ↦ memory
-  | inr other ↦ absurd (none-some told (sym (ap text_fault is.2 ∙ text_has_no_fault is.0 is.1) ∙ is_fault other))
+  | inr other ↦ absurd (none-some told (sym (ap text_fault is.1.printed ∙ text_has_no_fault is.0 is.1.has_text) ∙ is_fault other))
 ]

@@ -17,7 +17,7 @@ use Rattle.race_text.specs.Words.{parts_of, words_of, has_bad_byte}
 use Rattle.race_text.specs.Text.{header, line_of, object_words, declaration_line, event_line, has_words, lines, text}
 use Rattle.race_text.specs.Form.{word_named, object_of, first_word, arguments}
 use Rattle.race_text.specs.Fault.{declaration_in, declared_as, is_event_line, is_event_word}
-use Rattle.race_text.specs.Laws.{HasText}
+use Rattle.race_text.specs.Text.{HasText}
 use Rattle.race_text.specs.Reading.{Occurrence, event_by, event_in}
 use Rattle.race_text.proofs.EventLines.{spelled, IsEventLine, event_line as event_line_of}
 use Rattle.race_text.proofs.EventsAgain.{said, named_again, event_again}

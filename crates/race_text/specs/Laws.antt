@@ -1,24 +1,13 @@
 -- The laws of trace text. Each is the contract of a function in src/laws.rt that does nothing.
-use Rattle.std.specs.Prelude.{◌≡◌, ℕ, List, None, IsTrue, All}
-use Rattle.race_records.specs.Declarations.{Declaration, IsWellFormed}
-use Rattle.race_records.specs.Events.{TraceState, IsTrace}
+use Rattle.std.specs.Prelude.{◌≡◌, ℕ, List, None}
+use Rattle.race_records.specs.Events.{TraceState}
 use Rattle.race_records.specs.TraceEquality.{recorded}
-use Rattle.race_text.specs.Text.{has_words, text}
+use Rattle.race_text.specs.Text.{text, HasText, IsTextOf, IsTraceText}
 use Rattle.race_text.specs.Fault.{text_fault}
-
--- a trace that has a text: its declarations are well formed and have words, and its events fit them
-pub record HasText (t : TraceState) : Type 0 where
-  pub well_formed : IsWellFormed t.decls
-  pub is_trace : IsTrace t
-  pub words : All (λ (d : Declaration). IsTrue (has_words d.object)) t.decls.declarations
-
--- the bytes are some trace's text
-abbrev pub IsTraceText : List ℕ → Type 0
-IsTraceText bytes = (t : TraceState) × HasText t × (bytes ≡ text t)
 
 -- no other trace has the bytes as its text
 abbrev pub IsOnlyTraceOf : List ℕ → TraceState → Type 0
-IsOnlyTraceOf bytes t = (u : TraceState) → HasText u → bytes ≡ text u → recorded u ≡ recorded t
+IsOnlyTraceOf bytes t = (u : TraceState) → IsTextOf u bytes → recorded u ≡ recorded t
 
 -- the text of a trace has no fault
 abbrev pub TextsHaveNoFault : Type 0

@@ -1,5 +1,5 @@
 -- The text of a trace. It prints: nothing here reads.
-use Rattle.std.specs.Prelude.{ℕ, Bool, true, false, List, [], ◌∷◌, ◌++◌, map, codes, slice_get, unwrap_or}
+use Rattle.std.specs.Prelude.{ℕ, Bool, true, false, List, [], ◌∷◌, ◌++◌, map, codes, slice_get, unwrap_or, ◌≡◌, IsTrue, All}
 use Rattle.std.specs.List.{flat_map, join_with_byte}
 use Rattle.std.specs.Fmt.{decimal}
 use Rattle.race_records.specs.declared.event.Event.{Event}
@@ -7,8 +7,8 @@ use Rattle.race_records.specs.declared.event.Op.{Op}
 use Rattle.race_records.specs.declared.event.Op.TheVariants.{Go, Exit, Read, Write}
 use Rattle.race_records.specs.declared.kind.Named.{Named}
 use Rattle.race_records.specs.declared.kind.Object.{Object}
-use Rattle.race_records.specs.Declarations.{Declaration, DeclsState, name_of}
-use Rattle.race_records.specs.Events.{TraceState}
+use Rattle.race_records.specs.Declarations.{Declaration, DeclsState, IsWellFormed, name_of}
+use Rattle.race_records.specs.Events.{TraceState, IsTrace}
 
 -- the first line
 abbrev pub header : List ℕ
@@ -69,3 +69,18 @@ ended line = line ++ 10 ∷ []
 -- the text of a trace
 unfoldable pub text : TraceState → List ℕ
 text t = flat_map ended (lines t)
+
+-- a trace that has a text: its declarations are well formed and have words, and its events fit them
+pub record HasText (t : TraceState) : Type 0 where
+  pub well_formed : IsWellFormed t.decls
+  pub is_trace : IsTrace t
+  pub words : All (λ (d : Declaration). IsTrue (has_words d.object)) t.decls.declarations
+
+-- the bytes are the trace's text
+pub record IsTextOf (t : TraceState) (bytes : List ℕ) : Type 0 where
+  pub has_text : HasText t
+  pub printed : bytes ≡ text t
+
+-- the bytes are some trace's text
+abbrev pub IsTraceText : List ℕ → Type 0
+IsTraceText bytes = (t : TraceState) × IsTextOf t bytes

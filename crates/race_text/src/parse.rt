@@ -1,8 +1,8 @@
 //! A trace from its bytes.
-ghost use Rattle.std.specs.Prelude.{◌≡◌, ◌≢◌, ◌<◌, None, Some, IfOk, IfErr, OnOk};
-ghost use Rattle.race_text.specs.Text.{text};
+ghost use Rattle.std.specs.Prelude.{◌≡◌, ◌≢◌, ◌<◌, Some, IfOk, IfErr};
+ghost use Rattle.race_text.specs.Text.{IsTextOf, IsTraceText};
 ghost use Rattle.race_text.specs.Fault.{text_fault};
-ghost use Rattle.race_text.specs.Laws.{HasText, IsOnlyTraceOf, IsTraceText};
+ghost use Rattle.race_text.specs.Laws.{IsOnlyTraceOf};
 ghost use Rattle.race_text.specs.Reader.{IsNoneBefore};
 
 use crate::cause::{TextCause, TextFault};
@@ -16,12 +16,10 @@ use std::alloc::Allocator;
 /// Every text of a trace is read, where memory suffices, and nothing else is.
 /// Where memory runs out, the fault says so, at the line that was being read.
 pub fn parse_trace<A: Allocator + Copy>(alloc: A, bytes: &[u8]) -> Result<Trace<A>, TextFault>
-    ensures text { IfOk result (λ trace. bytes.now ≡ text trace) }
-    ensures has_text { IfOk result (λ trace. HasText trace) }
+    ensures text { IfOk result (λ trace. IsTextOf trace bytes.now) }
     ensures only { IfOk result (λ trace. IsOnlyTraceOf bytes.now trace) }
     ensures accepted { IsTraceText bytes.now
         → IfErr result (λ told. told.cause ≡ TextCause.OutOfMemory) }
-    ensures fine { OnOk result (text_fault bytes.now ≡ None) }
     ensures fault { IfErr result
         (λ told. told.cause ≢ TextCause.OutOfMemory → text_fault bytes.now ≡ Some told) }
     ensures memory { IfErr result (λ told. IsNoneBefore told.line (text_fault bytes.now)) }

@@ -59,7 +59,7 @@ races_are_of trace Verdict.Clean bytes right = tt
 races_are_of trace (Verdict.Races races) bytes right =
     let caps : ℕ → ℕ = λ _. 0 in
     let verdict = right.2 caps in
-    all_races (IsOf trace) races (λ k r at. race_is_of trace right.0.is_trace caps r (verdict.2.each k r at))
+    all_races (IsOf trace) races (λ k r at. race_is_of trace right.0.has_text.is_trace caps r (verdict.2.each k r at))
 
 -- a right finding can be printed
 pub is_printable : {A : Type 0} (finding : Finding A) (bytes : List ℕ) → spec.IsFinding bytes (finding_of finding) → IsPrintable finding

@@ -1,21 +1,15 @@
 -- What a check finds of a list of bytes, what it prints of it, and with which status.
 use Rattle.std.specs.Prelude.{ℕ, ◌≡◌, ◌<◌, ◌≤◌, List, length, Some, None}
-use Rattle.race_records.specs.Events.{TraceState, IsTrace}
+use Rattle.race_records.specs.Events.{TraceState}
 use Rattle.race_model.specs.Legal.{IsLegal}
 use Rattle.race_model.specs.Reorder.{EachReadFindsTheSame}
 use Rattle.race_model.specs.Verdict.{Verdict, IsVerdict, Illegal, Clean, Races}
 use Rattle.race_text.specs.declared.cause.TextFault.{TextFault}
 use Rattle.race_text.specs.Fault.{text_fault}
-use Rattle.race_text.specs.Text as trace_text
+use Rattle.race_text.specs.Text.{IsTextOf}
 use Rattle.race_tool.specs.declared.judge.TheConstants.{MAX_PLAIN_EVENTS}
 use Rattle.race_tool.specs.declared.status.TheConstants as status
 use Rattle.race_tool.specs.Report.{fault_line, too_long_line, report}
-
--- the bytes are the text of the trace, and have no fault. A trace could declare what no line of a text declares
-pub record IsTextOf (trace : TraceState) (bytes : List ℕ) : Type 0 where
-  pub is_trace : IsTrace trace
-  pub text : bytes ≡ trace_text.text trace
-  pub no_fault : text_fault bytes ≡ None
 
 -- the verdict on the trace, whatever the channels' capacities: no rule and no edge of Go, Exit, Read or Write looks at one
 abbrev pub HasVerdict : TraceState → Verdict → Type 0

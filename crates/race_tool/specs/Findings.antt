@@ -1,6 +1,7 @@
 -- A finding of the code as the definition has it.
 use Rattle.std.specs.Prelude.{ℕ, List, All, ⊤}
 use Rattle.race_records.specs.Events.{TraceState}
+use Rattle.race_text.specs.Text.{IsTextOf}
 use Rattle.race_tool.specs.Finding as spec
 use Rattle.race_tool.specs.declared.finding.Finding.{Finding}
 use Rattle.race_tool.specs.declared.judge.Verdict.{Verdict}
@@ -16,7 +17,7 @@ finding_of (Finding.Judged trace verdict) = spec.Judged trace (verdict_of verdic
 
 -- the finding is right for each list of bytes that is the text of the trace
 abbrev pub IsFindingOn : TraceState → spec.Finding → Type 0
-IsFindingOn trace finding = (bytes : List ℕ) → spec.IsTextOf trace bytes → spec.IsFinding bytes finding
+IsFindingOn trace finding = (bytes : List ℕ) → IsTextOf trace bytes → spec.IsFinding bytes finding
 
 -- the verdict's races have numbers of the trace, which can be printed by name
 abbrev pub RacesAreOf : {A : Type 0} → TraceState → Verdict A → Type 0

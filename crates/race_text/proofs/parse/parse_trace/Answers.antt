@@ -3,7 +3,7 @@ use Rattle.race_text.specs.Words.{parts_left}
 use Rattle.race_text.specs.Text.{text, ended}
 use Rattle.std.specs.List.{flat_map}
 use Rattle.race_text.specs.Reader.{lines_read}
-use Rattle.race_text.proofs.ParseLemmas.{IsAt, at_start, none_before, is_shorter, told_at, at_next, end_told_at, end_fine, end_bytes, header_before_end}
+use Rattle.race_text.proofs.ParseLemmas.{IsAt, at_start, none_before, is_shorter, told_at, at_next, end_told_at, end_bytes, header_before_end}
 use Rattle.race_text.proofs.TextFine.{text_is_accepted}
 use Rattle.race_text.proofs.TextLaws.{equal_texts}
 use Rattle.race_text.proofs.parse.parse_trace.Goals as goal
@@ -28,15 +28,16 @@ into_trace-requires g c = record {
 
 pub returns-in-None-end_cause-clause-text : goal.returns-in-None-end_cause-clause-text
 unfolding text
-returns-in-None-end_cause-clause-text g c = end_bytes c.args.bytes.now (lines_read c.loop-reader.reader.has_header c.loop-reader.reader.decls c.loop-reader.reader.trace) c.loop-reader.left.now c.loop-reader.line c.loop-reader.invariant.at c.cut_at.result.0.now
-    (c.cut_at.ensures ∙ ap (λ r. c.cut_at.result.0.now ∷ parts_left 10 r) c.in-None.is) (sym c.in-None-end_cause.ensures) ∙ ap (flat_map ended) (sym c.into_trace.ensures.lines)
+returns-in-None-end_cause-clause-text g c = record {
+  has_text = c.into_trace.ensures.has_text;
+  printed = end_bytes c.args.bytes.now (lines_read c.loop-reader.reader.has_header c.loop-reader.reader.decls c.loop-reader.reader.trace) c.loop-reader.left.now c.loop-reader.line c.loop-reader.invariant.at c.cut_at.result.0.now
+      (c.cut_at.ensures ∙ ap (λ r. c.cut_at.result.0.now ∷ parts_left 10 r) c.in-None.is) (sym c.in-None-end_cause.ensures) ∙ ap (flat_map ended) (sym c.into_trace.ensures.lines);
+}
 
 pub returns-in-None-end_cause-clause-only : goal.returns-in-None-end_cause-clause-only
-unfolding text
-returns-in-None-end_cause-clause-only g c = λ u has is.
-    let read = end_bytes c.args.bytes.now (lines_read c.loop-reader.reader.has_header c.loop-reader.reader.decls c.loop-reader.reader.trace) c.loop-reader.left.now c.loop-reader.line c.loop-reader.invariant.at c.cut_at.result.0.now
-    (c.cut_at.ensures ∙ ap (λ r. c.cut_at.result.0.now ∷ parts_left 10 r) c.in-None.is) (sym c.in-None-end_cause.ensures) ∙ ap (flat_map ended) (sym c.into_trace.ensures.lines) in
-    equal_texts u c.into_trace.result has c.into_trace.ensures.has_text (sym is ∙ read)
+returns-in-None-end_cause-clause-only g c = λ u is.
+    let read = returns-in-None-end_cause-clause-text g c in
+    equal_texts u c.into_trace.result is.has_text read.has_text (sym is.printed ∙ read.printed)
 
 pub returns-in-Some-end_cause-clause-accepted : goal.returns-in-Some-end_cause-clause-accepted
 returns-in-Some-end_cause-clause-accepted g c = text_is_accepted c.args.bytes.now (record { line = c.loop-reader.line; cause = c.in-Some-end_cause.cause })
@@ -47,10 +48,6 @@ pub returns-in-Err-clause-accepted : goal.returns-in-Err-clause-accepted
 returns-in-Err-clause-accepted g c = text_is_accepted c.args.bytes.now (record { line = c.loop-reader.line; cause = c.in-Err.cause })
     (λ other. told_at c.args.bytes.now (lines_read c.loop-reader.reader.has_header c.loop-reader.reader.decls c.loop-reader.reader.trace) c.loop-reader.left.now c.loop-reader.line c.loop-reader.invariant.at c.cut_at.result.0.now c.in-Some.others.now
     (c.cut_at.ensures ∙ ap (λ r. c.cut_at.result.0.now ∷ parts_left 10 r) c.in-Some.is) c.in-Err.cause (c.in-Err.ensures.taken other))
-
-pub returns-in-None-end_cause-clause-fine : goal.returns-in-None-end_cause-clause-fine
-returns-in-None-end_cause-clause-fine g c = end_fine c.args.bytes.now (lines_read c.loop-reader.reader.has_header c.loop-reader.reader.decls c.loop-reader.reader.trace) c.loop-reader.left.now c.loop-reader.line c.loop-reader.invariant.at c.cut_at.result.0.now
-    (c.cut_at.ensures ∙ ap (λ r. c.cut_at.result.0.now ∷ parts_left 10 r) c.in-None.is) (sym c.in-None-end_cause.ensures)
 
 pub returns-in-Err-clause-fault : goal.returns-in-Err-clause-fault
 returns-in-Err-clause-fault g c = λ other. told_at c.args.bytes.now (lines_read c.loop-reader.reader.has_header c.loop-reader.reader.decls c.loop-reader.reader.trace) c.loop-reader.left.now c.loop-reader.line c.loop-reader.invariant.at c.cut_at.result.0.now c.in-Some.others.now

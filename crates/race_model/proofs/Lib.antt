@@ -13,5 +13,6 @@ pub mod RaceSteps
 pub mod ReorderLemmas
 pub mod OwnOrder
 pub mod Uniqueness
+pub mod PlacesAside
 pub mod ExampleLemmas
 pub mod ExampleVerdicts

@@ -1,5 +1,5 @@
 -- Who takes part in an event, what it does, and how many events of a kind there are. (The Go Memory Model, "Memory Model": memory operation)
-use Rattle.std.specs.Prelude.{ℕ, ◌≡◌, ◌==◌, ◌||◌, ◌&&◌, nat_lt, Bool, true, false, IsTrue, List, [], ◌∷◌, Option, Some, None, count_by, take, slice_get}
+use Rattle.std.specs.Prelude.{ℕ, ◌≡◌, ◌==◌, ◌||◌, ◌&&◌, nat_lt, Bool, true, false, IsTrue, List, [], ◌∷◌, Option, Some, None, count_by, map, take, slice_get}
 use Rattle.race_records.specs.declared.event.Event.{Event}
 use Rattle.race_records.specs.declared.event.Op.{Op}
 use Rattle.race_records.specs.declared.event.Op.TheVariants.{Go, Exit, Read, Write}
@@ -7,6 +7,10 @@ use Rattle.race_records.specs.declared.event.Op.TheVariants.{Go, Exit, Read, Wri
 -- e is the event at index i of the list; indexes count from 0
 abbrev pub At : List Event → ℕ → Event → Type 0
 At events i e = slice_get events i ≡ Some e
+
+-- who does what, in order: the events without their places
+abbrev pub operations : List Event → List (ℕ × Op)
+operations events = map (λ e. (e.who, e.op)) events
 
 -- the second participant: the goroutine that a Go starts
 abbrev pub partner : Op → Option ℕ

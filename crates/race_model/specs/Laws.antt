@@ -1,6 +1,7 @@
 -- The laws of the definitions. Each is the contract of a function in src/laws.rt that does nothing. (The Go Memory Model, "Memory Model": DRF-SC)
 use Rattle.std.specs.Prelude.{ℕ, ◌≡◌, ◌<◌, List}
 use Rattle.race_records.specs.declared.event.Event.{Event}
+use Rattle.race_model.specs.Events.{operations}
 use Rattle.race_model.specs.Order.{HappensBefore}
 use Rattle.race_model.specs.Race.{IsDataRaceFree, IsReportedRace}
 use Rattle.race_model.specs.Reorder.{IsReordering, own_order, EachReadFindsTheSame}
@@ -33,3 +34,9 @@ HasOneReportedRace events =
 -- a list of events has at most one verdict
 abbrev pub HasOneVerdict : List Event → Type 0
 HasOneVerdict events = (caps : ℕ → ℕ) (v w : Verdict) → IsVerdict caps events v → IsVerdict caps events w → v ≡ w
+
+-- a verdict is on who does what: lists that differ in places alone have the same ones
+abbrev pub VerdictIsOnOperations : List Event → Type 0
+VerdictIsOnOperations events =
+    (others : List Event) → operations events ≡ operations others → (caps : ℕ → ℕ) (v : Verdict)
+    → IsVerdict caps events v → IsVerdict caps others v

@@ -6,6 +6,7 @@ ghost use Rattle.race_model.specs.Laws.{
   HasOneVerdict,
   OwnOrderIsReordering,
   ReorderingsFindTheSame,
+  VerdictIsOnOperations,
 };
 
 use race_records::Event;
@@ -38,4 +39,9 @@ pub fn has_one_reported_race(_events: &[Event])
 /// A list of events has at most one verdict.
 pub fn has_one_verdict(_events: &[Event])
     ensures { HasOneVerdict _events.now }
+{}
+
+/// A verdict is on who does what: lists that differ in places alone have the same ones.
+pub fn verdict_is_on_operations(_events: &[Event])
+    ensures { VerdictIsOnOperations _events.now }
 {}

@@ -1,0 +1,148 @@
+-- Lists of events that differ in places alone are judged alike.
+use Rattle.std.proofs.Common.{◌≡◌, ℕ, ◌+◌, cond, ◌==◌, ◌||◌, ◌&&◌, not, Bool, IsTrue, nat_lt, List, [], ◌∷◌, Option, Some, None, option_map, count_by, map, take, slice_get, unwrap_or, refl, sym, ap, ◌∙◌, subst, inl, inr, ◌⊎◌}
+use Rattle.std.proofs.lemmas.List.{take-map}
+use Rattle.std.proofs.lemmas.List.Folds.{fold-map}
+use Rattle.std.proofs.lemmas.Option.{none-some, same_Some, slice_get-map}
+use Rattle.race_records.specs.declared.event.Event.{Event}
+use Rattle.race_records.specs.declared.event.Op.{Op}
+use Rattle.race_records.specs.declared.event.Op.TheVariants.{Go, Exit, Read, Write}
+use Rattle.race_model.specs.Events.{At, operations, TakesPart, takes_part, partner, gives, starts, is_exit, writes, accesses, has, has_exited, last_of}
+use Rattle.race_model.specs.State.{over, started, runs, written, last_value}
+use Rattle.race_model.specs.Legal.{op_rules, least_broken, broken, IsLegal, IsIllegalAt}
+use Rattle.race_model.specs.Order.{Point, Begin, End, SequencedBefore, SynchronizedInside, SynchronizedBefore, Step, Reaches, one_step, then_step, HappensBefore}
+use Rattle.race_model.specs.Race.{IsAccessOf, IsWriteOf, Conflict, RaceBy, IsRace, IsReportedRace}
+use Rattle.race_model.specs.Verdict.{Verdict, Illegal, Clean, Races, IsVerdict}
+
+abbrev doing : Event → ℕ × Op
+doing e = (e.who, e.op)
+
+-- a count and a last element by what is done
+count_of_operations : (p : ℕ × Op → Bool) (es : List Event) → count_by (λ (e : Event). p (e.who, e.op)) es ≡ count_by p (operations es)
+count_of_operations p es = sym (fold-map (λ n c. n + cond (p c) 1 0) doing 0 es)
+
+last_of_operations : (f : Op → Option ℕ) (es : List Event) → last_of (λ e. f e.op) es ≡ last_of (λ (c : ℕ × Op). f c.1) (operations es)
+last_of_operations f [] = refl
+last_of_operations f (e ∷ es) = ap (λ o. elim o [ Some a ↦ Some a | None ↦ f e.op ]) (last_of_operations f es)
+
+-- the event at an index is matched by one that does the same
+record IsMatched (fs : List Event) (i : ℕ) (e : Event) : Type 0 where
+  f : Event
+  at : At fs i f
+  who : e.who ≡ f.who
+  op : e.op ≡ f.op
+
+module _ (es fs : List Event) (same : operations es ≡ operations fs) where
+  matched : (i : ℕ) (e : Event) → At es i e → IsMatched fs i e
+  matched i e at = by (slice_get fs i) refl (sym (slice_get-map doing fs i) ∙ ap (λ l. slice_get l i) (sym same) ∙ slice_get-map doing es i ∙ ap (option_map doing) at)
+    where
+      by : (o : Option Event) → slice_get fs i ≡ o → option_map doing o ≡ Some (e.who, e.op) → IsMatched fs i e
+      by None is h = absurd (none-some (e.who, e.op) h)
+      by (Some f) is h =
+          let alike = same_Some (f.who, f.op) (e.who, e.op) h in
+          record { f = f; at = is; who = ap (λ (c : ℕ × Op). c.0) (sym alike); op = ap (λ (c : ℕ × Op). c.1) (sym alike) }
+
+  front_alike : (n : ℕ) → operations (take n es) ≡ operations (take n fs)
+  front_alike n = sym (take-map doing n es) ∙ ap (take n) same ∙ take-map doing n fs
+
+  -- what the events say of the run
+  counted_alike : (p : ℕ × Op → Bool) → count_by (λ (e : Event). p (e.who, e.op)) es ≡ count_by (λ (e : Event). p (e.who, e.op)) fs
+  counted_alike p = count_of_operations p es ∙ ap (count_by p) same ∙ sym (count_of_operations p fs)
+
+  exited_alike : (g : ℕ) → has_exited g es ≡ has_exited g fs
+  exited_alike g = ap (nat_lt 0) (counted_alike (λ c. (c.0 == g) && is_exit c.1))
+
+  started_alike : (g : ℕ) → started g es ≡ started g fs
+  started_alike g = ap (nat_lt 0) (counted_alike (λ c. starts g c.1))
+
+  last_alike : (x : ℕ) → last_value x es ≡ last_value x fs
+  last_alike x = ap (λ o. unwrap_or o 0) (last_of_operations (written x) es ∙ ap (last_of (λ (c : ℕ × Op). written x c.1)) same ∙ sym (last_of_operations (written x) fs))
+
+  op_rules_alike : (caps : ℕ → ℕ) (g : ℕ) (o : Op) → op_rules caps es g o ≡ op_rules caps fs g o
+  op_rules_alike caps g (Go h) = ap (λ b. (3, h == 0 || b) ∷ []) (started_alike h)
+  op_rules_alike caps g Exit = refl
+  op_rules_alike caps g (Read x v) = ap (λ n. (21, not (n == v)) ∷ []) (last_alike x)
+  op_rules_alike caps g (Write x v) = refl
+
+  broken_alike : (caps : ℕ → ℕ) (e f : Event) → e.who ≡ f.who → e.op ≡ f.op → broken caps es e ≡ broken caps fs f
+  broken_alike caps e f who op =
+      (λ i. least_broken ((1, exited_alike 0 i) ∷ (2, not ((e.who == 0 || started_alike e.who i) && not (exited_alike e.who i))) ∷ op_rules_alike caps e.who e.op i))
+      ∙ (λ i. least_broken ((1, over fs) ∷ (2, not (runs (who i) fs)) ∷ op_rules caps fs (who i) (op i)))
+
+  takes_part_alike : (i g : ℕ) → TakesPart es i g → TakesPart fs i g
+  takes_part_alike i g (e, at, is) = let m = matched i e at in (m.f, m.at, subst IsTrue (λ j. (m.who j == g) || gives (partner (m.op j)) g) is)
+
+  sequenced_alike : (p q : Point) → SequencedBefore es p q → SequencedBefore fs p q
+  sequenced_alike (Begin i g) (End j h) (at, who, part) = (at, who, takes_part_alike i g part)
+  sequenced_alike (End i g) (Begin j h) (less, who, part, later) = (less, who, takes_part_alike i g part, takes_part_alike j h later)
+  sequenced_alike (Begin i g) (Begin j h) never = never
+  sequenced_alike (End i g) (End j h) never = never
+
+  synchronized_alike : (caps : ℕ → ℕ) (p q : Point) → SynchronizedBefore caps es p q → SynchronizedBefore caps fs p q
+  synchronized_alike caps (Begin i g) (End j h) (e, at, which) =
+      let m = matched j e at in
+      (m.f, m.at, elim which [
+        | inl inside ↦ inl (inside.0, subst (λ (c : ℕ × Op). SynchronizedInside c.0 c.1 g h) (λ k. (m.who k, m.op k)) inside.1)
+        | inr from ↦ absurd from.2
+      ])
+  synchronized_alike caps (Begin i g) (Begin j h) never = never
+  synchronized_alike caps (End i g) (Begin j h) never = never
+  synchronized_alike caps (End i g) (End j h) never = never
+
+  step_alike : (caps : ℕ → ℕ) (p q : Point) → Step caps es p q → Step caps fs p q
+  step_alike caps p q (inl s) = inl (sequenced_alike p q s)
+  step_alike caps p q (inr s) = inr (synchronized_alike caps p q s)
+
+  reaches_alike : (caps : ℕ → ℕ) (p q : Point) → Reaches caps es p q → Reaches caps fs p q
+  reaches_alike caps p q (one_step s) = one_step (step_alike caps p q s)
+  reaches_alike caps p q (then_step {q = r} first s) = then_step (reaches_alike caps p r first) (step_alike caps r q s)
+
+  happens_alike : (caps : ℕ → ℕ) (i j : ℕ) → HappensBefore caps es i j → HappensBefore caps fs i j
+  happens_alike caps i j (a, b, at, there, reached) =
+      let m = matched i a at in
+      let n = matched j b there in
+      (m.f, n.f, m.at, n.at, subst (λ (g : ℕ × ℕ). Reaches caps fs (End i g.0) (Begin j g.1)) (λ k. (m.who k, n.who k)) (reaches_alike caps (End i a.who) (Begin j b.who) reached))
+
+  access_alike : (x i : ℕ) → IsAccessOf es x i → IsAccessOf fs x i
+  access_alike x i (e, at, is) = let m = matched i e at in (m.f, m.at, subst IsTrue (ap (accesses x) m.op) is)
+
+  write_alike : (x i : ℕ) → IsWriteOf es x i → IsWriteOf fs x i
+  write_alike x i (e, at, is) = let m = matched i e at in (m.f, m.at, subst IsTrue (ap (writes x) m.op) is)
+
+  conflict_alike : (x i j : ℕ) → Conflict es x i j → Conflict fs x i j
+  conflict_alike x i j (other, first, second, inl w) = (other, access_alike x i first, access_alike x j second, inl (write_alike x i w))
+  conflict_alike x i j (other, first, second, inr w) = (other, access_alike x i first, access_alike x j second, inr (write_alike x j w))
+
+race_alike : (es fs : List Event) → operations es ≡ operations fs → (caps : ℕ → ℕ) (x i j : ℕ) → IsRace caps es x i j → IsRace caps fs x i j
+race_alike es fs same caps x i j race = record {
+  conflict = conflict_alike es fs same x i j race.conflict;
+  not_before = λ h. race.not_before (happens_alike fs es (sym same) caps i j h);
+  not_after = λ h. race.not_after (happens_alike fs es (sym same) caps j i h);
+}
+
+reported_alike : (es fs : List Event) → operations es ≡ operations fs → (caps : ℕ → ℕ) (x i j : ℕ) → IsReportedRace caps es x i j → IsReportedRace caps fs x i j
+reported_alike es fs same caps x i j reported = record {
+  race = race_alike es fs same caps x i j reported.race;
+  in_order = reported.in_order;
+  least = λ k m less race. reported.least k m less (race_alike fs es (sym same) caps x k m race);
+  greatest = λ k less race. reported.greatest k less (race_alike fs es (sym same) caps x k j race);
+}
+
+still_legal : (es fs : List Event) → operations es ≡ operations fs → (caps : ℕ → ℕ) → IsLegal caps es → IsLegal caps fs
+still_legal es fs same caps legal i f at =
+    let m = matched fs es (sym same) i f at in
+    broken_alike (take i fs) (take i es) (front_alike fs es (sym same) i) caps f m.f m.who m.op ∙ legal i m.f m.at
+
+still_illegal : (es fs : List Event) → operations es ≡ operations fs → (caps : ℕ → ℕ) (i n : ℕ) → IsIllegalAt caps es i n → IsIllegalAt caps fs i n
+still_illegal es fs same caps i n (e, at, is, legal) =
+    let m = matched es fs same i e at in
+    let front = front_alike es fs same i in
+    (m.f, m.at, sym (broken_alike (take i es) (take i fs) front caps e m.f m.who m.op) ∙ is, still_legal (take i es) (take i fs) front caps legal)
+
+pub verdict_alike : (es fs : List Event) → operations es ≡ operations fs → (caps : ℕ → ℕ) (v : Verdict) → IsVerdict caps es v → IsVerdict caps fs v
+verdict_alike es fs same caps (Illegal i n) right = still_illegal es fs same caps i n right
+verdict_alike es fs same caps Clean (legal, free) = (still_legal es fs same caps legal, λ x i j race. free x i j (race_alike fs es (sym same) caps x i j race))
+verdict_alike es fs same caps (Races races) (legal, some, are) = (still_legal es fs same caps legal, some, record {
+  each = λ k r at. reported_alike es fs same caps r.var r.first r.second (are.each k r at);
+  rising = are.rising;
+  every = λ x i j race. are.every x i j (race_alike fs es (sym same) caps x i j race);
+})

@@ -10,3 +10,4 @@ pub mod RaceLists
 pub mod ReportLemmas
 pub mod PrintableLemmas
 pub mod CleanLemmas
+pub mod OneReport

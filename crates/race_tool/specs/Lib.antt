@@ -12,3 +12,4 @@ pub mod Report
 pub mod Finding
 pub mod Findings
 pub mod Outcome
+pub mod Laws

@@ -6,6 +6,7 @@ mod check;
 mod finding;
 mod input;
 mod judge;
+pub mod laws;
 mod printing;
 mod races;
 mod replay;

@@ -1,0 +1,118 @@
+-- Whichever finding is right for a list of bytes, the report is the same.
+use Rattle.std.proofs.Common.{◌≡◌, ℕ, ◌+◌, ◌<◌, List, [], ◌∷◌, ◌++◌, length, map, slice_get, unwrap_or, codes, decimal, Option, Some, None, option_map, cond, refl, sym, ap, ◌∙◌, arith}
+use Rattle.std.proofs.lemmas.List.{length-map}
+use Rattle.std.proofs.lemmas.List.Folds.{fold-map}
+use Rattle.std.proofs.lemmas.Option.{none-some, same_Some, slice_get-map}
+use Rattle.std.proofs.lemmas.Simd.{map-map}
+use Rattle.std.specs.List.{flat_map, fold, concat}
+use Rattle.race_records.specs.declared.event.Event.{Event}
+use Rattle.race_records.specs.declared.event.Op.{Op}
+use Rattle.race_records.specs.Declarations.{Declaration}
+use Rattle.race_records.specs.Events.{TraceState}
+use Rattle.race_records.specs.TraceEquality.{PlacedEvent, placed, placed_events, Recorded, recorded}
+use Rattle.race_model.specs.Events.{operations, count, is_access}
+use Rattle.race_model.specs.Verdict.{Race, Verdict, Illegal, Clean, Races}
+use Rattle.race_model.proofs.PlacesAside.{verdict_alike}
+use Rattle.race_model.proofs.Uniqueness.{verdict_unique}
+use Rattle.race_text.specs.declared.cause.TextFault.{TextFault}
+use Rattle.race_text.specs.Fault.{text_fault}
+use Rattle.race_text.specs.Text.{goroutine_name, var_name, place_text, IsTextOf}
+use Rattle.race_text.proofs.TextFine.{text_has_no_fault}
+use Rattle.race_text.proofs.TextLaws.{equal_texts}
+use Rattle.race_tool.specs.Report.{newline, clean_line, illegal_line, access_word, access_text, race_line, races_line, report}
+use Rattle.race_tool.specs.Finding.{Finding, Faulty, TooLong, Judged, IsFinding, HasVerdict, report_of, status_of}
+
+-- two traces that record the same
+module _ (t u : TraceState) (same : recorded t ≡ recorded u) where
+  declarations_same : t.decls.declarations ≡ u.decls.declarations
+  declarations_same = ap (λ (r : Recorded). r.declarations) same
+
+  events_same : placed_events t ≡ placed_events u
+  events_same = ap (λ (r : Recorded). r.events) same
+
+  doing : PlacedEvent → ℕ × Op
+  doing p = (p.who, p.op)
+
+  operations_same : operations t.events ≡ operations u.events
+  unfolding doing
+  operations_same = sym (map-map doing (placed t.decls.places) t.events) ∙ ap (map doing) events_same ∙ map-map doing (placed u.decls.places) u.events
+
+  length_same : length t.events ≡ length u.events
+  length_same = sym (length-map t.events (placed t.decls.places)) ∙ ap length events_same ∙ length-map u.events (placed u.decls.places)
+
+  accesses_same : count is_access t.events ≡ count is_access u.events
+  accesses_same = counted t.events ∙ ap (fold (λ (n : ℕ) (c : ℕ × Op). n + cond (is_access c.1) 1 0) 0) operations_same ∙ sym (counted u.events)
+    where
+      counted : (es : List Event) → count is_access es ≡ fold (λ (n : ℕ) (c : ℕ × Op). n + cond (is_access c.1) 1 0) 0 (operations es)
+      counted es = sym (fold-map (λ (n : ℕ) (c : ℕ × Op). n + cond (is_access c.1) 1 0) (λ (e : Event). (e.who, e.op)) 0 es)
+
+  event_same : (i : ℕ) → option_map (placed t.decls.places) (slice_get t.events i) ≡ option_map (placed u.decls.places) (slice_get u.events i)
+  event_same i = sym (slice_get-map (placed t.decls.places) t.events i) ∙ ap (λ l. slice_get l i) events_same ∙ slice_get-map (placed u.decls.places) u.events i
+
+  -- an access is printed the same, whatever the numbers of places
+  access_same : (i : ℕ) → access_text t i ≡ access_text u i
+  unfolding access_text
+  access_same i = by (slice_get t.events i) (slice_get u.events i) (event_same i)
+    where
+      words : TraceState → Option Event → List (List ℕ)
+      words trace o =
+          elim o [
+            | None ↦ []
+            | Some e ↦
+                access_word e.op ∷ codes " by " ∷ goroutine_name trace.decls.declarations e.who
+                ∷ codes " at " ∷ place_text trace.decls.places e.place
+                ∷ codes " (event " ∷ decimal (i + 1) ∷ codes ")" ∷ []
+          ]
+
+      by : (o p : Option Event) → option_map (placed t.decls.places) o ≡ option_map (placed u.decls.places) p → words t o ≡ words u p
+      by None None h = refl
+      by None (Some f) h = absurd (none-some (placed u.decls.places f) h)
+      by (Some e) None h = absurd (none-some (placed t.decls.places e) (sym h))
+      by (Some e) (Some f) h =
+          let one = same_Some (placed t.decls.places e) (placed u.decls.places f) h in
+          λ j. access_word (one j).op ∷ codes " by " ∷ goroutine_name (declarations_same j) (one j).who
+          ∷ codes " at " ∷ unwrap_or (one j).place []
+          ∷ codes " (event " ∷ decimal (i + 1) ∷ codes ")" ∷ []
+
+  race_same : (race : Race) → race_line t race ≡ race_line u race
+  unfolding race_line
+  race_same race = λ j. concat (codes "race on " ∷ var_name (declarations_same j) race.var ∷ codes ": " ∷ (access_same race.first j ++ codes ", " ∷ (access_same race.second j ++ newline ∷ [])))
+
+  report_same : (verdict : Verdict) → report t verdict ≡ report u verdict
+  unfolding clean_line
+  report_same (Illegal index rule) = refl
+  report_same Clean = λ j. concat (codes "clean: " ∷ decimal (length_same j) ∷ codes " events, " ∷ decimal (accesses_same j) ∷ codes " accesses" ∷ newline ∷ [])
+  report_same (Races races) = λ j. flat_map (λ race. race_same race j) races ++ races_line (length races)
+
+module _ (bytes : List ℕ) where
+  -- the bytes are the text of one trace at most
+  one_trace : (t u : TraceState) → IsTextOf t bytes → IsTextOf u bytes → recorded t ≡ recorded u
+  one_trace t u is are = equal_texts t u is.has_text are.has_text (sym is.printed ∙ are.printed)
+
+  -- and then they have no fault
+  never_both : (t : TraceState) (fault : TextFault) → IsTextOf t bytes → text_fault bytes ≡ Some fault → ⊥
+  never_both t fault is h = none-some fault (sym (ap text_fault is.printed ∙ text_has_no_fault t is.has_text) ∙ h)
+
+  one_verdict : (t u : TraceState) (v w : Verdict) → IsTextOf t bytes → IsTextOf u bytes → HasVerdict t v → HasVerdict u w → v ≡ w
+  one_verdict t u v w is are judged other =
+      let caps : ℕ → ℕ = λ _. 0 in
+      verdict_unique caps u.events v w (verdict_alike t.events u.events (operations_same t u (one_trace t u is are)) caps v (judged caps)) (other caps)
+
+  pub one_report : (f g : Finding) → IsFinding bytes f → IsFinding bytes g → (report_of f ≡ report_of g) × (status_of f ≡ status_of g)
+  one_report (Faulty a) (Faulty b) h k = let same = same_Some a b (sym h ∙ k) in (ap (λ x. report_of (Faulty x)) same, refl)
+  one_report (Faulty a) (TooLong n) h (u, are, length_is, over) = absurd (never_both u a are h)
+  one_report (Faulty a) (Judged u w) h (are, short, judged) = absurd (never_both u a are h)
+  one_report (TooLong m) (Faulty b) (t, is, length_is, over) k = absurd (never_both t b is k)
+  one_report (TooLong m) (TooLong n) (t, is, m_is, over) (u, are, n_is, more) =
+      let same : m ≡ n = sym m_is ∙ length_same t u (one_trace t u is are) ∙ n_is in
+      (ap (λ k. report_of (TooLong k)) same, refl)
+  one_report (TooLong m) (Judged u w) (t, is, m_is, over) (are, short, judged) =
+      let same = length_same t u (one_trace t u is are) in
+      absurd (omega (arith, same, m_is, over, short))
+  one_report (Judged t v) (Faulty b) (is, short, judged) k = absurd (never_both t b is k)
+  one_report (Judged t v) (TooLong n) (is, short, judged) (u, are, n_is, over) =
+      let same = length_same t u (one_trace t u is are) in
+      absurd (omega (arith, same, n_is, over, short))
+  one_report (Judged t v) (Judged u w) (is, short, judged) (are, less, other) =
+      let same = one_verdict t u v w is are judged other in
+      (report_same t u (one_trace t u is are) v ∙ ap (report u) same, ap (λ x. status_of (Judged u x)) same)

@@ -1,0 +1,5 @@
+use Rattle.race_tool.proofs.OneReport.{one_report}
+use Rattle.race_tool.proofs.laws.has_one_report.Goals as goal
+
+pub returns : goal.returns
+returns c = one_report c.args._bytes.now

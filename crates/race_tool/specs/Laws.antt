@@ -1,0 +1,9 @@
+-- The law of the report. It is the contract of a function in src/laws.rt that does nothing.
+use Rattle.std.specs.Prelude.{ℕ, ◌≡◌, List}
+use Rattle.race_tool.specs.Finding.{Finding, IsFinding, report_of, status_of}
+
+-- a list of bytes has one report, and one status, whichever finding is right for it
+abbrev pub HasOneReport : List ℕ → Type 0
+HasOneReport bytes =
+    (f g : Finding) → IsFinding bytes f → IsFinding bytes g
+    → (report_of f ≡ report_of g) × (status_of f ≡ status_of g)

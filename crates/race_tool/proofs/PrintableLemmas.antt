@@ -1,14 +1,8 @@
 -- Races of a right verdict have the trace's numbers, so they can be printed.
-use Rattle.std.proofs.Common.{◌≡◌, ℕ, ◌<◌, ◌==◌, ◌||◌, Bool, true, false, IsTrue, List, map, Some, slice_get, get_or, All, ap, ◌∙◌, arith}
-use Rattle.std.proofs.lemmas.Bool.Decides.{nat_tests}
+use Rattle.std.proofs.Common.{◌≡◌, ℕ, List, map, Some, slice_get, get_or, All, ap, ◌∙◌}
 use Rattle.std.proofs.lemmas.Option.{slice_get_within, slice_get-map, slice_get-get_or}
 use Rattle.std.specs.Option.{option_map}
-use Rattle.race_records.specs.declared.event.Op.{Op}
-use Rattle.race_records.specs.declared.event.Op.TheVariants.{Go, Exit, Read, Write}
-use Rattle.race_records.specs.declared.kind.Kind.{Kind}
-use Rattle.race_records.specs.Declarations.{count_of}
 use Rattle.race_records.specs.Events.{TraceState, IsTrace}
-use Rattle.race_model.specs.Events.{accesses}
 use Rattle.race_model.specs.Race.{IsReportedRace}
 use Rattle.race_model.specs.Verdict as model
 use Rattle.race_tool.specs.declared.finding.Finding.{Finding}
@@ -18,32 +12,16 @@ use Rattle.race_tool.specs.Answers.{race_of}
 use Rattle.race_tool.specs.Finding as spec
 use Rattle.race_tool.specs.Findings.{finding_of, RacesAreOf, IsPrintable}
 use Rattle.race_tool.specs.Report.{IsOf}
-use Rattle.race_tool.specs.ReplayState.{OpIsInRange, sizes_of}
-use Rattle.race_tool.proofs.Fronts.{range_in_trace}
-
-either : (b : Bool) → IsTrue (b || false) → IsTrue b
-either true is = is
-either false is = is
-
--- a number that is tested to be another one is in its range
-access_below : (x y : ℕ) {n : ℕ} → IsTrue (y == x) → y < n → x < n
-access_below x y is below = grind (arith, nat_tests)
+use Rattle.race_tool.proofs.JudgeSteps.{race_declared}
 
 module _ (trace : TraceState) (is_trace : IsTrace trace) where
-  -- the variable of an access is declared
-  access_var : (x : ℕ) (o : Op) → IsTrue (accesses x o) → OpIsInRange (sizes_of trace.decls) o → x < count_of Kind.Var trace.decls.declarations
-  access_var x (Go h) is range = cc
-  access_var x Exit is range = cc
-  access_var x (Read y v) is range = access_below x y (either (y == x) is) range
-  access_var x (Write y v) is range = access_below x y is range
-
   race_is_of : (caps : ℕ → ℕ) (race : model.Race) → IsReportedRace caps trace.events race.var race.first race.second → IsOf trace race
   race_is_of caps race reported =
       let conflict = reported.race.conflict in
       let first = conflict.1 in
       let second = conflict.2 in
       record {
-        var = access_var race.var first.0.op first.2 (range_in_trace trace race.first first.0 is_trace first.1).1;
+        var = race_declared caps trace race.var race.first race.second is_trace reported.race;
         first = slice_get_within trace.events race.first first.0 first.1;
         second = slice_get_within trace.events race.second second.0 second.1;
       }

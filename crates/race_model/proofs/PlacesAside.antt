@@ -1,16 +1,16 @@
 -- Lists of events that differ in places alone are judged alike.
-use Rattle.std.proofs.Common.{◌≡◌, ℕ, ◌+◌, cond, ◌==◌, ◌||◌, ◌&&◌, not, Bool, IsTrue, nat_lt, List, [], ◌∷◌, Option, Some, None, option_map, count_by, map, take, slice_get, unwrap_or, refl, sym, ap, ◌∙◌, subst, inl, inr, ◌⊎◌}
+use Rattle.std.proofs.Common.{◌≡◌, ℕ, ◌+◌, cond, ◌==◌, ◌||◌, ◌&&◌, not, Bool, IsTrue, nat_lt, List, [], ◌∷◌, Option, Some, None, option_map, count_by, take, slice_get, unwrap_or, refl, sym, ap, ◌∙◌, subst, inl, inr}
 use Rattle.std.proofs.lemmas.List.{take-map}
 use Rattle.std.proofs.lemmas.List.Folds.{fold-map}
 use Rattle.std.proofs.lemmas.Option.{none-some, same_Some, slice_get-map}
 use Rattle.race_records.specs.declared.event.Event.{Event}
 use Rattle.race_records.specs.declared.event.Op.{Op}
 use Rattle.race_records.specs.declared.event.Op.TheVariants.{Go, Exit, Read, Write}
-use Rattle.race_model.specs.Events.{At, operations, TakesPart, takes_part, partner, gives, starts, is_exit, writes, accesses, has, has_exited, last_of}
+use Rattle.race_model.specs.Events.{At, operations, TakesPart, partner, gives, starts, is_exit, writes, accesses, has_exited, last_of}
 use Rattle.race_model.specs.State.{over, started, runs, written, last_value}
 use Rattle.race_model.specs.Legal.{op_rules, least_broken, broken, IsLegal, IsIllegalAt}
 use Rattle.race_model.specs.Order.{Point, Begin, End, SequencedBefore, SynchronizedInside, SynchronizedBefore, Step, Reaches, one_step, then_step, HappensBefore}
-use Rattle.race_model.specs.Race.{IsAccessOf, IsWriteOf, Conflict, RaceBy, IsRace, IsReportedRace}
+use Rattle.race_model.specs.Race.{IsAccessOf, IsWriteOf, Conflict, IsRace, IsReportedRace}
 use Rattle.race_model.specs.Verdict.{Verdict, Illegal, Clean, Races, IsVerdict}
 
 abbrev doing : Event → ℕ × Op
@@ -79,11 +79,14 @@ module _ (es fs : List Event) (same : operations es ≡ operations fs) where
 
   synchronized_alike : (caps : ℕ → ℕ) (p q : Point) → SynchronizedBefore caps es p q → SynchronizedBefore caps fs p q
   synchronized_alike caps (Begin i g) (End j h) (e, at, which) =
-      let m = matched j e at in
-      (m.f, m.at, elim which [
-        | inl inside ↦ inl (inside.0, subst (λ (c : ℕ × Op). SynchronizedInside c.0 c.1 g h) (λ k. (m.who k, m.op k)) inside.1)
-        | inr from ↦ absurd from.2
-      ])
+      let m = matched j e at in (
+        m.f,
+        m.at,
+        elim which [
+          | inl inside ↦ inl (inside.0, subst (λ (c : ℕ × Op). SynchronizedInside c.0 c.1 g h) (λ k. (m.who k, m.op k)) inside.1)
+          | inr from ↦ absurd from.2
+        ],
+      )
   synchronized_alike caps (Begin i g) (Begin j h) never = never
   synchronized_alike caps (End i g) (Begin j h) never = never
   synchronized_alike caps (End i g) (End j h) never = never
@@ -141,8 +144,12 @@ still_illegal es fs same caps i n (e, at, is, legal) =
 pub verdict_alike : (es fs : List Event) → operations es ≡ operations fs → (caps : ℕ → ℕ) (v : Verdict) → IsVerdict caps es v → IsVerdict caps fs v
 verdict_alike es fs same caps (Illegal i n) right = still_illegal es fs same caps i n right
 verdict_alike es fs same caps Clean (legal, free) = (still_legal es fs same caps legal, λ x i j race. free x i j (race_alike fs es (sym same) caps x i j race))
-verdict_alike es fs same caps (Races races) (legal, some, are) = (still_legal es fs same caps legal, some, record {
-  each = λ k r at. reported_alike es fs same caps r.var r.first r.second (are.each k r at);
-  rising = are.rising;
-  every = λ x i j race. are.every x i j (race_alike fs es (sym same) caps x i j race);
-})
+verdict_alike es fs same caps (Races races) (legal, some, are) = (
+  still_legal es fs same caps legal,
+  some,
+  record {
+    each = λ k r at. reported_alike es fs same caps r.var r.first r.second (are.each k r at);
+    rising = are.rising;
+    every = λ x i j race. are.every x i j (race_alike fs es (sym same) caps x i j race);
+  },
+)

@@ -1,5 +1,5 @@
 -- Bytes without a fault are some trace's text: line by line, each is taken into a trace.
-use Rattle.std.proofs.Common.{◌≡◌, ℕ, ◌+◌, ◌*◌, ◌^◌, ◌-◌, ◌<◌, ◌≤◌, ◌&&◌, Bool, true, false, not, nat_le, nat_lt, ◌==◌, if◌then◌else◌, List, [], ◌∷◌, ◌++◌, length, map, Option, Some, None, IsTrue, refl, sym, ap, subst, ◌∙◌, arith, true≢false, append-nil, append_assoc}
+use Rattle.std.proofs.Common.{◌≡◌, ℕ, ◌+◌, ◌*◌, ◌^◌, ◌-◌, ◌<◌, ◌≤◌, ◌&&◌, Bool, true, false, not, nat_le, nat_lt, ◌==◌, if◌then◌else◌, List, [], ◌∷◌, ◌++◌, length, Option, Some, None, IsTrue, refl, sym, ap, subst, ◌∙◌, arith, true≢false, append-nil, append_assoc}
 use Rattle.std.proofs.lemmas.Bool.Decides.{nat_tests}
 use Rattle.std.proofs.lemmas.Grind.{flat_map-append}
 use Rattle.std.proofs.lemmas.List.Elements.{All-push}
@@ -13,9 +13,8 @@ use Rattle.std.specs.Str.Parse.{digits_value}
 use Rattle.race_records.specs.declared.event.Event.{Event}
 use Rattle.race_records.specs.declared.event.Op.TheVariants.{Read, Write}
 use Rattle.race_records.specs.declared.trace.TheConstants.{MAX_EVENTS}
-use Rattle.race_records.specs.Name.{is_place}
 use Rattle.race_records.specs.Declarations.{Declaration, DeclsState, IsWellFormed, is_known, place_fault, with_place, with_declaration}
-use Rattle.race_records.specs.Events.{TraceState, IsTrace, fits, value_fits}
+use Rattle.race_records.specs.Events.{TraceState, value_fits}
 use Rattle.race_records.proofs.DeclFaultLemmas.{allowed_from_no_fault}
 use Rattle.race_records.proofs.DeclsKept.{empty_well_formed, push_well_formed}
 use Rattle.race_records.proofs.EventLemmas.{push_is_trace, with_place_is_trace}
@@ -24,10 +23,10 @@ use Rattle.race_text.specs.declared.cause.TextCause.{TextCause}
 use Rattle.race_text.specs.declared.cause.TextFault.{TextFault}
 use Rattle.race_text.specs.declared.form.Word.{Word}
 use Rattle.race_text.specs.Words.{parts_of, words_of, has_bad_byte, number}
-use Rattle.race_text.specs.Text.{header, ended, event_line, has_words, lines, text}
+use Rattle.race_text.specs.Text.{header, ended, has_words, lines, text}
 use Rattle.race_text.specs.Form.{word_named}
 use Rattle.race_text.specs.Fault.{seen, seen_so_far, line_cause, cause, or_later, fault_after, text_fault}
-use Rattle.race_text.specs.Declaring.{is_declaration_line, declaration_cause, with_declared}
+use Rattle.race_text.specs.Declaring.{is_declaration_line, with_declared}
 use Rattle.race_text.specs.Text.{HasText, IsTraceText}
 use Rattle.race_text.specs.Reading.{Occurrence, event_by, event_in}
 use Rattle.race_text.specs.Reader.{end_cause}
@@ -174,14 +173,13 @@ scanned (line ∷ part ∷ others) t has read some none =
     let split = or_later_none (length (lines t) + 1) (cause (lines t) line true) (fault_after (lines t ++ line ∷ []) parts) (sym (fault_step (lines t) line parts (omega arith)) ∙ none) in
     let next = with_line t has read line split.0 in
     let rest = scanned (part ∷ others) next.next next.has next.read (omega arith) (ap (λ ls. fault_after ls parts) next.lines_are ∙ split.1) in
-    let front = flat_map ended (lines t) in
-    (
+    let front = flat_map ended (lines t) in (
       rest.0,
       rest.1,
       rest.2 ∙ ap (λ ls. flat_map ended ls ++ join_with_byte 10 parts) next.lines_are
-      ∙ ap (λ l. l ++ join_with_byte 10 parts) (flat_map-append ended (lines t) (line ∷ []) ∙ ap (λ l. front ++ l) (append-nil (ended line)))
-      ∙ append_assoc front (ended line) (join_with_byte 10 parts)
-      ∙ ap (λ l. front ++ l) (append_assoc line (10 ∷ []) (join_with_byte 10 parts)),
+          ∙ ap (λ l. l ++ join_with_byte 10 parts) (flat_map-append ended (lines t) (line ∷ []) ∙ ap (λ l. front ++ l) (append-nil (ended line)))
+          ∙ append_assoc front (ended line) (join_with_byte 10 parts)
+          ∙ ap (λ l. front ++ l) (append_assoc line (10 ∷ []) (join_with_byte 10 parts)),
     )
 
 -- the trace that the header begins

@@ -1,5 +1,5 @@
 -- The text of a trace has no fault.
-use Rattle.std.proofs.Common.{◌≡◌, ◌≢◌, ℕ, suc, ◌+◌, ◌<◌, ◌≤◌, Bool, true, false, not, nat_le, nat_lt, cond, if◌then◌else◌, List, [], ◌∷◌, ◌++◌, length, map, position, get_or, Option, Some, None, ◌⊎◌, inl, inr, is_some, option_map, IsTrue, refl, sym, ap, subst, ◌∙◌, arith, true≢false, append-nil, append_assoc}
+use Rattle.std.proofs.Common.{◌≡◌, ◌≢◌, ℕ, suc, ◌+◌, ◌<◌, Bool, true, false, not, nat_le, nat_lt, cond, if◌then◌else◌, List, [], ◌∷◌, ◌++◌, length, map, get_or, Option, Some, None, ◌⊎◌, inl, inr, is_some, option_map, IsTrue, refl, sym, ap, subst, ◌∙◌, arith, true≢false, append-nil, append_assoc}
 use Rattle.std.proofs.lemmas.Bool.Decides.{nat_tests}
 use Rattle.std.proofs.lemmas.List.{length-append, map-append}
 use Rattle.std.proofs.lemmas.List.Elements.{filter-append}
@@ -7,7 +7,6 @@ use Rattle.std.proofs.lemmas.List.Sums.{position_or_len_is}
 use Rattle.std.proofs.lemmas.Option.{none-some}
 use Rattle.std.proofs.Math.ListN.{get_or-append}
 use Rattle.std.proofs.Math.Seq.{get_or-append_seam}
-use Rattle.std.specs.List.{position_or_len}
 use Rattle.std.specs.Option.{option_and_then}
 use Rattle.std.specs.Str.{bytes_eq}
 use Rattle.race_records.specs.declared.declarations.DeclFault.{DeclFault}
@@ -16,14 +15,12 @@ use Rattle.race_records.specs.declared.kind.Named.{Named}
 use Rattle.race_records.specs.declared.kind.Object.{Object}
 use Rattle.race_records.specs.declared.trace.TheConstants.{MAX_EVENTS}
 use Rattle.race_records.specs.Name.{main, is_name}
-use Rattle.race_records.specs.Declarations.{Declaration, DeclsState, IsWellFormed, kind_of, is_of_kind, of_kind, count_of, limit_of, first_number, is_too_wide, declared_at, find_name, decl_fault}
+use Rattle.race_records.specs.Declarations.{Declaration, DeclsState, IsWellFormed, kind_of, is_of_kind, of_kind, count_of, limit_of, is_too_wide, declared_at, find_name, decl_fault}
 use Rattle.race_records.specs.Events.{TraceState}
 use Rattle.race_text.specs.declared.cause.TextCause.{TextCause}
 use Rattle.race_text.specs.declared.cause.TextFault.{TextFault}
-use Rattle.race_text.specs.declared.form.Word.{Word}
-use Rattle.race_text.specs.Words.{parts_of, words_of}
 use Rattle.race_text.specs.Text.{header, declaration_line, event_line, has_words, lines, text}
-use Rattle.race_text.specs.Form.{word_named, first_word, arguments}
+use Rattle.race_text.specs.Form.{arguments}
 use Rattle.race_text.specs.Fault.{Seen, seen, seen_so_far, line_cause, word_cause, cause, or_later, fault_after, text_fault}
 use Rattle.race_text.specs.Declaring.{cause_of}
 use Rattle.race_text.specs.Text.{HasText, IsTraceText}
@@ -32,7 +29,7 @@ use Rattle.race_text.proofs.DeclarationLemmas.{goroutine_causes, var_causes, one
 use Rattle.race_text.proofs.NamesAgain.{differ}
 use Rattle.race_text.proofs.ParseLemmas.{fault_step, fault_end}
 use Rattle.race_text.proofs.ReaderLemmas.{header_says}
-use Rattle.race_text.proofs.TextLaws.{IsDeclarationLine, word_for, declaration_again, declares_again, is_no_event, event_at, lines_again}
+use Rattle.race_text.proofs.TextLaws.{word_for, declaration_again, declares_again, is_no_event, event_at, lines_again}
 use Rattle.race_text.proofs.TraceLemmas.{clean_line, seen_declaration, seen_event}
 
 -- no cause holds at any of the lines, each behind those before it
@@ -154,8 +151,7 @@ module _ (t : TraceState) (has : HasText t) where
       let more = map-append declaration_line before (d ∷ []) in
       let rest = declarations_fine (before ++ d ∷ []) after (append_assoc before (d ∷ []) after ∙ is)
       (ap (λ ls. seen (header ∷ ls)) more
-      ∙ seen_declaration (header ∷ map declaration_line before) (declaration_line d) before d says (declares_again d (declaration_line d) line) (is_no_event d (declaration_line d) line)) in
-      (
+      ∙ seen_declaration (header ∷ map declaration_line before) (declaration_line d) before d says (declares_again d (declaration_line d) line) (is_no_event d (declaration_line d) line)) in (
         (
           cause_by_seen (map declaration_line before) (declaration_line d) (seen_so_far before 0) says ∙ no_cause t.decls has.well_formed before after d is words,
           subst (λ ls. AreFine (header ∷ ls) (map declaration_line after)) more rest.0,
@@ -182,8 +178,7 @@ module _ (t : TraceState) (has : HasText t) where
       let told : seen (header ∷ head ++ print e ∷ []) ≡ seen_so_far declared (length done + 1) =
       ap (λ l. seen (header ∷ head ++ l ∷ [])) (sym same) ∙ seen_event (header ∷ head) (print (get_or t.events (length done) e)) declared (length done) says line.declares line.is_event in
       let next = events_fine (done ++ e ∷ []) rest (append_assoc done (e ∷ []) rest ∙ is)
-      (ap (λ ls. seen (header ∷ ls)) more ∙ told ∙ ap (seen_so_far declared) (sym (length-append done (e ∷ [])))) in
-      (
+      (ap (λ ls. seen (header ∷ ls)) more ∙ told ∙ ap (seen_so_far declared) (sym (length-append done (e ∷ [])))) in (
         ap (λ l. cause (header ∷ head) l true) (sym same) ∙ cause_by_seen head (print (get_or t.events (length done) e)) (seen_so_far declared (length done)) says ∙ fine,
         subst (λ ls. AreFine (header ∷ ls) (map print rest)) more next,
       )
@@ -196,11 +191,10 @@ module _ (t : TraceState) (has : HasText t) where
   unfolding lines
   lines_fine =
       let first = declarations_fine [] declared refl header_says in
-      let none_done : header ∷ map declaration_line declared ++ [] ≡ header ∷ map declaration_line declared = append-nil (header ∷ map declaration_line declared) in
-      (
+      let none_done : header ∷ map declaration_line declared ++ [] ≡ header ∷ map declaration_line declared = append-nil (header ∷ map declaration_line declared) in (
         header_fine,
         fine_both (header ∷ []) (map declaration_line declared) (map print t.events) first.0
-        (subst (λ ls. AreFine ls (map print t.events)) none_done (events_fine [] t.events refl (ap seen none_done ∙ first.1))),
+            (subst (λ ls. AreFine ls (map print t.events)) none_done (events_fine [] t.events refl (ap seen none_done ∙ first.1))),
       )
 
   some_lines : 0 < 0 + length (lines t)

@@ -1,5 +1,5 @@
 -- What the lines of a trace say: its declarations, and its events.
-use Rattle.std.proofs.Common.{◌≡◌, ℕ, zero, suc, ◌+◌, ◌<◌, ◌&&◌, Bool, true, false, true≢false, nat_lt, if◌then◌else◌, is_none, List, [], ◌∷◌, ◌++◌, length, map, get_or, slice_get, unwrap_or, Option, Some, None, option_map, IsTrue, All, refl, sym, ap, subst, ◌∙◌, arith, codes, append-nil}
+use Rattle.std.proofs.Common.{◌≡◌, ℕ, suc, ◌<◌, ◌&&◌, Bool, true, false, true≢false, nat_lt, is_none, List, [], ◌∷◌, ◌++◌, length, map, get_or, slice_get, unwrap_or, Option, Some, None, IsTrue, refl, sym, ap, ◌∙◌, arith, append-nil}
 use Rattle.std.proofs.lemmas.List.{append_cancel_right}
 use Rattle.std.proofs.lemmas.List.Elements.{filter_map-append}
 use Rattle.std.proofs.lemmas.Option.{slice_get-get_or}
@@ -10,8 +10,8 @@ use Rattle.race_records.specs.declared.kind.Object.{Object}
 use Rattle.race_records.specs.Name.{is_name, is_place_byte}
 use Rattle.race_records.specs.Declarations.{Declaration, DeclsState, count_of}
 use Rattle.race_records.specs.declared.kind.Kind.{Kind}
-use Rattle.race_records.specs.Events.{TraceState, IsTrace, fits, op_fits, value_fits}
-use Rattle.race_records.specs.TraceEquality.{PlacedEvent, placed, placed_events, Recorded, recorded}
+use Rattle.race_records.specs.Events.{TraceState, fits, op_fits}
+use Rattle.race_records.specs.TraceEquality.{PlacedEvent, placed, placed_events, recorded}
 use Rattle.race_text.specs.declared.form.Word.{Word}
 use Rattle.race_text.specs.Words.{parts_of, words_of, has_bad_byte}
 use Rattle.race_text.specs.Text.{header, line_of, object_words, declaration_line, event_line, has_words, lines, text}
@@ -130,9 +130,12 @@ module _ (t : TraceState) (has : HasText t) where
   -- no line has a bad byte, so the text is cut into its lines again
   lines_clean : AllByRecursion (λ l. has_bad_byte l ≡ false) (lines t)
   unfolding lines
-  lines_clean = (refl, joined_each (λ l. has_bad_byte l ≡ false) (map declaration_line ds) (map (event_line t.decls) t.events)
-      (each_line (λ l. has_bad_byte l ≡ false) declaration_line ds (λ i d less. (declaration_at i d less).clean))
-      (each_line (λ l. has_bad_byte l ≡ false) (event_line t.decls) t.events (λ i e less. (event_at i e less).clean)))
+  lines_clean = (
+    refl,
+    joined_each (λ l. has_bad_byte l ≡ false) (map declaration_line ds) (map (event_line t.decls) t.events)
+        (each_line (λ l. has_bad_byte l ≡ false) declaration_line ds (λ i d less. (declaration_at i d less).clean))
+        (each_line (λ l. has_bad_byte l ≡ false) (event_line t.decls) t.events (λ i e less. (event_at i e less).clean)),
+  )
 
   pub lines_again : parts_of (text t) ≡ lines t ++ [] ∷ []
   unfolding text

@@ -1,5 +1,5 @@
 -- Whichever finding is right for a list of bytes, the report is the same.
-use Rattle.std.proofs.Common.{◌≡◌, ℕ, ◌+◌, ◌<◌, List, [], ◌∷◌, ◌++◌, length, map, slice_get, unwrap_or, codes, decimal, Option, Some, None, option_map, cond, refl, sym, ap, ◌∙◌, arith}
+use Rattle.std.proofs.Common.{◌≡◌, ℕ, ◌+◌, List, [], ◌∷◌, ◌++◌, length, map, slice_get, unwrap_or, codes, decimal, Option, Some, None, option_map, cond, refl, sym, ap, ◌∙◌, arith}
 use Rattle.std.proofs.lemmas.List.{length-map}
 use Rattle.std.proofs.lemmas.List.Folds.{fold-map}
 use Rattle.std.proofs.lemmas.Option.{none-some, same_Some, slice_get-map}
@@ -7,7 +7,6 @@ use Rattle.std.proofs.lemmas.Simd.{map-map}
 use Rattle.std.specs.List.{flat_map, fold, concat}
 use Rattle.race_records.specs.declared.event.Event.{Event}
 use Rattle.race_records.specs.declared.event.Op.{Op}
-use Rattle.race_records.specs.Declarations.{Declaration}
 use Rattle.race_records.specs.Events.{TraceState}
 use Rattle.race_records.specs.TraceEquality.{PlacedEvent, placed, placed_events, Recorded, recorded}
 use Rattle.race_model.specs.Events.{operations, count, is_access}
@@ -19,7 +18,7 @@ use Rattle.race_text.specs.Fault.{text_fault}
 use Rattle.race_text.specs.Text.{goroutine_name, var_name, place_text, IsTextOf}
 use Rattle.race_text.proofs.TextFine.{text_has_no_fault}
 use Rattle.race_text.proofs.TextLaws.{equal_texts}
-use Rattle.race_tool.specs.Report.{newline, clean_line, illegal_line, access_word, access_text, race_line, races_line, report}
+use Rattle.race_tool.specs.Report.{newline, clean_line, access_word, access_text, race_line, races_line, report}
 use Rattle.race_tool.specs.Finding.{Finding, Faulty, TooLong, Judged, IsFinding, HasVerdict, report_of, status_of}
 
 -- two traces that record the same

@@ -140,47 +140,57 @@ fn a_place_of_a_trace_is_found_again(rt: HostRuntime) -> Result<(), Fail> {
     Ok(())
 }
 
-// A write at the place, in a trace that knows these places.
-fn trace_at(alloc: Global, places: &[&str], used: &str) -> Result<Trace, Fail> {
-    let mut decls = Decls::new(alloc);
-    decls.add_var("x")?;
-    for place in places {
-        decls.add_place(*place)?;
-    }
-    let place = decls.add_place(used)?;
-    let mut trace = Trace::new(decls);
+// The trace with one more event of main, at the place.
+fn with_event(mut trace: Trace, op: Op, place: u32) -> Result<Trace, Fail> {
     trace.push(Event {
         who: 0,
-        op: Op::Write(0, 7),
+        op,
         place,
         place2: None,
     })?;
     Ok(trace)
 }
 
+// A write at the place, in a trace that knows two places.
+fn trace_at(alloc: Global, first: &str, second: &str, used: &str) -> Result<Trace, Fail> {
+    let mut decls = Decls::new(alloc);
+    decls.add_var("x")?;
+    decls.add_place(first)?;
+    decls.add_place(second)?;
+    let place = decls.add_place(used)?;
+    with_event(Trace::new(decls), Op::Write(0, 7), place)
+}
+
+// Whether the trace is equal to the one that knows p and q, with a write at p.
+fn is_as_at_p(alloc: Global, other: Trace) -> Result<bool, Fail> {
+    let trace = trace_at(alloc, "p", "q", "p")?;
+    Ok(trace == other)
+}
+
 #[test]
 fn traces_are_equal_by_the_texts_of_their_places(rt: HostRuntime) -> Result<(), Fail> {
-    let trace = trace_at(rt.alloc(), &["p", "q"], "p")?;
-    for (places, used, equal) in [
-        (["p", "q"], "p", true),
+    for (first, second, used, equal) in [
+        ("p", "q", "p", true),
         // In another order, with and without a place that isn't used.
-        (["q", "p"], "p", true),
-        (["p", "p"], "p", true),
+        ("q", "p", "p", true),
+        ("p", "p", "p", true),
         // The same number, but another text.
-        (["q", "p"], "q", false),
-        (["p", "q"], "q", false),
+        ("q", "p", "q", false),
+        ("p", "q", "q", false),
     ] {
-        let other = trace_at(rt.alloc(), &places, used)?;
-        assert_eq!(rt; trace == other, equal, "{places:?} {used}");
+        let other = trace_at(rt.alloc(), first, second, used)?;
+        let answer = is_as_at_p(rt.alloc(), other)?;
+        assert_eq!(rt; answer, equal, "{first} {second} {used}");
     }
-    let mut longer = trace_at(rt.alloc(), &["p", "q"], "p")?;
-    longer.push(Event {
-        who: 0,
-        op: Op::Exit,
-        place: 0,
-        place2: None,
-    })?;
-    assert!(rt; trace != longer);
+    Ok(())
+}
+
+#[test]
+fn a_longer_trace_is_another(rt: HostRuntime) -> Result<(), Fail> {
+    let trace = trace_at(rt.alloc(), "p", "q", "p")?;
+    let longer = with_event(trace, Op::Exit, 0)?;
+    let answer = is_as_at_p(rt.alloc(), longer)?;
+    assert!(rt; !answer);
     Ok(())
 }
 

@@ -11,3 +11,4 @@ pub mod ReportLemmas
 pub mod PrintableLemmas
 pub mod CleanLemmas
 pub mod OneReport
+pub mod EachIsJudged

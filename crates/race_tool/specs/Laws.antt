@@ -1,6 +1,10 @@
--- The law of the report. It is the contract of a function in src/laws.rt that does nothing.
+-- The laws of the report. Each is the contract of a function in src/laws.rt that does nothing.
 use Rattle.std.specs.Prelude.{ℕ, ◌≡◌, List}
 use Rattle.race_tool.specs.Finding.{Finding, IsFinding, report_of, status_of}
+
+-- there is a right finding for every list of bytes
+abbrev pub HasFinding : List ℕ → Type 0
+HasFinding bytes = (f : Finding) × IsFinding bytes f
 
 -- a list of bytes has one report, and one status, whichever finding is right for it
 abbrev pub HasOneReport : List ℕ → Type 0

@@ -1,8 +1,8 @@
 -- Every list of bytes has a finding: its fault, or its trace with the verdict that tables read off.
-use Rattle.std.proofs.Common.{◌≡◌, ◌≢◌, ℕ, zero, suc, ◌+◌, ◌<◌, ◌≤◌, ◌==◌, ◌||◌, not, Bool, true, false, nat_lt, List, [], ◌∷◌, length, map, take, replicate, slice_get, slice_set, Option, Some, None, is_some, if◌then◌else◌, refl, sym, ap, ◌∙◌, subst, inl, inr, ◌⊎◌, arith, take-take}
+use Rattle.std.proofs.Common.{◌≡◌, ℕ, zero, suc, ◌+◌, ◌<◌, ◌≤◌, ◌==◌, not, Bool, true, false, nat_lt, List, [], ◌∷◌, length, map, take, replicate, slice_set, Option, Some, None, is_some, if◌then◌else◌, refl, ap, ◌∙◌, subst, inl, inr, ◌⊎◌, arith, take-take}
 use Rattle.std.proofs.lemmas.Bool.Decides.{nat_tests}
 use Rattle.std.proofs.lemmas.List.{length-replicate, length-set, take_all}
-use Rattle.std.proofs.lemmas.Option.{none-some, slice_get_within}
+use Rattle.std.proofs.lemmas.Option.{slice_get_within}
 use Rattle.std.specs.List.{slice_index_or}
 use Rattle.race_records.specs.declared.event.Event.{Event}
 use Rattle.race_records.specs.declared.event.Op.{Op}
@@ -11,19 +11,19 @@ use Rattle.race_records.specs.declared.kind.Kind.{Kind}
 use Rattle.race_records.specs.Declarations.{count_of}
 use Rattle.race_records.specs.Events.{TraceState, IsTrace}
 use Rattle.race_model.specs.Events.{At}
-use Rattle.race_model.specs.State.{over, started, runs, last_value}
+use Rattle.race_model.specs.State.{over, runs}
 use Rattle.race_model.specs.Legal.{op_rules, least_broken, broken, IsLegal, IsIllegalAt}
-use Rattle.race_model.specs.Verdict.{Verdict, Illegal, Clean, Races, IsVerdict}
-use Rattle.race_model.proofs.Indexes.{at_below, at_same, slice_get-take, take_within, take_at_old}
+use Rattle.race_model.specs.Verdict.{Verdict, Illegal, Clean, Races}
+use Rattle.race_model.proofs.Indexes.{at_below, at_same, take_within, take_at_old}
 use Rattle.race_text.specs.declared.cause.TextFault.{TextFault}
 use Rattle.race_text.specs.Fault.{text_fault}
-use Rattle.race_text.specs.Text.{IsTextOf, IsTraceText}
+use Rattle.race_text.specs.Text.{IsTextOf}
 use Rattle.race_text.proofs.Scanning.{faultless_is_text}
 use Rattle.race_tool.specs.declared.judge.TheConstants.{MAX_PLAIN_EVENTS}
 use Rattle.race_tool.specs.declared.races.Race.{Race}
-use Rattle.race_tool.specs.SeenTable.{rows_after, with_seen}
+use Rattle.race_tool.specs.SeenTable.{rows_after}
 use Rattle.race_tool.specs.IsTable.{IsTable}
-use Rattle.race_tool.specs.Partners.{found_after, noted, race_at}
+use Rattle.race_tool.specs.Partners.{found_after, race_at}
 use Rattle.race_tool.specs.Answers.{race_of, races_of, AreFound, AreRaces}
 use Rattle.race_tool.specs.Finding.{Finding, Faulty, TooLong, Judged, IsFinding, HasVerdict}
 use Rattle.race_tool.proofs.RowLemmas.{length-with_seen, length-go_rows}
@@ -140,9 +140,11 @@ module _ (trace : TraceState) (holds : IsTrace trace) where
   -- the races of the trace
   listed : (races : List Race) × ((caps : ℕ → ℕ) → AreRaces caps trace.events races)
   listed =
-      let all = tables (length trace.events) (omega arith) in
-      (races_of all.found, λ caps. are_races caps trace.events all.found (subst (λ es. AreFound caps es all.found) (take_all (length trace.events) trace.events (omega arith)) (all.right caps))
-      (λ x i j race. let below = race_declared caps trace x i j holds race in let vars = all.vars in omega (arith, below, vars)))
+      let all = tables (length trace.events) (omega arith) in (
+        races_of all.found,
+        λ caps. are_races caps trace.events all.found (subst (λ es. AreFound caps es all.found) (take_all (length trace.events) trace.events (omega arith)) (all.right caps))
+            (λ x i j race. let below = race_declared caps trace x i j holds race in let vars = all.vars in omega (arith, below, vars)),
+      )
 
   -- the verdict on it
   judged : (v : Verdict) × HasVerdict trace v

@@ -29,7 +29,7 @@ var_found (Some (Named.Var m)) n h = ap (option_map Named.Var) h
 var_found (Some _) n h = absurd (none-some n h)
 
 -- no cause holds of a chain just where none holds of its parts
-or_else_none : (a b : Option TextCause) → or_else a b ≡ None → a ≡ None
+pub or_else_none : (a b : Option TextCause) → or_else a b ≡ None → a ≡ None
 or_else_none None b h = refl
 or_else_none (Some c) b h = absurd (none-some c (sym h))
 

@@ -100,7 +100,7 @@ module _ (ds : List Declaration) (i : ℕ) (d : Declaration) (at : slice_get ds 
   below_count : (kind : Kind) → is_of_kind kind d.object ≡ true → length (of_kind kind (take i ds)) < length (of_kind kind ds)
   below_count kind is = slice_get_within (of_kind kind ds) (length (of_kind kind (take i ds))) d (in_kind kind is)
 
-  declared_named : (object : Object) → object ≡ d.object → IsDeclared ds (named object (count_of (kind_of object) (take i ds)))
+  pub declared_named : (object : Object) → object ≡ d.object → IsDeclared ds (named object (count_of (kind_of object) (take i ds)))
   declared_named Object.Goroutine e = let h = below_count Kind.Goroutine (ap (is_of_kind Kind.Goroutine) (sym e)) in omega (arith, h)
   declared_named Object.Var e = let h = below_count Kind.Var (ap (is_of_kind Kind.Var) (sym e)) in omega (arith, h)
   declared_named (Object.Chan capacity) e = let h = below_count Kind.Chan (ap (is_of_kind Kind.Chan) (sym e)) in omega (arith, h)

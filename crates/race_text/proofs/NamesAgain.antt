@@ -22,13 +22,13 @@ differ a b other = by (bytes_eq a b) refl
     by false e = refl
 
 -- where the nth declaration of a kind stands
-record StandsAt (kind : Kind) (ds : List Declaration) (n : ℕ) (d : Declaration) : Type 0 where
-  i : ℕ
-  at : slice_get ds i ≡ Some d
-  of : is_of_kind kind d.object ≡ true
-  number : length (of_kind kind (take i ds)) ≡ n
+pub record StandsAt (kind : Kind) (ds : List Declaration) (n : ℕ) (d : Declaration) : Type 0 where
+  pub i : ℕ
+  pub at : slice_get ds i ≡ Some d
+  pub of : is_of_kind kind d.object ≡ true
+  pub number : length (of_kind kind (take i ds)) ≡ n
 
-stands_at : (kind : Kind) (ds : List Declaration) (n : ℕ) (d : Declaration) → slice_get (of_kind kind ds) n ≡ Some d → StandsAt kind ds n d
+pub stands_at : (kind : Kind) (ds : List Declaration) (n : ℕ) (d : Declaration) → slice_get (of_kind kind ds) n ≡ Some d → StandsAt kind ds n d
 stands_at kind [] n d at = absurd (none-some d at)
 stands_at kind (e ∷ ds) n d at = by (is_of_kind kind e.object) refl n at (λ n at. stands_at kind ds n d at)
   where

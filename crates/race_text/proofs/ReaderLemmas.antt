@@ -21,8 +21,9 @@ use Rattle.race_text.specs.Declaring.{is_declaration_line, is_declaration_word, 
 use Rattle.race_text.specs.Taking.{state_of, IsRead, TakesLine, begun}
 use Rattle.race_text.specs.Reader.{trace_read, lines_read, IsReading, GoesOn, TakesIfDeclared, TakesDeclaration}
 use Rattle.race_text.proofs.DeclarationLemmas.{goroutine_line, var_line, declaration_in-words}
+use Rattle.race_text.proofs.EventCauses.{or_else_none}
 use Rattle.race_text.proofs.EventLines.{word_spelled}
-use Rattle.race_text.proofs.TraceLemmas.{cause_behind, clean_line, lines_declaration, seen_declaration}
+use Rattle.race_text.proofs.TraceLemmas.{cause_behind, clean_line, lines_declaration, seen_declaration, no_word}
 
 abbrev empty : DeclsState
 empty = record { declarations = []; places = [] }
@@ -64,10 +65,6 @@ pub record IsDeclaration (ds : List Declaration) (line : List ℕ) : Type 0 wher
   pub fine : decl_fault ds d.object d.name ≡ None
   pub words : IsTrue (has_words d.object)
 
-or_else_nothing : (a b : Option TextCause) → or_else a b ≡ None → a ≡ None
-or_else_nothing None b h = refl
-or_else_nothing (Some c) b h = absurd (none-some c (sym h))
-
 no_fault : (a : Option TextCause) (fault : Option DeclFault) → or_else a (option_map cause_of fault) ≡ None → fault ≡ None
 no_fault None None h = refl
 no_fault None (Some f) h = absurd (none-some (cause_of f) (sym h))
@@ -89,7 +86,7 @@ module _ (ds : List Declaration) (line first : List ℕ) (args : List (List ℕ)
   by_word None named h none = absurd (true≢false (sym h))
   by_word (Some Word.Goroutine) named h none =
       let nothing = sym (goroutine_line ds line first args words named) ∙ none in
-      let one = one_word args (or_else_nothing (only_name_cause args) (option_map cause_of (decl_fault ds Object.Goroutine (first_word args))) nothing) in
+      let one = one_word args (or_else_none (only_name_cause args) (option_map cause_of (decl_fault ds Object.Goroutine (first_word args))) nothing) in
       record {
         d = record { name = one.0; object = Object.Goroutine };
         is = declaration_in-words line first args (Some Word.Goroutine) words (sym named) ∙ (λ i. declared_as (Some Object.Goroutine) (one.1 i));
@@ -100,7 +97,7 @@ module _ (ds : List Declaration) (line first : List ℕ) (args : List (List ℕ)
       }
   by_word (Some Word.Var) named h none =
       let nothing = sym (var_line ds line first args words named) ∙ none in
-      let one = one_word args (or_else_nothing (only_name_cause args) (option_map cause_of (decl_fault ds Object.Var (first_word args))) nothing) in
+      let one = one_word args (or_else_none (only_name_cause args) (option_map cause_of (decl_fault ds Object.Var (first_word args))) nothing) in
       record {
         d = record { name = one.0; object = Object.Var };
         is = declaration_in-words line first args (Some Word.Var) words (sym named) ∙ (λ i. declared_as (Some Object.Var) (one.1 i));
@@ -114,15 +111,11 @@ module _ (ds : List Declaration) (line first : List ℕ) (args : List (List ℕ)
   by_word (Some Word.Read) named h none = absurd (true≢false (sym h))
   by_word (Some Word.Write) named h none = absurd (true≢false (sym h))
 
-no_first : word_named [] ≡ None
-unfolding word_named
-no_first = refl
-
 pub declaration_of_line : (ds : List Declaration) (line : List ℕ) → is_declaration_line line ≡ true → declaration_cause ds line ≡ None → IsDeclaration ds line
 declaration_of_line ds line h none = by (words_of line) refl h
   where
     by : (ws : List (List ℕ)) → words_of line ≡ ws → is_declaration_word (word_named (first_word ws)) ≡ true → IsDeclaration ds line
-    by [] e h = absurd (true≢false (sym h ∙ ap is_declaration_word no_first))
+    by [] e h = absurd (true≢false (sym h ∙ ap is_declaration_word no_word))
     by (first ∷ args) e h = by_word ds line first args e (word_named first) refl h none
 
 -- a declaration that was read, or refused

@@ -16,6 +16,7 @@ use Rattle.race_records.specs.Declarations.{Declaration, DeclsState, is_of_kind,
 use Rattle.race_records.specs.Events.{TraceState, IsTrace, value_fits}
 use Rattle.race_text.specs.Text.{text, header, ended, line_of, object_words, declaration_line, goroutine_name, var_name, place_text, op_words, event_line}
 use Rattle.race_text.specs.Writing.{declarations_text, events_text, body}
+use Rattle.race_text.proofs.NamesAgain.{stands_at}
 use Rattle.race_text.proofs.WritingLemmas.{line_of_2, line_of_3, line_of_4, line_of_5, text_is}
 
 -- what holds of all elements holds of the one at an index
@@ -50,13 +51,7 @@ place_short w is = go (not (length w == 0)) (nat_le (length w) 128) (list_all is
 
 -- what holds of all declarations holds of those of a kind
 of_kind_each : (P : Declaration → Type 0) (kind : Kind) (ds : List Declaration) → ((i : ℕ) (d : Declaration) → slice_get ds i ≡ Some d → P d) → (m : ℕ) (d : Declaration) → slice_get (of_kind kind ds) m ≡ Some d → P d
-of_kind_each P kind [] each m d at = cc
-of_kind_each P kind (e ∷ ds) each m d at = by (is_of_kind kind e.object) m at (of_kind_each P kind ds (λ i d at. each (suc i) d at))
-  where
-    by : (b : Bool) (m : ℕ) → slice_get (if b then e ∷ of_kind kind ds else of_kind kind ds) m ≡ Some d → ((n : ℕ) (f : Declaration) → slice_get (of_kind kind ds) n ≡ Some f → P f) → P d
-    by true zero at rest = each 0 d at
-    by true (suc m) at rest = rest m d at
-    by false m at rest = rest m d at
+of_kind_each P kind ds each m d at = let s = stands_at kind ds m d at in each s.i d s.at
 
 module _ (decls : DeclsState) (holds : IsWellFormed decls) where
   nth_short : (kind : Kind) (m : ℕ) → length (unwrap_or (nth_name kind decls.declarations m) []) ≤ 64

@@ -255,7 +255,7 @@ no_event ds events (Some Word.Exit) args none behind h = exit_complete ds events
 no_event ds events (Some Word.Read) args none behind h = read_complete ds events args h none
 no_event ds events (Some Word.Write) args none behind h = write_complete ds events args h none
 
-no_word : word_named [] ≡ None
+pub no_word : word_named [] ≡ None
 unfolding word_named
 no_word = refl
 

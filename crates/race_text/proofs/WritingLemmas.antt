@@ -13,63 +13,20 @@ use Rattle.race_records.specs.Name.{main}
 use Rattle.race_records.specs.Declarations.{Declaration, kind_of, is_of_kind, of_kind, count_of, named, nth_name, name_of, declared_at, IsDeclared}
 use Rattle.race_records.proofs.ListLemmas.{slice_get-within, flat_map-map}
 use Rattle.race_text.specs.Text.{text, lines, header, ended, line_of, object_words, declaration_line, event_line}
+use Rattle.race_text.proofs.FoundLemmas.{declared_named, name_of_named}
 use Rattle.race_text.specs.Writing.{body, text_of, declaration_text}
-
--- the declaration at an index is the nth of its kind, n as many as stand before it
-nth_of_kind : (kind : Kind) (ds : List Declaration) (i : ℕ) (d : Declaration) → slice_get ds i ≡ Some d → is_of_kind kind d.object ≡ true
-    → slice_get (of_kind kind ds) (length (of_kind kind (take i ds))) ≡ Some d
-nth_of_kind kind [] i d at of = cc
-nth_of_kind kind (e ∷ ds) zero d at of = by (is_of_kind kind e.object) (ap (λ (x : Declaration). is_of_kind kind x.object) (same_Some _ _ at) ∙ of)
-  where
-    by : (b : Bool) → b ≡ true → slice_get (if b then e ∷ of_kind kind ds else of_kind kind ds) 0 ≡ Some d
-    by true is = at
-    by false is = cc
-nth_of_kind kind (e ∷ ds) (suc i) d at of = by (is_of_kind kind e.object) (nth_of_kind kind ds i d at of)
-  where
-    by : (b : Bool) → slice_get (of_kind kind ds) (length (of_kind kind (take i ds))) ≡ Some d
-        → slice_get (if b then e ∷ of_kind kind ds else of_kind kind ds) (length (if b then e ∷ of_kind kind (take i ds) else of_kind kind (take i ds))) ≡ Some d
-    by true rest = rest
-    by false rest = rest
-
--- how many of the kind stand before it
-abbrev before : Kind → List Declaration → ℕ → ℕ
-before kind ds i = length (of_kind kind (take i ds))
 
 module _ (ds : List Declaration) (i : ℕ) (d : Declaration) (at : slice_get ds i ≡ Some d) where
   -- what it declares
   declared_as : (n : Named) → declared_at ds i ≡ Some n → named d.object (count_of (kind_of d.object) (take i ds)) ≡ n
   declared_as n is = same_Some _ _ (sym (ap (option_map (λ (x : Declaration). named x.object (count_of (kind_of x.object) (take i ds)))) at) ∙ is)
 
-  below : (kind : Kind) → is_of_kind kind d.object ≡ true → before kind ds i < length (of_kind kind ds)
-  below kind of = slice_get_within (of_kind kind ds) (before kind ds i) d (nth_of_kind kind ds i d at of)
-
-  in_range : (o : Object) → d.object ≡ o → IsDeclared ds (named o (count_of (kind_of o) (take i ds)))
-  in_range Object.Goroutine e = let less = below Kind.Goroutine (ap (is_of_kind Kind.Goroutine) e) in omega (arith, less)
-  in_range Object.Var e = let less = below Kind.Var (ap (is_of_kind Kind.Var) e) in omega (arith, less)
-  in_range (Object.Chan c) e = let less = below Kind.Chan (ap (is_of_kind Kind.Chan) e) in omega (arith, less)
-  in_range (Object.Lock rw) e = let less = below Kind.Lock (ap (is_of_kind Kind.Lock) e) in omega (arith, less)
-  in_range Object.Once e = let less = below Kind.Once (ap (is_of_kind Kind.Once) e) in omega (arith, less)
-
-  named_goroutine : d.object ≡ Object.Goroutine → name_of ds (Named.Goroutine (1 + before Kind.Goroutine ds i)) ≡ Some d.name
-  named_goroutine e =
-      let n = before Kind.Goroutine ds i in
-      let never : (1 + n == 0) ≡ false = grind (arith, nat_tests) in
-      let less : 1 + n - 1 ≡ n = omega arith in
-      (λ j. if never j then Some main else nth_name Kind.Goroutine ds (less j))
-      ∙ ap (option_map (λ (x : Declaration). x.name)) (nth_of_kind Kind.Goroutine ds i d at (ap (is_of_kind Kind.Goroutine) e))
-
-  named_var : d.object ≡ Object.Var → name_of ds (Named.Var (0 + before Kind.Var ds i)) ≡ Some d.name
-  named_var e =
-      let n = before Kind.Var ds i in
-      let same : 0 + n ≡ n = omega arith in
-      (λ j. nth_name Kind.Var ds (same j)) ∙ ap (option_map (λ (x : Declaration). x.name)) (nth_of_kind Kind.Var ds i d at (ap (is_of_kind Kind.Var) e))
-
   printed : (o : Object) (name : List ℕ) → d.object ≡ o → d.name ≡ name → ended (line_of (object_words name o)) ≡ declaration_text ds i
   printed o name e f = (λ j. ended (line_of (object_words (sym f j) (sym e j)))) ∙ ap text_of (sym at)
 
   goroutine_by : (o : Object) → d.object ≡ o → (g : ℕ) (name : List ℕ) → named o (count_of (kind_of o) (take i ds)) ≡ Named.Goroutine g → name_of ds (Named.Goroutine g) ≡ Some name
       → ended (line_of (codes "goroutine" ∷ name ∷ [])) ≡ declaration_text ds i
-  goroutine_by Object.Goroutine e g name n is = printed Object.Goroutine name e (same_Some _ _ (sym (named_goroutine e) ∙ ap (name_of ds) n ∙ is))
+  goroutine_by Object.Goroutine e g name n is = printed Object.Goroutine name e (same_Some _ _ (sym (name_of_named ds i d at Object.Goroutine (sym e)) ∙ ap (name_of ds) n ∙ is))
   goroutine_by Object.Var e g name n is = cc
   goroutine_by (Object.Chan c) e g name n is = cc
   goroutine_by (Object.Lock rw) e g name n is = cc
@@ -77,7 +34,7 @@ module _ (ds : List Declaration) (i : ℕ) (d : Declaration) (at : slice_get ds 
 
   var_by : (o : Object) → d.object ≡ o → (x : ℕ) (name : List ℕ) → named o (count_of (kind_of o) (take i ds)) ≡ Named.Var x → name_of ds (Named.Var x) ≡ Some name
       → ended (line_of (codes "var" ∷ name ∷ [])) ≡ declaration_text ds i
-  var_by Object.Var e x name n is = printed Object.Var name e (same_Some _ _ (sym (named_var e) ∙ ap (name_of ds) n ∙ is))
+  var_by Object.Var e x name n is = printed Object.Var name e (same_Some _ _ (sym (name_of_named ds i d at Object.Var (sym e)) ∙ ap (name_of ds) n ∙ is))
   var_by Object.Goroutine e x name n is = cc
   var_by (Object.Chan c) e x name n is = cc
   var_by (Object.Lock rw) e x name n is = cc
@@ -88,7 +45,7 @@ module _ (ds : List Declaration) (i : ℕ) (within : i < length ds) where
   pub is_declared : (n : Named) → declared_at ds i ≡ Some n → IsDeclared ds n
   is_declared n is =
       let found = slice_get-within ds i within in
-      subst (IsDeclared ds) (declared_as ds i found.0 found.1 n is) (in_range ds i found.0 found.1 found.0.object refl)
+      subst (IsDeclared ds) (declared_as ds i found.0 found.1 n is) (declared_named ds i found.0 found.1 found.0.object refl)
 
   pub goroutine_text : (g : ℕ) (name : List ℕ) → declared_at ds i ≡ Some (Named.Goroutine g) → name_of ds (Named.Goroutine g) ≡ Some name → ended (line_of (codes "goroutine" ∷ name ∷ [])) ≡ declaration_text ds i
   goroutine_text g name is named =

@@ -24,6 +24,7 @@ use Rattle.race_text.proofs.FoundLemmas.{found_is_name}
 use Rattle.race_text.proofs.NamesAgain.{goroutine_again, var_again}
 use Rattle.race_text.proofs.TraceLemmas.{fit_place}
 use Rattle.race_text.proofs.NumberLemmas.{number-some}
+use Rattle.race_text.proofs.UnseenLemmas.{spelled_is_seen}
 use Rattle.race_text.proofs.WordLemmas.{name_is_visible}
 use Rattle.race_text.proofs.WordsAgain.{AreVisible, words_again}
 
@@ -87,29 +88,31 @@ module _ (decls : DeclsState) (holds : IsWellFormed decls) where
         ∙ ap (option_and_then (λ (value : Read1). option_map (occurrence who (op x value.0)) (last_place value.1))) (ap (option_map (with_rest (place ∷ []))) (value_again v low))
         ∙ ap (option_map (occurrence who (op x v))) last_is
 
-    -- the words of an event can be seen
-    op_visible : (op : Op) → op_fits ds op ≡ true → value_fits op ≡ true → AreVisible (op_words ds (goroutine_name ds who) place op)
-    op_visible (Go h) fit low = (refl, (goroutine_visible who who_less, (goroutine_visible h (grind (arith, nat_tests, fit)), (place_is_visible place form, tt))))
-    op_visible Exit fit low = (refl, (goroutine_visible who who_less, (place_is_visible place form, tt)))
-    op_visible (Read x v) fit low =
-        (refl, (goroutine_visible who who_less, (var_visible x (grind (arith, nat_tests, fit)), (value_visible v (grind (arith, nat_tests, low)), (place_is_visible place form, tt)))))
-    op_visible (Write x v) fit low =
-        (refl, (goroutine_visible who who_less, (var_visible x (grind (arith, nat_tests, fit)), (value_visible v (grind (arith, nat_tests, low)), (place_is_visible place form, tt)))))
+    -- words that can be seen say what they say, joined to a line
+    said_by : (word : Word) (args : List (List ℕ)) (o : Occurrence) → AreVisible args → event_by ds (Some word) args ≡ Some o → event_in ds (words_of (line_of (spelled word ∷ args))) ≡ Some o
+    said_by word args o visible says = ap (event_in ds) (words_again (spelled word) args (spelled_is_seen word, visible)) ∙ ap (λ w. event_by ds w args) (named_again word) ∙ says
 
-    -- and say it
-    op_again : (op : Op) → op_fits ds op ≡ true → value_fits op ≡ true → event_in ds (op_words ds (goroutine_name ds who) place op) ≡ Some (occurrence who op place)
-    op_again (Go h) fit low = ap (λ w. event_by ds w (goroutine_name ds who ∷ goroutine_name ds h ∷ place ∷ [])) (named_again Word.Go) ∙ go_again h (grind (arith, nat_tests, fit))
-    op_again Exit fit low = ap (λ w. event_by ds w (goroutine_name ds who ∷ place ∷ [])) (named_again Word.Exit) ∙ exit_again
+    end_visible : AreVisible (place ∷ [])
+    end_visible = (place_is_visible place form, tt)
+
+    access_visible : (x v : ℕ) → x < count_of Kind.Var ds → v < 2 ^ 64 → AreVisible (goroutine_name ds who ∷ var_name ds x ∷ decimal v ∷ place ∷ [])
+    access_visible x v less low = (goroutine_visible who who_less, (var_visible x less, (value_visible v low, end_visible)))
+
+    -- so the line of an event says it
+    op_again : (op : Op) → op_fits ds op ≡ true → value_fits op ≡ true → event_in ds (words_of (line_of (op_words ds (goroutine_name ds who) place op))) ≡ Some (occurrence who op place)
+    op_again (Go h) fit low =
+        let less : h < count_of Kind.Goroutine ds = grind (arith, nat_tests, fit) in
+        said_by Word.Go (goroutine_name ds who ∷ goroutine_name ds h ∷ place ∷ []) (occurrence who (Go h) place) (goroutine_visible who who_less, (goroutine_visible h less, end_visible)) (go_again h less)
+    op_again Exit fit low =
+        said_by Word.Exit (goroutine_name ds who ∷ place ∷ []) (occurrence who Exit place) (goroutine_visible who who_less, end_visible) exit_again
     op_again (Read x v) fit low =
-        ap (λ w. event_by ds w (goroutine_name ds who ∷ var_name ds x ∷ decimal v ∷ place ∷ [])) (named_again Word.Read) ∙ access_again Read x v (grind (arith, nat_tests, fit)) (grind (arith, nat_tests, low))
+        let less : x < count_of Kind.Var ds = grind (arith, nat_tests, fit) in
+        let small : v < 2 ^ 64 = grind (arith, nat_tests, low) in
+        said_by Word.Read (goroutine_name ds who ∷ var_name ds x ∷ decimal v ∷ place ∷ []) (occurrence who (Read x v) place) (access_visible x v less small) (access_again Read x v less small)
     op_again (Write x v) fit low =
-        ap (λ w. event_by ds w (goroutine_name ds who ∷ var_name ds x ∷ decimal v ∷ place ∷ [])) (named_again Word.Write) ∙ access_again Write x v (grind (arith, nat_tests, fit)) (grind (arith, nat_tests, low))
-
-    op_words_again : (op : Op) → AreVisible (op_words ds (goroutine_name ds who) place op) → words_of (line_of (op_words ds (goroutine_name ds who) place op)) ≡ op_words ds (goroutine_name ds who) place op
-    op_words_again (Go h) visible = words_again (codes "go") (goroutine_name ds who ∷ goroutine_name ds h ∷ place ∷ []) visible
-    op_words_again Exit visible = words_again (codes "exit") (goroutine_name ds who ∷ place ∷ []) visible
-    op_words_again (Read x v) visible = words_again (codes "read") (goroutine_name ds who ∷ var_name ds x ∷ decimal v ∷ place ∷ []) visible
-    op_words_again (Write x v) visible = words_again (codes "write") (goroutine_name ds who ∷ var_name ds x ∷ decimal v ∷ place ∷ []) visible
+        let less : x < count_of Kind.Var ds = grind (arith, nat_tests, fit) in
+        let small : v < 2 ^ 64 = grind (arith, nat_tests, low) in
+        said_by Word.Write (goroutine_name ds who ∷ var_name ds x ∷ decimal v ∷ place ∷ []) (occurrence who (Write x v) place) (access_visible x v less small) (access_again Write x v less small)
 
   -- what fits of an event
   who_fits : (e : Event) → fits decls e ≡ true → e.who < count_of Kind.Goroutine ds
@@ -126,9 +129,4 @@ module _ (decls : DeclsState) (holds : IsWellFormed decls) where
       by false b c d h = absurd (true≢false (sym h))
 
   pub event_again : (e : Event) → fits decls e ≡ true → value_fits e.op ≡ true → event_in ds (words_of (event_line decls e)) ≡ Some (said decls e)
-  event_again e fit low =
-      let place = place_text decls.places e.place in
-      let less = who_fits e fit in
-      let form = place_again e.place (fit_place decls e fit) in
-      let op = op_does e fit in
-      ap (event_in ds) (op_words_again e.who place less form e.op (op_visible e.who place less form e.op op low)) ∙ op_again e.who place less form e.op op low
+  event_again e fit low = op_again e.who (place_text decls.places e.place) (who_fits e fit) (place_again e.place (fit_place decls e fit)) e.op (op_does e fit) low

@@ -22,6 +22,7 @@ use Rattle.race_text.specs.Reading.{Occurrence, event_by, event_in}
 use Rattle.race_text.proofs.EventLines.{spelled, IsEventLine, event_line as event_line_of}
 use Rattle.race_text.proofs.EventsAgain.{said, named_again, event_again}
 use Rattle.race_text.proofs.TraceLemmas.{fit_place}
+use Rattle.race_text.proofs.UnseenLemmas.{spelled_is_seen}
 use Rattle.race_text.proofs.WordLemmas.{name_is_visible}
 use Rattle.race_text.proofs.WordsAgain.{AreVisible, words_again, visible_line_clean, parts_again}
 
@@ -38,10 +39,10 @@ pub record IsDeclarationLine (d : Declaration) (line : List ℕ) : Type 0 where
   pub clean : has_bad_byte line ≡ false
 
 module _ (name : List ℕ) (form : is_name name ≡ true) where
-  line_again : (word : Word) (object : Object) → word_for object ≡ word → object_words name object ≡ spelled word ∷ name ∷ [] → object_of word ≡ Some object → list_all is_place_byte (spelled word) ≡ true
+  line_again : (word : Word) (object : Object) → word_for object ≡ word → object_words name object ≡ spelled word ∷ name ∷ [] → object_of word ≡ Some object
       → IsDeclarationLine (record { name = name; object = object }) (line_of (object_words name object))
-  line_again word object is printed declares seen =
-      let visible : AreVisible (spelled word ∷ name ∷ []) = (seen, (name_is_visible name form, tt)) in
+  line_again word object is printed declares =
+      let visible : AreVisible (spelled word ∷ name ∷ []) = (spelled_is_seen word, (name_is_visible name form, tt)) in
       let again = ap (λ ws. words_of (line_of ws)) printed ∙ words_again (spelled word) (name ∷ []) visible in
       record {
         words = again ∙ (λ j. spelled (sym is j) ∷ name ∷ []);
@@ -51,8 +52,8 @@ module _ (name : List ℕ) (form : is_name name ≡ true) where
       }
 
   object_again : (object : Object) → IsTrue (has_words object) → IsDeclarationLine (record { name = name; object = object }) (line_of (object_words name object))
-  object_again Object.Goroutine has = line_again Word.Goroutine Object.Goroutine refl refl refl refl
-  object_again Object.Var has = line_again Word.Var Object.Var refl refl refl refl
+  object_again Object.Goroutine has = line_again Word.Goroutine Object.Goroutine refl refl refl
+  object_again Object.Var has = line_again Word.Var Object.Var refl refl refl
   object_again _ has = cc
 
 pub declaration_again : (d : Declaration) → is_name d.name ≡ true → IsTrue (has_words d.object) → IsDeclarationLine d (declaration_line d)

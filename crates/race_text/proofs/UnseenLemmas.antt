@@ -41,7 +41,7 @@ unseen_place [] h = refl
 unseen_place (w ∷ []) h = ap (λ b. if b then Some w else None) (is_false (is_place w) (list_all is_place_byte w) (place_is_visible w) h)
 unseen_place (w ∷ v ∷ ws) h = refl
 
-spelled_is_seen : (word : Word) → list_all is_place_byte (spelled word) ≡ true
+pub spelled_is_seen : (word : Word) → list_all is_place_byte (spelled word) ≡ true
 spelled_is_seen Word.Goroutine = refl
 spelled_is_seen Word.Var = refl
 spelled_is_seen Word.Go = refl

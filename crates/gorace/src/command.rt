@@ -78,7 +78,7 @@ fn check<'a>(alloc: Global) -> Result<Command<'a>, AllocError> {
             "How many shards share the variables among them, 1 to 64 [default: 1] (no effect yet)",
         );
     let block = Arg::new(alloc, "block").long("block").value_name("N").help(
-        "How many events the shards are handed at a time, 1 to 65536 [default: 65536]",
+        "How many events the shards are handed at a time, 1 to 65536 [default: 65536] (no effect yet)",
     );
     let plain = Arg::new(alloc, "plain")
         .long("plain")

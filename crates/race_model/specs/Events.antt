@@ -70,7 +70,7 @@ count kind events = count_by (λ e. kind e.op) events
 abbrev pub has : (Op → Bool) → List Event → Bool
 has kind events = nat_lt 0 (count kind events)
 
--- o, at index i, is number k of its kind, counted from 0: it is of the kind, and k of that kind stand before it
+-- o is of the kind, and k events of the kind stand before index i. Where o stands at i it is number k of its kind, counted from 0
 abbrev pub IsKth : (Op → Bool) → ℕ → List Event → ℕ → Op → Type 0
 IsKth kind k events i o = IsTrue (kind o) × (count kind (take i events) ≡ k)
 

@@ -18,7 +18,7 @@ op_rules caps past g Exit = []
 op_rules caps past g (Read x v) = (21, not (last_value x past == v)) ∷ []
 op_rules caps past g (Write x v) = []
 
--- whoever acts in the event runs: the goroutine of the event, and not the one that a Go starts
+-- the goroutine of the event runs; nothing is asked of the one that a Go starts
 abbrev pub actors_run : List Event → Event → Bool
 actors_run past e = runs e.who past
 

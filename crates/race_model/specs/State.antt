@@ -9,7 +9,7 @@ use Rattle.race_model.specs.Events.{starts, has, has_exited, last_of}
 abbrev pub over : List Event → Bool
 over past = has_exited 0 past
 
--- a Go started g; main is never started so
+-- a Go started g; main needs none
 abbrev pub started : ℕ → List Event → Bool
 started g past = has (starts g) past
 

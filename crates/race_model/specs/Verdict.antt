@@ -16,7 +16,7 @@ pub data Verdict : Type 0 where
   Illegal : (index rule : ℕ) → Verdict
   -- it is legal, and has no data race
   Clean : Verdict
-  -- it is legal, and has these data races
+  -- it is legal, and has data races: these are the reported ones, one for each variable that has any
   Races : (races : List Race) → Verdict
 
 -- the reported race of each variable that has one, in rising order of the variables

@@ -4,9 +4,4 @@
 #![tactic(auto)]
 
 pub mod examples;
-mod laws;
-
-pub use laws::{
-    happens_before_goes_up, happens_before_is_transitive, has_one_reported_race, has_one_verdict,
-    own_order_is_reordering, reorderings_find_the_same,
-};
+pub mod laws;

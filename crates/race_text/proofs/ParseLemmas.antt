@@ -15,7 +15,7 @@ use Rattle.race_text.specs.Words.{parts_of}
 use Rattle.race_text.specs.Text.{header, ended, lines}
 use Rattle.race_text.specs.Fault.{cause, or_later, fault_after, text_fault}
 use Rattle.race_text.proofs.WordLemmas.{both}
-use Rattle.race_text.specs.Reader.{lines_read, end_cause, IsNoneBefore}
+use Rattle.race_text.specs.Reader.{lines_read, end_cause, IsLineOf, IsNoneBefore}
 
 abbrev told : ℕ → TextCause → TextFault
 told line c = record { line = line; cause = c }
@@ -105,11 +105,12 @@ pub record IsAt (bytes : List ℕ) (before : List (List ℕ)) (left : List ℕ) 
   pub fault : fault_after before (parts_of left) ≡ text_fault bytes
   pub bytes_are : flat_map ended before ++ left ≡ bytes
   pub number : line ≡ length before + 1
+  pub all : length before + length (parts_of left) ≡ length (parts_of bytes)
   pub short : line + length left ≤ length bytes + 1
 
 pub at_start : (bytes : List ℕ) → IsAt bytes [] bytes 1
 unfolding text_fault
-at_start bytes = record { fault = refl; bytes_are = refl; number = refl; short = omega arith }
+at_start bytes = record { fault = refl; bytes_are = refl; number = refl; all = omega arith; short = omega arith }
 
 -- a part that a newline ends
 cut_joined : (left part others : List ℕ) → parts_of left ≡ part ∷ parts_of others → left ≡ part ++ 10 ∷ others
@@ -123,6 +124,9 @@ cut_joined left part others e = sym (join_with_byte-slice_split 10 left) ∙ ap 
     by (p ∷ ps) h e = ap (λ l. part ++ 10 ∷ l) e
 
 module _ (bytes : List ℕ) (before : List (List ℕ)) (left : List ℕ) (line : ℕ) (at : IsAt bytes before left line) where
+  pub is_line : IsLineOf bytes line
+  is_line = let n = at.number in let all = at.all in let some = length-slice_split (λ b. b == 10) left in (omega (arith, n), omega (arith, n, all, some))
+
   pub none_before : IsNoneBefore line (text_fault bytes)
   none_before f h = let from = fault_from (parts_of left) before f (at.fault ∙ h) in let n = at.number in omega (arith, from, n)
 
@@ -154,6 +158,7 @@ module _ (bytes : List ℕ) (before : List (List ℕ)) (left : List ℕ) (line :
           ∙ ap (λ l. flat_map ended before ++ l) (append_assoc part (10 ∷ []) others ∙ sym (cut_joined left part others parts))
           ∙ at.bytes_are;
       number = let n = at.number in let l = ap length e ∙ length-append before (part ∷ []) in omega (arith, n, l);
+      all = let all = at.all in let cut = ap length parts in let l = ap length e ∙ length-append before (part ∷ []) in omega (arith, all, cut, l);
       short = let l = shorter_by in let short = at.short in omega (arith, l, short);
     }
 

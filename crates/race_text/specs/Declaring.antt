@@ -20,7 +20,7 @@ is_declaration_word (Some word) = is_some (object_of word)
 abbrev pub is_declaration_line : List ℕ → Bool
 is_declaration_line line = is_declaration_word (word_named (first_word (words_of line)))
 
--- the least cause of a line that declares, bad bytes aside
+-- the least cause of a line that declares, where no event stands before it and it has no bad byte. No other line has one
 abbrev pub declaration_cause : List Declaration → List ℕ → Option TextCause
 declaration_cause ds line =
     if is_declaration_line line

@@ -73,7 +73,7 @@ is_event_word (Some word) = is_none (object_of word)
 abbrev pub is_event_line : List ℕ → Bool
 is_event_line line = is_event_word (word_named (first_word (words_of line)))
 
--- each line before is looked at alone
+-- what the lines before say together. Each is looked at alone, whether it is at fault or not
 unfoldable pub seen : List (List ℕ) → Seen
 seen before = seen_so_far (filter_map declaration_in before) (count_by is_event_line before)
 

@@ -1,11 +1,11 @@
--- The laws of trace text. Each is the contract of a function in src/laws.rt that does nothing.
+-- The laws of trace text, which functions of src/laws.rt that do nothing have as their contracts.
 use Rattle.std.specs.Prelude.{◌≡◌, ℕ, List, None}
 use Rattle.race_records.specs.Events.{TraceState}
 use Rattle.race_records.specs.TraceEquality.{recorded}
 use Rattle.race_text.specs.Text.{text, HasText, IsTextOf, IsTraceText}
 use Rattle.race_text.specs.Fault.{text_fault}
 
--- no other trace has the bytes as its text
+-- every trace whose text the bytes are records what t records; that t is one isn't said
 abbrev pub IsOnlyTraceOf : List ℕ → TraceState → Type 0
 IsOnlyTraceOf bytes t = (u : TraceState) → IsTextOf u bytes → recorded u ≡ recorded t
 
@@ -17,6 +17,6 @@ TextsHaveNoFault = (t : TraceState) → HasText t → text_fault (text t) ≡ No
 abbrev pub FaultlessBytesAreTexts : Type 0
 FaultlessBytesAreTexts = (bytes : List ℕ) → text_fault bytes ≡ None → IsTraceText bytes
 
--- equal texts come from equal traces
+-- traces with equal texts record the same: declarations, and events with the texts of their places
 abbrev pub EqualTextsAreOfEqualTraces : Type 0
 EqualTextsAreOfEqualTraces = (t u : TraceState) → HasText t → HasText u → text t ≡ text u → recorded t ≡ recorded u

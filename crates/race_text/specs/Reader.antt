@@ -4,6 +4,7 @@ use Rattle.race_records.specs.Declarations.{DeclsState}
 use Rattle.race_records.specs.Events.{TraceState}
 use Rattle.race_text.specs.declared.cause.TextCause.{TextCause}
 use Rattle.race_text.specs.declared.cause.TextFault.{TextFault}
+use Rattle.race_text.specs.Words.{parts_of}
 use Rattle.race_text.specs.Text.{lines}
 use Rattle.race_text.specs.Fault.{cause}
 use Rattle.race_text.specs.Declaring.{is_declaration_line}
@@ -43,6 +44,10 @@ TakesDeclaration old line (Err told) new = told ≢ TextCause.OutOfMemory → ca
 -- the cause of the last part of a text, behind these lines. It is a line only where it has a byte, or is the first
 abbrev pub end_cause : List (List ℕ) → List ℕ → Option TextCause
 end_cause before last = if (length last == 0) && nat_lt 0 (length before) then None else cause before last false
+
+-- the bytes have a line of this number, counted from 1, or it is the one behind the last newline
+abbrev pub IsLineOf : List ℕ → ℕ → Type 0
+IsLineOf bytes line = (1 ≤ line) × (line ≤ length (parts_of bytes))
 
 -- no fault stands on an earlier line
 abbrev pub IsNoneBefore : ℕ → Option TextFault → Type 0

@@ -70,7 +70,8 @@ ended line = line ++ 10 ∷ []
 unfoldable pub text : TraceState → List ℕ
 text t = flat_map ended (lines t)
 
--- a trace that has a text: its declarations are well formed and have words, and its events fit them
+-- a trace whose text counts: its declarations are well formed and have words, its events fit them, each value is a u64,
+-- and there are not too many events
 pub record HasText (t : TraceState) : Type 0 where
   pub well_formed : IsWellFormed t.decls
   pub is_trace : IsTrace t

@@ -10,7 +10,7 @@ use Rattle.std.specs.Borrow.{Bor}
 abbrev pub parts_of : List ℕ → List (List ℕ)
 parts_of bytes = slice_split (λ byte. byte == 10) bytes
 
--- the words of a line: it is cut at every single space
+-- the words of a line: it is cut at every space, so two spaces have an empty word between them
 abbrev pub words_of : List ℕ → List (List ℕ)
 words_of line = slice_split (λ byte. byte == 32) line
 

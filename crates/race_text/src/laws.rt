@@ -5,7 +5,7 @@ ghost use Rattle.race_text.specs.Laws.{
   TextsHaveNoFault,
 };
 
-/// The text of a trace has no fault, so no trace that fits is refused.
+/// The text of a trace that fits has no fault.
 pub fn texts_have_no_fault()
     ensures { TextsHaveNoFault }
 {}
@@ -15,7 +15,7 @@ pub fn faultless_bytes_are_texts()
     ensures { FaultlessBytesAreTexts }
 {}
 
-/// Equal texts come from equal traces, so none is read as another.
+/// Equal texts come from equal traces.
 pub fn equal_texts_are_of_equal_traces()
     ensures { EqualTextsAreOfEqualTraces }
 {}

@@ -3,7 +3,7 @@ ghost use Rattle.std.specs.Prelude.{◌≡◌, ◌≢◌, ◌<◌, Some, IfOk, I
 ghost use Rattle.race_text.specs.Text.{IsTextOf, IsTraceText};
 ghost use Rattle.race_text.specs.Fault.{text_fault};
 ghost use Rattle.race_text.specs.Laws.{IsOnlyTraceOf};
-ghost use Rattle.race_text.specs.Reader.{IsNoneBefore};
+ghost use Rattle.race_text.specs.Reader.{IsLineOf, IsNoneBefore};
 
 use crate::cause::{TextCause, TextFault};
 use crate::cut::cut_at;
@@ -13,8 +13,8 @@ use std::alloc::Allocator;
 
 /// The one trace whose text the bytes are, or else their first fault.
 ///
-/// Every text of a trace is read, where memory suffices, and nothing else is.
-/// Where memory runs out, the fault says so, at the line that was being read.
+/// Every text of a trace is read, or refused for want of memory alone, and nothing else is read.
+/// Want of memory is told at a line of the text before which none is at fault.
 pub fn parse_trace<A: Allocator + Copy>(alloc: A, bytes: &[u8]) -> Result<Trace<A>, TextFault>
     ensures text { IfOk result (λ trace. IsTextOf trace bytes.now) }
     ensures only { IfOk result (λ trace. IsOnlyTraceOf bytes.now trace) }
@@ -23,6 +23,7 @@ pub fn parse_trace<A: Allocator + Copy>(alloc: A, bytes: &[u8]) -> Result<Trace<
     ensures fault { IfErr result
         (λ told. told.cause ≢ TextCause.OutOfMemory → text_fault bytes.now ≡ Some told) }
     ensures memory { IfErr result (λ told. IsNoneBefore told.line (text_fault bytes.now)) }
+    ensures line { IfErr result (λ told. IsLineOf bytes.now told.line) }
 {
     let mut reader = Reader::new(alloc);
     let mut left = bytes;

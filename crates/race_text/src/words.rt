@@ -37,7 +37,7 @@ impl<'a> Iterator for Words<'a> {
     }
 }
 
-/// The words of a line: it is cut at every single space.
+/// The words of a line: it is cut at every space, so two spaces have an empty word between them.
 pub fn split_words(line: &[u8]) -> Words<'_>
     ensures { result ≡ words_of line.now }
 {

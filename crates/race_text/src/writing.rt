@@ -13,7 +13,7 @@ use race_records::{Decls, Event, Named, Op, Page, Sink, Trace, WriteFault};
 use std::alloc::Allocator;
 use std::io::Write;
 
-/// Writes the trace's one text, a block of lines at a time. Takes no memory.
+/// Writes the trace's one text, in blocks of at most 4,096 bytes. Takes no memory.
 ///
 /// A write that fails or takes no byte ends it: then exactly the first `sent` bytes are out.
 pub fn write_trace<W: Write, A: Allocator>(

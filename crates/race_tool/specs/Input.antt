@@ -8,7 +8,7 @@ pub record ReadsAll (before after : Option (List ℕ)) (bytes : List ℕ) : Type
   pub consumed : Consumes before after bytes
   pub at_end : IsAtEnd after
 
--- a byte at least was read in each of the turns that an input may take
+-- at least as many bytes were read as an input may take turns
 pub record ReadsMany (before after : Option (List ℕ)) : Type 0 where
   pub bytes : List ℕ
   pub consumed : Consumes before after bytes

@@ -89,7 +89,8 @@ pub fn run_check<T, R: Read, W: Write, A: Allocator + Copy>(
         → ReadsAndReports (unread R.remaining source.old) (unread R.remaining source.new)
         (written W.contents sink.old) (written W.contents sink.new) result }
 
-    // What clean means: no read hangs on how unordered accesses happened to be interleaved.
+    // What clean means: what a read finds doesn't depend on how unordered accesses happened to be
+    // interleaved.
     ensures clean { result ≡ status.CLEAN
         → ReadsCleanText (unread R.remaining source.old) (unread R.remaining source.new) }
 

@@ -6,7 +6,7 @@ pub fn has_a_finding(_bytes: &[u8])
     ensures { HasFinding _bytes.now }
 {}
 
-/// A list of bytes has one report and one status, whichever finding is right for it.
+/// A list of bytes has at most one report and one status, whichever finding is right for it.
 pub fn has_one_report(_bytes: &[u8])
     ensures { HasOneReport _bytes.now }
 {}

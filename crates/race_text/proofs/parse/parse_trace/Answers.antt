@@ -3,7 +3,7 @@ use Rattle.race_text.specs.Words.{parts_left}
 use Rattle.race_text.specs.Text.{text, ended}
 use Rattle.std.specs.List.{flat_map}
 use Rattle.race_text.specs.Reader.{lines_read}
-use Rattle.race_text.proofs.ParseLemmas.{IsAt, at_start, none_before, is_shorter, told_at, at_next, end_told_at, end_bytes, header_before_end}
+use Rattle.race_text.proofs.ParseLemmas.{IsAt, at_start, is_line, none_before, is_shorter, told_at, at_next, end_told_at, end_bytes, header_before_end}
 use Rattle.race_text.proofs.TextFine.{text_is_accepted}
 use Rattle.race_text.proofs.TextLaws.{equal_texts}
 use Rattle.race_text.proofs.parse.parse_trace.Goals as goal
@@ -16,6 +16,9 @@ loop-reader-init g c =
 pub returns-in-Some-end_cause-clause-fault : goal.returns-in-Some-end_cause-clause-fault
 returns-in-Some-end_cause-clause-fault g c = λ _. end_told_at c.args.bytes.now (lines_read c.loop-reader.reader.has_header c.loop-reader.reader.decls c.loop-reader.reader.trace) c.loop-reader.left.now c.loop-reader.line c.loop-reader.invariant.at c.cut_at.result.0.now
     (c.cut_at.ensures ∙ ap (λ r. c.cut_at.result.0.now ∷ parts_left 10 r) c.in-None.is) c.in-Some-end_cause.cause (sym c.in-Some-end_cause.ensures)
+
+pub returns-in-Some-end_cause-clause-line : goal.returns-in-Some-end_cause-clause-line
+returns-in-Some-end_cause-clause-line g c = is_line c.args.bytes.now (lines_read c.loop-reader.reader.has_header c.loop-reader.reader.decls c.loop-reader.reader.trace) c.loop-reader.left.now c.loop-reader.line c.loop-reader.invariant.at
 
 pub returns-in-Some-end_cause-clause-memory : goal.returns-in-Some-end_cause-clause-memory
 returns-in-Some-end_cause-clause-memory g c = none_before c.args.bytes.now (lines_read c.loop-reader.reader.has_header c.loop-reader.reader.decls c.loop-reader.reader.trace) c.loop-reader.left.now c.loop-reader.line c.loop-reader.invariant.at
@@ -52,6 +55,9 @@ returns-in-Err-clause-accepted g c = text_is_accepted c.args.bytes.now (record {
 pub returns-in-Err-clause-fault : goal.returns-in-Err-clause-fault
 returns-in-Err-clause-fault g c = λ other. told_at c.args.bytes.now (lines_read c.loop-reader.reader.has_header c.loop-reader.reader.decls c.loop-reader.reader.trace) c.loop-reader.left.now c.loop-reader.line c.loop-reader.invariant.at c.cut_at.result.0.now c.in-Some.others.now
     (c.cut_at.ensures ∙ ap (λ r. c.cut_at.result.0.now ∷ parts_left 10 r) c.in-Some.is) c.in-Err.cause (c.in-Err.ensures.taken other)
+
+pub returns-in-Err-clause-line : goal.returns-in-Err-clause-line
+returns-in-Err-clause-line g c = is_line c.args.bytes.now (lines_read c.loop-reader.reader.has_header c.loop-reader.reader.decls c.loop-reader.reader.trace) c.loop-reader.left.now c.loop-reader.line c.loop-reader.invariant.at
 
 pub returns-in-Err-clause-memory : goal.returns-in-Err-clause-memory
 returns-in-Err-clause-memory g c = none_before c.args.bytes.now (lines_read c.loop-reader.reader.has_header c.loop-reader.reader.decls c.loop-reader.reader.trace) c.loop-reader.left.now c.loop-reader.line c.loop-reader.invariant.at

@@ -1,5 +1,5 @@
 -- The line of an event says the event.
-use Rattle.std.proofs.Common.{◌≡◌, ℕ, ◌-◌, ◌^◌, ◌<◌, ◌&&◌, Bool, true, false, true≢false, codes, is_none, if◌then◌else◌, nat_lt, List, [], ◌∷◌, length, unwrap_or, Some, None, option_map, refl, sym, ap, ◌∙◌, arith}
+use Rattle.std.proofs.Common.{◌≡◌, ℕ, ◌-◌, ◌^◌, ◌<◌, ◌&&◌, Bool, true, false, true≢false, is_none, if◌then◌else◌, nat_lt, List, [], ◌∷◌, length, unwrap_or, Some, None, option_map, refl, sym, ap, ◌∙◌, arith}
 use Rattle.std.proofs.lemmas.Bool.Decides.{nat_tests}
 use Rattle.std.proofs.lemmas.Option.{slice_get-get_or}
 use Rattle.std.specs.Fmt.{decimal}

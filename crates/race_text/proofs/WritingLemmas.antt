@@ -1,16 +1,13 @@
 -- The declaration at an index, by its number and its name.
-use Rattle.std.proofs.Common.{◌≡◌, ◌==◌, ℕ, zero, suc, ◌+◌, ◌-◌, ◌<◌, Bool, true, false, List, [], ◌∷◌, ◌++◌, append_assoc, length, map, take, slice_get, Some, option_map, codes, if◌then◌else◌, refl, sym, ap, subst, ◌∙◌, arith}
-use Rattle.std.proofs.lemmas.Bool.Decides.{nat_tests}
+use Rattle.std.proofs.Common.{◌≡◌, ℕ, ◌<◌, List, [], ◌∷◌, ◌++◌, append_assoc, length, map, take, slice_get, Some, option_map, codes, refl, sym, ap, subst, ◌∙◌}
 use Rattle.std.proofs.lemmas.Grind.{flat_map-append}
 use Rattle.std.proofs.lemmas.List.Concat.{flat_map-cons}
-use Rattle.std.proofs.lemmas.Option.{slice_get_within, same_Some}
+use Rattle.std.proofs.lemmas.Option.{same_Some}
 use Rattle.race_records.specs.declared.event.Event.{Event}
-use Rattle.race_records.specs.declared.kind.Kind.{Kind}
 use Rattle.race_records.specs.declared.kind.Named.{Named}
 use Rattle.race_records.specs.declared.kind.Object.{Object}
 use Rattle.race_records.specs.Events.{TraceState}
-use Rattle.race_records.specs.Name.{main}
-use Rattle.race_records.specs.Declarations.{Declaration, kind_of, is_of_kind, of_kind, count_of, named, nth_name, name_of, declared_at, IsDeclared}
+use Rattle.race_records.specs.Declarations.{Declaration, kind_of, count_of, named, name_of, declared_at, IsDeclared}
 use Rattle.race_records.proofs.ListLemmas.{slice_get-within, flat_map-map}
 use Rattle.race_text.specs.Text.{text, lines, header, ended, line_of, object_words, declaration_line, event_line}
 use Rattle.race_text.proofs.FoundLemmas.{declared_named, name_of_named}

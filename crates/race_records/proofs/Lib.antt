@@ -9,3 +9,4 @@ pub mod EventLemmas
 pub mod AlikeLemmas
 pub mod DeviceLemmas
 pub mod PageLemmas
+pub mod PartLaws

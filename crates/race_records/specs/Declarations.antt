@@ -83,6 +83,15 @@ kind_of_named (Named.Chan n) = Kind.Chan
 kind_of_named (Named.Lock n) = Kind.Lock
 kind_of_named (Named.Once n) = Kind.Once
 
+-- what is named is of the kind
+abbrev pub is_named : Kind → Named → Bool
+is_named Kind.Goroutine (Named.Goroutine n) = true
+is_named Kind.Var (Named.Var n) = true
+is_named Kind.Chan (Named.Chan n) = true
+is_named Kind.Lock (Named.Lock n) = true
+is_named Kind.Once (Named.Once n) = true
+is_named _ _ = false
+
 abbrev pub number_of : Named → ℕ
 number_of (Named.Goroutine n) = n
 number_of (Named.Var n) = n

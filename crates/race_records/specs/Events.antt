@@ -1,20 +1,18 @@
 -- Which events fit the declarations, and when a trace takes one.
 use Rattle.std.specs.Prelude.{◌≡◌, ℕ, ◌≤◌, ◌^◌, ◌&&◌, Bool, true, not, if◌then◌else◌, nat_lt, nat_le, List, length, Option, Some, None, is_none, IsTrue, All}
+use Rattle.std.specs.List.{list_all}
 use Rattle.race_records.specs.declared.event.Event.{Event}
 use Rattle.race_records.specs.declared.event.Op.{Op}
-use Rattle.race_records.specs.declared.event.Op.TheVariants.{Go, Exit, Read, Write}
 use Rattle.race_records.specs.declared.kind.Kind.{Kind}
 use Rattle.race_records.specs.declared.trace.PushFault.{PushFault}
 use Rattle.race_records.specs.declared.trace.PushFault.TheVariants.{BadNumber, Full}
 use Rattle.race_records.specs.declared.trace.TheConstants.{MAX_EVENTS}
 use Rattle.race_records.specs.Declarations.{Declaration, DeclsState, count_of}
+use Rattle.race_records.specs.Parts.{says, part_fits, part_is_u64}
 
 -- the numbers that the operation names are declared, each of its kind
 abbrev pub op_fits : List Declaration → Op → Bool
-op_fits ds (Go goroutine) = nat_lt goroutine (count_of Kind.Goroutine ds)
-op_fits ds Exit = true
-op_fits ds (Read var value) = nat_lt var (count_of Kind.Var ds)
-op_fits ds (Write var value) = nat_lt var (count_of Kind.Var ds)
+op_fits ds op = list_all (part_fits ds) (says op).1
 
 -- all numbers of the event are in range and of the right kind, and no operation has a second place
 unfoldable pub fits : DeclsState → Event → Bool
@@ -24,10 +22,7 @@ fits decls e =
 
 -- a value that the operation names is a u64
 abbrev pub value_fits : Op → Bool
-value_fits (Go goroutine) = true
-value_fits Exit = true
-value_fits (Read var value) = nat_lt value (2 ^ 64)
-value_fits (Write var value) = nat_lt value (2 ^ 64)
+value_fits op = list_all part_is_u64 (says op).1
 
 -- a `Trace` as its callers see it. `spare` is for how many more events there is room
 pub record TraceState : Type 0 where

@@ -3,6 +3,7 @@ pub mod Refusal
 pub mod Declarations
 pub mod Equality
 pub mod TraceEquality
+pub mod Parts
 pub mod Events
 pub mod Tables
 pub mod Rows

@@ -60,15 +60,5 @@ fn are_alike_at<A: Allocator>(trace: &Trace<A>, other: &Trace<A>, index: usize) 
 fn is_same_op(op: &Op, other: &Op) -> bool
     ensures { result ≡ same_op op.now other.now }
 {
-    match (op, other) {
-        (Op::Go(goroutine), Op::Go(another)) => goroutine == another,
-        (Op::Exit, Op::Exit) => true,
-        (Op::Read(var, value), Op::Read(another, other_value)) => {
-            var == another && value == other_value
-        }
-        (Op::Write(var, value), Op::Write(another, other_value)) => {
-            var == another && value == other_value
-        }
-        _ => false,
-    }
+    op == other
 }

@@ -4,11 +4,13 @@ ghost use Rattle.std.specs.Str.{bytes_eq};
 ghost use Rattle.race_records.specs.Declarations as spec;
 ghost use Rattle.race_records.specs.Refusal.{Refuses, AllowsUnless};
 ghost use Rattle.race_records.specs.Events as events;
+ghost use Rattle.race_records.specs.Parts.{part_fits};
+ghost use Rattle.std.specs.List.{list_all};
 
 use crate::indexes::Indexes;
 use crate::names::{Names, Slot};
 use crate::places::Places;
-use crate::{Event, Kind, Named, Object, Op, is_name, is_place};
+use crate::{Event, Kind, Named, Object, Op, Part, is_name, is_place, says};
 use std::alloc::{AllocError, Allocator, Global};
 use std::marker::Model;
 use thiserror::Error;
@@ -103,6 +105,14 @@ impl<A: Allocator> Decls<A> {
         slot.object.named(slot.number)
     }
 
+    /// What declaration `i` declares, and the name, counted from 0.
+    pub fn declaration(&self, i: usize) -> (Object, &str)
+        requires { i < length self.now.declarations }
+        ensures { slice_get self.now.declarations i ≡ Some (record { name = result.1.now; object = result.0 }) }
+    {
+        (self.names.slot(i).object, self.names.name(i))
+    }
+
     /// What the name stands for; `main` is goroutine 0.
     pub fn find(&self, name: &str) -> Option<Named>
         ensures { result ≡ spec.find_name self.now.declarations name.now }
@@ -185,11 +195,22 @@ impl<A: Allocator> Decls<A> {
     fn op_fits(&self, op: &Op) -> bool
         ensures { result ≡ events.op_fits self.now.declarations op.now }
     {
-        match op {
-            Op::Go(goroutine) => *goroutine < self.count(Kind::Goroutine),
-            Op::Exit => true,
-            Op::Read(var, _) => *var < self.count(Kind::Var),
-            Op::Write(var, _) => *var < self.count(Kind::Var),
+        let (_, parts) = says(op);
+        self.parts_fit(parts.as_slice())
+    }
+
+    fn parts_fit(&self, parts: &[Part]) -> bool
+        ensures { result ≡ list_all (part_fits self.now.declarations) parts.now }
+    {
+        parts.iter().all(|part| self.part_fits(*part))
+    }
+
+    fn part_fits(&self, part: Part) -> bool
+        ensures { result ≡ part_fits self.now.declarations part }
+    {
+        match part {
+            Part::Object(named) => named.number() < self.count(named.kind()),
+            Part::Value(_) => true,
         }
     }
 }
@@ -223,8 +244,8 @@ impl<A: Allocator + Copy> Decls<A> {
         self.declare(name, Object::Var)
     }
 
-    // Declares the object under the name, after every test.
-    fn declare(&mut self, name: &str, object: Object) -> Result<u32, DeclFault>
+    /// Declares the object under the name, and gives its number.
+    pub fn declare(&mut self, name: &str, object: Object) -> Result<u32, DeclFault>
         ensures refused { Refuses (spec.decl_fault self.old.declarations object name.now) result }
         ensures allowed { AllowsUnless (spec.decl_fault self.old.declarations object name.now)
             result DeclFault.OutOfMemory }

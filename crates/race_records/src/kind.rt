@@ -69,6 +69,48 @@ pub enum Named {
     Once(u32),
 }
 
+impl Named {
+    /// The kind of what is named.
+    pub fn kind(self) -> Kind
+        ensures { result ≡ spec.kind_of_named self }
+    {
+        match self {
+            Named::Goroutine(_) => Kind::Goroutine,
+            Named::Var(_) => Kind::Var,
+            Named::Chan(_) => Kind::Chan,
+            Named::Lock(_) => Kind::Lock,
+            Named::Once(_) => Kind::Once,
+        }
+    }
+
+    /// Whether it is of the kind.
+    pub fn is_of(self, kind: Kind) -> bool
+        ensures { result ≡ spec.is_named kind self }
+    {
+        match (kind, self) {
+            (Kind::Goroutine, Named::Goroutine(_)) => true,
+            (Kind::Var, Named::Var(_)) => true,
+            (Kind::Chan, Named::Chan(_)) => true,
+            (Kind::Lock, Named::Lock(_)) => true,
+            (Kind::Once, Named::Once(_)) => true,
+            _ => false,
+        }
+    }
+
+    /// Its number among those of its kind.
+    pub fn number(self) -> u32
+        ensures { result ≡ spec.number_of self }
+    {
+        match self {
+            Named::Goroutine(number) => number,
+            Named::Var(number) => number,
+            Named::Chan(number) => number,
+            Named::Lock(number) => number,
+            Named::Once(number) => number,
+        }
+    }
+}
+
 /// What a declaration says beside the name.
 #[derive(Clone, Copy, Debug, PartialEq, Eq)]
 pub enum Object {

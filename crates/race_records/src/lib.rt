@@ -9,6 +9,7 @@ mod kind;
 mod name;
 mod names;
 mod page;
+mod parts;
 mod places;
 mod sink;
 mod source;
@@ -25,6 +26,7 @@ pub use name::{MAX_NAME_LEN, MAX_PLACE_LEN, is_name, is_place};
 #[doc(hidden)]
 pub use names::{Names, Slot};
 pub use page::{BLOCK, Page};
+pub use parts::{Part, PartKind, Parts, Verb, op_by, part_kinds, says};
 #[doc(hidden)]
 pub use places::Places;
 pub use sink::{Sink, WriteFault};

@@ -1,18 +1,19 @@
 -- What the words of a line say of the declaration that it is.
-use Rattle.std.proofs.Common.{◌≡◌, ℕ, ◌==◌, ◌<◌, Bool, true, false, not, if◌then◌else◌, nat_le, List, [], ◌∷◌, length, Option, Some, None, is_some, option_map, Result, Ok, Err, IsOkUnless, refl, sym, ap, ◌∙◌, arith}
+use Rattle.std.proofs.Common.{◌≡◌, ℕ, ◌==◌, ◌<◌, Bool, true, false, not, if◌then◌else◌, nat_le, List, [], ◌∷◌, length, Option, Some, None, is_some, option_map, Result, Ok, Err, IsOkUnless, refl, sym, ap, ◌∙◌, arith, true≢false}
 use Rattle.std.proofs.lemmas.Bool.Decides.{nat_tests}
 use Rattle.std.proofs.lemmas.Option.{none-some, same_Some}
 use Rattle.std.specs.Option.{option_and_then}
 use Rattle.race_records.specs.declared.declarations.DeclFault.{DeclFault}
 use Rattle.race_records.specs.declared.kind.Object.{Object}
 use Rattle.race_records.specs.Name.{is_name}
-use Rattle.race_records.specs.Declarations.{Declaration, decl_fault, find_name, kind_of, count_of, limit_of}
+use Rattle.race_records.specs.Declarations.{Declaration, decl_fault, find_name, kind_of, count_of, limit_of, is_too_wide}
 use Rattle.race_records.specs.Refusal.{Refuses, AllowsUnless}
 use Rattle.race_text.specs.declared.cause.TextCause.{TextCause}
 use Rattle.race_text.specs.declared.form.Word.{Word}
 use Rattle.race_text.specs.Words.{words_of}
 use Rattle.race_text.specs.Form.{word_named, object_of, fields_of, first_word, arguments}
 use Rattle.race_text.specs.Fault.{or_else, field_cause, fields_cause, room_cause, word_cause, seen_so_far, declaration_in, declared_as}
+use Rattle.race_text.proofs.WordTable.{word_is_narrow}
 use Rattle.race_text.specs.Declaring.{is_declaration_word, is_declaration_line, declaration_cause, name_cause, only_name_cause, cause_of, answer}
 
 -- a line, by its first word and the others
@@ -30,38 +31,29 @@ module _ (line first : List ℕ) (args : List (List ℕ)) (word : Option Word) (
   declaration_in-words = λ i. declared_as (option_and_then object_of (word_is i)) (arguments (words i))
 
 -- one word: the causes that the addition tells are those of the line
-same_causes : (a b c : Bool)
+same_causes : (a b c d : Bool) → d ≡ false
     → or_else (if not a then Some TextCause.BadName else (if b then Some TextCause.Taken else None)) (if c then Some TextCause.TooMany else None)
-    ≡ or_else (if not a then Some TextCause.BadName else None) (option_map cause_of (if not a then Some DeclFault.BadName else (if b then Some DeclFault.Taken else (if c then Some DeclFault.TooMany else None))))
-same_causes false b c = refl
-same_causes true true c = refl
-same_causes true false true = refl
-same_causes true false false = refl
+    ≡ or_else (if not a then Some TextCause.BadName else None) (option_map cause_of (if not a then Some DeclFault.BadName else (if b then Some DeclFault.Taken else (if c then Some DeclFault.TooMany else (if d then Some DeclFault.BadCapacity else None)))))
+same_causes false b c d h = refl
+same_causes true true c d h = refl
+same_causes true false true d h = refl
+same_causes true false false false h = refl
+same_causes true false false true h = absurd (true≢false h)
 
 more_than_one : (a b : List ℕ) (rest : List (List ℕ)) → (length (a ∷ b ∷ rest) == 1) ≡ false
 more_than_one a b rest = grind (arith, nat_tests)
 
-pub goroutine_causes : (ds : List Declaration) (args : List (List ℕ)) → word_cause (seen_so_far ds 0) (Some Word.Goroutine) args ≡ name_cause ds Object.Goroutine args
+pub object_causes : (ds : List Declaration) (object : Object) (args : List (List ℕ)) → is_too_wide object ≡ false → word_cause (seen_so_far ds 0) (Some (Word.Declares object)) args ≡ name_cause ds object args
 unfolding decl_fault field_cause
-goroutine_causes ds [] = refl
-goroutine_causes ds (name ∷ []) = same_causes (is_name name) (is_some (find_name ds name)) (nat_le (limit_of (kind_of Object.Goroutine)) (count_of (kind_of Object.Goroutine) ds))
-goroutine_causes ds (name ∷ other ∷ others) =
-    ap (λ b. if not b then Some TextCause.WrongCount else or_else (fields_cause ds (fields_of Word.Goroutine) (name ∷ other ∷ others)) (room_cause (seen_so_far ds 0) (Some Object.Goroutine))) (more_than_one name other others)
+object_causes ds object [] narrow = refl
+object_causes ds object (name ∷ []) narrow = same_causes (is_name name) (is_some (find_name ds name)) (nat_le (limit_of (kind_of object)) (count_of (kind_of object) ds)) (is_too_wide object) narrow
+object_causes ds object (name ∷ other ∷ others) narrow =
+    ap (λ b. if not b then Some TextCause.WrongCount else or_else (fields_cause ds (fields_of (Word.Declares object)) (name ∷ other ∷ others)) (room_cause (seen_so_far ds 0) (Some object))) (more_than_one name other others)
 
-pub var_causes : (ds : List Declaration) (args : List (List ℕ)) → word_cause (seen_so_far ds 0) (Some Word.Var) args ≡ name_cause ds Object.Var args
-unfolding decl_fault field_cause
-var_causes ds [] = refl
-var_causes ds (name ∷ []) = same_causes (is_name name) (is_some (find_name ds name)) (nat_le (limit_of (kind_of Object.Var)) (count_of (kind_of Object.Var) ds))
-var_causes ds (name ∷ other ∷ others) =
-    ap (λ b. if not b then Some TextCause.WrongCount else or_else (fields_cause ds (fields_of Word.Var) (name ∷ other ∷ others)) (room_cause (seen_so_far ds 0) (Some Object.Var))) (more_than_one name other others)
-
--- the causes of a line that declares a goroutine, or a variable
-module _ (ds : List Declaration) (line first : List ℕ) (args : List (List ℕ)) (words : words_of line ≡ first ∷ args) where
-  pub goroutine_line : word_named first ≡ Some Word.Goroutine → declaration_cause ds line ≡ name_cause ds Object.Goroutine args
-  goroutine_line named = declaration_cause-words line first args (Some Word.Goroutine) words (sym named) ds ∙ goroutine_causes ds args
-
-  pub var_line : word_named first ≡ Some Word.Var → declaration_cause ds line ≡ name_cause ds Object.Var args
-  var_line named = declaration_cause-words line first args (Some Word.Var) words (sym named) ds ∙ var_causes ds args
+-- the causes of a line that declares an object
+pub object_line : (ds : List Declaration) (line first : List ℕ) (args : List (List ℕ)) (object : Object) → words_of line ≡ first ∷ args → word_named first ≡ Some (Word.Declares object)
+    → declaration_cause ds line ≡ name_cause ds object args
+object_line ds line first args object words named = declaration_cause-words line first args (Some (Word.Declares object)) words (sym named) ds ∙ object_causes ds object args (word_is_narrow first object named)
 
 -- words that are not one name
 pub not_one_name : (ds : List Declaration) (object : Object) (args : List (List ℕ)) (cause : TextCause) → only_name_cause args ≡ Some cause → name_cause ds object args ≡ Some cause

@@ -1,4 +1,6 @@
 pub mod CutLemmas
+pub mod WordTable
+pub mod PartWords
 pub mod SeenLemmas
 pub mod UnseenLemmas
 pub mod NumberLemmas
@@ -8,7 +10,6 @@ pub mod CauseLemmas
 pub mod DeclarationLemmas
 pub mod FoundLemmas
 pub mod EventWords
-pub mod EventCauses
 pub mod EventLines
 pub mod TraceLemmas
 pub mod WordsAgain

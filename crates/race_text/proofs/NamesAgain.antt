@@ -10,9 +10,8 @@ use Rattle.race_records.specs.declared.kind.Kind.{Kind}
 use Rattle.race_records.specs.declared.kind.Named.{Named}
 use Rattle.race_records.specs.declared.kind.Object.{Object}
 use Rattle.race_records.specs.Name.{main}
-use Rattle.race_records.specs.Declarations.{Declaration, DeclsState, IsWellFormed, is_of_kind, of_kind, kind_of, count_of, named, declared_at, find_name, nth_name}
+use Rattle.race_records.specs.Declarations.{Declaration, DeclsState, IsWellFormed, is_of_kind, of_kind, kind_of, count_of, named, declared_at, find_name, name_of, nth_name, first_number, IsDeclared}
 use Rattle.race_records.proofs.ListLemmas.{slice_get-within}
-use Rattle.race_text.specs.Text.{goroutine_name, var_name}
 
 pub differ : (a b : List ℕ) → a ≢ b → bytes_eq a b ≡ false
 differ a b other = by (bytes_eq a b) refl
@@ -73,34 +72,41 @@ module _ (decls : DeclsState) (holds : IsWellFormed decls) where
         (λ j. if not_main j then Some (Named.Goroutine 0) else option_and_then (declared_at ds) (first_is j))
         ∙ ap (option_map (λ (x : Declaration). named x.object (count_of (kind_of x.object) (take i ds)))) at
 
-  as_goroutine : (o : Object) (i n : ℕ) → is_of_kind Kind.Goroutine o ≡ true → 1 + length (of_kind Kind.Goroutine (take i ds)) ≡ n → named o (count_of (kind_of o) (take i ds)) ≡ Named.Goroutine n
-  as_goroutine Object.Goroutine i n of number = ap Named.Goroutine number
-  as_goroutine _ i n of number = absurd (true≢false (sym of))
+  named_as : Kind → ℕ → Named
+  named_as Kind.Goroutine n = Named.Goroutine n
+  named_as Kind.Var n = Named.Var n
+  named_as Kind.Chan n = Named.Chan n
+  named_as Kind.Lock n = Named.Lock n
+  named_as Kind.Once n = Named.Once n
 
-  as_var : (o : Object) (i m : ℕ) → is_of_kind Kind.Var o ≡ true → length (of_kind Kind.Var (take i ds)) ≡ m → named o (count_of (kind_of o) (take i ds)) ≡ Named.Var m
-  as_var Object.Var i m of number = let n : count_of Kind.Var (take i ds) ≡ m = omega (arith, number) in ap Named.Var n
-  as_var _ i m of number = absurd (true≢false (sym of))
+  named_is : (kind : Kind) (o : Object) (i n m : ℕ) → is_of_kind kind o ≡ true → length (of_kind kind (take i ds)) ≡ m → first_number kind + m ≡ n → named o (count_of (kind_of o) (take i ds)) ≡ named_as kind n
+  unfolding named_as
+  named_is Kind.Goroutine Object.Goroutine i n m of number is = ap Named.Goroutine (omega (arith, number, is))
+  named_is Kind.Var Object.Var i n m of number is = ap Named.Var (omega (arith, number, is))
+  named_is Kind.Chan (Object.Chan capacity) i n m of number is = ap Named.Chan (omega (arith, number, is))
+  named_is Kind.Lock (Object.Lock rw) i n m of number is = ap Named.Lock (omega (arith, number, is))
+  named_is Kind.Once Object.Once i n m of number is = ap Named.Once (omega (arith, number, is))
+  named_is _ _ i n m of number is = absurd (true≢false (sym of))
 
-  -- the name of any goroutine but main
-  other_again : (n m : ℕ) → 1 + m ≡ n → m < length (of_kind Kind.Goroutine ds) → find_name ds (unwrap_or (nth_name Kind.Goroutine ds m) []) ≡ Some (Named.Goroutine n)
-  other_again n m next less =
-      let found = slice_get-within (of_kind Kind.Goroutine ds) m less in
-      let s = stands_at Kind.Goroutine ds m found.0 found.1 in
+  -- the name of the nth declaration of a kind
+  nth_again : (kind : Kind) (n m : ℕ) → first_number kind + m ≡ n → m < length (of_kind kind ds) → find_name ds (unwrap_or (nth_name kind ds m) []) ≡ Some (named_as kind n)
+  nth_again kind n m is less =
+      let found = slice_get-within (of_kind kind ds) m less in
+      let s = stands_at kind ds m found.0 found.1 in
       ap (λ o. find_name ds (unwrap_or (option_map (λ (d : Declaration). d.name) o) [])) found.1
-      ∙ found_again s.i found.0 s.at ∙ ap Some (as_goroutine found.0.object s.i n s.of (ap (λ k. 1 + k) s.number ∙ next))
+      ∙ found_again s.i found.0 s.at ∙ ap Some (named_is kind found.0.object s.i n m s.of s.number is)
 
-  pub goroutine_again : (n : ℕ) → n < count_of Kind.Goroutine ds → find_name ds (goroutine_name ds n) ≡ Some (Named.Goroutine n)
-  goroutine_again n less = by (n == 0) refl
+  -- the name of anything that is declared
+  pub name_again : (what : Named) → IsDeclared ds what → find_name ds (unwrap_or (name_of ds what) []) ≡ Some what
+  unfolding named_as
+  name_again (Named.Goroutine n) less = by (n == 0) refl
     where
       by : (b : Bool) → (n == 0) ≡ b → find_name ds (unwrap_or (if b then Some main else nth_name Kind.Goroutine ds (n - 1)) []) ≡ Some (Named.Goroutine n)
       by true e = let zero : 0 ≡ n = grind (arith, nat_tests) in ap (λ k. Some (Named.Goroutine k)) zero
       by false e =
           let some : 0 < n = grind (arith, nat_tests) in
-          other_again n (n - 1) (omega (arith, some)) (omega (arith, less, some))
-
-  pub var_again : (n : ℕ) → n < count_of Kind.Var ds → find_name ds (var_name ds n) ≡ Some (Named.Var n)
-  var_again n less =
-      let found = slice_get-within (of_kind Kind.Var ds) n (omega (arith, less)) in
-      let s = stands_at Kind.Var ds n found.0 found.1 in
-      ap (λ o. find_name ds (unwrap_or (option_map (λ (d : Declaration). d.name) o) [])) found.1
-      ∙ found_again s.i found.0 s.at ∙ ap Some (as_var found.0.object s.i n s.of s.number)
+          nth_again Kind.Goroutine n (n - 1) (omega (arith, some)) (omega (arith, less, some))
+  name_again (Named.Var n) less = nth_again Kind.Var n n (omega arith) (omega (arith, less))
+  name_again (Named.Chan n) less = nth_again Kind.Chan n n (omega arith) (omega (arith, less))
+  name_again (Named.Lock n) less = nth_again Kind.Lock n n (omega arith) (omega (arith, less))
+  name_again (Named.Once n) less = nth_again Kind.Once n n (omega arith) (omega (arith, less))

@@ -20,9 +20,9 @@ use Rattle.race_text.specs.Fault.{seen, seen_so_far, or_else, cause, word_cause,
 use Rattle.race_text.specs.Declaring.{is_declaration_line, is_declaration_word, declaration_cause, only_name_cause, cause_of, with_declared, with_declaration_in}
 use Rattle.race_text.specs.Taking.{state_of, IsRead, TakesLine, begun}
 use Rattle.race_text.specs.Reader.{trace_read, lines_read, IsReading, GoesOn, TakesIfDeclared, TakesDeclaration}
-use Rattle.race_text.proofs.DeclarationLemmas.{goroutine_line, var_line, declaration_in-words}
-use Rattle.race_text.proofs.EventCauses.{or_else_none}
-use Rattle.race_text.proofs.EventLines.{word_spelled}
+use Rattle.race_text.proofs.DeclarationLemmas.{object_line, declaration_in-words}
+use Rattle.race_text.proofs.EventWords.{or_else_none}
+use Rattle.race_text.proofs.WordTable.{word_spelled, word_has_words, object_words_are}
 use Rattle.race_text.proofs.TraceLemmas.{cause_behind, clean_line, lines_declaration, seen_declaration, no_word}
 
 abbrev empty : DeclsState
@@ -84,32 +84,19 @@ module _ (ds : List Declaration) (line first : List ℕ) (args : List (List ℕ)
 
   by_word : (word : Option Word) → word_named first ≡ word → is_declaration_word word ≡ true → declaration_cause ds line ≡ None → IsDeclaration ds line
   by_word None named h none = absurd (true≢false (sym h))
-  by_word (Some Word.Goroutine) named h none =
-      let nothing = sym (goroutine_line ds line first args words named) ∙ none in
-      let one = one_word args (or_else_none (only_name_cause args) (option_map cause_of (decl_fault ds Object.Goroutine (first_word args))) nothing) in
+  by_word (Some (Word.Declares object)) named h none =
+      let nothing = sym (object_line ds line first args object words named) ∙ none in
+      let one = one_word args (or_else_none (only_name_cause args) (option_map cause_of (decl_fault ds object (first_word args))) nothing) in
+      let has = word_has_words first object named in
       record {
-        d = record { name = one.0; object = Object.Goroutine };
-        is = declaration_in-words line first args (Some Word.Goroutine) words (sym named) ∙ (λ i. declared_as (Some Object.Goroutine) (one.1 i));
-        text = joined ∙ (λ i. line_of (word_spelled first Word.Goroutine named i ∷ one.1 i));
-        event = ap is_event_word (named_line Word.Goroutine named);
-        fine = ap (λ ws. decl_fault ds Object.Goroutine (first_word ws)) (sym one.1) ∙ no_fault (only_name_cause args) (decl_fault ds Object.Goroutine (first_word args)) nothing;
-        words = refl;
+        d = record { name = one.0; object = object };
+        is = declaration_in-words line first args (Some (Word.Declares object)) words (sym named) ∙ (λ i. declared_as (Some object) (one.1 i));
+        text = joined ∙ (λ i. line_of (word_spelled first (Word.Declares object) named i ∷ one.1 i)) ∙ ap line_of (sym (object_words_are one.0 object has));
+        event = ap is_event_word (named_line (Word.Declares object) named);
+        fine = ap (λ ws. decl_fault ds object (first_word ws)) (sym one.1) ∙ no_fault (only_name_cause args) (decl_fault ds object (first_word args)) nothing;
+        words = has;
       }
-  by_word (Some Word.Var) named h none =
-      let nothing = sym (var_line ds line first args words named) ∙ none in
-      let one = one_word args (or_else_none (only_name_cause args) (option_map cause_of (decl_fault ds Object.Var (first_word args))) nothing) in
-      record {
-        d = record { name = one.0; object = Object.Var };
-        is = declaration_in-words line first args (Some Word.Var) words (sym named) ∙ (λ i. declared_as (Some Object.Var) (one.1 i));
-        text = joined ∙ (λ i. line_of (word_spelled first Word.Var named i ∷ one.1 i));
-        event = ap is_event_word (named_line Word.Var named);
-        fine = ap (λ ws. decl_fault ds Object.Var (first_word ws)) (sym one.1) ∙ no_fault (only_name_cause args) (decl_fault ds Object.Var (first_word args)) nothing;
-        words = refl;
-      }
-  by_word (Some Word.Go) named h none = absurd (true≢false (sym h))
-  by_word (Some Word.Exit) named h none = absurd (true≢false (sym h))
-  by_word (Some Word.Read) named h none = absurd (true≢false (sym h))
-  by_word (Some Word.Write) named h none = absurd (true≢false (sym h))
+  by_word (Some (Word.Does verb)) named h none = absurd (true≢false (sym h))
 
 pub declaration_of_line : (ds : List Declaration) (line : List ℕ) → is_declaration_line line ≡ true → declaration_cause ds line ≡ None → IsDeclaration ds line
 declaration_of_line ds line h none = by (words_of line) refl h

@@ -11,7 +11,6 @@ use Rattle.std.specs.List.{flat_map, join_with_byte}
 use Rattle.std.specs.Str.{bytes_eq}
 use Rattle.std.specs.Str.Parse.{digits_value}
 use Rattle.race_records.specs.declared.event.Event.{Event}
-use Rattle.race_records.specs.declared.event.Op.TheVariants.{Read, Write}
 use Rattle.race_records.specs.declared.trace.TheConstants.{MAX_EVENTS}
 use Rattle.race_records.specs.Declarations.{Declaration, DeclsState, IsWellFormed, is_known, place_fault, with_place, with_declaration}
 use Rattle.race_records.specs.Events.{TraceState, value_fits}
@@ -32,38 +31,9 @@ use Rattle.race_text.specs.Reading.{Occurrence, event_by, event_in}
 use Rattle.race_text.specs.Reader.{end_cause}
 use Rattle.race_text.specs.Taking.{state_of, IsRead, begun, event_of}
 use Rattle.race_text.proofs.EventLines.{event_line as event_line_of}
-use Rattle.race_text.proofs.EventWords.{is_go, is_exit, is_access}
 use Rattle.race_text.proofs.ParseLemmas.{fault_step, fault_end, end_empty, no_bytes}
 use Rattle.race_text.proofs.ReaderLemmas.{header_lines, header_says, declaration_of_line, cause_of_line, taken_declaration}
 use Rattle.race_text.proofs.TraceLemmas.{cause_behind, bad_byte_is_told, no_event_is_told, event_cause, event_taken, event_fits, event_has_room, place_has_room}
-
--- a number that is read is in its limit
-number_within : (limit : ℕ) (w : List ℕ) (n : ℕ) → number limit w ≡ Some n → n ≤ limit
-unfolding number
-number_within limit w n h = by (bytes_eq w (decimal (digits_value 10 w))) (nat_le (digits_value 10 w) limit) refl h
-  where
-    by : (b c : Bool) → nat_le (digits_value 10 w) limit ≡ c → (if b && c then Some (digits_value 10 w) else None) ≡ Some n → n ≤ limit
-    by true true e h = let same = same_Some (digits_value 10 w) n h in subst (λ k. k ≤ limit) same (grind (arith, nat_tests))
-    by true false e h = absurd (none-some n h)
-    by false c e h = absurd (none-some n h)
-
-value_within : (w : List ℕ) (v : ℕ) (b : Bool) → number (2 ^ 64 - 1) w ≡ Some v → nat_lt v (2 ^ 64) ≡ b → b ≡ true
-value_within w v true h e = refl
-value_within w v false h e = let low = number_within (2 ^ 64 - 1) w v h in absurd (grind (arith, nat_tests, low))
-
--- a value that is said is a u64
-value_said : (ds : List Declaration) (ws : List (List ℕ)) (o : Occurrence) → event_in ds ws ≡ Some o → value_fits o.op ≡ true
-value_said ds [] o h = absurd (none-some o h)
-value_said ds (first ∷ args) o h = by (word_named first) h
-  where
-    by : (word : Option Word) → event_by ds word args ≡ Some o → value_fits o.op ≡ true
-    by None h = absurd (none-some o h)
-    by (Some Word.Goroutine) h = absurd (none-some o h)
-    by (Some Word.Var) h = absurd (none-some o h)
-    by (Some Word.Go) h = let is = is_go ds args o h in ap value_fits is.op_is
-    by (Some Word.Exit) h = let is = is_exit ds args o h in ap value_fits is.op_is
-    by (Some Word.Read) h = let is = is_access ds args o Read h in ap value_fits is.op_is ∙ value_within is.value is.v (nat_lt is.v (2 ^ 64)) is.value_is refl
-    by (Some Word.Write) h = let is = is_access ds args o Write h in ap value_fits is.op_is ∙ value_within is.value is.v (nat_lt is.v (2 ^ 64)) is.value_is refl
 
 -- the table of places with one more, which may be known
 place_kept : (decls : DeclsState) (word : List ℕ) → IsWellFormed decls → place_fault decls.places word ≡ None → IsWellFormed (with_place decls word)
@@ -94,12 +64,12 @@ module _ (t : TraceState) (has : HasText t) (read : IsRead t) (line : List ℕ) 
       let few = read.few_places in
       let taken = event_taken t next line o read has.is_trace is (record { room = room; decls = refl; events = refl }) in
       let mid : TraceState = record { decls = decls; events = t.events; spare = t.spare } in
-      let fit = event_fits t.decls o (record { place = is.place; who = is.who; op = is.op }) in
+      let fit = event_fits t.decls o (record { place = is.place; who = is.who; op = is.op; value = is.value }) in
       record {
         next = next;
         has = record {
           well_formed = place_kept t.decls o.place has.well_formed (place_has_room t o.place is.place few room);
-          is_trace = push_is_trace mid e (t.events ++ e ∷ []) 0 (with_place_is_trace t o.place decls has.is_trace refl) (value_said ds (words_of line) o says) (event_has_room mid e fit room) refl;
+          is_trace = push_is_trace mid e (t.events ++ e ∷ []) 0 (with_place_is_trace t o.place decls has.is_trace refl) is.value (event_has_room mid e fit room) refl;
           words = has.words;
         };
         read = taken.is_read;

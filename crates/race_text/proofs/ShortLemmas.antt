@@ -1,5 +1,5 @@
 -- How long a trace's text can be.
-use Rattle.std.proofs.Common.{◌≡◌, ℕ, suc, ◌+◌, ◌-◌, ◌*◌, ◌^◌, ◌<◌, ◌≤◌, ◌==◌, ◌&&◌, not, Bool, true, false, IsTrue, nat_le, nat_lt, if◌then◌else◌, List, [], ◌∷◌, ◌++◌, length, slice_get, unwrap_or, Option, Some, None, option_map, All, codes, decimal, refl, sym, ap, subst, ◌∙◌, arith, length-append}
+use Rattle.std.proofs.Common.{◌≡◌, ℕ, suc, ◌+◌, ◌-◌, ◌*◌, ◌^◌, ◌<◌, ◌≤◌, ◌==◌, ◌&&◌, not, Bool, true, false, IsTrue, nat_le, nat_lt, if◌then◌else◌, List, [], ◌∷◌, ◌++◌, length, slice_get, unwrap_or, Option, Some, None, option_map, All, map, codes, decimal, refl, sym, ap, subst, ◌∙◌, arith, length-append}
 use Rattle.std.proofs.lemmas.Bool.Decides.{nat_tests}
 use Rattle.std.proofs.lemmas.Fmt.{length-decimal-le}
 use Rattle.std.proofs.lemmas.List.Concat.{flat_map-cons}
@@ -8,7 +8,14 @@ use Rattle.std.specs.List.{flat_map, list_all}
 use Rattle.std.specs.Str.{bytes_eq}
 use Rattle.race_records.specs.declared.event.Event.{Event}
 use Rattle.race_records.specs.declared.event.Op.{Op}
-use Rattle.race_records.specs.declared.event.Op.TheVariants.{Go, Exit, Read, Write}
+use Rattle.race_records.specs.declared.event.Op.TheVariants.{Go}
+use Rattle.race_records.specs.declared.kind.Named.{Named}
+use Rattle.race_records.specs.declared.parts.Part.{Part}
+use Rattle.race_records.specs.declared.parts.Verb.{Verb}
+use Rattle.race_records.specs.Parts.{says, part_is_u64}
+use Rattle.race_text.specs.Writing.{verb_text, part_text}
+use Rattle.race_text.proofs.EventLines.{op_words_are}
+use Rattle.race_text.proofs.WordLemmas.{both}
 use Rattle.race_records.specs.declared.kind.Kind.{Kind}
 use Rattle.race_records.specs.declared.kind.Object.{Object}
 use Rattle.race_records.specs.Name.{main, is_name, is_name_byte, is_place, is_place_byte}
@@ -17,7 +24,7 @@ use Rattle.race_records.specs.Events.{TraceState, IsTrace, value_fits}
 use Rattle.race_text.specs.Text.{text, header, ended, line_of, object_words, declaration_line, goroutine_name, var_name, place_text, op_words, event_line}
 use Rattle.race_text.specs.Writing.{declarations_text, events_text, body}
 use Rattle.race_text.proofs.NamesAgain.{stands_at}
-use Rattle.race_text.proofs.WritingLemmas.{line_of_2, line_of_3, line_of_4, line_of_5, text_is}
+use Rattle.race_text.proofs.WritingLemmas.{ended_more, line_of_2, text_is}
 
 -- what holds of all elements holds of the one at an index
 at_index : {X : Type 0} (P : X → Type 0) (xs : List X) → All P xs → (i : ℕ) (x : X) → slice_get xs i ≡ Some x → P x
@@ -75,12 +82,12 @@ module _ (decls : DeclsState) (holds : IsWellFormed decls) where
       by None each = omega arith
       by (Some p) each = each p refl
 
-  declaration_short : (d : Declaration) → length d.name ≤ 64 → length (ended (declaration_line d)) ≤ 300
+  declaration_short : (d : Declaration) → length d.name ≤ 64 → length (ended (declaration_line d)) ≤ 500
   declaration_short d short = by d.object
     where
-      by : (o : Object) → length (ended (line_of (object_words d.name o))) ≤ 300
-      by Object.Goroutine = let len = more (codes "goroutine") (d.name ++ 10 ∷ []) 9 65 (omega arith) (last d.name 64 short) in subst (λ l. length l ≤ 300) (sym (line_of_2 (codes "goroutine") d.name)) (omega (arith, len))
-      by Object.Var = let len = more (codes "var") (d.name ++ 10 ∷ []) 3 65 (omega arith) (last d.name 64 short) in subst (λ l. length l ≤ 300) (sym (line_of_2 (codes "var") d.name)) (omega (arith, len))
+      by : (o : Object) → length (ended (line_of (object_words d.name o))) ≤ 500
+      by Object.Goroutine = let len = more (codes "goroutine") (d.name ++ 10 ∷ []) 9 65 (omega arith) (last d.name 64 short) in subst (λ l. length l ≤ 500) (sym (line_of_2 (codes "goroutine") d.name)) (omega (arith, len))
+      by Object.Var = let len = more (codes "var") (d.name ++ 10 ∷ []) 3 65 (omega arith) (last d.name 64 short) in subst (λ l. length l ≤ 500) (sym (line_of_2 (codes "var") d.name)) (omega (arith, len))
       by (Object.Chan c) = omega arith
       by (Object.Lock rw) = omega arith
       by Object.Once = omega arith
@@ -88,27 +95,46 @@ module _ (decls : DeclsState) (holds : IsWellFormed decls) where
   value_short : (v : ℕ) → nat_lt v (2 ^ 64) ≡ true → length (decimal v) ≤ 20
   value_short v low = let below : v < 2 ^ 64 = grind (arith, nat_tests) in length-decimal-le 20 v (omega arith) (omega (arith, below)) below
 
-  access_short : (word who var place : List ℕ) (v : ℕ) → length word ≤ 5 → length who ≤ 64 → length var ≤ 64 → length place ≤ 128 → nat_lt v (2 ^ 64) ≡ true → length (ended (line_of (word ∷ who ∷ var ∷ decimal v ∷ place ∷ []))) ≤ 300
-  access_short word who var place v a b c d low =
-      let len = more word _ 5 280 a (more who _ 64 215 b (more var _ 64 150 c (more (decimal v) (place ++ 10 ∷ []) 20 129 (value_short v low) (last place 128 d)))) in
-      subst (λ l. length l ≤ 300) (sym (line_of_5 word who var (decimal v) place)) (omega (arith, len))
+  part_short : (part : Part) → part_is_u64 part ≡ true → length (part_text decls.declarations part) ≤ 64
+  part_short (Part.Object (Named.Goroutine n)) low = goroutine_short n
+  part_short (Part.Object (Named.Var n)) low = nth_short Kind.Var n
+  part_short (Part.Object (Named.Chan n)) low = nth_short Kind.Chan n
+  part_short (Part.Object (Named.Lock n)) low = nth_short Kind.Lock n
+  part_short (Part.Object (Named.Once n)) low = nth_short Kind.Once n
+  part_short (Part.Value v) low = let short = value_short v low in omega (arith, short)
 
-  event_short : (e : Event) → IsTrue (value_fits e.op) → length (ended (event_line decls e)) ≤ 300
-  event_short e value = by e.op value
-    where
-      by : (o : Op) → IsTrue (value_fits o) → length (ended (line_of (op_words decls.declarations (goroutine_name decls.declarations e.who) (place_text decls.places e.place) o))) ≤ 300
-      by (Go h) value =
-          let started = goroutine_name decls.declarations h in
-          let len = more (codes "go") _ 2 259 (omega arith) (more (goroutine_name decls.declarations e.who) _ 64 194 (goroutine_short e.who) (more started (place_text decls.places e.place ++ 10 ∷ []) 64 129 (goroutine_short h) (last (place_text decls.places e.place) 128 (place_text_short e.place)))) in
-          subst (λ l. length l ≤ 300) (sym (line_of_4 (codes "go") (goroutine_name decls.declarations e.who) started (place_text decls.places e.place))) (omega (arith, len))
-      by Exit value =
-          let len = more (codes "exit") _ 4 194 (omega arith) (more (goroutine_name decls.declarations e.who) (place_text decls.places e.place ++ 10 ∷ []) 64 129 (goroutine_short e.who) (last (place_text decls.places e.place) 128 (place_text_short e.place))) in
-          subst (λ l. length l ≤ 300) (sym (line_of_3 (codes "exit") (goroutine_name decls.declarations e.who) (place_text decls.places e.place))) (omega (arith, len))
-      by (Read x v) value = access_short (codes "read") (goroutine_name decls.declarations e.who) (var_name decls.declarations x) (place_text decls.places e.place) v (omega arith) (goroutine_short e.who) (nth_short Kind.Var x) (place_text_short e.place) value
-      by (Write x v) value = access_short (codes "write") (goroutine_name decls.declarations e.who) (var_name decls.declarations x) (place_text decls.places e.place) v (omega arith) (goroutine_short e.who) (nth_short Kind.Var x) (place_text_short e.place) value
+  -- a word, and the parts behind it, and a place
+  parts_short : (a : List ℕ) (parts : List Part) (place : List ℕ) → length a ≤ 64 → list_all part_is_u64 parts ≡ true → length place ≤ 128
+      → length (ended (line_of (a ∷ map (part_text decls.declarations) parts ++ place ∷ []))) ≤ 65 * length parts + 195
+  parts_short a [] place short low there = subst (λ l. length l ≤ 195) (sym (line_of_2 a place)) (let len = more a (place ++ 10 ∷ []) 64 129 short (last place 128 there) in omega (arith, len))
+  parts_short a (part ∷ parts) place short low there =
+      let lows = both (part_is_u64 part) (list_all part_is_u64 parts) low in
+      let text = part_text decls.declarations part in
+      let rest = parts_short text parts place (part_short part lows.0) lows.1 there in
+      let len = more a _ 64 (65 * length parts + 195) short rest in
+      subst (λ l. length l ≤ 65 * length (part ∷ parts) + 195) (sym (ended_more a text (map (part_text decls.declarations) parts ++ place ∷ []))) (omega (arith, len))
+
+  verb_short : (verb : Verb) → length (verb_text verb) ≤ 64
+  verb_short Verb.Go = omega arith
+  verb_short _ = omega arith
+
+  few_parts : (op : Op) → length (says op).1 ≤ 3
+  few_parts (Go h) = omega arith
+  few_parts _ = omega arith
+
+  event_short : (e : Event) → IsTrue (value_fits e.op) → length (ended (event_line decls e)) ≤ 500
+  event_short e value =
+      let who = goroutine_name decls.declarations e.who in
+      let place = place_text decls.places e.place in
+      let verb = (says e.op).0 in
+      let parts = (says e.op).1 in
+      let rest = parts_short who parts place (goroutine_short e.who) value (place_text_short e.place) in
+      let len = more (verb_text verb) _ 64 (65 * length parts + 195) (verb_short verb) rest in
+      subst (λ ws. length (ended (line_of ws)) ≤ 500) (sym (op_words_are decls.declarations who place e.op))
+      (subst (λ l. length l ≤ 500) (sym (ended_more (verb_text verb) who (map (part_text decls.declarations) parts ++ place ∷ []))) (omega (arith, len, few_parts e.op)))
 
 -- so many pieces, none of them long
-pieces_short : {X : Type 0} (piece : X → List ℕ) (xs : List X) → ((i : ℕ) (x : X) → slice_get xs i ≡ Some x → length (piece x) ≤ 300) → length (flat_map piece xs) ≤ 300 * length xs
+pieces_short : {X : Type 0} (piece : X → List ℕ) (xs : List X) → ((i : ℕ) (x : X) → slice_get xs i ≡ Some x → length (piece x) ≤ 500) → length (flat_map piece xs) ≤ 500 * length xs
 pieces_short piece [] each = omega arith
 pieces_short piece (x ∷ xs) each =
     let first = each 0 x refl in

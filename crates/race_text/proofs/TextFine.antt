@@ -25,11 +25,11 @@ use Rattle.race_text.specs.Fault.{Seen, seen, seen_so_far, line_cause, word_caus
 use Rattle.race_text.specs.Declaring.{cause_of}
 use Rattle.race_text.specs.Text.{HasText, IsTraceText}
 use Rattle.race_text.specs.Reader.{end_cause}
-use Rattle.race_text.proofs.DeclarationLemmas.{goroutine_causes, var_causes, one_name}
+use Rattle.race_text.proofs.DeclarationLemmas.{object_causes, one_name}
 use Rattle.race_text.proofs.NamesAgain.{differ}
 use Rattle.race_text.proofs.ParseLemmas.{fault_step, fault_end}
 use Rattle.race_text.proofs.ReaderLemmas.{header_says}
-use Rattle.race_text.proofs.TextLaws.{word_for, declaration_again, declares_again, is_no_event, event_at, lines_again}
+use Rattle.race_text.proofs.TextLaws.{declaration_again, declares_again, is_no_event, event_at, lines_again}
 use Rattle.race_text.proofs.TraceLemmas.{clean_line, seen_declaration, seen_event}
 
 -- no cause holds at any of the lines, each behind those before it
@@ -100,11 +100,14 @@ module _ (decls : DeclsState) (holds : IsWellFormed decls) (before after : List 
       let limited = holds.limited kind in
       omega (arith, all, own, limited)
 
+  narrow : is_too_wide d.object ≡ false
+  narrow = ap (λ (x : Declaration). is_too_wide x.object) (sym here) ∙ holds.capacities (length before) d within
+
   pub allowed : decl_fault before d.object d.name ≡ None
   unfolding decl_fault
   allowed =
       by (is_name d.name) (is_some (find_name before d.name)) (nat_le (limit_of (kind_of d.object)) (count_of (kind_of d.object) before)) (is_too_wide d.object)
-      form (ap is_some is_new) (let room = has_room in grind (arith, nat_tests, room)) (ap (λ (x : Declaration). is_too_wide x.object) (sym here) ∙ holds.capacities (length before) d within)
+      form (ap is_some is_new) (let room = has_room in grind (arith, nat_tests, room)) narrow
     where
       by : (a b c e : Bool) → a ≡ true → b ≡ false → c ≡ false → e ≡ false
           → ◌≡◌ {A = Option DeclFault} (if not a then Some DeclFault.BadName else (if b then Some DeclFault.Taken else (if c then Some DeclFault.TooMany else (if e then Some DeclFault.BadCapacity else None)))) None
@@ -120,12 +123,7 @@ module _ (decls : DeclsState) (holds : IsWellFormed decls) (before after : List 
       let line = declaration_again d form has in
       clean_line (seen_so_far before 0) (declaration_line d) line.clean
       ∙ (λ j. word_cause (seen_so_far before 0) (line.named j) (arguments (line.words j)))
-      ∙ by d.object has allowed
-    where
-      by : (o : Object) → IsTrue (has_words o) → decl_fault before o d.name ≡ None → word_cause (seen_so_far before 0) (Some (word_for o)) (d.name ∷ []) ≡ None
-      by Object.Goroutine has none = goroutine_causes before (d.name ∷ []) ∙ one_name before Object.Goroutine (d.name ∷ []) d.name refl form ∙ ap (option_map cause_of) none
-      by Object.Var has none = var_causes before (d.name ∷ []) ∙ one_name before Object.Var (d.name ∷ []) d.name refl form ∙ ap (option_map cause_of) none
-      by _ has none = cc
+      ∙ object_causes before d.object (d.name ∷ []) narrow ∙ one_name before d.object (d.name ∷ []) d.name refl form ∙ ap (option_map cause_of) allowed
 
 -- the cause of a line behind the header and others
 cause_by_seen : (others : List (List ℕ)) (line : List ℕ) (s : Seen) → seen (header ∷ others) ≡ s → cause (header ∷ others) line true ≡ line_cause s line

@@ -19,63 +19,46 @@ use Rattle.race_text.specs.Form.{word_named, object_of, first_word, arguments}
 use Rattle.race_text.specs.Fault.{declaration_in, declared_as, is_event_line, is_event_word}
 use Rattle.race_text.specs.Text.{HasText}
 use Rattle.race_text.specs.Reading.{Occurrence, event_by, event_in}
-use Rattle.race_text.proofs.EventLines.{spelled, IsEventLine, event_line as event_line_of}
-use Rattle.race_text.proofs.EventsAgain.{said, named_again, event_again}
+use Rattle.race_text.proofs.EventLines.{IsEventLine, event_line as event_line_of}
+use Rattle.race_text.proofs.EventsAgain.{said, event_again}
 use Rattle.race_text.proofs.TraceLemmas.{fit_place}
-use Rattle.race_text.proofs.UnseenLemmas.{spelled_is_seen}
+use Rattle.race_text.proofs.WordTable.{spelled, word_is_seen, object_words_are, object_again}
 use Rattle.race_text.proofs.WordLemmas.{name_is_visible}
 use Rattle.race_text.proofs.WordsAgain.{AreVisible, words_again, visible_line_clean, parts_again}
 
--- the first word of a declaration
-abbrev pub word_for : Object → Word
-word_for Object.Goroutine = Word.Goroutine
-word_for _ = Word.Var
-
 -- what holds of the line of a declaration, whose name has a name's form
 pub record IsDeclarationLine (d : Declaration) (line : List ℕ) : Type 0 where
-  pub words : words_of line ≡ spelled (word_for d.object) ∷ d.name ∷ []
-  pub named : word_named (first_word (words_of line)) ≡ Some (word_for d.object)
-  pub object : object_of (word_for d.object) ≡ Some d.object
+  pub words : words_of line ≡ spelled (Word.Declares d.object) ∷ d.name ∷ []
+  pub named : word_named (first_word (words_of line)) ≡ Some (Word.Declares d.object)
   pub clean : has_bad_byte line ≡ false
 
 module _ (name : List ℕ) (form : is_name name ≡ true) where
-  line_again : (word : Word) (object : Object) → word_for object ≡ word → object_words name object ≡ spelled word ∷ name ∷ [] → object_of word ≡ Some object
+  line_again : (object : Object) → object_words name object ≡ spelled (Word.Declares object) ∷ name ∷ [] → word_named (spelled (Word.Declares object)) ≡ Some (Word.Declares object)
       → IsDeclarationLine (record { name = name; object = object }) (line_of (object_words name object))
-  line_again word object is printed declares =
-      let visible : AreVisible (spelled word ∷ name ∷ []) = (spelled_is_seen word, (name_is_visible name form, tt)) in
-      let again = ap (λ ws. words_of (line_of ws)) printed ∙ words_again (spelled word) (name ∷ []) visible in
+  line_again object printed named =
+      let word = spelled (Word.Declares object) in
+      let visible : AreVisible (word ∷ name ∷ []) = (word_is_seen word (Word.Declares object) named, (name_is_visible name form, tt)) in
+      let again = ap (λ ws. words_of (line_of ws)) printed ∙ words_again word (name ∷ []) visible in
       record {
-        words = again ∙ (λ j. spelled (sym is j) ∷ name ∷ []);
-        named = ap (λ ws. word_named (first_word ws)) again ∙ named_again word ∙ ap Some (sym is);
-        object = ap object_of is ∙ declares;
-        clean = ap (λ ws. has_bad_byte (line_of ws)) printed ∙ visible_line_clean (spelled word ∷ name ∷ []) visible;
+        words = again;
+        named = ap (λ ws. word_named (first_word ws)) again ∙ named;
+        clean = ap (λ ws. has_bad_byte (line_of ws)) printed ∙ visible_line_clean (word ∷ name ∷ []) visible;
       }
 
-  object_again : (object : Object) → IsTrue (has_words object) → IsDeclarationLine (record { name = name; object = object }) (line_of (object_words name object))
-  object_again Object.Goroutine has = line_again Word.Goroutine Object.Goroutine refl refl refl
-  object_again Object.Var has = line_again Word.Var Object.Var refl refl refl
-  object_again _ has = cc
-
 pub declaration_again : (d : Declaration) → is_name d.name ≡ true → IsTrue (has_words d.object) → IsDeclarationLine d (declaration_line d)
-declaration_again d form has = object_again d.name form d.object has
+declaration_again d form has = line_again d.name form d.object (object_words_are d.name d.object has) (object_again d.object has)
 
 -- it declares what it is printed of, and says no event
 pub declares_again : (d : Declaration) (line : List ℕ) → IsDeclarationLine d line → declaration_in line ≡ Some d
 declares_again d line is =
-    (λ j. declared_as (option_and_then object_of (is.named j)) (arguments (is.words j)))
-    ∙ ap (λ o. declared_as o (d.name ∷ [])) is.object
-
-no_event_word : (ds : List Declaration) (word : Word) (object : Object) (ws : List (List ℕ)) → object_of word ≡ Some object → event_by ds (Some word) ws ≡ None
-no_event_word ds Word.Goroutine object ws is = refl
-no_event_word ds Word.Var object ws is = refl
-no_event_word ds _ object ws is = cc
+    λ j. declared_as (option_and_then object_of (is.named j)) (arguments (is.words j))
 
 pub says_no_event : (ds : List Declaration) (d : Declaration) (line : List ℕ) → IsDeclarationLine d line → event_in ds (words_of line) ≡ None
 says_no_event ds d line is =
-    ap (event_in ds) is.words ∙ ap (λ w. event_by ds w (d.name ∷ [])) (named_again (word_for d.object)) ∙ no_event_word ds (word_for d.object) d.object (d.name ∷ []) is.object
+    ap (event_in ds) is.words ∙ ap (λ w. event_by ds w (d.name ∷ [])) (sym (ap (λ ws. word_named (first_word ws)) is.words) ∙ is.named)
 
 pub is_no_event : (d : Declaration) (line : List ℕ) → IsDeclarationLine d line → is_event_line line ≡ false
-is_no_event d line is = ap is_event_word is.named ∙ ap is_none is.object
+is_no_event d line is = ap is_event_word is.named
 
 -- what holds of all elements, by recursion over a list that is printed line by line
 each_line : {X : Type 0} (P : List ℕ → Type 0) (line : X → List ℕ) (xs : List X) → ((i : ℕ) (d : X) → i < length xs → P (line (get_or xs i d))) → AllByRecursion P (map line xs)

@@ -28,7 +28,7 @@ use Rattle.race_text.specs.Text.{header, has_words, declaration_line, event_line
 use Rattle.race_text.specs.Fault.{Seen, seen, seen_so_far, declaration_in, is_event_line, or_else, fields_cause, room_cause, line_cause, cause, word_cause}
 use Rattle.race_text.specs.Reading.{Occurrence, event_by, event_in}
 use Rattle.race_text.specs.Taking.{state_of, IsRead, begun, IsFitting, event_of, AppendsEvent, IsFull, TakesLine, TakesOrTells}
-use Rattle.race_text.proofs.EventCauses.{go_complete, exit_complete, read_complete, write_complete}
+use Rattle.race_text.proofs.EventWords.{event_is_there}
 use Rattle.race_text.proofs.EventLines.{IsEventLine, event_line as event_line_of}
 
 map_same : {X Y : Type 0} (f g : X → Y) (xs : List X) → ((k : ℕ) (d : X) → k < length xs → f (get_or xs k d) ≡ g (get_or xs k d)) → map f xs ≡ map g xs
@@ -248,12 +248,8 @@ late_declaration ds events word object words is some h = by (length words == len
 no_event : (ds : List Declaration) (events : ℕ) (word : Option Word) (args : List (List ℕ)) → event_by ds word args ≡ None → (is_declaration_word word ≡ true → 0 < events)
     → word_cause (seen_so_far ds events) word args ≡ None → ⊥
 no_event ds events None args none behind h = none-some TextCause.UnknownWord (sym h)
-no_event ds events (Some Word.Goroutine) args none behind h = late_declaration ds events Word.Goroutine Object.Goroutine args refl (behind refl) h
-no_event ds events (Some Word.Var) args none behind h = late_declaration ds events Word.Var Object.Var args refl (behind refl) h
-no_event ds events (Some Word.Go) args none behind h = go_complete ds events args h none
-no_event ds events (Some Word.Exit) args none behind h = exit_complete ds events args h none
-no_event ds events (Some Word.Read) args none behind h = read_complete ds events args h none
-no_event ds events (Some Word.Write) args none behind h = write_complete ds events args h none
+no_event ds events (Some (Word.Declares object)) args none behind h = late_declaration ds events (Word.Declares object) object args refl (behind refl) h
+no_event ds events (Some (Word.Does verb)) args none behind h = event_is_there ds events verb args h none
 
 pub no_word : word_named [] ≡ None
 unfolding word_named

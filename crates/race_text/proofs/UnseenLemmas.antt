@@ -1,15 +1,17 @@
 -- A word with a byte that can't be seen says nothing.
 use Rattle.std.proofs.Common.{◌≡◌, ℕ, ◌-◌, ◌^◌, Bool, true, false, if◌then◌else◌, List, [], ◌∷◌, Option, Some, None, refl, sym, ap, ◌∙◌, arith, true≢false}
 use Rattle.std.specs.List.{list_all}
-use Rattle.std.specs.Option.{option_map}
+use Rattle.std.specs.Option.{option_and_then, option_map}
+use Rattle.race_records.specs.declared.parts.Part.{Part}
+use Rattle.race_records.specs.declared.parts.PartKind.{PartKind}
 use Rattle.race_records.specs.Name.{is_name, is_place, is_place_byte}
 use Rattle.race_records.specs.Declarations.{Declaration, DeclsState, IsWellFormed, find_name}
 use Rattle.race_text.specs.declared.form.Word.{Word}
 use Rattle.race_text.specs.Words.{number}
 use Rattle.race_text.specs.Form.{word_named, first_word}
-use Rattle.race_text.specs.Reading.{with_rest, goroutine_number, var_number, first_goroutine, first_var, first_value, last_place, event_by, event_in}
+use Rattle.race_text.specs.Reading.{object_as, with_rest, first_part, last_place, event_by, event_in}
 use Rattle.race_text.proofs.CleanLemmas.{place_is_visible, number_is_visible}
-use Rattle.race_text.proofs.EventLines.{spelled, word_spelled}
+use Rattle.race_text.proofs.WordTable.{word_is_seen}
 use Rattle.race_text.proofs.FoundLemmas.{unnamed_is_absent}
 use Rattle.race_text.proofs.WordLemmas.{name_is_visible}
 
@@ -20,19 +22,12 @@ is_false false seen h unseen = refl
 unseen_is_absent : (decls : DeclsState) (w : List ℕ) → IsWellFormed decls → list_all is_place_byte w ≡ false → find_name decls.declarations w ≡ None
 unseen_is_absent decls w holds h = unnamed_is_absent decls w holds (is_false (is_name w) (list_all is_place_byte w) (name_is_visible w) h)
 
-pub unseen_goroutine : (decls : DeclsState) (ws : List (List ℕ)) → IsWellFormed decls → list_all is_place_byte (first_word ws) ≡ false → first_goroutine decls.declarations ws ≡ None
-unseen_goroutine decls [] holds h = refl
-unseen_goroutine decls (w ∷ ws) holds h = ap (λ o. option_map (with_rest ws) (goroutine_number o)) (unseen_is_absent decls w holds h)
-
-pub unseen_var : (decls : DeclsState) (ws : List (List ℕ)) → IsWellFormed decls → list_all is_place_byte (first_word ws) ≡ false → first_var decls.declarations ws ≡ None
-unseen_var decls [] holds h = refl
-unseen_var decls (w ∷ ws) holds h = ap (λ o. option_map (with_rest ws) (var_number o)) (unseen_is_absent decls w holds h)
-
-pub unseen_value : (ws : List (List ℕ)) → list_all is_place_byte (first_word ws) ≡ false → first_value ws ≡ None
-unseen_value [] h = refl
-unseen_value (w ∷ ws) h = by (number (2 ^ 64 - 1) w) refl
+pub unseen_part : (decls : DeclsState) (kind : PartKind) (ws : List (List ℕ)) → IsWellFormed decls → list_all is_place_byte (first_word ws) ≡ false → first_part decls.declarations kind ws ≡ None
+unseen_part decls kind [] holds h = refl
+unseen_part decls (PartKind.Object kind) (w ∷ ws) holds h = ap (λ o. option_map (with_rest ws) (option_and_then (object_as kind) o)) (unseen_is_absent decls w holds h)
+unseen_part decls PartKind.Value (w ∷ ws) holds h = by (number (2 ^ 64 - 1) w) refl
   where
-    by : (o : Option ℕ) → number (2 ^ 64 - 1) w ≡ o → option_map (with_rest ws) o ≡ None
+    by : (o : Option ℕ) → number (2 ^ 64 - 1) w ≡ o → option_map (with_rest ws) (option_map Part.Value o) ≡ None
     by None e = refl
     by (Some n) e = absurd (true≢false (sym (number_is_visible (2 ^ 64 - 1) w n (omega arith) e) ∙ h))
 
@@ -41,18 +36,10 @@ unseen_place [] h = refl
 unseen_place (w ∷ []) h = ap (λ b. if b then Some w else None) (is_false (is_place w) (list_all is_place_byte w) (place_is_visible w) h)
 unseen_place (w ∷ v ∷ ws) h = refl
 
-pub spelled_is_seen : (word : Word) → list_all is_place_byte (spelled word) ≡ true
-spelled_is_seen Word.Goroutine = refl
-spelled_is_seen Word.Var = refl
-spelled_is_seen Word.Go = refl
-spelled_is_seen Word.Exit = refl
-spelled_is_seen Word.Read = refl
-spelled_is_seen Word.Write = refl
-
 pub unseen_event : (ds : List Declaration) (ws : List (List ℕ)) → list_all is_place_byte (first_word ws) ≡ false → event_in ds ws ≡ None
 unseen_event ds [] h = refl
 unseen_event ds (w ∷ ws) h = by (word_named w) refl
   where
     by : (o : Option Word) → word_named w ≡ o → event_by ds o ws ≡ None
     by None e = refl
-    by (Some word) e = absurd (true≢false (sym (ap (list_all is_place_byte) (word_spelled w word e) ∙ spelled_is_seen word) ∙ h))
+    by (Some word) e = absurd (true≢false (sym (word_is_seen w word e) ∙ h))

@@ -3,18 +3,20 @@ use Rattle.std.specs.Prelude.{ℕ, ◌+◌, ◌-◌, ◌==◌, ◌&&◌, ◌^◌
 use Rattle.std.specs.List.{filter_map, zip}
 use Rattle.std.specs.Option.{option_and_then}
 use Rattle.std.specs.Str.{bytes_eq}
+use Rattle.race_records.specs.declared.kind.Kind.{Kind}
 use Rattle.race_records.specs.declared.kind.Named.{Named}
 use Rattle.race_records.specs.declared.kind.Object.{Object}
+use Rattle.race_records.specs.declared.parts.PartKind.{PartKind}
 use Rattle.race_records.specs.declared.trace.TheConstants.{MAX_EVENTS}
 use Rattle.race_records.specs.Name.{is_name, is_place}
-use Rattle.race_records.specs.Declarations.{Declaration, find_name, kind_of, count_of, limit_of}
+use Rattle.race_records.specs.Declarations.{Declaration, find_name, is_named, kind_of, count_of, limit_of}
 use Rattle.race_text.specs.declared.cause.TextCause.{TextCause}
 use Rattle.race_text.specs.declared.cause.TextFault.{TextFault}
 use Rattle.race_text.specs.declared.form.Word.{Word}
 use Rattle.race_text.specs.declared.form.Field.{Field}
 use Rattle.race_text.specs.Words.{parts_of, words_of, has_bad_byte, number}
 use Rattle.race_text.specs.Text.{header}
-use Rattle.race_text.specs.Form.{word_named, fields_of, object_of, first_word, arguments, is_goroutine, is_var}
+use Rattle.race_text.specs.Form.{word_named, fields_of, object_of, first_word, arguments}
 
 -- the place of a cause in the order in which a line is tested
 abbrev pub rank : TextCause → ℕ
@@ -78,13 +80,13 @@ unfoldable pub seen : List (List ℕ) → Seen
 seen before = seen_so_far (filter_map declaration_in before) (count_by is_event_line before)
 
 -- what is found for a used name is nothing, or of another kind than is wanted
-abbrev pub use_cause : (Named → Bool) → Option Named → Option TextCause
-use_cause is_wanted None = Some TextCause.Unknown
-use_cause is_wanted (Some named) = if is_wanted named then None else Some TextCause.WrongKind
+abbrev pub use_cause : Kind → Option Named → Option TextCause
+use_cause kind None = Some TextCause.Unknown
+use_cause kind (Some named) = if is_named kind named then None else Some TextCause.WrongKind
 
 -- the least cause of a used name
-abbrev pub used_name_cause : (Named → Bool) → List Declaration → List ℕ → Option TextCause
-used_name_cause is_wanted ds w = if not (is_name w) then Some TextCause.BadName else use_cause is_wanted (find_name ds w)
+abbrev pub used_name_cause : Kind → List Declaration → List ℕ → Option TextCause
+used_name_cause kind ds w = if not (is_name w) then Some TextCause.BadName else use_cause kind (find_name ds w)
 
 -- the least cause of a name that is declared
 abbrev pub new_name_cause : List Declaration → List ℕ → Option TextCause
@@ -92,12 +94,15 @@ new_name_cause ds w =
     if not (is_name w) then Some TextCause.BadName
     else (if is_some (find_name ds w) then Some TextCause.Taken else None)
 
+-- the least cause of what an operation names
+abbrev pub part_cause : List Declaration → PartKind → List ℕ → Option TextCause
+part_cause ds (PartKind.Object kind) w = used_name_cause kind ds w
+part_cause ds PartKind.Value w = if is_none (number (2 ^ 64 - 1) w) then Some TextCause.BadNumber else None
+
 -- the least cause that holds at one word behind the first
 unfoldable pub field_cause : List Declaration → Field → List ℕ → Option TextCause
 field_cause ds Field.NewName w = new_name_cause ds w
-field_cause ds Field.Goroutine w = used_name_cause is_goroutine ds w
-field_cause ds Field.Var w = used_name_cause is_var ds w
-field_cause ds Field.Value w = if is_none (number (2 ^ 64 - 1) w) then Some TextCause.BadNumber else None
+field_cause ds (Field.Part kind) w = part_cause ds kind w
 field_cause ds Field.Place w = if not (is_place w) then Some TextCause.BadName else None
 
 -- the least cause of them all

@@ -2,11 +2,10 @@
 use Rattle.std.specs.Prelude.{◌≡◌, ◌≢◌, ℕ, ◌*◌, ◌<◌, ◌≤◌, List, [], ◌∷◌, ◌++◌, length, true, Some, None, Result, Ok, Err, IsTrue, All}
 use Rattle.race_records.specs.declared.event.Event.{Event}
 use Rattle.race_records.specs.declared.kind.Kind.{Kind}
-use Rattle.race_records.specs.declared.trace.PushFault.{PushFault}
 use Rattle.race_records.specs.declared.trace.TheConstants.{MAX_EVENTS}
 use Rattle.race_records.specs.Name.{is_place}
 use Rattle.race_records.specs.Declarations.{Declaration, DeclsState, count_of, place_number, with_place}
-use Rattle.race_records.specs.Events.{TraceState, op_fits}
+use Rattle.race_records.specs.Events.{TraceState, op_fits, value_fits}
 use Rattle.race_text.specs.declared.cause.TextCause.{TextCause}
 use Rattle.race_text.specs.Text.{has_words, lines}
 use Rattle.race_text.specs.Fault.{Seen, seen_so_far, seen, cause}
@@ -31,17 +30,11 @@ pub record IsFitting (decls : DeclsState) (o : Occurrence) : Type 0 where
   pub place : is_place o.place ≡ true
   pub who : o.who < count_of Kind.Goroutine decls.declarations
   pub op : op_fits decls.declarations o.op ≡ true
+  pub value : value_fits o.op ≡ true
 
 -- the event, with the number that its place has or gets
 abbrev pub event_of : List (List ℕ) → Occurrence → Event
 event_of places o = record { who = o.who; op = o.op; place = place_number places o.place; place2 = None }
-
--- the cause that a refused event gives
-abbrev pub push_cause_of : PushFault → TextCause
-push_cause_of PushFault.BadNumber = TextCause.BadNumber
-push_cause_of PushFault.WrongKind = TextCause.WrongKind
-push_cause_of PushFault.Full = TextCause.TooMany
-push_cause_of PushFault.OutOfMemory = TextCause.OutOfMemory
 
 -- the event is appended, with its place
 pub record AppendsEvent (old new : TraceState) (o : Occurrence) : Type 0 where

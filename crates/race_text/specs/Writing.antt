@@ -1,11 +1,12 @@
 -- Pieces of a trace's text.
-use Rattle.std.specs.Prelude.{ℕ, List, [], ◌∷◌, ◌++◌, slice_get, Option, Some, None}
+use Rattle.std.specs.Prelude.{ℕ, List, [], ◌∷◌, ◌++◌, map, codes, slice_get, unwrap_or, Option, Some, None}
 use Rattle.std.specs.Fmt.{decimal}
 use Rattle.std.specs.List.{flat_map}
 use Rattle.race_records.specs.declared.event.Event.{Event}
-use Rattle.race_records.specs.Declarations.{Declaration, DeclsState}
+use Rattle.race_records.specs.declared.parts.Part.{Part}
+use Rattle.race_records.specs.declared.parts.Verb.{Verb}
+use Rattle.race_records.specs.Declarations.{Declaration, DeclsState, name_of}
 use Rattle.race_records.specs.Events.{TraceState}
-use Rattle.race_text.specs.declared.writing.Access.{Access}
 use Rattle.race_text.specs.Text.{line_of, ended, declaration_line, event_line}
 
 -- the texts of declarations and of events
@@ -28,6 +29,28 @@ text_of (Some d) = ended (declaration_line d)
 abbrev pub declaration_text : List Declaration → ℕ → List ℕ
 declaration_text ds i = text_of (slice_get ds i)
 
--- the words of a read or a write as a line
-abbrev pub access_line : Access → List ℕ
-access_line a = ended (line_of (a.word.now ∷ a.who.now ∷ a.var.now ∷ decimal a.value ∷ a.place.now ∷ []))
+-- the word of an operation
+abbrev pub verb_text : Verb → List ℕ
+verb_text Verb.Go = codes "go"
+verb_text Verb.Exit = codes "exit"
+verb_text Verb.Read = codes "read"
+verb_text Verb.Write = codes "write"
+
+-- what is printed of a part
+abbrev pub part_text : List Declaration → Part → List ℕ
+part_text ds (Part.Object named) = unwrap_or (name_of ds named) []
+part_text ds (Part.Value v) = decimal v
+
+-- the words that an operation says
+abbrev pub said_words : List Declaration → List ℕ → List ℕ → Verb → List Part → List (List ℕ)
+said_words ds who place verb parts = verb_text verb ∷ who ∷ map (part_text ds) parts ++ place ∷ []
+
+-- a part behind a space, all parts so, and the place behind them
+abbrev pub behind_space : List Declaration → Part → List ℕ
+behind_space ds part = 32 ∷ part_text ds part
+
+abbrev pub parts_text : List Declaration → List Part → List ℕ
+parts_text ds parts = flat_map (behind_space ds) parts
+
+abbrev pub place_end : List ℕ → List ℕ
+place_end place = 32 ∷ place ++ 10 ∷ []

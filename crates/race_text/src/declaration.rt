@@ -33,18 +33,11 @@ pub fn read_declaration<A: Allocator + Copy>(
     match word_named(first) {
         None => Ok(false),
         Some(word) => match word {
-            Word::Goroutine => match only_name(rest) {
+            Word::Declares(object) => match only_name(rest) {
                 Err(cause) => Err(cause),
-                Ok(name) => answered(decls.add_goroutine(name)),
+                Ok(name) => answered(decls.declare(name, object)),
             },
-            Word::Var => match only_name(rest) {
-                Err(cause) => Err(cause),
-                Ok(name) => answered(decls.add_var(name)),
-            },
-            Word::Go => Ok(false),
-            Word::Exit => Ok(false),
-            Word::Read => Ok(false),
-            Word::Write => Ok(false),
+            Word::Does(_) => Ok(false),
         },
     }
 }

@@ -1,5 +1,5 @@
 //! Lines that are events.
-ghost use Rattle.std.specs.Prelude.{◌≡◌, ◌-◌, ◌^◌, true};
+ghost use Rattle.std.specs.Prelude.{◌≡◌, ◌-◌, ◌≤◌, ◌^◌, [], length, true};
 ghost use Rattle.std.specs.List.{list_all};
 ghost use Rattle.std.specs.Option.{option_map};
 ghost use Rattle.race_records.specs.Name.{is_place_byte};
@@ -11,7 +11,9 @@ use crate::cut::cut_word;
 use crate::fields::as_text;
 use crate::form::{Word, word_named};
 use crate::number::read_number;
-use race_records::{Decls, MAX_PLACE_LEN, Named, Op};
+use race_records::{
+    Decls, Kind, MAX_PLACE_LEN, Named, Op, Part, PartKind, Parts, Verb, op_by, part_kinds,
+};
 use std::alloc::Allocator;
 
 /// An event with its place as it is spelled.
@@ -35,80 +37,68 @@ pub(crate) fn read_event<'a, A: Allocator>(decls: &Decls<A>, line: &'a [u8]) -> 
         Some((first, rest)) => match word_named(first) {
             None => None,
             Some(word) => match word {
-                Word::Goroutine => None,
-                Word::Var => None,
-                Word::Go => read_go(decls, rest),
-                Word::Exit => read_exit(decls, rest),
-                Word::Read => read_read(decls, rest),
-                Word::Write => read_write(decls, rest),
+                Word::Declares(_) => None,
+                Word::Does(verb) => read_behind(decls, verb, rest),
             },
         },
     }
 }
 
-fn read_go<'a, A: Allocator>(decls: &Decls<A>, rest: Option<&'a [u8]>) -> Option<Draft<'a>>
-    ensures { option_map spec.drafted result ≡ spec.go_of decls.now.declarations
-        (parts_left 32 rest.entry) }
-{
-    let (who, rest) = next_goroutine(decls, rest)?;
-    let (started, rest) = next_goroutine(decls, rest)?;
-    let place = last_place(rest)?;
-    Some(Draft {
-        who,
-        op: Op::Go(started),
-        place,
-    })
-}
-
-fn read_exit<'a, A: Allocator>(decls: &Decls<A>, rest: Option<&'a [u8]>) -> Option<Draft<'a>>
-    ensures { option_map spec.drafted result ≡ spec.exit_of decls.now.declarations
-        (parts_left 32 rest.entry) }
-{
-    let (who, rest) = next_goroutine(decls, rest)?;
-    let place = last_place(rest)?;
-    Some(Draft {
-        who,
-        op: Op::Exit,
-        place,
-    })
-}
-
-fn read_read<'a, A: Allocator>(decls: &Decls<A>, rest: Option<&'a [u8]>) -> Option<Draft<'a>>
-    ensures { option_map spec.drafted result ≡ spec.access_of Op.Read decls.now.declarations
-        (parts_left 32 rest.entry) }
-{
-    let (who, rest) = next_goroutine(decls, rest)?;
-    let (var, rest) = next_var(decls, rest)?;
-    let (value, rest) = next_value(rest)?;
-    let place = last_place(rest)?;
-    Some(Draft {
-        who,
-        op: Op::Read(var, value),
-        place,
-    })
-}
-
-fn read_write<'a, A: Allocator>(decls: &Decls<A>, rest: Option<&'a [u8]>) -> Option<Draft<'a>>
-    ensures { option_map spec.drafted result ≡ spec.access_of Op.Write decls.now.declarations
-        (parts_left 32 rest.entry) }
-{
-    let (who, rest) = next_goroutine(decls, rest)?;
-    let (var, rest) = next_var(decls, rest)?;
-    let (value, rest) = next_value(rest)?;
-    let place = last_place(rest)?;
-    Some(Draft {
-        who,
-        op: Op::Write(var, value),
-        place,
-    })
-}
-
-// The goroutine that the next word names, and what is left behind it.
-fn next_goroutine<'a, A: Allocator>(
+// The event of this word that the words behind it say.
+fn read_behind<'a, A: Allocator>(
     decls: &Decls<A>,
+    verb: Verb,
     rest: Option<&'a [u8]>,
-) -> Option<(u32, Option<&'a [u8]>)>
-    ensures { option_map spec.read_so_far result ≡ spec.first_goroutine decls.now.declarations
+) -> Option<Draft<'a>>
+    ensures { option_map spec.drafted result ≡ spec.event_behind decls.now.declarations verb
+        (parts_left 32 rest.entry) }
+{
+    let (first, rest) = next_part(decls, PartKind::Object(Kind::Goroutine), rest)?;
+    let who = goroutine_of(first)?;
+    let (parts, rest) = next_parts(decls, part_kinds(verb), rest)?;
+    let op = op_by(verb, parts.as_slice())?;
+    let place = last_place(rest)?;
+    Some(Draft { who, op, place })
+}
+
+// The number of a goroutine.
+fn goroutine_of(part: Part) -> Option<u32>
+    ensures { result ≡ spec.goroutine_of part }
+{
+    match part {
+        Part::Object(Named::Goroutine(number)) => Some(number),
+        _ => None,
+    }
+}
+
+// A part for each of the kinds, and what is left behind them.
+fn next_parts<'a, A: Allocator>(
+    decls: &Decls<A>,
+    mut kinds: &[PartKind],
+    rest: Option<&'a [u8]>,
+) -> Option<(Parts, Option<&'a [u8]>)>
+    requires { length kinds.now ≤ 3 }
+    ensures { option_map spec.parts_so_far result ≡ spec.parts_on decls.now.declarations []
+        kinds.entry.now (parts_left 32 rest.entry) }
+{
+    let mut parts = Parts::new();
+    let mut left = rest;
+    while let [kind, others @ ..] = kinds {
+        let (part, behind) = next_part(decls, *kind, left)?;
+        parts.push(part);
+        left = behind;
+        kinds = others;
+    }
+    Some((parts, left))
+}
+
+// The part of this kind that the next word says, and what is left behind it.
+fn next_part<'a, A: Allocator>(
+    decls: &Decls<A>,
+    kind: PartKind,
+    rest: Option<&'a [u8]>,
+) -> Option<(Part, Option<&'a [u8]>)>
+    ensures { option_map spec.part_so_far result ≡ spec.first_part decls.now.declarations kind
         (parts_left 32 rest.entry) }
 {
     match rest {
@@ -119,82 +109,32 @@ fn next_goroutine<'a, A: Allocator>(
                 let _count = decls.len();
                 None
             }
-            Some((word, others)) => match goroutine(decls, word) {
+            Some((word, others)) => match part_in(decls, kind, word) {
                 None => None,
-                Some(number) => Some((number, others)),
+                Some(part) => Some((part, others)),
             },
         },
     }
 }
 
-fn goroutine<A: Allocator>(decls: &Decls<A>, word: &[u8]) -> Option<u32>
+fn part_in<A: Allocator>(decls: &Decls<A>, kind: PartKind, word: &[u8]) -> Option<Part>
     requires { list_all is_place_byte word.now ≡ true }
-    ensures { result ≡ spec.goroutine_number (find_name decls.now.declarations word.now) }
+    ensures { result ≡ spec.part_in decls.now.declarations kind word.now }
 {
-    match decls.find(as_text(word)) {
-        None => None,
-        Some(named) => match named {
-            Named::Goroutine(number) => Some(number),
-            Named::Var(_) => None,
-            Named::Chan(_) => None,
-            Named::Lock(_) => None,
-            Named::Once(_) => None,
-        },
-    }
-}
-
-// The variable that the next word names, and what is left behind it.
-fn next_var<'a, A: Allocator>(
-    decls: &Decls<A>,
-    rest: Option<&'a [u8]>,
-) -> Option<(u32, Option<&'a [u8]>)>
-    ensures { option_map spec.read_so_far result ≡ spec.first_var decls.now.declarations
-        (parts_left 32 rest.entry) }
-{
-    match rest {
-        None => None,
-        Some(bytes) => match cut_word(bytes) {
-            None => {
-                // What holds of every `Decls` is known once its length is.
-                let _count = decls.len();
-                None
-            }
-            Some((word, others)) => match var(decls, word) {
-                None => None,
-                Some(number) => Some((number, others)),
-            },
-        },
-    }
-}
-
-fn var<A: Allocator>(decls: &Decls<A>, word: &[u8]) -> Option<u32>
-    requires { list_all is_place_byte word.now ≡ true }
-    ensures { result ≡ spec.var_number (find_name decls.now.declarations word.now) }
-{
-    match decls.find(as_text(word)) {
-        None => None,
-        Some(named) => match named {
-            Named::Goroutine(_) => None,
-            Named::Var(number) => Some(number),
-            Named::Chan(_) => None,
-            Named::Lock(_) => None,
-            Named::Once(_) => None,
-        },
-    }
-}
-
-// The value that the next word is, and what is left behind it.
-fn next_value<'a>(rest: Option<&'a [u8]>) -> Option<(u64, Option<&'a [u8]>)>
-    ensures { option_map spec.read_so_far result ≡ spec.first_value (parts_left 32 rest.entry) }
-{
-    match rest {
-        None => None,
-        Some(bytes) => match cut_word(bytes) {
+    match kind {
+        PartKind::Object(kind) => match decls.find(as_text(word)) {
             None => None,
-            Some((word, others)) => match read_number(word, u64::MAX) {
-                None => None,
-                Some(value) => Some((value, others)),
-            },
+            Some(named) => {
+                if named.is_of(kind) {
+                    Some(Part::Object(named))
+                } else {
+                    None
+                }
+            }
+        },
+        PartKind::Value => match read_number(word, u64::MAX) {
+            None => None,
+            Some(value) => Some(Part::Value(value)),
         },
     }
 }

@@ -4,14 +4,13 @@ ghost use Rattle.std.specs.List.{list_all};
 ghost use Rattle.race_records.specs.Name as name;
 ghost use Rattle.race_records.specs.Declarations.{find_name};
 ghost use Rattle.race_text.specs.Words.{parts_left};
-ghost use Rattle.race_text.specs.Form as form;
 ghost use Rattle.race_text.specs.Fault as spec;
 
 use crate::cause::TextCause;
 use crate::cut::cut_at;
 use crate::form::Field;
 use crate::number::read_number;
-use race_records::{Decls, Named, is_name, is_place};
+use race_records::{Decls, Kind, Named, PartKind, is_name, is_place};
 use std::alloc::Allocator;
 
 // Bytes that can be seen, as text.
@@ -30,30 +29,6 @@ fn look_up<A: Allocator>(decls: &Decls<A>, word: &[u8]) -> Option<Named>
     decls.find(as_text(word))
 }
 
-fn is_goroutine(named: Named) -> bool
-    ensures { result ≡ form.is_goroutine named }
-{
-    match named {
-        Named::Goroutine(_) => true,
-        Named::Var(_) => false,
-        Named::Chan(_) => false,
-        Named::Lock(_) => false,
-        Named::Once(_) => false,
-    }
-}
-
-fn is_var(named: Named) -> bool
-    ensures { result ≡ form.is_var named }
-{
-    match named {
-        Named::Goroutine(_) => false,
-        Named::Var(_) => true,
-        Named::Chan(_) => false,
-        Named::Lock(_) => false,
-        Named::Once(_) => false,
-    }
-}
-
 fn new_name_cause<A: Allocator>(decls: &Decls<A>, word: &[u8]) -> Option<TextCause>
     ensures { result ≡ spec.new_name_cause decls.now.declarations word.now }
 {
@@ -66,8 +41,8 @@ fn new_name_cause<A: Allocator>(decls: &Decls<A>, word: &[u8]) -> Option<TextCau
     None
 }
 
-fn goroutine_cause<A: Allocator>(decls: &Decls<A>, word: &[u8]) -> Option<TextCause>
-    ensures { result ≡ spec.used_name_cause form.is_goroutine decls.now.declarations word.now }
+fn used_name_cause<A: Allocator>(decls: &Decls<A>, kind: Kind, word: &[u8]) -> Option<TextCause>
+    ensures { result ≡ spec.used_name_cause kind decls.now.declarations word.now }
 {
     if !is_name(word) {
         return Some(TextCause::BadName);
@@ -75,7 +50,7 @@ fn goroutine_cause<A: Allocator>(decls: &Decls<A>, word: &[u8]) -> Option<TextCa
     match look_up(decls, word) {
         None => Some(TextCause::Unknown),
         Some(named) => {
-            if is_goroutine(named) {
+            if named.is_of(kind) {
                 None
             } else {
                 Some(TextCause::WrongKind)
@@ -84,19 +59,16 @@ fn goroutine_cause<A: Allocator>(decls: &Decls<A>, word: &[u8]) -> Option<TextCa
     }
 }
 
-fn var_cause<A: Allocator>(decls: &Decls<A>, word: &[u8]) -> Option<TextCause>
-    ensures { result ≡ spec.used_name_cause form.is_var decls.now.declarations word.now }
+fn part_cause<A: Allocator>(decls: &Decls<A>, kind: PartKind, word: &[u8]) -> Option<TextCause>
+    ensures { result ≡ spec.part_cause decls.now.declarations kind word.now }
 {
-    if !is_name(word) {
-        return Some(TextCause::BadName);
-    }
-    match look_up(decls, word) {
-        None => Some(TextCause::Unknown),
-        Some(named) => {
-            if is_var(named) {
-                None
+    match kind {
+        PartKind::Object(kind) => used_name_cause(decls, kind, word),
+        PartKind::Value => {
+            if read_number(word, u64::MAX).is_none() {
+                Some(TextCause::BadNumber)
             } else {
-                Some(TextCause::WrongKind)
+                None
             }
         }
     }
@@ -109,15 +81,7 @@ fn field_cause<A: Allocator>(decls: &Decls<A>, field: Field, word: &[u8]) -> Opt
 {
     match field {
         Field::NewName => new_name_cause(decls, word),
-        Field::Goroutine => goroutine_cause(decls, word),
-        Field::Var => var_cause(decls, word),
-        Field::Value => {
-            if read_number(word, u64::MAX).is_none() {
-                Some(TextCause::BadNumber)
-            } else {
-                None
-            }
-        }
+        Field::Part(kind) => part_cause(decls, kind, word),
         Field::Place => {
             if is_place(word) {
                 None

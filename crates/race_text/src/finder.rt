@@ -43,7 +43,7 @@ fn word_cause<A: Allocator>(
     if !has_count(rest, fields.len()) {
         return Some(TextCause::WrongCount);
     }
-    match fields_cause(decls, fields, rest) {
+    match fields_cause(decls, fields.as_slice(), rest) {
         Some(cause) => Some(cause),
         None => room_cause(decls, events, object_of(word)),
     }

@@ -29,8 +29,6 @@ pub use race_records::{is_name, is_place};
 #[doc(hidden)]
 pub use reader::Reader;
 pub use words::{Words, split_words};
-#[doc(hidden)]
-pub use writing::Access;
 pub use writing::write_trace;
 
 #[cfg(test)]

@@ -10,7 +10,7 @@ use crate::declaration::cause_of;
 use crate::event::{Draft, read_event};
 use crate::fields::as_text;
 use crate::finder::line_cause;
-use race_records::{Event, MAX_EVENTS, PushFault, Trace};
+use race_records::{Event, MAX_EVENTS, Trace};
 use std::alloc::Allocator;
 
 // Takes a line behind the declarations: an event that fits, or the least cause of what isn't one.
@@ -53,22 +53,10 @@ fn append<A: Allocator + Copy>(trace: &mut Trace<A>, draft: Draft<'_>) -> Result
                 place,
                 place2: None,
             };
-            match trace.push(event) {
-                Err(fault) => Err(push_cause_of(fault)),
+            match trace.append(event) {
+                Err(_) => Err(TextCause::OutOfMemory),
                 Ok(()) => Ok(()),
             }
         }
-    }
-}
-
-// The cause that a refused event gives. Here it is refused for memory alone.
-fn push_cause_of(fault: PushFault) -> TextCause
-    ensures { result ≡ spec.push_cause_of fault }
-{
-    match fault {
-        PushFault::BadNumber => TextCause::BadNumber,
-        PushFault::WrongKind => TextCause::WrongKind,
-        PushFault::Full => TextCause::TooMany,
-        PushFault::OutOfMemory => TextCause::OutOfMemory,
     }
 }

@@ -1,15 +1,19 @@
 //! A trace's text, written.
-ghost use Rattle.std.specs.Prelude.{◌≡◌, ◌<◌, [], ◌∷◌, codes, length, take, IsTrue, OnOk, OnErr, IfErr};
+ghost use Rattle.std.specs.Prelude.{◌≡◌, ◌<◌, [], ◌∷◌, ◌++◌, true, length, take, IsTrue, OnOk, OnErr, IfErr};
 ghost use Rattle.std.specs.Io.KnownBytes.{Appends};
 ghost use Rattle.race_records.specs.Devices.{written, sink_failures, one_more};
 ghost use Rattle.race_records.specs.Events.{fits};
 ghost use Rattle.race_records.specs.Page.{Prints, BreaksOff};
 ghost use Rattle.race_text.specs.Text as text;
-ghost use Rattle.race_text.specs.Writing.{body, declarations_text, declaration_text, events_text, access_line};
-ghost use Rattle.std.specs.Fmt.{decimal};
+ghost use Rattle.race_text.specs.Writing as spec;
+ghost use Rattle.race_text.specs.Writing.{body, declarations_text, declaration_text, events_text};
+ghost use Rattle.race_records.specs.Parts.{part_fits};
+ghost use Rattle.std.specs.List.{list_all};
 
 use itoa::Buffer;
-use race_records::{Decls, Event, Named, Op, Page, Sink, Trace, WriteFault};
+use race_records::{
+    Decls, Event, Named, Object, Page, Part, Sink, Trace, Verb, WriteFault, says,
+};
 use std::alloc::Allocator;
 use std::io::Write;
 
@@ -131,18 +135,33 @@ pub(crate) fn print_declaration<W: Write, A: Allocator>(
     ensures ok { OnOk result (Prints (written W.contents sink.old) (written W.contents sink.new)
         page.old page.new (declaration_text decls.now.declarations index)) }
     ensures sent { IfErr result (λ fault. BreaksOff (written W.contents sink.old)
-        (written W.contents sink.new) page.old fault.sent
-        (declaration_text decls.now.declarations index)) }
+        (written W.contents sink.new) page.old fault.sent (declaration_text decls.now.declarations index)) }
     ensures calm { OnOk result (sink_failures sink.new ≡ sink_failures sink.old) }
     ensures failed { OnErr result (sink_failures sink.new ≡ one_more (sink_failures sink.old)) }
 {
-    let named = decls.declared(index);
-    match named {
-        Named::Goroutine(_) => print_named(page, sink, "goroutine", decls.name(named)),
-        Named::Var(_) => print_named(page, sink, "var", decls.name(named)),
-        Named::Chan(_) => page.put(sink, b"\n"),
-        Named::Lock(_) => page.put(sink, b"\n"),
-        Named::Once(_) => page.put(sink, b"\n"),
+    let (object, name) = decls.declaration(index);
+    print_object(page, sink, object, name)
+}
+
+fn print_object<W: Write>(
+    page: &mut Page,
+    sink: &mut Sink<W>,
+    object: Object,
+    name: &str,
+) -> Result<(), WriteFault>
+    ensures ok { OnOk result (Prints (written W.contents sink.old) (written W.contents sink.new)
+        page.old page.new (text.ended (text.line_of (text.object_words name.now object)))) }
+    ensures sent { IfErr result (λ fault. BreaksOff (written W.contents sink.old)
+        (written W.contents sink.new) page.old fault.sent (text.ended (text.line_of (text.object_words name.now object)))) }
+    ensures calm { OnOk result (sink_failures sink.new ≡ sink_failures sink.old) }
+    ensures failed { OnErr result (sink_failures sink.new ≡ one_more (sink_failures sink.old)) }
+{
+    match object {
+        Object::Goroutine => print_named(page, sink, "goroutine", name),
+        Object::Var => print_named(page, sink, "var", name),
+        Object::Chan(_) => page.put(sink, b"\n"),
+        Object::Lock(_) => page.put(sink, b"\n"),
+        Object::Once => page.put(sink, b"\n"),
     }
 }
 
@@ -182,133 +201,134 @@ pub(crate) fn print_event<W: Write, A: Allocator>(
     ensures ok { OnOk result (Prints (written W.contents sink.old) (written W.contents sink.new)
         page.old page.new (text.ended (text.event_line decls.now event.now))) }
     ensures sent { IfErr result (λ fault. BreaksOff (written W.contents sink.old)
-        (written W.contents sink.new) page.old fault.sent
-        (text.ended (text.event_line decls.now event.now))) }
+        (written W.contents sink.new) page.old fault.sent (text.ended (text.event_line decls.now event.now))) }
     ensures calm { OnOk result (sink_failures sink.new ≡ sink_failures sink.old) }
     ensures failed { OnErr result (sink_failures sink.new ≡ one_more (sink_failures sink.old)) }
 {
     let who = decls.name(Named::Goroutine(event.who));
     let place = decls.place_text(event.place);
-    match &event.op {
-        Op::Go(started) => {
-            print_go(
-                page,
-                sink,
-                who,
-                decls.name(Named::Goroutine(*started)),
-                place,
-            )
+    let (verb, parts) = says(&event.op);
+    match print_first(page, sink, verb_text(verb), who) {
+        Ok(()) => print_behind(page, sink, decls, parts.as_slice(), place),
+        Err(fault) => Err(fault),
+    }
+}
+
+// The word of an operation.
+fn verb_text(verb: Verb) -> &'static str
+    ensures { result.now ≡ spec.verb_text verb }
+{
+    match verb {
+        Verb::Go => "go",
+        Verb::Exit => "exit",
+        Verb::Read => "read",
+        Verb::Write => "write",
+    }
+}
+
+// Prints the word of an operation and the goroutine.
+fn print_first<W: Write>(
+    page: &mut Page,
+    sink: &mut Sink<W>,
+    word: &str,
+    who: &str,
+) -> Result<(), WriteFault>
+    ensures ok { OnOk result (Prints (written W.contents sink.old) (written W.contents sink.new)
+        page.old page.new (word.now ++ 32 ∷ who.now)) }
+    ensures sent { IfErr result (λ fault. BreaksOff (written W.contents sink.old)
+        (written W.contents sink.new) page.old fault.sent (word.now ++ 32 ∷ who.now)) }
+    ensures calm { OnOk result (sink_failures sink.new ≡ sink_failures sink.old) }
+    ensures failed { OnErr result (sink_failures sink.new ≡ one_more (sink_failures sink.old)) }
+{
+    let parts = [word.as_bytes(), b" ".as_slice(), who.as_bytes()];
+    page.put_all(sink, &parts)
+}
+
+// Prints the parts of an operation and the place.
+fn print_behind<W: Write, A: Allocator>(
+    page: &mut Page,
+    sink: &mut Sink<W>,
+    decls: &Decls<A>,
+    parts: &[Part],
+    place: &str,
+) -> Result<(), WriteFault>
+    requires { list_all (part_fits decls.now.declarations) parts.now ≡ true }
+    ensures ok { OnOk result (Prints (written W.contents sink.old) (written W.contents sink.new)
+        page.old page.new (spec.parts_text decls.now.declarations parts.now ++ spec.place_end place.now)) }
+    ensures sent { IfErr result (λ fault. BreaksOff (written W.contents sink.old)
+        (written W.contents sink.new) page.old fault.sent (spec.parts_text decls.now.declarations parts.now ++ spec.place_end place.now)) }
+    ensures calm { OnOk result (sink_failures sink.new ≡ sink_failures sink.old) }
+    ensures failed { OnErr result (sink_failures sink.new ≡ one_more (sink_failures sink.old)) }
+{
+    match print_parts(page, sink, decls, parts) {
+        Ok(()) => print_place(page, sink, place),
+        Err(fault) => Err(fault),
+    }
+}
+
+// Prints each part behind a space.
+fn print_parts<W: Write, A: Allocator>(
+    page: &mut Page,
+    sink: &mut Sink<W>,
+    decls: &Decls<A>,
+    parts: &[Part],
+) -> Result<(), WriteFault>
+    requires { list_all (part_fits decls.now.declarations) parts.now ≡ true }
+    ensures ok { OnOk result (Prints (written W.contents sink.old) (written W.contents sink.new)
+        page.old page.new (spec.parts_text decls.now.declarations parts.now)) }
+    ensures sent { IfErr result (λ fault. BreaksOff (written W.contents sink.old)
+        (written W.contents sink.new) page.old fault.sent (spec.parts_text decls.now.declarations parts.now)) }
+    ensures calm { OnOk result (sink_failures sink.new ≡ sink_failures sink.old) }
+    ensures failed { OnErr result (sink_failures sink.new ≡ one_more (sink_failures sink.old)) }
+{
+    for part in parts {
+        if let Err(fault) = print_part(page, sink, decls, *part) {
+            return Err(fault);
         }
-        Op::Exit => print_exit(page, sink, who, place),
-        Op::Read(var, value) => {
-            let words = Access {
-                word: "read",
-                who,
-                var: decls.name(Named::Var(*var)),
-                value: *value,
-                place,
-            };
-            print_access(page, sink, words)
+    }
+    Ok(())
+}
+
+fn print_part<W: Write, A: Allocator>(
+    page: &mut Page,
+    sink: &mut Sink<W>,
+    decls: &Decls<A>,
+    part: Part,
+) -> Result<(), WriteFault>
+    requires { part_fits decls.now.declarations part ≡ true }
+    ensures ok { OnOk result (Prints (written W.contents sink.old) (written W.contents sink.new)
+        page.old page.new (spec.behind_space decls.now.declarations part)) }
+    ensures sent { IfErr result (λ fault. BreaksOff (written W.contents sink.old)
+        (written W.contents sink.new) page.old fault.sent (spec.behind_space decls.now.declarations part)) }
+    ensures calm { OnOk result (sink_failures sink.new ≡ sink_failures sink.old) }
+    ensures failed { OnErr result (sink_failures sink.new ≡ one_more (sink_failures sink.old)) }
+{
+    match part {
+        Part::Object(named) => {
+            let parts = [b" ".as_slice(), decls.name(named).as_bytes()];
+            page.put_all(sink, &parts)
         }
-        Op::Write(var, value) => {
-            let words = Access {
-                word: "write",
-                who,
-                var: decls.name(Named::Var(*var)),
-                value: *value,
-                place,
-            };
-            print_access(page, sink, words)
+        Part::Value(value) => {
+            let mut digits = Buffer::new();
+            let parts = [b" ".as_slice(), digits.format(value).as_bytes()];
+            page.put_all(sink, &parts)
         }
     }
 }
 
-fn print_go<W: Write>(
+// Prints the place and ends the line.
+fn print_place<W: Write>(
     page: &mut Page,
     sink: &mut Sink<W>,
-    who: &str,
-    started: &str,
     place: &str,
 ) -> Result<(), WriteFault>
     ensures ok { OnOk result (Prints (written W.contents sink.old) (written W.contents sink.new)
-        page.old page.new
-        (text.ended (text.line_of (codes "go" ∷ who.now ∷ started.now ∷ place.now ∷ [])))) }
+        page.old page.new (spec.place_end place.now)) }
     ensures sent { IfErr result (λ fault. BreaksOff (written W.contents sink.old)
-        (written W.contents sink.new) page.old fault.sent
-        (text.ended (text.line_of (codes "go" ∷ who.now ∷ started.now ∷ place.now ∷ [])))) }
+        (written W.contents sink.new) page.old fault.sent (spec.place_end place.now)) }
     ensures calm { OnOk result (sink_failures sink.new ≡ sink_failures sink.old) }
     ensures failed { OnErr result (sink_failures sink.new ≡ one_more (sink_failures sink.old)) }
 {
-    let parts = [
-        b"go ".as_slice(),
-        who.as_bytes(),
-        b" ".as_slice(),
-        started.as_bytes(),
-        b" ".as_slice(),
-        place.as_bytes(),
-        b"\n".as_slice(),
-    ];
-    page.put_all(sink, &parts)
-}
-
-fn print_exit<W: Write>(
-    page: &mut Page,
-    sink: &mut Sink<W>,
-    who: &str,
-    place: &str,
-) -> Result<(), WriteFault>
-    ensures ok { OnOk result (Prints (written W.contents sink.old) (written W.contents sink.new)
-        page.old page.new (text.ended (text.line_of (codes "exit" ∷ who.now ∷ place.now ∷ [])))) }
-    ensures sent { IfErr result (λ fault. BreaksOff (written W.contents sink.old)
-        (written W.contents sink.new) page.old fault.sent
-        (text.ended (text.line_of (codes "exit" ∷ who.now ∷ place.now ∷ [])))) }
-    ensures calm { OnOk result (sink_failures sink.new ≡ sink_failures sink.old) }
-    ensures failed { OnErr result (sink_failures sink.new ≡ one_more (sink_failures sink.old)) }
-{
-    let parts = [
-        b"exit ".as_slice(),
-        who.as_bytes(),
-        b" ".as_slice(),
-        place.as_bytes(),
-        b"\n".as_slice(),
-    ];
-    page.put_all(sink, &parts)
-}
-
-// The words of a read or a write.
-#[derive(Clone, Copy)]
-pub struct Access<'a> {
-    word: &'a str,
-    who: &'a str,
-    var: &'a str,
-    value: u64,
-    place: &'a str,
-}
-
-fn print_access<W: Write>(
-    page: &mut Page,
-    sink: &mut Sink<W>,
-    access: Access<'_>,
-) -> Result<(), WriteFault>
-    ensures ok { OnOk result (Prints (written W.contents sink.old) (written W.contents sink.new)
-        page.old page.new (access_line access.entry)) }
-    ensures sent { IfErr result (λ fault. BreaksOff (written W.contents sink.old)
-        (written W.contents sink.new) page.old fault.sent (access_line access.entry)) }
-    ensures calm { OnOk result (sink_failures sink.new ≡ sink_failures sink.old) }
-    ensures failed { OnErr result (sink_failures sink.new ≡ one_more (sink_failures sink.old)) }
-{
-    let mut value = Buffer::new();
-    let parts = [
-        access.word.as_bytes(),
-        b" ".as_slice(),
-        access.who.as_bytes(),
-        b" ".as_slice(),
-        access.var.as_bytes(),
-        b" ".as_slice(),
-        value.format(access.value).as_bytes(),
-        b" ".as_slice(),
-        access.place.as_bytes(),
-        b"\n".as_slice(),
-    ];
+    let parts = [b" ".as_slice(), place.as_bytes(), b"\n".as_slice()];
     page.put_all(sink, &parts)
 }

@@ -7,7 +7,7 @@ use Rattle.race_text.proofs.taking.take_event.Goals as goal
 pub append-requires-clause-fits : goal.append-requires-clause-fits
 append-requires-clause-fits g c =
     let is = says_event c.decls-decls.result.now c.args.trace.now.decls c.args.line.now (drafted c.in-Some.draft) c.len-declarations.ensures.well_formed c.decls-decls.ensures (sym c.in-Some.ensures) in
-    record { place = is.place; who = is.who; op = is.op }
+    record { place = is.place; who = is.who; op = is.op; value = is.value }
 
 pub unwrap-requires : goal.unwrap-requires
 unwrap-requires g c = is_there c.line_cause.result (λ none.

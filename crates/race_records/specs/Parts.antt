@@ -1,0 +1,47 @@
+-- What each operation says: its word, and its parts in the order of its text.
+use Rattle.std.specs.Prelude.{ℕ, ◌^◌, Bool, true, nat_lt, List, [], ◌∷◌, Option, Some, None}
+use Rattle.race_records.specs.declared.event.Op.{Op}
+use Rattle.race_records.specs.declared.event.Op.TheVariants.{Go, Exit, Read, Write}
+use Rattle.race_records.specs.declared.kind.Kind.{Kind}
+use Rattle.race_records.specs.declared.kind.Named.{Named}
+use Rattle.race_records.specs.declared.parts.Part.{Part}
+use Rattle.race_records.specs.declared.parts.PartKind.{PartKind}
+use Rattle.race_records.specs.declared.parts.Verb.{Verb}
+use Rattle.race_records.specs.Declarations.{Declaration, kind_of_named, number_of, count_of}
+
+-- what the operation says
+abbrev pub says : Op → Verb × List Part
+says (Go h) = (Verb.Go, Part.Object (Named.Goroutine h) ∷ [])
+says Exit = (Verb.Exit, [])
+says (Read x v) = (Verb.Read, Part.Object (Named.Var x) ∷ Part.Value v ∷ [])
+says (Write x v) = (Verb.Write, Part.Object (Named.Var x) ∷ Part.Value v ∷ [])
+
+-- the operation that says so, where there is one
+abbrev pub op_by : Verb → List Part → Option Op
+op_by Verb.Go (Part.Object (Named.Goroutine h) ∷ []) = Some (Go h)
+op_by Verb.Exit [] = Some Exit
+op_by Verb.Read (Part.Object (Named.Var x) ∷ Part.Value v ∷ []) = Some (Read x v)
+op_by Verb.Write (Part.Object (Named.Var x) ∷ Part.Value v ∷ []) = Some (Write x v)
+op_by _ _ = None
+
+-- what the parts behind each word are
+abbrev pub part_kinds : Verb → List PartKind
+part_kinds Verb.Go = PartKind.Object Kind.Goroutine ∷ []
+part_kinds Verb.Exit = []
+part_kinds Verb.Read = PartKind.Object Kind.Var ∷ PartKind.Value ∷ []
+part_kinds Verb.Write = PartKind.Object Kind.Var ∷ PartKind.Value ∷ []
+
+-- what a part is
+abbrev pub part_kind : Part → PartKind
+part_kind (Part.Object named) = PartKind.Object (kind_of_named named)
+part_kind (Part.Value v) = PartKind.Value
+
+-- the object that the part names is declared
+abbrev pub part_fits : List Declaration → Part → Bool
+part_fits ds (Part.Object named) = nat_lt (number_of named) (count_of (kind_of_named named) ds)
+part_fits ds (Part.Value v) = true
+
+-- a value is a u64
+abbrev pub part_is_u64 : Part → Bool
+part_is_u64 (Part.Object named) = true
+part_is_u64 (Part.Value v) = nat_lt v (2 ^ 64)

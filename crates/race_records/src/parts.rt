@@ -1,0 +1,110 @@
+//! What an operation says: its word, and its parts in the order of its text.
+ghost use Rattle.std.specs.Prelude.{◌≡◌, ◌≤◌, [], ◌∷◌, length, IsTrue};
+ghost use Rattle.race_records.specs.Parts as spec;
+ghost use Rattle.race_records.specs.Events.{value_fits};
+
+use crate::{Kind, Named, Op};
+use arrayvec::ArrayVec;
+
+/// The words of operations.
+#[derive(Clone, Copy, Debug, PartialEq, Eq)]
+pub enum Verb {
+    /// A goroutine is started.
+    Go,
+    /// A goroutine returns.
+    Exit,
+    /// A variable is read.
+    Read,
+    /// A variable is written.
+    Write,
+}
+
+/// One thing that an operation says beside its word.
+#[derive(Clone, Copy, Debug, PartialEq, Eq)]
+pub enum Part {
+    /// An object.
+    Object(Named),
+    /// A value.
+    Value(u64),
+}
+
+/// What a part can be.
+#[derive(Clone, Copy, Debug, PartialEq, Eq)]
+pub enum PartKind {
+    /// An object of this kind.
+    Object(Kind),
+    /// A value.
+    Value,
+}
+
+impl Default for Part {
+    fn default() -> Part {
+        Part::Value(0)
+    }
+}
+
+/// The parts of one operation.
+pub type Parts = ArrayVec<Part, 3>;
+
+/// What the operation says. Its value is a u64.
+pub fn says(op: &Op) -> (Verb, Parts)
+    ensures verb { result.0 ≡ (spec.says op.now).0 }
+    ensures parts { result.1.items ≡ (spec.says op.now).1 }
+    ensures value { IsTrue (value_fits op.now) }
+{
+    match op {
+        Op::Go(started) => (Verb::Go, one(Part::Object(Named::Goroutine(*started)))),
+        Op::Exit => (Verb::Exit, Parts::new()),
+        Op::Read(var, value) => (Verb::Read, two(Part::Object(Named::Var(*var)), Part::Value(*value))),
+        Op::Write(var, value) => (Verb::Write, two(Part::Object(Named::Var(*var)), Part::Value(*value))),
+    }
+}
+
+fn one(part: Part) -> Parts
+    ensures { result.items ≡ part ∷ [] }
+{
+    let mut parts = Parts::new();
+    parts.push(part);
+    parts
+}
+
+fn two(first: Part, second: Part) -> Parts
+    ensures { result.items ≡ first ∷ second ∷ [] }
+{
+    let mut parts = Parts::new();
+    parts.push(first);
+    parts.push(second);
+    parts
+}
+
+/// The operation that says so, where there is one.
+pub fn op_by(verb: Verb, parts: &[Part]) -> Option<Op>
+    ensures { result ≡ spec.op_by verb parts.now }
+{
+    match (verb, parts) {
+        (Verb::Go, [Part::Object(Named::Goroutine(started))]) => Some(Op::Go(*started)),
+        (Verb::Exit, []) => Some(Op::Exit),
+        (Verb::Read, [Part::Object(Named::Var(var)), Part::Value(value)]) => Some(Op::Read(*var, *value)),
+        (Verb::Write, [Part::Object(Named::Var(var)), Part::Value(value)]) => Some(Op::Write(*var, *value)),
+        _ => None,
+    }
+}
+
+static GOROUTINE: [PartKind; 1] = [PartKind::Object(Kind::Goroutine)];
+
+static NOTHING: [PartKind; 0] = [];
+
+static VAR_VALUE: [PartKind; 2] = [PartKind::Object(Kind::Var), PartKind::Value];
+
+/// What the parts behind the word are.
+pub fn part_kinds(verb: Verb) -> &'static [PartKind]
+    ensures kinds { result.now ≡ spec.part_kinds verb }
+    ensures few { length result.now ≤ 3 }
+{
+    match verb {
+        Verb::Go => &GOROUTINE,
+        Verb::Exit => &NOTHING,
+        Verb::Read => &VAR_VALUE,
+        Verb::Write => &VAR_VALUE,
+    }
+}

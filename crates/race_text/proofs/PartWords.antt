@@ -1,0 +1,261 @@
+-- What the words of an operation's parts say, word by word.
+use Rattle.std.proofs.Common.{◌≡◌, ℕ, suc, ◌+◌, ◌<◌, ◌-◌, ◌^◌, ◌&&◌, Bool, true, false, not, if◌then◌else◌, nat_lt, nat_le, List, [], ◌∷◌, ◌++◌, length, map, Option, Some, None, is_none, unwrap_or, refl, sym, ap, subst, ◌∙◌, arith, append-nil, append_assoc}
+use Rattle.std.proofs.lemmas.Bool.Decides.{nat_tests}
+use Rattle.std.proofs.lemmas.Option.{none-some, same_Some}
+use Rattle.std.proofs.lemmas.Slice.Eq.{bytes_eq-Decides}
+use Rattle.std.specs.Fmt.{decimal}
+use Rattle.std.specs.List.{list_all, AllByRecursion}
+use Rattle.std.specs.Option.{option_and_then, option_map}
+use Rattle.std.specs.Str.{bytes_eq}
+use Rattle.std.specs.Str.Parse.{digits_value}
+use Rattle.race_records.specs.declared.kind.Kind.{Kind}
+use Rattle.race_records.specs.declared.kind.Named.{Named}
+use Rattle.race_records.specs.declared.parts.Part.{Part}
+use Rattle.race_records.specs.declared.parts.PartKind.{PartKind}
+use Rattle.race_records.specs.Name.{is_name, is_place}
+use Rattle.race_records.specs.Declarations.{Declaration, DeclsState, IsWellFormed, find_name, name_of, kind_of_named, is_named, number_of, count_of}
+use Rattle.race_records.specs.Parts.{part_kind, part_fits, part_is_u64}
+use Rattle.race_text.specs.declared.cause.TextCause.{TextCause}
+use Rattle.race_text.specs.declared.form.Field.{Field}
+use Rattle.race_text.specs.Words.{has_bad_byte, number}
+use Rattle.race_text.specs.Fault.{lesser, rank, use_cause, used_name_cause, part_cause, field_cause}
+use Rattle.race_text.specs.Reading.{ReadPart, ReadParts, object_as, part_in, with_rest, first_part, parts_on}
+use Rattle.race_text.specs.Writing.{part_text}
+use Rattle.race_text.proofs.CauseLemmas.{cause_on}
+use Rattle.race_text.proofs.CleanLemmas.{name_clean, visible_clean, number_is_visible}
+use Rattle.race_text.proofs.FoundLemmas.{found_is_name, found_is_declared, name_of_found}
+
+-- a chain that gives something did so at each step
+pub and_then_some : {A B : Type 0} (f : A → Option B) (o : Option A) (y : B) → option_and_then f o ≡ Some y → (x : A) × (o ≡ Some x) × (f x ≡ Some y)
+and_then_some f None y h = absurd (none-some y h)
+and_then_some f (Some x) y h = (x, refl, h)
+
+pub map_some : {A B : Type 0} (f : A → B) (o : Option A) (y : B) → option_map f o ≡ Some y → (x : A) × (o ≡ Some x) × (f x ≡ y)
+map_some f None y h = absurd (none-some y h)
+map_some f (Some x) y h = (x, refl, same_Some (f x) y h)
+
+-- a number that was read is spelled as it is printed, and is in its limit
+pub number_spelled : (limit : ℕ) (w : List ℕ) (n : ℕ) → number limit w ≡ Some n → w ≡ decimal n
+unfolding number
+number_spelled limit w n h = by (bytes_eq w (decimal (digits_value 10 w))) refl (nat_le (digits_value 10 w) limit) h
+  where
+    by : (b : Bool) → bytes_eq w (decimal (digits_value 10 w)) ≡ b → (c : Bool) → (if b && c then Some (digits_value 10 w) else None) ≡ Some n → w ≡ decimal n
+    by true e true h = (bytes_eq-Decides w (decimal (digits_value 10 w))).0 e ∙ ap decimal (same_Some (digits_value 10 w) n h)
+    by true e false h = absurd (none-some n h)
+    by false e c h = absurd (none-some n h)
+
+number_within : (limit : ℕ) (w : List ℕ) (n : ℕ) → limit < 2 ^ 64 → number limit w ≡ Some n → nat_lt n (2 ^ 64) ≡ true
+unfolding number
+number_within limit w n small h = by (bytes_eq w (decimal (digits_value 10 w))) (nat_le (digits_value 10 w) limit) refl h
+  where
+    by : (b c : Bool) → nat_le (digits_value 10 w) limit ≡ c → (if b && c then Some (digits_value 10 w) else None) ≡ Some n → nat_lt n (2 ^ 64) ≡ true
+    by true true e h = let same = same_Some (digits_value 10 w) n h in subst (λ k. nat_lt k (2 ^ 64) ≡ true) same (grind (arith, nat_tests, small))
+    by true false e h = absurd (none-some n h)
+    by false c e h = absurd (none-some n h)
+
+-- the kind of what is named
+pub kind_is_named : (kind : Kind) (named : Named) → is_named kind named ≡ true → kind_of_named named ≡ kind
+kind_is_named Kind.Goroutine (Named.Goroutine n) h = refl
+kind_is_named Kind.Var (Named.Var n) h = refl
+kind_is_named Kind.Chan (Named.Chan n) h = refl
+kind_is_named Kind.Lock (Named.Lock n) h = refl
+kind_is_named Kind.Once (Named.Once n) h = refl
+kind_is_named _ _ h = cc
+
+-- what was read is of the kind that was wanted
+pub read_kind : (ds : List Declaration) (kind : PartKind) (w : List ℕ) (part : Part) → part_in ds kind w ≡ Some part → part_kind part ≡ kind
+read_kind ds (PartKind.Object kind) w part h =
+    let found = and_then_some (object_as kind) (find_name ds w) part h in
+    by found.0 (is_named kind found.0) refl found.2
+  where
+    by : (named : Named) (b : Bool) → is_named kind named ≡ b → (if b then Some (Part.Object named) else None) ≡ Some part → part_kind part ≡ PartKind.Object kind
+    by named true of h = ap part_kind (sym (same_Some (Part.Object named) part h)) ∙ ap PartKind.Object (kind_is_named kind named of)
+    by named false of h = absurd (none-some part h)
+read_kind ds PartKind.Value w part h = ap part_kind (sym (map_some Part.Value (number (2 ^ 64 - 1) w) part h).2)
+
+-- the part that the first word says
+pub first_part_is : (ds : List Declaration) (kind : PartKind) (words : List (List ℕ)) (first : ReadPart) → first_part ds kind words ≡ Some first
+    → (w : List ℕ) × (words ≡ w ∷ first.1) × (part_in ds kind w ≡ Some first.0)
+first_part_is ds kind [] first h = absurd (none-some first h)
+first_part_is ds kind (w ∷ ws) first h =
+    let one = map_some (with_rest ws) (part_in ds kind w) first h in
+    (w, (λ i. w ∷ (one.2 i).1), one.1 ∙ ap (λ (r : ReadPart). Some r.0) one.2)
+
+module _ (decls : DeclsState) (holds : IsWellFormed decls) where
+  abbrev ds : List Declaration
+  ds = decls.declarations
+
+  -- what holds of a word that says a part
+  pub record IsPart (kind : PartKind) (w : List ℕ) (part : Part) : Type 0 where
+    pub text : w ≡ part_text ds part
+    pub fits : part_fits ds part ≡ true
+    pub is_u64 : part_is_u64 part ≡ true
+    pub clean : has_bad_byte w ≡ false
+    pub no_cause : part_cause ds kind w ≡ None
+
+  is_object : (kind : Kind) (w : List ℕ) (named : Named) → find_name ds w ≡ Some named → is_named kind named ≡ true → IsPart (PartKind.Object kind) w (Part.Object named)
+  is_object kind w named found of = record {
+    text = ap (λ o. unwrap_or o []) (sym (name_of_found ds w named found));
+    fits = let less = found_is_declared ds w named found in grind (arith, nat_tests, less);
+    is_u64 = refl;
+    clean = name_clean w (found_is_name decls w named holds found);
+    no_cause = (λ i. if not (found_is_name decls w named holds found i) then Some TextCause.BadName else use_cause kind (found i))
+        ∙ ap (λ b. if b then None else Some TextCause.WrongKind) of;
+  }
+
+  pub is_part : (kind : PartKind) (w : List ℕ) (part : Part) → part_in ds kind w ≡ Some part → IsPart kind w part
+  is_part (PartKind.Object kind) w part h =
+      let found = and_then_some (object_as kind) (find_name ds w) part h in
+      by found.0 found.1 (is_named kind found.0) refl found.2
+    where
+      by : (named : Named) → find_name ds w ≡ Some named → (b : Bool) → is_named kind named ≡ b → (if b then Some (Part.Object named) else None) ≡ Some part → IsPart (PartKind.Object kind) w part
+      by named found true of h = subst (IsPart (PartKind.Object kind) w) (same_Some (Part.Object named) part h) (is_object kind w named found of)
+      by named found false of h = absurd (none-some part h)
+  is_part PartKind.Value w part h =
+      let read = map_some Part.Value (number (2 ^ 64 - 1) w) part h in
+      subst (IsPart PartKind.Value w) read.2 (record {
+        text = number_spelled (2 ^ 64 - 1) w read.0 read.1;
+        fits = refl;
+        is_u64 = number_within (2 ^ 64 - 1) w read.0 (omega arith) read.1;
+        clean = visible_clean w (number_is_visible (2 ^ 64 - 1) w read.0 (omega arith) read.1);
+        no_cause = ap (λ o. if is_none o then Some TextCause.BadNumber else None) read.1;
+      })
+
+  -- words that say parts of these kinds, one each
+  abbrev pub AreParts : List PartKind → List (List ℕ) → List Part → Type 0
+  AreParts [] [] [] = Unit {0}
+  AreParts (kind ∷ kinds) (w ∷ ws) (part ∷ parts) = IsPart kind w part × AreParts kinds ws parts
+  AreParts _ _ _ = ⊥
+
+  -- what was read in turn
+  pub record AreRead (got : List Part) (kinds : List PartKind) (words : List (List ℕ)) (read : ReadParts) : Type 0 where
+    pub ws : List (List ℕ)
+    pub parts : List Part
+    pub words_are : words ≡ ws ++ read.1
+    pub parts_are : read.0 ≡ got ++ parts
+    pub are : AreParts kinds ws parts
+
+  pub are_read : (got : List Part) (kinds : List PartKind) (words : List (List ℕ)) (read : ReadParts) → parts_on ds got kinds words ≡ Some read → AreRead got kinds words read
+  are_read got [] words read h =
+      let same = same_Some (got, words) read h in
+      record { ws = []; parts = []; words_are = ap (λ (r : ReadParts). r.1) same; parts_are = ap (λ (r : ReadParts). r.0) (sym same) ∙ sym (append-nil got); are = tt }
+  are_read got (kind ∷ kinds) [] read h = absurd (none-some read h)
+  are_read got (kind ∷ kinds) (w ∷ ws) read h =
+      let first = and_then_some (λ (first : ReadPart). parts_on ds (got ++ first.0 ∷ []) kinds first.1) (option_map (with_rest ws) (part_in ds kind w)) read h in
+      let one = map_some (with_rest ws) (part_in ds kind w) first.0 first.1 in
+      let others = are_read (got ++ first.0.0 ∷ []) kinds first.0.1 read first.2 in
+      let part_is : part_in ds kind w ≡ Some first.0.0 = one.1 ∙ ap (λ (r : ReadPart). Some r.0) one.2 in
+      record {
+        ws = w ∷ others.ws;
+        parts = first.0.0 ∷ others.parts;
+        words_are = λ i. w ∷ (ap (λ (r : ReadPart). r.1) one.2 ∙ others.words_are) i;
+        parts_are = others.parts_are ∙ append_assoc got (first.0.0 ∷ []) others.parts;
+        are = (is_part kind w first.0.0 part_is, others.are);
+      }
+
+  -- of the parts: their texts are the words, they are declared, and their values are u64s
+  pub texts_are : (kinds : List PartKind) (ws : List (List ℕ)) (parts : List Part) → AreParts kinds ws parts → ws ≡ map (part_text ds) parts
+  texts_are [] [] [] are = refl
+  texts_are (kind ∷ kinds) (w ∷ ws) (part ∷ parts) are = λ i. are.0.text i ∷ texts_are kinds ws parts are.1 i
+  texts_are _ _ _ are = absurd are
+
+  pub parts_fit : (kinds : List PartKind) (ws : List (List ℕ)) (parts : List Part) → AreParts kinds ws parts → list_all (part_fits ds) parts ≡ true
+  parts_fit [] [] [] are = refl
+  parts_fit (kind ∷ kinds) (w ∷ ws) (part ∷ parts) are = λ i. are.0.fits i && parts_fit kinds ws parts are.1 i
+  parts_fit _ _ _ are = absurd are
+
+  pub parts_are_u64 : (kinds : List PartKind) (ws : List (List ℕ)) (parts : List Part) → AreParts kinds ws parts → list_all part_is_u64 parts ≡ true
+  parts_are_u64 [] [] [] are = refl
+  parts_are_u64 (kind ∷ kinds) (w ∷ ws) (part ∷ parts) are = λ i. are.0.is_u64 i && parts_are_u64 kinds ws parts are.1 i
+  parts_are_u64 _ _ _ are = absurd are
+
+  -- and of the words, with the place behind them: none has a bad byte or a cause, and there are as many as fields
+  module _ (place : List ℕ) (form : is_place place ≡ true) (clean : has_bad_byte place ≡ false) where
+    pub words_clean : (kinds : List PartKind) (ws : List (List ℕ)) (parts : List Part) → AreParts kinds ws parts → AllByRecursion (λ w. has_bad_byte w ≡ false) (ws ++ place ∷ [])
+    words_clean [] [] [] are = (clean, tt)
+    words_clean (kind ∷ kinds) (w ∷ ws) (part ∷ parts) are = (are.0.clean, words_clean kinds ws parts are.1)
+    words_clean _ _ _ are = absurd are
+
+    pub words_count : (kinds : List PartKind) (ws : List (List ℕ)) (parts : List Part) → AreParts kinds ws parts → length (ws ++ place ∷ []) ≡ length (map Field.Part kinds ++ Field.Place ∷ [])
+    words_count [] [] [] are = refl
+    words_count (kind ∷ kinds) (w ∷ ws) (part ∷ parts) are = ap suc (words_count kinds ws parts are.1)
+    words_count _ _ _ are = absurd are
+
+    pub words_fine : (kinds : List PartKind) (ws : List (List ℕ)) (parts : List Part) → AreParts kinds ws parts → cause_on ds None (map Field.Part kinds ++ Field.Place ∷ []) (ws ++ place ∷ []) ≡ None
+    unfolding field_cause
+    words_fine [] [] [] are = ap (λ b. if not b then Some TextCause.BadName else None) form
+    words_fine (kind ∷ kinds) (w ∷ ws) (part ∷ parts) are =
+        ap (λ c. cause_on ds c (map Field.Part kinds ++ Field.Place ∷ []) (ws ++ place ∷ [])) are.0.no_cause ∙ words_fine kinds ws parts are.1
+    words_fine _ _ _ are = absurd are
+
+-- no cause holds of a chain just where none holds of its parts
+pub lesser_none : (a b : Option TextCause) → lesser a b ≡ None → (a ≡ None) × (b ≡ None)
+lesser_none None b h = (refl, h)
+lesser_none (Some a) None h = absurd (none-some a (sym h))
+lesser_none (Some a) (Some b) h = by (nat_le (rank a) (rank b)) h
+  where
+    by : (t : Bool) → (if t then Some a else Some b) ≡ None → (Some a ≡ None) × (Some b ≡ None)
+    by true h = absurd (none-some a (sym h))
+    by false h = absurd (none-some b (sym h))
+
+module _ (ds : List Declaration) where
+  -- where nothing is wrong with a word, it says a part
+  pub part_is_there : (kind : PartKind) (w : List ℕ) → part_cause ds kind w ≡ None → (part : Part) × (part_in ds kind w ≡ Some part)
+  part_is_there (PartKind.Object kind) w h = by (is_name w) (find_name ds w) h
+    where
+      with_kind : (named : Named) (b : Bool) → (if b then None else Some TextCause.WrongKind) ≡ None → (part : Part) × ((if b then Some (Part.Object named) else None) ≡ Some part)
+      with_kind named true h = (Part.Object named, refl)
+      with_kind named false h = absurd (none-some TextCause.WrongKind (sym h))
+
+      by : (b : Bool) (o : Option Named) → (if not b then Some TextCause.BadName else use_cause kind o) ≡ None → (part : Part) × (option_and_then (object_as kind) o ≡ Some part)
+      by false o h = absurd (none-some TextCause.BadName (sym h))
+      by true None h = absurd (none-some TextCause.Unknown (sym h))
+      by true (Some named) h = with_kind named (is_named kind named) h
+  part_is_there PartKind.Value w h = by (number (2 ^ 64 - 1) w) h
+    where
+      by : (o : Option ℕ) → (if is_none o then Some TextCause.BadNumber else None) ≡ None → (part : Part) × (option_map Part.Value o ≡ Some part)
+      by None h = absurd (none-some TextCause.BadNumber (sym h))
+      by (Some n) h = (Part.Value n, refl)
+
+  -- where no cause holds of the words, they say a part each, and a place
+  pub record AreThere (kinds : List PartKind) (ws : List (List ℕ)) (least : Option TextCause) : Type 0 where
+    pub before : least ≡ None
+    pub parts : List Part
+    pub place : List ℕ
+    pub form : is_place place ≡ true
+    pub kinds_are : map part_kind parts ≡ kinds
+    pub read : (got : List Part) → parts_on ds got kinds ws ≡ Some (got ++ parts, place ∷ [])
+
+  pub are_there : (kinds : List PartKind) (ws : List (List ℕ)) (least : Option TextCause) → length ws ≡ length (map Field.Part kinds ++ Field.Place ∷ [])
+      → cause_on ds least (map Field.Part kinds ++ Field.Place ∷ []) ws ≡ None → AreThere kinds ws least
+  unfolding field_cause
+  are_there [] [] least count none = absurd (omega (arith, count))
+  are_there [] (place ∷ []) least count none =
+      let both = lesser_none least (if not (is_place place) then Some TextCause.BadName else None) none in
+      record {
+        before = both.0;
+        parts = [];
+        place = place;
+        form = is_form (is_place place) both.1;
+        kinds_are = refl;
+        read = λ got i. Some (sym (append-nil got) i, place ∷ []);
+      }
+    where
+      is_form : (b : Bool) → (if not b then Some TextCause.BadName else None) ≡ None → b ≡ true
+      is_form true h = refl
+      is_form false h = absurd (none-some TextCause.BadName (sym h))
+  are_there [] (place ∷ more ∷ others) least count none = absurd (omega (arith, count))
+  are_there (kind ∷ kinds) [] least count none = absurd (omega (arith, count))
+  are_there (kind ∷ kinds) (w ∷ ws) least count none =
+      let others = are_there kinds ws (lesser least (part_cause ds kind w)) (omega (arith, count)) none in
+      let both = lesser_none least (part_cause ds kind w) others.before in
+      let first = part_is_there kind w both.1 in
+      record {
+        before = both.0;
+        parts = first.0 ∷ others.parts;
+        place = others.place;
+        form = others.form;
+        kinds_are = λ i. read_kind ds kind w first.0 first.1 i ∷ others.kinds_are i;
+        read = λ got. ap (λ o. option_and_then (λ (r : ReadPart). parts_on ds (got ++ r.0 ∷ []) kinds r.1) (option_map (with_rest ws) o)) first.1
+            ∙ others.read (got ++ first.0 ∷ []) ∙ (λ i. Some (append_assoc got (first.0 ∷ []) others.parts i, others.place ∷ []));
+      }

@@ -1,22 +1,22 @@
 -- The table of what operations say, and its way back. Where a proof has a last line `_`, it serves all operations that no line before it names.
-use Rattle.std.proofs.Common.{◌≡◌, List, [], ◌∷◌, map, Option, Some, None, refl, sym, ap}
+use Rattle.std.proofs.Common.{◌≡◌, List, [], ◌∷◌, Option, Some, None, true, true≢false, refl, sym, ap}
 use Rattle.std.proofs.lemmas.Option.{none-some, same_Some}
 use Rattle.race_records.specs.declared.event.Op.{Op}
 use Rattle.race_records.specs.declared.event.Op.TheVariants.{Go, Exit, Read, Write}
 use Rattle.race_records.specs.declared.kind.Named.{Named}
 use Rattle.race_records.specs.declared.parts.Part.{Part}
 use Rattle.race_records.specs.declared.parts.Verb.{Verb}
-use Rattle.race_records.specs.Parts.{says, op_by, part_kind, part_kinds}
+use Rattle.race_records.specs.Parts.{says, op_by, suit, part_kinds}
 
 -- what an operation says leads back to it
 pub says_again : (op : Op) → op_by (says op).0 (says op).1 ≡ Some op
 says_again (Go h) = refl
 says_again _ = refl
 
--- its parts are of the kinds that stand behind its word
-pub kinds_of_says : (op : Op) → map part_kind (says op).1 ≡ part_kinds (says op).0
-kinds_of_says (Go h) = refl
-kinds_of_says _ = refl
+-- its parts are those that its word wants
+pub says_suits : (op : Op) → suit (part_kinds (says op).0) (says op).1 ≡ true
+says_suits (Go h) = refl
+says_suits _ = refl
 
 -- the operation that says so says so
 pub op_by_says : (verb : Verb) (parts : List Part) (op : Op) → op_by verb parts ≡ Some op → says op ≡ (verb, parts)
@@ -32,10 +32,10 @@ op_by_says verb parts op e = by verb parts op e
     by Verb.Write (Part.Object (Named.Var x) ∷ Part.Value v ∷ []) op e = is _ op e
     by _ _ op e = absurd (none-some op e)
 
--- parts of those kinds are an operation's
-pub op_is_there : (verb : Verb) (parts : List Part) → map part_kind parts ≡ part_kinds verb → (op : Op) × (op_by verb parts ≡ Some op)
+-- parts that the word wants are an operation's
+pub op_is_there : (verb : Verb) (parts : List Part) → suit (part_kinds verb) parts ≡ true → (op : Op) × (op_by verb parts ≡ Some op)
 op_is_there Verb.Go (Part.Object (Named.Goroutine h) ∷ []) e = (Go h, refl)
 op_is_there Verb.Exit [] e = (Exit, refl)
 op_is_there Verb.Read (Part.Object (Named.Var x) ∷ Part.Value v ∷ []) e = (Read x v, refl)
 op_is_there Verb.Write (Part.Object (Named.Var x) ∷ Part.Value v ∷ []) e = (Write x v, refl)
-op_is_there _ _ e = absurd (cc)
+op_is_there _ _ e = absurd (true≢false (sym e))

@@ -1,5 +1,5 @@
 -- What each operation says: its word, and its parts in the order of its text.
-use Rattle.std.specs.Prelude.{ℕ, ◌^◌, Bool, true, nat_lt, List, [], ◌∷◌, Option, Some, None}
+use Rattle.std.specs.Prelude.{ℕ, ◌^◌, ◌&&◌, Bool, true, false, nat_lt, List, [], ◌∷◌, Option, Some, None}
 use Rattle.race_records.specs.declared.event.Op.{Op}
 use Rattle.race_records.specs.declared.event.Op.TheVariants.{Go, Exit, Read, Write}
 use Rattle.race_records.specs.declared.kind.Kind.{Kind}
@@ -7,7 +7,7 @@ use Rattle.race_records.specs.declared.kind.Named.{Named}
 use Rattle.race_records.specs.declared.parts.Part.{Part}
 use Rattle.race_records.specs.declared.parts.PartKind.{PartKind}
 use Rattle.race_records.specs.declared.parts.Verb.{Verb}
-use Rattle.race_records.specs.Declarations.{Declaration, kind_of_named, number_of, count_of}
+use Rattle.race_records.specs.Declarations.{Declaration, kind_of_named, is_named, number_of, count_of}
 
 -- what the operation says
 abbrev pub says : Op → Verb × List Part
@@ -31,10 +31,17 @@ part_kinds Verb.Exit = []
 part_kinds Verb.Read = PartKind.Object Kind.Var ∷ PartKind.Value ∷ []
 part_kinds Verb.Write = PartKind.Object Kind.Var ∷ PartKind.Value ∷ []
 
--- what a part is
-abbrev pub part_kind : Part → PartKind
-part_kind (Part.Object named) = PartKind.Object (kind_of_named named)
-part_kind (Part.Value v) = PartKind.Value
+-- the part is one that its place wants
+abbrev pub suits : PartKind → Part → Bool
+suits (PartKind.Object kind) (Part.Object named) = is_named kind named
+suits PartKind.Value (Part.Value v) = true
+suits _ _ = false
+
+-- so is each part
+abbrev pub suit : List PartKind → List Part → Bool
+suit [] [] = true
+suit (kind ∷ kinds) (part ∷ parts) = suits kind part && suit kinds parts
+suit _ _ = false
 
 -- the object that the part names is declared
 abbrev pub part_fits : List Declaration → Part → Bool

@@ -53,10 +53,10 @@ pub fn says(op: &Op) -> (Verb, Parts)
     ensures value { IsTrue (value_fits op.now) }
 {
     match op {
-        Op::Go(started) => (Verb::Go, one(Part::Object(Named::Goroutine(*started)))),
+        Op::Go(h) => (Verb::Go, one(Part::Object(Named::Goroutine(*h)))),
         Op::Exit => (Verb::Exit, Parts::new()),
-        Op::Read(var, value) => (Verb::Read, two(Part::Object(Named::Var(*var)), Part::Value(*value))),
-        Op::Write(var, value) => (Verb::Write, two(Part::Object(Named::Var(*var)), Part::Value(*value))),
+        Op::Read(x, v) => (Verb::Read, with_value(Named::Var(*x), *v)),
+        Op::Write(x, v) => (Verb::Write, with_value(Named::Var(*x), *v)),
     }
 }
 
@@ -68,12 +68,12 @@ fn one(part: Part) -> Parts
     parts
 }
 
-fn two(first: Part, second: Part) -> Parts
-    ensures { result.items ≡ first ∷ second ∷ [] }
+fn with_value(named: Named, value: u64) -> Parts
+    ensures { result.items ≡ Part.Object named ∷ Part.Value value ∷ [] }
 {
     let mut parts = Parts::new();
-    parts.push(first);
-    parts.push(second);
+    parts.push(Part::Object(named));
+    parts.push(Part::Value(value));
     parts
 }
 
@@ -82,10 +82,10 @@ pub fn op_by(verb: Verb, parts: &[Part]) -> Option<Op>
     ensures { result ≡ spec.op_by verb parts.now }
 {
     match (verb, parts) {
-        (Verb::Go, [Part::Object(Named::Goroutine(started))]) => Some(Op::Go(*started)),
+        (Verb::Go, [Part::Object(Named::Goroutine(h))]) => Some(Op::Go(*h)),
         (Verb::Exit, []) => Some(Op::Exit),
-        (Verb::Read, [Part::Object(Named::Var(var)), Part::Value(value)]) => Some(Op::Read(*var, *value)),
-        (Verb::Write, [Part::Object(Named::Var(var)), Part::Value(value)]) => Some(Op::Write(*var, *value)),
+        (Verb::Read, [Part::Object(Named::Var(x)), Part::Value(v)]) => Some(Op::Read(*x, *v)),
+        (Verb::Write, [Part::Object(Named::Var(x)), Part::Value(v)]) => Some(Op::Write(*x, *v)),
         _ => None,
     }
 }

@@ -1,5 +1,5 @@
 -- What the words of an event line say: a goroutine, the parts of an operation, and a place.
-use Rattle.std.proofs.Common.{◌≡◌, ℕ, ◌<◌, ◌==◌, Bool, true, false, not, if◌then◌else◌, List, [], ◌∷◌, ◌++◌, length, map, suc, Option, Some, None, refl, sym, ap, subst, ◌∙◌, arith}
+use Rattle.std.proofs.Common.{◌≡◌, ℕ, ◌<◌, ◌==◌, Bool, true, false, not, if◌then◌else◌, List, [], ◌∷◌, ◌++◌, length, map, suc, Option, Some, None, refl, sym, ap, subst, ◌∙◌, arith, true≢false}
 use Rattle.std.proofs.lemmas.Bool.Decides.{nat_tests, Decides-eqb}
 use Rattle.std.proofs.lemmas.Option.{none-some, same_Some}
 use Rattle.std.specs.Option.{option_and_then, option_map}
@@ -11,7 +11,7 @@ use Rattle.race_records.specs.declared.parts.PartKind.{PartKind}
 use Rattle.race_records.specs.declared.parts.Verb.{Verb}
 use Rattle.race_records.specs.Name.{is_place}
 use Rattle.race_records.specs.Declarations.{Declaration, DeclsState, IsWellFormed}
-use Rattle.race_records.specs.Parts.{says, op_by, part_kind, part_kinds}
+use Rattle.race_records.specs.Parts.{says, op_by, part_kinds, suits}
 use Rattle.race_records.proofs.PartLaws.{op_by_says, op_is_there}
 use Rattle.race_text.specs.declared.cause.TextCause.{TextCause}
 use Rattle.race_text.specs.declared.form.Field.{Field}
@@ -22,7 +22,7 @@ use Rattle.race_text.specs.Fault.{lesser, or_else, seen_so_far, part_cause, fiel
 use Rattle.race_text.specs.Reading.{Occurrence, occurrence, ReadPart, ReadParts, with_rest, part_in, first_part, parts_on, last_place, goroutine_of, event_of, event_behind}
 use Rattle.race_text.proofs.CauseLemmas.{cause_on}
 use Rattle.race_text.proofs.CleanLemmas.{visible_clean, place_is_visible}
-use Rattle.race_text.proofs.PartWords.{and_then_some, map_some, first_part_is, read_kind, IsPart, is_part, AreParts, are_read, words_count, words_fine, part_is_there, are_there}
+use Rattle.race_text.proofs.PartWords.{and_then_some, map_some, first_part_is, read_suits, IsPart, is_part, AreParts, are_read, words_count, words_fine, part_is_there, are_there}
 
 -- two words or more are not one place
 pub last_place-more : (word : List ℕ) (more : List (List ℕ)) → 0 < length more → last_place (word ∷ more) ≡ None
@@ -47,9 +47,9 @@ goroutine_is : (part : Part) (n : ℕ) → goroutine_of part ≡ Some n → part
 goroutine_is (Part.Object (Named.Goroutine m)) n h = ap (λ k. Part.Object (Named.Goroutine k)) (same_Some m n h)
 goroutine_is _ n h = absurd (none-some n h)
 
-goroutine_is_there : (part : Part) → part_kind part ≡ PartKind.Object Kind.Goroutine → (n : ℕ) × (part ≡ Part.Object (Named.Goroutine n))
+goroutine_is_there : (part : Part) → suits (PartKind.Object Kind.Goroutine) part ≡ true → (n : ℕ) × (part ≡ Part.Object (Named.Goroutine n))
 goroutine_is_there (Part.Object (Named.Goroutine n)) h = (n, refl)
-goroutine_is_there _ h = absurd (cc)
+goroutine_is_there _ h = absurd (true≢false (sym h))
 
 abbrev pub a_goroutine : PartKind
 a_goroutine = PartKind.Object Kind.Goroutine
@@ -139,7 +139,7 @@ event_is_there ds events verb (g ∷ ws) fine none =
     let count = both.0 in
     let there = are_there ds (part_kinds verb) ws (part_cause ds a_goroutine g) (omega (arith, count)) both.1 in
     let first = part_is_there ds a_goroutine g there.before in
-    let who = goroutine_is_there first.0 (read_kind ds a_goroutine g first.0 first.1) in
-    let op = op_is_there verb there.parts there.kinds_are in
+    let who = goroutine_is_there first.0 (read_suits ds a_goroutine g first.0 first.1) in
+    let op = op_is_there verb there.parts there.suit_is in
     none-some (occurrence who.0 op.0 there.place)
     (sym none ∙ said_by ds verb g ws who.0 there.parts op.0 there.place (first.1 ∙ ap Some who.1) (there.read []) op.1 there.form)

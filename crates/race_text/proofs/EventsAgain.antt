@@ -12,10 +12,10 @@ use Rattle.race_records.specs.declared.kind.Named.{Named}
 use Rattle.race_records.specs.declared.parts.Part.{Part}
 use Rattle.race_records.specs.declared.parts.PartKind.{PartKind}
 use Rattle.race_records.specs.Name.{is_place, is_place_byte}
-use Rattle.race_records.specs.Declarations.{Declaration, DeclsState, IsWellFormed, count_of, find_name, is_named, kind_of_named}
+use Rattle.race_records.specs.Declarations.{Declaration, DeclsState, IsWellFormed, count_of}
 use Rattle.race_records.specs.Events.{fits, op_fits, value_fits}
-use Rattle.race_records.specs.Parts.{says, part_kind, part_fits, part_is_u64, part_kinds}
-use Rattle.race_records.proofs.PartLaws.{says_again, kinds_of_says}
+use Rattle.race_records.specs.Parts.{says, suits, suit, part_fits, part_is_u64, part_kinds}
+use Rattle.race_records.proofs.PartLaws.{says_again, says_suits}
 use Rattle.race_text.specs.declared.form.Word.{Word}
 use Rattle.race_text.specs.Words.{words_of, number}
 use Rattle.race_text.specs.Text.{line_of, goroutine_name, place_text, op_words, event_line}
@@ -41,16 +41,13 @@ module _ (decls : DeclsState) (holds : IsWellFormed decls) where
   abbrev ds : List Declaration
   ds = decls.declarations
 
-  of_its_kind : (named : Named) → is_named (kind_of_named named) named ≡ true
-  of_its_kind (Named.Goroutine n) = refl
-  of_its_kind _ = refl
-
   -- what is printed of a part says the part, and can be seen
-  part_again : (part : Part) → part_fits ds part ≡ true → part_is_u64 part ≡ true → part_in ds (part_kind part) (part_text ds part) ≡ Some part
-  part_again (Part.Object named) fit low =
-      ap (option_and_then (object_as (kind_of_named named))) (name_again decls holds named (grind (arith, nat_tests, fit)))
-      ∙ ap (λ b. if b then Some (Part.Object named) else None) (of_its_kind named)
-  part_again (Part.Value v) fit low = ap (option_map Part.Value) (number-some (2 ^ 64 - 1) v (decimal v) (omega arith) (grind (arith, nat_tests, low)) refl)
+  part_again : (kind : PartKind) (part : Part) → suits kind part ≡ true → part_fits ds part ≡ true → part_is_u64 part ≡ true → part_in ds kind (part_text ds part) ≡ Some part
+  part_again (PartKind.Object kind) (Part.Object named) wanted fit low =
+      ap (option_and_then (object_as kind)) (name_again decls holds named (grind (arith, nat_tests, fit)))
+      ∙ ap (λ b. if b then Some (Part.Object named) else None) wanted
+  part_again PartKind.Value (Part.Value v) wanted fit low = ap (option_map Part.Value) (number-some (2 ^ 64 - 1) v (decimal v) (omega arith) (grind (arith, nat_tests, low)) refl)
+  part_again _ _ wanted fit low = absurd (true≢false (sym wanted))
 
   part_visible : (part : Part) → part_fits ds part ≡ true → part_is_u64 part ≡ true → list_all is_place_byte (part_text ds part) ≡ true
   part_visible (Part.Object named) fit low =
@@ -58,15 +55,17 @@ module _ (decls : DeclsState) (holds : IsWellFormed decls) where
       name_is_visible name (found_is_name decls name named holds (name_again decls holds named (grind (arith, nat_tests, fit))))
   part_visible (Part.Value v) fit low = number_is_visible (2 ^ 64 - 1) (decimal v) v (omega arith) (number-some (2 ^ 64 - 1) v (decimal v) (omega arith) (grind (arith, nat_tests, low)) refl)
 
-  parts_again : (got parts : List Part) (rest : List (List ℕ)) → list_all (part_fits ds) parts ≡ true → list_all part_is_u64 parts ≡ true
-      → parts_on ds got (map part_kind parts) (map (part_text ds) parts ++ rest) ≡ Some (got ++ parts, rest)
-  parts_again got [] rest fit low = λ i. Some (sym (append-nil got) i, rest)
-  parts_again got (part ∷ parts) rest fit low =
+  parts_again : (got : List Part) (kinds : List PartKind) (parts : List Part) (rest : List (List ℕ)) → suit kinds parts ≡ true → list_all (part_fits ds) parts ≡ true → list_all part_is_u64 parts ≡ true
+      → parts_on ds got kinds (map (part_text ds) parts ++ rest) ≡ Some (got ++ parts, rest)
+  parts_again got [] [] rest wanted fit low = λ i. Some (sym (append-nil got) i, rest)
+  parts_again got (kind ∷ kinds) (part ∷ parts) rest wanted fit low =
+      let wants = both (suits kind part) (suit kinds parts) wanted in
       let fits = both (part_fits ds part) (list_all (part_fits ds) parts) fit in
       let lows = both (part_is_u64 part) (list_all part_is_u64 parts) low in
-      ap (λ o. option_and_then (λ (r : ReadPart). parts_on ds (got ++ r.0 ∷ []) (map part_kind parts) r.1) (option_map (with_rest (map (part_text ds) parts ++ rest)) o)) (part_again part fits.0 lows.0)
-      ∙ parts_again (got ++ part ∷ []) parts rest fits.1 lows.1
+      ap (λ o. option_and_then (λ (r : ReadPart). parts_on ds (got ++ r.0 ∷ []) kinds r.1) (option_map (with_rest (map (part_text ds) parts ++ rest)) o)) (part_again kind part wants.0 fits.0 lows.0)
+      ∙ parts_again (got ++ part ∷ []) kinds parts rest wants.1 fits.1 lows.1
       ∙ (λ i. Some (append_assoc got (part ∷ []) parts i, rest))
+  parts_again got _ _ rest wanted fit low = absurd (true≢false (sym wanted))
 
   parts_visible : (parts : List Part) (rest : List (List ℕ)) → list_all (part_fits ds) parts ≡ true → list_all part_is_u64 parts ≡ true → AreVisible rest → AreVisible (map (part_text ds) parts ++ rest)
   parts_visible [] rest fit low visible = visible
@@ -89,14 +88,14 @@ module _ (decls : DeclsState) (holds : IsWellFormed decls) where
       let args = goroutine_name ds who ∷ map (part_text ds) parts ++ place ∷ [] in
       let who_fits : part_fits ds goroutine ≡ true = grind (arith, nat_tests, who_less) in
       let visible : AreVisible (verb_text verb ∷ args) = (
-      word_is_seen (verb_text verb) (Word.Does verb) (verb_again verb),
-      (part_visible goroutine who_fits refl, parts_visible parts (place ∷ []) fit low (place_is_visible place form, tt)),
+        word_is_seen (verb_text verb) (Word.Does verb) (verb_again verb),
+        (part_visible goroutine who_fits refl, parts_visible parts (place ∷ []) fit low (place_is_visible place form, tt)),
       ) in
       ap (λ ws. event_in ds (words_of (line_of ws))) (op_words_are ds (goroutine_name ds who) place op)
       ∙ ap (event_in ds) (words_again (verb_text verb) args visible)
       ∙ ap (λ w. event_by ds w args) (verb_again verb)
-      ∙ said_by ds verb (goroutine_name ds who) (map (part_text ds) parts ++ place ∷ []) who parts op place (part_again goroutine who_fits refl)
-      (ap (λ kinds. parts_on ds [] kinds (map (part_text ds) parts ++ place ∷ [])) (sym (kinds_of_says op)) ∙ parts_again [] parts (place ∷ []) fit low) (says_again op) form
+      ∙ said_by ds verb (goroutine_name ds who) (map (part_text ds) parts ++ place ∷ []) who parts op place (part_again (PartKind.Object Kind.Goroutine) goroutine refl who_fits refl)
+      (parts_again [] (part_kinds verb) parts (place ∷ []) (says_suits op) fit low) (says_again op) form
 
   -- what fits of an event
   who_fits : (e : Event) → fits decls e ≡ true → e.who < count_of Kind.Goroutine ds

@@ -13,8 +13,8 @@ use Rattle.race_records.specs.declared.kind.Named.{Named}
 use Rattle.race_records.specs.declared.parts.Part.{Part}
 use Rattle.race_records.specs.declared.parts.PartKind.{PartKind}
 use Rattle.race_records.specs.Name.{is_name, is_place}
-use Rattle.race_records.specs.Declarations.{Declaration, DeclsState, IsWellFormed, find_name, name_of, kind_of_named, is_named, number_of, count_of}
-use Rattle.race_records.specs.Parts.{part_kind, part_fits, part_is_u64}
+use Rattle.race_records.specs.Declarations.{Declaration, DeclsState, IsWellFormed, find_name, name_of, is_named}
+use Rattle.race_records.specs.Parts.{suits, suit, part_fits, part_is_u64}
 use Rattle.race_text.specs.declared.cause.TextCause.{TextCause}
 use Rattle.race_text.specs.declared.form.Field.{Field}
 use Rattle.race_text.specs.Words.{has_bad_byte, number}
@@ -53,25 +53,16 @@ number_within limit w n small h = by (bytes_eq w (decimal (digits_value 10 w))) 
     by true false e h = absurd (none-some n h)
     by false c e h = absurd (none-some n h)
 
--- the kind of what is named
-pub kind_is_named : (kind : Kind) (named : Named) → is_named kind named ≡ true → kind_of_named named ≡ kind
-kind_is_named Kind.Goroutine (Named.Goroutine n) h = refl
-kind_is_named Kind.Var (Named.Var n) h = refl
-kind_is_named Kind.Chan (Named.Chan n) h = refl
-kind_is_named Kind.Lock (Named.Lock n) h = refl
-kind_is_named Kind.Once (Named.Once n) h = refl
-kind_is_named _ _ h = cc
-
--- what was read is of the kind that was wanted
-pub read_kind : (ds : List Declaration) (kind : PartKind) (w : List ℕ) (part : Part) → part_in ds kind w ≡ Some part → part_kind part ≡ kind
-read_kind ds (PartKind.Object kind) w part h =
+-- what was read is what was wanted
+pub read_suits : (ds : List Declaration) (kind : PartKind) (w : List ℕ) (part : Part) → part_in ds kind w ≡ Some part → suits kind part ≡ true
+read_suits ds (PartKind.Object kind) w part h =
     let found = and_then_some (object_as kind) (find_name ds w) part h in
     by found.0 (is_named kind found.0) refl found.2
   where
-    by : (named : Named) (b : Bool) → is_named kind named ≡ b → (if b then Some (Part.Object named) else None) ≡ Some part → part_kind part ≡ PartKind.Object kind
-    by named true of h = ap part_kind (sym (same_Some (Part.Object named) part h)) ∙ ap PartKind.Object (kind_is_named kind named of)
+    by : (named : Named) (b : Bool) → is_named kind named ≡ b → (if b then Some (Part.Object named) else None) ≡ Some part → suits (PartKind.Object kind) part ≡ true
+    by named true of h = ap (suits (PartKind.Object kind)) (sym (same_Some (Part.Object named) part h)) ∙ of
     by named false of h = absurd (none-some part h)
-read_kind ds PartKind.Value w part h = ap part_kind (sym (map_some Part.Value (number (2 ^ 64 - 1) w) part h).2)
+read_suits ds PartKind.Value w part h = ap (suits PartKind.Value) (sym (map_some Part.Value (number (2 ^ 64 - 1) w) part h).2)
 
 -- the part that the first word says
 pub first_part_is : (ds : List Declaration) (kind : PartKind) (words : List (List ℕ)) (first : ReadPart) → first_part ds kind words ≡ Some first
@@ -223,7 +214,7 @@ module _ (ds : List Declaration) where
     pub parts : List Part
     pub place : List ℕ
     pub form : is_place place ≡ true
-    pub kinds_are : map part_kind parts ≡ kinds
+    pub suit_is : suit kinds parts ≡ true
     pub read : (got : List Part) → parts_on ds got kinds ws ≡ Some (got ++ parts, place ∷ [])
 
   pub are_there : (kinds : List PartKind) (ws : List (List ℕ)) (least : Option TextCause) → length ws ≡ length (map Field.Part kinds ++ Field.Place ∷ [])
@@ -237,7 +228,7 @@ module _ (ds : List Declaration) where
         parts = [];
         place = place;
         form = is_form (is_place place) both.1;
-        kinds_are = refl;
+        suit_is = refl;
         read = λ got i. Some (sym (append-nil got) i, place ∷ []);
       }
     where
@@ -255,7 +246,7 @@ module _ (ds : List Declaration) where
         parts = first.0 ∷ others.parts;
         place = others.place;
         form = others.form;
-        kinds_are = λ i. read_kind ds kind w first.0 first.1 i ∷ others.kinds_are i;
+        suit_is = λ i. read_suits ds kind w first.0 first.1 i && others.suit_is i;
         read = λ got. ap (λ o. option_and_then (λ (r : ReadPart). parts_on ds (got ++ r.0 ∷ []) kinds r.1) (option_map (with_rest ws) o)) first.1
             ∙ others.read (got ++ first.0 ∷ []) ∙ (λ i. Some (append_assoc got (first.0 ∷ []) others.parts i, others.place ∷ []));
       }

@@ -85,12 +85,13 @@ module _ (decls : DeclsState) (holds : IsWellFormed decls) where
   declaration_short : (d : Declaration) → length d.name ≤ 64 → length (ended (declaration_line d)) ≤ 500
   declaration_short d short = by d.object
     where
+      named : (word : List ℕ) → length word ≤ 64 → length (ended (line_of (word ∷ d.name ∷ []))) ≤ 500
+      named word few = let len = more word (d.name ++ 10 ∷ []) 64 65 few (last d.name 64 short) in subst (λ l. length l ≤ 500) (sym (line_of_2 word d.name)) (omega (arith, len))
+
       by : (o : Object) → length (ended (line_of (object_words d.name o))) ≤ 500
-      by Object.Goroutine = let len = more (codes "goroutine") (d.name ++ 10 ∷ []) 9 65 (omega arith) (last d.name 64 short) in subst (λ l. length l ≤ 500) (sym (line_of_2 (codes "goroutine") d.name)) (omega (arith, len))
-      by Object.Var = let len = more (codes "var") (d.name ++ 10 ∷ []) 3 65 (omega arith) (last d.name 64 short) in subst (λ l. length l ≤ 500) (sym (line_of_2 (codes "var") d.name)) (omega (arith, len))
-      by (Object.Chan c) = omega arith
-      by (Object.Lock rw) = omega arith
-      by Object.Once = omega arith
+      by Object.Goroutine = named (codes "goroutine") (omega arith)
+      by Object.Var = named (codes "var") (omega arith)
+      by _ = omega arith
 
   value_short : (v : ℕ) → nat_lt v (2 ^ 64) ≡ true → length (decimal v) ≤ 20
   value_short v low = let below : v < 2 ^ 64 = grind (arith, nat_tests) in length-decimal-le 20 v (omega arith) (omega (arith, below)) below

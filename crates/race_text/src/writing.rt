@@ -11,9 +11,7 @@ ghost use Rattle.race_records.specs.Parts.{part_fits};
 ghost use Rattle.std.specs.List.{list_all};
 
 use itoa::Buffer;
-use race_records::{
-    Decls, Event, Named, Object, Page, Part, Sink, Trace, Verb, WriteFault, says,
-};
+use race_records::{Decls, Event, Named, Object, Page, Part, Sink, Trace, Verb, WriteFault, says};
 use std::alloc::Allocator;
 use std::io::Write;
 
@@ -317,11 +315,7 @@ fn print_part<W: Write, A: Allocator>(
 }
 
 // Prints the place and ends the line.
-fn print_place<W: Write>(
-    page: &mut Page,
-    sink: &mut Sink<W>,
-    place: &str,
-) -> Result<(), WriteFault>
+fn print_place<W: Write>(page: &mut Page, sink: &mut Sink<W>, place: &str) -> Result<(), WriteFault>
     ensures ok { OnOk result (Prints (written W.contents sink.old) (written W.contents sink.new)
         page.old page.new (spec.place_end place.now)) }
     ensures sent { IfErr result (λ fault. BreaksOff (written W.contents sink.old)

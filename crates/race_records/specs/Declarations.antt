@@ -1,7 +1,7 @@
 -- What a list of declarations and a table of places say to a caller: numbers, names, and when an addition is refused.
 use Rattle.std.specs.Prelude.{◌≡◌, ◌≢◌, ℕ, ◌+◌, ◌-◌, ◌<◌, ◌≤◌, ◌==◌, Bool, true, false, not, if◌then◌else◌, nat_le, nat_lt, List, [], ◌∷◌, ◌++◌, length, filter, take, position, slice_get, Option, Some, None, is_some, option_and_then, IsTrue, All, AllPairs}
 use Rattle.std.specs.List.{list_any, position_or_len}
-use Rattle.std.specs.Option.{option_map}
+use Rattle.std.specs.Option.{option_map, option_map_or}
 use Rattle.std.specs.Str.{bytes_eq}
 use Rattle.race_records.specs.declared.kind.Kind.{Kind}
 use Rattle.race_records.specs.declared.kind.Named.{Named}
@@ -56,6 +56,19 @@ of_kind kind ds = filter (λ d. is_of_kind kind d.object) ds
 -- how many of the kind there are, main counted: also the number that the next one gets
 abbrev pub count_of : Kind → List Declaration → ℕ
 count_of kind ds = first_number kind + length (of_kind kind ds)
+
+-- the counts of all kinds
+abbrev pub counts_of : List Declaration → Kind → ℕ
+counts_of ds kind = count_of kind ds
+
+-- how many values fit into what is declared, where it is a channel
+abbrev pub width_of : Object → ℕ
+width_of (Object.Chan capacity) = capacity
+width_of _ = 0
+
+-- the capacity of the channel of this number, 0 where there is none
+abbrev pub capacity_of : List Declaration → ℕ → ℕ
+capacity_of ds c = option_map_or (λ d. width_of d.object) (slice_get (of_kind Kind.Chan ds) c) 0
 
 -- the object by its kind and its number
 abbrev pub named : Object → ℕ → Named

@@ -7,12 +7,12 @@ use Rattle.race_records.specs.declared.kind.Kind.{Kind}
 use Rattle.race_records.specs.declared.trace.PushFault.{PushFault}
 use Rattle.race_records.specs.declared.trace.PushFault.TheVariants.{BadNumber, Full}
 use Rattle.race_records.specs.declared.trace.TheConstants.{MAX_EVENTS}
-use Rattle.race_records.specs.Declarations.{Declaration, DeclsState, count_of}
-use Rattle.race_records.specs.Parts.{says, part_fits, part_is_u64}
+use Rattle.race_records.specs.Declarations.{Declaration, DeclsState, count_of, counts_of}
+use Rattle.race_records.specs.Parts.{says, op_is_in_range, part_is_u64}
 
 -- the numbers that the operation names are declared, each of its kind
 abbrev pub op_fits : List Declaration → Op → Bool
-op_fits ds op = list_all (part_fits ds) (says op).1
+op_fits ds op = op_is_in_range (counts_of ds) op
 
 -- all numbers of the event are in range and of the right kind, and no operation has a second place
 unfoldable pub fits : DeclsState → Event → Bool

@@ -1,5 +1,6 @@
 -- What each operation says: its word, and its parts in the order of its text.
 use Rattle.std.specs.Prelude.{ℕ, ◌^◌, ◌&&◌, Bool, true, false, nat_lt, List, [], ◌∷◌, Option, Some, None}
+use Rattle.std.specs.List.{list_all}
 use Rattle.race_records.specs.declared.event.Op.{Op}
 use Rattle.race_records.specs.declared.event.Op.TheVariants.{Go, Exit, Read, Write}
 use Rattle.race_records.specs.declared.kind.Kind.{Kind}
@@ -7,7 +8,7 @@ use Rattle.race_records.specs.declared.kind.Named.{Named}
 use Rattle.race_records.specs.declared.parts.Part.{Part}
 use Rattle.race_records.specs.declared.parts.PartKind.{PartKind}
 use Rattle.race_records.specs.declared.parts.Verb.{Verb}
-use Rattle.race_records.specs.Declarations.{Declaration, kind_of_named, is_named, number_of, count_of}
+use Rattle.race_records.specs.Declarations.{Declaration, kind_of_named, is_named, number_of, counts_of}
 
 -- what the operation says
 abbrev pub says : Op → Verb × List Part
@@ -43,10 +44,18 @@ suit [] [] = true
 suit (kind ∷ kinds) (part ∷ parts) = suits kind part && suit kinds parts
 suit _ _ = false
 
+-- of so many objects of each kind, the part names one
+abbrev pub part_is_in_range : (Kind → ℕ) → Part → Bool
+part_is_in_range counts (Part.Object named) = nat_lt (number_of named) (counts (kind_of_named named))
+part_is_in_range counts (Part.Value v) = true
+
+-- so does each part of the operation
+abbrev pub op_is_in_range : (Kind → ℕ) → Op → Bool
+op_is_in_range counts op = list_all (part_is_in_range counts) (says op).1
+
 -- the object that the part names is declared
 abbrev pub part_fits : List Declaration → Part → Bool
-part_fits ds (Part.Object named) = nat_lt (number_of named) (count_of (kind_of_named named) ds)
-part_fits ds (Part.Value v) = true
+part_fits ds part = part_is_in_range (counts_of ds) part
 
 -- a value is a u64
 abbrev pub part_is_u64 : Part → Bool

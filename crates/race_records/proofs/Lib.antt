@@ -10,3 +10,4 @@ pub mod AlikeLemmas
 pub mod DeviceLemmas
 pub mod PageLemmas
 pub mod PartLaws
+pub mod NounLaws

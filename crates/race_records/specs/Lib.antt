@@ -4,6 +4,7 @@ pub mod Declarations
 pub mod Equality
 pub mod TraceEquality
 pub mod Parts
+pub mod Nouns
 pub mod Events
 pub mod Tables
 pub mod Rows

@@ -8,6 +8,7 @@ mod indexes;
 mod kind;
 mod name;
 mod names;
+mod nouns;
 mod page;
 mod parts;
 mod places;
@@ -25,6 +26,7 @@ pub use kind::{Kind, MAX_CAPACITY, MAX_GOROUTINES, MAX_OBJECTS, Named, Object};
 pub use name::{MAX_NAME_LEN, MAX_PLACE_LEN, is_name, is_place};
 #[doc(hidden)]
 pub use names::{Names, Slot};
+pub use nouns::{Noun, object_by, object_says};
 pub use page::{BLOCK, Page};
 pub use parts::{Part, PartKind, Parts, Verb, op_by, part_kinds, says};
 #[doc(hidden)]

@@ -17,7 +17,7 @@ use Rattle.race_records.specs.Parts.{says, part_kinds, part_fits, part_is_u64}
 use Rattle.race_text.specs.declared.form.Word.{Word}
 use Rattle.race_text.specs.Words.{words_of, has_bad_byte}
 use Rattle.race_text.specs.Text.{line_of, op_words, goroutine_name}
-use Rattle.race_text.specs.Form.{word_named, object_of, first_word, arguments}
+use Rattle.race_text.specs.Form.{word_named, first_word, arguments}
 use Rattle.race_text.specs.Fault.{seen_so_far, room_cause, word_cause, declaration_in, declared_as, is_event_line, is_event_word}
 use Rattle.race_text.specs.Reading.{Occurrence, event_by, event_in}
 use Rattle.race_text.specs.Writing.{verb_text, part_text, said_words}
@@ -52,7 +52,7 @@ module _ (decls : DeclsState) (holds : IsWellFormed decls) (line first : List �
 
   by_word : (word : Option Word) → word_named first ≡ word → event_by ds word args ≡ Some o → IsEventLine ds line o
   by_word None named h = absurd (none-some o h)
-  by_word (Some (Word.Declares object)) named h = absurd (none-some o h)
+  by_word (Some (Word.Declares noun)) named h = absurd (none-some o h)
   by_word (Some (Word.Does verb)) named h =
       let is = is_said decls holds verb args o h in
       let named_line : word_named (first_word (words_of line)) ≡ Some (Word.Does verb) = ap (λ ws. word_named (first_word ws)) words ∙ named in
@@ -68,7 +68,7 @@ module _ (decls : DeclsState) (holds : IsWellFormed decls) (line first : List �
             ∙ ap line_of (sym (op_words_are ds (goroutine_name ds o.who) o.place o.op));
         cause_is = λ events. (λ i. word_cause (seen_so_far ds events) (named_line i) (arguments (words i))) ∙ said_fine decls holds verb args o events is;
         is_event = ap is_event_word named_line;
-        declares = λ i. declared_as (option_and_then object_of (named_line i)) (arguments (words i));
+        declares = λ i. declared_as (named_line i) (arguments (words i));
         place = is.place_is;
         who = grind (arith, nat_tests, who);
         op = ap (λ (s : Verb × List Part). list_all (part_fits ds) s.1) is.says_is ∙ parts_fit decls holds (part_kinds verb) is.ws is.parts is.are;

@@ -17,7 +17,7 @@ use Rattle.race_text.specs.declared.cause.TextCause.{TextCause}
 use Rattle.race_text.specs.declared.form.Field.{Field}
 use Rattle.race_text.specs.declared.form.Word.{Word}
 use Rattle.race_text.specs.Words.{has_bad_byte}
-use Rattle.race_text.specs.Form.{fields_of, object_of}
+use Rattle.race_text.specs.Form.{fields_of, kind_declared}
 use Rattle.race_text.specs.Fault.{lesser, or_else, seen_so_far, part_cause, field_cause, fields_cause, room_cause, word_cause}
 use Rattle.race_text.specs.Reading.{Occurrence, occurrence, ReadPart, ReadParts, with_rest, part_in, first_part, parts_on, last_place, goroutine_of, event_of, event_behind}
 use Rattle.race_text.proofs.CauseLemmas.{cause_on}
@@ -125,9 +125,9 @@ count_is : (ds : List Declaration) (events : ℕ) (word : Word) (words : List (L
 count_is ds events word words h = by (length words == length (fields_of word)) refl h
   where
     by : (b : Bool) → (length words == length (fields_of word)) ≡ b
-        → (if not b then Some TextCause.WrongCount else or_else (fields_cause ds (fields_of word) words) (room_cause (seen_so_far ds events) (object_of word))) ≡ None
+        → (if not b then Some TextCause.WrongCount else or_else (fields_cause ds (fields_of word) words) (room_cause (seen_so_far ds events) (kind_declared word))) ≡ None
         → (length words ≡ length (fields_of word)) × (fields_cause ds (fields_of word) words ≡ None)
-    by true e h = (grind (arith, nat_tests), or_else_none (fields_cause ds (fields_of word) words) (room_cause (seen_so_far ds events) (object_of word)) h)
+    by true e h = (grind (arith, nat_tests), or_else_none (fields_cause ds (fields_of word) words) (room_cause (seen_so_far ds events) (kind_declared word)) h)
     by false e h = absurd (none-some TextCause.WrongCount (sym h))
 
 -- where no cause holds of the words, they say an event

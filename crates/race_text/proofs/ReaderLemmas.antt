@@ -1,28 +1,26 @@
 -- The header, and lines that declare.
-use Rattle.std.proofs.Common.{◌≡◌, ◌≢◌, ℕ, ◌≤◌, length, Bool, true, false, not, if◌then◌else◌, List, [], ◌∷◌, ◌++◌, Option, Some, None, Result, Ok, Err, IfOk, IsTrue, All, refl, sym, ap, subst, ◌∙◌, arith, true≢false}
+use Rattle.std.proofs.Common.{◌≡◌, ◌≢◌, ℕ, ◌≤◌, length, Bool, true, false, not, if◌then◌else◌, List, [], ◌∷◌, ◌++◌, Option, Some, None, is_some, Result, Ok, Err, IfOk, IsTrue, All, refl, sym, ap, subst, ◌∙◌, arith, true≢false}
 use Rattle.std.proofs.lemmas.List.Elements.{All-push}
 use Rattle.std.proofs.lemmas.List.Splits.{join_with_byte-slice_split}
 use Rattle.std.proofs.lemmas.Option.{none-some}
 use Rattle.std.proofs.lemmas.Slice.Eq.{bytes_eq-Decides}
-use Rattle.std.specs.Option.{option_map}
 use Rattle.std.specs.Str.{bytes_eq}
-use Rattle.race_records.specs.declared.declarations.DeclFault.{DeclFault}
-use Rattle.race_records.specs.declared.kind.Object.{Object}
 use Rattle.race_records.specs.Declarations.{Declaration, DeclsState, decl_fault, with_declaration}
 use Rattle.race_records.specs.Events.{TraceState}
 use Rattle.race_records.specs.Refusal.{Refuses, AllowsUnless}
 use Rattle.race_text.specs.declared.cause.TextCause.{TextCause}
 use Rattle.race_text.specs.declared.form.Word.{Word}
 use Rattle.race_text.specs.Words.{words_of, has_bad_byte}
-use Rattle.race_text.specs.Text.{header, line_of, declaration_line, has_words, lines}
+use Rattle.race_text.specs.Text.{header, line_of, declaration_line, has_known_word, lines}
 use Rattle.race_text.specs.Form.{word_named, first_word, arguments}
-use Rattle.race_text.specs.Fault.{seen, seen_so_far, or_else, cause, word_cause, declaration_in, is_event_line, is_event_word, declared_as}
-use Rattle.race_text.specs.Declaring.{is_declaration_line, is_declaration_word, declaration_cause, only_name_cause, cause_of, with_declared, with_declaration_in}
+use Rattle.race_text.specs.Fault.{seen, seen_so_far, cause, word_cause, declaration, declaration_in, is_event_line, is_event_word}
+use Rattle.race_text.specs.Writing.{noun_text, number_words}
+use Rattle.race_records.specs.Nouns.{object_says}
+use Rattle.race_text.specs.Declaring.{is_declaration_line, is_declaration_word, declaration_cause, with_declared, with_declaration_in}
 use Rattle.race_text.specs.Taking.{state_of, IsRead, TakesLine, begun}
 use Rattle.race_text.specs.Reader.{trace_read, lines_read, IsReading, GoesOn, TakesIfDeclared, TakesDeclaration}
-use Rattle.race_text.proofs.DeclarationLemmas.{object_line, declaration_in-words}
-use Rattle.race_text.proofs.EventWords.{or_else_none}
-use Rattle.race_text.proofs.WordTable.{word_spelled, word_has_words, object_words_are}
+use Rattle.race_text.proofs.DeclarationLemmas.{declaration_cause-words, declaration_in-words, is_there, declared_there, spelled_there}
+use Rattle.race_text.proofs.WordTable.{word_spelled, noun_is_known, object_words_are, known_by_noun}
 use Rattle.race_text.proofs.TraceLemmas.{cause_behind, clean_line, lines_declaration, seen_declaration, no_word}
 
 abbrev empty : DeclsState
@@ -63,17 +61,7 @@ pub record IsDeclaration (ds : List Declaration) (line : List ℕ) : Type 0 wher
   pub text : line ≡ declaration_line d
   pub event : is_event_line line ≡ false
   pub fine : decl_fault ds d.object d.name ≡ None
-  pub words : IsTrue (has_words d.object)
-
-no_fault : (a : Option TextCause) (fault : Option DeclFault) → or_else a (option_map cause_of fault) ≡ None → fault ≡ None
-no_fault None None h = refl
-no_fault None (Some f) h = absurd (none-some (cause_of f) (sym h))
-no_fault (Some c) fault h = absurd (none-some c (sym h))
-
-one_word : (args : List (List ℕ)) → only_name_cause args ≡ None → (name : List ℕ) × (args ≡ name ∷ [])
-one_word [] h = absurd (none-some TextCause.WrongCount (sym h))
-one_word (name ∷ []) h = (name, refl)
-one_word (name ∷ other ∷ others) h = absurd (none-some TextCause.WrongCount (sym h))
+  pub words : IsTrue (has_known_word d.object)
 
 module _ (ds : List Declaration) (line first : List ℕ) (args : List (List ℕ)) (words : words_of line ≡ first ∷ args) where
   joined : line ≡ line_of (first ∷ args)
@@ -84,17 +72,19 @@ module _ (ds : List Declaration) (line first : List ℕ) (args : List (List ℕ)
 
   by_word : (word : Option Word) → word_named first ≡ word → is_declaration_word word ≡ true → declaration_cause ds line ≡ None → IsDeclaration ds line
   by_word None named h none = absurd (true≢false (sym h))
-  by_word (Some (Word.Declares object)) named h none =
-      let nothing = sym (object_line ds line first args object words named) ∙ none in
-      let one = one_word args (or_else_none (only_name_cause args) (option_map cause_of (decl_fault ds object (first_word args))) nothing) in
-      let has = word_has_words first object named in
+  by_word (Some (Word.Declares noun)) named h none =
+      let there = is_there ds noun args (sym (declaration_cause-words line first args (Some (Word.Declares noun)) words (sym named) ds) ∙ none) in
+      let said = spelled_there ds noun args there in
+      let known = noun_is_known first noun named in
       record {
-        d = record { name = one.0; object = object };
-        is = declaration_in-words line first args (Some (Word.Declares object)) words (sym named) ∙ (λ i. declared_as (Some object) (one.1 i));
-        text = joined ∙ (λ i. line_of (word_spelled first (Word.Declares object) named i ∷ one.1 i)) ∙ ap line_of (sym (object_words_are one.0 object has));
-        event = ap is_event_word (named_line (Word.Declares object) named);
-        fine = ap (λ ws. decl_fault ds object (first_word ws)) (sym one.1) ∙ no_fault (only_name_cause args) (decl_fault ds object (first_word args)) nothing;
-        words = has;
+        d = declaration there.name there.object;
+        is = declaration_in-words line first args (Some (Word.Declares noun)) words (sym named) ∙ declared_there ds noun args there;
+        text =
+            joined ∙ (λ i. line_of (word_spelled first (Word.Declares noun) named i ∷ said.1 i)) ∙ (λ i. line_of (noun_text (said.0 i) ∷ there.name ∷ number_words (object_says there.object).1))
+            ∙ ap line_of (sym (object_words_are there.name there.object));
+        event = ap is_event_word (named_line (Word.Declares noun) named);
+        fine = there.fine;
+        words = known_by_noun there.object ∙ ap (λ n. is_some (word_named (noun_text n))) (sym said.0) ∙ known;
       }
   by_word (Some (Word.Does verb)) named h none = absurd (true≢false (sym h))
 
@@ -122,7 +112,7 @@ module _ (old new : DeclsState) (line : List ℕ) (read : IsRead (begun old)) (c
         is_read = record {
           seen_is = ap seen after ∙ seen_declaration (lines (begun old)) line old.declarations is.d read.seen_is is.is is.event
               ∙ (λ i. seen_so_far (sym new_is i).declarations 0);
-          words = subst (λ (d : DeclsState). All (λ (x : Declaration). IsTrue (has_words x.object)) d.declarations) (sym new_is) (All-push (λ (x : Declaration). IsTrue (has_words x.object)) old.declarations is.d read.words is.words);
+          words = subst (λ (d : DeclsState). All (λ (x : Declaration). IsTrue (has_known_word x.object)) d.declarations) (sym new_is) (All-push (λ (x : Declaration). IsTrue (has_known_word x.object)) old.declarations is.d read.words is.words);
           few_places = subst (λ (d : DeclsState). length d.places ≤ 0) (sym new_is) read.few_places;
         };
       }

@@ -22,7 +22,7 @@ use Rattle.race_text.specs.declared.cause.TextCause.{TextCause}
 use Rattle.race_text.specs.declared.cause.TextFault.{TextFault}
 use Rattle.race_text.specs.declared.form.Word.{Word}
 use Rattle.race_text.specs.Words.{parts_of, words_of, has_bad_byte, number}
-use Rattle.race_text.specs.Text.{header, ended, has_words, lines, text}
+use Rattle.race_text.specs.Text.{header, ended, has_known_word, lines, text}
 use Rattle.race_text.specs.Form.{word_named}
 use Rattle.race_text.specs.Fault.{seen, seen_so_far, line_cause, cause, or_later, fault_after, text_fault}
 use Rattle.race_text.specs.Declaring.{is_declaration_line, with_declared}
@@ -108,7 +108,7 @@ module _ (t : TraceState) (has : HasText t) (read : IsRead t) (line : List ℕ) 
         has = record {
           well_formed = push_well_formed t.decls has.well_formed is.d.name is.d.object (allowed_from_no_fault ds is.d.object is.d.name is.fine);
           is_trace = record { fit = λ i d less. absurd (omega (arith, less)); values = λ i d less. absurd (omega (arith, less)); limited = omega arith };
-          words = All-push (λ (d : Declaration). IsTrue (has_words d.object)) ds is.d has.words is.words;
+          words = All-push (λ (d : Declaration). IsTrue (has_known_word d.object)) ds is.d has.words is.words;
         };
         read = taken.is_read;
         lines_are = taken.lines ∙ ap (λ ls. ls ++ line ∷ []) same;

@@ -13,13 +13,18 @@ use Rattle.race_records.specs.declared.kind.Named.{Named}
 use Rattle.race_records.specs.declared.parts.Part.{Part}
 use Rattle.race_records.specs.declared.parts.Verb.{Verb}
 use Rattle.race_records.specs.Parts.{says, part_is_u64}
-use Rattle.race_text.specs.Writing.{verb_text, part_text}
+use Rattle.race_text.specs.Writing.{noun_text, number_words, verb_text, part_text}
 use Rattle.race_text.proofs.EventLines.{op_words_are}
 use Rattle.race_text.proofs.WordLemmas.{both}
 use Rattle.race_records.specs.declared.kind.Kind.{Kind}
 use Rattle.race_records.specs.declared.kind.Object.{Object}
 use Rattle.race_records.specs.Name.{main, is_name, is_name_byte, is_place, is_place_byte}
-use Rattle.race_records.specs.Declarations.{Declaration, DeclsState, is_of_kind, of_kind, nth_name, IsWellFormed}
+use Rattle.race_records.specs.Declarations.{Declaration, DeclsState, is_of_kind, of_kind, nth_name, is_too_wide, IsWellFormed}
+use Rattle.race_records.specs.declared.nouns.Noun.{Noun}
+use Rattle.race_records.specs.Nouns.{object_says, number_limit}
+use Rattle.race_records.proofs.NounLaws.{IsWanted, says_wanted}
+use Rattle.race_text.proofs.DeclarationLemmas.{small_limit}
+use Rattle.race_text.proofs.WordTable.{object_words_are}
 use Rattle.race_records.specs.Events.{TraceState, IsTrace, value_fits}
 use Rattle.race_text.specs.Text.{text, header, ended, line_of, object_words, declaration_line, goroutine_name, var_name, place_text, op_words, event_line}
 use Rattle.race_text.specs.Writing.{declarations_text, events_text, body}
@@ -82,19 +87,33 @@ module _ (decls : DeclsState) (holds : IsWellFormed decls) where
       by None each = omega arith
       by (Some p) each = each p refl
 
-  declaration_short : (d : Declaration) → length d.name ≤ 64 → length (ended (declaration_line d)) ≤ 500
-  declaration_short d short = by d.object
-    where
-      named : (word : List ℕ) → length word ≤ 64 → length (ended (line_of (word ∷ d.name ∷ []))) ≤ 500
-      named word few = let len = more word (d.name ++ 10 ∷ []) 64 65 few (last d.name 64 short) in subst (λ l. length l ≤ 500) (sym (line_of_2 word d.name)) (omega (arith, len))
-
-      by : (o : Object) → length (ended (line_of (object_words d.name o))) ≤ 500
-      by Object.Goroutine = named (codes "goroutine") (omega arith)
-      by Object.Var = named (codes "var") (omega arith)
-      by _ = omega arith
-
   value_short : (v : ℕ) → nat_lt v (2 ^ 64) ≡ true → length (decimal v) ≤ 20
   value_short v low = let below : v < 2 ^ 64 = grind (arith, nat_tests) in length-decimal-le 20 v (omega arith) (omega (arith, below)) below
+
+  noun_short : (noun : Noun) → length (noun_text noun) ≤ 64
+  noun_short Noun.Goroutine = omega arith
+  noun_short _ = omega arith
+
+  -- a noun, a name, and a number where there is a limit of it
+  declared_short : (noun : Noun) (name : List ℕ) (limit number : Option ℕ) → length name ≤ 64 → IsWanted limit number → ((l : ℕ) → limit ≡ Some l → l < 2 ^ 64)
+      → length (ended (line_of (noun_text noun ∷ name ∷ number_words number))) ≤ 500
+  declared_short noun name None None short wanted small =
+      let len = more (noun_text noun) (name ++ 10 ∷ []) 64 65 (noun_short noun) (last name 64 short) in
+      subst (λ l. length l ≤ 500) (sym (line_of_2 (noun_text noun) name)) (omega (arith, len))
+  declared_short noun name (Some l) (Some n) short wanted small =
+      let low = small l refl in
+      let digits = value_short n (grind (arith, nat_tests, low, wanted)) in
+      let behind = more name (decimal n ++ 10 ∷ []) 64 21 short (last (decimal n) 20 digits) in
+      let len = more (noun_text noun) (name ++ 32 ∷ (decimal n ++ 10 ∷ [])) 64 86 (noun_short noun) behind in
+      subst (λ l. length l ≤ 500) (sym (ended_more (noun_text noun) name (decimal n ∷ []) ∙ ap (λ l. noun_text noun ++ 32 ∷ l) (line_of_2 name (decimal n)))) (omega (arith, len))
+  declared_short noun name None (Some n) short wanted small = absurd wanted
+  declared_short noun name (Some l) None short wanted small = absurd wanted
+
+  declaration_short : (d : Declaration) → length d.name ≤ 64 → is_too_wide d.object ≡ false → length (ended (declaration_line d)) ≤ 500
+  declaration_short d short narrow =
+      let noun = (object_says d.object).0 in
+      subst (λ ws. length (ended (line_of ws)) ≤ 500) (sym (object_words_are d.name d.object))
+      (declared_short noun d.name (number_limit noun) (object_says d.object).1 short (says_wanted d.object narrow) (small_limit noun))
 
   part_short : (part : Part) → part_is_u64 part ≡ true → length (part_text decls.declarations part) ≤ 64
   part_short (Part.Object (Named.Goroutine n)) low = goroutine_short n
@@ -163,7 +182,7 @@ kinds_sum (e ∷ ds) = by e.object (kinds_sum ds)
 pub text_short : (t : TraceState) → IsTrace t → IsWellFormed t.decls → length (text t) < 2 ^ 64
 text_short t is_trace holds =
     let ds = t.decls.declarations in
-    let declared = pieces_short (λ (d : Declaration). ended (declaration_line d)) ds (λ i d at. declaration_short t.decls holds d (name_short d.name (at_index (λ (x : Declaration). IsTrue (is_name x.name)) ds holds.names i d at))) in
+    let declared = pieces_short (λ (d : Declaration). ended (declaration_line d)) ds (λ i d at. declaration_short t.decls holds d (name_short d.name (at_index (λ (x : Declaration). IsTrue (is_name x.name)) ds holds.names i d at)) (at_index (λ (x : Declaration). is_too_wide x.object ≡ false) ds holds.capacities i d at)) in
     let happened = pieces_short (λ (e : Event). ended (event_line t.decls e)) t.events (λ i e at. event_short t.decls holds e (at_index (λ (x : Event). IsTrue (value_fits x.op)) t.events is_trace.values i e at)) in
     let a = holds.limited Kind.Goroutine in
     let b = holds.limited Kind.Var in

@@ -19,17 +19,16 @@ use Rattle.race_records.specs.Declarations.{Declaration, DeclsState, IsWellForme
 use Rattle.race_records.specs.Events.{TraceState}
 use Rattle.race_text.specs.declared.cause.TextCause.{TextCause}
 use Rattle.race_text.specs.declared.cause.TextFault.{TextFault}
-use Rattle.race_text.specs.Text.{header, declaration_line, event_line, has_words, lines, text}
+use Rattle.race_text.specs.Text.{header, declaration_line, event_line, has_known_word, lines, text}
 use Rattle.race_text.specs.Form.{arguments}
 use Rattle.race_text.specs.Fault.{Seen, seen, seen_so_far, line_cause, word_cause, cause, or_later, fault_after, text_fault}
-use Rattle.race_text.specs.Declaring.{cause_of}
 use Rattle.race_text.specs.Text.{HasText, IsTraceText}
 use Rattle.race_text.specs.Reader.{end_cause}
-use Rattle.race_text.proofs.DeclarationLemmas.{object_causes, one_name}
+use Rattle.race_text.proofs.DeclarationLemmas.{said_fine}
 use Rattle.race_text.proofs.NamesAgain.{differ}
 use Rattle.race_text.proofs.ParseLemmas.{fault_step, fault_end}
 use Rattle.race_text.proofs.ReaderLemmas.{header_says}
-use Rattle.race_text.proofs.TextLaws.{declaration_again, declares_again, is_no_event, event_at, lines_again}
+use Rattle.race_text.proofs.TextLaws.{declaration_again, is_no_event, event_at, lines_again}
 use Rattle.race_text.proofs.TraceLemmas.{clean_line, seen_declaration, seen_event}
 
 -- no cause holds at any of the lines, each behind those before it
@@ -118,12 +117,12 @@ module _ (decls : DeclsState) (holds : IsWellFormed decls) (before after : List 
       by false b c e h _ _ _ = absurd (true≢false (sym h))
 
   -- so no cause holds at its line
-  pub no_cause : IsTrue (has_words d.object) → line_cause (seen_so_far before 0) (declaration_line d) ≡ None
+  pub no_cause : IsTrue (has_known_word d.object) → line_cause (seen_so_far before 0) (declaration_line d) ≡ None
   no_cause has =
-      let line = declaration_again d form has in
+      let line = declaration_again d form narrow has in
       clean_line (seen_so_far before 0) (declaration_line d) line.clean
       ∙ (λ j. word_cause (seen_so_far before 0) (line.named j) (arguments (line.words j)))
-      ∙ object_causes before d.object (d.name ∷ []) narrow ∙ one_name before d.object (d.name ∷ []) d.name refl form ∙ ap (option_map cause_of) allowed
+      ∙ said_fine before d.name d.object allowed
 
 -- the cause of a line behind the header and others
 cause_by_seen : (others : List (List ℕ)) (line : List ℕ) (s : Seen) → seen (header ∷ others) ≡ s → cause (header ∷ others) line true ≡ line_cause s line
@@ -143,13 +142,14 @@ module _ (t : TraceState) (has : HasText t) where
   declarations_fine before (d ∷ after) is says =
       let at = here t.decls has.well_formed before after d is in
       let less = within t.decls has.well_formed before after d is in
-      let words : IsTrue (has_words d.object) = ap (λ (x : Declaration). has_words x.object) (sym at) ∙ has.words (length before) d less in
+      let words : IsTrue (has_known_word d.object) = ap (λ (x : Declaration). has_known_word x.object) (sym at) ∙ has.words (length before) d less in
       let name : is_name d.name ≡ true = ap (λ (x : Declaration). is_name x.name) (sym at) ∙ has.well_formed.names (length before) d less in
-      let line = declaration_again d name words in
+      let narrow = ap (λ (x : Declaration). is_too_wide x.object) (sym at) ∙ has.well_formed.capacities (length before) d less in
+      let line = declaration_again d name narrow words in
       let more = map-append declaration_line before (d ∷ []) in
       let rest = declarations_fine (before ++ d ∷ []) after (append_assoc before (d ∷ []) after ∙ is)
       (ap (λ ls. seen (header ∷ ls)) more
-      ∙ seen_declaration (header ∷ map declaration_line before) (declaration_line d) before d says (declares_again d (declaration_line d) line) (is_no_event d (declaration_line d) line)) in (
+      ∙ seen_declaration (header ∷ map declaration_line before) (declaration_line d) before d says line.declares (is_no_event d (declaration_line d) line)) in (
         (
           cause_by_seen (map declaration_line before) (declaration_line d) (seen_so_far before 0) says ∙ no_cause t.decls has.well_formed before after d is words,
           subst (λ ls. AreFine (header ∷ ls) (map declaration_line after)) more rest.0,

@@ -1,61 +1,71 @@
 -- What the lines of a trace say: its declarations, and its events.
-use Rattle.std.proofs.Common.{◌≡◌, ℕ, suc, ◌<◌, ◌&&◌, Bool, true, false, true≢false, nat_lt, is_none, List, [], ◌∷◌, ◌++◌, length, map, get_or, slice_get, unwrap_or, Option, Some, None, IsTrue, refl, sym, ap, ◌∙◌, arith, append-nil}
+use Rattle.std.proofs.Common.{◌≡◌, ℕ, suc, ◌<◌, ◌^◌, ◌&&◌, Bool, true, false, true≢false, nat_lt, is_none, List, [], ◌∷◌, ◌++◌, length, map, get_or, slice_get, unwrap_or, Option, Some, None, IsTrue, refl, sym, ap, ◌∙◌, arith, append-nil}
 use Rattle.std.proofs.lemmas.List.{append_cancel_right}
 use Rattle.std.proofs.lemmas.List.Elements.{filter_map-append}
 use Rattle.std.proofs.lemmas.Option.{slice_get-get_or}
+use Rattle.std.specs.Fmt.{decimal}
 use Rattle.std.specs.List.{filter_map, cons_option, AllByRecursion}
 use Rattle.std.specs.Option.{option_and_then}
 use Rattle.race_records.specs.declared.event.Event.{Event}
-use Rattle.race_records.specs.declared.kind.Object.{Object}
 use Rattle.race_records.specs.Name.{is_name}
-use Rattle.race_records.specs.Declarations.{Declaration, DeclsState, count_of}
+use Rattle.race_records.specs.Declarations.{Declaration, DeclsState, count_of, is_too_wide}
+use Rattle.race_records.specs.Nouns.{object_says, number_limit}
+use Rattle.race_records.proofs.NounLaws.{IsWanted, says_wanted}
 use Rattle.race_records.specs.declared.kind.Kind.{Kind}
 use Rattle.race_records.specs.Events.{TraceState, fits, op_fits}
 use Rattle.race_records.specs.TraceEquality.{PlacedEvent, placed, placed_events, recorded}
 use Rattle.race_text.specs.declared.form.Word.{Word}
 use Rattle.race_text.specs.Words.{parts_of, words_of, has_bad_byte}
-use Rattle.race_text.specs.Text.{header, line_of, object_words, declaration_line, event_line, has_words, lines, text}
-use Rattle.race_text.specs.Form.{word_named, object_of, first_word, arguments}
+use Rattle.race_text.specs.Text.{header, line_of, declaration_line, event_line, has_known_word, lines, text}
+use Rattle.race_text.specs.Form.{word_named, first_word, arguments}
 use Rattle.race_text.specs.Fault.{declaration_in, declared_as, is_event_line, is_event_word}
 use Rattle.race_text.specs.Text.{HasText}
 use Rattle.race_text.specs.Reading.{Occurrence, event_by, event_in}
+use Rattle.race_text.specs.Writing.{noun_text, number_words}
+use Rattle.race_text.proofs.CleanLemmas.{number_is_visible}
+use Rattle.race_text.proofs.DeclarationLemmas.{small_limit, said_again}
+use Rattle.race_text.proofs.NumberLemmas.{number-some}
 use Rattle.race_text.proofs.EventLines.{IsEventLine, event_line as event_line_of}
 use Rattle.race_text.proofs.EventsAgain.{said, event_again}
 use Rattle.race_text.proofs.TraceLemmas.{fit_place}
-use Rattle.race_text.proofs.WordTable.{spelled, word_is_seen, object_words_are, object_again}
+use Rattle.race_text.proofs.WordTable.{word_is_seen, object_words_are, noun_again, known_by_noun}
 use Rattle.race_text.proofs.WordLemmas.{name_is_visible}
 use Rattle.race_text.proofs.WordsAgain.{AreVisible, words_again, visible_line_clean, parts_again}
 
 -- what holds of the line of a declaration, whose name has a name's form
 pub record IsDeclarationLine (d : Declaration) (line : List ℕ) : Type 0 where
-  pub words : words_of line ≡ spelled (Word.Declares d.object) ∷ d.name ∷ []
-  pub named : word_named (first_word (words_of line)) ≡ Some (Word.Declares d.object)
+  pub words : words_of line ≡ noun_text (object_says d.object).0 ∷ d.name ∷ number_words (object_says d.object).1
+  pub named : word_named (first_word (words_of line)) ≡ Some (Word.Declares (object_says d.object).0)
+  pub declares : declaration_in line ≡ Some d
   pub clean : has_bad_byte line ≡ false
 
-module _ (name : List ℕ) (form : is_name name ≡ true) where
-  line_again : (object : Object) → object_words name object ≡ spelled (Word.Declares object) ∷ name ∷ [] → word_named (spelled (Word.Declares object)) ≡ Some (Word.Declares object)
-      → IsDeclarationLine (record { name = name; object = object }) (line_of (object_words name object))
-  line_again object printed named =
-      let word = spelled (Word.Declares object) in
-      let visible : AreVisible (word ∷ name ∷ []) = (word_is_seen word (Word.Declares object) named, (name_is_visible name form, tt)) in
-      let again = ap (λ ws. words_of (line_of ws)) printed ∙ words_again word (name ∷ []) visible in
-      record {
-        words = again;
-        named = ap (λ ws. word_named (first_word ws)) again ∙ named;
-        clean = ap (λ ws. has_bad_byte (line_of ws)) printed ∙ visible_line_clean (word ∷ name ∷ []) visible;
-      }
+numbers_visible : (limit number : Option ℕ) → IsWanted limit number → ((l : ℕ) → limit ≡ Some l → l < 2 ^ 64) → AreVisible (number_words number)
+numbers_visible None None wanted small = tt
+numbers_visible (Some l) (Some n) wanted small = let low = small l refl in (number_is_visible l (decimal n) n low (number-some l n (decimal n) low wanted refl), tt)
+numbers_visible None (Some n) wanted small = absurd wanted
+numbers_visible (Some l) None wanted small = absurd wanted
 
-pub declaration_again : (d : Declaration) → is_name d.name ≡ true → IsTrue (has_words d.object) → IsDeclarationLine d (declaration_line d)
-declaration_again d form has = line_again d.name form d.object (object_words_are d.name d.object has) (object_again d.object has)
+pub declaration_again : (d : Declaration) → is_name d.name ≡ true → is_too_wide d.object ≡ false → IsTrue (has_known_word d.object) → IsDeclarationLine d (declaration_line d)
+declaration_again d form narrow known =
+    let noun = (object_says d.object).0 in
+    let numbers = number_words (object_says d.object).1 in
+    let found = noun_again noun (sym (known_by_noun d.object) ∙ known) in
+    let visible : AreVisible (noun_text noun ∷ d.name ∷ numbers) =
+    (word_is_seen (noun_text noun) (Word.Declares noun) found, (name_is_visible d.name form, numbers_visible (number_limit noun) (object_says d.object).1 (says_wanted d.object narrow) (small_limit noun))) in
+    let printed = object_words_are d.name d.object in
+    let again = ap (λ ws. words_of (line_of ws)) printed ∙ words_again (noun_text noun) (d.name ∷ numbers) visible in
+    let named = ap (λ ws. word_named (first_word ws)) again ∙ found in
+    record {
+      words = again;
+      named = named;
+      declares = (λ j. declared_as (named j) (arguments (again j))) ∙ said_again d.name d.object narrow;
+      clean = ap (λ ws. has_bad_byte (line_of ws)) printed ∙ visible_line_clean (noun_text noun ∷ d.name ∷ numbers) visible;
+    }
 
--- it declares what it is printed of, and says no event
-pub declares_again : (d : Declaration) (line : List ℕ) → IsDeclarationLine d line → declaration_in line ≡ Some d
-declares_again d line is =
-    λ j. declared_as (option_and_then object_of (is.named j)) (arguments (is.words j))
-
+-- it says no event
 pub says_no_event : (ds : List Declaration) (d : Declaration) (line : List ℕ) → IsDeclarationLine d line → event_in ds (words_of line) ≡ None
 says_no_event ds d line is =
-    ap (event_in ds) is.words ∙ ap (λ w. event_by ds w (d.name ∷ [])) (sym (ap (λ ws. word_named (first_word ws)) is.words) ∙ is.named)
+    ap (event_in ds) is.words ∙ ap (λ w. event_by ds w (d.name ∷ number_words (object_says d.object).1)) (sym (ap (λ ws. word_named (first_word ws)) is.words) ∙ is.named)
 
 pub is_no_event : (d : Declaration) (line : List ℕ) → IsDeclarationLine d line → is_event_line line ≡ false
 is_no_event d line is = ap is_event_word is.named
@@ -99,7 +109,7 @@ module _ (t : TraceState) (has : HasText t) where
   ds = t.decls.declarations
 
   declaration_at : (i : ℕ) (d : Declaration) → i < length ds → IsDeclarationLine (get_or ds i d) (declaration_line (get_or ds i d))
-  declaration_at i d less = declaration_again (get_or ds i d) (has.well_formed.names i d less) (has.words i d less)
+  declaration_at i d less = declaration_again (get_or ds i d) (has.well_formed.names i d less) (has.well_formed.capacities i d less) (has.words i d less)
 
   says_at : (i : ℕ) (e : Event) → i < length t.events → event_in ds (words_of (event_line t.decls (get_or t.events i e))) ≡ Some (said t.decls (get_or t.events i e))
   says_at i e less = event_again t.decls has.well_formed (get_or t.events i e) (has.is_trace.fit i e less) (has.is_trace.values i e less)
@@ -131,7 +141,7 @@ module _ (t : TraceState) (has : HasText t) where
   declarations_again =
       (λ j. cons_option (header_scanned.0 j) (filter_map declaration_in (map declaration_line ds ++ map (event_line t.decls) t.events)))
       ∙ filter_map-append declaration_in (map declaration_line ds) (map (event_line t.decls) t.events)
-      ∙ (λ j. scan_some declaration_in declaration_line (λ d. d) ds (λ i d less. declares_again (get_or ds i d) (declaration_line (get_or ds i d)) (declaration_at i d less)) j
+      ∙ (λ j. scan_some declaration_in declaration_line (λ d. d) ds (λ i d less. (declaration_at i d less).declares) j
       ++ scan_none declaration_in (event_line t.decls) t.events (λ i e less. (event_at i e less).declares) j)
       ∙ append-nil _ ∙ map-id ds
     where

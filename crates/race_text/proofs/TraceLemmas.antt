@@ -15,16 +15,18 @@ use Rattle.race_records.specs.declared.trace.PushFault.{PushFault}
 use Rattle.race_records.specs.declared.trace.TheConstants.{MAX_EVENTS}
 use Rattle.race_records.specs.declared.declarations.TheConstants.{MAX_PLACES}
 use Rattle.race_records.specs.Name.{is_place}
-use Rattle.race_records.specs.Declarations.{Declaration, DeclsState, is_known, place_number, with_place, place_fault, with_declaration, IsWellFormed, kind_of, count_of, limit_of}
+use Rattle.race_records.specs.Declarations.{Declaration, DeclsState, is_known, place_number, with_place, place_fault, with_declaration, IsWellFormed, count_of, limit_of}
+use Rattle.race_records.specs.declared.kind.Kind.{Kind}
+use Rattle.race_records.specs.Nouns.{kind_of_noun}
 use Rattle.race_records.specs.Events.{TraceState, IsTrace, fits, push_fault}
 use Rattle.race_records.proofs.ListLemmas.{slice_get-push_within, slice_get-push_last}
 use Rattle.race_records.proofs.TextLemmas.{position_or_len-absent}
 use Rattle.race_text.specs.declared.cause.TextCause.{TextCause}
 use Rattle.race_text.specs.declared.form.Word.{Word}
 use Rattle.race_text.specs.Words.{words_of, has_bad_byte}
-use Rattle.race_text.specs.Form.{word_named, fields_of, object_of, first_word, arguments}
+use Rattle.race_text.specs.Form.{word_named, fields_of, kind_declared, first_word, arguments}
 use Rattle.race_text.specs.Declaring.{is_declaration_word, is_declaration_line}
-use Rattle.race_text.specs.Text.{header, has_words, declaration_line, event_line, op_words, goroutine_name, line_of, lines}
+use Rattle.race_text.specs.Text.{header, has_known_word, declaration_line, event_line, op_words, goroutine_name, line_of, lines}
 use Rattle.race_text.specs.Fault.{Seen, seen, seen_so_far, declaration_in, is_event_line, or_else, fields_cause, room_cause, line_cause, cause, word_cause}
 use Rattle.race_text.specs.Reading.{Occurrence, event_by, event_in}
 use Rattle.race_text.specs.Taking.{state_of, IsRead, begun, IsFitting, event_of, AppendsEvent, IsFull, TakesLine, TakesOrTells}
@@ -203,7 +205,7 @@ module _ (old new : TraceState) (line : List ℕ) (o : Occurrence) (read : IsRea
         is_read = record {
           seen_is = ap seen after ∙ seen_event (lines old) line old.decls.declarations (length old.events) read.seen_is is.declares is.is_event
               ∙ (λ i. seen_so_far (sym added.decls i).declarations (sym more i));
-          words = subst (λ (d : DeclsState). All (λ (x : Declaration). IsTrue (has_words x.object)) d.declarations) (sym added.decls) read.words;
+          words = subst (λ (d : DeclsState). All (λ (x : Declaration). IsTrue (has_known_word x.object)) d.declarations) (sym added.decls) read.words;
           few_places =
               let few = read.few_places in
               let same : length new.decls.places ≡ length (with_place old.decls o.place).places = ap (λ (d : DeclsState). length d.places) added.decls in
@@ -227,28 +229,28 @@ or_else_some : (a : Option TextCause) (b : TextCause) → or_else a (Some b) ≡
 or_else_some None b h = none-some b (sym h)
 or_else_some (Some c) b h = none-some c (sym h)
 
-late : (ds : List Declaration) (events : ℕ) (object : Object) → 0 < events → (c : TextCause) × (room_cause (seen_so_far ds events) (Some object) ≡ Some c)
-late ds events object some = by (nat_le (limit_of (kind_of object)) (count_of (kind_of object) ds)) (nat_lt 0 events) (grind (arith, nat_tests))
+late : (ds : List Declaration) (events : ℕ) (kind : Kind) → 0 < events → (c : TextCause) × (room_cause (seen_so_far ds events) (Some kind) ≡ Some c)
+late ds events kind some = by (nat_le (limit_of kind) (count_of kind ds)) (nat_lt 0 events) (grind (arith, nat_tests))
   where
     by : (a b : Bool) → b ≡ true → (c : TextCause) × ((if a then Some TextCause.TooMany else (if b then Some TextCause.LateDeclaration else None)) ≡ Some c)
     by true b e = (TextCause.TooMany, refl)
     by false true e = (TextCause.LateDeclaration, refl)
     by false false e = absurd (true≢false (sym e))
 
-late_declaration : (ds : List Declaration) (events : ℕ) (word : Word) (object : Object) (words : List (List ℕ)) → object_of word ≡ Some object → 0 < events
+late_declaration : (ds : List Declaration) (events : ℕ) (word : Word) (kind : Kind) (words : List (List ℕ)) → kind_declared word ≡ Some kind → 0 < events
     → word_cause (seen_so_far ds events) (Some word) words ≡ None → ⊥
-late_declaration ds events word object words is some h = by (length words == length (fields_of word)) h
+late_declaration ds events word kind words is some h = by (length words == length (fields_of word)) h
   where
-    by : (b : Bool) → (if not b then Some TextCause.WrongCount else or_else (fields_cause ds (fields_of word) words) (room_cause (seen_so_far ds events) (object_of word))) ≡ None → ⊥
+    by : (b : Bool) → (if not b then Some TextCause.WrongCount else or_else (fields_cause ds (fields_of word) words) (room_cause (seen_so_far ds events) (kind_declared word))) ≡ None → ⊥
     by false h = none-some TextCause.WrongCount (sym h)
     by true h =
-        let told = late ds events object some in
+        let told = late ds events kind some in
         or_else_some (fields_cause ds (fields_of word) words) told.0 (ap (or_else (fields_cause ds (fields_of word) words)) (sym (ap (room_cause (seen_so_far ds events)) is ∙ told.1)) ∙ h)
 
 no_event : (ds : List Declaration) (events : ℕ) (word : Option Word) (args : List (List ℕ)) → event_by ds word args ≡ None → (is_declaration_word word ≡ true → 0 < events)
     → word_cause (seen_so_far ds events) word args ≡ None → ⊥
 no_event ds events None args none behind h = none-some TextCause.UnknownWord (sym h)
-no_event ds events (Some (Word.Declares object)) args none behind h = late_declaration ds events (Word.Declares object) object args refl (behind refl) h
+no_event ds events (Some (Word.Declares noun)) args none behind h = late_declaration ds events (Word.Declares noun) (kind_of_noun noun) args refl (behind refl) h
 no_event ds events (Some (Word.Does verb)) args none behind h = event_is_there ds events verb args h none
 
 pub no_word : word_named [] ≡ None

@@ -1,25 +1,24 @@
 -- The table of words, and its way back.
-use Rattle.std.proofs.Common.{◌≡◌, ℕ, Bool, true, false, true≢false, not, if◌then◌else◌, List, [], ◌∷◌, map, codes, Option, Some, None, refl, sym, ap, ◌∙◌}
+use Rattle.std.proofs.Common.{◌≡◌, ℕ, Bool, true, false, true≢false, is_some, if◌then◌else◌, List, [], ◌∷◌, map, codes, Option, Some, None, refl, sym, ap, ◌∙◌}
 use Rattle.std.proofs.lemmas.Option.{none-some, same_Some}
 use Rattle.std.proofs.lemmas.Slice.Eq.{bytes_eq-Decides}
 use Rattle.std.specs.List.{list_all}
 use Rattle.std.specs.Str.{bytes_eq}
 use Rattle.race_records.specs.declared.kind.Object.{Object}
+use Rattle.race_records.specs.declared.nouns.Noun.{Noun}
 use Rattle.race_records.specs.declared.parts.Verb.{Verb}
 use Rattle.race_records.specs.Name.{is_place_byte}
-use Rattle.race_records.specs.Declarations.{is_too_wide}
+use Rattle.race_records.specs.Nouns.{object_says}
 use Rattle.race_text.specs.declared.form.Word.{Word}
 use Rattle.race_text.specs.declared.form.TheConstants.{WORDS}
-use Rattle.race_text.specs.Form.{lookup, word_named}
-use Rattle.race_text.specs.Text.{object_words, has_words}
-use Rattle.race_text.specs.Writing.{verb_text}
+use Rattle.race_text.specs.Form.{lookup, word_named, first_word}
+use Rattle.race_text.specs.Text.{object_words, has_known_word}
+use Rattle.race_text.specs.Writing.{noun_text, number_words, verb_text}
 use Rattle.race_text.proofs.WordLemmas.{both}
 
--- the bytes of a word that a line may begin with. Channels, locks and onces have none
+-- the bytes of a word
 abbrev pub spelled : Word → List ℕ
-spelled (Word.Declares Object.Goroutine) = codes "goroutine"
-spelled (Word.Declares Object.Var) = codes "var"
-spelled (Word.Declares _) = []
+spelled (Word.Declares noun) = noun_text noun
 spelled (Word.Does verb) = verb_text verb
 
 abbrev table : List (List ℕ × Word)
@@ -50,35 +49,24 @@ unfolding word_named
 verb_again Verb.Go = refl
 verb_again _ = refl
 
--- what a word of the table declares has no capacity, and has words
-is_narrow : Word → Bool
-is_narrow (Word.Declares object) = not (is_too_wide object)
-is_narrow (Word.Does verb) = true
+-- a noun that is found is found at its own word
+pub noun_is_known : (w : List ℕ) (noun : Noun) → word_named w ≡ Some (Word.Declares noun) → is_some (word_named (noun_text noun)) ≡ true
+noun_is_known w noun h = ap (λ v. is_some (word_named v)) (sym (word_spelled w (Word.Declares noun) h)) ∙ ap is_some h
 
-pub word_is_narrow : (w : List ℕ) (object : Object) → word_named w ≡ Some (Word.Declares object) → is_too_wide object ≡ false
-unfolding word_named is_narrow
-word_is_narrow w object h = by (is_too_wide object) (found_in (λ w word. is_narrow word) table w (Word.Declares object) h refl)
-  where
-    by : (b : Bool) → not b ≡ true → b ≡ false
-    by true e = absurd (true≢false (sym e))
-    by false e = refl
-
-has_line : Word → Bool
-has_line (Word.Declares object) = has_words object
-has_line (Word.Does verb) = true
-
-pub word_has_words : (w : List ℕ) (object : Object) → word_named w ≡ Some (Word.Declares object) → has_words object ≡ true
-unfolding word_named has_line
-word_has_words w object h = found_in (λ w word. has_line word) table w (Word.Declares object) h refl
-
--- the words of a declaration begin with its own
-pub object_words_are : (name : List ℕ) (object : Object) → has_words object ≡ true → object_words name object ≡ spelled (Word.Declares object) ∷ name ∷ []
-object_words_are name Object.Goroutine has = refl
-object_words_are name Object.Var has = refl
-object_words_are name _ has = absurd (true≢false (sym has))
-
-pub object_again : (object : Object) → has_words object ≡ true → word_named (spelled (Word.Declares object)) ≡ Some (Word.Declares object)
+pub noun_again : (noun : Noun) → is_some (word_named (noun_text noun)) ≡ true → word_named (noun_text noun) ≡ Some (Word.Declares noun)
 unfolding word_named
-object_again Object.Goroutine has = refl
-object_again Object.Var has = refl
-object_again _ has = absurd (true≢false (sym has))
+noun_again Noun.Goroutine known = refl
+noun_again _ known = cc
+
+-- the words of a declaration are what it says
+pub object_words_are : (name : List ℕ) (object : Object) → object_words name object ≡ noun_text (object_says object).0 ∷ name ∷ number_words (object_says object).1
+object_words_are name Object.Goroutine = refl
+object_words_are name Object.Var = refl
+object_words_are name (Object.Chan capacity) = refl
+object_words_are name (Object.Lock false) = refl
+object_words_are name (Object.Lock true) = refl
+object_words_are name Object.Once = refl
+
+-- so it has a known word where its noun's is
+pub known_by_noun : (object : Object) → has_known_word object ≡ is_some (word_named (noun_text (object_says object).0))
+known_by_noun object = ap (λ ws. is_some (word_named (first_word ws))) (object_words_are [] object)

@@ -1,5 +1,5 @@
 -- The lines of a trace, piece by piece.
-use Rattle.std.proofs.Common.{◌≡◌, ℕ, ◌<◌, List, [], ◌∷◌, ◌++◌, append_assoc, length, map, take, slice_get, unwrap_or, Some, option_map, codes, refl, sym, ap, subst, ◌∙◌}
+use Rattle.std.proofs.Common.{◌≡◌, ℕ, ◌<◌, List, [], ◌∷◌, ◌++◌, append_assoc, length, map, take, slice_get, unwrap_or, Option, Some, None, option_map, codes, refl, sym, ap, subst, ◌∙◌}
 use Rattle.std.proofs.lemmas.Grind.{flat_map-append}
 use Rattle.std.proofs.lemmas.List.Concat.{flat_map-cons}
 use Rattle.std.proofs.lemmas.Option.{same_Some}
@@ -13,8 +13,12 @@ use Rattle.race_records.specs.Parts.{says}
 use Rattle.race_records.specs.Declarations.{Declaration, DeclsState, name_of}
 use Rattle.race_records.proofs.ListLemmas.{slice_get-within, flat_map-map}
 use Rattle.race_text.specs.Text.{goroutine_name, place_text, text, lines, header, ended, line_of, object_words, declaration_line, event_line}
-use Rattle.race_text.specs.Writing.{body, verb_text, part_text, said_words, behind_space, parts_text, place_end}
+use Rattle.race_text.specs.Writing.{body, text_of, declaration_text, noun_text, number_words, number_end, verb_text, part_text, said_words, behind_space, parts_text, place_end}
 use Rattle.race_text.proofs.EventLines.{op_words_are}
+use Rattle.race_text.proofs.WordTable.{object_words_are}
+use Rattle.race_records.specs.declared.nouns.Noun.{Noun}
+use Rattle.race_records.specs.Nouns.{object_says}
+use Rattle.std.specs.Fmt.{decimal}
 
 -- a line with its newline, word by word
 pub ended_more : (a b : List ℕ) (rest : List (List ℕ)) → ended (line_of (a ∷ b ∷ rest)) ≡ a ++ 32 ∷ ended (line_of (b ∷ rest))
@@ -22,6 +26,19 @@ ended_more a b rest = append_assoc a (32 ∷ line_of (b ∷ rest)) (10 ∷ [])
 
 pub line_of_2 : (a b : List ℕ) → ended (line_of (a ∷ b ∷ [])) ≡ a ++ 32 ∷ (b ++ 10 ∷ [])
 line_of_2 a b = ended_more a b []
+
+-- the line of a declaration in two pieces: its word and its name, and its number
+numbered_line : (word name : List ℕ) (number : Option ℕ) → ended (line_of (word ∷ name ∷ number_words number)) ≡ (word ++ 32 ∷ name) ++ number_end number
+numbered_line word name None = line_of_2 word name ∙ sym (append_assoc word (32 ∷ name) (10 ∷ []))
+numbered_line word name (Some n) =
+    ended_more word name (decimal n ∷ []) ∙ ap (λ l. word ++ 32 ∷ l) (line_of_2 name (decimal n)) ∙ sym (append_assoc word (32 ∷ name) (32 ∷ decimal n ++ 10 ∷ []))
+
+pub declaration_printed : (ds : List Declaration) (index : ℕ) (word name : List ℕ) (object : Object) (says : Noun × Option ℕ) → slice_get ds index ≡ Some (record { name = name; object = object })
+    → says ≡ object_says object → word ≡ noun_text says.0 → (word ++ 32 ∷ name) ++ number_end says.1 ≡ declaration_text ds index
+declaration_printed ds index word name object says at said spelled =
+    sym (ap text_of at ∙ ap (λ ws. ended (line_of ws)) (object_words_are name object)
+    ∙ ap (λ (s : Noun × Option ℕ). ended (line_of (noun_text s.0 ∷ name ∷ number_words s.1))) (sym said)
+    ∙ ap (λ w. ended (line_of (w ∷ name ∷ number_words says.1))) (sym spelled) ∙ numbered_line word name says.1)
 
 -- the parts of an operation behind a word, and the place
 line_behind : (ds : List Declaration) (a : List ℕ) (parts : List Part) (place : List ℕ) → ended (line_of (a ∷ map (part_text ds) parts ++ place ∷ [])) ≡ a ++ (parts_text ds parts ++ place_end place)

@@ -1,24 +1,29 @@
 -- Lines that declare: what they add, and why they are refused where no event stands before them.
-use Rattle.std.specs.Prelude.{ℕ, Bool, true, false, not, if◌then◌else◌, List, [], ◌∷◌, Option, Some, None, is_some, Result, Ok, Err}
-use Rattle.std.specs.Option.{option_map}
+use Rattle.std.specs.Prelude.{ℕ, Bool, true, false, if◌then◌else◌, List, [], ◌∷◌, Option, Some, None, is_some}
+use Rattle.std.specs.Option.{option_and_then}
 use Rattle.race_records.specs.declared.declarations.DeclFault.{DeclFault}
 use Rattle.race_records.specs.declared.kind.Object.{Object}
-use Rattle.race_records.specs.Name.{is_name}
-use Rattle.race_records.specs.Declarations.{Declaration, DeclsState, decl_fault, with_declaration}
+use Rattle.race_records.specs.declared.nouns.Noun.{Noun}
+use Rattle.race_records.specs.Declarations.{Declaration, DeclsState, with_declaration}
+use Rattle.race_records.specs.Nouns.{object_by}
 use Rattle.race_text.specs.declared.cause.TextCause.{TextCause}
 use Rattle.race_text.specs.declared.form.Word.{Word}
-use Rattle.race_text.specs.Words.{words_of}
-use Rattle.race_text.specs.Form.{word_named, object_of, first_word, arguments}
-use Rattle.race_text.specs.Fault.{seen_so_far, declaration_in, or_else, word_cause}
+use Rattle.race_text.specs.Words.{words_of, number}
+use Rattle.race_text.specs.Form.{word_named, kind_declared, first_word, arguments}
+use Rattle.race_text.specs.Fault.{seen_so_far, declaration_in, word_cause}
 
 -- the first word is one that declares
 abbrev pub is_declaration_word : Option Word → Bool
 is_declaration_word None = false
-is_declaration_word (Some word) = is_some (object_of word)
+is_declaration_word (Some word) = is_some (kind_declared word)
 
 -- a line that declares
 abbrev pub is_declaration_line : List ℕ → Bool
 is_declaration_line line = is_declaration_word (word_named (first_word (words_of line)))
+
+-- the least cause of what stands behind a noun, where no event stands before it
+abbrev pub noun_cause : List Declaration → Noun → List (List ℕ) → Option TextCause
+noun_cause ds noun words = word_cause (seen_so_far ds 0) (Some (Word.Declares noun)) words
 
 -- the least cause of a line that declares, where no event stands before it and it has no bad byte. No other line has one
 abbrev pub declaration_cause : List Declaration → List ℕ → Option TextCause
@@ -36,13 +41,7 @@ with_declared decls (Some d) = with_declaration decls d.name d.object
 abbrev pub with_declaration_in : DeclsState → List ℕ → DeclsState
 with_declaration_in decls line = with_declared decls (declaration_in line)
 
--- why the words are not one name
-abbrev pub only_name_cause : List (List ℕ) → Option TextCause
-only_name_cause [] = Some TextCause.WrongCount
-only_name_cause (name ∷ []) = if not (is_name name) then Some TextCause.BadName else None
-only_name_cause (name ∷ other ∷ others) = Some TextCause.WrongCount
-
--- the cause that a refused declaration gives
+-- the cause that a refused declaration or place gives
 abbrev pub cause_of : DeclFault → TextCause
 cause_of DeclFault.BadName = TextCause.BadName
 cause_of DeclFault.Taken = TextCause.Taken
@@ -50,11 +49,8 @@ cause_of DeclFault.TooMany = TextCause.TooMany
 cause_of DeclFault.BadCapacity = TextCause.BadNumber
 cause_of DeclFault.OutOfMemory = TextCause.OutOfMemory
 
--- why the words don't declare the object
-abbrev pub name_cause : List Declaration → Object → List (List ℕ) → Option TextCause
-name_cause ds object words = or_else (only_name_cause words) (option_map cause_of (decl_fault ds object (first_word words)))
-
--- the answer that an addition gives
-abbrev pub answer : Result ℕ DeclFault → Result Bool TextCause
-answer (Ok number) = Ok true
-answer (Err fault) = Err (cause_of fault)
+-- the object of the noun, where what is left behind the name is a number just where the noun wants one
+abbrev pub object_read : Noun → Option ℕ → Option (List ℕ) → Option Object
+object_read noun None None = object_by noun None
+object_read noun (Some limit) (Some w) = option_and_then (λ n. object_by noun (Some n)) (number limit w)
+object_read noun _ _ = None

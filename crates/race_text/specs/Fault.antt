@@ -1,22 +1,24 @@
 -- The first fault of a text: the first line at which a cause holds, and the least cause that holds there.
 use Rattle.std.specs.Prelude.{ℕ, ◌+◌, ◌-◌, ◌==◌, ◌&&◌, ◌^◌, Bool, true, false, not, if◌then◌else◌, nat_le, nat_lt, List, [], ◌∷◌, ◌++◌, length, count_by, fold, Option, Some, None, is_some, is_none}
 use Rattle.std.specs.List.{filter_map, zip}
-use Rattle.std.specs.Option.{option_and_then}
+use Rattle.std.specs.Option.{option_map}
 use Rattle.std.specs.Str.{bytes_eq}
+use Rattle.std.specs.Str.Parse.{digits_value}
 use Rattle.race_records.specs.declared.kind.Kind.{Kind}
 use Rattle.race_records.specs.declared.kind.Named.{Named}
 use Rattle.race_records.specs.declared.kind.Object.{Object}
 use Rattle.race_records.specs.declared.parts.PartKind.{PartKind}
 use Rattle.race_records.specs.declared.trace.TheConstants.{MAX_EVENTS}
 use Rattle.race_records.specs.Name.{is_name, is_place}
-use Rattle.race_records.specs.Declarations.{Declaration, find_name, is_named, kind_of, count_of, limit_of}
+use Rattle.race_records.specs.Declarations.{Declaration, find_name, is_named, count_of, limit_of}
+use Rattle.race_records.specs.Nouns.{object_by}
 use Rattle.race_text.specs.declared.cause.TextCause.{TextCause}
 use Rattle.race_text.specs.declared.cause.TextFault.{TextFault}
 use Rattle.race_text.specs.declared.form.Word.{Word}
 use Rattle.race_text.specs.declared.form.Field.{Field}
 use Rattle.race_text.specs.Words.{parts_of, words_of, has_bad_byte, number}
 use Rattle.race_text.specs.Text.{header}
-use Rattle.race_text.specs.Form.{word_named, fields_of, object_of, first_word, arguments}
+use Rattle.race_text.specs.Form.{word_named, fields_of, kind_declared, first_word, arguments}
 
 -- the place of a cause in the order in which a line is tested
 abbrev pub rank : TextCause → ℕ
@@ -55,21 +57,28 @@ pub record Seen : Type 0 where
 abbrev pub seen_so_far : List Declaration → ℕ → Seen
 seen_so_far ds events = record { declarations = ds; events = events }
 
--- what the words of a line declare
-abbrev pub declared_as : Option Object → List (List ℕ) → Option Declaration
-declared_as None words = None
-declared_as (Some object) [] = None
-declared_as (Some object) (name ∷ others) = Some (record { name = name; object = object })
+-- a name with what it is declared as
+abbrev pub declaration : List ℕ → Object → Declaration
+declaration name object = record { name = name; object = object }
+
+-- the number that stands behind a name, read as digits
+abbrev pub number_behind : List (List ℕ) → Option ℕ
+number_behind [] = None
+number_behind (w ∷ others) = Some (digits_value 10 w)
+
+-- what the words of a line declare, by the first one and the others
+abbrev pub declared_as : Option Word → List (List ℕ) → Option Declaration
+declared_as (Some (Word.Declares noun)) (name ∷ others) = option_map (declaration name) (object_by noun (number_behind others))
+declared_as _ _ = None
 
 -- what a line declares, where its first word declares anything
 abbrev pub declaration_in : List ℕ → Option Declaration
-declaration_in line =
-    declared_as (option_and_then object_of (word_named (first_word (words_of line)))) (arguments (words_of line))
+declaration_in line = declared_as (word_named (first_word (words_of line))) (arguments (words_of line))
 
 -- the first word is one of an event
 abbrev pub is_event_word : Option Word → Bool
 is_event_word None = false
-is_event_word (Some word) = is_none (object_of word)
+is_event_word (Some word) = is_none (kind_declared word)
 
 -- a line that is an event
 abbrev pub is_event_line : List ℕ → Bool
@@ -94,14 +103,19 @@ new_name_cause ds w =
     if not (is_name w) then Some TextCause.BadName
     else (if is_some (find_name ds w) then Some TextCause.Taken else None)
 
+-- the least cause of a number
+abbrev pub number_cause : ℕ → List ℕ → Option TextCause
+number_cause limit w = if is_none (number limit w) then Some TextCause.BadNumber else None
+
 -- the least cause of what an operation names
 abbrev pub part_cause : List Declaration → PartKind → List ℕ → Option TextCause
 part_cause ds (PartKind.Object kind) w = used_name_cause kind ds w
-part_cause ds PartKind.Value w = if is_none (number (2 ^ 64 - 1) w) then Some TextCause.BadNumber else None
+part_cause ds PartKind.Value w = number_cause (2 ^ 64 - 1) w
 
 -- the least cause that holds at one word behind the first
 unfoldable pub field_cause : List Declaration → Field → List ℕ → Option TextCause
 field_cause ds Field.NewName w = new_name_cause ds w
+field_cause ds (Field.Number limit) w = number_cause limit w
 field_cause ds (Field.Part kind) w = part_cause ds kind w
 field_cause ds Field.Place w = if not (is_place w) then Some TextCause.BadName else None
 
@@ -110,10 +124,10 @@ abbrev pub fields_cause : List Declaration → List Field → List (List ℕ) �
 fields_cause ds fields words = fold (λ cause pair. lesser cause (field_cause ds pair.0 pair.1)) None (zip fields words)
 
 -- a limit is reached, or a declaration is late. An event has two places at most, so places never run out before events
-abbrev pub room_cause : Seen → Option Object → Option TextCause
+abbrev pub room_cause : Seen → Option Kind → Option TextCause
 room_cause s None = if nat_le MAX_EVENTS s.events then Some TextCause.TooMany else None
-room_cause s (Some object) =
-    if nat_le (limit_of (kind_of object)) (count_of (kind_of object) s.declarations) then Some TextCause.TooMany
+room_cause s (Some kind) =
+    if nat_le (limit_of kind) (count_of kind s.declarations) then Some TextCause.TooMany
     else (if nat_lt 0 s.events then Some TextCause.LateDeclaration else None)
 
 -- the least cause of a line by its words: of the first, of how many there are, of each, and of what is full or late
@@ -121,7 +135,7 @@ abbrev pub word_cause : Seen → Option Word → List (List ℕ) → Option Text
 word_cause s None words = Some TextCause.UnknownWord
 word_cause s (Some word) words =
     if not (length words == length (fields_of word)) then Some TextCause.WrongCount
-    else or_else (fields_cause s.declarations (fields_of word) words) (room_cause s (object_of word))
+    else or_else (fields_cause s.declarations (fields_of word) words) (room_cause s (kind_declared word))
 
 -- the least cause of a line behind the first
 unfoldable pub line_cause : Seen → List ℕ → Option TextCause

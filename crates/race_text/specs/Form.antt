@@ -2,8 +2,9 @@
 use Rattle.std.specs.Prelude.{ℕ, Bool, true, false, if◌then◌else◌, List, [], ◌∷◌, ◌++◌, map, Option, Some, None}
 use Rattle.std.specs.Str.{bytes_eq}
 use Rattle.race_records.specs.declared.kind.Kind.{Kind}
-use Rattle.race_records.specs.declared.kind.Object.{Object}
+use Rattle.race_records.specs.declared.nouns.Noun.{Noun}
 use Rattle.race_records.specs.declared.parts.PartKind.{PartKind}
+use Rattle.race_records.specs.Nouns.{number_limit, kind_of_noun}
 use Rattle.race_records.specs.Parts.{part_kinds}
 use Rattle.race_text.specs.declared.form.Word.{Word}
 use Rattle.race_text.specs.declared.form.Field.{Field}
@@ -18,15 +19,21 @@ lookup (entry ∷ entries) w = if bytes_eq w entry.0 then Some entry.1 else look
 unfoldable pub word_named : List ℕ → Option Word
 word_named w = lookup (map (λ entry. (entry.0.now, entry.1)) WORDS) w
 
--- what stands behind the first word: a name that is declared; or a goroutine, what the operation names, and a place
+-- a number, where there is a limit of it
+abbrev pub number_fields : Option ℕ → List Field
+number_fields None = []
+number_fields (Some limit) = Field.Number limit ∷ []
+
+-- what stands behind the first word: a name that is declared, with its number where it has one;
+-- or a goroutine, what the operation names, and a place
 abbrev pub fields_of : Word → List Field
-fields_of (Word.Declares object) = Field.NewName ∷ []
+fields_of (Word.Declares noun) = Field.NewName ∷ number_fields (number_limit noun)
 fields_of (Word.Does verb) = Field.Part (PartKind.Object Kind.Goroutine) ∷ map Field.Part (part_kinds verb) ++ Field.Place ∷ []
 
--- what a line of the word declares, where it declares anything
-abbrev pub object_of : Word → Option Object
-object_of (Word.Declares object) = Some object
-object_of (Word.Does verb) = None
+-- the kind of what a line of the word declares, where it declares anything
+abbrev pub kind_declared : Word → Option Kind
+kind_declared (Word.Declares noun) = Some (kind_of_noun noun)
+kind_declared (Word.Does verb) = None
 
 -- the first of the words
 abbrev pub first_word : List (List ℕ) → List ℕ

@@ -1,13 +1,29 @@
 -- The laws of trace text, which functions of src/laws.rt that do nothing have as their contracts.
-use Rattle.std.specs.Prelude.{◌≡◌, ℕ, List, None}
+use Rattle.std.specs.Prelude.{◌≡◌, ℕ, List, ◌∷◌, Some, None}
+use Rattle.race_records.specs.declared.event.Op.{Op}
+use Rattle.race_records.specs.declared.kind.Object.{Object}
+use Rattle.race_records.specs.declared.parts.Verb.{Verb}
+use Rattle.race_records.specs.Declarations.{Declaration}
 use Rattle.race_records.specs.Events.{TraceState}
+use Rattle.race_records.specs.Nouns.{object_says}
+use Rattle.race_records.specs.Parts.{says}
 use Rattle.race_records.specs.TraceEquality.{recorded}
-use Rattle.race_text.specs.Text.{text, HasText, IsTextOf, IsTraceText}
+use Rattle.race_text.specs.declared.form.Word.{Word}
+use Rattle.race_text.specs.Form.{word_named}
+use Rattle.race_text.specs.Writing.{noun_text, number_words, verb_text, said_words}
+use Rattle.race_text.specs.Text.{object_words, op_words, text, HasText, IsTextOf, IsTraceText}
 use Rattle.race_text.specs.Fault.{text_fault}
 
 -- every trace whose text the bytes are records what t records; that t is one isn't said
 abbrev pub IsOnlyTraceOf : List ℕ → TraceState → Type 0
 IsOnlyTraceOf bytes t = (u : TraceState) → IsTextOf u bytes → recorded u ≡ recorded t
+
+-- each line that is printed has the words of the table from which the code reads and prints: those of what its declaration
+-- or its operation says; and each word of an operation is known as itself
+pub record LinesFollowTheTables : Type 0 where
+  pub declarations : (name : List ℕ) (object : Object) → object_words name object ≡ noun_text (object_says object).0 ∷ name ∷ number_words (object_says object).1
+  pub events : (ds : List Declaration) (who place : List ℕ) (op : Op) → op_words ds who place op ≡ said_words ds who place (says op).0 (says op).1
+  pub known : (verb : Verb) → word_named (verb_text verb) ≡ Some (Word.Does verb)
 
 -- the text of a trace has no fault
 abbrev pub TextsHaveNoFault : Type 0

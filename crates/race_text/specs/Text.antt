@@ -1,5 +1,5 @@
 -- The text of a trace. It prints: nothing here reads.
-use Rattle.std.specs.Prelude.{ℕ, Bool, true, false, List, [], ◌∷◌, ◌++◌, map, codes, slice_get, unwrap_or, ◌≡◌, IsTrue, All}
+use Rattle.std.specs.Prelude.{ℕ, Bool, true, false, List, [], ◌∷◌, ◌++◌, map, codes, slice_get, unwrap_or, is_some, ◌≡◌, IsTrue, All}
 use Rattle.std.specs.List.{flat_map, join_with_byte}
 use Rattle.std.specs.Fmt.{decimal}
 use Rattle.race_records.specs.declared.event.Event.{Event}
@@ -9,6 +9,7 @@ use Rattle.race_records.specs.declared.kind.Named.{Named}
 use Rattle.race_records.specs.declared.kind.Object.{Object}
 use Rattle.race_records.specs.Declarations.{Declaration, DeclsState, IsWellFormed, name_of}
 use Rattle.race_records.specs.Events.{TraceState, IsTrace}
+use Rattle.race_text.specs.Form.{word_named, first_word}
 
 -- the first line
 abbrev pub header : List ℕ
@@ -18,17 +19,18 @@ header = codes "gotrace 1"
 abbrev pub line_of : List (List ℕ) → List ℕ
 line_of words = join_with_byte 32 words
 
--- the words of a declaration. Channels, locks and onces have none
+-- the words of a declaration
 abbrev pub object_words : List ℕ → Object → List (List ℕ)
 object_words name Object.Goroutine = codes "goroutine" ∷ name ∷ []
 object_words name Object.Var = codes "var" ∷ name ∷ []
-object_words name _ = []
+object_words name (Object.Chan capacity) = codes "chan" ∷ name ∷ decimal capacity ∷ []
+object_words name (Object.Lock false) = codes "mutex" ∷ name ∷ []
+object_words name (Object.Lock true) = codes "rwmutex" ∷ name ∷ []
+object_words name Object.Once = codes "once" ∷ name ∷ []
 
--- a declaration has words
-abbrev pub has_words : Object → Bool
-has_words Object.Goroutine = true
-has_words Object.Var = true
-has_words _ = false
+-- the first of them is a word that a line may begin with
+abbrev pub has_known_word : Object → Bool
+has_known_word object = is_some (word_named (first_word (object_words [] object)))
 
 -- the line of a declaration
 abbrev pub declaration_line : Declaration → List ℕ
@@ -70,12 +72,12 @@ ended line = line ++ 10 ∷ []
 unfoldable pub text : TraceState → List ℕ
 text t = flat_map ended (lines t)
 
--- a trace whose text counts: its declarations are well formed and have words, its events fit them, each value is a u64,
--- and there are not too many events
+-- a trace whose text counts: its declarations are well formed and each begins with a known word, its events fit them,
+-- each value is a u64, and there are not too many events
 pub record HasText (t : TraceState) : Type 0 where
   pub well_formed : IsWellFormed t.decls
   pub is_trace : IsTrace t
-  pub words : All (λ (d : Declaration). IsTrue (has_words d.object)) t.decls.declarations
+  pub words : All (λ (d : Declaration). IsTrue (has_known_word d.object)) t.decls.declarations
 
 -- the bytes are the trace's text
 pub record IsTextOf (t : TraceState) (bytes : List ℕ) : Type 0 where

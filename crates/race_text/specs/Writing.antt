@@ -3,6 +3,7 @@ use Rattle.std.specs.Prelude.{ℕ, List, [], ◌∷◌, ◌++◌, map, codes, sl
 use Rattle.std.specs.Fmt.{decimal}
 use Rattle.std.specs.List.{flat_map}
 use Rattle.race_records.specs.declared.event.Event.{Event}
+use Rattle.race_records.specs.declared.nouns.Noun.{Noun}
 use Rattle.race_records.specs.declared.parts.Part.{Part}
 use Rattle.race_records.specs.declared.parts.Verb.{Verb}
 use Rattle.race_records.specs.Declarations.{Declaration, DeclsState, name_of}
@@ -28,6 +29,25 @@ text_of (Some d) = ended (declaration_line d)
 -- the text of declaration i
 abbrev pub declaration_text : List Declaration → ℕ → List ℕ
 declaration_text ds i = text_of (slice_get ds i)
+
+-- the word of a declaration
+abbrev pub noun_text : Noun → List ℕ
+noun_text Noun.Goroutine = codes "goroutine"
+noun_text Noun.Var = codes "var"
+noun_text Noun.Chan = codes "chan"
+noun_text Noun.Mutex = codes "mutex"
+noun_text Noun.RwMutex = codes "rwmutex"
+noun_text Noun.Once = codes "once"
+
+-- the word of the number behind a name, where there is one
+abbrev pub number_words : Option ℕ → List (List ℕ)
+number_words None = []
+number_words (Some n) = decimal n ∷ []
+
+-- the end of a declaration's line: its number, where it has one
+abbrev pub number_end : Option ℕ → List ℕ
+number_end None = 10 ∷ []
+number_end (Some n) = 32 ∷ decimal n ++ 10 ∷ []
 
 -- the word of an operation
 abbrev pub verb_text : Verb → List ℕ

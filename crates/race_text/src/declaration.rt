@@ -1,15 +1,18 @@
 //! Lines that declare.
-ghost use Rattle.std.specs.Prelude.{◌≡◌, ◌∷◌, [], true, false, Some, Ok, IfOk, OnErr, MatchResult};
-ghost use Rattle.race_records.specs.Name as name;
+ghost use Rattle.std.specs.Prelude.{◌≡◌, true, false, Some, Ok, IfOk, OnOk, OnErr, option_map};
+ghost use Rattle.race_records.specs.Nouns.{number_limit};
 ghost use Rattle.race_records.specs.Refusal.{Refuses, AllowsUnless};
 ghost use Rattle.race_text.specs.Words.{parts_left};
+ghost use Rattle.race_text.specs.Fault as fault;
 ghost use Rattle.race_text.specs.Declaring as spec;
 
 use crate::cause::TextCause;
 use crate::cut::cut_at;
 use crate::fields::as_text;
+use crate::finder::word_cause;
 use crate::form::{Word, word_named};
-use race_records::{DeclFault, Decls, is_name};
+use crate::number::read_number;
+use race_records::{DeclFault, Decls, Noun, Object, object_by};
 use std::alloc::Allocator;
 
 /// Adds the declaration that the line is, and answers true. Where the first word declares
@@ -33,50 +36,55 @@ pub fn read_declaration<A: Allocator + Copy>(
     match word_named(first) {
         None => Ok(false),
         Some(word) => match word {
-            Word::Declares(object) => match only_name(rest) {
+            Word::Declares(noun) => match declare(decls, noun, rest) {
+                Ok(()) => Ok(true),
                 Err(cause) => Err(cause),
-                Ok(name) => answered(decls.declare(name, object)),
             },
             Word::Does(_) => Ok(false),
         },
     }
 }
 
-// The one word that is left, which is a name.
-fn only_name(rest: Option<&[u8]>) -> Result<&str, TextCause>
-    ensures { MatchResult result
-        (λ word. (parts_left 32 rest.entry ≡ word.now ∷ []) × (name.is_name word.now ≡ true))
-        (λ cause. spec.only_name_cause (parts_left 32 rest.entry) ≡ Some cause) }
+// Adds what the words behind the noun declare. All that a line can be refused for is looked at
+// before, least cause first, so that nothing but memory is left to refuse it.
+fn declare<A: Allocator + Copy>(
+    decls: &mut Decls<A>,
+    noun: Noun,
+    rest: Option<&[u8]>,
+) -> Result<(), TextCause>
+    ensures refused { Refuses (spec.noun_cause decls.old.declarations noun (parts_left 32 rest.entry)) result }
+    ensures allowed { AllowsUnless
+        (spec.noun_cause decls.old.declarations noun (parts_left 32 rest.entry)) result TextCause.OutOfMemory }
+    ensures added { OnOk result (decls.new ≡ spec.with_declared decls.old
+        (fault.declared_as (Some (Word.Declares noun)) (parts_left 32 rest.entry))) }
+    ensures err { OnErr result (decls.new ≡ decls.old) }
 {
-    match rest {
-        None => Err(TextCause::WrongCount),
-        Some(bytes) => {
-            let (word, others) = cut_at(bytes, b' ');
-            match others {
-                Some(_) => Err(TextCause::WrongCount),
-                None => {
-                    if is_name(word) {
-                        Ok(as_text(word))
-                    } else {
-                        Err(TextCause::BadName)
-                    }
-                }
-            }
-        }
+    if let Some(cause) = word_cause(decls, 0, Word::Declares(noun), rest) {
+        return Err(cause);
+    }
+    let (name, behind) = cut_at(rest.unwrap(), b' ');
+    let object = object_read(noun, behind).unwrap();
+    match decls.declare(as_text(name), object) {
+        Ok(_) => Ok(()),
+        Err(refused) => Err(cause_of(refused)),
     }
 }
 
-// What an addition gives is told, and its number isn't.
-fn answered(added: Result<u32, DeclFault>) -> Result<bool, TextCause>
-    ensures { result ≡ spec.answer added }
+// The object of the noun, with the number that is left behind the name.
+fn object_read(noun: Noun, behind: Option<&[u8]>) -> Option<Object>
+    ensures { result ≡ spec.object_read noun (number_limit noun) (option_map (λ w. w.now) behind.entry) }
 {
-    match added {
-        Ok(_) => Ok(true),
-        Err(fault) => Err(cause_of(fault)),
+    match (noun.number_limit(), behind) {
+        (None, None) => object_by(noun, None),
+        (Some(limit), Some(word)) => match read_number(word, limit as u64) {
+            Some(number) => object_by(noun, Some(number as u32)),
+            None => None,
+        },
+        _ => None,
     }
 }
 
-// The cause that a refused declaration gives. No declaration here has a capacity.
+// The cause that a refused declaration or place gives.
 pub(crate) fn cause_of(fault: DeclFault) -> TextCause
     ensures { result ≡ spec.cause_of fault }
 {

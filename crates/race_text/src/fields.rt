@@ -64,13 +64,17 @@ fn part_cause<A: Allocator>(decls: &Decls<A>, kind: PartKind, word: &[u8]) -> Op
 {
     match kind {
         PartKind::Object(kind) => used_name_cause(decls, kind, word),
-        PartKind::Value => {
-            if read_number(word, u64::MAX).is_none() {
-                Some(TextCause::BadNumber)
-            } else {
-                None
-            }
-        }
+        PartKind::Value => number_cause(word, u64::MAX),
+    }
+}
+
+fn number_cause(word: &[u8], limit: u64) -> Option<TextCause>
+    ensures { result ≡ spec.number_cause limit word.now }
+{
+    if read_number(word, limit).is_none() {
+        Some(TextCause::BadNumber)
+    } else {
+        None
     }
 }
 
@@ -81,6 +85,7 @@ fn field_cause<A: Allocator>(decls: &Decls<A>, field: Field, word: &[u8]) -> Opt
 {
     match field {
         Field::NewName => new_name_cause(decls, word),
+        Field::Number(limit) => number_cause(word, limit as u64),
         Field::Part(kind) => part_cause(decls, kind, word),
         Field::Place => {
             if is_place(word) {

@@ -6,8 +6,8 @@ ghost use Rattle.race_text.specs.Fault as spec;
 use crate::cause::TextCause;
 use crate::cut::{cut_at, has_bad_byte};
 use crate::fields::fields_cause;
-use crate::form::{Word, fields_of, object_of, word_named};
-use race_records::{Decls, MAX_EVENTS, Object};
+use crate::form::{Word, fields_of, kind_declared, word_named};
+use race_records::{Decls, Kind, MAX_EVENTS};
 use std::alloc::Allocator;
 
 // The least cause of a line behind the first, where so many events stand before it.
@@ -30,7 +30,7 @@ pub(crate) fn line_cause<A: Allocator>(
 }
 
 // The least cause of the words behind the first.
-fn word_cause<A: Allocator>(
+pub(crate) fn word_cause<A: Allocator>(
     decls: &Decls<A>,
     events: usize,
     word: Word,
@@ -45,7 +45,7 @@ fn word_cause<A: Allocator>(
     }
     match fields_cause(decls, fields.as_slice(), rest) {
         Some(cause) => Some(cause),
-        None => room_cause(decls, events, object_of(word)),
+        None => room_cause(decls, events, kind_declared(word)),
     }
 }
 
@@ -67,11 +67,11 @@ fn has_count(rest: Option<&[u8]>, count: usize) -> bool
 pub(crate) fn room_cause<A: Allocator>(
     decls: &Decls<A>,
     events: usize,
-    object: Option<Object>,
+    declared: Option<Kind>,
 ) -> Option<TextCause>
-    ensures { result ≡ spec.room_cause (spec.seen_so_far decls.now.declarations events) object }
+    ensures { result ≡ spec.room_cause (spec.seen_so_far decls.now.declarations events) declared }
 {
-    match object {
+    match declared {
         None => {
             if events >= MAX_EVENTS {
                 Some(TextCause::TooMany)
@@ -79,8 +79,8 @@ pub(crate) fn room_cause<A: Allocator>(
                 None
             }
         }
-        Some(object) => {
-            if decls.count(object.kind()) >= object.kind().limit() {
+        Some(kind) => {
+            if decls.count(kind) >= kind.limit() {
                 Some(TextCause::TooMany)
             } else if events > 0 {
                 Some(TextCause::LateDeclaration)

@@ -3,13 +3,13 @@ ghost use Rattle.std.specs.Prelude.{◌≡◌, ◌++◌, ◌∷◌, [], length, 
 ghost use Rattle.race_text.specs.Form as spec;
 
 use arrayvec::ArrayVec;
-use race_records::{Kind, Object, PartKind, Verb, part_kinds};
+use race_records::{Kind, Noun, PartKind, Verb, part_kinds};
 
 /// What the first word of a line says that the line is.
 #[derive(Clone, Copy, Debug, PartialEq, Eq)]
 pub enum Word {
     /// An object is declared.
-    Declares(Object),
+    Declares(Noun),
     /// An operation happened.
     Does(Verb),
 }
@@ -20,8 +20,8 @@ pub const WORDS: [(&[u8], Word); 6] = [
     (b"write", Word::Does(Verb::Write)),
     (b"go", Word::Does(Verb::Go)),
     (b"exit", Word::Does(Verb::Exit)),
-    (b"goroutine", Word::Declares(Object::Goroutine)),
-    (b"var", Word::Declares(Object::Var)),
+    (b"goroutine", Word::Declares(Noun::Goroutine)),
+    (b"var", Word::Declares(Noun::Var)),
 ];
 
 /// What can stand behind the first word.
@@ -29,6 +29,8 @@ pub const WORDS: [(&[u8], Word); 6] = [
 pub enum Field {
     /// A name that the line declares.
     NewName,
+    /// A number of at most this limit.
+    Number(u32),
     /// A part of what an operation says.
     Part(PartKind),
     /// A place in the source.
@@ -67,7 +69,12 @@ pub(crate) fn fields_of(word: Word) -> ArrayVec<Field, 5>
 {
     let mut fields = ArrayVec::new();
     match word {
-        Word::Declares(_) => fields.push(Field::NewName),
+        Word::Declares(noun) => {
+            fields.push(Field::NewName);
+            if let Some(limit) = noun.number_limit() {
+                fields.push(Field::Number(limit));
+            }
+        }
         Word::Does(verb) => {
             fields.push(Field::Part(PartKind::Object(Kind::Goroutine)));
             let kinds = part_kinds(verb);
@@ -80,12 +87,12 @@ pub(crate) fn fields_of(word: Word) -> ArrayVec<Field, 5>
     fields
 }
 
-// What a line of the word declares, where it declares anything.
-pub(crate) fn object_of(word: Word) -> Option<Object>
-    ensures { result ≡ spec.object_of word }
+// The kind of what a line of the word declares, where it declares anything.
+pub(crate) fn kind_declared(word: Word) -> Option<Kind>
+    ensures { result ≡ spec.kind_declared word }
 {
     match word {
-        Word::Declares(object) => Some(object),
+        Word::Declares(noun) => Some(noun.kind()),
         Word::Does(_) => None,
     }
 }

@@ -2,8 +2,14 @@
 ghost use Rattle.race_text.specs.Laws.{
   EqualTextsAreOfEqualTraces,
   FaultlessBytesAreTexts,
+  LinesFollowTheTables,
   TextsHaveNoFault,
 };
+
+/// Each line has the words of the tables from which it is read and printed.
+pub fn lines_follow_the_tables()
+    ensures { LinesFollowTheTables }
+{}
 
 /// The text of a trace that fits has no fault.
 pub fn texts_have_no_fault()

@@ -11,7 +11,9 @@ ghost use Rattle.race_records.specs.Parts.{part_fits};
 ghost use Rattle.std.specs.List.{list_all};
 
 use itoa::Buffer;
-use race_records::{Decls, Event, Named, Object, Page, Part, Sink, Trace, Verb, WriteFault, says};
+use race_records::{
+    Decls, Event, Named, Noun, Page, Part, Sink, Trace, Verb, WriteFault, object_says, says,
+};
 use std::alloc::Allocator;
 use std::io::Write;
 
@@ -122,7 +124,7 @@ fn print_events<W: Write, A: Allocator>(
     Ok(())
 }
 
-// Prints a declaration. Channels, locks and onces have no words.
+// Prints a declaration.
 pub(crate) fn print_declaration<W: Write, A: Allocator>(
     page: &mut Page,
     sink: &mut Sink<W>,
@@ -138,53 +140,52 @@ pub(crate) fn print_declaration<W: Write, A: Allocator>(
     ensures failed { OnErr result (sink_failures sink.new ≡ one_more (sink_failures sink.old)) }
 {
     let (object, name) = decls.declaration(index);
-    print_object(page, sink, object, name)
-}
-
-fn print_object<W: Write>(
-    page: &mut Page,
-    sink: &mut Sink<W>,
-    object: Object,
-    name: &str,
-) -> Result<(), WriteFault>
-    ensures ok { OnOk result (Prints (written W.contents sink.old) (written W.contents sink.new)
-        page.old page.new (text.ended (text.line_of (text.object_words name.now object)))) }
-    ensures sent { IfErr result (λ fault. BreaksOff (written W.contents sink.old)
-        (written W.contents sink.new) page.old fault.sent (text.ended (text.line_of (text.object_words name.now object)))) }
-    ensures calm { OnOk result (sink_failures sink.new ≡ sink_failures sink.old) }
-    ensures failed { OnErr result (sink_failures sink.new ≡ one_more (sink_failures sink.old)) }
-{
-    match object {
-        Object::Goroutine => print_named(page, sink, "goroutine", name),
-        Object::Var => print_named(page, sink, "var", name),
-        Object::Chan(_) => page.put(sink, b"\n"),
-        Object::Lock(_) => page.put(sink, b"\n"),
-        Object::Once => page.put(sink, b"\n"),
+    let (noun, number) = object_says(object);
+    match print_first(page, sink, noun_text(noun), name) {
+        Ok(()) => print_number(page, sink, number),
+        Err(fault) => Err(fault),
     }
 }
 
-// Prints a name behind the word that declares it.
-fn print_named<W: Write>(
+// The word of a declaration.
+fn noun_text(noun: Noun) -> &'static str
+    ensures { result.now ≡ spec.noun_text noun }
+{
+    match noun {
+        Noun::Goroutine => "goroutine",
+        Noun::Var => "var",
+        Noun::Chan => "chan",
+        Noun::Mutex => "mutex",
+        Noun::RwMutex => "rwmutex",
+        Noun::Once => "once",
+    }
+}
+
+// Prints the number behind a name, where there is one, and ends the line.
+fn print_number<W: Write>(
     page: &mut Page,
     sink: &mut Sink<W>,
-    word: &str,
-    name: &str,
+    number: Option<u32>,
 ) -> Result<(), WriteFault>
     ensures ok { OnOk result (Prints (written W.contents sink.old) (written W.contents sink.new)
-        page.old page.new (text.ended (text.line_of (word.now ∷ name.now ∷ [])))) }
+        page.old page.new (spec.number_end number)) }
     ensures sent { IfErr result (λ fault. BreaksOff (written W.contents sink.old)
-        (written W.contents sink.new) page.old fault.sent
-        (text.ended (text.line_of (word.now ∷ name.now ∷ [])))) }
+        (written W.contents sink.new) page.old fault.sent (spec.number_end number)) }
     ensures calm { OnOk result (sink_failures sink.new ≡ sink_failures sink.old) }
     ensures failed { OnErr result (sink_failures sink.new ≡ one_more (sink_failures sink.old)) }
 {
-    let parts = [
-        word.as_bytes(),
-        b" ".as_slice(),
-        name.as_bytes(),
-        b"\n".as_slice(),
-    ];
-    page.put_all(sink, &parts)
+    match number {
+        None => page.put(sink, b"\n"),
+        Some(number) => {
+            let mut digits = Buffer::new();
+            let parts = [
+                b" ".as_slice(),
+                digits.format(number).as_bytes(),
+                b"\n".as_slice(),
+            ];
+            page.put_all(sink, &parts)
+        }
+    }
 }
 
 // Prints an event that fits.
@@ -224,7 +225,7 @@ fn verb_text(verb: Verb) -> &'static str
     }
 }
 
-// Prints the word of an operation and the goroutine.
+// Prints the word of a line and what it is of: the name that is declared, or the goroutine.
 fn print_first<W: Write>(
     page: &mut Page,
     sink: &mut Sink<W>,

@@ -1,7 +1,7 @@
 use Rattle.std.proofs.Common.{◌≡◌, All, IsTrue, sym, subst, ap, ◌∙◌}
 use Rattle.race_records.specs.Declarations.{Declaration, IsWellFormed}
 use Rattle.race_records.specs.Events.{TraceState}
-use Rattle.race_text.specs.Text.{has_words}
+use Rattle.race_text.specs.Text.{has_known_word}
 use Rattle.race_text.specs.Reader.{IsReading, trace_read}
 use Rattle.race_text.proofs.ReaderLemmas.{fresh, read_of}
 use Rattle.race_text.proofs.reader.Reader.into_trace.Goals.{in-Some, in-None}
@@ -18,5 +18,5 @@ returns-clause-has_text g c =
     record {
       well_formed = subst IsWellFormed c.decls.ensures c.len-declarations.ensures.well_formed;
       is_trace = c.len-events.ensures.is_trace;
-      words = subst (λ (t : TraceState). All (λ (d : Declaration). IsTrue (has_words d.object)) t.decls.declarations) is words;
+      words = subst (λ (t : TraceState). All (λ (d : Declaration). IsTrue (has_known_word d.object)) t.decls.declarations) is words;
     }

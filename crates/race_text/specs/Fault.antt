@@ -20,7 +20,8 @@ use Rattle.race_text.specs.Words.{parts_of, words_of, has_bad_byte, number}
 use Rattle.race_text.specs.Text.{header}
 use Rattle.race_text.specs.Form.{word_named, fields_of, kind_declared, first_word, arguments}
 
--- the place of a cause in the order in which a line is tested
+-- the place of a cause in the order in which a line is tested. Two never come of a trace's line: a block is of a program's
+-- text, and memory is told by calls alone
 abbrev pub rank : TextCause → ℕ
 rank TextCause.BadHeader = 1
 rank TextCause.NoNewline = 2

@@ -25,7 +25,7 @@ pub use event::Draft;
 pub use form::{Field, Word};
 pub use number::read_number;
 pub use parse::parse_trace;
-pub use race_records::{is_name, is_place};
+pub use race_records::{WriteFault, is_name, is_place};
 #[doc(hidden)]
 pub use reader::Reader;
 pub use words::{Words, split_words};

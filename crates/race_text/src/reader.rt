@@ -1,8 +1,7 @@
 //! A trace that is read line by line.
 ghost use Rattle.std.specs.Prelude.{◌≡◌, ◌≢◌, [], true, false, Some, None, MatchResult, OnOk};
 ghost use Rattle.race_text.specs.Fault as fault;
-ghost use Rattle.race_text.specs.Text.{HasText};
-ghost use Rattle.race_text.specs.Text.{lines};
+ghost use Rattle.race_text.specs.Text.{HasText, lines};
 ghost use Rattle.race_text.specs.Taking.{IsRead, begun};
 ghost use Rattle.race_text.specs.Reader as spec;
 

@@ -3,17 +3,14 @@ use Rattle.std.specs.Prelude.{ℕ, ◌≡◌, ◌<◌, ◌≤◌, List, length, 
 use Rattle.race_records.specs.Events.{TraceState}
 use Rattle.race_model.specs.Legal.{IsLegal}
 use Rattle.race_model.specs.Reorder.{EachReadFindsTheSame}
-use Rattle.race_model.specs.Verdict.{Verdict, IsVerdict, Illegal, Clean, Races}
+use Rattle.race_model.specs.Verdict.{Verdict, Illegal, Clean, Races}
 use Rattle.race_text.specs.declared.cause.TextFault.{TextFault}
 use Rattle.race_text.specs.Fault.{text_fault}
 use Rattle.race_text.specs.Text.{IsTextOf}
 use Rattle.race_tool.specs.declared.judge.TheConstants.{MAX_PLAIN_EVENTS}
 use Rattle.race_tool.specs.declared.status.TheConstants as status
+use Rattle.race_tool.specs.Traces.{capacities, HasVerdict}
 use Rattle.race_tool.specs.Report.{fault_line, too_long_line, report}
-
--- the verdict on the trace, whatever the channels' capacities: no rule and no edge of Go, Exit, Read or Write looks at one
-abbrev pub HasVerdict : TraceState → Verdict → Type 0
-HasVerdict trace verdict = (caps : ℕ → ℕ) → IsVerdict caps trace.events verdict
 
 -- what there is to say of a list of bytes
 pub data Finding : Type 0 where
@@ -50,5 +47,5 @@ status_of (Judged trace (Races races)) = status.RACES
 pub record IsCleanText (bytes : List ℕ) : Type 0 where
   pub trace : TraceState
   pub text : IsTextOf trace bytes
-  pub legal : (caps : ℕ → ℕ) → IsLegal caps trace.events
-  pub same : (caps : ℕ → ℕ) → EachReadFindsTheSame caps trace.events
+  pub legal : IsLegal (capacities trace) trace.events
+  pub same : EachReadFindsTheSame (capacities trace) trace.events

@@ -2,8 +2,9 @@
 //!
 //! The tables are a state machine of their own, with exact contracts; that they answer as the words
 //! of the memory model on the list of events do is a matter of lists alone (proofs/ReplayLemmas).
-ghost use Rattle.std.specs.Prelude.{◌≡◌, ◌<◌, ℕ, length, IfOk, OnOk, IfErr, OnErr};
+ghost use Rattle.std.specs.Prelude.{◌≡◌, ◌<◌, [], length, IfOk, OnOk, IfErr, OnErr};
 ghost use Rattle.std.specs.Option.{option_map};
+ghost use Rattle.race_records.specs.Declarations.{capacity_of};
 ghost use Rattle.race_tool.specs.Rules.{number_of};
 ghost use Rattle.race_tool.specs.ReplayState.{
   ReplayState,
@@ -16,7 +17,8 @@ ghost use Rattle.race_tool.specs.ReplayState.{
   broken_in,
   after,
 };
-ghost use Rattle.race_tool.specs.StandsFor.{StandsForNone, GoesOn, Breaks, IsJudged};
+ghost use Rattle.race_tool.specs.StandsFor.{StandsFor, GoesOn, Breaks, IsJudged};
+ghost use Rattle.race_tool.specs.Traces.{capacities};
 
 use crate::rule::Rule;
 use race_records::{Decls, Event, Kind, Op, Trace};
@@ -60,7 +62,8 @@ impl<A: Allocator> Replay<A> {
     where
         A: Copy,
         ensures sizes { IfOk result (λ replay. sizes replay ≡ sizes_of decls.now) }
-        ensures stands { IfOk result StandsForNone }
+        ensures stands { IfOk result (λ replay.
+            StandsFor (capacity_of decls.now.declarations) replay []) }
     {
         let goroutines = decls.count(Kind::Goroutine) as usize;
         let vars = decls.count(Kind::Var) as usize;
@@ -155,7 +158,7 @@ pub(crate) fn legal<A: Allocator + Copy, B: Allocator>(
     alloc: A,
     trace: &Trace<B>,
 ) -> Result<Option<Illegal>, AllocError>
-    ensures { IfOk result (λ found. (caps : ℕ → ℕ) → IsJudged caps trace.now.events found) }
+    ensures { IfOk result (λ found. IsJudged (capacities trace.now) trace.now.events found) }
 {
     let mut replay = Replay::new(alloc, trace.decls())?;
     for at in 0..trace.len() {

@@ -22,14 +22,14 @@ use Rattle.race_tool.specs.declared.judge.TheConstants.{MAX_PLAIN_EVENTS}
 use Rattle.race_tool.specs.declared.races.Race.{Race}
 use Rattle.race_tool.specs.SeenTable.{rows_after}
 use Rattle.race_tool.specs.IsTable.{IsTable}
-use Rattle.race_tool.specs.Partners.{found_after, race_at}
+use Rattle.race_tool.specs.Partners.{accessed, noted, found_after, race_at}
 use Rattle.race_tool.specs.Answers.{race_of, races_of, AreFound, AreRaces}
 use Rattle.race_tool.specs.Traces.{capacities, HasVerdict}
 use Rattle.race_tool.specs.Finding.{Finding, Faulty, TooLong, Judged, IsFinding}
 use Rattle.race_tool.proofs.RowLemmas.{length-with_seen, length-go_rows}
 use Rattle.race_tool.proofs.TableSteps.{table_none}
 use Rattle.race_tool.proofs.FoundSteps.{found_none}
-use Rattle.race_tool.proofs.JudgeSteps.{range_of_tables, race_declared, table_next, found_next}
+use Rattle.race_tool.proofs.JudgeSteps.{has_rows, has_place, race_declared, table_next, found_next}
 use Rattle.race_tool.proofs.RaceLists.{are_races, free_from_none, listed_some}
 
 -- the tables keep their sizes
@@ -39,18 +39,16 @@ rows_kept rows n who Exit = length-with_seen rows who n
 rows_kept rows n who (Read x v) = length-with_seen rows who n
 rows_kept rows n who (Write x v) = length-with_seen rows who n
 
-found_kept : (rows : List (List Bool)) (events : List Event) (n : ℕ) (e : Event) (o : Op) (found : List (Option Race)) → length (found_after rows events n e o found) ≡ length found
-found_kept rows events n e o found = by o
+found_kept : (rows : List (List Bool)) (events : List Event) (n : ℕ) (e : Event) (found : List (Option Race)) → length (found_after rows events n e found) ≡ length found
+found_kept rows events n e found = by (accessed e.op)
   where
     one : (x : ℕ) (b : Bool) → length (if b then found else slice_set found x (race_at rows events n e x)) ≡ length found
     one x true = refl
     one x false = length-set found x (race_at rows events n e x)
 
-    by : (o : Op) → length (found_after rows events n e o found) ≡ length found
-    by (Go k) = refl
-    by Exit = refl
-    by (Read x v) = one x (is_some (slice_index_or found x None))
-    by (Write x v) = one x (is_some (slice_index_or found x None))
+    by : (a : Option ℕ) → length (elim a as (λ _. List (Option Race)) [ Some x ↦ noted rows events n e x found | None ↦ found ]) ≡ length found
+    by None = refl
+    by (Some x) = one x (is_some (slice_index_or found x None))
 
 module _ (caps : ℕ → ℕ) (events : List Event) where
   -- the events below n break no rule
@@ -114,19 +112,19 @@ module _ (trace : TraceState) (holds : IsTrace trace) where
       let so_far = tables n (omega (arith, less)) in
       let here = at_below trace.events n (omega (arith, less)) in
       let e = here.0 in
-      let range = range_of_tables trace n e so_far.rows so_far.found holds here.1 so_far.goroutines so_far.vars in
+      let has_row = (has_rows trace n e so_far.rows holds here.1 so_far.goroutines).0 in
       let rows = rows_after so_far.rows n e.who e.op in
-      let found = found_after so_far.rows (take n trace.events) (length (take n trace.events)) e e.op so_far.found in
+      let found = found_after so_far.rows (take n trace.events) (length (take n trace.events)) e so_far.found in
       let next : n + 1 ≡ suc n = omega arith in
       record {
         rows = rows;
         found = found;
         goroutines = rows_kept so_far.rows n e.who e.op ∙ so_far.goroutines;
-        vars = found_kept so_far.rows (take n trace.events) (length (take n trace.events)) e e.op so_far.found ∙ so_far.vars;
+        vars = found_kept so_far.rows (take n trace.events) (length (take n trace.events)) e so_far.found ∙ so_far.vars;
         table = subst (λ m. IsTable (capacities trace) rows (length trace.events) (take m trace.events)) next
-            (table_next (capacities trace) trace.events n e here.1 so_far.rows (length trace.events) so_far.table rows refl (omega (arith, less)) range.0);
+            (table_next (capacities trace) trace.events n e here.1 so_far.rows (length trace.events) so_far.table rows refl (omega (arith, less)) has_row);
         right = subst (λ m. AreFound (capacities trace) (take m trace.events) found) next
-            (found_next (capacities trace) trace.events n e here.1 so_far.rows (length trace.events) so_far.table so_far.found found refl range so_far.right);
+            (found_next (capacities trace) trace.events n e here.1 so_far.rows (length trace.events) so_far.table so_far.found found refl has_row (has_place trace n e so_far.found holds here.1 so_far.vars) so_far.right);
       }
 
   -- the races of the trace

@@ -1,6 +1,7 @@
 pub mod InputLemmas
 pub mod ReplayLemmas
 pub mod Fronts
+pub mod RangeLemmas
 pub mod RowLemmas
 pub mod TableSteps
 pub mod PartnerLemmas

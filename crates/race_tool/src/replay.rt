@@ -8,9 +8,9 @@ ghost use Rattle.race_records.specs.Declarations.{capacity_of};
 ghost use Rattle.race_tool.specs.Rules.{number_of};
 ghost use Rattle.race_tool.specs.ReplayState.{
   ReplayState,
-  sizes,
-  sizes_of,
   IsInRange,
+  counts_in,
+  Covers,
   started_in,
   runs_in,
   value_in,
@@ -61,7 +61,7 @@ impl<A: Allocator> Replay<A> {
     pub(crate) fn new<B: Allocator>(alloc: A, decls: &Decls<B>) -> Result<Replay<A>, AllocError>
     where
         A: Copy,
-        ensures sizes { IfOk result (λ replay. sizes replay ≡ sizes_of decls.now) }
+        ensures covers { IfOk result (λ replay. Covers replay decls.now.declarations) }
         ensures stands { IfOk result (λ replay.
             StandsFor (capacity_of decls.now.declarations) replay []) }
     {
@@ -101,7 +101,7 @@ impl<A: Allocator> Replay<A> {
 
     // The least rule that the event breaks.
     fn first_broken(&self, event: &Event) -> Option<Rule>
-        requires { IsInRange (sizes self.now) event.now }
+        requires { IsInRange (counts_in self.now) event.now }
         ensures { option_map number_of result ≡ broken_in self.now event.now }
     {
         if self.over {
@@ -121,7 +121,7 @@ impl<A: Allocator> Replay<A> {
 
     // What the event changes.
     fn step(&mut self, event: &Event)
-        requires { IsInRange (sizes self.old) event.now }
+        requires { IsInRange (counts_in self.old) event.now }
         ensures { self.new ≡ after self.old event.now }
     {
         match &event.op {
@@ -137,9 +137,9 @@ impl<A: Allocator> Replay<A> {
 
     /// Accepts the next event where the longer list is legal.
     pub(crate) fn accept(&mut self, event: &Event) -> Result<(), Rule>
-        requires { IsInRange (sizes self.old) event.now }
+        requires { IsInRange (counts_in self.old) event.now }
         ensures goes_on { OnOk result (GoesOn self.old self.new event.now) }
-        ensures sizes { sizes self.new ≡ sizes self.old }
+        ensures counts { counts_in self.new ≡ counts_in self.old }
         ensures least { IfErr result (λ rule. Breaks self.old event.now (number_of rule)) }
         ensures unchanged { OnErr result (self.new ≡ self.old) }
     {

@@ -1,16 +1,17 @@
 -- The front of the events up to the index is legal; at the end it is all of them.
-use Rattle.std.proofs.Common.{◌∙◌, sym, subst, take, arith}
+use Rattle.std.proofs.Common.{sym, subst, take, arith}
 use Rattle.std.proofs.lemmas.List.{take_all}
 use Rattle.race_model.specs.Legal.{IsLegal}
-use Rattle.race_tool.specs.ReplayState.{Sizes, IsInRange}
+use Rattle.race_tool.specs.ReplayState.{IsInRange}
 use Rattle.race_tool.specs.StandsFor.{StandsFor}
 use Rattle.race_tool.specs.Traces.{capacities}
-use Rattle.race_tool.proofs.Fronts.{take_next, range_in_trace}
+use Rattle.race_tool.proofs.Fronts.{take_next}
+use Rattle.race_tool.proofs.RangeLemmas.{range_in_trace}
 use Rattle.race_tool.proofs.replay.legal.Goals as goal
 
 pub accept-requires : goal.accept-requires
 accept-requires g c =
-    subst (λ (n : Sizes). IsInRange n c.event.result.now) (sym c.loop-at.invariant.sizes) (range_in_trace c.args.trace.now c.loop-at.at c.event.result.now c.len-at-end.ensures.is_trace c.event.ensures.event)
+    c.loop-at.invariant.covers c.event.result.now (range_in_trace c.args.trace.now c.loop-at.at c.event.result.now c.len-at-end.ensures.is_trace c.event.ensures.event)
 
 pub returns-in-Err : goal.returns-in-Err
 returns-in-Err g c = (
@@ -22,7 +23,7 @@ returns-in-Err g c = (
 
 pub loop-at-preserved : goal.loop-at-preserved
 loop-at-preserved g c = record {
-  sizes = c.in-Ok.ensures.sizes ∙ c.loop-at.invariant.sizes;
+  covers = λ e range. subst (λ counts. IsInRange counts e) (sym c.in-Ok.ensures.counts) (c.loop-at.invariant.covers e range);
   stands =
       subst (StandsFor (capacities c.args.trace.now) c.accept.new.self) (sym (take_next c.args.trace.now.events c.loop-at.at c.event.result.now c.event.ensures.event))
       (c.in-Ok.ensures.goes_on (capacities c.args.trace.now) (take c.loop-at.at c.args.trace.now.events) c.loop-at.invariant.stands);

@@ -1,10 +1,9 @@
 -- Whichever finding is right for a list of bytes, the report is the same.
-use Rattle.std.proofs.Common.{◌≡◌, ℕ, ◌+◌, List, [], ◌∷◌, ◌++◌, length, map, slice_get, unwrap_or, codes, decimal, Option, Some, None, option_map, cond, refl, sym, ap, ◌∙◌, subst, arith}
+use Rattle.std.proofs.Common.{◌≡◌, ℕ, ◌+◌, List, [], ◌∷◌, ◌++◌, length, map, slice_get, unwrap_or, codes, decimal, Option, Some, None, option_map, refl, sym, ap, ◌∙◌, subst, arith}
 use Rattle.std.proofs.lemmas.List.{length-map}
-use Rattle.std.proofs.lemmas.List.Folds.{fold-map}
 use Rattle.std.proofs.lemmas.Option.{none-some, same_Some, slice_get-map}
 use Rattle.std.proofs.lemmas.Simd.{map-map}
-use Rattle.std.specs.List.{flat_map, fold, concat}
+use Rattle.std.specs.List.{flat_map, concat}
 use Rattle.race_records.specs.declared.event.Event.{Event}
 use Rattle.race_records.specs.declared.event.Op.{Op}
 use Rattle.race_records.specs.Declarations.{capacity_of}
@@ -12,7 +11,7 @@ use Rattle.race_records.specs.Events.{TraceState}
 use Rattle.race_records.specs.TraceEquality.{PlacedEvent, placed, placed_events, Recorded, recorded}
 use Rattle.race_model.specs.Events.{operations, count, is_access}
 use Rattle.race_model.specs.Verdict.{Race, Verdict, Illegal, Clean, Races, IsVerdict}
-use Rattle.race_model.proofs.PlacesAside.{verdict_alike}
+use Rattle.race_model.proofs.PlacesAside.{counted_alike, verdict_alike}
 use Rattle.race_model.proofs.Uniqueness.{verdict_unique}
 use Rattle.race_text.specs.declared.cause.TextFault.{TextFault}
 use Rattle.race_text.specs.Fault.{text_fault}
@@ -42,10 +41,7 @@ module _ (t u : TraceState) (same : recorded t ≡ recorded u) where
   length_same = sym (length-map t.events (placed t.decls.places)) ∙ ap length events_same ∙ length-map u.events (placed u.decls.places)
 
   accesses_same : count is_access t.events ≡ count is_access u.events
-  accesses_same = counted t.events ∙ ap (fold (λ (n : ℕ) (c : ℕ × Op). n + cond (is_access c.1) 1 0) 0) operations_same ∙ sym (counted u.events)
-    where
-      counted : (es : List Event) → count is_access es ≡ fold (λ (n : ℕ) (c : ℕ × Op). n + cond (is_access c.1) 1 0) 0 (operations es)
-      counted es = sym (fold-map (λ (n : ℕ) (c : ℕ × Op). n + cond (is_access c.1) 1 0) (λ (e : Event). (e.who, e.op)) 0 es)
+  accesses_same = counted_alike t.events u.events operations_same (λ c. is_access c.1)
 
   event_same : (i : ℕ) → option_map (placed t.decls.places) (slice_get t.events i) ≡ option_map (placed u.decls.places) (slice_get u.events i)
   event_same i = sym (slice_get-map (placed t.decls.places) t.events i) ∙ ap (λ l. slice_get l i) events_same ∙ slice_get-map (placed u.decls.places) u.events i

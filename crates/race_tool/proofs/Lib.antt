@@ -10,6 +10,6 @@ pub mod JudgeSteps
 pub mod RaceLists
 pub mod ReportLemmas
 pub mod PrintableLemmas
-pub mod CleanLemmas
+pub mod StatusLemmas
 pub mod OneReport
 pub mod EachIsJudged

@@ -91,17 +91,15 @@ pub fn run_check<T, R: Read, W: Write, A: Allocator + Copy>(
         → ReadsAndReports (unread R.remaining source.old) (unread R.remaining source.new)
         (written W.contents sink.old) (written W.contents sink.new) result }
 
-    // What the status says of the input, whose text a trace has: it is legal and has no data race,
-    // and what a read finds doesn't depend on how unordered accesses happened to be interleaved; it
-    // is legal and has a data race; or an event of it breaks a rule.
+    // The input is the text of a trace. With CLEAN it is a legal one without a data race, in which
+    // what a read finds doesn't depend on how unordered accesses happened to be interleaved. With
+    // RACES it is a legal one with a data race. With ILLEGAL an event of it breaks a rule.
     ensures clean { result ≡ status.CLEAN
         → ReadsTextWhere IsClean (unread R.remaining source.old) (unread R.remaining source.new) }
     ensures races { result ≡ status.RACES
-        → ReadsTextWhere IsRacy (unread R.remaining source.old)
-        (unread R.remaining source.new) }
+        → ReadsTextWhere IsRacy (unread R.remaining source.old) (unread R.remaining source.new) }
     ensures illegal { result ≡ status.ILLEGAL
-        → ReadsTextWhere IsIllegal (unread R.remaining source.old)
-        (unread R.remaining source.new) }
+        → ReadsTextWhere IsIllegal (unread R.remaining source.old) (unread R.remaining source.new) }
 
     // Memory was refused: nothing is written.
     ensures refused { result ≡ status.REFUSED → sink.new ≡ sink.old }

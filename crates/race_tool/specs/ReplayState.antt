@@ -2,7 +2,6 @@
 use Rattle.std.specs.Prelude.{ℕ, ◌<◌, ◌==◌, ◌||◌, ◌&&◌, not, Bool, true, false, IsTrue, List, [], ◌∷◌, length, Option, slice_set}
 use Rattle.std.specs.List.{slice_index_or}
 use Rattle.race_records.specs.declared.kind.Kind.{Kind}
-use Rattle.race_records.specs.Declarations.{Declaration, counts_of}
 use Rattle.race_records.specs.declared.event.Event.{Event}
 use Rattle.race_records.specs.declared.event.Op.{Op}
 use Rattle.race_records.specs.declared.event.Op.TheVariants.{Go, Exit, Read, Write}
@@ -19,19 +18,15 @@ pub record ReplayState : Type 0 where
   -- by variable
   pub values : List ℕ
 
--- of so many objects of each kind, the event is by one and names only such
+-- with so many objects of each kind, the event's goroutine is in range and all that its operation names
 abbrev pub IsInRange : (Kind → ℕ) → Event → Type 0
 IsInRange counts e = (e.who < counts Kind.Goroutine) × IsTrue (op_is_in_range counts e.op)
 
--- how many objects of each kind the tables tell of
+-- how many objects of each kind the tables tell of: none but goroutines and variables
 abbrev pub counts_in : ReplayState → Kind → ℕ
 counts_in k Kind.Goroutine = length k.started
 counts_in k Kind.Var = length k.values
 counts_in k _ = 0
-
--- they tell of all that an event names which is in range of the declarations
-abbrev pub Covers : ReplayState → List Declaration → Type 0
-Covers k ds = (e : Event) → IsInRange (counts_of ds) e → IsInRange (counts_in k) e
 
 -- what the tables say of a goroutine: a Go started it, it has exited, it runs
 abbrev pub started_in : ReplayState → ℕ → Bool

@@ -4,13 +4,12 @@
 //! of the memory model on the list of events do is a matter of lists alone (proofs/ReplayLemmas).
 ghost use Rattle.std.specs.Prelude.{◌≡◌, ◌<◌, [], length, IfOk, OnOk, IfErr, OnErr};
 ghost use Rattle.std.specs.Option.{option_map};
-ghost use Rattle.race_records.specs.Declarations.{capacity_of};
+ghost use Rattle.race_records.specs.Declarations.{counts_of, capacity_of};
 ghost use Rattle.race_tool.specs.Rules.{number_of};
 ghost use Rattle.race_tool.specs.ReplayState.{
   ReplayState,
   IsInRange,
   counts_in,
-  Covers,
   started_in,
   runs_in,
   value_in,
@@ -61,7 +60,10 @@ impl<A: Allocator> Replay<A> {
     pub(crate) fn new<B: Allocator>(alloc: A, decls: &Decls<B>) -> Result<Replay<A>, AllocError>
     where
         A: Copy,
-        ensures covers { IfOk result (λ replay. Covers replay decls.now.declarations) }
+        ensures goroutines { IfOk result (λ replay.
+            counts_in replay Kind.Goroutine ≡ counts_of decls.now.declarations Kind.Goroutine) }
+        ensures vars { IfOk result (λ replay.
+            counts_in replay Kind.Var ≡ counts_of decls.now.declarations Kind.Var) }
         ensures stands { IfOk result (λ replay.
             StandsFor (capacity_of decls.now.declarations) replay []) }
     {

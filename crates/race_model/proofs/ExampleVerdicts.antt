@@ -8,7 +8,7 @@ use Rattle.race_model.specs.Race.{IsRace, IsWriteOf}
 use Rattle.race_model.specs.Reorder.{op_passes, IsReordering}
 use Rattle.race_model.specs.Verdict.{IsVerdict, Clean, Races, Illegal}
 use Rattle.race_model.specs.Known.{SeenBy}
-use Rattle.race_model.specs.Examples.{main, w, v, x, does, race_on_x, write_then_go, go_then_write, exit_then_read, exit_then_go, two_reads, exit_twice, write_unstarted, go_main, read_unwritten}
+use Rattle.race_model.specs.Examples.{main, w, v, x, does, race_on_x, write_then_go, go_then_write, exit_then_read, exit_then_go, two_reads, exit_twice, write_unstarted, go_main, read_unwritten, go_twice, write_exited, read_overwritten, read_the_first}
 use Rattle.race_model.proofs.Ranks.{happens_before_up}
 use Rattle.race_model.proofs.ReorderLemmas.{passes_from}
 use Rattle.race_model.proofs.LegalSteps.{legal_none, legal_by, illegal_push}
@@ -189,3 +189,19 @@ module _ (caps : ℕ → ℕ) where
   -- rule 21 at once
   pub read_unwritten_illegal : IsVerdict caps read_unwritten (Illegal 0 21)
   read_unwritten_illegal = illegal_push caps [] [] (does main (Read x 1)) 21 (legal_none caps) refl
+
+  -- rule 2 behind the exit
+  pub write_exited_illegal : IsVerdict caps write_exited (Illegal 2 2)
+  write_exited_illegal = illegal_push caps (does main (Go w) ∷ does w Exit ∷ []) [] (does w (Write x 1)) 2 (legal_by caps [] (does main (Go w) ∷ does w Exit ∷ []) (legal_none caps) (refl, (refl, tt))) refl
+
+  -- rule 3 at the second start
+  pub go_twice_illegal : IsVerdict caps go_twice (Illegal 1 3)
+  go_twice_illegal = illegal_push caps (does main (Go w) ∷ []) [] (does main (Go w)) 3 (legal_by caps [] (does main (Go w) ∷ []) (legal_none caps) (refl, tt)) refl
+
+  -- rule 21 behind a write
+  pub read_overwritten_illegal : IsVerdict caps read_overwritten (Illegal 1 21)
+  read_overwritten_illegal = illegal_push caps (does main (Write x 7) ∷ []) [] (does main (Read x 0)) 21 (legal_by caps [] (does main (Write x 7) ∷ []) (legal_none caps) (refl, tt)) refl
+
+  -- rule 21 behind two writes
+  pub read_the_first_illegal : IsVerdict caps read_the_first (Illegal 2 21)
+  read_the_first_illegal = illegal_push caps (does main (Write x 1) ∷ does main (Write x 2) ∷ []) [] (does main (Read x 1)) 21 (legal_by caps [] (does main (Write x 1) ∷ does main (Write x 2) ∷ []) (legal_none caps) (refl, (refl, tt))) refl

@@ -45,7 +45,7 @@ module _ (es fs : List Event) (same : operations es ≡ operations fs) where
   front_alike n = sym (take-map doing n es) ∙ ap (take n) same ∙ take-map doing n fs
 
   -- what the events say of the run
-  counted_alike : (p : ℕ × Op → Bool) → count_by (λ (e : Event). p (e.who, e.op)) es ≡ count_by (λ (e : Event). p (e.who, e.op)) fs
+  pub counted_alike : (p : ℕ × Op → Bool) → count_by (λ (e : Event). p (e.who, e.op)) es ≡ count_by (λ (e : Event). p (e.who, e.op)) fs
   counted_alike p = count_of_operations p es ∙ ap (count_by p) same ∙ sym (count_of_operations p fs)
 
   exited_alike : (g : ℕ) → has_exited g es ≡ has_exited g fs

@@ -63,3 +63,19 @@ go_main = does main (Go main) ∷ []
 -- a read of a value that nobody wrote
 abbrev pub read_unwritten : List Event
 read_unwritten = does main (Read x 1) ∷ []
+
+-- main starts the same goroutine twice
+abbrev pub go_twice : List Event
+go_twice = does main (Go w) ∷ does main (Go w) ∷ []
+
+-- a write by a goroutine that has exited
+abbrev pub write_exited : List Event
+write_exited = does main (Go w) ∷ does w Exit ∷ does w (Write x 1) ∷ []
+
+-- a read of the initial value behind a write of another
+abbrev pub read_overwritten : List Event
+read_overwritten = does main (Write x 7) ∷ does main (Read x 0) ∷ []
+
+-- a read of a value that was written and overwritten
+abbrev pub read_the_first : List Event
+read_the_first = does main (Write x 1) ∷ does main (Write x 2) ∷ does main (Read x 1) ∷ []

@@ -13,6 +13,10 @@ ghost use Rattle.race_model.specs.Examples.{
   write_unstarted,
   go_main,
   read_unwritten,
+  go_twice,
+  write_exited,
+  read_overwritten,
+  read_the_first,
   race_on_x,
   x,
 };
@@ -52,4 +56,12 @@ pub fn first_broken_rules()
     ensures not_running { (caps : ℕ → ℕ) → IsVerdict caps write_unstarted (Illegal 0 2) }
     ensures already_started { (caps : ℕ → ℕ) → IsVerdict caps go_main (Illegal 0 3) }
     ensures stale_read { (caps : ℕ → ℕ) → IsVerdict caps read_unwritten (Illegal 0 21) }
+{}
+
+/// Rules that are broken because of what an earlier event did.
+pub fn rules_look_back()
+    ensures exited { (caps : ℕ → ℕ) → IsVerdict caps write_exited (Illegal 2 2) }
+    ensures started_twice { (caps : ℕ → ℕ) → IsVerdict caps go_twice (Illegal 1 3) }
+    ensures overwritten { (caps : ℕ → ℕ) → IsVerdict caps read_overwritten (Illegal 1 21) }
+    ensures not_the_last { (caps : ℕ → ℕ) → IsVerdict caps read_the_first (Illegal 2 21) }
 {}

@@ -1,19 +1,18 @@
 -- What is noted of each variable is right, one event on.
-use Rattle.std.proofs.Common.{◌≡◌, ◌⊎◌, ℕ, ◌+◌, ◌<◌, ◌≤◌, ◌==◌, Bool, true, false, List, [], ◌∷◌, ◌++◌, length, replicate, Option, Some, None, is_some, get_or, set, if◌then◌else◌, refl, sym, subst, inl, inr, arith, IsTrue, eqb-true, eq-eqb, length-append}
+use Rattle.std.proofs.Common.{◌≡◌, ◌⊎◌, ℕ, ◌+◌, ◌<◌, ◌≤◌, Bool, true, false, List, [], ◌∷◌, ◌++◌, length, replicate, Option, Some, None, IfSome, is_some, get_or, set, if◌then◌else◌, refl, sym, ◌∙◌, subst, inl, inr, arith, IsTrue, eqb-true, eq-eqb, length-append}
 use Rattle.std.specs.Option.{option_map}
-use Rattle.std.proofs.lemmas.Bool.{cases_eq, cases_lt, or_cases, or_left}
+use Rattle.std.proofs.lemmas.Bool.{cases_eq, cases_lt}
 use Rattle.std.proofs.lemmas.List.{get_or-set_same, get_or-set_other, get_or-replicate, length-set, length-replicate}
 use Rattle.race_records.specs.declared.event.Event.{Event}
-use Rattle.race_records.specs.declared.event.Op.{Op}
-use Rattle.race_records.specs.declared.event.Op.TheVariants.{Go, Exit, Read, Write}
-use Rattle.race_model.specs.Events.{accesses}
+use Rattle.race_model.specs.Events.{gives, accesses}
 use Rattle.race_model.specs.Race.{IsAccessOf, IsRace}
 use Rattle.race_model.proofs.Indexes.{at_same, slice_get-push}
 use Rattle.race_model.proofs.RaceSteps.{race_turned, access_within, race_old, reported_grow}
 use Rattle.race_tool.specs.declared.races.Race.{Race}
 use Rattle.race_tool.specs.IsTable.{IsTable}
-use Rattle.race_tool.specs.Partners.{is_partner, greatest_below, race_at, noted, found_after}
+use Rattle.race_tool.specs.Partners.{is_partner, greatest_below, race_at, accessed, HasPlace, noted, found_after}
 use Rattle.race_tool.specs.Answers.{IsFound, AreFound}
+use Rattle.race_tool.proofs.RangeLemmas.{accesses_is}
 use Rattle.race_tool.proofs.PartnerLemmas.{IsGreatest, greatest_is, race_from_partner, partner_from_race}
 
 -- before the first event there is no race
@@ -110,20 +109,10 @@ module _ (caps : ℕ → ℕ) (past : List Event) (e : Event) (rows : List (List
               (race_new caps past e y rows limit table row access (free (get_or found y None) none (right y below)))
 
   -- what is noted of all variables is right behind the next event
-  pub found_step : (o : Op) → e.op ≡ o → ((x : ℕ) → IsTrue (accesses x o) → x < length found) → AreFound caps (past ++ e ∷ []) (found_after rows past (length past) e o found)
-  found_step (Go k) is within = λ x less. found_kept caps past e x (λ a. let none : accesses x (Go k) ≡ true = subst (λ o. IsTrue (accesses x o)) is a in cc) (get_or found x None) (right x less)
-  found_step Exit is within = λ x less. found_kept caps past e x (λ a. let none : accesses x Exit ≡ true = subst (λ o. IsTrue (accesses x o)) is a in cc) (get_or found x None) (right x less)
-  found_step (Read y v) is within = noted_right y (within y own) (λ x a. only x (subst (λ o. IsTrue (accesses x o)) is a)) (subst (λ o. IsTrue (accesses y o)) (sym is) own)
+  pub found_step : HasPlace found e.op → AreFound caps (past ++ e ∷ []) (found_after rows past (length past) e found)
+  found_step place = by (accessed e.op) (accesses_is e.op) place
     where
-      own : IsTrue (accesses y (Read y v))
-      own = or_left (y == y) false (eq-eqb y y refl)
-
-      only : (x : ℕ) → IsTrue (accesses x (Read y v)) → x ≡ y
-      only x a = elim (or_cases (y == x) false a) [ inl same ↦ sym (eqb-true y x same) | inr never ↦ cc ]
-  found_step (Write y v) is within = noted_right y (within y own) (λ x a. only x (subst (λ o. IsTrue (accesses x o)) is a)) (subst (λ o. IsTrue (accesses y o)) (sym is) own)
-    where
-      own : IsTrue (accesses y (Write y v))
-      own = eq-eqb y y refl
-
-      only : (x : ℕ) → IsTrue (accesses x (Write y v)) → x ≡ y
-      only x a = sym (eqb-true y x a)
+      by : (a : Option ℕ) → ((x : ℕ) → accesses x e.op ≡ gives a x) → IfSome a (λ x. x < length found)
+          → AreFound caps (past ++ e ∷ []) (elim a [ Some x ↦ noted rows past (length past) e x found | None ↦ found ])
+      by None is below = λ x less. found_kept caps past e x (λ access. let none : false ≡ true = sym (is x) ∙ access in cc) (get_or found x None) (right x less)
+      by (Some y) is below = noted_right y below (λ x access. sym (eqb-true y x (sym (is x) ∙ access))) (is y ∙ eq-eqb y y refl)

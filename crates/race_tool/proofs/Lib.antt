@@ -1,6 +1,7 @@
 pub mod InputLemmas
 pub mod ReplayLemmas
 pub mod Fronts
+pub mod RangeLemmas
 pub mod RowLemmas
 pub mod TableSteps
 pub mod PartnerLemmas
@@ -9,6 +10,6 @@ pub mod JudgeSteps
 pub mod RaceLists
 pub mod ReportLemmas
 pub mod PrintableLemmas
-pub mod CleanLemmas
+pub mod StatusLemmas
 pub mod OneReport
 pub mod EachIsJudged

@@ -1,17 +1,17 @@
 -- Whichever finding is right for a list of bytes, the report is the same.
-use Rattle.std.proofs.Common.{◌≡◌, ℕ, ◌+◌, List, [], ◌∷◌, ◌++◌, length, map, slice_get, unwrap_or, codes, decimal, Option, Some, None, option_map, cond, refl, sym, ap, ◌∙◌, arith}
+use Rattle.std.proofs.Common.{◌≡◌, ℕ, ◌+◌, List, [], ◌∷◌, ◌++◌, length, map, slice_get, unwrap_or, codes, decimal, Option, Some, None, option_map, refl, sym, ap, ◌∙◌, subst, arith}
 use Rattle.std.proofs.lemmas.List.{length-map}
-use Rattle.std.proofs.lemmas.List.Folds.{fold-map}
 use Rattle.std.proofs.lemmas.Option.{none-some, same_Some, slice_get-map}
 use Rattle.std.proofs.lemmas.Simd.{map-map}
-use Rattle.std.specs.List.{flat_map, fold, concat}
+use Rattle.std.specs.List.{flat_map, concat}
 use Rattle.race_records.specs.declared.event.Event.{Event}
 use Rattle.race_records.specs.declared.event.Op.{Op}
+use Rattle.race_records.specs.Declarations.{capacity_of}
 use Rattle.race_records.specs.Events.{TraceState}
 use Rattle.race_records.specs.TraceEquality.{PlacedEvent, placed, placed_events, Recorded, recorded}
 use Rattle.race_model.specs.Events.{operations, count, is_access}
-use Rattle.race_model.specs.Verdict.{Race, Verdict, Illegal, Clean, Races}
-use Rattle.race_model.proofs.PlacesAside.{verdict_alike}
+use Rattle.race_model.specs.Verdict.{Race, Verdict, Illegal, Clean, Races, IsVerdict}
+use Rattle.race_model.proofs.PlacesAside.{counted_alike, verdict_alike}
 use Rattle.race_model.proofs.Uniqueness.{verdict_unique}
 use Rattle.race_text.specs.declared.cause.TextFault.{TextFault}
 use Rattle.race_text.specs.Fault.{text_fault}
@@ -19,7 +19,8 @@ use Rattle.race_text.specs.Text.{goroutine_name, var_name, place_text, IsTextOf}
 use Rattle.race_text.proofs.TextFine.{text_has_no_fault}
 use Rattle.race_text.proofs.TextLaws.{equal_texts}
 use Rattle.race_tool.specs.Report.{newline, clean_line, access_word, access_text, race_line, races_line, report}
-use Rattle.race_tool.specs.Finding.{Finding, Faulty, TooLong, Judged, IsFinding, HasVerdict, report_of, status_of}
+use Rattle.race_tool.specs.Traces.{capacities, HasVerdict}
+use Rattle.race_tool.specs.Finding.{Finding, Faulty, TooLong, Judged, IsFinding, report_of, status_of}
 
 -- two traces that record the same
 module _ (t u : TraceState) (same : recorded t ≡ recorded u) where
@@ -40,10 +41,7 @@ module _ (t u : TraceState) (same : recorded t ≡ recorded u) where
   length_same = sym (length-map t.events (placed t.decls.places)) ∙ ap length events_same ∙ length-map u.events (placed u.decls.places)
 
   accesses_same : count is_access t.events ≡ count is_access u.events
-  accesses_same = counted t.events ∙ ap (fold (λ (n : ℕ) (c : ℕ × Op). n + cond (is_access c.1) 1 0) 0) operations_same ∙ sym (counted u.events)
-    where
-      counted : (es : List Event) → count is_access es ≡ fold (λ (n : ℕ) (c : ℕ × Op). n + cond (is_access c.1) 1 0) 0 (operations es)
-      counted es = sym (fold-map (λ (n : ℕ) (c : ℕ × Op). n + cond (is_access c.1) 1 0) (λ (e : Event). (e.who, e.op)) 0 es)
+  accesses_same = counted_alike t.events u.events operations_same (λ c. is_access c.1)
 
   event_same : (i : ℕ) → option_map (placed t.decls.places) (slice_get t.events i) ≡ option_map (placed u.decls.places) (slice_get u.events i)
   event_same i = sym (slice_get-map (placed t.decls.places) t.events i) ∙ ap (λ l. slice_get l i) events_same ∙ slice_get-map (placed u.decls.places) u.events i
@@ -92,10 +90,12 @@ module _ (bytes : List ℕ) where
   never_both : (t : TraceState) (fault : TextFault) → IsTextOf t bytes → text_fault bytes ≡ Some fault → ⊥
   never_both t fault is h = none-some fault (sym (ap text_fault is.printed ∙ text_has_no_fault t is.has_text) ∙ h)
 
+  -- traces with one text declare the same capacities and do the same, so they have one verdict
   one_verdict : (t u : TraceState) (v w : Verdict) → IsTextOf t bytes → IsTextOf u bytes → HasVerdict t v → HasVerdict u w → v ≡ w
   one_verdict t u v w is are judged other =
-      let caps : ℕ → ℕ = λ _. 0 in
-      verdict_unique caps u.events v w (verdict_alike t.events u.events (operations_same t u (one_trace t u is are)) caps v (judged caps)) (other caps)
+      let same = one_trace t u is are in
+      let verdict : HasVerdict u v = subst (λ ds. IsVerdict (capacity_of ds) u.events v) (declarations_same t u same) (verdict_alike t.events u.events (operations_same t u same) (capacities t) v judged) in
+      verdict_unique (capacities u) u.events v w verdict other
 
   pub one_report : (f g : Finding) → IsFinding bytes f → IsFinding bytes g → (report_of f ≡ report_of g) × (status_of f ≡ status_of g)
   one_report (Faulty a) (Faulty b) h k = let same = same_Some a b (sym h ∙ k) in (ap (λ x. report_of (Faulty x)) same, refl)

@@ -77,6 +77,13 @@ module _ (caps : ℕ → ℕ) (rows : List (List Bool)) (limit : ℕ) (past : Li
   front : take (length past) (past ++ e ∷ []) ≡ past
   front = take_at past (e ∷ []) (length past) refl
 
+  -- an event of the list stands in the longer list too, and the next one behind it
+  there : (i : ℕ) (a : Event) → At past i a → At (past ++ e ∷ []) i a
+  there i a at = append_at_old past (e ∷ []) i a at
+
+  here : At (past ++ e ∷ []) (length past) e
+  here = slice_get-push past e
+
   -- the test at an index
   partner_is : (i : ℕ) (a : Event) → At past i a → is_partner rows past e.who e.op i ≡ (conflicts a.op e.op && not (sees rows e.who i))
   partner_is i a at = ap (λ o. elim o [ Some a ↦ conflicts a.op e.op && not (sees rows e.who i) | None ↦ false ]) at
@@ -86,14 +93,8 @@ module _ (caps : ℕ → ℕ) (rows : List (List Bool)) (limit : ℕ) (past : Li
   race_from_partner i less is = go (at_below past i less)
     where
       go : ((a : Event) × At past i a) → IsRace caps (past ++ e ∷ []) x i (length past)
-      go (a, at) = race_from_unseen caps (past ++ e ∷ []) x i (length past) a e less there here conflict unseen
+      go (a, at) = race_from_unseen caps (past ++ e ∷ []) x i (length past) a e less (there i a at) here conflict unseen
         where
-          there : At (past ++ e ∷ []) i a
-          there = append_at_old past (e ∷ []) i a at
-
-          here : At (past ++ e ∷ []) (length past) e
-          here = slice_get-push past e
-
           parts : (conflicts a.op e.op ≡ true) × (sees rows e.who i ≡ false)
           parts = both (conflicts a.op e.op) (sees rows e.who i) (sym (partner_is i a at) ∙ is)
 
@@ -103,9 +104,9 @@ module _ (caps : ℕ → ℕ) (rows : List (List Bool)) (limit : ℕ) (past : Li
           conflict : Conflict (past ++ e ∷ []) x i (length past)
           conflict = (
             (λ same. absurd (omega (arith, less, same))),
-            (a, there, accessed.0),
+            (a, there i a at, accessed.0),
             (e, here, access),
-            elim accessed.1 [ inl first ↦ inl (a, there, first) | inr second ↦ inr (e, here, second) ],
+            elim accessed.1 [ inl first ↦ inl (a, there i a at, first) | inr second ↦ inr (e, here, second) ],
           )
 
           unseen : SeenBy caps (take (length past) (past ++ e ∷ [])) i a.who e.who → ⊥
@@ -121,17 +122,11 @@ module _ (caps : ℕ → ℕ) (rows : List (List Bool)) (limit : ℕ) (past : Li
       go : ((a : Event) × At past i a) → IsTrue (is_partner rows past e.who e.op i)
       go (a, at) = partner_is i a at ∙ together (conflicts a.op e.op) (sees rows e.who i) conflict unseen
         where
-          there : At (past ++ e ∷ []) i a
-          there = append_at_old past (e ∷ []) i a at
-
-          here : At (past ++ e ∷ []) (length past) e
-          here = slice_get-push past e
-
           first : IsAccessOf (past ++ e ∷ []) x i → IsTrue (accesses x a.op)
-          first (s, ats, is) = subst (λ (s : Event). IsTrue (accesses x s.op)) (at_same (past ++ e ∷ []) i s a ats there) is
+          first (s, ats, is) = subst (λ (s : Event). IsTrue (accesses x s.op)) (at_same (past ++ e ∷ []) i s a ats (there i a at)) is
 
           write : IsWriteOf (past ++ e ∷ []) x i ⊎ IsWriteOf (past ++ e ∷ []) x (length past) → IsTrue (writes x a.op) ⊎ IsTrue (writes x e.op)
-          write (inl (s, ats, is)) = inl (subst (λ (s : Event). IsTrue (writes x s.op)) (at_same (past ++ e ∷ []) i s a ats there) is)
+          write (inl (s, ats, is)) = inl (subst (λ (s : Event). IsTrue (writes x s.op)) (at_same (past ++ e ∷ []) i s a ats (there i a at)) is)
           write (inr (s, ats, is)) = inr (subst (λ (s : Event). IsTrue (writes x s.op)) (at_same (past ++ e ∷ []) (length past) s e ats here) is)
 
           conflict : conflicts a.op e.op ≡ true
@@ -139,4 +134,4 @@ module _ (caps : ℕ → ℕ) (rows : List (List Bool)) (limit : ℕ) (past : Li
 
           unseen : sees rows e.who i ≡ false
           unseen = false_from (sees rows e.who i) (λ known.
-              unseen_from_race caps (past ++ e ∷ []) x i (length past) a e there here race (subst (λ es. SeenBy caps es i a.who e.who) (sym front) ((table.seen e.who i a row at).0 known)))
+              unseen_from_race caps (past ++ e ∷ []) x i (length past) a e (there i a at) here race (subst (λ es. SeenBy caps es i a.who e.who) (sym front) ((table.seen e.who i a row at).0 known)))

@@ -12,6 +12,7 @@ use Rattle.race_tool.specs.Answers.{race_of}
 use Rattle.race_tool.specs.Finding as spec
 use Rattle.race_tool.specs.Findings.{finding_of, RacesAreOf, IsPrintable}
 use Rattle.race_tool.specs.Report.{IsOf}
+use Rattle.race_tool.specs.Traces.{capacities}
 use Rattle.race_tool.proofs.JudgeSteps.{race_declared}
 
 module _ (trace : TraceState) (is_trace : IsTrace trace) where
@@ -35,9 +36,7 @@ races_are_of : {A : Type 0} (trace : TraceState) (verdict : Verdict A) (bytes : 
 races_are_of trace (Verdict.Illegal illegal) bytes right = tt
 races_are_of trace Verdict.Clean bytes right = tt
 races_are_of trace (Verdict.Races races) bytes right =
-    let caps : ℕ → ℕ = λ _. 0 in
-    let verdict = right.2 caps in
-    all_races (IsOf trace) races (λ k r at. race_is_of trace right.0.has_text.is_trace caps r (verdict.2.each k r at))
+    all_races (IsOf trace) races (λ k r at. race_is_of trace right.0.has_text.is_trace (capacities trace) r (right.2.2.each k r at))
 
 -- a right finding can be printed
 pub is_printable : {A : Type 0} (finding : Finding A) (bytes : List ℕ) → spec.IsFinding bytes (finding_of finding) → IsPrintable finding

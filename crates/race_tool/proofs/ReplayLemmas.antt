@@ -1,18 +1,20 @@
 -- The tables of a replay answer the state words, one event on.
-use Rattle.std.proofs.Common.{◌≡◌, ℕ, ◌<◌, ◌==◌, ◌||◌, ◌&&◌, not, Bool, true, false, List, [], ◌∷◌, ◌++◌, length, Some, None, unwrap_or, get_or, set, if◌then◌else◌, refl, sym, ap, ◌∙◌, inl, inr, arith, ne_eqb, eq-eqb}
+use Rattle.std.proofs.Common.{◌≡◌, ℕ, ◌<◌, ◌==◌, ◌||◌, ◌&&◌, not, Bool, true, false, List, [], ◌∷◌, ◌++◌, length, Some, None, unwrap_or, get_or, set, if◌then◌else◌, refl, sym, ap, ◌∙◌, inl, inr, arith, IsTrue, ne_eqb, eq-eqb}
 use Rattle.std.proofs.lemmas.Bool.{cases_eq}
+use Rattle.std.proofs.lemmas.Bool.Decides.{nat_tests}
 use Rattle.std.proofs.Math.Bool.{or-true, or-false}
 use Rattle.std.proofs.lemmas.List.{get_or-set_same, get_or-set_other, length-set}
 use Rattle.race_records.specs.declared.event.Event.{Event}
 use Rattle.race_records.specs.declared.event.Op.{Op}
 use Rattle.race_records.specs.declared.event.Op.TheVariants.{Go, Exit, Read, Write}
+use Rattle.race_records.specs.Parts.{op_is_in_range}
 use Rattle.race_model.specs.Events.{starts, is_exit}
 use Rattle.race_model.specs.State.{started, written}
 use Rattle.race_model.specs.Legal.{broken, least_broken, op_rules}
 use Rattle.race_model.proofs.StateSteps.{over_push, started_push, last_value_push}
 use Rattle.race_model.proofs.CountSteps.{has_exited_push}
 use Rattle.race_model.proofs.LegalSteps.{legal_push}
-use Rattle.race_tool.specs.ReplayState.{ReplayState, sizes, IsInRange, OpIsInRange, op_rules_in, broken_in, after, started_after, exited_after, values_after}
+use Rattle.race_tool.specs.ReplayState.{ReplayState, IsInRange, counts_in, op_rules_in, broken_in, after, started_after, exited_after, values_after}
 use Rattle.race_tool.specs.StandsFor.{StandsFor}
 
 -- what stands at a place after a write to a place
@@ -77,18 +79,18 @@ length-values_after values _ = refl
 
 module _ (caps : ℕ → ℕ) (k : ReplayState) (past : List Event) (S : StandsFor caps k past) where
   -- the rules on the operation, from the tables
-  op_rules_is : (who : ℕ) (o : Op) → OpIsInRange (sizes k) o → op_rules caps past who o ≡ op_rules_in k o
-  op_rules_is who (Go h) less = ap (λ b. (3, h == 0 || b) ∷ []) (S.started h less)
-  op_rules_is who Exit less = refl
-  op_rules_is who (Read x v) less = ap (λ n. (21, not (n == v)) ∷ []) (S.values x less)
-  op_rules_is who (Write x v) less = refl
+  op_rules_is : (who : ℕ) (o : Op) → IsTrue (op_is_in_range (counts_in k) o) → op_rules caps past who o ≡ op_rules_in k o
+  op_rules_is who (Go h) is = let less : h < length k.started = grind (arith, nat_tests) in ap (λ b. (3, h == 0 || b) ∷ []) (S.started h less)
+  op_rules_is who Exit is = refl
+  op_rules_is who (Read x v) is = let less : x < length k.values = grind (arith, nat_tests) in ap (λ n. (21, not (n == v)) ∷ []) (S.values x less)
+  op_rules_is who (Write x v) is = refl
 
   -- the least broken rule, from the tables
-  pub broken_is : (e : Event) → IsInRange (sizes k) e → broken caps past e ≡ broken_in k e
+  pub broken_is : (e : Event) → IsInRange (counts_in k) e → broken caps past e ≡ broken_in k e
   broken_is e (who, op) = λ i. least_broken ((1, S.over i) ∷ (2, not ((e.who == 0 || S.started e.who who i) && not (S.exited e.who who i))) ∷ op_rules_is e.who e.op op i)
 
   -- behind an event that breaks no rule the tables still answer
-  pub stands_after : (e : Event) → IsInRange (sizes k) e → broken_in k e ≡ None → StandsFor caps (after k e) (past ++ e ∷ [])
+  pub stands_after : (e : Event) → IsInRange (counts_in k) e → broken_in k e ≡ None → StandsFor caps (after k e) (past ++ e ∷ [])
   stands_after e within none = record {
     legal = legal_push caps past e S.legal (broken_is e within ∙ none);
     over = over_push past e ∙ ap (λ b. b || ((e.who == 0) && is_exit e.op)) S.over;

@@ -1,6 +1,7 @@
 -- The lines of a report, from the words that are put into them.
-use Rattle.std.proofs.Common.{◌≡◌, ℕ, zero, suc, take, ◌+◌, ◌<◌, ◌≤◌, List, [], ◌∷◌, ◌++◌, length, codes, decimal, slice_get, Option, Some, None, IfSome, map, refl, sym, ap, arith}
+use Rattle.std.proofs.Common.{◌≡◌, ℕ, take, ◌+◌, ◌<◌, ◌≤◌, List, [], ◌∷◌, ◌++◌, length, codes, decimal, slice_get, Option, Some, None, IfSome, map, sym}
 use Rattle.std.specs.List.{concat, flat_map}
+use Rattle.std.proofs.lemmas.List as lists
 use Rattle.std.proofs.lemmas.List.{length-map}
 use Rattle.race_records.specs.declared.event.Event.{Event}
 use Rattle.race_records.specs.Events.{TraceState}
@@ -41,8 +42,6 @@ race_line_is trace race var what who place number what2 who2 place2 number2 name
 pub races_text_is : (trace : TraceState) (races : List tool.Race) → races_text trace (map race_of races) ≡ flat_map (λ r. race_line trace (race_of r)) races ++ races_line (length races)
 races_text_is trace races = λ i. flat_map-map (race_line trace) race_of races i ++ races_line (length-map races race_of i)
 
+-- no more than the whole list
 pub take_all : {X : Type 0} (xs : List X) (n : ℕ) → length xs ≤ n → take n xs ≡ xs
-take_all [] zero h = refl
-take_all [] (suc n) h = refl
-take_all (x ∷ xs) zero h = absurd (omega arith)
-take_all (x ∷ xs) (suc n) h = ap (λ l. x ∷ l) (take_all xs n (omega arith))
+take_all xs n all = lists.take_all n xs all

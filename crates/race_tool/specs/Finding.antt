@@ -1,19 +1,14 @@
 -- What a check finds of a list of bytes, what it prints of it, and with which status.
 use Rattle.std.specs.Prelude.{ℕ, ◌≡◌, ◌<◌, ◌≤◌, List, length, Some}
 use Rattle.race_records.specs.Events.{TraceState}
-use Rattle.race_model.specs.Legal.{IsLegal}
-use Rattle.race_model.specs.Reorder.{EachReadFindsTheSame}
-use Rattle.race_model.specs.Verdict.{Verdict, IsVerdict, Illegal, Clean, Races}
+use Rattle.race_model.specs.Verdict.{Verdict, Illegal, Clean, Races}
 use Rattle.race_text.specs.declared.cause.TextFault.{TextFault}
 use Rattle.race_text.specs.Fault.{text_fault}
 use Rattle.race_text.specs.Text.{IsTextOf}
 use Rattle.race_tool.specs.declared.judge.TheConstants.{MAX_PLAIN_EVENTS}
 use Rattle.race_tool.specs.declared.status.TheConstants as status
+use Rattle.race_tool.specs.Traces.{HasVerdict}
 use Rattle.race_tool.specs.Report.{fault_line, too_long_line, report}
-
--- the verdict on the trace, whatever the channels' capacities: no rule and no edge of Go, Exit, Read or Write looks at one
-abbrev pub HasVerdict : TraceState → Verdict → Type 0
-HasVerdict trace verdict = (caps : ℕ → ℕ) → IsVerdict caps trace.events verdict
 
 -- what there is to say of a list of bytes
 pub data Finding : Type 0 where
@@ -46,9 +41,8 @@ status_of (Judged trace (Illegal index rule)) = status.ILLEGAL
 status_of (Judged trace Clean) = status.CLEAN
 status_of (Judged trace (Races races)) = status.RACES
 
--- the bytes are the text of a legal trace, in which every reordering of the accesses lets every read find the same write
-pub record IsCleanText (bytes : List ℕ) : Type 0 where
+-- the bytes are the text of a trace of which this holds
+pub record IsTextWhere (Holds : TraceState → Type 0) (bytes : List ℕ) : Type 0 where
   pub trace : TraceState
   pub text : IsTextOf trace bytes
-  pub legal : (caps : ℕ → ℕ) → IsLegal caps trace.events
-  pub same : (caps : ℕ → ℕ) → EachReadFindsTheSame caps trace.events
+  pub holds : Holds trace

@@ -7,6 +7,7 @@ pub mod IsTable
 pub mod Partners
 pub mod Answers
 pub mod Verdicts
+pub mod Traces
 pub mod Causes
 pub mod Report
 pub mod Finding

@@ -4,15 +4,24 @@ use Rattle.std.specs.Io.KnownBytes.{Appends}
 use Rattle.race_records.specs.declared.source.Source.{Source}
 use Rattle.race_records.specs.declared.sink.Sink.{Sink}
 use Rattle.race_records.specs.Devices.{unread, written, source_failures, sink_failures, one_more}
+use Rattle.race_records.specs.Events.{TraceState}
 use Rattle.race_records.specs.Page.{IsCutOff}
 use Rattle.race_tool.specs.declared.check.CheckOptions.{CheckOptions}
 use Rattle.race_tool.specs.declared.check.TheConstants.{MAX_SHARDS, MAX_BLOCK}
+use Rattle.race_tool.specs.declared.input.ReadFault.{ReadFault}
+use Rattle.race_tool.specs.declared.status.TheConstants as status
 use Rattle.race_tool.specs.Input.{ReadsAll, ReadsMany}
-use Rattle.race_tool.specs.Finding.{Finding, IsFinding, IsCleanText, report_of, status_of}
+use Rattle.race_tool.specs.Finding.{Finding, IsFinding, IsTextWhere, report_of, status_of}
 
 -- each option is in its limits
 abbrev pub are_in_limits : CheckOptions → Bool
 are_in_limits o = nat_le 1 o.shards && nat_le o.shards MAX_SHARDS && nat_le 1 o.block && nat_le o.block MAX_BLOCK
+
+-- the status where the input wasn't read: its reader failed or gave no end, or memory was refused
+abbrev pub status_of_fault : ReadFault → ℕ
+status_of_fault ReadFault.Failed = status.DEVICE
+status_of_fault ReadFault.Endless = status.DEVICE
+status_of_fault ReadFault.OutOfMemory = status.REFUSED
 
 -- the report on the bytes was written, and the status is the report's
 pub record WritesReport (bytes : List ℕ) (output output_now : Option (List ℕ)) (status : ℕ) : Type 0 where
@@ -27,11 +36,11 @@ pub record ReadsAndReports (input input_left output output_now : Option (List �
   pub read : ReadsAll input input_left bytes
   pub reported : WritesReport bytes output output_now status
 
--- the input was read to its end, and it is the text of a legal trace in which every reordering lets every read find the same
-pub record ReadsCleanText (input input_left : Option (List ℕ)) : Type 0 where
+-- the input was read to its end, and it is the text of a trace of which this holds
+pub record ReadsTextWhere (Holds : TraceState → Type 0) (input input_left : Option (List ℕ)) : Type 0 where
   pub bytes : List ℕ
   pub read : ReadsAll input input_left bytes
-  pub clean : IsCleanText bytes
+  pub text : IsTextWhere Holds bytes
 
 -- a write failed, and only a front of the report on the bytes was written
 pub record WritesFront {W : Type 0} (bytes : List ℕ) (contents : W → Option (List ℕ)) (sink sink_now : Sink W) : Type 0 where

@@ -1,5 +1,5 @@
 -- The race that is noted for a variable: an event, and the greatest earlier access that it races with.
-use Rattle.std.specs.Prelude.{ℕ, zero, suc, ◌==◌, ◌&&◌, not, if◌then◌else◌, Bool, false, List, length, Option, Some, None, is_some, slice_get, slice_set}
+use Rattle.std.specs.Prelude.{ℕ, zero, suc, ◌<◌, ◌==◌, ◌&&◌, not, if◌then◌else◌, Bool, false, List, length, Option, Some, None, IfSome, is_some, slice_get, slice_set}
 use Rattle.std.specs.List.{slice_index_or}
 use Rattle.std.specs.Option.{option_map}
 use Rattle.race_records.specs.declared.event.Event.{Event}
@@ -7,11 +7,16 @@ use Rattle.race_records.specs.declared.event.Op.{Op}
 use Rattle.race_records.specs.declared.event.Op.TheVariants.{Read, Write}
 use Rattle.race_tool.specs.declared.races.Race.{Race}
 use Rattle.race_tool.specs.SeenTable.{sees}
-use Rattle.race_tool.specs.ReplayState.{Sizes}
 
--- how many goroutines and variables the tables have
-abbrev pub sizes_of_tables : List (List Bool) → List (Option Race) → Sizes
-sizes_of_tables rows found = record { goroutines = length rows; vars = length found }
+-- the variable that the operation accesses
+abbrev pub accessed : Op → Option ℕ
+accessed (Read x v) = Some x
+accessed (Write x v) = Some x
+accessed _ = None
+
+-- it has a place in the list
+abbrev pub HasPlace : List (Option Race) → Op → Type 0
+HasPlace found o = IfSome (accessed o) (λ x. x < length found)
 
 -- the two operations are accesses of one variable, and one of them is a Write
 abbrev pub conflicts : Op → Op → Bool
@@ -40,8 +45,6 @@ abbrev pub noted : List (List Bool) → List Event → ℕ → Event → ℕ →
 noted rows events n e x found =
     if is_some (slice_index_or found x None) then found else slice_set found x (race_at rows events n e x)
 
--- what is noted behind event n, which does o
-abbrev pub found_after : List (List Bool) → List Event → ℕ → Event → Op → List (Option Race) → List (Option Race)
-found_after rows events n e (Read x v) found = noted rows events n e x found
-found_after rows events n e (Write x v) found = noted rows events n e x found
-found_after rows events n e _ found = found
+-- what is noted behind event n: an access may complete a race
+abbrev pub found_after : List (List Bool) → List Event → ℕ → Event → List (Option Race) → List (Option Race)
+found_after rows events n e found = elim (accessed e.op) [ Some x ↦ noted rows events n e x found | None ↦ found ]

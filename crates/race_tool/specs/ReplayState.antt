@@ -1,11 +1,11 @@
 -- What a replay keeps: tables, how an event changes them, and the rules read off them.
-use Rattle.std.specs.Prelude.{ℕ, ◌<◌, ◌==◌, ◌||◌, ◌&&◌, not, Bool, true, false, List, [], ◌∷◌, length, Option, slice_set}
+use Rattle.std.specs.Prelude.{ℕ, ◌<◌, ◌==◌, ◌||◌, ◌&&◌, not, Bool, true, false, IsTrue, List, [], ◌∷◌, length, Option, slice_set}
 use Rattle.std.specs.List.{slice_index_or}
 use Rattle.race_records.specs.declared.kind.Kind.{Kind}
-use Rattle.race_records.specs.Declarations.{DeclsState, count_of}
 use Rattle.race_records.specs.declared.event.Event.{Event}
 use Rattle.race_records.specs.declared.event.Op.{Op}
 use Rattle.race_records.specs.declared.event.Op.TheVariants.{Go, Exit, Read, Write}
+use Rattle.race_records.specs.Parts.{op_is_in_range}
 use Rattle.race_model.specs.Events.{is_exit}
 use Rattle.race_model.specs.Legal.{least_broken}
 
@@ -18,33 +18,15 @@ pub record ReplayState : Type 0 where
   -- by variable
   pub values : List ℕ
 
--- how many goroutines and variables there are
-pub record Sizes : Type 0 where
-  pub goroutines : ℕ
-  pub vars : ℕ
+-- with so many objects of each kind, the event's goroutine is in range and all that its operation names
+abbrev pub IsInRange : (Kind → ℕ) → Event → Type 0
+IsInRange counts e = (e.who < counts Kind.Goroutine) × IsTrue (op_is_in_range counts e.op)
 
--- the sizes of the tables
-abbrev pub sizes : ReplayState → Sizes
-sizes k = record { goroutines = length k.started; vars = length k.values }
-
--- the counts of the declarations
-abbrev pub sizes_of : DeclsState → Sizes
-sizes_of decls =
-    record {
-      goroutines = count_of Kind.Goroutine decls.declarations;
-      vars = count_of Kind.Var decls.declarations;
-    }
-
--- the numbers that the operation names are below the sizes
-abbrev pub OpIsInRange : Sizes → Op → Type 0
-OpIsInRange n (Go h) = h < n.goroutines
-OpIsInRange n Exit = Unit {0}
-OpIsInRange n (Read x v) = x < n.vars
-OpIsInRange n (Write x v) = x < n.vars
-
--- so are all numbers of the event
-abbrev pub IsInRange : Sizes → Event → Type 0
-IsInRange n e = (e.who < n.goroutines) × OpIsInRange n e.op
+-- how many objects of each kind the tables tell of: none but goroutines and variables
+abbrev pub counts_in : ReplayState → Kind → ℕ
+counts_in k Kind.Goroutine = length k.started
+counts_in k Kind.Var = length k.values
+counts_in k _ = 0
 
 -- what the tables say of a goroutine: a Go started it, it has exited, it runs
 abbrev pub started_in : ReplayState → ℕ → Bool

@@ -1,9 +1,10 @@
 -- A row for each goroutine: whether it has seen the begin of the event at each index.
-use Rattle.std.specs.Prelude.{ℕ, zero, suc, ◌<◌, if◌then◌else◌, Bool, true, false, List, [], length, slice_set}
+use Rattle.std.specs.Prelude.{ℕ, zero, suc, ◌<◌, if◌then◌else◌, Bool, true, false, List, [], length, slice_set, IfSome}
 use Rattle.std.specs.List.{slice_index_or}
 use Rattle.race_records.specs.declared.event.Event.{Event}
 use Rattle.race_records.specs.declared.event.Op.{Op}
 use Rattle.race_records.specs.declared.event.Op.TheVariants.{Go}
+use Rattle.race_model.specs.Events.{partner}
 
 -- the row of goroutine g
 abbrev pub row_of : List (List Bool) → ℕ → List Bool
@@ -31,11 +32,6 @@ abbrev pub rows_after : List (List Bool) → ℕ → ℕ → Op → List (List B
 rows_after rows n who (Go k) = with_seen (with_seen (passed rows who k n) who n) k n
 rows_after rows n who _ = with_seen rows who n
 
--- a goroutine that the operation starts has a number below n
-abbrev pub StartsBelow : ℕ → Op → Type 0
-StartsBelow n (Go k) = k < n
-StartsBelow n _ = Unit {0}
-
 -- each goroutine that takes part in the event has a row
 abbrev pub HasRows : List (List Bool) → Event → Type 0
-HasRows rows e = (e.who < length rows) × StartsBelow (length rows) e.op
+HasRows rows e = (e.who < length rows) × IfSome (partner e.op) (λ g. g < length rows)

@@ -18,10 +18,6 @@ pub record StandsFor (caps : ℕ → ℕ) (k : ReplayState) (past : List Event) 
   -- both tables on goroutines have a row for each
   pub square : length k.exited ≡ length k.started
 
--- it stands for the empty list
-abbrev pub StandsForNone : ReplayState → Type 0
-StandsForNone k = (caps : ℕ → ℕ) → StandsFor caps k []
-
 -- whichever list it stood for, it stands for that list with the event behind it, which so is legal
 abbrev pub GoesOn : ReplayState → ReplayState → Event → Type 0
 GoesOn old new e = (caps : ℕ → ℕ) (past : List Event) → StandsFor caps old past → StandsFor caps new (past ++ e ∷ [])

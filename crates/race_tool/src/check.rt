@@ -1,17 +1,19 @@
 //! The engine of `gorace check`: a trace's text in, its report out.
 ghost use Rattle.std.specs.Prelude.{◌≡◌, ◌≢◌, ◌⊎◌, true, false};
 ghost use Rattle.race_records.specs.Devices.{unread, written, source_failures, sink_failures};
-ghost use Rattle.race_tool.specs.Finding.{IsCleanText};
+ghost use Rattle.race_tool.specs.Finding.{IsTextWhere};
 ghost use Rattle.race_tool.specs.Outcome.{
   are_in_limits,
+  status_of_fault,
   WritesReport,
   WritesFront,
   ReadsAndReports,
-  ReadsCleanText,
+  ReadsTextWhere,
   FailsToRead,
   GivesUpReading,
   FailsToWrite,
 };
+ghost use Rattle.race_tool.specs.Traces.{IsClean, IsRacy, IsIllegal};
 ghost use Rattle.race_tool.specs.declared.status.TheConstants as status;
 
 use crate::finding::find;
@@ -89,10 +91,15 @@ pub fn run_check<T, R: Read, W: Write, A: Allocator + Copy>(
         → ReadsAndReports (unread R.remaining source.old) (unread R.remaining source.new)
         (written W.contents sink.old) (written W.contents sink.new) result }
 
-    // What clean means: what a read finds doesn't depend on how unordered accesses happened to be
-    // interleaved.
+    // The input is the text of a trace. With CLEAN it is a legal one without a data race, in which
+    // what a read finds doesn't depend on how unordered accesses happened to be interleaved. With
+    // RACES it is a legal one with a data race. With ILLEGAL an event of it breaks a rule.
     ensures clean { result ≡ status.CLEAN
-        → ReadsCleanText (unread R.remaining source.old) (unread R.remaining source.new) }
+        → ReadsTextWhere IsClean (unread R.remaining source.old) (unread R.remaining source.new) }
+    ensures races { result ≡ status.RACES
+        → ReadsTextWhere IsRacy (unread R.remaining source.old) (unread R.remaining source.new) }
+    ensures illegal { result ≡ status.ILLEGAL
+        → ReadsTextWhere IsIllegal (unread R.remaining source.old) (unread R.remaining source.new) }
 
     // Memory was refused: nothing is written.
     ensures refused { result ≡ status.REFUSED → sink.new ≡ sink.old }
@@ -113,8 +120,18 @@ pub fn run_check<T, R: Read, W: Write, A: Allocator + Copy>(
     }
     match read_to_end(alloc, source) {
         Ok(bytes) => report(alloc, bytes.as_slice(), sink),
-        Err(ReadFault::OutOfMemory) => status::REFUSED,
-        Err(_) => status::DEVICE,
+        Err(fault) => status_of_fault(fault),
+    }
+}
+
+// The status where the input wasn't read.
+fn status_of_fault(fault: ReadFault) -> u8
+    ensures { result ≡ status_of_fault fault }
+{
+    match fault {
+        ReadFault::Failed => status::DEVICE,
+        ReadFault::Endless => status::DEVICE,
+        ReadFault::OutOfMemory => status::REFUSED,
     }
 }
 
@@ -122,7 +139,9 @@ pub fn run_check<T, R: Read, W: Write, A: Allocator + Copy>(
 fn report<W: Write, A: Allocator + Copy>(alloc: A, bytes: &[u8], sink: &mut Sink<W>) -> u8
     ensures reported { result ≢ status.REFUSED → result ≢ status.DEVICE
         → WritesReport bytes.now (written W.contents sink.old) (written W.contents sink.new) result }
-    ensures clean { result ≡ status.CLEAN → IsCleanText bytes.now }
+    ensures clean { result ≡ status.CLEAN → IsTextWhere IsClean bytes.now }
+    ensures races { result ≡ status.RACES → IsTextWhere IsRacy bytes.now }
+    ensures illegal { result ≡ status.ILLEGAL → IsTextWhere IsIllegal bytes.now }
     ensures refused { result ≡ status.REFUSED → sink.new ≡ sink.old }
     ensures device { result ≡ status.DEVICE
         → WritesFront bytes.now W.contents sink.old sink.new }

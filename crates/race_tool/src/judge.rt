@@ -3,9 +3,9 @@
 //! An access happens before a later event exactly where that event's goroutine has seen it before.
 //! So a row of flags for each goroutine decides every pair of accesses when the later one comes. It
 //! takes time in the square of the events, and is what faster judges are compared with.
-ghost use Rattle.std.specs.Prelude.{◌≡◌, ◌↔◌, ◌<◌, ◌≤◌, ℕ, length, IfOk};
-ghost use Rattle.race_model.specs.Verdict.{IsVerdict};
+ghost use Rattle.std.specs.Prelude.{◌≡◌, ◌↔◌, ◌<◌, length, IfOk};
 ghost use Rattle.race_tool.specs.Answers.{AreRaces};
+ghost use Rattle.race_tool.specs.Traces.{capacities, HasVerdict};
 ghost use Rattle.race_tool.specs.Verdicts.{verdict_of};
 
 use crate::races::{Found, RaceList};
@@ -45,8 +45,7 @@ pub(crate) fn plain_judge<A: Allocator + Copy, B: Allocator>(
     alloc: A,
     trace: &Trace<B>,
 ) -> Result<Verdict<A>, EdgeFault>
-    ensures right { IfOk result (λ verdict. (caps : ℕ → ℕ) →
-        IsVerdict caps trace.now.events (verdict_of verdict)) }
+    ensures right { IfOk result (λ verdict. HasVerdict trace.now (verdict_of verdict)) }
     ensures too_long { (result ≡ Err EdgeFault.TooLong)
         ↔ (MAX_PLAIN_EVENTS < length trace.now.events) }
 {
@@ -64,8 +63,7 @@ fn verdict_on<A: Allocator + Copy, B: Allocator>(
     alloc: A,
     trace: &Trace<B>,
 ) -> Result<Verdict<A>, AllocError>
-    ensures { IfOk result (λ verdict. (caps : ℕ → ℕ) →
-        IsVerdict caps trace.now.events (verdict_of verdict)) }
+    ensures { IfOk result (λ verdict. HasVerdict trace.now (verdict_of verdict)) }
 {
     match legal(alloc, trace)? {
         Some(illegal) => Ok(Verdict::Illegal(illegal)),
@@ -85,7 +83,7 @@ fn races_in<A: Allocator + Copy, B: Allocator>(
     alloc: A,
     trace: &Trace<B>,
 ) -> Result<RaceList<A>, AllocError>
-    ensures { IfOk result (λ races. (caps : ℕ → ℕ) → AreRaces caps trace.now.events races) }
+    ensures { IfOk result (λ races. AreRaces (capacities trace.now) trace.now.events races) }
 {
     let goroutines = trace.decls().count(Kind::Goroutine) as usize;
     let vars = trace.decls().count(Kind::Var) as usize;

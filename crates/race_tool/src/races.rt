@@ -1,13 +1,12 @@
 //! The races of a list of events, found event by event.
 ghost use Rattle.std.specs.Prelude.{◌≡◌, ◌↔◌, ◌<◌, ◌^◌, [], None, replicate, length, IfOk, IsTrue};
-ghost use Rattle.race_tool.specs.ReplayState.{IsInRange};
 ghost use Rattle.race_tool.specs.Partners.{
   conflicts,
   is_partner,
   greatest_below,
   found_after,
   noted,
-  sizes_of_tables,
+  HasPlace,
 };
 ghost use Rattle.race_tool.specs.Answers.{races_of};
 
@@ -122,10 +121,11 @@ impl<A: Allocator> Found<A> {
 
     /// Notes the race of the event, which comes next, on the variable that it accesses.
     pub(crate) fn look<B: Allocator>(&mut self, table: &Table<B>, past: &[Event], event: &Event)
-        requires fits { IsInRange (sizes_of_tables table.now self.old) event.now }
+        requires row { event.now.who < length table.now }
+        requires var { HasPlace self.old event.now.op }
         requires few { length past.now < 2 ^ 32 }
         ensures found { self.new ≡ found_after table.now past.now (length past.now) event.now
-            event.now.op self.old }
+            self.old }
         ensures len { length self.new ≡ length self.old }
     {
         match &event.op {

@@ -2,21 +2,22 @@
 //!
 //! The tables are a state machine of their own, with exact contracts; that they answer as the words
 //! of the memory model on the list of events do is a matter of lists alone (proofs/ReplayLemmas).
-ghost use Rattle.std.specs.Prelude.{◌≡◌, ◌<◌, ℕ, length, IfOk, OnOk, IfErr, OnErr};
+ghost use Rattle.std.specs.Prelude.{◌≡◌, ◌<◌, [], length, IfOk, OnOk, IfErr, OnErr};
 ghost use Rattle.std.specs.Option.{option_map};
+ghost use Rattle.race_records.specs.Declarations.{counts_of, capacity_of};
 ghost use Rattle.race_tool.specs.Rules.{number_of};
 ghost use Rattle.race_tool.specs.ReplayState.{
   ReplayState,
-  sizes,
-  sizes_of,
   IsInRange,
+  counts_in,
   started_in,
   runs_in,
   value_in,
   broken_in,
   after,
 };
-ghost use Rattle.race_tool.specs.StandsFor.{StandsForNone, GoesOn, Breaks, IsJudged};
+ghost use Rattle.race_tool.specs.StandsFor.{StandsFor, GoesOn, Breaks, IsJudged};
+ghost use Rattle.race_tool.specs.Traces.{capacities};
 
 use crate::rule::Rule;
 use race_records::{Decls, Event, Kind, Op, Trace};
@@ -59,8 +60,12 @@ impl<A: Allocator> Replay<A> {
     pub(crate) fn new<B: Allocator>(alloc: A, decls: &Decls<B>) -> Result<Replay<A>, AllocError>
     where
         A: Copy,
-        ensures sizes { IfOk result (λ replay. sizes replay ≡ sizes_of decls.now) }
-        ensures stands { IfOk result StandsForNone }
+        ensures goroutines { IfOk result (λ replay.
+            counts_in replay Kind.Goroutine ≡ counts_of decls.now.declarations Kind.Goroutine) }
+        ensures vars { IfOk result (λ replay.
+            counts_in replay Kind.Var ≡ counts_of decls.now.declarations Kind.Var) }
+        ensures stands { IfOk result (λ replay.
+            StandsFor (capacity_of decls.now.declarations) replay []) }
     {
         let goroutines = decls.count(Kind::Goroutine) as usize;
         let vars = decls.count(Kind::Var) as usize;
@@ -98,7 +103,7 @@ impl<A: Allocator> Replay<A> {
 
     // The least rule that the event breaks.
     fn first_broken(&self, event: &Event) -> Option<Rule>
-        requires { IsInRange (sizes self.now) event.now }
+        requires { IsInRange (counts_in self.now) event.now }
         ensures { option_map number_of result ≡ broken_in self.now event.now }
     {
         if self.over {
@@ -118,7 +123,7 @@ impl<A: Allocator> Replay<A> {
 
     // What the event changes.
     fn step(&mut self, event: &Event)
-        requires { IsInRange (sizes self.old) event.now }
+        requires { IsInRange (counts_in self.old) event.now }
         ensures { self.new ≡ after self.old event.now }
     {
         match &event.op {
@@ -134,9 +139,9 @@ impl<A: Allocator> Replay<A> {
 
     /// Accepts the next event where the longer list is legal.
     pub(crate) fn accept(&mut self, event: &Event) -> Result<(), Rule>
-        requires { IsInRange (sizes self.old) event.now }
+        requires { IsInRange (counts_in self.old) event.now }
         ensures goes_on { OnOk result (GoesOn self.old self.new event.now) }
-        ensures sizes { sizes self.new ≡ sizes self.old }
+        ensures counts { counts_in self.new ≡ counts_in self.old }
         ensures least { IfErr result (λ rule. Breaks self.old event.now (number_of rule)) }
         ensures unchanged { OnErr result (self.new ≡ self.old) }
     {
@@ -155,7 +160,7 @@ pub(crate) fn legal<A: Allocator + Copy, B: Allocator>(
     alloc: A,
     trace: &Trace<B>,
 ) -> Result<Option<Illegal>, AllocError>
-    ensures { IfOk result (λ found. (caps : ℕ → ℕ) → IsJudged caps trace.now.events found) }
+    ensures { IfOk result (λ found. IsJudged (capacities trace.now) trace.now.events found) }
 {
     let mut replay = Replay::new(alloc, trace.decls())?;
     for at in 0..trace.len() {

@@ -187,39 +187,68 @@ fn a_text_ends_with_a_newline(rt: HostRuntime) {
     }
 }
 
+// The lines before the first event: so many goroutines, main among them, and so many variables.
+fn declarations_of(alloc: Global, goroutines: u32, vars: u32) -> Result<Vec<u8>, Fail> {
+    let mut text = text_of(alloc, "gotrace 1")?;
+    for number in 1..goroutines {
+        text.extend_from_slice(format!(in alloc; "goroutine g{number}\n")?.as_bytes())?;
+    }
+    for number in 0..vars {
+        text.extend_from_slice(format!(in alloc; "var x{number}\n")?.as_bytes())?;
+    }
+    Ok(text)
+}
+
 #[test]
-fn at_most_2000_events_are_judged(rt: HostRuntime) -> Result<(), Fail> {
-    for (first, writes, report, status) in [
+fn traces_up_to_each_limit_are_judged(rt: HostRuntime) -> Result<(), Fail> {
+    for (goroutines, vars, first, writes, report, status) in [
         (
-            "write main x 1 p",
+            1,
+            1,
+            "write main x0 1 p",
             1_999,
             "clean: 2000 events, 2000 accesses",
             status::CLEAN,
         ),
         (
-            "write main x 1 p",
+            1,
+            1,
+            "write main x0 1 p",
             2_000,
             "too long: 2001 events",
             status::USAGE,
         ),
         // Length is looked at before legality.
         (
-            "read main x 1 p",
+            1,
+            1,
+            "read main x0 1 p",
             1_999,
             "illegal: event 1: stale read",
             status::ILLEGAL,
         ),
         (
-            "read main x 1 p",
+            1,
+            1,
+            "read main x0 1 p",
             2_000,
             "too long: 2001 events",
             status::USAGE,
         ),
+        // The last goroutine and the last variable that can be declared.
+        (
+            1_024,
+            65_535,
+            "go main g1023 p / write main x65534 1 q / write g1023 x65534 2 r",
+            0,
+            "race on x65534: write by main at q (event 2), write by g1023 at r (event 3) / races: 1",
+            status::RACES,
+        ),
     ] {
-        let mut text = text_of(rt.alloc(), "gotrace 1 / var x")?;
+        let mut text = declarations_of(rt.alloc(), goroutines, vars)?;
         text.extend_from_slice(text_of(rt.alloc(), first)?.as_slice())?;
         for _ in 0..writes {
-            text.extend_from_slice(b"write main x 1 p\n")?;
+            text.extend_from_slice(b"write main x0 1 p\n")?;
         }
         let (answer, output) = checked(rt.alloc(), text.as_slice());
         assert_eq!(rt; answer, status, "{report}");

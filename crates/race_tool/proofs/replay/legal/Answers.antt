@@ -2,30 +2,36 @@
 use Rattle.std.proofs.Common.{◌∙◌, sym, subst, take, arith}
 use Rattle.std.proofs.lemmas.List.{take_all}
 use Rattle.race_model.specs.Legal.{IsLegal}
-use Rattle.race_tool.specs.ReplayState.{Sizes, IsInRange}
+use Rattle.race_records.specs.declared.kind.Kind.{Kind}
+use Rattle.race_records.specs.Declarations.{counts_of}
+use Rattle.race_tool.specs.ReplayState.{counts_in}
 use Rattle.race_tool.specs.StandsFor.{StandsFor}
-use Rattle.race_tool.proofs.Fronts.{take_next, range_in_trace}
+use Rattle.race_tool.specs.Traces.{capacities}
+use Rattle.race_tool.proofs.Fronts.{take_next}
+use Rattle.race_tool.proofs.RangeLemmas.{range_in_trace, in_range_by}
 use Rattle.race_tool.proofs.replay.legal.Goals as goal
 
 pub accept-requires : goal.accept-requires
 accept-requires g c =
-    subst (λ (n : Sizes). IsInRange n c.event.result.now) (sym c.loop-at.invariant.sizes) (range_in_trace c.args.trace.now c.loop-at.at c.event.result.now c.len-at-end.ensures.is_trace c.event.ensures.event)
+    in_range_by (counts_in c.loop-at.replay) (counts_of c.args.trace.now.decls.declarations) c.event.result.now c.loop-at.invariant.goroutines c.loop-at.invariant.vars
+    (range_in_trace c.args.trace.now c.loop-at.at c.event.result.now c.len-at-end.ensures.is_trace c.event.ensures.event)
 
 pub returns-in-Err : goal.returns-in-Err
-returns-in-Err g c = λ caps. (
+returns-in-Err g c = (
   c.event.result.now,
   c.event.ensures.event,
-  c.in-Err.ensures.least caps (take c.loop-at.at c.args.trace.now.events) (c.loop-at.invariant.stands caps),
-  (c.loop-at.invariant.stands caps).legal,
+  c.in-Err.ensures.least (capacities c.args.trace.now) (take c.loop-at.at c.args.trace.now.events) c.loop-at.invariant.stands,
+  c.loop-at.invariant.stands.legal,
 )
 
 pub loop-at-preserved : goal.loop-at-preserved
 loop-at-preserved g c = record {
-  sizes = c.in-Ok.ensures.sizes ∙ c.loop-at.invariant.sizes;
-  stands = λ caps.
-      subst (StandsFor caps c.accept.new.self) (sym (take_next c.args.trace.now.events c.loop-at.at c.event.result.now c.event.ensures.event))
-      (c.in-Ok.ensures.goes_on caps (take c.loop-at.at c.args.trace.now.events) (c.loop-at.invariant.stands caps));
+  goroutines = (λ i. c.in-Ok.ensures.counts i Kind.Goroutine) ∙ c.loop-at.invariant.goroutines;
+  vars = (λ i. c.in-Ok.ensures.counts i Kind.Var) ∙ c.loop-at.invariant.vars;
+  stands =
+      subst (StandsFor (capacities c.args.trace.now) c.accept.new.self) (sym (take_next c.args.trace.now.events c.loop-at.at c.event.result.now c.event.ensures.event))
+      (c.in-Ok.ensures.goes_on (capacities c.args.trace.now) (take c.loop-at.at c.args.trace.now.events) c.loop-at.invariant.stands);
 }
 
 pub returns : goal.returns
-returns g c = λ caps. subst (IsLegal caps) (take_all c.loop-at.at c.args.trace.now.events (omega arith)) (c.loop-at.invariant.stands caps).legal
+returns g c = subst (IsLegal (capacities c.args.trace.now)) (take_all c.loop-at.at c.args.trace.now.events (omega arith)) c.loop-at.invariant.stands.legal

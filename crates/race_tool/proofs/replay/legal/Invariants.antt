@@ -1,7 +1,14 @@
-use Rattle.std.proofs.Common.{◌≡◌, ℕ, take}
-use Rattle.race_tool.specs.ReplayState.{sizes, sizes_of}
+use Rattle.std.proofs.Common.{◌≡◌, take}
+use Rattle.race_records.specs.declared.kind.Kind.{Kind}
+use Rattle.race_records.specs.Declarations.{counts_of}
+use Rattle.race_tool.specs.ReplayState.{counts_in}
 use Rattle.race_tool.specs.StandsFor.{StandsFor}
+use Rattle.race_tool.specs.Traces.{capacities}
 use Rattle.race_tool.proofs.replay.legal.Given as goal
 
 abbrev pub invariant-loop-at : goal.invariant-loop-at
-invariant-loop-at g l = record { sizes : sizes l.replay ≡ sizes_of l.trace.decls; stands : (caps : ℕ → ℕ) → StandsFor caps l.replay (take l.at l.trace.events) }
+invariant-loop-at g l = record {
+  goroutines : counts_in l.replay Kind.Goroutine ≡ counts_of l.trace.decls.declarations Kind.Goroutine;
+  vars : counts_in l.replay Kind.Var ≡ counts_of l.trace.decls.declarations Kind.Var;
+  stands : StandsFor (capacities l.trace) l.replay (take l.at l.trace.events);
+}

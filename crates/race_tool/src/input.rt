@@ -1,6 +1,6 @@
 //! Reading an input to its end.
 ghost use Rattle.std.specs.Prelude.{◌≡◌, ◌≢◌, ◌<◌, length, vec_len, IfOk};
-ghost use Rattle.race_records.specs.Devices.{unread, source_failures, one_more};
+ghost use Rattle.race_records.specs.Devices.{unread, source_reads, source_failures, one_more};
 ghost use Rattle.race_tool.specs.Input.{ReadsAll, ReadsMany, ReadsMore};
 
 use race_records::Source;
@@ -40,7 +40,7 @@ pub(crate) fn read_to_end<R: Read, A: Allocator + Copy>(
     ensures failed { result ≡ Err ReadFault.Failed
         → source_failures source.new ≡ one_more (source_failures source.old) }
     ensures endless { result ≡ Err ReadFault.Endless
-        → ReadsMany (unread R.remaining source.old) (unread R.remaining source.new) }
+        → ReadsMany R.remaining source.old source.new }
 {
     let Ok(mut block) = blank_block(alloc) else {
         return Err(ReadFault::OutOfMemory);
@@ -75,6 +75,7 @@ fn read_block<R: Read, A: Allocator>(
     ensures failed { result ≡ Err ReadFault.Failed
         → source_failures source.new ≡ one_more (source_failures source.old) }
     ensures ends { result ≢ Err ReadFault.Endless }
+    ensures reads { source_reads source.new ≡ one_more (source_reads source.old) }
 {
     match source.read(block) {
         Ok(taken) => match bytes.extend_from_slice(&block[..taken]) {

@@ -12,6 +12,9 @@ use std::marker::Model;
 /// How many bytes go out in one write.
 pub const BLOCK: usize = 4096;
 
+// Definitions cite this number, so it is written down twice.
+const _: () = prove!(BLOCK == 4096);
+
 /// The bytes of a text that wait for the next write, and how many went out before.
 ///
 /// Takes no memory. After a fault the page is of no more use.

@@ -14,6 +14,9 @@ pub(crate) const BLOCK: usize = 65_536;
 /// How many reads one input may take: a reader that never ends is refused then.
 pub(crate) const MAX_TURNS: u64 = 4_294_967_296;
 
+// Definitions cite these numbers, so each is written down twice.
+const _: () = prove!(BLOCK == 65_536 && MAX_TURNS == 4_294_967_296);
+
 /// Why an input wasn't read.
 #[derive(Clone, Copy, Debug, PartialEq, Eq, Error)]
 pub(crate) enum ReadFault {

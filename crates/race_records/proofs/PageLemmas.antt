@@ -1,13 +1,17 @@
 -- What one more write makes of a text that is printed piece by piece.
-use Rattle.std.proofs.Common.{◌≡◌, ℕ, suc, ◌+◌, ◌-◌, ◌^◌, ◌<◌, min, List, [], ◌∷◌, ◌++◌, get_or, subst, length, take, drop, Option, Result, Ok, Err, OnOk, IfErr, refl, sym, ap, ◌∙◌, arith, append-nil, append_assoc, length-append, length-drop}
+use Rattle.std.proofs.Common.{◌≡◌, ℕ, suc, ◌+◌, ◌-◌, ◌^◌, ◌<◌, ◌≤◌, min, List, [], ◌∷◌, ◌++◌, get_or, subst, length, take, drop, Option, Result, Ok, Err, OnOk, OnErr, IfErr, refl, sym, ap, ◌∙◌, arith, append-nil, append_assoc, length-append, length-drop}
 use Rattle.std.proofs.KnownBytes.{Appends-trans, Appends-nil}
 use Rattle.std.specs.Bool.{⊤}
 use Rattle.std.proofs.Math.Seq.{drop-cons}
 use Rattle.std.proofs.lemmas.Grind.{flat_map-append}
 use Rattle.std.specs.List.{flat_map}
-use Rattle.std.proofs.lemmas.List.{take-append-drop, length-take-le}
+use Rattle.std.proofs.lemmas.List.{take_more, take-append-drop, length-take-le}
 use Rattle.std.specs.Io.KnownBytes.{Appends}
-use Rattle.race_records.specs.Page.{PageState, IsPrinted, IsCutOff, Prints, BreaksOff, count_of_bytes}
+use Rattle.race_records.specs.declared.sink.Sink.{Sink}
+use Rattle.race_records.specs.declared.sink.WriteFault.{WriteFault}
+use Rattle.race_records.specs.Devices.{written, sink_failures, one_more}
+use Rattle.race_records.specs.declared.page.TheConstants.{BLOCK}
+use Rattle.race_records.specs.Page.{PageState, IsPrinted, IsCutOff, Prints, BreaksOff, WaitsIfRoom, Printing, count_of_bytes}
 
 -- a count goes on where it stopped
 counted_more : (sent : ℕ) (out bytes : List ℕ) (more : ℕ) → sent ≡ count_of_bytes (length out) → more ≡ length bytes → min (sent + more) (2 ^ 64 - 1) ≡ count_of_bytes (length (out ++ bytes))
@@ -65,6 +69,17 @@ cut_off_more start now sent text bytes cut = record {
   appended = cut.appended;
   counted = cut.counted;
 }
+
+-- the pieces before the next are those so far and one more
+pub pieces_more : {X : Type 0} (piece : X → List ℕ) (xs : List X) (i : ℕ) (d : X) → i < length xs → flat_map piece (take (i + 1) xs) ≡ flat_map piece (take i xs) ++ piece (get_or xs i d)
+pieces_more piece xs i d within =
+    ap (flat_map piece) (take_more xs i d within) ∙ flat_map-append piece (take i xs) (get_or xs i d ∷ []) ∙ ap (λ l. flat_map piece (take i xs) ++ l) (append-nil (piece (get_or xs i d)))
+
+-- all pieces are those before one, that one, and those behind it
+pub pieces_split : {X : Type 0} (piece : X → List ℕ) (xs : List X) (i : ℕ) (d : X) → i < length xs
+    → flat_map piece xs ≡ (flat_map piece (take i xs) ++ piece (get_or xs i d)) ++ flat_map piece (drop (i + 1) xs)
+pieces_split piece xs i d within =
+    ap (flat_map piece) (sym (take-append-drop (i + 1) xs)) ∙ flat_map-append piece (take (i + 1) xs) (drop (i + 1) xs) ∙ ap (λ l. l ++ flat_map piece (drop (i + 1) xs)) (pieces_more piece xs i d within)
 
 -- pieces that are cut off within piece i
 pub cut_off_in_pieces : {X : Type 0} (piece : X → List ℕ) (start now : Option (List ℕ)) (sent : ℕ) (text : List ℕ) (xs : List X) (i : ℕ) (d : X) → i < length xs
@@ -124,3 +139,49 @@ OnOk-map (Err e) P Q f h = tt
 pub IfErr-map : {T E : Type 0} (r : Result T E) (P Q : E → Type 0) → ((e : E) → P e → Q e) → IfErr r P → IfErr r Q
 IfErr-map (Ok x) P Q f h = tt
 IfErr-map (Err e) P Q f h = f e h
+
+pub OnErr-map : {T E : Type 0} (r : Result T E) (P Q : Type 0) → (P → Q) → OnErr r P → OnErr r Q
+OnErr-map (Ok x) P Q f h = tt
+OnErr-map (Err e) P Q f h = f h
+
+-- bytes that wait behind others that wait
+pub waits_on : {W E : Type 0} (r : Result ⊤ E) (a b c : Sink W) (p q s : PageState) (xs ys : List ℕ) → (length p.waiting + length xs ≤ BLOCK → (b ≡ a) × (q.waiting ≡ p.waiting ++ xs))
+    → WaitsIfRoom r b c q s ys → WaitsIfRoom r a c p s (xs ++ ys)
+waits_on r a b c p q s xs ys first next = λ room.
+    let both = length-append xs ys in
+    let before = first (omega (arith, room, both)) in
+    let len : length q.waiting ≡ length p.waiting + length xs = ap length before.1 ∙ length-append p.waiting xs in
+    let last = next (omega (arith, room, both, len)) in
+    (last.0, last.1 ∙ before.0, last.2 ∙ ap (λ l. l ++ ys) before.1 ∙ append_assoc p.waiting xs ys)
+
+-- bytes that are printed behind others
+pub prints_behind : {W : Type 0} {contents : W → Option (List ℕ)} {r : Result ⊤ WriteFault} {a b c : Sink W} {p q s : PageState} {xs ys : List ℕ} → Printing contents (Ok tt) a b p q xs
+    → Printing contents r b c q s ys → Printing contents r a c p s (xs ++ ys)
+prints_behind {W} {contents} {r} {a} {b} {c} {p} {q} {s} {xs} {ys} first next = record {
+  ok = OnOk-map r _ _ (prints_on (written contents a) (written contents b) (written contents c) p q s xs ys first.ok) next.ok;
+  sent = IfErr-map r _ _ (λ (fault : WriteFault) breaks. breaks_off_on (written contents a) (written contents b) (written contents c) p q fault.sent xs ys first.ok breaks) next.sent;
+  calm = OnOk-map r _ _ (λ (same : sink_failures c ≡ sink_failures b). same ∙ first.calm) next.calm;
+  failed = OnErr-map r _ _ (λ (more : sink_failures c ≡ one_more (sink_failures b)). more ∙ ap one_more first.calm) next.failed;
+  waits = waits_on r a b c p q s xs ys (λ room. let before = first.waits room in (before.1, before.2)) next.waits;
+}
+
+-- bytes that break off do so with more behind them
+pub breaks_off_before : {W : Type 0} {contents : W → Option (List ℕ)} {fault : WriteFault} {a b : Sink W} {p q : PageState} {xs : List ℕ} (ys : List ℕ) → Printing contents (Err fault) a b p q xs
+    → Printing contents (Err fault) a b p q (xs ++ ys)
+breaks_off_before {W} {contents} {fault} {a} {b} {p} {q} {xs} ys broke = record {
+  ok = tt;
+  sent = λ start text printed. subst (λ (l : List ℕ). IsCutOff start (written contents b) fault.sent l) (append_assoc text xs ys) (cut_off_more start (written contents b) fault.sent (text ++ xs) ys (broke.sent start text printed));
+  calm = tt;
+  failed = broke.failed;
+  waits = λ room. let none = (broke.waits (omega (arith, room, length-append xs ys))).0 in absurd (cc none);
+}
+
+module _ {W : Type 0} {contents : W → Option (List ℕ)} {a b c : Sink W} {p q s : PageState} {X : Type 0} (piece : X → List ℕ) (xs : List X) (i : ℕ) (d : X) (within : i < length xs) where
+  -- one piece more
+  pub piece_behind : Printing contents (Ok tt) a b p q (flat_map piece (take i xs)) → Printing contents (Ok tt) b c q s (piece (get_or xs i d)) → Printing contents (Ok tt) a c p s (flat_map piece (take (i + 1) xs))
+  piece_behind first next = subst (λ (l : List ℕ). Printing contents (Ok tt) a c p s l) (sym (pieces_more piece xs i d within)) (prints_behind first next)
+
+  -- a piece that breaks off, and more pieces behind it
+  pub piece_breaks_off : {fault : WriteFault} → Printing contents (Ok tt) a b p q (flat_map piece (take i xs)) → Printing contents (Err fault) b c q s (piece (get_or xs i d)) → Printing contents (Err fault) a c p s (flat_map piece xs)
+  piece_breaks_off {fault} first next =
+      subst (λ (l : List ℕ). Printing contents (Err fault) a c p s l) (sym (pieces_split piece xs i d within)) (breaks_off_before (flat_map piece (drop (i + 1) xs)) (prints_behind first next))

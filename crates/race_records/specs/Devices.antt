@@ -1,4 +1,4 @@
--- What a reader and a writer with a count of failures show.
+-- What a reader and a writer show that count their calls.
 use Rattle.std.specs.Prelude.{ℕ, ◌+◌, ◌-◌, ◌^◌, ◌==◌, ◌&&◌, Bool, true, false, min, not, if◌then◌else◌, List, length, Option, Result, Ok, Err}
 use Rattle.race_records.specs.declared.source.Source.{Source}
 use Rattle.race_records.specs.declared.sink.Sink.{Sink}
@@ -10,6 +10,10 @@ reader_of source = source.reader
 -- the bytes that it has left, where its type tells them
 abbrev pub unread : {R : Type 0} → (R → Option (List ℕ)) → Source R → Option (List ℕ)
 unread remaining source = remaining source.reader
+
+-- how often it was read
+abbrev pub source_reads : {R : Type 0} → Source R → ℕ
+source_reads source = source.reads
 
 -- how many reads failed
 abbrev pub source_failures : {R : Type 0} → Source R → ℕ
@@ -27,9 +31,13 @@ written contents sink = contents sink.writer
 abbrev pub sink_failures : {W : Type 0} → Sink W → ℕ
 sink_failures sink = sink.failures
 
+-- so many more, short of the greatest count
+abbrev pub more_by : ℕ → ℕ → ℕ
+more_by n count = min (count + n) (2 ^ 64 - 1)
+
 -- one more, short of the greatest count
 abbrev pub one_more : ℕ → ℕ
-one_more count = min (count + 1) (2 ^ 64 - 1)
+one_more count = more_by 1 count
 
 -- the read failed
 abbrev pub is_failed_read : {E : Type 0} → Result ℕ E → Bool

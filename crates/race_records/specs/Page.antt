@@ -1,8 +1,13 @@
 -- A text that is printed piece by piece: what is out, and what waits for the next write.
-use Rattle.std.specs.Prelude.{◌≡◌, ℕ, ◌-◌, ◌^◌, ◌<◌, min, List, ◌++◌, length, Option}
+use Rattle.std.specs.Prelude.{◌≡◌, ℕ, ◌+◌, ◌-◌, ◌^◌, ◌<◌, ◌≤◌, min, List, ◌++◌, length, Option, Result, IsOk, OnOk, OnErr, IfErr}
+use Rattle.std.specs.Bool.{⊤}
 use Rattle.std.specs.Borrow.{Bor}
 use Rattle.std.specs.List.{flat_map}
 use Rattle.std.specs.Io.KnownBytes.{Appends}
+use Rattle.race_records.specs.declared.sink.Sink.{Sink}
+use Rattle.race_records.specs.declared.sink.WriteFault.{WriteFault}
+use Rattle.race_records.specs.Devices.{written, sink_failures, one_more}
+use Rattle.race_records.specs.declared.page.TheConstants.{BLOCK}
 
 -- the bytes that wait, and how many are out
 pub record PageState : Type 0 where
@@ -38,6 +43,19 @@ Prints before after old new bytes =
 abbrev pub BreaksOff : Option (List ℕ) → Option (List ℕ) → PageState → ℕ → List ℕ → Type 0
 BreaksOff before after old sent bytes =
     (start : Option (List ℕ)) (text : List ℕ) → IsPrinted start before old text → IsCutOff start after sent (text ++ bytes)
+
+-- where the bytes find room in the block they wait behind the others, and nothing is written
+abbrev pub WaitsIfRoom : {W E : Type 0} → Result ⊤ E → Sink W → Sink W → PageState → PageState → List ℕ → Type 0
+WaitsIfRoom result sink sink_now page page_now bytes =
+    length page.waiting + length bytes ≤ BLOCK → IsOk result × (sink_now ≡ sink) × (page_now.waiting ≡ page.waiting ++ bytes)
+
+-- how a call ended that was to print the bytes
+pub record Printing {W : Type 0} (contents : W → Option (List ℕ)) (result : Result ⊤ WriteFault) (sink sink_now : Sink W) (page page_now : PageState) (bytes : List ℕ) : Type 0 where
+  pub ok : OnOk result (Prints (written contents sink) (written contents sink_now) page page_now bytes)
+  pub sent : IfErr result (λ fault. BreaksOff (written contents sink) (written contents sink_now) page fault.sent bytes)
+  pub calm : OnOk result (sink_failures sink_now ≡ sink_failures sink)
+  pub failed : OnErr result (sink_failures sink_now ≡ one_more (sink_failures sink))
+  pub waits : WaitsIfRoom result sink sink_now page page_now bytes
 
 -- the parts one behind the other
 abbrev pub joined : List (Bor (List ℕ)) → List ℕ

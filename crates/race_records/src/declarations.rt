@@ -18,6 +18,9 @@ use thiserror::Error;
 /// The most different places of a trace.
 pub const MAX_PLACES: u32 = 33_554_432;
 
+// Definitions cite this number, so it is written down twice.
+const _: () = prove!(MAX_PLACES == 33_554_432);
+
 /// Why a declaration or a place was refused. The first that holds is told.
 #[derive(Clone, Copy, Debug, PartialEq, Eq, Error)]
 pub enum DeclFault {

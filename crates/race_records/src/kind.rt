@@ -11,6 +11,9 @@ pub const MAX_OBJECTS: u32 = 65_535;
 /// The greatest capacity of a channel.
 pub const MAX_CAPACITY: u32 = 65_535;
 
+// Definitions cite these numbers, so each is written down twice.
+const _: () = prove!(MAX_GOROUTINES == 1024 && MAX_OBJECTS == 65_535 && MAX_CAPACITY == 65_535);
+
 /// The kinds of things that a trace declares.
 #[derive(Clone, Copy, Debug, PartialEq, Eq)]
 pub enum Kind {

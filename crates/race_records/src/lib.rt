@@ -3,6 +3,8 @@
 
 mod alike;
 mod declarations;
+#[cfg(test)]
+mod device_tests;
 mod event;
 mod indexes;
 mod kind;

@@ -9,6 +9,9 @@ pub const MAX_NAME_LEN: usize = 64;
 /// The most bytes of a place.
 pub const MAX_PLACE_LEN: usize = 128;
 
+// Definitions cite these numbers, so each is written down twice.
+const _: () = prove!(MAX_NAME_LEN == 64 && MAX_PLACE_LEN == 128);
+
 /// Whether the word is a name: 1 to 64 ASCII letters, digits and `_`, and not `nil`.
 pub fn is_name(word: &[u8]) -> bool
     ensures { result ≡ spec.is_name word.now }

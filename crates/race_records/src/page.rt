@@ -2,7 +2,7 @@
 ghost use Rattle.std.specs.Prelude.{◌≡◌, ◌≤◌, ℕ, ◌+◌, ◌<◌, [], ◌++◌, length, min, ◌^◌, ◌-◌, List, Option, OnOk, OnErr, IfErr};
 ghost use Rattle.arrayvec.specs.ArrayVec.{array_vec_len};
 ghost use Rattle.race_records.specs.Devices.{written, sink_failures, one_more};
-ghost use Rattle.race_records.specs.Page.{IsPrinted, IsCutOff, Prints, BreaksOff, joined};
+ghost use Rattle.race_records.specs.Page.{IsPrinted, IsCutOff, Printing, joined};
 
 use crate::{Sink, WriteFault};
 use arrayvec::ArrayVec;
@@ -11,6 +11,9 @@ use std::marker::Model;
 
 /// How many bytes go out in one write.
 pub const BLOCK: usize = 4096;
+
+// Definitions cite this number, so it is written down twice.
+const _: () = prove!(BLOCK == 4096);
 
 /// The bytes of a text that wait for the next write, and how many went out before.
 ///
@@ -43,12 +46,7 @@ impl Page {
 
     /// Puts the bytes behind the text so far.
     pub fn put<W: Write>(&mut self, sink: &mut Sink<W>, bytes: &[u8]) -> Result<(), WriteFault>
-        ensures ok { OnOk result (Prints (written W.contents sink.old) (written W.contents sink.new)
-            self.old self.new bytes.now) }
-        ensures sent { IfErr result (λ fault. BreaksOff (written W.contents sink.old)
-            (written W.contents sink.new) self.old fault.sent bytes.now) }
-        ensures calm { OnOk result (sink_failures sink.new ≡ sink_failures sink.old) }
-        ensures failed { OnErr result (sink_failures sink.new ≡ one_more (sink_failures sink.old)) }
+        ensures { Printing W.contents result sink.old sink.new self.old self.new bytes.now }
     {
         if self.waiting.remaining_capacity() < bytes.len() {
             if let Err(fault) = self.flush(sink) {
@@ -68,12 +66,7 @@ impl Page {
         sink: &mut Sink<W>,
         parts: &[&[u8]],
     ) -> Result<(), WriteFault>
-        ensures ok { OnOk result (Prints (written W.contents sink.old) (written W.contents sink.new)
-            self.old self.new (joined parts.now)) }
-        ensures sent { IfErr result (λ fault. BreaksOff (written W.contents sink.old)
-            (written W.contents sink.new) self.old fault.sent (joined parts.now)) }
-        ensures calm { OnOk result (sink_failures sink.new ≡ sink_failures sink.old) }
-        ensures failed { OnErr result (sink_failures sink.new ≡ one_more (sink_failures sink.old)) }
+        ensures { Printing W.contents result sink.old sink.new self.old self.new (joined parts.now) }
     {
         for part in parts {
             if let Err(fault) = self.put(sink, *part) {
@@ -107,13 +100,9 @@ impl Page {
 
     // Sends bytes that no block can hold, where nothing waits.
     fn send<W: Write>(&mut self, sink: &mut Sink<W>, bytes: &[u8]) -> Result<(), WriteFault>
-        requires { self.old.waiting ≡ [] }
-        ensures ok { OnOk result (Prints (written W.contents sink.old) (written W.contents sink.new)
-            self.old self.new bytes.now) }
-        ensures sent { IfErr result (λ fault. BreaksOff (written W.contents sink.old)
-            (written W.contents sink.new) self.old fault.sent bytes.now) }
-        ensures calm { OnOk result (sink_failures sink.new ≡ sink_failures sink.old) }
-        ensures failed { OnErr result (sink_failures sink.new ≡ one_more (sink_failures sink.old)) }
+        requires empty { self.old.waiting ≡ [] }
+        requires long { BLOCK < length bytes.now }
+        ensures { Printing W.contents result sink.old sink.new self.old self.new bytes.now }
     {
         match sink.send(bytes) {
             Ok(()) => {

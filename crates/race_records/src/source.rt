@@ -1,4 +1,4 @@
-//! A reader with a count of failures.
+//! A reader with a count of its reads, and of those that failed.
 ghost use Rattle.std.specs.Prelude.{◌≡◌};
 ghost use Rattle.std.specs.Io.KnownBytes.{ReadConsumes};
 ghost use Rattle.std.specs.Io.{ReadsAtMost};
@@ -6,25 +6,28 @@ ghost use Rattle.std.specs.Io.{ReadsAtMost};
 use std::io;
 use std::io::Read;
 
-/// A reader, and how many of its reads failed.
+/// A reader, how often it was read, and how many of its reads failed.
 ///
-/// The count lets a caller tell whether a refusal came from the device.
+/// The counts let a caller tell whether a refusal came from the device, and how long it was tried.
 #[derive(Debug, Drop)]
 pub struct Source<R: Read> {
     reader: R,
+    reads: u64,
     failures: u64,
 }
 
 impl<R: Read> Source<R> {
-    ghost use Rattle.race_records.specs.Devices.{reader_of, unread, source_failures, is_failed_read, counted};
+    ghost use Rattle.race_records.specs.Devices.{reader_of, unread, source_reads, source_failures, is_failed_read, counted, one_more};
 
-    /// The reader with no failure so far.
+    /// The reader with no read so far.
     pub fn new(reader: R) -> Source<R>
         ensures reader { reader_of result ≡ reader }
+        ensures reads { source_reads result ≡ 0 }
         ensures failures { source_failures result ≡ 0 }
     {
         Source {
             reader,
+            reads: 0,
             failures: 0,
         }
     }
@@ -34,14 +37,23 @@ impl<R: Read> Source<R> {
         ensures bound { ReadsAtMost result buf.new }
         ensures bytes { ReadConsumes (unread R.remaining self.old) (unread R.remaining self.new)
             result buf.new }
+        ensures reads { source_reads self.new ≡ one_more (source_reads self.old) }
         ensures failures { source_failures self.new ≡ counted (is_failed_read result)
             (source_failures self.old) }
     {
         let outcome = self.reader.read(buf);
+        self.reads = self.reads.saturating_add(1);
         if outcome.is_err() {
             self.failures = self.failures.saturating_add(1);
         }
         outcome
+    }
+
+    /// How often the reader was read since `new`; it stays at `u64::MAX`.
+    pub fn reads(&self) -> u64
+        ensures { result ≡ source_reads self.now }
+    {
+        self.reads
     }
 
     /// How many reads failed since `new`; it stays at `u64::MAX`.

@@ -1,10 +1,5 @@
-use crate::{
-    BLOCK, DeclFault, Decls, Event, Kind, Named, Op, Page, PushFault, Sink, Source, Trace,
-    WriteFault, is_name, is_place,
-};
+use crate::{DeclFault, Decls, Event, Kind, Named, Op, PushFault, Trace, is_name, is_place};
 use std::alloc::Global;
-use std::io;
-use std::io::{Read, Write};
 use std::mem::size_of;
 use std::test::Fail;
 
@@ -197,97 +192,4 @@ fn a_longer_trace_is_another(rt: HostRuntime) -> Result<(), Fail> {
 #[test]
 fn an_event_is_small(rt: HostRuntime) {
     assert!(rt; size_of::<Event>() <= 80);
-}
-
-// A device that gives and takes two bytes a call, fails at each third call and then has nothing.
-#[derive(Drop)]
-struct Broken {
-    calls: u8,
-}
-
-impl Read for Broken {
-    fn read(&mut self, buf: &mut [u8]) -> io::Result<usize> {
-        self.calls = self.calls.saturating_add(1);
-        if self.calls == 3 {
-            return Err(io::ErrorKind::Other.into());
-        }
-        if self.calls > 3 || buf.len() < 2 {
-            return Ok(0);
-        }
-        Ok(2)
-    }
-}
-
-impl Write for Broken {
-    fn write(&mut self, buf: &[u8]) -> io::Result<usize> {
-        self.calls = self.calls.saturating_add(1);
-        if self.calls == 3 {
-            return Err(io::ErrorKind::Other.into());
-        }
-        if self.calls > 3 || buf.len() < 2 {
-            return Ok(0);
-        }
-        Ok(2)
-    }
-
-    fn flush(&mut self) -> io::Result<()> {
-        Ok(())
-    }
-}
-
-#[test]
-fn failures_of_devices_are_counted(rt: HostRuntime) {
-    let mut source = Source::new(Broken { calls: 0 });
-    let mut sink = Sink::new(Broken { calls: 0 });
-    let mut block = [0u8; 2];
-    for (read, failed) in [(2, 0), (2, 0), (9, 1), (0, 1)] {
-        assert_eq!(rt; source.read(&mut block).unwrap_or(9), read);
-        assert_eq!(rt; source.failures(), failed);
-    }
-    for (text, sent, failures) in [
-        ("ab", None, 0),
-        ("abcd", Some(2), 1),
-        ("", None, 1),
-        ("ab", Some(0), 2),
-    ] {
-        let answer = match sent {
-            None => Ok(()),
-            Some(sent) => Err(WriteFault { sent }),
-        };
-        assert_eq!(rt; sink.send(text.as_bytes()), answer, "{text}");
-        assert_eq!(rt; sink.failures(), failures, "{text}");
-    }
-}
-
-#[test]
-fn a_whole_text_is_sent(rt: HostRuntime) -> Result<(), Fail> {
-    let mut text = Vec::new(rt.alloc());
-    let mut sink = Sink::new(&mut text);
-    assert_eq!(rt; sink.send(b"gotrace 1\n"), Ok(()));
-    assert_eq!(rt; sink.failures(), 0);
-    assert_eq!(rt; text.as_slice(), b"gotrace 1\n".as_slice());
-    Ok(())
-}
-
-#[test]
-fn a_text_is_printed_in_blocks(rt: HostRuntime) -> Result<(), Fail> {
-    let long = Vec::from_array(rt.alloc(), [b'x'; BLOCK + 1])?;
-    let mut text = Vec::new(rt.alloc());
-    let mut sink = Sink::new(&mut text);
-    let mut page = Page::new();
-    let parts = [b"events: ".as_slice(), long.as_slice(), b"\n".as_slice()];
-    assert_eq!(rt; page.put_all(&mut sink, &parts), Ok(()));
-    assert_eq!(rt; page.flush(&mut sink), Ok(()));
-    assert_eq!(rt; text.len(), 8 + BLOCK + 1 + 1);
-    assert!(rt; text.as_slice().starts_with(b"events: x"));
-    assert!(rt; text.as_slice().ends_with(b"x\n"));
-    Ok(())
-}
-
-#[test]
-fn a_broken_print_tells_how_much_is_out(rt: HostRuntime) {
-    let mut sink = Sink::new(Broken { calls: 0 });
-    let mut page = Page::new();
-    assert_eq!(rt; page.put(&mut sink, b"abcdef"), Ok(()));
-    assert_eq!(rt; page.flush(&mut sink), Err(WriteFault { sent: 4 }));
 }

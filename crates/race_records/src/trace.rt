@@ -12,6 +12,9 @@ use thiserror::Error;
 /// The most events of a trace.
 pub const MAX_EVENTS: usize = 16_777_216;
 
+// Definitions cite this number, so it is written down twice.
+const _: () = prove!(MAX_EVENTS == 16_777_216);
+
 /// Why an event was refused. The first that holds is told.
 #[derive(Clone, Copy, Debug, PartialEq, Eq, Error)]
 pub enum PushFault {

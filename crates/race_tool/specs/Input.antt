@@ -1,6 +1,8 @@
--- What reading a whole input did to the bytes that a reader has.
+-- What reading a whole input did to a reader.
 use Rattle.std.specs.Prelude.{◌≡◌, ℕ, ◌<◌, ◌≤◌, Bool, List, ◌++◌, length, Option, MatchBool}
 use Rattle.std.specs.Io.KnownBytes.{Consumes, IsAtEnd}
+use Rattle.race_records.specs.declared.source.Source.{Source}
+use Rattle.race_records.specs.Devices.{unread, source_reads, more_by}
 use Rattle.race_tool.specs.declared.input.TheConstants.{MAX_TURNS}
 
 -- the bytes were read, and they were all that was left
@@ -8,10 +10,11 @@ pub record ReadsAll (before after : Option (List ℕ)) (bytes : List ℕ) : Type
   pub consumed : Consumes before after bytes
   pub at_end : IsAtEnd after
 
--- at least as many bytes were read as an input may take turns
-pub record ReadsMany (before after : Option (List ℕ)) : Type 0 where
+-- the reader was read as often as an input may be, and each of these reads gave bytes
+pub record ReadsMany {R : Type 0} (remaining : R → Option (List ℕ)) (source source_now : Source R) : Type 0 where
+  pub reads : source_reads source_now ≡ more_by MAX_TURNS (source_reads source)
   pub bytes : List ℕ
-  pub consumed : Consumes before after bytes
+  pub consumed : Consumes (unread remaining source) (unread remaining source_now) bytes
   pub many : MAX_TURNS ≤ length bytes
 
 -- one read put its bytes behind the old ones, and found the end where there were none

@@ -62,8 +62,8 @@ pub record FailsToRead {R W : Type 0} (source source_now : Source R) (sink sink_
   pub failed : source_failures source_now ≡ one_more (source_failures source)
   pub unwritten : sink_now ≡ sink
 
--- no read failed, reading was given up after many bytes, and nothing was written. Whether bytes were left isn't said
+-- no read failed, reading was given up after many reads, and nothing was written. Whether bytes were left isn't said
 pub record GivesUpReading {R W : Type 0} (remaining : R → Option (List ℕ)) (source source_now : Source R) (sink sink_now : Sink W) : Type 0 where
-  pub many : ReadsMany (unread remaining source) (unread remaining source_now)
+  pub many : ReadsMany remaining source source_now
   pub calm : source_failures source_now ≡ source_failures source
   pub unwritten : sink_now ≡ sink

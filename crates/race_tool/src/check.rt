@@ -30,6 +30,9 @@ pub const MAX_SHARDS: usize = 64;
 /// The most events of a block.
 pub const MAX_BLOCK: usize = 65_536;
 
+// Definitions cite these numbers, so each is written down twice.
+const _: () = prove!(MAX_SHARDS == 64 && MAX_BLOCK == 65_536);
+
 /// How a trace is judged.
 #[derive(Clone, Copy, Debug, PartialEq, Eq)]
 pub struct CheckOptions {

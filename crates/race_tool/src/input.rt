@@ -1,6 +1,6 @@
 //! Reading an input to its end.
 ghost use Rattle.std.specs.Prelude.{◌≡◌, ◌≢◌, ◌<◌, length, vec_len, IfOk};
-ghost use Rattle.race_records.specs.Devices.{unread, source_failures, one_more};
+ghost use Rattle.race_records.specs.Devices.{unread, source_reads, source_failures, one_more};
 ghost use Rattle.race_tool.specs.Input.{ReadsAll, ReadsMany, ReadsMore};
 
 use race_records::Source;
@@ -13,6 +13,9 @@ pub(crate) const BLOCK: usize = 65_536;
 
 /// How many reads one input may take: a reader that never ends is refused then.
 pub(crate) const MAX_TURNS: u64 = 4_294_967_296;
+
+// Definitions cite these numbers, so each is written down twice.
+const _: () = prove!(BLOCK == 65_536 && MAX_TURNS == 4_294_967_296);
 
 /// Why an input wasn't read.
 #[derive(Clone, Copy, Debug, PartialEq, Eq, Error)]
@@ -40,7 +43,7 @@ pub(crate) fn read_to_end<R: Read, A: Allocator + Copy>(
     ensures failed { result ≡ Err ReadFault.Failed
         → source_failures source.new ≡ one_more (source_failures source.old) }
     ensures endless { result ≡ Err ReadFault.Endless
-        → ReadsMany (unread R.remaining source.old) (unread R.remaining source.new) }
+        → ReadsMany R.remaining source.old source.new }
 {
     let Ok(mut block) = blank_block(alloc) else {
         return Err(ReadFault::OutOfMemory);
@@ -75,6 +78,7 @@ fn read_block<R: Read, A: Allocator>(
     ensures failed { result ≡ Err ReadFault.Failed
         → source_failures source.new ≡ one_more (source_failures source.old) }
     ensures ends { result ≢ Err ReadFault.Endless }
+    ensures reads { source_reads source.new ≡ one_more (source_reads source.old) }
 {
     match source.read(block) {
         Ok(taken) => match bytes.extend_from_slice(&block[..taken]) {

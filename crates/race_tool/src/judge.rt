@@ -18,6 +18,9 @@ use thiserror::Error;
 /// The most events that the plain judge takes.
 pub(crate) const MAX_PLAIN_EVENTS: usize = 2_000;
 
+// Definitions cite this number, so it is written down twice.
+const _: () = prove!(MAX_PLAIN_EVENTS == 2_000);
+
 /// Why there is no verdict. The first that holds is told.
 #[derive(Clone, Copy, Debug, PartialEq, Eq, Error)]
 pub(crate) enum EdgeFault {

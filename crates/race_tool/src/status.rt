@@ -21,3 +21,14 @@ pub const REFUSED: u8 = 4;
 
 /// A read or a write failed, or reading was given up after 2^32 reads.
 pub const DEVICE: u8 = 5;
+
+// Definitions cite these numbers, so each is written down twice.
+const _: () = prove!(
+    CLEAN == 0
+        && RACES == 66
+        && ILLEGAL == 1
+        && TEXT_FAULT == 2
+        && USAGE == 3
+        && REFUSED == 4
+        && DEVICE == 5
+);

@@ -1,11 +1,7 @@
-use Rattle.std.proofs.Common.{◌≡◌, take}
-use Rattle.race_records.specs.Devices.{written, sink_failures}
-use Rattle.race_records.specs.Page.{Prints, joined}
+use Rattle.std.proofs.Common.{Ok, take}
+use Rattle.race_records.specs.Page.{Printing, joined}
 use Rattle.race_records.proofs.page.Page.put_all.Given as goal
 
--- the parts before the index are put, and no write failed
+-- the parts before the index are printed
 abbrev pub invariant-loop-part : goal.invariant-loop-part
-invariant-loop-part g l = record {
-  printed : Prints (written g.W.Write.contents l.initial.sink) (written g.W.Write.contents l.sink) l.initial.self l.self (joined (take l.part-index l.parts));
-  calm : sink_failures l.sink ≡ sink_failures l.initial.sink;
-}
+invariant-loop-part g l = Printing g.W.Write.contents (Ok tt) l.initial.sink l.sink l.initial.self l.self (joined (take l.part-index l.parts))

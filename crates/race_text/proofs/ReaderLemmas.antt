@@ -1,5 +1,5 @@
 -- The header, and lines that declare.
-use Rattle.std.proofs.Common.{◌≡◌, ◌≢◌, ℕ, ◌≤◌, length, Bool, true, false, not, if◌then◌else◌, List, [], ◌∷◌, ◌++◌, Option, Some, None, Result, Ok, Err, IfOk, IsTrue, All, refl, sym, ap, subst, ◌∙◌, arith, true≢false}
+use Rattle.std.proofs.Common.{◌≡◌, ◌≢◌, ℕ, ◌≤◌, length, Bool, true, false, not, if◌then◌else◌, List, [], ◌∷◌, ◌++◌, Option, Some, None, Result, Ok, Err, IfOk, IsTrue, refl, sym, ap, subst, ◌∙◌, arith, true≢false}
 use Rattle.std.proofs.lemmas.List.Elements.{All-push}
 use Rattle.std.proofs.lemmas.List.Splits.{join_with_byte-slice_split}
 use Rattle.std.proofs.lemmas.Option.{none-some}
@@ -7,14 +7,15 @@ use Rattle.std.proofs.lemmas.Slice.Eq.{bytes_eq-Decides}
 use Rattle.std.specs.Option.{option_map}
 use Rattle.std.specs.Str.{bytes_eq}
 use Rattle.race_records.specs.declared.declarations.DeclFault.{DeclFault}
-use Rattle.race_records.specs.declared.kind.Object.{Object}
 use Rattle.race_records.specs.Declarations.{Declaration, DeclsState, decl_fault, with_declaration}
-use Rattle.race_records.specs.Events.{TraceState}
+use Rattle.race_records.specs.Events.{TraceState, IsTrace}
 use Rattle.race_records.specs.Refusal.{Refuses, AllowsUnless}
+use Rattle.race_records.proofs.DeclFaultLemmas.{allowed_from_no_fault}
+use Rattle.race_records.proofs.DeclsKept.{empty_well_formed, push_well_formed}
 use Rattle.race_text.specs.declared.cause.TextCause.{TextCause}
 use Rattle.race_text.specs.declared.form.Word.{Word}
 use Rattle.race_text.specs.Words.{words_of, has_bad_byte}
-use Rattle.race_text.specs.Text.{header, line_of, declaration_line, has_words, lines}
+use Rattle.race_text.specs.Text.{header, line_of, declaration_line, has_words, lines, HasText}
 use Rattle.race_text.specs.Form.{word_named, first_word, arguments}
 use Rattle.race_text.specs.Fault.{seen, seen_so_far, or_else, cause, word_cause, declaration_in, is_event_line, is_event_word, declared_as}
 use Rattle.race_text.specs.Declaring.{is_declaration_line, is_declaration_word, declaration_cause, only_name_cause, cause_of, with_declared, with_declaration_in}
@@ -27,6 +28,10 @@ use Rattle.race_text.proofs.TraceLemmas.{cause_behind, clean_line, lines_declara
 
 abbrev empty : DeclsState
 empty = record { declarations = []; places = [] }
+
+-- a trace without events
+pub no_events : (decls : DeclsState) → IsTrace (begun decls)
+no_events decls = record { fit = λ i d less. absurd (omega (arith, less)); values = λ i d less. absurd (omega (arith, less)); limited = omega arith }
 
 -- the first line
 pub header_told : (line : List ℕ) → bytes_eq line header ≡ false → cause [] line true ≡ Some TextCause.BadHeader
@@ -51,10 +56,17 @@ header_taken decls trace line reading h = record {
   lines = (λ i. lines (trace_read (reading.0 i) (reading.1 i))) ∙ header_lines ∙ (λ i. sym ((bytes_eq-Decides line header).0 h) i ∷ []);
 }
 
+pub empty_has_text : HasText (begun empty)
+empty_has_text = record {
+  well_formed = empty_well_formed;
+  is_trace = no_events empty;
+  words = λ i d less. absurd (omega (arith, less));
+}
+
 pub header_reading : (decls : DeclsState) (trace : Option TraceState) → IsReading false decls trace → IsReading true decls trace
 header_reading decls trace reading =
     subst (λ (p : DeclsState × Option TraceState). IsReading true p.0 p.1) (λ i. (sym reading.0 i, sym reading.1 i))
-    (record { seen_is = ap seen header_lines ∙ header_says; words = λ i d less. absurd (omega (arith, less)); few_places = omega arith })
+    (record { has_text = empty_has_text; seen_is = ap seen header_lines ∙ header_says; few_places = omega arith })
 
 -- a line that declares, and is not refused
 pub record IsDeclaration (ds : List Declaration) (line : List ℕ) : Type 0 where
@@ -120,9 +132,13 @@ module _ (old new : DeclsState) (line : List ℕ) (read : IsRead (begun old)) (c
         no_cause = cause_of_line h ∙ none;
         lines = after;
         is_read = record {
+          has_text = subst (λ (d : DeclsState). HasText (begun d)) (sym new_is) (record {
+            well_formed = push_well_formed old read.has_text.well_formed is.d.name is.d.object (allowed_from_no_fault old.declarations is.d.object is.d.name is.fine);
+            is_trace = no_events (with_declaration old is.d.name is.d.object);
+            words = All-push (λ (x : Declaration). IsTrue (has_words x.object)) old.declarations is.d read.has_text.words is.words;
+          });
           seen_is = ap seen after ∙ seen_declaration (lines (begun old)) line old.declarations is.d read.seen_is is.is is.event
               ∙ (λ i. seen_so_far (sym new_is i).declarations 0);
-          words = subst (λ (d : DeclsState). All (λ (x : Declaration). IsTrue (has_words x.object)) d.declarations) (sym new_is) (All-push (λ (x : Declaration). IsTrue (has_words x.object)) old.declarations is.d read.words is.words);
           few_places = subst (λ (d : DeclsState). length d.places ≤ 0) (sym new_is) read.few_places;
         };
       }

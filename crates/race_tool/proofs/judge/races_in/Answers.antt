@@ -29,7 +29,7 @@ loop-at-preserved g c =
       found = λ caps.
           found_next caps c.args.trace.now.events c.loop-at.at c.event-event.result.now c.event-event.ensures.event c.loop-at.table (length c.args.trace.now.events) (c.loop-at.invariant.table caps)
           c.loop-at.found c.look.new.self
-          (noted_of_trace c.events.result.now c.args.trace.now.events c.loop-at.at c.event-event.result.now c.loop-at.table c.loop-at.found c.look.new.self c.events.ensures c.look.ensures.found)
+          (noted_of_trace c.events.result.now c.args.trace.now.events c.loop-at.at c.event-event.result.now c.loop-at.table c.loop-at.found c.look.new.self c.events.ensures.events c.look.ensures.found)
           within (c.loop-at.invariant.found caps);
     }
 

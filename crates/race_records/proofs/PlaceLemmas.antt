@@ -12,7 +12,7 @@ use Rattle.race_records.specs.declared.declarations.DeclFault.{DeclFault}
 use Rattle.race_records.specs.declared.declarations.DeclFault.TheVariants.{BadName, TooMany}
 use Rattle.race_records.specs.declared.declarations.TheConstants.{MAX_PLACES}
 use Rattle.race_records.specs.Name.{is_place}
-use Rattle.race_records.specs.Declarations.{DeclsState, IsWellFormed, is_known, place_fault}
+use Rattle.race_records.specs.Declarations.{DeclsState, IsWellFormed, is_known, place_fault, with_place}
 
 -- a known place has a place's form
 known_is_place : (places : List (List ℕ)) (word : List ℕ) → All (λ (p : List ℕ). IsTrue (is_place p)) places → is_known places word ≡ true → is_place word ≡ true
@@ -63,3 +63,11 @@ place_well_formed decls word holds new allowed = record {
       (λ k d within same. true≢false (sym (list_any_at (bytes_eq word) decls.places k d within ((bytes_eq-Decides word (get_or decls.places k d)).1 (sym same))) ∙ new));
   places_limited = let room = allowed.room in omega (arith, room, length-append decls.places (word ∷ []));
 }
+
+-- the table with a place that nothing refuses, new or known
+pub with_place_well_formed : (decls : DeclsState) (word : List ℕ) → IsWellFormed decls → place_fault decls.places word ≡ None → IsWellFormed (with_place decls word)
+with_place_well_formed decls word holds none = by (is_known decls.places word) refl
+  where
+    by : (b : Bool) → is_known decls.places word ≡ b → IsWellFormed (record { declarations = decls.declarations; places = if b then decls.places else decls.places ++ word ∷ [] })
+    by true e = holds
+    by false e = place_well_formed decls word holds e (allowed_from_no_place_fault decls.places word e none)

@@ -80,11 +80,13 @@ impl<A: Allocator> Decls<A> {
         }
     }
 
-    pub(crate) fn allocator(&self) -> &A {
+    pub(crate) fn allocator(&self) -> &A
+        ensures well_formed { spec.IsWellFormed self.now }
+    {
         self.places.allocator()
     }
 
-    /// How many declarations there are. What holds of every `Decls` stands here.
+    /// How many declarations there are.
     pub fn len(&self) -> usize
         ensures len { result ≡ length self.now.declarations }
         ensures well_formed { spec.IsWellFormed self.now }

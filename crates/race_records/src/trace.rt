@@ -137,7 +137,7 @@ impl<A: Allocator> Trace<A> {
         Ok(())
     }
 
-    /// How many events there are. What holds of every `Trace` stands here.
+    /// How many events there are.
     pub fn len(&self) -> usize
         ensures len { result ≡ length self.now.events }
         ensures is_trace { spec.IsTrace self.now }
@@ -157,20 +157,23 @@ impl<A: Allocator> Trace<A> {
         requires { i < length self.now.events }
         ensures event { slice_get self.now.events i ≡ Some result.now }
         ensures fits { IsTrue (spec.fits self.now.decls result.now) }
+        ensures value { IsTrue (spec.value_fits result.now.op) }
     {
         &self.events[i]
     }
 
     /// The events in order.
     pub fn events(&self) -> &[Event]
-        ensures { result.now ≡ self.now.events }
+        ensures events { result.now ≡ self.now.events }
+        ensures is_trace { spec.IsTrace self.now }
     {
         self.events.as_slice()
     }
 
     /// The declarations.
     pub fn decls(&self) -> &Decls<A>
-        ensures { result.now ≡ self.now.decls }
+        ensures decls { result.now ≡ self.now.decls }
+        ensures well_formed { declarations.IsWellFormed result.now }
     {
         &self.decls
     }

@@ -6,12 +6,14 @@ use Rattle.std.proofs.lemmas.Option.{none-some}
 use Rattle.std.proofs.lemmas.Slice.Eq.{bytes_eq-Decides}
 use Rattle.std.specs.Str.{bytes_eq}
 use Rattle.race_records.specs.Declarations.{Declaration, DeclsState, decl_fault, with_declaration}
-use Rattle.race_records.specs.Events.{TraceState}
+use Rattle.race_records.specs.Events.{TraceState, IsTrace}
 use Rattle.race_records.specs.Refusal.{Refuses, AllowsUnless}
+use Rattle.race_records.proofs.DeclFaultLemmas.{allowed_from_no_fault}
+use Rattle.race_records.proofs.DeclsKept.{empty_well_formed, push_well_formed}
 use Rattle.race_text.specs.declared.cause.TextCause.{TextCause}
 use Rattle.race_text.specs.declared.form.Word.{Word}
 use Rattle.race_text.specs.Words.{words_of, has_bad_byte}
-use Rattle.race_text.specs.Text.{header, line_of, declaration_line, has_known_word, lines}
+use Rattle.race_text.specs.Text.{header, line_of, declaration_line, has_known_word, lines, HasText}
 use Rattle.race_text.specs.Form.{word_named, first_word, arguments}
 use Rattle.race_text.specs.Fault.{seen, seen_so_far, cause, word_cause, declaration, declaration_in, is_event_line, is_event_word}
 use Rattle.race_text.specs.Writing.{noun_text, number_words}
@@ -25,6 +27,10 @@ use Rattle.race_text.proofs.TraceLemmas.{cause_behind, clean_line, lines_declara
 
 abbrev empty : DeclsState
 empty = record { declarations = []; places = [] }
+
+-- a trace without events
+pub no_events : (decls : DeclsState) → IsTrace (begun decls)
+no_events decls = record { fit = λ i d less. absurd (omega (arith, less)); values = λ i d less. absurd (omega (arith, less)); limited = omega arith }
 
 -- the first line
 pub header_told : (line : List ℕ) → bytes_eq line header ≡ false → cause [] line true ≡ Some TextCause.BadHeader
@@ -49,10 +55,17 @@ header_taken decls trace line reading h = record {
   lines = (λ i. lines (trace_read (reading.0 i) (reading.1 i))) ∙ header_lines ∙ (λ i. sym ((bytes_eq-Decides line header).0 h) i ∷ []);
 }
 
+pub empty_has_text : HasText (begun empty)
+empty_has_text = record {
+  well_formed = empty_well_formed;
+  is_trace = no_events empty;
+  words = λ i d less. absurd (omega (arith, less));
+}
+
 pub header_reading : (decls : DeclsState) (trace : Option TraceState) → IsReading false decls trace → IsReading true decls trace
 header_reading decls trace reading =
     subst (λ (p : DeclsState × Option TraceState). IsReading true p.0 p.1) (λ i. (sym reading.0 i, sym reading.1 i))
-    (record { seen_is = ap seen header_lines ∙ header_says; words = λ i d less. absurd (omega (arith, less)); few_places = omega arith })
+    (record { has_text = empty_has_text; seen_is = ap seen header_lines ∙ header_says; few_places = omega arith })
 
 -- a line that declares, and is not refused
 pub record IsDeclaration (ds : List Declaration) (line : List ℕ) : Type 0 where
@@ -110,9 +123,13 @@ module _ (old new : DeclsState) (line : List ℕ) (read : IsRead (begun old)) (c
         no_cause = cause_of_line h ∙ none;
         lines = after;
         is_read = record {
+          has_text = subst (λ (d : DeclsState). HasText (begun d)) (sym new_is) (record {
+            well_formed = push_well_formed old read.has_text.well_formed is.d.name is.d.object (allowed_from_no_fault old.declarations is.d.object is.d.name is.fine);
+            is_trace = no_events (with_declaration old is.d.name is.d.object);
+            words = All-push (λ (x : Declaration). IsTrue (has_known_word x.object)) old.declarations is.d read.has_text.words is.words;
+          });
           seen_is = ap seen after ∙ seen_declaration (lines (begun old)) line old.declarations is.d read.seen_is is.is is.event
               ∙ (λ i. seen_so_far (sym new_is i).declarations 0);
-          words = subst (λ (d : DeclsState). All (λ (x : Declaration). IsTrue (has_known_word x.object)) d.declarations) (sym new_is) (All-push (λ (x : Declaration). IsTrue (has_known_word x.object)) old.declarations is.d read.words is.words);
           few_places = subst (λ (d : DeclsState). length d.places ≤ 0) (sym new_is) read.few_places;
         };
       }

@@ -1,80 +1,50 @@
 -- Bytes without a fault are some trace's text: line by line, each is taken into a trace.
-use Rattle.std.proofs.Common.{◌≡◌, ℕ, ◌+◌, ◌*◌, ◌^◌, ◌-◌, ◌<◌, ◌≤◌, ◌&&◌, Bool, true, false, not, nat_le, nat_lt, ◌==◌, if◌then◌else◌, List, [], ◌∷◌, ◌++◌, length, Option, Some, None, IsTrue, refl, sym, ap, subst, ◌∙◌, arith, true≢false, append-nil, append_assoc}
+use Rattle.std.proofs.Common.{◌≡◌, ℕ, ◌+◌, ◌*◌, ◌<◌, ◌≤◌, Bool, true, false, not, nat_le, ◌==◌, if◌then◌else◌, List, [], ◌∷◌, ◌++◌, length, Option, Some, None, refl, sym, ap, subst, ◌∙◌, arith, true≢false, append-nil, append_assoc}
 use Rattle.std.proofs.lemmas.Bool.Decides.{nat_tests}
 use Rattle.std.proofs.lemmas.Grind.{flat_map-append}
-use Rattle.std.proofs.lemmas.List.Elements.{All-push}
 use Rattle.std.proofs.lemmas.List.Splits.{join_with_byte-slice_split, length-slice_split}
-use Rattle.std.proofs.lemmas.Option.{none-some, same_Some}
+use Rattle.std.proofs.lemmas.Option.{none-some}
 use Rattle.std.proofs.lemmas.Slice.Eq.{bytes_eq-Decides}
-use Rattle.std.specs.Fmt.{decimal}
 use Rattle.std.specs.List.{flat_map, join_with_byte}
 use Rattle.std.specs.Str.{bytes_eq}
-use Rattle.std.specs.Str.Parse.{digits_value}
 use Rattle.race_records.specs.declared.event.Event.{Event}
 use Rattle.race_records.specs.declared.trace.TheConstants.{MAX_EVENTS}
-use Rattle.race_records.specs.Declarations.{Declaration, DeclsState, IsWellFormed, is_known, place_fault, with_place, with_declaration}
-use Rattle.race_records.specs.Events.{TraceState, value_fits}
-use Rattle.race_records.proofs.DeclFaultLemmas.{allowed_from_no_fault}
-use Rattle.race_records.proofs.DeclsKept.{empty_well_formed, push_well_formed}
-use Rattle.race_records.proofs.EventLemmas.{push_is_trace, with_place_is_trace}
-use Rattle.race_records.proofs.PlaceLemmas.{allowed_from_no_place_fault, place_well_formed}
+use Rattle.race_records.specs.Declarations.{Declaration, with_place, with_declaration}
+use Rattle.race_records.specs.Events.{TraceState}
 use Rattle.race_text.specs.declared.cause.TextCause.{TextCause}
 use Rattle.race_text.specs.declared.cause.TextFault.{TextFault}
 use Rattle.race_text.specs.declared.form.Word.{Word}
 use Rattle.race_text.specs.Words.{parts_of, words_of, has_bad_byte, number}
-use Rattle.race_text.specs.Text.{header, ended, has_known_word, lines, text}
+use Rattle.race_text.specs.Text.{header, ended, lines, text}
 use Rattle.race_text.specs.Form.{word_named}
 use Rattle.race_text.specs.Fault.{seen, seen_so_far, line_cause, cause, or_later, fault_after, text_fault}
 use Rattle.race_text.specs.Declaring.{is_declaration_line, with_declared}
 use Rattle.race_text.specs.Text.{HasText, IsTraceText}
-use Rattle.race_text.specs.Reading.{Occurrence, event_by, event_in}
+use Rattle.race_text.specs.Reading.{Occurrence, event_in}
 use Rattle.race_text.specs.Reader.{end_cause}
 use Rattle.race_text.specs.Taking.{state_of, IsRead, begun, event_of}
 use Rattle.race_text.proofs.EventLines.{event_line as event_line_of}
 use Rattle.race_text.proofs.ParseLemmas.{fault_step, fault_end, end_empty, no_bytes}
-use Rattle.race_text.proofs.ReaderLemmas.{header_lines, header_says, declaration_of_line, cause_of_line, taken_declaration}
-use Rattle.race_text.proofs.TraceLemmas.{cause_behind, bad_byte_is_told, no_event_is_told, event_cause, event_taken, event_fits, event_has_room, place_has_room}
-
--- the table of places with one more, which may be known
-place_kept : (decls : DeclsState) (word : List ℕ) → IsWellFormed decls → place_fault decls.places word ≡ None → IsWellFormed (with_place decls word)
-place_kept decls word holds none = by (is_known decls.places word) refl
-  where
-    by : (b : Bool) → is_known decls.places word ≡ b → IsWellFormed (record { declarations = decls.declarations; places = if b then decls.places else decls.places ++ word ∷ [] })
-    by true e = holds
-    by false e = place_well_formed decls word holds e (allowed_from_no_place_fault decls.places word e none)
+use Rattle.race_text.proofs.ReaderLemmas.{header_lines, header_says, empty_has_text, no_events, declaration_of_line, cause_of_line, taken_declaration}
+use Rattle.race_text.proofs.TraceLemmas.{cause_behind, bad_byte_is_told, no_event_is_told, event_cause, event_taken}
 
 -- a trace with one more line
 record IsNext (t : TraceState) (line : List ℕ) : Type 0 where
   next : TraceState
-  has : HasText next
   read : IsRead next
   lines_are : lines next ≡ lines t ++ line ∷ []
 
-module _ (t : TraceState) (has : HasText t) (read : IsRead t) (line : List ℕ) (none : cause (lines t) line true ≡ None) where
+module _ (t : TraceState) (read : IsRead t) (line : List ℕ) (none : cause (lines t) line true ≡ None) where
   abbrev ds : List Declaration
   ds = t.decls.declarations
 
   with_event : (o : Occurrence) → event_in ds (words_of line) ≡ Some o → IsNext t line
   with_event o says =
-      let is = event_line_of t.decls line o has.well_formed says in
-      let decls = with_place t.decls o.place in
-      let e = event_of t.decls.places o in
-      let next : TraceState = record { decls = decls; events = t.events ++ e ∷ []; spare = 0 } in
-      let room : length t.events < MAX_EVENTS = by (nat_le MAX_EVENTS (length t.events)) refl (sym (event_cause t next line o read has.is_trace is) ∙ none) in
-      let few = read.few_places in
-      let taken = event_taken t next line o read has.is_trace is (record { room = room; decls = refl; events = refl }) in
-      let mid : TraceState = record { decls = decls; events = t.events; spare = t.spare } in
-      let fit = event_fits t.decls o (record { place = is.place; who = is.who; op = is.op; value = is.value }) in
-      record {
-        next = next;
-        has = record {
-          well_formed = place_kept t.decls o.place has.well_formed (place_has_room t o.place is.place few room);
-          is_trace = push_is_trace mid e (t.events ++ e ∷ []) 0 (with_place_is_trace t o.place decls has.is_trace refl) is.value (event_has_room mid e fit room) refl;
-          words = has.words;
-        };
-        read = taken.is_read;
-        lines_are = taken.lines;
-      }
+      let is = event_line_of t.decls line o read.has_text.well_formed says in
+      let next : TraceState = record { decls = with_place t.decls o.place; events = t.events ++ event_of t.decls.places o ∷ []; spare = 0 } in
+      let room : length t.events < MAX_EVENTS = by (nat_le MAX_EVENTS (length t.events)) refl (sym (event_cause t next line o read is) ∙ none) in
+      let taken = event_taken t next line o read is (record { room = room; decls = refl; events = refl }) in
+      record { next = next; read = taken.is_read; lines_are = taken.lines }
     where
       by : (b : Bool) → nat_le MAX_EVENTS (length t.events) ≡ b → (if b then Some TextCause.TooMany else None) ≡ None → length t.events < MAX_EVENTS
       by true e h = absurd (none-some TextCause.TooMany (sym h))
@@ -95,24 +65,15 @@ module _ (t : TraceState) (has : HasText t) (read : IsRead t) (line : List ℕ) 
   with_declared_line empty declares =
       let same = lines_begun empty in
       let before : IsRead (begun t.decls) = record {
+        has_text = record { well_formed = read.has_text.well_formed; is_trace = no_events t.decls; words = read.has_text.words };
         seen_is = ap seen same ∙ read.seen_is ∙ (λ i. seen_so_far ds (length (empty i)));
-        words = read.words;
         few_places = subst (λ (es : List Event). length t.decls.places ≤ 2 * length es) empty read.few_places;
       } in
       let fine = sym (cause_of_line t.decls t.decls line before is_clean declares) ∙ ap (λ ls. cause ls line true) same ∙ none in
       let is = declaration_of_line ds line declares fine in
       let new = with_declaration t.decls is.d.name is.d.object in
       let taken = taken_declaration t.decls new line before is_clean declares fine (sym (ap (with_declared t.decls) is.is)) in
-      record {
-        next = begun new;
-        has = record {
-          well_formed = push_well_formed t.decls has.well_formed is.d.name is.d.object (allowed_from_no_fault ds is.d.object is.d.name is.fine);
-          is_trace = record { fit = λ i d less. absurd (omega (arith, less)); values = λ i d less. absurd (omega (arith, less)); limited = omega arith };
-          words = All-push (λ (d : Declaration). IsTrue (has_known_word d.object)) ds is.d has.words is.words;
-        };
-        read = taken.is_read;
-        lines_are = taken.lines ∙ ap (λ ls. ls ++ line ∷ []) same;
-      }
+      record { next = begun new; read = taken.is_read; lines_are = taken.lines ∙ ap (λ ls. ls ++ line ∷ []) same }
 
   told_none : line_cause (seen_so_far ds (length t.events)) line ≡ None
   told_none = sym (cause_behind t line read) ∙ none
@@ -132,17 +93,17 @@ or_later_none n None later h = (refl, h)
 or_later_none n (Some c) later h = absurd (none-some (record { line = n; cause = c }) (sym h))
 
 -- the parts that are left, behind the lines of a trace
-scanned : (parts : List (List ℕ)) (t : TraceState) → HasText t → IsRead t → 0 < length parts → fault_after (lines t) parts ≡ None
+scanned : (parts : List (List ℕ)) (t : TraceState) → IsRead t → 0 < length parts → fault_after (lines t) parts ≡ None
     → (u : TraceState) × HasText u × (flat_map ended (lines u) ≡ flat_map ended (lines t) ++ join_with_byte 10 parts)
-scanned [] t has read some none = absurd (omega (arith, some))
-scanned (last ∷ []) t has read some none =
+scanned [] t read some none = absurd (omega (arith, some))
+scanned (last ∷ []) t read some none =
     let empty = end_empty (lines t) last (or_later_none (length (lines t) + 1) (end_cause (lines t) last) None (sym (fault_end (lines t) last) ∙ none)).0 in
-    (t, has, sym (ap (λ l. flat_map ended (lines t) ++ l) (no_bytes last empty.0) ∙ append-nil (flat_map ended (lines t))))
-scanned (line ∷ part ∷ others) t has read some none =
+    (t, read.has_text, sym (ap (λ l. flat_map ended (lines t) ++ l) (no_bytes last empty.0) ∙ append-nil (flat_map ended (lines t))))
+scanned (line ∷ part ∷ others) t read some none =
     let parts = part ∷ others in
     let split = or_later_none (length (lines t) + 1) (cause (lines t) line true) (fault_after (lines t ++ line ∷ []) parts) (sym (fault_step (lines t) line parts (omega arith)) ∙ none) in
-    let next = with_line t has read line split.0 in
-    let rest = scanned (part ∷ others) next.next next.has next.read (omega arith) (ap (λ ls. fault_after ls parts) next.lines_are ∙ split.1) in
+    let next = with_line t read line split.0 in
+    let rest = scanned (part ∷ others) next.next next.read (omega arith) (ap (λ ls. fault_after ls parts) next.lines_are ∙ split.1) in
     let front = flat_map ended (lines t) in (
       rest.0,
       rest.1,
@@ -156,15 +117,8 @@ scanned (line ∷ part ∷ others) t has read some none =
 abbrev empty_trace : TraceState
 empty_trace = begun (record { declarations = []; places = [] })
 
-empty_has_text : HasText empty_trace
-empty_has_text = record {
-  well_formed = empty_well_formed;
-  is_trace = record { fit = λ i d less. absurd (omega (arith, less)); values = λ i d less. absurd (omega (arith, less)); limited = omega arith };
-  words = λ i d less. absurd (omega (arith, less));
-}
-
 empty_is_read : IsRead empty_trace
-empty_is_read = record { seen_is = ap seen header_lines ∙ header_says; words = λ i d less. absurd (omega (arith, less)); few_places = omega arith }
+empty_is_read = record { has_text = empty_has_text; seen_is = ap seen header_lines ∙ header_says; few_places = omega arith }
 
 -- the first line is the header
 is_header : (line : List ℕ) → cause [] line true ≡ None → line ≡ header
@@ -189,7 +143,7 @@ faultless_is_text bytes none = by (parts_of bytes) refl none
         let parts = part ∷ others in
         let split = or_later_none 1 (cause [] line true) (fault_after (line ∷ []) parts) (sym (fault_step [] line parts (omega arith)) ∙ h) in
         let first = is_header line split.0 in
-        let rest = scanned parts empty_trace empty_has_text empty_is_read (omega arith) (ap (λ ls. fault_after ls parts) (header_lines ∙ (λ i. sym first i ∷ [])) ∙ split.1) in
+        let rest = scanned parts empty_trace empty_is_read (omega arith) (ap (λ ls. fault_after ls parts) (header_lines ∙ (λ i. sym first i ∷ [])) ∙ split.1) in
         let printed = sym (join_with_byte-slice_split 10 bytes) ∙ ap (join_with_byte 10) e ∙ (λ i. first i ++ 10 ∷ join_with_byte 10 parts)
         ∙ sym (rest.2 ∙ ap (λ ls. flat_map ended ls ++ join_with_byte 10 parts) header_lines) in
         (rest.0, record { has_text = rest.1; printed = printed })

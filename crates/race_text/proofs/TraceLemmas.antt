@@ -19,14 +19,16 @@ use Rattle.race_records.specs.Declarations.{Declaration, DeclsState, is_known, p
 use Rattle.race_records.specs.declared.kind.Kind.{Kind}
 use Rattle.race_records.specs.Nouns.{kind_of_noun}
 use Rattle.race_records.specs.Events.{TraceState, IsTrace, fits, push_fault}
+use Rattle.race_records.proofs.EventLemmas.{push_is_trace, with_place_is_trace}
 use Rattle.race_records.proofs.ListLemmas.{slice_get-push_within, slice_get-push_last}
+use Rattle.race_records.proofs.PlaceLemmas.{with_place_well_formed}
 use Rattle.race_records.proofs.TextLemmas.{position_or_len-absent}
 use Rattle.race_text.specs.declared.cause.TextCause.{TextCause}
 use Rattle.race_text.specs.declared.form.Word.{Word}
 use Rattle.race_text.specs.Words.{words_of, has_bad_byte}
 use Rattle.race_text.specs.Form.{word_named, fields_of, kind_declared, first_word, arguments}
 use Rattle.race_text.specs.Declaring.{is_declaration_word, is_declaration_line}
-use Rattle.race_text.specs.Text.{header, has_known_word, declaration_line, event_line, op_words, goroutine_name, line_of, lines}
+use Rattle.race_text.specs.Text.{header, has_known_word, declaration_line, event_line, op_words, goroutine_name, line_of, lines, HasText}
 use Rattle.race_text.specs.Fault.{Seen, seen, seen_so_far, declaration_in, is_event_line, or_else, fields_cause, room_cause, line_cause, cause, word_cause}
 use Rattle.race_text.specs.Reading.{Occurrence, event_by, event_in}
 use Rattle.race_text.specs.Taking.{state_of, IsRead, begun, IsFitting, event_of, AppendsEvent, IsFull, TakesLine, TakesOrTells}
@@ -181,7 +183,7 @@ unfolding line_cause
 clean_line s line clean = ap (λ b. if b then Some TextCause.BadByte else word_cause s (word_named (first_word (words_of line))) (arguments (words_of line))) clean
 
 -- an event that was appended, or refused
-module _ (old new : TraceState) (line : List ℕ) (o : Occurrence) (read : IsRead old) (holds : IsTrace old) (is : IsEventLine old.decls.declarations line o) where
+module _ (old new : TraceState) (line : List ℕ) (o : Occurrence) (read : IsRead old) (is : IsEventLine old.decls.declarations line o) where
   pub event_cause : cause (lines old) line true ≡ room_cause (state_of old) None
   event_cause = cause_behind old line read ∙ clean_line (state_of old) line is.clean ∙ is.cause_is (length old.events)
 
@@ -195,17 +197,31 @@ module _ (old new : TraceState) (line : List ℕ) (o : Occurrence) (read : IsRea
       by true = omega arith
       by false = omega (arith, length-append old.decls.places (o.place ∷ []))
 
+  event_has_text : AppendsEvent old new o → HasText new
+  event_has_text added =
+      let decls = with_place old.decls o.place in
+      let e = event_of old.decls.places o in
+      let mid : TraceState = record { decls = decls; events = old.events; spare = old.spare } in
+      let fit = event_fits old.decls o (record { place = is.place; who = is.who; op = is.op; value = is.value }) in
+      let before = read.has_text in
+      record {
+        well_formed = subst IsWellFormed (sym added.decls) (with_place_well_formed old.decls o.place before.well_formed (place_has_room old o.place is.place read.few_places added.room));
+        is_trace = subst (λ (d : DeclsState). IsTrace (record { decls = d; events = new.events; spare = new.spare })) (sym added.decls)
+            (push_is_trace mid e new.events new.spare (with_place_is_trace old o.place decls before.is_trace refl) is.value (event_has_room mid e fit added.room) added.events);
+        words = subst (λ (d : DeclsState). All (λ (x : Declaration). IsTrue (has_known_word x.object)) d.declarations) (sym added.decls) before.words;
+      }
+
   pub event_taken : AppendsEvent old new o → TakesLine (lines old) line new
   event_taken added =
       let more : length new.events ≡ length old.events + 1 = ap length added.events ∙ length-append old.events (event_of old.decls.places o ∷ []) in
-      let after = lines_event old new line o holds is added in
+      let after = lines_event old new line o read.has_text.is_trace is added in
       record {
         no_cause = let room = added.room in room_is false (grind (arith, nat_tests, room));
         lines = after;
         is_read = record {
+          has_text = event_has_text added;
           seen_is = ap seen after ∙ seen_event (lines old) line old.decls.declarations (length old.events) read.seen_is is.declares is.is_event
               ∙ (λ i. seen_so_far (sym added.decls i).declarations (sym more i));
-          words = subst (λ (d : DeclsState). All (λ (x : Declaration). IsTrue (has_known_word x.object)) d.declarations) (sym added.decls) read.words;
           few_places =
               let few = read.few_places in
               let same : length new.decls.places ≡ length (with_place old.decls o.place).places = ap (λ (d : DeclsState). length d.places) added.decls in

@@ -1,13 +1,13 @@
 -- A line that is taken into a trace.
-use Rattle.std.specs.Prelude.{◌≡◌, ◌≢◌, ℕ, ◌*◌, ◌<◌, ◌≤◌, List, [], ◌∷◌, ◌++◌, length, true, Some, None, Result, Ok, Err, IsTrue, All}
+use Rattle.std.specs.Prelude.{◌≡◌, ◌≢◌, ℕ, ◌*◌, ◌<◌, ◌≤◌, List, [], ◌∷◌, ◌++◌, length, true, Some, None, Result, Ok, Err}
 use Rattle.race_records.specs.declared.event.Event.{Event}
 use Rattle.race_records.specs.declared.kind.Kind.{Kind}
 use Rattle.race_records.specs.declared.trace.TheConstants.{MAX_EVENTS}
 use Rattle.race_records.specs.Name.{is_place}
-use Rattle.race_records.specs.Declarations.{Declaration, DeclsState, count_of, place_number, with_place}
+use Rattle.race_records.specs.Declarations.{DeclsState, count_of, place_number, with_place}
 use Rattle.race_records.specs.Events.{TraceState, op_fits, value_fits}
 use Rattle.race_text.specs.declared.cause.TextCause.{TextCause}
-use Rattle.race_text.specs.Text.{has_known_word, lines}
+use Rattle.race_text.specs.Text.{HasText, lines}
 use Rattle.race_text.specs.Fault.{Seen, seen_so_far, seen, cause}
 use Rattle.race_text.specs.Reading.{Occurrence}
 
@@ -15,10 +15,10 @@ use Rattle.race_text.specs.Reading.{Occurrence}
 abbrev pub state_of : TraceState → Seen
 state_of t = seen_so_far t.decls.declarations (length t.events)
 
--- its lines say the same, each declaration begins with a known word, and there is room for the places of as many events as a trace can have
+-- its text counts, its lines say the same, and there is room for the places of as many events as a trace can have
 pub record IsRead (t : TraceState) : Type 0 where
+  pub has_text : HasText t
   pub seen_is : seen (lines t) ≡ state_of t
-  pub words : All (λ (d : Declaration). IsTrue (has_known_word d.object)) t.decls.declarations
   pub few_places : length t.decls.places ≤ 2 * length t.events
 
 -- the trace that these declarations begin

@@ -91,14 +91,10 @@ impl<A: Allocator + Copy> Reader<A> {
             decls,
             trace,
         } = self;
-        let trace = match trace {
+        match trace {
             Some(trace) => trace,
             None => Trace::new(decls),
-        };
-        // What holds of every `Decls` and of every `Trace` is known once its length is.
-        let _declarations = trace.decls().len();
-        let _events = trace.len();
-        trace
+        }
     }
 
     // Takes the first line.

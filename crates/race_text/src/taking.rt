@@ -23,10 +23,8 @@ pub(crate) fn take_event<A: Allocator + Copy>(
     ensures taken { spec.TakesOrTells (lines trace.old) line.now result trace.new }
     ensures grown { OnOk result (0 < length trace.new.events) }
 {
-    // What holds of every `Decls` and of every `Trace` is known once its length is.
     let count = trace.len();
     let decls = trace.decls();
-    let _declarations = decls.len();
     match read_event(decls, line) {
         Some(draft) => append(trace, draft),
         None => Err(line_cause(decls, count, line).unwrap()),

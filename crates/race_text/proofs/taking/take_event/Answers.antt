@@ -6,7 +6,7 @@ use Rattle.race_text.proofs.taking.take_event.Goals as goal
 
 pub append-requires-clause-fits : goal.append-requires-clause-fits
 append-requires-clause-fits g c =
-    let is = says_event c.decls-decls.result.now c.args.trace.now.decls c.args.line.now (drafted c.in-Some.draft) c.len-declarations.ensures.well_formed c.decls-decls.ensures (sym c.in-Some.ensures) in
+    let is = says_event c.decls-decls.result.now c.args.trace.now.decls c.args.line.now (drafted c.in-Some.draft) c.decls-decls.ensures.well_formed c.decls-decls.ensures.decls (sym c.in-Some.ensures) in
     record { place = is.place; who = is.who; op = is.op; value = is.value }
 
 pub unwrap-requires : goal.unwrap-requires
@@ -16,13 +16,13 @@ unwrap-requires g c = is_there c.line_cause.result (λ none.
 
 pub returns-in-Some-clause-taken : goal.returns-in-Some-clause-taken
 returns-in-Some-clause-taken g c =
-    let is = says_event c.decls-decls.result.now c.args.trace.now.decls c.args.line.now (drafted c.in-Some.draft) c.len-declarations.ensures.well_formed c.decls-decls.ensures (sym c.in-Some.ensures) in
-    event_answered c.args.trace.now c.append.new.trace c.args.line.now (drafted c.in-Some.draft) c.requires.read c.len-count.ensures.is_trace is c.append.result c.append.ensures
+    let is = says_event c.decls-decls.result.now c.args.trace.now.decls c.args.line.now (drafted c.in-Some.draft) c.decls-decls.ensures.well_formed c.decls-decls.ensures.decls (sym c.in-Some.ensures) in
+    event_answered c.args.trace.now c.append.new.trace c.args.line.now (drafted c.in-Some.draft) c.requires.read is c.append.result c.append.ensures
 
 pub returns-in-Some-clause-grown : goal.returns-in-Some-clause-grown
 returns-in-Some-clause-grown g c = event_grown c.args.trace.now c.append.new.trace (drafted c.in-Some.draft) c.append.result c.append.ensures
 
 pub returns-in-None-clause-taken : goal.returns-in-None-clause-taken
 returns-in-None-clause-taken g c = λ _. cause_behind c.args.trace.now c.args.line.now c.requires.read
-    ∙ (λ i. line_cause (seen_so_far (sym c.decls-decls.ensures i).declarations (sym c.len-count.ensures.len i)) c.args.line.now)
+    ∙ (λ i. line_cause (seen_so_far (sym c.decls-decls.ensures.decls i).declarations (sym c.len-count.ensures.len i)) c.args.line.now)
     ∙ sym c.line_cause.ensures ∙ c.unwrap.ensures

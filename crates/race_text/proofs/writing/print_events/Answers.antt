@@ -14,7 +14,7 @@ returns-in-Err-clause-sent g c =
     let before = g.W.Write.contents c.loop-index.sink.writer in
     let after = g.W.Write.contents c.print_event.new.sink.writer in
     within_a_piece (λ (e : Event). ended (event_line trace.decls e)) trace.events c.loop-index.index event c.event.ensures.event start before after c.args.page.now c.loop-index.page c.in-Err.fault.sent c.loop-index.invariant.printed
-    (subst (λ (d : DeclsState). BreaksOff before after c.loop-index.page c.in-Err.fault.sent (ended (event_line d event))) c.decls.ensures c.in-Err.ensures.sent)
+    (subst (λ (d : DeclsState). BreaksOff before after c.loop-index.page c.in-Err.fault.sent (ended (event_line d event))) c.decls.ensures.decls c.in-Err.ensures.sent)
 
 pub loop-index-preserved : goal.loop-index-preserved
 loop-index-preserved g c =
@@ -25,6 +25,6 @@ loop-index-preserved g c =
     let after = g.W.Write.contents c.print_event.new.sink.writer in
     record {
       printed = one_more_piece (λ (e : Event). ended (event_line trace.decls e)) trace.events c.loop-index.index event c.event.ensures.event start before after c.args.page.now c.loop-index.page c.print_event.new.page c.loop-index.invariant.printed
-          (subst (λ (d : DeclsState). Prints before after c.loop-index.page c.print_event.new.page (ended (event_line d event))) c.decls.ensures c.in_default.ensures.ok);
+          (subst (λ (d : DeclsState). Prints before after c.loop-index.page c.print_event.new.page (ended (event_line d event))) c.decls.ensures.decls c.in_default.ensures.ok);
       calm = c.in_default.ensures.calm ∙ c.loop-index.invariant.calm;
     }

@@ -20,7 +20,7 @@ returns-in-Ok-clause-sent g c =
     let start = g.W.Write.contents c.args.sink.now.writer in
     let middle = g.W.Write.contents c.print_trace.new.sink.writer in
     let now = g.W.Write.contents c.flush.new.sink.writer in
-    let bounded = text_short trace c.len-events.ensures.is_trace (subst IsWellFormed c.decls.ensures c.len-declarations.ensures.well_formed) in
+    let bounded = text_short trace c.len-events.ensures.is_trace (subst IsWellFormed c.decls.ensures.decls c.len-declarations.ensures.well_formed) in
     IfErr-map c.flush.result _ (λ (fault : WriteFault). Appends start now (take fault.sent (text trace)))
     (λ (fault : WriteFault) cuts. (cut_is_exact start now fault.sent (text trace) bounded (cut_off start middle c.new-page.result c.print_trace.new.page (text trace) c.new-page.ensures.waiting c.new-page.ensures.sent now fault.sent c.in-Ok.ensures.ok cuts)).0)
     c.flush.ensures.sent
@@ -31,7 +31,7 @@ returns-in-Ok-clause-short g c =
     let start = g.W.Write.contents c.args.sink.now.writer in
     let middle = g.W.Write.contents c.print_trace.new.sink.writer in
     let now = g.W.Write.contents c.flush.new.sink.writer in
-    let bounded = text_short trace c.len-events.ensures.is_trace (subst IsWellFormed c.decls.ensures c.len-declarations.ensures.well_formed) in
+    let bounded = text_short trace c.len-events.ensures.is_trace (subst IsWellFormed c.decls.ensures.decls c.len-declarations.ensures.well_formed) in
     IfErr-map c.flush.result _ (λ (fault : WriteFault). fault.sent < length (text trace))
     (λ (fault : WriteFault) cuts. (cut_is_exact start now fault.sent (text trace) bounded (cut_off start middle c.new-page.result c.print_trace.new.page (text trace) c.new-page.ensures.waiting c.new-page.ensures.sent now fault.sent c.in-Ok.ensures.ok cuts)).1)
     c.flush.ensures.sent
@@ -41,7 +41,7 @@ returns-in-Err-clause-sent g c =
     let trace = c.args.trace.now in
     let start = g.W.Write.contents c.args.sink.now.writer in
     let now = g.W.Write.contents c.print_trace.new.sink.writer in
-    let bounded = text_short trace c.len-events.ensures.is_trace (subst IsWellFormed c.decls.ensures c.len-declarations.ensures.well_formed) in
+    let bounded = text_short trace c.len-events.ensures.is_trace (subst IsWellFormed c.decls.ensures.decls c.len-declarations.ensures.well_formed) in
     (cut_is_exact start now c.in-Err.fault.sent (text trace) bounded (broken_off start now c.new-page.result c.in-Err.fault.sent (text trace) c.new-page.ensures.waiting c.new-page.ensures.sent c.in-Err.ensures.sent)).0
 
 pub returns-in-Err-clause-short : goal.returns-in-Err-clause-short
@@ -49,5 +49,5 @@ returns-in-Err-clause-short g c =
     let trace = c.args.trace.now in
     let start = g.W.Write.contents c.args.sink.now.writer in
     let now = g.W.Write.contents c.print_trace.new.sink.writer in
-    let bounded = text_short trace c.len-events.ensures.is_trace (subst IsWellFormed c.decls.ensures c.len-declarations.ensures.well_formed) in
+    let bounded = text_short trace c.len-events.ensures.is_trace (subst IsWellFormed c.decls.ensures.decls c.len-declarations.ensures.well_formed) in
     (cut_is_exact start now c.in-Err.fault.sent (text trace) bounded (broken_off start now c.new-page.result c.in-Err.fault.sent (text trace) c.new-page.ensures.waiting c.new-page.ensures.sent c.in-Err.ensures.sent)).1

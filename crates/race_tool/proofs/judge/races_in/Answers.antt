@@ -33,7 +33,7 @@ loop-at-preserved g c =
       found =
           found_next (capacities c.args.trace.now) c.args.trace.now.events c.loop-at.at c.event-event.result.now c.event-event.ensures.event c.loop-at.table (length c.args.trace.now.events) c.loop-at.invariant.table
           c.loop-at.found c.look.new.self
-          (noted_of_trace c.events.result.now c.args.trace.now.events c.loop-at.at c.event-event.result.now c.loop-at.table c.loop-at.found c.look.new.self c.events.ensures c.look.ensures.found)
+          (noted_of_trace c.events.result.now c.args.trace.now.events c.loop-at.at c.event-event.result.now c.loop-at.table c.loop-at.found c.look.new.self c.events.ensures.events c.look.ensures.found)
           row (has_place c.args.trace.now c.loop-at.at c.event-event.result.now c.loop-at.found c.len.ensures.is_trace c.event-event.ensures.event c.loop-at.invariant.vars) c.loop-at.invariant.found;
     }
 

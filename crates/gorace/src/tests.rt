@@ -1,7 +1,13 @@
 use crate::command::{Request, parse};
+use crate::program::run;
 use clap::error::ErrorKind;
-use race_tool::CheckOptions;
+use race_records::{Sink, Source};
+use race_tool::{CheckOptions, status};
 use std::alloc::Global;
+use std::env::Args;
+use std::io;
+use std::process::ExitCode;
+use std::test::Fail;
 
 // The options of the words behind `gorace check`, or why there are none.
 fn options_of(alloc: Global, given: &[&str; 2]) -> Result<CheckOptions, ErrorKind> {
@@ -62,4 +68,59 @@ fn a_command_is_wanted(rt: HostRuntime) {
             Err(error) => assert_eq!(rt; error.kind(), want),
         }
     }
+}
+
+// The words as the system hands them over.
+fn args_of(alloc: Global, line: &str) -> Result<Args, Fail> {
+    let mut words = Vec::new(alloc);
+    for word in line.split(' ') {
+        words.push(String::from_str(alloc, word)?)?;
+    }
+    Ok(words.into_iter())
+}
+
+// How the program ends on the input, and what it writes.
+fn ended(
+    rt: &(impl AllocGlobal + Print + Eprint),
+    args: io::Result<Args>,
+    input: &str,
+) -> (ExitCode, Vec<u8>) {
+    let mut source = Source::new(input.as_bytes());
+    let mut output = Vec::new(rt.alloc());
+    let mut sink = Sink::new(&mut output);
+    let code = run(rt, args, &mut source, &mut sink);
+    (code, output)
+}
+
+#[test]
+fn words_and_input_decide_the_status(rt: HostRuntime) -> Result<(), Fail> {
+    for (line, input, answer, report) in [
+        (
+            "gorace check",
+            "gotrace 1\n",
+            status::CLEAN,
+            "clean: 0 events, 0 accesses\n",
+        ),
+        (
+            "gorace check --plain",
+            "gotrace 1\nexit w a.go:1\n",
+            status::TEXT_FAULT,
+            "line 2: unknown name\n",
+        ),
+        ("gorace check --help", "gotrace 1\n", status::CLEAN, ""),
+        ("gorace", "gotrace 1\n", status::USAGE, ""),
+    ] {
+        let (code, output) = ended(&rt, Ok(args_of(rt.alloc(), line)?), input);
+        assert_eq!(rt; code, ExitCode::from(answer), "{line}");
+        assert_eq!(rt; output.as_slice(), report.as_bytes(), "{line}");
+    }
+    for (kind, answer) in [
+        (io::ErrorKind::InvalidData, status::USAGE),
+        (io::ErrorKind::OutOfMemory, status::REFUSED),
+    ] {
+        let (code, output) = ended(&rt, Err(io::Error::from(kind)), "gotrace 1\n");
+        assert_eq!(rt; code, ExitCode::from(answer));
+        assert!(rt; output.is_empty());
+    }
+    Ok(())
 }

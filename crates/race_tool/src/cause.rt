@@ -1,7 +1,6 @@
 //! The line of a text fault.
-ghost use Rattle.std.specs.Prelude.{◌≡◌, OnOk, OnErr, IfErr};
-ghost use Rattle.race_records.specs.Devices.{written, sink_failures, one_more};
-ghost use Rattle.race_records.specs.Page.{Prints, BreaksOff};
+ghost use Rattle.std.specs.Prelude.{◌≡◌};
+ghost use Rattle.race_records.specs.Page.{Printing};
 ghost use Rattle.race_tool.specs.Causes.{cause_text};
 ghost use Rattle.race_tool.specs.Report as spec;
 
@@ -17,12 +16,8 @@ pub(crate) fn print_fault<W: Write>(
     sink: &mut Sink<W>,
     fault: TextFault,
 ) -> Result<(), WriteFault>
-    ensures ok { OnOk result (Prints (written W.contents sink.old) (written W.contents sink.new)
-        page.old page.new (spec.fault_line fault)) }
-    ensures sent { IfErr result (λ write. BreaksOff (written W.contents sink.old)
-        (written W.contents sink.new) page.old write.sent (spec.fault_line fault)) }
-    ensures calm { OnOk result (sink_failures sink.new ≡ sink_failures sink.old) }
-    ensures failed { OnErr result (sink_failures sink.new ≡ one_more (sink_failures sink.old)) }
+    ensures { Printing W.contents result sink.old sink.new page.old page.new
+        (spec.fault_line fault) }
 {
     let mut line = Buffer::new();
     let parts = [

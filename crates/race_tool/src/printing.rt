@@ -2,7 +2,7 @@
 ghost use Rattle.std.specs.Prelude.{◌≡◌, OnOk, OnErr, IfErr};
 ghost use Rattle.std.specs.Io.KnownBytes.{Appends};
 ghost use Rattle.race_records.specs.Devices.{written, sink_failures, one_more};
-ghost use Rattle.race_records.specs.Page.{Prints, BreaksOff, IsCutOff};
+ghost use Rattle.race_records.specs.Page.{Printing, IsCutOff};
 ghost use Rattle.race_tool.specs.Finding.{report_of};
 ghost use Rattle.race_tool.specs.Findings.{finding_of, IsPrintable, RacesAreOf};
 ghost use Rattle.race_tool.specs.Report.{report, too_long_line};
@@ -43,12 +43,8 @@ fn print_finding<W: Write, A: Allocator>(
     finding: &Finding<A>,
 ) -> Result<(), WriteFault>
     requires { IsPrintable finding.now }
-    ensures ok { OnOk result (Prints (written W.contents sink.old) (written W.contents sink.new)
-        page.old page.new (report_of (finding_of finding.now))) }
-    ensures sent { IfErr result (λ fault. BreaksOff (written W.contents sink.old)
-        (written W.contents sink.new) page.old fault.sent (report_of (finding_of finding.now))) }
-    ensures calm { OnOk result (sink_failures sink.new ≡ sink_failures sink.old) }
-    ensures failed { OnErr result (sink_failures sink.new ≡ one_more (sink_failures sink.old)) }
+    ensures { Printing W.contents result sink.old sink.new page.old page.new
+        (report_of (finding_of finding.now)) }
 {
     match finding {
         Finding::Faulty(fault) => print_fault(page, sink, *fault),
@@ -64,12 +60,8 @@ fn print_verdict<W: Write, A: Allocator, B: Allocator>(
     verdict: &Verdict<B>,
 ) -> Result<(), WriteFault>
     requires { RacesAreOf trace.now verdict.now }
-    ensures ok { OnOk result (Prints (written W.contents sink.old) (written W.contents sink.new)
-        page.old page.new (report trace.now (verdict_of verdict.now))) }
-    ensures sent { IfErr result (λ fault. BreaksOff (written W.contents sink.old)
-        (written W.contents sink.new) page.old fault.sent (report trace.now (verdict_of verdict.now))) }
-    ensures calm { OnOk result (sink_failures sink.new ≡ sink_failures sink.old) }
-    ensures failed { OnErr result (sink_failures sink.new ≡ one_more (sink_failures sink.old)) }
+    ensures { Printing W.contents result sink.old sink.new page.old page.new
+        (report trace.now (verdict_of verdict.now)) }
 {
     match verdict {
         Verdict::Illegal(illegal) => print_illegal(page, sink, *illegal),
@@ -85,12 +77,8 @@ fn print_too_long<W: Write>(
     sink: &mut Sink<W>,
     events: usize,
 ) -> Result<(), WriteFault>
-    ensures ok { OnOk result (Prints (written W.contents sink.old) (written W.contents sink.new)
-        page.old page.new (too_long_line events)) }
-    ensures sent { IfErr result (λ fault. BreaksOff (written W.contents sink.old)
-        (written W.contents sink.new) page.old fault.sent (too_long_line events)) }
-    ensures calm { OnOk result (sink_failures sink.new ≡ sink_failures sink.old) }
-    ensures failed { OnErr result (sink_failures sink.new ≡ one_more (sink_failures sink.old)) }
+    ensures { Printing W.contents result sink.old sink.new page.old page.new
+        (too_long_line events) }
 {
     let mut number = Buffer::new();
     let parts = [

@@ -1,7 +1,6 @@
 //! The lines of a verdict.
-ghost use Rattle.std.specs.Prelude.{◌≡◌, ◌<◌, ◌+◌, [], ◌∷◌, All, map, length, slice_get, Some, IfSome, IfErr, OnOk, OnErr, count_by};
-ghost use Rattle.race_records.specs.Devices.{written, sink_failures, one_more};
-ghost use Rattle.race_records.specs.Page.{Prints, BreaksOff};
+ghost use Rattle.std.specs.Prelude.{◌≡◌, ◌<◌, ◌+◌, [], ◌∷◌, All, map, length, slice_get, Some, IfSome, count_by};
+ghost use Rattle.race_records.specs.Page.{Printing};
 ghost use Rattle.race_model.specs.Events.{count, is_access};
 ghost use Rattle.race_text.specs.Text.{goroutine_name, place_text};
 ghost use Rattle.race_tool.specs.Answers.{race_of};
@@ -44,12 +43,8 @@ pub(crate) fn print_clean<W: Write, A: Allocator>(
     sink: &mut Sink<W>,
     trace: &Trace<A>,
 ) -> Result<(), WriteFault>
-    ensures ok { OnOk result (Prints (written W.contents sink.old) (written W.contents sink.new)
-        page.old page.new (spec.clean_line trace.now)) }
-    ensures sent { IfErr result (λ fault. BreaksOff (written W.contents sink.old)
-        (written W.contents sink.new) page.old fault.sent (spec.clean_line trace.now)) }
-    ensures calm { OnOk result (sink_failures sink.new ≡ sink_failures sink.old) }
-    ensures failed { OnErr result (sink_failures sink.new ≡ one_more (sink_failures sink.old)) }
+    ensures { Printing W.contents result sink.old sink.new page.old page.new
+        (spec.clean_line trace.now) }
 {
     let mut events = Buffer::new();
     let mut accesses = Buffer::new();
@@ -71,13 +66,8 @@ pub(crate) fn print_illegal<W: Write>(
     sink: &mut Sink<W>,
     illegal: Illegal,
 ) -> Result<(), WriteFault>
-    ensures ok { OnOk result (Prints (written W.contents sink.old) (written W.contents sink.new)
-        page.old page.new (spec.illegal_line illegal.at (number_of illegal.rule))) }
-    ensures sent { IfErr result (λ fault. BreaksOff (written W.contents sink.old)
-        (written W.contents sink.new) page.old fault.sent
-        (spec.illegal_line illegal.at (number_of illegal.rule))) }
-    ensures calm { OnOk result (sink_failures sink.new ≡ sink_failures sink.old) }
-    ensures failed { OnErr result (sink_failures sink.new ≡ one_more (sink_failures sink.old)) }
+    ensures { Printing W.contents result sink.old sink.new page.old page.new
+        (spec.illegal_line illegal.at (number_of illegal.rule)) }
 {
     let mut number = Buffer::new();
     let parts = [
@@ -97,12 +87,8 @@ fn print_race_count<W: Write>(
     sink: &mut Sink<W>,
     count: usize,
 ) -> Result<(), WriteFault>
-    ensures ok { OnOk result (Prints (written W.contents sink.old) (written W.contents sink.new)
-        page.old page.new (spec.races_line count)) }
-    ensures sent { IfErr result (λ fault. BreaksOff (written W.contents sink.old)
-        (written W.contents sink.new) page.old fault.sent (spec.races_line count)) }
-    ensures calm { OnOk result (sink_failures sink.new ≡ sink_failures sink.old) }
-    ensures failed { OnErr result (sink_failures sink.new ≡ one_more (sink_failures sink.old)) }
+    ensures { Printing W.contents result sink.old sink.new page.old page.new
+        (spec.races_line count) }
 {
     let mut number = Buffer::new();
     let parts = [
@@ -121,13 +107,8 @@ pub(crate) fn print_races<W: Write, A: Allocator, B: Allocator>(
     races: &RaceList<B>,
 ) -> Result<(), WriteFault>
     requires { All (λ r. spec.IsOf trace.now (race_of r)) races.now }
-    ensures ok { OnOk result (Prints (written W.contents sink.old) (written W.contents sink.new)
-        page.old page.new (spec.races_text trace.now (map race_of races.now))) }
-    ensures sent { IfErr result (λ fault. BreaksOff (written W.contents sink.old)
-        (written W.contents sink.new) page.old fault.sent
-        (spec.races_text trace.now (map race_of races.now))) }
-    ensures calm { OnOk result (sink_failures sink.new ≡ sink_failures sink.old) }
-    ensures failed { OnErr result (sink_failures sink.new ≡ one_more (sink_failures sink.old)) }
+    ensures { Printing W.contents result sink.old sink.new page.old page.new
+        (spec.races_text trace.now (map race_of races.now)) }
 {
     for race in races.as_slice() {
         if let Err(fault) = print_race(page, sink, trace, *race) {
@@ -145,13 +126,8 @@ fn print_race<W: Write, A: Allocator>(
     race: Race,
 ) -> Result<(), WriteFault>
     requires { spec.IsOf trace.now (race_of race) }
-    ensures ok { OnOk result (Prints (written W.contents sink.old) (written W.contents sink.new)
-        page.old page.new (spec.race_line trace.now (race_of race))) }
-    ensures sent { IfErr result (λ fault. BreaksOff (written W.contents sink.old)
-        (written W.contents sink.new) page.old fault.sent
-        (spec.race_line trace.now (race_of race))) }
-    ensures calm { OnOk result (sink_failures sink.new ≡ sink_failures sink.old) }
-    ensures failed { OnErr result (sink_failures sink.new ≡ one_more (sink_failures sink.old)) }
+    ensures { Printing W.contents result sink.old sink.new page.old page.new
+        (spec.race_line trace.now (race_of race)) }
 {
     let first = access_words(trace, race.first as usize);
     let second = access_words(trace, race.second as usize);

@@ -1,7 +1,6 @@
-use Rattle.std.proofs.Common.{◌≡◌, ℕ, ◌+◌, List, [], ◌∷◌, ◌++◌, codes, decimal, unwrap_or, subst, IfErr, OnOk, sym, ap, ◌∙◌}
-use Rattle.race_records.specs.declared.sink.WriteFault.{WriteFault}
+use Rattle.std.proofs.Common.{◌≡◌, ℕ, ◌+◌, List, [], ◌∷◌, ◌++◌, codes, decimal, unwrap_or, subst, sym, ap, ◌∙◌}
 use Rattle.race_records.specs.Declarations.{DeclsState}
-use Rattle.race_records.specs.Page.{BreaksOff, Prints, joined}
+use Rattle.race_records.specs.Page.{Printing, joined}
 use Rattle.race_tool.specs.Answers.{race_of}
 use Rattle.race_text.specs.Text.{var_name}
 use Rattle.race_tool.proofs.ReportLemmas.{race_line_is}
@@ -25,11 +24,4 @@ returns g c =
     let numbered2 : number2 ≡ decimal (c.args.race.second + 1) = c.as_bytes-3.ensures.value ∙ c.format-2.ensures.text ∙ ap (λ n. decimal (n + 1)) c.from-2.ensures in
     let line = pieces ∙ sym (race_line_is c.args.trace.now (race_of c.args.race) var first.what.now first.who.now first.place.now number second.what.now second.who.now second.place.now number2
     named c.requires.first c.access_words-first.ensures numbered c.requires.second c.access_words-second.ensures numbered2) in
-    let before = g.W.Write.contents c.args.sink.now.writer in
-    let after = g.W.Write.contents c.put_all.new.sink.writer in
-    record {
-      ok = subst (λ (l : List ℕ). OnOk c.put_all.result (Prints before after c.args.page.now c.put_all.new.self l)) line c.put_all.ensures.ok;
-      sent = subst (λ (l : List ℕ). IfErr c.put_all.result (λ (fault : WriteFault). BreaksOff before after c.args.page.now fault.sent l)) line c.put_all.ensures.sent;
-      calm = c.put_all.ensures.calm;
-      failed = c.put_all.ensures.failed;
-    }
+    subst (λ (l : List ℕ). Printing g.W.Write.contents c.put_all.result c.args.sink.now c.put_all.new.sink c.args.page.now c.put_all.new.self l) line c.put_all.ensures

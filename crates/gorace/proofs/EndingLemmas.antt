@@ -1,0 +1,28 @@
+-- How the program ends, by what was asked for.
+use Rattle.std.proofs.Common.{◌≡◌, inl, inr, ℕ, List, Option, Result, Ok, Err, IfOk, IfErr, ap, ◌∙◌}
+use Rattle.std.specs.declared.io.Error.{Error as IoError}
+use Rattle.std.specs.declared.io.ErrorKind.TheVariants as io
+use Rattle.std.specs.IoError.{error_kind}
+use Rattle.clap.specs.declared.error.Error.{Error}
+use Rattle.clap.specs.declared.error.kind.ErrorKind.TheVariants as kind
+use Rattle.clap.specs.Values.{kind_of}
+use Rattle.race_records.specs.declared.source.Source.{Source}
+use Rattle.race_records.specs.declared.sink.Sink.{Sink}
+use Rattle.gorace.specs.declared.command.Request.{Request}
+use Rattle.gorace.specs.Ending.{Checks, Declines, Ends, answer_without_words}
+
+module _ {R W : Type 0} (remaining : R → Option (List ℕ)) (contents : W → Option (List ℕ)) (source source_now : Source R) (sink sink_now : Sink W) (answer : ℕ) where
+  -- a request ends as a check does, and an error as an answer
+  pub ends_as_asked : (request : Result Request Error) → IfOk request (λ asked. Checks remaining contents source source_now sink sink_now answer)
+      → IfErr request (λ error. Declines (kind_of error) source source_now sink sink_now answer) → Ends remaining contents source source_now sink sink_now answer
+  ends_as_asked (Ok asked) checks none = inl checks
+  ends_as_asked (Err error) checks none = inr (kind_of error, none)
+
+  -- words for which memory was refused end as those do for which it is refused later
+  pub ends_with_words : {A T : Type 0} (args : Result A IoError) (words : Result T IoError) → IfOk args (λ a. IfErr words (λ error. error_kind error ≡ io.OutOfMemory))
+      → IfOk words (λ w. Ends remaining contents source source_now sink sink_now answer)
+      → IfErr words (λ error. (answer ≡ answer_without_words (error_kind error)) × (source_now ≡ source) × (sink_now ≡ sink))
+      → IfOk args (λ a. Ends remaining contents source source_now sink sink_now answer)
+  ends_with_words (Ok a) (Ok w) memory ends none = ends
+  ends_with_words (Ok a) (Err error) memory ends none = inr (kind.OutOfMemory, record { answered = none.0 ∙ ap answer_without_words memory; unread = none.1; unwritten = none.2 })
+  ends_with_words (Err error) words memory ends none = tt

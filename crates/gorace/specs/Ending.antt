@@ -1,0 +1,53 @@
+-- How the program ends: with which status, and what was read and written.
+use Rattle.std.specs.Prelude.{◌≡◌, ◌≢◌, ◌⊎◌, ◌==◌, ℕ, if◌then◌else◌, List, Option, Some, None, codes}
+use Rattle.std.specs.declared.io.ErrorKind.{ErrorKind as IoErrorKind}
+use Rattle.std.specs.declared.io.ErrorKind.TheVariants as io
+use Rattle.clap.specs.declared.error.kind.ErrorKind.{ErrorKind}
+use Rattle.clap.specs.declared.error.kind.ErrorKind.TheVariants as kind
+use Rattle.race_records.specs.declared.source.Source.{Source}
+use Rattle.race_records.specs.declared.sink.Sink.{Sink}
+use Rattle.race_records.specs.Devices.{unread, written, source_failures, sink_failures}
+use Rattle.race_tool.specs.Outcome.{ReadsAndReports, ReadsCleanText, FailsToRead, GivesUpReading, FailsToWrite}
+use Rattle.race_tool.specs.declared.status.TheConstants as status
+
+-- the input was checked: what run_check promises of options in their limits
+pub record Checks {R W : Type 0} (remaining : R → Option (List ℕ)) (contents : W → Option (List ℕ)) (source source_now : Source R) (sink sink_now : Sink W) (answer : ℕ) : Type 0 where
+  pub reported : answer ≢ status.REFUSED → answer ≢ status.DEVICE
+      → ReadsAndReports (unread remaining source) (unread remaining source_now) (written contents sink) (written contents sink_now) answer
+  pub clean : answer ≡ status.CLEAN → ReadsCleanText (unread remaining source) (unread remaining source_now)
+  pub refused : answer ≡ status.REFUSED → sink_now ≡ sink
+  pub device : answer ≡ status.DEVICE
+      → FailsToRead source source_now sink sink_now
+      ⊎ GivesUpReading remaining source source_now sink sink_now
+      ⊎ FailsToWrite remaining contents source source_now sink sink_now
+  pub calm : answer ≢ status.DEVICE → (source_failures source_now ≡ source_failures source) × (sink_failures sink_now ≡ sink_failures sink)
+
+-- the status where the words ask for no check: help was printed or couldn't be, memory was refused, or else they are at fault
+abbrev pub IsAnswerTo : ErrorKind → ℕ → Type 0
+IsAnswerTo kind.OutOfMemory answer = answer ≡ status.REFUSED
+IsAnswerTo kind.DisplayHelp answer = (answer ≡ status.CLEAN) ⊎ (answer ≡ status.DEVICE)
+IsAnswerTo kind.DisplayVersion answer = (answer ≡ status.CLEAN) ⊎ (answer ≡ status.DEVICE)
+IsAnswerTo _ answer = answer ≡ status.USAGE
+
+-- the words ask for no check, and nothing was read or written
+pub record Declines {R W : Type 0} (kind : ErrorKind) (source source_now : Source R) (sink sink_now : Sink W) (answer : ℕ) : Type 0 where
+  pub answered : IsAnswerTo kind answer
+  pub unread : source_now ≡ source
+  pub unwritten : sink_now ≡ sink
+
+-- how the program ends where there are words
+abbrev pub Ends : {R W : Type 0} → (R → Option (List ℕ)) → (W → Option (List ℕ)) → Source R → Source R → Sink W → Sink W → ℕ → Type 0
+Ends remaining contents source source_now sink sink_now answer =
+    Checks remaining contents source source_now sink sink_now answer ⊎ ((kind : ErrorKind) × Declines kind source source_now sink sink_now answer)
+
+-- the status where there are no words: memory was refused for them, or they aren't text
+abbrev pub answer_without_words : IoErrorKind → ℕ
+answer_without_words io.OutOfMemory = status.REFUSED
+answer_without_words _ = status.USAGE
+
+-- what is said of a status of which no report tells
+abbrev pub message_of : ℕ → Option (List ℕ)
+message_of answer =
+    if answer == status.REFUSED then Some (codes "gorace: refused for memory or a thread")
+    else if answer == status.DEVICE then Some (codes "gorace: reading or writing failed")
+    else None

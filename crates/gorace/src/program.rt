@@ -1,0 +1,141 @@
+//! The program over any reader and any writer: from the words of the command line to a status.
+ghost use Rattle.std.specs.Prelude.{◌≡◌, IsTrue, IfOk, IfErr, option_map};
+ghost use Rattle.std.specs.declared.io.ErrorKind.TheVariants as io;
+ghost use Rattle.std.specs.IoError.{error_kind};
+ghost use Rattle.std.specs.Process.{exit_status};
+ghost use Rattle.clap.specs.Values.{kind_of};
+ghost use Rattle.gorace.specs.Ending.{Checks, Declines, Ends, IsAnswerTo, answer_without_words, message_of};
+ghost use Rattle.gorace.specs.Request.{is_in_limits};
+
+use crate::command::{Request, parse};
+use clap::Error;
+use clap::error::ErrorKind;
+use race_records::{Sink, Source};
+use race_tool::{run_check, status};
+use std::alloc::Global;
+use std::env::Args;
+use std::io;
+use std::io::{Read, Write};
+use std::process::ExitCode;
+
+/// Does what the words ask for, and says on standard error what no report says.
+///
+/// A check ends with the status that `run_check` answers. Help ends with 0, or with 5 where it can't
+/// be printed. Words that are at fault or aren't text end with 3, of which a line on standard error
+/// tells, and want of memory for them with 4.
+pub(crate) fn run<T: AllocGlobal + Print + Eprint, R: Read, W: Write>(
+    rt: &T,
+    args: io::Result<Args>,
+    source: &mut Source<R>,
+    sink: &mut Sink<W>,
+) -> ExitCode
+    // Either the input is checked, or the words ask for no check, and nothing is read or written.
+    ensures words { IfOk args (λ words.
+        Ends R.remaining W.contents source.old source.new sink.old sink.new (exit_status result)) }
+
+    // There are no words: memory was refused for them, or they aren't text.
+    ensures no_words { IfErr args (λ error.
+        (exit_status result ≡ answer_without_words (error_kind error))
+        × (source.new ≡ source.old) × (sink.new ≡ sink.old)) }
+{
+    let answer = answer_words(rt, words_of(rt.alloc(), args), source, sink);
+    tell(rt, answer);
+    ExitCode::from(answer)
+}
+
+// The words, in a list.
+fn words_of(alloc: Global, args: io::Result<Args>) -> io::Result<Vec<String>>
+    ensures no_words { IfErr args (λ error. result ≡ Err error) }
+    ensures memory { IfOk args (λ words. IfErr result (λ error. error_kind error ≡ io.OutOfMemory)) }
+{
+    match args {
+        Ok(args) => match args.collect(alloc) {
+            Ok(words) => Ok(words),
+            Err(refused) => Err(io::Error::from(refused)),
+        },
+        Err(error) => Err(error),
+    }
+}
+
+// Does what the words ask for.
+fn answer_words<T: AllocGlobal + Print + Eprint, R: Read, W: Write>(
+    rt: &T,
+    words: io::Result<Vec<String>>,
+    source: &mut Source<R>,
+    sink: &mut Sink<W>,
+) -> u8
+    ensures words { IfOk words (λ words.
+        Ends R.remaining W.contents source.old source.new sink.old sink.new result) }
+    ensures no_words { IfErr words (λ error. (result ≡ answer_without_words (error_kind error))
+        × (source.new ≡ source.old) × (sink.new ≡ sink.old)) }
+{
+    match words {
+        Ok(words) => answer_request(rt, parse(rt.alloc(), words.as_slice()), source, sink),
+        Err(error) => refuse_words(rt, &error),
+    }
+}
+
+// Does what was asked for, or says why nothing is done.
+fn answer_request<T: AllocGlobal + Print + Eprint, R: Read, W: Write>(
+    rt: &T,
+    request: Result<Request, Error>,
+    source: &mut Source<R>,
+    sink: &mut Sink<W>,
+) -> u8
+    requires { IfOk request (λ asked. IsTrue (is_in_limits asked)) }
+    ensures check { IfOk request (λ asked.
+        Checks R.remaining W.contents source.old source.new sink.old sink.new result) }
+    ensures none { IfErr request (λ error.
+        Declines (kind_of error) source.old source.new sink.old sink.new result) }
+{
+    match request {
+        Ok(Request::Check(options)) => run_check(rt, rt.alloc(), source, sink, &options),
+        Err(error) => print(rt, &error),
+    }
+}
+
+// Prints a help text, or why there is no request.
+fn print<R: Print + Eprint>(rt: &R, error: &Error) -> u8
+    ensures { IsAnswerTo (kind_of error.now) result }
+{
+    if error.kind() == ErrorKind::OutOfMemory {
+        return status::REFUSED;
+    }
+    let printed = error.print(rt);
+    if error.use_stderr() {
+        status::USAGE
+    } else if printed.is_ok() {
+        status::CLEAN
+    } else {
+        status::DEVICE
+    }
+}
+
+// Says why the words of the command line can't be had.
+fn refuse_words<R: Eprint>(rt: &R, error: &io::Error) -> u8
+    ensures { result ≡ answer_without_words (error_kind error.now) }
+{
+    if error.kind() == io::ErrorKind::OutOfMemory {
+        return status::REFUSED;
+    }
+    let _ = eprintln!(rt; "error: a word of the command line isn't text (UTF-8)");
+    status::USAGE
+}
+
+// Says on standard error what no report says.
+fn tell<R: Eprint>(rt: &R, answer: u8) {
+    if let Some(text) = message(answer) {
+        let _ = eprintln!(rt; "{text}");
+    }
+}
+
+// What is to be said of a status of which no report tells.
+fn message(answer: u8) -> Option<&'static str>
+    ensures { option_map (λ text. text.now) result ≡ message_of answer }
+{
+    match answer {
+        status::REFUSED => Some("gorace: refused for memory or a thread"),
+        status::DEVICE => Some("gorace: reading or writing failed"),
+        _ => None,
+    }
+}

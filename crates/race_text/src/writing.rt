@@ -3,7 +3,7 @@ ghost use Rattle.std.specs.Prelude.{◌≡◌, ◌<◌, [], ◌∷◌, ◌++◌,
 ghost use Rattle.std.specs.Io.KnownBytes.{Appends};
 ghost use Rattle.race_records.specs.Devices.{written, sink_failures, one_more};
 ghost use Rattle.race_records.specs.Events.{fits};
-ghost use Rattle.race_records.specs.Page.{Prints, BreaksOff};
+ghost use Rattle.race_records.specs.Page.{Printing};
 ghost use Rattle.race_text.specs.Text as text;
 ghost use Rattle.race_text.specs.Writing as spec;
 ghost use Rattle.race_text.specs.Writing.{body, declarations_text, declaration_text, events_text};
@@ -50,12 +50,7 @@ fn print_trace<W: Write, A: Allocator>(
     sink: &mut Sink<W>,
     trace: &Trace<A>,
 ) -> Result<(), WriteFault>
-    ensures ok { OnOk result (Prints (written W.contents sink.old) (written W.contents sink.new)
-        page.old page.new (text.text trace.now)) }
-    ensures sent { IfErr result (λ fault. BreaksOff (written W.contents sink.old)
-        (written W.contents sink.new) page.old fault.sent (text.text trace.now)) }
-    ensures calm { OnOk result (sink_failures sink.new ≡ sink_failures sink.old) }
-    ensures failed { OnErr result (sink_failures sink.new ≡ one_more (sink_failures sink.old)) }
+    ensures { Printing W.contents result sink.old sink.new page.old page.new (text.text trace.now) }
 {
     match page.put(sink, b"gotrace 1\n") {
         Ok(()) => print_body(page, sink, trace),
@@ -69,12 +64,7 @@ fn print_body<W: Write, A: Allocator>(
     sink: &mut Sink<W>,
     trace: &Trace<A>,
 ) -> Result<(), WriteFault>
-    ensures ok { OnOk result (Prints (written W.contents sink.old) (written W.contents sink.new)
-        page.old page.new (body trace.now)) }
-    ensures sent { IfErr result (λ fault. BreaksOff (written W.contents sink.old)
-        (written W.contents sink.new) page.old fault.sent (body trace.now)) }
-    ensures calm { OnOk result (sink_failures sink.new ≡ sink_failures sink.old) }
-    ensures failed { OnErr result (sink_failures sink.new ≡ one_more (sink_failures sink.old)) }
+    ensures { Printing W.contents result sink.old sink.new page.old page.new (body trace.now) }
 {
     match print_declarations(page, sink, trace.decls()) {
         Ok(()) => print_events(page, sink, trace),
@@ -87,13 +77,8 @@ fn print_declarations<W: Write, A: Allocator>(
     sink: &mut Sink<W>,
     decls: &Decls<A>,
 ) -> Result<(), WriteFault>
-    ensures ok { OnOk result (Prints (written W.contents sink.old) (written W.contents sink.new)
-        page.old page.new (declarations_text decls.now.declarations)) }
-    ensures sent { IfErr result (λ fault. BreaksOff (written W.contents sink.old)
-        (written W.contents sink.new) page.old fault.sent
-        (declarations_text decls.now.declarations)) }
-    ensures calm { OnOk result (sink_failures sink.new ≡ sink_failures sink.old) }
-    ensures failed { OnErr result (sink_failures sink.new ≡ one_more (sink_failures sink.old)) }
+    ensures { Printing W.contents result sink.old sink.new page.old page.new
+        (declarations_text decls.now.declarations) }
 {
     for index in 0..decls.len() {
         if let Err(fault) = print_declaration(page, sink, decls, index) {
@@ -108,13 +93,8 @@ fn print_events<W: Write, A: Allocator>(
     sink: &mut Sink<W>,
     trace: &Trace<A>,
 ) -> Result<(), WriteFault>
-    ensures ok { OnOk result (Prints (written W.contents sink.old) (written W.contents sink.new)
-        page.old page.new (events_text trace.now.decls trace.now.events)) }
-    ensures sent { IfErr result (λ fault. BreaksOff (written W.contents sink.old)
-        (written W.contents sink.new) page.old fault.sent
-        (events_text trace.now.decls trace.now.events)) }
-    ensures calm { OnOk result (sink_failures sink.new ≡ sink_failures sink.old) }
-    ensures failed { OnErr result (sink_failures sink.new ≡ one_more (sink_failures sink.old)) }
+    ensures { Printing W.contents result sink.old sink.new page.old page.new
+        (events_text trace.now.decls trace.now.events) }
 {
     for index in 0..trace.len() {
         if let Err(fault) = print_event(page, sink, trace.decls(), trace.event(index)) {
@@ -132,12 +112,8 @@ pub(crate) fn print_declaration<W: Write, A: Allocator>(
     index: usize,
 ) -> Result<(), WriteFault>
     requires { index < length decls.now.declarations }
-    ensures ok { OnOk result (Prints (written W.contents sink.old) (written W.contents sink.new)
-        page.old page.new (declaration_text decls.now.declarations index)) }
-    ensures sent { IfErr result (λ fault. BreaksOff (written W.contents sink.old)
-        (written W.contents sink.new) page.old fault.sent (declaration_text decls.now.declarations index)) }
-    ensures calm { OnOk result (sink_failures sink.new ≡ sink_failures sink.old) }
-    ensures failed { OnErr result (sink_failures sink.new ≡ one_more (sink_failures sink.old)) }
+    ensures { Printing W.contents result sink.old sink.new page.old page.new
+        (declaration_text decls.now.declarations index) }
 {
     let (object, name) = decls.declaration(index);
     let (noun, number) = object_says(object);
@@ -167,12 +143,8 @@ fn print_number<W: Write>(
     sink: &mut Sink<W>,
     number: Option<u32>,
 ) -> Result<(), WriteFault>
-    ensures ok { OnOk result (Prints (written W.contents sink.old) (written W.contents sink.new)
-        page.old page.new (spec.number_end number)) }
-    ensures sent { IfErr result (λ fault. BreaksOff (written W.contents sink.old)
-        (written W.contents sink.new) page.old fault.sent (spec.number_end number)) }
-    ensures calm { OnOk result (sink_failures sink.new ≡ sink_failures sink.old) }
-    ensures failed { OnErr result (sink_failures sink.new ≡ one_more (sink_failures sink.old)) }
+    ensures { Printing W.contents result sink.old sink.new page.old page.new
+        (spec.number_end number) }
 {
     match number {
         None => page.put(sink, b"\n"),
@@ -197,12 +169,8 @@ pub(crate) fn print_event<W: Write, A: Allocator>(
     event: &Event,
 ) -> Result<(), WriteFault>
     requires { IsTrue (fits decls.now event.now) }
-    ensures ok { OnOk result (Prints (written W.contents sink.old) (written W.contents sink.new)
-        page.old page.new (text.ended (text.event_line decls.now event.now))) }
-    ensures sent { IfErr result (λ fault. BreaksOff (written W.contents sink.old)
-        (written W.contents sink.new) page.old fault.sent (text.ended (text.event_line decls.now event.now))) }
-    ensures calm { OnOk result (sink_failures sink.new ≡ sink_failures sink.old) }
-    ensures failed { OnErr result (sink_failures sink.new ≡ one_more (sink_failures sink.old)) }
+    ensures { Printing W.contents result sink.old sink.new page.old page.new
+        (text.ended (text.event_line decls.now event.now)) }
 {
     let who = decls.name(Named::Goroutine(event.who));
     let place = decls.place_text(event.place);
@@ -232,12 +200,8 @@ fn print_first<W: Write>(
     word: &str,
     who: &str,
 ) -> Result<(), WriteFault>
-    ensures ok { OnOk result (Prints (written W.contents sink.old) (written W.contents sink.new)
-        page.old page.new (word.now ++ 32 ∷ who.now)) }
-    ensures sent { IfErr result (λ fault. BreaksOff (written W.contents sink.old)
-        (written W.contents sink.new) page.old fault.sent (word.now ++ 32 ∷ who.now)) }
-    ensures calm { OnOk result (sink_failures sink.new ≡ sink_failures sink.old) }
-    ensures failed { OnErr result (sink_failures sink.new ≡ one_more (sink_failures sink.old)) }
+    ensures { Printing W.contents result sink.old sink.new page.old page.new
+        (word.now ++ 32 ∷ who.now) }
 {
     let parts = [word.as_bytes(), b" ".as_slice(), who.as_bytes()];
     page.put_all(sink, &parts)
@@ -252,12 +216,8 @@ fn print_behind<W: Write, A: Allocator>(
     place: &str,
 ) -> Result<(), WriteFault>
     requires { list_all (part_fits decls.now.declarations) parts.now ≡ true }
-    ensures ok { OnOk result (Prints (written W.contents sink.old) (written W.contents sink.new)
-        page.old page.new (spec.parts_text decls.now.declarations parts.now ++ spec.place_end place.now)) }
-    ensures sent { IfErr result (λ fault. BreaksOff (written W.contents sink.old)
-        (written W.contents sink.new) page.old fault.sent (spec.parts_text decls.now.declarations parts.now ++ spec.place_end place.now)) }
-    ensures calm { OnOk result (sink_failures sink.new ≡ sink_failures sink.old) }
-    ensures failed { OnErr result (sink_failures sink.new ≡ one_more (sink_failures sink.old)) }
+    ensures { Printing W.contents result sink.old sink.new page.old page.new
+        (spec.parts_text decls.now.declarations parts.now ++ spec.place_end place.now) }
 {
     match print_parts(page, sink, decls, parts) {
         Ok(()) => print_place(page, sink, place),
@@ -273,12 +233,8 @@ fn print_parts<W: Write, A: Allocator>(
     parts: &[Part],
 ) -> Result<(), WriteFault>
     requires { list_all (part_fits decls.now.declarations) parts.now ≡ true }
-    ensures ok { OnOk result (Prints (written W.contents sink.old) (written W.contents sink.new)
-        page.old page.new (spec.parts_text decls.now.declarations parts.now)) }
-    ensures sent { IfErr result (λ fault. BreaksOff (written W.contents sink.old)
-        (written W.contents sink.new) page.old fault.sent (spec.parts_text decls.now.declarations parts.now)) }
-    ensures calm { OnOk result (sink_failures sink.new ≡ sink_failures sink.old) }
-    ensures failed { OnErr result (sink_failures sink.new ≡ one_more (sink_failures sink.old)) }
+    ensures { Printing W.contents result sink.old sink.new page.old page.new
+        (spec.parts_text decls.now.declarations parts.now) }
 {
     for part in parts {
         if let Err(fault) = print_part(page, sink, decls, *part) {
@@ -295,12 +251,8 @@ fn print_part<W: Write, A: Allocator>(
     part: Part,
 ) -> Result<(), WriteFault>
     requires { part_fits decls.now.declarations part ≡ true }
-    ensures ok { OnOk result (Prints (written W.contents sink.old) (written W.contents sink.new)
-        page.old page.new (spec.behind_space decls.now.declarations part)) }
-    ensures sent { IfErr result (λ fault. BreaksOff (written W.contents sink.old)
-        (written W.contents sink.new) page.old fault.sent (spec.behind_space decls.now.declarations part)) }
-    ensures calm { OnOk result (sink_failures sink.new ≡ sink_failures sink.old) }
-    ensures failed { OnErr result (sink_failures sink.new ≡ one_more (sink_failures sink.old)) }
+    ensures { Printing W.contents result sink.old sink.new page.old page.new
+        (spec.behind_space decls.now.declarations part) }
 {
     match part {
         Part::Object(named) => {
@@ -317,12 +269,8 @@ fn print_part<W: Write, A: Allocator>(
 
 // Prints the place and ends the line.
 fn print_place<W: Write>(page: &mut Page, sink: &mut Sink<W>, place: &str) -> Result<(), WriteFault>
-    ensures ok { OnOk result (Prints (written W.contents sink.old) (written W.contents sink.new)
-        page.old page.new (spec.place_end place.now)) }
-    ensures sent { IfErr result (λ fault. BreaksOff (written W.contents sink.old)
-        (written W.contents sink.new) page.old fault.sent (spec.place_end place.now)) }
-    ensures calm { OnOk result (sink_failures sink.new ≡ sink_failures sink.old) }
-    ensures failed { OnErr result (sink_failures sink.new ≡ one_more (sink_failures sink.old)) }
+    ensures { Printing W.contents result sink.old sink.new page.old page.new
+        (spec.place_end place.now) }
 {
     let parts = [b" ".as_slice(), place.as_bytes(), b"\n".as_slice()];
     page.put_all(sink, &parts)

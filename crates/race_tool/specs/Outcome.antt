@@ -9,7 +9,7 @@ use Rattle.race_records.specs.Page.{IsCutOff}
 use Rattle.race_tool.specs.declared.check.CheckOptions.{CheckOptions}
 use Rattle.race_tool.specs.declared.check.TheConstants.{MAX_SHARDS, MAX_BLOCK}
 use Rattle.race_tool.specs.declared.input.ReadFault.{ReadFault}
-use Rattle.race_tool.specs.declared.status.TheConstants as status
+use Rattle.race_tool.specs.declared.status.TheConstants.{DEVICE, REFUSED}
 use Rattle.race_tool.specs.Input.{ReadsAll, ReadsMany}
 use Rattle.race_tool.specs.Finding.{Finding, IsFinding, IsTextWhere, report_of, status_of}
 
@@ -19,9 +19,9 @@ are_in_limits o = nat_le 1 o.shards && nat_le o.shards MAX_SHARDS && nat_le 1 o.
 
 -- the status where the input wasn't read: its reader failed or gave no end, or memory was refused
 abbrev pub status_of_fault : ReadFault → ℕ
-status_of_fault ReadFault.Failed = status.DEVICE
-status_of_fault ReadFault.Endless = status.DEVICE
-status_of_fault ReadFault.OutOfMemory = status.REFUSED
+status_of_fault ReadFault.Failed = DEVICE
+status_of_fault ReadFault.Endless = DEVICE
+status_of_fault ReadFault.OutOfMemory = REFUSED
 
 -- the report on the bytes was written, and the status is the report's
 pub record WritesReport (bytes : List ℕ) (output output_now : Option (List ℕ)) (status : ℕ) : Type 0 where

@@ -192,5 +192,5 @@ text_short t is_trace holds =
     let sum = kinds_sum ds in
     let few = is_trace.limited in
     let len : length (text t) ≡ 10 + (length (declarations_text ds) + length (events_text t.decls t.events)) =
-    ap length (text_is t) ∙ length-append (ended header) (body t) ∙ ap (λ n. 10 + n) (length-append (declarations_text ds) (events_text t.decls t.events)) in
+    ap length (text_is t) ∙ length-append (ended header) (body t.decls t.events) ∙ ap (λ n. 10 + n) (length-append (declarations_text ds) (events_text t.decls t.events)) in
     omega (arith, declared, happened, a, b, c, d, e, sum, few, len)

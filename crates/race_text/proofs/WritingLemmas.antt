@@ -62,7 +62,7 @@ event_text decls e word who place verb parts spelled verb_is parts_are named at 
     ∙ (λ i. (sym spelled i ++ 32 ∷ who) ++ (parts_text ds parts ++ place_end place)))
 
 -- the text of a trace, as it is printed
-pub text_is : (t : TraceState) → text t ≡ ended header ++ body t
+pub text_is : (t : TraceState) → text t ≡ ended header ++ body t.decls t.events
 unfolding text lines
 text_is t =
     let ds = t.decls.declarations in
@@ -70,3 +70,6 @@ text_is t =
     flat_map-cons ended header (map declaration_line ds ++ map line t.events)
     ∙ ap (λ l. ended header ++ l) (flat_map-append ended (map declaration_line ds) (map line t.events)
     ∙ (λ j. flat_map-map ended declaration_line ds j ++ flat_map-map ended line t.events j))
+
+pub printed_is : (t : TraceState) (decls : DeclsState) (events : List Event) → decls ≡ t.decls → events ≡ t.events → ended header ++ body decls events ≡ text t
+printed_is t decls events d e = (λ i. ended header ++ body (d i) (e i)) ∙ sym (text_is t)

@@ -7,7 +7,6 @@ use Rattle.race_records.specs.declared.nouns.Noun.{Noun}
 use Rattle.race_records.specs.declared.parts.Part.{Part}
 use Rattle.race_records.specs.declared.parts.Verb.{Verb}
 use Rattle.race_records.specs.Declarations.{Declaration, DeclsState, name_of}
-use Rattle.race_records.specs.Events.{TraceState}
 use Rattle.race_text.specs.Text.{line_of, ended, declaration_line, event_line}
 
 -- the texts of declarations and of events
@@ -18,8 +17,8 @@ abbrev pub events_text : DeclsState → List Event → List ℕ
 events_text decls events = flat_map (λ e. ended (event_line decls e)) events
 
 -- all behind the header
-abbrev pub body : TraceState → List ℕ
-body t = declarations_text t.decls.declarations ++ events_text t.decls t.events
+abbrev pub body : DeclsState → List Event → List ℕ
+body decls events = declarations_text decls.declarations ++ events_text decls events
 
 -- the text of a declaration, where there is one
 abbrev pub text_of : Option Declaration → List ℕ

@@ -1,5 +1,5 @@
 //! A trace's text, written.
-ghost use Rattle.std.specs.Prelude.{◌≡◌, ◌<◌, [], ◌∷◌, ◌++◌, true, length, take, IsTrue, OnOk, OnErr, IfErr};
+ghost use Rattle.std.specs.Prelude.{◌≡◌, ◌<◌, [], ◌∷◌, ◌++◌, true, length, take, All, IsTrue, OnOk, OnErr, IfErr};
 ghost use Rattle.std.specs.Io.KnownBytes.{Appends};
 ghost use Rattle.race_records.specs.Devices.{written, sink_failures, one_more};
 ghost use Rattle.race_records.specs.Events.{fits};
@@ -34,11 +34,8 @@ pub fn write_trace<W: Write, A: Allocator>(
     ensures calm { OnOk result (sink_failures sink.new ≡ sink_failures sink.old) }
     ensures failed { OnErr result (sink_failures sink.new ≡ one_more (sink_failures sink.old)) }
 {
-    // What holds of every `Trace` and of every `Decls` is known once its length is.
-    let _events = trace.len();
-    let _declarations = trace.decls().len();
     let mut page = Page::new();
-    match print_trace(&mut page, sink, trace) {
+    match print_trace(&mut page, sink, trace.decls(), trace.events()) {
         Ok(()) => page.flush(sink),
         Err(fault) => Err(fault),
     }
@@ -48,12 +45,15 @@ pub fn write_trace<W: Write, A: Allocator>(
 fn print_trace<W: Write, A: Allocator>(
     page: &mut Page,
     sink: &mut Sink<W>,
-    trace: &Trace<A>,
+    decls: &Decls<A>,
+    events: &[Event],
 ) -> Result<(), WriteFault>
-    ensures { Printing W.contents result sink.old sink.new page.old page.new (text.text trace.now) }
+    requires { All (λ e. IsTrue (fits decls.now e)) events.now }
+    ensures { Printing W.contents result sink.old sink.new page.old page.new
+        (text.ended text.header ++ body decls.now events.now) }
 {
     match page.put(sink, b"gotrace 1\n") {
-        Ok(()) => print_body(page, sink, trace),
+        Ok(()) => print_body(page, sink, decls, events),
         Err(fault) => Err(fault),
     }
 }
@@ -62,12 +62,15 @@ fn print_trace<W: Write, A: Allocator>(
 fn print_body<W: Write, A: Allocator>(
     page: &mut Page,
     sink: &mut Sink<W>,
-    trace: &Trace<A>,
+    decls: &Decls<A>,
+    events: &[Event],
 ) -> Result<(), WriteFault>
-    ensures { Printing W.contents result sink.old sink.new page.old page.new (body trace.now) }
+    requires { All (λ e. IsTrue (fits decls.now e)) events.now }
+    ensures { Printing W.contents result sink.old sink.new page.old page.new
+        (body decls.now events.now) }
 {
-    match print_declarations(page, sink, trace.decls()) {
-        Ok(()) => print_events(page, sink, trace),
+    match print_declarations(page, sink, decls) {
+        Ok(()) => print_events(page, sink, decls, events),
         Err(fault) => Err(fault),
     }
 }
@@ -91,13 +94,15 @@ fn print_declarations<W: Write, A: Allocator>(
 fn print_events<W: Write, A: Allocator>(
     page: &mut Page,
     sink: &mut Sink<W>,
-    trace: &Trace<A>,
+    decls: &Decls<A>,
+    events: &[Event],
 ) -> Result<(), WriteFault>
+    requires { All (λ e. IsTrue (fits decls.now e)) events.now }
     ensures { Printing W.contents result sink.old sink.new page.old page.new
-        (events_text trace.now.decls trace.now.events) }
+        (events_text decls.now events.now) }
 {
-    for index in 0..trace.len() {
-        if let Err(fault) = print_event(page, sink, trace.decls(), trace.event(index)) {
+    for event in events {
+        if let Err(fault) = print_event(page, sink, decls, event) {
             return Err(fault);
         }
     }

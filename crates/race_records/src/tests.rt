@@ -1,191 +1,316 @@
-use crate::{DeclFault, Decls, Event, Kind, Named, Op, PushFault, Trace, is_name, is_place};
+use crate::{
+    DeclFault, Decls, Event, Kind, Named, Object, Op, PushFault, Trace, is_name, is_place,
+};
 use std::alloc::Global;
 use std::mem::size_of;
 use std::test::Fail;
 
-const LETTERS: &str = "abcdefghijklmnopqrstuvwxyzABCDEFGHIJKLMNOPQRSTUVWXYZ0123456789__x";
+// A check of these tests takes long where a test carries much from call to call. So each public call
+// stands once, most in functions without a contract, and a test is a loop over a table that stands
+// apart, with one assertion.
+
+static WORDS: [(&str, bool, bool); 11] = [
+    ("w", true, true),
+    ("_9", true, true),
+    ("", false, false),
+    ("nil", false, true),
+    ("nile", true, true),
+    ("a.go:1", false, true),
+    ("two words", false, false),
+    ("~!", false, true),
+    ("\u{7f}", false, false),
+    // 64 letters, and 65.
+    (
+        "abcdefghijklmnopqrstuvwxyzABCDEFGHIJKLMNOPQRSTUVWXYZ0123456789__",
+        true,
+        true,
+    ),
+    (
+        "abcdefghijklmnopqrstuvwxyzABCDEFGHIJKLMNOPQRSTUVWXYZ0123456789__x",
+        false,
+        true,
+    ),
+];
 
 #[test]
 fn words_have_forms(rt: HostRuntime) {
-    for (word, name, place) in [
-        ("w", true, true),
-        ("_9", true, true),
-        ("", false, false),
-        ("nil", false, true),
-        ("nile", true, true),
-        ("a.go:1", false, true),
-        ("two words", false, false),
-        ("~!", false, true),
-        ("\u{7f}", false, false),
-        (LETTERS, false, true),
-    ] {
-        assert_eq!(rt; is_name(word.as_bytes()), name, "{word}");
-        assert_eq!(rt; is_place(word.as_bytes()), place, "{word}");
+    for (word, name, place) in &WORDS {
+        let bytes = word.as_bytes();
+        assert_eq!(rt;
+            (is_name(bytes), is_place(bytes)),
+            (*name, *place),
+            "{word}"
+        );
     }
-    assert!(rt; is_name(&LETTERS.as_bytes()[..64]));
 }
 
+/// What is added to declarations.
+#[derive(Clone, Copy, Debug)]
+enum Addition {
+    Goroutine(&'static str),
+    Var(&'static str),
+    Place(&'static str),
+}
+
+fn add(decls: &mut Decls, addition: Addition) -> Result<u32, DeclFault> {
+    match addition {
+        Addition::Goroutine(name) => decls.add_goroutine(name),
+        Addition::Var(name) => decls.add_var(name),
+        Addition::Place(place) => decls.add_place(place),
+    }
+}
+
+// How many declarations there are, and how many goroutines, variables and places.
+fn sizes(decls: &Decls) -> (usize, u32, u32, u32) {
+    (
+        decls.len(),
+        decls.count(Kind::Goroutine),
+        decls.count(Kind::Var),
+        decls.place_count(),
+    )
+}
+
+static ADDITIONS: [(Addition, Result<u32, DeclFault>, (usize, u32, u32, u32)); 10] = [
+    (Addition::Var("main"), Err(DeclFault::Taken), (0, 1, 0, 0)),
+    (Addition::Goroutine("w"), Ok(1), (1, 2, 0, 0)),
+    (Addition::Var("x"), Ok(0), (2, 2, 1, 0)),
+    (Addition::Var("w"), Err(DeclFault::Taken), (2, 2, 1, 0)),
+    (
+        Addition::Goroutine("nil"),
+        Err(DeclFault::BadName),
+        (2, 2, 1, 0),
+    ),
+    (Addition::Goroutine("v"), Ok(2), (3, 3, 1, 0)),
+    (Addition::Var("y"), Ok(1), (4, 3, 2, 0)),
+    (Addition::Place("a.go:1"), Ok(0), (4, 3, 2, 1)),
+    (Addition::Place("b.go:1"), Ok(1), (4, 3, 2, 2)),
+    (Addition::Place("a.go:1"), Ok(0), (4, 3, 2, 2)),
+];
+
 #[test]
-fn declares_in_order(rt: HostRuntime) -> Result<(), Fail> {
+fn declares_in_order(rt: HostRuntime) {
     let mut decls = Decls::new(rt.alloc());
-    assert_eq!(rt; decls.count(Kind::Goroutine), 1);
-    for (goroutine, name, number) in [
-        (false, "main", Err(DeclFault::Taken)),
-        (true, "w", Ok(1)),
-        (false, "x", Ok(0)),
-        (false, "w", Err(DeclFault::Taken)),
-        (true, "nil", Err(DeclFault::BadName)),
-        (true, "v", Ok(2)),
-        (false, "y", Ok(1)),
-    ] {
-        let added = if goroutine {
-            decls.add_goroutine(name)
-        } else {
-            decls.add_var(name)
-        };
-        assert_eq!(rt; added, number, "{name}");
+    for (addition, number, after) in &ADDITIONS {
+        let answer = add(&mut decls, *addition);
+        assert_eq!(rt; (answer, sizes(&decls)), (*number, *after), "{addition:?}");
     }
-    for (name, named) in [
-        ("main", Some(Named::Goroutine(0))),
-        ("w", Some(Named::Goroutine(1))),
-        ("v", Some(Named::Goroutine(2))),
-        ("y", Some(Named::Var(1))),
-        ("z", None),
+}
+
+// Two goroutines and two variables.
+fn declared(alloc: Global) -> Result<Decls, DeclFault> {
+    let mut decls = Decls::new(alloc);
+    for addition in [
+        Addition::Goroutine("w"),
+        Addition::Var("x"),
+        Addition::Goroutine("v"),
+        Addition::Var("y"),
     ] {
-        assert_eq!(rt; decls.find(name), named, "{name}");
+        add(&mut decls, addition)?;
     }
-    assert_eq!(rt; decls.len(), 4);
-    assert_eq!(rt; decls.declared(2), Named::Goroutine(2));
+    Ok(decls)
+}
+
+// What the name stands for, and the name of that.
+fn found<'a>(decls: &'a Decls, name: &str) -> Option<(Named, &'a str)> {
+    let named = decls.find(name)?;
+    if named.number() < decls.count(named.kind()) {
+        Some((named, decls.name(named)))
+    } else {
+        Some((named, ""))
+    }
+}
+
+static NAMES: [(&str, Option<(Named, &str)>); 6] = [
+    ("main", Some((Named::Goroutine(0), "main"))),
+    ("w", Some((Named::Goroutine(1), "w"))),
+    ("x", Some((Named::Var(0), "x"))),
+    ("v", Some((Named::Goroutine(2), "v"))),
+    ("y", Some((Named::Var(1), "y"))),
+    ("z", None),
+];
+
+#[test]
+fn names_are_found_again(rt: HostRuntime) -> Result<(), Fail> {
+    let decls = declared(rt.alloc())?;
+    for (name, named) in &NAMES {
+        assert_eq!(rt; found(&decls, name), *named, "{name}");
+    }
     Ok(())
 }
 
+// What stands at the index, and how it is declared.
+fn declared_at(decls: &Decls, index: usize) -> Option<(Named, Object, &str)> {
+    if index < decls.len() {
+        let (object, name) = decls.declaration(index);
+        Some((decls.declared(index), object, name))
+    } else {
+        None
+    }
+}
+
+static DECLARED: [Option<(Named, Object, &str)>; 5] = [
+    Some((Named::Goroutine(1), Object::Goroutine, "w")),
+    Some((Named::Var(0), Object::Var, "x")),
+    Some((Named::Goroutine(2), Object::Goroutine, "v")),
+    Some((Named::Var(1), Object::Var, "y")),
+    None,
+];
+
 #[test]
-fn names_are_found_by_number(rt: HostRuntime) -> Result<(), Fail> {
-    let mut decls = Decls::new(rt.alloc());
-    decls.add_var("x")?;
-    decls.add_goroutine("w")?;
-    for (kind, named, name) in [
-        (Kind::Goroutine, Named::Goroutine(0), "main"),
-        (Kind::Goroutine, Named::Goroutine(1), "w"),
-        (Kind::Var, Named::Var(0), "x"),
-    ] {
-        let number = match named {
-            Named::Goroutine(number) => number,
-            Named::Var(number) => number,
-            _ => 0,
-        };
-        assert!(rt; number < decls.count(kind), "{name}");
-        assert_eq!(rt; decls.name(named), name);
+fn declarations_are_told_in_order(rt: HostRuntime) -> Result<(), Fail> {
+    let decls = declared(rt.alloc())?;
+    for index in 0..DECLARED.len() {
+        assert_eq!(rt; declared_at(&decls, index), DECLARED[index], "{index}");
     }
     Ok(())
 }
+
+// Whether a copy of declarations is equal to them once all this is added to it.
+fn is_equal_with(alloc: Global, additions: &[Addition]) -> Result<bool, Fail> {
+    let decls = declared(alloc)?;
+    let mut copy = decls.copy()?;
+    for addition in additions {
+        add(&mut copy, *addition)?;
+    }
+    Ok(copy == decls)
+}
+
+static ADDED: [Addition; 4] = [
+    Addition::Place("a.go:1"),
+    Addition::Place("b.go:1"),
+    Addition::Place("a.go:1"),
+    Addition::Var("z"),
+];
 
 #[test]
 fn equal_by_declarations_alone(rt: HostRuntime) -> Result<(), Fail> {
-    let mut decls = Decls::new(rt.alloc());
-    decls.add_var("x")?;
-    let mut copy = decls.copy()?;
-    assert_eq!(rt; copy.add_place("a.go:1"), Ok(0));
-    assert_eq!(rt; copy.add_place("b.go:1"), Ok(1));
-    assert_eq!(rt; copy.add_place("a.go:1"), Ok(0));
-    assert!(rt; copy == decls);
-    copy.add_var("y")?;
-    assert!(rt; copy != decls);
+    for (count, equal) in [(0, true), (1, true), (2, true), (3, true), (4, false)] {
+        let answer = is_equal_with(rt.alloc(), &ADDED[..count])?;
+        assert_eq!(rt; answer, equal, "{count}");
+    }
     Ok(())
+}
+
+// A trace that knows a variable, with room for an event.
+fn started(alloc: Global) -> Result<Trace, Fail> {
+    let mut decls = Decls::new(alloc);
+    add(&mut decls, Addition::Var("x"))?;
+    let mut trace = Trace::new(decls);
+    trace.reserve()?;
+    Ok(trace)
+}
+
+fn add_place(trace: &mut Trace, text: &str) -> Result<u32, DeclFault> {
+    trace.add_place(text)
+}
+
+// How many places and events there are, and the text of the first place.
+fn first_place(trace: &Trace) -> (u32, usize, &str) {
+    let count = trace.decls().place_count();
+    let text = if count == 0 { "" } else { trace.place_text(0) };
+    (count, trace.events().len(), text)
+}
+
+static PLACES: [(&str, Result<u32, DeclFault>); 2] = [
+    ("a.go:1", Ok(0)),
+    ("nowhere at all", Err(DeclFault::BadName)),
+];
+
+#[test]
+fn a_place_of_a_trace_is_found_again(rt: HostRuntime) -> Result<(), Fail> {
+    let mut trace = started(rt.alloc())?;
+    for (text, number) in &PLACES {
+        let answer = add_place(&mut trace, text);
+        assert_eq!(rt;
+            (answer, first_place(&trace)),
+            (*number, (1, 0, "a.go:1")),
+            "{text}"
+        );
+    }
+    Ok(())
+}
+
+fn push(trace: &mut Trace, who: u32, op: Op, place: u32, place2: Option<u32>) -> Option<PushFault> {
+    let event = Event {
+        who,
+        op,
+        place,
+        place2,
+    };
+    trace.push(event).err()
+}
+
+// How many events there are, and what the last one does.
+fn last(trace: &Trace) -> Option<(usize, &Op)> {
+    let len = trace.len();
+    if len == 0 {
+        None
+    } else {
+        Some((len, &trace.event(len - 1).op))
+    }
+}
+
+// Events, and why a trace with a variable and a place refuses each.
+fn events() -> [(u32, Op, u32, Option<u32>, Option<PushFault>); 7] {
+    [
+        (0, Op::Read(1, 0), 0, None, Some(PushFault::BadNumber)),
+        (0, Op::Read(0, 0), 0, None, None),
+        (0, Op::Write(0, 7), 0, Some(0), Some(PushFault::BadNumber)),
+        (0, Op::Write(0, 7), 1, None, Some(PushFault::BadNumber)),
+        (1, Op::Exit, 0, None, Some(PushFault::BadNumber)),
+        (0, Op::Go(1), 0, None, Some(PushFault::BadNumber)),
+        (0, Op::Exit, 0, None, None),
+    ]
 }
 
 #[test]
 fn takes_events_that_fit(rt: HostRuntime) -> Result<(), Fail> {
-    let mut decls = Decls::new(rt.alloc());
-    decls.add_var("x")?;
-    decls.add_place("a.go:1")?;
-    let mut trace = Trace::new(decls);
-    trace.reserve()?;
-    trace.decls().copy()?;
-    for (who, op, place, place2, pushed) in [
-        (0, Op::Read(1, 0), 0, None, Err(PushFault::BadNumber)),
-        (0, Op::Read(0, 0), 0, None, Ok(())),
-        (0, Op::Write(0, 7), 0, Some(0), Err(PushFault::BadNumber)),
-        (0, Op::Write(0, 7), 1, None, Err(PushFault::BadNumber)),
-        (1, Op::Exit, 0, None, Err(PushFault::BadNumber)),
-        (0, Op::Go(1), 0, None, Err(PushFault::BadNumber)),
-        (0, Op::Exit, 0, None, Ok(())),
-    ] {
-        let event = Event {
-            who,
-            op,
-            place,
-            place2,
-        };
-        assert_eq!(rt; trace.push(event), pushed);
+    let mut trace = started(rt.alloc())?;
+    add_place(&mut trace, "a.go:1")?;
+    for (who, op, place, place2, fault) in events() {
+        assert_eq!(rt; push(&mut trace, who, op, place, place2), fault);
     }
-    assert_eq!(rt; trace.len(), 2);
-    assert_eq!(rt; trace.event(1).op, Op::Exit);
+    assert_eq!(rt; last(&trace), Some((2, &Op::Exit)));
     Ok(())
 }
 
-#[test]
-fn a_place_of_a_trace_is_found_again(rt: HostRuntime) -> Result<(), Fail> {
-    let mut trace = Trace::new(Decls::new(rt.alloc()));
-    assert_eq!(rt; trace.add_place("a.go:1"), Ok(0));
-    assert_eq!(rt; trace.add_place("nowhere at all"), Err(DeclFault::BadName));
-    assert!(rt; trace.decls().place_count() == 1);
-    assert_eq!(rt; trace.place_text(0), "a.go:1");
-    assert!(rt; trace.events().is_empty());
-    Ok(())
-}
-
-// The trace with one more event of main, at the place.
-fn with_event(mut trace: Trace, op: Op, place: u32) -> Result<Trace, Fail> {
-    trace.push(Event {
-        who: 0,
-        op,
-        place,
-        place2: None,
-    })?;
+// A trace that knows the places, in which main writes at the last of them, and then exits or not.
+fn trace_at(alloc: Global, places: [&str; 3], exits: bool) -> Result<Trace, Fail> {
+    let mut trace = started(alloc)?;
+    let mut place = 0;
+    for text in places {
+        place = add_place(&mut trace, text)?;
+    }
+    push(&mut trace, 0, Op::Write(0, 7), place, None);
+    if exits {
+        push(&mut trace, 0, Op::Exit, 0, None);
+    }
     Ok(trace)
 }
 
-// A write at the place, in a trace that knows two places.
-fn trace_at(alloc: Global, first: &str, second: &str, used: &str) -> Result<Trace, Fail> {
-    let mut decls = Decls::new(alloc);
-    decls.add_var("x")?;
-    decls.add_place(first)?;
-    decls.add_place(second)?;
-    let place = decls.add_place(used)?;
-    with_event(Trace::new(decls), Op::Write(0, 7), place)
+// Whether the trace is equal to the one that knows p and q, with a write at p.
+fn is_as_at_p(alloc: Global, places: [&str; 3], exits: bool) -> Result<bool, Fail> {
+    Ok(trace_at(alloc, places, exits)? == trace_at(alloc, ["p", "q", "p"], false)?)
 }
 
-// Whether the trace is equal to the one that knows p and q, with a write at p.
-fn is_as_at_p(alloc: Global, other: Trace) -> Result<bool, Fail> {
-    let trace = trace_at(alloc, "p", "q", "p")?;
-    Ok(trace == other)
-}
+static ALIKE: [([&str; 3], bool, bool); 6] = [
+    (["p", "q", "p"], false, true),
+    // In another order, with and without a place that isn't used.
+    (["q", "p", "p"], false, true),
+    (["p", "p", "p"], false, true),
+    // The same number, but another text.
+    (["q", "p", "q"], false, false),
+    (["p", "q", "q"], false, false),
+    // One more event.
+    (["p", "q", "p"], true, false),
+];
 
 #[test]
 fn traces_are_equal_by_the_texts_of_their_places(rt: HostRuntime) -> Result<(), Fail> {
-    for (first, second, used, equal) in [
-        ("p", "q", "p", true),
-        // In another order, with and without a place that isn't used.
-        ("q", "p", "p", true),
-        ("p", "p", "p", true),
-        // The same number, but another text.
-        ("q", "p", "q", false),
-        ("p", "q", "q", false),
-    ] {
-        let other = trace_at(rt.alloc(), first, second, used)?;
-        let answer = is_as_at_p(rt.alloc(), other)?;
-        assert_eq!(rt; answer, equal, "{first} {second} {used}");
+    for (places, exits, equal) in &ALIKE {
+        let answer = is_as_at_p(rt.alloc(), *places, *exits)?;
+        assert_eq!(rt; answer, *equal, "{places:?} {exits}");
     }
-    Ok(())
-}
-
-#[test]
-fn a_longer_trace_is_another(rt: HostRuntime) -> Result<(), Fail> {
-    let trace = trace_at(rt.alloc(), "p", "q", "p")?;
-    let longer = with_event(trace, Op::Exit, 0)?;
-    let answer = is_as_at_p(rt.alloc(), longer)?;
-    assert!(rt; !answer);
     Ok(())
 }
 

@@ -1,9 +1,9 @@
 -- The state behind the event stands for the longer list.
 use Rattle.std.proofs.Common.{[], ◌∷◌, ◌++◌, sym, subst}
-use Rattle.race_tool.specs.ReplayState.{ReplayState}
-use Rattle.race_tool.specs.StandsFor.{StandsFor}
-use Rattle.race_tool.proofs.ReplayLemmas.{stands_after}
-use Rattle.race_tool.proofs.replay.Replay.accept.Goals as goal
+use Rattle.race_legal.specs.ReplayState.{ReplayState}
+use Rattle.race_legal.specs.StandsFor.{StandsFor}
+use Rattle.race_legal.proofs.ReplayLemmas.{stands_after}
+use Rattle.race_legal.proofs.replay.Replay.accept.Goals as goal
 
 pub returns-in-None-clause-goes_on : goal.returns-in-None-clause-goes_on
 returns-in-None-clause-goes_on g c caps past S =

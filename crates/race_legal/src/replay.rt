@@ -5,8 +5,8 @@
 ghost use Rattle.std.specs.Prelude.{◌≡◌, ◌<◌, [], length, IfOk, OnOk, IfErr, OnErr};
 ghost use Rattle.std.specs.Option.{option_map};
 ghost use Rattle.race_records.specs.Declarations.{counts_of, capacity_of};
-ghost use Rattle.race_tool.specs.Rules.{number_of};
-ghost use Rattle.race_tool.specs.ReplayState.{
+ghost use Rattle.race_legal.specs.Rules.{number_of};
+ghost use Rattle.race_legal.specs.ReplayState.{
   ReplayState,
   IsInRange,
   counts_in,
@@ -16,8 +16,7 @@ ghost use Rattle.race_tool.specs.ReplayState.{
   broken_in,
   after,
 };
-ghost use Rattle.race_tool.specs.StandsFor.{StandsFor, GoesOn, Breaks, IsJudged};
-ghost use Rattle.race_tool.specs.Traces.{capacities};
+ghost use Rattle.race_legal.specs.StandsFor.{StandsFor, GoesOn, Breaks, IsJudged};
 
 use crate::rule::Rule;
 use race_records::{Decls, Event, Kind, Op, Trace};
@@ -26,16 +25,16 @@ use std::marker::Model;
 
 /// The first event that breaks a rule, and the least rule that it breaks.
 #[derive(Clone, Copy, Debug, PartialEq, Eq)]
-pub(crate) struct Illegal {
+pub struct Illegal {
     /// The index of the event, counted from 0.
-    pub(crate) at: u32,
+    pub at: u32,
     /// The rule.
-    pub(crate) rule: Rule,
+    pub rule: Rule,
 }
 
 /// What the next event of a legal list is tested against. Keeps no list of events.
 #[derive(Debug, Drop)]
-pub(crate) struct Replay<A: Allocator = Global> {
+pub struct Replay<A: Allocator = Global> {
     over: bool,
     started: Vec<bool, A>,
     exited: Vec<bool, A>,
@@ -57,7 +56,7 @@ impl<A: Allocator> Model for Replay<A> {
 
 impl<A: Allocator> Replay<A> {
     /// Before the first event.
-    pub(crate) fn new<B: Allocator>(alloc: A, decls: &Decls<B>) -> Result<Replay<A>, AllocError>
+    pub fn new<B: Allocator>(alloc: A, decls: &Decls<B>) -> Result<Replay<A>, AllocError>
     where
         A: Copy,
         ensures goroutines { IfOk result (λ replay.
@@ -138,7 +137,7 @@ impl<A: Allocator> Replay<A> {
     }
 
     /// Accepts the next event where the longer list is legal.
-    pub(crate) fn accept(&mut self, event: &Event) -> Result<(), Rule>
+    pub fn accept(&mut self, event: &Event) -> Result<(), Rule>
         requires { IsInRange (counts_in self.old) event.now }
         ensures goes_on { OnOk result (GoesOn self.old self.new event.now) }
         ensures counts { counts_in self.new ≡ counts_in self.old }
@@ -156,11 +155,11 @@ impl<A: Allocator> Replay<A> {
 }
 
 /// The first event of the trace that breaks a rule, with the least rule that it breaks.
-pub(crate) fn legal<A: Allocator + Copy, B: Allocator>(
+pub fn legal<A: Allocator + Copy, B: Allocator>(
     alloc: A,
     trace: &Trace<B>,
 ) -> Result<Option<Illegal>, AllocError>
-    ensures { IfOk result (λ found. IsJudged (capacities trace.now) trace.now.events found) }
+    ensures { IfOk result (λ found. IsJudged (capacity_of trace.now.decls.declarations) trace.now.events found) }
 {
     let mut replay = Replay::new(alloc, trace.decls())?;
     for at in 0..trace.len() {

@@ -14,8 +14,8 @@ use Rattle.race_model.specs.Legal.{broken, least_broken, op_rules}
 use Rattle.race_model.proofs.StateSteps.{over_push, started_push, last_value_push}
 use Rattle.race_model.proofs.CountSteps.{has_exited_push}
 use Rattle.race_model.proofs.LegalSteps.{legal_push}
-use Rattle.race_tool.specs.ReplayState.{ReplayState, IsInRange, counts_in, op_rules_in, broken_in, after, started_after, exited_after, values_after}
-use Rattle.race_tool.specs.StandsFor.{StandsFor}
+use Rattle.race_legal.specs.ReplayState.{ReplayState, IsInRange, counts_in, op_rules_in, broken_in, after, started_after, exited_after, values_after}
+use Rattle.race_legal.specs.StandsFor.{StandsFor}
 
 -- what stands at a place after a write to a place
 pub get_or-set : {X : Type 0} (xs : List X) (p l : ℕ) (y d : X) → l < length xs → get_or (set xs p y) l d ≡ (if p == l then y else get_or xs l d)

@@ -4,9 +4,9 @@ use Rattle.race_records.specs.declared.event.Event.{Event}
 use Rattle.race_model.specs.Events.{has_exited}
 use Rattle.race_model.specs.State.{over, started, last_value}
 use Rattle.race_model.specs.Legal.{broken, IsLegal, IsIllegalAt}
-use Rattle.race_tool.specs.declared.replay.Illegal.{Illegal}
-use Rattle.race_tool.specs.Rules.{number_of}
-use Rattle.race_tool.specs.ReplayState.{ReplayState, started_in, exited_in, value_in}
+use Rattle.race_legal.specs.declared.replay.Illegal.{Illegal}
+use Rattle.race_legal.specs.Rules.{number_of}
+use Rattle.race_legal.specs.ReplayState.{ReplayState, started_in, exited_in, value_in}
 
 -- the replay stands for a legal list of events: each reader answers its state word
 pub record StandsFor (caps : ℕ → ℕ) (k : ReplayState) (past : List Event) : Type 0 where

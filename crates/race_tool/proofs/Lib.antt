@@ -1,12 +1,4 @@
 pub mod InputLemmas
-pub mod Fronts
-pub mod RangeLemmas
-pub mod RowLemmas
-pub mod TableSteps
-pub mod PartnerLemmas
-pub mod FoundSteps
-pub mod JudgeSteps
-pub mod RaceLists
 pub mod ReportLemmas
 pub mod PrintableLemmas
 pub mod StatusLemmas

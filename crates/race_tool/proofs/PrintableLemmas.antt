@@ -6,14 +6,14 @@ use Rattle.race_records.specs.Events.{TraceState, IsTrace}
 use Rattle.race_model.specs.Race.{IsReportedRace}
 use Rattle.race_model.specs.Verdict as model
 use Rattle.race_tool.specs.declared.finding.Finding.{Finding}
-use Rattle.race_tool.specs.declared.judge.Verdict.{Verdict}
-use Rattle.race_tool.specs.declared.races.Race as tool
-use Rattle.race_tool.specs.Answers.{race_of}
+use Rattle.race_edges.specs.declared.judge.Verdict.{Verdict}
+use Rattle.race_edges.specs.declared.races.Race as tool
+use Rattle.race_edges.specs.Answers.{race_of}
 use Rattle.race_tool.specs.Finding as spec
 use Rattle.race_tool.specs.Findings.{finding_of, RacesAreOf, IsPrintable}
 use Rattle.race_tool.specs.Report.{IsOf}
-use Rattle.race_tool.specs.Traces.{capacities}
-use Rattle.race_tool.proofs.JudgeSteps.{race_declared}
+use Rattle.race_edges.specs.Traces.{capacities}
+use Rattle.race_edges.proofs.JudgeSteps.{race_declared}
 
 module _ (trace : TraceState) (is_trace : IsTrace trace) where
   race_is_of : (caps : ℕ → ℕ) (race : model.Race) → IsReportedRace caps trace.events race.var race.first race.second → IsOf trace race

@@ -4,10 +4,10 @@ use Rattle.race_records.specs.Events.{TraceState}
 use Rattle.race_text.specs.Text.{IsTextOf}
 use Rattle.race_tool.specs.Finding as spec
 use Rattle.race_tool.specs.declared.finding.Finding.{Finding}
-use Rattle.race_tool.specs.declared.judge.Verdict.{Verdict}
-use Rattle.race_tool.specs.Answers.{race_of}
+use Rattle.race_edges.specs.declared.judge.Verdict.{Verdict}
+use Rattle.race_edges.specs.Answers.{race_of}
 use Rattle.race_tool.specs.Report.{IsOf}
-use Rattle.race_tool.specs.Verdicts.{verdict_of}
+use Rattle.race_edges.specs.Verdicts.{verdict_of}
 
 -- what the finding says
 abbrev pub finding_of : {A : Type 0} → Finding A → spec.Finding

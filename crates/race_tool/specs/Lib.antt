@@ -1,11 +1,5 @@
 pub mod Input
 pub mod Rules
-pub mod SeenTable
-pub mod IsTable
-pub mod Partners
-pub mod Answers
-pub mod Verdicts
-pub mod Traces
 pub mod Causes
 pub mod Report
 pub mod Finding

@@ -3,8 +3,8 @@ ghost use Rattle.std.specs.Prelude.{◌≡◌, IfOk};
 ghost use Rattle.race_tool.specs.Finding as spec;
 ghost use Rattle.race_tool.specs.Findings.{finding_of, IsFindingOn};
 
-use crate::judge::{EdgeFault, Verdict, plain_judge};
 use crate::status;
+use race_edges::{EdgeFault, Verdict, plain_judge};
 use race_records::Trace;
 use race_text::{TextCause, TextFault, parse_trace};
 use std::alloc::{AllocError, Allocator};
@@ -45,6 +45,8 @@ fn find_verdict<A: Allocator + Copy>(alloc: A, trace: Trace<A>) -> Result<Findin
         Ok(verdict) => Ok(Finding::Judged(trace, verdict)),
         Err(EdgeFault::TooLong) => Ok(Finding::TooLong(events)),
         Err(EdgeFault::OutOfMemory) => Err(AllocError),
+        // An illegal trace has a verdict.
+        Err(EdgeFault::Illegal) => unreachable!(),
     }
 }
 

@@ -5,14 +5,11 @@ mod cause;
 mod check;
 mod finding;
 mod input;
-mod judge;
 pub mod laws;
 mod printing;
-mod races;
 mod report;
 mod rule;
 pub mod status;
-mod table;
 #[cfg(test)]
 mod tests;
 

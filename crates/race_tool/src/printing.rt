@@ -6,13 +6,13 @@ ghost use Rattle.race_records.specs.Page.{Printing, IsCutOff};
 ghost use Rattle.race_tool.specs.Finding.{report_of};
 ghost use Rattle.race_tool.specs.Findings.{finding_of, IsPrintable, RacesAreOf};
 ghost use Rattle.race_tool.specs.Report.{report, too_long_line};
-ghost use Rattle.race_tool.specs.Verdicts.{verdict_of};
+ghost use Rattle.race_edges.specs.Verdicts.{verdict_of};
 
 use crate::cause::print_fault;
 use crate::finding::Finding;
-use crate::judge::Verdict;
 use crate::report::{print_clean, print_illegal, print_races};
 use itoa::Buffer;
+use race_edges::Verdict;
 use race_records::{Page, Sink, Trace, WriteFault};
 use std::alloc::Allocator;
 use std::io::Write;

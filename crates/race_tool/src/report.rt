@@ -4,12 +4,12 @@ ghost use Rattle.race_records.specs.Page.{Printing};
 ghost use Rattle.race_model.specs.Events.{count, is_access};
 ghost use Rattle.race_legal.specs.Rules.{number_of};
 ghost use Rattle.race_text.specs.Text.{goroutine_name, place_text};
-ghost use Rattle.race_tool.specs.Answers.{race_of};
+ghost use Rattle.race_edges.specs.Answers.{race_of};
 ghost use Rattle.race_tool.specs.Report as spec;
 
-use crate::races::{Race, RaceList};
 use crate::rule::text_of;
 use itoa::Buffer;
+use race_edges::{Race, RaceList};
 use race_legal::Illegal;
 use race_records::{Named, Op, Page, Sink, Trace, WriteFault};
 use std::alloc::Allocator;

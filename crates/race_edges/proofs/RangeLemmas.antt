@@ -1,0 +1,34 @@
+-- Which numbers an event of a trace may name: those of its declarations.
+use Rattle.std.proofs.Common.{◌≡◌, ℕ, ◌<◌, ◌==◌, true, Option, Some, None, IfSome, sym, ◌∙◌, subst, refl, arith, IsTrue, eqb-true}
+use Rattle.std.proofs.lemmas.Bool.Decides.{nat_tests}
+use Rattle.std.proofs.Math.Bool.{or-false}
+use Rattle.race_records.specs.declared.event.Op.{Op}
+use Rattle.race_records.specs.declared.event.Op.TheVariants.{Go, Read, Write}
+use Rattle.race_records.specs.declared.kind.Kind.{Kind}
+use Rattle.race_records.specs.Parts.{op_is_in_range}
+use Rattle.race_model.specs.Events.{partner, gives, accesses}
+use Rattle.race_edges.specs.Partners.{accessed}
+
+-- a second participant is in range
+pub partner_in_range : (counts : Kind → ℕ) (o : Op) → IsTrue (op_is_in_range counts o) → IfSome (partner o) (λ g. g < counts Kind.Goroutine)
+partner_in_range counts (Go h) is = grind (arith, nat_tests)
+partner_in_range counts _ is = tt
+
+-- so is a variable that is accessed
+pub accessed_in_range : (counts : Kind → ℕ) (o : Op) → IsTrue (op_is_in_range counts o) → IfSome (accessed o) (λ x. x < counts Kind.Var)
+accessed_in_range counts (Read x v) is = grind (arith, nat_tests)
+accessed_in_range counts (Write x v) is = grind (arith, nat_tests)
+accessed_in_range counts _ is = tt
+
+-- an operation is an access of the variable that it accesses, and of no other
+pub accesses_is : (o : Op) (x : ℕ) → accesses x o ≡ gives (accessed o) x
+accesses_is (Read y v) x = or-false (y == x)
+accesses_is _ x = refl
+
+-- where the variable that an operation accesses is below n, so is each of which it is an access
+pub accessed_below : (o : Op) (n x : ℕ) → IfSome (accessed o) (λ y. y < n) → IsTrue (accesses x o) → x < n
+accessed_below o n x below is = by (accessed o) (sym (accesses_is o x) ∙ is) below
+  where
+    by : (a : Option ℕ) → gives a x ≡ true → IfSome a (λ y. y < n) → x < n
+    by None is below = cc
+    by (Some y) is below = subst (λ x. x < n) (eqb-true y x is) below

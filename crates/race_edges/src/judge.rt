@@ -1,0 +1,105 @@
+//! The plain judge: the verdict on a short trace, read off a table of what each goroutine has seen.
+//!
+//! An access happens before a later event exactly where that event's goroutine has seen it before.
+//! So a row of flags for each goroutine decides every pair of accesses when the later one comes. It
+//! takes time in the square of the events, and is what faster judges are compared with.
+ghost use Rattle.std.specs.Prelude.{◌≡◌, ◌≢◌, ◌↔◌, ◌<◌, length, IfOk};
+ghost use Rattle.race_edges.specs.Answers.{AreRaces};
+ghost use Rattle.race_edges.specs.Traces.{capacities, HasVerdict};
+ghost use Rattle.race_edges.specs.Verdicts.{verdict_of};
+
+use crate::races::{Found, RaceList};
+use crate::table::Table;
+use race_legal::{Illegal, legal};
+use race_records::{Kind, Trace};
+use std::alloc::{AllocError, Allocator, Global};
+use thiserror::Error;
+
+/// The most events that the plain judge takes.
+pub const MAX_PLAIN_EVENTS: usize = 2_000;
+
+// Definitions cite this number, so it is written down twice.
+const _: () = prove!(MAX_PLAIN_EVENTS == 2_000);
+
+/// Why there is no answer.
+#[derive(Clone, Copy, Debug, PartialEq, Eq, Error)]
+pub enum EdgeFault {
+    /// An event breaks a rule. The judge doesn't answer it: an illegal trace is a verdict.
+    #[error("the trace is illegal")]
+    Illegal,
+    /// There are more than 2,000 events. It is tested first.
+    #[error("the trace is too long")]
+    TooLong,
+    /// A growth was refused.
+    #[error("out of memory")]
+    OutOfMemory,
+}
+
+/// What can be said of a trace.
+#[derive(Debug, Drop)]
+pub enum Verdict<A: Allocator = Global> {
+    /// An event breaks a rule.
+    Illegal(Illegal),
+    /// The trace is legal and has no race.
+    Clean,
+    /// The trace is legal, and these are its races.
+    Races(RaceList<A>),
+}
+
+/// The verdict on a trace of at most 2,000 events.
+pub fn plain_judge<A: Allocator + Copy, B: Allocator>(
+    alloc: A,
+    trace: &Trace<B>,
+) -> Result<Verdict<A>, EdgeFault>
+    ensures right { IfOk result (λ verdict. HasVerdict trace.now (verdict_of verdict)) }
+    ensures too_long { (result ≡ Err EdgeFault.TooLong)
+        ↔ (MAX_PLAIN_EVENTS < length trace.now.events) }
+    ensures judged { result ≢ Err EdgeFault.Illegal }
+{
+    if trace.len() > MAX_PLAIN_EVENTS {
+        return Err(EdgeFault::TooLong);
+    }
+    match verdict_on(alloc, trace) {
+        Ok(verdict) => Ok(verdict),
+        Err(_) => Err(EdgeFault::OutOfMemory),
+    }
+}
+
+// The verdict on a trace, however long.
+fn verdict_on<A: Allocator + Copy, B: Allocator>(
+    alloc: A,
+    trace: &Trace<B>,
+) -> Result<Verdict<A>, AllocError>
+    ensures { IfOk result (λ verdict. HasVerdict trace.now (verdict_of verdict)) }
+{
+    match legal(alloc, trace)? {
+        Some(illegal) => Ok(Verdict::Illegal(illegal)),
+        None => {
+            let races = races_in(alloc, trace)?;
+            if races.is_empty() {
+                Ok(Verdict::Clean)
+            } else {
+                Ok(Verdict::Races(races))
+            }
+        }
+    }
+}
+
+// The race of each variable that has one. Each event is looked at before the table takes it.
+fn races_in<A: Allocator + Copy, B: Allocator>(
+    alloc: A,
+    trace: &Trace<B>,
+) -> Result<RaceList<A>, AllocError>
+    ensures { IfOk result (λ races. AreRaces (capacities trace.now) trace.now.events races) }
+{
+    let goroutines = trace.decls().count(Kind::Goroutine) as usize;
+    let vars = trace.decls().count(Kind::Var) as usize;
+    let mut table = Table::new(alloc, goroutines, trace.len())?;
+    let mut found = Found::new(alloc, vars)?;
+    for at in 0..trace.len() {
+        let event = trace.event(at);
+        found.look(&table, &trace.events()[..at], event);
+        table.step(at, event);
+    }
+    found.list(alloc)
+}

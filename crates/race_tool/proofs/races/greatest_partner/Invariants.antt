@@ -1,6 +1,0 @@
-use Rattle.std.proofs.Common.{◌≡◌}
-use Rattle.race_tool.specs.Partners.{is_partner, greatest_below}
-use Rattle.race_tool.proofs.races.greatest_partner.Given as goal
-
-abbrev pub invariant-loop-index : goal.invariant-loop-index
-invariant-loop-index g l = l.greatest ≡ greatest_below (is_partner l.table l.past l.event.who l.event.op) l.index

@@ -1,13 +1,7 @@
 //! `gorace`: judges recorded runs of goroutines by The Go Memory Model.
 #![tactic(auto)]
 
-mod command;
-mod number;
-mod program;
-#[cfg(test)]
-mod tests;
-
-use program::run;
+use race_command::run;
 use race_records::{Sink, Source};
 use std::env;
 use std::process::ExitCode;

@@ -1,5 +1,5 @@
-//! Each growth of each call refused in turn: the call answers want of memory, and what it works on
-//! is as before.
+//! Each growth of each call that takes memory, refused in turn: the call answers want of memory, and
+//! what it works on is as before.
 //!
 //! A test makes its value, calls `heap.refuse(nth)` and then the one call: growth 1, 2, 3 and so on
 //! is refused, until a run meets no refusal. `assert_refusals!` is that loop.

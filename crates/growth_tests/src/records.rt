@@ -51,19 +51,19 @@ fn add<A: Allocator + Copy>(decls: &mut Decls<A>, addition: Addition) -> Result<
 
 /// What a call adds to.
 #[derive(Clone, Copy, Debug)]
-enum Start {
+pub(crate) enum Start {
     Nothing,
     Copy,
 }
 
-fn started<A: Allocator + Copy>(heap: A, start: Start) -> Option<Decls<A>> {
+pub(crate) fn started<A: Allocator + Copy>(heap: A, start: Start) -> Option<Decls<A>> {
     match start {
         Start::Nothing => Some(Decls::new(heap)),
         Start::Copy => copied(&traced(heap).ok()?).ok(),
     }
 }
 
-fn is_as_started<A: Allocator>(decls: &Decls<A>, start: Start) -> bool {
+pub(crate) fn is_as_started<A: Allocator>(decls: &Decls<A>, start: Start) -> bool {
     match start {
         Start::Nothing => decls.is_empty() && decls.place_count() == 0,
         Start::Copy => is_as_declared(decls),

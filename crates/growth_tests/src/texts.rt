@@ -1,9 +1,10 @@
-//! The call of race_text.
+//! The calls of race_text.
 ghost use Rattle.std.specs.Prelude.{◌<◌};
 
 use crate::growths::{Outcome, assert_refusals, judge};
-use race_records::Trace;
-use race_text::{TextCause, TextFault, parse_trace};
+use crate::records::{Start, is_as_started, started};
+use race_records::{Decls, Trace};
+use race_text::{TextCause, TextFault, parse_trace, read_declaration};
 use refusing_heap::RefusingHeap;
 use std::alloc::{Allocator, Global};
 
@@ -35,7 +36,25 @@ fn text(alloc: Global, _call: (), nth: u64) -> Outcome
     judge(&heap, refused, done)
 }
 
+fn declare<A: Allocator + Copy>(decls: &mut Decls<A>) -> Result<bool, TextCause> {
+    read_declaration(decls, b"var y")
+}
+
+fn declaration(alloc: Global, start: Start, nth: u64) -> Outcome
+    requires { 0 < nth }
+{
+    let heap = RefusingHeap::new(alloc);
+    let Some(mut decls) = started(&heap, start) else {
+        return Outcome::Wrong;
+    };
+    heap.refuse(nth);
+    let answer = declare(&mut decls);
+    let refused = answer == Err(TextCause::OutOfMemory) && is_as_started(&decls, start);
+    judge(&heap, refused, answer == Ok(true))
+}
+
 #[test]
 fn texts(rt: HostRuntime) {
     assert_refusals!(rt, text, [((), 12)]);
+    assert_refusals!(rt, declaration, [(Start::Nothing, 6), (Start::Copy, 4)]);
 }

@@ -120,24 +120,6 @@ fn found<'a>(decls: &'a Decls, name: &str) -> Option<(Named, &'a str)> {
     }
 }
 
-static NAMES: [(&str, Option<(Named, &str)>); 6] = [
-    ("main", Some((Named::Goroutine(0), "main"))),
-    ("w", Some((Named::Goroutine(1), "w"))),
-    ("x", Some((Named::Var(0), "x"))),
-    ("v", Some((Named::Goroutine(2), "v"))),
-    ("y", Some((Named::Var(1), "y"))),
-    ("z", None),
-];
-
-#[test]
-fn names_are_found_again(rt: HostRuntime) -> Result<(), Fail> {
-    let decls = declared(rt.alloc())?;
-    for (name, named) in &NAMES {
-        assert_eq!(rt; found(&decls, name), *named, "{name}");
-    }
-    Ok(())
-}
-
 // What stands at the index, and how it is declared.
 fn declared_at(decls: &Decls, index: usize) -> Option<(Named, Object, &str)> {
     if index < decls.len() {
@@ -148,19 +130,39 @@ fn declared_at(decls: &Decls, index: usize) -> Option<(Named, Object, &str)> {
     }
 }
 
-static DECLARED: [Option<(Named, Object, &str)>; 5] = [
-    Some((Named::Goroutine(1), Object::Goroutine, "w")),
-    Some((Named::Var(0), Object::Var, "x")),
-    Some((Named::Goroutine(2), Object::Goroutine, "v")),
-    Some((Named::Var(1), Object::Var, "y")),
-    None,
+static DECLARED: [(&str, Option<(Named, &str)>, Option<(Named, Object, &str)>); 6] = [
+    (
+        "w",
+        Some((Named::Goroutine(1), "w")),
+        Some((Named::Goroutine(1), Object::Goroutine, "w")),
+    ),
+    (
+        "x",
+        Some((Named::Var(0), "x")),
+        Some((Named::Var(0), Object::Var, "x")),
+    ),
+    (
+        "v",
+        Some((Named::Goroutine(2), "v")),
+        Some((Named::Goroutine(2), Object::Goroutine, "v")),
+    ),
+    (
+        "y",
+        Some((Named::Var(1), "y")),
+        Some((Named::Var(1), Object::Var, "y")),
+    ),
+    // There are four declarations.
+    ("main", Some((Named::Goroutine(0), "main")), None),
+    ("z", None, None),
 ];
 
 #[test]
-fn declarations_are_told_in_order(rt: HostRuntime) -> Result<(), Fail> {
+fn declarations_are_found_again(rt: HostRuntime) -> Result<(), Fail> {
     let decls = declared(rt.alloc())?;
     for index in 0..DECLARED.len() {
-        assert_eq!(rt; declared_at(&decls, index), DECLARED[index], "{index}");
+        let (name, named, told) = DECLARED[index];
+        let answer = (found(&decls, name), declared_at(&decls, index));
+        assert_eq!(rt; answer, (named, told), "{name}");
     }
     Ok(())
 }
@@ -191,10 +193,12 @@ fn equal_by_declarations_alone(rt: HostRuntime) -> Result<(), Fail> {
     Ok(())
 }
 
-// A trace that knows a variable, with room for an event.
-fn started(alloc: Global) -> Result<Trace, Fail> {
+// A trace with room for an event, to whose declarations all this is added.
+fn started(alloc: Global, additions: &[Addition]) -> Result<Trace, Fail> {
     let mut decls = Decls::new(alloc);
-    add(&mut decls, Addition::Var("x"))?;
+    for addition in additions {
+        add(&mut decls, *addition)?;
+    }
     let mut trace = Trace::new(decls);
     trace.reserve()?;
     Ok(trace)
@@ -218,7 +222,7 @@ static PLACES: [(&str, Result<u32, DeclFault>); 2] = [
 
 #[test]
 fn a_place_of_a_trace_is_found_again(rt: HostRuntime) -> Result<(), Fail> {
-    let mut trace = started(rt.alloc())?;
+    let mut trace = started(rt.alloc(), &[])?;
     for (text, number) in &PLACES {
         let answer = add_place(&mut trace, text);
         assert_eq!(rt;
@@ -265,8 +269,7 @@ fn events() -> [(u32, Op, u32, Option<u32>, Option<PushFault>); 7] {
 
 #[test]
 fn takes_events_that_fit(rt: HostRuntime) -> Result<(), Fail> {
-    let mut trace = started(rt.alloc())?;
-    add_place(&mut trace, "a.go:1")?;
+    let mut trace = started(rt.alloc(), &[Addition::Var("x"), Addition::Place("a.go:1")])?;
     for (who, op, place, place2, fault) in events() {
         assert_eq!(rt; push(&mut trace, who, op, place, place2), fault);
     }
@@ -276,7 +279,7 @@ fn takes_events_that_fit(rt: HostRuntime) -> Result<(), Fail> {
 
 // A trace that knows the places, in which main writes at the last of them, and then exits or not.
 fn trace_at(alloc: Global, places: [&str; 3], exits: bool) -> Result<Trace, Fail> {
-    let mut trace = started(alloc)?;
+    let mut trace = started(alloc, &[Addition::Var("x")])?;
     let mut place = 0;
     for text in places {
         place = add_place(&mut trace, text)?;

@@ -3,7 +3,7 @@ ghost use Rattle.std.specs.Prelude.{◌≡◌, ◌-◌, ◌≤◌, ◌^◌, [], 
 ghost use Rattle.std.specs.List.{list_all};
 ghost use Rattle.std.specs.Option.{option_map};
 ghost use Rattle.race_records.specs.Name.{is_place_byte};
-ghost use Rattle.race_records.specs.Declarations.{find_name};
+ghost use Rattle.race_records.specs.Declarations.{IsWellFormed, find_name};
 ghost use Rattle.race_text.specs.Words.{parts_left, words_of};
 ghost use Rattle.race_text.specs.Reading as spec;
 
@@ -29,6 +29,7 @@ pub struct Draft<'a> {
 
 // The event that the line is. Nothing where the line isn't one.
 pub(crate) fn read_event<'a, A: Allocator>(decls: &Decls<A>, line: &'a [u8]) -> Option<Draft<'a>>
+    requires { IsWellFormed decls.now }
     ensures { option_map spec.drafted result
         ≡ spec.event_in decls.now.declarations (words_of line.now) }
 {
@@ -50,6 +51,7 @@ fn read_behind<'a, A: Allocator>(
     verb: Verb,
     rest: Option<&'a [u8]>,
 ) -> Option<Draft<'a>>
+    requires { IsWellFormed decls.now }
     ensures { option_map spec.drafted result ≡ spec.event_behind decls.now.declarations verb
         (parts_left 32 rest.entry) }
 {
@@ -77,7 +79,8 @@ fn next_parts<'a, A: Allocator>(
     mut kinds: &[PartKind],
     rest: Option<&'a [u8]>,
 ) -> Option<(Parts, Option<&'a [u8]>)>
-    requires { length kinds.now ≤ 3 }
+    requires decls { IsWellFormed decls.now }
+    requires few { length kinds.now ≤ 3 }
     ensures { option_map spec.parts_so_far result ≡ spec.parts_on decls.now.declarations []
         kinds.entry.now (parts_left 32 rest.entry) }
 {
@@ -98,17 +101,14 @@ fn next_part<'a, A: Allocator>(
     kind: PartKind,
     rest: Option<&'a [u8]>,
 ) -> Option<(Part, Option<&'a [u8]>)>
+    requires { IsWellFormed decls.now }
     ensures { option_map spec.part_so_far result ≡ spec.first_part decls.now.declarations kind
         (parts_left 32 rest.entry) }
 {
     match rest {
         None => None,
         Some(bytes) => match cut_word(bytes) {
-            None => {
-                // What holds of every `Decls` is known once its length is.
-                let _count = decls.len();
-                None
-            }
+            None => None,
             Some((word, others)) => match part_in(decls, kind, word) {
                 None => None,
                 Some(part) => Some((part, others)),

@@ -122,6 +122,14 @@ fn tells_the_least_cause_of_a_line(rt: HostRuntime) -> Result<(), Fail> {
         let fault = fault_of_line(rt.alloc(), line)?;
         assert_eq!(rt; fault, Some(TextFault { line: 5, cause }), "in {line:?}");
     }
+    let fault = TextFault {
+        line: 5,
+        cause: BadNumber,
+    };
+    assert_eq!(rt;
+        format!(in rt.alloc(); "{fault}")?.as_str(),
+        "line 5: bad number"
+    );
     Ok(())
 }
 

@@ -1,6 +1,6 @@
 use Rattle.std.proofs.Common.{ℕ, ◌≤◌, Option, IfSome, sym, subst, ◌∙◌, arith}
-use Rattle.gorace.proofs.NumberLemmas.{number_most}
-use Rattle.gorace.proofs.number.number_in.Goals as goal
+use Rattle.race_command.proofs.NumberLemmas.{number_most}
+use Rattle.race_command.proofs.number.number_in.Goals as goal
 
 pub returns-else-number-least-clause-in_limits : goal.returns-else-number-least-clause-in_limits
 returns-else-number-least-clause-in_limits c =

@@ -4,8 +4,8 @@ ghost use Rattle.std.specs.declared.io.ErrorKind.TheVariants as io;
 ghost use Rattle.std.specs.IoError.{error_kind};
 ghost use Rattle.std.specs.Process.{exit_status};
 ghost use Rattle.clap.specs.Values.{kind_of};
-ghost use Rattle.gorace.specs.Ending.{Checks, Declines, Ends, IsAnswerTo, answer_without_words, message_of};
-ghost use Rattle.gorace.specs.Request.{is_in_limits};
+ghost use Rattle.race_command.specs.Ending.{Checks, Declines, Ends, IsAnswerTo, answer_without_words, message_of};
+ghost use Rattle.race_command.specs.Request.{is_in_limits};
 
 use crate::command::{Request, parse};
 use clap::Error;
@@ -23,7 +23,7 @@ use std::process::ExitCode;
 /// A check ends with the status that `run_check` answers. Help ends with 0, or with 5 where it can't
 /// be printed. Words that are at fault or aren't text end with 3, of which a line on standard error
 /// tells, and want of memory for them with 4.
-pub(crate) fn run<T: AllocGlobal + Print + Eprint, R: Read, W: Write>(
+pub fn run<T: AllocGlobal + Print + Eprint, R: Read, W: Write>(
     rt: &T,
     args: io::Result<Args>,
     source: &mut Source<R>,

@@ -8,8 +8,8 @@ use Rattle.clap.specs.declared.error.kind.ErrorKind.TheVariants as kind
 use Rattle.clap.specs.Values.{kind_of}
 use Rattle.race_records.specs.declared.source.Source.{Source}
 use Rattle.race_records.specs.declared.sink.Sink.{Sink}
-use Rattle.gorace.specs.declared.command.Request.{Request}
-use Rattle.gorace.specs.Ending.{Checks, Declines, Ends, answer_without_words}
+use Rattle.race_command.specs.declared.command.Request.{Request}
+use Rattle.race_command.specs.Ending.{Checks, Declines, Ends, answer_without_words}
 
 module _ {R W : Type 0} (remaining : R → Option (List ℕ)) (contents : W → Option (List ℕ)) (source source_now : Source R) (sink sink_now : Sink W) (answer : ℕ) where
   -- a request ends as a check does, and an error as an answer

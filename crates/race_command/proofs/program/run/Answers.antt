@@ -1,5 +1,5 @@
-use Rattle.gorace.proofs.EndingLemmas.{ends_with_words}
-use Rattle.gorace.proofs.program.run.Goals as goal
+use Rattle.race_command.proofs.EndingLemmas.{ends_with_words}
+use Rattle.race_command.proofs.program.run.Goals as goal
 
 pub returns-clause-words : goal.returns-clause-words
 returns-clause-words g c =

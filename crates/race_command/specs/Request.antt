@@ -1,6 +1,6 @@
 -- What a command line asks for.
 use Rattle.std.specs.Prelude.{Bool}
-use Rattle.gorace.specs.declared.command.Request.{Request}
+use Rattle.race_command.specs.declared.command.Request.{Request}
 use Rattle.race_tool.specs.Outcome.{are_in_limits}
 
 -- the options of the request are in their limits

@@ -1,6 +1,6 @@
 //! Numbers of the command line.
 ghost use Rattle.std.specs.Prelude.{◌≡◌, ◌≤◌, IfSome};
-ghost use Rattle.gorace.specs.Number as spec;
+ghost use Rattle.race_command.specs.Number as spec;
 
 use race_text::read_number;
 

@@ -1,7 +1,7 @@
 //! The command line: what it asks for, and the help.
 ghost use Rattle.std.specs.Prelude.{◌≤◌, IsTrue, IfOk, IfSome};
 ghost use Rattle.race_tool.specs.Outcome.{are_in_limits};
-ghost use Rattle.gorace.specs.Request.{is_in_limits};
+ghost use Rattle.race_command.specs.Request.{is_in_limits};
 
 use crate::number::number_in;
 use clap::error::ErrorKind;

@@ -7,14 +7,17 @@ use Rattle.clap.specs.declared.error.kind.ErrorKind.TheVariants as kind
 use Rattle.race_records.specs.declared.source.Source.{Source}
 use Rattle.race_records.specs.declared.sink.Sink.{Sink}
 use Rattle.race_records.specs.Devices.{unread, written, source_failures, sink_failures}
-use Rattle.race_tool.specs.Outcome.{ReadsAndReports, ReadsCleanText, FailsToRead, GivesUpReading, FailsToWrite}
+use Rattle.race_tool.specs.Outcome.{ReadsAndReports, ReadsTextWhere, FailsToRead, GivesUpReading, FailsToWrite}
+use Rattle.race_tool.specs.Traces.{IsClean, IsRacy, IsIllegal}
 use Rattle.race_tool.specs.declared.status.TheConstants as status
 
 -- the input was checked: what run_check promises of options in their limits
 pub record Checks {R W : Type 0} (remaining : R → Option (List ℕ)) (contents : W → Option (List ℕ)) (source source_now : Source R) (sink sink_now : Sink W) (answer : ℕ) : Type 0 where
   pub reported : answer ≢ status.REFUSED → answer ≢ status.DEVICE
       → ReadsAndReports (unread remaining source) (unread remaining source_now) (written contents sink) (written contents sink_now) answer
-  pub clean : answer ≡ status.CLEAN → ReadsCleanText (unread remaining source) (unread remaining source_now)
+  pub clean : answer ≡ status.CLEAN → ReadsTextWhere IsClean (unread remaining source) (unread remaining source_now)
+  pub races : answer ≡ status.RACES → ReadsTextWhere IsRacy (unread remaining source) (unread remaining source_now)
+  pub illegal : answer ≡ status.ILLEGAL → ReadsTextWhere IsIllegal (unread remaining source) (unread remaining source_now)
   pub refused : answer ≡ status.REFUSED → sink_now ≡ sink
   pub device : answer ≡ status.DEVICE
       → FailsToRead source source_now sink sink_now

@@ -1,0 +1,10 @@
+//! The command line of `gorace`: from its words, over any reader and any writer, to a status.
+#![tactic(auto)]
+
+mod command;
+mod number;
+mod program;
+#[cfg(test)]
+mod tests;
+
+pub use program::run;

@@ -1,5 +1,4 @@
 pub mod InputLemmas
-pub mod ReportLemmas
 pub mod PrintableLemmas
 pub mod StatusLemmas
 pub mod OneReport

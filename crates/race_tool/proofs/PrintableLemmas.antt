@@ -10,8 +10,8 @@ use Rattle.race_edges.specs.declared.judge.Verdict.{Verdict}
 use Rattle.race_edges.specs.declared.races.Race as tool
 use Rattle.race_edges.specs.Answers.{race_of}
 use Rattle.race_tool.specs.Finding as spec
-use Rattle.race_tool.specs.Findings.{finding_of, RacesAreOf, IsPrintable}
-use Rattle.race_tool.specs.Report.{IsOf}
+use Rattle.race_tool.specs.Findings.{finding_of, IsPrintable}
+use Rattle.race_report.specs.Printable.{IsOf, RacesAreOf}
 use Rattle.race_edges.specs.Traces.{capacities}
 use Rattle.race_edges.proofs.JudgeSteps.{race_declared}
 

@@ -8,7 +8,8 @@ use Rattle.race_text.specs.Text.{IsTextOf}
 use Rattle.race_edges.specs.declared.judge.TheConstants.{MAX_PLAIN_EVENTS}
 use Rattle.race_tool.specs.declared.status.TheConstants as status
 use Rattle.race_edges.specs.Traces.{HasVerdict}
-use Rattle.race_tool.specs.Report.{fault_line, too_long_line, report}
+use Rattle.race_report.specs.Report.{fault_line, report}
+use Rattle.race_tool.specs.Report.{too_long_line}
 
 -- what there is to say of a list of bytes
 pub data Finding : Type 0 where

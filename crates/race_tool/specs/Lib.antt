@@ -1,6 +1,4 @@
 pub mod Input
-pub mod Rules
-pub mod Causes
 pub mod Report
 pub mod Finding
 pub mod Findings

@@ -1,73 +1,8 @@
--- The printed report of a verdict. Events are printed with numbers from 1.
-use Rattle.std.specs.Prelude.{ℕ, ◌+◌, ◌<◌, List, [], ◌∷◌, ◌++◌, length, codes, decimal, slice_get, Some, None}
-use Rattle.std.specs.List.{concat, flat_map}
-use Rattle.race_records.specs.declared.event.Op.{Op}
-use Rattle.race_records.specs.declared.event.Op.TheVariants.{Read, Write}
-use Rattle.race_records.specs.declared.kind.Kind.{Kind}
-use Rattle.race_records.specs.Declarations.{count_of}
-use Rattle.race_records.specs.Events.{TraceState}
-use Rattle.race_model.specs.Events.{count, is_access}
-use Rattle.race_model.specs.Verdict.{Race, Verdict, Illegal, Clean, Races}
-use Rattle.race_text.specs.declared.cause.TextFault.{TextFault}
-use Rattle.race_text.specs.Text.{goroutine_name, var_name, place_text}
-use Rattle.race_tool.specs.Causes.{cause_text}
-use Rattle.race_tool.specs.Rules.{rule_text}
-
--- the end of a line
-abbrev pub newline : List ℕ
-newline = 10 ∷ []
-
--- the line at fault, and its least cause
-unfoldable pub fault_line : TextFault → List ℕ
-fault_line fault = concat (codes "line " ∷ decimal fault.line ∷ codes ": " ∷ cause_text fault.cause ∷ newline ∷ [])
+-- What an engine prints beside the reports of race_report.
+use Rattle.std.specs.Prelude.{ℕ, List, [], ◌∷◌, codes, decimal}
+use Rattle.std.specs.List.{concat}
+use Rattle.race_report.specs.Report.{newline}
 
 -- there are more events than are judged
 unfoldable pub too_long_line : ℕ → List ℕ
 too_long_line events = concat (codes "too long: " ∷ decimal events ∷ codes " events" ∷ newline ∷ [])
-
-unfoldable pub clean_line : TraceState → List ℕ
-clean_line trace =
-    concat (codes "clean: " ∷ decimal (length trace.events) ∷ codes " events, " ∷ decimal (count is_access trace.events) ∷ codes " accesses" ∷ newline ∷ [])
-
-unfoldable pub illegal_line : ℕ → ℕ → List ℕ
-illegal_line index rule = concat (codes "illegal: event " ∷ decimal (index + 1) ∷ codes ": " ∷ rule_text rule ∷ newline ∷ [])
-
--- what an access does, in a word
-abbrev pub access_word : Op → List ℕ
-access_word (Read x v) = codes "read"
-access_word (Write x v) = codes "write"
-access_word _ = []
-
--- an access with its goroutine, its place and its number
-unfoldable pub access_text : TraceState → ℕ → List (List ℕ)
-access_text trace index =
-    elim (slice_get trace.events index) [
-      | None ↦ []
-      | Some e ↦
-          access_word e.op ∷ codes " by " ∷ goroutine_name trace.decls.declarations e.who
-          ∷ codes " at " ∷ place_text trace.decls.places e.place
-          ∷ codes " (event " ∷ decimal (index + 1) ∷ codes ")" ∷ []
-    ]
-
-unfoldable pub race_line : TraceState → Race → List ℕ
-race_line trace race =
-    concat (codes "race on " ∷ var_name trace.decls.declarations race.var ∷ codes ": " ∷ (access_text trace race.first ++ codes ", " ∷ (access_text trace race.second ++ newline ∷ [])))
-
-unfoldable pub races_line : ℕ → List ℕ
-races_line n = concat (codes "races: " ∷ decimal n ∷ newline ∷ [])
-
--- a line for each race, and their count
-abbrev pub races_text : TraceState → List Race → List ℕ
-races_text trace races = flat_map (race_line trace) races ++ races_line (length races)
-
--- the report of a verdict on a trace
-abbrev pub report : TraceState → Verdict → List ℕ
-report trace (Illegal index rule) = illegal_line index rule
-report trace Clean = clean_line trace
-report trace (Races races) = races_text trace races
-
--- the numbers of the race are the trace's
-pub record IsOf (trace : TraceState) (race : Race) : Type 0 where
-  pub var : race.var < count_of Kind.Var trace.decls.declarations
-  pub first : race.first < length trace.events
-  pub second : race.second < length trace.events

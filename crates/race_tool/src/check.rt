@@ -18,7 +18,7 @@ ghost use Rattle.race_tool.specs.declared.status.TheConstants as status;
 
 use crate::finding::find;
 use crate::input::{ReadFault, read_to_end};
-use crate::printing::write_report;
+use crate::printing::write_finding;
 use crate::status;
 use race_records::{Sink, Source};
 use std::alloc::Allocator;
@@ -151,7 +151,7 @@ fn report<W: Write, A: Allocator + Copy>(alloc: A, bytes: &[u8], sink: &mut Sink
     ensures calm { result ≢ status.DEVICE → sink_failures sink.new ≡ sink_failures sink.old }
 {
     match find(alloc, bytes) {
-        Ok(finding) => match write_report(sink, &finding) {
+        Ok(finding) => match write_finding(&finding, sink) {
             Ok(()) => finding.status(),
             Err(_) => status::DEVICE,
         },

@@ -1,14 +1,11 @@
 //! The engines of the race detector: bytes in, bytes out.
 #![tactic(auto)]
 
-mod cause;
 mod check;
 mod finding;
 mod input;
 pub mod laws;
 mod printing;
-mod report;
-mod rule;
 pub mod status;
 #[cfg(test)]
 mod tests;

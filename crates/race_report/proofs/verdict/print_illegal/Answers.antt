@@ -1,8 +1,8 @@
 use Rattle.std.proofs.Common.{◌≡◌, ℕ, List, [], ◌∷◌, subst, rules}
 use Rattle.race_records.specs.Page.{Printing, joined}
-use Rattle.race_tool.specs.Report.{illegal_line}
+use Rattle.race_report.specs.Report.{illegal_line}
 use Rattle.race_legal.specs.Rules.{number_of}
-use Rattle.race_tool.proofs.report.print_illegal.Goals as goal
+use Rattle.race_report.proofs.verdict.print_illegal.Goals as goal
 
 pub returns : goal.returns
 unfolding illegal_line

@@ -3,8 +3,8 @@ use Rattle.race_records.specs.Declarations.{DeclsState}
 use Rattle.race_records.specs.Page.{Printing, joined}
 use Rattle.race_edges.specs.Answers.{race_of}
 use Rattle.race_text.specs.Text.{var_name}
-use Rattle.race_tool.proofs.ReportLemmas.{race_line_is}
-use Rattle.race_tool.proofs.report.print_race.Goals as goal
+use Rattle.race_report.proofs.ReportLemmas.{race_line_is}
+use Rattle.race_report.proofs.verdict.print_race.Goals as goal
 
 pub returns : goal.returns
 returns g c =

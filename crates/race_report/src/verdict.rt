@@ -1,19 +1,64 @@
-//! The lines of a verdict.
-ghost use Rattle.std.specs.Prelude.{◌≡◌, ◌<◌, ◌+◌, [], ◌∷◌, All, map, length, slice_get, Some, IfSome, count_by};
-ghost use Rattle.race_records.specs.Page.{Printing};
+//! The report of a verdict.
+ghost use Rattle.std.specs.Prelude.{◌≡◌, ◌<◌, ◌+◌, [], ◌∷◌, All, map, length, slice_get, Some, IfSome, OnOk, OnErr, IfErr, count_by};
+ghost use Rattle.std.specs.Io.KnownBytes.{Appends};
+ghost use Rattle.race_records.specs.Devices.{written, sink_failures, one_more};
+ghost use Rattle.race_records.specs.Page.{Printing, IsCutOff};
 ghost use Rattle.race_model.specs.Events.{count, is_access};
 ghost use Rattle.race_legal.specs.Rules.{number_of};
 ghost use Rattle.race_text.specs.Text.{goroutine_name, place_text};
 ghost use Rattle.race_edges.specs.Answers.{race_of};
-ghost use Rattle.race_tool.specs.Report as spec;
+ghost use Rattle.race_edges.specs.Verdicts.{verdict_of};
+ghost use Rattle.race_report.specs.Printable.{IsOf, RacesAreOf};
+ghost use Rattle.race_report.specs.Report as spec;
 
 use crate::rule::text_of;
 use itoa::Buffer;
-use race_edges::{Race, RaceList};
+use race_edges::{Race, RaceList, Verdict};
 use race_legal::Illegal;
 use race_records::{Named, Op, Page, Sink, Trace, WriteFault};
 use std::alloc::Allocator;
 use std::io::Write;
+
+/// Writes the report of the verdict on the trace: one line for an illegal event or a clean trace,
+/// or a line for each race and their count. Takes no memory; writes in blocks of at most 4,096 bytes.
+///
+/// A write that fails or takes no byte ends it: then exactly the first `sent` bytes are out.
+pub fn write_report<W: Write, A: Allocator, B: Allocator>(
+    trace: &Trace<A>,
+    verdict: &Verdict<B>,
+    sink: &mut Sink<W>,
+) -> Result<(), WriteFault>
+    requires { RacesAreOf trace.now verdict.now }
+    ensures ok { OnOk result (Appends (written W.contents sink.old) (written W.contents sink.new)
+        (spec.report trace.now (verdict_of verdict.now))) }
+    ensures sent { IfErr result (λ fault. IsCutOff (written W.contents sink.old)
+        (written W.contents sink.new) fault.sent (spec.report trace.now (verdict_of verdict.now))) }
+    ensures calm { OnOk result (sink_failures sink.new ≡ sink_failures sink.old) }
+    ensures failed { OnErr result (sink_failures sink.new ≡ one_more (sink_failures sink.old)) }
+{
+    let mut page = Page::new();
+    match print_verdict(&mut page, sink, trace, verdict) {
+        Ok(()) => page.flush(sink),
+        Err(fault) => Err(fault),
+    }
+}
+
+fn print_verdict<W: Write, A: Allocator, B: Allocator>(
+    page: &mut Page,
+    sink: &mut Sink<W>,
+    trace: &Trace<A>,
+    verdict: &Verdict<B>,
+) -> Result<(), WriteFault>
+    requires { RacesAreOf trace.now verdict.now }
+    ensures { Printing W.contents result sink.old sink.new page.old page.new
+        (spec.report trace.now (verdict_of verdict.now)) }
+{
+    match verdict {
+        Verdict::Illegal(illegal) => print_illegal(page, sink, *illegal),
+        Verdict::Clean => print_clean(page, sink, trace),
+        Verdict::Races(races) => print_races(page, sink, trace, races),
+    }
+}
 
 // How many of the events are accesses.
 fn access_count<A: Allocator>(trace: &Trace<A>) -> usize
@@ -30,16 +75,15 @@ fn is_access(op: &Op) -> bool
     ensures { result ≡ is_access op.now }
 {
     match op {
-        Op::Go(_) => false,
-        Op::Exit => false,
         Op::Read(_, _) => true,
         Op::Write(_, _) => true,
+        _ => false,
     }
 }
 
 /// Prints that the trace is clean.
 #[tactic(auto, unfolding(crate::specs::Report::clean_line))]
-pub(crate) fn print_clean<W: Write, A: Allocator>(
+fn print_clean<W: Write, A: Allocator>(
     page: &mut Page,
     sink: &mut Sink<W>,
     trace: &Trace<A>,
@@ -62,7 +106,7 @@ pub(crate) fn print_clean<W: Write, A: Allocator>(
 
 /// Prints the first event that breaks a rule, with its rule.
 #[tactic(auto, unfolding(crate::specs::Report::illegal_line))]
-pub(crate) fn print_illegal<W: Write>(
+fn print_illegal<W: Write>(
     page: &mut Page,
     sink: &mut Sink<W>,
     illegal: Illegal,
@@ -101,13 +145,13 @@ fn print_race_count<W: Write>(
 }
 
 /// Prints the races, and how many there are.
-pub(crate) fn print_races<W: Write, A: Allocator, B: Allocator>(
+fn print_races<W: Write, A: Allocator, B: Allocator>(
     page: &mut Page,
     sink: &mut Sink<W>,
     trace: &Trace<A>,
     races: &RaceList<B>,
 ) -> Result<(), WriteFault>
-    requires { All (λ r. spec.IsOf trace.now (race_of r)) races.now }
+    requires { All (λ r. IsOf trace.now (race_of r)) races.now }
     ensures { Printing W.contents result sink.old sink.new page.old page.new
         (spec.races_text trace.now (map race_of races.now)) }
 {
@@ -126,7 +170,7 @@ fn print_race<W: Write, A: Allocator>(
     trace: &Trace<A>,
     race: Race,
 ) -> Result<(), WriteFault>
-    requires { spec.IsOf trace.now (race_of race) }
+    requires { IsOf trace.now (race_of race) }
     ensures { Printing W.contents result sink.old sink.new page.old page.new
         (spec.race_line trace.now (race_of race)) }
 {
@@ -187,9 +231,8 @@ fn access_word(op: &Op) -> &'static str
     ensures { result.now ≡ spec.access_word op.now }
 {
     match op {
-        Op::Go(_) => "",
-        Op::Exit => "",
         Op::Read(_, _) => "read",
         Op::Write(_, _) => "write",
+        _ => "",
     }
 }

@@ -2,8 +2,8 @@ use Rattle.std.proofs.Common.{Ok, take}
 use Rattle.std.specs.List.{flat_map}
 use Rattle.race_records.specs.Page.{Printing}
 use Rattle.race_edges.specs.Answers.{race_of}
-use Rattle.race_tool.specs.Report.{race_line}
-use Rattle.race_tool.proofs.report.print_races.Given as goal
+use Rattle.race_report.specs.Report.{race_line}
+use Rattle.race_report.proofs.verdict.print_races.Given as goal
 
 -- the races before the index are printed
 abbrev pub invariant-loop-race : goal.invariant-loop-race

@@ -1,7 +1,7 @@
 //! The rules of legality in words.
 ghost use Rattle.std.specs.Prelude.{◌≡◌};
 ghost use Rattle.race_legal.specs.Rules.{number_of};
-ghost use Rattle.race_tool.specs.Rules.{rule_text};
+ghost use Rattle.race_report.specs.Rules.{rule_text};
 
 use race_legal::Rule;
 

@@ -10,7 +10,7 @@ use Rattle.race_model.specs.Verdict.{Race}
 use Rattle.race_text.specs.Text.{goroutine_name, var_name, place_text}
 use Rattle.race_edges.specs.declared.races.Race as tool
 use Rattle.race_edges.specs.Answers.{race_of}
-use Rattle.race_tool.specs.Report.{races_line, races_text, access_text, access_word, race_line, newline}
+use Rattle.race_report.specs.Report.{races_line, races_text, access_text, access_word, race_line, newline}
 
 -- the words are those of the access at the index
 abbrev pub AreWordsOf : TraceState → ℕ → List ℕ → List ℕ → List ℕ → Type 0

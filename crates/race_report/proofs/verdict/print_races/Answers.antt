@@ -4,9 +4,9 @@ use Rattle.race_records.specs.Page.{Printing}
 use Rattle.race_records.proofs.PageLemmas.{piece_breaks_off, breaks_off_before, prints_behind}
 use Rattle.race_edges.specs.declared.races.Race.{Race}
 use Rattle.race_edges.specs.Answers.{race_of}
-use Rattle.race_tool.specs.Report.{race_line, races_line}
-use Rattle.race_tool.proofs.ReportLemmas.{races_text_is, take_all}
-use Rattle.race_tool.proofs.report.print_races.Goals as goal
+use Rattle.race_report.specs.Report.{race_line, races_line}
+use Rattle.race_report.proofs.ReportLemmas.{races_text_is, take_all}
+use Rattle.race_report.proofs.verdict.print_races.Goals as goal
 
 pub returns-in-Err : goal.returns-in-Err
 returns-in-Err g c =

@@ -1,0 +1,4 @@
+pub mod Rules
+pub mod Causes
+pub mod Report
+pub mod Printable

@@ -1,0 +1,19 @@
+-- What can be printed of a trace by name.
+use Rattle.std.specs.Prelude.{◌<◌, All, length, ⊤}
+use Rattle.race_records.specs.declared.kind.Kind.{Kind}
+use Rattle.race_records.specs.Declarations.{count_of}
+use Rattle.race_records.specs.Events.{TraceState}
+use Rattle.race_model.specs.Verdict.{Race}
+use Rattle.race_edges.specs.declared.judge.Verdict.{Verdict}
+use Rattle.race_edges.specs.Answers.{race_of}
+
+-- the numbers of the race are the trace's
+pub record IsOf (trace : TraceState) (race : Race) : Type 0 where
+  pub var : race.var < count_of Kind.Var trace.decls.declarations
+  pub first : race.first < length trace.events
+  pub second : race.second < length trace.events
+
+-- so are those of each race of the verdict
+abbrev pub RacesAreOf : {A : Type 0} → TraceState → Verdict A → Type 0
+RacesAreOf trace (Verdict.Races races) = All (λ r. IsOf trace (race_of r)) races
+RacesAreOf trace _ = ⊤

@@ -1,0 +1,10 @@
+//! The printed text: the report of a verdict, the line of a text fault.
+#![tactic(auto)]
+
+mod fault;
+mod rule;
+mod verdict;
+
+pub use fault::write_text_fault;
+pub use race_records::WriteFault;
+pub use verdict::write_report;

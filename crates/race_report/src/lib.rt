@@ -8,3 +8,6 @@ mod verdict;
 pub use fault::write_text_fault;
 pub use race_records::WriteFault;
 pub use verdict::write_report;
+
+#[cfg(test)]
+mod tests;

@@ -5,7 +5,6 @@ use race_text::parse_trace;
 use std::alloc::Allocator;
 use std::io;
 use std::io::Write;
-use std::test::Fail;
 
 static TEXTS: [(&str, &str); 7] = [
     ("gotrace 1\n", "clean: 0 events, 0 accesses\n"),
@@ -29,15 +28,18 @@ static TEXTS: [(&str, &str); 7] = [
     ),
 ];
 
-// Writes what is to be printed of the text.
+// Writes what is to be printed of the text, where memory serves.
 fn write_of<W: Write, A: Allocator + Copy>(
     alloc: A,
     text: &str,
     sink: &mut Sink<W>,
-) -> Result<Result<(), WriteFault>, Fail> {
+) -> Option<Result<(), WriteFault>> {
     match parse_trace(alloc, text.as_bytes()) {
-        Ok(trace) => Ok(write_report(&trace, &plain_judge(alloc, &trace)?, sink)),
-        Err(fault) => Ok(write_text_fault(&fault, sink)),
+        Ok(trace) => match plain_judge(alloc, &trace) {
+            Ok(verdict) => Some(write_report(&trace, &verdict, sink)),
+            Err(_) => None,
+        },
+        Err(fault) => Some(write_text_fault(&fault, sink)),
     }
 }
 
@@ -60,18 +62,19 @@ impl Write for Full {
 }
 
 #[test]
-fn each_text_is_printed(rt: HostRuntime) -> Result<(), Fail> {
+fn each_text_is_printed(rt: HostRuntime) {
     for (text, want) in TEXTS {
         let mut out = Vec::new(rt.alloc());
-        let answer = write_of(rt.alloc(), text, &mut Sink::new(&mut out))?;
+        let mut sink = Sink::new(&mut out);
         assert_eq!(rt;
-            (answer, out.as_slice()),
-            (Ok(()), want.as_bytes()),
+            write_of(rt.alloc(), text, &mut sink),
+            Some(Ok(())),
             "{text}"
         );
+        assert_eq!(rt; out.as_slice(), want.as_bytes(), "{text}");
 
-        let cut = write_of(rt.alloc(), text, &mut Sink::new(Full { room: 5 }))?;
-        assert_eq!(rt; cut, Err(WriteFault { sent: 5 }), "{text}");
+        let mut full = Sink::new(Full { room: 5 });
+        let cut = Some(Err(WriteFault { sent: 5 }));
+        assert_eq!(rt; write_of(rt.alloc(), text, &mut full), cut, "{text}");
     }
-    Ok(())
 }

@@ -1,4 +1,6 @@
 pub mod RangeLemmas
+pub mod SynchronizedLemmas
+pub mod EdgeLemmas
 pub mod RowLemmas
 pub mod TableSteps
 pub mod PartnerLemmas

@@ -1,6 +1,9 @@
+pub mod Synchronized
 pub mod SeenTable
 pub mod IsTable
 pub mod Partners
 pub mod Answers
 pub mod Verdicts
 pub mod Traces
+pub mod Edges
+pub mod EdgesSoFar

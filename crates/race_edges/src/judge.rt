@@ -8,32 +8,12 @@ ghost use Rattle.race_edges.specs.Answers.{AreRaces};
 ghost use Rattle.race_edges.specs.Traces.{capacities, HasVerdict};
 ghost use Rattle.race_edges.specs.Verdicts.{verdict_of};
 
+use crate::fault::{EdgeFault, MAX_PLAIN_EVENTS};
 use crate::races::{Found, RaceList};
 use crate::table::Table;
 use race_legal::{Illegal, legal};
 use race_records::{Kind, Trace};
 use std::alloc::{AllocError, Allocator, Global};
-use thiserror::Error;
-
-/// The most events that the plain judge takes.
-pub const MAX_PLAIN_EVENTS: usize = 2_000;
-
-// Definitions cite this number, so it is written down twice.
-const _: () = prove!(MAX_PLAIN_EVENTS == 2_000);
-
-/// Why there is no answer.
-#[derive(Clone, Copy, Debug, PartialEq, Eq, Error)]
-pub enum EdgeFault {
-    /// An event breaks a rule. The judge doesn't answer it: an illegal trace is a verdict.
-    #[error("the trace is illegal")]
-    Illegal,
-    /// There are more than 2,000 events. It is tested first.
-    #[error("the trace is too long")]
-    TooLong,
-    /// A growth was refused.
-    #[error("out of memory")]
-    OutOfMemory,
-}
 
 /// What can be said of a trace.
 #[derive(Debug, Drop)]

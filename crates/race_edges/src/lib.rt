@@ -1,9 +1,14 @@
 //! What is synchronized before what in a trace, and the plain judge, which reads the races off it.
 #![tactic(auto)]
 
+mod fault;
 mod judge;
+mod listing;
 mod races;
+mod synchronized;
 mod table;
 
-pub use judge::{EdgeFault, MAX_PLAIN_EVENTS, Verdict, plain_judge};
+pub use fault::{EdgeFault, MAX_PLAIN_EVENTS};
+pub use judge::{Verdict, plain_judge};
+pub use listing::{Edge, edges};
 pub use races::{Race, RaceList};

@@ -6,7 +6,7 @@ use Rattle.race_text.specs.declared.cause.TextFault.{TextFault}
 use Rattle.race_text.specs.Fault.{text_fault}
 use Rattle.race_text.specs.Text.{IsTextOf}
 use Rattle.race_text.proofs.Scanning.{faultless_is_text}
-use Rattle.race_edges.specs.declared.judge.TheConstants.{MAX_PLAIN_EVENTS}
+use Rattle.race_edges.specs.declared.fault.TheConstants.{MAX_PLAIN_EVENTS}
 use Rattle.race_edges.proofs.EachHasAVerdict.{judged}
 use Rattle.race_tool.specs.Finding.{Finding, Faulty, TooLong, Judged, IsFinding}
 

@@ -5,7 +5,7 @@ use Rattle.race_model.specs.Verdict.{Verdict, Illegal, Clean, Races}
 use Rattle.race_text.specs.declared.cause.TextFault.{TextFault}
 use Rattle.race_text.specs.Fault.{text_fault}
 use Rattle.race_text.specs.Text.{IsTextOf}
-use Rattle.race_edges.specs.declared.judge.TheConstants.{MAX_PLAIN_EVENTS}
+use Rattle.race_edges.specs.declared.fault.TheConstants.{MAX_PLAIN_EVENTS}
 use Rattle.race_tool.specs.declared.status.TheConstants as status
 use Rattle.race_edges.specs.Traces.{HasVerdict}
 use Rattle.race_report.specs.Report.{fault_line, report}

@@ -1,0 +1,26 @@
+-- What each operation brings to the order, as tests: they pass exactly where SynchronizedInside and IsSource hold.
+use Rattle.std.specs.Prelude.{ℕ, ◌==◌, ◌&&◌, Bool, false, List, take, slice_get, Some, None}
+use Rattle.race_records.specs.declared.event.Event.{Event}
+use Rattle.race_records.specs.declared.event.Op.{Op}
+use Rattle.race_records.specs.declared.event.Op.TheVariants.{Go}
+
+-- in one event, in which goroutine who does o, g's begin is synchronized before h's end
+abbrev pub joins : ℕ → Op → ℕ → ℕ → Bool
+joins who (Go k) g h = (who == g) && (k == h)
+joins who _ g h = false
+
+-- the operation s, at index i of the events past, is synchronized before the completion of o, the operation that comes next
+abbrev pub is_source : (ℕ → ℕ) → List Event → ℕ → Op → Op → Bool
+is_source caps past i s o = false
+
+-- an event of the operation can be a source
+abbrev pub can_be_source : Op → Bool
+can_be_source o = false
+
+-- the event at index i is synchronized before the completion of the event at index j
+abbrev pub source_at : (ℕ → ℕ) → List Event → ℕ → ℕ → Bool
+source_at caps events i j =
+    elim (slice_get events i) [
+      | Some s ↦ elim (slice_get events j) [ Some e ↦ is_source caps (take j events) i s.op e.op | None ↦ false ]
+      | None ↦ false
+    ]

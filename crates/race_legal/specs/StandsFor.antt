@@ -29,5 +29,5 @@ abbrev pub GoesOn : ReplayState → ReplayState → Event → Type 0
 GoesOn old new e = (declarations : List Declaration) (past : List Event) → StandsFor declarations old past → StandsFor declarations new (past ++ e ∷ [])
 
 -- behind each list for which the replay stands, this is the least rule that the event breaks, if it breaks any
-abbrev pub Breaks : ReplayState → Event → Option ℕ → Type 0
-Breaks k e rule = (declarations : List Declaration) (past : List Event) → StandsFor declarations k past → broken (capacity_of declarations) past e ≡ rule
+abbrev pub IsLeastBroken : ReplayState → Event → Option ℕ → Type 0
+IsLeastBroken k e rule = (declarations : List Declaration) (past : List Event) → StandsFor declarations k past → broken (capacity_of declarations) past e ≡ rule

@@ -5,6 +5,8 @@ mod goroutines;
 mod listing;
 mod replay;
 mod rule;
+#[cfg(test)]
+mod tests;
 
 pub use listing::{Illegal, legal};
 pub use replay::{Broken, Replay};

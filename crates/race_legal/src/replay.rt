@@ -13,7 +13,7 @@ ghost use Rattle.race_legal.specs.Rules.{number_of};
 ghost use Rattle.race_legal.specs.ReplayState.{ReplayState, IsInRange, counts_in, value_in};
 ghost use Rattle.race_legal.specs.After.{after};
 ghost use Rattle.race_legal.specs.RulesKept.{op_rules_in, broken_in};
-ghost use Rattle.race_legal.specs.StandsFor.{StandsFor, ForEachPast, GoesOn, Breaks};
+ghost use Rattle.race_legal.specs.StandsFor.{StandsFor, ForEachPast, GoesOn, IsLeastBroken};
 
 use crate::Rule;
 use crate::goroutines::Goroutines;
@@ -122,8 +122,8 @@ impl<A: Allocator> Replay<A> {
         requires room { self.old.len < MAX_EVENTS }
         ensures goes_on { OnOk result (GoesOn self.old self.new event.now) }
         ensures least { (rule : Rule) → result ≡ Err (Broken.Rule rule)
-            → Breaks self.old event.now (Some (number_of rule)) }
-        ensures memory { result ≡ Err Broken.OutOfMemory → Breaks self.old event.now None }
+            → IsLeastBroken self.old event.now (Some (number_of rule)) }
+        ensures memory { result ≡ Err Broken.OutOfMemory → IsLeastBroken self.old event.now None }
         ensures unchanged { OnErr result (self.new ≡ self.old) }
         ensures len { OnOk result (self.new.len ≡ self.old.len + 1) }
         ensures counts { counts_in self.new ≡ counts_in self.old }

@@ -1,5 +1,4 @@
 pub mod InputLemmas
-pub mod ReplayLemmas
 pub mod Fronts
 pub mod RangeLemmas
 pub mod RowLemmas

@@ -5,13 +5,13 @@ use Rattle.std.proofs.Math.Bool.{or-false}
 use Rattle.std.proofs.lemmas.Option.{slice_get_within, get_or_from_slice_get}
 use Rattle.race_records.specs.declared.event.Event.{Event}
 use Rattle.race_records.specs.declared.event.Op.{Op}
-use Rattle.race_records.specs.declared.event.Op.TheVariants.{Go, Exit, Read, Write}
+use Rattle.race_records.specs.declared.event.Op.TheVariants.{Go, Read, Write}
 use Rattle.race_records.specs.declared.kind.Kind.{Kind}
 use Rattle.race_records.specs.Declarations.{DeclsState, count_of, counts_of}
 use Rattle.race_records.specs.Events.{op_fits, fits, TraceState, IsTrace}
 use Rattle.race_records.specs.Parts.{op_is_in_range}
 use Rattle.race_model.specs.Events.{partner, gives, accesses}
-use Rattle.race_tool.specs.ReplayState.{IsInRange}
+use Rattle.race_legal.specs.ReplayState.{IsInRange}
 use Rattle.race_tool.specs.Partners.{accessed}
 
 -- an event that fits is in range of the declarations
@@ -52,13 +52,3 @@ accessed_below o n x below is = by (accessed o) (sym (accesses_is o x) ∙ is) b
     by : (a : Option ℕ) → gives a x ≡ true → IfSome a (λ y. y < n) → x < n
     by None is below = cc
     by (Some y) is below = subst (λ x. x < n) (eqb-true y x is) below
-
--- no operation names an object but goroutines and variables, so what is in range depends on their counts alone
-pub in_range_by : (counts others : Kind → ℕ) (e : Event) → counts Kind.Goroutine ≡ others Kind.Goroutine → counts Kind.Var ≡ others Kind.Var → IsInRange others e → IsInRange counts e
-in_range_by counts others e goroutines vars range = let who = range.0 in (omega (arith, who, goroutines), by e.op range.1)
-  where
-    by : (o : Op) → IsTrue (op_is_in_range others o) → IsTrue (op_is_in_range counts o)
-    by (Go h) is = subst (λ n. IsTrue (nat_lt h n && true)) (sym goroutines) is
-    by Exit is = refl
-    by (Read x v) is = subst (λ n. IsTrue (nat_lt x n && true)) (sym vars) is
-    by (Write x v) is = subst (λ n. IsTrue (nat_lt x n && true)) (sym vars) is

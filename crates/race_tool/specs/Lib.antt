@@ -1,7 +1,5 @@
 pub mod Input
 pub mod Rules
-pub mod ReplayState
-pub mod StandsFor
 pub mod SeenTable
 pub mod IsTable
 pub mod Partners

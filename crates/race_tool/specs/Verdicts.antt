@@ -2,7 +2,7 @@
 use Rattle.std.specs.Prelude.{map}
 use Rattle.race_model.specs.Verdict as model
 use Rattle.race_tool.specs.declared.judge.Verdict.{Verdict}
-use Rattle.race_tool.specs.Rules.{number_of}
+use Rattle.race_legal.specs.Rules.{number_of}
 use Rattle.race_tool.specs.Answers.{race_of}
 
 -- what the verdict says

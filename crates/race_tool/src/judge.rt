@@ -9,8 +9,8 @@ ghost use Rattle.race_tool.specs.Traces.{capacities, HasVerdict};
 ghost use Rattle.race_tool.specs.Verdicts.{verdict_of};
 
 use crate::races::{Found, RaceList};
-use crate::replay::{Illegal, legal};
 use crate::table::Table;
+use race_legal::{Illegal, legal};
 use race_records::{Kind, Trace};
 use std::alloc::{AllocError, Allocator, Global};
 use thiserror::Error;

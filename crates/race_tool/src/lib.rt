@@ -9,7 +9,6 @@ mod judge;
 pub mod laws;
 mod printing;
 mod races;
-mod replay;
 mod report;
 mod rule;
 pub mod status;

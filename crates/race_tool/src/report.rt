@@ -2,14 +2,15 @@
 ghost use Rattle.std.specs.Prelude.{◌≡◌, ◌<◌, ◌+◌, [], ◌∷◌, All, map, length, slice_get, Some, IfSome, count_by};
 ghost use Rattle.race_records.specs.Page.{Printing};
 ghost use Rattle.race_model.specs.Events.{count, is_access};
+ghost use Rattle.race_legal.specs.Rules.{number_of};
 ghost use Rattle.race_text.specs.Text.{goroutine_name, place_text};
 ghost use Rattle.race_tool.specs.Answers.{race_of};
-ghost use Rattle.race_tool.specs.Rules.{number_of};
 ghost use Rattle.race_tool.specs.Report as spec;
 
 use crate::races::{Race, RaceList};
-use crate::replay::Illegal;
+use crate::rule::text_of;
 use itoa::Buffer;
+use race_legal::Illegal;
 use race_records::{Named, Op, Page, Sink, Trace, WriteFault};
 use std::alloc::Allocator;
 use std::io::Write;
@@ -74,7 +75,7 @@ pub(crate) fn print_illegal<W: Write>(
         b"illegal: event ".as_slice(),
         number.format(u64::from(illegal.at) + 1).as_bytes(),
         b": ".as_slice(),
-        illegal.rule.text().as_bytes(),
+        text_of(illegal.rule).as_bytes(),
         b"\n".as_slice(),
     ];
     page.put_all(sink, &parts)

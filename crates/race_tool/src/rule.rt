@@ -1,87 +1,37 @@
-//! The rules of legality.
+//! The rules of legality in words.
 ghost use Rattle.std.specs.Prelude.{◌≡◌};
-ghost use Rattle.race_tool.specs.Rules.{number_of, rule_text};
+ghost use Rattle.race_legal.specs.Rules.{number_of};
+ghost use Rattle.race_tool.specs.Rules.{rule_text};
 
-/// A rule that an event can break, in the order in which they are tested. The first has number 1.
-#[derive(Clone, Copy, Debug, PartialEq, Eq)]
-pub(crate) enum Rule {
-    /// The run is over.
-    AfterEnd = 1,
-    /// Who acts doesn't run.
-    NotRunning,
-    /// The goroutine was started before, or is main.
-    AlreadyStarted,
-    /// The receiver is the sender.
-    MeetsItself,
-    /// A buffered operation on an unbuffered channel, or the other way round.
-    WrongForm,
-    /// The channel is closed.
-    SendOnClosed,
-    /// The channel's buffer has no room.
-    BufferFull,
-    /// The channel's buffer has no value.
-    BufferEmpty,
-    /// The value received isn't the one sent.
-    WrongValue,
-    /// The channel is open.
-    NotClosed,
-    /// The closed channel still has a value.
-    NotDrained,
-    /// The channel was closed before.
-    CloseOfClosed,
-    /// The lock is held.
-    Held,
-    /// The lock is held for reading.
-    ReadHeld,
-    /// The lock isn't held.
-    NotHeld,
-    /// The lock isn't held for reading.
-    NotReadHeld,
-    /// The once was begun before.
-    OnceAgain,
-    /// The once isn't the innermost that the goroutine has begun and not ended.
-    OnceNotInner,
-    /// The once isn't ended.
-    OnceNotDone,
-    /// The goroutine has a once that isn't ended.
-    OnceOpen,
-    /// The value read isn't the last one written.
-    StaleRead,
-    /// A case of the select is ready.
-    CaseReady,
-    /// The cause of the fault doesn't hold.
-    NoFault,
-}
+use race_legal::Rule;
 
-impl Rule {
-    /// The rule in two or three words.
-    pub(crate) fn text(self) -> &'static str
-        ensures { result.now ≡ rule_text (number_of self) }
-    {
-        match self {
-            Rule::AfterEnd => "after end",
-            Rule::NotRunning => "not running",
-            Rule::AlreadyStarted => "already started",
-            Rule::MeetsItself => "meets itself",
-            Rule::WrongForm => "wrong form",
-            Rule::SendOnClosed => "send on closed",
-            Rule::BufferFull => "buffer full",
-            Rule::BufferEmpty => "buffer empty",
-            Rule::WrongValue => "wrong value",
-            Rule::NotClosed => "not closed",
-            Rule::NotDrained => "not drained",
-            Rule::CloseOfClosed => "close of closed",
-            Rule::Held => "held",
-            Rule::ReadHeld => "read held",
-            Rule::NotHeld => "not held",
-            Rule::NotReadHeld => "not read held",
-            Rule::OnceAgain => "once again",
-            Rule::OnceNotInner => "once not inner",
-            Rule::OnceNotDone => "once not done",
-            Rule::OnceOpen => "once open",
-            Rule::StaleRead => "stale read",
-            Rule::CaseReady => "case ready",
-            Rule::NoFault => "no fault",
-        }
+/// The rule in two or three words.
+pub(crate) fn text_of(rule: Rule) -> &'static str
+    ensures { result.now ≡ rule_text (number_of rule) }
+{
+    match rule {
+        Rule::AfterEnd => "after end",
+        Rule::NotRunning => "not running",
+        Rule::AlreadyStarted => "already started",
+        Rule::MeetsItself => "meets itself",
+        Rule::WrongForm => "wrong form",
+        Rule::SendOnClosed => "send on closed",
+        Rule::BufferFull => "buffer full",
+        Rule::BufferEmpty => "buffer empty",
+        Rule::WrongValue => "wrong value",
+        Rule::NotClosed => "not closed",
+        Rule::NotDrained => "not drained",
+        Rule::CloseOfClosed => "close of closed",
+        Rule::Held => "held",
+        Rule::ReadHeld => "read held",
+        Rule::NotHeld => "not held",
+        Rule::NotReadHeld => "not read held",
+        Rule::OnceAgain => "once again",
+        Rule::OnceNotInner => "once not inner",
+        Rule::OnceNotDone => "once not done",
+        Rule::OnceOpen => "once open",
+        Rule::StaleRead => "stale read",
+        Rule::CaseReady => "case ready",
+        Rule::NoFault => "no fault",
     }
 }

@@ -1,7 +1,7 @@
 use Rattle.std.proofs.Common.{◌≡◌, ℕ, List, [], ◌∷◌, subst, rules}
 use Rattle.race_records.specs.Page.{Printing, joined}
 use Rattle.race_tool.specs.Report.{illegal_line}
-use Rattle.race_tool.specs.Rules.{number_of}
+use Rattle.race_legal.specs.Rules.{number_of}
 use Rattle.race_tool.proofs.report.print_illegal.Goals as goal
 
 pub returns : goal.returns

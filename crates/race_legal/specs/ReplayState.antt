@@ -1,0 +1,58 @@
+-- What a replay keeps: a table for each kind of object.
+use Rattle.std.specs.Prelude.{ℕ, ◌≡◌, ◌<◌, ◌==◌, ◌||◌, ◌&&◌, not, Bool, false, IsTrue, List, length}
+use Rattle.std.specs.List.{slice_index_or}
+use Rattle.race_records.specs.declared.kind.Kind.{Kind}
+use Rattle.race_records.specs.declared.event.Event.{Event}
+use Rattle.race_records.specs.Parts.{op_is_in_range}
+
+-- with so many objects of each kind, the event's goroutine is in range and all that its operation names
+abbrev pub IsInRange : (Kind → ℕ) → Event → Type 0
+IsInRange counts e = (e.who < counts Kind.Goroutine) × IsTrue (op_is_in_range counts e.op)
+
+-- the table of goroutines, a row for each: a Go started it, it has exited
+pub record GoroutinesState : Type 0 where
+  pub started : List Bool
+  pub exited : List Bool
+
+-- a `Replay` as its callers see it
+pub record ReplayState : Type 0 where
+  -- how many events it accepted, and whether the run is over
+  pub len : ℕ
+  pub over : Bool
+  pub goroutines : GoroutinesState
+  -- the last value, by variable
+  pub values : List ℕ
+  -- the capacity, by channel
+  pub capacities : List ℕ
+  -- how many locks and onces there are
+  pub locks : ℕ
+  pub onces : ℕ
+
+-- how many objects of each kind the tables tell of
+abbrev pub counts_in : ReplayState → Kind → ℕ
+counts_in k Kind.Goroutine = length k.goroutines.started
+counts_in k Kind.Var = length k.values
+counts_in k Kind.Chan = length k.capacities
+counts_in k Kind.Lock = k.locks
+counts_in k Kind.Once = k.onces
+
+-- what the tables say of a goroutine: a Go started it, it has exited, it runs
+abbrev pub started_in : GoroutinesState → ℕ → Bool
+started_in t g = slice_index_or t.started g false
+
+abbrev pub exited_in : GoroutinesState → ℕ → Bool
+exited_in t g = slice_index_or t.exited g false
+
+abbrev pub runs_in : GoroutinesState → ℕ → Bool
+runs_in t g = (g == 0 || started_in t g) && not (exited_in t g)
+
+-- of a variable its last value, of a channel its capacity
+abbrev pub value_in : ReplayState → ℕ → ℕ
+value_in k x = slice_index_or k.values x 0
+
+abbrev pub capacity_in : ReplayState → ℕ → ℕ
+capacity_in k c = slice_index_or k.capacities c 0
+
+-- each goroutine has a row in both columns
+abbrev pub IsSquare : GoroutinesState → Type 0
+IsSquare t = length t.exited ≡ length t.started

@@ -1,0 +1,212 @@
+//! The run so far as tables, against which each next event is tested.
+//!
+//! The tables are a state machine of their own, with exact contracts; that they answer as the words
+//! of the memory model on the list of events do is a matter of lists alone (proofs/ReplayLemmas).
+ghost use Rattle.std.specs.Prelude.{◌≡◌, ℕ, ◌+◌, ◌<◌, [], ◌∷◌, length, IsTrue, Some, None, Err, IfOk, OnOk, OnErr};
+ghost use Rattle.std.specs.List.{slice_index_or};
+ghost use Rattle.std.specs.Option.{option_map};
+ghost use Rattle.race_records.specs.Declarations.{count_of, capacity_of};
+ghost use Rattle.race_records.specs.Parts.{op_is_in_range};
+ghost use Rattle.race_model.specs.Legal.{least_broken};
+ghost use Rattle.race_model.specs.State as words;
+ghost use Rattle.race_legal.specs.Rules.{number_of};
+ghost use Rattle.race_legal.specs.ReplayState.{ReplayState, IsInRange, counts_in, value_in};
+ghost use Rattle.race_legal.specs.After.{after};
+ghost use Rattle.race_legal.specs.RulesKept.{op_rules_in, broken_in};
+ghost use Rattle.race_legal.specs.StandsFor.{StandsFor, ForEachPast, GoesOn, IsLeastBroken};
+
+use crate::Rule;
+use crate::goroutines::Goroutines;
+use race_records::{Decls, Event, Kind, MAX_EVENTS, Op};
+use std::alloc::{AllocError, Allocator, Global};
+use std::marker::Model;
+use thiserror::Error;
+
+/// Why an event isn't accepted.
+#[derive(Clone, Copy, Debug, PartialEq, Eq, Error)]
+pub enum Broken {
+    /// It breaks this rule, and no lesser one.
+    #[error("the event breaks a rule")]
+    Rule(Rule),
+    /// It breaks no rule, and a growth was refused.
+    #[error("out of memory")]
+    OutOfMemory,
+}
+
+/// What the next event of a legal list is tested against. Keeps no list of events.
+#[derive(Debug, Drop)]
+pub struct Replay<A: Allocator = Global> {
+    len: usize,
+    over: bool,
+    goroutines: Goroutines<A>,
+    values: Vec<u64, A>,
+    capacities: Vec<u32, A>,
+    locks: u32,
+    onces: u32,
+}
+
+impl<A: Allocator> Model for Replay<A> {
+    ghost Value = { ReplayState };
+
+    ghost view = { λ r. record {
+      len = r.len;
+      over = r.over;
+      goroutines = r.goroutines;
+      values = r.values.items;
+      capacities = r.capacities.items;
+      locks = r.locks;
+      onces = r.onces;
+    } };
+}
+
+impl<A: Allocator> Replay<A> {
+    /// Before the first event of a trace with these declarations.
+    pub fn new<B: Allocator>(alloc: A, decls: &Decls<B>) -> Result<Replay<A>, AllocError>
+    where
+        A: Copy,
+        ensures stands { IfOk result (λ replay. StandsFor decls.now.declarations replay []) }
+    {
+        Ok(Replay {
+            len: 0,
+            over: false,
+            goroutines: Goroutines::new(alloc, decls.count(Kind::Goroutine) as usize)?,
+            values: vec![in alloc; 0u64; decls.count(Kind::Var) as usize]?,
+            capacities: capacities(alloc, decls)?,
+            locks: decls.count(Kind::Lock),
+            onces: decls.count(Kind::Once),
+        })
+    }
+
+    /// How many events were accepted.
+    pub fn len(&self) -> usize
+        ensures len { result ≡ self.now.len }
+        ensures past { ForEachPast self.now (λ past. result ≡ length past) }
+    {
+        self.len
+    }
+
+    /// Whether the run is over.
+    pub fn over(&self) -> bool
+        ensures { ForEachPast self.now (λ past. result ≡ words.over past) }
+    {
+        self.over
+    }
+
+    /// Whether a Go started the goroutine.
+    pub fn started(&self, goroutine: u32) -> bool
+        requires { goroutine < counts_in self.now Kind.Goroutine }
+        ensures { ForEachPast self.now (λ past. result ≡ words.started goroutine past) }
+    {
+        self.goroutines.is_started(goroutine)
+    }
+
+    /// Whether the goroutine is main or was started, and hasn't exited.
+    pub fn runs(&self, goroutine: u32) -> bool
+        requires { goroutine < counts_in self.now Kind.Goroutine }
+        ensures { ForEachPast self.now (λ past. result ≡ words.runs goroutine past) }
+    {
+        self.goroutines.runs(goroutine)
+    }
+
+    /// The value of the last Write of the variable, or 0.
+    pub fn last_value(&self, var: u32) -> u64
+        requires { var < counts_in self.now Kind.Var }
+        ensures { ForEachPast self.now (λ past. result ≡ words.last_value var past) }
+    {
+        self.values[var as usize]
+    }
+
+    /// Accepts the next event where the longer list is legal.
+    pub fn accept(&mut self, event: &Event) -> Result<(), Broken>
+        requires range { IsInRange (counts_in self.old) event.now }
+        requires room { self.old.len < MAX_EVENTS }
+        ensures goes_on { OnOk result (GoesOn self.old self.new event.now) }
+        ensures least { (rule : Rule) → result ≡ Err (Broken.Rule rule)
+            → IsLeastBroken self.old event.now (Some (number_of rule)) }
+        ensures memory { result ≡ Err Broken.OutOfMemory → IsLeastBroken self.old event.now None }
+        ensures unchanged { OnErr result (self.new ≡ self.old) }
+        ensures len { OnOk result (self.new.len ≡ self.old.len + 1) }
+        ensures counts { counts_in self.new ≡ counts_in self.old }
+    {
+        match self.first_broken(event) {
+            Some(rule) => Err(Broken::Rule(rule)),
+            None => {
+                self.step(event);
+                Ok(())
+            }
+        }
+    }
+
+    // The least rule that the event breaks.
+    fn first_broken(&self, event: &Event) -> Option<Rule>
+        requires { IsInRange (counts_in self.now) event.now }
+        ensures { option_map number_of result ≡ broken_in self.now event.now }
+    {
+        if self.over {
+            return Some(Rule::AfterEnd);
+        }
+        if !self.goroutines.runs(event.who) {
+            return Some(Rule::NotRunning);
+        }
+        self.broken_by(&event.op)
+    }
+
+    // The least of the rules on the operation alone that it breaks.
+    fn broken_by(&self, op: &Op) -> Option<Rule>
+        requires { IsTrue (op_is_in_range (counts_in self.now) op.now) }
+        ensures { option_map number_of result ≡ least_broken (op_rules_in self.now op.now) }
+    {
+        match op {
+            Op::Go(goroutine) => {
+                rule_if(
+                    Rule::AlreadyStarted,
+                    *goroutine == 0 || self.goroutines.is_started(*goroutine),
+                )
+            }
+            Op::Exit => None,
+            Op::Read(var, value) => rule_if(Rule::StaleRead, self.values[*var as usize] != *value),
+            Op::Write(_, _) => None,
+        }
+    }
+
+    // What the event changes.
+    fn step(&mut self, event: &Event)
+        requires range { IsInRange (counts_in self.old) event.now }
+        requires room { self.old.len < MAX_EVENTS }
+        ensures { self.new ≡ after self.old event.now }
+    {
+        self.len += 1;
+        match &event.op {
+            Op::Go(goroutine) => self.goroutines.start(*goroutine),
+            Op::Exit => {
+                self.goroutines.exit(event.who);
+                self.over = self.over || event.who == 0;
+            }
+            Op::Read(_, _) => {}
+            Op::Write(var, value) => self.values[*var as usize] = *value,
+        }
+    }
+}
+
+// The rule, where it is broken.
+fn rule_if(rule: Rule, broken: bool) -> Option<Rule>
+    ensures { option_map number_of result ≡ least_broken ((number_of rule, broken) ∷ []) }
+{
+    if broken { Some(rule) } else { None }
+}
+
+// The capacity of each channel.
+fn capacities<A: Allocator, B: Allocator>(
+    alloc: A,
+    decls: &Decls<B>,
+) -> Result<Vec<u32, A>, AllocError>
+    ensures len { IfOk result (λ caps. length caps.items ≡ count_of Kind.Chan decls.now.declarations) }
+    ensures each { IfOk result (λ caps. (c : ℕ) → c < length caps.items
+        → slice_index_or caps.items c 0 ≡ capacity_of decls.now.declarations c) }
+{
+    let mut capacities = Vec::new(alloc);
+    for chan in 0..decls.count(Kind::Chan) {
+        capacities.push(decls.capacity(chan))?;
+    }
+    Ok(capacities)
+}

@@ -167,14 +167,24 @@ fn declarations_are_found_again(rt: HostRuntime) -> Result<(), Fail> {
     Ok(())
 }
 
-// Whether a copy of declarations is equal to them once all this is added to it.
-fn is_equal_with(alloc: Global, additions: &[Addition]) -> Result<bool, Fail> {
-    let decls = declared(alloc)?;
+// A copy to which all this is added.
+fn copied(decls: &Decls, additions: &[Addition]) -> Result<Decls, Fail> {
     let mut copy = decls.copy()?;
     for addition in additions {
         add(&mut copy, *addition)?;
     }
-    Ok(copy == decls)
+    Ok(copy)
+}
+
+fn are_equal(decls: &Decls, others: &Decls) -> bool {
+    decls == others
+}
+
+// Whether declarations are equal to a copy to which all this is added.
+fn is_equal_with(alloc: Global, additions: &[Addition]) -> Result<bool, Fail> {
+    let decls = declared(alloc)?;
+    let copy = copied(&decls, additions)?;
+    Ok(are_equal(&decls, &copy))
 }
 
 static ADDED: [Addition; 4] = [

@@ -14,8 +14,7 @@ use Rattle.race_edges.specs.IsTable.{IsTable}
 use Rattle.race_edges.specs.Partners.{accessed, HasPlace, found_after}
 use Rattle.race_edges.specs.Answers.{AreFound}
 use Rattle.race_legal.proofs.Fronts.{take_next}
-use Rattle.race_legal.proofs.RangeLemmas.{range_in_trace}
-use Rattle.race_edges.proofs.RangeLemmas.{partner_in_range, accessed_in_range, accessed_below}
+use Rattle.race_edges.proofs.RangeLemmas.{range_in_trace, partner_in_range, accessed_in_range, accessed_below}
 use Rattle.race_edges.proofs.TableSteps.{table_after}
 use Rattle.race_edges.proofs.FoundSteps.{found_step}
 

@@ -5,6 +5,7 @@ use Rattle.race_records.specs.Declarations.{count_of}
 use Rattle.race_records.specs.Events.{TraceState}
 use Rattle.race_model.specs.Verdict.{Race}
 use Rattle.race_edges.specs.declared.judge.Verdict.{Verdict}
+use Rattle.race_edges.specs.declared.listing.Edge.{Edge}
 use Rattle.race_edges.specs.Answers.{race_of}
 
 -- the numbers of the race are the trace's
@@ -17,3 +18,8 @@ pub record IsOf (trace : TraceState) (race : Race) : Type 0 where
 abbrev pub RacesAreOf : {A : Type 0} → TraceState → Verdict A → Type 0
 RacesAreOf trace (Verdict.Races races) = All (λ r. IsOf trace (race_of r)) races
 RacesAreOf trace _ = ⊤
+
+-- the goroutines of the edge are the trace's
+pub record IsEdgeOf (trace : TraceState) (edge : Edge) : Type 0 where
+  pub from_who : edge.from_who < count_of Kind.Goroutine trace.decls.declarations
+  pub to_who : edge.to_who < count_of Kind.Goroutine trace.decls.declarations

@@ -1,4 +1,4 @@
--- The printed report of a verdict, and the line of a text fault. Events are printed with numbers from 1.
+-- The printed report of a verdict, the lines of edges, and the line of a text fault. Events are printed with numbers from 1.
 use Rattle.std.specs.Prelude.{ℕ, ◌+◌, List, [], ◌∷◌, ◌++◌, length, codes, decimal, slice_get, Some, None}
 use Rattle.std.specs.List.{concat, flat_map}
 use Rattle.race_records.specs.declared.event.Op.{Op}
@@ -7,6 +7,7 @@ use Rattle.race_records.specs.Events.{TraceState}
 use Rattle.race_model.specs.Events.{count, is_access}
 use Rattle.race_model.specs.Verdict.{Race, Verdict, Illegal, Clean, Races}
 use Rattle.race_text.specs.declared.cause.TextFault.{TextFault}
+use Rattle.race_edges.specs.declared.listing.Edge.{Edge}
 use Rattle.race_text.specs.Text.{goroutine_name, var_name, place_text}
 use Rattle.race_report.specs.Causes.{cause_text}
 use Rattle.race_report.specs.Rules.{rule_text}
@@ -59,3 +60,16 @@ abbrev pub report : TraceState → Verdict → List ℕ
 report trace (Illegal index rule) = illegal_line index rule
 report trace Clean = clean_line trace
 report trace (Races races) = races_text trace races
+
+-- the event and the goroutine of an edge's begin, and those of its end
+unfoldable pub edge_line : TraceState → Edge → List ℕ
+edge_line trace edge =
+    concat (codes "edge " ∷ decimal (edge.from + 1) ∷ codes " " ∷ goroutine_name trace.decls.declarations edge.from_who
+    ∷ codes " " ∷ decimal (edge.to + 1) ∷ codes " " ∷ goroutine_name trace.decls.declarations edge.to_who ∷ newline ∷ [])
+
+unfoldable pub edges_line : ℕ → List ℕ
+edges_line n = concat (codes "edges: " ∷ decimal n ∷ newline ∷ [])
+
+-- a line for each edge, and their count
+abbrev pub edges_text : TraceState → List Edge → List ℕ
+edges_text trace edges = flat_map (edge_line trace) edges ++ edges_line (length edges)

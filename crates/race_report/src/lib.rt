@@ -1,10 +1,12 @@
-//! The printed text: the report of a verdict, the line of a text fault.
+//! The printed text: the report of a verdict, the lines of edges, the line of a text fault.
 #![tactic(auto)]
 
+mod edge_lines;
 mod fault;
 mod rule;
 mod verdict;
 
+pub use edge_lines::write_edges;
 pub use fault::write_text_fault;
 pub use race_records::WriteFault;
 pub use verdict::write_report;

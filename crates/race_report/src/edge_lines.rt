@@ -1,0 +1,102 @@
+//! The synchronization edges of a trace, a line for each.
+ghost use Rattle.std.specs.Prelude.{◌≡◌, All, OnOk, OnErr, IfErr};
+ghost use Rattle.std.specs.Io.KnownBytes.{Appends};
+ghost use Rattle.race_records.specs.Devices.{written, sink_failures, one_more};
+ghost use Rattle.race_records.specs.Page.{Printing, IsCutOff};
+ghost use Rattle.race_report.specs.Printable.{IsEdgeOf};
+ghost use Rattle.race_report.specs.Report as spec;
+
+use itoa::Buffer;
+use race_edges::Edge;
+use race_records::{Named, Page, Sink, Trace, WriteFault};
+use std::alloc::Allocator;
+use std::io::Write;
+
+/// Writes a line for each edge, in the order in which they are given, and their count. Takes no
+/// memory; writes in blocks of at most 4,096 bytes.
+///
+/// A write that fails or takes no byte ends it: then exactly the first `sent` bytes are out.
+pub fn write_edges<W: Write, A: Allocator>(
+    trace: &Trace<A>,
+    edges: &[Edge],
+    sink: &mut Sink<W>,
+) -> Result<(), WriteFault>
+    requires { All (IsEdgeOf trace.now) edges.now }
+    ensures ok { OnOk result (Appends (written W.contents sink.old) (written W.contents sink.new)
+        (spec.edges_text trace.now edges.now)) }
+    ensures sent { IfErr result (λ fault. IsCutOff (written W.contents sink.old)
+        (written W.contents sink.new) fault.sent (spec.edges_text trace.now edges.now)) }
+    ensures calm { OnOk result (sink_failures sink.new ≡ sink_failures sink.old) }
+    ensures failed { OnErr result (sink_failures sink.new ≡ one_more (sink_failures sink.old)) }
+{
+    let mut page = Page::new();
+    match print_edges(&mut page, sink, trace, edges) {
+        Ok(()) => page.flush(sink),
+        Err(fault) => Err(fault),
+    }
+}
+
+// Prints the edges, and how many there are.
+fn print_edges<W: Write, A: Allocator>(
+    page: &mut Page,
+    sink: &mut Sink<W>,
+    trace: &Trace<A>,
+    edges: &[Edge],
+) -> Result<(), WriteFault>
+    requires { All (IsEdgeOf trace.now) edges.now }
+    ensures { Printing W.contents result sink.old sink.new page.old page.new
+        (spec.edges_text trace.now edges.now) }
+{
+    for edge in edges {
+        if let Err(fault) = print_edge(page, sink, trace, *edge) {
+            return Err(fault);
+        }
+    }
+    print_edge_count(page, sink, edges.len())
+}
+
+#[tactic(auto, unfolding(crate::specs::Report::edge_line))]
+fn print_edge<W: Write, A: Allocator>(
+    page: &mut Page,
+    sink: &mut Sink<W>,
+    trace: &Trace<A>,
+    edge: Edge,
+) -> Result<(), WriteFault>
+    requires { IsEdgeOf trace.now edge }
+    ensures { Printing W.contents result sink.old sink.new page.old page.new
+        (spec.edge_line trace.now edge) }
+{
+    let mut from = Buffer::new();
+    let mut to = Buffer::new();
+    let decls = trace.decls();
+    let parts = [
+        b"edge ".as_slice(),
+        from.format(u64::from(edge.from) + 1).as_bytes(),
+        b" ".as_slice(),
+        decls.name(Named::Goroutine(edge.from_who)).as_bytes(),
+        b" ".as_slice(),
+        to.format(u64::from(edge.to) + 1).as_bytes(),
+        b" ".as_slice(),
+        decls.name(Named::Goroutine(edge.to_who)).as_bytes(),
+        b"\n".as_slice(),
+    ];
+    page.put_all(sink, &parts)
+}
+
+#[tactic(auto, unfolding(crate::specs::Report::edges_line))]
+fn print_edge_count<W: Write>(
+    page: &mut Page,
+    sink: &mut Sink<W>,
+    count: usize,
+) -> Result<(), WriteFault>
+    ensures { Printing W.contents result sink.old sink.new page.old page.new
+        (spec.edges_line count) }
+{
+    let mut number = Buffer::new();
+    let parts = [
+        b"edges: ".as_slice(),
+        number.format(count).as_bytes(),
+        b"\n".as_slice(),
+    ];
+    page.put_all(sink, &parts)
+}

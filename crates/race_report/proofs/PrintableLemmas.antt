@@ -1,8 +1,17 @@
--- Races of a right verdict have the trace's numbers, so they can be printed.
-use Rattle.std.proofs.Common.{◌≡◌, ℕ, List, map, Some, slice_get, get_or, All, ap, ◌∙◌}
+-- Races of a right verdict and edges of a trace have the trace's numbers, so they can be printed.
+use Rattle.std.proofs.Common.{◌≡◌, ℕ, ◌<◌, ◌⊎◌, inl, inr, List, map, Option, Some, IfSome, slice_get, get_or, All, subst, ap, ◌∙◌}
 use Rattle.std.proofs.lemmas.Option.{slice_get_within, slice_get-map, slice_get-get_or}
 use Rattle.std.specs.Option.{option_map}
+use Rattle.race_records.specs.declared.event.Event.{Event}
+use Rattle.race_records.specs.declared.kind.Kind.{Kind}
+use Rattle.race_records.specs.Declarations.{count_of, counts_of}
 use Rattle.race_records.specs.Events.{TraceState, IsTrace}
+use Rattle.race_model.specs.Events.{partner}
+use Rattle.race_model.proofs.Indexes.{take_at_old}
+use Rattle.race_edges.specs.declared.listing.Edge.{Edge}
+use Rattle.race_edges.specs.Edges.{IsEdge, AreEdges}
+use Rattle.race_edges.proofs.RangeLemmas.{range_in_trace, partner_in_range}
+use Rattle.race_edges.proofs.SynchronizedLemmas.{inside_pair}
 use Rattle.race_model.specs.Race.{IsReportedRace}
 use Rattle.race_model.specs.Verdict as model
 use Rattle.race_edges.specs.declared.judge.Verdict.{Verdict}
@@ -11,7 +20,7 @@ use Rattle.race_edges.specs.Answers.{race_of}
 use Rattle.race_edges.specs.Traces.{capacities, HasVerdict}
 use Rattle.race_edges.specs.Verdicts.{verdict_of}
 use Rattle.race_edges.proofs.JudgeSteps.{race_declared}
-use Rattle.race_report.specs.Printable.{IsOf, RacesAreOf}
+use Rattle.race_report.specs.Printable.{IsOf, RacesAreOf, IsEdgeOf}
 
 module _ (trace : TraceState) (is_trace : IsTrace trace) where
   race_is_of : (caps : ℕ → ℕ) (race : model.Race) → IsReportedRace caps trace.events race.var race.first race.second → IsOf trace race
@@ -35,3 +44,27 @@ pub races_are_of : {A : Type 0} (trace : TraceState) (verdict : Verdict A) → I
 races_are_of trace (Verdict.Illegal illegal) is_trace right = tt
 races_are_of trace Verdict.Clean is_trace right = tt
 races_are_of trace (Verdict.Races races) is_trace right = all_races (IsOf trace) races (λ k r at. race_is_of trace is_trace (capacities trace) r (right.2.each k r at))
+
+-- so do edges of the trace: their goroutines take part in its events
+module _ (trace : TraceState) (is_trace : IsTrace trace) where
+  who_in_range : (i : ℕ) (e : Event) → slice_get trace.events i ≡ Some e → e.who < count_of Kind.Goroutine trace.decls.declarations
+  who_in_range i e at = (range_in_trace trace i e is_trace at).0
+
+  partner_is_in_range : (i : ℕ) (e : Event) (g : ℕ) → slice_get trace.events i ≡ Some e → partner e.op ≡ Some g → g < count_of Kind.Goroutine trace.decls.declarations
+  partner_is_in_range i e g at is =
+      subst (λ (o : Option ℕ). IfSome o (λ n. n < count_of Kind.Goroutine trace.decls.declarations)) is (partner_in_range (counts_of trace.decls.declarations) e.op (range_in_trace trace i e is_trace at).1)
+
+  edge_is_of : (caps : ℕ → ℕ) (edge : Edge) → IsEdge caps trace.events edge → IsEdgeOf trace edge
+  edge_is_of caps edge (e, at, how) = elim how [
+    | inl inside ↦ elim (inside_pair e.who e.op edge.from_who edge.to_who inside.1) [
+        | inl pair ↦ record { from_who = subst (λ n. n < count_of Kind.Goroutine trace.decls.declarations) pair.0 (who_in_range edge.to e at); to_who = partner_is_in_range edge.to e edge.to_who at pair.1 }
+        | inr pair ↦ record { from_who = partner_is_in_range edge.to e edge.from_who at pair.0; to_who = subst (λ n. n < count_of Kind.Goroutine trace.decls.declarations) pair.1 (who_in_range edge.to e at) }
+      ]
+    | inr source ↦ record {
+        from_who = subst (λ n. n < count_of Kind.Goroutine trace.decls.declarations) source.3 (who_in_range edge.from source.0 (take_at_old edge.to trace.events edge.from source.0 source.1));
+        to_who = subst (λ n. n < count_of Kind.Goroutine trace.decls.declarations) source.4 (who_in_range edge.to e at);
+      }
+  ]
+
+  pub edges_are_of : (caps : ℕ → ℕ) (edges : List Edge) → AreEdges caps trace.events edges → All (IsEdgeOf trace) edges
+  edges_are_of caps edges are = λ i d within. edge_is_of caps (get_or edges i d) (are.each i (get_or edges i d) (slice_get-get_or edges i d within))

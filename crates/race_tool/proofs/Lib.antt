@@ -3,3 +3,4 @@ pub mod PrintableLemmas
 pub mod StatusLemmas
 pub mod OneReport
 pub mod EachIsJudged
+pub mod ListingLemmas

@@ -1,4 +1,4 @@
--- How a check ends: what was read, what was written, and which device failed.
+-- How an engine ends: what was read, what was written, and which device failed.
 use Rattle.std.specs.Prelude.{ℕ, ◌≡◌, ◌&&◌, nat_le, Bool, List, Option}
 use Rattle.std.specs.Io.KnownBytes.{Appends}
 use Rattle.race_records.specs.declared.source.Source.{Source}
@@ -12,6 +12,7 @@ use Rattle.race_tool.specs.declared.input.ReadFault.{ReadFault}
 use Rattle.race_tool.specs.declared.status.TheConstants.{DEVICE, REFUSED}
 use Rattle.race_tool.specs.Input.{ReadsAll, ReadsMany}
 use Rattle.race_tool.specs.Finding.{Finding, IsFinding, IsTextWhere, report_of, status_of}
+use Rattle.race_tool.specs.Listing.{Listing, IsListing, listing_text, listing_status}
 
 -- each option is in its limits
 abbrev pub are_in_limits : CheckOptions → Bool
@@ -23,18 +24,36 @@ status_of_fault ReadFault.Failed = DEVICE
 status_of_fault ReadFault.Endless = DEVICE
 status_of_fault ReadFault.OutOfMemory = REFUSED
 
--- the report on the bytes was written, and the status is the report's
-pub record WritesReport (bytes : List ℕ) (output output_now : Option (List ℕ)) (status : ℕ) : Type 0 where
-  pub finding : Finding
-  pub right : IsFinding bytes finding
-  pub printed : Appends output output_now (report_of finding)
-  pub status_is : status ≡ status_of finding
+-- An engine has findings on a list of bytes, of which it knows which are right, and a text and a status for each.
 
--- the input was read to its end, and the report on its bytes was written
-pub record ReadsAndReports (input input_left output output_now : Option (List ℕ)) (status : ℕ) : Type 0 where
+-- the text of a right finding on the bytes was written, and the status is the finding's
+pub record WritesText {F : Type 0} (IsRight : List ℕ → F → Type 0) (text : F → List ℕ) (status_for : F → ℕ) (bytes : List ℕ) (output output_now : Option (List ℕ)) (status : ℕ) : Type 0 where
+  pub finding : F
+  pub right : IsRight bytes finding
+  pub printed : Appends output output_now (text finding)
+  pub status_is : status ≡ status_for finding
+
+-- the input was read to its end, and the text of a right finding on its bytes was written
+pub record ReadsAndWrites {F : Type 0} (IsRight : List ℕ → F → Type 0) (text : F → List ℕ) (status_for : F → ℕ) (input input_left output output_now : Option (List ℕ)) (status : ℕ) : Type 0 where
   pub bytes : List ℕ
   pub read : ReadsAll input input_left bytes
-  pub reported : WritesReport bytes output output_now status
+  pub reported : WritesText IsRight text status_for bytes output output_now status
+
+-- of a check: the report on the bytes was written, and the status is the report's
+abbrev pub WritesReport : List ℕ → Option (List ℕ) → Option (List ℕ) → ℕ → Type 0
+WritesReport bytes output output_now status = WritesText IsFinding report_of status_of bytes output output_now status
+
+-- the input was read to its end, and the report on its bytes was written
+abbrev pub ReadsAndReports : Option (List ℕ) → Option (List ℕ) → Option (List ℕ) → Option (List ℕ) → ℕ → Type 0
+ReadsAndReports input input_left output output_now status = ReadsAndWrites IsFinding report_of status_of input input_left output output_now status
+
+-- of a listing of edges: the edges were written, or why there are none
+abbrev pub WritesListing : List ℕ → Option (List ℕ) → Option (List ℕ) → ℕ → Type 0
+WritesListing bytes output output_now status = WritesText IsListing listing_text listing_status bytes output output_now status
+
+-- the input was read to its end, and the listing on its bytes was written
+abbrev pub ReadsAndLists : Option (List ℕ) → Option (List ℕ) → Option (List ℕ) → Option (List ℕ) → ℕ → Type 0
+ReadsAndLists input input_left output output_now status = ReadsAndWrites IsListing listing_text listing_status input input_left output output_now status
 
 -- the input was read to its end, and it is the text of a trace of which this holds
 pub record ReadsTextWhere (Holds : TraceState → Type 0) (input input_left : Option (List ℕ)) : Type 0 where
@@ -42,20 +61,34 @@ pub record ReadsTextWhere (Holds : TraceState → Type 0) (input input_left : Op
   pub read : ReadsAll input input_left bytes
   pub text : IsTextWhere Holds bytes
 
--- a write failed, and only a front of the report on the bytes was written
-pub record WritesFront {W : Type 0} (bytes : List ℕ) (contents : W → Option (List ℕ)) (sink sink_now : Sink W) : Type 0 where
-  pub finding : Finding
-  pub right : IsFinding bytes finding
+-- a write failed, and only a front of the text was written
+pub record WritesFrontOf {F W : Type 0} (IsRight : List ℕ → F → Type 0) (text : F → List ℕ) (bytes : List ℕ) (contents : W → Option (List ℕ)) (sink sink_now : Sink W) : Type 0 where
+  pub finding : F
+  pub right : IsRight bytes finding
   pub sent : ℕ
-  pub cut_off : IsCutOff (written contents sink) (written contents sink_now) sent (report_of finding)
+  pub cut_off : IsCutOff (written contents sink) (written contents sink_now) sent (text finding)
   pub failed : sink_failures sink_now ≡ one_more (sink_failures sink)
 
 -- the input was read to its end, no read failed, and a write did
-pub record FailsToWrite {R W : Type 0} (remaining : R → Option (List ℕ)) (contents : W → Option (List ℕ)) (source source_now : Source R) (sink sink_now : Sink W) : Type 0 where
+pub record FailsToWriteText {F R W : Type 0} (IsRight : List ℕ → F → Type 0) (text : F → List ℕ) (remaining : R → Option (List ℕ)) (contents : W → Option (List ℕ)) (source source_now : Source R) (sink sink_now : Sink W) : Type 0 where
   pub bytes : List ℕ
   pub read : ReadsAll (unread remaining source) (unread remaining source_now) bytes
   pub calm : source_failures source_now ≡ source_failures source
-  pub front : WritesFront bytes contents sink sink_now
+  pub front : WritesFrontOf IsRight text bytes contents sink sink_now
+
+-- of a check: only a front of the report was written
+abbrev pub WritesFront : {W : Type 0} → List ℕ → (W → Option (List ℕ)) → Sink W → Sink W → Type 0
+WritesFront bytes contents sink sink_now = WritesFrontOf IsFinding report_of bytes contents sink sink_now
+
+abbrev pub FailsToWrite : {R W : Type 0} → (R → Option (List ℕ)) → (W → Option (List ℕ)) → Source R → Source R → Sink W → Sink W → Type 0
+FailsToWrite remaining contents source source_now sink sink_now = FailsToWriteText IsFinding report_of remaining contents source source_now sink sink_now
+
+-- of a listing of edges: only a front of it was written
+abbrev pub WritesListingFront : {W : Type 0} → List ℕ → (W → Option (List ℕ)) → Sink W → Sink W → Type 0
+WritesListingFront bytes contents sink sink_now = WritesFrontOf IsListing listing_text bytes contents sink sink_now
+
+abbrev pub FailsToWriteListing : {R W : Type 0} → (R → Option (List ℕ)) → (W → Option (List ℕ)) → Source R → Source R → Sink W → Sink W → Type 0
+FailsToWriteListing remaining contents source source_now sink sink_now = FailsToWriteText IsListing listing_text remaining contents source source_now sink sink_now
 
 -- a read failed, and nothing was written
 pub record FailsToRead {R W : Type 0} (source source_now : Source R) (sink sink_now : Sink W) : Type 0 where

@@ -128,7 +128,7 @@ pub fn run_check<T, R: Read, W: Write, A: Allocator + Copy>(
 }
 
 // The status where the input wasn't read.
-fn status_of_fault(fault: ReadFault) -> u8
+pub(crate) fn status_of_fault(fault: ReadFault) -> u8
     ensures { result ≡ status_of_fault fault }
 {
     match fault {

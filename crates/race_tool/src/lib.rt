@@ -2,6 +2,8 @@
 #![tactic(auto)]
 
 mod check;
+mod edges_engine;
+mod edges_found;
 mod finding;
 mod input;
 pub mod laws;
@@ -11,3 +13,4 @@ pub mod status;
 mod tests;
 
 pub use check::{CheckOptions, MAX_BLOCK, MAX_SHARDS, run_check};
+pub use edges_engine::run_edges;

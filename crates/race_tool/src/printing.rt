@@ -35,7 +35,7 @@ pub(crate) fn write_finding<W: Write, A: Allocator>(
 }
 
 // Writes that there are more events than are judged.
-fn write_too_long<W: Write>(events: usize, sink: &mut Sink<W>) -> Result<(), WriteFault>
+pub(crate) fn write_too_long<W: Write>(events: usize, sink: &mut Sink<W>) -> Result<(), WriteFault>
     ensures ok { OnOk result (Appends (written W.contents sink.old) (written W.contents sink.new)
         (too_long_line events)) }
     ensures sent { IfErr result (λ fault. IsCutOff (written W.contents sink.old)

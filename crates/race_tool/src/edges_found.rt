@@ -1,0 +1,115 @@
+//! What there is to list of a list of bytes.
+ghost use Rattle.std.specs.Prelude.{◌≡◌, ◌≤◌, length, IfOk, OnOk, OnErr, IfErr};
+ghost use Rattle.std.specs.Io.KnownBytes.{Appends};
+ghost use Rattle.race_records.specs.Devices.{written, sink_failures, one_more};
+ghost use Rattle.race_records.specs.Page.{IsCutOff};
+ghost use Rattle.race_edges.specs.declared.fault.TheConstants.{MAX_PLAIN_EVENTS};
+ghost use Rattle.race_edges.specs.Traces.{IsIllegal};
+ghost use Rattle.race_tool.specs.Listing as spec;
+ghost use Rattle.race_tool.specs.Listings.{listing_of, IsListingOn, CanBeListed};
+
+use crate::printing::write_too_long;
+use crate::status;
+use race_edges::{Edge, EdgeFault, Verdict, edges};
+use race_legal::{Illegal, legal};
+use race_records::{Sink, Trace, WriteFault};
+use race_report::{write_edges, write_report, write_text_fault};
+use race_text::{TextCause, TextFault, parse_trace};
+use std::alloc::{AllocError, Allocator};
+use std::io::Write;
+
+/// What there is to list of a list of bytes.
+#[derive(Debug, Drop)]
+pub(crate) enum Found<A: Allocator> {
+    /// It is no trace: its first line at fault.
+    NoTrace(TextFault),
+    /// It is a trace of so many events, more than are taken.
+    TooMany(usize),
+    /// It is this trace, of which this event breaks a rule.
+    Broken(Trace<A>, Illegal),
+    /// It is this legal trace, with these edges.
+    Listed(Trace<A>, Vec<Edge, A>),
+}
+
+/// Finds what there is to list of the bytes.
+pub(crate) fn find_edges<A: Allocator + Copy>(
+    alloc: A,
+    bytes: &[u8],
+) -> Result<Found<A>, AllocError>
+    ensures { IfOk result (λ found. spec.IsListing bytes.now (listing_of found)) }
+{
+    match parse_trace(alloc, bytes) {
+        Ok(trace) => find_edges_of(alloc, trace),
+        Err(fault) => {
+            if fault.cause == TextCause::OutOfMemory {
+                Err(AllocError)
+            } else {
+                Ok(Found::NoTrace(fault))
+            }
+        }
+    }
+}
+
+// What there is to list of a trace.
+fn find_edges_of<A: Allocator + Copy>(alloc: A, trace: Trace<A>) -> Result<Found<A>, AllocError>
+    ensures { IfOk result (λ found. IsListingOn trace (listing_of found)) }
+{
+    let events = trace.len();
+    match edges(alloc, &trace) {
+        Ok(edges) => Ok(Found::Listed(trace, edges)),
+        Err(EdgeFault::TooLong) => Ok(Found::TooMany(events)),
+        Err(EdgeFault::OutOfMemory) => Err(AllocError),
+        Err(EdgeFault::Illegal) => find_broken(alloc, trace),
+    }
+}
+
+// Which event of a trace breaks which rule.
+fn find_broken<A: Allocator + Copy>(alloc: A, trace: Trace<A>) -> Result<Found<A>, AllocError>
+    requires short { length trace.events ≤ MAX_PLAIN_EVENTS }
+    requires illegal { IsIllegal trace }
+    ensures { IfOk result (λ found. IsListingOn trace (listing_of found)) }
+{
+    match legal(alloc, &trace) {
+        Ok(Some(illegal)) => Ok(Found::Broken(trace, illegal)),
+        Ok(None) => unreachable!(),
+        Err(_) => Err(AllocError),
+    }
+}
+
+impl<A: Allocator> Found<A> {
+    /// The status of what was found.
+    pub(crate) fn status(&self) -> u8
+        ensures { result ≡ spec.listing_status (listing_of self.now) }
+    {
+        match self {
+            Found::NoTrace(_) => status::TEXT_FAULT,
+            Found::TooMany(_) => status::USAGE,
+            Found::Broken(_, _) => status::ILLEGAL,
+            Found::Listed(_, _) => status::CLEAN,
+        }
+    }
+}
+
+/// Writes the edges, or why there are none.
+pub(crate) fn write_found<W: Write, A: Allocator>(
+    found: &Found<A>,
+    sink: &mut Sink<W>,
+) -> Result<(), WriteFault>
+    requires { CanBeListed found.now }
+    ensures ok { OnOk result (Appends (written W.contents sink.old) (written W.contents sink.new)
+        (spec.listing_text (listing_of found.now))) }
+    ensures sent { IfErr result (λ fault. IsCutOff (written W.contents sink.old)
+        (written W.contents sink.new) fault.sent (spec.listing_text (listing_of found.now))) }
+    ensures calm { OnOk result (sink_failures sink.new ≡ sink_failures sink.old) }
+    ensures failed { OnErr result (sink_failures sink.new ≡ one_more (sink_failures sink.old)) }
+{
+    match found {
+        Found::NoTrace(fault) => write_text_fault(fault, sink),
+        Found::TooMany(events) => write_too_long(*events, sink),
+        Found::Broken(trace, illegal) => {
+            let verdict: Verdict<A> = Verdict::Illegal(*illegal);
+            write_report(trace, &verdict, sink)
+        }
+        Found::Listed(trace, edges) => write_edges(trace, edges.as_slice(), sink),
+    }
+}

@@ -6,7 +6,6 @@ use Rattle.std.proofs.lemmas.Option.{slice_get_within}
 use Rattle.std.specs.List.{slice_index_or}
 use Rattle.race_records.specs.declared.event.Event.{Event}
 use Rattle.race_records.specs.declared.event.Op.{Op}
-use Rattle.race_records.specs.declared.event.Op.TheVariants.{Go, Exit, Read, Write}
 use Rattle.race_records.specs.declared.kind.Kind.{Kind}
 use Rattle.race_records.specs.Declarations.{count_of}
 use Rattle.race_records.specs.Events.{TraceState, IsTrace}
@@ -15,23 +14,25 @@ use Rattle.race_model.specs.Legal.{broken, IsLegal, IsIllegalAt}
 use Rattle.race_model.specs.Verdict.{Verdict, Illegal, Clean, Races}
 use Rattle.race_model.proofs.Indexes.{at_below, at_same, take_within, take_at_old}
 use Rattle.race_edges.specs.declared.races.Race.{Race}
-use Rattle.race_edges.specs.SeenTable.{rows_after}
+use Rattle.race_edges.specs.Synchronized.{source_at}
+use Rattle.race_edges.specs.TableState.{TableState, with_seen, inside, table_after}
 use Rattle.race_edges.specs.IsTable.{IsTable}
 use Rattle.race_edges.specs.Partners.{accessed, noted, found_after, race_at}
 use Rattle.race_edges.specs.Answers.{race_of, races_of, AreFound, AreRaces}
 use Rattle.race_edges.specs.Traces.{capacities, HasVerdict}
-use Rattle.race_edges.proofs.RowLemmas.{length-with_seen, length-go_rows}
+use Rattle.race_edges.proofs.RowLemmas.{shape_with_seen, shape_inside, shape_taken}
 use Rattle.race_edges.proofs.TableSteps.{table_none}
 use Rattle.race_edges.proofs.FoundSteps.{found_none}
 use Rattle.race_edges.proofs.JudgeSteps.{has_rows, has_place, race_declared, table_next, found_next}
 use Rattle.race_edges.proofs.RaceLists.{are_races, free_from_none, listed_some}
 
 -- the tables keep their sizes
-rows_kept : (rows : List (List Bool)) (n who : ℕ) (o : Op) → length (rows_after rows n who o) ≡ length rows
-rows_kept rows n who (Go k) = length-go_rows rows n who k
-rows_kept rows n who Exit = length-with_seen rows who n
-rows_kept rows n who (Read x v) = length-with_seen rows who n
-rows_kept rows n who (Write x v) = length-with_seen rows who n
+rows_kept : (is : ℕ → Bool) (table : TableState) (n who : ℕ) (o : Op) → length (table_after is table n who o).rows ≡ length table.rows
+rows_kept is table n who o =
+    let a = shape_with_seen table.rows who n in
+    let b = shape_inside (with_seen table.rows who n) who o in
+    let c = shape_taken is table.heard (inside (with_seen table.rows who n) who o) who n in
+    c.count ∙ b.count ∙ a.count
 
 found_kept : (rows : List (List Bool)) (events : List Event) (n : ℕ) (e : Event) (found : List (Option Race)) → length (found_after rows events n e found) ≡ length found
 found_kept rows events n e found = by (accessed e.op)
@@ -85,40 +86,40 @@ module _ (caps : ℕ → ℕ) (events : List Event) where
 
 -- tables that are right for the first n events
 record AreTables (trace : TraceState) (n : ℕ) : Type 0 where
-  rows : List (List Bool)
+  table : TableState
   found : List (Option Race)
-  goroutines : length rows ≡ count_of Kind.Goroutine trace.decls.declarations
+  goroutines : length table.rows ≡ count_of Kind.Goroutine trace.decls.declarations
   vars : length found ≡ count_of Kind.Var trace.decls.declarations
-  table : IsTable (capacities trace) rows (length trace.events) (take n trace.events)
+  is_table : IsTable (capacities trace) table (length trace.events) (take n trace.events)
   right : AreFound (capacities trace) (take n trace.events) found
 
 module _ (trace : TraceState) (holds : IsTrace trace) where
   tables : (n : ℕ) → n ≤ length trace.events → AreTables trace n
   tables zero less = record {
-    rows = replicate (count_of Kind.Goroutine trace.decls.declarations) (replicate (length trace.events) false);
+    table = record { rows = replicate (count_of Kind.Goroutine trace.decls.declarations) (replicate (length trace.events) false); heard = [] };
     found = replicate (count_of Kind.Var trace.decls.declarations) None;
     goroutines = length-replicate (count_of Kind.Goroutine trace.decls.declarations) (replicate (length trace.events) false);
     vars = length-replicate (count_of Kind.Var trace.decls.declarations) None;
-    table = table_none (capacities trace) (count_of Kind.Goroutine trace.decls.declarations) (length trace.events);
+    is_table = table_none (capacities trace) (count_of Kind.Goroutine trace.decls.declarations) (length trace.events);
     right = found_none (capacities trace) (count_of Kind.Var trace.decls.declarations);
   }
   tables (suc n) less =
       let so_far = tables n (omega (arith, less)) in
       let here = at_below trace.events n (omega (arith, less)) in
       let e = here.0 in
-      let has_row = (has_rows trace n e so_far.rows holds here.1 so_far.goroutines).0 in
-      let rows = rows_after so_far.rows n e.who e.op in
-      let found = found_after so_far.rows (take n trace.events) (length (take n trace.events)) e so_far.found in
+      let rows = has_rows trace n e so_far.table.rows holds here.1 so_far.goroutines in
+      let table = table_after (λ k. source_at (capacities trace) trace.events k n) so_far.table n e.who e.op in
+      let found = found_after so_far.table.rows (take n trace.events) (length (take n trace.events)) e so_far.found in
       let next : n + 1 ≡ suc n = omega arith in
       record {
-        rows = rows;
+        table = table;
         found = found;
-        goroutines = rows_kept so_far.rows n e.who e.op ∙ so_far.goroutines;
-        vars = found_kept so_far.rows (take n trace.events) (length (take n trace.events)) e so_far.found ∙ so_far.vars;
-        table = subst (λ m. IsTable (capacities trace) rows (length trace.events) (take m trace.events)) next
-            (table_next (capacities trace) trace.events n e here.1 so_far.rows (length trace.events) so_far.table rows refl (omega (arith, less)) has_row);
+        goroutines = rows_kept (λ k. source_at (capacities trace) trace.events k n) so_far.table n e.who e.op ∙ so_far.goroutines;
+        vars = found_kept so_far.table.rows (take n trace.events) (length (take n trace.events)) e so_far.found ∙ so_far.vars;
+        is_table = subst (λ m. IsTable (capacities trace) table (length trace.events) (take m trace.events)) next
+            (table_next (capacities trace) trace.events n e here.1 so_far.table (length trace.events) so_far.is_table table refl (omega (arith, less)) rows);
         right = subst (λ m. AreFound (capacities trace) (take m trace.events) found) next
-            (found_next (capacities trace) trace.events n e here.1 so_far.rows (length trace.events) so_far.table so_far.found found refl has_row (has_place trace n e so_far.found holds here.1 so_far.vars) so_far.right);
+            (found_next (capacities trace) trace.events n e here.1 so_far.table (length trace.events) so_far.is_table so_far.found found refl rows.0 (has_place trace n e so_far.found holds here.1 so_far.vars) so_far.right);
       }
 
   -- the races of the trace

@@ -8,10 +8,10 @@ use Rattle.race_model.specs.Order.{SynchronizedInside, IsSource}
 use Rattle.race_model.proofs.Indexes.{at_same, slice_get-take, slice_get-push, push_at, append_at_old, take_within, take_at_old}
 use Rattle.race_model.proofs.Ranks.{synchronized_up}
 use Rattle.race_edges.specs.declared.listing.Edge.{Edge}
-use Rattle.race_edges.specs.Synchronized.{joins, is_source, source_at}
+use Rattle.race_edges.specs.Synchronized.{joins, source_at}
 use Rattle.race_edges.specs.Edges.{IsEdge, ComesBefore, AreEdges}
 use Rattle.race_edges.specs.EdgesSoFar.{AreEdgesWhere, LeadsBefore, AreEdgesBefore, edge_inside, with_edge}
-use Rattle.race_edges.proofs.SynchronizedLemmas.{joins_is, source_is, inside_pair}
+use Rattle.race_edges.proofs.SynchronizedLemmas.{joins_is, source_is, source_at_is, inside_pair}
 
 -- edges with the same numbers are the same
 same_edge : (d e : Edge) → d.from ≡ e.from → d.to ≡ e.to → d.from_who ≡ e.from_who → d.to_who ≡ e.to_who → d ≡ e
@@ -125,15 +125,10 @@ module _ (caps : ℕ → ℕ) (events : List Event) where
           ap (λ (x : Event). x.who) (sym to_e) ∙ to,
         )
 
-    source_at_is : source_at caps events i j ≡ is_source caps (take j events) i s.op e.op
-    source_at_is =
-        ap (λ o. elim o [ Some s ↦ elim (slice_get events j) [ Some e ↦ is_source caps (take j events) i s.op e.op | None ↦ false ] | None ↦ false ]) ats
-        ∙ ap (λ o. elim o [ Some e ↦ is_source caps (take j events) i s.op e.op | None ↦ false ]) at
-
     between_is : IsTrue (source_at caps events i j) ↔ IsEdge caps events edge_between
     between_is = (
-      (λ is. (e, at, inr (s, slice_get-take j events i less ∙ ats, (source_is caps (take j events) i s.op e.op).0 (sym source_at_is ∙ is), refl, refl))),
-      (λ edge. source_at_is ∙ (source_is caps (take j events) i s.op e.op).1 (source_from s.who e.who edge).0),
+      (λ is. (e, at, inr (s, slice_get-take j events i less ∙ ats, (source_is caps (take j events) i s.op e.op).0 (sym (source_at_is caps events i j s e ats at) ∙ is), refl, refl))),
+      (λ edge. source_at_is caps events i j s e ats at ∙ (source_is caps (take j events) i s.op e.op).1 (source_from s.who e.who edge).0),
     )
 
     -- the list with this edge behind it, where it is one

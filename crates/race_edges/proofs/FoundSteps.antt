@@ -9,6 +9,7 @@ use Rattle.race_model.specs.Race.{IsAccessOf, IsRace}
 use Rattle.race_model.proofs.Indexes.{at_same, slice_get-push}
 use Rattle.race_model.proofs.RaceSteps.{race_turned, access_within, race_old, reported_grow}
 use Rattle.race_edges.specs.declared.races.Race.{Race}
+use Rattle.race_edges.specs.TableState.{TableState}
 use Rattle.race_edges.specs.IsTable.{IsTable}
 use Rattle.race_edges.specs.Partners.{is_partner, greatest_below, race_at, accessed, HasPlace, noted, found_after}
 use Rattle.race_edges.specs.Answers.{IsFound, AreFound}
@@ -60,59 +61,59 @@ module _ (caps : ℕ → ℕ) (past : List Event) (e : Event) (x : ℕ) where
   race_kept (Some r) some (var, reported) = (var, reported_grow caps past (e ∷ []) x r.first r.second reported)
 
   -- the race of the next event is right where there was none before
-  pub race_new : (rows : List (List Bool)) (limit : ℕ) → IsTable caps rows limit past → e.who < length rows → IsTrue (accesses x e.op) → ((i j : ℕ) → ¬ IsRace caps past x i j)
-      → IsFound caps (past ++ e ∷ []) x (race_at rows past (length past) e x)
-  race_new rows limit table row access none = go (greatest_below (is_partner rows past e.who e.op) (length past)) (greatest_is (is_partner rows past e.who e.op) (length past))
+  pub race_new : (table : TableState) (limit : ℕ) → IsTable caps table limit past → e.who < length table.rows → IsTrue (accesses x e.op) → ((i j : ℕ) → ¬ IsRace caps past x i j)
+      → IsFound caps (past ++ e ∷ []) x (race_at table.rows past (length past) e x)
+  race_new table limit is_table row access none = go (greatest_below (is_partner table.rows past x e.who e.op) (length past)) (greatest_is (is_partner table.rows past x e.who e.op) (length past))
     where
-      go : (o : Option ℕ) → IsGreatest (is_partner rows past e.who e.op) (length past) o → IsFound caps (past ++ e ∷ []) x (option_map (λ i. record { var = x; first = i; second = length past }) o)
+      go : (o : Option ℕ) → IsGreatest (is_partner table.rows past x e.who e.op) (length past) o → IsFound caps (past ++ e ∷ []) x (option_map (λ i. record { var = x; first = i; second = length past }) o)
       go None alone = λ i j race. elim (race_cases i j race) [
         | inl old ↦ none i j old
-        | inr new ↦ alone new.1.0 new.1.1 (partner_from_race caps rows limit past table e row x access new.1.0 new.1.1 new.1.2)
+        | inr new ↦ alone new.1.0 new.1.1 (partner_from_race caps table limit past is_table e row x access new.1.0 new.1.1 new.1.2)
       ]
       go (Some i) (less, is, greatest) = (
         refl,
         record {
-          race = race_from_partner caps rows limit past table e row x access i less is;
+          race = race_from_partner caps table limit past is_table e row x access i less is;
           in_order = less;
           least = λ k m under race. elim (cases_lt m (length past)) [
             | inl early ↦ absurd (none k m (race_old caps past (e ∷ []) x k m (omega arith) early race))
             | inr late ↦ late
           ];
-          greatest = λ k under race. greatest k under (partner_from_race caps rows limit past table e row x access k under race);
+          greatest = λ k under race. greatest k under (partner_from_race caps table limit past is_table e row x access k under race);
         },
       )
 
-module _ (caps : ℕ → ℕ) (past : List Event) (e : Event) (rows : List (List Bool)) (limit : ℕ) (table : IsTable caps rows limit past) (row : e.who < length rows) (found : List (Option Race)) (right : AreFound caps past found) where
+module _ (caps : ℕ → ℕ) (past : List Event) (e : Event) (table : TableState) (limit : ℕ) (is_table : IsTable caps table limit past) (row : e.who < length table.rows) (found : List (Option Race)) (right : AreFound caps past found) where
   -- what is noted of an access's variable is right behind it
-  noted_right : (y : ℕ) → y < length found → ((x : ℕ) → IsTrue (accesses x e.op) → x ≡ y) → IsTrue (accesses y e.op) → AreFound caps (past ++ e ∷ []) (noted rows past (length past) e y found)
+  noted_right : (y : ℕ) → y < length found → ((x : ℕ) → IsTrue (accesses x e.op) → x ≡ y) → IsTrue (accesses y e.op) → AreFound caps (past ++ e ∷ []) (noted table.rows past (length past) e y found)
   noted_right y below only access = go (is_some (get_or found y None)) refl
     where
-      go : (b : Bool) → is_some (get_or found y None) ≡ b → AreFound caps (past ++ e ∷ []) (if b then found else set found y (race_at rows past (length past) e y))
+      go : (b : Bool) → is_some (get_or found y None) ≡ b → AreFound caps (past ++ e ∷ []) (if b then found else set found y (race_at table.rows past (length past) e y))
       go true some x less = elim (cases_eq x y) [
         | inl same ↦ race_kept caps past e x (get_or found x None) (subst (λ y. is_some (get_or found y None) ≡ true) (sym same) some) (right x less)
         | inr differ ↦ found_kept caps past e x (λ is. differ (only x is)) (get_or found x None) (right x less)
       ]
       go false none x less = elim (cases_eq x y) [
-        | inl same ↦ subst (λ x. IsFound caps (past ++ e ∷ []) x (get_or (set found y (race_at rows past (length past) e y)) x None)) (sym same) here
+        | inl same ↦ subst (λ x. IsFound caps (past ++ e ∷ []) x (get_or (set found y (race_at table.rows past (length past) e y)) x None)) (sym same) here
         | inr differ ↦
-            let old : x < length found = omega (arith, less, length-set found y (race_at rows past (length past) e y)) in
-            subst (IsFound caps (past ++ e ∷ []) x) (sym (get_or-set_other found y x (race_at rows past (length past) e y) None differ)) (found_kept caps past e x (λ is. differ (only x is)) (get_or found x None) (right x old))
+            let old : x < length found = omega (arith, less, length-set found y (race_at table.rows past (length past) e y)) in
+            subst (IsFound caps (past ++ e ∷ []) x) (sym (get_or-set_other found y x (race_at table.rows past (length past) e y) None differ)) (found_kept caps past e x (λ is. differ (only x is)) (get_or found x None) (right x old))
       ]
         where
           free : (o : Option Race) → is_some o ≡ false → IsFound caps past y o → (i j : ℕ) → ¬ IsRace caps past y i j
           free None none is = is
           free (Some r) none is = cc
 
-          here : IsFound caps (past ++ e ∷ []) y (get_or (set found y (race_at rows past (length past) e y)) y None)
+          here : IsFound caps (past ++ e ∷ []) y (get_or (set found y (race_at table.rows past (length past) e y)) y None)
           here =
-              subst (IsFound caps (past ++ e ∷ []) y) (sym (get_or-set_same found y (race_at rows past (length past) e y) None below))
-              (race_new caps past e y rows limit table row access (free (get_or found y None) none (right y below)))
+              subst (IsFound caps (past ++ e ∷ []) y) (sym (get_or-set_same found y (race_at table.rows past (length past) e y) None below))
+              (race_new caps past e y table limit is_table row access (free (get_or found y None) none (right y below)))
 
   -- what is noted of all variables is right behind the next event
-  pub found_step : HasPlace found e.op → AreFound caps (past ++ e ∷ []) (found_after rows past (length past) e found)
+  pub found_step : HasPlace found e.op → AreFound caps (past ++ e ∷ []) (found_after table.rows past (length past) e found)
   found_step place = by (accessed e.op) (accesses_is e.op) place
     where
       by : (a : Option ℕ) → ((x : ℕ) → accesses x e.op ≡ gives a x) → IfSome a (λ x. x < length found)
-          → AreFound caps (past ++ e ∷ []) (elim a [ Some x ↦ noted rows past (length past) e x found | None ↦ found ])
+          → AreFound caps (past ++ e ∷ []) (elim a [ Some x ↦ noted table.rows past (length past) e x found | None ↦ found ])
       by None is below = λ x less. found_kept caps past e x (λ access. let none : false ≡ true = sym (is x) ∙ access in cc) (get_or found x None) (right x less)
       by (Some y) is below = noted_right y below (λ x access. sym (eqb-true y x (sym (is x) ∙ access))) (is y ∙ eq-eqb y y refl)

@@ -1,22 +1,33 @@
 -- The judge's tables are right, one event on.
-use Rattle.std.proofs.Common.{◌≡◌, ℕ, ◌+◌, ◌<◌, Bool, List, [], ◌∷◌, ◌++◌, length, take, Option, Some, IfSome, slice_get, sym, subst, arith}
+use Rattle.std.proofs.Common.{◌≡◌, ◌↔◌, ℕ, ◌+◌, ◌<◌, Bool, List, [], ◌∷◌, ◌++◌, length, take, Option, Some, IfSome, IsTrue, slice_get, sym, ◌∙◌, subst, arith}
 use Rattle.std.proofs.lemmas.Option.{slice_get_within}
 use Rattle.std.proofs.lemmas.List.{length-take-le}
 use Rattle.race_records.specs.declared.event.Event.{Event}
 use Rattle.race_records.specs.declared.kind.Kind.{Kind}
 use Rattle.race_records.specs.Declarations.{count_of, counts_of}
 use Rattle.race_records.specs.Events.{TraceState, IsTrace}
-use Rattle.race_model.specs.Events.{partner}
+use Rattle.race_model.specs.Events.{At, partner}
+use Rattle.race_model.specs.Order.{IsSource}
 use Rattle.race_model.specs.Race.{IsAccessOf, IsRace}
+use Rattle.race_model.proofs.Indexes.{take_at_old}
+use Rattle.race_legal.proofs.Fronts.{take_next}
 use Rattle.race_edges.specs.declared.races.Race.{Race}
-use Rattle.race_edges.specs.SeenTable.{HasRows, rows_after}
+use Rattle.race_edges.specs.Synchronized.{source_at}
+use Rattle.race_edges.specs.TableState.{TableState, HasRows, table_after}
 use Rattle.race_edges.specs.IsTable.{IsTable}
 use Rattle.race_edges.specs.Partners.{accessed, HasPlace, found_after}
 use Rattle.race_edges.specs.Answers.{AreFound}
-use Rattle.race_legal.proofs.Fronts.{take_next}
 use Rattle.race_edges.proofs.RangeLemmas.{range_in_trace, partner_in_range, accessed_in_range, accessed_below}
-use Rattle.race_edges.proofs.TableSteps.{table_after}
+use Rattle.race_edges.proofs.SynchronizedLemmas.{source_is, source_at_is}
+use Rattle.race_edges.proofs.TableSteps.{table_step}
 use Rattle.race_edges.proofs.FoundSteps.{found_step}
+
+-- what is said of the event at an index, and the other way
+pub said_of : (events : List Event) (i : ℕ) (e : Event) (Holds : Event → Type 0) → slice_get events i ≡ Some e → IfSome (slice_get events i) Holds → Holds e
+said_of events i e Holds at said = subst (λ o. IfSome o Holds) at said
+
+pub said_from : (events : List Event) (i : ℕ) (e : Event) (Holds : Event → Type 0) → slice_get events i ≡ Some e → Holds e → IfSome (slice_get events i) Holds
+said_from events i e Holds at holds = subst (λ o. IfSome o Holds) (sym at) holds
 
 -- who takes part in an event of a trace has a row in a table with one for each goroutine
 pub has_rows : (trace : TraceState) (i : ℕ) (e : Event) (rows : List (List Bool)) → IsTrace trace → slice_get trace.events i ≡ Some e → length rows ≡ count_of Kind.Goroutine trace.decls.declarations → HasRows rows e
@@ -37,25 +48,32 @@ race_declared caps trace x i j holds race = go race.conflict.1
     go : IsAccessOf trace.events x i → x < count_of Kind.Var trace.decls.declarations
     go (e, at, is) = accessed_below e.op _ x (accessed_in_range (counts_of trace.decls.declarations) e.op (range_in_trace trace i e holds at).1) is
 
-module _ (caps : ℕ → ℕ) (events : List Event) (at : ℕ) (e : Event) (here : slice_get events at ≡ Some e) (rows : List (List Bool)) (limit : ℕ) (table : IsTable caps rows limit (take at events)) where
+module _ (caps : ℕ → ℕ) (events : List Event) (at : ℕ) (e : Event) (here : slice_get events at ≡ Some e) (table : TableState) (limit : ℕ) (is_table : IsTable caps table limit (take at events)) where
   long : length (take at events) ≡ at
   long = let less : at < length events = slice_get_within events at e here in length-take-le at events (omega arith)
 
+  -- the sources of the event at the index are those of the next event of the front before it
+  sources : (k : ℕ) (s : Event) → At (take at events) k s → IsTrue (source_at caps events k at) ↔ IsSource caps (take at events) k s.op e.op
+  sources k s ats =
+      let is = source_at_is caps events k at s e (take_at_old at events k s ats) here in
+      let source = source_is caps (take at events) k s.op e.op in
+      ((λ t. source.0 (sym is ∙ t)), (λ t. is ∙ source.1 t))
+
   -- the table behind the event at an index
-  pub table_next : (next : List (List Bool)) → next ≡ rows_after rows at e.who e.op → at < limit → e.who < length rows → IsTable caps next limit (take (at + 1) events)
-  table_next next is room row =
-      subst (λ rows. IsTable caps rows limit (take (at + 1) events)) (sym is)
-      (subst (IsTable caps (rows_after rows at e.who e.op) limit) (sym (take_next events at e here))
-      (subst (λ n. IsTable caps (rows_after rows n e.who e.op) limit (take at events ++ e ∷ [])) long
-      (table_after caps rows limit (take at events) table e (omega (arith, room, long)) row)))
+  pub table_next : (next : TableState) → next ≡ table_after (λ k. source_at caps events k at) table at e.who e.op → at < limit → HasRows table.rows e → IsTable caps next limit (take (at + 1) events)
+  table_next next is room rows =
+      subst (λ (t : TableState). IsTable caps t limit (take (at + 1) events)) (sym is)
+      (subst (IsTable caps (table_after (λ k. source_at caps events k at) table at e.who e.op) limit) (sym (take_next events at e here))
+      (subst (λ n. IsTable caps (table_after (λ k. source_at caps events k at) table n e.who e.op) limit (take at events ++ e ∷ [])) long
+      (table_step caps table limit (take at events) is_table e (omega (arith, room, long)) rows (λ k. source_at caps events k at) sources)))
 
   -- what is noted behind it
-  pub found_next : (found next : List (Option Race)) → next ≡ found_after rows (take at events) (length (take at events)) e found → e.who < length rows → HasPlace found e.op
+  pub found_next : (found next : List (Option Race)) → next ≡ found_after table.rows (take at events) (length (take at events)) e found → e.who < length table.rows → HasPlace found e.op
       → AreFound caps (take at events) found → AreFound caps (take (at + 1) events) next
   found_next found next is row place right =
       subst (AreFound caps (take (at + 1) events)) (sym is)
-      (subst (λ es. AreFound caps es (found_after rows (take at events) (length (take at events)) e found)) (sym (take_next events at e here))
-      (found_step caps (take at events) e rows limit table row found right place))
+      (subst (λ es. AreFound caps es (found_after table.rows (take at events) (length (take at events)) e found)) (sym (take_next events at e here))
+      (found_step caps (take at events) e table limit is_table row found right place))
 
 -- the events of which what is noted is told are those of the trace
 pub noted_of_trace : (es events : List Event) (at : ℕ) (e : Event) (rows : List (List Bool)) (found next : List (Option Race)) → es ≡ events

@@ -1,166 +1,262 @@
--- What a table of rows tells after a change.
-use Rattle.std.proofs.Common.{◌≡◌, ◌≢◌, ◌⊎◌, ◌↔◌, ℕ, zero, suc, ◌<◌, ◌≤◌, Bool, true, false, List, [], length, get_or, set, if◌then◌else◌, refl, sym, ap, ◌∙◌, subst, inl, inr, arith, IsTrue}
+-- What rows tell after a change.
+use Rattle.std.proofs.Common.{◌≡◌, ◌≢◌, ◌⊎◌, ◌↔◌, ℕ, zero, suc, ◌<◌, Bool, true, false, List, [], length, get_or, set, if◌then◌else◌, Option, Some, None, IfSome, refl, sym, ap, ◌∙◌, subst, inl, inr, arith, IsTrue}
 use Rattle.std.proofs.lemmas.Bool.{cases_eq}
 use Rattle.std.proofs.lemmas.List.{get_or-set_same, get_or-set_other, length-set}
-use Rattle.race_edges.specs.SeenTable.{row_of, sees, with_seen, passed}
+use Rattle.std.proofs.lemmas.Option.{none-some, same_Some}
+use Rattle.race_records.specs.declared.event.Op.{Op}
+use Rattle.race_model.specs.Events.{partner}
+use Rattle.race_model.specs.Order.{SynchronizedInside}
+use Rattle.race_edges.specs.Synchronized.{joins}
+use Rattle.race_edges.specs.TableState.{row_of, sees, joined, with_seen, with_row, given, inside, taken}
+use Rattle.race_edges.proofs.SynchronizedLemmas.{joins_is, inside_pair}
 
--- what isn't true is false
-pub false_from : (b : Bool) → (IsTrue b → ⊥) → b ≡ false
-false_from false never = refl
-false_from true never = absurd (never refl)
+-- One row.
 
-pub length-with_seen : (rows : List (List Bool)) (p i : ℕ) → length (with_seen rows p i) ≡ length rows
-length-with_seen rows p i = length-set rows p (set (row_of rows p) i true)
-
--- the row that is changed
-row_same : (rows : List (List Bool)) (g i : ℕ) → g < length rows → row_of (with_seen rows g i) g ≡ set (row_of rows g) i true
-row_same rows g i less = get_or-set_same rows g (set (row_of rows g) i true) [] less
-
--- the others
-row_other : (rows : List (List Bool)) (p i g : ℕ) → p ≢ g → row_of (with_seen rows p i) g ≡ row_of rows g
-row_other rows p i g differ = get_or-set_other rows p g (set (row_of rows p) i true) [] (λ e. differ (sym e))
-
--- each row keeps its length
-pub wide_with_seen : (rows : List (List Bool)) (p i g : ℕ) → g < length rows → length (row_of (with_seen rows p i) g) ≡ length (row_of rows g)
-wide_with_seen rows p i g less = elim (cases_eq p g) [
-  | inl same ↦ subst (λ q. length (row_of (with_seen rows q i) g) ≡ length (row_of rows g)) (sym same) (ap length (row_same rows g i less) ∙ length-set (row_of rows g) i true)
-  | inr differ ↦ ap length (row_other rows p i g differ)
-]
-
--- one row, with event i seen in addition
-seen_here : (rows : List (List Bool)) (i g j : ℕ) → g < length rows → j < length (row_of rows g) → IsTrue (sees (with_seen rows g i) g j) ↔ (IsTrue (sees rows g j) ⊎ (i ≡ j))
-seen_here rows i g j less within = elim (cases_eq i j) [
-  | inl same ↦
-      let set_there : get_or (set (row_of rows g) i true) j false ≡ true = subst (λ k. get_or (set (row_of rows g) k true) j false ≡ true) (sym same) (get_or-set_same (row_of rows g) j true false within) in
-      (λ _. inr same, λ _. ap (λ r. get_or r j false) (row_same rows g i less) ∙ set_there)
+-- a row that tells of event n in addition
+tells_set : (row : List Bool) (n i : ℕ) → i < length row → IsTrue (get_or (set row n true) i false) ↔ (IsTrue (get_or row i false) ⊎ (n ≡ i))
+tells_set row n i within = elim (cases_eq n i) [
+  | inl same ↦ (
+    (λ _. inr same),
+    (λ _. subst (λ k. get_or (set row k true) i false ≡ true) (sym same) (get_or-set_same row i true false within)),
+  )
   | inr differ ↦
-      let kept : sees (with_seen rows g i) g j ≡ sees rows g j = ap (λ r. get_or r j false) (row_same rows g i less) ∙ get_or-set_other (row_of rows g) i j true false (λ e. differ (sym e)) in
+      let kept : get_or (set row n true) i false ≡ get_or row i false = get_or-set_other row n i true false (λ e. differ (sym e)) in
       (λ s. inl (sym kept ∙ s), λ s. elim s [ inl old ↦ kept ∙ old | inr here ↦ absurd (differ here) ])
 ]
 
--- p sees event i in addition, and nothing else changes
-pub sees_with_seen : (rows : List (List Bool)) (p i g j : ℕ) → g < length rows → j < length (row_of rows g) → IsTrue (sees (with_seen rows p i) g j) ↔ (IsTrue (sees rows g j) ⊎ ((p ≡ g) × (i ≡ j)))
-sees_with_seen rows p i g j less within = elim (cases_eq p g) [
-  | inl same ↦ subst (λ q. IsTrue (sees (with_seen rows q i) g j) ↔ (IsTrue (sees rows g j) ⊎ ((q ≡ g) × (i ≡ j)))) (sym same) (
-    (λ s. elim ((seen_here rows i g j less within).0 s) [ inl old ↦ inl old | inr here ↦ inr (refl, here) ]),
-    (λ s. (seen_here rows i g j less within).1 (elim s [ inl old ↦ inl old | inr new ↦ inr new.1 ])),
-  )
-  | inr differ ↦
-      let kept : sees (with_seen rows p i) g j ≡ sees rows g j = ap (λ r. get_or r j false) (row_other rows p i g differ) in
-      (λ s. inl (sym kept ∙ s), λ s. elim s [ inl old ↦ kept ∙ old | inr new ↦ absurd (differ new.0) ])
+pub length-joined : (row other : List Bool) (n : ℕ) → length (joined row other n) ≡ length row
+length-joined row other zero = refl
+length-joined row other (suc n) = by (get_or other n false) (length-joined row other n)
+  where
+    by : (b : Bool) → length (joined row other n) ≡ length row → length (if b then set (joined row other n) n true else joined row other n) ≡ length row
+    by true old = length-set (joined row other n) n true ∙ old
+    by false old = old
+
+-- a row with what another tells of the first n events
+tells_joined : (row other : List Bool) (n i : ℕ) → i < length row → IsTrue (get_or (joined row other n) i false) ↔ (IsTrue (get_or row i false) ⊎ ((i < n) × IsTrue (get_or other i false)))
+tells_joined row other zero i within = (λ s. inl s, λ s. elim s [ inl old ↦ old | inr new ↦ let none : i < 0 = new.0 in absurd (omega arith) ])
+tells_joined row other (suc n) i within = by (get_or other n false) refl (tells_joined row other n i within)
+  where
+    wider : IsTrue (get_or row i false) ⊎ ((i < n) × IsTrue (get_or other i false)) → IsTrue (get_or row i false) ⊎ ((i < suc n) × IsTrue (get_or other i false))
+    wider (inl old) = inl old
+    wider (inr (below, seen)) = inr (omega (arith, below), seen)
+
+    by : (b : Bool) → get_or other n false ≡ b → (IsTrue (get_or (joined row other n) i false) ↔ (IsTrue (get_or row i false) ⊎ ((i < n) × IsTrue (get_or other i false))))
+        → IsTrue (get_or (if b then set (joined row other n) n true else joined row other n) i false) ↔ (IsTrue (get_or row i false) ⊎ ((i < suc n) × IsTrue (get_or other i false)))
+    by true is before = (there, back)
+      where
+        one : IsTrue (get_or (set (joined row other n) n true) i false) ↔ (IsTrue (get_or (joined row other n) i false) ⊎ (n ≡ i))
+        one = tells_set (joined row other n) n i (omega (arith, within, length-joined row other n))
+
+        there : IsTrue (get_or (set (joined row other n) n true) i false) → IsTrue (get_or row i false) ⊎ ((i < suc n) × IsTrue (get_or other i false))
+        there s = elim (one.0 s) [ inl old ↦ wider (before.0 old) | inr here ↦ inr (omega (arith, here), subst (λ k. IsTrue (get_or other k false)) here is) ]
+
+        back : IsTrue (get_or row i false) ⊎ ((i < suc n) × IsTrue (get_or other i false)) → IsTrue (get_or (set (joined row other n) n true) i false)
+        back (inl old) = one.1 (inl (before.1 (inl old)))
+        back (inr (below, seen)) = elim (cases_eq n i) [ inl here ↦ one.1 (inr here) | inr differ ↦ one.1 (inl (before.1 (inr (omega (arith, below, differ), seen)))) ]
+    by false is before = (λ s. wider (before.0 s), back)
+      where
+        back : IsTrue (get_or row i false) ⊎ ((i < suc n) × IsTrue (get_or other i false)) → IsTrue (get_or (joined row other n) i false)
+        back (inl old) = before.1 (inl old)
+        back (inr (below, seen)) = elim (cases_eq n i) [
+          | inl here ↦ let was : get_or other n false ≡ true = subst (λ k. IsTrue (get_or other k false)) (sym here) seen in cc
+          | inr differ ↦ before.1 (inr (omega (arith, below, differ), seen))
+        ]
+
+-- All rows.
+
+-- as many rows, each as long as it was
+pub record AreShaped (rows next : List (List Bool)) : Type 0 where
+  pub count : length next ≡ length rows
+  pub wide : (g : ℕ) → g < length rows → length (row_of next g) ≡ length (row_of rows g)
+
+shape_same : (rows : List (List Bool)) → AreShaped rows rows
+shape_same rows = record { count = refl; wide = λ g less. refl }
+
+shape_on : (rows middle next : List (List Bool)) → AreShaped rows middle → AreShaped middle next → AreShaped rows next
+shape_on rows middle next first second = record {
+  count = second.count ∙ first.count;
+  wide = λ g less. second.wide g (omega (arith, less, first.count)) ∙ first.wide g less;
+}
+
+-- one row, changed
+row_set : (rows : List (List Bool)) (p : ℕ) (row : List Bool) (g : ℕ) → g < length rows → ((p ≡ g) × (row_of (set rows p row) g ≡ row)) ⊎ ((p ≢ g) × (row_of (set rows p row) g ≡ row_of rows g))
+row_set rows p row g less = elim (cases_eq p g) [
+  | inl same ↦ inl (same, subst (λ q. row_of (set rows q row) g ≡ row) (sym same) (get_or-set_same rows g row [] less))
+  | inr differ ↦ inr (differ, get_or-set_other rows p g row [] (λ e. differ (sym e)))
 ]
 
--- each row has this length
-abbrev pub AreWide : List (List Bool) → ℕ → Type 0
-AreWide rows limit = (g : ℕ) → g < length rows → length (row_of rows g) ≡ limit
+shape_set : (rows : List (List Bool)) (p : ℕ) (row : List Bool) → length row ≡ length (row_of rows p) → AreShaped rows (set rows p row)
+shape_set rows p row same = record {
+  count = length-set rows p row;
+  wide = λ g less. elim (row_set rows p row g less) [
+    | inl here ↦ ap length here.1 ∙ same ∙ ap (λ q. length (row_of rows q)) here.0
+    | inr there ↦ ap length there.1
+  ];
+}
 
-pub length-passed : (rows : List (List Bool)) (f t n : ℕ) → length (passed rows f t n) ≡ length rows
-length-passed rows f t zero = refl
-length-passed rows f t (suc n) = go (sees (passed rows f t n) f n) (length-passed rows f t n)
+-- what g sees where the row of p tells something more
+sees_set : (rows : List (List Bool)) (p : ℕ) (row : List Bool) (More : Type 0) (g i : ℕ) → g < length rows → (p ≡ g → IsTrue (get_or row i false) ↔ (IsTrue (sees rows g i) ⊎ More))
+    → IsTrue (sees (set rows p row) g i) ↔ (IsTrue (sees rows g i) ⊎ ((p ≡ g) × More))
+sees_set rows p row More g i less tells = elim (row_set rows p row g less) [
+  | inl (same, is) ↦ (
+    (λ s. elim ((tells same).0 (sym (ap (λ r. get_or r i false) is) ∙ s)) [ inl old ↦ inl old | inr new ↦ inr (same, new) ]),
+    (λ s. ap (λ r. get_or r i false) is ∙ (tells same).1 (elim s [ inl old ↦ inl old | inr new ↦ inr new.1 ])),
+  )
+  | inr (differ, is) ↦ (
+    (λ s. inl (sym (ap (λ r. get_or r i false) is) ∙ s)),
+    (λ s. elim s [ inl old ↦ ap (λ r. get_or r i false) is ∙ old | inr new ↦ absurd (differ new.0) ]),
+  )
+]
+
+pub shape_with_seen : (rows : List (List Bool)) (p n : ℕ) → AreShaped rows (with_seen rows p n)
+shape_with_seen rows p n = shape_set rows p (set (row_of rows p) n true) (length-set (row_of rows p) n true)
+
+-- p sees event n in addition
+pub sees_with_seen : (rows : List (List Bool)) (p n g i : ℕ) → g < length rows → i < length (row_of rows g) → IsTrue (sees (with_seen rows p n) g i) ↔ (IsTrue (sees rows g i) ⊎ ((p ≡ g) × (n ≡ i)))
+sees_with_seen rows p n g i less within =
+    sees_set rows p (set (row_of rows p) n true) (n ≡ i) g i less
+    (λ same. subst (λ q. IsTrue (get_or (set (row_of rows q) n true) i false) ↔ (IsTrue (sees rows g i) ⊎ (n ≡ i))) (sym same) (tells_set (row_of rows g) n i within))
+
+shape_with_row : (rows : List (List Bool)) (p : ℕ) (row : List Bool) → AreShaped rows (with_row rows p row)
+shape_with_row rows p row = shape_set rows p (joined (row_of rows p) row (length (row_of rows p))) (length-joined (row_of rows p) row (length (row_of rows p)))
+
+-- p sees in addition what the row tells
+sees_with_row : (rows : List (List Bool)) (p : ℕ) (row : List Bool) (g i : ℕ) → g < length rows → i < length (row_of rows g)
+    → IsTrue (sees (with_row rows p row) g i) ↔ (IsTrue (sees rows g i) ⊎ ((p ≡ g) × IsTrue (get_or row i false)))
+sees_with_row rows p row g i less within =
+    sees_set rows p (joined (row_of rows p) row (length (row_of rows p))) (IsTrue (get_or row i false)) g i less
+    (λ same. subst (λ q. IsTrue (get_or (joined (row_of rows q) row (length (row_of rows q))) i false) ↔ (IsTrue (sees rows g i) ⊎ IsTrue (get_or row i false))) (sym same) here)
   where
-    go : (b : Bool) → length (passed rows f t n) ≡ length rows → length (if b then with_seen (passed rows f t n) t n else passed rows f t n) ≡ length rows
-    go true old = length-with_seen (passed rows f t n) t n ∙ old
-    go false old = old
+    here : IsTrue (get_or (joined (row_of rows g) row (length (row_of rows g))) i false) ↔ (IsTrue (sees rows g i) ⊎ IsTrue (get_or row i false))
+    here =
+        let is = tells_joined (row_of rows g) row (length (row_of rows g)) i within in (
+          (λ s. elim (is.0 s) [ inl old ↦ inl old | inr new ↦ inr new.1 ]),
+          (λ s. is.1 (elim s [ inl old ↦ inl old | inr new ↦ inr (within, new) ])),
+        )
 
-pub wide_passed : (rows : List (List Bool)) (f t n g : ℕ) → g < length rows → length (row_of (passed rows f t n) g) ≡ length (row_of rows g)
-wide_passed rows f t zero g less = refl
-wide_passed rows f t (suc n) g less = go (sees (passed rows f t n) f n) (wide_passed rows f t n g less)
+shape_given : (b : Bool) (rows : List (List Bool)) (from to : ℕ) → AreShaped rows (given b rows from to)
+shape_given true rows from to = shape_with_row rows to (row_of rows from)
+shape_given false rows from to = shape_same rows
+
+-- where it is so, `to` sees in addition all that `from` does
+sees_given : (b : Bool) (rows : List (List Bool)) (from to g i : ℕ) → g < length rows → i < length (row_of rows g)
+    → IsTrue (sees (given b rows from to) g i) ↔ (IsTrue (sees rows g i) ⊎ (IsTrue b × (to ≡ g) × IsTrue (sees rows from i)))
+sees_given true rows from to g i less within =
+    let is = sees_with_row rows to (row_of rows from) g i less within in (
+      (λ s. elim (is.0 s) [ inl old ↦ inl old | inr new ↦ inr (refl, new.0, new.1) ]),
+      (λ s. is.1 (elim s [ inl old ↦ inl old | inr new ↦ inr (new.1, new.2) ])),
+    )
+sees_given false rows from to g i less within = (λ s. inl s, λ s. elim s [ inl old ↦ old | inr new ↦ let never : false ≡ true = new.0 in cc ])
+
+-- An event.
+
+pub shape_inside : (rows : List (List Bool)) (who : ℕ) (o : Op) → AreShaped rows (inside rows who o)
+shape_inside rows who o = by (partner o)
   where
-    go : (b : Bool) → length (row_of (passed rows f t n) g) ≡ length (row_of rows g) → length (row_of (if b then with_seen (passed rows f t n) t n else passed rows f t n) g) ≡ length (row_of rows g)
-    go true old = wide_with_seen (passed rows f t n) t n g (omega (arith, less, length-passed rows f t n)) ∙ old
-    go false old = old
+    by : (other : Option ℕ) → AreShaped rows (elim other [ Some p ↦ given (joins who o p who) (given (joins who o who p) rows who p) p who | None ↦ rows ])
+    by None = shape_same rows
+    by (Some p) =
+        shape_on rows (given (joins who o who p) rows who p) (given (joins who o p who) (given (joins who o who p) rows who p) p who)
+        (shape_given (joins who o who p) rows who p) (shape_given (joins who o p who) (given (joins who o who p) rows who p) p who)
 
--- g sees event j: it did, or it is `t` and `f` sees it among the first n
-abbrev pub SeesPassed : List (List Bool) → ℕ → ℕ → ℕ → ℕ → ℕ → Type 0
-SeesPassed rows f t n g j = IsTrue (sees rows g j) ⊎ ((t ≡ g) × (j < n) × IsTrue (sees rows f j))
+-- g sees what it saw, and what each goroutine saw whose begin is synchronized before g's end
+abbrev pub SeesInside : List (List Bool) → ℕ → Op → ℕ → ℕ → Type 0
+SeesInside rows who o g i = IsTrue (sees rows g i) ⊎ ((f : ℕ) × SynchronizedInside who o f g × IsTrue (sees rows f i))
 
--- `t` sees in addition what `f` sees among the first n, and nothing else changes
-pub sees_passed : (rows : List (List Bool)) (limit f t n : ℕ) → AreWide rows limit → n ≤ limit → f < length rows → (g j : ℕ) → g < length rows → j < limit
-    → IsTrue (sees (passed rows f t n) g j) ↔ SeesPassed rows f t n g j
-sees_passed rows limit f t zero wide fits from g j less within = (λ s. inl s, λ s. elim s [ inl old ↦ old | inr new ↦ let none : j < 0 = new.1 in absurd (omega arith) ])
-sees_passed rows limit f t (suc n) wide fits from g j less within =
-    go (sees (passed rows f t n) f n) refl (sees_passed rows limit f t n wide (omega arith) from g j less within) (sees_passed rows limit f t n wide (omega arith) from f n from (omega arith))
+pub sees_inside : (rows : List (List Bool)) (limit who : ℕ) (o : Op) → ((g : ℕ) → g < length rows → length (row_of rows g) ≡ limit) → who < length rows → IfSome (partner o) (λ p. p < length rows)
+    → (g i : ℕ) → g < length rows → i < limit → IsTrue (sees (inside rows who o) g i) ↔ SeesInside rows who o g i
+sees_inside rows limit who o wide first second g i less within = by (partner o) refl second
   where
-    wider : SeesPassed rows f t n g j → SeesPassed rows f t (suc n) g j
+    by : (other : Option ℕ) → partner o ≡ other → IfSome other (λ p. p < length rows)
+        → IsTrue (sees (elim other [ Some p ↦ given (joins who o p who) (given (joins who o who p) rows who p) p who | None ↦ rows ]) g i) ↔ SeesInside rows who o g i
+    by None alone _ = (λ s. inl s, back)
+      where
+        back : SeesInside rows who o g i → IsTrue (sees rows g i)
+        back (inl old) = old
+        back (inr (f, inside, seen)) = elim (inside_pair who o f g inside) [ inl pair ↦ absurd (none-some g (sym alone ∙ pair.1)) | inr pair ↦ absurd (none-some f (sym alone ∙ pair.0)) ]
+    by (Some p) is row = (there, back)
+      where
+        middle : List (List Bool)
+        middle = given (joins who o who p) rows who p
+
+        one : (h : ℕ) → h < length rows → IsTrue (sees (given (joins who o who p) rows who p) h i) ↔ (IsTrue (sees rows h i) ⊎ (IsTrue (joins who o who p) × (p ≡ h) × IsTrue (sees rows who i)))
+        one h below = sees_given (joins who o who p) rows who p h i below (omega (arith, within, wide h below))
+
+        two : IsTrue (sees (given (joins who o p who) (given (joins who o who p) rows who p) p who) g i)
+            ↔ (IsTrue (sees (given (joins who o who p) rows who p) g i) ⊎ (IsTrue (joins who o p who) × (who ≡ g) × IsTrue (sees (given (joins who o who p) rows who p) p i)))
+        two =
+            let shape = shape_given (joins who o who p) rows who p in
+            sees_given (joins who o p who) (given (joins who o who p) rows who p) p who g i (omega (arith, less, shape.count)) (omega (arith, within, wide g less, shape.wide g less))
+
+        from_who : IsTrue (joins who o who p) → p ≡ g → IsTrue (sees rows who i) → SeesInside rows who o g i
+        from_who joins to seen = inr (who, subst (SynchronizedInside who o who) to ((joins_is who o who p).0 joins), seen)
+
+        there : IsTrue (sees (given (joins who o p who) (given (joins who o who p) rows who p) p who) g i) → SeesInside rows who o g i
+        there s = elim (two.0 s) [
+          | inl mid ↦ elim ((one g less).0 mid) [ inl old ↦ inl old | inr new ↦ from_who new.0 new.1 new.2 ]
+          | inr (joins, to, mid) ↦ elim ((one p row).0 mid) [
+            | inl old ↦ inr (p, subst (SynchronizedInside who o p) to ((joins_is who o p who).0 joins), old)
+            | inr new ↦ inl (subst (λ g. IsTrue (sees rows g i)) to new.2)
+          ]
+        ]
+
+        back : SeesInside rows who o g i → IsTrue (sees (given (joins who o p who) (given (joins who o who p) rows who p) p who) g i)
+        back (inl old) = two.1 (inl ((one g less).1 (inl old)))
+        back (inr (f, inside, seen)) = elim (inside_pair who o f g inside) [
+          | inl (from, to) ↦
+              let other : p ≡ g = same_Some p g (sym is ∙ to) in
+              let test : IsTrue (joins who o who p) = (joins_is who o who p).1 (subst (λ f. SynchronizedInside who o f p) (sym from) (subst (SynchronizedInside who o f) (sym other) inside)) in
+              two.1 (inl ((one g less).1 (inr (test, other, subst (λ f. IsTrue (sees rows f i)) (sym from) seen))))
+          | inr (from, to) ↦
+              let other : p ≡ f = same_Some p f (sym is ∙ from) in
+              let test : IsTrue (joins who o p who) = (joins_is who o p who).1 (subst (λ f. SynchronizedInside who o f who) (sym other) (subst (SynchronizedInside who o f) (sym to) inside)) in
+              two.1 (inr (test, to, (one p row).1 (inl (subst (λ f. IsTrue (sees rows f i)) (sym other) seen))))
+        ]
+
+pub shape_taken : (is : ℕ → Bool) (heard rows : List (List Bool)) (who n : ℕ) → AreShaped rows (taken is heard rows who n)
+shape_taken is heard rows who zero = shape_same rows
+shape_taken is heard rows who (suc n) = by (is n) (shape_taken is heard rows who n)
+  where
+    by : (b : Bool) → AreShaped rows (taken is heard rows who n) → AreShaped rows (if b then with_row (taken is heard rows who n) who (row_of heard n) else taken is heard rows who n)
+    by true old = shape_on rows (taken is heard rows who n) (with_row (taken is heard rows who n) who (row_of heard n)) old (shape_with_row (taken is heard rows who n) who (row_of heard n))
+    by false old = old
+
+-- g sees what it saw, and where it is who, what was seen at the begin of each source among the first n events
+abbrev pub SeesTaken : (ℕ → Bool) → List (List Bool) → List (List Bool) → ℕ → ℕ → ℕ → ℕ → Type 0
+SeesTaken is heard rows who n g i = IsTrue (sees rows g i) ⊎ ((who ≡ g) × ((k : ℕ) × (k < n) × IsTrue (is k) × IsTrue (sees heard k i)))
+
+pub sees_taken : (is : ℕ → Bool) (heard rows : List (List Bool)) (who n g i : ℕ) → g < length rows → i < length (row_of rows g) → IsTrue (sees (taken is heard rows who n) g i) ↔ SeesTaken is heard rows who n g i
+sees_taken is heard rows who zero g i less within = (λ s. inl s, λ s. elim s [ inl old ↦ old | inr (to, (k, below, source, seen)) ↦ absurd (omega (arith, below)) ])
+sees_taken is heard rows who (suc n) g i less within = by (is n) refl (sees_taken is heard rows who n g i less within)
+  where
+    wider : SeesTaken is heard rows who n g i → SeesTaken is heard rows who (suc n) g i
     wider (inl old) = inl old
-    wider (inr (to, below, seen)) = inr (to, omega arith, seen)
+    wider (inr (to, (k, below, source, seen))) = inr (to, (k, omega (arith, below), source, seen))
 
-    go : (b : Bool) → sees (passed rows f t n) f n ≡ b
-        → (IsTrue (sees (passed rows f t n) g j) ↔ SeesPassed rows f t n g j)
-        → (IsTrue (sees (passed rows f t n) f n) ↔ SeesPassed rows f t n f n)
-        → IsTrue (sees (if b then with_seen (passed rows f t n) t n else passed rows f t n) g j) ↔ SeesPassed rows f t (suc n) g j
-    go true is before source = (there, back)
+    by : (b : Bool) → is n ≡ b → (IsTrue (sees (taken is heard rows who n) g i) ↔ SeesTaken is heard rows who n g i)
+        → IsTrue (sees (if b then with_row (taken is heard rows who n) who (row_of heard n) else taken is heard rows who n) g i) ↔ SeesTaken is heard rows who (suc n) g i
+    by true test before = (there, back)
       where
-        one : IsTrue (sees (with_seen (passed rows f t n) t n) g j) ↔ (IsTrue (sees (passed rows f t n) g j) ⊎ ((t ≡ g) × (n ≡ j)))
-        one = sees_with_seen (passed rows f t n) t n g j (omega (arith, less, length-passed rows f t n)) (omega (arith, within, wide_passed rows f t n g less, wide g less))
+        one : IsTrue (sees (with_row (taken is heard rows who n) who (row_of heard n)) g i) ↔ (IsTrue (sees (taken is heard rows who n) g i) ⊎ ((who ≡ g) × IsTrue (sees heard n i)))
+        one =
+            let shape = shape_taken is heard rows who n in
+            sees_with_row (taken is heard rows who n) who (row_of heard n) g i (omega (arith, less, shape.count)) (omega (arith, within, shape.wide g less))
 
-        given : SeesPassed rows f t n f n → IsTrue (sees rows f n)
-        given (inl old) = old
-        given (inr (to, below, seen)) = seen
+        there : IsTrue (sees (with_row (taken is heard rows who n) who (row_of heard n)) g i) → SeesTaken is heard rows who (suc n) g i
+        there s = elim (one.0 s) [ inl old ↦ wider (before.0 old) | inr new ↦ inr (new.0, (n, omega arith, test, new.1)) ]
 
-        there : IsTrue (sees (with_seen (passed rows f t n) t n) g j) → SeesPassed rows f t (suc n) g j
-        there s = elim (one.0 s) [
-          | inl old ↦ wider (before.0 old)
-          | inr new ↦ let here : n ≡ j = new.1 in inr (new.0, omega arith, subst (λ j. IsTrue (sees rows f j)) here (given (source.0 is)))
-        ]
-
-        back : SeesPassed rows f t (suc n) g j → IsTrue (sees (with_seen (passed rows f t n) t n) g j)
+        back : SeesTaken is heard rows who (suc n) g i → IsTrue (sees (with_row (taken is heard rows who n) who (row_of heard n)) g i)
         back (inl old) = one.1 (inl (before.1 (inl old)))
-        back (inr (to, below, seen)) = elim (cases_eq n j) [
-          | inl here ↦ one.1 (inr (to, here))
-          | inr differ ↦ one.1 (inl (before.1 (inr (to, omega arith, seen))))
+        back (inr (to, (k, below, source, seen))) = elim (cases_eq k n) [
+          | inl here ↦ one.1 (inr (to, subst (λ k. IsTrue (sees heard k i)) here seen))
+          | inr differ ↦ one.1 (inl (before.1 (inr (to, (k, omega (arith, below, differ), source, seen)))))
         ]
-    go false is before source = (λ s. wider (before.0 s), back)
+    by false test before = (λ s. wider (before.0 s), back)
       where
-        back : SeesPassed rows f t (suc n) g j → IsTrue (sees (passed rows f t n) g j)
+        back : SeesTaken is heard rows who (suc n) g i → IsTrue (sees (taken is heard rows who n) g i)
         back (inl old) = before.1 (inl old)
-        back (inr (to, below, seen)) = elim (cases_eq n j) [
-          | inl here ↦ let was : sees (passed rows f t n) f n ≡ true = source.1 (inl (subst (λ j. IsTrue (sees rows f j)) (sym here) seen)) in cc
-          | inr differ ↦ before.1 (inr (to, omega arith, seen))
+        back (inr (to, (k, below, source, seen))) = elim (cases_eq k n) [
+          | inl here ↦ let was : is n ≡ true = subst (λ k. is k ≡ true) here source in cc
+          | inr differ ↦ before.1 (inr (to, (k, omega (arith, below, differ), source, seen)))
         ]
-
--- g sees event i behind a Go of k by who, which is event n
-abbrev pub SeesGo : List (List Bool) → ℕ → ℕ → ℕ → ℕ → ℕ → Type 0
-SeesGo rows n who k g i = SeesPassed rows who k n g i ⊎ (((who ≡ g) ⊎ (k ≡ g)) × (n ≡ i))
-
--- the rows behind a Go
-abbrev pub go_rows : List (List Bool) → ℕ → ℕ → ℕ → List (List Bool)
-go_rows rows n who k = with_seen (with_seen (passed rows who k n) who n) k n
-
--- what they tell
-pub sees_go : (rows : List (List Bool)) (limit n who k : ℕ) → AreWide rows limit → n < limit → who < length rows → (g i : ℕ) → g < length rows → i < limit
-    → IsTrue (sees (go_rows rows n who k) g i) ↔ SeesGo rows n who k g i
-sees_go rows limit n who k wide room from g i less within = (there, back)
-  where
-    first : IsTrue (sees (passed rows who k n) g i) ↔ SeesPassed rows who k n g i
-    first = sees_passed rows limit who k n wide (omega arith) from g i less within
-
-    second : IsTrue (sees (with_seen (passed rows who k n) who n) g i) ↔ (IsTrue (sees (passed rows who k n) g i) ⊎ ((who ≡ g) × (n ≡ i)))
-    second = sees_with_seen (passed rows who k n) who n g i (omega (arith, less, length-passed rows who k n)) (omega (arith, within, wide_passed rows who k n g less, wide g less))
-
-    third : IsTrue (sees (go_rows rows n who k) g i) ↔ (IsTrue (sees (with_seen (passed rows who k n) who n) g i) ⊎ ((k ≡ g) × (n ≡ i)))
-    third =
-        let below : g < length (passed rows who k n) = omega (arith, less, length-passed rows who k n) in
-        sees_with_seen (with_seen (passed rows who k n) who n) k n g i
-        (omega (arith, below, length-with_seen (passed rows who k n) who n))
-        (omega (arith, within, wide_with_seen (passed rows who k n) who n g below, wide_passed rows who k n g less, wide g less))
-
-    there : IsTrue (sees (go_rows rows n who k) g i) → SeesGo rows n who k g i
-    there seen = elim (third.0 seen) [
-      | inl before ↦ elim (second.0 before) [ inl old ↦ inl (first.0 old) | inr own ↦ inr (inl own.0, own.1) ]
-      | inr new ↦ inr (inr new.0, new.1)
-    ]
-
-    back : SeesGo rows n who k g i → IsTrue (sees (go_rows rows n who k) g i)
-    back (inl old) = third.1 (inl (second.1 (inl (first.1 old))))
-    back (inr (inl own, here)) = third.1 (inl (second.1 (inr (own, here))))
-    back (inr (inr new, here)) = third.1 (inr (new, here))
-
-pub length-go_rows : (rows : List (List Bool)) (n who k : ℕ) → length (go_rows rows n who k) ≡ length rows
-length-go_rows rows n who k = length-with_seen (with_seen (passed rows who k n) who n) k n ∙ length-with_seen (passed rows who k n) who n ∙ length-passed rows who k n
-
-pub wide_go_rows : (rows : List (List Bool)) (n who k g : ℕ) → g < length rows → length (row_of (go_rows rows n who k) g) ≡ length (row_of rows g)
-wide_go_rows rows n who k g less =
-    let one : g < length (passed rows who k n) = omega (arith, less, length-passed rows who k n) in
-    let two : g < length (with_seen (passed rows who k n) who n) = omega (arith, one, length-with_seen (passed rows who k n) who n) in
-    wide_with_seen (with_seen (passed rows who k n) who n) k n g two ∙ wide_with_seen (passed rows who k n) who n g one ∙ wide_passed rows who k n g less

@@ -1,18 +1,21 @@
 -- A table tells what each goroutine has seen, one event on.
-use Rattle.std.proofs.Common.{◌≡◌, ◌⊎◌, ◌↔◌, ℕ, ◌+◌, ◌<◌, ◌≤◌, Bool, false, List, [], ◌∷◌, ◌++◌, length, replicate, refl, sym, ap, ◌∙◌, subst, inl, inr, arith, IsTrue, get_or, length-append}
-use Rattle.std.proofs.lemmas.List.{get_or-replicate, length-replicate}
+use Rattle.std.proofs.Common.{◌≡◌, ◌⊎◌, ◌↔◌, ℕ, ◌+◌, ◌<◌, ◌≤◌, Bool, true, false, List, [], ◌∷◌, ◌++◌, if◌then◌else◌, length, replicate, IfSome, get_or, refl, sym, ap, ◌∙◌, subst, inl, inr, arith, IsTrue, length-append}
+use Rattle.std.proofs.Math.Seq.{get_or-append_seam}
+use Rattle.std.proofs.lemmas.List.{get_or-replicate, get_or_append_left, length-replicate}
 use Rattle.std.proofs.lemmas.Option.{slice_get_within}
 use Rattle.race_records.specs.declared.event.Event.{Event}
-use Rattle.race_records.specs.declared.event.Op.{Op}
-use Rattle.race_records.specs.declared.event.Op.TheVariants.{Go, Exit, Read, Write}
-use Rattle.race_model.specs.Events.{At}
-use Rattle.race_model.specs.Known.{SeenBy}
-use Rattle.race_model.proofs.Indexes.{push_at}
+use Rattle.race_model.specs.Events.{At, takes_part, partner}
+use Rattle.race_model.specs.Order.{SynchronizedInside, IsSource}
+use Rattle.race_model.specs.Known.{SeenBy, SeenAt, Brings}
+use Rattle.race_model.proofs.Indexes.{at_same, at_below, slice_get-append, append_at_old, slice_get-push, push_at}
 use Rattle.race_model.proofs.Ranks.{reaches_up}
-use Rattle.race_model.proofs.SeenByOperation.{is_plain, SeenAfterGo, seen_plain, seen_go}
-use Rattle.race_edges.specs.SeenTable.{row_of, sees, with_seen, rows_after}
-use Rattle.race_edges.specs.IsTable.{IsTable}
-use Rattle.race_edges.proofs.RowLemmas.{false_from, length-with_seen, wide_with_seen, sees_with_seen, SeesGo, go_rows, sees_go, length-go_rows, wide_go_rows}
+use Rattle.race_model.proofs.Reaching.{who_takes_part, inside_to}
+use Rattle.race_model.proofs.SeenSteps.{seen_at_new, seen_at_from, seen_at_grow, seen_at_old, seen_grow, seen_brings, seen_step}
+use Rattle.race_edges.specs.Synchronized.{can_be_source}
+use Rattle.race_edges.specs.TableState.{TableState, row_of, sees, with_seen, inside, kept, table_after, HasRows}
+use Rattle.race_edges.specs.IsTable.{HasSeen, HadSeen, IsTable}
+use Rattle.race_edges.proofs.SynchronizedLemmas.{source_can_be, inside_pair}
+use Rattle.race_edges.proofs.RowLemmas.{shape_with_seen, sees_with_seen, shape_inside, sees_inside, SeesInside, shape_taken, sees_taken, SeesTaken}
 
 -- only events of the list are seen
 pub seen_within : (caps : ℕ → ℕ) (past : List Event) (i h g : ℕ) → SeenBy caps past i h g → i < length past
@@ -21,166 +24,214 @@ seen_within caps past i h g (j, (e, at, is), w) =
     let below : j < length past = slice_get_within past j e at in
     omega arith
 
+-- what was seen at the begin of an event stands no later
+seen_at_up : (caps : ℕ → ℕ) (past : List Event) (i h k f : ℕ) → SeenAt caps past i h k f → i ≤ k
+seen_at_up caps past i h k f (inl (same, who)) = omega (arith, same)
+seen_at_up caps past i h k f (inr w) = let up : i + i < k + k = reaches_up w in omega (arith, up)
+
+-- what the table tells of an event of the list
+pub table_seen : (caps : ℕ → ℕ) (table : TableState) (limit : ℕ) (past : List Event) → IsTable caps table limit past → (g i : ℕ) (e : Event) → g < length table.rows → At past i e
+    → IsTrue (sees table.rows g i) ↔ SeenBy caps past i e.who g
+table_seen caps table limit past is g i e less at =
+    let within : i < limit = let below = slice_get_within past i e at in let room = is.room in omega (arith, below, room) in (
+      (λ s. let seen = (is.seen g i less within).0 s in subst (λ (e : Event). SeenBy caps past i e.who g) (at_same past i seen.0 e seen.1 at) seen.2),
+      (λ seen. (is.seen g i less within).1 (e, at, seen)),
+    )
+
 -- before the first event
-pub table_none : (caps : ℕ → ℕ) (goroutines limit : ℕ) → IsTable caps (replicate goroutines (replicate limit false)) limit []
+pub table_none : (caps : ℕ → ℕ) (goroutines limit : ℕ) → IsTable caps (record { rows = replicate goroutines (replicate limit false); heard = [] }) limit []
 table_none caps goroutines limit = record {
-  seen = λ g i e less at. cc;
-  fresh = λ g i less past within. ap (λ r. get_or r i false) (row g less) ∙ get_or-replicate limit i false false within;
+  seen = λ g i less within. (
+    (λ s. let none : sees (replicate goroutines (replicate limit false)) g i ≡ false = ap (λ r. get_or r i false) (row g less) ∙ get_or-replicate limit i false false within in cc),
+    (λ (e, at, seen). cc),
+  );
+  heard = λ k i s at source within. cc;
   wide = λ g less. ap length (row g less) ∙ length-replicate limit false;
+  long = refl;
+  room = omega arith;
 }
   where
     row : (g : ℕ) → g < length (replicate goroutines (replicate limit false)) → row_of (replicate goroutines (replicate limit false)) g ≡ replicate limit false
     row g less = get_or-replicate goroutines g (replicate limit false) [] (omega (arith, less, length-replicate goroutines (replicate limit false)))
 
-module _ (caps : ℕ → ℕ) (rows : List (List Bool)) (limit : ℕ) (past : List Event) (table : IsTable caps rows limit past) (e : Event) (room : length past < limit) where
-  -- the next event isn't seen
-  unseen : (g : ℕ) → g < length rows → IsTrue (sees rows g (length past)) → ⊥
-  unseen g less seen = let none : sees rows g (length past) ≡ false = table.fresh g (length past) less (omega arith) room in cc
+module _ (caps : ℕ → ℕ) (table : TableState) (limit : ℕ) (past : List Event) (is_table : IsTable caps table limit past) (e : Event) (room : length past < limit) (has : HasRows table.rows e)
+    (is : ℕ → Bool) (sources : (k : ℕ) (s : Event) → At past k s → IsTrue (is k) ↔ IsSource caps past k s.op e.op) where
+  -- g had seen the begin of event i before, or it is g's own begin in the next event
+  abbrev Knows : ℕ → ℕ → Type 0
+  Knows g i = (s : Event) × At (past ++ e ∷ []) i s × (((i ≡ length past) × (s.who ≡ g)) ⊎ SeenBy caps past i s.who g)
 
-  -- a table that tells of each event of the longer list who has seen it
-  abbrev Tells : List (List Bool) → Type 0
-  Tells next = (g i : ℕ) (s : Event) → g < length rows → At (past ++ e ∷ []) i s → IsTrue (sees next g i) ↔ SeenBy caps (past ++ e ∷ []) i s.who g
+  -- the next event
+  at_last : (i : ℕ) (s : Event) → At (past ++ e ∷ []) i s → i ≡ length past → e ≡ s
+  at_last i s at here = at_same (past ++ e ∷ []) (length past) e s (slice_get-push past e) (subst (λ i. At (past ++ e ∷ []) i s) here at)
 
-  -- it does where it tells so of the old events and of the new one
-  tells_from : (next : List (List Bool))
-      → ((g i : ℕ) (s : Event) → g < length rows → At past i s → IsTrue (sees next g i) ↔ SeenBy caps (past ++ e ∷ []) i s.who g)
-      → ((g : ℕ) → g < length rows → IsTrue (sees next g (length past)) ↔ SeenBy caps (past ++ e ∷ []) (length past) e.who g)
-      → Tells next
-  tells_from next old new g i s less at = elim (push_at past e i s at) [
-    | inl before ↦ old g i s less before
-    | inr here ↦
-        subst (λ i. IsTrue (sees next g i) ↔ SeenBy caps (past ++ e ∷ []) i s.who g) (sym here.0)
-        (subst (λ (s : Event). IsTrue (sees next g (length past)) ↔ SeenBy caps (past ++ e ∷ []) (length past) s.who g) here.1 (new g less))
+  -- an event of the list
+  at_old : (i : ℕ) (s : Event) → At (past ++ e ∷ []) i s → i < length past → At past i s
+  at_old i s at below = sym (slice_get-append past (e ∷ []) i below) ∙ at
+
+  sees_own : (g i : ℕ) → g < length table.rows → i < limit → IsTrue (sees (with_seen table.rows e.who (length past)) g i) ↔ Knows g i
+  sees_own g i less within = (there, back)
+    where
+      bits : IsTrue (sees (with_seen table.rows e.who (length past)) g i) ↔ (IsTrue (sees table.rows g i) ⊎ ((e.who ≡ g) × (length past ≡ i)))
+      bits = sees_with_seen table.rows e.who (length past) g i less (let wide = is_table.wide g less in omega (arith, within, wide))
+
+      there : IsTrue (sees (with_seen table.rows e.who (length past)) g i) → Knows g i
+      there s = elim (bits.0 s) [
+        | inl old ↦ let seen = (is_table.seen g i less within).0 old in (seen.0, append_at_old past (e ∷ []) i seen.0 seen.1, inr seen.2)
+        | inr (who, here) ↦ (e, subst (λ i. At (past ++ e ∷ []) i e) here (slice_get-push past e), inl (sym here, who))
+      ]
+
+      back : Knows g i → IsTrue (sees (with_seen table.rows e.who (length past)) g i)
+      back (s, at, inl (here, who)) = bits.1 (inr (ap (λ (s : Event). s.who) (at_last i s at here) ∙ who, sym here))
+      back (s, at, inr seen) = bits.1 (inl ((is_table.seen g i less within).1 (s, at_old i s at (seen_within caps past i s.who g seen), seen)))
+
+  -- whose begin is synchronized before an end of the event has a row
+  row_inside : (f g : ℕ) → SynchronizedInside e.who e.op f g → f < length table.rows
+  row_inside f g edge = elim (inside_pair e.who e.op f g edge) [
+    | inl pair ↦ subst (λ f. f < length table.rows) pair.0 has.0
+    | inr pair ↦ subst (λ o. IfSome o (λ p. p < length table.rows)) pair.0 has.1
   ]
 
-  -- the goroutine of a plain operation sees its own begin
-  plain_tells : IsTrue (is_plain e.op) → Tells (with_seen rows e.who (length past))
-  plain_tells plain = tells_from (with_seen rows e.who (length past)) old new
+  -- what g has seen behind the event: it knew, or an edge inside brings it, or a source does
+  abbrev Sees : ℕ → ℕ → Type 0
+  Sees g i =
+      (Knows g i ⊎ ((f : ℕ) × SynchronizedInside e.who e.op f g × Knows f i))
+      ⊎ ((e.who ≡ g) × ((k : ℕ) × (s : Event) × At past k s × IsSource caps past k s.op e.op × HadSeen caps past i k s.who))
+
+  sees_after : (g i : ℕ) → g < length table.rows → i < limit → IsTrue (sees (table_after is table (length past) e.who e.op).rows g i) ↔ Sees g i
+  sees_after g i less within = (there, back)
     where
-      bits : (g i : ℕ) → g < length rows → i < limit → IsTrue (sees (with_seen rows e.who (length past)) g i) ↔ (IsTrue (sees rows g i) ⊎ ((e.who ≡ g) × (length past ≡ i)))
-      bits g i less within = sees_with_seen rows e.who (length past) g i less (omega (arith, within, table.wide g less))
+      wide : (g : ℕ) → g < length (with_seen table.rows e.who (length past)) → length (row_of (with_seen table.rows e.who (length past)) g) ≡ limit
+      wide g below =
+          let shape = shape_with_seen table.rows e.who (length past) in
+          let old : g < length table.rows = omega (arith, below, shape.count) in
+          shape.wide g old ∙ is_table.wide g old
 
-      old : (g i : ℕ) (s : Event) → g < length rows → At past i s → IsTrue (sees (with_seen rows e.who (length past)) g i) ↔ SeenBy caps (past ++ e ∷ []) i s.who g
-      old g i s less at = (there, back)
-        where
-          under : i < length past
-          under = slice_get_within past i s at
+      in_own : (h : ℕ) → h < length table.rows → h < length (with_seen table.rows e.who (length past))
+      in_own h below = let shape = shape_with_seen table.rows e.who (length past) in omega (arith, below, shape.count)
 
-          there : IsTrue (sees (with_seen rows e.who (length past)) g i) → SeenBy caps (past ++ e ∷ []) i s.who g
-          there seen = elim ((bits g i less (omega (arith, under))).0 seen) [
-            | inl before ↦ (seen_plain caps past e plain i s.who g).1 (inl ((table.seen g i s less at).0 before))
-            | inr here ↦ absurd (omega (arith, under, here.1))
-          ]
+      partner_row : IfSome (partner e.op) (λ p. p < length (with_seen table.rows e.who (length past)))
+      partner_row = let shape = shape_with_seen table.rows e.who (length past) in subst (λ m. IfSome (partner e.op) (λ p. p < m)) (sym shape.count) has.1
 
-          back : SeenBy caps (past ++ e ∷ []) i s.who g → IsTrue (sees (with_seen rows e.who (length past)) g i)
-          back seen = elim ((seen_plain caps past e plain i s.who g).0 seen) [
-            | inl before ↦ (bits g i less (omega (arith, under))).1 (inl ((table.seen g i s less at).1 before))
-            | inr here ↦ absurd (omega (arith, under, here.0))
-          ]
+      brought : IsTrue (sees (inside (with_seen table.rows e.who (length past)) e.who e.op) g i) ↔ SeesInside (with_seen table.rows e.who (length past)) e.who e.op g i
+      brought = sees_inside (with_seen table.rows e.who (length past)) limit e.who e.op wide (in_own e.who has.0) partner_row g i (in_own g less) within
 
-      new : (g : ℕ) → g < length rows → IsTrue (sees (with_seen rows e.who (length past)) g (length past)) ↔ SeenBy caps (past ++ e ∷ []) (length past) e.who g
-      new g less = (
-        (λ seen. elim ((bits g (length past) less room).0 seen) [
-          | inl before ↦ absurd (unseen g less before)
-          | inr here ↦ (seen_plain caps past e plain (length past) e.who g).1 (inr (refl, here.0, here.0))
-        ]),
-        (λ seen. elim ((seen_plain caps past e plain (length past) e.who g).0 seen) [
-          | inl before ↦ let under : length past < length past = seen_within caps past (length past) e.who g before in absurd (omega arith)
-          | inr here ↦ (bits g (length past) less room).1 (inr (here.2, refl))
-        ]),
-      )
+      heard : IsTrue (sees (table_after is table (length past) e.who e.op).rows g i)
+          ↔ SeesTaken is table.heard (inside (with_seen table.rows e.who (length past)) e.who e.op) e.who (length past) g i
+      heard =
+          let shape = shape_inside (with_seen table.rows e.who (length past)) e.who e.op in
+          let here = in_own g less in
+          sees_taken is table.heard (inside (with_seen table.rows e.who (length past)) e.who e.op) e.who (length past) g i (omega (arith, here, shape.count))
+          (omega (arith, within, shape.wide g here, wide g here))
 
-  pub plain_table : IsTrue (is_plain e.op) → IsTable caps (with_seen rows e.who (length past)) limit (past ++ e ∷ [])
-  plain_table plain = record {
-    seen = λ g i s less. plain_tells plain g i s (omega (arith, less, length-with_seen rows e.who (length past)));
-    fresh = λ g i less behind within.
-        let old : g < length rows = omega (arith, less, length-with_seen rows e.who (length past)) in
-        let far : length past + 1 ≤ i = omega (arith, behind, length-append past (e ∷ [])) in
-        false_from (sees (with_seen rows e.who (length past)) g i) (λ seen. elim ((sees_with_seen rows e.who (length past) g i old (omega (arith, within, table.wide g old))).0 seen) [
-          | inl before ↦ let none : sees rows g i ≡ false = table.fresh g i old (omega arith) within in cc
-          | inr here ↦ absurd (omega (arith, far, here.1))
-        ]);
-    wide = λ g less.
-        let old : g < length rows = omega (arith, less, length-with_seen rows e.who (length past)) in
-        wide_with_seen rows e.who (length past) g old ∙ table.wide g old;
-  }
+      from_inside : SeesInside (with_seen table.rows e.who (length past)) e.who e.op g i → Knows g i ⊎ ((f : ℕ) × SynchronizedInside e.who e.op f g × Knows f i)
+      from_inside (inl old) = inl ((sees_own g i less within).0 old)
+      from_inside (inr (f, edge, seen)) = inr (f, edge, (sees_own f i (row_inside f g edge) within).0 seen)
 
-  -- where the next event is a Go of k, k sees all that its starter had seen, and both see the Go
-  go_tells : (k : ℕ) → e.op ≡ Go k → e.who < length rows → Tells (go_rows rows (length past) e.who k)
-  go_tells k is from = tells_from (go_rows rows (length past) e.who k) old new
+      to_inside : Knows g i ⊎ ((f : ℕ) × SynchronizedInside e.who e.op f g × Knows f i) → SeesInside (with_seen table.rows e.who (length past)) e.who e.op g i
+      to_inside (inl old) = inl ((sees_own g i less within).1 old)
+      to_inside (inr (f, edge, knows)) = inr (f, edge, (sees_own f i (row_inside f g edge) within).1 knows)
+
+      there : IsTrue (sees (table_after is table (length past) e.who e.op).rows g i) → Sees g i
+      there s = elim (heard.0 s) [
+        | inl old ↦ inl (from_inside (brought.0 old))
+        | inr (who, (k, below, test, seen)) ↦
+            let s = at_below past k below in
+            let source = (sources k s.0 s.1).0 test in
+            inr (who, (k, s.0, s.1, source, (is_table.heard k i s.0 s.1 (source_can_be caps past k s.0.op e.op source) within).0 seen))
+      ]
+
+      back : Sees g i → IsTrue (sees (table_after is table (length past) e.who e.op).rows g i)
+      back (inl old) = heard.1 (inl (brought.1 (to_inside old)))
+      back (inr (who, (k, s, at, source, had))) =
+          heard.1 (inr (who, (k, slice_get_within past k s at, (sources k s at).1 source, (is_table.heard k i s at (source_can_be caps past k s.op e.op source) within).1 had)))
+
+  -- and that is what the memory model says
+  sees_is : (g i : ℕ) → Sees g i ↔ HasSeen caps (past ++ e ∷ []) i g
+  sees_is g i = (there, back)
     where
-      bits : (g i : ℕ) → g < length rows → i < limit → IsTrue (sees (go_rows rows (length past) e.who k) g i) ↔ SeesGo rows (length past) e.who k g i
-      bits g i less within = sees_go rows limit (length past) e.who k table.wide room from g i less within
+      there : Sees g i → HasSeen caps (past ++ e ∷ []) i g
+      there (inl (inl (s, at, inl (here, who)))) =
+          (s, at, seen_brings caps past e i s.who g (subst (λ h. IsTrue (takes_part h e)) (ap (λ (s : Event). s.who) (at_last i s at here) ∙ who) (who_takes_part e)) (inl (here, who)))
+      there (inl (inl (s, at, inr seen))) = (s, at, seen_grow caps past e i s.who g seen)
+      there (inl (inr (f, edge, (s, at, knows)))) = (s, at, seen_brings caps past e i s.who g (inside_to e f g edge) (inr (inl (f, edge, knows))))
+      there (inr (who, (k, s, at, source, (d, atd, had)))) =
+          (d, append_at_old past (e ∷ []) i d atd, seen_brings caps past e i d.who g (subst (λ h. IsTrue (takes_part h e)) who (who_takes_part e)) (inr (inr (k, s, at, source, who, had))))
 
-      old : (g i : ℕ) (s : Event) → g < length rows → At past i s → IsTrue (sees (go_rows rows (length past) e.who k) g i) ↔ SeenBy caps (past ++ e ∷ []) i s.who g
-      old g i s less at = (λ seen. there ((bits g i less (omega (arith, under))).0 seen), λ seen. back ((seen_go caps past e k is i s.who g).0 seen))
-        where
-          under : i < length past
-          under = slice_get_within past i s at
+      brought : (s : Event) → At (past ++ e ∷ []) i s → Brings caps past e i s.who g → Sees g i
+      brought s at (inl here) = inl (inl (s, at, inl here))
+      brought s at (inr (inl (f, edge, knows))) = inl (inr (f, edge, (s, at, knows)))
+      brought s at (inr (inr (k, t, att, source, who, had))) =
+          let up : i ≤ k = seen_at_up caps past i s.who k t.who had in
+          let below : k < length past = slice_get_within past k t att in
+          inr (who, (k, t, att, source, (s, at_old i s at (omega (arith, up, below)), had)))
 
-          seen_from : SeenAfterGo caps past e.who k i s.who g → SeenBy caps (past ++ e ∷ []) i s.who g
-          seen_from by = (seen_go caps past e k is i s.who g).1 by
+      back : HasSeen caps (past ++ e ∷ []) i g → Sees g i
+      back (s, at, seen) = elim (seen_step caps past e i s.who g seen) [ inl before ↦ inl (inl (s, at, inr before)) | inr by ↦ brought s at by.1 ]
 
-          there : SeesGo rows (length past) e.who k g i → SeenBy caps (past ++ e ∷ []) i s.who g
-          there (inl (inl before)) = seen_from (inl ((table.seen g i s less at).0 before))
-          there (inl (inr (to, below, seen))) = seen_from (inr (inr (to, inr ((table.seen e.who i s from at).0 seen))))
-          there (inr (who, here)) = absurd (omega (arith, under, here))
+  -- what was seen at an earlier begin stays
+  had_old : (i k f : ℕ) → k < length past → HadSeen caps past i k f ↔ HadSeen caps (past ++ e ∷ []) i k f
+  had_old i k f below = (
+    (λ (d, at, had). (d, append_at_old past (e ∷ []) i d at, seen_at_grow caps past e i d.who k f had)),
+    (λ (d, at, had).
+        let old = seen_at_old caps past e i d.who k f below had in
+        let up : i ≤ k = seen_at_up caps past i d.who k f old in
+        (d, at_old i d at (omega (arith, up, below)), old)),
+  )
 
-          sees_from : SeesGo rows (length past) e.who k g i → IsTrue (sees (go_rows rows (length past) e.who k) g i)
-          sees_from by = (bits g i less (omega (arith, under))).1 by
+  -- and at the next one its goroutine knew it
+  had_new : (i : ℕ) → Knows e.who i ↔ HadSeen caps (past ++ e ∷ []) i (length past) e.who
+  had_new i = (
+    (λ (s, at, knows). (s, at, seen_at_from caps past e i s.who e.who (who_takes_part e) knows)),
+    (λ (s, at, had). (s, at, seen_at_new caps past e i s.who (length past) e.who refl had)),
+  )
 
-          back : SeenAfterGo caps past e.who k i s.who g → IsTrue (sees (go_rows rows (length past) e.who k) g i)
-          back (inl before) = sees_from (inl (inl ((table.seen g i s less at).1 before)))
-          back (inr (inl (here, own, who))) = absurd (omega (arith, under, here))
-          back (inr (inr (to, inl (here, own)))) = absurd (omega (arith, under, here))
-          back (inr (inr (to, inr seen))) = sees_from (inl (inr (to, under, (table.seen e.who i s from at).1 seen)))
-
-      new : (g : ℕ) → g < length rows → IsTrue (sees (go_rows rows (length past) e.who k) g (length past)) ↔ SeenBy caps (past ++ e ∷ []) (length past) e.who g
-      new g less = (λ seen. there ((bits g (length past) less room).0 seen), λ seen. back ((seen_go caps past e k is (length past) e.who g).0 seen))
-        where
-          seen_from : SeenAfterGo caps past e.who k (length past) e.who g → SeenBy caps (past ++ e ∷ []) (length past) e.who g
-          seen_from by = (seen_go caps past e k is (length past) e.who g).1 by
-
-          there : SeesGo rows (length past) e.who k g (length past) → SeenBy caps (past ++ e ∷ []) (length past) e.who g
-          there (inl (inl before)) = absurd (unseen g less before)
-          there (inl (inr (to, below, seen))) = absurd (omega (arith, below))
-          there (inr (inl own, here)) = seen_from (inr (inl (refl, own, inl own)))
-          there (inr (inr to, here)) = seen_from (inr (inr (to, inl (refl, refl))))
-
-          sees_from : SeesGo rows (length past) e.who k g (length past) → IsTrue (sees (go_rows rows (length past) e.who k) g (length past))
-          sees_from by = (bits g (length past) less room).1 by
-
-          none : (h : ℕ) → SeenBy caps past (length past) e.who h → ⊥
-          none h before = let under : length past < length past = seen_within caps past (length past) e.who h before in omega arith
-
-          back : SeenAfterGo caps past e.who k (length past) e.who g → IsTrue (sees (go_rows rows (length past) e.who k) g (length past))
-          back (inl before) = absurd (none g before)
-          back (inr (inl (here, own, who))) = sees_from (inr (inl own, refl))
-          back (inr (inr (to, seen))) = sees_from (inr (inr to, refl))
-
-  pub go_table : (k : ℕ) → e.op ≡ Go k → e.who < length rows → IsTable caps (go_rows rows (length past) e.who k) limit (past ++ e ∷ [])
-  go_table k is from = record {
-    seen = λ g i s less. go_tells k is from g i s (omega (arith, less, length-go_rows rows (length past) e.who k));
-    fresh = λ g i less behind within.
-        let old : g < length rows = omega (arith, less, length-go_rows rows (length past) e.who k) in
-        let far : length past + 1 ≤ i = omega (arith, behind, length-append past (e ∷ [])) in
-        false_from (sees (go_rows rows (length past) e.who k) g i) (λ seen. none g i old within far ((sees_go rows limit (length past) e.who k table.wide room from g i old within).0 seen));
-    wide = λ g less.
-        let old : g < length rows = omega (arith, less, length-go_rows rows (length past) e.who k) in
-        wide_go_rows rows (length past) e.who k g old ∙ table.wide g old;
-  }
+  pub table_step : IsTable caps (table_after is table (length past) e.who e.op) limit (past ++ e ∷ [])
+  table_step = record { seen = seen; heard = heard; wide = wide; long = long; room = let more = length-append past (e ∷ []) in omega (arith, more, room) }
     where
-      none : (g i : ℕ) → g < length rows → i < limit → length past + 1 ≤ i → SeesGo rows (length past) e.who k g i → ⊥
-      none g i less within far (inl (inl before)) = let none : sees rows g i ≡ false = table.fresh g i less (omega arith) within in cc
-      none g i less within far (inl (inr (to, below, seen))) = omega arith
-      none g i less within far (inr (who, here)) = omega arith
+      count : length (table_after is table (length past) e.who e.op).rows ≡ length table.rows
+      count =
+          let a = shape_with_seen table.rows e.who (length past) in
+          let b = shape_inside (with_seen table.rows e.who (length past)) e.who e.op in
+          let c = shape_taken is table.heard (inside (with_seen table.rows e.who (length past)) e.who e.op) e.who (length past) in
+          c.count ∙ b.count ∙ a.count
 
-  -- a table of the events is, behind the next event, a table of the longer list
-  pub table_after : e.who < length rows → IsTable caps (rows_after rows (length past) e.who e.op) limit (past ++ e ∷ [])
-  table_after from = go e.op refl
-    where
-      go : (o : Op) → e.op ≡ o → IsTable caps (rows_after rows (length past) e.who o) limit (past ++ e ∷ [])
-      go (Go k) is = go_table k is from
-      go Exit is = plain_table (subst (λ o. IsTrue (is_plain o)) (sym is) refl)
-      go (Read x v) is = plain_table (subst (λ o. IsTrue (is_plain o)) (sym is) refl)
-      go (Write x v) is = plain_table (subst (λ o. IsTrue (is_plain o)) (sym is) refl)
+      seen : (g i : ℕ) → g < length (table_after is table (length past) e.who e.op).rows → i < limit → IsTrue (sees (table_after is table (length past) e.who e.op).rows g i) ↔ HasSeen caps (past ++ e ∷ []) i g
+      seen g i less within =
+          let told = sees_after g i (omega (arith, less, count)) within in
+          let is = sees_is g i in
+          ((λ s. is.0 (told.0 s)), (λ s. told.1 (is.1 s)))
+
+      wide : (g : ℕ) → g < length (table_after is table (length past) e.who e.op).rows → length (row_of (table_after is table (length past) e.who e.op).rows g) ≡ limit
+      wide g less =
+          let a = shape_with_seen table.rows e.who (length past) in
+          let b = shape_inside (with_seen table.rows e.who (length past)) e.who e.op in
+          let c = shape_taken is table.heard (inside (with_seen table.rows e.who (length past)) e.who e.op) e.who (length past) in
+          let old : g < length table.rows = omega (arith, less, count) in
+          c.wide g (omega (arith, old, a.count, b.count)) ∙ b.wide g (omega (arith, old, a.count)) ∙ a.wide g old ∙ is_table.wide g old
+
+      long : length (table.heard ++ kept (with_seen table.rows e.who (length past)) e.who e.op ∷ []) ≡ length (past ++ e ∷ [])
+      long = length-append table.heard (kept (with_seen table.rows e.who (length past)) e.who e.op ∷ []) ∙ ap (λ m. m + 1) is_table.long ∙ sym (length-append past (e ∷ []))
+
+      heard : (k i : ℕ) (s : Event) → At (past ++ e ∷ []) k s → IsTrue (can_be_source s.op) → i < limit
+          → IsTrue (sees (table.heard ++ kept (with_seen table.rows e.who (length past)) e.who e.op ∷ []) k i) ↔ HadSeen caps (past ++ e ∷ []) i k s.who
+      heard k i s at source within = elim (push_at past e k s at) [
+        | inl old ↦
+            let below : k < length past = slice_get_within past k s old in
+            let same = get_or_append_left table.heard (kept (with_seen table.rows e.who (length past)) e.who e.op ∷ []) [] k (let long = is_table.long in omega (arith, below, long)) in
+            let told = is_table.heard k i s old source within in
+            let stays = had_old i k s.who below in (
+              (λ t. stays.0 (told.0 (sym (ap (λ r. get_or r i false) same) ∙ t))),
+              (λ had. ap (λ r. get_or r i false) same ∙ told.1 (stays.1 had)),
+            )
+        | inr (here, new) ↦
+            let row = kept (with_seen table.rows e.who (length past)) e.who e.op in
+            let last : row_of (table.heard ++ row ∷ []) k ≡ row = ap (row_of (table.heard ++ row ∷ [])) (here ∙ sym is_table.long) ∙ get_or-append_seam table.heard row [] [] in
+            let test : can_be_source e.op ≡ true = subst (λ (s : Event). IsTrue (can_be_source s.op)) (sym new) source in
+            let is_row : row ≡ row_of (with_seen table.rows e.who (length past)) e.who = ap (λ b. if b then row_of (with_seen table.rows e.who (length past)) e.who else []) test in
+            let told = sees_own e.who i has.0 within in
+            let had = had_new i in
+            let moved : HadSeen caps (past ++ e ∷ []) i (length past) e.who ≡ HadSeen caps (past ++ e ∷ []) i k s.who = (λ j. HadSeen caps (past ++ e ∷ []) i (sym here j) (ap (λ (s : Event). s.who) new j)) in (
+              (λ t. subst (λ A. A) moved (had.0 (told.0 (sym (ap (λ r. get_or r i false) (last ∙ is_row)) ∙ t)))),
+              (λ h. ap (λ r. get_or r i false) (last ∙ is_row) ∙ told.1 (had.1 (subst (λ A. A) (sym moved) h))),
+            )
+      ]

@@ -1,5 +1,5 @@
 pub mod Synchronized
-pub mod SeenTable
+pub mod TableState
 pub mod IsTable
 pub mod Partners
 pub mod Answers

@@ -1,12 +1,13 @@
 -- The race that is noted for a variable: an event, and the greatest earlier access that it races with.
-use Rattle.std.specs.Prelude.{ℕ, zero, suc, ◌<◌, ◌==◌, ◌&&◌, not, if◌then◌else◌, Bool, false, List, length, Option, Some, None, IfSome, is_some, slice_get, slice_set}
+use Rattle.std.specs.Prelude.{ℕ, zero, suc, ◌<◌, ◌||◌, ◌&&◌, not, if◌then◌else◌, Bool, false, List, length, Option, Some, None, IfSome, is_some, slice_get, slice_set}
 use Rattle.std.specs.List.{slice_index_or}
 use Rattle.std.specs.Option.{option_map}
 use Rattle.race_records.specs.declared.event.Event.{Event}
 use Rattle.race_records.specs.declared.event.Op.{Op}
 use Rattle.race_records.specs.declared.event.Op.TheVariants.{Read, Write}
+use Rattle.race_model.specs.Events.{writes, accesses}
 use Rattle.race_edges.specs.declared.races.Race.{Race}
-use Rattle.race_edges.specs.SeenTable.{sees}
+use Rattle.race_edges.specs.TableState.{sees}
 
 -- the variable that the operation accesses
 abbrev pub accessed : Op → Option ℕ
@@ -18,27 +19,23 @@ accessed _ = None
 abbrev pub HasPlace : List (Option Race) → Op → Type 0
 HasPlace found o = IfSome (accessed o) (λ x. x < length found)
 
--- the two operations are accesses of one variable, and one of them is a Write
-abbrev pub conflicts : Op → Op → Bool
-conflicts (Read x v) (Write y w) = x == y
-conflicts (Write x v) (Read y w) = x == y
-conflicts (Write x v) (Write y w) = x == y
-conflicts _ _ = false
-
--- an operation of goroutine g conflicts with event i, which g hasn't seen
-abbrev pub is_partner : List (List Bool) → List Event → ℕ → Op → ℕ → Bool
-is_partner rows events g o i =
-    elim (slice_get events i) [ Some a ↦ conflicts a.op o && not (sees rows g i) | None ↦ false ]
+-- event i accesses x, and it or the operation o is a Write of x; and g, who does o, hasn't seen it
+abbrev pub is_partner : List (List Bool) → List Event → ℕ → ℕ → Op → ℕ → Bool
+is_partner rows events x g o i =
+    elim (slice_get events i) [
+      | Some a ↦ accesses x a.op && ((writes x a.op || writes x o) && not (sees rows g i))
+      | None ↦ false
+    ]
 
 -- the greatest number below n that passes
 abbrev pub greatest_below : (ℕ → Bool) → ℕ → Option ℕ
 greatest_below passes zero = None
 greatest_below passes (suc n) = if passes n then Some n else greatest_below passes n
 
--- event n races on x with the greatest earlier access that races with it, if there is one
+-- event n races on x, which it accesses, with the greatest earlier access that races with it, if there is one
 abbrev pub race_at : List (List Bool) → List Event → ℕ → Event → ℕ → Option Race
 race_at rows events n e x =
-    option_map (λ i. record { var = x; first = i; second = n }) (greatest_below (is_partner rows events e.who e.op) n)
+    option_map (λ i. record { var = x; first = i; second = n }) (greatest_below (is_partner rows events x e.who e.op) n)
 
 -- a race of event n on x is noted, unless x has one
 abbrev pub noted : List (List Bool) → List Event → ℕ → Event → ℕ → List (Option Race) → List (Option Race)

@@ -77,9 +77,8 @@ fn races_in<A: Allocator + Copy, B: Allocator>(
     let mut table = Table::new(alloc, goroutines, trace.len())?;
     let mut found = Found::new(alloc, vars)?;
     for at in 0..trace.len() {
-        let event = trace.event(at);
-        found.look(&table, &trace.events()[..at], event);
-        table.step(at, event);
+        found.look(&table, &trace.events()[..at], trace.event(at));
+        table.step(alloc, trace, at)?;
     }
     found.list(alloc)
 }

@@ -1,7 +1,8 @@
 //! The races of a list of events, found event by event.
 ghost use Rattle.std.specs.Prelude.{◌≡◌, ◌↔◌, ◌<◌, ◌^◌, [], None, replicate, length, IfOk, IsTrue};
+ghost use Rattle.race_model.specs.Events.{reads, writes, accesses};
 ghost use Rattle.race_edges.specs.Partners.{
-  conflicts,
+  accessed,
   is_partner,
   greatest_below,
   found_after,
@@ -57,37 +58,75 @@ impl<A: Allocator> RaceList<A> {
     }
 }
 
-// Whether the two are accesses of one variable, one of them a Write.
-fn conflict(a: &Op, b: &Op) -> bool
-    ensures { result ≡ conflicts a.now b.now }
+// The variable that the operation accesses.
+fn accessed(op: &Op) -> Option<u32>
+    ensures { result ≡ accessed op.now }
 {
-    match (a, b) {
-        (Op::Read(x, _), Op::Write(y, _)) => x == y,
-        (Op::Write(x, _), Op::Read(y, _)) => x == y,
-        (Op::Write(x, _), Op::Write(y, _)) => x == y,
+    match op {
+        Op::Read(var, _) => Some(*var),
+        Op::Write(var, _) => Some(*var),
+        _ => None,
+    }
+}
+
+fn reads(var: u32, op: &Op) -> bool
+    ensures { result ≡ reads var op.now }
+{
+    match op {
+        Op::Read(read, _) => *read == var,
         _ => false,
     }
 }
 
-// Whether the event, which comes next, races with the event at the index.
-fn is_race<A: Allocator>(table: &Table<A>, past: &[Event], event: &Event, index: usize) -> bool
-    requires row { event.now.who < length table.now }
-    requires past { index < length past.now }
-    ensures { result ≡ is_partner table.now past.now event.now.who event.now.op index }
+fn writes(var: u32, op: &Op) -> bool
+    ensures { result ≡ writes var op.now }
 {
-    conflict(&past[index].op, &event.op) && !table.sees(event.who, index)
+    match op {
+        Op::Write(written, _) => *written == var,
+        _ => false,
+    }
 }
 
-// The greatest index of an event that races with the next one.
-fn greatest_partner<A: Allocator>(table: &Table<A>, past: &[Event], event: &Event) -> Option<u32>
-    requires row { event.now.who < length table.now }
+fn accesses(var: u32, op: &Op) -> bool
+    ensures { result ≡ accesses var op.now }
+{
+    reads(var, op) || writes(var, op)
+}
+
+// Whether the event, which comes next and accesses the variable, races on it with the event at the
+// index.
+fn is_race<A: Allocator>(
+    table: &Table<A>,
+    past: &[Event],
+    event: &Event,
+    var: u32,
+    index: usize,
+) -> bool
+    requires row { event.now.who < length table.now.rows }
+    requires past { index < length past.now }
+    ensures { result ≡ is_partner table.now.rows past.now var event.now.who event.now.op index }
+{
+    let earlier = &past[index].op;
+    accesses(var, earlier)
+        && (writes(var, earlier) || writes(var, &event.op))
+        && !table.sees(event.who, index)
+}
+
+// The greatest index of an event with which the next one, which accesses the variable, races on it.
+fn greatest_partner<A: Allocator>(
+    table: &Table<A>,
+    past: &[Event],
+    event: &Event,
+    var: u32,
+) -> Option<u32>
+    requires row { event.now.who < length table.now.rows }
     requires few { length past.now < 2 ^ 32 }
-    ensures { result ≡ greatest_below (is_partner table.now past.now event.now.who event.now.op)
-        (length past.now) }
+    ensures { result ≡ greatest_below
+        (is_partner table.now.rows past.now var event.now.who event.now.op) (length past.now) }
 {
     let mut greatest = None;
     for index in 0..past.len() {
-        if is_race(table, past, event, index) {
+        if is_race(table, past, event, var, index) {
             greatest = Some(index as u32);
         }
     }
@@ -121,34 +160,31 @@ impl<A: Allocator> Found<A> {
 
     /// Notes the race of the event, which comes next, on the variable that it accesses.
     pub(crate) fn look<B: Allocator>(&mut self, table: &Table<B>, past: &[Event], event: &Event)
-        requires row { event.now.who < length table.now }
+        requires row { event.now.who < length table.now.rows }
         requires var { HasPlace self.old event.now.op }
         requires few { length past.now < 2 ^ 32 }
-        ensures found { self.new ≡ found_after table.now past.now (length past.now) event.now
+        ensures found { self.new ≡ found_after table.now.rows past.now (length past.now) event.now
             self.old }
         ensures len { length self.new ≡ length self.old }
     {
-        match &event.op {
-            Op::Go(_) => {}
-            Op::Exit => {}
-            Op::Read(var, _) => self.note(table, past, event, *var),
-            Op::Write(var, _) => self.note(table, past, event, *var),
+        if let Some(var) = accessed(&event.op) {
+            self.note(table, past, event, var);
         }
     }
 
     // Notes a race on the variable, unless it has one.
     fn note<B: Allocator>(&mut self, table: &Table<B>, past: &[Event], event: &Event, var: u32)
-        requires row { event.now.who < length table.now }
+        requires row { event.now.who < length table.now.rows }
         requires var { var < length self.old }
         requires few { length past.now < 2 ^ 32 }
-        ensures noted { self.new ≡ noted table.now past.now (length past.now) event.now var
+        ensures noted { self.new ≡ noted table.now.rows past.now (length past.now) event.now var
             self.old }
         ensures len { length self.new ≡ length self.old }
     {
         if self.races[var as usize].is_some() {
             return;
         }
-        self.races[var as usize] = match greatest_partner(table, past, event) {
+        self.races[var as usize] = match greatest_partner(table, past, event, var) {
             Some(first) => Some(Race {
                 var,
                 first,

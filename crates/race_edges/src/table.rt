@@ -1,16 +1,20 @@
 //! What each goroutine has seen of the others, event by event.
 //!
-//! By its own events a goroutine sees their begins, and by its start all that its starter has seen.
-//! No other operation so far lets it see anything.
-ghost use Rattle.std.specs.Prelude.{◌≡◌, ◌<◌, Bool, List, false, true, length, replicate, slice_set, IfOk};
+//! By its own events a goroutine sees their begins. By an edge inside an event it sees all that the
+//! other participant has seen, and by an edge from an earlier event, its source, all that had been
+//! seen at the begin of that one; so this is kept for the events that can be a source.
+ghost use Rattle.std.specs.Prelude.{◌≡◌, ◌<◌, ◌+◌, Bool, List, [], false, true, length, replicate, slice_set, slice_get, IfSome, IfOk, OnOk};
 ghost use Rattle.std.specs.List.{slice_index_or};
-ghost use Rattle.race_edges.specs.SeenTable as spec;
+ghost use Rattle.race_edges.specs.Synchronized.{joins, source_at};
+ghost use Rattle.race_edges.specs.TableState as spec;
+ghost use Rattle.race_edges.specs.Traces.{capacities};
 
-use race_records::{Event, Op};
+use crate::synchronized::{can_be_source, is_source, joins, partner};
+use race_records::{Event, Trace};
 use std::alloc::{AllocError, Allocator};
 use std::marker::Model;
 
-// The events whose begins one goroutine has seen, by index.
+// Events by index: whether the begin of each was seen.
 #[derive(Debug, Drop)]
 struct Row<A: Allocator> {
     seen: Vec<bool, A>,
@@ -32,6 +36,16 @@ impl<A: Allocator> Row<A> {
         })
     }
 
+    fn copy(&self) -> Result<Row<A>, AllocError>
+    where
+        A: Copy,
+        ensures { IfOk result (λ copy. copy ≡ self.now) }
+    {
+        Ok(Row {
+            seen: self.seen.clone()?,
+        })
+    }
+
     fn has(&self, index: usize) -> bool
         ensures { result ≡ slice_index_or self.now index false }
     {
@@ -45,18 +59,33 @@ impl<A: Allocator> Row<A> {
             self.seen[index] = true;
         }
     }
+
+    // Adds all that the other row has, as far as this one goes.
+    fn join(&mut self, other: &Row<A>)
+        ensures { self.new ≡ spec.joined self.old other.now (length self.old) }
+    {
+        for index in 0..self.seen.len() {
+            if other.has(index) {
+                self.add(index);
+            }
+        }
+    }
 }
 
-/// One row for each goroutine: the events whose begins it has seen.
+/// What each goroutine has seen, and what had been seen at the begin of each event that can be a
+/// source.
 #[derive(Debug, Drop)]
 pub(crate) struct Table<A: Allocator> {
     rows: Vec<Row<A>, A>,
+    heard: Vec<Row<A>, A>,
 }
 
 impl<A: Allocator> Model for Table<A> {
-    ghost Value = { List (List Bool) };
+    ghost use Rattle.race_edges.specs.TableState.{TableState};
 
-    ghost view = { λ t. t.rows.items };
+    ghost Value = { TableState };
+
+    ghost view = { λ t. record { rows = t.rows.items; heard = t.heard.items } };
 }
 
 impl<A: Allocator> Table<A> {
@@ -64,63 +93,147 @@ impl<A: Allocator> Table<A> {
     pub(crate) fn new(alloc: A, goroutines: usize, events: usize) -> Result<Table<A>, AllocError>
     where
         A: Copy,
-        ensures { IfOk result (λ table. table ≡ replicate goroutines (replicate events false)) }
+        ensures rows { IfOk result (λ table.
+            table.rows ≡ replicate goroutines (replicate events false)) }
+        ensures heard { IfOk result (λ table. table.heard ≡ []) }
     {
         let mut rows = Vec::new(alloc);
         for _count in 0..goroutines {
             rows.push(Row::new(alloc, events)?)?;
         }
-        Ok(Table { rows })
+        Ok(Table {
+            rows,
+            heard: Vec::new(alloc),
+        })
     }
 
     /// Whether the goroutine has seen the begin of the event at the index.
     pub(crate) fn sees(&self, goroutine: u32, index: usize) -> bool
-        requires { goroutine < length self.now }
-        ensures { result ≡ spec.sees self.now goroutine index }
+        requires { goroutine < length self.now.rows }
+        ensures { result ≡ spec.sees self.now.rows goroutine index }
     {
         self.rows[goroutine as usize].has(index)
     }
 
     fn see(&mut self, goroutine: u32, index: usize)
-        requires { goroutine < length self.old }
-        ensures seen { self.new ≡ spec.with_seen self.old goroutine index }
-        ensures len { length self.new ≡ length self.old }
+        requires { goroutine < length self.old.rows }
+        ensures seen { self.new.rows ≡ spec.with_seen self.old.rows goroutine index }
+        ensures heard { self.new.heard ≡ self.old.heard }
+        ensures len { length self.new.rows ≡ length self.old.rows }
     {
         let row = &mut self.rows[goroutine as usize];
         row.add(index);
     }
 
-    // Of the first events, lets `to` see all that `from` has seen.
-    fn pass_on(&mut self, from: u32, to: u32, events: usize)
-        requires from_row { from < length self.old }
-        requires to_row { to < length self.old }
-        ensures passed { self.new ≡ spec.passed self.old from to events }
-        ensures len { length self.new ≡ length self.old }
+    // Where there is such an edge inside the event, lets `to` see all that `from` has seen.
+    fn give(&mut self, event: &Event, from: u32, to: u32) -> Result<(), AllocError>
+    where
+        A: Copy,
+        requires from_row { from < length self.old.rows }
+        requires to_row { to < length self.old.rows }
+        ensures given { OnOk result (self.new.rows ≡ spec.given
+            (joins event.now.who event.now.op from to) self.old.rows from to) }
+        ensures heard { self.new.heard ≡ self.old.heard }
+        ensures len { length self.new.rows ≡ length self.old.rows }
     {
-        for index in 0..events {
-            if self.sees(from, index) {
-                self.see(to, index);
+        if joins(event.who, &event.op, from, to) {
+            let seen = self.rows[from as usize].copy()?;
+            let row = &mut self.rows[to as usize];
+            row.join(&seen);
+        }
+        Ok(())
+    }
+
+    // Lets the participants see what the edges inside the event bring.
+    fn give_inside(&mut self, event: &Event) -> Result<(), AllocError>
+    where
+        A: Copy,
+        requires { spec.HasRows self.old.rows event.now }
+        ensures given { OnOk result (self.new.rows ≡ spec.inside self.old.rows event.now.who
+            event.now.op) }
+        ensures heard { self.new.heard ≡ self.old.heard }
+        ensures len { length self.new.rows ≡ length self.old.rows }
+    {
+        match partner(&event.op) {
+            Some(other) => {
+                self.give(event, event.who, other)?;
+                self.give(event, other, event.who)
+            }
+            None => Ok(()),
+        }
+    }
+
+    // Lets a goroutine see what had been seen at the begin of an event.
+    fn take(&mut self, goroutine: u32, from: usize)
+        requires row { goroutine < length self.old.rows }
+        requires from { from < length self.old.heard }
+        ensures taken { self.new.rows ≡ spec.with_row self.old.rows goroutine
+            (spec.row_of self.old.heard from) }
+        ensures heard { self.new.heard ≡ self.old.heard }
+        ensures len { length self.new.rows ≡ length self.old.rows }
+    {
+        let row = &mut self.rows[goroutine as usize];
+        row.join(&self.heard[from]);
+    }
+
+    // Lets the goroutine of the event at the index see what its sources bring.
+    fn take_sources<B: Allocator>(&mut self, trace: &Trace<B>, at: usize)
+        requires within { at < length trace.now.events }
+        requires row { IfSome (slice_get trace.now.events at) (λ e.
+            e.who < length self.old.rows) }
+        requires heard { length self.old.heard ≡ at }
+        ensures taken { IfSome (slice_get trace.now.events at) (λ e.
+            self.new.rows ≡ spec.taken (λ k. source_at (capacities trace.now) trace.now.events k at)
+            self.old.heard self.old.rows e.who at) }
+        ensures heard { self.new.heard ≡ self.old.heard }
+        ensures len { length self.new.rows ≡ length self.old.rows }
+    {
+        let who = trace.event(at).who;
+        for from in 0..at {
+            if is_source(trace, from, at) {
+                self.take(who, from);
             }
         }
     }
 
-    /// Takes the event at the index, which is the next one.
-    pub(crate) fn step(&mut self, index: usize, event: &Event)
-        requires { spec.HasRows self.old event.now }
-        ensures rows { self.new ≡ spec.rows_after self.old index event.now.who event.now.op }
-        ensures len { length self.new ≡ length self.old }
+    // What is kept of an event, whose own begin its goroutine has seen.
+    fn kept(&self, alloc: A, event: &Event) -> Result<Row<A>, AllocError>
+    where
+        A: Copy,
+        requires { event.now.who < length self.now.rows }
+        ensures { IfOk result (λ row. row ≡ spec.kept self.now.rows event.now.who event.now.op) }
     {
-        match &event.op {
-            // The new goroutine has seen what its starter had seen before, and this event.
-            Op::Go(goroutine) => {
-                self.pass_on(event.who, *goroutine, index);
-                self.see(event.who, index);
-                self.see(*goroutine, index);
-            }
-            // An exit orders nothing.
-            Op::Exit => self.see(event.who, index),
-            Op::Read(_, _) => self.see(event.who, index),
-            Op::Write(_, _) => self.see(event.who, index),
+        if can_be_source(&event.op) {
+            self.rows[event.who as usize].copy()
+        } else {
+            Row::new(alloc, 0)
         }
+    }
+
+    /// Takes the event at the index, which is the next one.
+    pub(crate) fn step<B: Allocator>(
+        &mut self,
+        alloc: A,
+        trace: &Trace<B>,
+        at: usize,
+    ) -> Result<(), AllocError>
+    where
+        A: Copy,
+        requires within { at < length trace.now.events }
+        requires rows { IfSome (slice_get trace.now.events at) (λ e.
+            spec.HasRows self.old.rows e) }
+        requires heard { length self.old.heard ≡ at }
+        ensures after { OnOk result (IfSome (slice_get trace.now.events at) (λ e.
+            self.new ≡ spec.table_after
+            (λ k. source_at (capacities trace.now) trace.now.events k at) self.old at e.who e.op)) }
+        ensures len { length self.new.rows ≡ length self.old.rows }
+    {
+        let event = trace.event(at);
+        self.see(event.who, at);
+        let kept = self.kept(alloc, event)?;
+        self.give_inside(event)?;
+        self.take_sources(trace, at);
+        self.heard.push(kept)?;
+        Ok(())
     }
 }

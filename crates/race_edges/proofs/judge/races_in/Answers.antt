@@ -1,40 +1,51 @@
 -- Behind each event the tables are right for the front up to it; at the end they are for all events.
 use Rattle.std.proofs.Common.{◌≡◌, ◌∙◌, List, length, sym, subst, arith}
-use Rattle.std.proofs.lemmas.List.{take_all}
+use Rattle.std.proofs.lemmas.List.{take_all, length-take-le}
 use Rattle.std.proofs.lemmas.Result.{IfOk-weaker}
 use Rattle.race_records.specs.declared.event.Event.{Event}
+use Rattle.race_edges.specs.Synchronized.{source_at}
+use Rattle.race_edges.specs.TableState.{HasRows, table_after}
 use Rattle.race_edges.specs.Answers.{AreFound, AreRaces, races_of}
 use Rattle.race_edges.specs.Traces.{capacities}
-use Rattle.race_edges.proofs.JudgeSteps.{has_rows, has_place, race_declared, table_next, found_next, noted_of_trace}
+use Rattle.race_edges.proofs.JudgeSteps.{said_of, said_from, has_rows, has_place, race_declared, table_next, found_next, noted_of_trace}
 use Rattle.race_edges.proofs.RaceLists.{are_races}
 use Rattle.race_edges.proofs.judge.races_in.Goals as goal
 
 pub look-requires-clause-row : goal.look-requires-clause-row
 look-requires-clause-row g c =
-    (has_rows c.args.trace.now c.loop-at.at c.event-event.result.now c.loop-at.table c.len.ensures.is_trace c.event-event.ensures.event c.loop-at.invariant.rows).0
+    (has_rows c.args.trace.now c.loop-at.at c.event.result.now c.loop-at.table.rows c.len.ensures.is_trace c.event.ensures.event c.loop-at.invariant.rows).0
 
 pub look-requires-clause-var : goal.look-requires-clause-var
 look-requires-clause-var g c =
-    has_place c.args.trace.now c.loop-at.at c.event-event.result.now c.loop-at.found c.len.ensures.is_trace c.event-event.ensures.event c.loop-at.invariant.vars
+    has_place c.args.trace.now c.loop-at.at c.event.result.now c.loop-at.found c.len.ensures.is_trace c.event.ensures.event c.loop-at.invariant.vars
 
-pub step-requires : goal.step-requires
-step-requires g c =
-    has_rows c.args.trace.now c.loop-at.at c.event-event.result.now c.loop-at.table c.len.ensures.is_trace c.event-event.ensures.event c.loop-at.invariant.rows
+pub step-requires-clause-rows : goal.step-requires-clause-rows
+step-requires-clause-rows g c =
+    said_from c.args.trace.now.events c.loop-at.at c.event.result.now (HasRows c.loop-at.table.rows) c.event.ensures.event
+    (has_rows c.args.trace.now c.loop-at.at c.event.result.now c.loop-at.table.rows c.len.ensures.is_trace c.event.ensures.event c.loop-at.invariant.rows)
+
+pub step-requires-clause-heard : goal.step-requires-clause-heard
+step-requires-clause-heard g c = c.loop-at.invariant.table.long ∙ length-take-le c.loop-at.at c.args.trace.now.events (omega arith)
 
 pub loop-at-preserved : goal.loop-at-preserved
 loop-at-preserved g c =
-    let row = (has_rows c.args.trace.now c.loop-at.at c.event-event.result.now c.loop-at.table c.len.ensures.is_trace c.event-event.ensures.event c.loop-at.invariant.rows).0 in
+    let trace = c.args.trace.now in
+    let caps = capacities trace in
+    let at = c.loop-at.at in
+    let e = c.event.result.now in
+    let here = c.event.ensures.event in
+    let table = c.loop-at.table in
+    let rows = has_rows trace at e table.rows c.len.ensures.is_trace here c.loop-at.invariant.rows in
+    let after : c.step.new.self ≡ table_after (λ k. source_at caps trace.events k at) table at e.who e.op =
+    said_of trace.events at e (λ e. c.step.new.self ≡ table_after (λ k. source_at caps trace.events k at) table at e.who e.op) here c.in_ok-step.ensures.after in
     record {
       rows = c.step.ensures.len ∙ c.loop-at.invariant.rows;
       vars = c.look.ensures.len ∙ c.loop-at.invariant.vars;
-      table =
-          table_next (capacities c.args.trace.now) c.args.trace.now.events c.loop-at.at c.event-event.result.now c.event-event.ensures.event c.loop-at.table (length c.args.trace.now.events) c.loop-at.invariant.table
-          c.step.new.self c.step.ensures.rows (omega arith) row;
+      table = table_next caps trace.events at e here table (length trace.events) c.loop-at.invariant.table c.step.new.self after (omega arith) rows;
       found =
-          found_next (capacities c.args.trace.now) c.args.trace.now.events c.loop-at.at c.event-event.result.now c.event-event.ensures.event c.loop-at.table (length c.args.trace.now.events) c.loop-at.invariant.table
-          c.loop-at.found c.look.new.self
-          (noted_of_trace c.events.result.now c.args.trace.now.events c.loop-at.at c.event-event.result.now c.loop-at.table c.loop-at.found c.look.new.self c.events.ensures.events c.look.ensures.found)
-          row (has_place c.args.trace.now c.loop-at.at c.event-event.result.now c.loop-at.found c.len.ensures.is_trace c.event-event.ensures.event c.loop-at.invariant.vars) c.loop-at.invariant.found;
+          found_next caps trace.events at e here table (length trace.events) c.loop-at.invariant.table c.loop-at.found c.look.new.self
+          (noted_of_trace c.events.result.now trace.events at e table.rows c.loop-at.found c.look.new.self c.events.ensures.events c.look.ensures.found)
+          rows.0 (has_place trace at e c.loop-at.found c.len.ensures.is_trace here c.loop-at.invariant.vars) c.loop-at.invariant.found;
     }
 
 pub returns : goal.returns

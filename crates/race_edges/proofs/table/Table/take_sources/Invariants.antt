@@ -1,0 +1,12 @@
+use Rattle.std.proofs.Common.{◌≡◌, length}
+use Rattle.race_edges.specs.Synchronized.{source_at}
+use Rattle.race_edges.specs.TableState.{taken}
+use Rattle.race_edges.specs.Traces.{capacities}
+use Rattle.race_edges.proofs.table.Table.take_sources.Given as goal
+
+abbrev pub invariant-loop-from : goal.invariant-loop-from
+invariant-loop-from g l = record {
+  rows : l.self.rows ≡ taken (λ k. source_at (capacities l.trace) l.trace.events k l.at) l.initial.self.heard l.initial.self.rows l.who l.from;
+  heard : l.self.heard ≡ l.initial.self.heard;
+  len : length l.self.rows ≡ length l.initial.self.rows;
+}

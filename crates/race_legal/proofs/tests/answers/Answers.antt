@@ -1,5 +1,5 @@
 -- The replay has as many objects of each kind as the trace declares.
-use Rattle.std.proofs.Common.{◌≡◌, ℕ, ◌<◌, ◌∙◌, sym, subst, arith, rules, ap}
+use Rattle.std.proofs.Common.{ℕ, ◌<◌, ◌∙◌, sym, subst, arith, rules, ap}
 use Rattle.race_records.specs.declared.kind.Kind.{Kind}
 use Rattle.race_records.specs.Declarations.{DeclsState, counts_of}
 use Rattle.race_legal.specs.ReplayState.{IsInRange}

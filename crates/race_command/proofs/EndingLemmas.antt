@@ -9,13 +9,13 @@ use Rattle.clap.specs.Values.{kind_of}
 use Rattle.race_records.specs.declared.source.Source.{Source}
 use Rattle.race_records.specs.declared.sink.Sink.{Sink}
 use Rattle.race_command.specs.declared.command.Request.{Request}
-use Rattle.race_command.specs.Ending.{Checks, Declines, Ends, answer_without_words}
+use Rattle.race_command.specs.Ending.{Does, Declines, Ends, answer_without_words}
 
 module _ {R W : Type 0} (remaining : R → Option (List ℕ)) (contents : W → Option (List ℕ)) (source source_now : Source R) (sink sink_now : Sink W) (answer : ℕ) where
-  -- a request ends as a check does, and an error as an answer
-  pub ends_as_asked : (request : Result Request Error) → IfOk request (λ asked. Checks remaining contents source source_now sink sink_now answer)
+  -- a request ends as it asks, and an error as an answer
+  pub ends_as_asked : (request : Result Request Error) → IfOk request (λ asked. Does asked remaining contents source source_now sink sink_now answer)
       → IfErr request (λ error. Declines (kind_of error) source source_now sink sink_now answer) → Ends remaining contents source source_now sink sink_now answer
-  ends_as_asked (Ok asked) checks none = inl checks
+  ends_as_asked (Ok asked) does none = inl (asked, does)
   ends_as_asked (Err error) checks none = inr (kind_of error, none)
 
   -- words for which memory was refused end as those do for which it is refused later

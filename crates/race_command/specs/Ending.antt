@@ -7,8 +7,9 @@ use Rattle.clap.specs.declared.error.kind.ErrorKind.TheVariants as kind
 use Rattle.race_records.specs.declared.source.Source.{Source}
 use Rattle.race_records.specs.declared.sink.Sink.{Sink}
 use Rattle.race_records.specs.Devices.{unread, written, source_failures, sink_failures}
-use Rattle.race_tool.specs.Outcome.{ReadsAndReports, ReadsTextWhere, FailsToRead, GivesUpReading, FailsToWrite}
-use Rattle.race_tool.specs.Traces.{IsClean, IsRacy, IsIllegal}
+use Rattle.race_command.specs.declared.command.Request.{Request}
+use Rattle.race_tool.specs.Outcome.{ReadsAndReports, ReadsAndLists, ReadsTextWhere, FailsToRead, GivesUpReading, FailsToWrite, FailsToWriteListing}
+use Rattle.race_edges.specs.Traces.{IsClean, IsRacy, IsIllegal}
 use Rattle.race_tool.specs.declared.status.TheConstants as status
 
 -- the input was checked: what run_check promises of options in their limits
@@ -25,14 +26,30 @@ pub record Checks {R W : Type 0} (remaining : R → Option (List ℕ)) (contents
       ⊎ FailsToWrite remaining contents source source_now sink sink_now
   pub calm : answer ≢ status.DEVICE → (source_failures source_now ≡ source_failures source) × (sink_failures sink_now ≡ sink_failures sink)
 
--- the status where the words ask for no check: help was printed or couldn't be, memory was refused, or else they are at fault
+-- the edges of the input were listed: what run_edges promises
+pub record Lists {R W : Type 0} (remaining : R → Option (List ℕ)) (contents : W → Option (List ℕ)) (source source_now : Source R) (sink sink_now : Sink W) (answer : ℕ) : Type 0 where
+  pub listed : answer ≢ status.REFUSED → answer ≢ status.DEVICE
+      → ReadsAndLists (unread remaining source) (unread remaining source_now) (written contents sink) (written contents sink_now) answer
+  pub refused : answer ≡ status.REFUSED → sink_now ≡ sink
+  pub device : answer ≡ status.DEVICE
+      → FailsToRead source source_now sink sink_now
+      ⊎ GivesUpReading remaining source source_now sink sink_now
+      ⊎ FailsToWriteListing remaining contents source source_now sink sink_now
+  pub calm : answer ≢ status.DEVICE → (source_failures source_now ≡ source_failures source) × (sink_failures sink_now ≡ sink_failures sink)
+
+-- what was asked for is done
+abbrev pub Does : {R W : Type 0} → Request → (R → Option (List ℕ)) → (W → Option (List ℕ)) → Source R → Source R → Sink W → Sink W → ℕ → Type 0
+Does (Request.Check options) remaining contents source source_now sink sink_now answer = Checks remaining contents source source_now sink sink_now answer
+Does Request.Edges remaining contents source source_now sink sink_now answer = Lists remaining contents source source_now sink sink_now answer
+
+-- the status where the words ask for no work: help was printed or couldn't be, memory was refused, or else they are at fault
 abbrev pub IsAnswerTo : ErrorKind → ℕ → Type 0
 IsAnswerTo kind.OutOfMemory answer = answer ≡ status.REFUSED
 IsAnswerTo kind.DisplayHelp answer = (answer ≡ status.CLEAN) ⊎ (answer ≡ status.DEVICE)
 IsAnswerTo kind.DisplayVersion answer = (answer ≡ status.CLEAN) ⊎ (answer ≡ status.DEVICE)
 IsAnswerTo _ answer = answer ≡ status.USAGE
 
--- the words ask for no check, and nothing was read or written
+-- the words ask for no work, and nothing was read or written
 pub record Declines {R W : Type 0} (kind : ErrorKind) (source source_now : Source R) (sink sink_now : Sink W) (answer : ℕ) : Type 0 where
   pub answered : IsAnswerTo kind answer
   pub unread : source_now ≡ source
@@ -41,7 +58,7 @@ pub record Declines {R W : Type 0} (kind : ErrorKind) (source source_now : Sourc
 -- how the program ends where there are words
 abbrev pub Ends : {R W : Type 0} → (R → Option (List ℕ)) → (W → Option (List ℕ)) → Source R → Source R → Sink W → Sink W → ℕ → Type 0
 Ends remaining contents source source_now sink sink_now answer =
-    Checks remaining contents source source_now sink sink_now answer ⊎ ((kind : ErrorKind) × Declines kind source source_now sink sink_now answer)
+    ((request : Request) × Does request remaining contents source source_now sink sink_now answer) ⊎ ((kind : ErrorKind) × Declines kind source source_now sink sink_now answer)
 
 -- the status where there are no words: memory was refused for them, or they aren't text
 abbrev pub answer_without_words : IoErrorKind → ℕ

@@ -1,8 +1,9 @@
 -- What a command line asks for.
-use Rattle.std.specs.Prelude.{Bool}
+use Rattle.std.specs.Prelude.{Bool, true}
 use Rattle.race_command.specs.declared.command.Request.{Request}
 use Rattle.race_tool.specs.Outcome.{are_in_limits}
 
 -- the options of the request are in their limits
 abbrev pub is_in_limits : Request → Bool
 is_in_limits (Request.Check options) = are_in_limits options
+is_in_limits Request.Edges = true

@@ -39,11 +39,32 @@ Statuses:
   4   memory was refused
   5   reading or writing failed";
 
+const EDGES_ABOUT: &str = "Reads a trace from standard input and lists what synchronizes in it";
+
+const EDGES_HELP: &str = "\
+A line for each synchronization edge, and their count:
+
+  edge 1 main 1 w
+  edges: 1
+
+says that the begin of main's part in event 1 is synchronized before the end of
+w's part in event 1. What one goroutine does in order isn't listed.
+
+Statuses:
+  0   the edges are listed
+  1   an event that breaks a rule of traces; its number, and the rule
+  2   not a trace; the line at fault and why
+  3   usage, or more events than are taken (2,000)
+  4   memory was refused
+  5   reading or writing failed";
+
 /// What the words ask for.
 #[derive(Clone, Copy, Debug, PartialEq, Eq)]
 pub(crate) enum Request {
     /// Judge the trace on standard input.
     Check(CheckOptions),
+    /// List the synchronization edges of the trace on standard input.
+    Edges,
 }
 
 /// The request that the words make; the first is the program's name.
@@ -54,8 +75,11 @@ pub(crate) fn parse<'a, S: AsStr>(alloc: Global, words: &'a [S]) -> Result<Reque
 {
     let mut command = gorace(alloc)?;
     let matches = command.try_get_matches_from_mut(words)?;
-    match matches.subcommand_matches("check") {
-        Some(given) => Ok(Request::Check(check_options(alloc, given)?)),
+    if let Some(given) = matches.subcommand_matches("check") {
+        return Ok(Request::Check(check_options(alloc, given)?));
+    }
+    match matches.subcommand_matches("edges") {
+        Some(_) => Ok(Request::Edges),
         None => Err(command.error(ErrorKind::MissingSubcommand, "there is no such command")?),
     }
 }
@@ -67,7 +91,8 @@ fn gorace<'a>(alloc: Global) -> Result<Command<'a>, AllocError> {
             "'gorace check --help' says what a trace is, with an example, and what the statuses mean.",
         )
         .subcommand_required(true)
-        .subcommand(check(alloc)?)
+        .subcommand(check(alloc)?)?
+        .subcommand(edges(alloc))
 }
 
 fn check<'a>(alloc: Global) -> Result<Command<'a>, AllocError> {
@@ -90,6 +115,12 @@ fn check<'a>(alloc: Global) -> Result<Command<'a>, AllocError> {
         .arg(shards)?
         .arg(block)?
         .arg(plain)
+}
+
+fn edges<'a>(alloc: Global) -> Command<'a> {
+    Command::new(alloc, "edges")
+        .about(EDGES_ABOUT)
+        .after_help(EDGES_HELP)
 }
 
 fn check_options(alloc: Global, given: &ArgMatches<'_>) -> Result<CheckOptions, Error>

@@ -4,14 +4,14 @@ ghost use Rattle.std.specs.declared.io.ErrorKind.TheVariants as io;
 ghost use Rattle.std.specs.IoError.{error_kind};
 ghost use Rattle.std.specs.Process.{exit_status};
 ghost use Rattle.clap.specs.Values.{kind_of};
-ghost use Rattle.race_command.specs.Ending.{Checks, Declines, Ends, IsAnswerTo, answer_without_words, message_of};
+ghost use Rattle.race_command.specs.Ending.{Does, Declines, Ends, IsAnswerTo, answer_without_words, message_of};
 ghost use Rattle.race_command.specs.Request.{is_in_limits};
 
 use crate::command::{Request, parse};
 use clap::Error;
 use clap::error::ErrorKind;
 use race_records::{Sink, Source};
-use race_tool::{run_check, status};
+use race_tool::{run_check, run_edges, status};
 use std::alloc::Global;
 use std::env::Args;
 use std::io;
@@ -20,7 +20,8 @@ use std::process::ExitCode;
 
 /// Does what the words ask for, and says on standard error what no report says.
 ///
-/// A check ends with the status that `run_check` answers. Help ends with 0, or with 5 where it can't
+/// A check ends with the status that `run_check` answers, a listing of edges with that of
+/// `run_edges`. Help ends with 0, or with 5 where it can't
 /// be printed. Words that are at fault or aren't text end with 3, of which a line on standard error
 /// tells, and want of memory for them with 4.
 pub fn run<T: AllocGlobal + Print + Eprint, R: Read, W: Write>(
@@ -29,7 +30,8 @@ pub fn run<T: AllocGlobal + Print + Eprint, R: Read, W: Write>(
     source: &mut Source<R>,
     sink: &mut Sink<W>,
 ) -> ExitCode
-    // Either the input is checked, or the words ask for no check, and nothing is read or written.
+    // Either the input is checked or its edges are listed, or the words ask for neither, and nothing
+    // is read or written.
     ensures words { IfOk args (λ words.
         Ends R.remaining W.contents source.old source.new sink.old sink.new (exit_status result)) }
 
@@ -83,13 +85,16 @@ fn answer_request<T: AllocGlobal + Print + Eprint, R: Read, W: Write>(
     sink: &mut Sink<W>,
 ) -> u8
     requires { IfOk request (λ asked. IsTrue (is_in_limits asked)) }
-    ensures check { IfOk request (λ asked.
-        Checks R.remaining W.contents source.old source.new sink.old sink.new result) }
+    ensures asked { IfOk request (λ asked.
+        Does asked R.remaining W.contents source.old source.new sink.old sink.new result) }
     ensures none { IfErr request (λ error.
         Declines (kind_of error) source.old source.new sink.old sink.new result) }
 {
     match request {
-        Ok(Request::Check(options)) => run_check(rt, rt.alloc(), source, sink, &options),
+        Ok(asked) => match asked {
+            Request::Check(options) => run_check(rt, rt.alloc(), source, sink, &options),
+            Request::Edges => run_edges(rt.alloc(), source, sink),
+        },
         Err(error) => print(rt, &error),
     }
 }

@@ -14,6 +14,7 @@ fn options_of(alloc: Global, given: &[&str; 2]) -> Result<CheckOptions, ErrorKin
     let words = ["gorace", "check", given[0], given[1]];
     match parse(alloc, words.as_slice()) {
         Ok(Request::Check(options)) => Ok(options),
+        Ok(Request::Edges) => Err(ErrorKind::InvalidSubcommand),
         Err(error) => Err(error.kind()),
     }
 }
@@ -107,6 +108,14 @@ fn words_and_input_decide_the_status(rt: HostRuntime) -> Result<(), Fail> {
             status::TEXT_FAULT,
             "line 2: unknown name\n",
         ),
+        (
+            "gorace edges",
+            "gotrace 1\ngoroutine w\ngo main w a.go:1\n",
+            status::CLEAN,
+            "edge 1 main 1 w\nedges: 1\n",
+        ),
+        ("gorace edges --plain", "gotrace 1\n", status::USAGE, ""),
+        ("gorace edges --help", "gotrace 1\n", status::CLEAN, ""),
         ("gorace check --help", "gotrace 1\n", status::CLEAN, ""),
         ("gorace", "gotrace 1\n", status::USAGE, ""),
     ] {

@@ -1,4 +1,4 @@
-use crate::{CheckOptions, run_check, status};
+use crate::{CheckOptions, run_check, run_edges, status};
 use race_records::{Sink, Source};
 use std::alloc::Global;
 use std::io;
@@ -22,6 +22,15 @@ fn checked(alloc: Global, bytes: &[u8]) -> (u8, Vec<u8>) {
     let mut output = Vec::new(alloc);
     let mut sink = Sink::new(&mut output);
     let answer = run_check(&(), alloc, &mut source, &mut sink, &CheckOptions::default());
+    (answer, output)
+}
+
+// Lists the edges of the bytes.
+fn listed(alloc: Global, bytes: &[u8]) -> (u8, Vec<u8>) {
+    let mut source = Source::new(bytes);
+    let mut output = Vec::new(alloc);
+    let mut sink = Sink::new(&mut output);
+    let answer = run_edges(alloc, &mut source, &mut sink);
     (answer, output)
 }
 
@@ -199,60 +208,136 @@ fn declarations_of(alloc: Global, goroutines: u32, vars: u32) -> Result<Vec<u8>,
     Ok(text)
 }
 
+// What each engine writes of a trace.
+struct Told {
+    status: u8,
+    text: &'static str,
+}
+
+// A first line or more behind so many goroutines and variables, and so many writes behind it.
+struct Row {
+    goroutines: u32,
+    vars: u32,
+    first: &'static str,
+    writes: u32,
+    check: Told,
+    edges: Told,
+}
+
+const TOO_LONG: Told = Told {
+    status: status::USAGE,
+    text: "too long: 2001 events",
+};
+
+static LONG_ROWS: [Row; 6] = [
+    Row {
+        goroutines: 1,
+        vars: 1,
+        first: "write main x0 1 p",
+        writes: 1_999,
+        check: Told {
+            status: status::CLEAN,
+            text: "clean: 2000 events, 2000 accesses",
+        },
+        edges: Told {
+            status: status::CLEAN,
+            text: "edges: 0",
+        },
+    },
+    Row {
+        goroutines: 1,
+        vars: 1,
+        first: "write main x0 1 p",
+        writes: 2_000,
+        check: TOO_LONG,
+        edges: TOO_LONG,
+    },
+    // Length is looked at before legality.
+    Row {
+        goroutines: 1,
+        vars: 1,
+        first: "exit main p",
+        writes: 2_000,
+        check: TOO_LONG,
+        edges: TOO_LONG,
+    },
+    Row {
+        goroutines: 1,
+        vars: 1,
+        first: "read main x0 1 p",
+        writes: 1_999,
+        check: Told {
+            status: status::ILLEGAL,
+            text: "illegal: event 1: stale read",
+        },
+        edges: Told {
+            status: status::ILLEGAL,
+            text: "illegal: event 1: stale read",
+        },
+    },
+    // The last goroutine and the last variable that can be declared.
+    Row {
+        goroutines: 1_024,
+        vars: 65_535,
+        first: "go main g1023 p / write main x65534 1 q / write g1023 x65534 2 r",
+        writes: 0,
+        check: Told {
+            status: status::RACES,
+            text: "race on x65534: write by main at q (event 2), write by g1023 at r (event 3) / races: 1",
+        },
+        edges: Told {
+            status: status::CLEAN,
+            text: "edge 1 main 1 g1023 / edges: 1",
+        },
+    },
+    Row {
+        goroutines: 3,
+        vars: 0,
+        first: "go main g1 m:1 / exit main m:2 / jump g1 g:1",
+        writes: 0,
+        check: Told {
+            status: status::TEXT_FAULT,
+            text: "line 6: unknown word",
+        },
+        edges: Told {
+            status: status::TEXT_FAULT,
+            text: "line 6: unknown word",
+        },
+    },
+];
+
 #[test]
-fn traces_up_to_each_limit_are_judged(rt: HostRuntime) -> Result<(), Fail> {
-    for (goroutines, vars, first, writes, report, status) in [
-        (
-            1,
-            1,
-            "write main x0 1 p",
-            1_999,
-            "clean: 2000 events, 2000 accesses",
-            status::CLEAN,
-        ),
-        (
-            1,
-            1,
-            "write main x0 1 p",
-            2_000,
-            "too long: 2001 events",
-            status::USAGE,
-        ),
-        // Length is looked at before legality.
-        (
-            1,
-            1,
-            "read main x0 1 p",
-            1_999,
-            "illegal: event 1: stale read",
-            status::ILLEGAL,
-        ),
-        (
-            1,
-            1,
-            "read main x0 1 p",
-            2_000,
-            "too long: 2001 events",
-            status::USAGE,
-        ),
-        // The last goroutine and the last variable that can be declared.
-        (
-            1_024,
-            65_535,
-            "go main g1023 p / write main x65534 1 q / write g1023 x65534 2 r",
-            0,
-            "race on x65534: write by main at q (event 2), write by g1023 at r (event 3) / races: 1",
-            status::RACES,
-        ),
-    ] {
-        let mut text = declarations_of(rt.alloc(), goroutines, vars)?;
-        text.extend_from_slice(text_of(rt.alloc(), first)?.as_slice())?;
-        for _ in 0..writes {
+fn both_engines_tell_of_traces_up_to_each_limit(rt: HostRuntime) -> Result<(), Fail> {
+    for row in &LONG_ROWS {
+        let mut text = declarations_of(rt.alloc(), row.goroutines, row.vars)?;
+        text.extend_from_slice(text_of(rt.alloc(), row.first)?.as_slice())?;
+        for _ in 0..row.writes {
             text.extend_from_slice(b"write main x0 1 p\n")?;
         }
-        let (answer, output) = checked(rt.alloc(), text.as_slice());
-        assert_eq!(rt; answer, status, "{report}");
-        assert_eq!(rt; output.as_slice(), text_of(rt.alloc(), report)?.as_slice());
+        for (answer, want) in [
+            (checked(rt.alloc(), text.as_slice()), &row.check),
+            (listed(rt.alloc(), text.as_slice()), &row.edges),
+        ] {
+            let report = text_of(rt.alloc(), want.text)?;
+            assert_eq!(rt; answer.0, want.status, "{}", want.text);
+            assert_eq!(rt; answer.1.as_slice(), report.as_slice());
+        }
+    }
+    Ok(())
+}
+
+#[test]
+fn each_go_is_an_edge(rt: HostRuntime) -> Result<(), Fail> {
+    for (row, want) in [
+        (
+            "gotrace 1 / goroutine a / goroutine b / go main b m:1 / go b a b:1 / exit b b:2 / exit main m:2",
+            "edge 1 main 1 b / edge 2 b 2 a / edges: 2",
+        ),
+        ("gotrace 1", "edges: 0"),
+    ] {
+        let (answer, output) = listed(rt.alloc(), text_of(rt.alloc(), row)?.as_slice());
+        assert_eq!(rt; answer, status::CLEAN, "{row}");
+        assert_eq!(rt; output.as_slice(), text_of(rt.alloc(), want)?.as_slice(), "{row}");
     }
     Ok(())
 }

@@ -8,7 +8,7 @@ use refusing_heap::RefusingHeap;
 use std::alloc::{Allocator, Global};
 
 // An engine.
-#[derive(Clone, Copy)]
+#[derive(Clone, Copy, Debug)]
 enum Engine {
     Check,
     Edges,
@@ -47,5 +47,5 @@ fn report(alloc: Global, engine: Engine, nth: u64) -> Outcome
 
 #[test]
 fn engines(rt: HostRuntime) {
-    assert_refusals!(rt, report, [(Engine::Check, 23), (Engine::Edges, 19)]);
+    assert_refusals!(rt, report, [(Engine::Check, 25), (Engine::Edges, 19)]);
 }

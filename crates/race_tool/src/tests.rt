@@ -337,7 +337,11 @@ fn each_go_is_an_edge(rt: HostRuntime) -> Result<(), Fail> {
     ] {
         let (answer, output) = listed(rt.alloc(), text_of(rt.alloc(), row)?.as_slice());
         assert_eq!(rt; answer, status::CLEAN, "{row}");
-        assert_eq!(rt; output.as_slice(), text_of(rt.alloc(), want)?.as_slice(), "{row}");
+        assert_eq!(rt;
+            output.as_slice(),
+            text_of(rt.alloc(), want)?.as_slice(),
+            "{row}"
+        );
     }
     Ok(())
 }

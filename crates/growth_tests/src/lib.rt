@@ -12,4 +12,6 @@ mod growths;
 #[cfg(test)]
 mod records;
 #[cfg(test)]
+mod replays;
+#[cfg(test)]
 mod texts;

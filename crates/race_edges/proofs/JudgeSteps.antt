@@ -11,14 +11,13 @@ use Rattle.race_model.specs.Order.{IsSource}
 use Rattle.race_model.specs.Race.{IsAccessOf, IsRace}
 use Rattle.race_model.proofs.Indexes.{take_at_old}
 use Rattle.race_legal.proofs.Fronts.{take_next}
-use Rattle.race_legal.proofs.RangeLemmas.{range_in_trace}
 use Rattle.race_edges.specs.declared.races.Race.{Race}
 use Rattle.race_edges.specs.Synchronized.{source_at}
 use Rattle.race_edges.specs.TableState.{TableState, HasRows, table_after}
 use Rattle.race_edges.specs.IsTable.{IsTable}
 use Rattle.race_edges.specs.Partners.{accessed, HasPlace, found_after}
 use Rattle.race_edges.specs.Answers.{AreFound}
-use Rattle.race_edges.proofs.RangeLemmas.{partner_in_range, accessed_in_range, accessed_below}
+use Rattle.race_edges.proofs.RangeLemmas.{range_in_trace, partner_in_range, accessed_in_range, accessed_below}
 use Rattle.race_edges.proofs.SynchronizedLemmas.{source_is, source_at_is}
 use Rattle.race_edges.proofs.TableSteps.{table_step}
 use Rattle.race_edges.proofs.FoundSteps.{found_step}

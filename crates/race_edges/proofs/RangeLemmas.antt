@@ -1,13 +1,24 @@
 -- Which numbers an event of a trace may name: those of its declarations.
-use Rattle.std.proofs.Common.{◌≡◌, ℕ, ◌<◌, ◌==◌, true, Option, Some, None, IfSome, sym, ◌∙◌, subst, refl, arith, IsTrue, eqb-true}
+use Rattle.std.proofs.Common.{◌≡◌, ℕ, ◌<◌, ◌==◌, true, Option, Some, None, IfSome, sym, ◌∙◌, subst, refl, arith, IsTrue, eqb-true, slice_get}
 use Rattle.std.proofs.lemmas.Bool.Decides.{nat_tests}
 use Rattle.std.proofs.Math.Bool.{or-false}
+use Rattle.std.proofs.lemmas.Option.{slice_get_within, get_or_from_slice_get}
+use Rattle.race_records.specs.declared.event.Event.{Event}
 use Rattle.race_records.specs.declared.event.Op.{Op}
 use Rattle.race_records.specs.declared.event.Op.TheVariants.{Go, Read, Write}
 use Rattle.race_records.specs.declared.kind.Kind.{Kind}
+use Rattle.race_records.specs.Declarations.{counts_of}
+use Rattle.race_records.specs.Events.{fits, TraceState, IsTrace}
 use Rattle.race_records.specs.Parts.{op_is_in_range}
 use Rattle.race_model.specs.Events.{partner, gives, accesses}
+use Rattle.race_legal.specs.ReplayState.{IsInRange}
+use Rattle.race_legal.proofs.RangeLemmas.{range_from_fits}
 use Rattle.race_edges.specs.Partners.{accessed}
+
+-- each event of a trace is in range of its declarations
+pub range_in_trace : (trace : TraceState) (i : ℕ) (e : Event) → IsTrace trace → slice_get trace.events i ≡ Some e → IsInRange (counts_of trace.decls.declarations) e
+range_in_trace trace i e holds at =
+    range_from_fits trace.decls e (subst (λ (e : Event). IsTrue (fits trace.decls e)) (get_or_from_slice_get trace.events i e e at) (holds.fit i e (slice_get_within trace.events i e at)))
 
 -- a second participant is in range
 pub partner_in_range : (counts : Kind → ℕ) (o : Op) → IsTrue (op_is_in_range counts o) → IfSome (partner o) (λ g. g < counts Kind.Goroutine)

@@ -1,18 +1,16 @@
--- Which numbers an event of a trace may name: those of its declarations.
-use Rattle.std.proofs.Common.{◌≡◌, ℕ, ◌&&◌, Bool, true, nat_lt, length, Some, is_none, slice_get, sym, subst, refl, arith, IsTrue}
+-- Which events a replay may be asked about: those that fit the declarations, while the list isn't full.
+use Rattle.std.proofs.Common.{◌≡◌, ℕ, ◌<◌, ◌&&◌, Bool, true, List, nat_lt, length, is_none, sym, subst, refl, arith, IsTrue}
 use Rattle.std.proofs.lemmas.Bool.Decides.{nat_tests}
-use Rattle.std.proofs.lemmas.Option.{slice_get_within, get_or_from_slice_get}
 use Rattle.race_records.specs.declared.event.Event.{Event}
-use Rattle.race_records.specs.declared.event.Op.{Op}
-use Rattle.race_records.specs.declared.event.Op.TheVariants.{Go, Exit, Read, Write}
 use Rattle.race_records.specs.declared.kind.Kind.{Kind}
-use Rattle.race_records.specs.Declarations.{DeclsState, count_of, counts_of}
-use Rattle.race_records.specs.Events.{op_fits, fits, TraceState, IsTrace}
-use Rattle.race_records.specs.Parts.{op_is_in_range}
-use Rattle.race_legal.specs.ReplayState.{IsInRange}
+use Rattle.race_records.specs.declared.trace.TheConstants.{MAX_EVENTS}
+use Rattle.race_records.specs.Declarations.{Declaration, DeclsState, count_of, counts_of}
+use Rattle.race_records.specs.Events.{op_fits, fits}
+use Rattle.race_legal.specs.ReplayState.{ReplayState, IsInRange, counts_in}
+use Rattle.race_legal.specs.StandsFor.{StandsFor}
 
 -- an event that fits is in range of the declarations
-range_from_fits : (decls : DeclsState) (e : Event) → IsTrue (fits decls e) → IsInRange (counts_of decls.declarations) e
+pub range_from_fits : (decls : DeclsState) (e : Event) → IsTrue (fits decls e) → IsInRange (counts_of decls.declarations) e
 unfolding fits
 range_from_fits decls e fit = by (nat_lt e.who (count_of Kind.Goroutine decls.declarations)) refl (op_fits decls.declarations e.op) refl fit
   where
@@ -21,17 +19,10 @@ range_from_fits decls e fit = by (nat_lt e.who (count_of Kind.Goroutine decls.de
     by true who true op h = (grind (arith, nat_tests), op)
     by _ who _ op h = cc
 
--- so is each event of a trace
-pub range_in_trace : (trace : TraceState) (i : ℕ) (e : Event) → IsTrace trace → slice_get trace.events i ≡ Some e → IsInRange (counts_of trace.decls.declarations) e
-range_in_trace trace i e holds at =
-    range_from_fits trace.decls e (subst (λ (e : Event). IsTrue (fits trace.decls e)) (get_or_from_slice_get trace.events i e e at) (holds.fit i e (slice_get_within trace.events i e at)))
+-- so it is in range of a replay that stands for a list under the declarations
+pub in_range : (decls : DeclsState) (k : ReplayState) (past : List Event) (e : Event) → StandsFor decls.declarations k past → IsTrue (fits decls e) → IsInRange (counts_in k) e
+in_range decls k past e S fit = subst (λ (counts : Kind → ℕ). IsInRange counts e) (sym S.counts) (range_from_fits decls e fit)
 
--- no operation names an object but goroutines and variables, so what is in range depends on their counts alone
-pub in_range_by : (counts others : Kind → ℕ) (e : Event) → counts Kind.Goroutine ≡ others Kind.Goroutine → counts Kind.Var ≡ others Kind.Var → IsInRange others e → IsInRange counts e
-in_range_by counts others e goroutines vars range = let who = range.0 in (omega (arith, who, goroutines), by e.op range.1)
-  where
-    by : (o : Op) → IsTrue (op_is_in_range others o) → IsTrue (op_is_in_range counts o)
-    by (Go h) is = subst (λ n. IsTrue (nat_lt h n && true)) (sym goroutines) is
-    by Exit is = refl
-    by (Read x v) is = subst (λ n. IsTrue (nat_lt x n && true)) (sym vars) is
-    by (Write x v) is = subst (λ n. IsTrue (nat_lt x n && true)) (sym vars) is
+-- and a list that isn't full leaves the replay room
+pub has_room : (declarations : List Declaration) (k : ReplayState) (past : List Event) → StandsFor declarations k past → length past < MAX_EVENTS → k.len < MAX_EVENTS
+has_room declarations k past S less = let len = S.len in omega (arith, less, len)

@@ -1,3 +1,6 @@
 pub mod Rules
-pub mod ReplayState
+pub mod Judged
 pub mod StandsFor
+pub mod ReplayState
+pub mod After
+pub mod RulesKept

@@ -1,32 +1,33 @@
 -- What a replay says of the events that it accepted.
-use Rattle.std.specs.Prelude.{ℕ, ◌≡◌, ◌<◌, List, [], ◌∷◌, ◌++◌, length, Option, Some, None}
+use Rattle.std.specs.Prelude.{ℕ, ◌≡◌, ◌<◌, List, [], ◌∷◌, ◌++◌, length, Option}
+use Rattle.race_records.specs.declared.kind.Kind.{Kind}
 use Rattle.race_records.specs.declared.event.Event.{Event}
+use Rattle.race_records.specs.Declarations.{Declaration, counts_of, capacity_of}
 use Rattle.race_model.specs.Events.{has_exited}
 use Rattle.race_model.specs.State.{over, started, last_value}
-use Rattle.race_model.specs.Legal.{broken, IsLegal, IsIllegalAt}
-use Rattle.race_legal.specs.declared.replay.Illegal.{Illegal}
-use Rattle.race_legal.specs.Rules.{number_of}
-use Rattle.race_legal.specs.ReplayState.{ReplayState, started_in, exited_in, value_in}
+use Rattle.race_model.specs.Legal.{broken, IsLegal}
+use Rattle.race_legal.specs.ReplayState.{ReplayState, counts_in, started_in, exited_in, value_in, capacity_in, IsSquare}
 
--- the replay stands for a legal list of events: each reader answers its state word
-pub record StandsFor (caps : ℕ → ℕ) (k : ReplayState) (past : List Event) : Type 0 where
-  pub legal : IsLegal caps past
+-- under the declarations, the replay stands for a legal list of events: its tables answer each state word
+pub record StandsFor (declarations : List Declaration) (k : ReplayState) (past : List Event) : Type 0 where
+  pub legal : IsLegal (capacity_of declarations) past
+  pub len : length past ≡ k.len
+  pub counts : counts_in k ≡ counts_of declarations
+  pub capacity : (c : ℕ) → c < counts_in k Kind.Chan → capacity_of declarations c ≡ capacity_in k c
   pub over : over past ≡ k.over
-  pub started : (g : ℕ) → g < length k.started → started g past ≡ started_in k g
-  pub exited : (g : ℕ) → g < length k.started → has_exited g past ≡ exited_in k g
-  pub values : (x : ℕ) → x < length k.values → last_value x past ≡ value_in k x
-  -- both tables on goroutines have a row for each
-  pub square : length k.exited ≡ length k.started
+  pub started : (g : ℕ) → g < counts_in k Kind.Goroutine → started g past ≡ started_in k.goroutines g
+  pub exited : (g : ℕ) → g < counts_in k Kind.Goroutine → has_exited g past ≡ exited_in k.goroutines g
+  pub values : (x : ℕ) → x < counts_in k Kind.Var → last_value x past ≡ value_in k x
+  pub square : IsSquare k.goroutines
+
+-- it holds of each list for which the replay stands
+abbrev pub ForEachPast : ReplayState → (List Event → Type 0) → Type 0
+ForEachPast k Holds = (declarations : List Declaration) (past : List Event) → StandsFor declarations k past → Holds past
 
 -- whichever list it stood for, it stands for that list with the event behind it, which so is legal
 abbrev pub GoesOn : ReplayState → ReplayState → Event → Type 0
-GoesOn old new e = (caps : ℕ → ℕ) (past : List Event) → StandsFor caps old past → StandsFor caps new (past ++ e ∷ [])
+GoesOn old new e = (declarations : List Declaration) (past : List Event) → StandsFor declarations old past → StandsFor declarations new (past ++ e ∷ [])
 
--- behind whichever list it stands for, the event breaks this rule, and no lesser one
-abbrev pub Breaks : ReplayState → Event → ℕ → Type 0
-Breaks k e n = (caps : ℕ → ℕ) (past : List Event) → StandsFor caps k past → broken caps past e ≡ Some n
-
--- the list is legal, or the first event that breaks a rule is told, with the least rule that it breaks
-abbrev pub IsJudged : (ℕ → ℕ) → List Event → Option Illegal → Type 0
-IsJudged caps events None = IsLegal caps events
-IsJudged caps events (Some illegal) = IsIllegalAt caps events illegal.at (number_of illegal.rule)
+-- behind each list for which the replay stands, this is the least rule that the event breaks, if it breaks any
+abbrev pub IsLeastBroken : ReplayState → Event → Option ℕ → Type 0
+IsLeastBroken k e rule = (declarations : List Declaration) (past : List Event) → StandsFor declarations k past → broken (capacity_of declarations) past e ≡ rule

@@ -1,103 +1,140 @@
-//! Which events are legal: the run so far as tables, against which each next event is tested.
+//! The run so far as tables, against which each next event is tested.
 //!
 //! The tables are a state machine of their own, with exact contracts; that they answer as the words
 //! of the memory model on the list of events do is a matter of lists alone (proofs/ReplayLemmas).
-ghost use Rattle.std.specs.Prelude.{◌≡◌, ◌<◌, [], length, IfOk, OnOk, IfErr, OnErr};
+ghost use Rattle.std.specs.Prelude.{◌≡◌, ℕ, ◌+◌, ◌<◌, [], ◌∷◌, length, IsTrue, Some, None, Err, IfOk, OnOk, OnErr};
+ghost use Rattle.std.specs.List.{slice_index_or};
 ghost use Rattle.std.specs.Option.{option_map};
-ghost use Rattle.race_records.specs.Declarations.{counts_of, capacity_of};
+ghost use Rattle.race_records.specs.Declarations.{count_of, capacity_of};
+ghost use Rattle.race_records.specs.Parts.{op_is_in_range};
+ghost use Rattle.race_model.specs.Legal.{least_broken};
+ghost use Rattle.race_model.specs.State as words;
 ghost use Rattle.race_legal.specs.Rules.{number_of};
-ghost use Rattle.race_legal.specs.ReplayState.{
-  ReplayState,
-  IsInRange,
-  counts_in,
-  started_in,
-  runs_in,
-  value_in,
-  broken_in,
-  after,
-};
-ghost use Rattle.race_legal.specs.StandsFor.{StandsFor, GoesOn, Breaks, IsJudged};
+ghost use Rattle.race_legal.specs.ReplayState.{ReplayState, IsInRange, counts_in, value_in};
+ghost use Rattle.race_legal.specs.After.{after};
+ghost use Rattle.race_legal.specs.RulesKept.{op_rules_in, broken_in};
+ghost use Rattle.race_legal.specs.StandsFor.{StandsFor, ForEachPast, GoesOn, IsLeastBroken};
 
-use crate::rule::Rule;
-use race_records::{Decls, Event, Kind, Op, Trace};
+use crate::Rule;
+use crate::goroutines::Goroutines;
+use race_records::{Decls, Event, Kind, MAX_EVENTS, Op};
 use std::alloc::{AllocError, Allocator, Global};
 use std::marker::Model;
+use thiserror::Error;
 
-/// The first event that breaks a rule, and the least rule that it breaks.
-#[derive(Clone, Copy, Debug, PartialEq, Eq)]
-pub struct Illegal {
-    /// The index of the event, counted from 0.
-    pub at: u32,
-    /// The rule.
-    pub rule: Rule,
+/// Why an event isn't accepted.
+#[derive(Clone, Copy, Debug, PartialEq, Eq, Error)]
+pub enum Broken {
+    /// It breaks this rule, and no lesser one.
+    #[error("the event breaks a rule")]
+    Rule(Rule),
+    /// It breaks no rule, and a growth was refused.
+    #[error("out of memory")]
+    OutOfMemory,
 }
 
 /// What the next event of a legal list is tested against. Keeps no list of events.
 #[derive(Debug, Drop)]
 pub struct Replay<A: Allocator = Global> {
+    len: usize,
     over: bool,
-    started: Vec<bool, A>,
-    exited: Vec<bool, A>,
+    goroutines: Goroutines<A>,
     values: Vec<u64, A>,
+    capacities: Vec<u32, A>,
+    locks: u32,
+    onces: u32,
 }
 
 impl<A: Allocator> Model for Replay<A> {
     ghost Value = { ReplayState };
 
     ghost view = { λ r. record {
+      len = r.len;
       over = r.over;
-      started = r.started.items;
-      exited = r.exited.items;
+      goroutines = r.goroutines;
       values = r.values.items;
+      capacities = r.capacities.items;
+      locks = r.locks;
+      onces = r.onces;
     } };
-
-    ghost invariant = { λ r. length r.exited.items ≡ length r.started.items };
 }
 
 impl<A: Allocator> Replay<A> {
-    /// Before the first event.
+    /// Before the first event of a trace with these declarations.
     pub fn new<B: Allocator>(alloc: A, decls: &Decls<B>) -> Result<Replay<A>, AllocError>
     where
         A: Copy,
-        ensures goroutines { IfOk result (λ replay.
-            counts_in replay Kind.Goroutine ≡ counts_of decls.now.declarations Kind.Goroutine) }
-        ensures vars { IfOk result (λ replay.
-            counts_in replay Kind.Var ≡ counts_of decls.now.declarations Kind.Var) }
-        ensures stands { IfOk result (λ replay.
-            StandsFor (capacity_of decls.now.declarations) replay []) }
+        ensures stands { IfOk result (λ replay. StandsFor decls.now.declarations replay []) }
     {
-        let goroutines = decls.count(Kind::Goroutine) as usize;
-        let vars = decls.count(Kind::Var) as usize;
         Ok(Replay {
+            len: 0,
             over: false,
-            started: vec![in alloc; false; goroutines]?,
-            exited: vec![in alloc; false; goroutines]?,
-            values: vec![in alloc; 0u64; vars]?,
+            goroutines: Goroutines::new(alloc, decls.count(Kind::Goroutine) as usize)?,
+            values: vec![in alloc; 0u64; decls.count(Kind::Var) as usize]?,
+            capacities: capacities(alloc, decls)?,
+            locks: decls.count(Kind::Lock),
+            onces: decls.count(Kind::Once),
         })
     }
 
-    /// Whether a Go started the goroutine.
-    fn is_started(&self, goroutine: u32) -> bool
-        requires { goroutine < length self.now.started }
-        ensures { result ≡ started_in self.now goroutine }
+    /// How many events were accepted.
+    pub fn len(&self) -> usize
+        ensures len { result ≡ self.now.len }
+        ensures past { ForEachPast self.now (λ past. result ≡ length past) }
     {
-        self.started[goroutine as usize]
+        self.len
+    }
+
+    /// Whether the run is over.
+    pub fn over(&self) -> bool
+        ensures { ForEachPast self.now (λ past. result ≡ words.over past) }
+    {
+        self.over
+    }
+
+    /// Whether a Go started the goroutine.
+    pub fn started(&self, goroutine: u32) -> bool
+        requires { goroutine < counts_in self.now Kind.Goroutine }
+        ensures { ForEachPast self.now (λ past. result ≡ words.started goroutine past) }
+    {
+        self.goroutines.is_started(goroutine)
     }
 
     /// Whether the goroutine is main or was started, and hasn't exited.
-    fn runs(&self, goroutine: u32) -> bool
-        requires { goroutine < length self.now.started }
-        ensures { result ≡ runs_in self.now goroutine }
+    pub fn runs(&self, goroutine: u32) -> bool
+        requires { goroutine < counts_in self.now Kind.Goroutine }
+        ensures { ForEachPast self.now (λ past. result ≡ words.runs goroutine past) }
     {
-        (goroutine == 0 || self.is_started(goroutine)) && !self.exited[goroutine as usize]
+        self.goroutines.runs(goroutine)
     }
 
     /// The value of the last Write of the variable, or 0.
-    fn last_value(&self, var: u32) -> u64
-        requires { var < length self.now.values }
-        ensures { result ≡ value_in self.now var }
+    pub fn last_value(&self, var: u32) -> u64
+        requires { var < counts_in self.now Kind.Var }
+        ensures { ForEachPast self.now (λ past. result ≡ words.last_value var past) }
     {
         self.values[var as usize]
+    }
+
+    /// Accepts the next event where the longer list is legal.
+    pub fn accept(&mut self, event: &Event) -> Result<(), Broken>
+        requires range { IsInRange (counts_in self.old) event.now }
+        requires room { self.old.len < MAX_EVENTS }
+        ensures goes_on { OnOk result (GoesOn self.old self.new event.now) }
+        ensures least { (rule : Rule) → result ≡ Err (Broken.Rule rule)
+            → IsLeastBroken self.old event.now (Some (number_of rule)) }
+        ensures memory { result ≡ Err Broken.OutOfMemory → IsLeastBroken self.old event.now None }
+        ensures unchanged { OnErr result (self.new ≡ self.old) }
+        ensures len { OnOk result (self.new.len ≡ self.old.len + 1) }
+        ensures counts { counts_in self.new ≡ counts_in self.old }
+    {
+        match self.first_broken(event) {
+            Some(rule) => Err(Broken::Rule(rule)),
+            None => {
+                self.step(event);
+                Ok(())
+            }
+        }
     }
 
     // The least rule that the event breaks.
@@ -108,70 +145,68 @@ impl<A: Allocator> Replay<A> {
         if self.over {
             return Some(Rule::AfterEnd);
         }
-        if !self.runs(event.who) {
+        if !self.goroutines.runs(event.who) {
             return Some(Rule::NotRunning);
         }
-        match &event.op {
-            Op::Go(goroutine) if *goroutine == 0 || self.is_started(*goroutine) => {
-                Some(Rule::AlreadyStarted)
+        self.broken_by(&event.op)
+    }
+
+    // The least of the rules on the operation alone that it breaks.
+    fn broken_by(&self, op: &Op) -> Option<Rule>
+        requires { IsTrue (op_is_in_range (counts_in self.now) op.now) }
+        ensures { option_map number_of result ≡ least_broken (op_rules_in self.now op.now) }
+    {
+        match op {
+            Op::Go(goroutine) => {
+                rule_if(
+                    Rule::AlreadyStarted,
+                    *goroutine == 0 || self.goroutines.is_started(*goroutine),
+                )
             }
-            Op::Read(var, value) if self.last_value(*var) != *value => Some(Rule::StaleRead),
-            _ => None,
+            Op::Exit => None,
+            Op::Read(var, value) => rule_if(Rule::StaleRead, self.values[*var as usize] != *value),
+            Op::Write(_, _) => None,
         }
     }
 
     // What the event changes.
     fn step(&mut self, event: &Event)
-        requires { IsInRange (counts_in self.old) event.now }
+        requires range { IsInRange (counts_in self.old) event.now }
+        requires room { self.old.len < MAX_EVENTS }
         ensures { self.new ≡ after self.old event.now }
     {
+        self.len += 1;
         match &event.op {
-            Op::Go(goroutine) => self.started[*goroutine as usize] = true,
+            Op::Go(goroutine) => self.goroutines.start(*goroutine),
             Op::Exit => {
-                self.exited[event.who as usize] = true;
+                self.goroutines.exit(event.who);
                 self.over = self.over || event.who == 0;
             }
             Op::Read(_, _) => {}
             Op::Write(var, value) => self.values[*var as usize] = *value,
         }
     }
-
-    /// Accepts the next event where the longer list is legal.
-    pub fn accept(&mut self, event: &Event) -> Result<(), Rule>
-        requires { IsInRange (counts_in self.old) event.now }
-        ensures goes_on { OnOk result (GoesOn self.old self.new event.now) }
-        ensures counts { counts_in self.new ≡ counts_in self.old }
-        ensures least { IfErr result (λ rule. Breaks self.old event.now (number_of rule)) }
-        ensures unchanged { OnErr result (self.new ≡ self.old) }
-    {
-        match self.first_broken(event) {
-            Some(rule) => Err(rule),
-            None => {
-                self.step(event);
-                Ok(())
-            }
-        }
-    }
 }
 
-/// The first event of the trace that breaks a rule, with the least rule that it breaks.
-pub fn legal<A: Allocator + Copy, B: Allocator>(
-    alloc: A,
-    trace: &Trace<B>,
-) -> Result<Option<Illegal>, AllocError>
-    ensures { IfOk result (λ found. IsJudged (capacity_of trace.now.decls.declarations) trace.now.events found) }
+// The rule, where it is broken.
+fn rule_if(rule: Rule, broken: bool) -> Option<Rule>
+    ensures { option_map number_of result ≡ least_broken ((number_of rule, broken) ∷ []) }
 {
-    let mut replay = Replay::new(alloc, trace.decls())?;
-    for at in 0..trace.len() {
-        match replay.accept(trace.event(at)) {
-            Ok(()) => {}
-            Err(rule) => {
-                return Ok(Some(Illegal {
-                    at: at as u32,
-                    rule,
-                }));
-            }
-        }
+    if broken { Some(rule) } else { None }
+}
+
+// The capacity of each channel.
+fn capacities<A: Allocator, B: Allocator>(
+    alloc: A,
+    decls: &Decls<B>,
+) -> Result<Vec<u32, A>, AllocError>
+    ensures len { IfOk result (λ caps. length caps.items ≡ count_of Kind.Chan decls.now.declarations) }
+    ensures each { IfOk result (λ caps. (c : ℕ) → c < length caps.items
+        → slice_index_or caps.items c 0 ≡ capacity_of decls.now.declarations c) }
+{
+    let mut capacities = Vec::new(alloc);
+    for chan in 0..decls.count(Kind::Chan) {
+        capacities.push(decls.capacity(chan))?;
     }
-    Ok(None)
+    Ok(capacities)
 }

@@ -1,9 +1,11 @@
 -- What the tables of a `Decls` say of its declarations.
 use Rattle.std.proofs.Common.{◌≡◌, ℕ, zero, suc, ◌<◌, List, [], ◌∷◌, length, position, slice_get, Option, Some, None, option_map, refl, sym, ap, ◌∙◌, arith}
 use Rattle.std.proofs.lemmas.Option.{slice_get-map, slice_get-get_or, none-some}
+use Rattle.std.specs.Option.{option_map_or}
 use Rattle.std.specs.Str.{bytes_eq}
 use Rattle.race_records.specs.declared.kind.Kind.{Kind}
-use Rattle.race_records.specs.Declarations.{Declaration, of_kind}
+use Rattle.race_records.specs.declared.names.Slot.{Slot}
+use Rattle.race_records.specs.Declarations.{Declaration, of_kind, width_of}
 use Rattle.race_records.specs.DeclsHold.{AreNumbered}
 use Rattle.race_records.specs.Rows.{declaration_of, declarations_of}
 use Rattle.race_records.specs.Tables.{Row, IndexesState, indexes_of}
@@ -25,11 +27,24 @@ position-names rows name = sym (position-map declaration_of (λ (d : Declaration
 
 module _ (rows : List Row) (indexes : IndexesState) (numbered : AreNumbered rows indexes) (kind : Kind) (n i : ℕ)
     (at : slice_get (indexes_of kind indexes) n ≡ Some i) where
-  -- the row that the nth index of a kind leads to has the name of the nth declaration of the kind
+  -- the row that the nth index of a kind leads to is the nth declaration of the kind
+  declaration-indexed : option_map declaration_of (slice_get rows i) ≡ slice_get (of_kind kind (declarations_of rows)) n
+  declaration-indexed = sym (slice_get-map declaration_of rows i) ∙ (numbered.indexed kind).to n i at
+
+  -- so it has its name
   pub name-indexed : option_map (λ (r : Row). r.name) (slice_get rows i) ≡ option_map (λ (d : Declaration). d.name) (slice_get (of_kind kind (declarations_of rows)) n)
   name-indexed =
       sym (option_map-option_map declaration_of (λ (d : Declaration). d.name) (slice_get rows i))
-      ∙ ap (option_map (λ (d : Declaration). d.name)) (sym (slice_get-map declaration_of rows i) ∙ (numbered.indexed kind).to n i at)
+      ∙ ap (option_map (λ (d : Declaration). d.name)) declaration-indexed
+
+  -- and as many values fit into it
+  pub width-indexed : (slot : Slot) → option_map (λ (r : Row). r.slot) (slice_get rows i) ≡ Some slot
+      → width_of slot.object ≡ option_map_or (λ (d : Declaration). width_of d.object) (slice_get (of_kind kind (declarations_of rows)) n) 0
+  width-indexed slot is = by (slice_get rows i) is ∙ ap (λ (o : Option Declaration). option_map_or (λ (d : Declaration). width_of d.object) o 0) declaration-indexed
+    where
+      by : (r : Option Row) → option_map (λ (r : Row). r.slot) r ≡ Some slot → width_of slot.object ≡ option_map_or (λ (d : Declaration). width_of d.object) (option_map declaration_of r) 0
+      by None is = cc
+      by (Some row) is = ap (λ (s : Option Slot). option_map_or (λ (s : Slot). width_of s.object) s 0) (sym is)
 
   -- and such a row there is
   pub index_within : n < length (of_kind kind (declarations_of rows)) → i < length rows

@@ -146,6 +146,15 @@ impl<A: Allocator> Decls<A> {
         kind.first_number() + self.indexes.len(kind) as u32
     }
 
+    /// How many values fit into a channel.
+    pub fn capacity(&self, chan: u32) -> u32
+        requires { chan < spec.count_of Kind.Chan self.now.declarations }
+        ensures { result ≡ spec.capacity_of self.now.declarations chan }
+    {
+        let index = self.indexes.get(Kind::Chan, chan as usize);
+        self.names.slot(index).object.width()
+    }
+
     /// The name by which an object was declared, or `main`.
     pub fn name(&self, named: Named) -> &str
         requires { spec.IsDeclared self.now.declarations named }

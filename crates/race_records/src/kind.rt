@@ -156,6 +156,16 @@ impl Object {
         }
     }
 
+    // How many values fit into what is declared, where it is a channel.
+    pub(crate) fn width(self) -> u32
+        ensures { result ≡ spec.width_of self }
+    {
+        match self {
+            Object::Chan(capacity) => capacity,
+            _ => 0,
+        }
+    }
+
     // Whether a channel's capacity is over its limit.
     pub(crate) fn is_too_wide(self) -> bool
         ensures { result ≡ spec.is_too_wide self }

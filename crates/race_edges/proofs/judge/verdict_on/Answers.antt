@@ -1,6 +1,6 @@
 -- Each answer is what the definition of the verdict says.
 use Rattle.std.proofs.Common.{◌≡◌, true, subst}
-use Rattle.race_legal.specs.StandsFor.{IsJudged}
+use Rattle.race_legal.specs.Judged.{IsJudged}
 use Rattle.race_edges.specs.Traces.{capacities}
 use Rattle.race_edges.proofs.RaceLists.{free_from_none, listed_some}
 use Rattle.race_edges.proofs.judge.verdict_on.Goals as goal

@@ -1,6 +1,6 @@
 use Rattle.std.proofs.Common.{subst}
 use Rattle.race_legal.specs.Rules.{number_of}
-use Rattle.race_legal.specs.StandsFor.{IsJudged}
+use Rattle.race_legal.specs.Judged.{IsJudged}
 use Rattle.race_edges.specs.Traces.{capacities}
 use Rattle.race_edges.proofs.listing.edges.Goals as goal
 

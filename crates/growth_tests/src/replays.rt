@@ -1,0 +1,106 @@
+//! The calls of race_legal.
+ghost use Rattle.std.specs.Prelude.{◌≡◌, ◌<◌};
+ghost use Rattle.race_legal.specs.ReplayState.{IsInRange, counts_in};
+
+use crate::growths::{Outcome, assert_refusals, judge};
+use race_legal::{Broken, Replay, legal};
+use race_records::{Decls, Event, Object, Op, Trace};
+use refusing_heap::RefusingHeap;
+use std::alloc::{Allocator, Global};
+
+// A goroutine, a variable, a channel, and a write of main.
+fn traced<A: Allocator + Copy>(heap: A) -> Option<Trace<A>> {
+    let mut decls = Decls::new(heap);
+    decls.add_goroutine("w").ok()?;
+    decls.add_var("x").ok()?;
+    decls.declare("c", Object::Chan(2)).ok()?;
+    decls.add_place("p").ok()?;
+    let mut trace = Trace::new(decls);
+    let event = Event {
+        who: 0,
+        op: Op::Write(0, 7),
+        place: 0,
+        place2: None,
+    };
+    trace.push(event).ok()?;
+    Some(trace)
+}
+
+/// A call of race_legal.
+#[derive(Clone, Copy, Debug)]
+enum Call {
+    New,
+    Accept,
+    Legal,
+}
+
+/// What a call answered.
+#[derive(Clone, Copy, Debug, PartialEq, Eq)]
+enum Reply {
+    OutOfMemory,
+    Right,
+    Wrong,
+}
+
+fn new<A: Allocator + Copy>(heap: A, trace: &Trace<A>) -> Reply {
+    match Replay::new(heap, trace.decls()) {
+        Ok(replay) => if replay.len() == 0 {
+            Reply::Right
+        } else {
+            Reply::Wrong
+        },
+        Err(_) => Reply::OutOfMemory,
+    }
+}
+
+fn accept<A: Allocator>(replay: &mut Replay<A>, event: &Event) -> Reply
+    requires range { IsInRange (counts_in replay.old) event.now }
+    requires first { replay.old.len ≡ 0 }
+{
+    match (replay.accept(event), replay.len()) {
+        (Ok(()), 1) => Reply::Right,
+        (Err(Broken::OutOfMemory), 0) => Reply::OutOfMemory,
+        _ => Reply::Wrong,
+    }
+}
+
+fn judged<A: Allocator + Copy>(heap: A, trace: &Trace<A>) -> Reply {
+    match legal(heap, trace) {
+        Ok(None) => Reply::Right,
+        Ok(Some(_)) => Reply::Wrong,
+        Err(_) => Reply::OutOfMemory,
+    }
+}
+
+// What is asked is made before any growth is refused.
+fn on_a_trace(alloc: Global, call: Call, nth: u64) -> Outcome
+    requires { 0 < nth }
+{
+    let heap = RefusingHeap::new(alloc);
+    let Some(trace) = traced(&heap) else {
+        return Outcome::Wrong;
+    };
+    let Ok(mut replay) = Replay::new(&heap, trace.decls()) else {
+        return Outcome::Wrong;
+    };
+    if trace.is_empty() {
+        return Outcome::Wrong;
+    }
+    heap.refuse(nth);
+    let reply = match call {
+        Call::New => new(&heap, &trace),
+        Call::Accept => accept(&mut replay, trace.event(0)),
+        Call::Legal => judged(&heap, &trace),
+    };
+    judge(&heap, reply == Reply::OutOfMemory, reply == Reply::Right)
+}
+
+#[test]
+fn replays(rt: HostRuntime) {
+    assert_refusals!(
+        rt,
+        on_a_trace,
+        // No event so far makes a replay grow.
+        [(Call::New, 4), (Call::Accept, 0), (Call::Legal, 4)]
+    );
+}

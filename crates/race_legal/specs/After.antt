@@ -1,0 +1,38 @@
+-- How an event changes what a replay keeps.
+use Rattle.std.specs.Prelude.{ℕ, ◌+◌, ◌==◌, ◌||◌, ◌&&◌, Bool, true, List, slice_set}
+use Rattle.race_records.specs.declared.event.Event.{Event}
+use Rattle.race_records.specs.declared.event.Op.{Op}
+use Rattle.race_records.specs.declared.event.Op.TheVariants.{Go, Exit, Write}
+use Rattle.race_model.specs.Events.{is_exit}
+use Rattle.race_legal.specs.ReplayState.{GoroutinesState, ReplayState}
+
+-- the run is over with main's exit
+abbrev pub over_after : Bool → ℕ → Op → Bool
+over_after over who o = over || ((who == 0) && is_exit o)
+
+-- the goroutine is started, and exits
+abbrev pub with_started : GoroutinesState → ℕ → GoroutinesState
+with_started t g = record { started = slice_set t.started g true; exited = t.exited }
+
+abbrev pub with_exited : GoroutinesState → ℕ → GoroutinesState
+with_exited t g = record { started = t.started; exited = slice_set t.exited g true }
+
+-- a Go starts its goroutine, an Exit ends its own
+abbrev pub goroutines_after : GoroutinesState → ℕ → Op → GoroutinesState
+goroutines_after t who (Go h) = with_started t h
+goroutines_after t who Exit = with_exited t who
+goroutines_after t who _ = t
+
+-- a Write gives its variable a value
+abbrev pub values_after : List ℕ → Op → List ℕ
+values_after values (Write x v) = slice_set values x v
+values_after values _ = values
+
+-- the next state
+abbrev pub after : ReplayState → Event → ReplayState
+after k e = record k {
+  len = k.len + 1;
+  over = over_after k.over e.who e.op;
+  goroutines = goroutines_after k.goroutines e.who e.op;
+  values = values_after k.values e.op;
+}

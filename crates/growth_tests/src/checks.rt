@@ -37,5 +37,5 @@ fn report(alloc: Global, _call: (), nth: u64) -> Outcome
 
 #[test]
 fn checks(rt: HostRuntime) {
-    assert_refusals!(rt, report, [((), 23)]);
+    assert_refusals!(rt, report, [((), 25)]);
 }

@@ -10,10 +10,11 @@ use Rattle.race_legal.specs.ReplayState.{GoroutinesState, ReplayState}
 abbrev pub over_after : Bool → ℕ → Op → Bool
 over_after over who o = over || ((who == 0) && is_exit o)
 
--- the goroutine is started, and exits
+-- the goroutine is started
 abbrev pub with_started : GoroutinesState → ℕ → GoroutinesState
 with_started t g = record { started = slice_set t.started g true; exited = t.exited }
 
+-- the goroutine exits
 abbrev pub with_exited : GoroutinesState → ℕ → GoroutinesState
 with_exited t g = record { started = t.started; exited = slice_set t.exited g true }
 

@@ -36,20 +36,23 @@ counts_in k Kind.Chan = length k.capacities
 counts_in k Kind.Lock = k.locks
 counts_in k Kind.Once = k.onces
 
--- what the tables say of a goroutine: a Go started it, it has exited, it runs
+-- a Go started the goroutine
 abbrev pub started_in : GoroutinesState → ℕ → Bool
 started_in t g = slice_index_or t.started g false
 
+-- it has exited
 abbrev pub exited_in : GoroutinesState → ℕ → Bool
 exited_in t g = slice_index_or t.exited g false
 
+-- it is main or was started, and hasn't exited
 abbrev pub runs_in : GoroutinesState → ℕ → Bool
 runs_in t g = (g == 0 || started_in t g) && not (exited_in t g)
 
--- of a variable its last value, of a channel its capacity
+-- the last value of the variable
 abbrev pub value_in : ReplayState → ℕ → ℕ
 value_in k x = slice_index_or k.values x 0
 
+-- the capacity of the channel
 abbrev pub capacity_in : ReplayState → ℕ → ℕ
 capacity_in k c = slice_index_or k.capacities c 0
 

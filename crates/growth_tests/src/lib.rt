@@ -10,6 +10,8 @@ mod checks;
 #[cfg(test)]
 mod growths;
 #[cfg(test)]
+mod orders;
+#[cfg(test)]
 mod records;
 #[cfg(test)]
 mod replays;

@@ -7,6 +7,8 @@ mod listing;
 mod races;
 mod synchronized;
 mod table;
+#[cfg(test)]
+mod tests;
 
 pub use fault::{EdgeFault, MAX_PLAIN_EVENTS};
 pub use judge::{Verdict, plain_judge};

@@ -1,0 +1,136 @@
+use crate::{Edge, EdgeFault, MAX_PLAIN_EVENTS, Race, Verdict, edges, plain_judge};
+use race_legal::{Illegal, Rule};
+use race_records::{Decls, Event, Op, Trace};
+use std::alloc::Global;
+use std::test::Fail;
+
+// Who does what. The last event breaks a rule.
+fn rows() -> [(u32, Op); 8] {
+    [
+        (0, Op::Go(1)),
+        (0, Op::Write(0, 1)),
+        (0, Op::Go(2)),
+        (1, Op::Write(1, 1)),
+        // The write of main stands before the go of this reader.
+        (2, Op::Read(0, 1)),
+        // But not before that of this one.
+        (1, Op::Read(0, 1)),
+        (0, Op::Read(1, 1)),
+        (0, Op::Go(1)),
+    ]
+}
+
+// The edges of these events, and the races.
+static EDGES: [Edge; 2] = [
+    Edge {
+        from: 0,
+        from_who: 0,
+        to: 0,
+        to_who: 1,
+    },
+    Edge {
+        from: 2,
+        from_who: 0,
+        to: 2,
+        to_who: 2,
+    },
+];
+
+static RACES: [Race; 2] = [
+    Race {
+        var: 0,
+        first: 1,
+        second: 5,
+    },
+    Race {
+        var: 1,
+        first: 3,
+        second: 6,
+    },
+];
+
+static BROKEN: Illegal = Illegal {
+    at: 7,
+    rule: Rule::AlreadyStarted,
+};
+
+// A trace of the first events of the rows, and so many writes behind them.
+fn traced(alloc: Global, count: usize, writes: usize) -> Result<Trace, Fail> {
+    let mut decls = Decls::new(alloc);
+    for name in ["a", "b"] {
+        decls.add_goroutine(name)?;
+    }
+    for name in ["x", "y"] {
+        decls.add_var(name)?;
+    }
+    decls.add_place("p")?;
+    let mut trace = Trace::new(decls);
+    let writes = (0..writes).map(|_| (0, Op::Write(0, 1)));
+    for (who, op) in rows().into_iter().take(count).chain(writes) {
+        trace.push(Event {
+            who,
+            op,
+            place: 0,
+            place2: None,
+        })?;
+    }
+    Ok(trace)
+}
+
+// Whether the first edges are listed, so many.
+fn are_listed(alloc: Global, trace: &Trace, want: Result<usize, EdgeFault>) -> bool {
+    match (edges(alloc, trace), want) {
+        (Ok(list), Ok(count)) => list.len() == count
+            && list.iter().zip(&EDGES).all(|(edge, known)| *edge == *known),
+        (Err(fault), Err(known)) => fault == known,
+        _ => false,
+    }
+}
+
+/// What is known of a trace.
+#[derive(Clone, Copy, Debug)]
+enum Known {
+    Illegal,
+    Races(usize),
+    TooLong,
+}
+
+fn is_judged(alloc: Global, trace: &Trace, want: Known) -> bool {
+    match (plain_judge(alloc, trace), want) {
+        (Ok(Verdict::Illegal(illegal)), Known::Illegal) => illegal == BROKEN,
+        (Ok(Verdict::Clean), Known::Races(count)) => count == 0,
+        (Ok(Verdict::Races(races)), Known::Races(count)) => {
+            let races = races.as_slice();
+            0 < count
+                && races.len() == count
+                && races
+                    .iter()
+                    .zip(&RACES)
+                    .all(|(race, known)| *race == *known)
+        }
+        (Err(fault), Known::TooLong) => fault == EdgeFault::TooLong,
+        _ => false,
+    }
+}
+
+#[test]
+fn edges_and_races_are_told(rt: HostRuntime) -> Result<(), Fail> {
+    let most = MAX_PLAIN_EVENTS;
+    for (count, writes, edges, known) in [
+        (0, 0, Ok(0), Known::Races(0)),
+        (1, 0, Ok(1), Known::Races(0)),
+        (5, 0, Ok(2), Known::Races(0)),
+        (6, 0, Ok(2), Known::Races(1)),
+        (7, 0, Ok(2), Known::Races(2)),
+        (8, 0, Err(EdgeFault::Illegal), Known::Illegal),
+        (0, most, Ok(0), Known::Races(0)),
+        (0, most + 1, Err(EdgeFault::TooLong), Known::TooLong),
+        // An illegal one too.
+        (8, most, Err(EdgeFault::TooLong), Known::TooLong),
+    ] {
+        let trace = traced(rt.alloc(), count, writes)?;
+        assert!(rt; are_listed(rt.alloc(), &trace, edges), "{count} {writes}");
+        assert!(rt; is_judged(rt.alloc(), &trace, known), "{count} {writes}");
+    }
+    Ok(())
+}

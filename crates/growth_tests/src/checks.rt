@@ -40,12 +40,12 @@ fn report(alloc: Global, engine: Engine, nth: u64) -> Outcome
     let answer = ended(&heap, engine);
     let right = match engine {
         Engine::Check => (status::RACES, 75),
-        Engine::Edges => (status::CLEAN, 26),
+        Engine::Edges => (status::CLEAN, 25),
     };
     judge(&heap, answer == (status::REFUSED, 0), answer == right)
 }
 
 #[test]
 fn engines(rt: HostRuntime) {
-    assert_refusals!(rt, report, [(Engine::Check, 25), (Engine::Edges, 19)]);
+    assert_refusals!(rt, report, [(Engine::Check, 25), (Engine::Edges, 20)]);
 }

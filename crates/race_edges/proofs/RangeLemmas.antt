@@ -13,8 +13,6 @@ use Rattle.race_records.specs.Parts.{op_is_in_range}
 use Rattle.race_legal.specs.ReplayState.{IsInRange}
 use Rattle.race_legal.proofs.RangeLemmas.{range_from_fits}
 use Rattle.race_model.specs.Events.{partner, gives, accesses}
-use Rattle.race_legal.specs.ReplayState.{IsInRange}
-use Rattle.race_legal.proofs.RangeLemmas.{range_from_fits}
 use Rattle.race_edges.specs.Partners.{accessed}
 
 -- each event of a trace is in range of its declarations

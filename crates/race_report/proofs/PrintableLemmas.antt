@@ -57,13 +57,13 @@ module _ (trace : TraceState) (is_trace : IsTrace trace) where
   edge_is_of : (caps : ℕ → ℕ) (edge : Edge) → IsEdge caps trace.events edge → IsEdgeOf trace edge
   edge_is_of caps edge (e, at, how) = elim how [
     | inl inside ↦ elim (inside_pair e.who e.op edge.from_who edge.to_who inside.1) [
-        | inl pair ↦ record { from_who = subst (λ n. n < count_of Kind.Goroutine trace.decls.declarations) pair.0 (who_in_range edge.to e at); to_who = partner_is_in_range edge.to e edge.to_who at pair.1 }
-        | inr pair ↦ record { from_who = partner_is_in_range edge.to e edge.from_who at pair.0; to_who = subst (λ n. n < count_of Kind.Goroutine trace.decls.declarations) pair.1 (who_in_range edge.to e at) }
-      ]
+      | inl pair ↦ record { from_who = subst (λ n. n < count_of Kind.Goroutine trace.decls.declarations) pair.0 (who_in_range edge.to e at); to_who = partner_is_in_range edge.to e edge.to_who at pair.1 }
+      | inr pair ↦ record { from_who = partner_is_in_range edge.to e edge.from_who at pair.0; to_who = subst (λ n. n < count_of Kind.Goroutine trace.decls.declarations) pair.1 (who_in_range edge.to e at) }
+    ]
     | inr source ↦ record {
-        from_who = subst (λ n. n < count_of Kind.Goroutine trace.decls.declarations) source.3 (who_in_range edge.from source.0 (take_at_old edge.to trace.events edge.from source.0 source.1));
-        to_who = subst (λ n. n < count_of Kind.Goroutine trace.decls.declarations) source.4 (who_in_range edge.to e at);
-      }
+      from_who = subst (λ n. n < count_of Kind.Goroutine trace.decls.declarations) source.3 (who_in_range edge.from source.0 (take_at_old edge.to trace.events edge.from source.0 source.1));
+      to_who = subst (λ n. n < count_of Kind.Goroutine trace.decls.declarations) source.4 (who_in_range edge.to e at);
+    }
   ]
 
   pub edges_are_of : (caps : ℕ → ℕ) (edges : List Edge) → AreEdges caps trace.events edges → All (IsEdgeOf trace) edges

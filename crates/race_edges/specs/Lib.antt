@@ -1,9 +1,9 @@
+pub mod Traces
+pub mod Edges
+pub mod Answers
+pub mod Verdicts
 pub mod Synchronized
+pub mod EdgesSoFar
 pub mod TableState
 pub mod IsTable
 pub mod Partners
-pub mod Answers
-pub mod Verdicts
-pub mod Traces
-pub mod Edges
-pub mod EdgesSoFar

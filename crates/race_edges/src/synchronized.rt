@@ -1,5 +1,5 @@
-//! What each operation brings to the order: the only place of this crate where one operation is
-//! told from another.
+//! What each operation brings to the order. The list of edges and the judge go by these tests, so
+//! that an operation has its arms here alone.
 ghost use Rattle.std.specs.Prelude.{◌≡◌, ◌<◌, length};
 ghost use Rattle.race_model.specs.Events as model;
 ghost use Rattle.race_edges.specs.Synchronized as spec;

@@ -2,7 +2,7 @@
 use Rattle.std.specs.Prelude.{ℕ, ◌≡◌, ◌==◌, ◌||◌, ◌&&◌, nat_lt, Bool, true, false, IsTrue, List, [], ◌∷◌, Option, Some, None, count_by, map, take, slice_get}
 use Rattle.race_records.specs.declared.event.Event.{Event}
 use Rattle.race_records.specs.declared.event.Op.{Op}
-use Rattle.race_records.specs.declared.event.Op.TheVariants.{Go, Exit, Read, Write}
+use Rattle.race_records.specs.declared.event.Op.TheVariants.{Go, Exit, Read, Write, Send, Recv, Meet, Close}
 
 -- e is the event at index i of the list; indexes count from 0
 abbrev pub At : List Event → ℕ → Event → Type 0
@@ -12,9 +12,10 @@ At events i e = slice_get events i ≡ Some e
 abbrev pub operations : List Event → List (ℕ × Op)
 operations events = map (λ e. (e.who, e.op)) events
 
--- the second participant: the goroutine that a Go starts
+-- the second participant: the goroutine that a Go starts, or the receiver of a Meet
 abbrev pub partner : Op → Option ℕ
 partner (Go h) = Some h
+partner (Meet r c v) = Some r
 partner _ = None
 
 -- there is a number, and it is n
@@ -61,6 +62,21 @@ abbrev pub is_access : Op → Bool
 is_access (Read x v) = true
 is_access (Write x v) = true
 is_access _ = false
+
+-- a Send on c, of whatever value; a Meet is none
+abbrev pub sends : ℕ → Op → Bool
+sends c (Send d v) = d == c
+sends c _ = false
+
+-- a Recv from c, of whatever value; a Meet is none, and neither is a RecvClosed
+abbrev pub receives : ℕ → Op → Bool
+receives c (Recv d v) = d == c
+receives c _ = false
+
+-- a Close of c
+abbrev pub closes : ℕ → Op → Bool
+closes c (Close d) = d == c
+closes c _ = false
 
 -- how many events of a kind the list has
 abbrev pub count : (Op → Bool) → List Event → ℕ

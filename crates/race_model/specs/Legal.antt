@@ -1,13 +1,12 @@
--- Which rules an event breaks after the events before it, and which lists of events are legal. (The Go Programming Language Specification, "Program execution", "Go statements")
-use Rattle.std.specs.Prelude.{ℕ, if◌then◌else◌, ◌≡◌, ◌==◌, ◌||◌, not, Bool, List, [], ◌∷◌, Option, Some, None, take}
+-- Which rules an event breaks after the events before it, and which lists of events are legal. (The Go Programming Language Specification, "Program execution", "Go statements", "Send statements", "Receive operator", "Close")
+use Rattle.std.specs.Prelude.{ℕ, if◌then◌else◌, ◌≡◌, ◌==◌, ◌||◌, ◌&&◌, not, nat_lt, Bool, true, List, [], ◌∷◌, Option, Some, None, take}
 use Rattle.race_records.specs.declared.event.Event.{Event}
 use Rattle.race_records.specs.declared.event.Op.{Op}
-use Rattle.race_records.specs.declared.event.Op.TheVariants.{Go, Exit, Read, Write}
-use Rattle.race_model.specs.Events.{At}
-use Rattle.race_model.specs.State.{over, started, runs, last_value}
+use Rattle.race_records.specs.declared.event.Op.TheVariants.{Go, Exit, Read, Write, Send, Recv, Meet, RecvClosed, Close}
+use Rattle.race_model.specs.Events.{At, gives, sends, receives, count}
+use Rattle.race_model.specs.State.{over, started, runs, last_value, is_closed, buffered, front}
 
--- Each rule has a number of its own for good, so there are gaps. caps gives the capacity of each channel; no rule on Go,
--- Exit, Read and Write looks at it.
+-- Each rule has a number of its own for good, so there are gaps. caps gives the capacity of each channel.
 
 -- the rules on what goroutine g does after the events past, in rising order: the number, and whether the rule is broken
 abbrev pub op_rules : (ℕ → ℕ) → List Event → ℕ → Op → List (ℕ × Bool)
@@ -17,10 +16,27 @@ op_rules caps past g Exit = []
 -- 21: it reads another value than the last one written, or than 0 where none was
 op_rules caps past g (Read x v) = (21, not (last_value x past == v)) ∷ []
 op_rules caps past g (Write x v) = []
+-- 5: the channel is unbuffered; 6: it is closed; 7: its buffer is full
+op_rules caps past g (Send c v) = (5, caps c == 0) ∷ (6, is_closed c past) ∷ (7, buffered c past == caps c) ∷ []
+-- 8: nothing is in its buffer; 9: the value is another than the one that was sent
+op_rules caps past g (Recv c v) =
+    (5, caps c == 0) ∷ (8, count (sends c) past == count (receives c) past) ∷ (9, not (gives (front c past) v)) ∷ []
+-- 4: the sender receives from itself; 5: the channel is buffered
+op_rules caps past g (Meet r c v) = (4, r == g) ∷ (5, nat_lt 0 (caps c)) ∷ (6, is_closed c past) ∷ []
+-- 10: the channel is open; 11: something is left in its buffer
+op_rules caps past g (RecvClosed c) =
+    (10, not (is_closed c past)) ∷ (11, nat_lt (count (receives c) past) (count (sends c) past)) ∷ []
+-- 12: it was closed before
+op_rules caps past g (Close c) = (12, is_closed c past) ∷ []
 
--- the goroutine of the event runs; nothing is asked of the one that a Go starts
+-- the receiver runs, where there is one
+abbrev pub receiver_runs : List Event → Op → Bool
+receiver_runs past (Meet r c v) = runs r past
+receiver_runs past _ = true
+
+-- the goroutine of the event runs, and the receiver of a Meet; nothing is asked of the one that a Go starts
 abbrev pub actors_run : List Event → Event → Bool
-actors_run past e = runs e.who past
+actors_run past e = runs e.who past && receiver_runs past e.op
 
 -- all rules in rising order; 1 says that the run is over, 2 that who acts doesn't run
 abbrev pub rules : (ℕ → ℕ) → List Event → Event → List (ℕ × Bool)

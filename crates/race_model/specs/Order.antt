@@ -1,9 +1,9 @@
--- Which event happens before which. (The Go Memory Model, "Memory Model": sequenced before, synchronized before, happens before; "Goroutine creation", "Goroutine destruction")
-use Rattle.std.specs.Prelude.{ℕ, ◌≡◌, ◌<◌, ◌⊎◌, List, take}
+-- Which event happens before which. (The Go Memory Model, "Memory Model": sequenced before, synchronized before, happens before; "Goroutine creation", "Goroutine destruction", "Channel communication")
+use Rattle.std.specs.Prelude.{ℕ, ◌≡◌, ◌<◌, ◌+◌, ◌⊎◌, IsTrue, List, take}
 use Rattle.race_records.specs.declared.event.Event.{Event}
 use Rattle.race_records.specs.declared.event.Op.{Op}
-use Rattle.race_records.specs.declared.event.Op.TheVariants.{Go}
-use Rattle.race_model.specs.Events.{At, TakesPart}
+use Rattle.race_records.specs.declared.event.Op.TheVariants.{Go, Send, Recv, Meet, RecvClosed}
+use Rattle.race_model.specs.Events.{At, TakesPart, sends, receives, closes, count, IsKth}
 
 -- the begin of goroutine g's part in the event at index i, and its end, which the memory model calls its completion
 pub data Point : Type 0 where
@@ -20,12 +20,19 @@ SequencedBefore events _ _ = ⊥
 abbrev pub SynchronizedInside : ℕ → Op → ℕ → ℕ → Type 0
 -- a go statement before the start of the new goroutine, which is that goroutine's part in the Go
 SynchronizedInside who (Go k) g h = (who ≡ g) × (k ≡ h)
+-- on an unbuffered channel the send before the completion of the receive, and the receive before the completion of the send
+SynchronizedInside who (Meet r c v) g h = ((who ≡ g) × (r ≡ h)) ⊎ ((r ≡ g) × (who ≡ h))
 SynchronizedInside who _ g h = ⊥
 
--- the operation s, at index i of the events past, is synchronized before the completion of o, the operation that comes next;
--- no Go, Exit, Read or Write is
+-- the operation s, at index i of the events past, is synchronized before the completion of o, the operation that comes next
 abbrev pub IsSource : (ℕ → ℕ) → List Event → ℕ → Op → Op → Type 0
-IsSource caps past i s o = ⊥
+-- the kth send on a channel before the completion of the kth receive from it
+IsSource caps past i s (Recv c v) = IsKth (sends c) (count (receives c) past) past i s
+-- the kth receive from a channel before the completion of the send numbered k plus the capacity
+IsSource caps past i s (Send c v) = (k : ℕ) × IsKth (receives c) k past i s × (k + caps c ≡ count (sends c) past)
+-- the closing of a channel before each receive that returns because it is closed
+IsSource caps past i s (RecvClosed c) = IsTrue (closes c s)
+IsSource caps past i s _ = ⊥
 
 -- p is synchronized before q, always from a begin to an end: inside one event, or from a source among the events before
 abbrev pub SynchronizedBefore : (ℕ → ℕ) → List Event → Point → Point → Type 0

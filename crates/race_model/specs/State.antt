@@ -1,9 +1,9 @@
--- What the events so far say of the run, its goroutines and its variables. (The Go Programming Language Specification, "Program execution", "Go statements")
-use Rattle.std.specs.Prelude.{ℕ, if◌then◌else◌, ◌==◌, ◌||◌, ◌&&◌, not, Bool, List, Option, Some, None, unwrap_or}
+-- What the events so far say of the run, its goroutines, variables and channels. (The Go Programming Language Specification, "Program execution", "Go statements", "Channel types", "Close")
+use Rattle.std.specs.Prelude.{ℕ, if◌then◌else◌, ◌==◌, ◌-◌, ◌||◌, ◌&&◌, not, Bool, List, Option, Some, None, filter_map, slice_get, unwrap_or}
 use Rattle.race_records.specs.declared.event.Event.{Event}
 use Rattle.race_records.specs.declared.event.Op.{Op}
-use Rattle.race_records.specs.declared.event.Op.TheVariants.{Write}
-use Rattle.race_model.specs.Events.{starts, has, has_exited, last_of}
+use Rattle.race_records.specs.declared.event.Op.TheVariants.{Write, Send}
+use Rattle.race_model.specs.Events.{starts, sends, receives, closes, count, has, has_exited, last_of}
 
 -- the run is over: main, goroutine 0, has exited
 abbrev pub over : List Event → Bool
@@ -25,3 +25,20 @@ written x _ = None
 -- the value of the last Write of x, or 0 where there is none
 abbrev pub last_value : ℕ → List Event → ℕ
 last_value x past = unwrap_or (last_of (λ e. written x e.op) past) 0
+
+-- c was closed
+abbrev pub is_closed : ℕ → List Event → Bool
+is_closed c past = has (closes c) past
+
+-- how many values wait in c's buffer: sends minus receives; 0 where receives exceed sends, which no legal list allows
+abbrev pub buffered : ℕ → List Event → ℕ
+buffered c past = count (sends c) past - count (receives c) past
+
+-- the value that the operation sends on c
+abbrev pub sent : ℕ → Op → Option ℕ
+sent c (Send d v) = if d == c then Some v else None
+sent c _ = None
+
+-- the value of the Send that the next Recv from c gets: the kth Recv gets the value of the kth Send; None where there is none
+abbrev pub front : ℕ → List Event → Option ℕ
+front c past = slice_get (filter_map (λ e. sent c e.op) past) (count (receives c) past)

@@ -1,31 +1,14 @@
 -- Two events with the texts of their places, compared part by part.
-use Rattle.std.proofs.Common.{◌≡◌, ◌==◌, ◌&&◌, ℕ, Bool, true, false, List, Option, Some, None, slice_get, IsTrue, nat_lt, is_none, length, refl, sym, ap, ◌∙◌, option_map}
+use Rattle.std.proofs.Common.{◌≡◌, ◌==◌, ◌&&◌, ℕ, Bool, true, false, List, Option, Some, None, slice_get, IsTrue, refl, sym, ap, ◌∙◌, option_map}
 use Rattle.std.proofs.lemmas.Option.{slice_get-map, same_Some}
-use Rattle.std.specs.Option.{option_and_then}
 use Rattle.std.specs.Str.{bytes_eq}
 use Rattle.race_records.specs.declared.event.Event.{Event}
-use Rattle.race_records.specs.declared.kind.Kind.{Kind}
-use Rattle.race_records.specs.Declarations.{DeclsState, count_of}
-use Rattle.race_records.specs.Events.{TraceState, fits, op_fits}
+use Rattle.race_records.specs.Events.{TraceState}
 use Rattle.race_records.specs.TraceEquality.{placed, placed_events, same_op, same_text, same_placed, same_placed-Decides}
 
 -- the event at an index, with the texts of its places
 placed_at : (trace : TraceState) (i : ℕ) (e : Event) → slice_get trace.events i ≡ Some e → slice_get (placed_events trace) i ≡ Some (placed trace.decls.places e)
 placed_at trace i e at = slice_get-map (placed trace.decls.places) trace.events i ∙ ap (option_map (placed trace.decls.places)) at
-
-and_true : (b : Bool) → (b && true) ≡ b
-and_true true = refl
-and_true false = refl
-
--- an event that fits has no second place
-pub no_second_place : (decls : DeclsState) (e : Event) → IsTrue (fits decls e) → e.place2 ≡ None
-unfolding fits
-no_second_place decls e fit = go (nat_lt e.who (count_of Kind.Goroutine decls.declarations) && op_fits decls.declarations e.op && nat_lt e.place (length decls.places)) e.place2 fit
-  where
-    go : (b : Bool) (o : Option ℕ) → IsTrue (b && is_none o) → o ≡ None
-    go true None h = refl
-    go true (Some n) h = cc
-    go false o h = cc
 
 module _ (trace other : TraceState) (i : ℕ) (e f : Event) (here : slice_get trace.events i ≡ Some e) (there : slice_get other.events i ≡ Some f) where
   -- what tells whether the two are equal
@@ -43,8 +26,14 @@ module _ (trace other : TraceState) (i : ℕ) (e f : Event) (here : slice_get tr
   pub by_op : (e.who == f.who) ≡ true → same_op e.op f.op ≡ false → false ≡ same_placed (placed trace.decls.places e) (placed other.decls.places f)
   by_op same differ = λ j. ((sym same j && sym differ j) && same_text (placed trace.decls.places e).place (placed other.decls.places f).place) && same_text (placed trace.decls.places e).place2 (placed other.decls.places f).place2
 
+  pub by_place : (e.who == f.who) ≡ true → same_op e.op f.op ≡ true → (text another : List ℕ) → slice_get trace.decls.places e.place ≡ Some text → slice_get other.decls.places f.place ≡ Some another
+      → bytes_eq text another ≡ false → false ≡ same_placed (placed trace.decls.places e) (placed other.decls.places f)
+  by_place who op text another at at2 differ =
+      (λ j. sym differ j && same_text (placed trace.decls.places e).place2 (placed other.decls.places f).place2)
+      ∙ (λ j. ((sym who j && sym op j) && same_text (sym at j) (sym at2 j)) && same_text (placed trace.decls.places e).place2 (placed other.decls.places f).place2)
+
   pub by_texts : (e.who == f.who) ≡ true → same_op e.op f.op ≡ true → (text another : List ℕ) → slice_get trace.decls.places e.place ≡ Some text → slice_get other.decls.places f.place ≡ Some another
-      → e.place2 ≡ None → f.place2 ≡ None → bytes_eq text another ≡ same_placed (placed trace.decls.places e) (placed other.decls.places f)
-  by_texts who op text another at at2 none none2 =
-      sym (and_true (bytes_eq text another))
-      ∙ (λ j. ((sym who j && sym op j) && same_text (sym at j) (sym at2 j)) && same_text (option_and_then (slice_get trace.decls.places) (sym none j)) (option_and_then (slice_get other.decls.places) (sym none2 j)))
+      → bytes_eq text another ≡ true → same_text (placed trace.decls.places e).place2 (placed other.decls.places f).place2 ≡ same_placed (placed trace.decls.places e) (placed other.decls.places f)
+  by_texts who op text another at at2 same =
+      (λ j. sym same j && same_text (placed trace.decls.places e).place2 (placed other.decls.places f).place2)
+      ∙ (λ j. ((sym who j && sym op j) && same_text (sym at j) (sym at2 j)) && same_text (placed trace.decls.places e).place2 (placed other.decls.places f).place2)

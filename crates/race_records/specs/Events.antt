@@ -1,5 +1,5 @@
 -- Which events fit the declarations, and when a trace takes one.
-use Rattle.std.specs.Prelude.{◌≡◌, ℕ, ◌≤◌, ◌^◌, ◌&&◌, Bool, true, not, if◌then◌else◌, nat_lt, nat_le, List, length, Option, Some, None, is_none, IsTrue, All}
+use Rattle.std.specs.Prelude.{◌≡◌, ℕ, ◌≤◌, ◌^◌, ◌&&◌, Bool, true, not, if◌then◌else◌, nat_lt, nat_le, List, length, Option, Some, None, IsTrue, All}
 use Rattle.std.specs.List.{list_all}
 use Rattle.race_records.specs.declared.event.Event.{Event}
 use Rattle.race_records.specs.declared.event.Op.{Op}
@@ -8,17 +8,22 @@ use Rattle.race_records.specs.declared.trace.PushFault.{PushFault}
 use Rattle.race_records.specs.declared.trace.PushFault.TheVariants.{BadNumber, Full}
 use Rattle.race_records.specs.declared.trace.TheConstants.{MAX_EVENTS}
 use Rattle.race_records.specs.Declarations.{Declaration, DeclsState, count_of, counts_of}
-use Rattle.race_records.specs.Parts.{says, op_is_in_range, part_is_u64}
+use Rattle.race_records.specs.Parts.{says, has_two_places, op_is_in_range, part_is_u64}
 
 -- the numbers that the operation names are declared, each of its kind
 abbrev pub op_fits : List Declaration → Op → Bool
 op_fits ds op = op_is_in_range (counts_of ds) op
 
--- all numbers of the event are in range and of the right kind, and no operation has a second place
+-- of so many places the second one is one, and it is there just where there have to be two
+abbrev pub second_place_fits : ℕ → Bool → Option ℕ → Bool
+second_place_fits places two None = not two
+second_place_fits places two (Some place) = two && nat_lt place places
+
+-- all numbers of the event are in range and of the right kind, and it has a second place just where its operation wants one
 unfoldable pub fits : DeclsState → Event → Bool
 fits decls e =
     nat_lt e.who (count_of Kind.Goroutine decls.declarations) && op_fits decls.declarations e.op
-    && nat_lt e.place (length decls.places) && is_none e.place2
+    && nat_lt e.place (length decls.places) && second_place_fits (length decls.places) (has_two_places (says e.op).0) e.place2
 
 -- a value that the operation names is a u64
 abbrev pub value_fits : Op → Bool

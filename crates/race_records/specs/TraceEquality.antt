@@ -8,7 +8,7 @@ use Rattle.std.specs.Cmp.{IsPartialEquivalence, partial_equiv_from_equiv, decide
 use Rattle.std.specs.Str.{bytes_eq}
 use Rattle.race_records.specs.declared.event.Event.{Event}
 use Rattle.race_records.specs.declared.event.Op.{Op}
-use Rattle.race_records.specs.declared.event.Op.TheVariants.{Go, Exit, Read, Write}
+use Rattle.race_records.specs.declared.event.Op.TheVariants.{Go, Exit, Read, Write, Send, Recv, Meet, RecvClosed, Close}
 use Rattle.race_records.specs.Declarations.{Declaration}
 use Rattle.race_records.specs.Events.{TraceState}
 use Rattle.race_records.specs.Equality.{same_declarations, same_declarations-Decides}
@@ -41,6 +41,11 @@ same_op (Go g) (Go h) = g == h
 same_op Exit Exit = true
 same_op (Read x v) (Read y w) = (x == y) && (v == w)
 same_op (Write x v) (Write y w) = (x == y) && (v == w)
+same_op (Send c v) (Send d w) = (c == d) && (v == w)
+same_op (Recv c v) (Recv d w) = (c == d) && (v == w)
+same_op (Meet r c v) (Meet s d w) = (r == s) && (c == d) && (v == w)
+same_op (RecvClosed c) (RecvClosed d) = c == d
+same_op (Close c) (Close d) = c == d
 same_op _ _ = false
 
 -- there is no text, or the same one
@@ -75,6 +80,14 @@ same_op-Decides (Read x v) (Read y w) =
     decides_by ((x == y) && (v == w)) (both (Decides-eqb x y) (Decides-eqb v w)) (λ e i. Read (e.0 i) (e.1 i)) (λ e. (cc, cc))
 same_op-Decides (Write x v) (Write y w) =
     decides_by ((x == y) && (v == w)) (both (Decides-eqb x y) (Decides-eqb v w)) (λ e i. Write (e.0 i) (e.1 i)) (λ e. (cc, cc))
+same_op-Decides (Send c v) (Send d w) =
+    decides_by ((c == d) && (v == w)) (both (Decides-eqb c d) (Decides-eqb v w)) (λ e i. Send (e.0 i) (e.1 i)) (λ e. (cc, cc))
+same_op-Decides (Recv c v) (Recv d w) =
+    decides_by ((c == d) && (v == w)) (both (Decides-eqb c d) (Decides-eqb v w)) (λ e i. Recv (e.0 i) (e.1 i)) (λ e. (cc, cc))
+same_op-Decides (Meet r c v) (Meet s d w) =
+    decides_by ((r == s) && (c == d) && (v == w)) (both (both (Decides-eqb r s) (Decides-eqb c d)) (Decides-eqb v w)) (λ e i. Meet (e.0.0 i) (e.0.1 i) (e.1 i)) (λ e. ((cc, cc), cc))
+same_op-Decides (RecvClosed c) (RecvClosed d) = (λ e. ap RecvClosed ((Decides-eqb c d).0 e), λ e. (Decides-eqb c d).1 cc)
+same_op-Decides (Close c) (Close d) = (λ e. ap Close ((Decides-eqb c d).0 e), λ e. (Decides-eqb c d).1 cc)
 same_op-Decides _ _ = (λ e. absurd (true≢false (sym e)), λ e. cc)
 
 same_text-Decides : (a b : Option (List ℕ)) → Decides (same_text a b) (a ≡ b)

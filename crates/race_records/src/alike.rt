@@ -1,6 +1,7 @@
 //! Which traces are equal.
-ghost use Rattle.std.specs.Prelude.{◌≡◌, ◌↔◌, ◌<◌, length, slice_get, IsTrue};
-ghost use Rattle.race_records.specs.TraceEquality.{placed_events, same_op};
+ghost use Rattle.std.specs.Prelude.{◌≡◌, ◌↔◌, ◌<◌, length, slice_get, IsTrue, IfSome};
+ghost use Rattle.std.specs.Option.{option_and_then};
+ghost use Rattle.race_records.specs.TraceEquality.{placed_events, same_op, same_text};
 
 use crate::{Op, Trace};
 use std::alloc::Allocator;
@@ -38,7 +39,7 @@ fn are_events_alike<A: Allocator>(trace: &Trace<A>, other: &Trace<A>) -> bool
     true
 }
 
-// Whether the two events at the index are equal. An event that fits has no second place.
+// Whether the two events at the index are equal.
 #[tactic(auto, unfolding(crate::specs::Events::fits))]
 fn are_alike_at<A: Allocator>(trace: &Trace<A>, other: &Trace<A>, index: usize) -> bool
     requires here { index < length trace.now.events }
@@ -54,7 +55,29 @@ fn are_alike_at<A: Allocator>(trace: &Trace<A>, other: &Trace<A>, index: usize) 
     if !is_same_op(&here.op, &there.op) {
         return false;
     }
-    trace.place_text(here.place) == other.place_text(there.place)
+    if trace.place_text(here.place) != other.place_text(there.place) {
+        return false;
+    }
+    are_second_places_alike(trace, other, here.place2, there.place2)
+}
+
+// Whether both have no second place, or one of the same text.
+fn are_second_places_alike<A: Allocator>(
+    trace: &Trace<A>,
+    other: &Trace<A>,
+    here: Option<u32>,
+    there: Option<u32>,
+) -> bool
+    requires here { IfSome here (λ place. place < length trace.now.decls.places) }
+    requires there { IfSome there (λ place. place < length other.now.decls.places) }
+    ensures { result ≡ same_text (option_and_then (slice_get trace.now.decls.places) here)
+        (option_and_then (slice_get other.now.decls.places) there) }
+{
+    match (here, there) {
+        (None, None) => true,
+        (Some(here), Some(there)) => trace.place_text(here) == other.place_text(there),
+        _ => false,
+    }
 }
 
 fn is_same_op(op: &Op, other: &Op) -> bool

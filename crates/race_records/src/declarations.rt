@@ -199,18 +199,21 @@ impl<A: Allocator> Decls<A> {
     pub fn fits(&self, event: &Event) -> bool
         ensures { result ≡ events.fits self.now event.now }
     {
+        let (verb, parts) = says(&event.op);
         event.who < self.count(Kind::Goroutine)
-            && self.op_fits(&event.op)
+            && self.parts_fit(parts.as_slice())
             && event.place < self.place_count()
-            && event.place2.is_none()
+            && self.second_place_fits(verb.has_two_places(), event.place2)
     }
 
-    // Whether the numbers that the operation names are declared.
-    fn op_fits(&self, op: &Op) -> bool
-        ensures { result ≡ events.op_fits self.now.declarations op.now }
+    // Whether the second place is there just where there have to be two, and in range then.
+    fn second_place_fits(&self, two: bool, place: Option<u32>) -> bool
+        ensures { result ≡ events.second_place_fits (length self.now.places) two place }
     {
-        let (_, parts) = says(op);
-        self.parts_fit(parts.as_slice())
+        match place {
+            None => !two,
+            Some(place) => two && place < self.place_count(),
+        }
     }
 
     fn parts_fit(&self, parts: &[Part]) -> bool
@@ -256,6 +259,21 @@ impl<A: Allocator + Copy> Decls<A> {
         ensures err { OnErr result (self.new ≡ self.old) }
     {
         self.declare(name, Object::Var)
+    }
+
+    /// Declares a channel into which this many values fit, and gives its number.
+    pub fn add_chan(&mut self, name: &str, capacity: u32) -> Result<u32, DeclFault>
+        ensures refused { Refuses
+            (spec.decl_fault self.old.declarations (Object.Chan capacity) name.now) result }
+        ensures allowed { AllowsUnless
+            (spec.decl_fault self.old.declarations (Object.Chan capacity) name.now) result
+            DeclFault.OutOfMemory }
+        ensures number { IfOk result (λ n. n ≡ spec.count_of Kind.Chan self.old.declarations) }
+        ensures added { OnOk result (self.new ≡
+            spec.with_declaration self.old name.now (Object.Chan capacity)) }
+        ensures err { OnErr result (self.new ≡ self.old) }
+    {
+        self.declare(name, Object::Chan(capacity))
     }
 
     /// Declares the object under the name, and gives its number.

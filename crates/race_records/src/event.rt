@@ -11,7 +11,7 @@ pub struct Event {
     pub op: Op,
     /// Where in the source.
     pub place: u32,
-    /// The place of a second participant, for events that have one.
+    /// Where the receiver of a `Meet` stood; no other event has it.
     pub place2: Option<u32>,
 }
 
@@ -26,4 +26,14 @@ pub enum Op {
     Read(u32, u64),
     /// Wrote this value to the variable of this number.
     Write(u32, u64),
+    /// Sent this value on the buffered channel of this number.
+    Send(u32, u64),
+    /// Received this value from the buffered channel of this number.
+    Recv(u32, u64),
+    /// Handed to this goroutine, which received it, over the unbuffered channel of this number, this value.
+    Meet(u32, u32, u64),
+    /// Received from the channel of this number, which was closed and had no value left.
+    RecvClosed(u32),
+    /// Closed the channel of this number.
+    Close(u32),
 }

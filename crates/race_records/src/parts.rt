@@ -17,6 +17,25 @@ pub enum Verb {
     Read,
     /// A variable is written.
     Write,
+    /// A value is sent on a buffered channel.
+    Send,
+    /// A value is received from a buffered channel.
+    Recv,
+    /// A value is handed over on an unbuffered channel.
+    Meet,
+    /// A closed channel is found to have no value left.
+    RecvClosed,
+    /// A channel is closed.
+    Close,
+}
+
+impl Verb {
+    /// Whether the event has a second place, which is that of its second participant.
+    pub fn has_two_places(self) -> bool
+        ensures { result ≡ spec.has_two_places self }
+    {
+        matches!(self, Verb::Meet)
+    }
 }
 
 /// One thing that an operation says beside its word.
@@ -57,6 +76,11 @@ pub fn says(op: &Op) -> (Verb, Parts)
         Op::Exit => (Verb::Exit, Parts::new()),
         Op::Read(x, v) => (Verb::Read, with_value(Named::Var(*x), *v)),
         Op::Write(x, v) => (Verb::Write, with_value(Named::Var(*x), *v)),
+        Op::Send(c, v) => (Verb::Send, with_value(Named::Chan(*c), *v)),
+        Op::Recv(c, v) => (Verb::Recv, with_value(Named::Chan(*c), *v)),
+        Op::Meet(r, c, v) => (Verb::Meet, with_receiver(*r, *c, *v)),
+        Op::RecvClosed(c) => (Verb::RecvClosed, one(Part::Object(Named::Chan(*c)))),
+        Op::Close(c) => (Verb::Close, one(Part::Object(Named::Chan(*c)))),
     }
 }
 
@@ -77,6 +101,17 @@ fn with_value(named: Named, value: u64) -> Parts
     parts
 }
 
+fn with_receiver(receiver: u32, chan: u32, value: u64) -> Parts
+    ensures { result.items ≡ Part.Object (Named.Goroutine receiver)
+        ∷ Part.Object (Named.Chan chan) ∷ Part.Value value ∷ [] }
+{
+    let mut parts = Parts::new();
+    parts.push(Part::Object(Named::Goroutine(receiver)));
+    parts.push(Part::Object(Named::Chan(chan)));
+    parts.push(Part::Value(value));
+    parts
+}
+
 /// The operation that says so, where there is one.
 pub fn op_by(verb: Verb, parts: &[Part]) -> Option<Op>
     ensures { result ≡ spec.op_by verb parts.now }
@@ -86,6 +121,18 @@ pub fn op_by(verb: Verb, parts: &[Part]) -> Option<Op>
         (Verb::Exit, []) => Some(Op::Exit),
         (Verb::Read, [Part::Object(Named::Var(x)), Part::Value(v)]) => Some(Op::Read(*x, *v)),
         (Verb::Write, [Part::Object(Named::Var(x)), Part::Value(v)]) => Some(Op::Write(*x, *v)),
+        (Verb::Send, [Part::Object(Named::Chan(c)), Part::Value(v)]) => Some(Op::Send(*c, *v)),
+        (Verb::Recv, [Part::Object(Named::Chan(c)), Part::Value(v)]) => Some(Op::Recv(*c, *v)),
+        (
+            Verb::Meet,
+            [
+                Part::Object(Named::Goroutine(r)),
+                Part::Object(Named::Chan(c)),
+                Part::Value(v),
+            ],
+        ) => Some(Op::Meet(*r, *c, *v)),
+        (Verb::RecvClosed, [Part::Object(Named::Chan(c))]) => Some(Op::RecvClosed(*c)),
+        (Verb::Close, [Part::Object(Named::Chan(c))]) => Some(Op::Close(*c)),
         _ => None,
     }
 }
@@ -95,6 +142,16 @@ static GOROUTINE: [PartKind; 1] = [PartKind::Object(Kind::Goroutine)];
 static NOTHING: [PartKind; 0] = [];
 
 static VAR_VALUE: [PartKind; 2] = [PartKind::Object(Kind::Var), PartKind::Value];
+
+static CHAN: [PartKind; 1] = [PartKind::Object(Kind::Chan)];
+
+static CHAN_VALUE: [PartKind; 2] = [PartKind::Object(Kind::Chan), PartKind::Value];
+
+static RECEIVER_CHAN_VALUE: [PartKind; 3] = [
+    PartKind::Object(Kind::Goroutine),
+    PartKind::Object(Kind::Chan),
+    PartKind::Value,
+];
 
 /// What the parts behind the word are.
 pub fn part_kinds(verb: Verb) -> &'static [PartKind]
@@ -106,5 +163,10 @@ pub fn part_kinds(verb: Verb) -> &'static [PartKind]
         Verb::Exit => &NOTHING,
         Verb::Read => &VAR_VALUE,
         Verb::Write => &VAR_VALUE,
+        Verb::Send => &CHAN_VALUE,
+        Verb::Recv => &CHAN_VALUE,
+        Verb::Meet => &RECEIVER_CHAN_VALUE,
+        Verb::RecvClosed => &CHAN,
+        Verb::Close => &CHAN,
     }
 }

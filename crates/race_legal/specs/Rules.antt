@@ -1,4 +1,4 @@
--- The rules of legality and their numbers. Go, Exit, Read and Write can break rules 1, 2, 3 and 21.
+-- The rules of legality and their numbers. Rules 13 to 20, 22 and 23 are on operations that no list has yet.
 use Rattle.std.specs.Prelude.{ℕ}
 use Rattle.race_legal.specs.declared.rule.Rule.{Rule}
 

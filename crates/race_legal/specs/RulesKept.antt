@@ -1,18 +1,49 @@
 -- The rules, read off what a replay keeps.
-use Rattle.std.specs.Prelude.{ℕ, ◌==◌, ◌||◌, not, Bool, List, [], ◌∷◌, Option}
+use Rattle.std.specs.Prelude.{ℕ, ◌==◌, ◌||◌, ◌&&◌, not, nat_lt, Bool, true, List, [], ◌∷◌, length, slice_get, Option}
 use Rattle.race_records.specs.declared.event.Event.{Event}
 use Rattle.race_records.specs.declared.event.Op.{Op}
-use Rattle.race_records.specs.declared.event.Op.TheVariants.{Go, Exit, Read, Write}
+use Rattle.race_records.specs.declared.event.Op.TheVariants.{Go, Exit, Read, Write, Send, Recv, Meet, RecvClosed, Close}
+use Rattle.race_model.specs.Events.{gives}
 use Rattle.race_model.specs.Legal.{least_broken}
-use Rattle.race_legal.specs.ReplayState.{ReplayState, started_in, runs_in, value_in}
+use Rattle.race_legal.specs.ReplayState.{GoroutinesState, ChannelsState, ReplayState, started_in, runs_in, value_in, capacity_in, closed_in, queue_in}
 
--- the rules on the operation
-abbrev pub op_rules_in : ReplayState → Op → List (ℕ × Bool)
-op_rules_in k (Go h) = (3, h == 0 || started_in k.goroutines h) ∷ []
-op_rules_in k Exit = []
-op_rules_in k (Read x v) = (21, not (value_in k x == v)) ∷ []
-op_rules_in k (Write x v) = []
+-- the rules on a send
+abbrev pub send_rules : ChannelsState → ℕ → List (ℕ × Bool)
+send_rules t c = (5, capacity_in t c == 0) ∷ (6, closed_in t c) ∷ (7, length (queue_in t c) == capacity_in t c) ∷ []
+
+-- the rules on a receive of the value
+abbrev pub recv_rules : ChannelsState → ℕ → ℕ → List (ℕ × Bool)
+recv_rules t c v = (5, capacity_in t c == 0) ∷ (8, length (queue_in t c) == 0) ∷ (9, not (gives (slice_get (queue_in t c) 0) v)) ∷ []
+
+-- the rules on the channel of a meeting
+abbrev pub meet_rules : ChannelsState → ℕ → List (ℕ × Bool)
+meet_rules t c = (5, nat_lt 0 (capacity_in t c)) ∷ (6, closed_in t c) ∷ []
+
+-- the rules on a receive that finds the channel closed
+abbrev pub recv_closed_rules : ChannelsState → ℕ → List (ℕ × Bool)
+recv_closed_rules t c = (10, not (closed_in t c)) ∷ (11, nat_lt 0 (length (queue_in t c))) ∷ []
+
+-- the rules on what the goroutine does
+abbrev pub op_rules_in : ReplayState → ℕ → Op → List (ℕ × Bool)
+op_rules_in k who (Go h) = (3, h == 0 || started_in k.goroutines h) ∷ []
+op_rules_in k who Exit = []
+op_rules_in k who (Read x v) = (21, not (value_in k x == v)) ∷ []
+op_rules_in k who (Write x v) = []
+op_rules_in k who (Send c v) = send_rules k.channels c
+op_rules_in k who (Recv c v) = recv_rules k.channels c v
+op_rules_in k who (Meet r c v) = (4, r == who) ∷ meet_rules k.channels c
+op_rules_in k who (RecvClosed c) = recv_closed_rules k.channels c
+op_rules_in k who (Close c) = (12, closed_in k.channels c) ∷ []
+
+-- the receiver runs, where there is one
+abbrev pub receiver_runs_in : GoroutinesState → Op → Bool
+receiver_runs_in t (Meet r c v) = runs_in t r
+receiver_runs_in t _ = true
+
+-- the goroutine runs, and the receiver
+abbrev pub actors_run_in : GoroutinesState → ℕ → Op → Bool
+actors_run_in t who o = runs_in t who && receiver_runs_in t o
 
 -- the least broken rule
 abbrev pub broken_in : ReplayState → Event → Option ℕ
-broken_in k e = least_broken ((1, k.over) ∷ (2, not (runs_in k.goroutines e.who)) ∷ op_rules_in k e.op)
+broken_in k e = least_broken ((1, k.over) ∷ (2, not (actors_run_in k.goroutines e.who e.op)) ∷ op_rules_in k e.who e.op)

@@ -1,24 +1,28 @@
 -- What a replay says of the events that it accepted.
-use Rattle.std.specs.Prelude.{ℕ, ◌≡◌, ◌<◌, List, [], ◌∷◌, ◌++◌, length, Option}
+use Rattle.std.specs.Prelude.{ℕ, ◌≡◌, ◌<◌, List, [], ◌∷◌, ◌++◌, ◌≤◌, length, drop, filter_map, Option}
 use Rattle.race_records.specs.declared.kind.Kind.{Kind}
 use Rattle.race_records.specs.declared.event.Event.{Event}
 use Rattle.race_records.specs.Declarations.{Declaration, counts_of, capacity_of}
-use Rattle.race_model.specs.Events.{has_exited}
-use Rattle.race_model.specs.State.{over, started, last_value}
+use Rattle.race_model.specs.Events.{has_exited, sends, receives, count}
+use Rattle.race_model.specs.State.{over, started, last_value, is_closed, sent}
 use Rattle.race_model.specs.Legal.{broken, IsLegal}
-use Rattle.race_legal.specs.ReplayState.{ReplayState, counts_in, started_in, exited_in, value_in, capacity_in, IsSquare}
+use Rattle.race_legal.specs.ReplayState.{ReplayState, counts_in, started_in, exited_in, value_in, capacity_in, closed_in, queue_in, IsSquare}
 
 -- under the declarations, the replay stands for a legal list of events: its tables answer each state word
 pub record StandsFor (declarations : List Declaration) (k : ReplayState) (past : List Event) : Type 0 where
   pub legal : IsLegal (capacity_of declarations) past
   pub len : length past ≡ k.len
   pub counts : counts_in k ≡ counts_of declarations
-  pub capacity : (c : ℕ) → c < counts_in k Kind.Chan → capacity_of declarations c ≡ capacity_in k c
+  pub capacity : (c : ℕ) → c < counts_in k Kind.Chan → capacity_of declarations c ≡ capacity_in k.channels c
   pub over : over past ≡ k.over
   pub started : (g : ℕ) → g < counts_in k Kind.Goroutine → started g past ≡ started_in k.goroutines g
   pub exited : (g : ℕ) → g < counts_in k Kind.Goroutine → has_exited g past ≡ exited_in k.goroutines g
   pub values : (x : ℕ) → x < counts_in k Kind.Var → last_value x past ≡ value_in k x
-  pub square : IsSquare k.goroutines
+  pub closed : (c : ℕ) → c < counts_in k Kind.Chan → is_closed c past ≡ closed_in k.channels c
+  -- the values that were sent, without as many as were received, of which there are no more
+  pub queue : (c : ℕ) → c < counts_in k Kind.Chan → drop (count (receives c) past) (filter_map (λ e. sent c e.op) past) ≡ queue_in k.channels c
+  pub received : (c : ℕ) → c < counts_in k Kind.Chan → count (receives c) past ≤ count (sends c) past
+  pub square : IsSquare k
 
 -- it holds of each list for which the replay stands
 abbrev pub ForEachPast : ReplayState → (List Event → Type 0) → Type 0

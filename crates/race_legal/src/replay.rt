@@ -2,21 +2,21 @@
 //!
 //! The tables are a state machine of their own, with exact contracts; that they answer as the words
 //! of the memory model on the list of events do is a matter of lists alone (proofs/ReplayLemmas).
-ghost use Rattle.std.specs.Prelude.{◌≡◌, ℕ, ◌+◌, ◌<◌, [], ◌∷◌, length, IsTrue, Some, None, Err, IfOk, OnOk, OnErr};
-ghost use Rattle.std.specs.List.{slice_index_or};
+ghost use Rattle.std.specs.Prelude.{◌≡◌, if◌then◌else◌, ◌+◌, ◌<◌, [], length, is_ok, IsTrue, Some, None, Err, IfOk, OnOk, OnErr};
 ghost use Rattle.std.specs.Option.{option_map};
-ghost use Rattle.race_records.specs.Declarations.{count_of, capacity_of};
 ghost use Rattle.race_records.specs.Parts.{op_is_in_range};
 ghost use Rattle.race_model.specs.Legal.{least_broken};
 ghost use Rattle.race_model.specs.State as words;
 ghost use Rattle.race_legal.specs.Rules.{number_of};
 ghost use Rattle.race_legal.specs.ReplayState.{ReplayState, IsInRange, counts_in, value_in};
 ghost use Rattle.race_legal.specs.After.{after};
-ghost use Rattle.race_legal.specs.RulesKept.{op_rules_in, broken_in};
+ghost use Rattle.race_legal.specs.RulesKept.{op_rules_in, receiver_runs_in, broken_in};
 ghost use Rattle.race_legal.specs.StandsFor.{StandsFor, ForEachPast, GoesOn, IsLeastBroken};
 
 use crate::Rule;
+use crate::channels::Channels;
 use crate::goroutines::Goroutines;
+use crate::rule::rule_if;
 use race_records::{Decls, Event, Kind, MAX_EVENTS, Op};
 use std::alloc::{AllocError, Allocator, Global};
 use std::marker::Model;
@@ -40,7 +40,7 @@ pub struct Replay<A: Allocator = Global> {
     over: bool,
     goroutines: Goroutines<A>,
     values: Vec<u64, A>,
-    capacities: Vec<u32, A>,
+    channels: Channels<A>,
     locks: u32,
     onces: u32,
 }
@@ -53,7 +53,7 @@ impl<A: Allocator> Model for Replay<A> {
       over = r.over;
       goroutines = r.goroutines;
       values = r.values.items;
-      capacities = r.capacities.items;
+      channels = r.channels;
       locks = r.locks;
       onces = r.onces;
     } };
@@ -71,7 +71,7 @@ impl<A: Allocator> Replay<A> {
             over: false,
             goroutines: Goroutines::new(alloc, decls.count(Kind::Goroutine) as usize)?,
             values: vec![in alloc; 0u64; decls.count(Kind::Var) as usize]?,
-            capacities: capacities(alloc, decls)?,
+            channels: Channels::new(alloc, decls)?,
             locks: decls.count(Kind::Lock),
             onces: decls.count(Kind::Once),
         })
@@ -116,6 +116,30 @@ impl<A: Allocator> Replay<A> {
         self.values[var as usize]
     }
 
+    /// Whether the channel was closed.
+    pub fn is_closed(&self, chan: u32) -> bool
+        requires { chan < counts_in self.now Kind.Chan }
+        ensures { ForEachPast self.now (λ past. result ≡ words.is_closed chan past) }
+    {
+        self.channels.is_closed(chan)
+    }
+
+    /// How many values wait in the channel.
+    pub fn buffered(&self, chan: u32) -> usize
+        requires { chan < counts_in self.now Kind.Chan }
+        ensures { ForEachPast self.now (λ past. result ≡ words.buffered chan past) }
+    {
+        self.channels.buffered(chan)
+    }
+
+    /// The value that the next Recv from the channel gets, if one waits.
+    pub fn front(&self, chan: u32) -> Option<u64>
+        requires { chan < counts_in self.now Kind.Chan }
+        ensures { ForEachPast self.now (λ past. result ≡ words.front chan past) }
+    {
+        self.channels.front(chan)
+    }
+
     /// Accepts the next event where the longer list is legal.
     pub fn accept(&mut self, event: &Event) -> Result<(), Broken>
         requires range { IsInRange (counts_in self.old) event.now }
@@ -130,10 +154,10 @@ impl<A: Allocator> Replay<A> {
     {
         match self.first_broken(event) {
             Some(rule) => Err(Broken::Rule(rule)),
-            None => {
-                self.step(event);
-                Ok(())
-            }
+            None => match self.step(event) {
+                Ok(()) => Ok(()),
+                Err(_) => Err(Broken::OutOfMemory),
+            },
         }
     }
 
@@ -145,16 +169,27 @@ impl<A: Allocator> Replay<A> {
         if self.over {
             return Some(Rule::AfterEnd);
         }
-        if !self.goroutines.runs(event.who) {
+        if !self.goroutines.runs(event.who) || !self.receiver_runs(&event.op) {
             return Some(Rule::NotRunning);
         }
-        self.broken_by(&event.op)
+        self.broken_by(event.who, &event.op)
+    }
+
+    // Whether the receiver runs, where there is one.
+    fn receiver_runs(&self, op: &Op) -> bool
+        requires { IsTrue (op_is_in_range (counts_in self.now) op.now) }
+        ensures { result ≡ receiver_runs_in self.now.goroutines op.now }
+    {
+        match op {
+            Op::Meet(receiver, _, _) => self.goroutines.runs(*receiver),
+            _ => true,
+        }
     }
 
     // The least of the rules on the operation alone that it breaks.
-    fn broken_by(&self, op: &Op) -> Option<Rule>
+    fn broken_by(&self, who: u32, op: &Op) -> Option<Rule>
         requires { IsTrue (op_is_in_range (counts_in self.now) op.now) }
-        ensures { option_map number_of result ≡ least_broken (op_rules_in self.now op.now) }
+        ensures { option_map number_of result ≡ least_broken (op_rules_in self.now who op.now) }
     {
         match op {
             Op::Go(goroutine) => {
@@ -166,47 +201,38 @@ impl<A: Allocator> Replay<A> {
             Op::Exit => None,
             Op::Read(var, value) => rule_if(Rule::StaleRead, self.values[*var as usize] != *value),
             Op::Write(_, _) => None,
+            Op::Send(chan, _) => self.channels.broken_by_send(*chan),
+            Op::Recv(chan, value) => self.channels.broken_by_recv(*chan, *value),
+            Op::Meet(receiver, chan, _) => if *receiver == who {
+                Some(Rule::MeetsItself)
+            } else {
+                self.channels.broken_by_meet(*chan)
+            },
+            Op::RecvClosed(chan) => self.channels.broken_by_recv_closed(*chan),
+            Op::Close(chan) => rule_if(Rule::CloseOfClosed, self.channels.is_closed(*chan)),
         }
     }
 
-    // What the event changes.
-    fn step(&mut self, event: &Event)
+    // What the event changes, unless there is no memory for it.
+    fn step(&mut self, event: &Event) -> Result<(), AllocError>
         requires range { IsInRange (counts_in self.old) event.now }
         requires room { self.old.len < MAX_EVENTS }
-        ensures { self.new ≡ after self.old event.now }
+        ensures { self.new ≡ (if is_ok result then after self.old event.now else self.old) }
     {
-        self.len += 1;
         match &event.op {
             Op::Go(goroutine) => self.goroutines.start(*goroutine),
             Op::Exit => {
                 self.goroutines.exit(event.who);
                 self.over = self.over || event.who == 0;
             }
-            Op::Read(_, _) => {}
             Op::Write(var, value) => self.values[*var as usize] = *value,
+            // Alone in growing anything, and it changes nothing before.
+            Op::Send(chan, value) => self.channels.send(*chan, *value)?,
+            Op::Recv(chan, _) => self.channels.receive(*chan),
+            Op::Close(chan) => self.channels.close(*chan),
+            Op::Read(_, _) | Op::Meet(_, _, _) | Op::RecvClosed(_) => {}
         }
+        self.len += 1;
+        Ok(())
     }
-}
-
-// The rule, where it is broken.
-fn rule_if(rule: Rule, broken: bool) -> Option<Rule>
-    ensures { option_map number_of result ≡ least_broken ((number_of rule, broken) ∷ []) }
-{
-    if broken { Some(rule) } else { None }
-}
-
-// The capacity of each channel.
-fn capacities<A: Allocator, B: Allocator>(
-    alloc: A,
-    decls: &Decls<B>,
-) -> Result<Vec<u32, A>, AllocError>
-    ensures len { IfOk result (λ caps. length caps.items ≡ count_of Kind.Chan decls.now.declarations) }
-    ensures each { IfOk result (λ caps. (c : ℕ) → c < length caps.items
-        → slice_index_or caps.items c 0 ≡ capacity_of decls.now.declarations c) }
-{
-    let mut capacities = Vec::new(alloc);
-    for chan in 0..decls.count(Kind::Chan) {
-        capacities.push(decls.capacity(chan))?;
-    }
-    Ok(capacities)
 }

@@ -1,5 +1,7 @@
 //! The rules of legality.
-ghost use Rattle.std.specs.Prelude.{◌≡◌};
+ghost use Rattle.std.specs.Prelude.{◌≡◌, [], ◌∷◌};
+ghost use Rattle.std.specs.Option.{option_map};
+ghost use Rattle.race_model.specs.Legal.{least_broken};
 ghost use Rattle.race_legal.specs.Rules.{number_of};
 
 /// A rule that an event can break, in the order in which they are tested. The first has number 1.
@@ -60,4 +62,11 @@ impl Rule {
     {
         self as u8
     }
+}
+
+// The rule, where it is broken.
+pub(crate) fn rule_if(rule: Rule, broken: bool) -> Option<Rule>
+    ensures { option_map number_of result ≡ least_broken ((number_of rule, broken) ∷ []) }
+{
+    if broken { Some(rule) } else { None }
 }

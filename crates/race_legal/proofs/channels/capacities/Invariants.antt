@@ -1,7 +1,7 @@
 use Rattle.std.proofs.Common.{◌≡◌, ℕ, ◌<◌, length}
 use Rattle.std.specs.List.{slice_index_or}
 use Rattle.race_records.specs.Declarations.{capacity_of}
-use Rattle.race_legal.proofs.replay.capacities.Given as goal
+use Rattle.race_legal.proofs.channels.capacities.Given as goal
 
 abbrev pub invariant-loop-chan : goal.invariant-loop-chan
 invariant-loop-chan g l = record {

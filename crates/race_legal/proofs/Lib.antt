@@ -1,5 +1,8 @@
 pub mod Fronts
 pub mod RangeLemmas
 pub mod TableSteps
+pub mod ChannelSteps
+pub mod Shape
+pub mod ChannelWords
 pub mod ReplayLemmas
 pub mod FirstState

@@ -1,23 +1,25 @@
 -- Which events a replay may be asked about: those that fit the declarations, while the list isn't full.
-use Rattle.std.proofs.Common.{◌≡◌, ℕ, ◌<◌, ◌&&◌, Bool, true, List, nat_lt, length, is_none, sym, subst, refl, arith, IsTrue}
+use Rattle.std.proofs.Common.{◌≡◌, ℕ, ◌<◌, ◌&&◌, Bool, true, List, nat_lt, length, sym, subst, refl, arith, IsTrue}
 use Rattle.std.proofs.lemmas.Bool.Decides.{nat_tests}
 use Rattle.race_records.specs.declared.event.Event.{Event}
 use Rattle.race_records.specs.declared.kind.Kind.{Kind}
 use Rattle.race_records.specs.declared.trace.TheConstants.{MAX_EVENTS}
 use Rattle.race_records.specs.Declarations.{Declaration, DeclsState, count_of, counts_of}
-use Rattle.race_records.specs.Events.{op_fits, fits}
+use Rattle.race_records.specs.Events.{op_fits, second_place_fits, fits}
+use Rattle.race_records.specs.Parts.{says, has_two_places}
 use Rattle.race_legal.specs.ReplayState.{ReplayState, IsInRange, counts_in}
 use Rattle.race_legal.specs.StandsFor.{StandsFor}
 
 -- an event that fits is in range of the declarations
 pub range_from_fits : (decls : DeclsState) (e : Event) → IsTrue (fits decls e) → IsInRange (counts_of decls.declarations) e
 unfolding fits
-range_from_fits decls e fit = by (nat_lt e.who (count_of Kind.Goroutine decls.declarations)) refl (op_fits decls.declarations e.op) refl fit
+range_from_fits decls e fit = by (nat_lt e.who (count_of Kind.Goroutine decls.declarations)) refl (op_fits decls.declarations e.op) refl
+    (nat_lt e.place (length decls.places)) (second_place_fits (length decls.places) (has_two_places (says e.op).0) e.place2) fit
   where
-    by : (b : Bool) → nat_lt e.who (count_of Kind.Goroutine decls.declarations) ≡ b → (c : Bool) → op_fits decls.declarations e.op ≡ c
-        → IsTrue (b && c && nat_lt e.place (length decls.places) && is_none e.place2) → IsInRange (counts_of decls.declarations) e
-    by true who true op h = (grind (arith, nat_tests), op)
-    by _ who _ op h = cc
+    by : (b : Bool) → nat_lt e.who (count_of Kind.Goroutine decls.declarations) ≡ b → (c : Bool) → op_fits decls.declarations e.op ≡ c → (p q : Bool)
+        → IsTrue (b && c && p && q) → IsInRange (counts_of decls.declarations) e
+    by true who true op p q h = (grind (arith, nat_tests), op)
+    by _ who _ op p q h = cc
 
 -- so it is in range of a replay that stands for a list under the declarations
 pub in_range : (decls : DeclsState) (k : ReplayState) (past : List Event) (e : Event) → StandsFor decls.declarations k past → IsTrue (fits decls e) → IsInRange (counts_in k) e

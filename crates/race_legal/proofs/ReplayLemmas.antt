@@ -1,39 +1,71 @@
 -- The tables of a replay answer the state words, one event on.
-use Rattle.std.proofs.Common.{◌≡◌, ℕ, ◌+◌, ◌<◌, ◌==◌, ◌||◌, ◌&&◌, not, List, [], ◌∷◌, ◌++◌, length, None, unwrap_or, refl, sym, ap, ◌∙◌, subst, arith, IsTrue, length-append}
+use Rattle.std.proofs.Common.{◌≡◌, ℕ, ◌+◌, ◌<◌, ◌==◌, ◌||◌, ◌&&◌, not, nat_lt, List, [], ◌∷◌, ◌++◌, length, drop, None, unwrap_or, refl, sym, ap, ◌∙◌, subst, arith, IsTrue, length-append}
+use Rattle.std.specs.List.{slice_index_or}
+use Rattle.std.specs.Option.{option_to_list}
 use Rattle.std.proofs.lemmas.Bool.Decides.{nat_tests}
 use Rattle.race_records.specs.declared.kind.Kind.{Kind}
 use Rattle.race_records.specs.declared.event.Event.{Event}
 use Rattle.race_records.specs.declared.event.Op.{Op}
-use Rattle.race_records.specs.declared.event.Op.TheVariants.{Go, Exit, Read, Write}
+use Rattle.race_records.specs.declared.event.Op.TheVariants.{Go, Exit, Read, Write, Send, Recv, Meet, RecvClosed, Close}
 use Rattle.race_records.specs.Declarations.{Declaration, capacity_of}
 use Rattle.race_records.specs.Parts.{op_is_in_range}
-use Rattle.race_model.specs.Events.{starts, is_exit}
-use Rattle.race_model.specs.State.{runs, written}
-use Rattle.race_model.specs.Legal.{broken, least_broken, op_rules}
-use Rattle.race_model.proofs.StateSteps.{over_push, started_push, last_value_push}
-use Rattle.race_model.proofs.CountSteps.{has_exited_push}
+use Rattle.race_model.specs.Events.{starts, is_exit, gives, receives, sends, closes}
+use Rattle.race_model.specs.State.{runs, written, sent}
+use Rattle.race_model.specs.Legal.{broken, least_broken, op_rules, receiver_runs, actors_run}
+use Rattle.race_model.proofs.StateSteps.{over_push, started_push, last_value_push, is_closed_push}
+use Rattle.race_model.proofs.CountSteps.{as_number, count_push, has_exited_push}
 use Rattle.race_model.proofs.LegalSteps.{legal_push}
 use Rattle.race_legal.specs.ReplayState.{ReplayState, IsInRange, counts_in, runs_in}
 use Rattle.race_legal.specs.After.{after}
-use Rattle.race_legal.specs.RulesKept.{op_rules_in, broken_in}
+use Rattle.race_legal.specs.RulesKept.{send_rules, recv_rules, meet_rules, recv_closed_rules, op_rules_in, receiver_runs_in, actors_run_in, rules_in, broken_in}
 use Rattle.race_legal.specs.StandsFor.{StandsFor}
-use Rattle.race_legal.proofs.TableSteps.{started_step, exited_step, values_step, square_after, counts_after}
+use Rattle.race_legal.proofs.TableSteps.{started_step, exited_step, values_step}
+use Rattle.race_legal.proofs.ChannelSteps.{closed_step, queue_step, waiting_push, all_kept, received_step}
+use Rattle.race_legal.proofs.Shape.{capacities_same, square_after, counts_after}
+use Rattle.race_legal.proofs.ChannelWords.{buffered_is, front_is, empty_is, left_is}
 
 module _ (declarations : List Declaration) (k : ReplayState) (past : List Event) (S : StandsFor declarations k past) where
   -- a goroutine runs where the tables say so
   pub runs_is : (g : ℕ) → g < counts_in k Kind.Goroutine → runs g past ≡ runs_in k.goroutines g
   runs_is g less = λ i. (g == 0 || S.started g less i) && not (S.exited g less i)
 
+  -- so do all who take part
+  actors_run_is : (e : Event) → IsInRange (counts_in k) e → actors_run past e ≡ actors_run_in k.goroutines e.who e.op
+  actors_run_is e (who, op) = λ i. runs_is e.who who i && by e.op op i
+    where
+      by : (o : Op) → IsTrue (op_is_in_range (counts_in k) o) → receiver_runs past o ≡ receiver_runs_in k.goroutines o
+      by (Meet r c v) is = let less : r < counts_in k Kind.Goroutine = grind (arith, nat_tests) in runs_is r less
+      by _ is = refl
+
+  -- the rules on a channel, from its row
+  module _ (c : ℕ) (less : c < counts_in k Kind.Chan) where
+    send_rules_is : (who v : ℕ) → op_rules (capacity_of declarations) past who (Send c v) ≡ send_rules k.channels c
+    send_rules_is who v = λ i. (5, S.capacity c less i == 0) ∷ (6, S.closed c less i) ∷ (7, buffered_is declarations k past S c less i == S.capacity c less i) ∷ []
+
+    recv_rules_is : (who v : ℕ) → op_rules (capacity_of declarations) past who (Recv c v) ≡ recv_rules k.channels c v
+    recv_rules_is who v = λ i. (5, S.capacity c less i == 0) ∷ (8, empty_is declarations k past S c less i) ∷ (9, not (gives (front_is declarations k past S c less i) v)) ∷ []
+
+    meet_rules_is : (who r v : ℕ) → op_rules (capacity_of declarations) past who (Meet r c v) ≡ (4, r == who) ∷ meet_rules k.channels c
+    meet_rules_is who r v = λ i. (4, r == who) ∷ (5, nat_lt 0 (S.capacity c less i)) ∷ (6, S.closed c less i) ∷ []
+
+    recv_closed_rules_is : (who : ℕ) → op_rules (capacity_of declarations) past who (RecvClosed c) ≡ recv_closed_rules k.channels c
+    recv_closed_rules_is who = λ i. (10, not (S.closed c less i)) ∷ (11, left_is declarations k past S c less i) ∷ []
+
   -- the rules on the operation, from the tables
-  op_rules_is : (who : ℕ) (o : Op) → IsTrue (op_is_in_range (counts_in k) o) → op_rules (capacity_of declarations) past who o ≡ op_rules_in k o
+  op_rules_is : (who : ℕ) (o : Op) → IsTrue (op_is_in_range (counts_in k) o) → op_rules (capacity_of declarations) past who o ≡ op_rules_in k who o
   op_rules_is who (Go h) is = let less : h < counts_in k Kind.Goroutine = grind (arith, nat_tests) in ap (λ b. (3, h == 0 || b) ∷ []) (S.started h less)
   op_rules_is who Exit is = refl
   op_rules_is who (Read x v) is = let less : x < counts_in k Kind.Var = grind (arith, nat_tests) in ap (λ n. (21, not (n == v)) ∷ []) (S.values x less)
   op_rules_is who (Write x v) is = refl
+  op_rules_is who (Send c v) is = let less : c < counts_in k Kind.Chan = grind (arith, nat_tests) in send_rules_is c less who v
+  op_rules_is who (Recv c v) is = let less : c < counts_in k Kind.Chan = grind (arith, nat_tests) in recv_rules_is c less who v
+  op_rules_is who (Meet r c v) is = let less : c < counts_in k Kind.Chan = grind (arith, nat_tests) in meet_rules_is c less who r v
+  op_rules_is who (RecvClosed c) is = let less : c < counts_in k Kind.Chan = grind (arith, nat_tests) in recv_closed_rules_is c less who
+  op_rules_is who (Close c) is = let less : c < counts_in k Kind.Chan = grind (arith, nat_tests) in ap (λ b. (12, b) ∷ []) (S.closed c less)
 
   -- the least broken rule, from the tables
   pub broken_is : (e : Event) → IsInRange (counts_in k) e → broken (capacity_of declarations) past e ≡ broken_in k e
-  broken_is e (who, op) = λ i. least_broken ((1, S.over i) ∷ (2, not (runs_is e.who who i)) ∷ op_rules_is e.who e.op op i)
+  broken_is e within = λ i. least_broken ((1, S.over i) ∷ (2, not (actors_run_is e within i)) ∷ op_rules_is e.who e.op within.1 i)
 
   -- behind an event that breaks no rule the tables still answer
   pub stands_after : (e : Event) → IsInRange (counts_in k) e → broken_in k e ≡ None → StandsFor declarations (after k e) (past ++ e ∷ [])
@@ -41,20 +73,36 @@ module _ (declarations : List Declaration) (k : ReplayState) (past : List Event)
     legal = legal_push (capacity_of declarations) past e S.legal (broken_is e within ∙ none);
     len = length-append past (e ∷ []) ∙ ap (λ n. n + 1) S.len;
     counts = counts ∙ S.counts;
-    capacity = S.capacity;
+    capacity = λ c less. S.capacity c (before Kind.Chan c less) ∙ ap (λ (caps : List ℕ). slice_index_or caps c 0) (sym (capacities_same k.channels e.op));
     over = over_push past e ∙ ap (λ b. b || ((e.who == 0) && is_exit e.op)) S.over;
     started = λ g less.
-        let old : g < counts_in k Kind.Goroutine = subst (λ n. g < n) (λ i. counts i Kind.Goroutine) less in
+        let old = before Kind.Goroutine g less in
         started_push g past e ∙ ap (λ b. b || starts g e.op) (S.started g old) ∙ started_step k.goroutines e.who e.op g old;
     exited = λ g less.
-        let old : g < counts_in k Kind.Goroutine = subst (λ n. g < n) (λ i. counts i Kind.Goroutine) less in
-        let row : g < length k.goroutines.exited = subst (λ n. g < n) (sym S.square) old in
-        has_exited_push g past e ∙ ap (λ b. b || ((e.who == g) && is_exit e.op)) (S.exited g old) ∙ exited_step k.goroutines e.who e.op g row;
+        let old = before Kind.Goroutine g less in
+        has_exited_push g past e ∙ ap (λ b. b || ((e.who == g) && is_exit e.op)) (S.exited g old) ∙ exited_step k.goroutines e.who e.op g (row g S.square.exited old);
     values = λ x less.
-        let old : x < counts_in k Kind.Var = subst (λ n. x < n) (λ i. counts i Kind.Var) less in
+        let old = before Kind.Var x less in
         last_value_push x past e ∙ ap (unwrap_or (written x e.op)) (S.values x old) ∙ values_step k.values e.op x old;
-    square = square_after k.goroutines e.who e.op S.square;
+    closed = λ c less.
+        let old = before Kind.Chan c less in
+        is_closed_push c past e ∙ ap (λ b. b || closes c e.op) (S.closed c old) ∙ closed_step k.channels e.op c (row c S.square.closed old);
+    queue = λ c less.
+        let old = before Kind.Chan c less in
+        waiting_push c past e (S.received c old) ∙ ap (λ vs. drop (as_number (receives c e.op)) (vs ++ option_to_list (sent c e.op))) (S.queue c old) ∙ queue_step k.channels e.op c (row c S.square.queues old);
+    received = λ c less.
+        let old = before Kind.Chan c less in
+        rw (count_push (receives c) past e, count_push (sends c) past e) (received_step k e.who e.op c _ _ (all_kept (rules_in k e) none).1.1 (S.received c old) (buffered_is declarations k past S c old));
+    square = square_after k e S.square;
   }
     where
       counts : counts_in (after k e) ≡ counts_in k
       counts = counts_after k e
+
+      -- what is in range behind the event was before
+      before : (kind : Kind) (n : ℕ) → n < counts_in (after k e) kind → n < counts_in k kind
+      before kind n less = subst (λ m. n < m) (λ i. counts i kind) less
+
+      -- what is in range of one column is of another
+      row : (n : ℕ) {a b : ℕ} → a ≡ b → n < b → n < a
+      row n same less = subst (λ m. n < m) (sym same) less

@@ -1,16 +1,14 @@
--- The tables of a replay, one event on: each keeps its length, and changes where its word does.
-use Rattle.std.proofs.Common.{◌≡◌, ℕ, ◌<◌, ◌==◌, ◌||◌, ◌&&◌, Bool, true, false, List, length, Some, None, unwrap_or, get_or, set, if◌then◌else◌, refl, sym, ◌∙◌, inl, inr, ne_eqb, eq-eqb}
+-- The tables of goroutines and of values, one event on: each changes where its word does.
+use Rattle.std.proofs.Common.{◌≡◌, ℕ, ◌<◌, ◌==◌, ◌||◌, ◌&&◌, Bool, true, false, List, length, Some, None, unwrap_or, get_or, set, if◌then◌else◌, refl, sym, inl, inr, ne_eqb, eq-eqb}
 use Rattle.std.proofs.lemmas.Bool.{cases_eq}
 use Rattle.std.proofs.Math.Bool.{or-true, or-false}
-use Rattle.std.proofs.lemmas.List.{get_or-set_same, get_or-set_other, length-set}
-use Rattle.race_records.specs.declared.event.Event.{Event}
+use Rattle.std.proofs.lemmas.List.{get_or-set_same, get_or-set_other}
 use Rattle.race_records.specs.declared.event.Op.{Op}
 use Rattle.race_records.specs.declared.event.Op.TheVariants.{Go, Exit, Read, Write}
-use Rattle.race_records.specs.declared.kind.Kind.{Kind}
 use Rattle.race_model.specs.Events.{starts, is_exit}
 use Rattle.race_model.specs.State.{written}
-use Rattle.race_legal.specs.ReplayState.{GoroutinesState, ReplayState, counts_in, started_in, exited_in, IsSquare}
-use Rattle.race_legal.specs.After.{goroutines_after, values_after, after}
+use Rattle.race_legal.specs.ReplayState.{GoroutinesState, started_in, exited_in}
+use Rattle.race_legal.specs.After.{goroutines_after, values_after}
 
 -- what stands at a place after a write to a place
 pub get_or-set : {X : Type 0} (xs : List X) (p l : ℕ) (y d : X) → l < length xs → get_or (set xs p y) l d ≡ (if p == l then y else get_or xs l d)
@@ -53,36 +51,4 @@ values_step values (Write y v) x less = rw (get_or-set values y x v 0 less) (go 
     go : (b : Bool) → unwrap_or (if b then Some v else None) (get_or values x 0) ≡ (if b then v else get_or values x 0)
     go true = refl
     go false = refl
-values_step values (Go h) x less = refl
-values_step values Exit x less = refl
-values_step values (Read y v) x less = refl
-
--- each table keeps its length
-length-started : (t : GoroutinesState) (who : ℕ) (o : Op) → length (goroutines_after t who o).started ≡ length t.started
-length-started t who (Go h) = length-set t.started h true
-length-started t who Exit = refl
-length-started t who _ = refl
-
-length-exited : (t : GoroutinesState) (who : ℕ) (o : Op) → length (goroutines_after t who o).exited ≡ length t.exited
-length-exited t who (Go h) = refl
-length-exited t who Exit = length-set t.exited who true
-length-exited t who _ = refl
-
-length-values : (values : List ℕ) (o : Op) → length (values_after values o) ≡ length values
-length-values values (Write x v) = length-set values x v
-length-values values Exit = refl
-length-values values _ = refl
-
-pub square_after : (t : GoroutinesState) (who : ℕ) (o : Op) → IsSquare t → IsSquare (goroutines_after t who o)
-square_after t who o square = length-exited t who o ∙ square ∙ sym (length-started t who o)
-
--- so there are as many objects of each kind as before
-pub counts_after : (k : ReplayState) (e : Event) → counts_in (after k e) ≡ counts_in k
-counts_after k e = λ i kind. by kind i
-  where
-    by : (kind : Kind) → counts_in (after k e) kind ≡ counts_in k kind
-    by Kind.Goroutine = length-started k.goroutines e.who e.op
-    by Kind.Var = length-values k.values e.op
-    by Kind.Chan = refl
-    by Kind.Lock = refl
-    by Kind.Once = refl
+values_step values _ x less = refl

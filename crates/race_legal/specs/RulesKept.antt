@@ -44,6 +44,10 @@ receiver_runs_in t _ = true
 abbrev pub actors_run_in : GoroutinesState → ℕ → Op → Bool
 actors_run_in t who o = runs_in t who && receiver_runs_in t o
 
+-- all rules
+abbrev pub rules_in : ReplayState → Event → List (ℕ × Bool)
+rules_in k e = (1, k.over) ∷ (2, not (actors_run_in k.goroutines e.who e.op)) ∷ op_rules_in k e.who e.op
+
 -- the least broken rule
 abbrev pub broken_in : ReplayState → Event → Option ℕ
-broken_in k e = least_broken ((1, k.over) ∷ (2, not (actors_run_in k.goroutines e.who e.op)) ∷ op_rules_in k e.who e.op)
+broken_in k e = least_broken (rules_in k e)

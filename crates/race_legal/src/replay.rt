@@ -61,6 +61,7 @@ impl<A: Allocator> Model for Replay<A> {
 
 impl<A: Allocator> Replay<A> {
     /// Before the first event of a trace with these declarations.
+    #[tactic(auto, using(crate::proofs::FirstState::stands_first))]
     pub fn new<B: Allocator>(alloc: A, decls: &Decls<B>) -> Result<Replay<A>, AllocError>
     where
         A: Copy,
@@ -141,6 +142,7 @@ impl<A: Allocator> Replay<A> {
     }
 
     /// Accepts the next event where the longer list is legal.
+    #[tactic(auto, using(crate::proofs::ReplayLemmas::broken_is))]
     pub fn accept(&mut self, event: &Event) -> Result<(), Broken>
         requires range { IsInRange (counts_in self.old) event.now }
         requires room { self.old.len < MAX_EVENTS }

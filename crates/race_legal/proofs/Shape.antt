@@ -1,0 +1,60 @@
+-- Each table of a replay keeps its length.
+use Rattle.std.proofs.Common.{◌≡◌, ℕ, true, List, [], ◌∷◌, ◌++◌, length, drop, refl, sym, ap, ◌∙◌}
+use Rattle.std.proofs.lemmas.List.{length-set}
+use Rattle.race_records.specs.declared.event.Event.{Event}
+use Rattle.race_records.specs.declared.event.Op.{Op}
+use Rattle.race_records.specs.declared.event.Op.TheVariants.{Go, Exit, Write, Send, Recv, Close}
+use Rattle.race_records.specs.declared.kind.Kind.{Kind}
+use Rattle.race_legal.specs.ReplayState.{GoroutinesState, ChannelsState, ReplayState, counts_in, queue_in, IsSquare}
+use Rattle.race_legal.specs.After.{goroutines_after, values_after, channels_after, after}
+
+length-started : (t : GoroutinesState) (who : ℕ) (o : Op) → length (goroutines_after t who o).started ≡ length t.started
+length-started t who (Go h) = length-set t.started h true
+length-started t who Exit = refl
+length-started t who _ = refl
+
+length-exited : (t : GoroutinesState) (who : ℕ) (o : Op) → length (goroutines_after t who o).exited ≡ length t.exited
+length-exited t who (Go h) = refl
+length-exited t who Exit = length-set t.exited who true
+length-exited t who _ = refl
+
+length-values : (values : List ℕ) (o : Op) → length (values_after values o) ≡ length values
+length-values values (Write x v) = length-set values x v
+length-values values _ = refl
+
+length-closed : (t : ChannelsState) (o : Op) → length (channels_after t o).closed ≡ length t.closed
+length-closed t (Close c) = length-set t.closed c true
+length-closed t (Send c v) = refl
+length-closed t (Recv c v) = refl
+length-closed t _ = refl
+
+length-queues : (t : ChannelsState) (o : Op) → length (channels_after t o).queues ≡ length t.queues
+length-queues t (Send c v) = length-set t.queues c (queue_in t c ++ v ∷ [])
+length-queues t (Recv c v) = length-set t.queues c (drop 1 (queue_in t c))
+length-queues t (Close c) = refl
+length-queues t _ = refl
+
+-- how wide a channel is never changes
+pub capacities_same : (t : ChannelsState) (o : Op) → (channels_after t o).capacities ≡ t.capacities
+capacities_same t (Send c v) = refl
+capacities_same t (Recv c v) = refl
+capacities_same t (Close c) = refl
+capacities_same t _ = refl
+
+pub square_after : (k : ReplayState) (e : Event) → IsSquare k → IsSquare (after k e)
+square_after k e square = record {
+  exited = length-exited k.goroutines e.who e.op ∙ square.exited ∙ sym (length-started k.goroutines e.who e.op);
+  closed = length-closed k.channels e.op ∙ square.closed ∙ ap length (sym (capacities_same k.channels e.op));
+  queues = length-queues k.channels e.op ∙ square.queues ∙ ap length (sym (capacities_same k.channels e.op));
+}
+
+-- so there are as many objects of each kind as before
+pub counts_after : (k : ReplayState) (e : Event) → counts_in (after k e) ≡ counts_in k
+counts_after k e = λ i kind. by kind i
+  where
+    by : (kind : Kind) → counts_in (after k e) kind ≡ counts_in k kind
+    by Kind.Goroutine = length-started k.goroutines e.who e.op
+    by Kind.Var = length-values k.values e.op
+    by Kind.Chan = ap length (capacities_same k.channels e.op)
+    by Kind.Lock = refl
+    by Kind.Once = refl

@@ -1,0 +1,26 @@
+-- The replay has as many objects of each kind as the trace declares.
+use Rattle.std.proofs.Common.{ℕ, ◌<◌, ◌∙◌, sym, subst, arith, rules, ap}
+use Rattle.race_records.specs.declared.kind.Kind.{Kind}
+use Rattle.race_records.specs.Declarations.{DeclsState, counts_of}
+use Rattle.race_legal.specs.ReplayState.{IsInRange}
+use Rattle.race_legal.proofs.RangeLemmas.{range_from_fits}
+use Rattle.race_legal.proofs.tests.answers.Goals as goal
+
+pub loop-at-init : goal.loop-at-init
+loop-at-init c =
+    let stands = c.in_ok-replay.ensures.stands in
+    let len = stands.len in
+    record { counts = stands.counts ∙ ap (λ (d : DeclsState). counts_of d.declarations) c.decls-decls.ensures.decls; goroutines = search rules; vars = search rules; len = omega (arith, len) }
+
+pub accept-requires-clause-range : goal.accept-requires-clause-range
+accept-requires-clause-range c =
+    subst (λ (counts : Kind → ℕ). IsInRange counts c.event.result.now) (sym c.loop-at.invariant.counts) (range_from_fits c.args.trace.now.decls c.event.result.now c.event.ensures.fits)
+
+pub state_of-requires-clause-goroutines : goal.state_of-requires-clause-goroutines
+state_of-requires-clause-goroutines c = subst (λ n. 1 < n) (λ i. sym (c.accept.ensures.counts ∙ c.loop-at.invariant.counts) i Kind.Goroutine) c.loop-at.invariant.goroutines
+
+pub state_of-requires-clause-vars : goal.state_of-requires-clause-vars
+state_of-requires-clause-vars c = subst (λ n. 0 < n) (λ i. sym (c.accept.ensures.counts ∙ c.loop-at.invariant.counts) i Kind.Var) c.loop-at.invariant.vars
+
+pub loop-at-preserved : goal.loop-at-preserved
+loop-at-preserved c = record { counts = c.accept.ensures.counts ∙ c.loop-at.invariant.counts; goroutines = c.loop-at.invariant.goroutines; vars = c.loop-at.invariant.vars; len = search rules }

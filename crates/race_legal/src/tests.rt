@@ -2,11 +2,11 @@ ghost use Rattle.std.specs.Prelude.{◌<◌};
 ghost use Rattle.race_legal.specs.ReplayState.{counts_in};
 
 use crate::{Broken, Illegal, Replay, Rule, legal};
-use race_records::{DeclFault, Decls, Event, Kind, Op, Trace};
+use race_records::{DeclFault, Decls, Event, Kind, Object, Op, Trace};
 use std::alloc::{AllocError, Global};
 use std::test::Fail;
 
-/// What a replay says of goroutine 1 and variable 0.
+/// What a replay says of goroutine 1, variable 0 and the table's channel.
 #[derive(Clone, Copy, Debug, PartialEq, Eq)]
 struct State {
     len: usize,
@@ -14,11 +14,15 @@ struct State {
     started: bool,
     runs: bool,
     value: u64,
+    closed: bool,
+    buffered: usize,
+    front: Option<u64>,
 }
 
-fn state_of(replay: &Replay) -> State
+fn state_of(replay: &Replay, chan: u32) -> State
     requires goroutines { 1 < counts_in replay.now Kind.Goroutine }
     requires vars { 0 < counts_in replay.now Kind.Var }
+    requires chans { chan < counts_in replay.now Kind.Chan }
 {
     State {
         len: replay.len(),
@@ -26,6 +30,9 @@ fn state_of(replay: &Replay) -> State
         started: replay.started(1),
         runs: replay.runs(1),
         value: replay.last_value(0),
+        closed: replay.is_closed(chan),
+        buffered: replay.buffered(chan),
+        front: replay.front(chan),
     }
 }
 
@@ -36,31 +43,44 @@ static UNSTARTED: State = State {
     started: false,
     runs: false,
     value: 0,
+    closed: false,
+    buffered: 0,
+    front: None,
 };
 
 fn running(len: usize, value: u64) -> State {
     State {
         len,
-        over: false,
         started: true,
         runs: true,
         value,
+        ..UNSTARTED
     }
 }
 
 fn exited(len: usize, over: bool) -> State {
     State {
-        len,
         over,
-        started: true,
         runs: false,
-        value: 7,
+        ..running(len, 7)
     }
 }
 
-// Who does what, the rule that it breaks behind those that break none, and what the replay says then.
-fn rows() -> [(u32, Op, Option<Rule>, State); 12] {
-    [
+// While goroutine 1 runs: whether the channel is closed, how many values wait, and which is the first.
+fn waiting(len: usize, closed: bool, buffered: usize, front: Option<u64>) -> State {
+    State {
+        closed,
+        buffered,
+        front,
+        ..running(len, 0)
+    }
+}
+
+/// Who does what, the rule that it breaks behind those that break none, and what the replay says then.
+type Row = (u32, Op, Option<Rule>, State);
+
+fn rows_of_goroutines(alloc: Global) -> Result<Vec<Row>, AllocError> {
+    Ok(vec![in alloc;
         (1, Op::Exit, Some(Rule::NotRunning), UNSTARTED),
         (0, Op::Go(1), None, running(1, 0)),
         (0, Op::Go(1), Some(Rule::AlreadyStarted), running(1, 0)),
@@ -74,45 +94,196 @@ fn rows() -> [(u32, Op, Option<Rule>, State); 12] {
         (1, Op::Go(0), Some(Rule::NotRunning), exited(4, false)),
         (0, Op::Exit, None, exited(5, true)),
         (1, Op::Go(0), Some(Rule::AfterEnd), exited(5, true)),
-    ]
+    ]?)
+}
+
+// Channel 1 has no buffer.
+fn rows_of_meetings(alloc: Global) -> Result<Vec<Row>, AllocError> {
+    Ok(vec![in alloc;
+        (0, Op::Meet(1, 1, 5), Some(Rule::NotRunning), UNSTARTED),
+        // Channel 0 has a buffer, which is wrong too, and so is who meets itself.
+        (0, Op::Meet(1, 0, 5), Some(Rule::NotRunning), UNSTARTED),
+        (1, Op::Meet(1, 1, 5), Some(Rule::NotRunning), UNSTARTED),
+        (0, Op::Meet(0, 1, 5), Some(Rule::MeetsItself), UNSTARTED),
+        (0, Op::Meet(0, 0, 5), Some(Rule::MeetsItself), UNSTARTED),
+        (0, Op::Go(1), None, waiting(1, false, 0, None)),
+        (0, Op::Meet(1, 0, 5), Some(Rule::WrongForm), waiting(1, false, 0, None)),
+        (0, Op::Meet(1, 1, 5), None, waiting(2, false, 0, None)),
+        (1, Op::Meet(0, 1, 6), None, waiting(3, false, 0, None)),
+        (0, Op::Send(1, 5), Some(Rule::WrongForm), waiting(3, false, 0, None)),
+        (0, Op::Recv(1, 5), Some(Rule::WrongForm), waiting(3, false, 0, None)),
+        (0, Op::RecvClosed(1), Some(Rule::NotClosed), waiting(3, false, 0, None)),
+        (0, Op::Close(1), None, waiting(4, true, 0, None)),
+        (0, Op::Meet(1, 1, 5), Some(Rule::SendOnClosed), waiting(4, true, 0, None)),
+        (0, Op::Meet(0, 1, 5), Some(Rule::MeetsItself), waiting(4, true, 0, None)),
+        (0, Op::Send(1, 5), Some(Rule::WrongForm), waiting(4, true, 0, None)),
+        (0, Op::RecvClosed(1), None, waiting(5, true, 0, None)),
+        (0, Op::Close(1), Some(Rule::CloseOfClosed), waiting(5, true, 0, None)),
+    ]?)
+}
+
+// One value fits into channel 0.
+fn rows_of_a_buffer(alloc: Global) -> Result<Vec<Row>, AllocError> {
+    Ok(vec![in alloc;
+        (0, Op::Go(1), None, waiting(1, false, 0, None)),
+        (
+            1,
+            Op::Recv(0, 5),
+            Some(Rule::BufferEmpty),
+            waiting(1, false, 0, None)
+        ),
+        (
+            1,
+            Op::RecvClosed(0),
+            Some(Rule::NotClosed),
+            waiting(1, false, 0, None)
+        ),
+        (0, Op::Send(0, 5), None, waiting(2, false, 1, Some(5))),
+        (
+            0,
+            Op::Send(0, 6),
+            Some(Rule::BufferFull),
+            waiting(2, false, 1, Some(5))
+        ),
+        (
+            1,
+            Op::RecvClosed(0),
+            Some(Rule::NotClosed),
+            waiting(2, false, 1, Some(5))
+        ),
+        (
+            1,
+            Op::Recv(0, 6),
+            Some(Rule::WrongValue),
+            waiting(2, false, 1, Some(5))
+        ),
+        (1, Op::Recv(0, 5), None, waiting(3, false, 0, None)),
+        (0, Op::Send(0, 9), None, waiting(4, false, 1, Some(9))),
+        (0, Op::Close(0), None, waiting(5, true, 1, Some(9))),
+        (
+            0,
+            Op::Send(0, 5),
+            Some(Rule::SendOnClosed),
+            waiting(5, true, 1, Some(9))
+        ),
+        (
+            1,
+            Op::Meet(0, 0, 5),
+            Some(Rule::WrongForm),
+            waiting(5, true, 1, Some(9))
+        ),
+        (
+            1,
+            Op::RecvClosed(0),
+            Some(Rule::NotDrained),
+            waiting(5, true, 1, Some(9))
+        ),
+        (
+            0,
+            Op::Close(0),
+            Some(Rule::CloseOfClosed),
+            waiting(5, true, 1, Some(9))
+        ),
+        (1, Op::Recv(0, 9), None, waiting(6, true, 0, None)),
+        (
+            0,
+            Op::Send(0, 5),
+            Some(Rule::SendOnClosed),
+            waiting(6, true, 0, None)
+        ),
+        (
+            1,
+            Op::Recv(0, 9),
+            Some(Rule::BufferEmpty),
+            waiting(6, true, 0, None)
+        ),
+        (1, Op::RecvClosed(0), None, waiting(7, true, 0, None)),
+        (0, Op::RecvClosed(0), None, waiting(8, true, 0, None)),
+    ]?)
+}
+
+// Two values fit into channel 2.
+fn rows_of_a_queue(alloc: Global) -> Result<Vec<Row>, AllocError> {
+    Ok(vec![in alloc;
+        (0, Op::Go(1), None, waiting(1, false, 0, None)),
+        (0, Op::Send(2, 4), None, waiting(2, false, 1, Some(4))),
+        (0, Op::Send(2, 6), None, waiting(3, false, 2, Some(4))),
+        (1, Op::Send(2, 7), Some(Rule::BufferFull), waiting(3, false, 2, Some(4))),
+        (1, Op::Recv(2, 6), Some(Rule::WrongValue), waiting(3, false, 2, Some(4))),
+        (1, Op::Recv(2, 4), None, waiting(4, false, 1, Some(6))),
+        (1, Op::Send(2, 7), None, waiting(5, false, 2, Some(6))),
+        // Another channel's buffer is empty.
+        (1, Op::Recv(0, 6), Some(Rule::BufferEmpty), waiting(5, false, 2, Some(6))),
+        (1, Op::Recv(2, 6), None, waiting(6, false, 1, Some(7))),
+        (1, Op::Recv(2, 7), None, waiting(7, false, 0, None)),
+    ]?)
+}
+
+// The channel of each table, and the first of its rows that breaks a rule.
+static TABLES: [(u32, u32, Rule); 4] = [
+    (0, 0, Rule::NotRunning),
+    (1, 0, Rule::NotRunning),
+    (0, 1, Rule::BufferEmpty),
+    (2, 3, Rule::BufferFull),
+];
+
+fn rows(alloc: Global, table: usize) -> Result<Vec<Row>, AllocError> {
+    match table {
+        0 => rows_of_goroutines(alloc),
+        1 => rows_of_meetings(alloc),
+        2 => rows_of_a_buffer(alloc),
+        _ => rows_of_a_queue(alloc),
+    }
 }
 
 fn declared(alloc: Global) -> Result<Decls, DeclFault> {
     let mut decls = Decls::new(alloc);
     decls.add_goroutine("w")?;
     decls.add_var("x")?;
+    decls.declare("c", Object::Chan(1))?;
+    decls.declare("d", Object::Chan(0))?;
+    decls.declare("e", Object::Chan(2))?;
     decls.add_place("p")?;
     Ok(decls)
 }
 
 // The events of the rows, or those alone that break no rule.
-fn traced(alloc: Global, legal_alone: bool) -> Result<Trace, Fail> {
+fn traced(alloc: Global, rows: Vec<Row>, legal_alone: bool) -> Result<Trace, Fail> {
     let mut trace = Trace::new(declared(alloc)?);
-    for (who, op, rule, _) in rows() {
+    for (who, op, rule, _) in rows {
         if rule.is_none() || !legal_alone {
+            let place2 = match &op {
+                Op::Meet(_, _, _) => Some(0),
+                _ => None,
+            };
             trace.push(Event {
                 who,
                 op,
                 place: 0,
-                place2: None,
+                place2,
             })?;
         }
     }
     Ok(trace)
 }
 
-// What a replay answers to each event, and says behind it.
-fn answers(alloc: Global, trace: &Trace) -> Result<Vec<(Option<Broken>, State)>, AllocError> {
+/// What a replay answered to an event, and what it said then.
+type Answer = (Option<Broken>, State);
+
+fn answers(alloc: Global, trace: &Trace, chan: u32) -> Result<Vec<Answer>, AllocError> {
     let mut answers = Vec::new(alloc);
     let decls = trace.decls();
     let mut replay = Replay::new(alloc, decls)?;
-    if decls.count(Kind::Goroutine) > 1 && decls.count(Kind::Var) > 0 {
+    if decls.count(Kind::Goroutine) > 1
+        && decls.count(Kind::Var) > 0
+        && chan < decls.count(Kind::Chan)
+    {
         for at in 0..trace.len() {
             let refusal = match replay.accept(trace.event(at)) {
                 Ok(()) => None,
                 Err(broken) => Some(broken),
             };
-            answers.push((refusal, state_of(&replay)))?;
+            answers.push((refusal, state_of(&replay, chan)))?;
         }
     }
     Ok(answers)
@@ -120,23 +291,28 @@ fn answers(alloc: Global, trace: &Trace) -> Result<Vec<(Option<Broken>, State)>,
 
 #[test]
 fn each_event_is_accepted_or_its_least_broken_rule_told(rt: HostRuntime) -> Result<(), Fail> {
-    let answers = answers(rt.alloc(), &traced(rt.alloc(), false)?)?;
-    assert_eq!(rt; answers.len(), 12);
-    for (answer, (_, op, rule, state)) in answers.iter().zip(rows()) {
-        assert_eq!(rt; *answer, (rule.map(Broken::Rule), state), "{op:?}");
+    for (table, (chan, _, _)) in TABLES.iter().enumerate() {
+        let trace = traced(rt.alloc(), rows(rt.alloc(), table)?, false)?;
+        let answers = answers(rt.alloc(), &trace, *chan)?;
+        assert_eq!(rt; answers.len(), trace.len());
+        for (answer, (_, op, rule, state)) in answers.iter().zip(rows(rt.alloc(), table)?) {
+            assert_eq!(rt; *answer, (rule.map(Broken::Rule), state), "{op:?}");
+        }
     }
     Ok(())
 }
 
 #[test]
 fn the_first_illegal_event_is_told(rt: HostRuntime) -> Result<(), Fail> {
-    let first = Illegal {
-        at: 0,
-        rule: Rule::NotRunning,
-    };
-    for (legal_alone, found) in [(false, Some(first)), (true, None)] {
-        let trace = traced(rt.alloc(), legal_alone)?;
-        assert_eq!(rt; legal(rt.alloc(), &trace)?, found);
+    for (table, (_, at, rule)) in TABLES.iter().enumerate() {
+        let first = Illegal {
+            at: *at,
+            rule: *rule,
+        };
+        for (legal_alone, found) in [(false, Some(first)), (true, None)] {
+            let trace = traced(rt.alloc(), rows(rt.alloc(), table)?, legal_alone)?;
+            assert_eq!(rt; legal(rt.alloc(), &trace)?, found);
+        }
     }
     assert_eq!(rt; (Rule::AfterEnd.number(), Rule::NoFault.number()), (1, 23));
     Ok(())

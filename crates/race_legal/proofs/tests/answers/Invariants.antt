@@ -9,5 +9,6 @@ invariant-loop-at l = record {
   counts : counts_in l.replay ≡ counts_of l.trace.decls.declarations;
   goroutines : 1 < counts_of l.trace.decls.declarations Kind.Goroutine;
   vars : 0 < counts_of l.trace.decls.declarations Kind.Var;
+  chans : l.chan < counts_of l.trace.decls.declarations Kind.Chan;
   len : l.replay.len ≤ l.at;
 }

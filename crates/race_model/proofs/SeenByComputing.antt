@@ -1,16 +1,16 @@
 -- What a goroutine has seen, as a test that computes: on a list that is written out, refl answers.
-use Rattle.std.proofs.Common.{◌≡◌, ◌⊎◌, ℕ, zero, suc, ◌+◌, ◌<◌, ◌≤◌, ◌==◌, ◌||◌, ◌&&◌, Bool, true, false, List, [], ◌∷◌, ◌++◌, Option, Some, None, take, length, slice_get, refl, sym, ap, ◌∙◌, subst, inl, inr, arith, take-take}
+use Rattle.std.proofs.Common.{◌≡◌, ◌⊎◌, ℕ, zero, suc, ◌+◌, ◌<◌, ◌≤◌, ◌==◌, ◌||◌, ◌&&◌, Bool, false, List, [], ◌∷◌, ◌++◌, Option, Some, None, take, length, slice_get, refl, sym, ap, ◌∙◌, subst, inl, inr, arith, take-take}
 use Rattle.std.specs.Bool.{Decides}
 use Rattle.std.proofs.lemmas.Bool.Decides.{Decides-eqb, Decides-and, Decides-or, Decides-like, Decides-below_or}
-use Rattle.std.proofs.lemmas.Option.{slice_get_within, get_or_from_slice_get}
-use Rattle.std.proofs.lemmas.List.{take_more, take_all, length-take-le}
+use Rattle.std.proofs.lemmas.Option.{slice_get_within}
+use Rattle.std.proofs.lemmas.List.{take_all, length-take-le}
 use Rattle.race_records.specs.declared.event.Event.{Event}
 use Rattle.race_records.specs.declared.event.Op.{Op}
 use Rattle.race_records.specs.declared.event.Op.TheVariants.{Go, Send, Recv, Meet, RecvClosed}
-use Rattle.race_model.specs.Events.{At, takes_part, TakesPart, sends, receives, closes, count}
-use Rattle.race_model.specs.Order.{Begin, End, SynchronizedInside, IsSource, then_step}
+use Rattle.race_model.specs.Events.{At, takes_part, sends, receives, closes, count}
+use Rattle.race_model.specs.Order.{SynchronizedInside, IsSource, then_step}
 use Rattle.race_model.specs.Known.{SeenBy, SeenAt, Brings}
-use Rattle.race_model.proofs.Indexes.{at_same, at_below, take_within, take_at_old, slice_get-take}
+use Rattle.race_model.proofs.Indexes.{at_same, at_below, take_within, take_at_old, take_suc, slice_get-take}
 use Rattle.race_model.proofs.Reaching.{ReachesEarlier, into_begin, who_takes_part}
 use Rattle.race_model.proofs.SeenSteps.{seen_none, seen_one_on}
 use Rattle.race_model.proofs.BeforeSeen.{front_reaches, front_grow}
@@ -152,11 +152,8 @@ Decides-after caps events i h n g had within had_is = go (at_below events n with
     go : (e : Event) × (slice_get events n ≡ Some e) → Decides (seen_after caps past (slice_get events n) i h n g had) (SeenBy caps (take (suc n) events) i h g)
     go (e, at) =
         subst (λ o. Decides (seen_after caps past o i h n g had) (SeenBy caps (take (suc n) events) i h g)) (sym at)
-        (subst (λ es. Decides (seen_after caps past (Some e) i h n g had) (SeenBy caps es i h g)) (sym front) here)
+        (subst (λ es. Decides (seen_after caps past (Some e) i h n g had) (SeenBy caps es i h g)) (sym (take_suc n events e at)) here)
       where
-        front : take (suc n) events ≡ past ++ e ∷ []
-        front = ap (λ m. take m events) (let one : suc n ≡ n + 1 = omega arith in one) ∙ take_more events n e within ∙ ap (λ x. past ++ x ∷ []) (get_or_from_slice_get events n e e at)
-
         here : Decides (seen_after caps past (Some e) i h n g had) (SeenBy caps (past ++ e ∷ []) i h g)
         here =
             let step = seen_one_on caps past e i h g in

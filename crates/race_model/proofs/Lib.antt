@@ -9,6 +9,7 @@ pub mod Reaching
 pub mod SeenSteps
 pub mod BeforeSeen
 pub mod SeenByComputing
+pub mod ChannelOrder
 pub mod RaceSteps
 pub mod ReorderLemmas
 pub mod OwnOrder

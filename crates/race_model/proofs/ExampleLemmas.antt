@@ -1,69 +1,171 @@
--- What makes short work of small lists: an event that nobody has seen since, and lists with two accesses.
-use Rattle.std.proofs.Common.{◌≡◌, ◌⊎◌, ℕ, zero, suc, ◌+◌, ◌<◌, ◌≤◌, ◌==◌, ◌||◌, eqb-true, true, false, List, [], ◌∷◌, Some, slice_get, refl, sym, ◌∙◌, subst, inl, inr, arith, IsTrue}
-use Rattle.std.proofs.Math.Bool.{or-false}
+-- Verdicts on small lists, by tests that compute: on a list that is written out, refl answers.
+use Rattle.std.proofs.Common.{◌≡◌, ◌⊎◌, ℕ, zero, suc, ◌<◌, ◌||◌, ◌&&◌, not, Bool, true, false, Option, List, [], ◌∷◌, ◌++◌, length, append-nil, Some, slice_get, refl, sym, ap, ◌∙◌, subst, inl, inr, arith, eqb-true, IsTrue}
+use Rattle.std.proofs.lemmas.Bool.{cases_order, or_left, or_right, or_cases, and_parts}
+use Rattle.std.proofs.lemmas.Bool.Decides.{not_from_Decides}
+use Rattle.std.proofs.lemmas.Option.{slice_get_within}
 use Rattle.race_records.specs.declared.event.Event.{Event}
-use Rattle.race_model.specs.Events.{At, takes_part, accesses}
+use Rattle.race_records.specs.declared.event.Op.{Op}
+use Rattle.race_records.specs.declared.event.Op.TheVariants.{Read, Write}
+use Rattle.race_model.specs.Events.{At, writes, accesses, is_access}
 use Rattle.race_model.specs.Order.{HappensBefore}
-use Rattle.race_model.specs.Race.{IsAccessOf, IsRace, IsDataRaceFree, IsReportedRace}
-use Rattle.race_model.specs.Reorder.{op_passes}
-use Rattle.race_model.specs.Verdict.{Race, AreReportedRaces}
-use Rattle.race_model.specs.Known.{SeenBy}
-use Rattle.race_model.proofs.Ranks.{reaches_up}
-use Rattle.race_model.proofs.ReorderLemmas.{passes_from}
+use Rattle.race_model.specs.Legal.{broken, IsIllegalAt}
+use Rattle.race_model.specs.Race.{IsAccessOf, IsWriteOf, IsRace, IsReportedRace}
+use Rattle.race_model.specs.Reorder.{StandsBefore, own_order}
+use Rattle.race_model.specs.Verdict.{Race, AreReportedRaces, IsVerdict, Clean, Races, Illegal}
+use Rattle.race_model.proofs.Indexes.{at_same}
+use Rattle.race_model.proofs.ReorderLemmas.{passes_from, is_access_from}
+use Rattle.race_model.proofs.OwnOrder.{own_each, own_stands_before}
+use Rattle.race_model.proofs.LegalSteps.{AllKept, legal_none, legal_by, illegal_push}
+use Rattle.race_model.proofs.RaceSteps.{race_turned}
+use Rattle.race_model.proofs.SeenByComputing.{has_seen, Decides-seen}
+use Rattle.race_model.proofs.BeforeSeen.{before_from_seen, race_from_unseen}
 
--- who took no part from event i on hasn't seen it
-pub unseen : (caps : ℕ → ℕ) (events : List Event) (i h g : ℕ) → ((j : ℕ) (e : Event) → i ≤ j → At events j e → takes_part g e ≡ false) → SeenBy caps events i h g → ⊥
-unseen caps events i h g none (j, (e, at, part), w) =
-    let up : i + i < j + j + 1 = reaches_up w in
-    let no_part : takes_part g e ≡ false = none j e (omega arith) at in
-    cc
+-- a Write of any variable
+abbrev pub is_write : Op → Bool
+is_write (Write x v) = true
+is_write _ = false
 
--- all accesses are of x, and stand at p and q
-abbrev pub OnlyTwo : List Event → ℕ → ℕ → ℕ → Type 0
-OnlyTwo events x p q = (y i : ℕ) → IsAccessOf events y i → ((i ≡ p) ⊎ (i ≡ q)) × (x ≡ y)
+is_write_from : (x : ℕ) (o : Op) → IsTrue (writes x o) → IsTrue (is_write o)
+is_write_from x (Write y v) is = refl
+is_write_from x _ is = cc
 
--- the same by tests that compute
-pub only_two : (events : List Event) (x p q : ℕ) → ((y i : ℕ) → IsTrue (op_passes (accesses y) events i) → ((i ≡ p) ⊎ (i ≡ q)) × (x ≡ y)) → OnlyTwo events x p q
-only_two events x p q told y i (e, at, is) = told y i (passes_from (accesses y) events i e at is)
+-- who accesses two variables at once accesses one
+one_variable : (x y : ℕ) (o : Op) → IsTrue (accesses x o) → IsTrue (accesses y o) → x ≡ y
+one_variable x y (Read z v) is_x is_y = sym (read_of z x is_x) ∙ read_of z y is_y
+  where
+    read_of : (z x : ℕ) → IsTrue (accesses x (Read z v)) → z ≡ x
+    read_of z x is = elim (or_cases _ _ is) [ inl is ↦ eqb-true z x is | inr is ↦ cc ]
+one_variable x y (Write z v) is_x is_y = sym (eqb-true z x is_x) ∙ eqb-true z y is_y
+one_variable x y _ is_x is_y = cc
 
--- a read of variable 0 accesses variable y: they are one
-pub read_of : (y : ℕ) → ((0 == y) || false) ≡ true → 0 ≡ y
-read_of y is = eqb-true 0 y (sym (or-false (0 == y)) ∙ is)
+-- a, at index p, is seen by b's goroutine before index q
+abbrev pub sees : (ℕ → ℕ) → List Event → ℕ → ℕ → Event → Event → Bool
+sees caps events p q a b = has_seen caps events p a.who q q b.who
 
-module _ (caps : ℕ → ℕ) (events : List Event) (x p q : ℕ) (only : OnlyTwo events x p q) where
-  -- where the two accesses race, their race is what is reported
-  pub two_race : p < q → IsRace caps events x p q → AreReportedRaces caps events (record { var = x; first = p; second = q } ∷ [])
-  two_race up race = record {
-    each = each;
-    rising = λ k m r s less atk atm. absurd (only_first k m r s less atk atm);
-    every = λ y i j r. (0, the_race, refl, (only y i r.conflict.1).1);
-  }
+-- of two accesses none writes, or the later one's goroutine has seen the earlier one
+abbrev keeps : (ℕ → ℕ) → List Event → ℕ → ℕ → Option Event → Option Event → Bool
+keeps caps events p q (Some a) (Some b) = not (is_write a.op || is_write b.op) || sees caps events p q a b
+keeps caps events p q _ _ = false
+
+abbrev pub keeps_order : (ℕ → ℕ) → List Event → ℕ → ℕ → Bool
+keeps_order caps events p q = keeps caps events p q (slice_get events p) (slice_get events q)
+
+-- with each index behind p in the list of indexes
+abbrev pub keeps_behind : (ℕ → ℕ) → List Event → ℕ → List ℕ → Bool
+keeps_behind caps events p [] = true
+keeps_behind caps events p (q ∷ rest) = keeps_order caps events p q && keeps_behind caps events p rest
+
+-- with each pair of them
+abbrev pub all_ordered : (ℕ → ℕ) → List Event → List ℕ → Bool
+all_ordered caps events [] = true
+all_ordered caps events (p ∷ rest) = keeps_behind caps events p rest && all_ordered caps events rest
+
+-- behind a list that breaks no rule the next event breaks one
+pub illegal_by : (caps : ℕ → ℕ) (past : List Event) (e : Event) (n : ℕ) → AllKept caps [] past → broken caps past e ≡ Some n → IsVerdict caps (past ++ e ∷ []) (Illegal (length past) n)
+illegal_by caps past e n kept is = subst (λ es. IsIllegalAt caps es (length past) n) (append-nil (past ++ e ∷ [])) (illegal_push caps past [] e n (legal_by caps [] past (legal_none caps) kept) is)
+
+module _ (caps : ℕ → ℕ) (events : List Event) where
+  behind_at : (p : ℕ) (order : List ℕ) (n j : ℕ) → IsTrue (keeps_behind caps events p order) → slice_get order n ≡ Some j → IsTrue (keeps_order caps events p j)
+  behind_at p [] n j is at = cc
+  behind_at p (q ∷ rest) zero j is at = let same : q ≡ j = cc in subst (λ q. IsTrue (keeps_order caps events p q)) same (and_parts _ _ is).0
+  behind_at p (q ∷ rest) (suc n) j is at = behind_at p rest n j (and_parts _ _ is).1 at
+
+  ordered_at : (order : List ℕ) (i j : ℕ) → IsTrue (all_ordered caps events order) → StandsBefore order i j → IsTrue (keeps_order caps events i j)
+  ordered_at [] i j is (m, n, less, ati, atj) = cc
+  ordered_at (p ∷ rest) i j is (m, zero, less, ati, atj) = absurd (omega arith)
+  ordered_at (p ∷ rest) i j is (zero, suc n, less, ati, atj) = let same : p ≡ i = cc in subst (λ p. IsTrue (keeps_order caps events p j)) same (behind_at p rest n j (and_parts _ _ is).0 atj)
+  ordered_at (p ∷ rest) i j is (suc m, suc n, less, ati, atj) = ordered_at rest i j (and_parts _ _ is).1 (m, n, omega arith, ati, atj)
+
+  -- an access that is seen happens before
+  pub before_by : {p q : ℕ} {a b : Event} → At events p a → At events q b → IsTrue (is_access a.op) → IsTrue (sees caps events p q a b) → HappensBefore caps events p q
+  before_by {p} {q} {a} {b} atp atq is seen =
+      let within : q < length events = slice_get_within events q b atq in
+      before_from_seen caps events p q a b atp atq is ((Decides-seen caps events p a.who q q b.who (omega arith) (omega arith)).0 seen)
+
+  -- where each pair of accesses keeps order, nothing races
+  pub clean_by : AllKept caps [] events → IsTrue (all_ordered caps events (own_order events)) → IsVerdict caps events Clean
+  clean_by kept is = (
+    legal_by caps [] events (legal_none caps) kept,
+    λ y i j r. elim (cases_order i j) [
+      | inl same ↦ r.conflict.0 same
+      | inr (inl less) ↦ none y i j less r
+      | inr (inr more) ↦ none y j i more (race_turned caps events y i j r)
+    ],
+  )
     where
-      the_race : Race
-      the_race = record { var = x; first = p; second = q }
+      none : (y i j : ℕ) → i < j → IsRace caps events y i j → ⊥
+      none y i j less r = go r.conflict.1 r.conflict.2 r.conflict.3
+        where
+          go : IsAccessOf events y i → IsAccessOf events y j → IsWriteOf events y i ⊎ IsWriteOf events y j → ⊥
+          go (a, ata, is_a) (b, atb, is_b) write = r.not_before (before_by ata atb (is_access_from y a.op is_a) seen)
+            where
+              passes : IsTrue (keeps_order caps events i j)
+              passes = ordered_at (own_order events) i j is (own_stands_before events i j less (passes_from is_access events i a ata (is_access_from y a.op is_a)) (passes_from is_access events j b atb (is_access_from y b.op is_b)))
 
-      reported : IsReportedRace caps events x p q
-      reported = record {
-        race = race;
-        in_order = up;
-        least = λ k m less r. elim (only x m r.conflict.2).0 [ inl at_p ↦ elim (only x k r.conflict.1).0 [ inl e ↦ absurd (omega arith) | inr e ↦ absurd (omega (arith, up)) ] | inr at_q ↦ omega arith ];
-        greatest = λ k less r. elim (only x k r.conflict.1).0 [ inl at_p ↦ omega arith | inr at_q ↦ absurd (omega arith) ];
-      }
+              some_write : IsWriteOf events y i ⊎ IsWriteOf events y j → IsTrue (is_write a.op || is_write b.op)
+              some_write (inl (e, at, is)) = or_left _ _ (subst (λ (e : Event). IsTrue (is_write e.op)) (at_same events i e a at ata) (is_write_from y e.op is))
+              some_write (inr (e, at, is)) = or_right _ _ (subst (λ (e : Event). IsTrue (is_write e.op)) (at_same events j e b at atb) (is_write_from y e.op is))
 
-      each : (k : ℕ) (r : Race) → slice_get (the_race ∷ []) k ≡ Some r → IsReportedRace caps events r.var r.first r.second
-      each zero r at = let same : the_race ≡ r = cc in subst (λ (r : Race). IsReportedRace caps events r.var r.first r.second) same reported
-      each (suc k) r at = cc
+              told : IsTrue (not (is_write a.op || is_write b.op) || sees caps events i j a b)
+              told = sym (ap (λ o. keeps caps events i j (Some a) o) atb) ∙ sym (ap (λ o. keeps caps events i j o (slice_get events j)) ata) ∙ passes
 
-      only_first : (k m : ℕ) (r s : Race) → k < m → slice_get (the_race ∷ []) k ≡ Some r → slice_get (the_race ∷ []) m ≡ Some s → ⊥
-      only_first k zero r s less atk atm = absurd (omega arith)
-      only_first k (suc m) r s less atk atm = cc
+              seen : IsTrue (sees caps events i j a b)
+              seen = sym (ap (λ t. not t || sees caps events i j a b) (some_write write)) ∙ told
 
-  -- where one happens before the other, nothing races
-  pub two_ordered : HappensBefore caps events p q → IsDataRaceFree caps events
-  two_ordered before y i j r = go (only y i r.conflict.1).0 (only y j r.conflict.2).0
+  -- the only accesses, of one variable, at two indexes: one writes, and the earlier one isn't seen
+  pub race_by : (x : ℕ) {p q : ℕ} {a b : Event} → At events p a → At events q b → p < q → IsTrue (accesses x a.op) → IsTrue (accesses x b.op) → IsTrue (writes x a.op || writes x b.op)
+      → sees caps events p q a b ≡ false → IsRace caps events x p q
+  race_by x {p} {q} {a} {b} atp atq up is_a is_b write unseen =
+      let within : q < length events = slice_get_within events q b atq in
+      race_from_unseen caps events x p q a b up atp atq
+      ((λ same. absurd (omega arith)), (a, atp, is_a), (b, atq, is_b), elim (or_cases _ _ write) [ inl is ↦ inl (a, atp, is) | inr is ↦ inr (b, atq, is) ])
+      (not_from_Decides _ (Decides-seen caps events p a.who q q b.who (omega arith) (omega arith)) unseen)
+
+  module _ (x p q : ℕ) (only : (y i : ℕ) → IsAccessOf events y i → ((i ≡ p) ⊎ (i ≡ q)) × (x ≡ y)) where
+    -- where the only two accesses race, their race is what is reported
+    two_race : p < q → IsRace caps events x p q → AreReportedRaces caps events (record { var = x; first = p; second = q } ∷ [])
+    two_race up race = record {
+      each = each;
+      rising = λ k m r s less atk atm. absurd (only_first k m r s less atk atm);
+      every = λ y i j r. (0, the_race, refl, (only y i r.conflict.1).1);
+    }
+      where
+        the_race : Race
+        the_race = record { var = x; first = p; second = q }
+
+        reported : IsReportedRace caps events x p q
+        reported = record {
+          race = race;
+          in_order = up;
+          least = λ k m less r. elim (only x m r.conflict.2).0 [ inl at_p ↦ elim (only x k r.conflict.1).0 [ inl e ↦ absurd (omega arith) | inr e ↦ absurd (omega (arith, up)) ] | inr at_q ↦ omega arith ];
+          greatest = λ k less r. elim (only x k r.conflict.1).0 [ inl at_p ↦ omega arith | inr at_q ↦ absurd (omega arith) ];
+        }
+
+        each : (k : ℕ) (r : Race) → slice_get (the_race ∷ []) k ≡ Some r → IsReportedRace caps events r.var r.first r.second
+        each zero r at = let same : the_race ≡ r = cc in subst (λ (r : Race). IsReportedRace caps events r.var r.first r.second) same reported
+        each (suc k) r at = cc
+
+        only_first : (k m : ℕ) (r s : Race) → k < m → slice_get (the_race ∷ []) k ≡ Some r → slice_get (the_race ∷ []) m ≡ Some s → ⊥
+        only_first k zero r s less atk atm = absurd (omega arith)
+        only_first k (suc m) r s less atk atm = cc
+
+  -- the two accesses of the list race
+  pub races_by : (x : ℕ) {p q : ℕ} {a b : Event} → AllKept caps [] events → own_order events ≡ p ∷ q ∷ [] → At events p a → At events q b → p < q → IsTrue (accesses x a.op) → IsTrue (accesses x b.op)
+      → IsTrue (writes x a.op || writes x b.op) → sees caps events p q a b ≡ false → IsVerdict caps events (Races (record { var = x; first = p; second = q } ∷ []))
+  races_by x {p} {q} {a} {b} kept own atp atq up is_a is_b write unseen =
+      (legal_by caps [] events (legal_none caps) kept, (λ none. cc), two_race x p q only up (race_by x atp atq up is_a is_b write unseen))
     where
-      go : (i ≡ p) ⊎ (i ≡ q) → (j ≡ p) ⊎ (j ≡ q) → ⊥
-      go (inl a) (inl b) = r.conflict.0 (a ∙ sym b)
-      go (inr a) (inr b) = r.conflict.0 (a ∙ sym b)
-      go (inl a) (inr b) = r.not_before (subst (λ i. HappensBefore caps events i j) (sym a) (subst (HappensBefore caps events p) (sym b) before))
-      go (inr a) (inl b) = r.not_after (subst (λ j. HappensBefore caps events j i) (sym b) (subst (HappensBefore caps events p) (sym a) before))
+      at_two : (i k : ℕ) → slice_get (p ∷ q ∷ []) k ≡ Some i → (i ≡ p) ⊎ (i ≡ q)
+      at_two i zero at = inl cc
+      at_two i (suc zero) at = inr cc
+      at_two i (suc (suc k)) at = cc
+
+      variable : (y i : ℕ) (e : Event) → At events i e → IsTrue (accesses y e.op) → (i ≡ p) ⊎ (i ≡ q) → x ≡ y
+      variable y i e at is (inl same) = one_variable x y e.op (subst (λ (a : Event). IsTrue (accesses x a.op)) (at_same events p a e atp (ap (slice_get events) (sym same) ∙ at)) is_a) is
+      variable y i e at is (inr same) = one_variable x y e.op (subst (λ (b : Event). IsTrue (accesses x b.op)) (at_same events q b e atq (ap (slice_get events) (sym same) ∙ at)) is_b) is
+
+      only : (y i : ℕ) → IsAccessOf events y i → ((i ≡ p) ⊎ (i ≡ q)) × (x ≡ y)
+      only y i (e, at, is) =
+          let found : (k : ℕ) × (slice_get (own_order events) k ≡ Some i) = own_each events i (passes_from is_access events i e at (is_access_from y e.op is)) in
+          let one : (i ≡ p) ⊎ (i ≡ q) = at_two i found.0 (ap (λ o. slice_get o found.0) (sym own) ∙ found.1) in
+          (one, variable y i e at is one)

@@ -8,6 +8,8 @@ pub mod Grow
 pub mod Reaching
 pub mod SeenSteps
 pub mod BeforeSeen
+pub mod SeenByComputing
+pub mod ChannelOrder
 pub mod RaceSteps
 pub mod ReorderLemmas
 pub mod OwnOrder

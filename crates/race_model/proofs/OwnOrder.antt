@@ -51,25 +51,30 @@ accesses_rise n (x ∷ events) i j a b less ati atj = go (is_access x.op) i j le
         omega (arith, told.1)
     go true (suc i) (suc j) less ati atj more = more i j (omega arith) ati atj
 
+-- each access stands in the trace's own order
+pub own_each : (events : List Event) (a : ℕ) → IsTrue (op_passes is_access events a) → (i : ℕ) × (slice_get (own_order events) i ≡ Some a)
+own_each events a is = let found : (i : ℕ) × (slice_get (own_order events) i ≡ Some (0 + a)) = accesses_each 0 events a is in (found.0, found.1 ∙ ap Some (zero-add a))
+
+-- an earlier access stands before a later one
+pub own_stands_before : (events : List Event) (a b : ℕ) → a < b → IsTrue (op_passes is_access events a) → IsTrue (op_passes is_access events b) → StandsBefore (own_order events) a b
+own_stands_before events a b up is_a is_b = apart (own_each events a is_a) (own_each events b is_b)
+  where
+    apart : ((i : ℕ) × (slice_get (own_order events) i ≡ Some a)) → ((j : ℕ) × (slice_get (own_order events) j ≡ Some b)) → StandsBefore (own_order events) a b
+    apart (i, ati) (j, atj) = elim (cases_order i j) [
+      | inl same ↦ let one : a ≡ b = at_same (own_order events) i a b ati (ap (slice_get (own_order events)) same ∙ atj) in absurd (omega arith)
+      | inr (inl less) ↦ (i, j, less, ati, atj)
+      | inr (inr more) ↦ let down : b < a = accesses_rise 0 events j i b a more atj ati in absurd (omega arith)
+    ]
+
 -- the trace's own order is a reordering
 pub own_is_reordering : (caps : ℕ → ℕ) (events : List Event) → IsReordering caps events (own_order events)
 own_is_reordering caps events = record {
   only = λ i a at. let told : (k : ℕ) × (a ≡ 0 + k) × IsTrue (op_passes is_access events k) = accesses_only 0 events i a at in subst (λ k. IsTrue (op_passes is_access events k)) (sym (told.1 ∙ zero-add told.0)) told.2;
-  each = each;
+  each = own_each events;
   once = λ i j a ati atj. elim (cases_order i j) [
     | inl same ↦ same
     | inr (inl less) ↦ let up : a < a = accesses_rise 0 events i j a a less ati atj in absurd (omega arith)
     | inr (inr more) ↦ let up : a < a = accesses_rise 0 events j i a a more atj ati in absurd (omega arith)
   ];
-  kept = λ a b is_a is_b h. apart a b (happens_before_up caps events a b h) (each a is_a) (each b is_b);
+  kept = λ a b is_a is_b h. own_stands_before events a b (happens_before_up caps events a b h) is_a is_b;
 }
-  where
-    each : (a : ℕ) → IsTrue (op_passes is_access events a) → (i : ℕ) × (slice_get (own_order events) i ≡ Some a)
-    each a is = let found : (i : ℕ) × (slice_get (own_order events) i ≡ Some (0 + a)) = accesses_each 0 events a is in (found.0, found.1 ∙ ap Some (zero-add a))
-
-    apart : (a b : ℕ) → a < b → ((i : ℕ) × (slice_get (own_order events) i ≡ Some a)) → ((j : ℕ) × (slice_get (own_order events) j ≡ Some b)) → StandsBefore (own_order events) a b
-    apart a b up (i, ati) (j, atj) = elim (cases_order i j) [
-      | inl same ↦ let one : a ≡ b = at_same (own_order events) i a b ati (ap (slice_get (own_order events)) same ∙ atj) in absurd (omega arith)
-      | inr (inl less) ↦ (i, j, less, ati, atj)
-      | inr (inr more) ↦ let down : b < a = accesses_rise 0 events j i b a more atj ati in absurd (omega arith)
-    ]

@@ -7,7 +7,7 @@ use Rattle.std.proofs.lemmas.Option.{none-some, same_Some, slice_get-map}
 use Rattle.race_records.specs.declared.event.Event.{Event}
 use Rattle.race_records.specs.declared.event.Op.{Op}
 use Rattle.race_records.specs.declared.event.Op.TheVariants.{Go, Exit, Read, Write, Send, Recv, Meet, RecvClosed, Close}
-use Rattle.race_model.specs.Events.{At, operations, TakesPart, partner, gives, starts, is_exit, writes, accesses, count, has, sends, receives, closes, has_exited, last_of}
+use Rattle.race_model.specs.Events.{At, operations, TakesPart, partner, gives, starts, is_exit, writes, accesses, count, sends, receives, closes, has_exited, last_of}
 use Rattle.race_model.specs.State.{over, started, runs, written, last_value, is_closed, buffered, sent, front}
 use Rattle.race_model.specs.Legal.{op_rules, receiver_runs, least_broken, broken, IsLegal, IsIllegalAt}
 use Rattle.race_model.specs.Order.{Point, Begin, End, SequencedBefore, SynchronizedInside, IsSource, SynchronizedBefore, Step, Reaches, one_step, then_step, HappensBefore}
@@ -133,15 +133,15 @@ module _ (es fs : List Event) (same : operations es ≡ operations fs) where
         elim which [
           | inl inside ↦ inl (inside.0, subst (λ (c : ℕ × Op). SynchronizedInside c.0 c.1 g h) (λ k. (m.who k, m.op k)) inside.1)
           | inr (s, ats, source, from, to) ↦ (
-            let x = matched (take j es) (take j fs) (front_alike j) i s ats in
-            inr (
-              x.f,
-              x.at,
-              subst (λ (c : Op × Op). IsSource caps (take j fs) i c.0 c.1) (λ k. (x.op k, m.op k)) (source_alike (take j es) (take j fs) (front_alike j) caps i s.op e.op source),
-              sym x.who ∙ from,
-              sym m.who ∙ to,
-            )
-          )
+              let x = matched (take j es) (take j fs) (front_alike j) i s ats in
+              inr (
+                x.f,
+                x.at,
+                subst (λ (c : Op × Op). IsSource caps (take j fs) i c.0 c.1) (λ k. (x.op k, m.op k)) (source_alike (take j es) (take j fs) (front_alike j) caps i s.op e.op source),
+                sym x.who ∙ from,
+                sym m.who ∙ to,
+              )
+              )
         ],
       )
   synchronized_alike caps (Begin i g) (Begin j h) never = never

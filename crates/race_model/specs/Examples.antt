@@ -1,9 +1,10 @@
--- Small lists of events, whose verdicts are proved in src/examples.rt. (The Go Memory Model, "Goroutine creation", "Goroutine destruction")
-use Rattle.std.specs.Prelude.{ℕ, List, [], ◌∷◌, None}
+-- Small lists of events, whose verdicts are proved in src/examples.rt. (The Go Memory Model, "Goroutine creation", "Goroutine destruction", "Channel communication")
+use Rattle.std.specs.Prelude.{ℕ, if◌then◌else◌, ◌==◌, List, [], ◌∷◌, ◌++◌, None, length}
 use Rattle.race_records.specs.declared.event.Event.{Event}
 use Rattle.race_records.specs.declared.event.Op.{Op}
-use Rattle.race_records.specs.declared.event.Op.TheVariants.{Go, Exit, Read, Write}
-use Rattle.race_model.specs.Verdict.{Race}
+use Rattle.race_records.specs.declared.event.Op.TheVariants.{Go, Exit, Read, Write, Send, Recv, Meet, RecvClosed, Close}
+use Rattle.race_model.specs.Legal.{IsLegal}
+use Rattle.race_model.specs.Verdict.{Race, IsVerdict, Illegal}
 
 -- the goroutine that runs first
 abbrev pub main : ℕ
@@ -79,3 +80,189 @@ read_overwritten = does main (Write x 7) ∷ does main (Read x 0) ∷ []
 -- a read of a value that was written and overwritten
 abbrev pub read_the_first : List Event
 read_the_first = does main (Write x 1) ∷ does main (Write x 2) ∷ does main (Read x 1) ∷ []
+
+-- a channel with room for one value
+abbrev pub c : ℕ
+c = 0
+
+-- an unbuffered channel
+abbrev pub d : ℕ
+d = 1
+
+-- a channel with room for two values
+abbrev pub e : ℕ
+e = 2
+
+-- the capacities of these three
+abbrev pub capacities : ℕ → ℕ
+capacities n = if n == c then 1 else if n == d then 0 else 2
+
+-- the events past are legal, and the event breaks a rule behind them: n is the least rule that it breaks
+abbrev pub Breaks : List Event → Event → ℕ → Type 0
+Breaks past event n = IsVerdict capacities (past ++ event ∷ []) (Illegal (length past) n)
+
+-- the event breaks no rule behind the events past, which are legal
+abbrev pub Fits : List Event → Event → Type 0
+Fits past event = IsLegal capacities (past ++ event ∷ [])
+
+-- Small lists to come before an event.
+
+abbrev pub started : List Event
+started = does main (Go w) ∷ []
+
+abbrev pub gone : List Event
+gone = does main (Go w) ∷ does w Exit ∷ []
+
+abbrev pub one_sent : List Event
+one_sent = does main (Send c 1) ∷ []
+
+abbrev pub one_received : List Event
+one_received = does main (Send c 1) ∷ does main (Recv c 1) ∷ []
+
+abbrev pub second_sent : List Event
+second_sent = does main (Send c 1) ∷ does main (Recv c 1) ∷ does main (Send c 2) ∷ []
+
+abbrev pub two_waiting : List Event
+two_waiting = does main (Send e 1) ∷ does main (Send e 2) ∷ []
+
+abbrev pub closed : List Event
+closed = does main (Close c) ∷ []
+
+abbrev pub unbuffered_closed : List Event
+unbuffered_closed = does main (Go w) ∷ does main (Close d) ∷ []
+
+abbrev pub sent_and_closed : List Event
+sent_and_closed = does main (Send c 1) ∷ does main (Close c) ∷ []
+
+abbrev pub closed_and_emptied : List Event
+closed_and_emptied = does main (Send c 1) ∷ does main (Close c) ∷ does main (Recv c 1) ∷ []
+
+-- Values in a buffer.
+
+-- main writes, then sends; w receives, then reads
+abbrev pub write_then_send : List Event
+write_then_send = does main (Go w) ∷ does main (Write x 5) ∷ does main (Send c 1) ∷ does w (Recv c 1) ∷ does w (Read x 5) ∷ []
+
+-- the write stands behind the send
+abbrev pub send_then_write : List Event
+send_then_write = does main (Go w) ∷ does main (Send c 1) ∷ does main (Write x 5) ∷ does w (Recv c 1) ∷ does w (Read x 5) ∷ []
+
+-- main writes between two sends, and w reads behind its receive of the first value
+abbrev pub first_received : List Event
+first_received =
+    does main (Go w) ∷ does main (Send e 1) ∷ does main (Write x 5) ∷ does main (Send e 2) ∷ does w (Recv e 1)
+    ∷ does w (Read x 5) ∷ []
+
+-- w receives the second value too before it reads
+abbrev pub second_received : List Event
+second_received =
+    does main (Go w) ∷ does main (Send e 1) ∷ does main (Write x 5) ∷ does main (Send e 2) ∷ does w (Recv e 1)
+    ∷ does w (Recv e 2) ∷ does w (Read x 5) ∷ []
+
+-- main sends on another channel behind the write
+abbrev pub another_channel_sent : List Event
+another_channel_sent =
+    does main (Go w) ∷ does main (Send c 1) ∷ does main (Write x 5) ∷ does main (Send e 1) ∷ does w (Recv c 1)
+    ∷ does w (Read x 5) ∷ []
+
+-- Room in a buffer.
+
+-- w writes, then receives; main sends again, for which that made room, then reads
+abbrev pub room_then_read : List Event
+room_then_read =
+    does main (Go w) ∷ does main (Send c 1) ∷ does w (Write x 5) ∷ does w (Recv c 1) ∷ does main (Send c 2)
+    ∷ does main (Read x 5) ∷ []
+
+-- main doesn't send again
+abbrev pub read_then_no_send : List Event
+read_then_no_send = does main (Go w) ∷ does main (Send c 1) ∷ does w (Write x 5) ∷ does w (Recv c 1) ∷ does main (Read x 5) ∷ []
+
+-- the write stands behind the receive
+abbrev pub room_then_write : List Event
+room_then_write =
+    does main (Go w) ∷ does main (Send c 1) ∷ does w (Recv c 1) ∷ does w (Write x 5) ∷ does main (Send c 2)
+    ∷ does main (Read x 5) ∷ []
+
+-- there was room for the second send anyway
+abbrev pub room_for_two : List Event
+room_for_two =
+    does main (Go w) ∷ does main (Send e 1) ∷ does w (Write x 5) ∷ does w (Recv e 1) ∷ does main (Send e 2)
+    ∷ does main (Read x 5) ∷ []
+
+-- main sends a third time, for which the receive made room
+abbrev pub room_for_a_third : List Event
+room_for_a_third =
+    does main (Go w) ∷ does main (Send e 1) ∷ does w (Write x 5) ∷ does w (Recv e 1) ∷ does main (Send e 2)
+    ∷ does main (Send e 3) ∷ does main (Read x 5) ∷ []
+
+-- a buffer of one as a lock: each sends, writes, and receives
+abbrev pub send_as_lock : List Event
+send_as_lock =
+    does main (Go w) ∷ does main (Send c 1) ∷ does main (Write x 1) ∷ does main (Recv c 1) ∷ does w (Send c 1)
+    ∷ does w (Write x 2) ∷ does w (Recv c 1) ∷ []
+
+-- w's receive makes room for v's send, behind which v reads what w wrote
+abbrev pub sender_reads : List Event
+sender_reads =
+    does main (Go w) ∷ does main (Go v) ∷ does main (Send c 1) ∷ does w (Write x 5) ∷ does w (Recv c 1)
+    ∷ does v (Send c 2) ∷ does v (Read x 5) ∷ []
+
+-- main receives what v sent, and reads what w wrote
+abbrev pub next_receiver_reads : List Event
+next_receiver_reads =
+    does main (Go w) ∷ does main (Go v) ∷ does main (Send c 1) ∷ does w (Write x 5) ∷ does w (Recv c 1)
+    ∷ does v (Send c 2) ∷ does main (Recv c 2) ∷ does main (Read x 5) ∷ []
+
+-- An unbuffered channel.
+
+-- the sender writes before, and the receiver reads behind
+abbrev pub sender_writes : List Event
+sender_writes = does main (Go w) ∷ does main (Write x 3) ∷ does main (Meet w d 1) ∷ does w (Read x 3) ∷ []
+
+-- the receiver writes before, and the sender reads behind
+abbrev pub receiver_writes : List Event
+receiver_writes = does main (Go w) ∷ does w (Write x 3) ∷ does main (Meet w d 1) ∷ does main (Read x 3) ∷ []
+
+-- the sender writes behind, and the receiver reads behind
+abbrev pub sender_writes_behind : List Event
+sender_writes_behind = does main (Go w) ∷ does main (Meet w d 1) ∷ does main (Write x 3) ∷ does w (Read x 3) ∷ []
+
+-- the receiver writes behind, and the sender reads behind
+abbrev pub receiver_writes_behind : List Event
+receiver_writes_behind = does main (Go w) ∷ does main (Meet w d 1) ∷ does w (Write x 3) ∷ does main (Read x 3) ∷ []
+
+-- another goroutine than the two reads
+abbrev pub another_reads : List Event
+another_reads =
+    does main (Go w) ∷ does main (Go v) ∷ does main (Write x 3) ∷ does main (Meet w d 1) ∷ does v (Read x 3) ∷ []
+
+-- A closed channel.
+
+-- main writes, then closes; two goroutines find it closed, then read
+abbrev pub write_then_close : List Event
+write_then_close =
+    does main (Go w) ∷ does main (Go v) ∷ does main (Write x 5) ∷ does main (Close c) ∷ does w (RecvClosed c)
+    ∷ does v (RecvClosed c) ∷ does w (Read x 5) ∷ does v (Read x 5) ∷ []
+
+-- the write stands behind the close
+abbrev pub close_then_write : List Event
+close_then_write =
+    does main (Go w) ∷ does main (Close c) ∷ does main (Write x 5) ∷ does w (RecvClosed c) ∷ does w (Read x 5) ∷ []
+
+-- main closes another channel behind the write
+abbrev pub another_channel_closed : List Event
+another_channel_closed =
+    does main (Go w) ∷ does main (Close c) ∷ does main (Write x 5) ∷ does main (Close d) ∷ does w (RecvClosed c)
+    ∷ does w (Read x 5) ∷ []
+
+-- main sends, writes and closes; w receives the value, then reads
+abbrev pub value_behind_close : List Event
+value_behind_close =
+    does main (Go w) ∷ does main (Send c 1) ∷ does main (Write x 5) ∷ does main (Close c) ∷ does w (Recv c 1)
+    ∷ does w (Read x 5) ∷ []
+
+-- w finds the channel closed too before it reads
+abbrev pub close_behind_value : List Event
+close_behind_value =
+    does main (Go w) ∷ does main (Send c 1) ∷ does main (Write x 5) ∷ does main (Close c) ∷ does w (Recv c 1)
+    ∷ does w (RecvClosed c) ∷ does w (Read x 5) ∷ []

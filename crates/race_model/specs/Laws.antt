@@ -1,7 +1,9 @@
--- The laws of the definitions. Each is the contract of a function in src/laws.rt that does nothing. (The Go Memory Model, "Memory Model": DRF-SC)
-use Rattle.std.specs.Prelude.{ℕ, ◌≡◌, ◌<◌, List}
+-- The laws of the definitions. Each is the contract of a function in src/laws.rt that does nothing. (The Go Memory Model, "Memory Model": DRF-SC; "Channel communication")
+use Rattle.std.specs.Prelude.{ℕ, ◌≡◌, ◌<◌, ◌+◌, IsTrue, List}
 use Rattle.race_records.specs.declared.event.Event.{Event}
-use Rattle.race_model.specs.Events.{operations}
+use Rattle.race_records.specs.declared.event.Op.TheVariants.{RecvClosed}
+use Rattle.race_model.specs.Events.{At, operations, sends, receives, closes, IsKth}
+use Rattle.race_model.specs.Legal.{IsLegal}
 use Rattle.race_model.specs.Order.{HappensBefore}
 use Rattle.race_model.specs.Race.{IsDataRaceFree, IsReportedRace}
 use Rattle.race_model.specs.Reorder.{IsReordering, own_order, EachReadFindsTheSame}
@@ -40,3 +42,23 @@ abbrev pub VerdictIsOnOperations : List Event → Type 0
 VerdictIsOnOperations events =
     (others : List Event) → operations events ≡ operations others → (caps : ℕ → ℕ) (v : Verdict)
     → IsVerdict caps events v → IsVerdict caps others v
+
+-- Edges are looked for among earlier events alone. In a legal list that loses none: what leads to an event stands before it.
+
+-- the kth Send on a channel stands before the kth Recv from it
+abbrev pub SendStandsBeforeItsReceive : List Event → Type 0
+SendStandsBeforeItsReceive events =
+    (caps : ℕ → ℕ) → IsLegal caps events → (c k i j : ℕ) (s r : Event) → At events i s → At events j r
+    → IsKth (sends c) k events i s.op → IsKth (receives c) k events j r.op → i < j
+
+-- the kth Recv from a channel stands before the Send numbered k plus the capacity
+abbrev pub ReceiveStandsBeforeTheSendItMakesRoomFor : List Event → Type 0
+ReceiveStandsBeforeTheSendItMakesRoomFor events =
+    (caps : ℕ → ℕ) → IsLegal caps events → (c k i j : ℕ) (r s : Event) → At events i r → At events j s
+    → IsKth (receives c) k events i r.op → IsKth (sends c) (k + caps c) events j s.op → i < j
+
+-- a Close of a channel stands before each RecvClosed of it
+abbrev pub CloseStandsBeforeWhatFindsIt : List Event → Type 0
+CloseStandsBeforeWhatFindsIt events =
+    (caps : ℕ → ℕ) → IsLegal caps events → (c i j : ℕ) (s r : Event) → At events i s → At events j r
+    → IsTrue (closes c s.op) → r.op ≡ RecvClosed c → i < j

@@ -1,5 +1,6 @@
 //! Small lists of events with their verdicts. Each function does nothing, and its contract is the example.
 ghost use Rattle.std.specs.Prelude.{ℕ, ◌≡◌, [], ◌∷◌};
+ghost use Rattle.race_records.specs.declared.event.Op.TheVariants.{Send, Recv, Meet, RecvClosed, Close};
 ghost use Rattle.race_model.specs.Order.{HappensBefore};
 ghost use Rattle.race_model.specs.Reorder.{IsReordering, own_order, finds};
 ghost use Rattle.race_model.specs.Verdict.{IsVerdict, Clean, Races, Illegal};
@@ -19,6 +20,48 @@ ghost use Rattle.race_model.specs.Examples.{
   read_the_first,
   race_on_x,
   x,
+  c,
+  d,
+  e,
+  capacities,
+  Breaks,
+  Fits,
+  main,
+  w,
+  does,
+  started,
+  gone,
+  one_sent,
+  one_received,
+  second_sent,
+  two_waiting,
+  closed,
+  unbuffered_closed,
+  sent_and_closed,
+  closed_and_emptied,
+  write_then_send,
+  send_then_write,
+  first_received,
+  second_received,
+  another_channel_sent,
+  room_then_read,
+  read_then_no_send,
+  room_then_write,
+  room_for_two,
+  room_for_a_third,
+  send_as_lock,
+  sender_reads,
+  next_receiver_reads,
+  sender_writes,
+  receiver_writes,
+  sender_writes_behind,
+  receiver_writes_behind,
+  another_reads,
+  write_then_close,
+  close_then_write,
+  another_channel_closed,
+  value_behind_close,
+  close_behind_value,
 };
 
 /// A write before the `go` happens before what the new goroutine reads.
@@ -64,4 +107,100 @@ pub fn rules_look_back()
     ensures started_twice { (caps : ℕ → ℕ) → IsVerdict caps go_twice (Illegal 1 3) }
     ensures overwritten { (caps : ℕ → ℕ) → IsVerdict caps read_overwritten (Illegal 1 21) }
     ensures not_the_last { (caps : ℕ → ℕ) → IsVerdict caps read_the_first (Illegal 2 21) }
+{}
+
+/// A communication needs two goroutines that run, and `Send`, `Recv` and `Meet` their kind of channel.
+pub fn a_communication_has_its_goroutines_and_its_channel()
+    ensures receiver_unstarted { Breaks [] (does main (Meet w d 1)) 2 }
+    ensures receiver_gone { Breaks gone (does main (Meet w d 1)) 2 }
+    ensures sender_unstarted { Breaks [] (does w (Meet main d 1)) 2 }
+    ensures both_run { Fits started (does main (Meet w d 1)) }
+    ensures with_itself { Breaks [] (does main (Meet main d 1)) 4 }
+    ensures with_itself_on_a_buffer { Breaks [] (does main (Meet main c 1)) 4 }
+    ensures meet_on_a_buffer { Breaks started (does main (Meet w c 1)) 5 }
+    ensures send_with_no_buffer { Breaks [] (does main (Send d 1)) 5 }
+    ensures receive_with_no_buffer { Breaks [] (does main (Recv d 1)) 5 }
+{}
+
+/// A buffer takes as many values as its capacity, and gives them in the order sent.
+pub fn a_buffer_is_a_queue()
+    ensures room { Fits [] (does main (Send c 1)) }
+    ensures full { Breaks one_sent (does main (Send c 2)) 7 }
+    ensures room_again { Fits one_received (does main (Send c 2)) }
+    ensures room_elsewhere { Fits one_sent (does main (Send e 1)) }
+    ensures empty { Breaks [] (does main (Recv c 1)) 8 }
+    ensures filled { Fits one_sent (does main (Recv c 1)) }
+    ensures empty_again { Breaks one_received (does main (Recv c 1)) 8 }
+    ensures empty_elsewhere { Breaks one_sent (does main (Recv e 1)) 8 }
+    ensures another_value { Breaks one_sent (does main (Recv c 2)) 9 }
+    ensures the_second_value { Fits second_sent (does main (Recv c 2)) }
+    ensures the_first_value_again { Breaks second_sent (does main (Recv c 1)) 9 }
+    ensures in_order { Fits two_waiting (does main (Recv e 1)) }
+    ensures out_of_order { Breaks two_waiting (does main (Recv e 2)) 9 }
+{}
+
+/// A closed channel takes no value and no other close; a receive finds it closed once its buffer is empty.
+pub fn a_closed_channel_takes_nothing()
+    ensures send { Breaks closed (does main (Send c 1)) 6 }
+    ensures send_when_full { Breaks sent_and_closed (does main (Send c 2)) 6 }
+    ensures send_elsewhere { Fits closed (does main (Send e 1)) }
+    ensures meet { Breaks unbuffered_closed (does main (Meet w d 1)) 6 }
+    ensures receive { Fits sent_and_closed (does main (Recv c 1)) }
+    ensures receive_of_nothing { Breaks closed (does main (Recv c 0)) 8 }
+    ensures open { Breaks [] (does main (RecvClosed c)) 10 }
+    ensures open_with_a_value { Breaks one_sent (does main (RecvClosed c)) 10 }
+    ensures open_elsewhere { Breaks closed (does main (RecvClosed e)) 10 }
+    ensures a_value_left { Breaks sent_and_closed (does main (RecvClosed c)) 11 }
+    ensures nothing_left { Fits closed_and_emptied (does main (RecvClosed c)) }
+    ensures never_a_value { Fits closed (does main (RecvClosed c)) }
+    ensures unbuffered { Fits unbuffered_closed (does main (RecvClosed d)) }
+    ensures close_twice { Breaks closed (does main (Close c)) 12 }
+    ensures close_elsewhere { Fits closed (does main (Close d)) }
+{}
+
+/// A receive sees what stands before the send of the value that it gets.
+pub fn a_value_brings_what_stands_before_its_send()
+    ensures ordered { HappensBefore capacities write_then_send 1 4 }
+    ensures clean { IsVerdict capacities write_then_send Clean }
+    ensures behind { IsVerdict capacities send_then_write (Races (race_on_x 2 4)) }
+    ensures first_value { IsVerdict capacities first_received (Races (race_on_x 2 5)) }
+    ensures second_value { IsVerdict capacities second_received Clean }
+    ensures another_channel { IsVerdict capacities another_channel_sent (Races (race_on_x 2 5)) }
+{}
+
+/// A send sees what stands before the receive that made room for it: number k plus the capacity that of number k.
+pub fn a_receive_makes_room_for_a_send()
+    ensures ordered { HappensBefore capacities room_then_read 2 5 }
+    ensures clean { IsVerdict capacities room_then_read Clean }
+    ensures no_second_send { IsVerdict capacities read_then_no_send (Races (race_on_x 2 4)) }
+    ensures behind { IsVerdict capacities room_then_write (Races (race_on_x 3 5)) }
+    ensures room_anyway { IsVerdict capacities room_for_two (Races (race_on_x 2 5)) }
+    ensures third_send { IsVerdict capacities room_for_a_third Clean }
+    ensures lock { IsVerdict capacities send_as_lock Clean }
+{}
+
+/// What comes to the end of a send doesn't go on from its begin, to the receive of its value.
+pub fn a_buffered_operation_is_not_one_point()
+    ensures sender { IsVerdict capacities sender_reads Clean }
+    ensures receiver { IsVerdict capacities next_receiver_reads (Races (race_on_x 3 7)) }
+{}
+
+/// On an unbuffered channel sender and receiver see what stands before the other's part, and nobody else does.
+pub fn a_meet_orders_both_ways()
+    ensures sent { IsVerdict capacities sender_writes Clean }
+    ensures received { IsVerdict capacities receiver_writes Clean }
+    ensures sender_behind { IsVerdict capacities sender_writes_behind (Races (race_on_x 2 3)) }
+    ensures receiver_behind { IsVerdict capacities receiver_writes_behind (Races (race_on_x 2 3)) }
+    ensures another { IsVerdict capacities another_reads (Races (race_on_x 2 4)) }
+{}
+
+/// Each receive that finds a channel closed sees what stands before the close; a receive of a value doesn't.
+pub fn a_close_is_seen_by_who_finds_it()
+    ensures first { HappensBefore capacities write_then_close 2 6 }
+    ensures second { HappensBefore capacities write_then_close 2 7 }
+    ensures clean { IsVerdict capacities write_then_close Clean }
+    ensures behind { IsVerdict capacities close_then_write (Races (race_on_x 2 4)) }
+    ensures another_channel { IsVerdict capacities another_channel_closed (Races (race_on_x 2 5)) }
+    ensures value { IsVerdict capacities value_behind_close (Races (race_on_x 2 5)) }
+    ensures found_closed { IsVerdict capacities close_behind_value Clean }
 {}

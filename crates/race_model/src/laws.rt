@@ -1,11 +1,14 @@
 //! The laws of the definitions. Each function does nothing, and its contract is the law.
 ghost use Rattle.race_model.specs.Laws.{
+  CloseStandsBeforeWhatFindsIt,
   HappensBeforeGoesUp,
   HappensBeforeIsTransitive,
   HasOneReportedRace,
   HasOneVerdict,
   OwnOrderIsReordering,
+  ReceiveStandsBeforeTheSendItMakesRoomFor,
   ReorderingsFindTheSame,
+  SendStandsBeforeItsReceive,
   VerdictIsOnOperations,
 };
 
@@ -44,4 +47,19 @@ pub fn has_one_verdict(_events: &[Event])
 /// A verdict is on who does what: lists that differ in places alone have the same ones.
 pub fn verdict_is_on_operations(_events: &[Event])
     ensures { VerdictIsOnOperations _events.now }
+{}
+
+/// In a legal list the kth send on a channel stands before the kth receive from it.
+pub fn send_stands_before_its_receive(_events: &[Event])
+    ensures { SendStandsBeforeItsReceive _events.now }
+{}
+
+/// In a legal list a receive stands before the send that it makes room for.
+pub fn receive_stands_before_the_send_it_makes_room_for(_events: &[Event])
+    ensures { ReceiveStandsBeforeTheSendItMakesRoomFor _events.now }
+{}
+
+/// In a legal list a close stands before each receive that finds the channel closed.
+pub fn close_stands_before_what_finds_it(_events: &[Event])
+    ensures { CloseStandsBeforeWhatFindsIt _events.now }
 {}

@@ -1,5 +1,6 @@
 pub mod RangeLemmas
 pub mod SynchronizedLemmas
+pub mod NumberLemmas
 pub mod EdgeLemmas
 pub mod RowLemmas
 pub mod TableSteps

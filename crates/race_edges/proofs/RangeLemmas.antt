@@ -5,7 +5,7 @@ use Rattle.std.proofs.lemmas.Option.{slice_get_within, get_or_from_slice_get}
 use Rattle.std.proofs.Math.Bool.{or-false}
 use Rattle.race_records.specs.declared.event.Event.{Event}
 use Rattle.race_records.specs.declared.event.Op.{Op}
-use Rattle.race_records.specs.declared.event.Op.TheVariants.{Go, Read, Write}
+use Rattle.race_records.specs.declared.event.Op.TheVariants.{Go, Read, Write, Meet}
 use Rattle.race_records.specs.declared.kind.Kind.{Kind}
 use Rattle.race_records.specs.Declarations.{counts_of}
 use Rattle.race_records.specs.Events.{TraceState, IsTrace, fits}
@@ -23,6 +23,7 @@ range_in_trace trace i e holds at =
 -- a second participant is in range
 pub partner_in_range : (counts : Kind → ℕ) (o : Op) → IsTrue (op_is_in_range counts o) → IfSome (partner o) (λ g. g < counts Kind.Goroutine)
 partner_in_range counts (Go h) is = grind (arith, nat_tests)
+partner_in_range counts (Meet r c v) is = grind (arith, nat_tests)
 partner_in_range counts _ is = tt
 
 -- so is a variable that is accessed

@@ -1,9 +1,9 @@
 -- The tests pass exactly where the memory model's words hold.
-use Rattle.std.proofs.Common.{◌≡◌, ◌⊎◌, ◌↔◌, ◌∙◌, ℕ, ◌==◌, ◌&&◌, Bool, true, false, List, Some, refl, ap, inl, IsTrue, eqb-true, eq-eqb, take, slice_get, None}
+use Rattle.std.proofs.Common.{◌≡◌, ◌⊎◌, ◌↔◌, ◌∙◌, ℕ, ◌+◌, ◌==◌, ◌&&◌, ◌||◌, Bool, true, false, List, Some, refl, sym, ap, inl, inr, true≢false, IsTrue, eqb-true, eq-eqb, take, slice_get, None}
 use Rattle.race_records.specs.declared.event.Event.{Event}
 use Rattle.race_records.specs.declared.event.Op.{Op}
-use Rattle.race_records.specs.declared.event.Op.TheVariants.{Go}
-use Rattle.race_model.specs.Events.{At, partner}
+use Rattle.race_records.specs.declared.event.Op.TheVariants.{Go, Send, Recv, Meet, RecvClosed, Close}
+use Rattle.race_model.specs.Events.{At, partner, sends, receives, closes, count}
 use Rattle.race_model.specs.Order.{SynchronizedInside, IsSource}
 use Rattle.race_edges.specs.Synchronized.{joins, is_source, can_be_source, source_at}
 
@@ -15,12 +15,30 @@ both_equal a b c d = ((λ is. split (a == b) refl is), (λ (first, second). rw (
     split true first second = (eqb-true a b first, eqb-true c d second)
     split false first second = cc
 
+-- one of two tests passes exactly where one of two facts holds
+either_holds : (a b : Bool) (A B : Type 0) → IsTrue a ↔ A → IsTrue b ↔ B → IsTrue (a || b) ↔ (A ⊎ B)
+either_holds true b A B a_is b_is = ((λ is. inl (a_is.0 refl)), (λ is. refl))
+either_holds false b A B a_is b_is = ((λ is. inr (b_is.0 is)), (λ is. elim is [ inl a ↦ absurd (true≢false (sym (a_is.1 a))) | inr second ↦ b_is.1 second ]))
+
+-- a test and an equation
+with_equal : (a : Bool) (n m : ℕ) → IsTrue (a && (n == m)) ↔ (IsTrue a × (n ≡ m))
+with_equal true n m = ((λ is. (refl, eqb-true n m is)), (λ (is, same). eq-eqb n m same))
+with_equal false n m = ((λ is. cc), (λ (is, same). cc))
+
 pub joins_is : (who : ℕ) (o : Op) (g h : ℕ) → IsTrue (joins who o g h) ↔ SynchronizedInside who o g h
 joins_is who (Go k) g h = both_equal who g k h
+joins_is who (Meet r c v) g h = either_holds ((who == g) && (r == h)) ((r == g) && (who == h)) ((who ≡ g) × (r ≡ h)) ((r ≡ g) × (who ≡ h)) (both_equal who g r h) (both_equal r g who h)
 joins_is who _ g h = ((λ is. cc), (λ never. absurd never))
 
 pub source_is : (caps : ℕ → ℕ) (past : List Event) (i : ℕ) (s o : Op) → IsTrue (is_source caps past i s o) ↔ IsSource caps past i s o
-source_is caps past i s o = ((λ is. cc), (λ never. absurd never))
+source_is caps past i s (Recv c v) = with_equal (sends c s) (count (sends c) (take i past)) (count (receives c) past)
+source_is caps past i s (Send c v) =
+    let both = with_equal (receives c s) (count (receives c) (take i past) + caps c) (count (sends c) past) in (
+      (λ is. (count (receives c) (take i past), ((both.0 is).0, refl), (both.0 is).1)),
+      (λ (k, (is, number), sum). both.1 (is, ap (λ n. n + caps c) number ∙ sum)),
+    )
+source_is caps past i s (RecvClosed c) = ((λ is. is), (λ is. is))
+source_is caps past i s _ = ((λ is. cc), (λ never. absurd never))
 
 -- the test on two events of a list
 pub source_at_is : (caps : ℕ → ℕ) (events : List Event) (i j : ℕ) (s e : Event) → At events i s → At events j e → source_at caps events i j ≡ is_source caps (take j events) i s.op e.op
@@ -28,11 +46,29 @@ source_at_is caps events i j s e ats at =
     ap (λ o. elim o [ Some s ↦ elim (slice_get events j) [ Some e ↦ is_source caps (take j events) i s.op e.op | None ↦ false ] | None ↦ false ]) ats
     ∙ ap (λ o. elim o [ Some e ↦ is_source caps (take j events) i s.op e.op | None ↦ false ]) at
 
+-- a send, a receive and a close can be sources
+send_can_be : (c : ℕ) (s : Op) → IsTrue (sends c s) → IsTrue (can_be_source s)
+send_can_be c (Send d v) is = refl
+send_can_be c _ is = cc
+
+receive_can_be : (c : ℕ) (s : Op) → IsTrue (receives c s) → IsTrue (can_be_source s)
+receive_can_be c (Recv d v) is = refl
+receive_can_be c _ is = cc
+
+close_can_be : (c : ℕ) (s : Op) → IsTrue (closes c s) → IsTrue (can_be_source s)
+close_can_be c (Close d) is = refl
+close_can_be c _ is = cc
+
 -- what is a source can be one
 pub source_can_be : (caps : ℕ → ℕ) (past : List Event) (i : ℕ) (s o : Op) → IsSource caps past i s o → IsTrue (can_be_source s)
-source_can_be caps past i s o never = absurd never
+source_can_be caps past i s (Recv c v) (is, number) = send_can_be c s is
+source_can_be caps past i s (Send c v) (k, (is, number), sum) = receive_can_be c s is
+source_can_be caps past i s (RecvClosed c) is = close_can_be c s is
+source_can_be caps past i s _ never = absurd never
 
 -- an edge inside an event leads from its goroutine to the second participant, or the other way
 pub inside_pair : (who : ℕ) (o : Op) (g h : ℕ) → SynchronizedInside who o g h → ((who ≡ g) × (partner o ≡ Some h)) ⊎ ((partner o ≡ Some g) × (who ≡ h))
 inside_pair who (Go k) g h (from, to) = inl (from, ap Some to)
+inside_pair who (Meet r c v) g h (inl (from, to)) = inl (from, ap Some to)
+inside_pair who (Meet r c v) g h (inr (from, to)) = inr (ap Some from, to)
 inside_pair who _ g h never = absurd never

@@ -2,6 +2,7 @@ pub mod Traces
 pub mod Edges
 pub mod Answers
 pub mod Verdicts
+pub mod Numbers
 pub mod Synchronized
 pub mod EdgesSoFar
 pub mod TableState

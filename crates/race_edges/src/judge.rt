@@ -9,6 +9,7 @@ ghost use Rattle.race_edges.specs.Traces.{capacities, HasVerdict};
 ghost use Rattle.race_edges.specs.Verdicts.{verdict_of};
 
 use crate::fault::{EdgeFault, MAX_PLAIN_EVENTS};
+use crate::numbers::Numbers;
 use crate::races::{Found, RaceList};
 use crate::table::Table;
 use race_legal::{Illegal, legal};
@@ -74,11 +75,12 @@ fn races_in<A: Allocator + Copy, B: Allocator>(
 {
     let goroutines = trace.decls().count(Kind::Goroutine) as usize;
     let vars = trace.decls().count(Kind::Var) as usize;
+    let numbers = Numbers::new(alloc, trace)?;
     let mut table = Table::new(alloc, goroutines, trace.len())?;
     let mut found = Found::new(alloc, vars)?;
     for at in 0..trace.len() {
         found.look(&table, &trace.events()[..at], trace.event(at));
-        table.step(alloc, trace, at)?;
+        table.step(alloc, trace, &numbers, at)?;
     }
     found.list(alloc)
 }

@@ -4,6 +4,7 @@
 mod fault;
 mod judge;
 mod listing;
+mod numbers;
 mod races;
 mod synchronized;
 mod table;

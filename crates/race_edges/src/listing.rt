@@ -2,10 +2,12 @@
 ghost use Rattle.std.specs.Prelude.{◌≡◌, ◌↔◌, ◌⊎◌, ◌<◌, ◌≤◌, ◌+◌, length, IfOk, OnOk};
 ghost use Rattle.race_model.specs.Legal.{IsLegal};
 ghost use Rattle.race_edges.specs.Edges.{AreEdges};
+ghost use Rattle.race_edges.specs.Numbers.{AreNumbers};
 ghost use Rattle.race_edges.specs.EdgesSoFar.{AreEdgesBefore, with_edge, edge_inside};
 ghost use Rattle.race_edges.specs.Traces.{capacities, IsIllegal};
 
 use crate::fault::{EdgeFault, MAX_PLAIN_EVENTS};
+use crate::numbers::Numbers;
 use crate::synchronized::{is_source, joins, partner};
 use race_legal::legal;
 use race_records::Trace;
@@ -52,17 +54,18 @@ pub fn edges<A: Allocator + Copy, B: Allocator>(
 }
 
 // The edges of a trace, however long, and legal or not.
-fn list_edges<A: Allocator, B: Allocator>(
+fn list_edges<A: Allocator + Copy, B: Allocator>(
     alloc: A,
     trace: &Trace<B>,
 ) -> Result<Vec<Edge, A>, AllocError>
     ensures { IfOk result (λ edges.
         AreEdges (capacities trace.now) trace.now.events edges.items) }
 {
+    let numbers = Numbers::new(alloc, trace)?;
     let mut edges = Vec::new(alloc);
     for from in 0..trace.len() as u32 {
         add_inside(&mut edges, trace, from)?;
-        add_later(&mut edges, trace, from)?;
+        add_later(&mut edges, trace, &numbers, from)?;
     }
     Ok(edges)
 }
@@ -137,9 +140,11 @@ fn inside(at: u32, from_who: u32, to_who: u32) -> Edge
 fn add_later<A: Allocator, B: Allocator>(
     edges: &mut Vec<Edge, A>,
     trace: &Trace<B>,
+    numbers: &Numbers<A>,
     from: u32,
 ) -> Result<(), AllocError>
     requires within { from < length trace.now.events }
+    requires numbers { AreNumbers trace.now.events numbers.now }
     requires before { AreEdgesBefore from (from + 1) (capacities trace.now) trace.now.events
         edges.old.items }
     ensures { OnOk result (AreEdgesBefore (from + 1) (from + 1) (capacities trace.now)
@@ -154,7 +159,7 @@ fn add_later<A: Allocator, B: Allocator>(
             to,
             to_who: trace.event(to as usize).who,
         };
-        add_edge(edges, is_source(trace, from as usize, to as usize), edge)?;
+        add_edge(edges, is_source(trace, numbers, from as usize, to as usize), edge)?;
     }
     Ok(())
 }

@@ -3,8 +3,10 @@
 ghost use Rattle.std.specs.Prelude.{◌≡◌, ◌<◌, length};
 ghost use Rattle.race_model.specs.Events as model;
 ghost use Rattle.race_edges.specs.Synchronized as spec;
+ghost use Rattle.race_edges.specs.Numbers.{AreNumbers};
 ghost use Rattle.race_edges.specs.Traces.{capacities};
 
+use crate::numbers::Numbers;
 use race_records::{Op, Trace};
 use std::alloc::Allocator;
 
@@ -17,6 +19,11 @@ pub(crate) fn partner(op: &Op) -> Option<u32>
         Op::Exit => None,
         Op::Read(_, _) => None,
         Op::Write(_, _) => None,
+        Op::Send(_, _) => None,
+        Op::Recv(_, _) => None,
+        Op::Meet(receiver, _, _) => Some(*receiver),
+        Op::RecvClosed(_) => None,
+        Op::Close(_) => None,
     }
 }
 
@@ -30,6 +37,14 @@ pub(crate) fn joins(who: u32, op: &Op, from: u32, to: u32) -> bool
         Op::Exit => false,
         Op::Read(_, _) => false,
         Op::Write(_, _) => false,
+        Op::Send(_, _) => false,
+        Op::Recv(_, _) => false,
+        // A send before the completion of the receive, and the receive before that of the send.
+        Op::Meet(receiver, _, _) => {
+            (who == from && *receiver == to) || (*receiver == from && who == to)
+        }
+        Op::RecvClosed(_) => false,
+        Op::Close(_) => false,
     }
 }
 
@@ -42,19 +57,75 @@ pub(crate) fn can_be_source(op: &Op) -> bool
         Op::Exit => false,
         Op::Read(_, _) => false,
         Op::Write(_, _) => false,
+        Op::Send(_, _) => true,
+        Op::Recv(_, _) => true,
+        Op::Meet(_, _, _) => false,
+        Op::RecvClosed(_) => false,
+        Op::Close(_) => true,
     }
 }
 
-/// Whether the event at `from` is synchronized before the completion of the event at `to`.
-pub(crate) fn is_source<A: Allocator>(trace: &Trace<A>, from: usize, to: usize) -> bool
+/// Whether the event at `from` is synchronized before the completion of the event at `to`. The
+/// numbers are those of the trace.
+pub(crate) fn is_source<A: Allocator, B: Allocator>(
+    trace: &Trace<B>,
+    numbers: &Numbers<A>,
+    from: usize,
+    to: usize,
+) -> bool
     requires earlier { from < to }
     requires within { to < length trace.now.events }
+    requires numbers { AreNumbers trace.now.events numbers.now }
     ensures { result ≡ spec.source_at (capacities trace.now) trace.now.events from to }
 {
-    match (&trace.event(from).op, &trace.event(to).op) {
-        (_, Op::Go(_)) => false,
-        (_, Op::Exit) => false,
-        (_, Op::Read(_, _)) => false,
-        (_, Op::Write(_, _)) => false,
+    let source = trace.event(from);
+    let target = trace.event(to);
+    match &target.op {
+        Op::Go(_) => false,
+        Op::Exit => false,
+        Op::Read(_, _) => false,
+        Op::Write(_, _) => false,
+        // The kth receive from a channel before the completion of the send numbered k plus the
+        // capacity.
+        Op::Send(chan, _) => {
+            is_receive(*chan, &source.op)
+                && numbers.get(from) as u64 + trace.decls().capacity(*chan) as u64
+                    == numbers.get(to) as u64
+        }
+        // The kth send before the completion of the kth receive.
+        Op::Recv(chan, _) => {
+            is_send(*chan, &source.op) && numbers.get(from) == numbers.get(to)
+        }
+        Op::Meet(_, _, _) => false,
+        // The closing of a channel before each receive that finds it closed.
+        Op::RecvClosed(chan) => is_close(*chan, &source.op),
+        Op::Close(_) => false,
+    }
+}
+
+fn is_send(chan: u32, op: &Op) -> bool
+    ensures { result ≡ model.sends chan op.now }
+{
+    match op {
+        Op::Send(other, _) => *other == chan,
+        _ => false,
+    }
+}
+
+fn is_receive(chan: u32, op: &Op) -> bool
+    ensures { result ≡ model.receives chan op.now }
+{
+    match op {
+        Op::Recv(other, _) => *other == chan,
+        _ => false,
+    }
+}
+
+fn is_close(chan: u32, op: &Op) -> bool
+    ensures { result ≡ model.closes chan op.now }
+{
+    match op {
+        Op::Close(other) => *other == chan,
+        _ => false,
     }
 }

@@ -5,10 +5,12 @@
 //! seen at the begin of that one; so this is kept for the events that can be a source.
 ghost use Rattle.std.specs.Prelude.{◌≡◌, ◌<◌, ◌+◌, Bool, List, [], false, true, length, replicate, slice_set, slice_get, IfSome, IfOk, OnOk};
 ghost use Rattle.std.specs.List.{slice_index_or};
+ghost use Rattle.race_edges.specs.Numbers.{AreNumbers};
 ghost use Rattle.race_edges.specs.Synchronized.{joins, source_at};
 ghost use Rattle.race_edges.specs.TableState as spec;
 ghost use Rattle.race_edges.specs.Traces.{capacities};
 
+use crate::numbers::Numbers;
 use crate::synchronized::{can_be_source, is_source, joins, partner};
 use race_records::{Event, Trace};
 use std::alloc::{AllocError, Allocator};
@@ -177,8 +179,9 @@ impl<A: Allocator> Table<A> {
     }
 
     // Lets the goroutine of the event at the index see what its sources bring.
-    fn take_sources<B: Allocator>(&mut self, trace: &Trace<B>, at: usize)
+    fn take_sources<B: Allocator>(&mut self, trace: &Trace<B>, numbers: &Numbers<A>, at: usize)
         requires within { at < length trace.now.events }
+        requires numbers { AreNumbers trace.now.events numbers.now }
         requires row { IfSome (slice_get trace.now.events at) (λ e.
             e.who < length self.old.rows) }
         requires heard { length self.old.heard ≡ at }
@@ -190,7 +193,7 @@ impl<A: Allocator> Table<A> {
     {
         let who = trace.event(at).who;
         for from in 0..at {
-            if is_source(trace, from, at) {
+            if is_source(trace, numbers, from, at) {
                 self.take(who, from);
             }
         }
@@ -215,11 +218,13 @@ impl<A: Allocator> Table<A> {
         &mut self,
         alloc: A,
         trace: &Trace<B>,
+        numbers: &Numbers<A>,
         at: usize,
     ) -> Result<(), AllocError>
     where
         A: Copy,
         requires within { at < length trace.now.events }
+        requires numbers { AreNumbers trace.now.events numbers.now }
         requires rows { IfSome (slice_get trace.now.events at) (λ e.
             spec.HasRows self.old.rows e) }
         requires heard { length self.old.heard ≡ at }
@@ -232,7 +237,7 @@ impl<A: Allocator> Table<A> {
         self.see(event.who, at);
         let kept = self.kept(alloc, event)?;
         self.give_inside(event)?;
-        self.take_sources(trace, at);
+        self.take_sources(trace, numbers, at);
         self.heard.push(kept)?;
         Ok(())
     }

@@ -99,9 +99,9 @@ fn is_judged(alloc: Global, trace: &Trace, want: Known) -> bool {
     match (plain_judge(alloc, trace), want) {
         (Ok(Verdict::Illegal(illegal)), Known::Illegal) => illegal == BROKEN,
         (Ok(Verdict::Clean), Known::Races(count)) => count == 0,
-        (Ok(Verdict::Races(races)), Known::Races(count)) => {
-            let races = races.as_slice();
-            0 < count
+        (Ok(Verdict::Races(list)), Known::Races(count)) => {
+            let races = list.as_slice();
+            !list.is_empty()
                 && races.len() == count
                 && races
                     .iter()

@@ -3,7 +3,7 @@ use Rattle.race_edges.specs.declared.listing.Edge.{Edge}
 use Rattle.race_edges.specs.Synchronized.{source_at}
 use Rattle.race_edges.specs.EdgesSoFar.{AreEdgesBefore}
 use Rattle.race_edges.specs.Traces.{capacities}
-use Rattle.race_edges.proofs.EdgeLemmas.{as_told, later_added}
+use Rattle.race_edges.proofs.EdgeLemmas.{as_told, later_added, event_done}
 use Rattle.race_edges.proofs.listing.add_later.Goals as goal
 
 pub loop-to-preserved : goal.loop-to-preserved
@@ -16,3 +16,8 @@ loop-to-preserved g c =
     subst (λ (edges : List Edge). AreEdgesBefore c.args.from (c.loop-to.to + 1) caps events edges)
     (sym (as_told (source_at caps events c.args.from c.loop-to.to) c.is_source.result edge edge c.loop-to.edges.items c.add_edge.new.edges.items c.in_ok-add_edge.ensures c.is_source.ensures refl))
     (later_added caps events c.args.from c.loop-to.to s e (omega (arith, c.loop-to.auto.to)) c.event.ensures.event c.event-in-loop-to.ensures.event c.loop-to.edges.items c.loop-to.invariant)
+
+pub returns : goal.returns
+returns g c =
+    event_done (capacities c.args.trace.now) c.args.trace.now.events c.args.from c.loop-to.to c.loop-to.edges.items
+    (omega (arith, c.len-events.ensures.len, c.loop-to-test.false, c.loop-to.auto.to-end)) c.loop-to.invariant

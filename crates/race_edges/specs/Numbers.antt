@@ -1,0 +1,22 @@
+-- The numbers by which operations of a kind are matched: the kth send with the kth receive.
+use Rattle.std.specs.Prelude.{ℕ, ◌≡◌, ◌<◌, Bool, false, List, length, take, slice_get, Some, None}
+use Rattle.std.specs.List.{slice_index_or}
+use Rattle.race_records.specs.declared.event.Event.{Event}
+use Rattle.race_records.specs.declared.event.Op.{Op}
+use Rattle.race_records.specs.declared.event.Op.TheVariants.{Send, Recv}
+use Rattle.race_model.specs.Events.{sends, receives, count}
+
+-- the operations among which o has its number
+abbrev pub counts : Op → Op → Bool
+counts (Send c v) = sends c
+counts (Recv c v) = receives c
+counts _ = λ o. false
+
+-- how many of them stand before the event at index i
+abbrev pub number_at : List Event → ℕ → ℕ
+number_at events i = elim (slice_get events i) [ Some e ↦ count (counts e.op) (take i events) | None ↦ 0 ]
+
+-- the numbers of the events, in order
+pub record AreNumbers (events : List Event) (numbers : List ℕ) : Type 0 where
+  pub len : length numbers ≡ length events
+  pub each : (i : ℕ) → i < length events → slice_index_or numbers i 0 ≡ number_at events i

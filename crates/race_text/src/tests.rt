@@ -92,7 +92,7 @@ fn tells_the_least_cause_of_a_line(rt: HostRuntime) -> Result<(), Fail> {
         (b"var y\t", BadByte),
         (b"", UnknownWord),
         (b" exit main p", UnknownWord),
-        (b"chan c 0", UnknownWord),
+        (b"lock m", UnknownWord),
         (b"exit main", WrongCount),
         (b"exit main p ", WrongCount),
         (b"var - y", WrongCount),

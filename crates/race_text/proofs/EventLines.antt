@@ -1,43 +1,42 @@
 -- A line that says an event: it is the event's text, no cause holds of its words, and it declares nothing.
-use Rattle.std.proofs.Common.{◌≡◌, ℕ, ◌<◌, true, false, List, [], ◌∷◌, ◌++◌, map, Option, Some, None, refl, sym, ap, subst, ◌∙◌, arith}
+use Rattle.std.proofs.Common.{◌≡◌, ℕ, ◌<◌, true, false, List, [], ◌∷◌, ◌++◌, Option, Some, None, refl, sym, ap, subst, ◌∙◌, arith}
 use Rattle.std.proofs.lemmas.Bool.Decides.{nat_tests}
 use Rattle.std.proofs.lemmas.List.Splits.{join_with_byte-slice_split}
 use Rattle.std.proofs.lemmas.Option.{none-some}
 use Rattle.std.specs.List.{list_all, AllByRecursion}
-use Rattle.std.specs.Option.{option_and_then}
 use Rattle.race_records.specs.declared.event.Op.{Op}
 use Rattle.race_records.specs.declared.event.Op.TheVariants.{Go}
 use Rattle.race_records.specs.declared.kind.Kind.{Kind}
 use Rattle.race_records.specs.declared.parts.Verb.{Verb}
 use Rattle.race_records.specs.declared.parts.Part.{Part}
-use Rattle.race_records.specs.Name.{is_place}
 use Rattle.race_records.specs.Declarations.{Declaration, DeclsState, IsWellFormed, count_of}
 use Rattle.race_records.specs.Events.{op_fits, value_fits}
-use Rattle.race_records.specs.Parts.{says, part_kinds, part_fits, part_is_u64}
+use Rattle.race_records.specs.Parts.{says, has_two_places, part_kinds, part_fits, part_is_u64}
 use Rattle.race_text.specs.declared.form.Word.{Word}
 use Rattle.race_text.specs.Words.{words_of, has_bad_byte}
-use Rattle.race_text.specs.Text.{line_of, op_words, goroutine_name}
+use Rattle.race_text.specs.Text.{line_of, op_words, goroutine_name, place_words}
 use Rattle.race_text.specs.Form.{word_named, first_word, arguments}
 use Rattle.race_text.specs.Fault.{seen_so_far, room_cause, word_cause, declaration_in, declared_as, is_event_line, is_event_word}
 use Rattle.race_text.specs.Reading.{Occurrence, event_by, event_in}
-use Rattle.race_text.specs.Writing.{verb_text, part_text, said_words}
-use Rattle.race_text.proofs.CleanLemmas.{joined_clean, visible_clean, place_is_visible}
+use Rattle.race_text.specs.Writing.{verb_text, said_words}
+use Rattle.race_text.proofs.CleanLemmas.{joined_clean, visible_clean}
 use Rattle.race_text.proofs.EventWords.{is_said, said_fine}
 use Rattle.race_text.proofs.PartWords.{texts_are, parts_fit, parts_are_u64, words_clean}
+use Rattle.race_text.proofs.PlaceWords.{ArePlaces, places_clean}
 use Rattle.race_text.proofs.WordTable.{word_spelled, word_is_seen}
 
 -- the words of an event are those that its operation says
-pub op_words_are : (ds : List Declaration) (who place : List ℕ) (op : Op) → op_words ds who place op ≡ said_words ds who place (says op).0 (says op).1
-op_words_are ds who place (Go h) = refl
-op_words_are ds who place _ = refl
+pub op_words_are : (ds : List Declaration) (who : List ℕ) (places : List (List ℕ)) (op : Op) → op_words ds who places op ≡ said_words ds who places (says op).0 (says op).1
+op_words_are ds who places (Go h) = refl
+op_words_are ds who places _ = refl
 
 -- what holds of a line that says an event
 pub record IsEventLine (ds : List Declaration) (line : List ℕ) (o : Occurrence) : Type 0 where
-  pub line_is : line ≡ line_of (op_words ds (goroutine_name ds o.who) o.place o.op)
+  pub line_is : line ≡ line_of (op_words ds (goroutine_name ds o.who) (place_words o.place o.place2) o.op)
   pub cause_is : (events : ℕ) → word_cause (seen_so_far ds events) (word_named (first_word (words_of line))) (arguments (words_of line)) ≡ room_cause (seen_so_far ds events) None
   pub is_event : is_event_line line ≡ true
   pub declares : declaration_in line ≡ None
-  pub place : is_place o.place ≡ true
+  pub places : ArePlaces (has_two_places (says o.op).0) (o.place, o.place2)
   pub who : o.who < count_of Kind.Goroutine ds
   pub op : op_fits ds o.op ≡ true
   pub value : value_fits o.op ≡ true
@@ -56,20 +55,21 @@ module _ (decls : DeclsState) (holds : IsWellFormed decls) (line first : List �
   by_word (Some (Word.Does verb)) named h =
       let is = is_said decls holds verb args o h in
       let named_line : word_named (first_word (words_of line)) ≡ Some (Word.Does verb) = ap (λ ws. word_named (first_word ws)) words ∙ named in
-      let place_clean = visible_clean o.place (place_is_visible o.place is.place_is) in
+      let places = place_words o.place o.place2 in
+      let all_clean = places_clean (has_two_places verb) (o.place, o.place2) is.places_are in
       let who = is.who_is.fits in
       let clean : AllByRecursion (λ w. has_bad_byte w ≡ false) (first ∷ args) =
-      (visible_clean first (word_is_seen first (Word.Does verb) named), subst (λ ws. AllByRecursion (λ w. has_bad_byte w ≡ false) ws) (sym is.words_are) (is.who_is.clean, words_clean decls holds o.place is.place_is place_clean (part_kinds verb) is.ws is.parts is.are)) in
+      (visible_clean first (word_is_seen first (Word.Does verb) named), subst (λ ws. AllByRecursion (λ w. has_bad_byte w ≡ false) ws) (sym is.words_are) (is.who_is.clean, words_clean decls holds [] places all_clean (part_kinds verb) is.ws is.parts is.are)) in
       record {
         line_is =
             joined ∙ (λ i. line_of (word_spelled first (Word.Does verb) named i ∷ is.words_are i))
-            ∙ (λ i. line_of (verb_text verb ∷ is.who_is.text i ∷ texts_are decls holds (part_kinds verb) is.ws is.parts is.are i ++ o.place ∷ []))
-            ∙ (λ i. line_of (said_words ds (goroutine_name ds o.who) o.place (sym is.says_is i).0 (sym is.says_is i).1))
-            ∙ ap line_of (sym (op_words_are ds (goroutine_name ds o.who) o.place o.op));
+            ∙ (λ i. line_of (verb_text verb ∷ is.who_is.text i ∷ texts_are decls holds (part_kinds verb) is.ws is.parts is.are i ++ places))
+            ∙ (λ i. line_of (said_words ds (goroutine_name ds o.who) places (sym is.says_is i).0 (sym is.says_is i).1))
+            ∙ ap line_of (sym (op_words_are ds (goroutine_name ds o.who) places o.op));
         cause_is = λ events. (λ i. word_cause (seen_so_far ds events) (named_line i) (arguments (words i))) ∙ said_fine decls holds verb args o events is;
         is_event = ap is_event_word named_line;
         declares = λ i. declared_as (named_line i) (arguments (words i));
-        place = is.place_is;
+        places = subst (λ (s : Verb × List Part). ArePlaces (has_two_places s.0) (o.place, o.place2)) (sym is.says_is) is.places_are;
         who = grind (arith, nat_tests, who);
         op = ap (λ (s : Verb × List Part). list_all (part_fits ds) s.1) is.says_is ∙ parts_fit decls holds (part_kinds verb) is.ws is.parts is.are;
         value = ap (λ (s : Verb × List Part). list_all part_is_u64 s.1) is.says_is ∙ parts_are_u64 decls holds (part_kinds verb) is.ws is.parts is.are;

@@ -1,9 +1,9 @@
 -- The line of an event says the event.
-use Rattle.std.proofs.Common.{◌≡◌, ℕ, ◌-◌, ◌^◌, ◌<◌, ◌&&◌, Bool, true, false, true≢false, is_none, if◌then◌else◌, nat_lt, List, [], ◌∷◌, ◌++◌, length, map, unwrap_or, Some, None, option_map, refl, sym, ap, ◌∙◌, arith, append-nil, append_assoc}
+use Rattle.std.proofs.Common.{◌≡◌, ℕ, ◌-◌, ◌^◌, ◌<◌, ◌&&◌, Bool, true, false, true≢false, if◌then◌else◌, nat_lt, List, [], ◌∷◌, ◌++◌, length, map, unwrap_or, Option, Some, None, option_map, refl, sym, ap, ◌∙◌, arith, append-nil, append_assoc}
 use Rattle.std.proofs.lemmas.Bool.Decides.{nat_tests}
 use Rattle.std.proofs.lemmas.Option.{slice_get-get_or}
 use Rattle.std.specs.Fmt.{decimal}
-use Rattle.std.specs.List.{list_all, AllByRecursion}
+use Rattle.std.specs.List.{list_all}
 use Rattle.std.specs.Option.{option_and_then}
 use Rattle.race_records.specs.declared.event.Event.{Event}
 use Rattle.race_records.specs.declared.event.Op.{Op}
@@ -13,21 +13,21 @@ use Rattle.race_records.specs.declared.parts.Part.{Part}
 use Rattle.race_records.specs.declared.parts.PartKind.{PartKind}
 use Rattle.race_records.specs.Name.{is_place, is_place_byte}
 use Rattle.race_records.specs.Declarations.{Declaration, DeclsState, IsWellFormed, count_of}
-use Rattle.race_records.specs.Events.{fits, op_fits, value_fits}
-use Rattle.race_records.specs.Parts.{says, suits, suit, part_fits, part_is_u64, part_kinds}
+use Rattle.race_records.specs.Events.{fits, op_fits, value_fits, second_place_fits}
+use Rattle.race_records.specs.Parts.{says, has_two_places, suits, suit, part_fits, part_is_u64, part_kinds}
 use Rattle.race_records.proofs.PartLaws.{says_again, says_suits}
 use Rattle.race_text.specs.declared.form.Word.{Word}
-use Rattle.race_text.specs.Words.{words_of, number}
-use Rattle.race_text.specs.Text.{line_of, goroutine_name, place_text, op_words, event_line}
-use Rattle.race_text.specs.Form.{word_named}
-use Rattle.race_text.specs.Reading.{Occurrence, occurrence, ReadPart, object_as, part_in, parts_on, with_rest, event_behind, event_by, event_in}
-use Rattle.race_text.specs.Writing.{verb_text, part_text, said_words}
-use Rattle.race_text.proofs.CleanLemmas.{place_is_visible, number_is_visible}
+use Rattle.race_text.specs.Words.{words_of}
+use Rattle.race_text.specs.Text.{line_of, goroutine_name, place_text, second_text, place_words, op_words, event_line}
+use Rattle.race_text.specs.Reading.{Occurrence, Places, occurrence, ReadPart, object_as, part_in, parts_on, with_rest, event_by, event_in}
+use Rattle.race_text.specs.Writing.{verb_text, part_text}
+use Rattle.race_text.proofs.CleanLemmas.{number_is_visible}
 use Rattle.race_text.proofs.EventLines.{op_words_are}
 use Rattle.race_text.proofs.EventWords.{said_by}
 use Rattle.race_text.proofs.FoundLemmas.{found_is_name}
 use Rattle.race_text.proofs.NamesAgain.{name_again}
-use Rattle.race_text.proofs.TraceLemmas.{fit_place}
+use Rattle.race_text.proofs.PlaceWords.{ArePlaces, places_visible}
+use Rattle.race_text.proofs.PlacesAdded.{fit_place, fit_second}
 use Rattle.race_text.proofs.NumberLemmas.{number-some}
 use Rattle.race_text.proofs.WordLemmas.{both, name_is_visible}
 use Rattle.race_text.proofs.WordsAgain.{AreVisible, words_again}
@@ -35,7 +35,7 @@ use Rattle.race_text.proofs.WordTable.{verb_again, word_is_seen}
 
 -- what an event's line says
 abbrev pub said : DeclsState → Event → Occurrence
-said decls e = occurrence e.who e.op (place_text decls.places e.place)
+said decls e = occurrence e.who e.op (place_text decls.places e.place, second_text decls.places e.place2)
 
 module _ (decls : DeclsState) (holds : IsWellFormed decls) where
   abbrev ds : List Declaration
@@ -74,28 +74,36 @@ module _ (decls : DeclsState) (holds : IsWellFormed decls) where
       let lows = both (part_is_u64 part) (list_all part_is_u64 parts) low in
       (part_visible part fits.0 lows.0, parts_visible parts rest fits.1 lows.1 visible)
 
-  -- a place that is printed has a place's form
+  -- a place that is printed has a place's form, and there are two just where there have to be
   place_again : (n : ℕ) → n < length decls.places → is_place (place_text decls.places n) ≡ true
   place_again n less = ap (λ o. is_place (unwrap_or o [])) (slice_get-get_or decls.places n [] less) ∙ holds.places n [] less
 
+  places_again : (two : Bool) (n : ℕ) (second : Option ℕ) → n < length decls.places → second_place_fits (length decls.places) two second ≡ true
+      → ArePlaces two (place_text decls.places n, second_text decls.places second)
+  places_again false n None less fit = record { first = place_again n less; second = tt; count = refl }
+  places_again true n (Some m) less fit = record { first = place_again n less; second = place_again m (grind (arith, nat_tests, fit)); count = refl }
+  places_again true n None less fit = absurd (true≢false (sym fit))
+  places_again false n (Some m) less fit = absurd (true≢false (sym fit))
+
   -- so the line of an event says it
-  op_again : (who : ℕ) (place : List ℕ) → who < count_of Kind.Goroutine ds → is_place place ≡ true → (op : Op) → op_fits ds op ≡ true → value_fits op ≡ true
-      → event_in ds (words_of (line_of (op_words ds (goroutine_name ds who) place op))) ≡ Some (occurrence who op place)
-  op_again who place who_less form op fit low =
+  op_again : (who : ℕ) (places : Places) → who < count_of Kind.Goroutine ds → (op : Op) → ArePlaces (has_two_places (says op).0) places → op_fits ds op ≡ true → value_fits op ≡ true
+      → event_in ds (words_of (line_of (op_words ds (goroutine_name ds who) (place_words places.0 places.1) op))) ≡ Some (occurrence who op places)
+  op_again who places who_less op are fit low =
       let verb = (says op).0 in
       let parts = (says op).1 in
       let goroutine = Part.Object (Named.Goroutine who) in
-      let args = goroutine_name ds who ∷ map (part_text ds) parts ++ place ∷ [] in
+      let last = place_words places.0 places.1 in
+      let args = goroutine_name ds who ∷ map (part_text ds) parts ++ last in
       let who_fits : part_fits ds goroutine ≡ true = grind (arith, nat_tests, who_less) in
       let visible : AreVisible (verb_text verb ∷ args) = (
         word_is_seen (verb_text verb) (Word.Does verb) (verb_again verb),
-        (part_visible goroutine who_fits refl, parts_visible parts (place ∷ []) fit low (place_is_visible place form, tt)),
+        (part_visible goroutine who_fits refl, parts_visible parts last fit low (places_visible (has_two_places verb) places are)),
       ) in
-      ap (λ ws. event_in ds (words_of (line_of ws))) (op_words_are ds (goroutine_name ds who) place op)
+      ap (λ ws. event_in ds (words_of (line_of ws))) (op_words_are ds (goroutine_name ds who) last op)
       ∙ ap (event_in ds) (words_again (verb_text verb) args visible)
       ∙ ap (λ w. event_by ds w args) (verb_again verb)
-      ∙ said_by ds verb (goroutine_name ds who) (map (part_text ds) parts ++ place ∷ []) who parts op place (part_again (PartKind.Object Kind.Goroutine) goroutine refl who_fits refl)
-      (parts_again [] (part_kinds verb) parts (place ∷ []) (says_suits op) fit low) (says_again op) form
+      ∙ said_by ds verb (goroutine_name ds who) (map (part_text ds) parts ++ last) who parts op places (part_again (PartKind.Object Kind.Goroutine) goroutine refl who_fits refl)
+      (parts_again [] (part_kinds verb) parts last (says_suits op) fit low) (says_again op) are
 
   -- what fits of an event
   who_fits : (e : Event) → fits decls e ≡ true → e.who < count_of Kind.Goroutine ds
@@ -104,7 +112,8 @@ module _ (decls : DeclsState) (holds : IsWellFormed decls) where
 
   op_does : (e : Event) → fits decls e ≡ true → op_fits ds e.op ≡ true
   unfolding fits
-  op_does e h = by (nat_lt e.who (count_of Kind.Goroutine ds)) (op_fits ds e.op) (nat_lt e.place (length decls.places)) (is_none e.place2) h
+  op_does e h =
+      by (nat_lt e.who (count_of Kind.Goroutine ds)) (op_fits ds e.op) (nat_lt e.place (length decls.places)) (second_place_fits (length decls.places) (has_two_places (says e.op).0) e.place2) h
     where
       by : (a b c d : Bool) → (a && b && c && d) ≡ true → b ≡ true
       by true true c d h = refl
@@ -112,4 +121,6 @@ module _ (decls : DeclsState) (holds : IsWellFormed decls) where
       by false b c d h = absurd (true≢false (sym h))
 
   pub event_again : (e : Event) → fits decls e ≡ true → value_fits e.op ≡ true → event_in ds (words_of (event_line decls e)) ≡ Some (said decls e)
-  event_again e fit low = op_again e.who (place_text decls.places e.place) (who_fits e fit) (place_again e.place (fit_place decls e fit)) e.op (op_does e fit) low
+  event_again e fit low =
+      let places = places_again (has_two_places (says e.op).0) e.place e.place2 (fit_place decls e fit) (fit_second decls e fit) in
+      op_again e.who (place_text decls.places e.place, second_text decls.places e.place2) (who_fits e fit) e.op places (op_does e fit) low

@@ -1,6 +1,8 @@
 pub mod CutLemmas
 pub mod WordTable
 pub mod PartWords
+mod PlaceWords
+mod PlacesAdded
 pub mod SeenLemmas
 pub mod UnseenLemmas
 pub mod NumberLemmas

@@ -1,5 +1,5 @@
 -- What the words of an operation's parts say, word by word.
-use Rattle.std.proofs.Common.{◌≡◌, ℕ, suc, ◌+◌, ◌<◌, ◌-◌, ◌^◌, ◌&&◌, Bool, true, false, not, if◌then◌else◌, nat_lt, nat_le, List, [], ◌∷◌, ◌++◌, length, map, Option, Some, None, is_none, unwrap_or, refl, sym, ap, subst, ◌∙◌, arith, append-nil, append_assoc}
+use Rattle.std.proofs.Common.{◌≡◌, ℕ, suc, ◌<◌, ◌-◌, ◌^◌, ◌&&◌, Bool, true, false, not, if◌then◌else◌, nat_lt, nat_le, List, [], ◌∷◌, ◌++◌, length, map, Option, Some, None, is_none, unwrap_or, refl, sym, ap, subst, ◌∙◌, arith, append-nil, append_assoc}
 use Rattle.std.proofs.lemmas.Bool.Decides.{nat_tests}
 use Rattle.std.proofs.lemmas.Option.{none-some, same_Some}
 use Rattle.std.proofs.lemmas.Slice.Eq.{bytes_eq-Decides}
@@ -12,13 +12,13 @@ use Rattle.race_records.specs.declared.kind.Kind.{Kind}
 use Rattle.race_records.specs.declared.kind.Named.{Named}
 use Rattle.race_records.specs.declared.parts.Part.{Part}
 use Rattle.race_records.specs.declared.parts.PartKind.{PartKind}
-use Rattle.race_records.specs.Name.{is_name, is_place}
-use Rattle.race_records.specs.Declarations.{Declaration, DeclsState, IsWellFormed, find_name, name_of, is_named}
+use Rattle.race_records.specs.Name.{is_name}
+use Rattle.race_records.specs.Declarations.{Declaration, DeclsState, IsWellFormed, find_name, is_named}
 use Rattle.race_records.specs.Parts.{suits, suit, part_fits, part_is_u64}
 use Rattle.race_text.specs.declared.cause.TextCause.{TextCause}
 use Rattle.race_text.specs.declared.form.Field.{Field}
 use Rattle.race_text.specs.Words.{has_bad_byte, number}
-use Rattle.race_text.specs.Fault.{lesser, rank, use_cause, used_name_cause, part_cause, field_cause}
+use Rattle.race_text.specs.Fault.{lesser, rank, use_cause, part_cause, field_cause}
 use Rattle.race_text.specs.Reading.{ReadPart, ReadParts, object_as, part_in, with_rest, first_part, parts_on}
 use Rattle.race_text.specs.Writing.{part_text}
 use Rattle.race_text.proofs.CauseLemmas.{cause_on}
@@ -160,24 +160,27 @@ module _ (decls : DeclsState) (holds : IsWellFormed decls) where
   parts_are_u64 (kind ∷ kinds) (w ∷ ws) (part ∷ parts) are = λ i. are.0.is_u64 i && parts_are_u64 kinds ws parts are.1 i
   parts_are_u64 _ _ _ are = absurd are
 
-  -- and of the words, with the place behind them: none has a bad byte or a cause, and there are as many as fields
-  module _ (place : List ℕ) (form : is_place place ≡ true) (clean : has_bad_byte place ≡ false) where
-    pub words_clean : (kinds : List PartKind) (ws : List (List ℕ)) (parts : List Part) → AreParts kinds ws parts → AllByRecursion (λ w. has_bad_byte w ≡ false) (ws ++ place ∷ [])
-    words_clean [] [] [] are = (clean, tt)
-    words_clean (kind ∷ kinds) (w ∷ ws) (part ∷ parts) are = (are.0.clean, words_clean kinds ws parts are.1)
-    words_clean _ _ _ are = absurd are
+  -- and of the words, with others behind them: none has a bad byte or a cause, and there are as many as fields, where it is so of the others
+  module _ (fields : List Field) (rest : List (List ℕ)) where
+    pub words_clean : AllByRecursion (λ w. has_bad_byte w ≡ false) rest → (kinds : List PartKind) (ws : List (List ℕ)) (parts : List Part) → AreParts kinds ws parts
+        → AllByRecursion (λ w. has_bad_byte w ≡ false) (ws ++ rest)
+    words_clean clean [] [] [] are = clean
+    words_clean clean (kind ∷ kinds) (w ∷ ws) (part ∷ parts) are = (are.0.clean, words_clean clean kinds ws parts are.1)
+    words_clean clean _ _ _ are = absurd are
 
-    pub words_count : (kinds : List PartKind) (ws : List (List ℕ)) (parts : List Part) → AreParts kinds ws parts → length (ws ++ place ∷ []) ≡ length (map Field.Part kinds ++ Field.Place ∷ [])
-    words_count [] [] [] are = refl
-    words_count (kind ∷ kinds) (w ∷ ws) (part ∷ parts) are = ap suc (words_count kinds ws parts are.1)
-    words_count _ _ _ are = absurd are
+    pub words_count : length rest ≡ length fields → (kinds : List PartKind) (ws : List (List ℕ)) (parts : List Part) → AreParts kinds ws parts
+        → length (ws ++ rest) ≡ length (map Field.Part kinds ++ fields)
+    words_count count [] [] [] are = count
+    words_count count (kind ∷ kinds) (w ∷ ws) (part ∷ parts) are = ap suc (words_count count kinds ws parts are.1)
+    words_count count _ _ _ are = absurd are
 
-    pub words_fine : (kinds : List PartKind) (ws : List (List ℕ)) (parts : List Part) → AreParts kinds ws parts → cause_on ds None (map Field.Part kinds ++ Field.Place ∷ []) (ws ++ place ∷ []) ≡ None
+    pub words_fine : cause_on ds None fields rest ≡ None → (kinds : List PartKind) (ws : List (List ℕ)) (parts : List Part) → AreParts kinds ws parts
+        → cause_on ds None (map Field.Part kinds ++ fields) (ws ++ rest) ≡ None
     unfolding field_cause
-    words_fine [] [] [] are = ap (λ b. if not b then Some TextCause.BadName else None) form
-    words_fine (kind ∷ kinds) (w ∷ ws) (part ∷ parts) are =
-        ap (λ c. cause_on ds c (map Field.Part kinds ++ Field.Place ∷ []) (ws ++ place ∷ [])) are.0.no_cause ∙ words_fine kinds ws parts are.1
-    words_fine _ _ _ are = absurd are
+    words_fine fine [] [] [] are = fine
+    words_fine fine (kind ∷ kinds) (w ∷ ws) (part ∷ parts) are =
+        ap (λ c. cause_on ds c (map Field.Part kinds ++ fields) (ws ++ rest)) are.0.no_cause ∙ words_fine fine kinds ws parts are.1
+    words_fine fine _ _ _ are = absurd are
 
 -- no cause holds of a chain just where none holds of its parts
 pub lesser_none : (a b : Option TextCause) → lesser a b ≡ None → (a ≡ None) × (b ≡ None)
@@ -208,45 +211,48 @@ module _ (ds : List Declaration) where
       by None h = absurd (none-some TextCause.BadNumber (sym h))
       by (Some n) h = (Part.Value n, refl)
 
-  -- where no cause holds of the words, they say a part each, and a place
-  pub record AreThere (kinds : List PartKind) (ws : List (List ℕ)) (least : Option TextCause) : Type 0 where
+  -- a cause that holds before the words is not lost
+  none_before : (fields : List Field) (ws : List (List ℕ)) (least : Option TextCause) → cause_on ds least fields ws ≡ None → least ≡ None
+  none_before [] ws least none = none
+  none_before (f ∷ fs) [] least none = none
+  none_before (f ∷ fs) (w ∷ ws) least none = (lesser_none least (field_cause ds f w) (none_before fs ws (lesser least (field_cause ds f w)) none)).0
+
+  -- where no cause holds of the words, they say a part each, and no cause holds of those behind them
+  pub record AreThere (fields : List Field) (kinds : List PartKind) (ws : List (List ℕ)) (least : Option TextCause) : Type 0 where
     pub before : least ≡ None
     pub parts : List Part
-    pub place : List ℕ
-    pub form : is_place place ≡ true
+    pub rest : List (List ℕ)
+    pub count : length rest ≡ length fields
+    pub fine : cause_on ds None fields rest ≡ None
     pub suit_is : suit kinds parts ≡ true
-    pub read : (got : List Part) → parts_on ds got kinds ws ≡ Some (got ++ parts, place ∷ [])
+    pub read : (got : List Part) → parts_on ds got kinds ws ≡ Some (got ++ parts, rest)
 
-  pub are_there : (kinds : List PartKind) (ws : List (List ℕ)) (least : Option TextCause) → length ws ≡ length (map Field.Part kinds ++ Field.Place ∷ [])
-      → cause_on ds least (map Field.Part kinds ++ Field.Place ∷ []) ws ≡ None → AreThere kinds ws least
+  pub are_there : (fields : List Field) (kinds : List PartKind) (ws : List (List ℕ)) (least : Option TextCause) → length ws ≡ length (map Field.Part kinds ++ fields)
+      → cause_on ds least (map Field.Part kinds ++ fields) ws ≡ None → AreThere fields kinds ws least
   unfolding field_cause
-  are_there [] [] least count none = absurd (omega (arith, count))
-  are_there [] (place ∷ []) least count none =
-      let both = lesser_none least (if not (is_place place) then Some TextCause.BadName else None) none in
+  are_there fields [] ws least count none =
+      let before = none_before fields ws least none in
       record {
-        before = both.0;
+        before = before;
         parts = [];
-        place = place;
-        form = is_form (is_place place) both.1;
+        rest = ws;
+        count = count;
+        fine = ap (λ c. cause_on ds c fields ws) (sym before) ∙ none;
         suit_is = refl;
-        read = λ got i. Some (sym (append-nil got) i, place ∷ []);
+        read = λ got i. Some (sym (append-nil got) i, ws);
       }
-    where
-      is_form : (b : Bool) → (if not b then Some TextCause.BadName else None) ≡ None → b ≡ true
-      is_form true h = refl
-      is_form false h = absurd (none-some TextCause.BadName (sym h))
-  are_there [] (place ∷ more ∷ others) least count none = absurd (omega (arith, count))
-  are_there (kind ∷ kinds) [] least count none = absurd (omega (arith, count))
-  are_there (kind ∷ kinds) (w ∷ ws) least count none =
-      let others = are_there kinds ws (lesser least (part_cause ds kind w)) (omega (arith, count)) none in
+  are_there fields (kind ∷ kinds) [] least count none = absurd (omega (arith, count))
+  are_there fields (kind ∷ kinds) (w ∷ ws) least count none =
+      let others = are_there fields kinds ws (lesser least (part_cause ds kind w)) (omega (arith, count)) none in
       let both = lesser_none least (part_cause ds kind w) others.before in
       let first = part_is_there kind w both.1 in
       record {
         before = both.0;
         parts = first.0 ∷ others.parts;
-        place = others.place;
-        form = others.form;
+        rest = others.rest;
+        count = others.count;
+        fine = others.fine;
         suit_is = λ i. read_suits ds kind w first.0 first.1 i && others.suit_is i;
         read = λ got. ap (λ o. option_and_then (λ (r : ReadPart). parts_on ds (got ++ r.0 ∷ []) kinds r.1) (option_map (with_rest ws) o)) first.1
-            ∙ others.read (got ++ first.0 ∷ []) ∙ (λ i. Some (append_assoc got (first.0 ∷ []) others.parts i, others.place ∷ []));
+            ∙ others.read (got ++ first.0 ∷ []) ∙ (λ i. Some (append_assoc got (first.0 ∷ []) others.parts i, others.rest));
       }

@@ -9,20 +9,18 @@ use Rattle.std.specs.List.{flat_map, join_with_byte}
 use Rattle.std.specs.Str.{bytes_eq}
 use Rattle.race_records.specs.declared.event.Event.{Event}
 use Rattle.race_records.specs.declared.trace.TheConstants.{MAX_EVENTS}
-use Rattle.race_records.specs.Declarations.{Declaration, with_place, with_declaration}
+use Rattle.race_records.specs.Declarations.{Declaration, with_declaration}
 use Rattle.race_records.specs.Events.{TraceState}
 use Rattle.race_text.specs.declared.cause.TextCause.{TextCause}
 use Rattle.race_text.specs.declared.cause.TextFault.{TextFault}
-use Rattle.race_text.specs.declared.form.Word.{Word}
-use Rattle.race_text.specs.Words.{parts_of, words_of, has_bad_byte, number}
+use Rattle.race_text.specs.Words.{parts_of, words_of, has_bad_byte}
 use Rattle.race_text.specs.Text.{header, ended, lines, text}
-use Rattle.race_text.specs.Form.{word_named}
 use Rattle.race_text.specs.Fault.{seen, seen_so_far, line_cause, cause, or_later, fault_after, text_fault}
 use Rattle.race_text.specs.Declaring.{is_declaration_line, with_declared}
 use Rattle.race_text.specs.Text.{HasText, IsTraceText}
 use Rattle.race_text.specs.Reading.{Occurrence, event_in}
 use Rattle.race_text.specs.Reader.{end_cause}
-use Rattle.race_text.specs.Taking.{state_of, IsRead, begun, event_of}
+use Rattle.race_text.specs.Taking.{state_of, IsRead, begun, with_places, event_of}
 use Rattle.race_text.proofs.EventLines.{event_line as event_line_of}
 use Rattle.race_text.proofs.ParseLemmas.{fault_step, fault_end, end_empty, no_bytes}
 use Rattle.race_text.proofs.ReaderLemmas.{header_lines, header_says, empty_has_text, no_events, declaration_of_line, cause_of_line, taken_declaration}
@@ -41,7 +39,7 @@ module _ (t : TraceState) (read : IsRead t) (line : List ℕ) (none : cause (lin
   with_event : (o : Occurrence) → event_in ds (words_of line) ≡ Some o → IsNext t line
   with_event o says =
       let is = event_line_of t.decls line o read.has_text.well_formed says in
-      let next : TraceState = record { decls = with_place t.decls o.place; events = t.events ++ event_of t.decls.places o ∷ []; spare = 0 } in
+      let next : TraceState = record { decls = with_places t.decls o; events = t.events ++ event_of t.decls o ∷ []; spare = 0 } in
       let room : length t.events < MAX_EVENTS = by (nat_le MAX_EVENTS (length t.events)) refl (sym (event_cause t next line o read is) ∙ none) in
       let taken = event_taken t next line o read is (record { room = room; decls = refl; events = refl }) in
       record { next = next; read = taken.is_read; lines_are = taken.lines }

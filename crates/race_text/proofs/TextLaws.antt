@@ -1,5 +1,5 @@
 -- What the lines of a trace say: its declarations, and its events.
-use Rattle.std.proofs.Common.{◌≡◌, ℕ, suc, ◌<◌, ◌^◌, ◌&&◌, Bool, true, false, true≢false, nat_lt, is_none, List, [], ◌∷◌, ◌++◌, length, map, get_or, slice_get, unwrap_or, Option, Some, None, IsTrue, refl, sym, ap, ◌∙◌, arith, append-nil}
+use Rattle.std.proofs.Common.{◌≡◌, ℕ, suc, ◌<◌, ◌^◌, Bool, true, false, true≢false, List, [], ◌∷◌, ◌++◌, length, map, get_or, slice_get, unwrap_or, Option, Some, None, IsTrue, refl, sym, ap, ◌∙◌, arith, append-nil}
 use Rattle.std.proofs.lemmas.List.{append_cancel_right}
 use Rattle.std.proofs.lemmas.List.Elements.{filter_map-append}
 use Rattle.std.proofs.lemmas.Option.{slice_get-get_or}
@@ -8,15 +8,16 @@ use Rattle.std.specs.List.{filter_map, cons_option, AllByRecursion}
 use Rattle.std.specs.Option.{option_and_then}
 use Rattle.race_records.specs.declared.event.Event.{Event}
 use Rattle.race_records.specs.Name.{is_name}
-use Rattle.race_records.specs.Declarations.{Declaration, DeclsState, count_of, is_too_wide}
+use Rattle.race_records.specs.Declarations.{Declaration, is_too_wide}
 use Rattle.race_records.specs.Nouns.{object_says, number_limit}
 use Rattle.race_records.proofs.NounLaws.{IsWanted, says_wanted}
-use Rattle.race_records.specs.declared.kind.Kind.{Kind}
-use Rattle.race_records.specs.Events.{TraceState, fits, op_fits}
+use Rattle.race_records.specs.Events.{TraceState, fits, second_place_fits}
+use Rattle.race_records.specs.Parts.{says, has_two_places}
+use Rattle.std.proofs.lemmas.Bool.Decides.{nat_tests}
 use Rattle.race_records.specs.TraceEquality.{PlacedEvent, placed, placed_events, recorded}
 use Rattle.race_text.specs.declared.form.Word.{Word}
 use Rattle.race_text.specs.Words.{parts_of, words_of, has_bad_byte}
-use Rattle.race_text.specs.Text.{header, line_of, declaration_line, event_line, has_known_word, lines, text}
+use Rattle.race_text.specs.Text.{header, line_of, second_text, declaration_line, event_line, has_known_word, lines, text}
 use Rattle.race_text.specs.Form.{word_named, first_word, arguments}
 use Rattle.race_text.specs.Fault.{declaration_in, declared_as, is_event_line, is_event_word}
 use Rattle.race_text.specs.Text.{HasText}
@@ -27,7 +28,7 @@ use Rattle.race_text.proofs.DeclarationLemmas.{small_limit, said_again}
 use Rattle.race_text.proofs.NumberLemmas.{number-some}
 use Rattle.race_text.proofs.EventLines.{IsEventLine, event_line as event_line_of}
 use Rattle.race_text.proofs.EventsAgain.{said, event_again}
-use Rattle.race_text.proofs.TraceLemmas.{fit_place}
+use Rattle.race_text.proofs.PlacesAdded.{fit_place, fit_second}
 use Rattle.race_text.proofs.WordTable.{word_is_seen, object_words_are, noun_again, known_by_noun}
 use Rattle.race_text.proofs.WordLemmas.{name_is_visible}
 use Rattle.race_text.proofs.WordsAgain.{AreVisible, words_again, visible_line_clean, parts_again}
@@ -88,21 +89,15 @@ scan_some : {X Y : Type 0} (f : List ℕ → Option Y) (line : X → List ℕ) (
 scan_some f line g [] each = refl
 scan_some f line g (x ∷ xs) each = λ j. cons_option (each 0 x (omega arith) j) (scan_some f line g xs (λ i d less. each (suc i) d (omega (arith, less))) j)
 
--- an event that fits has no second place
-no_second : (decls : DeclsState) (e : Event) → fits decls e ≡ true → e.place2 ≡ None
-unfolding fits
-no_second decls e h = by (nat_lt e.who (count_of Kind.Goroutine decls.declarations)) (op_fits decls.declarations e.op) (nat_lt e.place (length decls.places)) e.place2 h
-  where
-    by : (a b c : Bool) (o : Option ℕ) → (a && b && c && is_none o) ≡ true → o ≡ None
-    by a b c None h = refl
-    by true true true (Some n) h = absurd (true≢false (sym h))
-    by true true false (Some n) h = absurd (true≢false (sym h))
-    by true false c (Some n) h = absurd (true≢false (sym h))
-    by false b c (Some n) h = absurd (true≢false (sym h))
+-- the text of a second place that fits is the one in the table
+second_at : (places : List (List ℕ)) (two : Bool) (place2 : Option ℕ) → second_place_fits (length places) two place2 ≡ true → second_text places place2 ≡ option_and_then (slice_get places) place2
+second_at places two None fit = refl
+second_at places true (Some n) fit = let at = slice_get-get_or places n [] (grind (arith, nat_tests, fit)) in ap (λ o. Some (unwrap_or o [])) at ∙ sym at
+second_at places false (Some n) fit = absurd (true≢false (sym fit))
 
 -- what an event is recorded as, by what its line says
 abbrev recorded_as : Occurrence → PlacedEvent
-recorded_as o = record { who = o.who; op = o.op; place = Some o.place; place2 = None }
+recorded_as o = record { who = o.who; op = o.op; place = Some o.place; place2 = o.place2 }
 
 module _ (t : TraceState) (has : HasText t) where
   abbrev ds : List Declaration
@@ -164,7 +159,7 @@ module _ (t : TraceState) (has : HasText t) where
       one : (e : Event) → fits t.decls e ≡ true → recorded_as (said t.decls e) ≡ placed t.decls.places e
       one e fit =
           let at = slice_get-get_or t.decls.places e.place [] (fit_place t.decls e fit) in
-          λ j. record { who = e.who; op = e.op; place = (ap (λ o. Some (unwrap_or o [])) at ∙ sym at) j; place2 = sym (ap (option_and_then (slice_get t.decls.places)) (no_second t.decls e fit)) j }
+          λ j. record { who = e.who; op = e.op; place = (ap (λ o. Some (unwrap_or o [])) at ∙ sym at) j; place2 = second_at t.decls.places (has_two_places (says e.op).0) e.place2 (fit_second t.decls e fit) j }
 
   pub placed_again : map recorded_as (filter_map (λ l. event_in ds (words_of l)) (lines t)) ≡ placed_events t
   placed_again = ap (map recorded_as) events_again ∙ recorded_again t.events (λ i e less. has.is_trace.fit i e less)

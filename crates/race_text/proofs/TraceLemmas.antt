@@ -1,28 +1,20 @@
 -- One more event, or one more declaration: the lines of a trace, and what they say to the next one.
-use Rattle.std.proofs.Common.{◌≡◌, ℕ, suc, ◌+◌, ◌*◌, ◌<◌, ◌≤◌, ◌==◌, ◌||◌, Bool, true, false, not, if◌then◌else◌, nat_lt, nat_le, cond, List, [], ◌∷◌, ◌++◌, length, map, get_or, slice_get, unwrap_or, Option, Some, None, ◌≢◌, Result, Ok, Err, MatchResult, IsOkUnless, IsSome, IsTrue, All, OnOk, refl, sym, ap, subst, ◌∙◌, arith, true≢false, append-nil, append_assoc}
+use Rattle.std.proofs.Common.{◌≡◌, ℕ, suc, ◌+◌, ◌<◌, ◌==◌, ◌&&◌, Bool, true, false, not, if◌then◌else◌, nat_lt, nat_le, cond, List, [], ◌∷◌, ◌++◌, length, map, get_or, Option, Some, None, ◌≢◌, Result, Ok, Err, MatchResult, IsOkUnless, IsSome, IsTrue, All, OnOk, refl, sym, ap, subst, ◌∙◌, arith, true≢false, append-nil, append_assoc}
 use Rattle.std.proofs.lemmas.Bool.Decides.{nat_tests}
 use Rattle.std.proofs.lemmas.List.{length-append, map-append}
 use Rattle.std.proofs.lemmas.List.Elements.{filter_map-append}
 use Rattle.std.proofs.lemmas.List.Sums.{sum_by-append}
-use Rattle.std.proofs.lemmas.Option.{none-some, slice_get_within}
-use Rattle.std.proofs.lemmas.Slice.Eq.{bytes_eq-Decides}
-use Rattle.std.specs.List.{filter_map, cons_option, position_or_len, list_any, count_by}
-use Rattle.std.specs.Str.{bytes_eq}
+use Rattle.std.proofs.lemmas.Option.{none-some}
+use Rattle.std.specs.List.{filter_map, cons_option, count_by}
 use Rattle.race_records.specs.declared.event.Event.{Event}
-use Rattle.race_records.specs.declared.declarations.DeclFault.{DeclFault}
-use Rattle.race_records.specs.declared.kind.Object.{Object}
 use Rattle.race_records.specs.declared.trace.PushFault.{PushFault}
 use Rattle.race_records.specs.declared.trace.TheConstants.{MAX_EVENTS}
-use Rattle.race_records.specs.declared.declarations.TheConstants.{MAX_PLACES}
-use Rattle.race_records.specs.Name.{is_place}
-use Rattle.race_records.specs.Declarations.{Declaration, DeclsState, is_known, place_number, with_place, place_fault, with_declaration, IsWellFormed, count_of, limit_of}
+use Rattle.race_records.specs.Declarations.{Declaration, DeclsState, place_number, with_declaration, IsWellFormed, count_of, limit_of}
 use Rattle.race_records.specs.declared.kind.Kind.{Kind}
 use Rattle.race_records.specs.Nouns.{kind_of_noun}
-use Rattle.race_records.specs.Events.{TraceState, IsTrace, fits, push_fault}
-use Rattle.race_records.proofs.EventLemmas.{push_is_trace, with_place_is_trace}
-use Rattle.race_records.proofs.ListLemmas.{slice_get-push_within, slice_get-push_last}
-use Rattle.race_records.proofs.PlaceLemmas.{with_place_well_formed}
-use Rattle.race_records.proofs.TextLemmas.{position_or_len-absent}
+use Rattle.race_records.specs.Events.{TraceState, IsTrace, fits, op_fits, second_place_fits, push_fault}
+use Rattle.race_records.specs.Parts.{says, has_two_places}
+use Rattle.race_records.proofs.EventLemmas.{push_is_trace}
 use Rattle.race_text.specs.declared.cause.TextCause.{TextCause}
 use Rattle.race_text.specs.declared.form.Word.{Word}
 use Rattle.race_text.specs.Words.{words_of, has_bad_byte}
@@ -31,65 +23,35 @@ use Rattle.race_text.specs.Declaring.{is_declaration_word, is_declaration_line}
 use Rattle.race_text.specs.Text.{header, has_known_word, declaration_line, event_line, op_words, goroutine_name, line_of, lines, HasText}
 use Rattle.race_text.specs.Fault.{Seen, seen, seen_so_far, declaration_in, is_event_line, or_else, fields_cause, room_cause, line_cause, cause, word_cause}
 use Rattle.race_text.specs.Reading.{Occurrence, event_by, event_in}
-use Rattle.race_text.specs.Taking.{state_of, IsRead, begun, IsFitting, event_of, AppendsEvent, IsFull, TakesLine, TakesOrTells}
+use Rattle.race_text.specs.Taking.{state_of, IsRead, begun, IsFitting, with_places, event_of, AppendsEvent, IsFull, TakesLine, TakesOrTells}
 use Rattle.race_text.proofs.EventWords.{event_is_there}
 use Rattle.race_text.proofs.EventLines.{IsEventLine, event_line as event_line_of}
+use Rattle.race_text.proofs.PlacesAdded.{words_are_there, words_stay, places_grow, places_well_formed, places_are_trace, both_fit}
 
 map_same : {X Y : Type 0} (f g : X → Y) (xs : List X) → ((k : ℕ) (d : X) → k < length xs → f (get_or xs k d) ≡ g (get_or xs k d)) → map f xs ≡ map g xs
 map_same f g [] h = refl
 map_same f g (x ∷ xs) h = λ i. h 0 x (omega arith) i ∷ map_same f g xs (λ k d l. h (suc k) d (omega arith)) i
 
--- the number of a place leads to it
-known_at : (places : List (List ℕ)) (word : List ℕ) → list_any (bytes_eq word) places ≡ true → slice_get places (position_or_len (bytes_eq word) places) ≡ Some word
-known_at [] word h = absurd (true≢false (sym h))
-known_at (p ∷ ps) word h = by (bytes_eq word p) refl h (known_at ps word)
-  where
-    by : (b : Bool) → bytes_eq word p ≡ b → (b || list_any (bytes_eq word) ps) ≡ true
-        → (list_any (bytes_eq word) ps ≡ true → slice_get ps (position_or_len (bytes_eq word) ps) ≡ Some word)
-        → slice_get (p ∷ ps) (cond (not b) (1 + position_or_len (bytes_eq word) ps) 0) ≡ Some word
-    by true e h rest = ap Some (sym ((bytes_eq-Decides word p).0 e))
-    by false e h rest = let n = position_or_len (bytes_eq word) ps in let one : 1 + n ≡ suc n = omega arith in ap (slice_get (p ∷ ps)) one ∙ rest h
-
-place_is_there : (decls : DeclsState) (word : List ℕ) → slice_get (with_place decls word).places (place_number decls.places word) ≡ Some word
-place_is_there decls word = by (is_known decls.places word) refl
-  where
-    by : (b : Bool) → is_known decls.places word ≡ b → slice_get (if b then decls.places else decls.places ++ word ∷ []) (place_number decls.places word) ≡ Some word
-    by true e = known_at decls.places word e
-    by false e = slice_get-push_last decls.places word (place_number decls.places word) (position_or_len-absent (bytes_eq word) decls.places e)
-
--- a place that was there stays
-place_stays : (decls : DeclsState) (word : List ℕ) (n : ℕ) → n < length decls.places → slice_get (with_place decls word).places n ≡ slice_get decls.places n
-place_stays decls word n within = by (is_known decls.places word)
-  where
-    by : (b : Bool) → slice_get (if b then decls.places else decls.places ++ word ∷ []) n ≡ slice_get decls.places n
-    by true = refl
-    by false = slice_get-push_within decls.places word n within
-
-pub fit_place : (decls : DeclsState) (e : Event) → fits decls e ≡ true → e.place < length decls.places
-unfolding fits
-fit_place decls e h = grind (arith, nat_tests)
-
 -- the lines of the events before stay
-events_stay : (t : TraceState) (word : List ℕ) → IsTrace t → map (event_line (with_place t.decls word)) t.events ≡ map (event_line t.decls) t.events
-events_stay t word holds = map_same (event_line (with_place t.decls word)) (event_line t.decls) t.events
+events_stay : (t : TraceState) (o : Occurrence) → IsTrace t → map (event_line (with_places t.decls o)) t.events ≡ map (event_line t.decls) t.events
+events_stay t o holds = map_same (event_line (with_places t.decls o)) (event_line t.decls) t.events
     (λ k d within. let e = get_or t.events k d in
-    let stays = place_stays t.decls word e.place (fit_place t.decls e (holds.fit k d within)) in
-    λ i. line_of (op_words t.decls.declarations (goroutine_name t.decls.declarations e.who) (unwrap_or (stays i) []) e.op))
+    ap (λ places. line_of (op_words t.decls.declarations (goroutine_name t.decls.declarations e.who) places e.op)) (words_stay t.decls o e (holds.fit k d within)))
 
 -- the line of the event that is appended
-event_line_is : (decls : DeclsState) (line : List ℕ) (o : Occurrence) → IsEventLine decls.declarations line o → event_line (with_place decls o.place) (event_of decls.places o) ≡ line
+event_line_is : (decls : DeclsState) (line : List ℕ) (o : Occurrence) → IsEventLine decls.declarations line o → event_line (with_places decls o) (event_of decls o) ≡ line
 event_line_is decls line o is =
-    (λ i. line_of (op_words decls.declarations (goroutine_name decls.declarations o.who) (unwrap_or (place_is_there decls o.place i) []) o.op)) ∙ sym is.line_is
+    ap (λ places. line_of (op_words decls.declarations (goroutine_name decls.declarations o.who) places o.op)) (words_are_there decls o) ∙ sym is.line_is
 
 lines_event : (old new : TraceState) (line : List ℕ) (o : Occurrence) → IsTrace old → IsEventLine old.decls.declarations line o → AppendsEvent old new o → lines new ≡ lines old ++ line ∷ []
 unfolding lines
 lines_event old new line o holds is added =
-    let decls = with_place old.decls o.place in
-    let e = event_of old.decls.places o in
+    let decls = with_places old.decls o in
+    let e = event_of old.decls o in
     let before = header ∷ map declaration_line old.decls.declarations in
     (λ i. (header ∷ map declaration_line (added.decls i).declarations) ++ map (event_line (added.decls i)) (added.events i))
     ∙ ap (λ l. before ++ l) (map-append (event_line decls) old.events (e ∷ []))
-    ∙ (λ i. before ++ (events_stay old o.place holds i ++ event_line_is old.decls line o is i ∷ []))
+    ∙ (λ i. before ++ (events_stay old o holds i ++ event_line_is old.decls line o is i ∷ []))
     ∙ sym (append_assoc before (map (event_line old.decls) old.events) (line ∷ []))
 
 -- what the lines say after an event
@@ -121,25 +83,18 @@ lines_declaration decls line d is =
     ∙ append-nil _ ∙ (λ i. (header ∷ map declaration_line decls.declarations) ++ sym is i ∷ [])
     ∙ ap (λ l. l ++ line ∷ []) (sym (append-nil (header ∷ map declaration_line decls.declarations)))
 
--- there is room for the place of one more event
-pub place_has_room : (t : TraceState) (word : List ℕ) → is_place word ≡ true → length t.decls.places ≤ 2 * length t.events → length t.events < MAX_EVENTS → place_fault t.decls.places word ≡ None
-unfolding place_fault
-place_has_room t word form few room = by (is_place word) form (is_known t.decls.places word) (nat_le MAX_PLACES (length t.decls.places)) (grind (arith, nat_tests))
-  where
-    by : (a : Bool) → a ≡ true → (b c : Bool) → c ≡ false → ◌≡◌ {A = Option DeclFault} (if not a then Some DeclFault.BadName else (if b then None else (if c then Some DeclFault.TooMany else None))) None
-    by true e true c f = refl
-    by true e false true f = absurd (true≢false f)
-    by true e false false f = refl
-    by false e b c f = absurd (true≢false (sym e))
-
--- and for the event
-pub event_fits : (decls : DeclsState) (o : Occurrence) → IsFitting decls o → fits (with_place decls o.place) (event_of decls.places o) ≡ true
+-- the event fits with its places
+pub event_fits : (decls : DeclsState) (o : Occurrence) → IsFitting decls o → fits (with_places decls o) (event_of decls o) ≡ true
 unfolding fits
 event_fits decls o fitting =
-    let within = slice_get_within (with_place decls o.place).places (place_number decls.places o.place) o.place (place_is_there decls o.place) in
+    let both = both_fit decls o (has_two_places (says o.op).0) fitting.two in
     let who = fitting.who in
-    let op = fitting.op in
-    grind (arith, nat_tests, who, op, within)
+    let less = both.0 in
+    by (nat_lt o.who (count_of Kind.Goroutine decls.declarations)) (op_fits decls.declarations o.op) (nat_lt (place_number decls.places o.place) (length (with_places decls o).places))
+    (second_place_fits (length (with_places decls o).places) (has_two_places (says o.op).0) (event_of decls o).place2) (grind (arith, nat_tests, who)) fitting.op (grind (arith, nat_tests, less)) both.1
+  where
+    by : (a b c d : Bool) → a ≡ true → b ≡ true → c ≡ true → d ≡ true → (a && b && c && d) ≡ true
+    by a b c d e f g h = (λ i. e i && f i && g i && h i)
 
 -- what is refused with room for it is refused for memory
 pub memory_alone : {T E : Type 0} (r : Result T E) (e m : E) → IsOkUnless r m → r ≡ Err e → e ≡ m
@@ -155,13 +110,11 @@ event_has_room t e fit room = by (fits t.decls e) fit (nat_le MAX_EVENTS (length
     by true e false f = refl
     by false e b f = absurd (true≢false (sym e))
 
--- after its place was added there is room for the event
-pub draft_has_room : (old mid : TraceState) (o : Occurrence) (place : ℕ) → IsFitting old.decls o → length old.events < MAX_EVENTS
-    → mid.decls ≡ with_place old.decls o.place → mid.events ≡ old.events → place ≡ place_number old.decls.places o.place
-    → push_fault mid (record { who = o.who; op = o.op; place = place; place2 = None }) ≡ None
-draft_has_room old mid o place fitting room decls events number =
-    event_has_room mid (record { who = o.who; op = o.op; place = place; place2 = None })
-    ((λ i. fits (decls i) (record { who = o.who; op = o.op; place = number i; place2 = None })) ∙ event_fits old.decls o fitting)
+-- after its places were added there is room for the event
+pub draft_has_room : (old mid : TraceState) (o : Occurrence) (e : Event) → IsFitting old.decls o → length old.events < MAX_EVENTS
+    → mid.decls ≡ with_places old.decls o → mid.events ≡ old.events → e ≡ event_of old.decls o → push_fault mid e ≡ None
+draft_has_room old mid o e fitting room decls events is =
+    event_has_room mid e ((λ i. fits (decls i) (is i)) ∙ event_fits old.decls o fitting)
     (subst (λ (es : List Event). length es < MAX_EVENTS) (sym events) room)
 
 -- what is not nothing is something
@@ -182,6 +135,10 @@ pub clean_line : (s : Seen) (line : List ℕ) → has_bad_byte line ≡ false �
 unfolding line_cause
 clean_line s line clean = ap (λ b. if b then Some TextCause.BadByte else word_cause s (word_named (first_word (words_of line))) (arguments (words_of line))) clean
 
+-- an event that a line says fits
+pub fitting : (decls : DeclsState) (line : List ℕ) (o : Occurrence) → IsEventLine decls.declarations line o → IsFitting decls o
+fitting decls line o is = record { place = is.places.first; second = is.places.second; two = is.places.count; who = is.who; op = is.op; value = is.value }
+
 -- an event that was appended, or refused
 module _ (old new : TraceState) (line : List ℕ) (o : Occurrence) (read : IsRead old) (is : IsEventLine old.decls.declarations line o) where
   pub event_cause : cause (lines old) line true ≡ room_cause (state_of old) None
@@ -190,30 +147,25 @@ module _ (old new : TraceState) (line : List ℕ) (o : Occurrence) (read : IsRea
   room_is : (b : Bool) → nat_le MAX_EVENTS (length old.events) ≡ b → cause (lines old) line true ≡ (if b then Some TextCause.TooMany else None)
   room_is b e = event_cause ∙ ap (λ c. if c then Some TextCause.TooMany else None) e
 
-  places_grow : length (with_place old.decls o.place).places ≤ length old.decls.places + 1
-  places_grow = by (is_known old.decls.places o.place)
-    where
-      by : (b : Bool) → length (if b then old.decls.places else old.decls.places ++ o.place ∷ []) ≤ length old.decls.places + 1
-      by true = omega arith
-      by false = omega (arith, length-append old.decls.places (o.place ∷ []))
-
   event_has_text : AppendsEvent old new o → HasText new
   event_has_text added =
-      let decls = with_place old.decls o.place in
-      let e = event_of old.decls.places o in
+      let decls = with_places old.decls o in
+      let e = event_of old.decls o in
       let mid : TraceState = record { decls = decls; events = old.events; spare = old.spare } in
-      let fit = event_fits old.decls o (record { place = is.place; who = is.who; op = is.op; value = is.value }) in
+      let fit = event_fits old.decls o (fitting old.decls line o is) in
+      let few = read.few_places in
+      let room = added.room in
       let before = read.has_text in
       record {
-        well_formed = subst IsWellFormed (sym added.decls) (with_place_well_formed old.decls o.place before.well_formed (place_has_room old o.place is.place read.few_places added.room));
+        well_formed = subst IsWellFormed (sym added.decls) (places_well_formed old.decls o is.places.first is.places.second (omega (arith, few, room)) before.well_formed);
         is_trace = subst (λ (d : DeclsState). IsTrace (record { decls = d; events = new.events; spare = new.spare })) (sym added.decls)
-            (push_is_trace mid e new.events new.spare (with_place_is_trace old o.place decls before.is_trace refl) is.value (event_has_room mid e fit added.room) added.events);
+            (push_is_trace mid e new.events new.spare (places_are_trace old o before.is_trace) is.value (event_has_room mid e fit added.room) added.events);
         words = subst (λ (d : DeclsState). All (λ (x : Declaration). IsTrue (has_known_word x.object)) d.declarations) (sym added.decls) before.words;
       }
 
   pub event_taken : AppendsEvent old new o → TakesLine (lines old) line new
   event_taken added =
-      let more : length new.events ≡ length old.events + 1 = ap length added.events ∙ length-append old.events (event_of old.decls.places o ∷ []) in
+      let more : length new.events ≡ length old.events + 1 = ap length added.events ∙ length-append old.events (event_of old.decls o ∷ []) in
       let after = lines_event old new line o read.has_text.is_trace is added in
       record {
         no_cause = let room = added.room in room_is false (grind (arith, nat_tests, room));
@@ -224,8 +176,8 @@ module _ (old new : TraceState) (line : List ℕ) (o : Occurrence) (read : IsRea
               ∙ (λ i. seen_so_far (sym added.decls i).declarations (sym more i));
           few_places =
               let few = read.few_places in
-              let same : length new.decls.places ≡ length (with_place old.decls o.place).places = ap (λ (d : DeclsState). length d.places) added.decls in
-              omega (arith, few, same, places_grow, more);
+              let same : length new.decls.places ≡ length (with_places old.decls o).places = ap (λ (d : DeclsState). length d.places) added.decls in
+              omega (arith, few, same, places_grow old.decls o, more);
         };
       }
 
@@ -237,7 +189,7 @@ module _ (old new : TraceState) (line : List ℕ) (o : Occurrence) (read : IsRea
       room_is true (grind (arith, nat_tests, over)) ∙ ap Some (sym h.cause)
 
 pub event_grown : (old new : TraceState) (o : Occurrence) (r : Result (Unit {0}) TextCause) → MatchResult r (λ _. AppendsEvent old new o) (λ told. told ≢ TextCause.OutOfMemory → IsFull old told) → OnOk r (0 < length new.events)
-event_grown old new o (Ok u) added = let more = ap length added.events ∙ length-append old.events (event_of old.decls.places o ∷ []) in omega (arith, more)
+event_grown old new o (Ok u) added = let more = ap length added.events ∙ length-append old.events (event_of old.decls o ∷ []) in omega (arith, more)
 event_grown old new o (Err told) full = tt
 
 -- a line that says no event is at fault, where an event stands before it or it declares nothing

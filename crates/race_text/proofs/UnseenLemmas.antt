@@ -9,7 +9,7 @@ use Rattle.race_records.specs.Declarations.{Declaration, DeclsState, IsWellForme
 use Rattle.race_text.specs.declared.form.Word.{Word}
 use Rattle.race_text.specs.Words.{number}
 use Rattle.race_text.specs.Form.{word_named, first_word}
-use Rattle.race_text.specs.Reading.{object_as, with_rest, first_part, last_place, event_by, event_in}
+use Rattle.race_text.specs.Reading.{object_as, with_rest, first_part, first_place, event_by, event_in}
 use Rattle.race_text.proofs.CleanLemmas.{place_is_visible, number_is_visible}
 use Rattle.race_text.proofs.WordTable.{word_is_seen}
 use Rattle.race_text.proofs.FoundLemmas.{unnamed_is_absent}
@@ -31,10 +31,9 @@ unseen_part decls PartKind.Value (w ∷ ws) holds h = by (number (2 ^ 64 - 1) w)
     by None e = refl
     by (Some n) e = absurd (true≢false (sym (number_is_visible (2 ^ 64 - 1) w n (omega arith) e) ∙ h))
 
-pub unseen_place : (ws : List (List ℕ)) → list_all is_place_byte (first_word ws) ≡ false → last_place ws ≡ None
+pub unseen_place : (ws : List (List ℕ)) → list_all is_place_byte (first_word ws) ≡ false → first_place ws ≡ None
 unseen_place [] h = refl
-unseen_place (w ∷ []) h = ap (λ b. if b then Some w else None) (is_false (is_place w) (list_all is_place_byte w) (place_is_visible w) h)
-unseen_place (w ∷ v ∷ ws) h = refl
+unseen_place (w ∷ ws) h = ap (λ b. if b then Some (w, ws) else None) (is_false (is_place w) (list_all is_place_byte w) (place_is_visible w) h)
 
 pub unseen_event : (ds : List Declaration) (ws : List (List ℕ)) → list_all is_place_byte (first_word ws) ≡ false → event_in ds ws ≡ None
 unseen_event ds [] h = refl

@@ -1,8 +1,7 @@
 -- The lines of a trace, piece by piece.
-use Rattle.std.proofs.Common.{◌≡◌, ℕ, ◌<◌, List, [], ◌∷◌, ◌++◌, append_assoc, length, map, take, slice_get, unwrap_or, Option, Some, None, option_map, codes, refl, sym, ap, subst, ◌∙◌}
+use Rattle.std.proofs.Common.{◌≡◌, ℕ, List, [], ◌∷◌, ◌++◌, append_assoc, map, slice_get, unwrap_or, Option, Some, None, sym, ap, ◌∙◌}
 use Rattle.std.proofs.lemmas.Grind.{flat_map-append}
 use Rattle.std.proofs.lemmas.List.Concat.{flat_map-cons}
-use Rattle.std.proofs.lemmas.Option.{same_Some}
 use Rattle.race_records.specs.declared.event.Event.{Event}
 use Rattle.race_records.specs.declared.kind.Named.{Named}
 use Rattle.race_records.specs.declared.kind.Object.{Object}
@@ -11,8 +10,8 @@ use Rattle.race_records.specs.declared.parts.Part.{Part}
 use Rattle.race_records.specs.declared.parts.Verb.{Verb}
 use Rattle.race_records.specs.Parts.{says}
 use Rattle.race_records.specs.Declarations.{Declaration, DeclsState, name_of}
-use Rattle.race_records.proofs.ListLemmas.{slice_get-within, flat_map-map}
-use Rattle.race_text.specs.Text.{goroutine_name, place_text, text, lines, header, ended, line_of, object_words, declaration_line, event_line}
+use Rattle.race_records.proofs.ListLemmas.{flat_map-map}
+use Rattle.race_text.specs.Text.{goroutine_name, place_text, second_text, place_words, text, lines, header, ended, line_of, declaration_line, event_line}
 use Rattle.race_text.specs.Writing.{body, text_of, declaration_text, noun_text, number_words, number_end, verb_text, part_text, said_words, behind_space, parts_text, place_end}
 use Rattle.race_text.proofs.EventLines.{op_words_are}
 use Rattle.race_text.proofs.WordTable.{object_words_are}
@@ -40,26 +39,28 @@ declaration_printed ds index word name object says at said spelled =
     ∙ ap (λ (s : Noun × Option ℕ). ended (line_of (noun_text s.0 ∷ name ∷ number_words s.1))) (sym said)
     ∙ ap (λ w. ended (line_of (w ∷ name ∷ number_words says.1))) (sym spelled) ∙ numbered_line word name says.1)
 
--- the parts of an operation behind a word, and the place
-line_behind : (ds : List Declaration) (a : List ℕ) (parts : List Part) (place : List ℕ) → ended (line_of (a ∷ map (part_text ds) parts ++ place ∷ [])) ≡ a ++ (parts_text ds parts ++ place_end place)
-line_behind ds a [] place = line_of_2 a place
-line_behind ds a (part ∷ parts) place =
-    ended_more a (part_text ds part) (map (part_text ds) parts ++ place ∷ [])
-    ∙ ap (λ l. a ++ 32 ∷ l) (line_behind ds (part_text ds part) parts place)
-    ∙ ap (λ l. a ++ l) (sym (ap (λ l. l ++ place_end place) (flat_map-cons (behind_space ds) part parts) ∙ append_assoc (behind_space ds part) (parts_text ds parts) (place_end place)))
+-- the parts of an operation behind a word, and the places
+line_behind : (ds : List Declaration) (a : List ℕ) (parts : List Part) (place : List ℕ) (place2 : Option (List ℕ))
+    → ended (line_of (a ∷ map (part_text ds) parts ++ place_words place place2)) ≡ a ++ (parts_text ds parts ++ place_end place place2)
+line_behind ds a [] place None = line_of_2 a place
+line_behind ds a [] place (Some second) = ended_more a place (second ∷ []) ∙ ap (λ l. a ++ 32 ∷ l) (line_of_2 place second)
+line_behind ds a (part ∷ parts) place place2 =
+    ended_more a (part_text ds part) (map (part_text ds) parts ++ place_words place place2)
+    ∙ ap (λ l. a ++ 32 ∷ l) (line_behind ds (part_text ds part) parts place place2)
+    ∙ ap (λ l. a ++ l) (sym (ap (λ l. l ++ place_end place place2) (flat_map-cons (behind_space ds) part parts) ∙ append_assoc (behind_space ds part) (parts_text ds parts) (place_end place place2)))
 
--- the line of an event in three pieces: its word and its goroutine, its parts, and its place
-pub event_text : (decls : DeclsState) (e : Event) (word who place : List ℕ) (verb : Verb) (parts : List Part) → word ≡ verb_text verb → verb ≡ (says e.op).0 → parts ≡ (says e.op).1
+-- the line of an event in three pieces: its word and its goroutine, its parts, and its places
+pub event_text : (decls : DeclsState) (e : Event) (word who place : List ℕ) (place2 : Option (List ℕ)) (verb : Verb) (parts : List Part) → word ≡ verb_text verb → verb ≡ (says e.op).0 → parts ≡ (says e.op).1
     → name_of decls.declarations (Named.Goroutine e.who) ≡ Some who → slice_get decls.places e.place ≡ Some place
-    → (word ++ 32 ∷ who) ++ (parts_text decls.declarations parts ++ place_end place) ≡ ended (event_line decls e)
-event_text decls e word who place verb parts spelled verb_is parts_are named at =
+    → place2 ≡ second_text decls.places e.place2 → (word ++ 32 ∷ who) ++ (parts_text decls.declarations parts ++ place_end place place2) ≡ ended (event_line decls e)
+event_text decls e word who place place2 verb parts spelled verb_is parts_are named at second =
     let ds = decls.declarations in
-    sym (ap (λ ws. ended (line_of ws)) (op_words_are ds (goroutine_name ds e.who) (place_text decls.places e.place) e.op
-    ∙ (λ i. said_words ds (unwrap_or (named i) []) (unwrap_or (at i) []) (sym verb_is i) (sym parts_are i)))
-    ∙ ended_more (verb_text verb) who (map (part_text ds) parts ++ place ∷ [])
-    ∙ ap (λ l. verb_text verb ++ 32 ∷ l) (line_behind ds who parts place)
-    ∙ sym (append_assoc (verb_text verb) (32 ∷ who) (parts_text ds parts ++ place_end place))
-    ∙ (λ i. (sym spelled i ++ 32 ∷ who) ++ (parts_text ds parts ++ place_end place)))
+    sym (ap (λ ws. ended (line_of ws)) (op_words_are ds (goroutine_name ds e.who) (place_words (place_text decls.places e.place) (second_text decls.places e.place2)) e.op
+    ∙ (λ i. said_words ds (unwrap_or (named i) []) (place_words (unwrap_or (at i) []) (sym second i)) (sym verb_is i) (sym parts_are i)))
+    ∙ ended_more (verb_text verb) who (map (part_text ds) parts ++ place_words place place2)
+    ∙ ap (λ l. verb_text verb ++ 32 ∷ l) (line_behind ds who parts place place2)
+    ∙ sym (append_assoc (verb_text verb) (32 ∷ who) (parts_text ds parts ++ place_end place place2))
+    ∙ (λ i. (sym spelled i ++ 32 ∷ who) ++ (parts_text ds parts ++ place_end place place2)))
 
 -- the text of a trace, as it is printed
 pub text_is : (t : TraceState) → text t ≡ ended header ++ body t.decls t.events

@@ -2,10 +2,9 @@
 use Rattle.std.specs.Prelude.{ℕ, Bool, true, false, if◌then◌else◌, List, [], ◌∷◌, ◌++◌, map, Option, Some, None}
 use Rattle.std.specs.Str.{bytes_eq}
 use Rattle.race_records.specs.declared.kind.Kind.{Kind}
-use Rattle.race_records.specs.declared.nouns.Noun.{Noun}
 use Rattle.race_records.specs.declared.parts.PartKind.{PartKind}
 use Rattle.race_records.specs.Nouns.{number_limit, kind_of_noun}
-use Rattle.race_records.specs.Parts.{part_kinds}
+use Rattle.race_records.specs.Parts.{part_kinds, has_two_places}
 use Rattle.race_text.specs.declared.form.Word.{Word}
 use Rattle.race_text.specs.declared.form.Field.{Field}
 use Rattle.race_text.specs.declared.form.TheConstants.{WORDS}
@@ -24,11 +23,16 @@ abbrev pub number_fields : Option ℕ → List Field
 number_fields None = []
 number_fields (Some limit) = Field.Number limit ∷ []
 
+-- a place, or two
+abbrev pub place_fields : Bool → List Field
+place_fields false = Field.Place ∷ []
+place_fields true = Field.Place ∷ Field.Place ∷ []
+
 -- what stands behind the first word: a name that is declared, with its number where it has one;
--- or a goroutine, what the operation names, and a place
+-- or a goroutine, what the operation names, and its places
 abbrev pub fields_of : Word → List Field
 fields_of (Word.Declares noun) = Field.NewName ∷ number_fields (number_limit noun)
-fields_of (Word.Does verb) = Field.Part (PartKind.Object Kind.Goroutine) ∷ map Field.Part (part_kinds verb) ++ Field.Place ∷ []
+fields_of (Word.Does verb) = Field.Part (PartKind.Object Kind.Goroutine) ∷ map Field.Part (part_kinds verb) ++ place_fields (has_two_places verb)
 
 -- the kind of what a line of the word declares, where it declares anything
 abbrev pub kind_declared : Word → Option Kind

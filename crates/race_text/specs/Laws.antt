@@ -22,7 +22,7 @@ IsOnlyTraceOf bytes t = (u : TraceState) → IsTextOf u bytes → recorded u ≡
 -- or its operation says; and each word of an operation is known as itself
 pub record LinesFollowTheTables : Type 0 where
   pub declarations : (name : List ℕ) (object : Object) → object_words name object ≡ noun_text (object_says object).0 ∷ name ∷ number_words (object_says object).1
-  pub events : (ds : List Declaration) (who place : List ℕ) (op : Op) → op_words ds who place op ≡ said_words ds who place (says op).0 (says op).1
+  pub events : (ds : List Declaration) (who : List ℕ) (places : List (List ℕ)) (op : Op) → op_words ds who places op ≡ said_words ds who places (says op).0 (says op).1
   pub known : (verb : Verb) → word_named (verb_text verb) ≡ Some (Word.Does verb)
 
 -- the text of a trace has no fault

@@ -1,5 +1,5 @@
 -- What the words of a line say of an event, one word after another.
-use Rattle.std.specs.Prelude.{ℕ, ◌-◌, ◌^◌, List, [], ◌∷◌, ◌++◌, if◌then◌else◌, Option, Some, None}
+use Rattle.std.specs.Prelude.{ℕ, ◌-◌, ◌^◌, Bool, true, false, List, [], ◌∷◌, ◌++◌, if◌then◌else◌, Option, Some, None}
 use Rattle.std.specs.Borrow.{Bor}
 use Rattle.arrayvec.specs.ArrayVec.{ArrayVec}
 use Rattle.std.specs.Option.{option_and_then, option_map}
@@ -11,25 +11,34 @@ use Rattle.race_records.specs.declared.parts.PartKind.{PartKind}
 use Rattle.race_records.specs.declared.parts.Verb.{Verb}
 use Rattle.race_records.specs.Name.{is_place}
 use Rattle.race_records.specs.Declarations.{Declaration, find_name, is_named}
-use Rattle.race_records.specs.Parts.{op_by, part_kinds}
+use Rattle.race_records.specs.Parts.{op_by, part_kinds, has_two_places}
 use Rattle.race_text.specs.declared.event.Draft.{Draft}
 use Rattle.race_text.specs.declared.form.Word.{Word}
 use Rattle.race_text.specs.Words.{parts_left, number}
 use Rattle.race_text.specs.Form.{word_named}
 
--- an event with its place as it is spelled
+-- an event with its places as they are spelled
 pub record Occurrence : Type 0 where
   pub who : ℕ
   pub op : Op
   pub place : List ℕ
+  pub place2 : Option (List ℕ)
+
+-- the places of an event: a first one, and a second where there is one
+abbrev pub Places : Type 0
+Places = List ℕ × Option (List ℕ)
 
 -- an event by its parts
-abbrev pub occurrence : ℕ → Op → List ℕ → Occurrence
-occurrence who op place = record { who = who; op = op; place = place }
+abbrev pub occurrence : ℕ → Op → Places → Occurrence
+occurrence who op places = record { who = who; op = op; place = places.0; place2 = places.1 }
+
+-- what places in the code stand for
+abbrev pub places_read : Bor (List ℕ) × Option (Bor (List ℕ)) → Places
+places_read places = (places.0.now, option_map (λ place. place.now) places.1)
 
 -- what a draft in the code stands for
 abbrev pub drafted : Draft → Occurrence
-drafted draft = occurrence draft.who draft.op draft.place.now
+drafted draft = occurrence draft.who draft.op (places_read (draft.place, draft.place2))
 
 -- the object, where it is of the kind
 abbrev pub object_as : Kind → Named → Option Part
@@ -74,16 +83,43 @@ abbrev pub goroutine_of : Part → Option ℕ
 goroutine_of (Part.Object (Named.Goroutine n)) = Some n
 goroutine_of _ = None
 
+-- a place, and the words behind it
+abbrev pub ReadPlace : Type 0
+ReadPlace = List ℕ × List (List ℕ)
+
+abbrev pub place_so_far : Bor (List ℕ) × Option (Bor (List ℕ)) → ReadPlace
+place_so_far step = (step.0.now, parts_left 32 step.1)
+
+-- the first word, which is a place, and the words behind it
+abbrev pub first_place : List (List ℕ) → Option ReadPlace
+first_place [] = None
+first_place (w ∷ ws) = if is_place w then Some (w, ws) else None
+
+-- the place, where no word is left behind it
+abbrev pub with_no_rest : ReadPlace → Option (List ℕ)
+with_no_rest (place, []) = Some place
+with_no_rest (place, w ∷ ws) = None
+
 -- the one word that is left, which is a place
 abbrev pub last_place : List (List ℕ) → Option (List ℕ)
-last_place [] = None
-last_place (w ∷ []) = if is_place w then Some w else None
-last_place (w ∷ v ∷ ws) = None
+last_place words = option_and_then with_no_rest (first_place words)
+
+-- one place, or a first and a second
+abbrev pub alone : List ℕ → Places
+alone place = (place, None)
+
+abbrev pub before_second : List ℕ → List ℕ → Places
+before_second place second = (place, Some second)
+
+-- the words that are left, which are a place, or two
+abbrev pub last_places : Bool → List (List ℕ) → Option Places
+last_places false words = option_map alone (last_place words)
+last_places true words = option_and_then (λ first. option_map (before_second first.0) (last_place first.1)) (first_place words)
 
 -- what the words behind the goroutine say
 abbrev pub event_of : List Declaration → Verb → ℕ → List (List ℕ) → Option Occurrence
 event_of ds verb who words =
-    option_and_then (λ parts. option_and_then (λ op. option_map (occurrence who op) (last_place parts.1)) (op_by verb parts.0))
+    option_and_then (λ parts. option_and_then (λ op. option_map (occurrence who op) (last_places (has_two_places verb) parts.1)) (op_by verb parts.0))
     (parts_on ds [] (part_kinds verb) words)
 
 -- what the words behind the word of an operation say

@@ -1,11 +1,13 @@
 -- A line that is taken into a trace.
-use Rattle.std.specs.Prelude.{◌≡◌, ◌≢◌, ℕ, ◌*◌, ◌<◌, ◌≤◌, List, [], ◌∷◌, ◌++◌, length, true, Some, None, Result, Ok, Err}
+use Rattle.std.specs.Prelude.{◌≡◌, ◌≢◌, ℕ, ◌*◌, ◌<◌, ◌≤◌, List, [], ◌∷◌, ◌++◌, length, true, Option, Some, None, is_some, IfSome, Result, Ok, Err}
+use Rattle.std.specs.Option.{option_map}
 use Rattle.race_records.specs.declared.event.Event.{Event}
 use Rattle.race_records.specs.declared.kind.Kind.{Kind}
 use Rattle.race_records.specs.declared.trace.TheConstants.{MAX_EVENTS}
 use Rattle.race_records.specs.Name.{is_place}
 use Rattle.race_records.specs.Declarations.{DeclsState, count_of, place_number, with_place}
 use Rattle.race_records.specs.Events.{TraceState, op_fits, value_fits}
+use Rattle.race_records.specs.Parts.{says, has_two_places}
 use Rattle.race_text.specs.declared.cause.TextCause.{TextCause}
 use Rattle.race_text.specs.Text.{HasText, lines}
 use Rattle.race_text.specs.Fault.{Seen, seen_so_far, seen, cause}
@@ -25,22 +27,42 @@ pub record IsRead (t : TraceState) : Type 0 where
 abbrev pub begun : DeclsState → TraceState
 begun decls = record { decls = decls; events = []; spare = 0 }
 
--- the numbers of an event are declared, and its place has a place's form
+-- the numbers of an event are declared, its places have a place's form, and there are two just where its operation wants two
 pub record IsFitting (decls : DeclsState) (o : Occurrence) : Type 0 where
   pub place : is_place o.place ≡ true
+  pub second : IfSome o.place2 (λ place. is_place place ≡ true)
+  pub two : has_two_places (says o.op).0 ≡ is_some o.place2
   pub who : o.who < count_of Kind.Goroutine decls.declarations
   pub op : op_fits decls.declarations o.op ≡ true
   pub value : value_fits o.op ≡ true
 
--- the event, with the number that its place has or gets
-abbrev pub event_of : List (List ℕ) → Occurrence → Event
-event_of places o = record { who = o.who; op = o.op; place = place_number places o.place; place2 = None }
+-- the places of the state, with a second one where there is one
+abbrev pub second_places : DeclsState → Option (List ℕ) → List (List ℕ)
+second_places decls None = decls.places
+second_places decls (Some place) = (with_place decls place).places
 
--- the event is appended, with its place
+-- the state with these
+abbrev pub with_second : DeclsState → Option (List ℕ) → DeclsState
+with_second decls place2 = record { declarations = decls.declarations; places = second_places decls place2 }
+
+-- the state with an event's places, one after the other
+abbrev pub with_places : DeclsState → Occurrence → DeclsState
+with_places decls o = with_second (with_place decls o.place) o.place2
+
+-- the event, with the numbers that its places have or get: the second one where the first is in the table
+abbrev pub event_of : DeclsState → Occurrence → Event
+event_of decls o = record {
+  who = o.who;
+  op = o.op;
+  place = place_number decls.places o.place;
+  place2 = option_map (place_number (with_place decls o.place).places) o.place2;
+}
+
+-- the event is appended, with its places
 pub record AppendsEvent (old new : TraceState) (o : Occurrence) : Type 0 where
   pub room : length old.events < MAX_EVENTS
-  pub decls : new.decls ≡ with_place old.decls o.place
-  pub events : new.events ≡ old.events ++ event_of old.decls.places o ∷ []
+  pub decls : new.decls ≡ with_places old.decls o
+  pub events : new.events ≡ old.events ++ event_of old.decls o ∷ []
 
 -- the trace is full, memory aside
 pub record IsFull (old : TraceState) (told : TextCause) : Type 0 where

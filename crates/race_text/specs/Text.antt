@@ -1,10 +1,11 @@
 -- The text of a trace. It prints: nothing here reads.
-use Rattle.std.specs.Prelude.{ℕ, Bool, true, false, List, [], ◌∷◌, ◌++◌, map, codes, slice_get, unwrap_or, is_some, ◌≡◌, IsTrue, All}
+use Rattle.std.specs.Prelude.{ℕ, Bool, true, false, List, [], ◌∷◌, ◌++◌, map, codes, slice_get, unwrap_or, Option, Some, None, is_some, ◌≡◌, IsTrue, All}
 use Rattle.std.specs.List.{flat_map, join_with_byte}
 use Rattle.std.specs.Fmt.{decimal}
+use Rattle.std.specs.Option.{option_map}
 use Rattle.race_records.specs.declared.event.Event.{Event}
 use Rattle.race_records.specs.declared.event.Op.{Op}
-use Rattle.race_records.specs.declared.event.Op.TheVariants.{Go, Exit, Read, Write}
+use Rattle.race_records.specs.declared.event.Op.TheVariants.{Go, Exit, Read, Write, Send, Recv, Meet, RecvClosed, Close}
 use Rattle.race_records.specs.declared.kind.Named.{Named}
 use Rattle.race_records.specs.declared.kind.Object.{Object}
 use Rattle.race_records.specs.Declarations.{Declaration, DeclsState, IsWellFormed, name_of}
@@ -44,21 +45,39 @@ goroutine_name ds n = unwrap_or (name_of ds (Named.Goroutine n)) []
 abbrev pub var_name : List Declaration → ℕ → List ℕ
 var_name ds n = unwrap_or (name_of ds (Named.Var n)) []
 
+-- the name by which a channel's number is printed
+abbrev pub chan_name : List Declaration → ℕ → List ℕ
+chan_name ds n = unwrap_or (name_of ds (Named.Chan n)) []
+
 -- the place by which its number is printed
 abbrev pub place_text : List (List ℕ) → ℕ → List ℕ
 place_text places n = unwrap_or (slice_get places n) []
 
--- the words of an event of this goroutine at this place
-abbrev pub op_words : List Declaration → List ℕ → List ℕ → Op → List (List ℕ)
-op_words ds who place (Go h) = codes "go" ∷ who ∷ goroutine_name ds h ∷ place ∷ []
-op_words ds who place Exit = codes "exit" ∷ who ∷ place ∷ []
-op_words ds who place (Read x v) = codes "read" ∷ who ∷ var_name ds x ∷ decimal v ∷ place ∷ []
-op_words ds who place (Write x v) = codes "write" ∷ who ∷ var_name ds x ∷ decimal v ∷ place ∷ []
+-- the second place, where there is one
+abbrev pub second_text : List (List ℕ) → Option ℕ → Option (List ℕ)
+second_text places place2 = option_map (place_text places) place2
+
+-- the words of an event's places: the second one stands behind the first
+abbrev pub place_words : List ℕ → Option (List ℕ) → List (List ℕ)
+place_words place None = place ∷ []
+place_words place (Some second) = place ∷ second ∷ []
+
+-- the words of an event of this goroutine at these places
+abbrev pub op_words : List Declaration → List ℕ → List (List ℕ) → Op → List (List ℕ)
+op_words ds who places (Go h) = codes "go" ∷ who ∷ goroutine_name ds h ∷ places
+op_words ds who places Exit = codes "exit" ∷ who ∷ places
+op_words ds who places (Read x v) = codes "read" ∷ who ∷ var_name ds x ∷ decimal v ∷ places
+op_words ds who places (Write x v) = codes "write" ∷ who ∷ var_name ds x ∷ decimal v ∷ places
+op_words ds who places (Send c v) = codes "send" ∷ who ∷ chan_name ds c ∷ decimal v ∷ places
+op_words ds who places (Recv c v) = codes "recv" ∷ who ∷ chan_name ds c ∷ decimal v ∷ places
+op_words ds who places (Meet r c v) = codes "meet" ∷ who ∷ goroutine_name ds r ∷ chan_name ds c ∷ decimal v ∷ places
+op_words ds who places (RecvClosed c) = codes "recvclosed" ∷ who ∷ chan_name ds c ∷ places
+op_words ds who places (Close c) = codes "close" ∷ who ∷ chan_name ds c ∷ places
 
 -- the line of an event
 abbrev pub event_line : DeclsState → Event → List ℕ
 event_line decls e =
-    line_of (op_words decls.declarations (goroutine_name decls.declarations e.who) (place_text decls.places e.place) e.op)
+    line_of (op_words decls.declarations (goroutine_name decls.declarations e.who) (place_words (place_text decls.places e.place) (second_text decls.places e.place2)) e.op)
 
 -- the header, a line for each declaration and a line for each event
 unfoldable pub lines : TraceState → List (List ℕ)

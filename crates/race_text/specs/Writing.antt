@@ -7,7 +7,7 @@ use Rattle.race_records.specs.declared.nouns.Noun.{Noun}
 use Rattle.race_records.specs.declared.parts.Part.{Part}
 use Rattle.race_records.specs.declared.parts.Verb.{Verb}
 use Rattle.race_records.specs.Declarations.{Declaration, DeclsState, name_of}
-use Rattle.race_text.specs.Text.{line_of, ended, declaration_line, event_line}
+use Rattle.race_text.specs.Text.{ended, declaration_line, event_line}
 
 -- the texts of declarations and of events
 abbrev pub declarations_text : List Declaration → List ℕ
@@ -54,22 +54,28 @@ verb_text Verb.Go = codes "go"
 verb_text Verb.Exit = codes "exit"
 verb_text Verb.Read = codes "read"
 verb_text Verb.Write = codes "write"
+verb_text Verb.Send = codes "send"
+verb_text Verb.Recv = codes "recv"
+verb_text Verb.Meet = codes "meet"
+verb_text Verb.RecvClosed = codes "recvclosed"
+verb_text Verb.Close = codes "close"
 
 -- what is printed of a part
 abbrev pub part_text : List Declaration → Part → List ℕ
 part_text ds (Part.Object named) = unwrap_or (name_of ds named) []
 part_text ds (Part.Value v) = decimal v
 
--- the words that an operation says
-abbrev pub said_words : List Declaration → List ℕ → List ℕ → Verb → List Part → List (List ℕ)
-said_words ds who place verb parts = verb_text verb ∷ who ∷ map (part_text ds) parts ++ place ∷ []
+-- the words that an operation says, before those of its places
+abbrev pub said_words : List Declaration → List ℕ → List (List ℕ) → Verb → List Part → List (List ℕ)
+said_words ds who places verb parts = verb_text verb ∷ who ∷ map (part_text ds) parts ++ places
 
--- a part behind a space, all parts so, and the place behind them
+-- a part behind a space, all parts so, and the places behind them
 abbrev pub behind_space : List Declaration → Part → List ℕ
 behind_space ds part = 32 ∷ part_text ds part
 
 abbrev pub parts_text : List Declaration → List Part → List ℕ
 parts_text ds parts = flat_map (behind_space ds) parts
 
-abbrev pub place_end : List ℕ → List ℕ
-place_end place = 32 ∷ place ++ 10 ∷ []
+abbrev pub place_end : List ℕ → Option (List ℕ) → List ℕ
+place_end place None = 32 ∷ place ++ 10 ∷ []
+place_end place (Some second) = 32 ∷ place ++ 32 ∷ (second ++ 10 ∷ [])

@@ -16,7 +16,7 @@ use race_records::{
 };
 use std::alloc::Allocator;
 
-/// An event with its place as it is spelled.
+/// An event with its places as they are spelled.
 #[derive(Debug, Drop)]
 pub struct Draft<'a> {
     /// The goroutine whose event it is.
@@ -25,6 +25,8 @@ pub struct Draft<'a> {
     pub op: Op,
     /// Where in the source.
     pub place: &'a [u8],
+    /// The place of its second participant, where it has one.
+    pub place2: Option<&'a [u8]>,
 }
 
 // The event that the line is. Nothing where the line isn't one.
@@ -59,8 +61,13 @@ fn read_behind<'a, A: Allocator>(
     let who = goroutine_of(first)?;
     let (parts, rest) = next_parts(decls, part_kinds(verb), rest)?;
     let op = op_by(verb, parts.as_slice())?;
-    let place = last_place(rest)?;
-    Some(Draft { who, op, place })
+    let (place, place2) = last_places(verb.has_two_places(), rest)?;
+    Some(Draft {
+        who,
+        op,
+        place,
+        place2,
+    })
 }
 
 // The number of a goroutine.
@@ -139,24 +146,47 @@ fn part_in<A: Allocator>(decls: &Decls<A>, kind: PartKind, word: &[u8]) -> Optio
     }
 }
 
+// The words that are left, which are a place, or two.
+fn last_places<'a>(two: bool, rest: Option<&'a [u8]>) -> Option<(&'a [u8], Option<&'a [u8]>)>
+    ensures { option_map spec.places_read result ≡ spec.last_places two (parts_left 32 rest.entry) }
+{
+    if !two {
+        let place = last_place(rest)?;
+        return Some((place, None));
+    }
+    let (place, behind) = first_place(rest)?;
+    let second = last_place(behind)?;
+    Some((place, Some(second)))
+}
+
 // The one word that is left, which is a place.
 fn last_place<'a>(rest: Option<&'a [u8]>) -> Option<&'a [u8]>
     ensures { option_map (λ place. place.now) result ≡ spec.last_place (parts_left 32 rest.entry) }
+{
+    match first_place(rest) {
+        None => None,
+        Some((place, behind)) => match behind {
+            Some(_) => None,
+            None => Some(place),
+        },
+    }
+}
+
+// The next word, which is a place, and what is left behind it.
+fn first_place<'a>(rest: Option<&'a [u8]>) -> Option<(&'a [u8], Option<&'a [u8]>)>
+    ensures { option_map spec.place_so_far result ≡ spec.first_place (parts_left 32 rest.entry) }
 {
     match rest {
         None => None,
         Some(bytes) => match cut_word(bytes) {
             None => None,
-            Some((word, others)) => match others {
-                Some(_) => None,
-                None => {
-                    if word.is_empty() || word.len() > MAX_PLACE_LEN {
-                        None
-                    } else {
-                        Some(word)
-                    }
+            Some((word, behind)) => {
+                if word.is_empty() || word.len() > MAX_PLACE_LEN {
+                    None
+                } else {
+                    Some((word, behind))
                 }
-            },
+            }
         },
     }
 }

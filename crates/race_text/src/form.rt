@@ -15,13 +15,19 @@ pub enum Word {
 }
 
 /// The words that a line may begin with.
-pub const WORDS: [(&[u8], Word); 6] = [
+pub const WORDS: [(&[u8], Word); 12] = [
     (b"read", Word::Does(Verb::Read)),
     (b"write", Word::Does(Verb::Write)),
+    (b"send", Word::Does(Verb::Send)),
+    (b"recv", Word::Does(Verb::Recv)),
+    (b"meet", Word::Does(Verb::Meet)),
     (b"go", Word::Does(Verb::Go)),
     (b"exit", Word::Does(Verb::Exit)),
+    (b"recvclosed", Word::Does(Verb::RecvClosed)),
+    (b"close", Word::Does(Verb::Close)),
     (b"goroutine", Word::Declares(Noun::Goroutine)),
     (b"var", Word::Declares(Noun::Var)),
+    (b"chan", Word::Declares(Noun::Chan)),
 ];
 
 /// What can stand behind the first word.
@@ -64,7 +70,7 @@ fn lookup(mut table: &[(&[u8], Word)], word: &[u8]) -> Option<Word>
 }
 
 // What stands behind the word.
-pub(crate) fn fields_of(word: Word) -> ArrayVec<Field, 5>
+pub(crate) fn fields_of(word: Word) -> ArrayVec<Field, 6>
     ensures { result.items ≡ spec.fields_of word }
 {
     let mut fields = ArrayVec::new();
@@ -82,6 +88,9 @@ pub(crate) fn fields_of(word: Word) -> ArrayVec<Field, 5>
                 fields.push(Field::Part(*kind));
             }
             fields.push(Field::Place);
+            if verb.has_two_places() {
+                fields.push(Field::Place);
+            }
         }
     }
     fields

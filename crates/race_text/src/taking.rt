@@ -1,5 +1,8 @@
 //! Lines behind the first event.
-ghost use Rattle.std.specs.Prelude.{◌≡◌, ◌≢◌, ◌*◌, ◌<◌, ◌≤◌, [], false, length, MatchResult, OnOk};
+ghost use Rattle.std.specs.Prelude.{◌≡◌, ◌≢◌, ◌*◌, ◌<◌, ◌≤◌, [], true, false, length, IfSome, IfOk, IfErr, MatchResult, OnOk};
+ghost use Rattle.std.specs.Option.{option_map};
+ghost use Rattle.race_records.specs.Name.{is_place};
+ghost use Rattle.race_records.specs.Declarations.{place_number, with_place};
 ghost use Rattle.race_text.specs.Declaring.{is_declaration_line};
 ghost use Rattle.race_text.specs.Reading.{drafted};
 ghost use Rattle.race_text.specs.Text.{lines};
@@ -10,7 +13,7 @@ use crate::declaration::cause_of;
 use crate::event::{Draft, read_event};
 use crate::fields::as_text;
 use crate::finder::line_cause;
-use race_records::{Event, MAX_EVENTS, Trace};
+use race_records::{Event, MAX_EVENTS, MAX_PLACES, Trace};
 use std::alloc::Allocator;
 
 // Takes a line behind the declarations: an event that fits, or the least cause of what isn't one.
@@ -42,19 +45,54 @@ fn append<A: Allocator + Copy>(trace: &mut Trace<A>, draft: Draft<'_>) -> Result
     if trace.len() >= MAX_EVENTS {
         return Err(TextCause::TooMany);
     }
-    match trace.add_place(as_text(draft.place)) {
+    let place = add_place(trace, draft.place)?;
+    let place2 = add_second(trace, draft.place2)?;
+    let event = Event {
+        who: draft.who,
+        op: draft.op,
+        place,
+        place2,
+    };
+    match trace.append(event) {
+        Err(_) => Err(TextCause::OutOfMemory),
+        Ok(()) => Ok(()),
+    }
+}
+
+// Adds a place for which there is room. Nothing but want of memory is in its way.
+fn add_place<A: Allocator + Copy>(trace: &mut Trace<A>, place: &[u8]) -> Result<u32, TextCause>
+    requires form { is_place place.now ≡ true }
+    requires room { length trace.old.decls.places < MAX_PLACES }
+    ensures number { IfOk result (λ n. n ≡ place_number trace.old.decls.places place.now) }
+    ensures decls { OnOk result (trace.new.decls ≡ with_place trace.old.decls place.now) }
+    ensures events { trace.new.events ≡ trace.old.events }
+    ensures err { IfErr result (λ cause. cause ≡ TextCause.OutOfMemory) }
+{
+    match trace.add_place(as_text(place)) {
         Err(fault) => Err(cause_of(fault)),
-        Ok(place) => {
-            let event = Event {
-                who: draft.who,
-                op: draft.op,
-                place,
-                place2: None,
-            };
-            match trace.append(event) {
-                Err(_) => Err(TextCause::OutOfMemory),
-                Ok(()) => Ok(()),
-            }
+        Ok(number) => Ok(number),
+    }
+}
+
+// Adds the second place, where there is one.
+fn add_second<A: Allocator + Copy>(
+    trace: &mut Trace<A>,
+    place2: Option<&[u8]>,
+) -> Result<Option<u32>, TextCause>
+    requires form { IfSome (option_map (λ place. place.now) place2) (λ place. is_place place ≡ true) }
+    requires room { length trace.old.decls.places < MAX_PLACES }
+    ensures number { IfOk result (λ n. n ≡ option_map
+        (place_number trace.old.decls.places) (option_map (λ place. place.now) place2.entry)) }
+    ensures decls { OnOk result (trace.new.decls ≡
+        spec.with_second trace.old.decls (option_map (λ place. place.now) place2.entry)) }
+    ensures events { trace.new.events ≡ trace.old.events }
+    ensures err { IfErr result (λ cause. cause ≡ TextCause.OutOfMemory) }
+{
+    match place2 {
+        None => Ok(None),
+        Some(place) => {
+            let number = add_place(trace, place)?;
+            Ok(Some(number))
         }
     }
 }

@@ -5,7 +5,7 @@ use crate::TextCause::{
 use crate::{
     TextCause, TextFault, parse_trace, read_declaration, read_number, split_words, write_trace,
 };
-use race_records::{Decls, Op, Sink};
+use race_records::{Decls, Kind, Op, Sink};
 use std::alloc::Allocator;
 use std::io;
 use std::io::Write;
@@ -21,8 +21,21 @@ fn fault_of<A: Allocator + Copy>(alloc: A, bytes: &[u8]) -> Option<TextFault> {
 
 // The fault of one line behind `goroutine a`, `var x` and one event, which is line 5.
 fn fault_of_line<A: Allocator + Copy>(alloc: A, line: &[u8]) -> Result<Option<TextFault>, Fail> {
+    fault_behind(
+        alloc,
+        b"gotrace 1\ngoroutine a\nvar x\nread main x 0 p\n",
+        line,
+    )
+}
+
+// The fault of a text with one more line.
+fn fault_behind<A: Allocator + Copy>(
+    alloc: A,
+    before: &[u8],
+    line: &[u8],
+) -> Result<Option<TextFault>, Fail> {
     let mut bytes = Vec::new(alloc);
-    bytes.extend_from_slice(b"gotrace 1\ngoroutine a\nvar x\nread main x 0 p\n")?;
+    bytes.extend_from_slice(before)?;
     bytes.extend_from_slice(line)?;
     bytes.extend_from_slice(b"\n")?;
     Ok(fault_of(alloc, bytes.as_slice()))
@@ -92,7 +105,7 @@ fn tells_the_least_cause_of_a_line(rt: HostRuntime) -> Result<(), Fail> {
         (b"var y\t", BadByte),
         (b"", UnknownWord),
         (b" exit main p", UnknownWord),
-        (b"chan c 0", UnknownWord),
+        (b"lock m", UnknownWord),
         (b"exit main", WrongCount),
         (b"exit main p ", WrongCount),
         (b"var - y", WrongCount),
@@ -130,6 +143,63 @@ fn tells_the_least_cause_of_a_line(rt: HostRuntime) -> Result<(), Fail> {
         format!(in rt.alloc(); "{fault}")?.as_str(),
         "line 5: bad number"
     );
+    Ok(())
+}
+
+// Lines of channels behind `goroutine w`, `var x` and `chan c 2`.
+#[test]
+fn tells_the_causes_of_channels(rt: HostRuntime) -> Result<(), Fail> {
+    let lines: [(&[u8], Option<TextCause>); 40] = [
+        (b"chan d", Some(WrongCount)),
+        (b"chan d 0 1", Some(WrongCount)),
+        (b"chan d 65535", None),
+        (b"chan d 0", None),
+        (b"chan d 65536", Some(BadNumber)),
+        (b"chan d 01", Some(BadNumber)),
+        (b"chan d ", Some(BadNumber)),
+        (b"chan d 18446744073709551616", Some(BadNumber)),
+        (b"chan nil 70000", Some(BadName)),
+        (b"chan c 70000", Some(Taken)),
+        (b"chan x 0", Some(Taken)),
+        (b"send main c 18446744073709551615 p", None),
+        (b"send main c 18446744073709551616 p", Some(BadNumber)),
+        (b"send main x 1 p", Some(WrongKind)),
+        (b"send main x 01 p", Some(WrongKind)),
+        (b"send main d 1 p", Some(Unknown)),
+        (b"send main nil 1 p", Some(BadName)),
+        (b"send main c 1", Some(WrongCount)),
+        (b"recv w c 0 p", None),
+        (b"recv c c 0 p", Some(WrongKind)),
+        (b"recv w w 0 p", Some(WrongKind)),
+        (b"recv w c p", Some(WrongCount)),
+        (b"recvclosed w c p", None),
+        (b"recvclosed w d p", Some(Unknown)),
+        (b"recvclosed w c 0 p", Some(WrongCount)),
+        (b"close main c p", None),
+        (b"close main nil p", Some(BadName)),
+        (b"close main x p", Some(WrongKind)),
+        (b"close main p", Some(WrongCount)),
+        (b"meet main w c 1 p q", None),
+        (b"meet main w c 1 p p", None),
+        (b"meet main w c 1 p", Some(WrongCount)),
+        (b"meet main w c 1 p q r", Some(WrongCount)),
+        (b"meet main w c 1 p ", Some(BadName)),
+        (b"meet main w c 1  q", Some(BadName)),
+        (b"meet main c w 1 p q", Some(WrongKind)),
+        (b"meet main v c 1 p q", Some(Unknown)),
+        (b"meet x w c 01 p ", Some(BadName)),
+        (b"meet main w c 01 p q", Some(BadNumber)),
+        (b"meets main w c 1 p q", Some(UnknownWord)),
+    ];
+    for (line, cause) in lines {
+        let before = b"gotrace 1\ngoroutine w\nvar x\nchan c 2\n";
+        let fault = fault_behind(rt.alloc(), before, line)?;
+        assert_eq!(rt;
+            fault,
+            cause.map(|cause| TextFault { line: 5, cause }),
+            "in {line:?}"
+        );
+    }
     Ok(())
 }
 
@@ -172,6 +242,33 @@ fn holds_the_limit_on_goroutines(rt: HostRuntime) -> Result<(), Fail> {
     Ok(())
 }
 
+// 65,535 channels and one more. A capacity over its limit is told first.
+#[test]
+fn holds_the_limit_on_channels(rt: HostRuntime) -> Result<(), Fail> {
+    let mut many = String::from_str(rt.alloc(), "gotrace 1\n")?;
+    for n in 0..65_535u32 {
+        many.push_str(format!(in rt.alloc(); "chan c{n} 0\n")?.as_str())?;
+    }
+    let lasts: [(&[u8], Option<TextCause>); 4] = [
+        (b"var x", None),
+        (b"chan c 0", Some(TooMany)),
+        (b"chan c 65536", Some(BadNumber)),
+        (b"chan c7 65536", Some(Taken)),
+    ];
+    for (last, cause) in lasts {
+        let fault = fault_behind(rt.alloc(), many.as_bytes(), last)?;
+        assert_eq!(rt;
+            fault,
+            cause.map(|cause| TextFault {
+                line: 65_537,
+                cause
+            }),
+            "at {last:?}"
+        );
+    }
+    Ok(())
+}
+
 #[test]
 fn holds_the_limit_on_places(rt: HostRuntime) -> Result<(), Fail> {
     for (len, cause) in [(1, None), (128, None), (129, Some(BadName))] {
@@ -208,6 +305,49 @@ fn reads_a_trace(rt: HostRuntime) -> Result<(), Fail> {
     Ok(())
 }
 
+// Each word of channels, with its places and the second one, and the same text again.
+#[test]
+fn reads_channels(rt: HostRuntime) -> Result<(), Fail> {
+    let text =
+        b"gotrace 1\ngoroutine w\nchan c 65535\nchan u 0\ngo main w a\nsend main c 7 b\nrecv w c 7 c\nmeet w main u 8 c d\nmeet main w u 9 e e\nclose main u a\nrecvclosed w u f\n";
+    let trace = parse_trace(rt.alloc(), text)?;
+    let decls = trace.decls();
+    assert_eq!(rt; decls.count(Kind::Chan), 2);
+    for (chan, capacity) in [(0u32, 65535), (1, 0)] {
+        assert!(rt; chan < decls.count(Kind::Chan), "{chan}");
+        assert_eq!(rt; decls.capacity(chan), capacity, "{chan}");
+    }
+    let events = [
+        (0, Op::Go(1), "a", None),
+        (0, Op::Send(0, 7), "b", None),
+        (1, Op::Recv(0, 7), "c", None),
+        (1, Op::Meet(0, 1, 8), "c", Some("d")),
+        (0, Op::Meet(1, 1, 9), "e", Some("e")),
+        (0, Op::Close(1), "a", None),
+        (1, Op::RecvClosed(1), "f", None),
+    ];
+    assert_eq!(rt; trace.len(), events.len());
+    assert_eq!(rt; trace.decls().place_count(), 6);
+    for (i, (who, op, place, place2)) in events.iter().enumerate() {
+        let event = &trace.events()[i];
+        assert_eq!(rt; event.who, *who, "at {i}");
+        assert!(rt; event.op == *op, "at {i}");
+        assert!(rt; event.place < trace.decls().place_count(), "at {i}");
+        assert_eq!(rt; trace.place_text(event.place), *place, "at {i}");
+        let mut second = None;
+        if let Some(number) = event.place2 {
+            assert!(rt; number < trace.decls().place_count(), "at {i}");
+            second = Some(trace.place_text(number));
+        }
+        assert_eq!(rt; second, *place2, "at {i}");
+    }
+    let mut written = Vec::new(rt.alloc());
+    let mut sink = Sink::new(&mut written);
+    assert!(rt; write_trace(&trace, &mut sink).is_ok());
+    assert_eq!(rt; written.as_slice(), text.as_slice());
+    Ok(())
+}
+
 #[test]
 fn reads_fields(rt: HostRuntime) {
     assert_eq!(rt; split_words(b" a  b").count(), 4);
@@ -223,18 +363,20 @@ fn reads_fields(rt: HostRuntime) {
         assert_eq!(rt; read_number(word, max), number, "at {word:?}");
     }
     let mut decls = Decls::new(rt.alloc());
-    let lines: [(&[u8], Result<bool, TextCause>); 5] = [
+    let lines: [(&[u8], Result<bool, TextCause>); 7] = [
         (b"var x", Ok(true)),
         (b"exit main p", Ok(false)),
         (b"var x", Err(Taken)),
         (b"goroutine", Err(WrongCount)),
         (b"goroutine w", Ok(true)),
+        (b"chan c 65536", Err(BadNumber)),
+        (b"chan c 3", Ok(true)),
     ];
     for (line, answer) in lines {
         let told = read_declaration(&mut decls, line);
         assert!(rt; told == answer, "at {line:?}");
     }
-    assert_eq!(rt; decls.len(), 2);
+    assert_eq!(rt; decls.len(), 3);
 }
 
 // Takes so many bytes a call, and fails where its room is used up.

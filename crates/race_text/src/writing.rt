@@ -1,5 +1,5 @@
 //! A trace's text, written.
-ghost use Rattle.std.specs.Prelude.{◌≡◌, ◌<◌, [], ◌∷◌, ◌++◌, true, length, take, All, IsTrue, OnOk, OnErr, IfErr};
+ghost use Rattle.std.specs.Prelude.{◌≡◌, ◌<◌, [], ◌∷◌, ◌++◌, true, length, take, All, IsTrue, IfSome, OnOk, OnErr, IfErr};
 ghost use Rattle.std.specs.Io.KnownBytes.{Appends};
 ghost use Rattle.race_records.specs.Devices.{written, sink_failures, one_more};
 ghost use Rattle.race_records.specs.Events.{fits};
@@ -9,6 +9,7 @@ ghost use Rattle.race_text.specs.Writing as spec;
 ghost use Rattle.race_text.specs.Writing.{body, declarations_text, declaration_text, events_text};
 ghost use Rattle.race_records.specs.Parts.{part_fits};
 ghost use Rattle.std.specs.List.{list_all};
+ghost use Rattle.std.specs.Option.{option_map};
 
 use itoa::Buffer;
 use race_records::{
@@ -179,10 +180,22 @@ pub(crate) fn print_event<W: Write, A: Allocator>(
 {
     let who = decls.name(Named::Goroutine(event.who));
     let place = decls.place_text(event.place);
+    let place2 = second_text(decls, event.place2);
     let (verb, parts) = says(&event.op);
     match print_first(page, sink, verb_text(verb), who) {
-        Ok(()) => print_behind(page, sink, decls, parts.as_slice(), place),
+        Ok(()) => print_behind(page, sink, decls, parts.as_slice(), place, place2),
         Err(fault) => Err(fault),
+    }
+}
+
+// The text of the second place, where there is one.
+fn second_text<A: Allocator>(decls: &Decls<A>, place2: Option<u32>) -> Option<&str>
+    requires { IfSome place2 (λ place. place < length decls.now.places) }
+    ensures { option_map (λ place. place.now) result ≡ text.second_text decls.now.places place2 }
+{
+    match place2 {
+        None => None,
+        Some(place) => Some(decls.place_text(place)),
     }
 }
 
@@ -195,6 +208,11 @@ fn verb_text(verb: Verb) -> &'static str
         Verb::Exit => "exit",
         Verb::Read => "read",
         Verb::Write => "write",
+        Verb::Send => "send",
+        Verb::Recv => "recv",
+        Verb::Meet => "meet",
+        Verb::RecvClosed => "recvclosed",
+        Verb::Close => "close",
     }
 }
 
@@ -212,20 +230,22 @@ fn print_first<W: Write>(
     page.put_all(sink, &parts)
 }
 
-// Prints the parts of an operation and the place.
+// Prints the parts of an operation and the places.
 fn print_behind<W: Write, A: Allocator>(
     page: &mut Page,
     sink: &mut Sink<W>,
     decls: &Decls<A>,
     parts: &[Part],
     place: &str,
+    place2: Option<&str>,
 ) -> Result<(), WriteFault>
     requires { list_all (part_fits decls.now.declarations) parts.now ≡ true }
     ensures { Printing W.contents result sink.old sink.new page.old page.new
-        (spec.parts_text decls.now.declarations parts.now ++ spec.place_end place.now) }
+        (spec.parts_text decls.now.declarations parts.now
+        ++ spec.place_end place.now (option_map (λ place. place.now) place2.entry)) }
 {
     match print_parts(page, sink, decls, parts) {
-        Ok(()) => print_place(page, sink, place),
+        Ok(()) => print_places(page, sink, place, place2),
         Err(fault) => Err(fault),
     }
 }
@@ -272,11 +292,30 @@ fn print_part<W: Write, A: Allocator>(
     }
 }
 
-// Prints the place and ends the line.
-fn print_place<W: Write>(page: &mut Page, sink: &mut Sink<W>, place: &str) -> Result<(), WriteFault>
+// Prints the place, and the second one where there is one, and ends the line.
+fn print_places<W: Write>(
+    page: &mut Page,
+    sink: &mut Sink<W>,
+    place: &str,
+    place2: Option<&str>,
+) -> Result<(), WriteFault>
     ensures { Printing W.contents result sink.old sink.new page.old page.new
-        (spec.place_end place.now) }
+        (spec.place_end place.now (option_map (λ place. place.now) place2.entry)) }
 {
-    let parts = [b" ".as_slice(), place.as_bytes(), b"\n".as_slice()];
-    page.put_all(sink, &parts)
+    match place2 {
+        None => {
+            let parts = [b" ".as_slice(), place.as_bytes(), b"\n".as_slice()];
+            page.put_all(sink, &parts)
+        }
+        Some(second) => {
+            let parts = [
+                b" ".as_slice(),
+                place.as_bytes(),
+                b" ".as_slice(),
+                second.as_bytes(),
+                b"\n".as_slice(),
+            ];
+            page.put_all(sink, &parts)
+        }
+    }
 }

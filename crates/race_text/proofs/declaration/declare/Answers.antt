@@ -1,4 +1,4 @@
-use Rattle.std.proofs.Common.{◌≡◌, ◌∙◌, sym, ap, subst, Some, None, is_some, IsTrue, refl, rules}
+use Rattle.std.proofs.Common.{◌∙◌, sym, ap, rules}
 use Rattle.race_text.specs.Words.{parts_left}
 use Rattle.race_records.specs.Declarations.{with_declaration, decl_fault}
 use Rattle.race_text.specs.Declaring.{with_declared, cause_of}

@@ -1,4 +1,4 @@
-use Rattle.std.proofs.Common.{arith, ◌≤◌, ◌∙◌, sym}
+use Rattle.std.proofs.Common.{arith, ◌∙◌, sym}
 use Rattle.race_text.proofs.DeclarationLemmas.{number_parts, narrow_limit}
 use Rattle.race_text.proofs.declaration.object_read.Goals as goal
 

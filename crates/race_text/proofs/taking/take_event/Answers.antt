@@ -1,13 +1,13 @@
 use Rattle.std.proofs.Common.{sym, ◌∙◌}
 use Rattle.race_text.specs.Fault.{seen_so_far, line_cause}
 use Rattle.race_text.specs.Reading.{drafted}
-use Rattle.race_text.proofs.TraceLemmas.{cause_behind, event_answered, event_grown, no_event_is_told, is_there, behind_events, says_event}
+use Rattle.race_text.proofs.TraceLemmas.{cause_behind, fitting, event_answered, event_grown, no_event_is_told, is_there, behind_events, says_event}
 use Rattle.race_text.proofs.taking.take_event.Goals as goal
 
 pub append-requires-clause-fits : goal.append-requires-clause-fits
 append-requires-clause-fits g c =
     let is = says_event c.decls-decls.result.now c.args.trace.now.decls c.args.line.now (drafted c.in-Some.draft) c.decls-decls.ensures.well_formed c.decls-decls.ensures.decls (sym c.in-Some.ensures) in
-    record { place = is.place; who = is.who; op = is.op; value = is.value }
+    fitting c.args.trace.now.decls c.args.line.now (drafted c.in-Some.draft) is
 
 pub unwrap-requires : goal.unwrap-requires
 unwrap-requires g c = is_there c.line_cause.result (λ none.

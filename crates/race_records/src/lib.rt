@@ -2,6 +2,7 @@
 #![tactic(auto)]
 
 mod alike;
+mod cases;
 mod declarations;
 #[cfg(test)]
 mod device_tests;
@@ -20,6 +21,7 @@ mod source;
 mod tests;
 mod trace;
 
+pub use cases::{Case, Cases, CasesFull, Dir, MAX_CASES};
 pub use declarations::{DeclFault, Decls, MAX_PLACES};
 pub use event::{Event, Op};
 #[doc(hidden)]

@@ -3,7 +3,7 @@ use Rattle.std.proofs.Common.{◌≡◌, ℕ, ◌/◌, ◌%◌, ◌==◌, ◌&&�
 use Rattle.std.proofs.lemmas.Bool.Decides.{Decides-eqb}
 use Rattle.std.proofs.lemmas.Slice.Eq.{slice_eq-Decides}
 use Rattle.std.specs.Cmp.Lexicographic.{pointwise}
-use Rattle.std.specs.Cmp.{IsPartialEquivalence, partial_equiv_from_equiv, decided}
+use Rattle.std.specs.Cmp.{IsEquivalence, IsPartialEquivalence, partial_equiv_from_equiv, decided}
 use Rattle.race_records.specs.declared.cases.Case.{Case}
 use Rattle.race_records.specs.declared.cases.Dir.{Dir}
 
@@ -65,5 +65,8 @@ same_case-Decides a b = by (same_dir a.dir b.dir) (same_chan a.chan b.chan) (sam
 pub same_cases-Decides : (cases others : List Case) → Decides (same_cases cases others) (cases ≡ others)
 same_cases-Decides cases others = slice_eq-Decides {E = same_case} same_case-Decides cases others (same_cases cases others) refl
 
+pub same_cases_equivalence : IsEquivalence same_cases
+same_cases_equivalence = decided same_cases same_cases-Decides
+
 pub same_cases_laws : IsPartialEquivalence same_cases
-same_cases_laws = partial_equiv_from_equiv (decided same_cases same_cases-Decides)
+same_cases_laws = partial_equiv_from_equiv same_cases_equivalence

@@ -70,6 +70,20 @@ impl Cases {
         }
     }
 
+    /// The same cases.
+    #[tactic(auto, using(crate::proofs::CaseLemmas::cases_len))]
+    pub fn copy(&self) -> Cases
+        ensures same { result ≡ self.now }
+        ensures few { length self.now ≤ MAX_CASES }
+    {
+        let mut chans = ArrayVec::new();
+        let _ = chans.try_extend_from_slice(self.chans.as_slice());
+        Cases {
+            chans,
+            sends: self.sends,
+        }
+    }
+
     /// How many cases there are.
     #[tactic(auto, using(crate::proofs::CaseLemmas::cases_len))]
     pub fn len(&self) -> usize
@@ -128,6 +142,12 @@ impl PartialEq for Cases {
     {
         are_same(self, other)
     }
+}
+
+impl Eq for Cases {
+    ghost use Rattle.race_records.specs.Cases.{same_cases_equivalence};
+
+    ghost laws = { same_cases_equivalence };
 }
 
 // Whether the cases are the same, in the same order.

@@ -11,7 +11,7 @@ use Rattle.race_records.specs.declared.event.Cause.{Cause}
 use Rattle.race_records.specs.declared.event.Cause.TheVariants.{SendClosed, CloseClosed, CloseNil}
 use Rattle.race_records.specs.declared.event.Op.{Op}
 use Rattle.race_records.specs.declared.event.Op.TheVariants.{Go, Exit, Read, Write, Send, Recv, Meet, RecvClosed, Close, Default, Fault}
-use Rattle.race_model.specs.Events.{At, operations, TakesPart, partner, gives, starts, is_exit, writes, accesses, count, has, sends, receives, closes, is_fault, has_exited, last_of}
+use Rattle.race_model.specs.Events.{At, operations, TakesPart, partner, gives, starts, is_exit, writes, accesses, count, sends, receives, closes, is_fault, has_exited, last_of}
 use Rattle.race_model.specs.State.{over, started, runs, written, last_value, is_closed, buffered, sent, front}
 use Rattle.race_model.specs.Legal.{op_rules, can_proceed, is_ready, cause_holds, receiver_runs, least_broken, broken, IsLegal, IsIllegalAt}
 use Rattle.race_model.specs.Order.{Point, Begin, End, SequencedBefore, SynchronizedInside, IsSource, SynchronizedBefore, Step, Reaches, one_step, then_step, HappensBefore}

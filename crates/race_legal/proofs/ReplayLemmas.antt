@@ -1,5 +1,5 @@
 -- The tables of a replay answer the state words, one event on.
-use Rattle.std.proofs.Common.{◌≡◌, ℕ, ◌+◌, ◌<◌, ◌==◌, ◌||◌, ◌&&◌, not, nat_lt, List, [], ◌∷◌, ◌++◌, length, drop, None, unwrap_or, refl, sym, ap, ◌∙◌, subst, arith, IsTrue, length-append}
+use Rattle.std.proofs.Common.{◌≡◌, ℕ, ◌+◌, ◌<◌, ◌==◌, ◌||◌, ◌&&◌, not, nat_lt, List, [], ◌∷◌, ◌++◌, drop, None, unwrap_or, refl, sym, ap, ◌∙◌, subst, arith, IsTrue, length-append}
 use Rattle.std.specs.List.{slice_index_or}
 use Rattle.std.specs.Option.{option_to_list}
 use Rattle.std.proofs.lemmas.Bool.Decides.{nat_tests}
@@ -20,7 +20,7 @@ use Rattle.race_legal.specs.After.{after}
 use Rattle.race_legal.specs.RulesKept.{send_rules, recv_rules, meet_rules, recv_closed_rules, op_rules_in, receiver_runs_in, actors_run_in, rules_in, broken_in}
 use Rattle.race_legal.specs.StandsFor.{StandsFor}
 use Rattle.race_legal.proofs.TableSteps.{started_step, exited_step, values_step}
-use Rattle.race_legal.proofs.ChannelSteps.{closed_step, queue_step, waiting_push, all_kept, received_step}
+use Rattle.race_legal.proofs.ChannelSteps.{closed_step, queue_step, waiting_push, none_broken, received_step}
 use Rattle.race_legal.proofs.Shape.{capacities_same, square_after, counts_after}
 use Rattle.race_legal.proofs.ChannelWords.{buffered_is, front_is, empty_is, left_is}
 
@@ -92,7 +92,7 @@ module _ (declarations : List Declaration) (k : ReplayState) (past : List Event)
         waiting_push c past e (S.received c old) ∙ ap (λ vs. drop (as_number (receives c e.op)) (vs ++ option_to_list (sent c e.op))) (S.queue c old) ∙ queue_step k.channels e.op c (row c S.square.queues old);
     received = λ c less.
         let old = before Kind.Chan c less in
-        rw (count_push (receives c) past e, count_push (sends c) past e) (received_step k e.who e.op c _ _ (all_kept (rules_in k e) none).1.1 (S.received c old) (buffered_is declarations k past S c old));
+        rw (count_push (receives c) past e, count_push (sends c) past e) (received_step k e.who e.op c _ _ (none_broken (rules_in k e) none).1.1 (S.received c old) (buffered_is declarations k past S c old));
     square = square_after k e S.square;
   }
     where

@@ -1,5 +1,5 @@
 -- Searches through a list all of whose elements pass a test.
-use Rattle.std.proofs.Common.{◌≡◌, ℕ, ◌||◌, Bool, true, false, List, [], ◌∷◌, Some, slice_get, refl, sym, ap, ◌∙◌, IsTrue, true≢false}
+use Rattle.std.proofs.Common.{◌≡◌, ℕ, ◌||◌, Bool, true, false, List, [], ◌∷◌, Some, slice_get, get_or, refl, sym, ap, ◌∙◌, IsTrue, true≢false}
 use Rattle.std.specs.List.{list_all, list_any}
 use Rattle.std.proofs.lemmas.Bool.{and_parts}
 use Rattle.std.proofs.lemmas.List.Folds.{list_all_at}
@@ -19,3 +19,7 @@ finds_the_same p q passes [] same all = refl
 finds_the_same p q passes (x ∷ xs) same all =
     let parts = and_parts (passes x) (list_all passes xs) all in
     λ i. same x parts.0 i || finds_the_same p q passes xs same parts.1 i
+
+-- the element at an index passes where a test of it says so
+pub passes_at : {X : Type 0} (p : X → Bool) (xs : List X) (i : ℕ) (x : X) (test answer : Bool) → slice_get xs i ≡ Some x → test ≡ p x → test ≡ answer → p (get_or xs i x) ≡ answer
+passes_at p xs i x test answer at tested is = ap p (get_or_from_slice_get xs i x x at) ∙ sym tested ∙ is

@@ -1,10 +1,15 @@
 -- The state words one event on.
-use Rattle.std.proofs.Common.{◌≡◌, ℕ, ◌==◌, ◌||◌, ◌&&◌, not, Bool, true, false, List, [], ◌∷◌, ◌++◌, Option, Some, None, unwrap_or, refl, ap, ◌∙◌}
+use Rattle.std.proofs.Common.{◌≡◌, ℕ, ◌+◌, ◌==◌, ◌||◌, ◌&&◌, not, Bool, true, false, length, List, [], ◌∷◌, ◌++◌, Option, Some, None, unwrap_or, filter_map, if◌then◌else◌, refl, sym, ap, ◌∙◌, arith}
+use Rattle.std.specs.List.{cons_option}
+use Rattle.std.specs.Option.{option_to_list}
+use Rattle.std.proofs.lemmas.List.Elements.{filter_map-append}
 use Rattle.race_records.specs.declared.event.Event.{Event}
-use Rattle.race_model.specs.Events.{starts, is_exit, is_fault, has, has_exited}
-use Rattle.race_model.specs.State.{over, started, runs, written, last_value}
+use Rattle.race_records.specs.declared.event.Op.{Op}
+use Rattle.race_records.specs.declared.event.Op.TheVariants.{Send}
+use Rattle.race_model.specs.Events.{starts, is_exit, is_fault, sends, closes, has, has_exited, count}
+use Rattle.race_model.specs.State.{over, started, runs, written, last_value, is_closed, sent}
 use Rattle.race_model.proofs.LastOf.{last_of_push_some, last_of_push_none}
-use Rattle.race_model.proofs.CountSteps.{has_push, has_exited_push}
+use Rattle.race_model.proofs.CountSteps.{as_number, count_cons, has_push, has_exited_push}
 
 -- the run is over with main's exit, and with a fault
 pub over_push : (past : List Event) (e : Event) → over (past ++ e ∷ []) ≡ (over past || (((e.who == 0) && is_exit e.op) || is_fault e.op))
@@ -33,3 +38,31 @@ last_value_push x past e = go (written x e.op) refl
     go : (o : Option ℕ) → written x e.op ≡ o → last_value x (past ++ e ∷ []) ≡ unwrap_or o (last_value x past)
     go None is = ap (λ o. unwrap_or o 0) (last_of_push_none (λ e. written x e.op) past e is)
     go (Some v) is = ap (λ o. unwrap_or o 0) (last_of_push_some (λ e. written x e.op) past e v is)
+
+-- a Close of c closes it
+pub is_closed_push : (c : ℕ) (past : List Event) (e : Event) → is_closed c (past ++ e ∷ []) ≡ (is_closed c past || closes c e.op)
+is_closed_push c past e = has_push (closes c) past e
+
+-- what a Send on c sends comes behind what was sent before
+pub sent_push : (c : ℕ) (past : List Event) (e : Event) → filter_map (λ e. sent c e.op) (past ++ e ∷ []) ≡ filter_map (λ e. sent c e.op) past ++ option_to_list (sent c e.op)
+sent_push c past e = filter_map-append (λ e. sent c e.op) past (e ∷ []) ∙ ap (λ vs. filter_map (λ e. sent c e.op) past ++ vs) (alone (sent c e.op))
+  where
+    alone : (o : Option ℕ) → cons_option o [] ≡ option_to_list o
+    alone None = refl
+    alone (Some v) = refl
+
+-- each Send sends a value
+pub sent_count : (c : ℕ) (past : List Event) → length (filter_map (λ e. sent c e.op) past) ≡ count (sends c) past
+sent_count c [] = refl
+sent_count c (e ∷ past) = more e.op ∙ ap (λ n. as_number (sends c e.op) + n) (sent_count c past) ∙ sym (count_cons (sends c) e past)
+  where
+    rest : List ℕ
+    rest = filter_map (λ e. sent c e.op) past
+
+    one : (v : ℕ) (b : Bool) → length (cons_option (if b then Some v else None) rest) ≡ as_number b + length rest
+    one v true = omega arith
+    one v false = omega arith
+
+    more : (o : Op) → length (cons_option (sent c o) rest) ≡ as_number (sends c o) + length rest
+    more (Send d v) = one v (d == c)
+    more _ = omega arith

@@ -8,10 +8,12 @@ use Rattle.race_model.specs.Order.{SynchronizedInside, IsSource}
 use Rattle.race_model.proofs.Indexes.{at_same, slice_get-take, slice_get-push, push_at, append_at_old, take_within, take_at_old}
 use Rattle.race_model.proofs.Ranks.{synchronized_up}
 use Rattle.race_edges.specs.declared.listing.Edge.{Edge}
-use Rattle.race_edges.specs.Synchronized.{joins, source_at}
+use Rattle.race_model.specs.Synchronized.{joins}
+use Rattle.race_edges.specs.Synchronized.{source_at}
 use Rattle.race_edges.specs.Edges.{IsEdge, ComesBefore, AreEdges}
 use Rattle.race_edges.specs.EdgesSoFar.{AreEdgesWhere, LeadsBefore, AreEdgesBefore, edge_inside, with_edge}
-use Rattle.race_edges.proofs.SynchronizedLemmas.{joins_is, source_is, source_at_is, inside_pair}
+use Rattle.race_model.proofs.SynchronizedTests.{joins_is, source_is}
+use Rattle.race_edges.proofs.SynchronizedLemmas.{source_at_is, inside_pair}
 
 -- edges with the same numbers are the same
 same_edge : (d e : Edge) → d.from ≡ e.from → d.to ≡ e.to → d.from_who ≡ e.from_who → d.to_who ≡ e.to_who → d ≡ e

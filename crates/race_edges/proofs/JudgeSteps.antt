@@ -18,7 +18,8 @@ use Rattle.race_edges.specs.IsTable.{IsTable}
 use Rattle.race_edges.specs.Partners.{accessed, HasPlace, found_after}
 use Rattle.race_edges.specs.Answers.{AreFound}
 use Rattle.race_edges.proofs.RangeLemmas.{range_in_trace, partner_in_range, accessed_in_range, accessed_below}
-use Rattle.race_edges.proofs.SynchronizedLemmas.{source_is, source_at_is}
+use Rattle.race_model.proofs.SynchronizedTests.{source_is}
+use Rattle.race_edges.proofs.SynchronizedLemmas.{source_at_is}
 use Rattle.race_edges.proofs.TableSteps.{table_step}
 use Rattle.race_edges.proofs.FoundSteps.{found_step}
 

@@ -11,7 +11,8 @@ use Rattle.race_records.specs.declared.kind.Kind.{Kind}
 use Rattle.race_records.specs.Parts.{op_is_in_range}
 use Rattle.race_model.specs.Events.{At, sends, receives, closes, count}
 use Rattle.race_edges.specs.Numbers.{counts, number_at, AreNumbers}
-use Rattle.race_edges.specs.Synchronized.{is_source, source_at}
+use Rattle.race_model.specs.Synchronized.{is_source}
+use Rattle.race_edges.specs.Synchronized.{source_at}
 use Rattle.race_edges.proofs.SynchronizedLemmas.{source_at_is}
 
 -- the channel of a send is in range

@@ -6,9 +6,10 @@ use Rattle.std.proofs.lemmas.Option.{none-some, same_Some}
 use Rattle.race_records.specs.declared.event.Op.{Op}
 use Rattle.race_model.specs.Events.{partner}
 use Rattle.race_model.specs.Order.{SynchronizedInside}
-use Rattle.race_edges.specs.Synchronized.{joins}
+use Rattle.race_model.specs.Synchronized.{joins}
 use Rattle.race_edges.specs.TableState.{row_of, sees, joined, with_seen, with_row, given, inside, taken}
-use Rattle.race_edges.proofs.SynchronizedLemmas.{joins_is, inside_pair}
+use Rattle.race_model.proofs.SynchronizedTests.{joins_is}
+use Rattle.race_edges.proofs.SynchronizedLemmas.{inside_pair}
 
 -- One row.
 

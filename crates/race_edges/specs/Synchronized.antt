@@ -1,22 +1,9 @@
--- What each operation brings to the order, as tests: they pass exactly where SynchronizedInside and IsSource hold.
-use Rattle.std.specs.Prelude.{ℕ, ◌+◌, ◌==◌, ◌&&◌, ◌||◌, Bool, true, false, List, take, slice_get, Some, None}
+-- Which events are sources of an event of a list, and which operations can be one.
+use Rattle.std.specs.Prelude.{ℕ, Bool, true, false, List, take, slice_get, Some, None}
 use Rattle.race_records.specs.declared.event.Event.{Event}
 use Rattle.race_records.specs.declared.event.Op.{Op}
-use Rattle.race_records.specs.declared.event.Op.TheVariants.{Go, Send, Recv, Meet, RecvClosed, Close}
-use Rattle.race_model.specs.Events.{sends, receives, closes, count}
-
--- in one event, in which goroutine who does o, g's begin is synchronized before h's end
-abbrev pub joins : ℕ → Op → ℕ → ℕ → Bool
-joins who (Go k) g h = (who == g) && (k == h)
-joins who (Meet r c v) g h = ((who == g) && (r == h)) || ((r == g) && (who == h))
-joins who _ g h = false
-
--- the operation s, at index i of the events past, is synchronized before the completion of o, the operation that comes next
-abbrev pub is_source : (ℕ → ℕ) → List Event → ℕ → Op → Op → Bool
-is_source caps past i s (Recv c v) = sends c s && (count (sends c) (take i past) == count (receives c) past)
-is_source caps past i s (Send c v) = receives c s && (count (receives c) (take i past) + caps c == count (sends c) past)
-is_source caps past i s (RecvClosed c) = closes c s
-is_source caps past i s _ = false
+use Rattle.race_records.specs.declared.event.Op.TheVariants.{Send, Recv, Close}
+use Rattle.race_model.specs.Synchronized.{is_source}
 
 -- an event of the operation can be a source
 abbrev pub can_be_source : Op → Bool

@@ -4,7 +4,8 @@ use Rattle.std.specs.List.{slice_index_or}
 use Rattle.race_records.specs.declared.event.Event.{Event}
 use Rattle.race_records.specs.declared.event.Op.{Op}
 use Rattle.race_model.specs.Events.{partner}
-use Rattle.race_edges.specs.Synchronized.{joins, can_be_source}
+use Rattle.race_model.specs.Synchronized.{joins}
+use Rattle.race_edges.specs.Synchronized.{can_be_source}
 
 -- a `Table` as its callers see it
 pub record TableState : Type 0 where

@@ -2,6 +2,7 @@
 //! that an operation has its arms here alone.
 ghost use Rattle.std.specs.Prelude.{◌≡◌, ◌<◌, length};
 ghost use Rattle.race_model.specs.Events as model;
+ghost use Rattle.race_model.specs.Synchronized.{joins};
 ghost use Rattle.race_edges.specs.Synchronized as spec;
 ghost use Rattle.race_edges.specs.Numbers.{AreNumbers};
 ghost use Rattle.race_edges.specs.Traces.{capacities};
@@ -31,7 +32,7 @@ pub(crate) fn partner(op: &Op) -> Option<u32>
 
 /// Whether inside an event of `who` the begin of `from` is synchronized before the end of `to`.
 pub(crate) fn joins(who: u32, op: &Op, from: u32, to: u32) -> bool
-    ensures { result ≡ spec.joins who op.now from to }
+    ensures { result ≡ joins who op.now from to }
 {
     match op {
         // A go statement before the start of the new goroutine.

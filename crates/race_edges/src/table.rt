@@ -6,7 +6,8 @@
 ghost use Rattle.std.specs.Prelude.{◌≡◌, ◌<◌, ◌+◌, Bool, List, [], false, true, length, replicate, slice_set, slice_get, IfSome, IfOk, OnOk};
 ghost use Rattle.std.specs.List.{slice_index_or};
 ghost use Rattle.race_edges.specs.Numbers.{AreNumbers};
-ghost use Rattle.race_edges.specs.Synchronized.{joins, source_at};
+ghost use Rattle.race_model.specs.Synchronized.{joins};
+ghost use Rattle.race_edges.specs.Synchronized.{source_at};
 ghost use Rattle.race_edges.specs.TableState as spec;
 ghost use Rattle.race_edges.specs.Traces.{capacities};
 

@@ -8,6 +8,7 @@ pub mod Grow
 pub mod Reaching
 pub mod SeenSteps
 pub mod BeforeSeen
+pub mod SynchronizedTests
 pub mod SeenByComputing
 pub mod ChannelOrder
 pub mod RaceSteps

@@ -9,6 +9,8 @@ use Rattle.race_records.specs.declared.event.Op.{Op}
 use Rattle.race_records.specs.declared.event.Op.TheVariants.{Go, Send, Recv, Meet, RecvClosed}
 use Rattle.race_model.specs.Events.{At, takes_part, sends, receives, closes, count}
 use Rattle.race_model.specs.Order.{SynchronizedInside, IsSource, then_step}
+use Rattle.race_model.specs.Synchronized.{is_source}
+use Rattle.race_model.proofs.SynchronizedTests.{source_is}
 use Rattle.race_model.specs.Known.{SeenBy, SeenAt, Brings}
 use Rattle.race_model.proofs.Indexes.{at_same, at_below, take_within, take_at_old, take_suc, slice_get-take}
 use Rattle.race_model.proofs.Reaching.{ReachesEarlier, into_begin, who_takes_part}
@@ -33,19 +35,6 @@ Decides-inside passes P each who (Meet r c v) g = Decides-like _ to from (Decide
     from (f, inl s, p) = inl (s.1, subst P (sym s.0) p)
     from (f, inr s, p) = inr (s.1, subst P (sym s.0) p)
 Decides-inside passes P each who _ g = ((λ is. cc), (λ q. absurd q.1))
-
--- IsSource, as a test
-abbrev pub is_source : (ℕ → ℕ) → List Event → ℕ → Op → Op → Bool
-is_source caps past i s (Recv c v) = sends c s && (count (sends c) (take i past) == count (receives c) past)
-is_source caps past i s (Send c v) = receives c s && (count (receives c) (take i past) + caps c == count (sends c) past)
-is_source caps past i s (RecvClosed c) = closes c s
-is_source caps past i s _ = false
-
-Decides-source : (caps : ℕ → ℕ) (past : List Event) (i : ℕ) (s o : Op) → Decides (is_source caps past i s o) (IsSource caps past i s o)
-Decides-source caps past i s (Recv c v) = Decides-and _ _ ((λ is. is), (λ is. is)) (Decides-eqb _ _)
-Decides-source caps past i s (Send c v) = Decides-like _ (λ p. (count (receives c) (take i past), (p.0, refl), p.1)) (λ q. (q.1.0, ap (λ k. k + caps c) q.1.1 ∙ q.2)) (Decides-and _ _ ((λ is. is), (λ is. is)) (Decides-eqb _ _))
-Decides-source caps past i s (RecvClosed c) = ((λ is. is), (λ is. is))
-Decides-source caps past i s _ = ((λ is. cc), (λ never. absurd never))
 
 -- h's begin in event i is f's begin in event k
 abbrev is_begin : ℕ → ℕ → ℕ → ℕ → Bool
@@ -102,13 +91,13 @@ module _ (caps : ℕ → ℕ) (past : List Event) (e : Event) (i h g : ℕ) (had
   abbrev BySource : ℕ → Type 0
   BySource k = (s : Event) × At past k s × IsSource caps past k s.op e.op × SeenAt caps past i h k s.who
 
-  Decides-source_passes : (k : ℕ) → Decides (source_passes caps past e (λ k f. is_begin i h k f || had k f) k) (BySource k)
-  Decides-source_passes k = go (slice_get past k) refl
+  source_is_passes : (k : ℕ) → Decides (source_passes caps past e (λ k f. is_begin i h k f || had k f) k) (BySource k)
+  source_is_passes k = go (slice_get past k) refl
     where
       go : (o : Option Event) → slice_get past k ≡ o → Decides (elim o [ Some s ↦ is_source caps past k s.op e.op && (is_begin i h k s.who || had k s.who) | None ↦ false ]) (BySource k)
       go None none = ((λ is. cc), (λ by. let at : slice_get past k ≡ Some by.0 = by.1 in cc))
       go (Some s) at = Decides-like _ (λ p. (s, at, p.0, (seen_at_front caps past i h k s at).0 p.1)) from
-          (Decides-and _ _ (Decides-source caps past k s.op e.op) (Decides-or _ _ (Decides-and _ _ (Decides-eqb i k) (Decides-eqb h s.who)) (had_is k s.who within)))
+          (Decides-and _ _ (source_is caps past k s.op e.op) (Decides-or _ _ (Decides-and _ _ (Decides-eqb i k) (Decides-eqb h s.who)) (had_is k s.who within)))
         where
           within : k ≤ length past
           within = let below : k < length past = slice_get_within past k s at in omega arith
@@ -132,7 +121,7 @@ module _ (caps : ℕ → ℕ) (past : List Event) (e : Event) (i h g : ℕ) (had
       by_source = Decides-like _
           (λ p. (p.1.0, p.1.2.0, p.1.2.1, p.1.2.2, p.0, p.1.2.3))
           (λ q. (q.4, (q.0, slice_get_within past q.0 q.1 q.2, (q.1, q.2, q.3, q.5))))
-          (Decides-and _ _ (Decides-eqb e.who g) (Decides-below_or _ BySource (some_source caps past e (λ k f. is_begin i h k f || had k f)) Decides-source_passes refl (λ n. refl) (length past)))
+          (Decides-and _ _ (Decides-eqb e.who g) (Decides-below_or _ BySource (some_source caps past e (λ k f. is_begin i h k f || had k f)) source_is_passes refl (λ n. refl) (length past)))
 
 -- one event on
 Decides-after : (caps : ℕ → ℕ) (events : List Event) (i h n g : ℕ) (had : ℕ → ℕ → Bool) → n < length events

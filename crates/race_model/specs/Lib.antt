@@ -2,6 +2,7 @@ pub mod Events
 pub mod State
 pub mod Legal
 pub mod Order
+pub mod Synchronized
 pub mod Race
 pub mod Verdict
 pub mod Reorder

@@ -8,11 +8,11 @@ use race_text::{TextFault, parse_trace};
 use refusing_heap::RefusingHeap;
 use std::alloc::{Allocator, Global};
 
-// A goroutine, a variable and a race.
+// A goroutine, a variable with a race, and a channel on which a value is sent.
 fn traced<A: Allocator + Copy>(heap: A) -> Result<Trace<A>, TextFault> {
     parse_trace(
         heap,
-        b"gotrace 1\ngoroutine w\nvar x\ngo main w p\nwrite main x 1 p\nread w x 1 p\n",
+        b"gotrace 1\ngoroutine w\nvar x\nchan c 1\ngo main w p\nwrite main x 1 p\nread w x 1 p\nsend w c 1 p\n",
     )
 }
 
@@ -69,5 +69,5 @@ fn on_a_trace(alloc: Global, call: Call, nth: u64) -> Outcome
 
 #[test]
 fn edges_and_verdicts(rt: HostRuntime) {
-    assert_refusals!(rt, on_a_trace, [(Call::Edges, 4), (Call::PlainJudge, 9)]);
+    assert_refusals!(rt, on_a_trace, [(Call::Edges, 9), (Call::PlainJudge, 15)]);
 }

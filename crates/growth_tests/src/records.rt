@@ -38,6 +38,7 @@ fn copied<A: Allocator + Copy>(trace: &Trace<A>) -> Result<Decls<A>, AllocError>
 enum Addition {
     Goroutine,
     Var,
+    Chan,
     Place,
 }
 
@@ -45,6 +46,7 @@ fn add<A: Allocator + Copy>(decls: &mut Decls<A>, addition: Addition) -> Result<
     match addition {
         Addition::Goroutine => decls.add_goroutine("v"),
         Addition::Var => decls.add_var("y"),
+        Addition::Chan => decls.add_chan("y", 2),
         Addition::Place => decls.add_place("s"),
     }
 }
@@ -171,6 +173,7 @@ fn names_and_places(rt: HostRuntime) {
         [
             ((Start::Nothing, Addition::Goroutine, 1), 6),
             ((Start::Nothing, Addition::Var, 0), 6),
+            ((Start::Nothing, Addition::Chan, 0), 6),
             ((Start::Nothing, Addition::Place, 0), 5),
             ((Start::Copy, Addition::Goroutine, 2), 4),
             ((Start::Copy, Addition::Var, 2), 4),

@@ -4,21 +4,25 @@ ghost use Rattle.race_legal.specs.ReplayState.{IsInRange, counts_in};
 
 use crate::growths::{Outcome, assert_refusals, judge};
 use race_legal::{Broken, Replay, legal};
-use race_records::{Decls, Event, Object, Op, Trace};
+use race_records::{Decls, Event, Op, Trace};
 use refusing_heap::RefusingHeap;
 use std::alloc::{Allocator, Global};
 
-// A goroutine, a variable, a channel, and a write of main.
-fn traced<A: Allocator + Copy>(heap: A) -> Option<Trace<A>> {
+// A goroutine, a variable, a channel, and a send of main or a write.
+fn traced<A: Allocator + Copy>(heap: A, sends: bool) -> Option<Trace<A>> {
     let mut decls = Decls::new(heap);
     decls.add_goroutine("w").ok()?;
     decls.add_var("x").ok()?;
-    decls.declare("c", Object::Chan(2)).ok()?;
+    decls.add_chan("c", 2).ok()?;
     decls.add_place("p").ok()?;
     let mut trace = Trace::new(decls);
     let event = Event {
         who: 0,
-        op: Op::Write(0, 7),
+        op: if sends {
+            Op::Send(0, 7)
+        } else {
+            Op::Write(0, 7)
+        },
         place: 0,
         place2: None,
     };
@@ -30,7 +34,8 @@ fn traced<A: Allocator + Copy>(heap: A) -> Option<Trace<A>> {
 #[derive(Clone, Copy, Debug)]
 enum Call {
     New,
-    Accept,
+    AcceptWrite,
+    AcceptSend,
     Legal,
 }
 
@@ -77,7 +82,8 @@ fn on_a_trace(alloc: Global, call: Call, nth: u64) -> Outcome
     requires { 0 < nth }
 {
     let heap = RefusingHeap::new(alloc);
-    let Some(trace) = traced(&heap) else {
+    let sends = !matches!(call, Call::AcceptWrite);
+    let Some(trace) = traced(&heap, sends) else {
         return Outcome::Wrong;
     };
     let Ok(mut replay) = Replay::new(&heap, trace.decls()) else {
@@ -89,7 +95,7 @@ fn on_a_trace(alloc: Global, call: Call, nth: u64) -> Outcome
     heap.refuse(nth);
     let reply = match call {
         Call::New => new(&heap, &trace),
-        Call::Accept => accept(&mut replay, trace.event(0)),
+        Call::AcceptWrite | Call::AcceptSend => accept(&mut replay, trace.event(0)),
         Call::Legal => judged(&heap, &trace),
     };
     judge(&heap, reply == Reply::OutOfMemory, reply == Reply::Right)
@@ -100,7 +106,13 @@ fn replays(rt: HostRuntime) {
     assert_refusals!(
         rt,
         on_a_trace,
-        // No event so far makes a replay grow.
-        [(Call::New, 4), (Call::Accept, 0), (Call::Legal, 4)]
+        // A replay of a channel has two lists for goroutines, one for variables and three for channels.
+        // A value that is sent makes it grow.
+        [
+            (Call::New, 6),
+            (Call::AcceptWrite, 0),
+            (Call::AcceptSend, 1),
+            (Call::Legal, 7)
+        ]
     );
 }

@@ -24,6 +24,8 @@ pub(crate) fn partner(op: &Op) -> Option<u32>
         Op::Meet(receiver, _, _) => Some(*receiver),
         Op::RecvClosed(_) => None,
         Op::Close(_) => None,
+        Op::Default(_) => None,
+        Op::Fault(_) => None,
     }
 }
 
@@ -45,6 +47,8 @@ pub(crate) fn joins(who: u32, op: &Op, from: u32, to: u32) -> bool
         }
         Op::RecvClosed(_) => false,
         Op::Close(_) => false,
+        Op::Default(_) => false,
+        Op::Fault(_) => false,
     }
 }
 
@@ -62,6 +66,8 @@ pub(crate) fn can_be_source(op: &Op) -> bool
         Op::Meet(_, _, _) => false,
         Op::RecvClosed(_) => false,
         Op::Close(_) => true,
+        Op::Default(_) => false,
+        Op::Fault(_) => false,
     }
 }
 
@@ -100,6 +106,8 @@ pub(crate) fn is_source<A: Allocator, B: Allocator>(
         // The closing of a channel before each receive that finds it closed.
         Op::RecvClosed(chan) => is_close(*chan, &source.op),
         Op::Close(_) => false,
+        Op::Default(_) => false,
+        Op::Fault(_) => false,
     }
 }
 

@@ -1,5 +1,5 @@
 -- The table of channels, one event on.
-use Rattle.std.proofs.Common.{◌≡◌, ℕ, ◌+◌, ◌-◌, ◌<◌, ◌≤◌, ◌==◌, ◌||◌, Bool, true, false, List, [], ◌∷◌, ◌++◌, length, Option, Some, None, drop, get_or, filter_map, if◌then◌else◌, refl, sym, ap, ◌∙◌, subst, arith, append-nil, drop-drop}
+use Rattle.std.proofs.Common.{◌≡◌, ℕ, ◌+◌, ◌-◌, ◌<◌, ◌≤◌, ◌==◌, ◌||◌, Bool, true, false, List, [], ◌∷◌, ◌++◌, length, Some, None, drop, filter_map, if◌then◌else◌, refl, sym, ap, ◌∙◌, subst, arith, append-nil, drop-drop}
 use Rattle.std.specs.Option.{option_to_list}
 use Rattle.std.proofs.Math.Bool.{or-true, or-false}
 use Rattle.std.proofs.lemmas.Bool.{eqb-true, eqb-false}
@@ -56,17 +56,17 @@ waiting_push c past e le =
     values = filter_map (λ e. sent c e.op) past
 
 -- none of the rules is broken
-abbrev pub AllKept : List (ℕ × Bool) → Type 0
-AllKept [] = Unit {0}
-AllKept (r ∷ rs) = (r.1 ≡ false) × AllKept rs
+abbrev pub NoneBroken : List (ℕ × Bool) → Type 0
+NoneBroken [] = Unit {0}
+NoneBroken (r ∷ rs) = (r.1 ≡ false) × NoneBroken rs
 
-pub all_kept : (rules : List (ℕ × Bool)) → least_broken rules ≡ None → AllKept rules
-all_kept [] none = tt
-all_kept ((n, true) ∷ rs) none = cc
-all_kept ((n, false) ∷ rs) none = (refl, all_kept rs none)
+pub none_broken : (rules : List (ℕ × Bool)) → least_broken rules ≡ None → NoneBroken rules
+none_broken [] none = tt
+none_broken ((n, true) ∷ rs) none = cc
+none_broken ((n, false) ∷ rs) none = (refl, none_broken rs none)
 
 -- a Recv that breaks no rule finds a value: no more is received than sent
-pub received_step : (k : ReplayState) (who : ℕ) (o : Op) (c n m : ℕ) → AllKept (op_rules_in k who o) → n ≤ m → m - n ≡ length (queue_in k.channels c) → n + as_number (receives c o) ≤ m + as_number (sends c o)
+pub received_step : (k : ReplayState) (who : ℕ) (o : Op) (c n m : ℕ) → NoneBroken (op_rules_in k who o) → n ≤ m → m - n ≡ length (queue_in k.channels c) → n + as_number (receives c o) ≤ m + as_number (sends c o)
 received_step k who (Send d v) c n m kept le waiting = omega (arith, le)
 received_step k who (Recv d v) c n m kept le waiting = go kept.1.0 (d == c) (eqb-true d c)
   where

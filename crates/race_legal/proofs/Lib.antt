@@ -1,4 +1,5 @@
 pub mod Fronts
+pub mod Searches
 pub mod RangeLemmas
 pub mod TableSteps
 pub mod ChannelSteps

@@ -1,26 +1,31 @@
 -- The tables of a replay answer the state words, one event on.
-use Rattle.std.proofs.Common.{◌≡◌, ℕ, ◌+◌, ◌<◌, ◌==◌, ◌||◌, ◌&&◌, not, nat_lt, List, [], ◌∷◌, ◌++◌, length, drop, None, unwrap_or, refl, sym, ap, ◌∙◌, subst, arith, IsTrue, length-append}
-use Rattle.std.specs.List.{slice_index_or}
+use Rattle.std.proofs.Common.{◌≡◌, ℕ, ◌+◌, ◌<◌, ◌==◌, ◌||◌, ◌&&◌, not, nat_lt, List, [], ◌∷◌, ◌++◌, drop, Option, Some, None, unwrap_or, refl, sym, ap, ◌∙◌, subst, arith, rules, IsTrue, length-append}
+use Rattle.std.specs.List.{slice_index_or, list_all, list_any}
 use Rattle.std.specs.Option.{option_to_list}
 use Rattle.std.proofs.lemmas.Bool.Decides.{nat_tests}
 use Rattle.race_records.specs.declared.kind.Kind.{Kind}
 use Rattle.race_records.specs.declared.event.Event.{Event}
+use Rattle.race_records.specs.declared.cases.Case.{Case}
+use Rattle.race_records.specs.declared.cases.Dir.{Dir}
+use Rattle.race_records.specs.declared.event.Cause.{Cause}
+use Rattle.race_records.specs.declared.event.Cause.TheVariants.{SendClosed, CloseClosed, CloseNil}
 use Rattle.race_records.specs.declared.event.Op.{Op}
-use Rattle.race_records.specs.declared.event.Op.TheVariants.{Go, Exit, Read, Write, Send, Recv, Meet, RecvClosed, Close}
+use Rattle.race_records.specs.declared.event.Op.TheVariants.{Go, Exit, Read, Write, Send, Recv, Meet, RecvClosed, Close, Default, Fault}
 use Rattle.race_records.specs.Declarations.{Declaration, capacity_of}
-use Rattle.race_records.specs.Parts.{op_is_in_range}
-use Rattle.race_model.specs.Events.{starts, is_exit, gives, receives, sends, closes}
+use Rattle.race_records.specs.Parts.{op_is_in_range, chan_is_in_range, case_is_in_range, chan_of_cause}
+use Rattle.race_model.specs.Events.{starts, is_exit, is_fault, gives, receives, sends, closes}
 use Rattle.race_model.specs.State.{runs, written, sent}
-use Rattle.race_model.specs.Legal.{broken, least_broken, op_rules, receiver_runs, actors_run}
+use Rattle.race_model.specs.Legal.{broken, least_broken, op_rules, receiver_runs, actors_run, can_proceed, is_ready, cause_holds}
 use Rattle.race_model.proofs.StateSteps.{over_push, started_push, last_value_push, is_closed_push}
 use Rattle.race_model.proofs.CountSteps.{as_number, count_push, has_exited_push}
 use Rattle.race_model.proofs.LegalSteps.{legal_push}
 use Rattle.race_legal.specs.ReplayState.{ReplayState, IsInRange, counts_in, runs_in}
 use Rattle.race_legal.specs.After.{after}
-use Rattle.race_legal.specs.RulesKept.{send_rules, recv_rules, meet_rules, recv_closed_rules, op_rules_in, receiver_runs_in, actors_run_in, rules_in, broken_in}
+use Rattle.race_legal.specs.RulesKept.{send_rules, recv_rules, meet_rules, recv_closed_rules, can_proceed_in, is_ready_in, cause_holds_in, op_rules_in, receiver_runs_in, actors_run_in, rules_in, broken_in}
 use Rattle.race_legal.specs.StandsFor.{StandsFor}
 use Rattle.race_legal.proofs.TableSteps.{started_step, exited_step, values_step}
-use Rattle.race_legal.proofs.ChannelSteps.{closed_step, queue_step, waiting_push, all_kept, received_step}
+use Rattle.race_legal.proofs.ChannelSteps.{closed_step, queue_step, waiting_push, none_broken, received_step}
+use Rattle.race_legal.proofs.Searches.{finds_the_same}
 use Rattle.race_legal.proofs.Shape.{capacities_same, square_after, counts_after}
 use Rattle.race_legal.proofs.ChannelWords.{buffered_is, front_is, empty_is, left_is}
 
@@ -51,6 +56,29 @@ module _ (declarations : List Declaration) (k : ReplayState) (past : List Event)
     recv_closed_rules_is : (who : ℕ) → op_rules (capacity_of declarations) past who (RecvClosed c) ≡ recv_closed_rules k.channels c
     recv_closed_rules_is who = λ i. (10, not (S.closed c less i)) ∷ (11, left_is declarations k past S c less i) ∷ []
 
+    can_proceed_is : (dir : Dir) → can_proceed (capacity_of declarations) past c dir ≡ can_proceed_in k.channels c dir
+    can_proceed_is Dir.Send = λ i. S.closed c less i || (nat_lt 0 (S.capacity c less i) && nat_lt (buffered_is declarations k past S c less i) (S.capacity c less i))
+    can_proceed_is Dir.Recv = λ i. S.closed c less i || (nat_lt 0 (S.capacity c less i) && nat_lt 0 (buffered_is declarations k past S c less i))
+
+  -- a case is ready where the tables say so, and so is some of them
+  is_ready_is : (case : Case) → IsTrue (case_is_in_range (counts_in k Kind.Chan) case) → is_ready (capacity_of declarations) past case ≡ is_ready_in k.channels case
+  is_ready_is case is = by case.chan is
+    where
+      by : (chan : Option ℕ) → IsTrue (chan_is_in_range (counts_in k Kind.Chan) chan)
+          → is_ready (capacity_of declarations) past (record { dir = case.dir; chan = chan }) ≡ is_ready_in k.channels (record { dir = case.dir; chan = chan })
+      by None is = refl
+      by (Some c) is = let less : c < counts_in k Kind.Chan = grind (arith, nat_tests) in can_proceed_is c less case.dir
+
+  some_ready_is : (cases : List Case) → IsTrue (list_all (case_is_in_range (counts_in k Kind.Chan)) cases)
+      → list_any (is_ready (capacity_of declarations) past) cases ≡ list_any (is_ready_in k.channels) cases
+  some_ready_is cases is = finds_the_same (is_ready (capacity_of declarations) past) (is_ready_in k.channels) (case_is_in_range (counts_in k Kind.Chan)) cases is_ready_is is
+
+  -- the cause of a fault holds where they say so
+  cause_holds_is : (cause : Cause) → IsTrue (chan_is_in_range (counts_in k Kind.Chan) (chan_of_cause cause)) → cause_holds past cause ≡ cause_holds_in k.channels cause
+  cause_holds_is (SendClosed c) is = let less : c < counts_in k Kind.Chan = grind (arith, nat_tests) in S.closed c less
+  cause_holds_is (CloseClosed c) is = let less : c < counts_in k Kind.Chan = grind (arith, nat_tests) in S.closed c less
+  cause_holds_is CloseNil is = refl
+
   -- the rules on the operation, from the tables
   op_rules_is : (who : ℕ) (o : Op) → IsTrue (op_is_in_range (counts_in k) o) → op_rules (capacity_of declarations) past who o ≡ op_rules_in k who o
   op_rules_is who (Go h) is = let less : h < counts_in k Kind.Goroutine = grind (arith, nat_tests) in ap (λ b. (3, h == 0 || b) ∷ []) (S.started h less)
@@ -62,6 +90,8 @@ module _ (declarations : List Declaration) (k : ReplayState) (past : List Event)
   op_rules_is who (Meet r c v) is = let less : c < counts_in k Kind.Chan = grind (arith, nat_tests) in meet_rules_is c less who r v
   op_rules_is who (RecvClosed c) is = let less : c < counts_in k Kind.Chan = grind (arith, nat_tests) in recv_closed_rules_is c less who
   op_rules_is who (Close c) is = let less : c < counts_in k Kind.Chan = grind (arith, nat_tests) in ap (λ b. (12, b) ∷ []) (S.closed c less)
+  op_rules_is who (Default cases) is = ap (λ b. (22, b) ∷ []) (some_ready_is cases (search rules))
+  op_rules_is who (Fault cause) is = ap (λ b. (23, not b) ∷ []) (cause_holds_is cause (search rules))
 
   -- the least broken rule, from the tables
   pub broken_is : (e : Event) → IsInRange (counts_in k) e → broken (capacity_of declarations) past e ≡ broken_in k e
@@ -74,7 +104,7 @@ module _ (declarations : List Declaration) (k : ReplayState) (past : List Event)
     len = length-append past (e ∷ []) ∙ ap (λ n. n + 1) S.len;
     counts = counts ∙ S.counts;
     capacity = λ c less. S.capacity c (before Kind.Chan c less) ∙ ap (λ (caps : List ℕ). slice_index_or caps c 0) (sym (capacities_same k.channels e.op));
-    over = over_push past e ∙ ap (λ b. b || ((e.who == 0) && is_exit e.op)) S.over;
+    over = over_push past e ∙ ap (λ b. b || (((e.who == 0) && is_exit e.op) || is_fault e.op)) S.over;
     started = λ g less.
         let old = before Kind.Goroutine g less in
         started_push g past e ∙ ap (λ b. b || starts g e.op) (S.started g old) ∙ started_step k.goroutines e.who e.op g old;
@@ -92,7 +122,7 @@ module _ (declarations : List Declaration) (k : ReplayState) (past : List Event)
         waiting_push c past e (S.received c old) ∙ ap (λ vs. drop (as_number (receives c e.op)) (vs ++ option_to_list (sent c e.op))) (S.queue c old) ∙ queue_step k.channels e.op c (row c S.square.queues old);
     received = λ c less.
         let old = before Kind.Chan c less in
-        rw (count_push (receives c) past e, count_push (sends c) past e) (received_step k e.who e.op c _ _ (all_kept (rules_in k e) none).1.1 (S.received c old) (buffered_is declarations k past S c old));
+        rw (count_push (receives c) past e, count_push (sends c) past e) (received_step k e.who e.op c _ _ (none_broken (rules_in k e) none).1.1 (S.received c old) (buffered_is declarations k past S c old));
     square = square_after k e S.square;
   }
     where

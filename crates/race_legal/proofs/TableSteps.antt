@@ -4,7 +4,7 @@ use Rattle.std.proofs.lemmas.Bool.{cases_eq}
 use Rattle.std.proofs.Math.Bool.{or-true, or-false}
 use Rattle.std.proofs.lemmas.List.{get_or-set_same, get_or-set_other}
 use Rattle.race_records.specs.declared.event.Op.{Op}
-use Rattle.race_records.specs.declared.event.Op.TheVariants.{Go, Exit, Read, Write}
+use Rattle.race_records.specs.declared.event.Op.TheVariants.{Go, Exit, Write}
 use Rattle.race_model.specs.Events.{starts, is_exit}
 use Rattle.race_model.specs.State.{written}
 use Rattle.race_legal.specs.ReplayState.{GoroutinesState, started_in, exited_in}

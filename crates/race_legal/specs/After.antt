@@ -3,12 +3,12 @@ use Rattle.std.specs.Prelude.{ℕ, ◌+◌, ◌==◌, ◌||◌, ◌&&◌, Bool, 
 use Rattle.race_records.specs.declared.event.Event.{Event}
 use Rattle.race_records.specs.declared.event.Op.{Op}
 use Rattle.race_records.specs.declared.event.Op.TheVariants.{Go, Exit, Write, Send, Recv, Close}
-use Rattle.race_model.specs.Events.{is_exit}
+use Rattle.race_model.specs.Events.{is_exit, is_fault}
 use Rattle.race_legal.specs.ReplayState.{GoroutinesState, ChannelsState, ReplayState, queue_in}
 
--- the run is over with main's exit
+-- the run is over with main's exit, and with a fault
 abbrev pub over_after : Bool → ℕ → Op → Bool
-over_after over who o = over || ((who == 0) && is_exit o)
+over_after over who o = over || (((who == 0) && is_exit o) || is_fault o)
 
 -- the goroutine is started
 abbrev pub with_started : GoroutinesState → ℕ → GoroutinesState

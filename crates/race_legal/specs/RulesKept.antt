@@ -1,8 +1,13 @@
 -- The rules, read off what a replay keeps.
-use Rattle.std.specs.Prelude.{ℕ, ◌==◌, ◌||◌, ◌&&◌, not, nat_lt, Bool, true, List, [], ◌∷◌, length, slice_get, Option}
+use Rattle.std.specs.Prelude.{ℕ, ◌==◌, ◌||◌, ◌&&◌, not, nat_lt, Bool, true, false, List, [], ◌∷◌, length, slice_get, Option, Some, None}
+use Rattle.std.specs.List.{list_any}
+use Rattle.race_records.specs.declared.cases.Case.{Case}
+use Rattle.race_records.specs.declared.cases.Dir.{Dir}
+use Rattle.race_records.specs.declared.event.Cause.{Cause}
+use Rattle.race_records.specs.declared.event.Cause.TheVariants.{SendClosed, CloseClosed, CloseNil}
 use Rattle.race_records.specs.declared.event.Event.{Event}
 use Rattle.race_records.specs.declared.event.Op.{Op}
-use Rattle.race_records.specs.declared.event.Op.TheVariants.{Go, Exit, Read, Write, Send, Recv, Meet, RecvClosed, Close}
+use Rattle.race_records.specs.declared.event.Op.TheVariants.{Go, Exit, Read, Write, Send, Recv, Meet, RecvClosed, Close, Default, Fault}
 use Rattle.race_model.specs.Events.{gives}
 use Rattle.race_model.specs.Legal.{least_broken}
 use Rattle.race_legal.specs.ReplayState.{GoroutinesState, ChannelsState, ReplayState, started_in, runs_in, value_in, capacity_in, closed_in, queue_in}
@@ -23,6 +28,21 @@ meet_rules t c = (5, nat_lt 0 (capacity_in t c)) ∷ (6, closed_in t c) ∷ []
 abbrev pub recv_closed_rules : ChannelsState → ℕ → List (ℕ × Bool)
 recv_closed_rules t c = (10, not (closed_in t c)) ∷ (11, nat_lt 0 (length (queue_in t c))) ∷ []
 
+-- a case on the channel could go on at once
+abbrev pub can_proceed_in : ChannelsState → ℕ → Dir → Bool
+can_proceed_in t c Dir.Send = closed_in t c || (nat_lt 0 (capacity_in t c) && nat_lt (length (queue_in t c)) (capacity_in t c))
+can_proceed_in t c Dir.Recv = closed_in t c || (nat_lt 0 (capacity_in t c) && nat_lt 0 (length (queue_in t c)))
+
+-- a case on nil never can
+abbrev pub is_ready_in : ChannelsState → Case → Bool
+is_ready_in t case = elim case.chan [ None ↦ false | Some c ↦ can_proceed_in t c case.dir ]
+
+-- the cause of a fault holds
+abbrev pub cause_holds_in : ChannelsState → Cause → Bool
+cause_holds_in t (SendClosed c) = closed_in t c
+cause_holds_in t (CloseClosed c) = closed_in t c
+cause_holds_in t CloseNil = true
+
 -- the rules on what the goroutine does
 abbrev pub op_rules_in : ReplayState → ℕ → Op → List (ℕ × Bool)
 op_rules_in k who (Go h) = (3, h == 0 || started_in k.goroutines h) ∷ []
@@ -34,6 +54,8 @@ op_rules_in k who (Recv c v) = recv_rules k.channels c v
 op_rules_in k who (Meet r c v) = (4, r == who) ∷ meet_rules k.channels c
 op_rules_in k who (RecvClosed c) = recv_closed_rules k.channels c
 op_rules_in k who (Close c) = (12, closed_in k.channels c) ∷ []
+op_rules_in k who (Default cases) = (22, list_any (is_ready_in k.channels) cases) ∷ []
+op_rules_in k who (Fault cause) = (23, not (cause_holds_in k.channels cause)) ∷ []
 
 -- the receiver runs, where there is one
 abbrev pub receiver_runs_in : GoroutinesState → Op → Bool

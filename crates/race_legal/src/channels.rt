@@ -13,11 +13,13 @@ ghost use Rattle.std.specs.Prelude.{
   replicate,
   is_ok,
   IfOk,
+  IsTrue,
 };
-ghost use Rattle.std.specs.List.{slice_index_or};
+ghost use Rattle.std.specs.List.{slice_index_or, list_all, list_any};
 ghost use Rattle.std.specs.Option.{option_map};
 ghost use Rattle.race_records.specs.declared.kind.Kind.{Kind};
 ghost use Rattle.race_records.specs.Declarations.{count_of, capacity_of};
+ghost use Rattle.race_records.specs.Parts.{chan_is_in_range, case_is_in_range, chan_of_cause};
 ghost use Rattle.race_model.specs.Legal.{least_broken};
 ghost use Rattle.race_legal.specs.Rules.{number_of};
 ghost use Rattle.race_legal.specs.ReplayState.{
@@ -31,12 +33,15 @@ ghost use Rattle.race_legal.specs.RulesKept.{
   recv_rules,
   meet_rules,
   recv_closed_rules,
+  can_proceed_in,
+  is_ready_in,
+  cause_holds_in,
 };
 
 use crate::Rule;
 use crate::queue::Queue;
 use crate::rule::rule_if;
-use race_records::{Decls, Kind};
+use race_records::{Case, Cases, Cause, Decls, Dir, Kind};
 use std::alloc::{AllocError, Allocator};
 use std::marker::Model;
 
@@ -149,6 +154,55 @@ impl<A: Allocator> Channels<A> {
             return Some(Rule::NotClosed);
         }
         rule_if(Rule::NotDrained, self.buffered(chan) > 0)
+    }
+
+    // Whether a case of a select could go on at once.
+    pub(crate) fn has_ready(&self, cases: &Cases) -> bool
+        requires { IsTrue (list_all (case_is_in_range (length self.now.capacities)) cases.now) }
+        ensures { result ≡ list_any (is_ready_in self.now) cases.now }
+    {
+        for k in 0..cases.len() {
+            if self.is_ready(cases.get(k)) {
+                return true;
+            }
+        }
+        false
+    }
+
+    // Whether the case could; one on nil never can.
+    fn is_ready(&self, case: Case) -> bool
+        requires { IsTrue (case_is_in_range (length self.now.capacities) case) }
+        ensures { result ≡ is_ready_in self.now case }
+    {
+        match case.chan {
+            None => false,
+            Some(chan) => self.can_proceed(chan, case.dir),
+        }
+    }
+
+    // Whether a send or a receive could go on at once, if only to fail.
+    fn can_proceed(&self, chan: u32, dir: Dir) -> bool
+        requires { chan < length self.now.capacities }
+        ensures { result ≡ can_proceed_in self.now chan dir }
+    {
+        let capacity = self.capacities[chan as usize] as usize;
+        let buffered = self.buffered(chan);
+        match dir {
+            Dir::Send => self.is_closed(chan) || capacity > 0 && buffered < capacity,
+            Dir::Recv => self.is_closed(chan) || capacity > 0 && buffered > 0,
+        }
+    }
+
+    // Whether the cause of a fault holds.
+    pub(crate) fn cause_holds(&self, cause: Cause) -> bool
+        requires { IsTrue (chan_is_in_range (length self.now.capacities) (chan_of_cause cause)) }
+        ensures { result ≡ cause_holds_in self.now cause }
+    {
+        match cause {
+            Cause::SendClosed(chan) => self.is_closed(chan),
+            Cause::CloseClosed(chan) => self.is_closed(chan),
+            Cause::CloseNil => true,
+        }
     }
 
     // The value waits, unless there is no memory for it.

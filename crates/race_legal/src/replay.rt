@@ -212,6 +212,8 @@ impl<A: Allocator> Replay<A> {
             },
             Op::RecvClosed(chan) => self.channels.broken_by_recv_closed(*chan),
             Op::Close(chan) => rule_if(Rule::CloseOfClosed, self.channels.is_closed(*chan)),
+            Op::Default(cases) => rule_if(Rule::CaseReady, self.channels.has_ready(cases)),
+            Op::Fault(cause) => rule_if(Rule::NoFault, !self.channels.cause_holds(*cause)),
         }
     }
 
@@ -232,7 +234,8 @@ impl<A: Allocator> Replay<A> {
             Op::Send(chan, value) => self.channels.send(*chan, *value)?,
             Op::Recv(chan, _) => self.channels.receive(*chan),
             Op::Close(chan) => self.channels.close(*chan),
-            Op::Read(_, _) | Op::Meet(_, _, _) | Op::RecvClosed(_) => {}
+            Op::Fault(_) => self.over = true,
+            Op::Read(_, _) | Op::Meet(_, _, _) | Op::RecvClosed(_) | Op::Default(_) => {}
         }
         self.len += 1;
         Ok(())

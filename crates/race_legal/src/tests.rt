@@ -2,7 +2,7 @@ ghost use Rattle.std.specs.Prelude.{◌<◌};
 ghost use Rattle.race_legal.specs.ReplayState.{counts_in};
 
 use crate::{Broken, Illegal, Replay, Rule, legal};
-use race_records::{DeclFault, Decls, Event, Kind, Object, Op, Trace};
+use race_records::{Case, Cases, Cause, DeclFault, Decls, Dir, Event, Kind, Object, Op, Trace};
 use std::alloc::{AllocError, Global};
 use std::test::Fail;
 
@@ -219,12 +219,80 @@ fn rows_of_a_queue(alloc: Global) -> Result<Vec<Row>, AllocError> {
     ]?)
 }
 
+// The cases; a number behind the last channel's stands for nil.
+fn cases(list: &[(Dir, u32)]) -> Cases {
+    let mut cases = Cases::new();
+    for (dir, number) in list {
+        let chan = if *number < 3 { Some(*number) } else { None };
+        let _ = cases.push(Case { dir: *dir, chan });
+    }
+    cases
+}
+
+fn taken(list: &[(Dir, u32)]) -> Op {
+    Op::Default(cases(list))
+}
+
+fn rows_of_selects(alloc: Global) -> Result<Vec<Row>, AllocError> {
+    let ready = Some(Rule::CaseReady);
+    let failed = State {
+        over: true,
+        ..waiting(11, true, 0, None)
+    };
+    Ok(vec![in alloc;
+        (0, Op::Go(1), None, waiting(1, false, 0, None)),
+        (0, taken(&[(Dir::Send, 0)]), ready, waiting(1, false, 0, None)),
+        (0, taken(&[(Dir::Recv, 0)]), None, waiting(2, false, 0, None)),
+        (0, taken(&[(Dir::Recv, 0), (Dir::Send, 0)]), ready, waiting(2, false, 0, None)),
+        // Of an open channel without a buffer nothing is known.
+        (0, taken(&[(Dir::Recv, 1), (Dir::Send, 1)]), None, waiting(3, false, 0, None)),
+        (0, taken(&[(Dir::Recv, 3), (Dir::Send, 3)]), None, waiting(4, false, 0, None)),
+        (0, taken(&[]), None, waiting(5, false, 0, None)),
+        (0, Op::Send(0, 5), None, waiting(6, false, 1, Some(5))),
+        (1, taken(&[(Dir::Send, 0)]), None, waiting(7, false, 1, Some(5))),
+        (1, taken(&[(Dir::Send, 3), (Dir::Recv, 0)]), ready, waiting(7, false, 1, Some(5))),
+        (1, Op::Fault(Cause::SendClosed(0)), Some(Rule::NoFault), waiting(7, false, 1, Some(5))),
+        (1, Op::Fault(Cause::CloseClosed(0)), Some(Rule::NoFault), waiting(7, false, 1, Some(5))),
+        (0, Op::Close(0), None, waiting(8, true, 1, Some(5))),
+        (0, taken(&[(Dir::Send, 0)]), ready, waiting(8, true, 1, Some(5))),
+        (0, Op::Recv(0, 5), None, waiting(9, true, 0, None)),
+        (0, taken(&[(Dir::Recv, 0)]), ready, waiting(9, true, 0, None)),
+        (0, Op::Fault(Cause::CloseClosed(1)), Some(Rule::NoFault), waiting(9, true, 0, None)),
+        (0, Op::Close(1), None, waiting(10, true, 0, None)),
+        (0, taken(&[(Dir::Send, 1)]), ready, waiting(10, true, 0, None)),
+        (0, taken(&[(Dir::Recv, 1)]), ready, waiting(10, true, 0, None)),
+        (1, Op::Fault(Cause::SendClosed(1)), None, failed),
+        (0, taken(&[(Dir::Recv, 1)]), Some(Rule::AfterEnd), failed),
+    ]?)
+}
+
+fn rows_of_a_fault(alloc: Global) -> Result<Vec<Row>, AllocError> {
+    let failed = State {
+        len: 1,
+        over: true,
+        ..UNSTARTED
+    };
+    Ok(vec![in alloc;
+        (
+            1,
+            Op::Fault(Cause::CloseNil),
+            Some(Rule::NotRunning),
+            UNSTARTED
+        ),
+        (0, Op::Fault(Cause::CloseNil), None, failed),
+        (0, Op::Fault(Cause::CloseNil), Some(Rule::AfterEnd), failed),
+        (0, Op::Exit, Some(Rule::AfterEnd), failed),
+    ]?)
+}
+
 // The channel of each table, and the first of its rows that breaks a rule.
-static TABLES: [(u32, u32, Rule); 4] = [
+static TABLES: [(u32, u32, Rule); 6] = [
     (0, 0, Rule::NotRunning),
     (1, 0, Rule::NotRunning),
     (0, 1, Rule::BufferEmpty),
     (2, 3, Rule::BufferFull),
+    (0, 1, Rule::CaseReady),
+    (0, 0, Rule::NotRunning),
 ];
 
 fn rows(alloc: Global, table: usize) -> Result<Vec<Row>, AllocError> {
@@ -232,7 +300,9 @@ fn rows(alloc: Global, table: usize) -> Result<Vec<Row>, AllocError> {
         0 => rows_of_goroutines(alloc),
         1 => rows_of_meetings(alloc),
         2 => rows_of_a_buffer(alloc),
-        _ => rows_of_a_queue(alloc),
+        3 => rows_of_a_queue(alloc),
+        4 => rows_of_selects(alloc),
+        _ => rows_of_a_fault(alloc),
     }
 }
 

@@ -1,15 +1,19 @@
 -- Lists of events that differ in places alone are judged alike.
-use Rattle.std.proofs.Common.{◌≡◌, ℕ, ◌+◌, ◌-◌, cond, ◌==◌, ◌||◌, ◌&&◌, not, Bool, IsTrue, nat_lt, List, [], ◌∷◌, Option, Some, None, option_map, count_by, filter_map, take, slice_get, unwrap_or, refl, sym, ap, ◌∙◌, subst, inl, inr}
-use Rattle.std.specs.List.{cons_option}
+use Rattle.std.proofs.Common.{◌≡◌, ℕ, ◌+◌, ◌-◌, cond, ◌==◌, ◌||◌, ◌&&◌, not, Bool, false, IsTrue, nat_lt, List, [], ◌∷◌, Option, Some, None, option_map, count_by, filter_map, take, slice_get, unwrap_or, refl, sym, ap, ◌∙◌, subst, inl, inr}
+use Rattle.std.specs.List.{cons_option, list_any}
 use Rattle.std.proofs.lemmas.List.{take-map}
 use Rattle.std.proofs.lemmas.List.Folds.{fold-map}
 use Rattle.std.proofs.lemmas.Option.{none-some, same_Some, slice_get-map}
 use Rattle.race_records.specs.declared.event.Event.{Event}
+use Rattle.race_records.specs.declared.cases.Case.{Case}
+use Rattle.race_records.specs.declared.cases.Dir.{Dir}
+use Rattle.race_records.specs.declared.event.Cause.{Cause}
+use Rattle.race_records.specs.declared.event.Cause.TheVariants.{SendClosed, CloseClosed, CloseNil}
 use Rattle.race_records.specs.declared.event.Op.{Op}
-use Rattle.race_records.specs.declared.event.Op.TheVariants.{Go, Exit, Read, Write, Send, Recv, Meet, RecvClosed, Close}
-use Rattle.race_model.specs.Events.{At, operations, TakesPart, partner, gives, starts, is_exit, writes, accesses, count, sends, receives, closes, has_exited, last_of}
+use Rattle.race_records.specs.declared.event.Op.TheVariants.{Go, Exit, Read, Write, Send, Recv, Meet, RecvClosed, Close, Default, Fault}
+use Rattle.race_model.specs.Events.{At, operations, TakesPart, partner, gives, starts, is_exit, writes, accesses, count, sends, receives, closes, is_fault, has_exited, last_of}
 use Rattle.race_model.specs.State.{over, started, runs, written, last_value, is_closed, buffered, sent, front}
-use Rattle.race_model.specs.Legal.{op_rules, receiver_runs, least_broken, broken, IsLegal, IsIllegalAt}
+use Rattle.race_model.specs.Legal.{op_rules, can_proceed, is_ready, cause_holds, receiver_runs, least_broken, broken, IsLegal, IsIllegalAt}
 use Rattle.race_model.specs.Order.{Point, Begin, End, SequencedBefore, SynchronizedInside, IsSource, SynchronizedBefore, Step, Reaches, one_step, then_step, HappensBefore}
 use Rattle.race_model.specs.Race.{IsAccessOf, IsWriteOf, Conflict, IsRace, IsReportedRace}
 use Rattle.race_model.specs.Verdict.{Verdict, Illegal, Clean, Races, IsVerdict}
@@ -82,6 +86,9 @@ module _ (es fs : List Event) (same : operations es ≡ operations fs) where
   closed_alike : (c : ℕ) → is_closed c es ≡ is_closed c fs
   closed_alike c = ap (nat_lt 0) (kind_alike (closes c))
 
+  over_alike : over es ≡ over fs
+  over_alike i = exited_alike 0 i || ap (nat_lt 0) (kind_alike is_fault) i
+
   runs_alike : (g : ℕ) → runs g es ≡ runs g fs
   runs_alike g i = (g == 0 || started_alike g i) && not (exited_alike g i)
 
@@ -93,6 +100,22 @@ module _ (es fs : List Event) (same : operations es ≡ operations fs) where
 
   next_alike : (c : ℕ) → front c es ≡ front c fs
   next_alike c i = slice_get (sent_alike c i) (kind_alike (receives c) i)
+
+  can_alike : (caps : ℕ → ℕ) (c : ℕ) (dir : Dir) → can_proceed caps es c dir ≡ can_proceed caps fs c dir
+  can_alike caps c Dir.Send i = closed_alike c i || (nat_lt 0 (caps c) && nat_lt (buffered_alike c i) (caps c))
+  can_alike caps c Dir.Recv i = closed_alike c i || (nat_lt 0 (caps c) && nat_lt 0 (buffered_alike c i))
+
+  ready_alike : (caps : ℕ → ℕ) (case : Case) → is_ready caps es case ≡ is_ready caps fs case
+  ready_alike caps case = by case.chan
+    where
+      by : (chan : Option ℕ) → ◌≡◌ {A = Bool} (elim chan [ None ↦ false | Some c ↦ can_proceed caps es c case.dir ]) (elim chan [ None ↦ false | Some c ↦ can_proceed caps fs c case.dir ])
+      by None = refl
+      by (Some c) = can_alike caps c case.dir
+
+  cause_alike : (cause : Cause) → cause_holds es cause ≡ cause_holds fs cause
+  cause_alike (SendClosed c) = closed_alike c
+  cause_alike (CloseClosed c) = closed_alike c
+  cause_alike CloseNil = refl
 
   op_rules_alike : (caps : ℕ → ℕ) (g : ℕ) (o : Op) → op_rules caps es g o ≡ op_rules caps fs g o
   op_rules_alike caps g (Go h) = ap (λ b. (3, h == 0 || b) ∷ []) (started_alike h)
@@ -106,6 +129,8 @@ module _ (es fs : List Event) (same : operations es ≡ operations fs) where
   op_rules_alike caps g (RecvClosed c) =
       λ i. (10, not (closed_alike c i)) ∷ (11, nat_lt (kind_alike (receives c) i) (kind_alike (sends c) i)) ∷ []
   op_rules_alike caps g (Close c) = λ i. (12, closed_alike c i) ∷ []
+  op_rules_alike caps g (Default cases) = λ i. (22, list_any (λ case. ready_alike caps case i) cases) ∷ []
+  op_rules_alike caps g (Fault cause) = λ i. (23, not (cause_alike cause i)) ∷ []
 
   receiver_alike : (o : Op) → receiver_runs es o ≡ receiver_runs fs o
   receiver_alike (Meet r c v) = runs_alike r
@@ -113,7 +138,7 @@ module _ (es fs : List Event) (same : operations es ≡ operations fs) where
 
   broken_alike : (caps : ℕ → ℕ) (e f : Event) → e.who ≡ f.who → e.op ≡ f.op → broken caps es e ≡ broken caps fs f
   broken_alike caps e f who op =
-      (λ i. least_broken ((1, exited_alike 0 i) ∷ (2, not (runs_alike e.who i && receiver_alike e.op i)) ∷ op_rules_alike caps e.who e.op i))
+      (λ i. least_broken ((1, over_alike i) ∷ (2, not (runs_alike e.who i && receiver_alike e.op i)) ∷ op_rules_alike caps e.who e.op i))
       ∙ (λ i. least_broken ((1, over fs) ∷ (2, not (runs (who i) fs && receiver_runs fs (op i))) ∷ op_rules caps fs (who i) (op i)))
 
   takes_part_alike : (i g : ℕ) → TakesPart es i g → TakesPart fs i g

@@ -1,8 +1,11 @@
--- Small lists of events, whose verdicts are proved in src/examples.rt. (The Go Memory Model, "Goroutine creation", "Goroutine destruction", "Channel communication")
-use Rattle.std.specs.Prelude.{ℕ, if◌then◌else◌, ◌==◌, List, [], ◌∷◌, ◌++◌, None, length}
+-- Small lists of events, whose verdicts are proved in src/examples.rt. (The Go Memory Model, "Goroutine creation", "Goroutine destruction", "Channel communication"; the Specification, "Select statements", "Run-time panics")
+use Rattle.std.specs.Prelude.{ℕ, if◌then◌else◌, ◌==◌, List, [], ◌∷◌, ◌++◌, Some, None, length}
 use Rattle.race_records.specs.declared.event.Event.{Event}
+use Rattle.race_records.specs.declared.cases.Case.{Case}
+use Rattle.race_records.specs.declared.cases.Dir.{Dir}
+use Rattle.race_records.specs.declared.event.Cause.TheVariants.{SendClosed, CloseNil}
 use Rattle.race_records.specs.declared.event.Op.{Op}
-use Rattle.race_records.specs.declared.event.Op.TheVariants.{Go, Exit, Read, Write, Send, Recv, Meet, RecvClosed, Close}
+use Rattle.race_records.specs.declared.event.Op.TheVariants.{Go, Exit, Read, Write, Send, Recv, Meet, RecvClosed, Close, Default, Fault}
 use Rattle.race_model.specs.Legal.{IsLegal}
 use Rattle.race_model.specs.Verdict.{Race, IsVerdict, Illegal}
 
@@ -266,3 +269,79 @@ abbrev pub close_behind_value : List Event
 close_behind_value =
     does main (Go w) ∷ does main (Send c 1) ∷ does main (Write x 5) ∷ does main (Close c) ∷ does w (Recv c 1)
     ∷ does w (RecvClosed c) ∷ does w (Read x 5) ∷ []
+
+-- A select's default.
+
+-- cases of a select: a send and a receive on a channel, or on nil
+abbrev pub a_send : ℕ → Case
+a_send c = record { dir = Dir.Send; chan = Some c }
+
+abbrev pub a_receive : ℕ → Case
+a_receive c = record { dir = Dir.Recv; chan = Some c }
+
+abbrev pub send_on_nil : Case
+send_on_nil = record { dir = Dir.Send; chan = None }
+
+abbrev pub receive_on_nil : Case
+receive_on_nil = record { dir = Dir.Recv; chan = None }
+
+-- cases, where c's one place is taken: none could go on, the first could, the last could
+abbrev pub none_ready : List Case
+none_ready = a_send c ∷ a_receive d ∷ receive_on_nil ∷ a_receive e ∷ []
+
+abbrev pub first_ready : List Case
+first_ready = a_receive c ∷ a_send c ∷ a_receive d ∷ []
+
+abbrev pub last_ready : List Case
+last_ready = a_send c ∷ a_receive d ∷ receive_on_nil ∷ a_receive c ∷ []
+
+abbrev pub one_of_two_sent : List Event
+one_of_two_sent = does main (Send e 1) ∷ []
+
+-- a default because the buffer is full
+abbrev pub full_and_passed : List Event
+full_and_passed = does main (Send c 1) ∷ does main (Default (a_send c ∷ [])) ∷ []
+
+-- w writes and would receive, main would send, then reads
+abbrev pub nobody_meets : List Event
+nobody_meets =
+    does main (Go w) ∷ does w (Write x 1) ∷ does w (Default (a_receive d ∷ [])) ∷ does main (Default (a_send d ∷ []))
+    ∷ does main (Read x 1) ∷ []
+
+-- w writes and sends; main finds the buffer full, then reads
+abbrev pub finds_it_full : List Event
+finds_it_full =
+    does main (Go w) ∷ does w (Write x 1) ∷ does w (Send c 1) ∷ does main (Default (a_send c ∷ []))
+    ∷ does main (Read x 1) ∷ []
+
+-- w writes and receives; main finds the buffer empty, then reads
+abbrev pub finds_it_empty : List Event
+finds_it_empty =
+    does main (Go w) ∷ does main (Send c 1) ∷ does w (Write x 1) ∷ does w (Recv c 1)
+    ∷ does main (Default (a_receive c ∷ [])) ∷ does main (Read x 1) ∷ []
+
+-- main writes and sends; w receives and reads; each took a default before
+abbrev pub defaults_between : List Event
+defaults_between =
+    does main (Go w) ∷ does main (Write x 1) ∷ does main (Default (a_receive c ∷ [])) ∷ does main (Send c 1)
+    ∷ does w (Default (a_send c ∷ [])) ∷ does w (Recv c 1) ∷ does w (Read x 1) ∷ []
+
+-- A fault.
+
+abbrev pub main_failed : List Event
+main_failed = does main (Go w) ∷ does main (Fault CloseNil) ∷ []
+
+abbrev pub w_failed : List Event
+w_failed = does main (Go w) ∷ does w (Fault CloseNil) ∷ []
+
+-- w writes and closes; main reads, then fails, since the channel is closed
+abbrev pub reads_and_fails : List Event
+reads_and_fails =
+    does main (Go w) ∷ does w (Write x 1) ∷ does w (Close c) ∷ does main (Read x 1)
+    ∷ does main (Fault (SendClosed c)) ∷ []
+
+-- main finds the channel closed before it reads and fails
+abbrev pub finds_it_closed_and_fails : List Event
+finds_it_closed_and_fails =
+    does main (Go w) ∷ does w (Write x 1) ∷ does w (Close c) ∷ does main (RecvClosed c) ∷ does main (Read x 1)
+    ∷ does main (Fault (SendClosed c)) ∷ []

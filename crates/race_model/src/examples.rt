@@ -1,6 +1,7 @@
 //! Small lists of events with their verdicts. Each function does nothing, and its contract is the example.
 ghost use Rattle.std.specs.Prelude.{ℕ, ◌≡◌, [], ◌∷◌};
-ghost use Rattle.race_records.specs.declared.event.Op.TheVariants.{Send, Recv, Meet, RecvClosed, Close};
+ghost use Rattle.race_records.specs.declared.event.Op.TheVariants.{Exit, Read, Send, Recv, Meet, RecvClosed, Close, Default, Fault};
+ghost use Rattle.race_records.specs.declared.event.Cause.TheVariants.{SendClosed, CloseClosed, CloseNil};
 ghost use Rattle.race_model.specs.Order.{HappensBefore};
 ghost use Rattle.race_model.specs.Reorder.{IsReordering, own_order, finds};
 ghost use Rattle.race_model.specs.Verdict.{IsVerdict, Clean, Races, Illegal};
@@ -62,6 +63,23 @@ ghost use Rattle.race_model.specs.Examples.{
   another_channel_closed,
   value_behind_close,
   close_behind_value,
+  a_send,
+  a_receive,
+  send_on_nil,
+  receive_on_nil,
+  none_ready,
+  first_ready,
+  last_ready,
+  one_of_two_sent,
+  full_and_passed,
+  nobody_meets,
+  finds_it_full,
+  finds_it_empty,
+  defaults_between,
+  main_failed,
+  w_failed,
+  reads_and_fails,
+  finds_it_closed_and_fails,
 };
 
 /// A write before the `go` happens before what the new goroutine reads.
@@ -203,4 +221,81 @@ pub fn a_close_is_seen_by_who_finds_it()
     ensures another_channel { IsVerdict capacities another_channel_closed (Races (race_on_x 2 5)) }
     ensures value { IsVerdict capacities value_behind_close (Races (race_on_x 2 5)) }
     ensures found_closed { IsVerdict capacities close_behind_value Clean }
+{}
+
+/// A select takes its default only where no case could go on.
+pub fn a_default_is_taken_where_no_case_could_go_on()
+    ensures send_with_room { Breaks [] (does main (Default (a_send c ∷ []))) 22 }
+    ensures send_when_full { Fits one_sent (does main (Default (a_send c ∷ []))) }
+    ensures send_with_room_again { Breaks one_received (does main (Default (a_send c ∷ []))) 22 }
+    ensures send_with_room_left { Breaks one_of_two_sent (does main (Default (a_send e ∷ []))) 22 }
+    ensures send_with_no_room_left { Fits two_waiting (does main (Default (a_send e ∷ []))) }
+    ensures send_elsewhere { Breaks one_sent (does main (Default (a_send e ∷ []))) 22 }
+    ensures receive_of_nothing { Fits [] (does main (Default (a_receive c ∷ []))) }
+    ensures receive_of_a_value { Breaks one_sent (does main (Default (a_receive c ∷ []))) 22 }
+    ensures receive_of_nothing_again { Fits one_received (does main (Default (a_receive c ∷ []))) }
+    ensures receive_when_full { Breaks two_waiting (does main (Default (a_receive e ∷ []))) 22 }
+    ensures receive_elsewhere { Fits one_sent (does main (Default (a_receive e ∷ []))) }
+    ensures unbuffered_send { Fits started (does main (Default (a_send d ∷ []))) }
+    ensures unbuffered_receive { Fits started (does main (Default (a_receive d ∷ []))) }
+    ensures after_exit { Breaks gone (does w (Default [])) 2 }
+{}
+
+/// A case on a closed channel could go on, and one on nil never could.
+pub fn a_case_on_a_closed_channel_could_go_on()
+    ensures send { Breaks closed (does main (Default (a_send c ∷ []))) 22 }
+    ensures send_when_full { Breaks sent_and_closed (does main (Default (a_send c ∷ []))) 22 }
+    ensures receive { Breaks closed (does main (Default (a_receive c ∷ []))) 22 }
+    ensures value_left { Breaks sent_and_closed (does main (Default (a_receive c ∷ []))) 22 }
+    ensures emptied { Breaks closed_and_emptied (does main (Default (a_receive c ∷ []))) 22 }
+    ensures receive_elsewhere { Fits closed (does main (Default (a_receive e ∷ []))) }
+    ensures unbuffered_send { Breaks unbuffered_closed (does main (Default (a_send d ∷ []))) 22 }
+    ensures unbuffered { Breaks unbuffered_closed (does main (Default (a_receive d ∷ []))) 22 }
+    ensures another_unbuffered { Fits closed (does main (Default (a_send d ∷ a_receive d ∷ []))) }
+    ensures nil { Fits closed (does main (Default (send_on_nil ∷ receive_on_nil ∷ []))) }
+    ensures no_case { Fits closed (does main (Default [])) }
+{}
+
+/// One case that could go on is enough, wherever it stands.
+pub fn each_case_of_a_select_counts()
+    ensures none { Fits one_sent (does main (Default none_ready)) }
+    ensures first { Breaks one_sent (does main (Default first_ready)) 22 }
+    ensures last { Breaks one_sent (does main (Default last_ready)) 22 }
+{}
+
+/// A send on a channel or a close of it fails where it is closed; a close of nil always does.
+pub fn a_fault_has_its_cause()
+    ensures send { Fits closed (does main (Fault (SendClosed c))) }
+    ensures send_on_open { Breaks [] (does main (Fault (SendClosed c))) 23 }
+    ensures send_when_full { Breaks one_sent (does main (Fault (SendClosed c))) 23 }
+    ensures send_elsewhere { Breaks closed (does main (Fault (SendClosed e))) 23 }
+    ensures unbuffered_send { Fits unbuffered_closed (does w (Fault (SendClosed d))) }
+    ensures close { Fits closed (does main (Fault (CloseClosed c))) }
+    ensures close_of_open { Breaks [] (does main (Fault (CloseClosed c))) 23 }
+    ensures close_elsewhere { Breaks closed (does main (Fault (CloseClosed e))) 23 }
+    ensures unbuffered_close { Fits unbuffered_closed (does w (Fault (CloseClosed d))) }
+    ensures close_of_nil { Fits [] (does main (Fault CloseNil)) }
+    ensures unstarted { Breaks [] (does w (Fault CloseNil)) 2 }
+{}
+
+/// Nothing stands behind a fault, whichever goroutine failed; a default ends nothing.
+pub fn a_fault_ends_the_run()
+    ensures main_after_main { Breaks main_failed (does main (Read x 0)) 1 }
+    ensures another_after_main { Breaks main_failed (does w (Read x 0)) 1 }
+    ensures main_after_another { Breaks w_failed (does main (Read x 0)) 1 }
+    ensures another_after_another { Breaks w_failed (does w Exit) 1 }
+    ensures fault_after_fault { Breaks w_failed (does main (Fault CloseNil)) 1 }
+    ensures main_after_an_exit { Fits gone (does main (Read x 0)) }
+    ensures default_then_receive { Fits full_and_passed (does main (Recv c 1)) }
+    ensures default_then_send { Breaks full_and_passed (does main (Send c 2)) 7 }
+{}
+
+/// A default orders nothing between goroutines, and a run that failed is judged like any other.
+pub fn a_default_orders_nothing()
+    ensures nobody_meets { IsVerdict capacities nobody_meets (Races (race_on_x 1 4)) }
+    ensures full { IsVerdict capacities finds_it_full (Races (race_on_x 1 4)) }
+    ensures empty { IsVerdict capacities finds_it_empty (Races (race_on_x 2 5)) }
+    ensures between { IsVerdict capacities defaults_between Clean }
+    ensures failed_run { IsVerdict capacities reads_and_fails (Races (race_on_x 1 3)) }
+    ensures ordered_in_a_failed_run { IsVerdict capacities finds_it_closed_and_fails Clean }
 {}

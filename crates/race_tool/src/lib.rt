@@ -1,6 +1,8 @@
 //! The engines of the race detector: bytes in, bytes out.
 #![tactic(auto)]
 
+#[cfg(test)]
+mod channel_tests;
 mod check;
 mod edges_engine;
 mod edges_found;

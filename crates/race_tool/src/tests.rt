@@ -7,7 +7,7 @@ use std::process::Abort;
 use std::test::Fail;
 
 // The lines of a row, each with its newline.
-fn text_of(alloc: Global, row: &str) -> Result<Vec<u8>, Fail> {
+pub(crate) fn text_of(alloc: Global, row: &str) -> Result<Vec<u8>, Fail> {
     let mut text = Vec::new(alloc);
     for line in row.split(" / ") {
         text.extend_from_slice(line.as_bytes())?;
@@ -26,7 +26,7 @@ fn checked(alloc: Global, bytes: &[u8]) -> (u8, Vec<u8>) {
 }
 
 // Lists the edges of the bytes.
-fn listed(alloc: Global, bytes: &[u8]) -> (u8, Vec<u8>) {
+pub(crate) fn listed(alloc: Global, bytes: &[u8]) -> (u8, Vec<u8>) {
     let mut source = Source::new(bytes);
     let mut output = Vec::new(alloc);
     let mut sink = Sink::new(&mut output);
@@ -34,9 +34,15 @@ fn listed(alloc: Global, bytes: &[u8]) -> (u8, Vec<u8>) {
     (answer, output)
 }
 
-fn check(rt: &(impl Abort + AllocGlobal), rows: &[(&str, &str, u8)]) -> Result<(), Fail> {
+// Checks the rows, each behind these first lines.
+pub(crate) fn check(
+    rt: &(impl Abort + AllocGlobal),
+    first: &str,
+    rows: &[(&str, &str, u8)],
+) -> Result<(), Fail> {
     for (row, report, status) in rows {
-        let (answer, output) = checked(rt.alloc(), text_of(rt.alloc(), *row)?.as_slice());
+        let text = format!(in rt.alloc(); "{first}{row}")?;
+        let (answer, output) = checked(rt.alloc(), text_of(rt.alloc(), text.as_str())?.as_slice());
         let want = text_of(rt.alloc(), *report)?;
         assert_eq!(rt; answer, *status, "{row}");
         assert_eq!(rt; output.as_slice(), want.as_slice(), "{row}");
@@ -48,6 +54,7 @@ fn check(rt: &(impl Abort + AllocGlobal), rows: &[(&str, &str, u8)]) -> Result<(
 fn ordered_accesses_are_clean(rt: HostRuntime) -> Result<(), Fail> {
     check(
         &rt,
+        "",
         &[
             ("gotrace 1", "clean: 0 events, 0 accesses", status::CLEAN),
             // A write before the go.
@@ -69,6 +76,7 @@ fn ordered_accesses_are_clean(rt: HostRuntime) -> Result<(), Fail> {
 fn each_variable_with_a_race_has_one_line(rt: HostRuntime) -> Result<(), Fail> {
     check(
         &rt,
+        "",
         &[
             // A write behind the go.
             (
@@ -102,6 +110,7 @@ fn each_variable_with_a_race_has_one_line(rt: HostRuntime) -> Result<(), Fail> {
 fn the_first_illegal_event_is_told_with_its_rule(rt: HostRuntime) -> Result<(), Fail> {
     check(
         &rt,
+        "",
         &[
             (
                 "gotrace 1 / goroutine a / var x / exit main p / exit main q",
@@ -131,6 +140,7 @@ fn the_first_illegal_event_is_told_with_its_rule(rt: HostRuntime) -> Result<(), 
 fn the_first_line_at_fault_is_told_with_its_cause(rt: HostRuntime) -> Result<(), Fail> {
     check(
         &rt,
+        "",
         &[
             ("", "line 1: bad header", status::TEXT_FAULT),
             (

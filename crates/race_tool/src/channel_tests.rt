@@ -131,10 +131,94 @@ static EVENTS: [(&str, &str, u8); 12] = [
     ),
 ];
 
+// A select's defaults, and faults, behind the same declarations.
+static ENDS: [(&str, &str, u8); 15] = [
+    (
+        "default main send:c p",
+        "illegal: event 1: case ready",
+        status::ILLEGAL,
+    ),
+    (
+        "close main d p / default main recv:d q",
+        "illegal: event 2: case ready",
+        status::ILLEGAL,
+    ),
+    // No case, and none that could go on.
+    (
+        "default main - p / default main recv:c,send:d,recv:nil q",
+        "clean: 2 events, 0 accesses",
+        status::CLEAN,
+    ),
+    (
+        "send main c 1 p / default main send:c q",
+        "clean: 2 events, 0 accesses",
+        status::CLEAN,
+    ),
+    (
+        "fault main send:c p",
+        "illegal: event 1: no fault",
+        status::ILLEGAL,
+    ),
+    (
+        "default main send:d,recv:nil p / fault main close:nil q",
+        "clean: 2 events, 0 accesses",
+        status::CLEAN,
+    ),
+    (
+        "close main c p / fault main send:c q",
+        "clean: 2 events, 0 accesses",
+        status::CLEAN,
+    ),
+    // A fault ends the run, whoever fails.
+    (
+        "go main a p / close main c p / fault a close:c q / exit main r",
+        "illegal: event 4: after end",
+        status::ILLEGAL,
+    ),
+    (
+        "fault main send:nil p",
+        "line 6: bad name",
+        status::TEXT_FAULT,
+    ),
+    (
+        "fault main unlock:m p",
+        "line 6: bad name",
+        status::TEXT_FAULT,
+    ),
+    (
+        "default main send:x p",
+        "line 6: wrong kind",
+        status::TEXT_FAULT,
+    ),
+    // Sixteen cases, and seventeen.
+    (
+        "default main send:d,recv:nil,send:d,recv:nil,send:d,recv:nil,send:d,recv:nil,send:d,recv:nil,send:d,recv:nil,send:d,recv:nil,send:d,recv:nil p",
+        "clean: 1 events, 0 accesses",
+        status::CLEAN,
+    ),
+    (
+        "default main send:d,recv:nil,send:d,recv:nil,send:d,recv:nil,send:d,recv:nil,send:d,recv:nil,send:d,recv:nil,send:d,recv:nil,send:d,recv:nil,recv:d p",
+        "line 6: too many",
+        status::TEXT_FAULT,
+    ),
+    // Another cause is told first.
+    (
+        "default main send:d,recv:nil,send:d,recv:nil,send:d,recv:nil,send:d,recv:nil,send:d,recv:nil,send:d,recv:nil,send:d,recv:nil,send:d,recv:nil,recv:e p",
+        "line 6: unknown name",
+        status::TEXT_FAULT,
+    ),
+    (
+        "default main send:d,recv:nil,send:d,recv:nil,send:d,recv:nil,send:d,recv:nil,send:d,recv:nil,send:d,recv:nil,send:d,recv:nil,send:d,recv:nil,recv:d",
+        "line 6: wrong count",
+        status::TEXT_FAULT,
+    ),
+];
+
 #[test]
 fn channels_are_judged(rt: HostRuntime) -> Result<(), Fail> {
     check(&rt, "", &JUDGED)?;
-    check(&rt, DECLARED, &EVENTS)
+    check(&rt, DECLARED, &EVENTS)?;
+    check(&rt, DECLARED, &ENDS)
 }
 
 #[test]

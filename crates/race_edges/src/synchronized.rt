@@ -1,5 +1,5 @@
 //! What each operation brings to the order. The list of edges and the judge go by these tests, so
-//! that an operation has its arms here alone.
+//! that an operation has its arms here, and in numbers where it is matched by its number.
 ghost use Rattle.std.specs.Prelude.{◌≡◌, ◌<◌, length};
 ghost use Rattle.race_model.specs.Events as model;
 ghost use Rattle.race_model.specs.Synchronized.{joins};

@@ -1,5 +1,5 @@
 use crate::status;
-use crate::tests::{check, listed, text_of};
+use crate::tests::{check, list};
 use std::test::Fail;
 
 // Traces with their reports and statuses.
@@ -223,27 +223,21 @@ fn channels_are_judged(rt: HostRuntime) -> Result<(), Fail> {
 
 #[test]
 fn the_edges_of_channels_are_listed(rt: HostRuntime) -> Result<(), Fail> {
-    for (row, want) in [
-        (
-            JUDGED[2].0,
-            "edge 1 main 1 a / edge 2 main 2 b / edge 3 main 5 a / edge 5 a 6 b / edge 6 b 7 main / edges: 5",
-        ),
-        (
-            JUDGED[1].0,
-            "edge 1 main 1 w / edge 3 main 3 w / edge 3 w 3 main / edges: 3",
-        ),
-        (
-            JUDGED[4].0,
-            "edge 1 main 1 a / edge 2 main 2 b / edge 4 main 5 a / edge 4 main 7 b / edges: 4",
-        ),
-    ] {
-        let (answer, output) = listed(rt.alloc(), text_of(rt.alloc(), row)?.as_slice());
-        assert_eq!(rt; answer, status::CLEAN, "{row}");
-        assert_eq!(rt;
-            output.as_slice(),
-            text_of(rt.alloc(), want)?.as_slice(),
-            "{row}"
-        );
-    }
-    Ok(())
+    list(
+        &rt,
+        &[
+            (
+                JUDGED[2].0,
+                "edge 1 main 1 a / edge 2 main 2 b / edge 3 main 5 a / edge 5 a 6 b / edge 6 b 7 main / edges: 5",
+            ),
+            (
+                JUDGED[1].0,
+                "edge 1 main 1 w / edge 3 main 3 w / edge 3 w 3 main / edges: 3",
+            ),
+            (
+                JUDGED[4].0,
+                "edge 1 main 1 a / edge 2 main 2 b / edge 4 main 5 a / edge 4 main 7 b / edges: 4",
+            ),
+        ],
+    )
 }

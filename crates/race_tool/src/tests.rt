@@ -7,7 +7,7 @@ use std::process::Abort;
 use std::test::Fail;
 
 // The lines of a row, each with its newline.
-pub(crate) fn text_of(alloc: Global, row: &str) -> Result<Vec<u8>, Fail> {
+fn text_of(alloc: Global, row: &str) -> Result<Vec<u8>, Fail> {
     let mut text = Vec::new(alloc);
     for line in row.split(" / ") {
         text.extend_from_slice(line.as_bytes())?;
@@ -26,7 +26,7 @@ fn checked(alloc: Global, bytes: &[u8]) -> (u8, Vec<u8>) {
 }
 
 // Lists the edges of the bytes.
-pub(crate) fn listed(alloc: Global, bytes: &[u8]) -> (u8, Vec<u8>) {
+fn listed(alloc: Global, bytes: &[u8]) -> (u8, Vec<u8>) {
     let mut source = Source::new(bytes);
     let mut output = Vec::new(alloc);
     let mut sink = Sink::new(&mut output);
@@ -336,24 +336,29 @@ fn both_engines_tell_of_traces_up_to_each_limit(rt: HostRuntime) -> Result<(), F
     Ok(())
 }
 
-#[test]
-fn each_go_is_an_edge(rt: HostRuntime) -> Result<(), Fail> {
-    for (row, want) in [
-        (
-            "gotrace 1 / goroutine a / goroutine b / go main b m:1 / go b a b:1 / exit b b:2 / exit main m:2",
-            "edge 1 main 1 b / edge 2 b 2 a / edges: 2",
-        ),
-        ("gotrace 1", "edges: 0"),
-    ] {
-        let (answer, output) = listed(rt.alloc(), text_of(rt.alloc(), row)?.as_slice());
+// Lists the edges of the rows, all of which are legal.
+pub(crate) fn list(rt: &(impl Abort + AllocGlobal), rows: &[(&str, &str)]) -> Result<(), Fail> {
+    for (row, edges) in rows {
+        let (answer, output) = listed(rt.alloc(), text_of(rt.alloc(), *row)?.as_slice());
+        let want = text_of(rt.alloc(), *edges)?;
         assert_eq!(rt; answer, status::CLEAN, "{row}");
-        assert_eq!(rt;
-            output.as_slice(),
-            text_of(rt.alloc(), want)?.as_slice(),
-            "{row}"
-        );
+        assert_eq!(rt; output.as_slice(), want.as_slice(), "{row}");
     }
     Ok(())
+}
+
+#[test]
+fn each_go_is_an_edge(rt: HostRuntime) -> Result<(), Fail> {
+    list(
+        &rt,
+        &[
+            (
+                "gotrace 1 / goroutine a / goroutine b / go main b m:1 / go b a b:1 / exit b b:2 / exit main m:2",
+                "edge 1 main 1 b / edge 2 b 2 a / edges: 2",
+            ),
+            ("gotrace 1", "edges: 0"),
+        ],
+    )
 }
 
 #[test]

@@ -34,7 +34,8 @@ rows_kept is table n who o =
     let c = shape_taken is table.heard (inside (with_seen table.rows who n) who o) who n in
     c.count ∙ b.count ∙ a.count
 
-found_kept : (rows : List (List Bool)) (events : List Event) (n : ℕ) (e : Event) (found : List (Option Race)) → length (found_after rows events n e found) ≡ length found
+found_kept : (rows : List (List Bool)) (events : List Event) (n : ℕ) (e : Event) (found : List (Option Race))
+    → length (found_after rows events n e found) ≡ length found
 found_kept rows events n e found = by (accessed e.op)
   where
     one : (x : ℕ) (b : Bool) → length (if b then found else slice_set found x (race_at rows events n e x)) ≡ length found

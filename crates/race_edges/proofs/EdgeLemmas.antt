@@ -70,7 +70,8 @@ module _ (caps : ℕ → ℕ) (events : List Event) where
     }
 
     -- the list with an edge behind it, where it is one
-    pub added : (b : Bool) → IsTrue b ↔ IsEdge caps events e → ((d : Edge) → P d → ComesBefore d e) → AreEdgesWhere (λ d. P d ⊎ (d ≡ e)) caps events (with_edge b e edges)
+    pub added : (b : Bool) → IsTrue b ↔ IsEdge caps events e → ((d : Edge) → P d → ComesBefore d e)
+        → AreEdgesWhere (λ d. P d ⊎ (d ≡ e)) caps events (with_edge b e edges)
     added true is last = one_more (is.0 refl) last
     added false is last = none_more (λ edge. let never : false ≡ true = is.1 edge in cc)
 
@@ -170,7 +171,8 @@ module _ (caps : ℕ → ℕ) (events : List Event) where
     )
 
     -- an edge inside the event, by its goroutines
-    pair_of : (d : Edge) → IsEdge caps events d → d.from ≡ i → d.to ≡ i → ((e.who ≡ d.from_who) × (partner e.op ≡ Some d.to_who)) ⊎ ((partner e.op ≡ Some d.from_who) × (e.who ≡ d.to_who))
+    pair_of : (d : Edge) → IsEdge caps events d → d.from ≡ i → d.to ≡ i
+        → ((e.who ≡ d.from_who) × (partner e.op ≡ Some d.to_who)) ⊎ ((partner e.op ≡ Some d.from_who) × (e.who ≡ d.to_who))
     pair_of d is from to = inside_pair e.who e.op d.from_who d.to_who (inside_from d.from_who d.to_who (subst (IsEdge caps events) (same_edge d (edge_inside i d.from_who d.to_who) from to refl refl) is))
 
     -- an event with one participant has none inside
@@ -197,7 +199,8 @@ module _ (caps : ℕ → ℕ) (events : List Event) where
           known : (g : ℕ) → partner e.op ≡ Some g → p ≡ g
           known g is = same_Some p g (sym second ∙ is)
 
-          by : ((low ≡ e.who) × (high ≡ p)) ⊎ ((low ≡ p) × (high ≡ e.who)) → ((e.who ≡ d.from_who) × (partner e.op ≡ Some d.to_who)) ⊎ ((partner e.op ≡ Some d.from_who) × (e.who ≡ d.to_who))
+          by : ((low ≡ e.who) × (high ≡ p)) ⊎ ((low ≡ p) × (high ≡ e.who))
+              → ((e.who ≡ d.from_who) × (partner e.op ≡ Some d.to_who)) ⊎ ((partner e.op ≡ Some d.from_who) × (e.who ≡ d.to_who))
               → (d ≡ edge_inside i low high) ⊎ (d ≡ edge_inside i high low)
           by (inl (l, h)) (inl (f, t)) = inl (same_edge d (edge_inside i low high) from to (sym (l ∙ f)) (sym (h ∙ known d.to_who t)))
           by (inl (l, h)) (inr (f, t)) = inr (same_edge d (edge_inside i high low) from to (sym (h ∙ known d.from_who f)) (sym (l ∙ t)))
@@ -226,7 +229,8 @@ module _ (caps : ℕ → ℕ) (events : List Event) where
       sooner d (inl below) = inl below
       sooner d (inr (same, below)) = inr (same, omega (arith, below))
 
-      pub both_added : low < high → AreEdgesBefore i (i + 1) caps events (with_edge (joins e.who e.op high low) (edge_inside i high low) (with_edge (joins e.who e.op low high) (edge_inside i low high) edges))
+      pub both_added : low < high
+          → AreEdgesBefore i (i + 1) caps events (with_edge (joins e.who e.op high low) (edge_inside i high low) (with_edge (joins e.who e.op low high) (edge_inside i low high) edges))
       both_added less =
           same_where (λ d. First d ⊎ (d ≡ edge_inside i high low)) (LeadsBefore i (i + 1)) (with_edge (joins e.who e.op high low) (edge_inside i high low) (with_edge (joins e.who e.op low high) (edge_inside i low high) edges))
           (λ d is. there d) back

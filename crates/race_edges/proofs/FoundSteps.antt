@@ -61,11 +61,13 @@ module _ (caps : ℕ → ℕ) (past : List Event) (e : Event) (x : ℕ) where
   race_kept (Some r) some (var, reported) = (var, reported_grow caps past (e ∷ []) x r.first r.second reported)
 
   -- the race of the next event is right where there was none before
-  pub race_new : (table : TableState) (limit : ℕ) → IsTable caps table limit past → e.who < length table.rows → IsTrue (accesses x e.op) → ((i j : ℕ) → ¬ IsRace caps past x i j)
+  pub race_new : (table : TableState) (limit : ℕ) → IsTable caps table limit past → e.who < length table.rows → IsTrue (accesses x e.op)
+      → ((i j : ℕ) → ¬ IsRace caps past x i j)
       → IsFound caps (past ++ e ∷ []) x (race_at table.rows past (length past) e x)
   race_new table limit is_table row access none = go (greatest_below (is_partner table.rows past x e.who e.op) (length past)) (greatest_is (is_partner table.rows past x e.who e.op) (length past))
     where
-      go : (o : Option ℕ) → IsGreatest (is_partner table.rows past x e.who e.op) (length past) o → IsFound caps (past ++ e ∷ []) x (option_map (λ i. record { var = x; first = i; second = length past }) o)
+      go : (o : Option ℕ) → IsGreatest (is_partner table.rows past x e.who e.op) (length past) o
+          → IsFound caps (past ++ e ∷ []) x (option_map (λ i. record { var = x; first = i; second = length past }) o)
       go None alone = λ i j race. elim (race_cases i j race) [
         | inl old ↦ none i j old
         | inr new ↦ alone new.1.0 new.1.1 (partner_from_race caps table limit past is_table e row x access new.1.0 new.1.1 new.1.2)
@@ -85,10 +87,12 @@ module _ (caps : ℕ → ℕ) (past : List Event) (e : Event) (x : ℕ) where
 
 module _ (caps : ℕ → ℕ) (past : List Event) (e : Event) (table : TableState) (limit : ℕ) (is_table : IsTable caps table limit past) (row : e.who < length table.rows) (found : List (Option Race)) (right : AreFound caps past found) where
   -- what is noted of an access's variable is right behind it
-  noted_right : (y : ℕ) → y < length found → ((x : ℕ) → IsTrue (accesses x e.op) → x ≡ y) → IsTrue (accesses y e.op) → AreFound caps (past ++ e ∷ []) (noted table.rows past (length past) e y found)
+  noted_right : (y : ℕ) → y < length found → ((x : ℕ) → IsTrue (accesses x e.op) → x ≡ y) → IsTrue (accesses y e.op)
+      → AreFound caps (past ++ e ∷ []) (noted table.rows past (length past) e y found)
   noted_right y below only access = go (is_some (get_or found y None)) refl
     where
-      go : (b : Bool) → is_some (get_or found y None) ≡ b → AreFound caps (past ++ e ∷ []) (if b then found else set found y (race_at table.rows past (length past) e y))
+      go : (b : Bool) → is_some (get_or found y None) ≡ b
+          → AreFound caps (past ++ e ∷ []) (if b then found else set found y (race_at table.rows past (length past) e y))
       go true some x less = elim (cases_eq x y) [
         | inl same ↦ race_kept caps past e x (get_or found x None) (subst (λ y. is_some (get_or found y None) ≡ true) (sym same) some) (right x less)
         | inr differ ↦ found_kept caps past e x (λ is. differ (only x is)) (get_or found x None) (right x less)

@@ -31,19 +31,22 @@ pub said_from : (events : List Event) (i : ℕ) (e : Event) (Holds : Event → T
 said_from events i e Holds at holds = subst (λ o. IfSome o Holds) (sym at) holds
 
 -- who takes part in an event of a trace has a row in a table with one for each goroutine
-pub has_rows : (trace : TraceState) (i : ℕ) (e : Event) (rows : List (List Bool)) → IsTrace trace → slice_get trace.events i ≡ Some e → length rows ≡ count_of Kind.Goroutine trace.decls.declarations → HasRows rows e
+pub has_rows : (trace : TraceState) (i : ℕ) (e : Event) (rows : List (List Bool)) → IsTrace trace → slice_get trace.events i ≡ Some e
+    → length rows ≡ count_of Kind.Goroutine trace.decls.declarations → HasRows rows e
 has_rows trace i e rows holds at goroutines =
     let range = range_in_trace trace i e holds at in
     let who = range.0 in
     (omega (arith, who, goroutines), subst (λ n. IfSome (partner e.op) (λ g. g < n)) (sym goroutines) (partner_in_range (counts_of trace.decls.declarations) e.op range.1))
 
 -- a variable that it accesses has a place in a list with one for each variable
-pub has_place : (trace : TraceState) (i : ℕ) (e : Event) (found : List (Option Race)) → IsTrace trace → slice_get trace.events i ≡ Some e → length found ≡ count_of Kind.Var trace.decls.declarations → HasPlace found e.op
+pub has_place : (trace : TraceState) (i : ℕ) (e : Event) (found : List (Option Race)) → IsTrace trace → slice_get trace.events i ≡ Some e
+    → length found ≡ count_of Kind.Var trace.decls.declarations → HasPlace found e.op
 has_place trace i e found holds at vars =
     subst (λ n. IfSome (accessed e.op) (λ x. x < n)) (sym vars) (accessed_in_range (counts_of trace.decls.declarations) e.op (range_in_trace trace i e holds at).1)
 
 -- a race is on a declared variable
-pub race_declared : (caps : ℕ → ℕ) (trace : TraceState) (x i j : ℕ) → IsTrace trace → IsRace caps trace.events x i j → x < count_of Kind.Var trace.decls.declarations
+pub race_declared : (caps : ℕ → ℕ) (trace : TraceState) (x i j : ℕ) → IsTrace trace → IsRace caps trace.events x i j
+    → x < count_of Kind.Var trace.decls.declarations
 race_declared caps trace x i j holds race = go race.conflict.1
   where
     go : IsAccessOf trace.events x i → x < count_of Kind.Var trace.decls.declarations
@@ -61,7 +64,8 @@ module _ (caps : ℕ → ℕ) (events : List Event) (at : ℕ) (e : Event) (here
       ((λ t. source.0 (sym is ∙ t)), (λ t. is ∙ source.1 t))
 
   -- the table behind the event at an index
-  pub table_next : (next : TableState) → next ≡ table_after (λ k. source_at caps events k at) table at e.who e.op → at < limit → HasRows table.rows e → IsTable caps next limit (take (at + 1) events)
+  pub table_next : (next : TableState) → next ≡ table_after (λ k. source_at caps events k at) table at e.who e.op → at < limit → HasRows table.rows e
+      → IsTable caps next limit (take (at + 1) events)
   table_next next is room rows =
       subst (λ (t : TableState). IsTable caps t limit (take (at + 1) events)) (sym is)
       (subst (IsTable caps (table_after (λ k. source_at caps events k at) table at e.who e.op) limit) (sym (take_next events at e here))
@@ -69,7 +73,8 @@ module _ (caps : ℕ → ℕ) (events : List Event) (at : ℕ) (e : Event) (here
       (table_step caps table limit (take at events) is_table e (omega (arith, room, long)) rows (λ k. source_at caps events k at) sources)))
 
   -- what is noted behind it
-  pub found_next : (found next : List (Option Race)) → next ≡ found_after table.rows (take at events) (length (take at events)) e found → e.who < length table.rows → HasPlace found e.op
+  pub found_next : (found next : List (Option Race)) → next ≡ found_after table.rows (take at events) (length (take at events)) e found
+      → e.who < length table.rows → HasPlace found e.op
       → AreFound caps (take at events) found → AreFound caps (take (at + 1) events) next
   found_next found next is row place right =
       subst (AreFound caps (take (at + 1) events)) (sym is)

@@ -29,7 +29,8 @@ receive_counts c (Recv d v) is = ap receives (eqb-true d c is)
 receive_counts c _ is = cc
 
 -- the number of the event at an index
-number_is : (events : List Event) (numbers : List ℕ) → AreNumbers events numbers → (i : ℕ) (e : Event) → At events i e → slice_index_or numbers i 0 ≡ count (counts e.op) (take i events)
+number_is : (events : List Event) (numbers : List ℕ) → AreNumbers events numbers → (i : ℕ) (e : Event) → At events i e
+    → slice_index_or numbers i 0 ≡ count (counts e.op) (take i events)
 number_is events numbers are i e at = are.each i (slice_get_within events i e at) ∙ ap (λ o. elim o [ Some e ↦ count (counts e.op) (take i events) | None ↦ 0 ]) at
 
 module _ (caps : ℕ → ℕ) (events : List Event) (numbers : List ℕ) (are : AreNumbers events numbers) (from to : ℕ) (earlier : from < to)
@@ -42,7 +43,8 @@ module _ (caps : ℕ → ℕ) (events : List Event) (numbers : List ℕ) (are : 
   here o is = source_at_is caps events from to s e ats ate ∙ ap (is_source caps (take to events) from s.op) is
 
   -- the kth send before the kth receive
-  pub told_receive : (c v : ℕ) → e.op ≡ Recv c v → sends c s.op ≡ true → (slice_index_or numbers from 0 == slice_index_or numbers to 0) ≡ source_at caps events from to
+  pub told_receive : (c v : ℕ) → e.op ≡ Recv c v → sends c s.op ≡ true
+      → (slice_index_or numbers from 0 == slice_index_or numbers to 0) ≡ source_at caps events from to
   told_receive c v is sent =
       (λ i. first i == second i) ∙ (λ i. sym sent i && (count (sends c) (take from (take to events)) == count (receives c) (take to events))) ∙ sym (here (Recv c v) is)
     where
@@ -56,7 +58,8 @@ module _ (caps : ℕ → ℕ) (events : List Event) (numbers : List ℕ) (are : 
   no_send c v is none = (λ i. sym none i && (count (sends c) (take from (take to events)) == count (receives c) (take to events))) ∙ sym (here (Recv c v) is)
 
   -- the kth receive before the send numbered k plus the capacity
-  pub told_send : (c v : ℕ) → e.op ≡ Send c v → receives c s.op ≡ true → (slice_index_or numbers from 0 + caps c == slice_index_or numbers to 0) ≡ source_at caps events from to
+  pub told_send : (c v : ℕ) → e.op ≡ Send c v → receives c s.op ≡ true
+      → (slice_index_or numbers from 0 + caps c == slice_index_or numbers to 0) ≡ source_at caps events from to
   told_send c v is received =
       (λ i. first i + caps c == second i) ∙ (λ i. sym received i && (count (receives c) (take from (take to events)) + caps c == count (sends c) (take to events))) ∙ sym (here (Send c v) is)
     where

@@ -68,7 +68,8 @@ module _ (caps : ℕ → ℕ) (table : TableState) (limit : ℕ) (past : List Ev
   told i a at = table_seen caps table limit past is_table e.who i a row at
 
   -- the test at an index
-  partner_is : (i : ℕ) (a : Event) → At past i a → is_partner table.rows past x e.who e.op i ≡ (accesses x a.op && ((writes x a.op || writes x e.op) && not (sees table.rows e.who i)))
+  partner_is : (i : ℕ) (a : Event) → At past i a
+      → is_partner table.rows past x e.who e.op i ≡ (accesses x a.op && ((writes x a.op || writes x e.op) && not (sees table.rows e.who i)))
   partner_is i a at = ap (λ o. elim o [ Some a ↦ accesses x a.op && ((writes x a.op || writes x e.op) && not (sees table.rows e.who i)) | None ↦ false ]) at
 
   -- a partner of the next event races with it

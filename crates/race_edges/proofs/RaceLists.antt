@@ -32,7 +32,8 @@ is_listed (Some s ∷ found) zero r at = (0, cc)
 is_listed (Some s ∷ found) (suc k) r at = let rest : (m : ℕ) × (slice_get (races_of found) m ≡ Some r) = is_listed found k r at in (suc rest.0, rest.1)
 
 -- the list is in rising order of the variables
-pub races_rise : (n : ℕ) (found : List (Option Race)) → AreNumbered n found → (m p : ℕ) (r s : Race) → m < p → slice_get (races_of found) m ≡ Some r → slice_get (races_of found) p ≡ Some s → r.var < s.var
+pub races_rise : (n : ℕ) (found : List (Option Race)) → AreNumbered n found → (m p : ℕ) (r s : Race) → m < p → slice_get (races_of found) m ≡ Some r
+    → slice_get (races_of found) p ≡ Some s → r.var < s.var
 races_rise n [] numbered m p r s less atr ats = cc
 races_rise n (None ∷ found) numbered m p r s less atr ats = races_rise (n + 1) found (numbered_behind n None found numbered) m p r s less atr ats
 races_rise n (Some t ∷ found) numbered m zero r s less atr ats = absurd (omega arith)
@@ -72,10 +73,12 @@ module _ (caps : ℕ → ℕ) (events : List Event) (found : List (Option Race))
               let known = noted_is place.0 q place.1 in
               subst (λ (r : model.Race). IsReportedRace caps events r.var r.first r.second) is (subst (λ x. IsReportedRace caps events x q.first q.second) (sym known.0) known.1)
 
-      rising : (k m : ℕ) (r s : model.Race) → k < m → slice_get (map race_of (races_of found)) k ≡ Some r → slice_get (map race_of (races_of found)) m ≡ Some s → r.var < s.var
+      rising : (k m : ℕ) (r s : model.Race) → k < m → slice_get (map race_of (races_of found)) k ≡ Some r → slice_get (map race_of (races_of found)) m ≡ Some s
+          → r.var < s.var
       rising k m r s less atr ats = go (mapped (races_of found) k r atr) (mapped (races_of found) m s ats)
         where
-          go : ((q : Race) × (slice_get (races_of found) k ≡ Some q) × (race_of q ≡ r)) → ((t : Race) × (slice_get (races_of found) m ≡ Some t) × (race_of t ≡ s)) → r.var < s.var
+          go : ((q : Race) × (slice_get (races_of found) k ≡ Some q) × (race_of q ≡ r))
+              → ((t : Race) × (slice_get (races_of found) m ≡ Some t) × (race_of t ≡ s)) → r.var < s.var
           go (q, atq, isq) (t, att, ist) =
               let up : q.var < t.var = races_rise 0 found numbered k m q t less atq att in
               let a : q.var ≡ r.var = ap (λ (r : model.Race). r.var) isq in
@@ -85,7 +88,8 @@ module _ (caps : ℕ → ℕ) (events : List Event) (found : List (Option Race))
       every : (x i j : ℕ) → IsRace caps events x i j → (k : ℕ) × (r : model.Race) × (slice_get (map race_of (races_of found)) k ≡ Some r) × (r.var ≡ x)
       every x i j race = go (get_or found x None) (slice_get-get_or found x None (declared x i j race)) (right x (declared x i j race))
         where
-          go : (o : Option Race) → slice_get found x ≡ Some o → IsFound caps events x o → (k : ℕ) × (r : model.Race) × (slice_get (map race_of (races_of found)) k ≡ Some r) × (r.var ≡ x)
+          go : (o : Option Race) → slice_get found x ≡ Some o → IsFound caps events x o
+              → (k : ℕ) × (r : model.Race) × (slice_get (map race_of (races_of found)) k ≡ Some r) × (r.var ≡ x)
           go None at none = absurd (none i j race)
           go (Some q) at (var, reported) =
               let place : (m : ℕ) × (slice_get (races_of found) m ≡ Some q) = is_listed found x q at in

@@ -16,7 +16,8 @@ use Rattle.race_model.specs.Events.{partner, gives, accesses}
 use Rattle.race_edges.specs.Partners.{accessed}
 
 -- each event of a trace is in range of its declarations
-pub range_in_trace : (trace : TraceState) (i : ℕ) (e : Event) → IsTrace trace → slice_get trace.events i ≡ Some e → IsInRange (counts_of trace.decls.declarations) e
+pub range_in_trace : (trace : TraceState) (i : ℕ) (e : Event) → IsTrace trace → slice_get trace.events i ≡ Some e
+    → IsInRange (counts_of trace.decls.declarations) e
 range_in_trace trace i e holds at =
     range_from_fits trace.decls e (subst (λ (e : Event). IsTrue (fits trace.decls e)) (get_or_from_slice_get trace.events i e e at) (holds.fit i e (slice_get_within trace.events i e at)))
 

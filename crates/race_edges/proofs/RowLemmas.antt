@@ -34,15 +34,18 @@ length-joined row other (suc n) = by (get_or other n false) (length-joined row o
     by false old = old
 
 -- a row with what another tells of the first n events
-tells_joined : (row other : List Bool) (n i : ℕ) → i < length row → IsTrue (get_or (joined row other n) i false) ↔ (IsTrue (get_or row i false) ⊎ ((i < n) × IsTrue (get_or other i false)))
+tells_joined : (row other : List Bool) (n i : ℕ) → i < length row
+    → IsTrue (get_or (joined row other n) i false) ↔ (IsTrue (get_or row i false) ⊎ ((i < n) × IsTrue (get_or other i false)))
 tells_joined row other zero i within = (λ s. inl s, λ s. elim s [ inl old ↦ old | inr new ↦ let none : i < 0 = new.0 in absurd (omega arith) ])
 tells_joined row other (suc n) i within = by (get_or other n false) refl (tells_joined row other n i within)
   where
-    wider : IsTrue (get_or row i false) ⊎ ((i < n) × IsTrue (get_or other i false)) → IsTrue (get_or row i false) ⊎ ((i < suc n) × IsTrue (get_or other i false))
+    wider : IsTrue (get_or row i false) ⊎ ((i < n) × IsTrue (get_or other i false))
+        → IsTrue (get_or row i false) ⊎ ((i < suc n) × IsTrue (get_or other i false))
     wider (inl old) = inl old
     wider (inr (below, seen)) = inr (omega (arith, below), seen)
 
-    by : (b : Bool) → get_or other n false ≡ b → (IsTrue (get_or (joined row other n) i false) ↔ (IsTrue (get_or row i false) ⊎ ((i < n) × IsTrue (get_or other i false))))
+    by : (b : Bool) → get_or other n false ≡ b
+        → (IsTrue (get_or (joined row other n) i false) ↔ (IsTrue (get_or row i false) ⊎ ((i < n) × IsTrue (get_or other i false))))
         → IsTrue (get_or (if b then set (joined row other n) n true else joined row other n) i false) ↔ (IsTrue (get_or row i false) ⊎ ((i < suc n) × IsTrue (get_or other i false)))
     by true is before = (there, back)
       where
@@ -81,7 +84,8 @@ shape_on rows middle next first second = record {
 }
 
 -- one row, changed
-row_set : (rows : List (List Bool)) (p : ℕ) (row : List Bool) (g : ℕ) → g < length rows → ((p ≡ g) × (row_of (set rows p row) g ≡ row)) ⊎ ((p ≢ g) × (row_of (set rows p row) g ≡ row_of rows g))
+row_set : (rows : List (List Bool)) (p : ℕ) (row : List Bool) (g : ℕ) → g < length rows
+    → ((p ≡ g) × (row_of (set rows p row) g ≡ row)) ⊎ ((p ≢ g) × (row_of (set rows p row) g ≡ row_of rows g))
 row_set rows p row g less = elim (cases_eq p g) [
   | inl same ↦ inl (same, subst (λ q. row_of (set rows q row) g ≡ row) (sym same) (get_or-set_same rows g row [] less))
   | inr differ ↦ inr (differ, get_or-set_other rows p g row [] (λ e. differ (sym e)))
@@ -97,7 +101,8 @@ shape_set rows p row same = record {
 }
 
 -- what g sees where the row of p tells something more
-sees_set : (rows : List (List Bool)) (p : ℕ) (row : List Bool) (More : Type 0) (g i : ℕ) → g < length rows → (p ≡ g → IsTrue (get_or row i false) ↔ (IsTrue (sees rows g i) ⊎ More))
+sees_set : (rows : List (List Bool)) (p : ℕ) (row : List Bool) (More : Type 0) (g i : ℕ) → g < length rows
+    → (p ≡ g → IsTrue (get_or row i false) ↔ (IsTrue (sees rows g i) ⊎ More))
     → IsTrue (sees (set rows p row) g i) ↔ (IsTrue (sees rows g i) ⊎ ((p ≡ g) × More))
 sees_set rows p row More g i less tells = elim (row_set rows p row g less) [
   | inl (same, is) ↦ (
@@ -114,7 +119,8 @@ pub shape_with_seen : (rows : List (List Bool)) (p n : ℕ) → AreShaped rows (
 shape_with_seen rows p n = shape_set rows p (set (row_of rows p) n true) (length-set (row_of rows p) n true)
 
 -- p sees event n in addition
-pub sees_with_seen : (rows : List (List Bool)) (p n g i : ℕ) → g < length rows → i < length (row_of rows g) → IsTrue (sees (with_seen rows p n) g i) ↔ (IsTrue (sees rows g i) ⊎ ((p ≡ g) × (n ≡ i)))
+pub sees_with_seen : (rows : List (List Bool)) (p n g i : ℕ) → g < length rows → i < length (row_of rows g)
+    → IsTrue (sees (with_seen rows p n) g i) ↔ (IsTrue (sees rows g i) ⊎ ((p ≡ g) × (n ≡ i)))
 sees_with_seen rows p n g i less within =
     sees_set rows p (set (row_of rows p) n true) (n ≡ i) g i less
     (λ same. subst (λ q. IsTrue (get_or (set (row_of rows q) n true) i false) ↔ (IsTrue (sees rows g i) ⊎ (n ≡ i))) (sym same) (tells_set (row_of rows g) n i within))
@@ -165,7 +171,8 @@ shape_inside rows who o = by (partner o)
 abbrev pub SeesInside : List (List Bool) → ℕ → Op → ℕ → ℕ → Type 0
 SeesInside rows who o g i = IsTrue (sees rows g i) ⊎ ((f : ℕ) × SynchronizedInside who o f g × IsTrue (sees rows f i))
 
-pub sees_inside : (rows : List (List Bool)) (limit who : ℕ) (o : Op) → ((g : ℕ) → g < length rows → length (row_of rows g) ≡ limit) → who < length rows → IfSome (partner o) (λ p. p < length rows)
+pub sees_inside : (rows : List (List Bool)) (limit who : ℕ) (o : Op) → ((g : ℕ) → g < length rows → length (row_of rows g) ≡ limit) → who < length rows
+    → IfSome (partner o) (λ p. p < length rows)
     → (g i : ℕ) → g < length rows → i < limit → IsTrue (sees (inside rows who o) g i) ↔ SeesInside rows who o g i
 sees_inside rows limit who o wide first second g i less within = by (partner o) refl second
   where
@@ -181,7 +188,8 @@ sees_inside rows limit who o wide first second g i less within = by (partner o) 
         middle : List (List Bool)
         middle = given (joins who o who p) rows who p
 
-        one : (h : ℕ) → h < length rows → IsTrue (sees (given (joins who o who p) rows who p) h i) ↔ (IsTrue (sees rows h i) ⊎ (IsTrue (joins who o who p) × (p ≡ h) × IsTrue (sees rows who i)))
+        one : (h : ℕ) → h < length rows
+            → IsTrue (sees (given (joins who o who p) rows who p) h i) ↔ (IsTrue (sees rows h i) ⊎ (IsTrue (joins who o who p) × (p ≡ h) × IsTrue (sees rows who i)))
         one h below = sees_given (joins who o who p) rows who p h i below (omega (arith, within, wide h below))
 
         two : IsTrue (sees (given (joins who o p who) (given (joins who o who p) rows who p) p who) g i)
@@ -219,7 +227,8 @@ pub shape_taken : (is : ℕ → Bool) (heard rows : List (List Bool)) (who n : �
 shape_taken is heard rows who zero = shape_same rows
 shape_taken is heard rows who (suc n) = by (is n) (shape_taken is heard rows who n)
   where
-    by : (b : Bool) → AreShaped rows (taken is heard rows who n) → AreShaped rows (if b then with_row (taken is heard rows who n) who (row_of heard n) else taken is heard rows who n)
+    by : (b : Bool) → AreShaped rows (taken is heard rows who n)
+        → AreShaped rows (if b then with_row (taken is heard rows who n) who (row_of heard n) else taken is heard rows who n)
     by true old = shape_on rows (taken is heard rows who n) (with_row (taken is heard rows who n) who (row_of heard n)) old (shape_with_row (taken is heard rows who n) who (row_of heard n))
     by false old = old
 
@@ -227,7 +236,8 @@ shape_taken is heard rows who (suc n) = by (is n) (shape_taken is heard rows who
 abbrev pub SeesTaken : (ℕ → Bool) → List (List Bool) → List (List Bool) → ℕ → ℕ → ℕ → ℕ → Type 0
 SeesTaken is heard rows who n g i = IsTrue (sees rows g i) ⊎ ((who ≡ g) × ((k : ℕ) × (k < n) × IsTrue (is k) × IsTrue (sees heard k i)))
 
-pub sees_taken : (is : ℕ → Bool) (heard rows : List (List Bool)) (who n g i : ℕ) → g < length rows → i < length (row_of rows g) → IsTrue (sees (taken is heard rows who n) g i) ↔ SeesTaken is heard rows who n g i
+pub sees_taken : (is : ℕ → Bool) (heard rows : List (List Bool)) (who n g i : ℕ) → g < length rows → i < length (row_of rows g)
+    → IsTrue (sees (taken is heard rows who n) g i) ↔ SeesTaken is heard rows who n g i
 sees_taken is heard rows who zero g i less within = (λ s. inl s, λ s. elim s [ inl old ↦ old | inr (to, (k, below, source, seen)) ↦ absurd (omega (arith, below)) ])
 sees_taken is heard rows who (suc n) g i less within = by (is n) refl (sees_taken is heard rows who n g i less within)
   where

@@ -9,7 +9,8 @@ use Rattle.race_model.specs.Synchronized.{joins, is_source}
 use Rattle.race_edges.specs.Synchronized.{can_be_source, source_at}
 
 -- the test on two events of a list
-pub source_at_is : (caps : ℕ → ℕ) (events : List Event) (i j : ℕ) (s e : Event) → At events i s → At events j e → source_at caps events i j ≡ is_source caps (take j events) i s.op e.op
+pub source_at_is : (caps : ℕ → ℕ) (events : List Event) (i j : ℕ) (s e : Event) → At events i s → At events j e
+    → source_at caps events i j ≡ is_source caps (take j events) i s.op e.op
 source_at_is caps events i j s e ats at =
     ap (λ o. elim o [ Some s ↦ elim (slice_get events j) [ Some e ↦ is_source caps (take j events) i s.op e.op | None ↦ false ] | None ↦ false ]) ats
     ∙ ap (λ o. elim o [ Some e ↦ is_source caps (take j events) i s.op e.op | None ↦ false ]) at

@@ -30,7 +30,8 @@ seen_at_up caps past i h k f (inl (same, who)) = omega (arith, same)
 seen_at_up caps past i h k f (inr w) = let up : i + i < k + k = reaches_up w in omega (arith, up)
 
 -- what the table tells of an event of the list
-pub table_seen : (caps : ℕ → ℕ) (table : TableState) (limit : ℕ) (past : List Event) → IsTable caps table limit past → (g i : ℕ) (e : Event) → g < length table.rows → At past i e
+pub table_seen : (caps : ℕ → ℕ) (table : TableState) (limit : ℕ) (past : List Event) → IsTable caps table limit past → (g i : ℕ) (e : Event)
+    → g < length table.rows → At past i e
     → IsTrue (sees table.rows g i) ↔ SeenBy caps past i e.who g
 table_seen caps table limit past is g i e less at =
     let within : i < limit = let below = slice_get_within past i e at in let room = is.room in omega (arith, below, room) in (
@@ -195,13 +196,15 @@ module _ (caps : ℕ → ℕ) (table : TableState) (limit : ℕ) (past : List Ev
           let c = shape_taken is table.heard (inside (with_seen table.rows e.who (length past)) e.who e.op) e.who (length past) in
           c.count ∙ b.count ∙ a.count
 
-      seen : (g i : ℕ) → g < length (table_after is table (length past) e.who e.op).rows → i < limit → IsTrue (sees (table_after is table (length past) e.who e.op).rows g i) ↔ HasSeen caps (past ++ e ∷ []) i g
+      seen : (g i : ℕ) → g < length (table_after is table (length past) e.who e.op).rows → i < limit
+          → IsTrue (sees (table_after is table (length past) e.who e.op).rows g i) ↔ HasSeen caps (past ++ e ∷ []) i g
       seen g i less within =
           let told = sees_after g i (omega (arith, less, count)) within in
           let is = sees_is g i in
           ((λ s. is.0 (told.0 s)), (λ s. told.1 (is.1 s)))
 
-      wide : (g : ℕ) → g < length (table_after is table (length past) e.who e.op).rows → length (row_of (table_after is table (length past) e.who e.op).rows g) ≡ limit
+      wide : (g : ℕ) → g < length (table_after is table (length past) e.who e.op).rows
+          → length (row_of (table_after is table (length past) e.who e.op).rows g) ≡ limit
       wide g less =
           let a = shape_with_seen table.rows e.who (length past) in
           let b = shape_inside (with_seen table.rows e.who (length past)) e.who e.op in

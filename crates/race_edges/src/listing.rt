@@ -159,7 +159,11 @@ fn add_later<A: Allocator, B: Allocator>(
             to,
             to_who: trace.event(to as usize).who,
         };
-        add_edge(edges, is_source(trace, numbers, from as usize, to as usize), edge)?;
+        add_edge(
+            edges,
+            is_source(trace, numbers, from as usize, to as usize),
+            edge,
+        )?;
     }
     Ok(())
 }

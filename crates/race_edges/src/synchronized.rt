@@ -100,9 +100,7 @@ pub(crate) fn is_source<A: Allocator, B: Allocator>(
                     == numbers.get(to) as u64
         }
         // The kth send before the completion of the kth receive.
-        Op::Recv(chan, _) => {
-            is_send(*chan, &source.op) && numbers.get(from) == numbers.get(to)
-        }
+        Op::Recv(chan, _) => { is_send(*chan, &source.op) && numbers.get(from) == numbers.get(to) }
         Op::Meet(_, _, _) => false,
         // The closing of a channel before each receive that finds it closed.
         Op::RecvClosed(chan) => is_close(*chan, &source.op),

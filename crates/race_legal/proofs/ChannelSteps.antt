@@ -29,7 +29,8 @@ closed_step t (Recv d v) c less = or-false (closed_in t c)
 closed_step t _ c less = or-false (closed_in t c)
 
 -- a Send puts its value behind those that wait, a Recv takes the first one out, and nothing else does either
-pub queue_step : (t : ChannelsState) (o : Op) (c : ℕ) → c < length t.queues → drop (as_number (receives c o)) (queue_in t c ++ option_to_list (sent c o)) ≡ queue_in (channels_after t o) c
+pub queue_step : (t : ChannelsState) (o : Op) (c : ℕ) → c < length t.queues
+    → drop (as_number (receives c o)) (queue_in t c ++ option_to_list (sent c o)) ≡ queue_in (channels_after t o) c
 queue_step t (Send d v) c less = rw (get_or-set t.queues d c (queue_in t d ++ v ∷ []) [] less) (go (d == c) (eqb-true d c))
   where
     go : (b : Bool) → (b ≡ true → d ≡ c) → queue_in t c ++ option_to_list (if b then Some v else None) ≡ (if b then queue_in t d ++ v ∷ [] else queue_in t c)
@@ -66,7 +67,8 @@ none_broken ((n, true) ∷ rs) none = cc
 none_broken ((n, false) ∷ rs) none = (refl, none_broken rs none)
 
 -- a Recv that breaks no rule finds a value: no more is received than sent
-pub received_step : (k : ReplayState) (who : ℕ) (o : Op) (c n m : ℕ) → NoneBroken (op_rules_in k who o) → n ≤ m → m - n ≡ length (queue_in k.channels c) → n + as_number (receives c o) ≤ m + as_number (sends c o)
+pub received_step : (k : ReplayState) (who : ℕ) (o : Op) (c n m : ℕ) → NoneBroken (op_rules_in k who o) → n ≤ m → m - n ≡ length (queue_in k.channels c)
+    → n + as_number (receives c o) ≤ m + as_number (sends c o)
 received_step k who (Send d v) c n m kept le waiting = omega (arith, le)
 received_step k who (Recv d v) c n m kept le waiting = go kept.1.0 (d == c) (eqb-true d c)
   where

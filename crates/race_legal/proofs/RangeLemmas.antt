@@ -22,9 +22,11 @@ range_from_fits decls e fit = by (nat_lt e.who (count_of Kind.Goroutine decls.de
     by _ who _ op p q h = cc
 
 -- so it is in range of a replay that stands for a list under the declarations
-pub in_range : (decls : DeclsState) (k : ReplayState) (past : List Event) (e : Event) → StandsFor decls.declarations k past → IsTrue (fits decls e) → IsInRange (counts_in k) e
+pub in_range : (decls : DeclsState) (k : ReplayState) (past : List Event) (e : Event) → StandsFor decls.declarations k past → IsTrue (fits decls e)
+    → IsInRange (counts_in k) e
 in_range decls k past e S fit = subst (λ (counts : Kind → ℕ). IsInRange counts e) (sym S.counts) (range_from_fits decls e fit)
 
 -- and a list that isn't full leaves the replay room
-pub has_room : (declarations : List Declaration) (k : ReplayState) (past : List Event) → StandsFor declarations k past → length past < MAX_EVENTS → k.len < MAX_EVENTS
+pub has_room : (declarations : List Declaration) (k : ReplayState) (past : List Event) → StandsFor declarations k past → length past < MAX_EVENTS
+    → k.len < MAX_EVENTS
 has_room declarations k past S less = let len = S.len in omega (arith, less, len)

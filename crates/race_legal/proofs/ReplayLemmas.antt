@@ -61,7 +61,8 @@ module _ (declarations : List Declaration) (k : ReplayState) (past : List Event)
     can_proceed_is Dir.Recv = λ i. S.closed c less i || (nat_lt 0 (S.capacity c less i) && nat_lt 0 (buffered_is declarations k past S c less i))
 
   -- a case is ready where the tables say so, and so is some of them
-  is_ready_is : (case : Case) → IsTrue (case_is_in_range (counts_in k Kind.Chan) case) → is_ready (capacity_of declarations) past case ≡ is_ready_in k.channels case
+  is_ready_is : (case : Case) → IsTrue (case_is_in_range (counts_in k Kind.Chan) case)
+      → is_ready (capacity_of declarations) past case ≡ is_ready_in k.channels case
   is_ready_is case is = by case.chan is
     where
       by : (chan : Option ℕ) → IsTrue (chan_is_in_range (counts_in k Kind.Chan) chan)
@@ -74,7 +75,8 @@ module _ (declarations : List Declaration) (k : ReplayState) (past : List Event)
   some_ready_is cases is = finds_the_same (is_ready (capacity_of declarations) past) (is_ready_in k.channels) (case_is_in_range (counts_in k Kind.Chan)) cases is_ready_is is
 
   -- the cause of a fault holds where they say so
-  cause_holds_is : (cause : Cause) → IsTrue (chan_is_in_range (counts_in k Kind.Chan) (chan_of_cause cause)) → cause_holds past cause ≡ cause_holds_in k.channels cause
+  cause_holds_is : (cause : Cause) → IsTrue (chan_is_in_range (counts_in k Kind.Chan) (chan_of_cause cause))
+      → cause_holds past cause ≡ cause_holds_in k.channels cause
   cause_holds_is (SendClosed c) is = let less : c < counts_in k Kind.Chan = grind (arith, nat_tests) in S.closed c less
   cause_holds_is (CloseClosed c) is = let less : c < counts_in k Kind.Chan = grind (arith, nat_tests) in S.closed c less
   cause_holds_is CloseNil is = refl

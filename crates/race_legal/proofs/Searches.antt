@@ -14,12 +14,14 @@ each_passes p xs i x all at = by (p x) refl
     by false is = absurd (true≢false (sym all ∙ list_all_at p xs i x (slice_get_within xs i x at) (ap p (get_or_from_slice_get xs i x x at) ∙ is)))
 
 -- two searches find the same where they are the same of all that passes
-pub finds_the_same : {X : Type 0} (p q passes : X → Bool) (xs : List X) → ((x : X) → IsTrue (passes x) → p x ≡ q x) → IsTrue (list_all passes xs) → list_any p xs ≡ list_any q xs
+pub finds_the_same : {X : Type 0} (p q passes : X → Bool) (xs : List X) → ((x : X) → IsTrue (passes x) → p x ≡ q x) → IsTrue (list_all passes xs)
+    → list_any p xs ≡ list_any q xs
 finds_the_same p q passes [] same all = refl
 finds_the_same p q passes (x ∷ xs) same all =
     let parts = and_parts (passes x) (list_all passes xs) all in
     λ i. same x parts.0 i || finds_the_same p q passes xs same parts.1 i
 
 -- the element at an index passes where a test of it says so
-pub passes_at : {X : Type 0} (p : X → Bool) (xs : List X) (i : ℕ) (x : X) (test answer : Bool) → slice_get xs i ≡ Some x → test ≡ p x → test ≡ answer → p (get_or xs i x) ≡ answer
+pub passes_at : {X : Type 0} (p : X → Bool) (xs : List X) (i : ℕ) (x : X) (test answer : Bool) → slice_get xs i ≡ Some x → test ≡ p x → test ≡ answer
+    → p (get_or xs i x) ≡ answer
 passes_at p xs i x test answer at tested is = ap p (get_or_from_slice_get xs i x x at) ∙ sym tested ∙ is

@@ -20,7 +20,8 @@ get_or-set xs p l y d less = elim (cases_eq p l) [
 ]
 
 -- a Go starts its goroutine, and nothing else does
-pub started_step : (t : GoroutinesState) (who : ℕ) (o : Op) (g : ℕ) → g < length t.started → (started_in t g || starts g o) ≡ started_in (goroutines_after t who o) g
+pub started_step : (t : GoroutinesState) (who : ℕ) (o : Op) (g : ℕ) → g < length t.started
+    → (started_in t g || starts g o) ≡ started_in (goroutines_after t who o) g
 started_step t who (Go h) g less = rw (get_or-set t.started h g true false less) (go (h == g))
   where
     go : (b : Bool) → (started_in t g || b) ≡ (if b then true else started_in t g)
@@ -35,7 +36,8 @@ none_more old true = or-false old
 none_more old false = or-false old
 
 -- an Exit ends its goroutine, and nothing else does
-pub exited_step : (t : GoroutinesState) (who : ℕ) (o : Op) (g : ℕ) → g < length t.exited → (exited_in t g || ((who == g) && is_exit o)) ≡ exited_in (goroutines_after t who o) g
+pub exited_step : (t : GoroutinesState) (who : ℕ) (o : Op) (g : ℕ) → g < length t.exited
+    → (exited_in t g || ((who == g) && is_exit o)) ≡ exited_in (goroutines_after t who o) g
 exited_step t who Exit g less = rw (get_or-set t.exited who g true false less) (go (who == g))
   where
     go : (b : Bool) → (exited_in t g || (b && true)) ≡ (if b then true else exited_in t g)

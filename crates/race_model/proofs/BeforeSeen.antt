@@ -84,7 +84,8 @@ module _ (caps : ℕ → ℕ) (events : List Event) where
           (m, (s, slice_get-take j events m less ∙ ats, part), front_reaches j (omega arith) less v)
 
   -- an access that is so seen happens before event j
-  pub before_from_seen : (i j : ℕ) (a b : Event) → At events i a → At events j b → IsTrue (is_access a.op) → SeenBy caps (take j events) i a.who b.who → HappensBefore caps events i j
+  pub before_from_seen : (i j : ℕ) (a b : Event) → At events i a → At events j b → IsTrue (is_access a.op) → SeenBy caps (take j events) i a.who b.who
+      → HappensBefore caps events i j
   before_from_seen i j a b ata atb is (m, (s, ats, part), w) = go (leaves_by_end i a.who (access_no_edge i a ata is a.who) to_b)
     where
       to_b : Reaches caps events (Begin i a.who) (Begin j b.who)
@@ -102,7 +103,8 @@ module _ (caps : ℕ → ℕ) (events : List Event) where
       from_b = subst (λ (b : Event). Reaches caps events (End j b.who) (Begin k c.who)) (at_same events j x b atx atb) w
 
   -- accesses that conflict race where the later one's goroutine hasn't seen the earlier one
-  pub race_from_unseen : (x i j : ℕ) (a b : Event) → i < j → At events i a → At events j b → Conflict events x i j → (SeenBy caps (take j events) i a.who b.who → ⊥) → IsRace caps events x i j
+  pub race_from_unseen : (x i j : ℕ) (a b : Event) → i < j → At events i a → At events j b → Conflict events x i j
+      → (SeenBy caps (take j events) i a.who b.who → ⊥) → IsRace caps events x i j
   race_from_unseen x i j a b up ata atb c unseen = record {
     conflict = c;
     not_before = λ h. unseen (seen_from_before i j a b ata atb h);

@@ -37,7 +37,8 @@ not_full caps c past g (Send d v) same kept = subst (λ d. buffered d past ≢ c
 not_full caps c past g _ same kept = cc
 
 -- nothing is received from an empty one
-not_empty : (caps : ℕ → ℕ) (c : ℕ) (past : List Event) (g : ℕ) (o : Op) → IsTrue (receives c o) → RulesKept caps past g o → count (sends c) past ≢ count (receives c) past
+not_empty : (caps : ℕ → ℕ) (c : ℕ) (past : List Event) (g : ℕ) (o : Op) → IsTrue (receives c o) → RulesKept caps past g o
+    → count (sends c) past ≢ count (receives c) past
 not_empty caps c past g (Recv d v) same kept =
     subst (λ d. count (sends d) past ≢ count (receives d) past) (eqb-true d c same) (not_from_Decides _ (Decides-eqb _ _) (kept 1 (8, count (sends d) past == count (receives d) past) refl))
 not_empty caps c past g _ same kept = cc
@@ -48,14 +49,16 @@ bounded_by : (caps : ℕ → ℕ) (c : ℕ) (past : List Event) (g : ℕ) (o : O
     × (count (sends c) past + as_number (sends c o) ≤ count (receives c) past + as_number (receives c o) + caps c)
 bounded_by caps c past g (Send d v) kept (low, high) = go (d == c) refl
   where
-    go : (b : Bool) → (d == c) ≡ b → (count (receives c) past + 0 ≤ count (sends c) past + as_number b) × (count (sends c) past + as_number b ≤ count (receives c) past + 0 + caps c)
+    go : (b : Bool) → (d == c) ≡ b
+        → (count (receives c) past + 0 ≤ count (sends c) past + as_number b) × (count (sends c) past + as_number b ≤ count (receives c) past + 0 + caps c)
     go false other = (omega (arith, low), omega (arith, high))
     go true same =
         let room : count (sends c) past - count (receives c) past ≢ caps c = not_full caps c past g (Send d v) same kept in
         (omega (arith, low), omega (arith, low, high, room))
 bounded_by caps c past g (Recv d v) kept (low, high) = go (d == c) refl
   where
-    go : (b : Bool) → (d == c) ≡ b → (count (receives c) past + as_number b ≤ count (sends c) past + 0) × (count (sends c) past + 0 ≤ count (receives c) past + as_number b + caps c)
+    go : (b : Bool) → (d == c) ≡ b
+        → (count (receives c) past + as_number b ≤ count (sends c) past + 0) × (count (sends c) past + 0 ≤ count (receives c) past + as_number b + caps c)
     go false other = (omega (arith, low), omega (arith, high))
     go true same = let some : count (sends c) past ≢ count (receives c) past = not_empty caps c past g (Recv d v) same kept in (omega (arith, low, some), omega (arith, high))
 bounded_by caps c past g _ kept (low, high) = (omega (arith, low), omega (arith, high))
@@ -95,7 +98,8 @@ module _ (caps : ℕ → ℕ) (events : List Event) (legal : IsLegal caps events
   ]
 
   -- the kth receive stands before the send numbered k plus the capacity
-  pub receive_first : (c k i j : ℕ) (r s : Event) → At events i r → At events j s → IsKth (receives c) k events i r.op → IsKth (sends c) (k + caps c) events j s.op → i < j
+  pub receive_first : (c k i j : ℕ) (r s : Event) → At events i r → At events j s → IsKth (receives c) k events i r.op
+      → IsKth (sends c) (k + caps c) events j s.op → i < j
   receive_first c k i j r s atr ats (is_r, nr) (is_s, ns) = elim (cases_lt i j) [
     | inl up ↦ up
     | inr down ↦

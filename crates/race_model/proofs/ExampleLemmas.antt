@@ -61,7 +61,8 @@ all_ordered caps events [] = true
 all_ordered caps events (p ∷ rest) = keeps_behind caps events p rest && all_ordered caps events rest
 
 -- behind a list that breaks no rule the next event breaks one
-pub illegal_by : (caps : ℕ → ℕ) (past : List Event) (e : Event) (n : ℕ) → AllKept caps [] past → broken caps past e ≡ Some n → IsVerdict caps (past ++ e ∷ []) (Illegal (length past) n)
+pub illegal_by : (caps : ℕ → ℕ) (past : List Event) (e : Event) (n : ℕ) → AllKept caps [] past → broken caps past e ≡ Some n
+    → IsVerdict caps (past ++ e ∷ []) (Illegal (length past) n)
 illegal_by caps past e n kept is = subst (λ es. IsIllegalAt caps es (length past) n) (append-nil (past ++ e ∷ [])) (illegal_push caps past [] e n (legal_by caps [] past (legal_none caps) kept) is)
 
 module _ (caps : ℕ → ℕ) (events : List Event) where
@@ -77,7 +78,8 @@ module _ (caps : ℕ → ℕ) (events : List Event) where
   ordered_at (p ∷ rest) i j is (suc m, suc n, less, ati, atj) = ordered_at rest i j (and_parts _ _ is).1 (m, n, omega arith, ati, atj)
 
   -- an access that is seen happens before
-  pub before_by : {p q : ℕ} {a b : Event} → At events p a → At events q b → IsTrue (is_access a.op) → IsTrue (sees caps events p q a b) → HappensBefore caps events p q
+  pub before_by : {p q : ℕ} {a b : Event} → At events p a → At events q b → IsTrue (is_access a.op) → IsTrue (sees caps events p q a b)
+      → HappensBefore caps events p q
   before_by {p} {q} {a} {b} atp atq is seen =
       let within : q < length events = slice_get_within events q b atq in
       before_from_seen caps events p q a b atp atq is ((Decides-seen caps events p a.who q q b.who (omega arith) (omega arith)).0 seen)
@@ -113,7 +115,8 @@ module _ (caps : ℕ → ℕ) (events : List Event) where
               seen = sym (ap (λ t. not t || sees caps events i j a b) (some_write write)) ∙ told
 
   -- the only accesses, of one variable, at two indexes: one writes, and the earlier one isn't seen
-  pub race_by : (x : ℕ) {p q : ℕ} {a b : Event} → At events p a → At events q b → p < q → IsTrue (accesses x a.op) → IsTrue (accesses x b.op) → IsTrue (writes x a.op || writes x b.op)
+  pub race_by : (x : ℕ) {p q : ℕ} {a b : Event} → At events p a → At events q b → p < q → IsTrue (accesses x a.op) → IsTrue (accesses x b.op)
+      → IsTrue (writes x a.op || writes x b.op)
       → sees caps events p q a b ≡ false → IsRace caps events x p q
   race_by x {p} {q} {a} {b} atp atq up is_a is_b write unseen =
       let within : q < length events = slice_get_within events q b atq in
@@ -150,7 +153,8 @@ module _ (caps : ℕ → ℕ) (events : List Event) where
         only_first k (suc m) r s less atk atm = cc
 
   -- the two accesses of the list race
-  pub races_by : (x : ℕ) {p q : ℕ} {a b : Event} → AllKept caps [] events → own_order events ≡ p ∷ q ∷ [] → At events p a → At events q b → p < q → IsTrue (accesses x a.op) → IsTrue (accesses x b.op)
+  pub races_by : (x : ℕ) {p q : ℕ} {a b : Event} → AllKept caps [] events → own_order events ≡ p ∷ q ∷ [] → At events p a → At events q b → p < q
+      → IsTrue (accesses x a.op) → IsTrue (accesses x b.op)
       → IsTrue (writes x a.op || writes x b.op) → sees caps events p q a b ≡ false → IsVerdict caps events (Races (record { var = x; first = p; second = q } ∷ []))
   races_by x {p} {q} {a} {b} kept own atp atq up is_a is_b write unseen =
       (legal_by caps [] events (legal_none caps) kept, (λ none. cc), two_race x p q only up (race_by x atp atq up is_a is_b write unseen))

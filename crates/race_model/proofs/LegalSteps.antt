@@ -27,7 +27,8 @@ module _ (caps : ℕ → ℕ) where
       subst (λ es. broken caps es e ≡ None) (sym (take-take i n events (omega arith))) (legal i e (take_at_old n events i e at))
 
   -- behind a legal list an event that breaks a rule makes the list illegal, whatever follows
-  pub illegal_push : (past more : List Event) (e : Event) (n : ℕ) → IsLegal caps past → broken caps past e ≡ Some n → IsIllegalAt caps ((past ++ e ∷ []) ++ more) (length past) n
+  pub illegal_push : (past more : List Event) (e : Event) (n : ℕ) → IsLegal caps past → broken caps past e ≡ Some n
+      → IsIllegalAt caps ((past ++ e ∷ []) ++ more) (length past) n
   illegal_push past more e n legal is =
       let front : take (length past) ((past ++ e ∷ []) ++ more) ≡ past = ap (take (length past)) (append_assoc past (e ∷ []) more) ∙ take_at past (e ∷ [] ++ more) (length past) refl in
       (e, append_at_old (past ++ e ∷ []) more (length past) e (slice_get-push past e), subst (λ es. broken caps es e ≡ Some n) (sym front) is, subst (IsLegal caps) (sym front) legal)

@@ -12,7 +12,8 @@ abbrev pub in_front : Bool → ℕ → List ℕ → List ℕ
 in_front b n order = cond b (n ∷ order) order
 
 -- what stands in it is an access
-pub accesses_only : (n : ℕ) (events : List Event) (i a : ℕ) → slice_get (accesses_from n events) i ≡ Some a → (k : ℕ) × (a ≡ n + k) × IsTrue (op_passes is_access events k)
+pub accesses_only : (n : ℕ) (events : List Event) (i a : ℕ) → slice_get (accesses_from n events) i ≡ Some a
+    → (k : ℕ) × (a ≡ n + k) × IsTrue (op_passes is_access events k)
 accesses_only n [] i a e = cc
 accesses_only n (x ∷ events) i a e = go (is_access x.op) refl i e (λ j. accesses_only (n + 1) events j a)
   where
@@ -27,21 +28,25 @@ accesses_only n (x ∷ events) i a e = go (is_access x.op) refl i e (λ j. acces
     go true is (suc i) e rest = behind (rest i e)
 
 -- each access stands in it
-pub accesses_each : (n : ℕ) (events : List Event) (k : ℕ) → IsTrue (op_passes is_access events k) → (i : ℕ) × (slice_get (accesses_from n events) i ≡ Some (n + k))
+pub accesses_each : (n : ℕ) (events : List Event) (k : ℕ) → IsTrue (op_passes is_access events k)
+    → (i : ℕ) × (slice_get (accesses_from n events) i ≡ Some (n + k))
 accesses_each n [] k is = cc
 accesses_each n (x ∷ events) zero is = rw is (0, ap Some (sym (add-zero n)))
 accesses_each n (x ∷ events) (suc k) is = go (is_access x.op) (accesses_each (n + 1) events k is)
   where
-    go : (b : Bool) → ((i : ℕ) × (slice_get (accesses_from (n + 1) events) i ≡ Some (n + 1 + k))) → (i : ℕ) × (slice_get (in_front b n (accesses_from (n + 1) events)) i ≡ Some (n + suc k))
+    go : (b : Bool) → ((i : ℕ) × (slice_get (accesses_from (n + 1) events) i ≡ Some (n + 1 + k)))
+        → (i : ℕ) × (slice_get (in_front b n (accesses_from (n + 1) events)) i ≡ Some (n + suc k))
     go false (i, at) = (i, at ∙ ap Some (omega arith))
     go true (i, at) = (suc i, at ∙ ap Some (omega arith))
 
 -- it rises
-pub accesses_rise : (n : ℕ) (events : List Event) (i j a b : ℕ) → i < j → slice_get (accesses_from n events) i ≡ Some a → slice_get (accesses_from n events) j ≡ Some b → a < b
+pub accesses_rise : (n : ℕ) (events : List Event) (i j a b : ℕ) → i < j → slice_get (accesses_from n events) i ≡ Some a
+    → slice_get (accesses_from n events) j ≡ Some b → a < b
 accesses_rise n [] i j a b less ati atj = cc
 accesses_rise n (x ∷ events) i j a b less ati atj = go (is_access x.op) i j less ati atj (λ i j less. accesses_rise (n + 1) events i j a b less)
   where
-    go : (c : Bool) (i j : ℕ) → i < j → slice_get (in_front c n (accesses_from (n + 1) events)) i ≡ Some a → slice_get (in_front c n (accesses_from (n + 1) events)) j ≡ Some b
+    go : (c : Bool) (i j : ℕ) → i < j → slice_get (in_front c n (accesses_from (n + 1) events)) i ≡ Some a
+        → slice_get (in_front c n (accesses_from (n + 1) events)) j ≡ Some b
         → ((i j : ℕ) → i < j → slice_get (accesses_from (n + 1) events) i ≡ Some a → slice_get (accesses_from (n + 1) events) j ≡ Some b → a < b) → a < b
     go false i j less ati atj more = more i j less ati atj
     go true i zero less ati atj more = absurd (omega arith)
@@ -56,7 +61,8 @@ pub own_each : (events : List Event) (a : ℕ) → IsTrue (op_passes is_access e
 own_each events a is = let found : (i : ℕ) × (slice_get (own_order events) i ≡ Some (0 + a)) = accesses_each 0 events a is in (found.0, found.1 ∙ ap Some (zero-add a))
 
 -- an earlier access stands before a later one
-pub own_stands_before : (events : List Event) (a b : ℕ) → a < b → IsTrue (op_passes is_access events a) → IsTrue (op_passes is_access events b) → StandsBefore (own_order events) a b
+pub own_stands_before : (events : List Event) (a b : ℕ) → a < b → IsTrue (op_passes is_access events a) → IsTrue (op_passes is_access events b)
+    → StandsBefore (own_order events) a b
 own_stands_before events a b up is_a is_b = apart (own_each events a is_a) (own_each events b is_b)
   where
     apart : ((i : ℕ) × (slice_get (own_order events) i ≡ Some a)) → ((j : ℕ) × (slice_get (own_order events) j ≡ Some b)) → StandsBefore (own_order events) a b

@@ -108,7 +108,8 @@ module _ (es fs : List Event) (same : operations es ≡ operations fs) where
   ready_alike : (caps : ℕ → ℕ) (case : Case) → is_ready caps es case ≡ is_ready caps fs case
   ready_alike caps case = by case.chan
     where
-      by : (chan : Option ℕ) → ◌≡◌ {A = Bool} (elim chan [ None ↦ false | Some c ↦ can_proceed caps es c case.dir ]) (elim chan [ None ↦ false | Some c ↦ can_proceed caps fs c case.dir ])
+      by : (chan : Option ℕ)
+          → ◌≡◌ {A = Bool} (elim chan [ None ↦ false | Some c ↦ can_proceed caps es c case.dir ]) (elim chan [ None ↦ false | Some c ↦ can_proceed caps fs c case.dir ])
       by None = refl
       by (Some c) = can_alike caps c case.dir
 

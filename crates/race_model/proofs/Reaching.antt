@@ -54,16 +54,19 @@ into_begin {caps} {events} i h j f (then_step {q} w s) = go q w s
     go (End m g) w (inl (less, who, from, to)) = (m, less, subst (TakesPart events m) who from, to, subst (λ g. Reaches caps events (Begin i h) (End m g)) who w)
 
 -- a way to an end comes from a begin, by one step
-pub into_end : {caps : ℕ → ℕ} {events : List Event} (i h j g : ℕ) → Reaches caps events (Begin i h) (End j g) → (k f : ℕ) × SeenAt caps events i h k f × Step caps events (Begin k f) (End j g)
+pub into_end : {caps : ℕ → ℕ} {events : List Event} (i h j g : ℕ) → Reaches caps events (Begin i h) (End j g)
+    → (k f : ℕ) × SeenAt caps events i h k f × Step caps events (Begin k f) (End j g)
 into_end i h j g (one_step s) = (i, h, inl (refl, refl), s)
 into_end {caps} {events} i h j g (then_step {q} w s) = go q w s
   where
-    go : (q : Point) → Reaches caps events (Begin i h) q → Step caps events q (End j g) → (k f : ℕ) × SeenAt caps events i h k f × Step caps events (Begin k f) (End j g)
+    go : (q : Point) → Reaches caps events (Begin i h) q → Step caps events q (End j g)
+        → (k f : ℕ) × SeenAt caps events i h k f × Step caps events (Begin k f) (End j g)
     go (Begin k f) w s = (k, f, inr w, s)
     go (End k f) w (inl s) = absurd s
     go (End k f) w (inr s) = absurd s
 
 -- and such a step goes on
-pub out_of_seen : {caps : ℕ → ℕ} {events : List Event} (i h k f j g : ℕ) → SeenAt caps events i h k f → Step caps events (Begin k f) (End j g) → Reaches caps events (Begin i h) (End j g)
+pub out_of_seen : {caps : ℕ → ℕ} {events : List Event} (i h k f j g : ℕ) → SeenAt caps events i h k f → Step caps events (Begin k f) (End j g)
+    → Reaches caps events (Begin i h) (End j g)
 out_of_seen {caps} {events} i h k f j g (inl (same, who)) s = one_step (subst (λ i. Step caps events (Begin i h) (End j g)) (sym same) (subst (λ h. Step caps events (Begin k h) (End j g)) (sym who) s))
 out_of_seen i h k f j g (inr w) s = then_step w s

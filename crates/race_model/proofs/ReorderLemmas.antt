@@ -84,7 +84,8 @@ pub write_at_write : (events : List Event) (x a : ℕ) → IsWriteOf events x a 
 write_at_write events x a (e, at, is) = cond-true _ (Some a) None (passes_from (writes x) events a e at is)
 
 -- finds says what IsFound says, where r stands in the order once
-pub found_is : (events : List Event) (order : List ℕ) (x r k : ℕ) → slice_get order k ≡ Some r → ((i j a : ℕ) → slice_get order i ≡ Some a → slice_get order j ≡ Some a → i ≡ j)
+pub found_is : (events : List Event) (order : List ℕ) (x r k : ℕ) → slice_get order k ≡ Some r
+    → ((i j a : ℕ) → slice_get order i ≡ Some a → slice_get order j ≡ Some a → i ≡ j)
     → IsFound events order x r (finds events order x r)
 found_is events order x r k here once =
     subst (λ front. IsFound events order x r (last_of (write_at events x) front)) (sym (before_only order r k here (λ j at. once j k r at here)))
@@ -111,7 +112,8 @@ found_is events order x r k here once =
         ]
 
 -- without a data race a read finds the same write in two reorderings
-pub same_finds : (caps : ℕ → ℕ) (events : List Event) → IsDataRaceFree caps events → (one two : List ℕ) → IsReordering caps events one → IsReordering caps events two
+pub same_finds : (caps : ℕ → ℕ) (events : List Event) → IsDataRaceFree caps events → (one two : List ℕ) → IsReordering caps events one
+    → IsReordering caps events two
     → (x r : ℕ) → IsTrue (op_passes (reads x) events r) → finds events one x r ≡ finds events two x r
 same_finds caps events free one two p q x r is = go (finds events one x r) (finds events two x r) (found one p) (found two q)
   where

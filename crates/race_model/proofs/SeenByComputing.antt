@@ -23,7 +23,8 @@ brought_inside passes who (Go k) g = (k == g) && passes who
 brought_inside passes who (Meet r c v) g = ((r == g) && passes who) || ((who == g) && passes r)
 brought_inside passes who _ g = false
 
-Decides-inside : (passes : ℕ → Bool) (P : ℕ → Type 0) → ((f : ℕ) → Decides (passes f) (P f)) → (who : ℕ) (o : Op) (g : ℕ) → Decides (brought_inside passes who o g) ((f : ℕ) × SynchronizedInside who o f g × P f)
+Decides-inside : (passes : ℕ → Bool) (P : ℕ → Type 0) → ((f : ℕ) → Decides (passes f) (P f)) → (who : ℕ) (o : Op) (g : ℕ)
+    → Decides (brought_inside passes who o g) ((f : ℕ) × SynchronizedInside who o f g × P f)
 Decides-inside passes P each who (Go k) g = Decides-like _ (λ p. (who, (refl, p.0), p.1)) (λ q. (q.1.1, subst P (sym q.1.0) q.2)) (Decides-and _ _ (Decides-eqb k g) (each who))
 Decides-inside passes P each who (Meet r c v) g = Decides-like _ to from (Decides-or _ _ (Decides-and _ _ (Decides-eqb r g) (each who)) (Decides-and _ _ (Decides-eqb who g) (each r)))
   where
@@ -94,7 +95,8 @@ module _ (caps : ℕ → ℕ) (past : List Event) (e : Event) (i h g : ℕ) (had
   source_is_passes : (k : ℕ) → Decides (source_passes caps past e (λ k f. is_begin i h k f || had k f) k) (BySource k)
   source_is_passes k = go (slice_get past k) refl
     where
-      go : (o : Option Event) → slice_get past k ≡ o → Decides (elim o [ Some s ↦ is_source caps past k s.op e.op && (is_begin i h k s.who || had k s.who) | None ↦ false ]) (BySource k)
+      go : (o : Option Event) → slice_get past k ≡ o
+          → Decides (elim o [ Some s ↦ is_source caps past k s.op e.op && (is_begin i h k s.who || had k s.who) | None ↦ false ]) (BySource k)
       go None none = ((λ is. cc), (λ by. let at : slice_get past k ≡ Some by.0 = by.1 in cc))
       go (Some s) at = Decides-like _ (λ p. (s, at, p.0, (seen_at_front caps past i h k s at).0 p.1)) from
           (Decides-and _ _ (source_is caps past k s.op e.op) (Decides-or _ _ (Decides-and _ _ (Decides-eqb i k) (Decides-eqb h s.who)) (had_is k s.who within)))
@@ -149,7 +151,8 @@ Decides-after caps events i h n g had within had_is = go (at_below events n with
             Decides-like _ step.1 step.0 (Decides-or _ _ (had_is n g (omega arith)) (Decides-and _ _ ((λ is. is), (λ is. is)) (Decides-brings caps past e i h g had had_front)))
 
 -- the test passes exactly where it was seen
-pub Decides-seen : (caps : ℕ → ℕ) (events : List Event) (i h fuel n g : ℕ) → n ≤ fuel → n ≤ length events → Decides (has_seen caps events i h fuel n g) (SeenBy caps (take n events) i h g)
+pub Decides-seen : (caps : ℕ → ℕ) (events : List Event) (i h fuel n g : ℕ) → n ≤ fuel → n ≤ length events
+    → Decides (has_seen caps events i h fuel n g) (SeenBy caps (take n events) i h g)
 Decides-seen caps events i h zero n g le within = ((λ is. cc), (λ seen. absurd (let none : n ≡ 0 = omega arith in seen_none caps i h g (subst (λ n. SeenBy caps (take n events) i h g) none seen))))
 Decides-seen caps events i h (suc fuel) zero g le within = ((λ is. cc), (λ seen. absurd (seen_none caps i h g seen)))
 Decides-seen caps events i h (suc fuel) (suc n) g le within =

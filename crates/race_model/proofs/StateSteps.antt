@@ -26,7 +26,8 @@ pub started_push : (g : ℕ) (past : List Event) (e : Event) → started g (past
 started_push g past e = has_push (starts g) past e
 
 -- g runs from its start to its exit
-pub runs_push : (g : ℕ) (past : List Event) (e : Event) → runs g (past ++ e ∷ []) ≡ ((g == 0 || (started g past || starts g e.op)) && not (has_exited g past || ((e.who == g) && is_exit e.op)))
+pub runs_push : (g : ℕ) (past : List Event) (e : Event)
+    → runs g (past ++ e ∷ []) ≡ ((g == 0 || (started g past || starts g e.op)) && not (has_exited g past || ((e.who == g) && is_exit e.op)))
 runs_push g past e =
     ap (λ s. (g == 0 || s) && not (has_exited g (past ++ e ∷ []))) (started_push g past e)
     ∙ ap (λ s. (g == 0 || (started g past || starts g e.op)) && not s) (has_exited_push g past e)
@@ -44,7 +45,8 @@ pub is_closed_push : (c : ℕ) (past : List Event) (e : Event) → is_closed c (
 is_closed_push c past e = has_push (closes c) past e
 
 -- what a Send on c sends comes behind what was sent before
-pub sent_push : (c : ℕ) (past : List Event) (e : Event) → filter_map (λ e. sent c e.op) (past ++ e ∷ []) ≡ filter_map (λ e. sent c e.op) past ++ option_to_list (sent c e.op)
+pub sent_push : (c : ℕ) (past : List Event) (e : Event)
+    → filter_map (λ e. sent c e.op) (past ++ e ∷ []) ≡ filter_map (λ e. sent c e.op) past ++ option_to_list (sent c e.op)
 sent_push c past e = filter_map-append (λ e. sent c e.op) past (e ∷ []) ∙ ap (λ vs. filter_map (λ e. sent c e.op) past ++ vs) (alone (sent c e.op))
   where
     alone : (o : Option ℕ) → cons_option o [] ≡ option_to_list o

@@ -9,7 +9,8 @@ use Rattle.race_model.specs.Verdict.{Race, Verdict, Illegal, Clean, Races, AreRe
 use Rattle.race_model.proofs.Indexes.{at_same, slice_get-take}
 
 -- whatever the order, one pair at most is reported
-pub reported_unique : {conflicts ordered : ℕ → ℕ → Type 0} (i j k m : ℕ) → IsReportedBy conflicts ordered i j → IsReportedBy conflicts ordered k m → (i ≡ k) × (j ≡ m)
+pub reported_unique : {conflicts ordered : ℕ → ℕ → Type 0} (i j k m : ℕ) → IsReportedBy conflicts ordered i j → IsReportedBy conflicts ordered k m
+    → (i ≡ k) × (j ≡ m)
 reported_unique {conflicts} {ordered} i j k m p q = (le_antisymm i_le k_le, later)
   where
     later : j ≡ m
@@ -22,7 +23,8 @@ reported_unique {conflicts} {ordered} i j k m p q = (le_antisymm i_le k_le, late
     i_le = q.greatest i (subst (λ n. i < n) later p.in_order) (subst (RaceBy conflicts ordered i) later p.race)
 
 -- behind a legal front the first broken event isn't earlier
-pub legal_front : (caps : ℕ → ℕ) (events : List Event) (i j n : ℕ) (e : Event) → At events i e → broken caps (take i events) e ≡ Some n → IsLegal caps (take j events) → i < j → ⊥
+pub legal_front : (caps : ℕ → ℕ) (events : List Event) (i j n : ℕ) (e : Event) → At events i e → broken caps (take i events) e ≡ Some n
+    → IsLegal caps (take j events) → i < j → ⊥
 legal_front caps events i j n e at is legal less =
     let front : take i (take j events) ≡ take i events = take-take i j events (omega arith) in
     let none : broken caps (take i events) e ≡ None = subst (λ past. broken caps past e ≡ None) front (legal i e (slice_get-take j events i less ∙ at)) in
@@ -98,7 +100,8 @@ same_rising (r ∷ races) (s ∷ others) p q a b = go (same_head r s races other
         cc
 
 -- each reported race of one list stands in the other
-pub races_part : (caps : ℕ → ℕ) (events : List Event) (races others : List Race) → AreReportedRaces caps events races → AreReportedRaces caps events others → IsPartOf races others
+pub races_part : (caps : ℕ → ℕ) (events : List Event) (races others : List Race) → AreReportedRaces caps events races → AreReportedRaces caps events others
+    → IsPartOf races others
 races_part caps events races others p q k r at = go (q.every r.var r.first r.second (p.each k r at).race)
   where
     go : ((m : ℕ) × (s : Race) × (slice_get others m ≡ Some s) × (s.var ≡ r.var)) → (m : ℕ) × (slice_get others m ≡ Some r)

@@ -31,7 +31,8 @@ half_below : (s k : ℕ) → s < 2 ^ suc k → s / 2 < 2 ^ k
 half_below s k below = let two : 2 ^ suc k ≡ 2 ^ k * 2 = grind (arith) in omega (arith, below, two)
 
 -- one more case, whose bit is above the others
-pub cases_push : (numbers : List ℕ) (sends n b : ℕ) → sends < 2 ^ length numbers → b < 2 → cases_of (numbers ++ n ∷ []) (sends + b * 2 ^ length numbers) ≡ cases_of numbers sends ++ case_of b n ∷ []
+pub cases_push : (numbers : List ℕ) (sends n b : ℕ) → sends < 2 ^ length numbers → b < 2
+    → cases_of (numbers ++ n ∷ []) (sends + b * 2 ^ length numbers) ≡ cases_of numbers sends ++ case_of b n ∷ []
 cases_push [] sends n b below bit = ap (λ m. case_of m n ∷ []) (omega (arith, below, bit))
 cases_push (m ∷ numbers) sends n b below bit =
     (λ i. case_of (lowest_more sends b (length numbers) i) m ∷ cases_of (numbers ++ n ∷ []) (half_more sends b (length numbers) i))

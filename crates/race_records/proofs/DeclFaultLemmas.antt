@@ -61,7 +61,8 @@ unfolding decl_fault
 allowed_from_no_fault ds object word h =
     by (is_name word) refl (is_some (find_name ds word)) refl (nat_le (limit_of (kind_of object)) (count_of (kind_of object) ds)) refl (is_too_wide object) refl h
   where
-    by : (b : Bool) → is_name word ≡ b → (c : Bool) → is_some (find_name ds word) ≡ c → (full : Bool) → nat_le (limit_of (kind_of object)) (count_of (kind_of object) ds) ≡ full
+    by : (b : Bool) → is_name word ≡ b → (c : Bool) → is_some (find_name ds word) ≡ c → (full : Bool)
+        → nat_le (limit_of (kind_of object)) (count_of (kind_of object) ds) ≡ full
         → (wide : Bool) → is_too_wide object ≡ wide
         → ◌≡◌ {A = Option DeclFault} (if not b then Some BadName else (if c then Some Taken else (if full then Some TooMany else (if wide then Some BadCapacity else None)))) None
         → IsAllowed ds object word

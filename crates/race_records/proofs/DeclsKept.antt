@@ -36,7 +36,8 @@ indexes_of-with_index Kind.Once Object.Once last indexes = refl
 indexes_of-with_index _ _ last indexes = refl
 
 -- one more declaration, seen by kind
-of_kind-push : (kind : Kind) (ds : List Declaration) (d : Declaration) → of_kind kind (ds ++ d ∷ []) ≡ (if is_of_kind kind d.object then of_kind kind ds ++ d ∷ [] else of_kind kind ds)
+of_kind-push : (kind : Kind) (ds : List Declaration) (d : Declaration)
+    → of_kind kind (ds ++ d ∷ []) ≡ (if is_of_kind kind d.object then of_kind kind ds ++ d ∷ [] else of_kind kind ds)
 of_kind-push kind ds d = filter-append (λ (e : Declaration). is_of_kind kind e.object) ds (d ∷ []) ∙ by (is_of_kind kind d.object)
   where
     by : (b : Bool) → of_kind kind ds ++ cond b (d ∷ []) [] ≡ (if b then of_kind kind ds ++ d ∷ [] else of_kind kind ds)
@@ -91,7 +92,8 @@ module _ (rows : List Row) (indexes : IndexesState) (numbered : AreNumbered rows
       (subst (λ is. Leads (ds ++ d ∷ []) (if is_of_kind kind object then of_kind kind ds ++ d ∷ [] else of_kind kind ds) is) (sym (indexes_of-with_index kind object (length rows) indexes))
       (by (is_of_kind kind object)))
     where
-      by : (b : Bool) → Leads (ds ++ d ∷ []) (if b then of_kind kind ds ++ d ∷ [] else of_kind kind ds) (if b then indexes_of kind indexes ++ length rows ∷ [] else indexes_of kind indexes)
+      by : (b : Bool)
+          → Leads (ds ++ d ∷ []) (if b then of_kind kind ds ++ d ∷ [] else of_kind kind ds) (if b then indexes_of kind indexes ++ length rows ∷ [] else indexes_of kind indexes)
       by true = Leads-same ds (of_kind kind ds) (indexes_of kind indexes) (numbered.indexed kind) d (length rows) (sym (length-map rows declaration_of))
       by false = Leads-other ds (of_kind kind ds) (indexes_of kind indexes) (numbered.indexed kind) d
 
@@ -110,7 +112,8 @@ module _ (decls : DeclsState) (holds : IsWellFormed decls) (name : List ℕ) (ob
   limited_pushed : (kind : Kind) → count_of kind (decls.declarations ++ added ∷ []) ≤ limit_of kind
   limited_pushed kind = subst (λ (xs : List Declaration). first_number kind + length xs ≤ limit_of kind) (sym (of_kind-push kind decls.declarations added)) (by (is_of_kind kind object) refl)
     where
-      by : (b : Bool) → is_of_kind kind object ≡ b → first_number kind + length (if b then of_kind kind decls.declarations ++ added ∷ [] else of_kind kind decls.declarations) ≤ limit_of kind
+      by : (b : Bool) → is_of_kind kind object ≡ b
+          → first_number kind + length (if b then of_kind kind decls.declarations ++ added ∷ [] else of_kind kind decls.declarations) ≤ limit_of kind
       by true e =
           let room : count_of kind decls.declarations < limit_of kind = subst (λ k. count_of k decls.declarations < limit_of k) (sym (kind_is kind object e)) allowed.room in
           omega (arith, room, length-append (of_kind kind decls.declarations) (added ∷ []))

@@ -22,7 +22,8 @@ within_by_map f (x ∷ xs) zero y h = omega arith
 within_by_map f (x ∷ xs) (suc i) y h = let n = within_by_map f xs i y h in omega arith
 
 -- the index of a name among the rows is its index among the declarations
-pub position-names : (rows : List Row) (name : List ℕ) → position (λ (r : Row). bytes_eq name r.name) rows ≡ position (λ (d : Declaration). bytes_eq name d.name) (declarations_of rows)
+pub position-names : (rows : List Row) (name : List ℕ)
+    → position (λ (r : Row). bytes_eq name r.name) rows ≡ position (λ (d : Declaration). bytes_eq name d.name) (declarations_of rows)
 position-names rows name = sym (position-map declaration_of (λ (d : Declaration). bytes_eq name d.name) rows)
 
 module _ (rows : List Row) (indexes : IndexesState) (numbered : AreNumbered rows indexes) (kind : Kind) (n i : ℕ)
@@ -42,7 +43,8 @@ module _ (rows : List Row) (indexes : IndexesState) (numbered : AreNumbered rows
       → width_of slot.object ≡ option_map_or (λ (d : Declaration). width_of d.object) (slice_get (of_kind kind (declarations_of rows)) n) 0
   width-indexed slot is = by (slice_get rows i) is ∙ ap (λ (o : Option Declaration). option_map_or (λ (d : Declaration). width_of d.object) o 0) declaration-indexed
     where
-      by : (r : Option Row) → option_map (λ (r : Row). r.slot) r ≡ Some slot → width_of slot.object ≡ option_map_or (λ (d : Declaration). width_of d.object) (option_map declaration_of r) 0
+      by : (r : Option Row) → option_map (λ (r : Row). r.slot) r ≡ Some slot
+          → width_of slot.object ≡ option_map_or (λ (d : Declaration). width_of d.object) (option_map declaration_of r) 0
       by None is = cc
       by (Some row) is = ap (λ (s : Option Slot). option_map_or (λ (s : Slot). width_of s.object) s 0) (sym is)
 
@@ -50,6 +52,7 @@ module _ (rows : List Row) (indexes : IndexesState) (numbered : AreNumbered rows
   pub index_within : n < length (of_kind kind (declarations_of rows)) → i < length rows
   index_within within = by (of_kind kind (declarations_of rows)) within (name-indexed)
     where
-      by : (ds : List Declaration) → n < length ds → option_map (λ (r : Row). r.name) (slice_get rows i) ≡ option_map (λ (d : Declaration). d.name) (slice_get ds n) → i < length rows
+      by : (ds : List Declaration) → n < length ds
+          → option_map (λ (r : Row). r.name) (slice_get rows i) ≡ option_map (λ (d : Declaration). d.name) (slice_get ds n) → i < length rows
       by [] h e = absurd (omega arith)
       by (d ∷ ds) h e = within_by_map (λ (r : Row). r.name) rows i _ (e ∙ ap (option_map (λ (x : Declaration). x.name)) (slice_get-get_or (d ∷ ds) n d h))

@@ -27,7 +27,8 @@ allowed_from_no_push_fault trace e h = by (fits trace.decls e) refl (nat_le MAX_
     by true fit false room h = record { fit = fit; room = grind (arith, nat_tests) }
 
 -- one more event that fits
-pub push_is_trace : (trace : TraceState) (e : Event) (events : List Event) (spare : ℕ) → IsTrace trace → IsTrue (value_fits e.op) → push_fault trace e ≡ None → events ≡ trace.events ++ e ∷ []
+pub push_is_trace : (trace : TraceState) (e : Event) (events : List Event) (spare : ℕ) → IsTrace trace → IsTrue (value_fits e.op) → push_fault trace e ≡ None
+    → events ≡ trace.events ++ e ∷ []
     → IsTrace (record { decls = trace.decls; events = events; spare = spare })
 push_is_trace trace e events spare holds value none is =
     let allowed = allowed_from_no_push_fault trace e none in
@@ -39,11 +40,13 @@ push_is_trace trace e events spare holds value none is =
     }
 
 -- with more places, an event that fitted still fits
-fits-more_places : (ds : List Declaration) (places more : List (List ℕ)) (e : Event) → length places ≤ length more → fits (record { declarations = ds; places = places }) e ≡ true → fits (record { declarations = ds; places = more }) e ≡ true
+fits-more_places : (ds : List Declaration) (places more : List (List ℕ)) (e : Event) → length places ≤ length more
+    → fits (record { declarations = ds; places = places }) e ≡ true → fits (record { declarations = ds; places = more }) e ≡ true
 unfolding fits
 fits-more_places ds places more e grown h = grind (arith, nat_tests)
 
-pub with_place_is_trace : (trace : TraceState) (word : List ℕ) (decls : DeclsState) → IsTrace trace → decls ≡ with_place trace.decls word → IsTrace (record { decls = decls; events = trace.events; spare = trace.spare })
+pub with_place_is_trace : (trace : TraceState) (word : List ℕ) (decls : DeclsState) → IsTrace trace → decls ≡ with_place trace.decls word
+    → IsTrace (record { decls = decls; events = trace.events; spare = trace.spare })
 with_place_is_trace trace word decls holds is = record {
   fit = λ k d within. subst (λ (x : DeclsState). IsTrue (fits x (get_or trace.events k d))) (sym is) (fits-more_places trace.decls.declarations trace.decls.places _ (get_or trace.events k d) (grown (is_known trace.decls.places word)) (holds.fit k d within));
   values = holds.values;

@@ -21,7 +21,8 @@ module _ {X : Type 0} where
   slice_get-push_last (y ∷ ys) x (suc n) h = slice_get-push_last ys x n (omega arith)
 
   -- an element of the longer list is an earlier one or the new one
-  pub slice_get-push_cases : (xs : List X) (x : X) (i : ℕ) (y : X) → slice_get (xs ++ x ∷ []) i ≡ Some y → (slice_get xs i ≡ Some y) ⊎ ((i ≡ length xs) × (y ≡ x))
+  pub slice_get-push_cases : (xs : List X) (x : X) (i : ℕ) (y : X) → slice_get (xs ++ x ∷ []) i ≡ Some y
+      → (slice_get xs i ≡ Some y) ⊎ ((i ≡ length xs) × (y ≡ x))
   slice_get-push_cases [] x zero y h = inr (refl, sym (same_Some x y h))
   slice_get-push_cases [] x (suc i) y h = absurd (none-some y h)
   slice_get-push_cases (z ∷ zs) x zero y h = inl h

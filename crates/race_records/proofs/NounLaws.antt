@@ -49,7 +49,8 @@ IsWanted (Some limit) (Some number) = number ≤ limit
 IsWanted _ _ = ⊥
 
 -- such a number makes an object, and no capacity that is too wide
-pub object_is_there : (noun : Noun) (number : Option ℕ) → IsWanted (number_limit noun) number → (object : Object) × (object_by noun number ≡ Some object) × (is_too_wide object ≡ false)
+pub object_is_there : (noun : Noun) (number : Option ℕ) → IsWanted (number_limit noun) number
+    → (object : Object) × (object_by noun number ≡ Some object) × (is_too_wide object ≡ false)
 object_is_there Noun.Goroutine None wanted = (Object.Goroutine, refl, refl)
 object_is_there Noun.Var None wanted = (Object.Var, refl, refl)
 object_is_there Noun.Chan (Some capacity) wanted = (Object.Chan capacity, refl, grind (arith, nat_tests, wanted))

@@ -14,12 +14,14 @@ use Rattle.race_records.specs.declared.page.TheConstants.{BLOCK}
 use Rattle.race_records.specs.Page.{PageState, IsPrinted, IsCutOff, Prints, BreaksOff, WaitsIfRoom, Printing, count_of_bytes}
 
 -- a count goes on where it stopped
-counted_more : (sent : ℕ) (out bytes : List ℕ) (more : ℕ) → sent ≡ count_of_bytes (length out) → more ≡ length bytes → min (sent + more) (2 ^ 64 - 1) ≡ count_of_bytes (length (out ++ bytes))
+counted_more : (sent : ℕ) (out bytes : List ℕ) (more : ℕ) → sent ≡ count_of_bytes (length out) → more ≡ length bytes
+    → min (sent + more) (2 ^ 64 - 1) ≡ count_of_bytes (length (out ++ bytes))
 counted_more sent out bytes more is len = omega (arith, is, len, length-append out bytes)
 
 module _ (start before after : Option (List ℕ)) (page : PageState) (text : List ℕ) (printed : IsPrinted start before page text) where
   -- all that waited went out
-  pub all_out : (sent : ℕ) → Appends before after page.waiting → sent ≡ min (page.sent + length page.waiting) (2 ^ 64 - 1) → IsPrinted start after (record { waiting = []; sent = sent }) text
+  pub all_out : (sent : ℕ) → Appends before after page.waiting → sent ≡ min (page.sent + length page.waiting) (2 ^ 64 - 1)
+      → IsPrinted start after (record { waiting = []; sent = sent }) text
   all_out sent went is = record {
     out = printed.out ++ page.waiting;
     split = printed.split ∙ sym (append-nil (printed.out ++ page.waiting));
@@ -28,7 +30,8 @@ module _ (start before after : Option (List ℕ)) (page : PageState) (text : Lis
   }
 
   -- only the first n bytes of what waited went out
-  pub part_out : (n sent : ℕ) → n < length page.waiting → Appends before after (take n page.waiting) → sent ≡ min (page.sent + n) (2 ^ 64 - 1) → IsCutOff start after sent text
+  pub part_out : (n sent : ℕ) → n < length page.waiting → Appends before after (take n page.waiting) → sent ≡ min (page.sent + n) (2 ^ 64 - 1)
+      → IsCutOff start after sent text
   part_out n sent short went is = record {
     out = printed.out ++ take n page.waiting;
     rest = drop n page.waiting;
@@ -48,7 +51,8 @@ module _ (start before after : Option (List ℕ)) (page : PageState) (text : Lis
     counted = is ∙ counted_more page.sent printed.out bytes (length bytes) printed.counted refl;
   }
 
-  pub part_sent : (bytes : List ℕ) (n sent : ℕ) → page.waiting ≡ [] → n < length bytes → Appends before after (take n bytes) → sent ≡ min (page.sent + n) (2 ^ 64 - 1) → IsCutOff start after sent (text ++ bytes)
+  pub part_sent : (bytes : List ℕ) (n sent : ℕ) → page.waiting ≡ [] → n < length bytes → Appends before after (take n bytes)
+      → sent ≡ min (page.sent + n) (2 ^ 64 - 1) → IsCutOff start after sent (text ++ bytes)
   part_sent bytes n sent none short went is = record {
     out = printed.out ++ take n bytes;
     rest = drop n bytes;
@@ -71,7 +75,8 @@ cut_off_more start now sent text bytes cut = record {
 }
 
 -- the pieces before the next are those so far and one more
-pub pieces_more : {X : Type 0} (piece : X → List ℕ) (xs : List X) (i : ℕ) (d : X) → i < length xs → flat_map piece (take (i + 1) xs) ≡ flat_map piece (take i xs) ++ piece (get_or xs i d)
+pub pieces_more : {X : Type 0} (piece : X → List ℕ) (xs : List X) (i : ℕ) (d : X) → i < length xs
+    → flat_map piece (take (i + 1) xs) ≡ flat_map piece (take i xs) ++ piece (get_or xs i d)
 pieces_more piece xs i d within =
     ap (flat_map piece) (take_more xs i d within) ∙ flat_map-append piece (take i xs) (get_or xs i d ∷ []) ∙ ap (λ l. flat_map piece (take i xs) ++ l) (append-nil (piece (get_or xs i d)))
 
@@ -98,7 +103,8 @@ prints_on a b c p q r xs ys first next =
     λ start text printed. subst (λ (l : List ℕ). IsPrinted start c r l) (append_assoc text xs ys) (next start (text ++ xs) (first start text printed))
 
 -- bytes that break off behind what was put
-pub breaks_off_on : (a b c : Option (List ℕ)) (p q : PageState) (sent : ℕ) (xs ys : List ℕ) → Prints a b p q xs → BreaksOff b c q sent ys → BreaksOff a c p sent (xs ++ ys)
+pub breaks_off_on : (a b c : Option (List ℕ)) (p q : PageState) (sent : ℕ) (xs ys : List ℕ) → Prints a b p q xs → BreaksOff b c q sent ys
+    → BreaksOff a c p sent (xs ++ ys)
 breaks_off_on a b c p q sent xs ys first next =
     λ start text printed. subst (λ (l : List ℕ). IsCutOff start c sent l) (append_assoc text xs ys) (next start (text ++ xs) (first start text printed))
 
@@ -145,7 +151,8 @@ OnErr-map (Ok x) P Q f h = tt
 OnErr-map (Err e) P Q f h = f h
 
 -- bytes that wait behind others that wait
-pub waits_on : {W E : Type 0} (r : Result ⊤ E) (a b c : Sink W) (p q s : PageState) (xs ys : List ℕ) → (length p.waiting + length xs ≤ BLOCK → (b ≡ a) × (q.waiting ≡ p.waiting ++ xs))
+pub waits_on : {W E : Type 0} (r : Result ⊤ E) (a b c : Sink W) (p q s : PageState) (xs ys : List ℕ)
+    → (length p.waiting + length xs ≤ BLOCK → (b ≡ a) × (q.waiting ≡ p.waiting ++ xs))
     → WaitsIfRoom r b c q s ys → WaitsIfRoom r a c p s (xs ++ ys)
 waits_on r a b c p q s xs ys first next = λ room.
     let both = length-append xs ys in
@@ -155,7 +162,8 @@ waits_on r a b c p q s xs ys first next = λ room.
     (last.0, last.1 ∙ before.0, last.2 ∙ ap (λ l. l ++ ys) before.1 ∙ append_assoc p.waiting xs ys)
 
 -- bytes that are printed behind others
-pub prints_behind : {W : Type 0} {contents : W → Option (List ℕ)} {r : Result ⊤ WriteFault} {a b c : Sink W} {p q s : PageState} {xs ys : List ℕ} → Printing contents (Ok tt) a b p q xs
+pub prints_behind : {W : Type 0} {contents : W → Option (List ℕ)} {r : Result ⊤ WriteFault} {a b c : Sink W} {p q s : PageState} {xs ys : List ℕ}
+    → Printing contents (Ok tt) a b p q xs
     → Printing contents r b c q s ys → Printing contents r a c p s (xs ++ ys)
 prints_behind {W} {contents} {r} {a} {b} {c} {p} {q} {s} {xs} {ys} first next = record {
   ok = OnOk-map r _ _ (prints_on (written contents a) (written contents b) (written contents c) p q s xs ys first.ok) next.ok;
@@ -166,7 +174,8 @@ prints_behind {W} {contents} {r} {a} {b} {c} {p} {q} {s} {xs} {ys} first next = 
 }
 
 -- bytes that break off do so with more behind them
-pub breaks_off_before : {W : Type 0} {contents : W → Option (List ℕ)} {fault : WriteFault} {a b : Sink W} {p q : PageState} {xs : List ℕ} (ys : List ℕ) → Printing contents (Err fault) a b p q xs
+pub breaks_off_before : {W : Type 0} {contents : W → Option (List ℕ)} {fault : WriteFault} {a b : Sink W} {p q : PageState} {xs : List ℕ} (ys : List ℕ)
+    → Printing contents (Err fault) a b p q xs
     → Printing contents (Err fault) a b p q (xs ++ ys)
 breaks_off_before {W} {contents} {fault} {a} {b} {p} {q} {xs} ys broke = record {
   ok = tt;
@@ -178,10 +187,12 @@ breaks_off_before {W} {contents} {fault} {a} {b} {p} {q} {xs} ys broke = record 
 
 module _ {W : Type 0} {contents : W → Option (List ℕ)} {a b c : Sink W} {p q s : PageState} {X : Type 0} (piece : X → List ℕ) (xs : List X) (i : ℕ) (d : X) (within : i < length xs) where
   -- one piece more
-  pub piece_behind : Printing contents (Ok tt) a b p q (flat_map piece (take i xs)) → Printing contents (Ok tt) b c q s (piece (get_or xs i d)) → Printing contents (Ok tt) a c p s (flat_map piece (take (i + 1) xs))
+  pub piece_behind : Printing contents (Ok tt) a b p q (flat_map piece (take i xs)) → Printing contents (Ok tt) b c q s (piece (get_or xs i d))
+      → Printing contents (Ok tt) a c p s (flat_map piece (take (i + 1) xs))
   piece_behind first next = subst (λ (l : List ℕ). Printing contents (Ok tt) a c p s l) (sym (pieces_more piece xs i d within)) (prints_behind first next)
 
   -- a piece that breaks off, and more pieces behind it
-  pub piece_breaks_off : {fault : WriteFault} → Printing contents (Ok tt) a b p q (flat_map piece (take i xs)) → Printing contents (Err fault) b c q s (piece (get_or xs i d)) → Printing contents (Err fault) a c p s (flat_map piece xs)
+  pub piece_breaks_off : {fault : WriteFault} → Printing contents (Ok tt) a b p q (flat_map piece (take i xs))
+      → Printing contents (Err fault) b c q s (piece (get_or xs i d)) → Printing contents (Err fault) a c p s (flat_map piece xs)
   piece_breaks_off {fault} first next =
       subst (λ (l : List ℕ). Printing contents (Err fault) a c p s l) (sym (pieces_split piece xs i d within)) (breaks_off_before (flat_map piece (drop (i + 1) xs)) (prints_behind first next))

@@ -54,7 +54,8 @@ value_again kind (Part.Object named ∷ Part.Value v ∷ []) p e =
 value_again kind _ p e = absurd (none-some p e)
 
 -- where parts of a form give an operation, it says these parts
-made_says : {X : Type 0} (make : X → Op) (said : X → Verb × List Part) → ((x : X) → says (make x) ≡ said x) → (found : Option X) (op : Op) (verb : Verb) (parts : List Part)
+made_says : {X : Type 0} (make : X → Op) (said : X → Verb × List Part) → ((x : X) → says (make x) ≡ said x)
+    → (found : Option X) (op : Op) (verb : Verb) (parts : List Part)
     → ((x : X) → found ≡ Some x → said x ≡ (verb, parts)) → option_map make found ≡ Some op → says op ≡ (verb, parts)
 made_says make said is (Some x) op verb parts again e = ap says (sym (same_Some (make x) op e)) ∙ is x ∙ again x refl
 made_says make said is None op verb parts again e = absurd (none-some op e)
@@ -66,10 +67,12 @@ op_by_says verb parts op e = by verb e
     is : (made : Op) → Some made ≡ Some op → says op ≡ says made
     is made e = ap says (sym (same_Some made op e))
 
-    alone : (make : ℕ → Op) (verb : Verb) (kind : Kind) → ((n : ℕ) → says (make n) ≡ (verb, Part.Object (named_by kind n) ∷ [])) → option_map make (object_alone kind parts) ≡ Some op → says op ≡ (verb, parts)
+    alone : (make : ℕ → Op) (verb : Verb) (kind : Kind) → ((n : ℕ) → says (make n) ≡ (verb, Part.Object (named_by kind n) ∷ []))
+        → option_map make (object_alone kind parts) ≡ Some op → says op ≡ (verb, parts)
     alone make verb kind says_it e = made_says make (λ n. (verb, Part.Object (named_by kind n) ∷ [])) says_it (object_alone kind parts) op verb parts (λ n found i. (verb, sym (alone_again kind parts n found) i)) e
 
-    valued : (make : ℕ × ℕ → Op) (verb : Verb) (kind : Kind) → ((p : ℕ × ℕ) → says (make p) ≡ (verb, Part.Object (named_by kind p.0) ∷ Part.Value p.1 ∷ [])) → option_map make (object_value kind parts) ≡ Some op → says op ≡ (verb, parts)
+    valued : (make : ℕ × ℕ → Op) (verb : Verb) (kind : Kind) → ((p : ℕ × ℕ) → says (make p) ≡ (verb, Part.Object (named_by kind p.0) ∷ Part.Value p.1 ∷ []))
+        → option_map make (object_value kind parts) ≡ Some op → says op ≡ (verb, parts)
     valued make verb kind says_it e =
         made_says make (λ p. (verb, Part.Object (named_by kind p.0) ∷ Part.Value p.1 ∷ [])) says_it (object_value kind parts) op verb parts (λ p found i. (verb, sym (value_again kind parts p found) i)) e
 

@@ -15,7 +15,8 @@ use Rattle.race_records.specs.Name.{is_place}
 use Rattle.race_records.specs.Declarations.{DeclsState, IsWellFormed, is_known, place_fault, with_place}
 
 -- a known place has a place's form
-known_is_place : (places : List (List ℕ)) (word : List ℕ) → All (λ (p : List ℕ). IsTrue (is_place p)) places → is_known places word ≡ true → is_place word ≡ true
+known_is_place : (places : List (List ℕ)) (word : List ℕ) → All (λ (p : List ℕ). IsTrue (is_place p)) places → is_known places word ≡ true
+    → is_place word ≡ true
 known_is_place places word all known =
     let at = Any-from_list_any (bytes_eq word) places known in
     let is_same : word ≡ at.1 = (bytes_eq-Decides word at.1).0 at.4 in
@@ -38,7 +39,8 @@ pub record IsAllowedPlace (places : List (List ℕ)) (word : List ℕ) : Type 0 
   pub form : IsTrue (is_place word)
   pub room : length places < MAX_PLACES
 
-pub allowed_from_no_place_fault : (places : List (List ℕ)) (word : List ℕ) → is_known places word ≡ false → place_fault places word ≡ None → IsAllowedPlace places word
+pub allowed_from_no_place_fault : (places : List (List ℕ)) (word : List ℕ) → is_known places word ≡ false → place_fault places word ≡ None
+    → IsAllowedPlace places word
 unfolding place_fault
 allowed_from_no_place_fault places word new h = by (is_place word) refl (is_known places word) new (nat_le MAX_PLACES (length places)) refl h
   where
@@ -65,9 +67,11 @@ place_well_formed decls word holds new allowed = record {
 }
 
 -- the table with a place that nothing refuses, new or known
-pub with_place_well_formed : (decls : DeclsState) (word : List ℕ) → IsWellFormed decls → place_fault decls.places word ≡ None → IsWellFormed (with_place decls word)
+pub with_place_well_formed : (decls : DeclsState) (word : List ℕ) → IsWellFormed decls → place_fault decls.places word ≡ None
+    → IsWellFormed (with_place decls word)
 with_place_well_formed decls word holds none = by (is_known decls.places word) refl
   where
-    by : (b : Bool) → is_known decls.places word ≡ b → IsWellFormed (record { declarations = decls.declarations; places = if b then decls.places else decls.places ++ word ∷ [] })
+    by : (b : Bool) → is_known decls.places word ≡ b
+        → IsWellFormed (record { declarations = decls.declarations; places = if b then decls.places else decls.places ++ word ∷ [] })
     by true e = holds
     by false e = place_well_formed decls word holds e (allowed_from_no_place_fault decls.places word e none)

@@ -22,7 +22,8 @@ pub list_any-within : {X : Type 0} (p : X → Bool) (xs : List X) → list_any p
 list_any-within p [] = refl
 list_any-within p (x ∷ xs) = by (p x) (list_any-within p xs)
   where
-    by : (b : Bool) → list_any p xs ≡ nat_lt (position_or_len p xs) (length xs) → (b || list_any p xs) ≡ nat_lt (cond (not b) (1 + position_or_len p xs) 0) (length (x ∷ xs))
+    by : (b : Bool) → list_any p xs ≡ nat_lt (position_or_len p xs) (length xs)
+        → (b || list_any p xs) ≡ nat_lt (cond (not b) (1 + position_or_len p xs) 0) (length (x ∷ xs))
     by true h = grind (arith, nat_tests)
     by false h = grind (arith, nat_tests)
 
@@ -51,13 +52,15 @@ pub position_or_len-absent : {X : Type 0} (p : X → Bool) (xs : List X) → lis
 position_or_len-absent p [] absent = refl
 position_or_len-absent p (x ∷ xs) absent = by (p x) absent (position_or_len-absent p xs)
   where
-    by : (b : Bool) → (b || list_any p xs) ≡ false → (list_any p xs ≡ false → position_or_len p xs ≡ length xs) → cond (not b) (1 + position_or_len p xs) 0 ≡ length (x ∷ xs)
+    by : (b : Bool) → (b || list_any p xs) ≡ false → (list_any p xs ≡ false → position_or_len p xs ≡ length xs)
+        → cond (not b) (1 + position_or_len p xs) 0 ≡ length (x ∷ xs)
     by true h rest = absurd (true≢false h)
     by false h rest = let e = rest h in omega arith
 
 module _ {Z : Type 0} (ks : List (String Z)) (texts : List (List ℕ)) (view_is : map string_bytes ks ≡ texts) where
   -- a text that is new to the set goes last
-  pub insert_key-new : (k : String Z) (text : List ℕ) → string_bytes k ≡ text → IsNone (position (bytes_eq text) texts) → map string_bytes (insert_key string_eq ks k) ≡ texts ++ text ∷ []
+  pub insert_key-new : (k : String Z) (text : List ℕ) → string_bytes k ≡ text → IsNone (position (bytes_eq text) texts)
+      → map string_bytes (insert_key string_eq ks k) ≡ texts ++ text ∷ []
   insert_key-new k text e none =
       let found : position (bytes_eq text) texts ≡ position (λ x. bytes_eq (string_bytes k) (string_bytes x)) ks =
       (λ i. position (bytes_eq (sym e i)) (sym view_is i)) ∙ position-map string_bytes (bytes_eq (string_bytes k)) ks in
@@ -65,7 +68,8 @@ module _ {Z : Type 0} (ks : List (String Z)) (texts : List (List ℕ)) (view_is 
       ap (λ b. map string_bytes (cond b ks (ks ++ k ∷ []))) absent ∙ map-append string_bytes ks (k ∷ []) ∙ (λ i. view_is i ++ e i ∷ [])
 
 -- clones have the bytes of their sources
-pub string_bytes-clones : {Z : Type 0} (xs ys : List (String Z)) → AllZip (λ x y. string_bytes y ≡ string_bytes x) xs ys → map string_bytes ys ≡ map string_bytes xs
+pub string_bytes-clones : {Z : Type 0} (xs ys : List (String Z)) → AllZip (λ x y. string_bytes y ≡ string_bytes x) xs ys
+    → map string_bytes ys ≡ map string_bytes xs
 string_bytes-clones [] [] h = refl
 string_bytes-clones [] (y ∷ ys) h = absurd h
 string_bytes-clones (x ∷ xs) [] h = absurd h

@@ -1,6 +1,8 @@
 -- The front of the events up to the index is legal; at the end it is all of them.
-use Rattle.std.proofs.Common.{List, Err, ap, sym, subst, take}
+use Rattle.std.proofs.Common.{◌≤◌, List, length, Err, ap, sym, subst, take, take_all, arith}
 use Rattle.race_records.specs.declared.event.Event.{Event}
+use Rattle.race_records.specs.Declarations.{capacity_of}
+use Rattle.race_model.specs.Legal.{IsLegal}
 use Rattle.race_legal.specs.StandsFor.{StandsFor}
 use Rattle.race_legal.proofs.Fronts.{take_next}
 use Rattle.race_legal.proofs.RangeLemmas.{in_range}
@@ -24,3 +26,8 @@ loop-at-preserved g c = record {
       subst (λ (past : List Event). StandsFor c.args.trace.now.decls.declarations c.accept.new.self past) (sym (take_next c.args.trace.now.events c.loop-at.at c.event.result.now c.event.ensures.event))
       (c.in-Ok.ensures.goes_on c.args.trace.now.decls.declarations (take c.loop-at.at c.args.trace.now.events) c.loop-at.invariant.stands);
 }
+
+pub returns : goal.returns
+returns g c =
+    let all : length c.args.trace.now.events ≤ c.loop-at.at = omega (arith, c.len-at-end.ensures, c.loop-at-test.false) in
+    subst (IsLegal (capacity_of c.args.trace.now.decls.declarations)) (take_all c.loop-at.at c.args.trace.now.events all) c.loop-at.invariant.stands.legal

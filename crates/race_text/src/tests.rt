@@ -245,26 +245,19 @@ fn holds_the_limit_on_goroutines(rt: HostRuntime) -> Result<(), Fail> {
 // 65,535 channels and one more. A capacity over its limit is told first.
 #[test]
 fn holds_the_limit_on_channels(rt: HostRuntime) -> Result<(), Fail> {
-    let mut many = String::from_str(rt.alloc(), "gotrace 1\n")?;
+    let mut decls = Decls::new(rt.alloc());
     for n in 0..65_535u32 {
-        many.push_str(format!(in rt.alloc(); "chan c{n} 0\n")?.as_str())?;
+        decls.add_chan(format!(in rt.alloc(); "c{n}")?.as_str(), 0)?;
     }
-    let lasts: [(&[u8], Option<TextCause>); 4] = [
-        (b"var x", None),
-        (b"chan c 0", Some(TooMany)),
-        (b"chan c 65536", Some(BadNumber)),
-        (b"chan c7 65536", Some(Taken)),
+    let lines: [(&[u8], Result<bool, TextCause>); 4] = [
+        (b"chan c 0", Err(TooMany)),
+        (b"chan c 65536", Err(BadNumber)),
+        (b"chan c7 65536", Err(Taken)),
+        (b"var x", Ok(true)),
     ];
-    for (last, cause) in lasts {
-        let fault = fault_behind(rt.alloc(), many.as_bytes(), last)?;
-        assert_eq!(rt;
-            fault,
-            cause.map(|cause| TextFault {
-                line: 65_537,
-                cause
-            }),
-            "at {last:?}"
-        );
+    for (line, answer) in lines {
+        let told = read_declaration(&mut decls, line);
+        assert!(rt; told == answer, "at {line:?}");
     }
     Ok(())
 }

@@ -4,7 +4,7 @@ use Rattle.std.proofs.lemmas.Option.{slice_get_within}
 use Rattle.std.proofs.lemmas.List.{length-take-le}
 use Rattle.race_records.specs.declared.event.Event.{Event}
 use Rattle.race_records.specs.declared.event.Op.{Op}
-use Rattle.race_records.specs.declared.event.Op.TheVariants.{Go}
+use Rattle.race_records.specs.declared.event.Op.TheVariants.{Go, Meet, Read, Write, Send, Recv, RecvClosed}
 use Rattle.race_model.specs.Events.{At, accesses, is_access}
 use Rattle.race_model.specs.Order.{Point, Begin, End, SynchronizedInside, IsSource, SynchronizedBefore, Step, Reaches, one_step, then_step, HappensBefore}
 use Rattle.race_model.specs.Race.{Conflict, IsRace}
@@ -18,11 +18,20 @@ use Rattle.race_model.proofs.ReorderLemmas.{is_access_from}
 -- an access has no edge inside its event
 pub access_alone : (who : ℕ) (o : Op) (g h : ℕ) → IsTrue (is_access o) → SynchronizedInside who o g h → ⊥
 access_alone who (Go k) g h is s = cc
+access_alone who (Meet r c v) g h is s = cc
 access_alone who _ g h is s = s
 
 -- and is no source
 pub access_no_source : (caps : ℕ → ℕ) (past : List Event) (i : ℕ) (s o : Op) → IsTrue (is_access s) → IsSource caps past i s o → ⊥
-access_no_source caps past i s o is source = source
+access_no_source caps past i (Read x w) (Send c v) is u = (let no = u.1.0 in cc)
+access_no_source caps past i (Read x w) (Recv c v) is u = (let no = u.0 in cc)
+access_no_source caps past i (Read x w) (RecvClosed c) is u = cc
+access_no_source caps past i (Read x w) _ is u = u
+access_no_source caps past i (Write x w) (Send c v) is u = (let no = u.1.0 in cc)
+access_no_source caps past i (Write x w) (Recv c v) is u = (let no = u.0 in cc)
+access_no_source caps past i (Write x w) (RecvClosed c) is u = cc
+access_no_source caps past i (Write x w) _ is u = u
+access_no_source caps past i _ o is u = cc
 
 module _ (caps : ℕ → ℕ) (events : List Event) where
   -- no edge leaves an access

@@ -7,7 +7,6 @@ pub mod Ranks
 pub mod Grow
 pub mod Reaching
 pub mod SeenSteps
-pub mod SeenByOperation
 pub mod BeforeSeen
 pub mod RaceSteps
 pub mod ReorderLemmas

@@ -3,7 +3,7 @@ use Rattle.std.proofs.Common.{◌≡◌, ℕ, ◌<◌, ◌==◌, ◌||◌, true,
 use Rattle.std.proofs.lemmas.Bool.{or_left, or_right}
 use Rattle.race_records.specs.declared.event.Event.{Event}
 use Rattle.race_records.specs.declared.event.Op.{Op}
-use Rattle.race_records.specs.declared.event.Op.TheVariants.{Go}
+use Rattle.race_records.specs.declared.event.Op.TheVariants.{Go, Meet}
 use Rattle.race_model.specs.Events.{partner, gives, takes_part, TakesPart}
 use Rattle.race_model.specs.Order.{Point, Begin, End, SynchronizedInside, Step, Reaches, one_step, then_step}
 use Rattle.race_model.specs.Known.{SeenAt}
@@ -23,6 +23,8 @@ inside_from e g h s = go e.op s
   where
     go : (o : Op) → SynchronizedInside e.who o g h → ((e.who == g) || gives (partner o) g) ≡ true
     go (Go k) (who, new) = or_left (e.who == g) (k == g) (eq-eqb e.who g who)
+    go (Meet r c v) (inl (who, other)) = or_left (e.who == g) (r == g) (eq-eqb e.who g who)
+    go (Meet r c v) (inr (other, who)) = or_right (e.who == g) (r == g) (eq-eqb r g other)
     go _ s = absurd s
 
 -- so does its target
@@ -31,6 +33,8 @@ inside_to e g h s = go e.op s
   where
     go : (o : Op) → SynchronizedInside e.who o g h → ((e.who == h) || gives (partner o) h) ≡ true
     go (Go k) (who, new) = or_right (e.who == h) (k == h) (eq-eqb k h new)
+    go (Meet r c v) (inl (who, other)) = or_right (e.who == h) (r == h) (eq-eqb r h other)
+    go (Meet r c v) (inr (other, who)) = or_left (e.who == h) (r == h) (eq-eqb e.who h who)
     go _ s = absurd s
 
 -- h's begin in event i reaches an end of f before event j, in which f takes part

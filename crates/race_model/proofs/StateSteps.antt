@@ -1,14 +1,20 @@
 -- The state words one event on.
-use Rattle.std.proofs.Common.{◌≡◌, ℕ, ◌==◌, ◌||◌, ◌&&◌, not, List, [], ◌∷◌, ◌++◌, Option, Some, None, unwrap_or, refl, ap, ◌∙◌}
+use Rattle.std.proofs.Common.{◌≡◌, ℕ, ◌==◌, ◌||◌, ◌&&◌, not, Bool, true, false, List, [], ◌∷◌, ◌++◌, Option, Some, None, unwrap_or, refl, ap, ◌∙◌}
 use Rattle.race_records.specs.declared.event.Event.{Event}
-use Rattle.race_model.specs.Events.{starts, is_exit, has_exited}
+use Rattle.race_model.specs.Events.{starts, is_exit, is_fault, has, has_exited}
 use Rattle.race_model.specs.State.{over, started, runs, written, last_value}
 use Rattle.race_model.proofs.LastOf.{last_of_push_some, last_of_push_none}
 use Rattle.race_model.proofs.CountSteps.{has_push, has_exited_push}
 
--- the run is over with main's exit
-pub over_push : (past : List Event) (e : Event) → over (past ++ e ∷ []) ≡ (over past || ((e.who == 0) && is_exit e.op))
-over_push past e = has_exited_push 0 past e
+-- the run is over with main's exit, and with a fault
+pub over_push : (past : List Event) (e : Event) → over (past ++ e ∷ []) ≡ (over past || (((e.who == 0) && is_exit e.op) || is_fault e.op))
+over_push past e = (λ i. has_exited_push 0 past e i || has_push is_fault past e i) ∙ both (has_exited 0 past) ((e.who == 0) && is_exit e.op) (has is_fault past) (is_fault e.op)
+  where
+    both : (a b c d : Bool) → ((a || b) || (c || d)) ≡ ((a || c) || (b || d))
+    both true b c d = refl
+    both false true true d = refl
+    both false true false d = refl
+    both false false c d = refl
 
 -- a Go of g starts it
 pub started_push : (g : ℕ) (past : List Event) (e : Event) → started g (past ++ e ∷ []) ≡ (started g past || starts g e.op)

@@ -2,7 +2,7 @@
 use Rattle.std.specs.Prelude.{ℕ, ◌≡◌, ◌==◌, ◌||◌, ◌&&◌, nat_lt, Bool, true, false, IsTrue, List, [], ◌∷◌, Option, Some, None, count_by, map, take, slice_get}
 use Rattle.race_records.specs.declared.event.Event.{Event}
 use Rattle.race_records.specs.declared.event.Op.{Op}
-use Rattle.race_records.specs.declared.event.Op.TheVariants.{Go, Exit, Read, Write, Send, Recv, Meet, Close}
+use Rattle.race_records.specs.declared.event.Op.TheVariants.{Go, Exit, Read, Write, Send, Recv, Meet, Close, Fault}
 
 -- e is the event at index i of the list; indexes count from 0
 abbrev pub At : List Event → ℕ → Event → Type 0
@@ -42,6 +42,11 @@ starts h _ = false
 abbrev pub is_exit : Op → Bool
 is_exit Exit = true
 is_exit _ = false
+
+-- a Fault, of whatever cause
+abbrev pub is_fault : Op → Bool
+is_fault (Fault cause) = true
+is_fault _ = false
 
 -- a Read of x
 abbrev pub reads : ℕ → Op → Bool

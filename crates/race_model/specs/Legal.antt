@@ -1,12 +1,33 @@
--- Which rules an event breaks after the events before it, and which lists of events are legal. (The Go Programming Language Specification, "Program execution", "Go statements", "Send statements", "Receive operator", "Close")
-use Rattle.std.specs.Prelude.{ℕ, if◌then◌else◌, ◌≡◌, ◌==◌, ◌||◌, ◌&&◌, not, nat_lt, Bool, true, List, [], ◌∷◌, Option, Some, None, take}
+-- Which rules an event breaks after the events before it, and which lists of events are legal. (The Go Programming Language Specification, "Program execution", "Go statements", "Send statements", "Receive operator", "Close", "Select statements", "Run-time panics")
+use Rattle.std.specs.Prelude.{ℕ, if◌then◌else◌, ◌≡◌, ◌==◌, ◌||◌, ◌&&◌, not, nat_lt, Bool, true, false, List, [], ◌∷◌, Option, Some, None, take}
+use Rattle.std.specs.List.{list_any}
 use Rattle.race_records.specs.declared.event.Event.{Event}
+use Rattle.race_records.specs.declared.cases.Case.{Case}
+use Rattle.race_records.specs.declared.cases.Dir.{Dir}
+use Rattle.race_records.specs.declared.event.Cause.{Cause}
+use Rattle.race_records.specs.declared.event.Cause.TheVariants.{SendClosed, CloseClosed, CloseNil}
 use Rattle.race_records.specs.declared.event.Op.{Op}
-use Rattle.race_records.specs.declared.event.Op.TheVariants.{Go, Exit, Read, Write, Send, Recv, Meet, RecvClosed, Close}
+use Rattle.race_records.specs.declared.event.Op.TheVariants.{Go, Exit, Read, Write, Send, Recv, Meet, RecvClosed, Close, Default, Fault}
 use Rattle.race_model.specs.Events.{At, gives, sends, receives, count}
 use Rattle.race_model.specs.State.{over, started, runs, last_value, is_closed, buffered, front}
 
 -- Each rule has a number of its own for good, so there are gaps. caps gives the capacity of each channel.
+
+-- a case on channel c could go on at once: a send where it would fail, or where the buffer has room, a receive where the channel
+-- is closed, or where the buffer has a value; of an open unbuffered channel nothing is said
+abbrev pub can_proceed : (ℕ → ℕ) → List Event → ℕ → Dir → Bool
+can_proceed caps past c Dir.Send = is_closed c past || (nat_lt 0 (caps c) && nat_lt (buffered c past) (caps c))
+can_proceed caps past c Dir.Recv = is_closed c past || (nat_lt 0 (caps c) && nat_lt 0 (buffered c past))
+
+-- a case on nil is never ready
+abbrev pub is_ready : (ℕ → ℕ) → List Event → Case → Bool
+is_ready caps past case = elim case.chan [ None ↦ false | Some c ↦ can_proceed caps past c case.dir ]
+
+-- the cause of a fault holds: a send on a closed channel, a close of one, or of nil
+abbrev pub cause_holds : List Event → Cause → Bool
+cause_holds past (SendClosed c) = is_closed c past
+cause_holds past (CloseClosed c) = is_closed c past
+cause_holds past CloseNil = true
 
 -- the rules on what goroutine g does after the events past, in rising order: the number, and whether the rule is broken
 abbrev pub op_rules : (ℕ → ℕ) → List Event → ℕ → Op → List (ℕ × Bool)
@@ -28,6 +49,10 @@ op_rules caps past g (RecvClosed c) =
     (10, not (is_closed c past)) ∷ (11, nat_lt (count (receives c) past) (count (sends c) past)) ∷ []
 -- 12: it was closed before
 op_rules caps past g (Close c) = (12, is_closed c past) ∷ []
+-- 22: a case of the select could go on
+op_rules caps past g (Default cases) = (22, list_any (is_ready caps past) cases) ∷ []
+-- 23: nothing has failed
+op_rules caps past g (Fault cause) = (23, not (cause_holds past cause)) ∷ []
 
 -- the receiver runs, where there is one
 abbrev pub receiver_runs : List Event → Op → Bool

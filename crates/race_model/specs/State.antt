@@ -1,13 +1,13 @@
--- What the events so far say of the run, its goroutines, variables and channels. (The Go Programming Language Specification, "Program execution", "Go statements", "Channel types", "Close")
+-- What the events so far say of the run, its goroutines, variables and channels. (The Go Programming Language Specification, "Program execution", "Go statements", "Channel types", "Close", "Run-time panics")
 use Rattle.std.specs.Prelude.{ℕ, if◌then◌else◌, ◌==◌, ◌-◌, ◌||◌, ◌&&◌, not, Bool, List, Option, Some, None, filter_map, slice_get, unwrap_or}
 use Rattle.race_records.specs.declared.event.Event.{Event}
 use Rattle.race_records.specs.declared.event.Op.{Op}
 use Rattle.race_records.specs.declared.event.Op.TheVariants.{Write, Send}
-use Rattle.race_model.specs.Events.{starts, sends, receives, closes, count, has, has_exited, last_of}
+use Rattle.race_model.specs.Events.{starts, is_fault, sends, receives, closes, count, has, has_exited, last_of}
 
--- the run is over: main, goroutine 0, has exited
+-- the run is over: main, goroutine 0, has exited, or a goroutine has failed
 abbrev pub over : List Event → Bool
-over past = has_exited 0 past
+over past = has_exited 0 past || has is_fault past
 
 -- a Go started g; main needs none
 abbrev pub started : ℕ → List Event → Bool

@@ -7,6 +7,7 @@ pub mod DeclsKept
 pub mod PlaceLemmas
 pub mod EventLemmas
 pub mod AlikeLemmas
+pub mod CaseLemmas
 pub mod DeviceLemmas
 pub mod PageLemmas
 pub mod PartLaws

@@ -8,7 +8,7 @@ use Rattle.race_records.specs.declared.trace.PushFault.{PushFault}
 use Rattle.race_records.specs.declared.trace.PushFault.TheVariants.{BadNumber, Full}
 use Rattle.race_records.specs.declared.trace.TheConstants.{MAX_EVENTS}
 use Rattle.race_records.specs.Declarations.{Declaration, DeclsState, count_of, counts_of}
-use Rattle.race_records.specs.Parts.{says, has_two_places, op_is_in_range, part_is_u64}
+use Rattle.race_records.specs.Parts.{says, has_two_places, op_is_in_range, part_is_limited}
 
 -- the numbers that the operation names are declared, each of its kind
 abbrev pub op_fits : List Declaration → Op → Bool
@@ -25,9 +25,9 @@ fits decls e =
     nat_lt e.who (count_of Kind.Goroutine decls.declarations) && op_fits decls.declarations e.op
     && nat_lt e.place (length decls.places) && second_place_fits (length decls.places) (has_two_places (says e.op).0) e.place2
 
--- a value that the operation names is a u64
+-- a value that the operation names is a u64, and it has not too many cases
 abbrev pub value_fits : Op → Bool
-value_fits op = list_all part_is_u64 (says op).1
+value_fits op = list_all part_is_limited (says op).1
 
 -- a `Trace` as its callers see it. `spare` is for how many more events there is room
 pub record TraceState : Type 0 where
@@ -41,7 +41,7 @@ push_fault trace e =
     if not (fits trace.decls e) then Some BadNumber
     else (if nat_le MAX_EVENTS (length trace.events) then Some Full else None)
 
--- what holds of every `Trace`: each event fits its declarations, each value is a u64, and there are not too many events
+-- what holds of every `Trace`: each event fits its declarations, each value is a u64, no event has too many cases, and there are not too many events
 pub record IsTrace (trace : TraceState) : Type 0 where
   pub fit : All (λ e. IsTrue (fits trace.decls e)) trace.events
   pub values : All (λ e. IsTrue (value_fits e.op)) trace.events

@@ -1,4 +1,5 @@
 pub mod Name
+pub mod Cases
 pub mod Refusal
 pub mod Declarations
 pub mod Equality

@@ -1,8 +1,13 @@
 -- What each operation says: its word, and its parts in the order of its text.
-use Rattle.std.specs.Prelude.{ℕ, ◌^◌, ◌&&◌, Bool, true, false, nat_lt, List, [], ◌∷◌, Option, Some, None}
+use Rattle.std.specs.Prelude.{ℕ, ◌^◌, ◌&&◌, Bool, true, false, if◌then◌else◌, nat_lt, nat_le, List, [], ◌∷◌, length, Option, Some, None}
 use Rattle.std.specs.List.{list_all}
+use Rattle.std.specs.Option.{option_map}
 use Rattle.race_records.specs.declared.event.Op.{Op}
-use Rattle.race_records.specs.declared.event.Op.TheVariants.{Go, Exit, Read, Write, Send, Recv, Meet, RecvClosed, Close}
+use Rattle.race_records.specs.declared.event.Op.TheVariants.{Go, Exit, Read, Write, Send, Recv, Meet, RecvClosed, Close, Default, Fault}
+use Rattle.race_records.specs.declared.event.Cause.{Cause}
+use Rattle.race_records.specs.declared.event.Cause.TheVariants.{SendClosed, CloseClosed, CloseNil}
+use Rattle.race_records.specs.declared.cases.Case.{Case}
+use Rattle.race_records.specs.declared.cases.TheConstants.{MAX_CASES}
 use Rattle.race_records.specs.declared.kind.Kind.{Kind}
 use Rattle.race_records.specs.declared.kind.Named.{Named}
 use Rattle.race_records.specs.declared.parts.Part.{Part}
@@ -21,24 +26,57 @@ says (Recv c v) = (Verb.Recv, Part.Object (Named.Chan c) ∷ Part.Value v ∷ []
 says (Meet r c v) = (Verb.Meet, Part.Object (Named.Goroutine r) ∷ Part.Object (Named.Chan c) ∷ Part.Value v ∷ [])
 says (RecvClosed c) = (Verb.RecvClosed, Part.Object (Named.Chan c) ∷ [])
 says (Close c) = (Verb.Close, Part.Object (Named.Chan c) ∷ [])
+says (Default cases) = (Verb.Default, Part.Cases cases ∷ [])
+says (Fault cause) = (Verb.Fault, Part.Cause cause ∷ [])
 
 -- the event has a second place
 abbrev pub has_two_places : Verb → Bool
 has_two_places Verb.Meet = true
 has_two_places _ = false
 
+-- the parts are one object of the kind: its number
+abbrev pub object_alone : Kind → List Part → Option ℕ
+object_alone kind (Part.Object named ∷ []) = if is_named kind named then Some (number_of named) else None
+object_alone kind _ = None
+
+-- they are an object of the kind and a value
+abbrev pub object_value : Kind → List Part → Option (ℕ × ℕ)
+object_value kind (Part.Object named ∷ Part.Value v ∷ []) = if is_named kind named then Some (number_of named, v) else None
+object_value kind _ = None
+
+-- there are none
+abbrev pub exit_of : List Part → Option Op
+exit_of [] = Some Exit
+exit_of _ = None
+
+-- they are a receiver, a channel and a value
+abbrev pub meet_of : List Part → Option Op
+meet_of (Part.Object (Named.Goroutine r) ∷ Part.Object (Named.Chan c) ∷ Part.Value v ∷ []) = Some (Meet r c v)
+meet_of _ = None
+
+-- they are the cases of a select
+abbrev pub default_of : List Part → Option Op
+default_of (Part.Cases cases ∷ []) = Some (Default cases)
+default_of _ = None
+
+-- they are the cause of a fault
+abbrev pub fault_of : List Part → Option Op
+fault_of (Part.Cause cause ∷ []) = Some (Fault cause)
+fault_of _ = None
+
 -- the operation that says so, where there is one
 abbrev pub op_by : Verb → List Part → Option Op
-op_by Verb.Go (Part.Object (Named.Goroutine h) ∷ []) = Some (Go h)
-op_by Verb.Exit [] = Some Exit
-op_by Verb.Read (Part.Object (Named.Var x) ∷ Part.Value v ∷ []) = Some (Read x v)
-op_by Verb.Write (Part.Object (Named.Var x) ∷ Part.Value v ∷ []) = Some (Write x v)
-op_by Verb.Send (Part.Object (Named.Chan c) ∷ Part.Value v ∷ []) = Some (Send c v)
-op_by Verb.Recv (Part.Object (Named.Chan c) ∷ Part.Value v ∷ []) = Some (Recv c v)
-op_by Verb.Meet (Part.Object (Named.Goroutine r) ∷ Part.Object (Named.Chan c) ∷ Part.Value v ∷ []) = Some (Meet r c v)
-op_by Verb.RecvClosed (Part.Object (Named.Chan c) ∷ []) = Some (RecvClosed c)
-op_by Verb.Close (Part.Object (Named.Chan c) ∷ []) = Some (Close c)
-op_by _ _ = None
+op_by Verb.Go parts = option_map Go (object_alone Kind.Goroutine parts)
+op_by Verb.Exit parts = exit_of parts
+op_by Verb.Read parts = option_map (λ p. Read p.0 p.1) (object_value Kind.Var parts)
+op_by Verb.Write parts = option_map (λ p. Write p.0 p.1) (object_value Kind.Var parts)
+op_by Verb.Send parts = option_map (λ p. Send p.0 p.1) (object_value Kind.Chan parts)
+op_by Verb.Recv parts = option_map (λ p. Recv p.0 p.1) (object_value Kind.Chan parts)
+op_by Verb.Meet parts = meet_of parts
+op_by Verb.RecvClosed parts = option_map RecvClosed (object_alone Kind.Chan parts)
+op_by Verb.Close parts = option_map Close (object_alone Kind.Chan parts)
+op_by Verb.Default parts = default_of parts
+op_by Verb.Fault parts = fault_of parts
 
 -- what the parts behind each word are
 abbrev pub part_kinds : Verb → List PartKind
@@ -51,11 +89,15 @@ part_kinds Verb.Recv = PartKind.Object Kind.Chan ∷ PartKind.Value ∷ []
 part_kinds Verb.Meet = PartKind.Object Kind.Goroutine ∷ PartKind.Object Kind.Chan ∷ PartKind.Value ∷ []
 part_kinds Verb.RecvClosed = PartKind.Object Kind.Chan ∷ []
 part_kinds Verb.Close = PartKind.Object Kind.Chan ∷ []
+part_kinds Verb.Default = PartKind.Cases ∷ []
+part_kinds Verb.Fault = PartKind.Cause ∷ []
 
 -- the part is one that its place wants
 abbrev pub suits : PartKind → Part → Bool
 suits (PartKind.Object kind) (Part.Object named) = is_named kind named
 suits PartKind.Value (Part.Value v) = true
+suits PartKind.Cases (Part.Cases cases) = true
+suits PartKind.Cause (Part.Cause cause) = true
 suits _ _ = false
 
 -- so is each part
@@ -64,10 +106,26 @@ suit [] [] = true
 suit (kind ∷ kinds) (part ∷ parts) = suits kind part && suit kinds parts
 suit _ _ = false
 
--- of so many objects of each kind, the part names one
+-- of so many channels, this is one, or it is nil
+abbrev pub chan_is_in_range : ℕ → Option ℕ → Bool
+chan_is_in_range chans None = true
+chan_is_in_range chans (Some c) = nat_lt c chans
+
+abbrev pub case_is_in_range : ℕ → Case → Bool
+case_is_in_range chans case = chan_is_in_range chans case.chan
+
+-- the channel at which the run failed
+abbrev pub chan_of_cause : Cause → Option ℕ
+chan_of_cause (SendClosed c) = Some c
+chan_of_cause (CloseClosed c) = Some c
+chan_of_cause CloseNil = None
+
+-- of so many objects of each kind, the part names some
 abbrev pub part_is_in_range : (Kind → ℕ) → Part → Bool
 part_is_in_range counts (Part.Object named) = nat_lt (number_of named) (counts (kind_of_named named))
 part_is_in_range counts (Part.Value v) = true
+part_is_in_range counts (Part.Cases cases) = list_all (case_is_in_range (counts Kind.Chan)) cases
+part_is_in_range counts (Part.Cause cause) = chan_is_in_range (counts Kind.Chan) (chan_of_cause cause)
 
 -- so does each part of the operation
 abbrev pub op_is_in_range : (Kind → ℕ) → Op → Bool
@@ -77,7 +135,9 @@ op_is_in_range counts op = list_all (part_is_in_range counts) (says op).1
 abbrev pub part_fits : List Declaration → Part → Bool
 part_fits ds part = part_is_in_range (counts_of ds) part
 
--- a value is a u64
-abbrev pub part_is_u64 : Part → Bool
-part_is_u64 (Part.Object named) = true
-part_is_u64 (Part.Value v) = nat_lt v (2 ^ 64)
+-- a value is a u64, and there are not too many cases
+abbrev pub part_is_limited : Part → Bool
+part_is_limited (Part.Object named) = true
+part_is_limited (Part.Value v) = nat_lt v (2 ^ 64)
+part_is_limited (Part.Cases cases) = nat_le (length cases) MAX_CASES
+part_is_limited (Part.Cause cause) = true

@@ -8,7 +8,10 @@ use Rattle.std.specs.Cmp.{IsPartialEquivalence, partial_equiv_from_equiv, decide
 use Rattle.std.specs.Str.{bytes_eq}
 use Rattle.race_records.specs.declared.event.Event.{Event}
 use Rattle.race_records.specs.declared.event.Op.{Op}
-use Rattle.race_records.specs.declared.event.Op.TheVariants.{Go, Exit, Read, Write, Send, Recv, Meet, RecvClosed, Close}
+use Rattle.race_records.specs.declared.event.Op.TheVariants.{Go, Exit, Read, Write, Send, Recv, Meet, RecvClosed, Close, Default, Fault}
+use Rattle.race_records.specs.declared.event.Cause.{Cause}
+use Rattle.race_records.specs.declared.event.Cause.TheVariants.{SendClosed, CloseClosed, CloseNil}
+use Rattle.race_records.specs.Cases.{same_cases, same_cases-Decides}
 use Rattle.race_records.specs.Declarations.{Declaration}
 use Rattle.race_records.specs.Events.{TraceState}
 use Rattle.race_records.specs.Equality.{same_declarations, same_declarations-Decides}
@@ -35,6 +38,13 @@ placed_events trace = map (placed trace.decls.places) trace.events
 abbrev pub recorded : TraceState → Recorded
 recorded trace = record { declarations = trace.decls.declarations; events = placed_events trace }
 
+-- the causes of a fault are the same
+abbrev pub same_cause : Cause → Cause → Bool
+same_cause (SendClosed c) (SendClosed d) = c == d
+same_cause (CloseClosed c) (CloseClosed d) = c == d
+same_cause CloseNil CloseNil = true
+same_cause _ _ = false
+
 -- the operations are the same
 abbrev pub same_op : Op → Op → Bool
 same_op (Go g) (Go h) = g == h
@@ -46,6 +56,8 @@ same_op (Recv c v) (Recv d w) = (c == d) && (v == w)
 same_op (Meet r c v) (Meet s d w) = (r == s) && (c == d) && (v == w)
 same_op (RecvClosed c) (RecvClosed d) = c == d
 same_op (Close c) (Close d) = c == d
+same_op (Default cases) (Default others) = same_cases cases others
+same_op (Fault cause) (Fault other) = same_cause cause other
 same_op _ _ = false
 
 -- there is no text, or the same one
@@ -72,7 +84,13 @@ both {m = m} {n = n} p q = by m n p q
 decides_by : {P Q : Type 0} (b : Bool) → Decides b P → (P → Q) → (Q → P) → Decides b Q
 decides_by b p f g = (λ e. f (p.0 e), λ h. p.1 (g h))
 
--- numbers of an operation that both have
+same_cause-Decides : (a b : Cause) → Decides (same_cause a b) (a ≡ b)
+same_cause-Decides (SendClosed c) (SendClosed d) = (λ e. ap SendClosed ((Decides-eqb c d).0 e), λ e. (Decides-eqb c d).1 cc)
+same_cause-Decides (CloseClosed c) (CloseClosed d) = (λ e. ap CloseClosed ((Decides-eqb c d).0 e), λ e. (Decides-eqb c d).1 cc)
+same_cause-Decides CloseNil CloseNil = (λ _. refl, λ _. refl)
+same_cause-Decides _ _ = (λ e. absurd (true≢false (sym e)), λ e. cc)
+
+-- equal operations are the same, and those alone
 pub same_op-Decides : (a b : Op) → Decides (same_op a b) (a ≡ b)
 same_op-Decides (Go g) (Go h) = (λ e. ap Go ((Decides-eqb g h).0 e), λ e. (Decides-eqb g h).1 cc)
 same_op-Decides Exit Exit = (λ _. refl, λ _. refl)
@@ -88,6 +106,8 @@ same_op-Decides (Meet r c v) (Meet s d w) =
     decides_by ((r == s) && (c == d) && (v == w)) (both (both (Decides-eqb r s) (Decides-eqb c d)) (Decides-eqb v w)) (λ e i. Meet (e.0.0 i) (e.0.1 i) (e.1 i)) (λ e. ((cc, cc), cc))
 same_op-Decides (RecvClosed c) (RecvClosed d) = (λ e. ap RecvClosed ((Decides-eqb c d).0 e), λ e. (Decides-eqb c d).1 cc)
 same_op-Decides (Close c) (Close d) = (λ e. ap Close ((Decides-eqb c d).0 e), λ e. (Decides-eqb c d).1 cc)
+same_op-Decides (Default cases) (Default others) = (λ e. ap Default ((same_cases-Decides cases others).0 e), λ e. (same_cases-Decides cases others).1 cc)
+same_op-Decides (Fault cause) (Fault other) = (λ e. ap Fault ((same_cause-Decides cause other).0 e), λ e. (same_cause-Decides cause other).1 cc)
 same_op-Decides _ _ = (λ e. absurd (true≢false (sym e)), λ e. cc)
 
 same_text-Decides : (a b : Option (List ℕ)) → Decides (same_text a b) (a ≡ b)

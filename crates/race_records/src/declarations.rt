@@ -4,13 +4,13 @@ ghost use Rattle.std.specs.Str.{bytes_eq};
 ghost use Rattle.race_records.specs.Declarations as spec;
 ghost use Rattle.race_records.specs.Refusal.{Refuses, AllowsUnless};
 ghost use Rattle.race_records.specs.Events as events;
-ghost use Rattle.race_records.specs.Parts.{part_fits};
+ghost use Rattle.race_records.specs.Parts.{part_fits, chan_is_in_range};
 ghost use Rattle.std.specs.List.{list_all};
 
 use crate::indexes::Indexes;
 use crate::names::{Names, Slot};
 use crate::places::Places;
-use crate::{Event, Kind, Named, Object, Op, Part, is_name, is_place, says};
+use crate::{Cases, Event, Kind, Named, Object, Op, Part, chan_of_cause, is_name, is_place, says};
 use std::alloc::{AllocError, Allocator, Global};
 use std::marker::Model;
 use thiserror::Error;
@@ -219,15 +219,38 @@ impl<A: Allocator> Decls<A> {
     fn parts_fit(&self, parts: &[Part]) -> bool
         ensures { result ≡ list_all (part_fits self.now.declarations) parts.now }
     {
-        parts.iter().all(|part| self.part_fits(*part))
+        parts.iter().all(|part| self.part_fits(part))
     }
 
-    fn part_fits(&self, part: Part) -> bool
-        ensures { result ≡ part_fits self.now.declarations part }
+    fn part_fits(&self, part: &Part) -> bool
+        ensures { result ≡ part_fits self.now.declarations part.now }
     {
         match part {
             Part::Object(named) => named.number() < self.count(named.kind()),
             Part::Value(_) => true,
+            Part::Cases(cases) => self.cases_fit(cases),
+            Part::Cause(cause) => self.chan_fits(chan_of_cause(*cause)),
+        }
+    }
+
+    // Whether the channel of each case is nil or declared.
+    fn cases_fit(&self, cases: &Cases) -> bool
+        ensures { result ≡ part_fits self.now.declarations (Part.Cases cases.now) }
+    {
+        for k in 0..cases.len() {
+            if !self.chan_fits(cases.get(k).chan) {
+                return false;
+            }
+        }
+        true
+    }
+
+    fn chan_fits(&self, chan: Option<u32>) -> bool
+        ensures { result ≡ chan_is_in_range (spec.count_of Kind.Chan self.now.declarations) chan }
+    {
+        match chan {
+            None => true,
+            Some(chan) => chan < self.count(Kind::Chan),
         }
     }
 }

@@ -1,5 +1,7 @@
 //! What one entry of a trace says.
 
+use crate::Cases;
+
 /// One event of a trace: who did what, and where in the source.
 ///
 /// Goroutines, objects and places are numbers of the trace's declarations.
@@ -36,4 +38,19 @@ pub enum Op {
     RecvClosed(u32),
     /// Closed the channel of this number.
     Close(u32),
+    /// Took the default of a select with these cases, of which none could go on.
+    Default(Cases),
+    /// Failed at run time, which ended the run.
+    Fault(Cause),
+}
+
+/// Why a run failed.
+#[derive(Clone, Copy, Debug, PartialEq, Eq)]
+pub enum Cause {
+    /// A send on the channel of this number, which was closed.
+    SendClosed(u32),
+    /// A close of the channel of this number, which was closed before.
+    CloseClosed(u32),
+    /// A close of a nil channel.
+    CloseNil,
 }

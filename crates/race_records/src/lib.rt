@@ -2,6 +2,7 @@
 #![tactic(auto)]
 
 mod alike;
+mod cases;
 mod declarations;
 #[cfg(test)]
 mod device_tests;
@@ -20,8 +21,9 @@ mod source;
 mod tests;
 mod trace;
 
+pub use cases::{Case, Cases, CasesFull, Dir, MAX_CASES};
 pub use declarations::{DeclFault, Decls, MAX_PLACES};
-pub use event::{Event, Op};
+pub use event::{Cause, Event, Op};
 #[doc(hidden)]
 pub use indexes::Indexes;
 pub use kind::{Kind, MAX_CAPACITY, MAX_GOROUTINES, MAX_OBJECTS, Named, Object};
@@ -30,7 +32,7 @@ pub use name::{MAX_NAME_LEN, MAX_PLACE_LEN, is_name, is_place};
 pub use names::{Names, Slot};
 pub use nouns::{Noun, object_by, object_says};
 pub use page::{BLOCK, Page};
-pub use parts::{Part, PartKind, Parts, Verb, op_by, part_kinds, says};
+pub use parts::{Part, PartKind, Parts, Verb, chan_of_cause, op_by, part_kinds, says};
 #[doc(hidden)]
 pub use places::Places;
 pub use sink::{Sink, WriteFault};

@@ -3,7 +3,7 @@ ghost use Rattle.std.specs.Prelude.{◌≡◌, ◌≤◌, [], ◌∷◌, length,
 ghost use Rattle.race_records.specs.Parts as spec;
 ghost use Rattle.race_records.specs.Events.{value_fits};
 
-use crate::{Kind, Named, Op};
+use crate::{Cases, Cause, Kind, Named, Op};
 use arrayvec::ArrayVec;
 
 /// The words of operations.
@@ -27,6 +27,10 @@ pub enum Verb {
     RecvClosed,
     /// A channel is closed.
     Close,
+    /// A select takes its default.
+    Default,
+    /// The run fails.
+    Fault,
 }
 
 impl Verb {
@@ -39,12 +43,16 @@ impl Verb {
 }
 
 /// One thing that an operation says beside its word.
-#[derive(Clone, Copy, Debug, PartialEq, Eq)]
+#[derive(Debug, PartialEq, Eq, Drop)]
 pub enum Part {
     /// An object.
     Object(Named),
     /// A value.
     Value(u64),
+    /// The cases of a select.
+    Cases(Cases),
+    /// Why the run failed.
+    Cause(Cause),
 }
 
 /// What a part can be.
@@ -54,6 +62,10 @@ pub enum PartKind {
     Object(Kind),
     /// A value.
     Value,
+    /// The cases of a select.
+    Cases,
+    /// Why the run failed.
+    Cause,
 }
 
 impl Default for Part {
@@ -81,6 +93,8 @@ pub fn says(op: &Op) -> (Verb, Parts)
         Op::Meet(r, c, v) => (Verb::Meet, with_receiver(*r, *c, *v)),
         Op::RecvClosed(c) => (Verb::RecvClosed, one(Part::Object(Named::Chan(*c)))),
         Op::Close(c) => (Verb::Close, one(Part::Object(Named::Chan(*c)))),
+        Op::Default(cases) => (Verb::Default, one(Part::Cases(cases.copy()))),
+        Op::Fault(cause) => (Verb::Fault, one(Part::Cause(*cause))),
     }
 }
 
@@ -112,27 +126,104 @@ fn with_receiver(receiver: u32, chan: u32, value: u64) -> Parts
     parts
 }
 
+/// The channel at which the run failed.
+pub fn chan_of_cause(cause: Cause) -> Option<u32>
+    ensures { result ≡ spec.chan_of_cause cause }
+{
+    match cause {
+        Cause::SendClosed(chan) => Some(chan),
+        Cause::CloseClosed(chan) => Some(chan),
+        Cause::CloseNil => None,
+    }
+}
+
 /// The operation that says so, where there is one.
 pub fn op_by(verb: Verb, parts: &[Part]) -> Option<Op>
     ensures { result ≡ spec.op_by verb parts.now }
 {
-    match (verb, parts) {
-        (Verb::Go, [Part::Object(Named::Goroutine(h))]) => Some(Op::Go(*h)),
-        (Verb::Exit, []) => Some(Op::Exit),
-        (Verb::Read, [Part::Object(Named::Var(x)), Part::Value(v)]) => Some(Op::Read(*x, *v)),
-        (Verb::Write, [Part::Object(Named::Var(x)), Part::Value(v)]) => Some(Op::Write(*x, *v)),
-        (Verb::Send, [Part::Object(Named::Chan(c)), Part::Value(v)]) => Some(Op::Send(*c, *v)),
-        (Verb::Recv, [Part::Object(Named::Chan(c)), Part::Value(v)]) => Some(Op::Recv(*c, *v)),
-        (
-            Verb::Meet,
-            [
-                Part::Object(Named::Goroutine(r)),
-                Part::Object(Named::Chan(c)),
-                Part::Value(v),
-            ],
-        ) => Some(Op::Meet(*r, *c, *v)),
-        (Verb::RecvClosed, [Part::Object(Named::Chan(c))]) => Some(Op::RecvClosed(*c)),
-        (Verb::Close, [Part::Object(Named::Chan(c))]) => Some(Op::Close(*c)),
+    match verb {
+        Verb::Go => Some(Op::Go(object_alone(Kind::Goroutine, parts)?)),
+        Verb::Exit => exit_of(parts),
+        Verb::Read => {
+            let (x, v) = object_value(Kind::Var, parts)?;
+            Some(Op::Read(x, v))
+        }
+        Verb::Write => {
+            let (x, v) = object_value(Kind::Var, parts)?;
+            Some(Op::Write(x, v))
+        }
+        Verb::Send => {
+            let (c, v) = object_value(Kind::Chan, parts)?;
+            Some(Op::Send(c, v))
+        }
+        Verb::Recv => {
+            let (c, v) = object_value(Kind::Chan, parts)?;
+            Some(Op::Recv(c, v))
+        }
+        Verb::Meet => meet_of(parts),
+        Verb::RecvClosed => Some(Op::RecvClosed(object_alone(Kind::Chan, parts)?)),
+        Verb::Close => Some(Op::Close(object_alone(Kind::Chan, parts)?)),
+        Verb::Default => default_of(parts),
+        Verb::Fault => fault_of(parts),
+    }
+}
+
+// The number of the object of the kind, where the parts are that.
+fn object_alone(kind: Kind, parts: &[Part]) -> Option<u32>
+    ensures { result ≡ spec.object_alone kind parts.now }
+{
+    match parts {
+        [Part::Object(named)] if named.is_of(kind) => Some(named.number()),
+        _ => None,
+    }
+}
+
+// The number of the object of the kind and the value, where the parts are these.
+fn object_value(kind: Kind, parts: &[Part]) -> Option<(u32, u64)>
+    ensures { result ≡ spec.object_value kind parts.now }
+{
+    match parts {
+        [Part::Object(named), Part::Value(v)] if named.is_of(kind) => Some((named.number(), *v)),
+        _ => None,
+    }
+}
+
+fn exit_of(parts: &[Part]) -> Option<Op>
+    ensures { result ≡ spec.exit_of parts.now }
+{
+    match parts {
+        [] => Some(Op::Exit),
+        _ => None,
+    }
+}
+
+fn meet_of(parts: &[Part]) -> Option<Op>
+    ensures { result ≡ spec.meet_of parts.now }
+{
+    match parts {
+        [
+            Part::Object(Named::Goroutine(r)),
+            Part::Object(Named::Chan(c)),
+            Part::Value(v),
+        ] => Some(Op::Meet(*r, *c, *v)),
+        _ => None,
+    }
+}
+
+fn default_of(parts: &[Part]) -> Option<Op>
+    ensures { result ≡ spec.default_of parts.now }
+{
+    match parts {
+        [Part::Cases(cases)] => Some(Op::Default(cases.copy())),
+        _ => None,
+    }
+}
+
+fn fault_of(parts: &[Part]) -> Option<Op>
+    ensures { result ≡ spec.fault_of parts.now }
+{
+    match parts {
+        [Part::Cause(cause)] => Some(Op::Fault(*cause)),
         _ => None,
     }
 }
@@ -144,6 +235,10 @@ static NOTHING: [PartKind; 0] = [];
 static VAR_VALUE: [PartKind; 2] = [PartKind::Object(Kind::Var), PartKind::Value];
 
 static CHAN: [PartKind; 1] = [PartKind::Object(Kind::Chan)];
+
+static CASES: [PartKind; 1] = [PartKind::Cases];
+
+static CAUSE: [PartKind; 1] = [PartKind::Cause];
 
 static CHAN_VALUE: [PartKind; 2] = [PartKind::Object(Kind::Chan), PartKind::Value];
 
@@ -168,5 +263,7 @@ pub fn part_kinds(verb: Verb) -> &'static [PartKind]
         Verb::Meet => &RECEIVER_CHAN_VALUE,
         Verb::RecvClosed => &CHAN,
         Verb::Close => &CHAN,
+        Verb::Default => &CASES,
+        Verb::Fault => &CAUSE,
     }
 }

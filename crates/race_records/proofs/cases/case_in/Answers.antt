@@ -1,0 +1,14 @@
+use Rattle.std.proofs.Common.{◌≡◌, ◌∙◌, option_map, Some, sym, ap}
+use Rattle.std.proofs.lemmas.Option.{slice_get-get_or}
+use Rattle.std.specs.Int.{bit_at}
+use Rattle.race_records.specs.Cases.{case_of}
+use Rattle.race_records.proofs.CaseLemmas.{case_at}
+use Rattle.race_records.proofs.cases.case_in.Goals as goal
+
+pub returns : goal.returns
+returns c =
+    let numbers = c.args.numbers.now in
+    let k = c.args.k in
+    let bit = bit_at c.args.sends k in
+    case_at numbers c.args.sends k ∙ ap (option_map (case_of bit)) (slice_get-get_or numbers k 0 c.requires.within)
+    ∙ (λ i. Some (record { dir = sym c.dir_of.ensures i; chan = sym c.chan_of.ensures i }))

@@ -18,7 +18,7 @@ use Rattle.race_records.specs.Parts.{suits, suit, part_fits, part_is_limited}
 use Rattle.race_text.specs.declared.cause.TextCause.{TextCause}
 use Rattle.race_text.specs.declared.form.Field.{Field}
 use Rattle.race_text.specs.Words.{has_bad_byte, number}
-use Rattle.race_text.specs.Fault.{lesser, rank, use_cause, part_cause, field_cause}
+use Rattle.race_text.specs.Fault.{lesser, use_cause, part_cause, field_cause}
 use Rattle.race_text.specs.Text.{cases_text, failure_text}
 use Rattle.race_text.specs.Reading.{ReadPart, ReadParts, object_as, cases_in, failure_in, part_in, with_rest, first_part, parts_on}
 use Rattle.race_text.specs.Writing.{part_text}

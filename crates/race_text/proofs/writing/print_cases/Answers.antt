@@ -1,4 +1,4 @@
-use Rattle.std.proofs.Common.{◌≡◌, ◌<◌, ◌≤◌, ◌+◌, ◌∙◌, ◌∷◌, ℕ, List, [], length, get_or, take, Ok, Err, Some, true, false, sym, ap, subst, arith, rules}
+use Rattle.std.proofs.Common.{◌≡◌, ◌<◌, ◌≤◌, ◌∙◌, ◌∷◌, ℕ, List, [], length, get_or, Ok, Err, sym, ap, subst, arith}
 use Rattle.std.proofs.lemmas.List.{take_all}
 use Rattle.std.specs.List.{flat_map}
 use Rattle.std.proofs.lemmas.List.Sums.{AllPass-from_list_all}
@@ -9,7 +9,7 @@ use Rattle.race_records.specs.Declarations.{count_of}
 use Rattle.race_records.specs.Page.{Printing}
 use Rattle.race_records.specs.Parts.{case_is_in_range}
 use Rattle.race_records.proofs.PageLemmas.{piece_behind, piece_breaks_off}
-use Rattle.race_text.specs.Text.{case_text, cases_text}
+use Rattle.race_text.specs.Text.{case_text}
 use Rattle.race_text.specs.Writing.{separator}
 use Rattle.race_text.proofs.CasePieces.{all_pieces, pieces_len, piece_at, pieces_printed, some_case}
 use Rattle.race_text.proofs.writing.print_cases.Goals as goal

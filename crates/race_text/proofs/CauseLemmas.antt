@@ -1,14 +1,35 @@
 -- The least cause of the words behind the first, one word after another.
-use Rattle.std.proofs.Common.{◌≡◌, ℕ, ◌==◌, is_none, Bor, ◌+◌, ◌<◌, ◌≤◌, List, [], ◌∷◌, length, get_or, drop, fold, Option, Some, None, refl, sym, ◌∙◌, arith, add-one}
+use Rattle.std.proofs.Common.{◌≡◌, ℕ, ◌==◌, is_none, Bor, ◌+◌, ◌<◌, ◌≤◌, List, [], ◌∷◌, length, get_or, drop, fold, Option, Some, None, refl, sym, ◌∙◌, arith, add-one, Bool, true, false, if◌then◌else◌, nat_le, is_some, nat_lt}
 use Rattle.std.proofs.Math.Seq.{drop-cons}
 use Rattle.std.proofs.lemmas.Bool.Decides.{nat_tests}
 use Rattle.std.proofs.lemmas.List.Splits.{length-slice_split}
+use Rattle.std.proofs.lemmas.Option.{none-some, same_Some}
 use Rattle.std.specs.List.{zip}
+use Rattle.std.specs.Option.{option_and_then, option_map}
 use Rattle.race_records.specs.Declarations.{Declaration}
 use Rattle.race_text.specs.declared.cause.TextCause.{TextCause}
 use Rattle.race_text.specs.declared.form.Field.{Field}
-use Rattle.race_text.specs.Fault.{field_cause, lesser}
+use Rattle.race_text.specs.Fault.{field_cause, lesser, rank}
 use Rattle.race_text.specs.Words.{parts_left}
+
+-- a chain that gives something did so at each step
+pub and_then_some : {A B : Type 0} (f : A → Option B) (o : Option A) (y : B) → option_and_then f o ≡ Some y → (x : A) × (o ≡ Some x) × (f x ≡ Some y)
+and_then_some f None y h = absurd (none-some y h)
+and_then_some f (Some x) y h = (x, refl, h)
+
+pub map_some : {A B : Type 0} (f : A → B) (o : Option A) (y : B) → option_map f o ≡ Some y → (x : A) × (o ≡ Some x) × (f x ≡ y)
+map_some f None y h = absurd (none-some y h)
+map_some f (Some x) y h = (x, refl, same_Some (f x) y h)
+
+-- no cause holds of a chain just where none holds of its parts
+pub lesser_none : (a b : Option TextCause) → lesser a b ≡ None → (a ≡ None) × (b ≡ None)
+lesser_none None b h = (refl, h)
+lesser_none (Some a) None h = absurd (none-some a (sym h))
+lesser_none (Some a) (Some b) h = by (nat_le (rank a) (rank b)) h
+  where
+    by : (t : Bool) → (if t then Some a else Some b) ≡ None → (Some a ≡ None) × (Some b ≡ None)
+    by true h = absurd (none-some a (sym h))
+    by false h = absurd (none-some b (sym h))
 
 -- the least cause of what is left, after that of the fields before
 abbrev pub cause_on : List Declaration → Option TextCause → List Field → List (List ℕ) → Option TextCause
@@ -35,4 +56,12 @@ counted None i count total e low high = grind (arith, nat_tests)
 counted (Some rest) i count total e low high =
     let some = length-slice_split (λ b. b == 32) rest.now in
     let over : count < total = omega (arith, some, e) in
+    grind (arith, nat_tests, over)
+
+-- after as many cuts as there may be pieces, something is left just where there are more
+pub counted_more : (left : Option (Bor (List ℕ))) (i most total : ℕ) → length (parts_left 44 left) + i ≡ total → i ≤ most → most ≤ i → is_some left ≡ nat_lt most total
+counted_more None i most total e low high = grind (arith, nat_tests)
+counted_more (Some rest) i most total e low high =
+    let some = length-slice_split (λ b. b == 44) rest.now in
+    let over : most < total = omega (arith, some, e, low, high) in
     grind (arith, nat_tests, over)

@@ -30,7 +30,8 @@ use Rattle.race_text.specs.Declaring.{is_declaration_word, is_declaration_line, 
 use Rattle.race_text.specs.Writing.{number_words}
 use Rattle.race_text.proofs.WordLemmas.{name_is_visible}
 use Rattle.race_text.proofs.NumberLemmas.{number-some}
-use Rattle.race_text.proofs.PartWords.{number_spelled, lesser_none}
+use Rattle.race_text.proofs.PartWords.{number_spelled}
+use Rattle.race_text.proofs.CauseLemmas.{lesser_none}
 
 -- a line, by its first word and the others
 module _ (line first : List ℕ) (args : List (List ℕ)) (word : Option Word) (words : words_of line ≡ first ∷ args) (named : word ≡ word_named first) where

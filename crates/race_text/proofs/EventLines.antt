@@ -11,7 +11,7 @@ use Rattle.race_records.specs.declared.parts.Verb.{Verb}
 use Rattle.race_records.specs.declared.parts.Part.{Part}
 use Rattle.race_records.specs.Declarations.{Declaration, DeclsState, IsWellFormed, count_of}
 use Rattle.race_records.specs.Events.{op_fits, value_fits}
-use Rattle.race_records.specs.Parts.{says, has_two_places, part_kinds, part_fits, part_is_u64}
+use Rattle.race_records.specs.Parts.{says, has_two_places, part_kinds, part_fits, part_is_limited}
 use Rattle.race_text.specs.declared.form.Word.{Word}
 use Rattle.race_text.specs.Words.{words_of, has_bad_byte}
 use Rattle.race_text.specs.Text.{line_of, op_words, goroutine_name, place_words}
@@ -21,7 +21,7 @@ use Rattle.race_text.specs.Reading.{Occurrence, event_by, event_in}
 use Rattle.race_text.specs.Writing.{verb_text, said_words}
 use Rattle.race_text.proofs.CleanLemmas.{joined_clean, visible_clean}
 use Rattle.race_text.proofs.EventWords.{is_said, said_fine}
-use Rattle.race_text.proofs.PartWords.{texts_are, parts_fit, parts_are_u64, words_clean}
+use Rattle.race_text.proofs.PartWords.{texts_are, parts_fit, parts_are_limited, words_clean}
 use Rattle.race_text.proofs.PlaceWords.{ArePlaces, places_clean}
 use Rattle.race_text.proofs.WordTable.{word_spelled, word_is_seen}
 
@@ -72,7 +72,7 @@ module _ (decls : DeclsState) (holds : IsWellFormed decls) (line first : List �
         places = subst (λ (s : Verb × List Part). ArePlaces (has_two_places s.0) (o.place, o.place2)) (sym is.says_is) is.places_are;
         who = grind (arith, nat_tests, who);
         op = ap (λ (s : Verb × List Part). list_all (part_fits ds) s.1) is.says_is ∙ parts_fit decls holds (part_kinds verb) is.ws is.parts is.are;
-        value = ap (λ (s : Verb × List Part). list_all part_is_u64 s.1) is.says_is ∙ parts_are_u64 decls holds (part_kinds verb) is.ws is.parts is.are;
+        value = ap (λ (s : Verb × List Part). list_all part_is_limited s.1) is.says_is ∙ parts_are_limited decls holds (part_kinds verb) is.ws is.parts is.are;
         clean = ap has_bad_byte joined ∙ joined_clean (first ∷ args) clean;
       }
 

@@ -19,8 +19,8 @@ use Rattle.race_text.specs.Text.{place_words}
 use Rattle.race_text.specs.Form.{place_fields, fields_of, kind_declared}
 use Rattle.race_text.specs.Fault.{or_else, seen_so_far, part_cause, field_cause, fields_cause, room_cause, word_cause}
 use Rattle.race_text.specs.Reading.{Occurrence, Places, occurrence, ReadPart, ReadParts, with_rest, part_in, first_part, parts_on, last_places, goroutine_of, event_of, event_behind}
-use Rattle.race_text.proofs.CauseLemmas.{cause_on}
-use Rattle.race_text.proofs.PartWords.{and_then_some, map_some, first_part_is, read_suits, IsPart, is_part, AreParts, are_read, words_count, words_fine, part_is_there, are_there}
+use Rattle.race_text.proofs.CauseLemmas.{and_then_some, map_some, cause_on}
+use Rattle.race_text.proofs.PartWords.{first_part_is, read_suits, IsPart, is_part, AreParts, are_read, words_count, words_fine, part_is_there, are_there}
 use Rattle.race_text.proofs.PlaceWords.{ArePlaces, places_read, are_places, places_count, places_fine, places_are_there}
 
 goroutine_is : (part : Part) (n : ℕ) → goroutine_of part ≡ Some n → part ≡ Part.Object (Named.Goroutine n)

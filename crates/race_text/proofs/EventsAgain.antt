@@ -14,13 +14,15 @@ use Rattle.race_records.specs.declared.parts.PartKind.{PartKind}
 use Rattle.race_records.specs.Name.{is_place, is_place_byte}
 use Rattle.race_records.specs.Declarations.{Declaration, DeclsState, IsWellFormed, count_of}
 use Rattle.race_records.specs.Events.{fits, op_fits, value_fits, second_place_fits}
-use Rattle.race_records.specs.Parts.{says, has_two_places, suits, suit, part_fits, part_is_u64, part_kinds}
+use Rattle.race_records.specs.Parts.{says, has_two_places, suits, suit, part_fits, part_is_limited, part_kinds}
 use Rattle.race_records.proofs.PartLaws.{says_again, says_suits}
 use Rattle.race_text.specs.declared.form.Word.{Word}
 use Rattle.race_text.specs.Words.{words_of}
 use Rattle.race_text.specs.Text.{line_of, goroutine_name, place_text, second_text, place_words, op_words, event_line}
 use Rattle.race_text.specs.Reading.{Occurrence, Places, occurrence, ReadPart, object_as, part_in, parts_on, with_rest, event_by, event_in}
 use Rattle.race_text.specs.Writing.{verb_text, part_text}
+use Rattle.race_text.proofs.CaseWords.{cases_again, cases_visible}
+use Rattle.race_text.proofs.FailureWords.{failure_again, failure_visible}
 use Rattle.race_text.proofs.CleanLemmas.{number_is_visible}
 use Rattle.race_text.proofs.EventLines.{op_words_are}
 use Rattle.race_text.proofs.EventWords.{said_by}
@@ -42,36 +44,40 @@ module _ (decls : DeclsState) (holds : IsWellFormed decls) where
   ds = decls.declarations
 
   -- what is printed of a part says the part, and can be seen
-  part_again : (kind : PartKind) (part : Part) → suits kind part ≡ true → part_fits ds part ≡ true → part_is_u64 part ≡ true → part_in ds kind (part_text ds part) ≡ Some part
+  part_again : (kind : PartKind) (part : Part) → suits kind part ≡ true → part_fits ds part ≡ true → part_is_limited part ≡ true → part_in ds kind (part_text ds part) ≡ Some part
   part_again (PartKind.Object kind) (Part.Object named) wanted fit low =
       ap (option_and_then (object_as kind)) (name_again decls holds named (grind (arith, nat_tests, fit)))
       ∙ ap (λ b. if b then Some (Part.Object named) else None) wanted
   part_again PartKind.Value (Part.Value v) wanted fit low = ap (option_map Part.Value) (number-some (2 ^ 64 - 1) v (decimal v) (omega arith) (grind (arith, nat_tests, low)) refl)
+  part_again PartKind.Cases (Part.Cases cases) wanted fit low = ap (option_map Part.Cases) (cases_again decls holds cases fit low)
+  part_again PartKind.Cause (Part.Cause cause) wanted fit low = ap (option_map Part.Cause) (failure_again decls holds cause fit)
   part_again _ _ wanted fit low = absurd (true≢false (sym wanted))
 
-  part_visible : (part : Part) → part_fits ds part ≡ true → part_is_u64 part ≡ true → list_all is_place_byte (part_text ds part) ≡ true
+  part_visible : (part : Part) → part_fits ds part ≡ true → part_is_limited part ≡ true → list_all is_place_byte (part_text ds part) ≡ true
   part_visible (Part.Object named) fit low =
       let name = part_text ds (Part.Object named) in
       name_is_visible name (found_is_name decls name named holds (name_again decls holds named (grind (arith, nat_tests, fit))))
   part_visible (Part.Value v) fit low = number_is_visible (2 ^ 64 - 1) (decimal v) v (omega arith) (number-some (2 ^ 64 - 1) v (decimal v) (omega arith) (grind (arith, nat_tests, low)) refl)
+  part_visible (Part.Cases cases) fit low = cases_visible decls holds cases fit
+  part_visible (Part.Cause cause) fit low = failure_visible decls holds cause fit
 
-  parts_again : (got : List Part) (kinds : List PartKind) (parts : List Part) (rest : List (List ℕ)) → suit kinds parts ≡ true → list_all (part_fits ds) parts ≡ true → list_all part_is_u64 parts ≡ true
+  parts_again : (got : List Part) (kinds : List PartKind) (parts : List Part) (rest : List (List ℕ)) → suit kinds parts ≡ true → list_all (part_fits ds) parts ≡ true → list_all part_is_limited parts ≡ true
       → parts_on ds got kinds (map (part_text ds) parts ++ rest) ≡ Some (got ++ parts, rest)
   parts_again got [] [] rest wanted fit low = λ i. Some (sym (append-nil got) i, rest)
   parts_again got (kind ∷ kinds) (part ∷ parts) rest wanted fit low =
       let wants = both (suits kind part) (suit kinds parts) wanted in
       let fits = both (part_fits ds part) (list_all (part_fits ds) parts) fit in
-      let lows = both (part_is_u64 part) (list_all part_is_u64 parts) low in
+      let lows = both (part_is_limited part) (list_all part_is_limited parts) low in
       ap (λ o. option_and_then (λ (r : ReadPart). parts_on ds (got ++ r.0 ∷ []) kinds r.1) (option_map (with_rest (map (part_text ds) parts ++ rest)) o)) (part_again kind part wants.0 fits.0 lows.0)
       ∙ parts_again (got ++ part ∷ []) kinds parts rest wants.1 fits.1 lows.1
       ∙ (λ i. Some (append_assoc got (part ∷ []) parts i, rest))
   parts_again got _ _ rest wanted fit low = absurd (true≢false (sym wanted))
 
-  parts_visible : (parts : List Part) (rest : List (List ℕ)) → list_all (part_fits ds) parts ≡ true → list_all part_is_u64 parts ≡ true → AreVisible rest → AreVisible (map (part_text ds) parts ++ rest)
+  parts_visible : (parts : List Part) (rest : List (List ℕ)) → list_all (part_fits ds) parts ≡ true → list_all part_is_limited parts ≡ true → AreVisible rest → AreVisible (map (part_text ds) parts ++ rest)
   parts_visible [] rest fit low visible = visible
   parts_visible (part ∷ parts) rest fit low visible =
       let fits = both (part_fits ds part) (list_all (part_fits ds) parts) fit in
-      let lows = both (part_is_u64 part) (list_all part_is_u64 parts) low in
+      let lows = both (part_is_limited part) (list_all part_is_limited parts) low in
       (part_visible part fits.0 lows.0, parts_visible parts rest fits.1 lows.1 visible)
 
   -- a place that is printed has a place's form, and there are two just where there have to be

@@ -1,8 +1,11 @@
 pub mod CutLemmas
 pub mod WordTable
+pub mod CaseWords
+pub mod FailureWords
+pub mod CasePieces
 pub mod PartWords
-mod PlaceWords
-mod PlacesAdded
+pub mod PlaceWords
+pub mod PlacesAdded
 pub mod SeenLemmas
 pub mod UnseenLemmas
 pub mod NumberLemmas

@@ -14,25 +14,19 @@ use Rattle.race_records.specs.declared.parts.Part.{Part}
 use Rattle.race_records.specs.declared.parts.PartKind.{PartKind}
 use Rattle.race_records.specs.Name.{is_name}
 use Rattle.race_records.specs.Declarations.{Declaration, DeclsState, IsWellFormed, find_name, is_named}
-use Rattle.race_records.specs.Parts.{suits, suit, part_fits, part_is_u64}
+use Rattle.race_records.specs.Parts.{suits, suit, part_fits, part_is_limited}
 use Rattle.race_text.specs.declared.cause.TextCause.{TextCause}
 use Rattle.race_text.specs.declared.form.Field.{Field}
 use Rattle.race_text.specs.Words.{has_bad_byte, number}
-use Rattle.race_text.specs.Fault.{lesser, rank, use_cause, part_cause, field_cause}
-use Rattle.race_text.specs.Reading.{ReadPart, ReadParts, object_as, part_in, with_rest, first_part, parts_on}
+use Rattle.race_text.specs.Fault.{lesser, use_cause, part_cause, field_cause}
+use Rattle.race_text.specs.Text.{cases_text, failure_text}
+use Rattle.race_text.specs.Reading.{ReadPart, ReadParts, object_as, cases_in, failure_in, part_in, with_rest, first_part, parts_on}
 use Rattle.race_text.specs.Writing.{part_text}
-use Rattle.race_text.proofs.CauseLemmas.{cause_on}
+use Rattle.race_text.proofs.CaseWords.{is_cases, cases_visible, cases_are_there}
+use Rattle.race_text.proofs.FailureWords.{is_failure, failure_visible, failure_is_there}
+use Rattle.race_text.proofs.CauseLemmas.{and_then_some, map_some, lesser_none, cause_on}
 use Rattle.race_text.proofs.CleanLemmas.{name_clean, visible_clean, number_is_visible}
 use Rattle.race_text.proofs.FoundLemmas.{found_is_name, found_is_declared, name_of_found}
-
--- a chain that gives something did so at each step
-pub and_then_some : {A B : Type 0} (f : A → Option B) (o : Option A) (y : B) → option_and_then f o ≡ Some y → (x : A) × (o ≡ Some x) × (f x ≡ Some y)
-and_then_some f None y h = absurd (none-some y h)
-and_then_some f (Some x) y h = (x, refl, h)
-
-pub map_some : {A B : Type 0} (f : A → B) (o : Option A) (y : B) → option_map f o ≡ Some y → (x : A) × (o ≡ Some x) × (f x ≡ y)
-map_some f None y h = absurd (none-some y h)
-map_some f (Some x) y h = (x, refl, same_Some (f x) y h)
 
 -- a number that was read is spelled as it is printed, and is in its limit
 pub number_spelled : (limit : ℕ) (w : List ℕ) (n : ℕ) → number limit w ≡ Some n → w ≡ decimal n
@@ -63,6 +57,8 @@ read_suits ds (PartKind.Object kind) w part h =
     by named true of h = ap (suits (PartKind.Object kind)) (sym (same_Some (Part.Object named) part h)) ∙ of
     by named false of h = absurd (none-some part h)
 read_suits ds PartKind.Value w part h = ap (suits PartKind.Value) (sym (map_some Part.Value (number (2 ^ 64 - 1) w) part h).2)
+read_suits ds PartKind.Cases w part h = ap (suits PartKind.Cases) (sym (map_some Part.Cases (cases_in ds w) part h).2)
+read_suits ds PartKind.Cause w part h = ap (suits PartKind.Cause) (sym (map_some Part.Cause (failure_in ds w) part h).2)
 
 -- the part that the first word says
 pub first_part_is : (ds : List Declaration) (kind : PartKind) (words : List (List ℕ)) (first : ReadPart) → first_part ds kind words ≡ Some first
@@ -80,7 +76,7 @@ module _ (decls : DeclsState) (holds : IsWellFormed decls) where
   pub record IsPart (kind : PartKind) (w : List ℕ) (part : Part) : Type 0 where
     pub text : w ≡ part_text ds part
     pub fits : part_fits ds part ≡ true
-    pub is_u64 : part_is_u64 part ≡ true
+    pub is_limited : part_is_limited part ≡ true
     pub clean : has_bad_byte w ≡ false
     pub no_cause : part_cause ds kind w ≡ None
 
@@ -88,7 +84,7 @@ module _ (decls : DeclsState) (holds : IsWellFormed decls) where
   is_object kind w named found of = record {
     text = ap (λ o. unwrap_or o []) (sym (name_of_found ds w named found));
     fits = let less = found_is_declared ds w named found in grind (arith, nat_tests, less);
-    is_u64 = refl;
+    is_limited = refl;
     clean = name_clean w (found_is_name decls w named holds found);
     no_cause = (λ i. if not (found_is_name decls w named holds found i) then Some TextCause.BadName else use_cause kind (found i))
         ∙ ap (λ b. if b then None else Some TextCause.WrongKind) of;
@@ -107,9 +103,29 @@ module _ (decls : DeclsState) (holds : IsWellFormed decls) where
       subst (IsPart PartKind.Value w) read.2 (record {
         text = number_spelled (2 ^ 64 - 1) w read.0 read.1;
         fits = refl;
-        is_u64 = number_within (2 ^ 64 - 1) w read.0 (omega arith) read.1;
+        is_limited = number_within (2 ^ 64 - 1) w read.0 (omega arith) read.1;
         clean = visible_clean w (number_is_visible (2 ^ 64 - 1) w read.0 (omega arith) read.1);
         no_cause = ap (λ o. if is_none o then Some TextCause.BadNumber else None) read.1;
+      })
+  is_part PartKind.Cases w part h =
+      let read = map_some Part.Cases (cases_in ds w) part h in
+      let is = is_cases decls holds w read.0 read.1 in
+      subst (IsPart PartKind.Cases w) read.2 (record {
+        text = is.text;
+        fits = is.fits;
+        is_limited = is.few;
+        clean = ap has_bad_byte is.text ∙ visible_clean (cases_text ds read.0) (cases_visible decls holds read.0 is.fits);
+        no_cause = is.no_cause;
+      })
+  is_part PartKind.Cause w part h =
+      let read = map_some Part.Cause (failure_in ds w) part h in
+      let is = is_failure decls holds w read.0 read.1 in
+      subst (IsPart PartKind.Cause w) read.2 (record {
+        text = is.text;
+        fits = is.fits;
+        is_limited = refl;
+        clean = ap has_bad_byte is.text ∙ visible_clean (failure_text ds read.0) (failure_visible decls holds read.0 is.fits);
+        no_cause = is.no_cause;
       })
 
   -- words that say parts of these kinds, one each
@@ -144,7 +160,7 @@ module _ (decls : DeclsState) (holds : IsWellFormed decls) where
         are = (is_part kind w first.0.0 part_is, others.are);
       }
 
-  -- of the parts: their texts are the words, they are declared, and their values are u64s
+  -- of the parts: their texts are the words, they are declared, and in their limits
   pub texts_are : (kinds : List PartKind) (ws : List (List ℕ)) (parts : List Part) → AreParts kinds ws parts → ws ≡ map (part_text ds) parts
   texts_are [] [] [] are = refl
   texts_are (kind ∷ kinds) (w ∷ ws) (part ∷ parts) are = λ i. are.0.text i ∷ texts_are kinds ws parts are.1 i
@@ -155,10 +171,10 @@ module _ (decls : DeclsState) (holds : IsWellFormed decls) where
   parts_fit (kind ∷ kinds) (w ∷ ws) (part ∷ parts) are = λ i. are.0.fits i && parts_fit kinds ws parts are.1 i
   parts_fit _ _ _ are = absurd are
 
-  pub parts_are_u64 : (kinds : List PartKind) (ws : List (List ℕ)) (parts : List Part) → AreParts kinds ws parts → list_all part_is_u64 parts ≡ true
-  parts_are_u64 [] [] [] are = refl
-  parts_are_u64 (kind ∷ kinds) (w ∷ ws) (part ∷ parts) are = λ i. are.0.is_u64 i && parts_are_u64 kinds ws parts are.1 i
-  parts_are_u64 _ _ _ are = absurd are
+  pub parts_are_limited : (kinds : List PartKind) (ws : List (List ℕ)) (parts : List Part) → AreParts kinds ws parts → list_all part_is_limited parts ≡ true
+  parts_are_limited [] [] [] are = refl
+  parts_are_limited (kind ∷ kinds) (w ∷ ws) (part ∷ parts) are = λ i. are.0.is_limited i && parts_are_limited kinds ws parts are.1 i
+  parts_are_limited _ _ _ are = absurd are
 
   -- and of the words, with others behind them: none has a bad byte or a cause, and there are as many as fields, where it is so of the others
   module _ (fields : List Field) (rest : List (List ℕ)) where
@@ -182,16 +198,6 @@ module _ (decls : DeclsState) (holds : IsWellFormed decls) where
         ap (λ c. cause_on ds c (map Field.Part kinds ++ fields) (ws ++ rest)) are.0.no_cause ∙ words_fine fine kinds ws parts are.1
     words_fine fine _ _ _ are = absurd are
 
--- no cause holds of a chain just where none holds of its parts
-pub lesser_none : (a b : Option TextCause) → lesser a b ≡ None → (a ≡ None) × (b ≡ None)
-lesser_none None b h = (refl, h)
-lesser_none (Some a) None h = absurd (none-some a (sym h))
-lesser_none (Some a) (Some b) h = by (nat_le (rank a) (rank b)) h
-  where
-    by : (t : Bool) → (if t then Some a else Some b) ≡ None → (Some a ≡ None) × (Some b ≡ None)
-    by true h = absurd (none-some a (sym h))
-    by false h = absurd (none-some b (sym h))
-
 module _ (ds : List Declaration) where
   -- where nothing is wrong with a word, it says a part
   pub part_is_there : (kind : PartKind) (w : List ℕ) → part_cause ds kind w ≡ None → (part : Part) × (part_in ds kind w ≡ Some part)
@@ -210,6 +216,8 @@ module _ (ds : List Declaration) where
       by : (o : Option ℕ) → (if is_none o then Some TextCause.BadNumber else None) ≡ None → (part : Part) × (option_map Part.Value o ≡ Some part)
       by None h = absurd (none-some TextCause.BadNumber (sym h))
       by (Some n) h = (Part.Value n, refl)
+  part_is_there PartKind.Cases w h = let there = cases_are_there ds w h in (Part.Cases there.0, ap (option_map Part.Cases) there.1)
+  part_is_there PartKind.Cause w h = let there = failure_is_there ds w h in (Part.Cause there.0, ap (option_map Part.Cause) there.1)
 
   -- a cause that holds before the words is not lost
   none_before : (fields : List Field) (ws : List (List ℕ)) (least : Option TextCause) → cause_on ds least fields ws ≡ None → least ≡ None

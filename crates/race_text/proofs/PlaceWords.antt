@@ -11,9 +11,8 @@ use Rattle.race_text.specs.Text.{place_words}
 use Rattle.race_text.specs.Form.{place_fields}
 use Rattle.race_text.specs.Fault.{lesser, field_cause}
 use Rattle.race_text.specs.Reading.{Places, ReadPlace, first_place, with_no_rest, last_place, alone, before_second, last_places}
-use Rattle.race_text.proofs.CauseLemmas.{cause_on}
+use Rattle.race_text.proofs.CauseLemmas.{and_then_some, map_some, lesser_none, cause_on}
 use Rattle.race_text.proofs.CleanLemmas.{visible_clean, place_is_visible}
-use Rattle.race_text.proofs.PartWords.{and_then_some, map_some, lesser_none}
 use Rattle.race_text.proofs.WordsAgain.{AreVisible}
 
 -- places that a line can have at its end, of which there have to be two or one

@@ -4,15 +4,19 @@ use Rattle.std.proofs.lemmas.Bool.Decides.{nat_tests}
 use Rattle.std.proofs.lemmas.Fmt.{length-decimal-le}
 use Rattle.std.proofs.lemmas.List.Concat.{flat_map-cons}
 use Rattle.std.proofs.lemmas.Option.{slice_get_within, get_or_from_slice_get}
-use Rattle.std.specs.List.{flat_map, list_all}
+use Rattle.std.specs.List.{flat_map, list_all, join_with_byte}
 use Rattle.std.specs.Str.{bytes_eq}
+use Rattle.race_records.specs.declared.cases.Case.{Case}
+use Rattle.race_records.specs.declared.cases.Dir.{Dir}
+use Rattle.race_records.specs.declared.cases.TheConstants.{MAX_CASES}
+use Rattle.race_records.specs.declared.event.Cause.TheVariants.{SendClosed, CloseClosed, CloseNil}
 use Rattle.race_records.specs.declared.event.Event.{Event}
 use Rattle.race_records.specs.declared.event.Op.{Op}
 use Rattle.race_records.specs.declared.event.Op.TheVariants.{Go}
 use Rattle.race_records.specs.declared.kind.Named.{Named}
 use Rattle.race_records.specs.declared.parts.Part.{Part}
 use Rattle.race_records.specs.declared.parts.Verb.{Verb}
-use Rattle.race_records.specs.Parts.{says, part_is_u64}
+use Rattle.race_records.specs.Parts.{says, part_is_limited}
 use Rattle.race_text.specs.Writing.{noun_text, number_words, verb_text, part_text}
 use Rattle.race_text.proofs.EventLines.{op_words_are}
 use Rattle.race_text.proofs.WordLemmas.{both}
@@ -26,7 +30,7 @@ use Rattle.race_records.proofs.NounLaws.{IsWanted, says_wanted}
 use Rattle.race_text.proofs.DeclarationLemmas.{small_limit}
 use Rattle.race_text.proofs.WordTable.{object_words_are}
 use Rattle.race_records.specs.Events.{TraceState, IsTrace, value_fits}
-use Rattle.race_text.specs.Text.{text, header, ended, line_of, declaration_line, goroutine_name, place_text, second_text, place_words, event_line}
+use Rattle.race_text.specs.Text.{text, header, ended, line_of, declaration_line, goroutine_name, chan_text, dir_text, case_text, cases_text, place_text, second_text, place_words, event_line}
 use Rattle.race_text.specs.Writing.{declarations_text, events_text, body}
 use Rattle.race_text.proofs.NamesAgain.{stands_at}
 use Rattle.race_text.proofs.WritingLemmas.{ended_more, line_of_2, text_is}
@@ -96,57 +100,88 @@ module _ (decls : DeclsState) (holds : IsWellFormed decls) where
 
   -- a noun, a name, and a number where there is a limit of it
   declared_short : (noun : Noun) (name : List ℕ) (limit number : Option ℕ) → length name ≤ 64 → IsWanted limit number → ((l : ℕ) → limit ≡ Some l → l < 2 ^ 64)
-      → length (ended (line_of (noun_text noun ∷ name ∷ number_words number))) ≤ 600
+      → length (ended (line_of (noun_text noun ∷ name ∷ number_words number))) ≤ 5000
   declared_short noun name None None short wanted small =
       let len = more (noun_text noun) (name ++ 10 ∷ []) 64 65 (noun_short noun) (last name 64 short) in
-      subst (λ l. length l ≤ 600) (sym (line_of_2 (noun_text noun) name)) (omega (arith, len))
+      subst (λ l. length l ≤ 5000) (sym (line_of_2 (noun_text noun) name)) (omega (arith, len))
   declared_short noun name (Some l) (Some n) short wanted small =
       let low = small l refl in
       let digits = value_short n (grind (arith, nat_tests, low, wanted)) in
       let behind = more name (decimal n ++ 10 ∷ []) 64 21 short (last (decimal n) 20 digits) in
       let len = more (noun_text noun) (name ++ 32 ∷ (decimal n ++ 10 ∷ [])) 64 86 (noun_short noun) behind in
-      subst (λ l. length l ≤ 600) (sym (ended_more (noun_text noun) name (decimal n ∷ []) ∙ ap (λ l. noun_text noun ++ 32 ∷ l) (line_of_2 name (decimal n)))) (omega (arith, len))
+      subst (λ l. length l ≤ 5000) (sym (ended_more (noun_text noun) name (decimal n ∷ []) ∙ ap (λ l. noun_text noun ++ 32 ∷ l) (line_of_2 name (decimal n)))) (omega (arith, len))
   declared_short noun name None (Some n) short wanted small = absurd wanted
   declared_short noun name (Some l) None short wanted small = absurd wanted
 
-  declaration_short : (d : Declaration) → length d.name ≤ 64 → is_too_wide d.object ≡ false → length (ended (declaration_line d)) ≤ 600
+  declaration_short : (d : Declaration) → length d.name ≤ 64 → is_too_wide d.object ≡ false → length (ended (declaration_line d)) ≤ 5000
   declaration_short d short narrow =
       let noun = (object_says d.object).0 in
-      subst (λ ws. length (ended (line_of ws)) ≤ 600) (sym (object_words_are d.name d.object))
+      subst (λ ws. length (ended (line_of ws)) ≤ 5000) (sym (object_words_are d.name d.object))
       (declared_short noun d.name (number_limit noun) (object_says d.object).1 short (says_wanted d.object narrow) (small_limit noun))
 
-  part_short : (part : Part) → part_is_u64 part ≡ true → length (part_text decls.declarations part) ≤ 64
-  part_short (Part.Object (Named.Goroutine n)) low = goroutine_short n
-  part_short (Part.Object (Named.Var n)) low = nth_short Kind.Var n
-  part_short (Part.Object (Named.Chan n)) low = nth_short Kind.Chan n
-  part_short (Part.Object (Named.Lock n)) low = nth_short Kind.Lock n
-  part_short (Part.Object (Named.Once n)) low = nth_short Kind.Once n
+  chan_short : (chan : Option ℕ) → length (chan_text decls.declarations chan) ≤ 64
+  chan_short None = omega arith
+  chan_short (Some c) = nth_short Kind.Chan c
+
+  case_short : (case : Case) → length (case_text decls.declarations case) ≤ 69
+  case_short case = by case.dir (chan_text decls.declarations case.chan) (chan_short case.chan)
+    where
+      by : (dir : Dir) (name : List ℕ) → length name ≤ 64 → length (dir_text dir ++ name) ≤ 69
+      by Dir.Send name short = omega (arith, short)
+      by Dir.Recv name short = omega (arith, short)
+
+  joined_short : (cases : List Case) → length (join_with_byte 44 (map (case_text decls.declarations) cases)) ≤ 70 * length cases
+  joined_short [] = omega arith
+  joined_short (case ∷ []) = let short = case_short case in omega (arith, short)
+  joined_short (case ∷ next ∷ cases) =
+      let text = case_text decls.declarations case in
+      let rest = joined_short (next ∷ cases) in
+      let short = case_short case in
+      omega (arith, short, rest, length-append text (44 ∷ join_with_byte 44 (map (case_text decls.declarations) (next ∷ cases))))
+
+  cases_short : (cases : List Case) → nat_le (length cases) MAX_CASES ≡ true → length (cases_text decls.declarations cases) ≤ 1120
+  cases_short [] few = omega arith
+  cases_short (case ∷ cases) few =
+      let short = joined_short (case ∷ cases) in
+      let low : length (case ∷ cases) ≤ MAX_CASES = grind (arith, nat_tests, few) in
+      omega (arith, short, low)
+
+  part_short : (part : Part) → part_is_limited part ≡ true → length (part_text decls.declarations part) ≤ 1120
+  part_short (Part.Object (Named.Goroutine n)) low = let short = goroutine_short n in omega (arith, short)
+  part_short (Part.Object (Named.Var n)) low = let short = nth_short Kind.Var n in omega (arith, short)
+  part_short (Part.Object (Named.Chan n)) low = let short = nth_short Kind.Chan n in omega (arith, short)
+  part_short (Part.Object (Named.Lock n)) low = let short = nth_short Kind.Lock n in omega (arith, short)
+  part_short (Part.Object (Named.Once n)) low = let short = nth_short Kind.Once n in omega (arith, short)
   part_short (Part.Value v) low = let short = value_short v low in omega (arith, short)
+  part_short (Part.Cases cases) low = cases_short cases low
+  part_short (Part.Cause (SendClosed c)) low = let short = nth_short Kind.Chan c in omega (arith, short)
+  part_short (Part.Cause (CloseClosed c)) low = let short = nth_short Kind.Chan c in omega (arith, short)
+  part_short (Part.Cause CloseNil) low = omega arith
 
   -- a word, and the parts behind it, and the places
-  places_short : (a : List ℕ) (n : ℕ) (place2 : Option ℕ) → length a ≤ 64
-      → length (ended (line_of (a ∷ place_words (place_text decls.places n) (second_text decls.places place2)))) ≤ 324
+  places_short : (a : List ℕ) (n : ℕ) (place2 : Option ℕ) → length a ≤ 1120
+      → length (ended (line_of (a ∷ place_words (place_text decls.places n) (second_text decls.places place2)))) ≤ 1380
   places_short a n None short =
       let place = place_text decls.places n in
-      let len = more a (place ++ 10 ∷ []) 64 129 short (last place 128 (place_text_short n)) in
-      subst (λ l. length l ≤ 324) (sym (line_of_2 a place)) (omega (arith, len))
+      let len = more a (place ++ 10 ∷ []) 1120 129 short (last place 128 (place_text_short n)) in
+      subst (λ l. length l ≤ 1380) (sym (line_of_2 a place)) (omega (arith, len))
   places_short a n (Some m) short =
       let place = place_text decls.places n in
       let second = place_text decls.places m in
       let behind = more place (second ++ 10 ∷ []) 128 129 (place_text_short n) (last second 128 (place_text_short m)) in
-      let len = more a (place ++ 32 ∷ (second ++ 10 ∷ [])) 64 258 short behind in
-      subst (λ l. length l ≤ 324) (sym (ended_more a place (second ∷ []) ∙ ap (λ l. a ++ 32 ∷ l) (line_of_2 place second))) (omega (arith, len))
+      let len = more a (place ++ 32 ∷ (second ++ 10 ∷ [])) 1120 258 short behind in
+      subst (λ l. length l ≤ 1380) (sym (ended_more a place (second ∷ []) ∙ ap (λ l. a ++ 32 ∷ l) (line_of_2 place second))) (omega (arith, len))
 
-  parts_short : (a : List ℕ) (parts : List Part) (n : ℕ) (place2 : Option ℕ) → length a ≤ 64 → list_all part_is_u64 parts ≡ true
-      → length (ended (line_of (a ∷ map (part_text decls.declarations) parts ++ place_words (place_text decls.places n) (second_text decls.places place2)))) ≤ 65 * length parts + 324
+  parts_short : (a : List ℕ) (parts : List Part) (n : ℕ) (place2 : Option ℕ) → length a ≤ 1120 → list_all part_is_limited parts ≡ true
+      → length (ended (line_of (a ∷ map (part_text decls.declarations) parts ++ place_words (place_text decls.places n) (second_text decls.places place2)))) ≤ 1121 * length parts + 1380
   parts_short a [] n place2 short low = places_short a n place2 short
   parts_short a (part ∷ parts) n place2 short low =
-      let lows = both (part_is_u64 part) (list_all part_is_u64 parts) low in
+      let lows = both (part_is_limited part) (list_all part_is_limited parts) low in
       let text = part_text decls.declarations part in
       let places = place_words (place_text decls.places n) (second_text decls.places place2) in
       let rest = parts_short text parts n place2 (part_short part lows.0) lows.1 in
-      let len = more a _ 64 (65 * length parts + 324) short rest in
-      subst (λ l. length l ≤ 65 * length (part ∷ parts) + 324) (sym (ended_more a text (map (part_text decls.declarations) parts ++ places))) (omega (arith, len))
+      let len = more a _ 1120 (1121 * length parts + 1380) short rest in
+      subst (λ l. length l ≤ 1121 * length (part ∷ parts) + 1380) (sym (ended_more a text (map (part_text decls.declarations) parts ++ places))) (omega (arith, len))
 
   verb_short : (verb : Verb) → length (verb_text verb) ≤ 64
   verb_short Verb.Go = omega arith
@@ -156,19 +191,19 @@ module _ (decls : DeclsState) (holds : IsWellFormed decls) where
   few_parts (Go h) = omega arith
   few_parts _ = omega arith
 
-  event_short : (e : Event) → IsTrue (value_fits e.op) → length (ended (event_line decls e)) ≤ 600
+  event_short : (e : Event) → IsTrue (value_fits e.op) → length (ended (event_line decls e)) ≤ 5000
   event_short e value =
       let who = goroutine_name decls.declarations e.who in
       let places = place_words (place_text decls.places e.place) (second_text decls.places e.place2) in
       let verb = (says e.op).0 in
       let parts = (says e.op).1 in
-      let rest = parts_short who parts e.place e.place2 (goroutine_short e.who) value in
-      let len = more (verb_text verb) _ 64 (65 * length parts + 324) (verb_short verb) rest in
-      subst (λ ws. length (ended (line_of ws)) ≤ 600) (sym (op_words_are decls.declarations who places e.op))
-      (subst (λ l. length l ≤ 600) (sym (ended_more (verb_text verb) who (map (part_text decls.declarations) parts ++ places))) (omega (arith, len, few_parts e.op)))
+      let rest = parts_short who parts e.place e.place2 (let short = goroutine_short e.who in omega (arith, short)) value in
+      let len = more (verb_text verb) _ 64 (1121 * length parts + 1380) (verb_short verb) rest in
+      subst (λ ws. length (ended (line_of ws)) ≤ 5000) (sym (op_words_are decls.declarations who places e.op))
+      (subst (λ l. length l ≤ 5000) (sym (ended_more (verb_text verb) who (map (part_text decls.declarations) parts ++ places))) (omega (arith, len, few_parts e.op)))
 
 -- so many pieces, none of them long
-pieces_short : {X : Type 0} (piece : X → List ℕ) (xs : List X) → ((i : ℕ) (x : X) → slice_get xs i ≡ Some x → length (piece x) ≤ 600) → length (flat_map piece xs) ≤ 600 * length xs
+pieces_short : {X : Type 0} (piece : X → List ℕ) (xs : List X) → ((i : ℕ) (x : X) → slice_get xs i ≡ Some x → length (piece x) ≤ 5000) → length (flat_map piece xs) ≤ 5000 * length xs
 pieces_short piece [] each = omega arith
 pieces_short piece (x ∷ xs) each =
     let first = each 0 x refl in

@@ -2,6 +2,8 @@
 use Rattle.std.proofs.Common.{◌≡◌, ℕ, ◌-◌, ◌^◌, Bool, true, false, if◌then◌else◌, List, [], ◌∷◌, Option, Some, None, refl, sym, ap, ◌∙◌, arith, true≢false}
 use Rattle.std.specs.List.{list_all}
 use Rattle.std.specs.Option.{option_and_then, option_map}
+use Rattle.race_records.specs.declared.cases.Case.{Case}
+use Rattle.race_records.specs.declared.event.Cause.{Cause}
 use Rattle.race_records.specs.declared.parts.Part.{Part}
 use Rattle.race_records.specs.declared.parts.PartKind.{PartKind}
 use Rattle.race_records.specs.Name.{is_name, is_place, is_place_byte}
@@ -9,7 +11,9 @@ use Rattle.race_records.specs.Declarations.{Declaration, DeclsState, IsWellForme
 use Rattle.race_text.specs.declared.form.Word.{Word}
 use Rattle.race_text.specs.Words.{number}
 use Rattle.race_text.specs.Form.{word_named, first_word}
-use Rattle.race_text.specs.Reading.{object_as, with_rest, first_part, first_place, event_by, event_in}
+use Rattle.race_text.specs.Reading.{object_as, cases_in, failure_in, with_rest, first_part, first_place, event_by, event_in}
+use Rattle.race_text.proofs.CaseWords.{is_cases, cases_visible}
+use Rattle.race_text.proofs.FailureWords.{is_failure, failure_visible}
 use Rattle.race_text.proofs.CleanLemmas.{place_is_visible, number_is_visible}
 use Rattle.race_text.proofs.WordTable.{word_is_seen}
 use Rattle.race_text.proofs.FoundLemmas.{unnamed_is_absent}
@@ -30,6 +34,20 @@ unseen_part decls PartKind.Value (w ∷ ws) holds h = by (number (2 ^ 64 - 1) w)
     by : (o : Option ℕ) → number (2 ^ 64 - 1) w ≡ o → option_map (with_rest ws) (option_map Part.Value o) ≡ None
     by None e = refl
     by (Some n) e = absurd (true≢false (sym (number_is_visible (2 ^ 64 - 1) w n (omega arith) e) ∙ h))
+unseen_part decls PartKind.Cases (w ∷ ws) holds h = by (cases_in decls.declarations w) refl
+  where
+    by : (o : Option (List Case)) → cases_in decls.declarations w ≡ o → option_map (with_rest ws) (option_map Part.Cases o) ≡ None
+    by None e = refl
+    by (Some cases) e =
+        let is = is_cases decls holds w cases e in
+        absurd (true≢false (sym (ap (list_all is_place_byte) is.text ∙ cases_visible decls holds cases is.fits) ∙ h))
+unseen_part decls PartKind.Cause (w ∷ ws) holds h = by (failure_in decls.declarations w) refl
+  where
+    by : (o : Option Cause) → failure_in decls.declarations w ≡ o → option_map (with_rest ws) (option_map Part.Cause o) ≡ None
+    by None e = refl
+    by (Some cause) e =
+        let is = is_failure decls holds w cause e in
+        absurd (true≢false (sym (ap (list_all is_place_byte) is.text ∙ failure_visible decls holds cause is.fits) ∙ h))
 
 pub unseen_place : (ws : List (List ℕ)) → list_all is_place_byte (first_word ws) ≡ false → first_place ws ≡ None
 unseen_place [] h = refl

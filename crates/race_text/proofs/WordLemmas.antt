@@ -28,12 +28,17 @@ visible_is_text word h = IsUtf8-from_ascii word (visible_is_ascii word h)
 name_byte_is_visible : (b : ℕ) → is_name_byte b ≡ true → is_place_byte b ≡ true
 name_byte_is_visible b h = grind (arith, nat_tests)
 
-name_bytes_are_visible : (word : List ℕ) → list_all is_name_byte word ≡ true → list_all is_place_byte word ≡ true
-name_bytes_are_visible [] h = refl
-name_bytes_are_visible (b ∷ bs) h =
-    let p = both (is_name_byte b) (list_all is_name_byte bs) h in
-    λ i. name_byte_is_visible b p.0 i && name_bytes_are_visible bs p.1 i
+-- bytes that pass a test pass a weaker one
+pub all_weaken : (p q : ℕ → Bool) → ((b : ℕ) → p b ≡ true → q b ≡ true) → (word : List ℕ) → list_all p word ≡ true → list_all q word ≡ true
+all_weaken p q weaker [] h = refl
+all_weaken p q weaker (b ∷ bs) h =
+    let hs = both (p b) (list_all p bs) h in
+    λ i. weaker b hs.0 i && all_weaken p q weaker bs hs.1 i
+
+-- a name's bytes
+pub name_bytes : (word : List ℕ) → is_name word ≡ true → list_all is_name_byte word ≡ true
+name_bytes word h = (both _ (list_all is_name_byte word) h).1
 
 -- a name's bytes can be seen
 pub name_is_visible : (word : List ℕ) → is_name word ≡ true → list_all is_place_byte word ≡ true
-name_is_visible word h = name_bytes_are_visible word (both _ (list_all is_name_byte word) h).1
+name_is_visible word h = all_weaken is_name_byte is_place_byte name_byte_is_visible word (name_bytes word h)

@@ -5,14 +5,14 @@ use Rattle.std.proofs.lemmas.List.Concat.{flat_map-cons}
 use Rattle.std.proofs.lemmas.List.Folds.{list_any_at}
 use Rattle.std.proofs.lemmas.List.Splits.{slice_split_none, slice_split_at}
 use Rattle.std.proofs.lemmas.List.Sums.{AllPass-from_list_all}
-use Rattle.std.specs.List.{list_all, AllByRecursion, flat_map}
+use Rattle.std.specs.List.{list_all, AllByRecursion, flat_map, slice_split, join_with_byte}
 use Rattle.race_records.specs.Name.{is_place_byte}
 use Rattle.race_text.specs.Words.{parts_of, words_of, is_bad_byte, has_bad_byte}
 use Rattle.race_text.specs.Text.{line_of, ended}
 use Rattle.race_text.proofs.CleanLemmas.{joined_clean, visible_clean}
 
 -- the byte is nowhere in the list
-abbrev IsWithout : ℕ → List ℕ → Type 0
+abbrev pub IsWithout : ℕ → List ℕ → Type 0
 IsWithout byte bytes = All (λ b. (b == byte) ≡ false) bytes
 
 without_space : (word : List ℕ) → list_all is_place_byte word ≡ true → IsWithout 32 word
@@ -32,10 +32,20 @@ without_newline line clean = λ i d within. fine (get_or line i d) (by (is_bad_b
 abbrev pub AreVisible : List (List ℕ) → Type 0
 AreVisible words = AllByRecursion (λ w. list_all is_place_byte w ≡ true) words
 
+-- words without the byte that joins them are those that it is cut into
+pub split_again : (byte : ℕ) → (byte == byte) ≡ true → (w : List ℕ) (ws : List (List ℕ)) → AllByRecursion (IsWithout byte) (w ∷ ws)
+    → slice_split (λ b. b == byte) (join_with_byte byte (w ∷ ws)) ≡ w ∷ ws
+split_again byte same w [] without = slice_split_none (λ b. b == byte) w without.0
+split_again byte same w (v ∷ ws) without =
+    slice_split_at (λ b. b == byte) w byte (join_with_byte byte (v ∷ ws)) without.0 same ∙ ap (λ l. w ∷ l) (split_again byte same v ws without.1)
+
 -- words that can be seen are the words of their line
 pub words_again : (w : List ℕ) (ws : List (List ℕ)) → AreVisible (w ∷ ws) → words_of (line_of (w ∷ ws)) ≡ w ∷ ws
-words_again w [] visible = slice_split_none (λ byte. byte == 32) w (without_space w visible.0)
-words_again w (v ∷ ws) visible = slice_split_at (λ byte. byte == 32) w 32 (line_of (v ∷ ws)) (without_space w visible.0) refl ∙ ap (λ l. w ∷ l) (words_again v ws visible.1)
+words_again w ws visible = split_again 32 refl w ws (each (w ∷ ws) visible)
+  where
+    each : (ws : List (List ℕ)) → AreVisible ws → AllByRecursion (IsWithout 32) ws
+    each [] visible = tt
+    each (w ∷ ws) visible = (without_space w visible.0, each ws visible.1)
 
 -- and the line has no bad byte
 pub visible_line_clean : (ws : List (List ℕ)) → AreVisible ws → has_bad_byte (line_of ws) ≡ false

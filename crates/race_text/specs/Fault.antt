@@ -4,6 +4,7 @@ use Rattle.std.specs.List.{filter_map, zip}
 use Rattle.std.specs.Option.{option_map}
 use Rattle.std.specs.Str.{bytes_eq}
 use Rattle.std.specs.Str.Parse.{digits_value}
+use Rattle.race_records.specs.declared.cases.TheConstants.{MAX_CASES}
 use Rattle.race_records.specs.declared.kind.Kind.{Kind}
 use Rattle.race_records.specs.declared.kind.Named.{Named}
 use Rattle.race_records.specs.declared.kind.Object.{Object}
@@ -17,6 +18,7 @@ use Rattle.race_text.specs.declared.cause.TextFault.{TextFault}
 use Rattle.race_text.specs.declared.form.Word.{Word}
 use Rattle.race_text.specs.declared.form.Field.{Field}
 use Rattle.race_text.specs.Words.{parts_of, words_of, has_bad_byte, number}
+use Rattle.race_text.specs.Select.{no_cases, nil, close_nil, pieces_of, SpelledCase, case_spelled, SpelledFailure, failure_spelled, kind_tried}
 use Rattle.race_text.specs.Text.{header}
 use Rattle.race_text.specs.Form.{word_named, fields_of, kind_declared, first_word, arguments}
 
@@ -108,10 +110,35 @@ new_name_cause ds w =
 abbrev pub number_cause : ℕ → List ℕ → Option TextCause
 number_cause limit w = if is_none (number limit w) then Some TextCause.BadNumber else None
 
+-- the least cause of one case of a select: it has another form, or names what is no channel
+abbrev pub case_cause : List Declaration → Option SpelledCase → Option TextCause
+case_cause ds None = Some TextCause.BadName
+case_cause ds (Some case) = if bytes_eq case.1 nil then None else used_name_cause Kind.Chan ds case.1
+
+-- the least cause of them all
+abbrev pub pieces_cause : List Declaration → Option TextCause → List (List ℕ) → Option TextCause
+pieces_cause ds least pieces = fold (λ cause piece. lesser cause (case_cause ds (case_spelled piece))) least pieces
+
+-- the least cause of the word of a select's cases, of which there can be too many
+abbrev pub cases_cause : List Declaration → List ℕ → Option TextCause
+cases_cause ds w =
+    if bytes_eq w no_cases then None
+    else lesser (pieces_cause ds None (pieces_of w)) (if nat_lt MAX_CASES (length (pieces_of w)) then Some TextCause.TooMany else None)
+
+-- the least cause of the word that says why a run failed
+abbrev pub spelled_failure_cause : List Declaration → Option SpelledFailure → Option TextCause
+spelled_failure_cause ds None = Some TextCause.BadName
+spelled_failure_cause ds (Some failure) = used_name_cause (kind_tried failure.0) ds failure.1
+
+abbrev pub failure_cause : List Declaration → List ℕ → Option TextCause
+failure_cause ds w = if bytes_eq w close_nil then None else spelled_failure_cause ds (failure_spelled w)
+
 -- the least cause of what an operation names
 abbrev pub part_cause : List Declaration → PartKind → List ℕ → Option TextCause
 part_cause ds (PartKind.Object kind) w = used_name_cause kind ds w
 part_cause ds PartKind.Value w = number_cause (2 ^ 64 - 1) w
+part_cause ds PartKind.Cases w = cases_cause ds w
+part_cause ds PartKind.Cause w = failure_cause ds w
 
 -- the least cause that holds at one word behind the first
 unfoldable pub field_cause : List Declaration → Field → List ℕ → Option TextCause

@@ -1,4 +1,5 @@
 pub mod Words
+pub mod Select
 pub mod Text
 pub mod Form
 pub mod Fault

@@ -1,21 +1,27 @@
 -- What the words of a line say of an event, one word after another.
-use Rattle.std.specs.Prelude.{ℕ, ◌-◌, ◌^◌, Bool, true, false, List, [], ◌∷◌, ◌++◌, if◌then◌else◌, Option, Some, None}
+use Rattle.std.specs.Prelude.{ℕ, ◌-◌, ◌^◌, Bool, true, false, nat_le, List, [], ◌∷◌, ◌++◌, length, if◌then◌else◌, Option, Some, None}
 use Rattle.std.specs.Borrow.{Bor}
 use Rattle.arrayvec.specs.ArrayVec.{ArrayVec}
 use Rattle.std.specs.Option.{option_and_then, option_map}
+use Rattle.std.specs.Str.{bytes_eq}
+use Rattle.race_records.specs.declared.cases.Case.{Case}
+use Rattle.race_records.specs.declared.cases.Dir.{Dir}
+use Rattle.race_records.specs.declared.cases.TheConstants.{MAX_CASES}
+use Rattle.race_records.specs.declared.event.Cause.{Cause}
 use Rattle.race_records.specs.declared.event.Op.{Op}
 use Rattle.race_records.specs.declared.kind.Kind.{Kind}
 use Rattle.race_records.specs.declared.kind.Named.{Named}
 use Rattle.race_records.specs.declared.parts.Part.{Part}
 use Rattle.race_records.specs.declared.parts.PartKind.{PartKind}
 use Rattle.race_records.specs.declared.parts.Verb.{Verb}
-use Rattle.race_records.specs.Name.{is_place}
+use Rattle.race_records.specs.Name.{is_name, is_place}
 use Rattle.race_records.specs.Declarations.{Declaration, find_name, is_named}
 use Rattle.race_records.specs.Parts.{op_by, part_kinds, has_two_places}
 use Rattle.race_text.specs.declared.event.Draft.{Draft}
 use Rattle.race_text.specs.declared.form.Word.{Word}
 use Rattle.race_text.specs.Words.{parts_left, number}
 use Rattle.race_text.specs.Form.{word_named}
+use Rattle.race_text.specs.Select.{no_cases, nil, close_nil, pieces_of, SpelledCase, case_spelled, SpelledFailure, failure_spelled, cause_by}
 
 -- an event with its places as they are spelled
 pub record Occurrence : Type 0 where
@@ -44,10 +50,47 @@ drafted draft = occurrence draft.who draft.op (places_read (draft.place, draft.p
 abbrev pub object_as : Kind → Named → Option Part
 object_as kind named = if is_named kind named then Some (Part.Object named) else None
 
+-- what a word says as a channel, or nil
+abbrev pub chan_of : Named → Option (Option ℕ)
+chan_of (Named.Chan c) = Some (Some c)
+chan_of _ = None
+
+abbrev pub chan_in : List Declaration → List ℕ → Option (Option ℕ)
+chan_in ds w = if bytes_eq w nil then Some None else (if is_name w then option_and_then chan_of (find_name ds w) else None)
+
+-- and as a case of a select
+abbrev pub case_with : Dir → Option ℕ → Case
+case_with dir chan = record { dir = dir; chan = chan }
+
+abbrev pub spelled_case_in : List Declaration → SpelledCase → Option Case
+spelled_case_in ds case = option_map (case_with case.0) (chan_in ds case.1)
+
+abbrev pub case_in : List Declaration → List ℕ → Option Case
+case_in ds piece = option_and_then (spelled_case_in ds) (case_spelled piece)
+
+-- the cases so far, and behind them a case for each of these words, where there is room for them
+abbrev pub cases_on : List Declaration → List Case → List (List ℕ) → Option (List Case)
+cases_on ds got [] = Some got
+cases_on ds got (piece ∷ pieces) =
+    option_and_then (λ case. if nat_le MAX_CASES (length got) then None else cases_on ds (got ++ case ∷ []) pieces) (case_in ds piece)
+
+-- the cases of a select
+abbrev pub cases_in : List Declaration → List ℕ → Option (List Case)
+cases_in ds w = if bytes_eq w no_cases then Some [] else cases_on ds [] (pieces_of w)
+
+-- why a run failed
+abbrev pub spelled_failure_in : List Declaration → SpelledFailure → Option Cause
+spelled_failure_in ds failure = if is_name failure.1 then option_and_then (cause_by failure.0) (find_name ds failure.1) else None
+
+abbrev pub failure_in : List Declaration → List ℕ → Option Cause
+failure_in ds w = if bytes_eq w close_nil then Some Cause.CloseNil else option_and_then (spelled_failure_in ds) (failure_spelled w)
+
 -- what a word says as a part of this kind
 abbrev pub part_in : List Declaration → PartKind → List ℕ → Option Part
 part_in ds (PartKind.Object kind) w = option_and_then (object_as kind) (find_name ds w)
 part_in ds PartKind.Value w = option_map Part.Value (number (2 ^ 64 - 1) w)
+part_in ds PartKind.Cases w = option_map Part.Cases (cases_in ds w)
+part_in ds PartKind.Cause w = option_map Part.Cause (failure_in ds w)
 
 -- a part that was read, and the words behind it
 abbrev pub ReadPart : Type 0

@@ -5,7 +5,11 @@ use Rattle.std.specs.Fmt.{decimal}
 use Rattle.std.specs.Option.{option_map}
 use Rattle.race_records.specs.declared.event.Event.{Event}
 use Rattle.race_records.specs.declared.event.Op.{Op}
-use Rattle.race_records.specs.declared.event.Op.TheVariants.{Go, Exit, Read, Write, Send, Recv, Meet, RecvClosed, Close}
+use Rattle.race_records.specs.declared.event.Op.TheVariants.{Go, Exit, Read, Write, Send, Recv, Meet, RecvClosed, Close, Default, Fault}
+use Rattle.race_records.specs.declared.event.Cause.{Cause}
+use Rattle.race_records.specs.declared.event.Cause.TheVariants.{SendClosed, CloseClosed, CloseNil}
+use Rattle.race_records.specs.declared.cases.Case.{Case}
+use Rattle.race_records.specs.declared.cases.Dir.{Dir}
 use Rattle.race_records.specs.declared.kind.Named.{Named}
 use Rattle.race_records.specs.declared.kind.Object.{Object}
 use Rattle.race_records.specs.Declarations.{Declaration, DeclsState, IsWellFormed, name_of}
@@ -49,6 +53,30 @@ var_name ds n = unwrap_or (name_of ds (Named.Var n)) []
 abbrev pub chan_name : List Declaration → ℕ → List ℕ
 chan_name ds n = unwrap_or (name_of ds (Named.Chan n)) []
 
+-- a channel, or nil
+abbrev pub chan_text : List Declaration → Option ℕ → List ℕ
+chan_text ds None = codes "nil"
+chan_text ds (Some c) = chan_name ds c
+
+-- a case of a select: what it would do, and its channel
+abbrev pub dir_text : Dir → List ℕ
+dir_text Dir.Send = codes "send:"
+dir_text Dir.Recv = codes "recv:"
+
+abbrev pub case_text : List Declaration → Case → List ℕ
+case_text ds case = dir_text case.dir ++ chan_text ds case.chan
+
+-- the cases of a select with commas between them, or a hyphen where there is none
+abbrev pub cases_text : List Declaration → List Case → List ℕ
+cases_text ds [] = codes "-"
+cases_text ds (case ∷ cases) = join_with_byte 44 (map (case_text ds) (case ∷ cases))
+
+-- why a run failed
+abbrev pub failure_text : List Declaration → Cause → List ℕ
+failure_text ds (SendClosed c) = codes "send:" ++ chan_name ds c
+failure_text ds (CloseClosed c) = codes "close:" ++ chan_name ds c
+failure_text ds CloseNil = codes "close:nil"
+
 -- the place by which its number is printed
 abbrev pub place_text : List (List ℕ) → ℕ → List ℕ
 place_text places n = unwrap_or (slice_get places n) []
@@ -73,6 +101,8 @@ op_words ds who places (Recv c v) = codes "recv" ∷ who ∷ chan_name ds c ∷ 
 op_words ds who places (Meet r c v) = codes "meet" ∷ who ∷ goroutine_name ds r ∷ chan_name ds c ∷ decimal v ∷ places
 op_words ds who places (RecvClosed c) = codes "recvclosed" ∷ who ∷ chan_name ds c ∷ places
 op_words ds who places (Close c) = codes "close" ∷ who ∷ chan_name ds c ∷ places
+op_words ds who places (Default cases) = codes "default" ∷ who ∷ cases_text ds cases ∷ places
+op_words ds who places (Fault cause) = codes "fault" ∷ who ∷ failure_text ds cause ∷ places
 
 -- the line of an event
 abbrev pub event_line : DeclsState → Event → List ℕ

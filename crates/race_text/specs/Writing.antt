@@ -1,5 +1,5 @@
 -- Pieces of a trace's text.
-use Rattle.std.specs.Prelude.{ℕ, List, [], ◌∷◌, ◌++◌, map, codes, slice_get, unwrap_or, Option, Some, None}
+use Rattle.std.specs.Prelude.{ℕ, zero, suc, List, [], ◌∷◌, ◌++◌, map, codes, slice_get, unwrap_or, Option, Some, None}
 use Rattle.std.specs.Fmt.{decimal}
 use Rattle.std.specs.List.{flat_map}
 use Rattle.race_records.specs.declared.event.Event.{Event}
@@ -7,7 +7,7 @@ use Rattle.race_records.specs.declared.nouns.Noun.{Noun}
 use Rattle.race_records.specs.declared.parts.Part.{Part}
 use Rattle.race_records.specs.declared.parts.Verb.{Verb}
 use Rattle.race_records.specs.Declarations.{Declaration, DeclsState, name_of}
-use Rattle.race_text.specs.Text.{ended, declaration_line, event_line}
+use Rattle.race_text.specs.Text.{ended, cases_text, failure_text, declaration_line, event_line}
 
 -- the texts of declarations and of events
 abbrev pub declarations_text : List Declaration → List ℕ
@@ -59,11 +59,20 @@ verb_text Verb.Recv = codes "recv"
 verb_text Verb.Meet = codes "meet"
 verb_text Verb.RecvClosed = codes "recvclosed"
 verb_text Verb.Close = codes "close"
+verb_text Verb.Default = codes "default"
+verb_text Verb.Fault = codes "fault"
 
 -- what is printed of a part
 abbrev pub part_text : List Declaration → Part → List ℕ
 part_text ds (Part.Object named) = unwrap_or (name_of ds named) []
 part_text ds (Part.Value v) = decimal v
+part_text ds (Part.Cases cases) = cases_text ds cases
+part_text ds (Part.Cause cause) = failure_text ds cause
+
+-- what stands before case k: a space, or a comma
+abbrev pub separator : ℕ → ℕ
+separator zero = 32
+separator (suc k) = 44
 
 -- the words that an operation says, before those of its places
 abbrev pub said_words : List Declaration → List ℕ → List (List ℕ) → Verb → List Part → List (List ℕ)

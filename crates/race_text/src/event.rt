@@ -1,5 +1,5 @@
 //! Lines that are events.
-ghost use Rattle.std.specs.Prelude.{◌≡◌, ◌-◌, ◌≤◌, ◌^◌, [], length, true};
+ghost use Rattle.std.specs.Prelude.{◌≡◌, ◌-◌, ◌≤◌, ◌<◌, ◌^◌, [], length, true, IfSome};
 ghost use Rattle.std.specs.List.{list_all};
 ghost use Rattle.std.specs.Option.{option_map};
 ghost use Rattle.race_records.specs.Name.{is_place_byte};
@@ -7,12 +7,14 @@ ghost use Rattle.race_records.specs.Declarations.{IsWellFormed, find_name};
 ghost use Rattle.race_text.specs.Words.{parts_left, words_of};
 ghost use Rattle.race_text.specs.Reading as spec;
 
-use crate::cut::cut_word;
-use crate::fields::as_text;
+use crate::cut::{cut_at, cut_word};
+use crate::fields::{as_text, look_up};
 use crate::form::{Word, word_named};
 use crate::number::read_number;
+use crate::select::{case_spelled, cause_by, failure_spelled};
 use race_records::{
-    Decls, Kind, MAX_PLACE_LEN, Named, Op, Part, PartKind, Parts, Verb, op_by, part_kinds,
+    Case, Cases, Cause, Decls, Kind, MAX_PLACE_LEN, Named, Op, Part, PartKind, Parts, Verb,
+    is_name, op_by, part_kinds,
 };
 use std::alloc::Allocator;
 
@@ -125,7 +127,8 @@ fn next_part<'a, A: Allocator>(
 }
 
 fn part_in<A: Allocator>(decls: &Decls<A>, kind: PartKind, word: &[u8]) -> Option<Part>
-    requires { list_all is_place_byte word.now ≡ true }
+    requires decls { IsWellFormed decls.now }
+    requires seen { list_all is_place_byte word.now ≡ true }
     ensures { result ≡ spec.part_in decls.now.declarations kind word.now }
 {
     match kind {
@@ -143,7 +146,78 @@ fn part_in<A: Allocator>(decls: &Decls<A>, kind: PartKind, word: &[u8]) -> Optio
             None => None,
             Some(value) => Some(Part::Value(value)),
         },
+        PartKind::Cases => match cases_in(decls, word) {
+            None => None,
+            Some(cases) => Some(Part::Cases(cases)),
+        },
+        PartKind::Cause => match failure_in(decls, word) {
+            None => None,
+            Some(cause) => Some(Part::Cause(cause)),
+        },
     }
+}
+
+// The cases of a select.
+fn cases_in<A: Allocator>(decls: &Decls<A>, word: &[u8]) -> Option<Cases>
+    requires { IsWellFormed decls.now }
+    ensures { result ≡ spec.cases_in decls.now.declarations word.now }
+{
+    let mut cases = Cases::new();
+    if word == b"-".as_slice() {
+        return Some(cases);
+    }
+    let mut left = Some(word);
+    while let Some(bytes) = left {
+        let (piece, others) = cut_at(bytes, b',');
+        let case = case_in(decls, piece)?;
+        if cases.push(case).is_err() {
+            return None;
+        }
+        left = others;
+    }
+    Some(cases)
+}
+
+// One case of a select, whose channel has a number that a case can have.
+fn case_in<A: Allocator>(decls: &Decls<A>, piece: &[u8]) -> Option<Case>
+    requires { IsWellFormed decls.now }
+    ensures case { result ≡ spec.case_in decls.now.declarations piece.now }
+    ensures low { IfSome result (λ case. IfSome case.chan (λ c. c < 65_535)) }
+{
+    let (dir, word) = case_spelled(piece)?;
+    let chan = chan_in(decls, word)?;
+    Some(Case { dir, chan })
+}
+
+fn chan_in<A: Allocator>(decls: &Decls<A>, word: &[u8]) -> Option<Option<u32>>
+    requires { IsWellFormed decls.now }
+    ensures chan { result ≡ spec.chan_in decls.now.declarations word.now }
+    ensures low { IfSome result (λ chan. IfSome chan (λ c. c < 65_535)) }
+{
+    if word == b"nil".as_slice() {
+        return Some(None);
+    }
+    if !is_name(word) {
+        return None;
+    }
+    match look_up(decls, word)? {
+        Named::Chan(c) => Some(Some(c)),
+        _ => None,
+    }
+}
+
+// Why a run failed.
+fn failure_in<A: Allocator>(decls: &Decls<A>, word: &[u8]) -> Option<Cause>
+    ensures { result ≡ spec.failure_in decls.now.declarations word.now }
+{
+    if word == b"close:nil".as_slice() {
+        return Some(Cause::CloseNil);
+    }
+    let (attempt, name) = failure_spelled(word)?;
+    if !is_name(name) {
+        return None;
+    }
+    cause_by(attempt, look_up(decls, name)?)
 }
 
 // The words that are left, which are a place, or two.

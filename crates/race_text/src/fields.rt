@@ -1,16 +1,18 @@
 //! The words behind the first, and the least cause that holds of them.
-ghost use Rattle.std.specs.Prelude.{◌≡◌, true, length, IsTrue};
+ghost use Rattle.std.specs.Prelude.{◌≡◌, true, nat_lt, length, None, IsTrue};
 ghost use Rattle.std.specs.List.{list_all};
 ghost use Rattle.race_records.specs.Name as name;
 ghost use Rattle.race_records.specs.Declarations.{find_name};
 ghost use Rattle.race_text.specs.Words.{parts_left};
+ghost use Rattle.race_text.specs.Select.{pieces_of, case_spelled};
 ghost use Rattle.race_text.specs.Fault as spec;
 
 use crate::cause::TextCause;
 use crate::cut::cut_at;
 use crate::form::Field;
 use crate::number::read_number;
-use race_records::{Decls, Kind, Named, PartKind, is_name, is_place};
+use crate::select::{case_spelled, failure_spelled, kind_tried};
+use race_records::{Decls, Kind, MAX_CASES, Named, PartKind, is_name, is_place};
 use std::alloc::Allocator;
 
 // Bytes that can be seen, as text.
@@ -22,7 +24,7 @@ pub(crate) fn as_text(word: &[u8]) -> &str
 }
 
 // What a name stands for.
-fn look_up<A: Allocator>(decls: &Decls<A>, word: &[u8]) -> Option<Named>
+pub(crate) fn look_up<A: Allocator>(decls: &Decls<A>, word: &[u8]) -> Option<Named>
     requires { name.is_name word.now ≡ true }
     ensures { result ≡ find_name decls.now.declarations word.now }
 {
@@ -65,6 +67,79 @@ fn part_cause<A: Allocator>(decls: &Decls<A>, kind: PartKind, word: &[u8]) -> Op
     match kind {
         PartKind::Object(kind) => used_name_cause(decls, kind, word),
         PartKind::Value => number_cause(word, u64::MAX),
+        PartKind::Cases => cases_cause(decls, word),
+        PartKind::Cause => failure_cause(decls, word),
+    }
+}
+
+// The least cause of the word of a select's cases.
+fn cases_cause<A: Allocator>(decls: &Decls<A>, word: &[u8]) -> Option<TextCause>
+    ensures { result ≡ spec.cases_cause decls.now.declarations word.now }
+{
+    if word == b"-".as_slice() {
+        return None;
+    }
+    let many = if has_too_many_pieces(word) {
+        Some(TextCause::TooMany)
+    } else {
+        None
+    };
+    lesser(pieces_cause(decls, word), many)
+}
+
+// The least cause of its pieces.
+fn pieces_cause<A: Allocator>(decls: &Decls<A>, word: &[u8]) -> Option<TextCause>
+    ensures { result ≡ spec.pieces_cause decls.now.declarations None (pieces_of word.now) }
+{
+    let mut least = None;
+    let mut left = Some(word);
+    while let Some(bytes) = left {
+        let (piece, others) = cut_at(bytes, b',');
+        least = lesser(least, case_cause(decls, piece));
+        left = others;
+    }
+    least
+}
+
+// Whether there are more pieces than a select can have cases.
+fn has_too_many_pieces(word: &[u8]) -> bool
+    ensures { result ≡ nat_lt MAX_CASES (length (pieces_of word.now)) }
+{
+    let mut left = Some(word);
+    for _i in 0..MAX_CASES {
+        match left {
+            None => return false,
+            Some(bytes) => left = cut_at(bytes, b',').1,
+        }
+    }
+    left.is_some()
+}
+
+fn case_cause<A: Allocator>(decls: &Decls<A>, piece: &[u8]) -> Option<TextCause>
+    ensures { result ≡ spec.case_cause decls.now.declarations (case_spelled piece.now) }
+{
+    match case_spelled(piece) {
+        None => Some(TextCause::BadName),
+        Some((_, chan)) => {
+            if chan == b"nil".as_slice() {
+                None
+            } else {
+                used_name_cause(decls, Kind::Chan, chan)
+            }
+        }
+    }
+}
+
+// The least cause of the word that says why a run failed.
+fn failure_cause<A: Allocator>(decls: &Decls<A>, word: &[u8]) -> Option<TextCause>
+    ensures { result ≡ spec.failure_cause decls.now.declarations word.now }
+{
+    if word == b"close:nil".as_slice() {
+        return None;
+    }
+    match failure_spelled(word) {
+        None => Some(TextCause::BadName),
+        Some((attempt, name)) => used_name_cause(decls, kind_tried(attempt), name),
     }
 }
 

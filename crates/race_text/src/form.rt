@@ -15,7 +15,7 @@ pub enum Word {
 }
 
 /// The words that a line may begin with.
-pub const WORDS: [(&[u8], Word); 12] = [
+pub const WORDS: [(&[u8], Word); 14] = [
     (b"read", Word::Does(Verb::Read)),
     (b"write", Word::Does(Verb::Write)),
     (b"send", Word::Does(Verb::Send)),
@@ -25,6 +25,8 @@ pub const WORDS: [(&[u8], Word); 12] = [
     (b"exit", Word::Does(Verb::Exit)),
     (b"recvclosed", Word::Does(Verb::RecvClosed)),
     (b"close", Word::Does(Verb::Close)),
+    (b"default", Word::Does(Verb::Default)),
+    (b"fault", Word::Does(Verb::Fault)),
     (b"goroutine", Word::Declares(Noun::Goroutine)),
     (b"var", Word::Declares(Noun::Var)),
     (b"chan", Word::Declares(Noun::Chan)),

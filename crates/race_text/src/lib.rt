@@ -13,6 +13,7 @@ pub mod laws;
 mod number;
 mod parse;
 mod reader;
+mod select;
 mod taking;
 mod words;
 mod writing;
@@ -28,6 +29,8 @@ pub use parse::parse_trace;
 pub use race_records::{WriteFault, is_name, is_place};
 #[doc(hidden)]
 pub use reader::Reader;
+#[doc(hidden)]
+pub use select::Attempt;
 pub use words::{Words, split_words};
 pub use writing::write_trace;
 

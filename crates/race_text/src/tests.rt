@@ -5,7 +5,7 @@ use crate::TextCause::{
 use crate::{
     TextCause, TextFault, parse_trace, read_declaration, read_number, split_words, write_trace,
 };
-use race_records::{Decls, Kind, Op, Sink};
+use race_records::{Case, Cases, Cause, Decls, Dir, Op, Sink, Trace};
 use std::alloc::Allocator;
 use std::io;
 use std::io::Write;
@@ -203,6 +203,90 @@ fn tells_the_causes_of_channels(rt: HostRuntime) -> Result<(), Fail> {
     Ok(())
 }
 
+// Lines of selects and of faults behind `goroutine w`, `var x`, `chan c 0` and `chan d 2`.
+#[test]
+fn tells_the_causes_of_selects(rt: HostRuntime) -> Result<(), Fail> {
+    let lines: [(&[u8], Option<TextCause>); 38] = [
+        (b"default main send:d,recv:nil p", None),
+        (b"default main send:c,send:c p", None),
+        (b"default main recv:nil p", None),
+        (b"default main - p", None),
+        (b"default main  p", Some(BadName)),
+        (b"default main p", Some(WrongCount)),
+        (b"default main send:c recv:d p", Some(WrongCount)),
+        (b"default main -- p", Some(BadName)),
+        (b"default main -,send:c p", Some(BadName)),
+        (b"default main send p", Some(BadName)),
+        (b"default main send: p", Some(BadName)),
+        (b"default main send:c, p", Some(BadName)),
+        (b"default main ,send:c p", Some(BadName)),
+        (b"default main send:c,,send:c p", Some(BadName)),
+        (b"default main Send:c p", Some(BadName)),
+        (b"default main close:c p", Some(BadName)),
+        (b"default main send:c:d p", Some(BadName)),
+        (b"default main send:q,send:c, p", Some(BadName)),
+        (b"default main send:q ", Some(BadName)),
+        (b"default main send:x p", Some(WrongKind)),
+        (b"default main recv:main p", Some(WrongKind)),
+        (b"default main send:x,recv:q p", Some(Unknown)),
+        (b"default q send:x p", Some(Unknown)),
+        (b"fault main send:c p", None),
+        (b"fault main close:d p", None),
+        (b"fault main close:nil p", None),
+        (b"fault main send:nil p", Some(BadName)),
+        (b"fault main close: p", Some(BadName)),
+        (b"fault main close p", Some(BadName)),
+        (b"fault main nil p", Some(BadName)),
+        (b"fault main recv:c p", Some(BadName)),
+        (b"fault main send:c,close:d p", Some(BadName)),
+        (b"fault main unlock:m p", Some(BadName)),
+        (b"fault main runlock:c p", Some(BadName)),
+        (b"fault main send:q p", Some(Unknown)),
+        (b"fault main close:x p", Some(WrongKind)),
+        (b"fault main close:w p", Some(WrongKind)),
+        (b"fault main close:nil p q", Some(WrongCount)),
+    ];
+    for (line, cause) in lines {
+        let before = b"gotrace 1\ngoroutine w\nvar x\nchan c 0\nchan d 2\n";
+        let fault = fault_behind(rt.alloc(), before, line)?;
+        assert_eq!(rt;
+            fault,
+            cause.map(|cause| TextFault { line: 6, cause }),
+            "in {line:?}"
+        );
+    }
+    Ok(())
+}
+
+// So many cases: 16 are fine, and 17 are told only where no cause before holds.
+#[test]
+fn holds_the_limit_on_cases(rt: HostRuntime) -> Result<(), Fail> {
+    let ends: [(u32, &[u8], Option<TextCause>); 7] = [
+        (16, b"c p", None),
+        (17, b"c p", Some(TooMany)),
+        (17, b"nil p", Some(TooMany)),
+        (17, b"q p", Some(Unknown)),
+        (17, b"x p", Some(WrongKind)),
+        (17, b"c ", Some(BadName)),
+        (30, b" p", Some(BadName)),
+    ];
+    for (count, end, cause) in ends {
+        let mut line = Vec::new(rt.alloc());
+        line.extend_from_slice(b"default main send:")?;
+        for _i in 1..count {
+            line.extend_from_slice(b"nil,recv:")?;
+        }
+        line.extend_from_slice(end)?;
+        let fault = fault_behind(rt.alloc(), b"gotrace 1\nvar x\nchan c 0\n", line.as_slice())?;
+        assert_eq!(rt;
+            fault,
+            cause.map(|cause| TextFault { line: 4, cause }),
+            "at {end:?}"
+        );
+    }
+    Ok(())
+}
+
 // 1,023 goroutines and one more. Where the last line is malformed, taken or late besides, `too many` is
 // told only where no cause before it holds.
 #[test]
@@ -245,26 +329,19 @@ fn holds_the_limit_on_goroutines(rt: HostRuntime) -> Result<(), Fail> {
 // 65,535 channels and one more. A capacity over its limit is told first.
 #[test]
 fn holds_the_limit_on_channels(rt: HostRuntime) -> Result<(), Fail> {
-    let mut many = String::from_str(rt.alloc(), "gotrace 1\n")?;
+    let mut decls = Decls::new(rt.alloc());
     for n in 0..65_535u32 {
-        many.push_str(format!(in rt.alloc(); "chan c{n} 0\n")?.as_str())?;
+        decls.add_chan(format!(in rt.alloc(); "c{n}")?.as_str(), 0)?;
     }
-    let lasts: [(&[u8], Option<TextCause>); 4] = [
-        (b"var x", None),
-        (b"chan c 0", Some(TooMany)),
-        (b"chan c 65536", Some(BadNumber)),
-        (b"chan c7 65536", Some(Taken)),
+    let lines: [(&[u8], Result<bool, TextCause>); 4] = [
+        (b"chan c 0", Err(TooMany)),
+        (b"chan c 65536", Err(BadNumber)),
+        (b"chan c7 65536", Err(Taken)),
+        (b"var x", Ok(true)),
     ];
-    for (last, cause) in lasts {
-        let fault = fault_behind(rt.alloc(), many.as_bytes(), last)?;
-        assert_eq!(rt;
-            fault,
-            cause.map(|cause| TextFault {
-                line: 65_537,
-                cause
-            }),
-            "at {last:?}"
-        );
+    for (line, answer) in lines {
+        let told = read_declaration(&mut decls, line);
+        assert!(rt; told == answer, "at {line:?}");
     }
     Ok(())
 }
@@ -305,46 +382,99 @@ fn reads_a_trace(rt: HostRuntime) -> Result<(), Fail> {
     Ok(())
 }
 
-// Each word of channels, with its places and the second one, and the same text again.
+// The second place of event `i`, or an empty text.
+fn second_place<A: Allocator>(trace: &Trace<A>, i: usize) -> &str {
+    if i >= trace.len() {
+        return "";
+    }
+    match trace.event(i).place2 {
+        Some(place) => {
+            if place < trace.decls().place_count() {
+                trace.place_text(place)
+            } else {
+                ""
+            }
+        }
+        None => "",
+    }
+}
+
+// Whether the text of the trace that the bytes are is those bytes.
+fn is_written_again<A: Allocator + Copy>(alloc: A, text: &[u8]) -> Result<bool, Fail> {
+    let trace = parse_trace(alloc, text)?;
+    let mut written = Vec::new(alloc);
+    let mut sink = Sink::new(&mut written);
+    if write_trace(&trace, &mut sink).is_err() {
+        return Ok(false);
+    }
+    Ok(written.as_slice() == text)
+}
+
+// Each word of channels, with its places and the second one.
 #[test]
 fn reads_channels(rt: HostRuntime) -> Result<(), Fail> {
     let text =
         b"gotrace 1\ngoroutine w\nchan c 65535\nchan u 0\ngo main w a\nsend main c 7 b\nrecv w c 7 c\nmeet w main u 8 c d\nmeet main w u 9 e e\nclose main u a\nrecvclosed w u f\n";
     let trace = parse_trace(rt.alloc(), text)?;
-    let decls = trace.decls();
-    assert_eq!(rt; decls.count(Kind::Chan), 2);
-    for (chan, capacity) in [(0u32, 65535), (1, 0)] {
-        assert!(rt; chan < decls.count(Kind::Chan), "{chan}");
-        assert_eq!(rt; decls.capacity(chan), capacity, "{chan}");
-    }
-    let events = [
-        (0, Op::Go(1), "a", None),
-        (0, Op::Send(0, 7), "b", None),
-        (1, Op::Recv(0, 7), "c", None),
-        (1, Op::Meet(0, 1, 8), "c", Some("d")),
-        (0, Op::Meet(1, 1, 9), "e", Some("e")),
-        (0, Op::Close(1), "a", None),
-        (1, Op::RecvClosed(1), "f", None),
+    let ops = [
+        Op::Go(1),
+        Op::Send(0, 7),
+        Op::Recv(0, 7),
+        Op::Meet(0, 1, 8),
+        Op::Meet(1, 1, 9),
+        Op::Close(1),
+        Op::RecvClosed(1),
     ];
-    assert_eq!(rt; trace.len(), events.len());
+    let seen = [
+        (0, "a", ""),
+        (0, "b", ""),
+        (1, "c", ""),
+        (1, "c", "d"),
+        (0, "e", "e"),
+        (0, "a", ""),
+        (1, "f", ""),
+    ];
+    assert_eq!(rt; trace.len(), 7);
     assert_eq!(rt; trace.decls().place_count(), 6);
-    for (i, (who, op, place, place2)) in events.iter().enumerate() {
+    for (i, op) in ops.iter().enumerate() {
         let event = &trace.events()[i];
-        assert_eq!(rt; event.who, *who, "at {i}");
         assert!(rt; event.op == *op, "at {i}");
+        assert_eq!(rt; event.who, seen[i].0, "at {i}");
         assert!(rt; event.place < trace.decls().place_count(), "at {i}");
-        assert_eq!(rt; trace.place_text(event.place), *place, "at {i}");
-        let mut second = None;
-        if let Some(number) = event.place2 {
-            assert!(rt; number < trace.decls().place_count(), "at {i}");
-            second = Some(trace.place_text(number));
-        }
-        assert_eq!(rt; second, *place2, "at {i}");
+        assert_eq!(rt; trace.place_text(event.place), seen[i].1, "at {i}");
+        assert_eq!(rt; second_place(&trace, i), seen[i].2, "at {i}");
     }
-    let mut written = Vec::new(rt.alloc());
-    let mut sink = Sink::new(&mut written);
-    assert!(rt; write_trace(&trace, &mut sink).is_ok());
-    assert_eq!(rt; written.as_slice(), text.as_slice());
+    let same = is_written_again(rt.alloc(), text)?;
+    assert!(rt; same);
+    Ok(())
+}
+
+#[test]
+fn reads_selects_and_faults(rt: HostRuntime) -> Result<(), Fail> {
+    let text =
+        b"gotrace 1\nchan c 0\nchan d 2\ndefault main send:d,recv:nil,recv:c p\ndefault main - p\nfault main close:d p\nfault main close:nil p\nfault main send:c p\n";
+    let trace = parse_trace(rt.alloc(), text)?;
+    let mut cases = Cases::new();
+    for (dir, chan) in [
+        (Dir::Send, Some(1)),
+        (Dir::Recv, None),
+        (Dir::Recv, Some(0)),
+    ] {
+        assert!(rt; cases.push(Case { dir, chan }).is_ok());
+    }
+    let ops = [
+        Op::Default(cases),
+        Op::Default(Cases::new()),
+        Op::Fault(Cause::CloseClosed(1)),
+        Op::Fault(Cause::CloseNil),
+        Op::Fault(Cause::SendClosed(0)),
+    ];
+    assert_eq!(rt; trace.len(), 5);
+    for (i, op) in ops.iter().enumerate() {
+        assert!(rt; trace.events()[i].op == *op, "at {i}");
+    }
+    let same = is_written_again(rt.alloc(), text)?;
+    assert!(rt; same);
     Ok(())
 }
 

@@ -7,13 +7,15 @@ ghost use Rattle.race_records.specs.Page.{Printing};
 ghost use Rattle.race_text.specs.Text as text;
 ghost use Rattle.race_text.specs.Writing as spec;
 ghost use Rattle.race_text.specs.Writing.{body, declarations_text, declaration_text, events_text};
-ghost use Rattle.race_records.specs.Parts.{part_fits};
+ghost use Rattle.race_records.specs.Parts.{part_fits, chan_is_in_range};
+ghost use Rattle.race_records.specs.Declarations.{count_of};
 ghost use Rattle.std.specs.List.{list_all};
 ghost use Rattle.std.specs.Option.{option_map};
 
 use itoa::Buffer;
 use race_records::{
-    Decls, Event, Named, Noun, Page, Part, Sink, Trace, Verb, WriteFault, object_says, says,
+    Case, Cases, Cause, Decls, Dir, Event, Kind, Named, Noun, Page, Part, Sink, Trace, Verb,
+    WriteFault, chan_of_cause, object_says, says,
 };
 use std::alloc::Allocator;
 use std::io::Write;
@@ -213,6 +215,8 @@ fn verb_text(verb: Verb) -> &'static str
         Verb::Meet => "meet",
         Verb::RecvClosed => "recvclosed",
         Verb::Close => "close",
+        Verb::Default => "default",
+        Verb::Fault => "fault",
     }
 }
 
@@ -262,7 +266,7 @@ fn print_parts<W: Write, A: Allocator>(
         (spec.parts_text decls.now.declarations parts.now) }
 {
     for part in parts {
-        if let Err(fault) = print_part(page, sink, decls, *part) {
+        if let Err(fault) = print_part(page, sink, decls, part) {
             return Err(fault);
         }
     }
@@ -273,23 +277,107 @@ fn print_part<W: Write, A: Allocator>(
     page: &mut Page,
     sink: &mut Sink<W>,
     decls: &Decls<A>,
-    part: Part,
+    part: &Part,
 ) -> Result<(), WriteFault>
-    requires { part_fits decls.now.declarations part ≡ true }
+    requires { part_fits decls.now.declarations part.now ≡ true }
     ensures { Printing W.contents result sink.old sink.new page.old page.new
-        (spec.behind_space decls.now.declarations part) }
+        (spec.behind_space decls.now.declarations part.now) }
 {
     match part {
         Part::Object(named) => {
-            let parts = [b" ".as_slice(), decls.name(named).as_bytes()];
+            let parts = [b" ".as_slice(), decls.name(*named).as_bytes()];
             page.put_all(sink, &parts)
         }
         Part::Value(value) => {
             let mut digits = Buffer::new();
-            let parts = [b" ".as_slice(), digits.format(value).as_bytes()];
+            let parts = [b" ".as_slice(), digits.format(*value).as_bytes()];
             page.put_all(sink, &parts)
         }
+        Part::Cases(cases) => print_cases(page, sink, decls, cases),
+        Part::Cause(cause) => print_failure(page, sink, decls, *cause),
     }
+}
+
+// Prints the cases of a select behind a space.
+fn print_cases<W: Write, A: Allocator>(
+    page: &mut Page,
+    sink: &mut Sink<W>,
+    decls: &Decls<A>,
+    cases: &Cases,
+) -> Result<(), WriteFault>
+    requires { part_fits decls.now.declarations (Part.Cases cases.now) ≡ true }
+    ensures { Printing W.contents result sink.old sink.new page.old page.new
+        (spec.behind_space decls.now.declarations (Part.Cases cases.now)) }
+{
+    if cases.is_empty() {
+        return page.put(sink, b" -");
+    }
+    for k in 0..cases.len() {
+        if let Err(fault) = print_case(page, sink, decls, k, cases.get(k)) {
+            return Err(fault);
+        }
+    }
+    Ok(())
+}
+
+// Prints case k behind a space or a comma.
+fn print_case<W: Write, A: Allocator>(
+    page: &mut Page,
+    sink: &mut Sink<W>,
+    decls: &Decls<A>,
+    k: usize,
+    case: Case,
+) -> Result<(), WriteFault>
+    requires { chan_is_in_range (count_of Kind.Chan decls.now.declarations) case.chan ≡ true }
+    ensures { Printing W.contents result sink.old sink.new page.old page.new
+        (spec.separator k ∷ text.case_text decls.now.declarations case) }
+{
+    let before = if k == 0 { b" " } else { b"," };
+    let dir = match case.dir {
+        Dir::Send => "send:",
+        Dir::Recv => "recv:",
+    };
+    let parts = [
+        before.as_slice(),
+        dir.as_bytes(),
+        chan_text(decls, case.chan).as_bytes(),
+    ];
+    page.put_all(sink, &parts)
+}
+
+// The name of a channel, or nil.
+fn chan_text<A: Allocator>(decls: &Decls<A>, chan: Option<u32>) -> &str
+    requires { chan_is_in_range (count_of Kind.Chan decls.now.declarations) chan ≡ true }
+    ensures { result.now ≡ text.chan_text decls.now.declarations chan }
+{
+    match chan {
+        None => "nil",
+        Some(chan) => decls.name(Named::Chan(chan)),
+    }
+}
+
+// Prints behind a space why the run failed.
+fn print_failure<W: Write, A: Allocator>(
+    page: &mut Page,
+    sink: &mut Sink<W>,
+    decls: &Decls<A>,
+    cause: Cause,
+) -> Result<(), WriteFault>
+    requires { part_fits decls.now.declarations (Part.Cause cause) ≡ true }
+    ensures { Printing W.contents result sink.old sink.new page.old page.new
+        (spec.behind_space decls.now.declarations (Part.Cause cause)) }
+{
+    let tried = match cause {
+        Cause::SendClosed(_) => "send:",
+        Cause::CloseClosed(_) => "close:",
+        Cause::CloseNil => "close:",
+    };
+    let parts = [
+        b" ".as_slice(),
+        tried.as_bytes(),
+        chan_text(decls, chan_of_cause(cause)).as_bytes(),
+    ];
+    page.put_all(sink, &parts)
 }
 
 // Prints the place, and the second one where there is one, and ends the line.

@@ -11,4 +11,4 @@ unreachable-requires g c =
     let trace = c.args.trace in
     let broken = c.requires.illegal.broken in
     let legal = subst (λ (o : Option Illegal). IsJudged (capacities trace) trace.events o) c.in-Ok-None.field-0-is c.in-Ok-None.ensures in
-    none-some c.requires.illegal.rule (sym (legal c.requires.illegal.index broken.0 broken.1) ∙ broken.2.0)
+    none-some c.requires.illegal.rule (sym (legal c.requires.illegal.index broken.0 broken.1) ∙ broken.2)

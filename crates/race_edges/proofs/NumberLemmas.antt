@@ -1,5 +1,5 @@
 -- The numbers of two events tell whether one is a source of the other.
-use Rattle.std.proofs.Common.{◌≡◌, ◌∙◌, ℕ, ◌+◌, ◌<◌, ◌==◌, ◌&&◌, Bool, true, false, List, length, take, slice_get, Some, None, IsTrue, refl, sym, ap, subst, arith, eqb-true}
+use Rattle.std.proofs.Common.{◌≡◌, ◌∙◌, ℕ, ◌+◌, ◌<◌, ◌==◌, ◌&&◌, true, false, List, take, Some, None, IsTrue, sym, ap, arith, eqb-true}
 use Rattle.std.proofs.lemmas.Bool.Decides.{nat_tests}
 use Rattle.std.proofs.lemmas.List.{take-take}
 use Rattle.std.proofs.lemmas.Option.{slice_get_within}
@@ -10,7 +10,7 @@ use Rattle.race_records.specs.declared.event.Op.TheVariants.{Send, Recv, RecvClo
 use Rattle.race_records.specs.declared.kind.Kind.{Kind}
 use Rattle.race_records.specs.Parts.{op_is_in_range}
 use Rattle.race_model.specs.Events.{At, sends, receives, closes, count}
-use Rattle.race_edges.specs.Numbers.{counts, number_at, AreNumbers}
+use Rattle.race_edges.specs.Numbers.{counts, AreNumbers}
 use Rattle.race_model.specs.Synchronized.{is_source}
 use Rattle.race_edges.specs.Synchronized.{source_at}
 use Rattle.race_edges.proofs.SynchronizedLemmas.{source_at_is}

@@ -1,11 +1,11 @@
 -- Which operations can be sources, and between whom an edge inside an event leads.
-use Rattle.std.proofs.Common.{◌≡◌, ◌⊎◌, ◌↔◌, ◌∙◌, ℕ, ◌+◌, ◌==◌, ◌&&◌, ◌||◌, Bool, true, false, List, Some, refl, sym, ap, inl, inr, true≢false, IsTrue, eqb-true, eq-eqb, take, slice_get, None}
+use Rattle.std.proofs.Common.{◌≡◌, ◌⊎◌, ◌∙◌, ℕ, false, List, Some, refl, ap, inl, inr, IsTrue, take, slice_get, None}
 use Rattle.race_records.specs.declared.event.Event.{Event}
 use Rattle.race_records.specs.declared.event.Op.{Op}
 use Rattle.race_records.specs.declared.event.Op.TheVariants.{Go, Send, Recv, Meet, RecvClosed, Close}
-use Rattle.race_model.specs.Events.{At, partner, sends, receives, closes, count}
+use Rattle.race_model.specs.Events.{At, partner, sends, receives, closes}
 use Rattle.race_model.specs.Order.{SynchronizedInside, IsSource}
-use Rattle.race_model.specs.Synchronized.{joins, is_source}
+use Rattle.race_model.specs.Synchronized.{is_source}
 use Rattle.race_edges.specs.Synchronized.{can_be_source, source_at}
 
 -- the test on two events of a list

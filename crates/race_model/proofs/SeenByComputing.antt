@@ -1,13 +1,13 @@
 -- What a goroutine has seen, as a test that computes: on a list that is written out, refl answers.
-use Rattle.std.proofs.Common.{◌≡◌, ◌⊎◌, ℕ, zero, suc, ◌+◌, ◌<◌, ◌≤◌, ◌==◌, ◌||◌, ◌&&◌, Bool, false, List, [], ◌∷◌, ◌++◌, Option, Some, None, take, length, slice_get, refl, sym, ap, ◌∙◌, subst, inl, inr, arith, take-take}
+use Rattle.std.proofs.Common.{◌≡◌, ◌⊎◌, ℕ, zero, suc, ◌<◌, ◌≤◌, ◌==◌, ◌||◌, ◌&&◌, Bool, false, List, [], ◌∷◌, ◌++◌, Option, Some, None, take, length, slice_get, refl, sym, ◌∙◌, subst, inl, inr, arith, take-take}
 use Rattle.std.specs.Bool.{Decides}
 use Rattle.std.proofs.lemmas.Bool.Decides.{Decides-eqb, Decides-and, Decides-or, Decides-like, Decides-below_or}
 use Rattle.std.proofs.lemmas.Option.{slice_get_within}
 use Rattle.std.proofs.lemmas.List.{take_all, length-take-le}
 use Rattle.race_records.specs.declared.event.Event.{Event}
 use Rattle.race_records.specs.declared.event.Op.{Op}
-use Rattle.race_records.specs.declared.event.Op.TheVariants.{Go, Send, Recv, Meet, RecvClosed}
-use Rattle.race_model.specs.Events.{At, takes_part, sends, receives, closes, count}
+use Rattle.race_records.specs.declared.event.Op.TheVariants.{Go, Meet}
+use Rattle.race_model.specs.Events.{At, takes_part}
 use Rattle.race_model.specs.Order.{SynchronizedInside, IsSource, then_step}
 use Rattle.race_model.specs.Synchronized.{is_source}
 use Rattle.race_model.proofs.SynchronizedTests.{source_is}

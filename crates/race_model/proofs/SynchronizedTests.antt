@@ -3,7 +3,7 @@ use Rattle.std.proofs.Common.{◌≡◌, ◌⊎◌, ◌↔◌, ◌∙◌, ℕ, �
 use Rattle.race_records.specs.declared.event.Event.{Event}
 use Rattle.race_records.specs.declared.event.Op.{Op}
 use Rattle.race_records.specs.declared.event.Op.TheVariants.{Go, Send, Recv, Meet, RecvClosed}
-use Rattle.race_model.specs.Events.{sends, receives, closes, count}
+use Rattle.race_model.specs.Events.{sends, receives, count}
 use Rattle.race_model.specs.Order.{SynchronizedInside, IsSource}
 use Rattle.race_model.specs.Synchronized.{joins, is_source}
 

@@ -1,5 +1,5 @@
 -- Which events fit the declarations, and when a trace takes one.
-use Rattle.std.specs.Prelude.{◌≡◌, ℕ, ◌≤◌, ◌^◌, ◌&&◌, Bool, true, not, if◌then◌else◌, nat_lt, nat_le, List, length, Option, Some, None, IsTrue, All}
+use Rattle.std.specs.Prelude.{◌≡◌, ℕ, ◌≤◌, ◌&&◌, Bool, not, if◌then◌else◌, nat_lt, nat_le, List, length, Option, Some, None, IsTrue, All}
 use Rattle.std.specs.List.{list_all}
 use Rattle.race_records.specs.declared.event.Event.{Event}
 use Rattle.race_records.specs.declared.event.Op.{Op}

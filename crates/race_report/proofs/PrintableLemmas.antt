@@ -1,5 +1,5 @@
 -- Races of a right verdict and edges of a trace have the trace's numbers, so they can be printed.
-use Rattle.std.proofs.Common.{◌≡◌, ℕ, ◌<◌, ◌⊎◌, inl, inr, List, map, Option, Some, IfSome, slice_get, get_or, All, subst, ap, ◌∙◌}
+use Rattle.std.proofs.Common.{◌≡◌, ℕ, ◌<◌, inl, inr, List, map, Option, Some, IfSome, slice_get, get_or, All, subst, ap, ◌∙◌}
 use Rattle.std.proofs.lemmas.Option.{slice_get_within, slice_get-map, slice_get-get_or}
 use Rattle.std.specs.Option.{option_map}
 use Rattle.race_records.specs.declared.event.Event.{Event}

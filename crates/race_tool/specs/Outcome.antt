@@ -11,8 +11,8 @@ use Rattle.race_tool.specs.declared.check.TheConstants.{MAX_SHARDS, MAX_BLOCK}
 use Rattle.race_tool.specs.declared.input.ReadFault.{ReadFault}
 use Rattle.race_tool.specs.declared.status.TheConstants.{DEVICE, REFUSED}
 use Rattle.race_tool.specs.Input.{ReadsAll, ReadsMany}
-use Rattle.race_tool.specs.Finding.{Finding, IsFinding, IsTextWhere, report_of, status_of}
-use Rattle.race_tool.specs.Listing.{Listing, IsListing, listing_text, listing_status}
+use Rattle.race_tool.specs.Finding.{IsFinding, IsTextWhere, report_of, status_of}
+use Rattle.race_tool.specs.Listing.{IsListing, listing_text, listing_status}
 
 -- each option is in its limits
 abbrev pub are_in_limits : CheckOptions → Bool

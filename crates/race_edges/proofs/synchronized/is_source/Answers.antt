@@ -1,11 +1,11 @@
-use Rattle.std.proofs.Common.{◌≡◌, ◌∙◌, ◌<◌, ◌+◌, ◌==◌, IsTrue, sym, ap, subst, refl}
+use Rattle.std.proofs.Common.{◌∙◌, ◌<◌, ◌+◌, ◌==◌, IsTrue, sym, ap, subst}
 use Rattle.race_records.specs.declared.event.Op.{Op}
 use Rattle.race_records.specs.declared.kind.Kind.{Kind}
 use Rattle.race_records.specs.Declarations.{DeclsState, count_of, counts_of, capacity_of}
 use Rattle.race_records.specs.Parts.{op_is_in_range}
 use Rattle.race_legal.proofs.RangeLemmas.{range_from_fits}
 use Rattle.race_edges.specs.Traces.{capacities}
-use Rattle.race_edges.proofs.NumberLemmas.{chan_in_range, told_send, told_receive, no_send, no_receive, told_close, told_none}
+use Rattle.race_edges.proofs.NumberLemmas.{chan_in_range, told_send}
 use Rattle.race_edges.proofs.synchronized.is_source.Goals as goal
 
 pub capacity-requires : goal.capacity-requires

@@ -1,4 +1,4 @@
-use Rattle.std.proofs.Common.{◌≡◌, ◌∙◌, option_map, Some, sym, ap}
+use Rattle.std.proofs.Common.{◌∙◌, option_map, Some, sym, ap}
 use Rattle.std.proofs.lemmas.Option.{slice_get-get_or}
 use Rattle.std.specs.Int.{bit_at}
 use Rattle.race_records.specs.Cases.{case_of}

@@ -1,4 +1,4 @@
-use Rattle.std.proofs.Common.{◌≡◌, ◌≤◌, Ok, ℕ, List, take, length, subst}
+use Rattle.std.proofs.Common.{◌≡◌, Ok, List, take, length, subst}
 use Rattle.std.specs.List.{flat_map}
 use Rattle.std.proofs.lemmas.List.{take_all}
 use Rattle.race_records.specs.Page.{Printing}

@@ -1,4 +1,4 @@
-use Rattle.std.proofs.Common.{◌≡◌, ◌∙◌, Option, sym, subst}
+use Rattle.std.proofs.Common.{◌∙◌, Option, sym, subst}
 use Rattle.std.proofs.lemmas.Option.{none-some}
 use Rattle.race_legal.specs.declared.listing.Illegal.{Illegal}
 use Rattle.race_legal.specs.Judged.{IsJudged}

@@ -1,4 +1,4 @@
-use Rattle.std.proofs.Common.{◌≡◌, ◌<◌, ◌&&◌, ◌∙◌, ℕ, Bool, false, length, sym, ap, arith}
+use Rattle.std.proofs.Common.{◌<◌, ◌&&◌, ◌∙◌, length, sym, ap, arith}
 use Rattle.std.proofs.lemmas.List.Folds.{list_all_at, list_all_more}
 use Rattle.std.proofs.lemmas.Option.{get_or_from_slice_get}
 use Rattle.race_records.specs.declared.kind.Kind.{Kind}

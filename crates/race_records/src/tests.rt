@@ -1,5 +1,6 @@
 use crate::{
-    DeclFault, Decls, Event, Kind, Named, Object, Op, PushFault, Trace, is_name, is_place,
+    Case, Cases, CasesFull, Cause, DeclFault, Decls, Dir, Event, Kind, Named, Object, Op,
+    PushFault, Trace, is_name, is_place,
 };
 use std::alloc::Global;
 use std::mem::size_of;
@@ -49,6 +50,7 @@ fn words_have_forms(rt: HostRuntime) {
 enum Addition {
     Goroutine(&'static str),
     Var(&'static str),
+    Chan(&'static str, u32),
     Place(&'static str),
 }
 
@@ -56,35 +58,77 @@ fn add(decls: &mut Decls, addition: Addition) -> Result<u32, DeclFault> {
     match addition {
         Addition::Goroutine(name) => decls.add_goroutine(name),
         Addition::Var(name) => decls.add_var(name),
+        Addition::Chan(name, capacity) => decls.add_chan(name, capacity),
         Addition::Place(place) => decls.add_place(place),
     }
 }
 
-// How many declarations there are, and how many goroutines, variables and places.
-fn sizes(decls: &Decls) -> (usize, u32, u32, u32) {
+// How many declarations there are, and how many goroutines, variables and places, and how many values
+// fit into the first channel.
+fn sizes(decls: &Decls) -> (usize, u32, u32, u32, Option<u32>) {
+    let room = if decls.count(Kind::Chan) > 0 {
+        Some(decls.capacity(0))
+    } else {
+        None
+    };
     (
         decls.len(),
         decls.count(Kind::Goroutine),
         decls.count(Kind::Var),
         decls.place_count(),
+        room,
     )
 }
 
-static ADDITIONS: [(Addition, Result<u32, DeclFault>, (usize, u32, u32, u32)); 10] = [
-    (Addition::Var("main"), Err(DeclFault::Taken), (0, 1, 0, 0)),
-    (Addition::Goroutine("w"), Ok(1), (1, 2, 0, 0)),
-    (Addition::Var("x"), Ok(0), (2, 2, 1, 0)),
-    (Addition::Var("w"), Err(DeclFault::Taken), (2, 2, 1, 0)),
+static ADDITIONS: [(
+    Addition,
+    Result<u32, DeclFault>,
+    (usize, u32, u32, u32, Option<u32>),
+); 15] = [
+    (
+        Addition::Var("main"),
+        Err(DeclFault::Taken),
+        (0, 1, 0, 0, None),
+    ),
+    // The name is looked at first, then the capacity.
+    (
+        Addition::Chan("nil", 70_000),
+        Err(DeclFault::BadName),
+        (0, 1, 0, 0, None),
+    ),
+    (
+        Addition::Chan("c", 65_536),
+        Err(DeclFault::BadCapacity),
+        (0, 1, 0, 0, None),
+    ),
+    (
+        Addition::Chan("c", 65_535),
+        Ok(0),
+        (1, 1, 0, 0, Some(65_535)),
+    ),
+    (Addition::Goroutine("w"), Ok(1), (2, 2, 0, 0, Some(65_535))),
+    (Addition::Var("x"), Ok(0), (3, 2, 1, 0, Some(65_535))),
+    (
+        Addition::Var("w"),
+        Err(DeclFault::Taken),
+        (3, 2, 1, 0, Some(65_535)),
+    ),
     (
         Addition::Goroutine("nil"),
         Err(DeclFault::BadName),
-        (2, 2, 1, 0),
+        (3, 2, 1, 0, Some(65_535)),
     ),
-    (Addition::Goroutine("v"), Ok(2), (3, 3, 1, 0)),
-    (Addition::Var("y"), Ok(1), (4, 3, 2, 0)),
-    (Addition::Place("a.go:1"), Ok(0), (4, 3, 2, 1)),
-    (Addition::Place("b.go:1"), Ok(1), (4, 3, 2, 2)),
-    (Addition::Place("a.go:1"), Ok(0), (4, 3, 2, 2)),
+    (Addition::Goroutine("v"), Ok(2), (4, 3, 1, 0, Some(65_535))),
+    (Addition::Var("y"), Ok(1), (5, 3, 2, 0, Some(65_535))),
+    (Addition::Chan("d", 0), Ok(1), (6, 3, 2, 0, Some(65_535))),
+    (
+        Addition::Chan("c", 70_000),
+        Err(DeclFault::Taken),
+        (6, 3, 2, 0, Some(65_535)),
+    ),
+    (Addition::Place("a.go:1"), Ok(0), (6, 3, 2, 1, Some(65_535))),
+    (Addition::Place("b.go:1"), Ok(1), (6, 3, 2, 2, Some(65_535))),
+    (Addition::Place("a.go:1"), Ok(0), (6, 3, 2, 2, Some(65_535))),
 ];
 
 #[test]
@@ -264,26 +308,58 @@ fn last(trace: &Trace) -> Option<(usize, &Op)> {
     }
 }
 
-// Events, and why a trace with a variable and a place refuses each.
-fn events() -> [(u32, Op, u32, Option<u32>, Option<PushFault>); 7] {
+// A case of the first channel, or of the second, or of nil.
+fn cases_on(dir: Dir, chan: Option<u32>) -> Cases {
+    let mut cases = Cases::new();
+    if chan.unwrap_or(0) < 65_535 {
+        let _ = cases.push(Case { dir, chan });
+    }
+    cases
+}
+
+// Events, and why a trace with a variable, a channel and a place refuses each.
+fn events() -> [(u32, Op, u32, Option<u32>, Option<PushFault>); 17] {
+    let refused = Some(PushFault::BadNumber);
     [
-        (0, Op::Read(1, 0), 0, None, Some(PushFault::BadNumber)),
+        (0, Op::Read(1, 0), 0, None, refused),
         (0, Op::Read(0, 0), 0, None, None),
-        (0, Op::Write(0, 7), 0, Some(0), Some(PushFault::BadNumber)),
-        (0, Op::Write(0, 7), 1, None, Some(PushFault::BadNumber)),
-        (1, Op::Exit, 0, None, Some(PushFault::BadNumber)),
-        (0, Op::Go(1), 0, None, Some(PushFault::BadNumber)),
-        (0, Op::Exit, 0, None, None),
+        (0, Op::Write(0, 7), 0, Some(0), refused),
+        (0, Op::Write(0, 7), 1, None, refused),
+        (1, Op::Exit, 0, None, refused),
+        (0, Op::Go(1), 0, None, refused),
+        // There is one channel, and a meet alone has two places.
+        (0, Op::Send(0, 7), 0, None, None),
+        (0, Op::Send(0, 7), 0, Some(0), refused),
+        (0, Op::Recv(1, 7), 0, None, refused),
+        (0, Op::Meet(0, 0, 7), 0, Some(0), None),
+        (0, Op::Meet(0, 0, 7), 0, None, refused),
+        (0, Op::Meet(0, 0, 7), 0, Some(1), refused),
+        (0, Op::Meet(1, 0, 7), 0, Some(0), refused),
+        (0, Op::Default(cases_on(Dir::Send, None)), 0, None, None),
+        (
+            0,
+            Op::Default(cases_on(Dir::Recv, Some(1))),
+            0,
+            None,
+            refused,
+        ),
+        (0, Op::Fault(Cause::CloseClosed(1)), 0, None, refused),
+        (0, Op::Fault(Cause::CloseNil), 0, None, None),
     ]
 }
 
 #[test]
 fn takes_events_that_fit(rt: HostRuntime) -> Result<(), Fail> {
-    let mut trace = started(rt.alloc(), &[Addition::Var("x"), Addition::Place("a.go:1")])?;
+    let additions = [
+        Addition::Var("x"),
+        Addition::Chan("c", 0),
+        Addition::Place("a.go:1"),
+    ];
+    let mut trace = started(rt.alloc(), &additions)?;
     for (who, op, place, place2, fault) in events() {
         assert_eq!(rt; push(&mut trace, who, op, place, place2), fault);
     }
-    assert_eq!(rt; last(&trace), Some((2, &Op::Exit)));
+    assert_eq!(rt; last(&trace), Some((5, &Op::Fault(Cause::CloseNil))));
     Ok(())
 }
 
@@ -330,4 +406,49 @@ fn traces_are_equal_by_the_texts_of_their_places(rt: HostRuntime) -> Result<(), 
 #[test]
 fn an_event_is_small(rt: HostRuntime) {
     assert!(rt; size_of::<Event>() <= 80);
+}
+
+// What case number k is: all three forms take turns, and no two cases are the same.
+fn case_at(k: u32) -> Case {
+    let dir = if k % 2 == 0 { Dir::Send } else { Dir::Recv };
+    let chan = if k % 3 == 2 {
+        None
+    } else {
+        Some(65_534 - k % 16)
+    };
+    Case { dir, chan }
+}
+
+fn push_case(cases: &mut Cases, k: u32) -> Result<(), CasesFull> {
+    let case = case_at(k);
+    if case.chan.unwrap_or(0) < 65_535 {
+        cases.push(case)
+    } else {
+        Ok(())
+    }
+}
+
+// Whether the cases are those numbers 0 to `count`.
+fn are_first(cases: &Cases, count: u32) -> bool {
+    cases.len() == count as usize
+        && (0..cases.len()).all(|k| k < cases.len() && cases.get(k) == case_at(k as u32))
+}
+
+#[test]
+fn a_list_of_cases_takes_sixteen(rt: HostRuntime) {
+    let mut cases = Cases::new();
+    for k in 0..18 {
+        let full = k >= 16;
+        let before = cases.copy();
+        let answer = push_case(&mut cases, k);
+        assert_eq!(rt;
+            (
+                answer.is_err(),
+                cases == before,
+                are_first(&cases, (k + 1).min(16))
+            ),
+            (full, full, true),
+            "{k}"
+        );
+    }
 }

@@ -29,5 +29,5 @@ loop-at-preserved g c = record {
 
 pub returns : goal.returns
 returns g c =
-    let all : length c.args.trace.now.events ≤ c.loop-at.at = omega (arith, c.len-at-end.ensures, c.loop-at-test.false) in
+    let all : length c.args.trace.now.events ≤ c.loop-at.at = omega arith in
     subst (IsLegal (capacity_of c.args.trace.now.decls.declarations)) (take_all c.loop-at.at c.args.trace.now.events all) c.loop-at.invariant.stands.legal

@@ -1,4 +1,5 @@
-//! Lines that are events.
+//! Lines that are events. Slices and parts go through memory at a call, so the path of the common
+//! words is one function, and what a select or a fault says is read by others.
 ghost use Rattle.std.specs.Prelude.{◌≡◌, ◌-◌, ◌≤◌, ◌<◌, ◌^◌, [], length, true, IfSome};
 ghost use Rattle.std.specs.List.{list_all};
 ghost use Rattle.std.specs.Option.{option_map};
@@ -105,6 +106,7 @@ fn next_parts<'a, A: Allocator>(
 }
 
 // The part of this kind that the next word says, and what is left behind it.
+#[inline(always)]
 fn next_part<'a, A: Allocator>(
     decls: &Decls<A>,
     kind: PartKind,
@@ -126,6 +128,7 @@ fn next_part<'a, A: Allocator>(
     }
 }
 
+#[inline(always)]
 fn part_in<A: Allocator>(decls: &Decls<A>, kind: PartKind, word: &[u8]) -> Option<Part>
     requires decls { IsWellFormed decls.now }
     requires seen { list_all is_place_byte word.now ≡ true }
@@ -158,6 +161,8 @@ fn part_in<A: Allocator>(decls: &Decls<A>, kind: PartKind, word: &[u8]) -> Optio
 }
 
 // The cases of a select.
+#[cold]
+#[inline(never)]
 fn cases_in<A: Allocator>(decls: &Decls<A>, word: &[u8]) -> Option<Cases>
     requires { IsWellFormed decls.now }
     ensures { result ≡ spec.cases_in decls.now.declarations word.now }
@@ -207,6 +212,8 @@ fn chan_in<A: Allocator>(decls: &Decls<A>, word: &[u8]) -> Option<Option<u32>>
 }
 
 // Why a run failed.
+#[cold]
+#[inline(never)]
 fn failure_in<A: Allocator>(decls: &Decls<A>, word: &[u8]) -> Option<Cause>
     ensures { result ≡ spec.failure_in decls.now.declarations word.now }
 {
@@ -221,6 +228,7 @@ fn failure_in<A: Allocator>(decls: &Decls<A>, word: &[u8]) -> Option<Cause>
 }
 
 // The words that are left, which are a place, or two.
+#[inline(always)]
 fn last_places<'a>(two: bool, rest: Option<&'a [u8]>) -> Option<(&'a [u8], Option<&'a [u8]>)>
     ensures { option_map spec.places_read result ≡ spec.last_places two (parts_left 32 rest.entry) }
 {
@@ -234,6 +242,7 @@ fn last_places<'a>(two: bool, rest: Option<&'a [u8]>) -> Option<(&'a [u8], Optio
 }
 
 // The one word that is left, which is a place.
+#[inline(always)]
 fn last_place<'a>(rest: Option<&'a [u8]>) -> Option<&'a [u8]>
     ensures { option_map (λ place. place.now) result ≡ spec.last_place (parts_left 32 rest.entry) }
 {
@@ -247,6 +256,7 @@ fn last_place<'a>(rest: Option<&'a [u8]>) -> Option<&'a [u8]>
 }
 
 // The next word, which is a place, and what is left behind it.
+#[inline(always)]
 fn first_place<'a>(rest: Option<&'a [u8]>) -> Option<(&'a [u8], Option<&'a [u8]>)>
     ensures { option_map spec.place_so_far result ≡ spec.first_place (parts_left 32 rest.entry) }
 {

@@ -60,6 +60,7 @@ fn append<A: Allocator + Copy>(trace: &mut Trace<A>, draft: Draft<'_>) -> Result
 }
 
 // Adds a place for which there is room. Nothing but want of memory is in its way.
+#[inline(always)]
 fn add_place<A: Allocator + Copy>(trace: &mut Trace<A>, place: &[u8]) -> Result<u32, TextCause>
     requires form { is_place place.now ≡ true }
     requires room { length trace.old.decls.places < MAX_PLACES }

@@ -18,7 +18,7 @@ use Rattle.race_text.specs.declared.form.Word.{Word}
 use Rattle.race_text.specs.Text.{place_words}
 use Rattle.race_text.specs.Form.{place_fields, fields_of, kind_declared}
 use Rattle.race_text.specs.Fault.{or_else, seen_so_far, part_cause, field_cause, fields_cause, room_cause, word_cause}
-use Rattle.race_text.specs.Reading.{Occurrence, Places, occurrence, ReadPart, ReadParts, with_rest, part_in, first_part, parts_on, last_places, goroutine_of, event_of, event_behind}
+use Rattle.race_text.specs.Reading.{Occurrence, Places, occurrence, ReadPart, ReadParts, with_rest, part_in, first_part, parts_on, last_places, goroutine_of, ReadOp, op_before, event_of, event_behind}
 use Rattle.race_text.proofs.CauseLemmas.{and_then_some, map_some, cause_on}
 use Rattle.race_text.proofs.PartWords.{first_part_is, read_suits, IsPart, is_part, AreParts, are_read, words_count, words_fine, part_is_there, are_there}
 use Rattle.race_text.proofs.PlaceWords.{ArePlaces, places_read, are_places, places_count, places_fine, places_are_there}
@@ -33,6 +33,27 @@ goroutine_is_there _ h = absurd (true≢false (sym h))
 
 abbrev pub a_goroutine : PartKind
 a_goroutine = PartKind.Object Kind.Goroutine
+
+-- an event by its parts, then its operation, then its places
+event_by_parts : (ds : List Declaration) (verb : Verb) (who : ℕ) (words : List (List ℕ))
+    → event_of ds verb who words
+    ≡ option_and_then (λ (parts : ReadParts). option_and_then (λ (op : Op). option_map (occurrence who op) (last_places (has_two_places verb) parts.1)) (op_by verb parts.0))
+    (parts_on ds [] (part_kinds verb) words)
+event_by_parts ds verb who words = by (parts_on ds [] (part_kinds verb) words)
+  where
+    behind_op : List (List ℕ) → Op → Option Occurrence
+    behind_op rest op = option_map (occurrence who op) (last_places (has_two_places verb) rest)
+
+    inner : (rest : List (List ℕ)) (made : Option Op)
+        → option_and_then (λ (read : ReadOp). behind_op read.1 read.0) (option_map (op_before rest) made) ≡ option_and_then (behind_op rest) made
+    inner rest None = refl
+    inner rest (Some op) = refl
+
+    by : (read : Option ReadParts)
+        → option_and_then (λ (read : ReadOp). behind_op read.1 read.0) (option_and_then (λ (parts : ReadParts). option_map (op_before parts.1) (op_by verb parts.0)) read)
+        ≡ option_and_then (λ (parts : ReadParts). option_and_then (behind_op parts.1) (op_by verb parts.0)) read
+    by None = refl
+    by (Some parts) = inner parts.1 (op_by verb parts.0)
 
 -- what is said of an event of this word
 module _ (decls : DeclsState) (holds : IsWellFormed decls) (verb : Verb) (words : List (List ℕ)) (o : Occurrence) where
@@ -53,7 +74,8 @@ module _ (decls : DeclsState) (holds : IsWellFormed decls) (verb : Verb) (words 
   is_said h =
       let a = and_then_some (λ (first : ReadPart). option_and_then (λ who. event_of ds verb who first.1) (goroutine_of first.0)) (first_part ds a_goroutine words) o h in
       let b = and_then_some (λ who. event_of ds verb who a.0.1) (goroutine_of a.0.0) o a.2 in
-      let c = and_then_some (λ (parts : ReadParts). option_and_then (λ (op : Op). option_map (occurrence b.0 op) (last_places (has_two_places verb) parts.1)) (op_by verb parts.0)) (parts_on ds [] (part_kinds verb) a.0.1) o b.2 in
+      let c = and_then_some (λ (parts : ReadParts). option_and_then (λ (op : Op). option_map (occurrence b.0 op) (last_places (has_two_places verb) parts.1)) (op_by verb parts.0)) (parts_on ds [] (part_kinds verb) a.0.1) o
+      (sym (event_by_parts ds verb b.0 a.0.1) ∙ b.2) in
       let d = and_then_some (λ (op : Op). option_map (occurrence b.0 op) (last_places (has_two_places verb) c.0.1)) (op_by verb c.0.0) o c.2 in
       let e = map_some (occurrence b.0 d.0) (last_places (has_two_places verb) c.0.1) o d.2 in
       let first = first_part_is ds a_goroutine words a.0 a.1 in
@@ -92,6 +114,7 @@ pub said_by : (ds : List Declaration) (verb : Verb) (g : List ℕ) (ws : List (L
     → ArePlaces (has_two_places verb) places → event_behind ds verb (g ∷ ws) ≡ Some (occurrence who op places)
 said_by ds verb g ws who parts op places first read is are =
     ap (λ o. option_and_then (λ (first : ReadPart). option_and_then (λ who. event_of ds verb who first.1) (goroutine_of first.0)) (option_map (with_rest ws) o)) first
+    ∙ event_by_parts ds verb who ws
     ∙ ap (option_and_then (λ (parts : ReadParts). option_and_then (λ (op : Op). option_map (occurrence who op) (last_places (has_two_places verb) parts.1)) (op_by verb parts.0))) read
     ∙ ap (option_and_then (λ (op : Op). option_map (occurrence who op) (last_places (has_two_places verb) (place_words places.0 places.1)))) is
     ∙ ap (option_map (occurrence who op)) (places_read (has_two_places verb) places are)

@@ -159,11 +159,25 @@ abbrev pub last_places : Bool → List (List ℕ) → Option Places
 last_places false words = option_map alone (last_place words)
 last_places true words = option_and_then (λ first. option_map (before_second first.0) (last_place first.1)) (first_place words)
 
+-- an operation, and the words behind it
+abbrev pub ReadOp : Type 0
+ReadOp = Op × List (List ℕ)
+
+abbrev pub op_so_far : Op × Option (Bor (List ℕ)) → ReadOp
+op_so_far step = (step.0, parts_left 32 step.1)
+
+abbrev pub op_before : List (List ℕ) → Op → ReadOp
+op_before rest op = (op, rest)
+
+-- the operation of the word whose parts are of these kinds, as the first words say it
+abbrev pub op_in : List Declaration → Verb → List PartKind → List (List ℕ) → Option ReadOp
+op_in ds verb kinds words = option_and_then (λ parts. option_map (op_before parts.1) (op_by verb parts.0)) (parts_on ds [] kinds words)
+
 -- what the words behind the goroutine say
 abbrev pub event_of : List Declaration → Verb → ℕ → List (List ℕ) → Option Occurrence
 event_of ds verb who words =
-    option_and_then (λ parts. option_and_then (λ op. option_map (occurrence who op) (last_places (has_two_places verb) parts.1)) (op_by verb parts.0))
-    (parts_on ds [] (part_kinds verb) words)
+    option_and_then (λ read. option_map (occurrence who read.0) (last_places (has_two_places verb) read.1))
+    (op_in ds verb (part_kinds verb) words)
 
 -- what the words behind the word of an operation say
 abbrev pub event_behind : List Declaration → Verb → List (List ℕ) → Option Occurrence

@@ -1,6 +1,6 @@
 //! Lines that are events. Slices and parts go through memory at a call, so the path of the common
 //! words is one function, and what a select or a fault says is read by others.
-ghost use Rattle.std.specs.Prelude.{◌≡◌, ◌-◌, ◌≤◌, ◌<◌, ◌^◌, [], length, true, IfSome};
+ghost use Rattle.std.specs.Prelude.{◌≡◌, ◌-◌, ◌≤◌, ◌<◌, ◌^◌, [], ◌∷◌, length, true, IfSome};
 ghost use Rattle.std.specs.List.{list_all};
 ghost use Rattle.std.specs.Option.{option_map};
 ghost use Rattle.race_records.specs.Name.{is_place_byte};
@@ -62,8 +62,7 @@ fn read_behind<'a, A: Allocator>(
 {
     let (first, rest) = next_part(decls, PartKind::Object(Kind::Goroutine), rest)?;
     let who = goroutine_of(first)?;
-    let (parts, rest) = next_parts(decls, part_kinds(verb), rest)?;
-    let op = op_by(verb, parts.as_slice())?;
+    let (op, rest) = next_op(decls, verb, part_kinds(verb), rest)?;
     let (place, place2) = last_places(verb.has_two_places(), rest)?;
     Some(Draft {
         who,
@@ -81,6 +80,61 @@ fn goroutine_of(part: Part) -> Option<u32>
         Part::Object(Named::Goroutine(number)) => Some(number),
         _ => None,
     }
+}
+
+// The operation of the word whose parts are of these kinds, and what is left behind it.
+#[inline(always)]
+fn next_op<'a, A: Allocator>(
+    decls: &Decls<A>,
+    verb: Verb,
+    kinds: &[PartKind],
+    rest: Option<&'a [u8]>,
+) -> Option<(Op, Option<&'a [u8]>)>
+    requires decls { IsWellFormed decls.now }
+    requires few { length kinds.now ≤ 3 }
+    ensures { option_map spec.op_so_far result ≡ spec.op_in decls.now.declarations verb kinds.now
+        (parts_left 32 rest.entry) }
+{
+    match kinds {
+        [PartKind::Object(kind), PartKind::Value] => valued_op(decls, verb, *kind, rest),
+        _ => other_op(decls, verb, kinds, rest),
+    }
+}
+
+// An operation on an object and with a value, as most are: with no list of its parts in memory.
+#[inline(always)]
+fn valued_op<'a, A: Allocator>(
+    decls: &Decls<A>,
+    verb: Verb,
+    kind: Kind,
+    rest: Option<&'a [u8]>,
+) -> Option<(Op, Option<&'a [u8]>)>
+    requires { IsWellFormed decls.now }
+    ensures { option_map spec.op_so_far result ≡ spec.op_in decls.now.declarations verb
+        (PartKind.Object kind ∷ PartKind.Value ∷ []) (parts_left 32 rest.entry) }
+{
+    let (object, rest) = next_part(decls, PartKind::Object(kind), rest)?;
+    let (value, rest) = next_part(decls, PartKind::Value, rest)?;
+    let op = op_by(verb, [object, value].as_slice())?;
+    Some((op, rest))
+}
+
+// Any operation.
+#[inline(never)]
+fn other_op<'a, A: Allocator>(
+    decls: &Decls<A>,
+    verb: Verb,
+    kinds: &[PartKind],
+    rest: Option<&'a [u8]>,
+) -> Option<(Op, Option<&'a [u8]>)>
+    requires decls { IsWellFormed decls.now }
+    requires few { length kinds.now ≤ 3 }
+    ensures { option_map spec.op_so_far result ≡ spec.op_in decls.now.declarations verb kinds.now
+        (parts_left 32 rest.entry) }
+{
+    let (parts, rest) = next_parts(decls, kinds, rest)?;
+    let op = op_by(verb, parts.as_slice())?;
+    Some((op, rest))
 }
 
 // A part for each of the kinds, and what is left behind them.

@@ -35,7 +35,8 @@ module _ (trace : TraceState) (is_trace : IsTrace trace) where
       }
 
 -- what holds of each race in the model's list holds of each race in the code's
-all_races : (P : model.Race → Type 0) (races : List tool.Race) → ((k : ℕ) (r : model.Race) → slice_get (map race_of races) k ≡ Some r → P r) → All (λ (r : tool.Race). P (race_of r)) races
+all_races : (P : model.Race → Type 0) (races : List tool.Race) → ((k : ℕ) (r : model.Race) → slice_get (map race_of races) k ≡ Some r → P r)
+    → All (λ (r : tool.Race). P (race_of r)) races
 all_races P races each =
     λ i d within. each i (race_of (get_or races i d)) (slice_get-map race_of races i ∙ ap (option_map race_of) (slice_get-get_or races i d within))
 
@@ -50,7 +51,8 @@ module _ (trace : TraceState) (is_trace : IsTrace trace) where
   who_in_range : (i : ℕ) (e : Event) → slice_get trace.events i ≡ Some e → e.who < count_of Kind.Goroutine trace.decls.declarations
   who_in_range i e at = (range_in_trace trace i e is_trace at).0
 
-  partner_is_in_range : (i : ℕ) (e : Event) (g : ℕ) → slice_get trace.events i ≡ Some e → partner e.op ≡ Some g → g < count_of Kind.Goroutine trace.decls.declarations
+  partner_is_in_range : (i : ℕ) (e : Event) (g : ℕ) → slice_get trace.events i ≡ Some e → partner e.op ≡ Some g
+      → g < count_of Kind.Goroutine trace.decls.declarations
   partner_is_in_range i e g at is =
       subst (λ (o : Option ℕ). IfSome o (λ n. n < count_of Kind.Goroutine trace.decls.declarations)) is (partner_in_range (counts_of trace.decls.declarations) e.op (range_in_trace trace i e is_trace at).1)
 

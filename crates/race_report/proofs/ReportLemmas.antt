@@ -17,7 +17,8 @@ abbrev pub AreWordsOf : TraceState → ℕ → List ℕ → List ℕ → List �
 AreWordsOf trace index what who place =
     IfSome (slice_get trace.events index) (λ (e : Event). (what ≡ access_word e.op) × (who ≡ goroutine_name trace.decls.declarations e.who) × (place ≡ place_text trace.decls.places e.place))
 
-access_text_is : (trace : TraceState) (index : ℕ) (what who place number : List ℕ) → index < length trace.events → AreWordsOf trace index what who place → number ≡ decimal (index + 1)
+access_text_is : (trace : TraceState) (index : ℕ) (what who place number : List ℕ) → index < length trace.events → AreWordsOf trace index what who place
+    → number ≡ decimal (index + 1)
     → access_text trace index ≡ what ∷ codes " by " ∷ who ∷ codes " at " ∷ place ∷ codes " (event " ∷ number ∷ codes ")" ∷ []
 unfolding access_text
 access_text_is trace index what who place number within words numbered = by (slice_get trace.events index) (slice_get-within trace.events index within) words
@@ -29,7 +30,8 @@ access_text_is trace index what who place number within words numbered = by (sli
     by None (x, e) w = cc
     by (Some e) x w = λ i. sym w.0 i ∷ codes " by " ∷ sym w.1 i ∷ codes " at " ∷ sym w.2 i ∷ codes " (event " ∷ sym numbered i ∷ codes ")" ∷ []
 
-pub race_line_is : (trace : TraceState) (race : Race) (var what who place number what2 who2 place2 number2 : List ℕ) → var ≡ var_name trace.decls.declarations race.var
+pub race_line_is : (trace : TraceState) (race : Race) (var what who place number what2 who2 place2 number2 : List ℕ)
+    → var ≡ var_name trace.decls.declarations race.var
     → race.first < length trace.events → AreWordsOf trace race.first what who place → number ≡ decimal (race.first + 1)
     → race.second < length trace.events → AreWordsOf trace race.second what2 who2 place2 → number2 ≡ decimal (race.second + 1)
     → race_line trace race ≡ codes "race on " ++ (var ++ (codes ": " ++ (what ++ (codes " by " ++ (who ++ (codes " at " ++ (place ++ (codes " (event " ++ (number
@@ -39,7 +41,8 @@ race_line_is trace race var what who place number what2 who2 place2 number2 name
     λ i. concat (codes "race on " ∷ sym named i ∷ codes ": " ∷ (access_text_is trace race.first what who place number in_first first numbered i ++ codes ", " ∷ (access_text_is trace race.second what2 who2 place2 number2 in_second second numbered2 i ++ newline ∷ [])))
 
 -- the text of races, as lines and their count
-pub races_text_is : (trace : TraceState) (races : List tool.Race) → races_text trace (map race_of races) ≡ flat_map (λ r. race_line trace (race_of r)) races ++ races_line (length races)
+pub races_text_is : (trace : TraceState) (races : List tool.Race)
+    → races_text trace (map race_of races) ≡ flat_map (λ r. race_line trace (race_of r)) races ++ races_line (length races)
 races_text_is trace races = λ i. flat_map-map (race_line trace) race_of races i ++ races_line (length-map races race_of i)
 
 -- no more than the whole list

@@ -19,13 +19,15 @@ pub pieces_len : (ds : List Declaration) (byte : ℕ) (cases : List Case) → le
 pieces_len ds byte [] = refl
 pieces_len ds byte (case ∷ cases) = ap suc (pieces_len ds 44 cases)
 
-later_piece : (ds : List Declaration) (cases : List Case) (k : ℕ) (d : Case) (e : List ℕ) → k < length cases → get_or (pieces_behind ds 44 cases) k e ≡ 44 ∷ case_text ds (get_or cases k d)
+later_piece : (ds : List Declaration) (cases : List Case) (k : ℕ) (d : Case) (e : List ℕ) → k < length cases
+    → get_or (pieces_behind ds 44 cases) k e ≡ 44 ∷ case_text ds (get_or cases k d)
 later_piece ds [] k d e within = absurd (omega arith)
 later_piece ds (case ∷ cases) zero d e within = refl
 later_piece ds (case ∷ cases) (suc k) d e within = later_piece ds cases k d e (omega arith)
 
 -- piece k
-pub piece_at : (ds : List Declaration) (cases : List Case) (k : ℕ) (d : Case) (e : List ℕ) → k < length cases → get_or (all_pieces ds cases) k e ≡ separator k ∷ case_text ds (get_or cases k d)
+pub piece_at : (ds : List Declaration) (cases : List Case) (k : ℕ) (d : Case) (e : List ℕ) → k < length cases
+    → get_or (all_pieces ds cases) k e ≡ separator k ∷ case_text ds (get_or cases k d)
 piece_at ds [] k d e within = absurd (omega arith)
 piece_at ds (case ∷ cases) zero d e within = refl
 piece_at ds (case ∷ cases) (suc k) d e within = later_piece ds cases k d e (omega arith)

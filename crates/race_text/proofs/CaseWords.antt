@@ -40,7 +40,8 @@ behind_is front word rest h = by (bytes_eq (take (length front) word) front) ref
 case_spelled_is : (w : List ℕ) (case : SpelledCase) → case_spelled w ≡ Some case → w ≡ dir_text case.0 ++ case.1
 case_spelled_is w case h = by (behind (codes "send:") w) refl (behind (codes "recv:") w) refl h
   where
-    by : (a : Option (List ℕ)) → behind (codes "send:") w ≡ a → (b : Option (List ℕ)) → behind (codes "recv:") w ≡ b → case_by a b ≡ Some case → w ≡ dir_text case.0 ++ case.1
+    by : (a : Option (List ℕ)) → behind (codes "send:") w ≡ a → (b : Option (List ℕ)) → behind (codes "recv:") w ≡ b → case_by a b ≡ Some case
+        → w ≡ dir_text case.0 ++ case.1
     by (Some n) e b f h = behind_is (codes "send:") w n e ∙ ap (λ (c : SpelledCase). dir_text c.0 ++ c.1) (same_Some (Dir.Send, n) case h)
     by None e (Some n) f h = behind_is (codes "recv:") w n f ∙ ap (λ (c : SpelledCase). dir_text c.0 ++ c.1) (same_Some (Dir.Recv, n) case h)
     by None e None f h = absurd (none-some case h)
@@ -74,7 +75,8 @@ not_nil w form = by (bytes_eq w nil) refl
     by false other = refl
 
 -- words of bytes of which a test holds, joined by another
-joined_all : (p : ℕ → Bool) (byte : ℕ) → p byte ≡ true → (ws : List (List ℕ)) → AllByRecursion (λ w. list_all p w ≡ true) ws → list_all p (join_with_byte byte ws) ≡ true
+joined_all : (p : ℕ → Bool) (byte : ℕ) → p byte ≡ true → (ws : List (List ℕ)) → AllByRecursion (λ w. list_all p w ≡ true) ws
+    → list_all p (join_with_byte byte ws) ≡ true
 joined_all p byte holds [] each = refl
 joined_all p byte holds (w ∷ []) each = each.0
 joined_all p byte holds (w ∷ v ∷ ws) each =
@@ -95,7 +97,8 @@ module _ (decls : DeclsState) (holds : IsWellFormed decls) where
   pub named_again : (c : ℕ) → c < count_of Kind.Chan ds → (find_name ds (chan_name ds c) ≡ Some (Named.Chan c)) × (is_name (chan_name ds c) ≡ true)
   named_again c less = let found = name_again decls holds (Named.Chan c) less in (found, found_is_name decls (chan_name ds c) (Named.Chan c) holds found)
 
-  chan_again : (chan : Option ℕ) → chan_is_in_range (count_of Kind.Chan ds) chan ≡ true → (chan_in ds (chan_text ds chan) ≡ Some chan) × (list_all is_case_byte (chan_text ds chan) ≡ true)
+  chan_again : (chan : Option ℕ) → chan_is_in_range (count_of Kind.Chan ds) chan ≡ true
+      → (chan_in ds (chan_text ds chan) ≡ Some chan) × (list_all is_case_byte (chan_text ds chan) ≡ true)
   chan_again None fit = (refl, refl)
   chan_again (Some c) fit =
       let name = chan_name ds c in
@@ -129,7 +132,8 @@ module _ (decls : DeclsState) (holds : IsWellFormed decls) where
       each [] h = tt
       each (w ∷ ws) h = (case_bytes_are_seen w h.0, each ws h.1)
 
-  pieces_again : (case : Case) (cases : List Case) → list_all in_range (case ∷ cases) ≡ true → pieces_of (cases_text ds (case ∷ cases)) ≡ map (case_text ds) (case ∷ cases)
+  pieces_again : (case : Case) (cases : List Case) → list_all in_range (case ∷ cases) ≡ true
+      → pieces_of (cases_text ds (case ∷ cases)) ≡ map (case_text ds) (case ∷ cases)
   pieces_again case cases fit = split_again 44 refl (case_text ds case) (map (case_text ds) cases) (each (map (case_text ds) (case ∷ cases)) (cases_bytes (case ∷ cases) fit))
     where
       each : (ws : List (List ℕ)) → AllByRecursion (λ w. list_all is_case_byte w ≡ true) ws → AllByRecursion (IsWithout 44) ws
@@ -137,7 +141,8 @@ module _ (decls : DeclsState) (holds : IsWellFormed decls) where
       each (w ∷ ws) h = ((λ i d within. no_comma _ (AllPass-from_list_all is_case_byte w h.0 i d within)), each ws h.1)
 
   -- cases for which there is room are read one after another
-  on_again : (got cases : List Case) → list_all in_range cases ≡ true → length got + length cases ≤ MAX_CASES → cases_on ds got (map (case_text ds) cases) ≡ Some (got ++ cases)
+  on_again : (got cases : List Case) → list_all in_range cases ≡ true → length got + length cases ≤ MAX_CASES
+      → cases_on ds got (map (case_text ds) cases) ≡ Some (got ++ cases)
   on_again got [] fit few = ap Some (sym (append-nil got))
   on_again got (case ∷ cases) fit few =
       let fits = both (in_range case) (list_all in_range cases) fit in
@@ -153,7 +158,8 @@ module _ (decls : DeclsState) (holds : IsWellFormed decls) where
   no_hyphen Dir.Recv name [] = refl
   no_hyphen Dir.Recv name (w ∷ ws) = refl
 
-  pub cases_again : (cases : List Case) → list_all in_range cases ≡ true → nat_le (length cases) MAX_CASES ≡ true → cases_in ds (cases_text ds cases) ≡ Some cases
+  pub cases_again : (cases : List Case) → list_all in_range cases ≡ true → nat_le (length cases) MAX_CASES ≡ true
+      → cases_in ds (cases_text ds cases) ≡ Some cases
   cases_again [] fit few = refl
   cases_again (case ∷ cases) fit few =
       (λ i. if no_hyphen case.dir (chan_text ds case.chan) (map (case_text ds) cases) i then Some [] else cases_on ds [] (pieces_again case cases fit i))
@@ -320,7 +326,8 @@ module _ (ds : List Declaration) where
   pub cases_are_there : (w : List ℕ) → cases_cause ds w ≡ None → (cases : List Case) × (cases_in ds w ≡ Some cases)
   cases_are_there w h = by (bytes_eq w no_cases) (nat_lt MAX_CASES (length (pieces_of w))) refl h
     where
-      by : (a b : Bool) → nat_lt MAX_CASES (length (pieces_of w)) ≡ b → (if a then None else lesser (pieces_cause ds None (pieces_of w)) (if b then Some TextCause.TooMany else None)) ≡ None
+      by : (a b : Bool) → nat_lt MAX_CASES (length (pieces_of w)) ≡ b
+          → (if a then None else lesser (pieces_cause ds None (pieces_of w)) (if b then Some TextCause.TooMany else None)) ≡ None
           → (cases : List Case) × ((if a then Some [] else cases_on ds [] (pieces_of w)) ≡ Some cases)
       by true b e h = ([], refl)
       by false false e h =

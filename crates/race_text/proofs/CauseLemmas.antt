@@ -51,7 +51,8 @@ module _ (ds : List Declaration) where
       ∙ (λ j. cause_on ds (lesser least (field_cause ds (get_or fields i d) word)) (drop (sym (add-one i) j) fields) others)
 
 -- after as many cuts as are wanted, nothing is left just where there were so many words
-pub counted : (left : Option (Bor (List ℕ))) (i count total : ℕ) → length (parts_left 32 left) + i ≡ total → i ≤ count → count ≤ i → is_none left ≡ (total == count)
+pub counted : (left : Option (Bor (List ℕ))) (i count total : ℕ) → length (parts_left 32 left) + i ≡ total → i ≤ count → count ≤ i
+    → is_none left ≡ (total == count)
 counted None i count total e low high = grind (arith, nat_tests)
 counted (Some rest) i count total e low high =
     let some = length-slice_split (λ b. b == 32) rest.now in
@@ -59,7 +60,8 @@ counted (Some rest) i count total e low high =
     grind (arith, nat_tests, over)
 
 -- after as many cuts as there may be pieces, something is left just where there are more
-pub counted_more : (left : Option (Bor (List ℕ))) (i most total : ℕ) → length (parts_left 44 left) + i ≡ total → i ≤ most → most ≤ i → is_some left ≡ nat_lt most total
+pub counted_more : (left : Option (Bor (List ℕ))) (i most total : ℕ) → length (parts_left 44 left) + i ≡ total → i ≤ most → most ≤ i
+    → is_some left ≡ nat_lt most total
 counted_more None i most total e low high = grind (arith, nat_tests)
 counted_more (Some rest) i most total e low high =
     let some = length-slice_split (λ b. b == 44) rest.now in

@@ -43,7 +43,8 @@ pub number_is_visible : (limit : ℕ) (word : List ℕ) (n : ℕ) → limit < 2 
 unfolding number
 number_is_visible limit word n small h = by (bytes_eq word (decimal (digits_value 10 word))) refl (nat_le (digits_value 10 word) limit) refl h
   where
-    by : (b : Bool) → bytes_eq word (decimal (digits_value 10 word)) ≡ b → (c : Bool) → nat_le (digits_value 10 word) limit ≡ c → (if b && c then Some (digits_value 10 word) else None) ≡ Some n → list_all is_place_byte word ≡ true
+    by : (b : Bool) → bytes_eq word (decimal (digits_value 10 word)) ≡ b → (c : Bool) → nat_le (digits_value 10 word) limit ≡ c
+        → (if b && c then Some (digits_value 10 word) else None) ≡ Some n → list_all is_place_byte word ≡ true
     by true e true f h =
         let low : digits_value 10 word < 2 ^ 64 = grind (arith, nat_tests) in
         let same = (bytes_eq-Decides word (decimal (digits_value 10 word))).0 e in

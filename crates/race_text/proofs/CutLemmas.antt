@@ -25,7 +25,8 @@ slice_split-found p xs d end found =
 pub slice_split-absent : {X : Type 0} (p : X → Bool) (xs : List X) → position p xs ≡ None → slice_split p xs ≡ xs ∷ []
 slice_split-absent p xs absent = slice_split_none p xs (λ k d within. fails_before_first p xs k d (below k within (nat_lt (position_or_len p xs) (length xs)) refl absent))
   where
-    below : (k : ℕ) → k < length xs → (b : Bool) → nat_lt (position_or_len p xs) (length xs) ≡ b → cond b (Some (position_or_len p xs)) None ≡ None → k < position_or_len p xs
+    below : (k : ℕ) → k < length xs → (b : Bool) → nat_lt (position_or_len p xs) (length xs) ≡ b → cond b (Some (position_or_len p xs)) None ≡ None
+        → k < position_or_len p xs
     below k within true e h = absurd (none-some _ (sym h))
     below k within false e h = grind (arith, nat_tests)
 

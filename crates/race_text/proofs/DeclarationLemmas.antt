@@ -41,7 +41,8 @@ module _ (line first : List ℕ) (args : List (List ℕ)) (word : Option Word) (
   pub is_declaration_line-words : is_declaration_line line ≡ is_declaration_word word
   is_declaration_line-words = ap is_declaration_word word_is
 
-  pub declaration_cause-words : (ds : List Declaration) → declaration_cause ds line ≡ (if is_declaration_word word then word_cause (seen_so_far ds 0) word args else None)
+  pub declaration_cause-words : (ds : List Declaration)
+      → declaration_cause ds line ≡ (if is_declaration_word word then word_cause (seen_so_far ds 0) word args else None)
   declaration_cause-words ds = λ i. if is_declaration_word (word_is i) then word_cause (seen_so_far ds 0) (word_is i) (arguments (words i)) else None
 
   pub declaration_in-words : declaration_in line ≡ declared_as word args
@@ -59,7 +60,8 @@ pub number_parts : (limit : ℕ) (w : List ℕ) (n : ℕ) → number limit w ≡
 unfolding number
 number_parts limit w n h = by (bytes_eq w (decimal (digits_value 10 w))) (nat_le (digits_value 10 w) limit) refl h
   where
-    by : (b c : Bool) → nat_le (digits_value 10 w) limit ≡ c → (if b && c then Some (digits_value 10 w) else None) ≡ Some n → (n ≤ limit) × (digits_value 10 w ≡ n)
+    by : (b c : Bool) → nat_le (digits_value 10 w) limit ≡ c → (if b && c then Some (digits_value 10 w) else None) ≡ Some n
+        → (n ≤ limit) × (digits_value 10 w ≡ n)
     by true true e h = let same = same_Some (digits_value 10 w) n h in (let low : digits_value 10 w ≤ limit = grind (arith, nat_tests) in omega (arith, low, same), same)
     by true false e h = absurd (none-some n h)
     by false c e h = absurd (none-some n h)
@@ -99,7 +101,8 @@ record IsNamed (ds : List Declaration) (kind : Kind) (limit : Option ℕ) (args 
   pub wanted : IsWanted limit number
   pub not_taken : new_name_cause ds name ≡ None
   pub room : room_cause (seen_so_far ds 0) (Some kind) ≡ None
-  pub read : (noun : Noun) (rest : Option (Bor (List ℕ))) → parts_left 32 rest ≡ number_words number → object_read noun limit (option_map (λ w. w.now) rest) ≡ object_by noun number
+  pub read : (noun : Noun) (rest : Option (Bor (List ℕ))) → parts_left 32 rest ≡ number_words number
+      → object_read noun limit (option_map (λ w. w.now) rest) ≡ object_by noun number
 
 both_none : (a b : Option TextCause) → or_else a b ≡ None → (a ≡ None) × (b ≡ None)
 both_none None b h = (refl, h)
@@ -156,7 +159,8 @@ is_named ds kind (Some limit) (name ∷ w ∷ []) h =
 is_named ds kind (Some limit) (name ∷ w ∷ v ∷ ws) h = absurd (too_many (length (name ∷ w ∷ v ∷ ws)) 2 _ (omega arith) h)
 
 -- where neither the name nor the room is in its way, nothing refuses the declaration
-no_fault : (a b c e : Bool) → (if not a then Some TextCause.BadName else (if b then Some TextCause.Taken else None)) ≡ None → (if c then Some TextCause.TooMany else None) ≡ None → e ≡ false
+no_fault : (a b c e : Bool) → (if not a then Some TextCause.BadName else (if b then Some TextCause.Taken else None)) ≡ None
+    → (if c then Some TextCause.TooMany else None) ≡ None → e ≡ false
     → (a ≡ true) × ◌≡◌ {A = Option DeclFault} (if not a then Some DeclFault.BadName else (if b then Some DeclFault.Taken else (if c then Some DeclFault.TooMany else (if e then Some DeclFault.BadCapacity else None)))) None
 no_fault false b c e h k narrow = absurd (none-some TextCause.BadName (sym h))
 no_fault true true c e h k narrow = absurd (none-some TextCause.Taken (sym h))
@@ -188,7 +192,8 @@ is_there ds noun args h =
     }
 
 -- so they declare it
-pub declared_there : (ds : List Declaration) (noun : Noun) (args : List (List ℕ)) (there : IsThere ds noun args) → declared_as (Some (Word.Declares noun)) args ≡ Some (declaration there.name there.object)
+pub declared_there : (ds : List Declaration) (noun : Noun) (args : List (List ℕ)) (there : IsThere ds noun args)
+    → declared_as (Some (Word.Declares noun)) args ≡ Some (declaration there.name there.object)
 declared_there ds noun args there = ap (declared_as (Some (Word.Declares noun))) there.words ∙ ap (option_map (declaration there.name)) there.by
 
 -- what the code has in hand there, once it has cut off the name
@@ -199,7 +204,8 @@ pub record InHand (ds : List Declaration) (noun : Noun) (args : List (List ℕ))
   pub declared : declared_as (Some (Word.Declares noun)) args ≡ Some (declaration first object)
   pub fine : decl_fault ds object first ≡ None
 
-pub in_hand : (ds : List Declaration) (noun : Noun) (args : List (List ℕ)) (first : List ℕ) (behind : Option (Bor (List ℕ))) → args ≡ first ∷ parts_left 32 behind → noun_cause ds noun args ≡ None
+pub in_hand : (ds : List Declaration) (noun : Noun) (args : List (List ℕ)) (first : List ℕ) (behind : Option (Bor (List ℕ)))
+    → args ≡ first ∷ parts_left 32 behind → noun_cause ds noun args ≡ None
     → InHand ds noun args first behind
 in_hand ds noun args first behind split none =
     let there = is_there ds noun args none in
@@ -220,7 +226,8 @@ made_in_hand ds noun args first behind hand object read =
     (hand.declared ∙ (λ i. Some (declaration first (same i))), (λ i. decl_fault ds (sym same i) first) ∙ hand.fine)
 
 -- and behind the noun stands what the object says
-pub spelled_there : (ds : List Declaration) (noun : Noun) (args : List (List ℕ)) (there : IsThere ds noun args) → (noun ≡ (object_says there.object).0) × (args ≡ there.name ∷ number_words (object_says there.object).1)
+pub spelled_there : (ds : List Declaration) (noun : Noun) (args : List (List ℕ)) (there : IsThere ds noun args)
+    → (noun ≡ (object_says there.object).0) × (args ≡ there.name ∷ number_words (object_says there.object).1)
 spelled_there ds noun args there =
     let says = object_by_says noun (number_behind there.others) there.object there.by in
     (ap (λ (s : Noun × Option ℕ). s.0) (sym says), there.words ∙ (λ i. there.name ∷ there.spelled i) ∙ ap (λ (s : Noun × Option ℕ). there.name ∷ number_words s.1) (sym says))
@@ -250,7 +257,8 @@ fine_words ds kind (Some l) (Some n) name wanted small free room =
 fine_words ds kind None (Some n) name wanted small free room = absurd wanted
 fine_words ds kind (Some l) None name wanted small free room = absurd wanted
 
-allowed_parts : (a b c e : Bool) → ◌≡◌ {A = Option DeclFault} (if not a then Some DeclFault.BadName else (if b then Some DeclFault.Taken else (if c then Some DeclFault.TooMany else (if e then Some DeclFault.BadCapacity else None)))) None
+allowed_parts : (a b c e : Bool)
+    → ◌≡◌ {A = Option DeclFault} (if not a then Some DeclFault.BadName else (if b then Some DeclFault.Taken else (if c then Some DeclFault.TooMany else (if e then Some DeclFault.BadCapacity else None)))) None
     → ((if not a then Some TextCause.BadName else (if b then Some TextCause.Taken else None)) ≡ None) × ((if c then Some TextCause.TooMany else None) ≡ None) × (e ≡ false)
 allowed_parts false b c e h = absurd (none-some DeclFault.BadName (sym h))
 allowed_parts true true c e h = absurd (none-some DeclFault.Taken (sym h))
@@ -258,7 +266,8 @@ allowed_parts true false true e h = absurd (none-some DeclFault.TooMany (sym h))
 allowed_parts true false false true h = absurd (none-some DeclFault.BadCapacity (sym h))
 allowed_parts true false false false h = (refl, refl, refl)
 
-pub said_fine : (ds : List Declaration) (name : List ℕ) (object : Object) → decl_fault ds object name ≡ None → noun_cause ds (object_says object).0 (name ∷ number_words (object_says object).1) ≡ None
+pub said_fine : (ds : List Declaration) (name : List ℕ) (object : Object) → decl_fault ds object name ≡ None
+    → noun_cause ds (object_says object).0 (name ∷ number_words (object_says object).1) ≡ None
 unfolding decl_fault
 said_fine ds name object h =
     let noun = (object_says object).0 in
@@ -266,7 +275,8 @@ said_fine ds name object h =
     let room = subst (λ (kind : Kind). room_cause (seen_so_far ds 0) (Some kind) ≡ None) (sym (kind_of_says object)) parts.1 in
     fine_words ds (kind_of_noun noun) (number_limit noun) (object_says object).1 name (says_wanted object parts.2) (small_limit noun) parts.0 room
 
-pub said_again : (name : List ℕ) (object : Object) → is_too_wide object ≡ false → declared_as (Some (Word.Declares (object_says object).0)) (name ∷ number_words (object_says object).1) ≡ Some (declaration name object)
+pub said_again : (name : List ℕ) (object : Object) → is_too_wide object ≡ false
+    → declared_as (Some (Word.Declares (object_says object).0)) (name ∷ number_words (object_says object).1) ≡ Some (declaration name object)
 said_again name object narrow =
     let noun = (object_says object).0 in
     ap (λ o. option_map (declaration name) (object_by noun o)) (number_again (number_limit noun) (object_says object).1 (says_wanted object narrow) (small_limit noun)) ∙ ap (option_map (declaration name)) (object_says_again object)

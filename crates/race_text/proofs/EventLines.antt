@@ -26,14 +26,16 @@ use Rattle.race_text.proofs.PlaceWords.{ArePlaces, places_clean}
 use Rattle.race_text.proofs.WordTable.{word_spelled, word_is_seen}
 
 -- the words of an event are those that its operation says
-pub op_words_are : (ds : List Declaration) (who : List ℕ) (places : List (List ℕ)) (op : Op) → op_words ds who places op ≡ said_words ds who places (says op).0 (says op).1
+pub op_words_are : (ds : List Declaration) (who : List ℕ) (places : List (List ℕ)) (op : Op)
+    → op_words ds who places op ≡ said_words ds who places (says op).0 (says op).1
 op_words_are ds who places (Go h) = refl
 op_words_are ds who places _ = refl
 
 -- what holds of a line that says an event
 pub record IsEventLine (ds : List Declaration) (line : List ℕ) (o : Occurrence) : Type 0 where
   pub line_is : line ≡ line_of (op_words ds (goroutine_name ds o.who) (place_words o.place o.place2) o.op)
-  pub cause_is : (events : ℕ) → word_cause (seen_so_far ds events) (word_named (first_word (words_of line))) (arguments (words_of line)) ≡ room_cause (seen_so_far ds events) None
+  pub cause_is : (events : ℕ)
+      → word_cause (seen_so_far ds events) (word_named (first_word (words_of line))) (arguments (words_of line)) ≡ room_cause (seen_so_far ds events) None
   pub is_event : is_event_line line ≡ true
   pub declares : declaration_in line ≡ None
   pub places : ArePlaces (has_two_places (says o.op).0) (o.place, o.place2)
@@ -77,7 +79,8 @@ module _ (decls : DeclsState) (holds : IsWellFormed decls) (line first : List �
       }
 
 -- a line that says an event is one
-pub event_line : (decls : DeclsState) (line : List ℕ) (o : Occurrence) → IsWellFormed decls → event_in decls.declarations (words_of line) ≡ Some o → IsEventLine decls.declarations line o
+pub event_line : (decls : DeclsState) (line : List ℕ) (o : Occurrence) → IsWellFormed decls → event_in decls.declarations (words_of line) ≡ Some o
+    → IsEventLine decls.declarations line o
 event_line decls line o holds h = by (words_of line) refl h
   where
     by : (ws : List (List ℕ)) → words_of line ≡ ws → event_in decls.declarations ws ≡ Some o → IsEventLine decls.declarations line o

@@ -136,7 +136,8 @@ count_is ds events word words h = by (length words == length (fields_of word)) r
     by false e h = absurd (none-some TextCause.WrongCount (sym h))
 
 -- where no cause holds of the words, they say an event
-pub event_is_there : (ds : List Declaration) (events : ℕ) (verb : Verb) (words : List (List ℕ)) → word_cause (seen_so_far ds events) (Some (Word.Does verb)) words ≡ None → event_behind ds verb words ≡ None → ⊥
+pub event_is_there : (ds : List Declaration) (events : ℕ) (verb : Verb) (words : List (List ℕ))
+    → word_cause (seen_so_far ds events) (Some (Word.Does verb)) words ≡ None → event_behind ds verb words ≡ None → ⊥
 unfolding field_cause
 event_is_there ds events verb [] fine none = let count = (count_is ds events (Word.Does verb) [] fine).0 in absurd (omega (arith, count))
 event_is_there ds events verb (g ∷ ws) fine none =

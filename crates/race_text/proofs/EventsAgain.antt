@@ -44,7 +44,8 @@ module _ (decls : DeclsState) (holds : IsWellFormed decls) where
   ds = decls.declarations
 
   -- what is printed of a part says the part, and can be seen
-  part_again : (kind : PartKind) (part : Part) → suits kind part ≡ true → part_fits ds part ≡ true → part_is_limited part ≡ true → part_in ds kind (part_text ds part) ≡ Some part
+  part_again : (kind : PartKind) (part : Part) → suits kind part ≡ true → part_fits ds part ≡ true → part_is_limited part ≡ true
+      → part_in ds kind (part_text ds part) ≡ Some part
   part_again (PartKind.Object kind) (Part.Object named) wanted fit low =
       ap (option_and_then (object_as kind)) (name_again decls holds named (grind (arith, nat_tests, fit)))
       ∙ ap (λ b. if b then Some (Part.Object named) else None) wanted
@@ -61,7 +62,8 @@ module _ (decls : DeclsState) (holds : IsWellFormed decls) where
   part_visible (Part.Cases cases) fit low = cases_visible decls holds cases fit
   part_visible (Part.Cause cause) fit low = failure_visible decls holds cause fit
 
-  parts_again : (got : List Part) (kinds : List PartKind) (parts : List Part) (rest : List (List ℕ)) → suit kinds parts ≡ true → list_all (part_fits ds) parts ≡ true → list_all part_is_limited parts ≡ true
+  parts_again : (got : List Part) (kinds : List PartKind) (parts : List Part) (rest : List (List ℕ)) → suit kinds parts ≡ true
+      → list_all (part_fits ds) parts ≡ true → list_all part_is_limited parts ≡ true
       → parts_on ds got kinds (map (part_text ds) parts ++ rest) ≡ Some (got ++ parts, rest)
   parts_again got [] [] rest wanted fit low = λ i. Some (sym (append-nil got) i, rest)
   parts_again got (kind ∷ kinds) (part ∷ parts) rest wanted fit low =
@@ -73,7 +75,8 @@ module _ (decls : DeclsState) (holds : IsWellFormed decls) where
       ∙ (λ i. Some (append_assoc got (part ∷ []) parts i, rest))
   parts_again got _ _ rest wanted fit low = absurd (true≢false (sym wanted))
 
-  parts_visible : (parts : List Part) (rest : List (List ℕ)) → list_all (part_fits ds) parts ≡ true → list_all part_is_limited parts ≡ true → AreVisible rest → AreVisible (map (part_text ds) parts ++ rest)
+  parts_visible : (parts : List Part) (rest : List (List ℕ)) → list_all (part_fits ds) parts ≡ true → list_all part_is_limited parts ≡ true → AreVisible rest
+      → AreVisible (map (part_text ds) parts ++ rest)
   parts_visible [] rest fit low visible = visible
   parts_visible (part ∷ parts) rest fit low visible =
       let fits = both (part_fits ds part) (list_all (part_fits ds) parts) fit in
@@ -92,7 +95,8 @@ module _ (decls : DeclsState) (holds : IsWellFormed decls) where
   places_again false n (Some m) less fit = absurd (true≢false (sym fit))
 
   -- so the line of an event says it
-  op_again : (who : ℕ) (places : Places) → who < count_of Kind.Goroutine ds → (op : Op) → ArePlaces (has_two_places (says op).0) places → op_fits ds op ≡ true → value_fits op ≡ true
+  op_again : (who : ℕ) (places : Places) → who < count_of Kind.Goroutine ds → (op : Op) → ArePlaces (has_two_places (says op).0) places → op_fits ds op ≡ true
+      → value_fits op ≡ true
       → event_in ds (words_of (line_of (op_words ds (goroutine_name ds who) (place_words places.0 places.1) op))) ≡ Some (occurrence who op places)
   op_again who places who_less op are fit low =
       let verb = (says op).0 in

@@ -33,7 +33,8 @@ attempt_text Attempt.Close = codes "close:"
 spelled_is : (w : List ℕ) (failure : SpelledFailure) → failure_spelled w ≡ Some failure → w ≡ attempt_text failure.0 ++ failure.1
 spelled_is w failure h = by (behind (codes "send:") w) refl (behind (codes "close:") w) refl h
   where
-    by : (a : Option (List ℕ)) → behind (codes "send:") w ≡ a → (b : Option (List ℕ)) → behind (codes "close:") w ≡ b → failure_by a b ≡ Some failure → w ≡ attempt_text failure.0 ++ failure.1
+    by : (a : Option (List ℕ)) → behind (codes "send:") w ≡ a → (b : Option (List ℕ)) → behind (codes "close:") w ≡ b → failure_by a b ≡ Some failure
+        → w ≡ attempt_text failure.0 ++ failure.1
     by (Some n) e b f h = behind_is (codes "send:") w n e ∙ ap (λ (s : SpelledFailure). attempt_text s.0 ++ s.1) (same_Some (Attempt.Send, n) failure h)
     by None e (Some n) f h = behind_is (codes "close:") w n f ∙ ap (λ (s : SpelledFailure). attempt_text s.0 ++ s.1) (same_Some (Attempt.Close, n) failure h)
     by None e None f h = absurd (none-some failure h)
@@ -78,7 +79,8 @@ module _ (decls : DeclsState) (holds : IsWellFormed decls) where
       fine : (c : ℕ) → is_name w ≡ true → find_name ds w ≡ Some (Named.Chan c) → used_name_cause Kind.Chan ds w ≡ None
       fine c f g = λ i. if not (f i) then Some TextCause.BadName else use_cause Kind.Chan (g i)
 
-      by : (attempt : Attempt) (b : Bool) → is_name w ≡ b → (o : Option Named) → find_name ds w ≡ o → (if b then option_and_then (cause_by attempt) o else None) ≡ Some cause → IsTried (attempt, w) cause
+      by : (attempt : Attempt) (b : Bool) → is_name w ≡ b → (o : Option Named) → find_name ds w ≡ o
+          → (if b then option_and_then (cause_by attempt) o else None) ≡ Some cause → IsTried (attempt, w) cause
       by Attempt.Send true f (Some (Named.Chan c)) g h =
           let less = found_is_declared ds w (Named.Chan c) g in
           subst (IsTried (Attempt.Send, w)) (same_Some (SendClosed c) cause h) (record { text = ap (λ n. codes "send:" ++ n) (name_is c g); fits = grind (arith, nat_tests, less); no_cause = fine c f g })
@@ -99,7 +101,8 @@ module _ (decls : DeclsState) (holds : IsWellFormed decls) where
   pub is_failure : (w : List ℕ) (cause : Cause) → failure_in ds w ≡ Some cause → IsFailure w cause
   is_failure w cause h = by (bytes_eq w close_nil) refl h
     where
-      by : (b : Bool) → bytes_eq w close_nil ≡ b → (if b then Some CloseNil else option_and_then (spelled_failure_in ds) (failure_spelled w)) ≡ Some cause → IsFailure w cause
+      by : (b : Bool) → bytes_eq w close_nil ≡ b → (if b then Some CloseNil else option_and_then (spelled_failure_in ds) (failure_spelled w)) ≡ Some cause
+          → IsFailure w cause
       by true e h = subst (IsFailure w) (same_Some CloseNil cause h) (record {
         text = (bytes_eq-Decides w close_nil).0 e;
         fits = refl;

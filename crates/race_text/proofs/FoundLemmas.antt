@@ -23,7 +23,8 @@ pub record IsFoundAt (ds : List Declaration) (word : List ℕ) (what : Named) : 
   pub what_is : what ≡ named d.object (count_of (kind_of d.object) (take i ds))
 
 -- `main`, or a declaration
-pub found_cases : (ds : List Declaration) (word : List ℕ) (what : Named) → find_name ds word ≡ Some what → ((word ≡ main) × (what ≡ Named.Goroutine 0)) ⊎ IsFoundAt ds word what
+pub found_cases : (ds : List Declaration) (word : List ℕ) (what : Named) → find_name ds word ≡ Some what
+    → ((word ≡ main) × (what ≡ Named.Goroutine 0)) ⊎ IsFoundAt ds word what
 found_cases ds word what h = by (bytes_eq word main) refl (position (λ (d : Declaration). bytes_eq word d.name) ds) refl h
   where
     by : (b : Bool) → bytes_eq word main ≡ b → (p : Option ℕ) → position (λ (d : Declaration). bytes_eq word d.name) ds ≡ p
@@ -46,7 +47,8 @@ found_cases ds word what h = by (bytes_eq word main) refl (position (λ (d : Dec
         })
 
 -- a name that is found has a name's form
-pub found_is_name : (decls : DeclsState) (word : List ℕ) (what : Named) → IsWellFormed decls → find_name decls.declarations word ≡ Some what → is_name word ≡ true
+pub found_is_name : (decls : DeclsState) (word : List ℕ) (what : Named) → IsWellFormed decls → find_name decls.declarations word ≡ Some what
+    → is_name word ≡ true
 found_is_name decls word what holds h = elim (found_cases decls.declarations word what h) [
   | inl is_main ↦ ap is_name is_main.0
   | inr at ↦ ap is_name (at.name ∙ ap (λ (d : Declaration). d.name) (sym (at.at_all at.d))) ∙ holds.names at.i at.d at.within
@@ -61,7 +63,8 @@ unnamed_is_absent decls word holds h = by (find_name decls.declarations word) re
     by (Some what) e = absurd (true≢false (sym (found_is_name decls word what holds e) ∙ h))
 
 -- an element that passes stands in a filter behind those that pass before it
-slice_get-filter : {X : Type 0} (p : X → Bool) (xs : List X) (i : ℕ) (x : X) → slice_get xs i ≡ Some x → p x ≡ true → slice_get (filter p xs) (length (filter p (take i xs))) ≡ Some x
+slice_get-filter : {X : Type 0} (p : X → Bool) (xs : List X) (i : ℕ) (x : X) → slice_get xs i ≡ Some x → p x ≡ true
+    → slice_get (filter p xs) (length (filter p (take i xs))) ≡ Some x
 slice_get-filter p [] i x at passes = absurd (none-some x at)
 slice_get-filter p (y ∷ ys) zero x at passes =
     let same = same_Some y x at in

@@ -79,7 +79,8 @@ module _ (decls : DeclsState) (holds : IsWellFormed decls) where
   named_as Kind.Lock n = Named.Lock n
   named_as Kind.Once n = Named.Once n
 
-  named_is : (kind : Kind) (o : Object) (i n m : ℕ) → is_of_kind kind o ≡ true → length (of_kind kind (take i ds)) ≡ m → first_number kind + m ≡ n → named o (count_of (kind_of o) (take i ds)) ≡ named_as kind n
+  named_is : (kind : Kind) (o : Object) (i n m : ℕ) → is_of_kind kind o ≡ true → length (of_kind kind (take i ds)) ≡ m → first_number kind + m ≡ n
+      → named o (count_of (kind_of o) (take i ds)) ≡ named_as kind n
   unfolding named_as
   named_is Kind.Goroutine Object.Goroutine i n m of number is = ap Named.Goroutine (omega (arith, number, is))
   named_is Kind.Var Object.Var i n m of number is = ap Named.Var (omega (arith, number, is))
@@ -89,7 +90,8 @@ module _ (decls : DeclsState) (holds : IsWellFormed decls) where
   named_is _ _ i n m of number is = absurd (true≢false (sym of))
 
   -- the name of the nth declaration of a kind
-  nth_again : (kind : Kind) (n m : ℕ) → first_number kind + m ≡ n → m < length (of_kind kind ds) → find_name ds (unwrap_or (nth_name kind ds m) []) ≡ Some (named_as kind n)
+  nth_again : (kind : Kind) (n m : ℕ) → first_number kind + m ≡ n → m < length (of_kind kind ds)
+      → find_name ds (unwrap_or (nth_name kind ds m) []) ≡ Some (named_as kind n)
   nth_again kind n m is less =
       let found = slice_get-within (of_kind kind ds) m less in
       let s = stands_at kind ds m found.0 found.1 in

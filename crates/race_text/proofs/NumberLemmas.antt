@@ -35,7 +35,8 @@ number-some max n word small low e =
     by false e c f = absurd (true≢false (sym e))
 
 -- a leading zero stands alone, where the code has tested so
-pub zero_alone : (word : List ℕ) → 0 < length word → (((get_or word 0 0 ≡ 48) × (length word ≤ 1)) ⊎ (get_or word 0 0 ≢ 48)) → get_or word 0 0 ≡ 48 → length word ≡ 1
+pub zero_alone : (word : List ℕ) → 0 < length word → (((get_or word 0 0 ≡ 48) × (length word ≤ 1)) ⊎ (get_or word 0 0 ≢ 48)) → get_or word 0 0 ≡ 48
+    → length word ≡ 1
 zero_alone word some (inl short) h = let s = short.1 in omega (arith, s, some)
 zero_alone word some (inr other) h = absurd (other h)
 

@@ -32,12 +32,14 @@ pub fault_end : (before : List (List ℕ)) (last : List ℕ) → fault_after bef
 unfolding fault_after
 fault_end before last = by ((length last == 0) && nat_lt 0 (length before))
   where
-    by : (b : Bool) → (if b then None else or_later (length before + 1) (cause before last false) None) ≡ or_later (length before + 1) (if b then None else cause before last false) None
+    by : (b : Bool)
+        → (if b then None else or_later (length before + 1) (cause before last false) None) ≡ or_later (length before + 1) (if b then None else cause before last false) None
     by true = refl
     by false = refl
 
 -- a fault is none of the lines before
-or_later_from : (n : ℕ) (o : Option TextCause) (later : Option TextFault) (f : TextFault) → or_later n o later ≡ Some f → ((g : TextFault) → later ≡ Some g → n ≤ g.line) → n ≤ f.line
+or_later_from : (n : ℕ) (o : Option TextCause) (later : Option TextFault) (f : TextFault) → or_later n o later ≡ Some f
+    → ((g : TextFault) → later ≡ Some g → n ≤ g.line) → n ≤ f.line
 or_later_from n None later f h rest = rest f h
 or_later_from n (Some c) later f h rest = let same : n ≡ f.line = ap (λ (x : TextFault). x.line) (same_Some (told n c) f h) in omega (arith, same)
 
@@ -62,7 +64,8 @@ unended (first ∷ before) last h = none-some TextCause.NoNewline (sym h)
 pub end_empty : (before : List (List ℕ)) (last : List ℕ) → end_cause before last ≡ None → (length last ≡ 0) × (0 < length before)
 end_empty before last h = by ((length last == 0) && nat_lt 0 (length before)) refl h
   where
-    by : (b : Bool) → ((length last == 0) && nat_lt 0 (length before)) ≡ b → (if b then None else cause before last false) ≡ None → (length last ≡ 0) × (0 < length before)
+    by : (b : Bool) → ((length last == 0) && nat_lt 0 (length before)) ≡ b → (if b then None else cause before last false) ≡ None
+        → (length last ≡ 0) × (0 < length before)
     by true e h = let p = both (length last == 0) (nat_lt 0 (length before)) e in let a = p.0 in let b = p.1 in (grind (arith, nat_tests, a), grind (arith, nat_tests, b))
     by false e h = absurd (unended before last h)
 
@@ -75,7 +78,8 @@ unfolding lines
 some_line t = grind (arith, nat_tests)
 
 -- the cause of the last part, by what was read
-pub end_behind : (t : TraceState) (last : List ℕ) (b : Bool) → (length last == 0) ≡ b → end_cause (lines t) last ≡ (if b then None else Some TextCause.NoNewline)
+pub end_behind : (t : TraceState) (last : List ℕ) (b : Bool) → (length last == 0) ≡ b
+    → end_cause (lines t) last ≡ (if b then None else Some TextCause.NoNewline)
 unfolding lines cause
 end_behind t last true e = (λ i. if e i && nat_lt 0 (length (lines t)) then None else Some TextCause.NoNewline) ∙ ap (λ b. if b then None else Some TextCause.NoNewline) (some_line t)
 end_behind t last false e = λ i. if e i && nat_lt 0 (length (lines t)) then None else Some TextCause.NoNewline
@@ -96,7 +100,8 @@ unfolding cause
 end_other last h = end_first last ∙ ap (λ b. if not b then Some TextCause.BadHeader else Some TextCause.NoNewline) h
 
 -- an end without a cause stands behind the header
-pub header_before_end : (has_header : Bool) (decls : DeclsState) (trace : Option TraceState) (last : List ℕ) → end_cause (lines_read has_header decls trace) last ≡ None → has_header ≡ true
+pub header_before_end : (has_header : Bool) (decls : DeclsState) (trace : Option TraceState) (last : List ℕ)
+    → end_cause (lines_read has_header decls trace) last ≡ None → has_header ≡ true
 header_before_end true decls trace last h = refl
 header_before_end false decls trace last h = let e = end_empty [] last h in let some = e.1 in absurd (omega (arith, some))
 

@@ -53,7 +53,8 @@ read_suits ds (PartKind.Object kind) w part h =
     let found = and_then_some (object_as kind) (find_name ds w) part h in
     by found.0 (is_named kind found.0) refl found.2
   where
-    by : (named : Named) (b : Bool) → is_named kind named ≡ b → (if b then Some (Part.Object named) else None) ≡ Some part → suits (PartKind.Object kind) part ≡ true
+    by : (named : Named) (b : Bool) → is_named kind named ≡ b → (if b then Some (Part.Object named) else None) ≡ Some part
+        → suits (PartKind.Object kind) part ≡ true
     by named true of h = ap (suits (PartKind.Object kind)) (sym (same_Some (Part.Object named) part h)) ∙ of
     by named false of h = absurd (none-some part h)
 read_suits ds PartKind.Value w part h = ap (suits PartKind.Value) (sym (map_some Part.Value (number (2 ^ 64 - 1) w) part h).2)
@@ -80,7 +81,8 @@ module _ (decls : DeclsState) (holds : IsWellFormed decls) where
     pub clean : has_bad_byte w ≡ false
     pub no_cause : part_cause ds kind w ≡ None
 
-  is_object : (kind : Kind) (w : List ℕ) (named : Named) → find_name ds w ≡ Some named → is_named kind named ≡ true → IsPart (PartKind.Object kind) w (Part.Object named)
+  is_object : (kind : Kind) (w : List ℕ) (named : Named) → find_name ds w ≡ Some named → is_named kind named ≡ true
+      → IsPart (PartKind.Object kind) w (Part.Object named)
   is_object kind w named found of = record {
     text = ap (λ o. unwrap_or o []) (sym (name_of_found ds w named found));
     fits = let less = found_is_declared ds w named found in grind (arith, nat_tests, less);
@@ -95,7 +97,8 @@ module _ (decls : DeclsState) (holds : IsWellFormed decls) where
       let found = and_then_some (object_as kind) (find_name ds w) part h in
       by found.0 found.1 (is_named kind found.0) refl found.2
     where
-      by : (named : Named) → find_name ds w ≡ Some named → (b : Bool) → is_named kind named ≡ b → (if b then Some (Part.Object named) else None) ≡ Some part → IsPart (PartKind.Object kind) w part
+      by : (named : Named) → find_name ds w ≡ Some named → (b : Bool) → is_named kind named ≡ b → (if b then Some (Part.Object named) else None) ≡ Some part
+          → IsPart (PartKind.Object kind) w part
       by named found true of h = subst (IsPart (PartKind.Object kind) w) (same_Some (Part.Object named) part h) (is_object kind w named found of)
       by named found false of h = absurd (none-some part h)
   is_part PartKind.Value w part h =
@@ -142,7 +145,8 @@ module _ (decls : DeclsState) (holds : IsWellFormed decls) where
     pub parts_are : read.0 ≡ got ++ parts
     pub are : AreParts kinds ws parts
 
-  pub are_read : (got : List Part) (kinds : List PartKind) (words : List (List ℕ)) (read : ReadParts) → parts_on ds got kinds words ≡ Some read → AreRead got kinds words read
+  pub are_read : (got : List Part) (kinds : List PartKind) (words : List (List ℕ)) (read : ReadParts) → parts_on ds got kinds words ≡ Some read
+      → AreRead got kinds words read
   are_read got [] words read h =
       let same = same_Some (got, words) read h in
       record { ws = []; parts = []; words_are = ap (λ (r : ReadParts). r.1) same; parts_are = ap (λ (r : ReadParts). r.0) (sym same) ∙ sym (append-nil got); are = tt }
@@ -178,7 +182,8 @@ module _ (decls : DeclsState) (holds : IsWellFormed decls) where
 
   -- and of the words, with others behind them: none has a bad byte or a cause, and there are as many as fields, where it is so of the others
   module _ (fields : List Field) (rest : List (List ℕ)) where
-    pub words_clean : AllByRecursion (λ w. has_bad_byte w ≡ false) rest → (kinds : List PartKind) (ws : List (List ℕ)) (parts : List Part) → AreParts kinds ws parts
+    pub words_clean : AllByRecursion (λ w. has_bad_byte w ≡ false) rest → (kinds : List PartKind) (ws : List (List ℕ)) (parts : List Part)
+        → AreParts kinds ws parts
         → AllByRecursion (λ w. has_bad_byte w ≡ false) (ws ++ rest)
     words_clean clean [] [] [] are = clean
     words_clean clean (kind ∷ kinds) (w ∷ ws) (part ∷ parts) are = (are.0.clean, words_clean clean kinds ws parts are.1)
@@ -203,11 +208,13 @@ module _ (ds : List Declaration) where
   pub part_is_there : (kind : PartKind) (w : List ℕ) → part_cause ds kind w ≡ None → (part : Part) × (part_in ds kind w ≡ Some part)
   part_is_there (PartKind.Object kind) w h = by (is_name w) (find_name ds w) h
     where
-      with_kind : (named : Named) (b : Bool) → (if b then None else Some TextCause.WrongKind) ≡ None → (part : Part) × ((if b then Some (Part.Object named) else None) ≡ Some part)
+      with_kind : (named : Named) (b : Bool) → (if b then None else Some TextCause.WrongKind) ≡ None
+          → (part : Part) × ((if b then Some (Part.Object named) else None) ≡ Some part)
       with_kind named true h = (Part.Object named, refl)
       with_kind named false h = absurd (none-some TextCause.WrongKind (sym h))
 
-      by : (b : Bool) (o : Option Named) → (if not b then Some TextCause.BadName else use_cause kind o) ≡ None → (part : Part) × (option_and_then (object_as kind) o ≡ Some part)
+      by : (b : Bool) (o : Option Named) → (if not b then Some TextCause.BadName else use_cause kind o) ≡ None
+          → (part : Part) × (option_and_then (object_as kind) o ≡ Some part)
       by false o h = absurd (none-some TextCause.BadName (sym h))
       by true None h = absurd (none-some TextCause.Unknown (sym h))
       by true (Some named) h = with_kind named (is_named kind named) h
@@ -235,7 +242,8 @@ module _ (ds : List Declaration) where
     pub suit_is : suit kinds parts ≡ true
     pub read : (got : List Part) → parts_on ds got kinds ws ≡ Some (got ++ parts, rest)
 
-  pub are_there : (fields : List Field) (kinds : List PartKind) (ws : List (List ℕ)) (least : Option TextCause) → length ws ≡ length (map Field.Part kinds ++ fields)
+  pub are_there : (fields : List Field) (kinds : List PartKind) (ws : List (List ℕ)) (least : Option TextCause)
+      → length ws ≡ length (map Field.Part kinds ++ fields)
       → cause_on ds least (map Field.Part kinds ++ fields) ws ≡ None → AreThere fields kinds ws least
   unfolding field_cause
   are_there fields [] ws least count none =

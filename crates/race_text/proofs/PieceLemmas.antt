@@ -5,7 +5,8 @@ use Rattle.std.specs.Io.KnownBytes.{Appends}
 use Rattle.race_records.specs.Page.{IsCutOff}
 
 -- a text that is short enough to be counted is cut off just behind the bytes that were sent
-pub cut_is_exact : (start now : Option (List ℕ)) (sent : ℕ) (text : List ℕ) → length text < 2 ^ 64 → IsCutOff start now sent text → Appends start now (take sent text) × (sent < length text)
+pub cut_is_exact : (start now : Option (List ℕ)) (sent : ℕ) (text : List ℕ) → length text < 2 ^ 64 → IsCutOff start now sent text
+    → Appends start now (take sent text) × (sent < length text)
 cut_is_exact start now sent text bounded cut =
     let short = cut.short in
     let counted = cut.counted in

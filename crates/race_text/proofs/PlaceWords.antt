@@ -53,7 +53,8 @@ last_is words place h =
     let first = and_then_some with_no_rest (first_place words) place h in
     by first.0 (first_is words first.0 first.1) first.2
   where
-    by : (first : ReadPlace) → (words ≡ first.0 ∷ first.1) × (is_place first.0 ≡ true) → with_no_rest first ≡ Some place → (words ≡ place ∷ []) × (is_place place ≡ true)
+    by : (first : ReadPlace) → (words ≡ first.0 ∷ first.1) × (is_place first.0 ≡ true) → with_no_rest first ≡ Some place
+        → (words ≡ place ∷ []) × (is_place place ≡ true)
     by (w, []) is h = let s = same_Some w place h in (is.0 ∙ (λ i. s i ∷ []), ap is_place (sym s) ∙ is.1)
     by (w, v ∷ ws) is h = absurd (none-some place h)
 
@@ -66,7 +67,8 @@ not_last words first h some = ap (option_and_then with_no_rest) h ∙ by first s
     by (w, v ∷ ws) some = refl
 
 -- places that were read are the words, and there are as many as there have to be
-pub are_places : (two : Bool) (words : List (List ℕ)) (places : Places) → last_places two words ≡ Some places → ArePlaces two places × (words ≡ place_words places.0 places.1)
+pub are_places : (two : Bool) (words : List (List ℕ)) (places : Places) → last_places two words ≡ Some places
+    → ArePlaces two places × (words ≡ place_words places.0 places.1)
 are_places false words places h =
     let one = map_some alone (last_place words) places h in
     let last = last_is words one.0 one.1 in

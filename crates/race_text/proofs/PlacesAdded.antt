@@ -23,7 +23,8 @@ use Rattle.race_text.specs.Reading.{Occurrence}
 use Rattle.race_text.specs.Taking.{with_second, with_places, event_of}
 
 -- the number of a place leads to it
-known_at : (places : List (List ℕ)) (word : List ℕ) → list_any (bytes_eq word) places ≡ true → slice_get places (position_or_len (bytes_eq word) places) ≡ Some word
+known_at : (places : List (List ℕ)) (word : List ℕ) → list_any (bytes_eq word) places ≡ true
+    → slice_get places (position_or_len (bytes_eq word) places) ≡ Some word
 known_at [] word h = absurd (true≢false (sym h))
 known_at (p ∷ ps) word h = by (bytes_eq word p) refl h (known_at ps word)
   where
@@ -36,7 +37,8 @@ known_at (p ∷ ps) word h = by (bytes_eq word p) refl h (known_at ps word)
 pub place_is_there : (decls : DeclsState) (word : List ℕ) → slice_get (with_place decls word).places (place_number decls.places word) ≡ Some word
 place_is_there decls word = by (is_known decls.places word) refl
   where
-    by : (b : Bool) → is_known decls.places word ≡ b → slice_get (if b then decls.places else decls.places ++ word ∷ []) (place_number decls.places word) ≡ Some word
+    by : (b : Bool) → is_known decls.places word ≡ b
+        → slice_get (if b then decls.places else decls.places ++ word ∷ []) (place_number decls.places word) ≡ Some word
     by true e = known_at decls.places word e
     by false e = slice_get-push_last decls.places word (place_number decls.places word) (position_or_len-absent (bytes_eq word) decls.places e)
 
@@ -49,10 +51,12 @@ place_stays decls word n within = by (is_known decls.places word)
     by false = slice_get-push_within decls.places word n within
 
 -- one more place at most
-pub place_grows : (decls : DeclsState) (word : List ℕ) → (length decls.places ≤ length (with_place decls word).places) × (length (with_place decls word).places ≤ length decls.places + 1)
+pub place_grows : (decls : DeclsState) (word : List ℕ)
+    → (length decls.places ≤ length (with_place decls word).places) × (length (with_place decls word).places ≤ length decls.places + 1)
 place_grows decls word = by (is_known decls.places word)
   where
-    by : (b : Bool) → (length decls.places ≤ length (if b then decls.places else decls.places ++ word ∷ [])) × (length (if b then decls.places else decls.places ++ word ∷ []) ≤ length decls.places + 1)
+    by : (b : Bool)
+        → (length decls.places ≤ length (if b then decls.places else decls.places ++ word ∷ [])) × (length (if b then decls.places else decls.places ++ word ∷ []) ≤ length decls.places + 1)
     by true = (omega arith, omega arith)
     by false = (omega (arith, length-append decls.places (word ∷ [])), omega (arith, length-append decls.places (word ∷ [])))
 
@@ -61,18 +65,21 @@ pub place_has_room : (decls : DeclsState) (word : List ℕ) → is_place word �
 unfolding place_fault
 place_has_room decls word form room = by (is_place word) form (is_known decls.places word) (nat_le MAX_PLACES (length decls.places)) (grind (arith, nat_tests))
   where
-    by : (a : Bool) → a ≡ true → (b c : Bool) → c ≡ false → ◌≡◌ {A = Option DeclFault} (if not a then Some DeclFault.BadName else (if b then None else (if c then Some DeclFault.TooMany else None))) None
+    by : (a : Bool) → a ≡ true → (b c : Bool) → c ≡ false
+        → ◌≡◌ {A = Option DeclFault} (if not a then Some DeclFault.BadName else (if b then None else (if c then Some DeclFault.TooMany else None))) None
     by true e true c f = refl
     by true e false true f = absurd (true≢false f)
     by true e false false f = refl
     by false e b c f = absurd (true≢false (sym e))
 
 -- of a second place, where there is one
-second_stays : (decls : DeclsState) (place2 : Option (List ℕ)) (n : ℕ) → n < length decls.places → slice_get (with_second decls place2).places n ≡ slice_get decls.places n
+second_stays : (decls : DeclsState) (place2 : Option (List ℕ)) (n : ℕ) → n < length decls.places
+    → slice_get (with_second decls place2).places n ≡ slice_get decls.places n
 second_stays decls None n within = refl
 second_stays decls (Some word) n within = place_stays decls word n within
 
-second_is_there : (decls : DeclsState) (place2 : Option (List ℕ)) → second_text (with_second decls place2).places (option_map (place_number decls.places) place2) ≡ place2
+second_is_there : (decls : DeclsState) (place2 : Option (List ℕ))
+    → second_text (with_second decls place2).places (option_map (place_number decls.places) place2) ≡ place2
 second_is_there decls None = refl
 second_is_there decls (Some word) = ap (λ o. Some (unwrap_or o [])) (place_is_there decls word)
 
@@ -80,15 +87,18 @@ second_grows : (decls : DeclsState) (place2 : Option (List ℕ)) → length (wit
 second_grows decls None = omega arith
 second_grows decls (Some word) = (place_grows decls word).1
 
-second_fits : (decls : DeclsState) (place2 : Option (List ℕ)) → second_place_fits (length (with_second decls place2).places) (is_some place2) (option_map (place_number decls.places) place2) ≡ true
+second_fits : (decls : DeclsState) (place2 : Option (List ℕ))
+    → second_place_fits (length (with_second decls place2).places) (is_some place2) (option_map (place_number decls.places) place2) ≡ true
 second_fits decls None = refl
 second_fits decls (Some word) = let within = slice_get_within (with_place decls word).places (place_number decls.places word) word (place_is_there decls word) in grind (arith, nat_tests, within)
 
-second_well_formed : (decls : DeclsState) (place2 : Option (List ℕ)) → IfSome place2 (λ place. is_place place ≡ true) → length decls.places < MAX_PLACES → IsWellFormed decls → IsWellFormed (with_second decls place2)
+second_well_formed : (decls : DeclsState) (place2 : Option (List ℕ)) → IfSome place2 (λ place. is_place place ≡ true) → length decls.places < MAX_PLACES
+    → IsWellFormed decls → IsWellFormed (with_second decls place2)
 second_well_formed decls None form room holds = holds
 second_well_formed decls (Some word) form room holds = with_place_well_formed decls word holds (place_has_room decls word form room)
 
-second_is_trace : (trace : TraceState) (place2 : Option (List ℕ)) → IsTrace trace → IsTrace (record { decls = with_second trace.decls place2; events = trace.events; spare = trace.spare })
+second_is_trace : (trace : TraceState) (place2 : Option (List ℕ)) → IsTrace trace
+    → IsTrace (record { decls = with_second trace.decls place2; events = trace.events; spare = trace.spare })
 second_is_trace trace None holds = holds
 second_is_trace trace (Some word) holds = with_place_is_trace trace word (with_place trace.decls word) holds refl
 
@@ -137,20 +147,23 @@ pub words_stay : (decls : DeclsState) (o : Occurrence) (e : Event) → fits decl
 words_stay decls o e fit =
     λ i. place_words (unwrap_or (places_stay decls o e.place (fit_place decls e fit) i) []) (second (has_two_places (says e.op).0) e.place2 (fit_second decls e fit) i)
   where
-    second : (two : Bool) (place2 : Option ℕ) → second_place_fits (length decls.places) two place2 ≡ true → second_text (with_places decls o).places place2 ≡ second_text decls.places place2
+    second : (two : Bool) (place2 : Option ℕ) → second_place_fits (length decls.places) two place2 ≡ true
+        → second_text (with_places decls o).places place2 ≡ second_text decls.places place2
     second two None fit = refl
     second true (Some n) fit = ap (λ o. Some (unwrap_or o [])) (places_stay decls o n (grind (arith, nat_tests, fit)))
     second false (Some n) fit = absurd (true≢false (sym fit))
 
 -- both keep what holds of the declarations and of a trace
-pub places_well_formed : (decls : DeclsState) (o : Occurrence) → is_place o.place ≡ true → IfSome o.place2 (λ place. is_place place ≡ true) → length decls.places + 1 < MAX_PLACES
+pub places_well_formed : (decls : DeclsState) (o : Occurrence) → is_place o.place ≡ true → IfSome o.place2 (λ place. is_place place ≡ true)
+    → length decls.places + 1 < MAX_PLACES
     → IsWellFormed decls → IsWellFormed (with_places decls o)
 places_well_formed decls o form form2 room holds =
     let mid = with_place decls o.place in
     let grown = (place_grows decls o.place).1 in
     second_well_formed mid o.place2 form2 (omega (arith, room, grown)) (with_place_well_formed decls o.place holds (place_has_room decls o.place form (omega (arith, room))))
 
-pub places_are_trace : (trace : TraceState) (o : Occurrence) → IsTrace trace → IsTrace (record { decls = with_places trace.decls o; events = trace.events; spare = trace.spare })
+pub places_are_trace : (trace : TraceState) (o : Occurrence) → IsTrace trace
+    → IsTrace (record { decls = with_places trace.decls o; events = trace.events; spare = trace.spare })
 places_are_trace trace o holds =
     let mid : TraceState = record { decls = with_place trace.decls o.place; events = trace.events; spare = trace.spare } in
     second_is_trace mid o.place2 (with_place_is_trace trace o.place mid.decls holds refl)

@@ -49,7 +49,8 @@ pub header_says : seen (header ∷ []) ≡ seen_so_far [] 0
 unfolding seen word_named
 header_says = refl
 
-pub header_taken : (decls : DeclsState) (trace : Option TraceState) (line : List ℕ) → IsReading false decls trace → bytes_eq line header ≡ true → GoesOn [] line (lines_read true decls trace)
+pub header_taken : (decls : DeclsState) (trace : Option TraceState) (line : List ℕ) → IsReading false decls trace → bytes_eq line header ≡ true
+    → GoesOn [] line (lines_read true decls trace)
 header_taken decls trace line reading h = record {
   no_cause = header_fine line h;
   lines = (λ i. lines (trace_read (reading.0 i) (reading.1 i))) ∙ header_lines ∙ (λ i. sym ((bytes_eq-Decides line header).0 h) i ∷ []);
@@ -114,7 +115,8 @@ module _ (old new : DeclsState) (line : List ℕ) (read : IsRead (begun old)) (c
   cause_of_line h = cause_behind (begun old) line read ∙ clean_line (state_of (begun old)) line clean
       ∙ sym (ap (λ b. if b then word_cause (seen_so_far old.declarations 0) (word_named (first_word (words_of line))) (arguments (words_of line)) else None) h)
 
-  pub taken_declaration : is_declaration_line line ≡ true → declaration_cause old.declarations line ≡ None → new ≡ with_declaration_in old line → TakesLine (lines (begun old)) line (begun new)
+  pub taken_declaration : is_declaration_line line ≡ true → declaration_cause old.declarations line ≡ None → new ≡ with_declaration_in old line
+      → TakesLine (lines (begun old)) line (begun new)
   taken_declaration h none added =
       let is = declaration_of_line old.declarations line h none in
       let new_is : new ≡ with_declaration old is.d.name is.d.object = added ∙ ap (with_declared old) is.is in
@@ -137,11 +139,14 @@ module _ (old new : DeclsState) (line : List ℕ) (read : IsRead (begun old)) (c
   is_declared : (f : TextCause) → declaration_cause old.declarations line ≡ Some f → is_declaration_line line ≡ true
   is_declared f h = by (is_declaration_line line) refl h
     where
-      by : (b : Bool) → is_declaration_line line ≡ b → (if b then word_cause (seen_so_far old.declarations 0) (word_named (first_word (words_of line))) (arguments (words_of line)) else None) ≡ Some f → is_declaration_line line ≡ true
+      by : (b : Bool) → is_declaration_line line ≡ b
+          → (if b then word_cause (seen_so_far old.declarations 0) (word_named (first_word (words_of line))) (arguments (words_of line)) else None) ≡ Some f
+          → is_declaration_line line ≡ true
       by true e h = e
       by false e h = absurd (none-some f h)
 
-  pub declaration_answered : (r : Result Bool TextCause) → Refuses (declaration_cause old.declarations line) r → AllowsUnless (declaration_cause old.declarations line) r TextCause.OutOfMemory
+  pub declaration_answered : (r : Result Bool TextCause) → Refuses (declaration_cause old.declarations line) r
+      → AllowsUnless (declaration_cause old.declarations line) r TextCause.OutOfMemory
       → IfOk r (λ added. added ≡ is_declaration_line line) → (r ≡ Ok true → new ≡ with_declaration_in old line) → (r ≡ Ok false → new ≡ old) → TakesDeclaration old line r new
   declaration_answered (Ok true) refused allowed ok added same = taken_declaration (sym ok) (by (declaration_cause old.declarations line) refused) (added refl)
     where
@@ -151,7 +156,8 @@ module _ (old new : DeclsState) (line : List ℕ) (read : IsRead (begun old)) (c
   declaration_answered (Ok false) refused allowed ok added same = (same refl, sym ok)
   declaration_answered (Err e) refused allowed ok added same = λ other. by (declaration_cause old.declarations line) refl refused allowed other
     where
-      by : (o : Option TextCause) → declaration_cause old.declarations line ≡ o → Refuses {T = Bool} o (Err e) → AllowsUnless {T = Bool} o (Err e) TextCause.OutOfMemory → e ≢ TextCause.OutOfMemory
+      by : (o : Option TextCause) → declaration_cause old.declarations line ≡ o → Refuses {T = Bool} o (Err e)
+          → AllowsUnless {T = Bool} o (Err e) TextCause.OutOfMemory → e ≢ TextCause.OutOfMemory
           → cause (lines (begun old)) line true ≡ Some e
       by None is refused allowed other = absurd (other (allowed refl))
       by (Some f) is refused allowed other =

@@ -79,7 +79,8 @@ module _ (t : TraceState) (read : IsRead t) (line : List ℕ) (none : cause (lin
   with_line : IsNext t line
   with_line = by (event_in ds (words_of line)) refl (is_declaration_line line) refl t.events refl
     where
-      by : (o : Option Occurrence) → event_in ds (words_of line) ≡ o → (b : Bool) → is_declaration_line line ≡ b → (es : List Event) → t.events ≡ es → IsNext t line
+      by : (o : Option Occurrence) → event_in ds (words_of line) ≡ o → (b : Bool) → is_declaration_line line ≡ b → (es : List Event) → t.events ≡ es
+          → IsNext t line
       by (Some o) says b declares es are = with_event o says
       by None says false declares es are = absurd (no_event_is_told ds (length t.events) line says (λ h. absurd (true≢false (sym h ∙ declares))) told_none)
       by None says true declares [] are = with_declared_line are declares

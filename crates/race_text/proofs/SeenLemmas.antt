@@ -39,10 +39,12 @@ all_seen (b ∷ bs) h = by (is_place_byte b) refl h (all_seen bs)
         ((λ i. e i && r.0 i), slice_split-cons_no (λ c. c == 32) b bs (not_space b e) ∙ ap (onto_first b) r.1)
     by false e h rest = absurd (true≢false h)
 
-pub whole_is_word : (bytes : List ℕ) → position (λ b. not (is_place_byte b)) bytes ≡ None → (list_all is_place_byte bytes ≡ true) × (words_of bytes ≡ bytes ∷ [])
+pub whole_is_word : (bytes : List ℕ) → position (λ b. not (is_place_byte b)) bytes ≡ None
+    → (list_all is_place_byte bytes ≡ true) × (words_of bytes ≡ bytes ∷ [])
 whole_is_word bytes h = all_seen bytes (list_any-absent (λ b. not (is_place_byte b)) bytes (ap is_some h))
 
-seen_front : (bytes : List ℕ) (n : ℕ) → n ≤ length bytes → ((k : ℕ) → k < n → is_place_byte (get_or bytes k 0) ≡ true) → list_all is_place_byte (take n bytes) ≡ true
+seen_front : (bytes : List ℕ) (n : ℕ) → n ≤ length bytes → ((k : ℕ) → k < n → is_place_byte (get_or bytes k 0) ≡ true)
+    → list_all is_place_byte (take n bytes) ≡ true
 seen_front bytes zero within h = refl
 seen_front [] (suc n) within h = refl
 seen_front (b ∷ bs) (suc n) within h = λ i. h 0 (omega arith) i && seen_front bs n (omega arith) (λ k l. h (suc k) (omega arith)) i
@@ -63,7 +65,8 @@ word_before_space bytes end found space =
     below h = grind (arith, nat_tests)
 
 -- and where it is no space, the first word has a byte that can't be seen
-unseen_first : (bytes : List ℕ) (n : ℕ) → n < length bytes → ((k : ℕ) → k < n → is_place_byte (get_or bytes k 0) ≡ true) → is_place_byte (get_or bytes n 0) ≡ false → get_or bytes n 0 ≢ 32
+unseen_first : (bytes : List ℕ) (n : ℕ) → n < length bytes → ((k : ℕ) → k < n → is_place_byte (get_or bytes k 0) ≡ true)
+    → is_place_byte (get_or bytes n 0) ≡ false → get_or bytes n 0 ≢ 32
     → list_all is_place_byte (first_word (words_of bytes)) ≡ false
 unseen_first [] n within h unseen other = absurd (omega arith)
 unseen_first (b ∷ bs) zero within h unseen other =
@@ -76,7 +79,8 @@ unseen_first (b ∷ bs) (suc n) within h unseen other =
     ∙ ap (list_all is_place_byte) (first_onto b (words_of bs))
     ∙ (λ i. first i && unseen_first bs n (omega arith) (λ k l. h (suc k) (omega arith)) unseen other i)
 
-pub word_is_unseen : (bytes : List ℕ) (end : ℕ) → position (λ b. not (is_place_byte b)) bytes ≡ Some end → get_or bytes end 0 ≢ 32 → list_all is_place_byte (first_word (words_of bytes)) ≡ false
+pub word_is_unseen : (bytes : List ℕ) (end : ℕ) → position (λ b. not (is_place_byte b)) bytes ≡ Some end → get_or bytes end 0 ≢ 32
+    → list_all is_place_byte (first_word (words_of bytes)) ≡ false
 word_is_unseen bytes end found other =
     let at = position-Some (λ b. not (is_place_byte b)) bytes end 0 found in
     unseen_first bytes end at.0 (λ k l. is_seen (is_place_byte (get_or bytes k 0)) (at.2 k l)) (is_unseen (is_place_byte (get_or bytes end 0)) at.1) other

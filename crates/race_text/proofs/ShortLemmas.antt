@@ -66,21 +66,24 @@ place_short w is = go (not (length w == 0)) (nat_le (length w) 128) (list_all is
     go false b c low h = cc
 
 -- what holds of all declarations holds of those of a kind
-of_kind_each : (P : Declaration → Type 0) (kind : Kind) (ds : List Declaration) → ((i : ℕ) (d : Declaration) → slice_get ds i ≡ Some d → P d) → (m : ℕ) (d : Declaration) → slice_get (of_kind kind ds) m ≡ Some d → P d
+of_kind_each : (P : Declaration → Type 0) (kind : Kind) (ds : List Declaration) → ((i : ℕ) (d : Declaration) → slice_get ds i ≡ Some d → P d)
+    → (m : ℕ) (d : Declaration) → slice_get (of_kind kind ds) m ≡ Some d → P d
 of_kind_each P kind ds each m d at = let s = stands_at kind ds m d at in each s.i d s.at
 
 module _ (decls : DeclsState) (holds : IsWellFormed decls) where
   nth_short : (kind : Kind) (m : ℕ) → length (unwrap_or (nth_name kind decls.declarations m) []) ≤ 64
   nth_short kind m = by (slice_get (of_kind kind decls.declarations) m) (of_kind_each (λ (d : Declaration). length d.name ≤ 64) kind decls.declarations (λ i d at. name_short d.name (at_index (λ (x : Declaration). IsTrue (is_name x.name)) decls.declarations holds.names i d at)) m)
     where
-      by : (o : Option Declaration) → ((d : Declaration) → o ≡ Some d → length d.name ≤ 64) → length (unwrap_or (option_map (λ (d : Declaration). d.name) o) []) ≤ 64
+      by : (o : Option Declaration) → ((d : Declaration) → o ≡ Some d → length d.name ≤ 64)
+          → length (unwrap_or (option_map (λ (d : Declaration). d.name) o) []) ≤ 64
       by None each = omega arith
       by (Some d) each = each d refl
 
   goroutine_short : (n : ℕ) → length (goroutine_name decls.declarations n) ≤ 64
   goroutine_short n = by (n == 0) (nth_short Kind.Goroutine (n - 1))
     where
-      by : (b : Bool) → length (unwrap_or (nth_name Kind.Goroutine decls.declarations (n - 1)) []) ≤ 64 → length (unwrap_or (if b then Some main else nth_name Kind.Goroutine decls.declarations (n - 1)) []) ≤ 64
+      by : (b : Bool) → length (unwrap_or (nth_name Kind.Goroutine decls.declarations (n - 1)) []) ≤ 64
+          → length (unwrap_or (if b then Some main else nth_name Kind.Goroutine decls.declarations (n - 1)) []) ≤ 64
       by true rest = omega arith
       by false rest = rest
 
@@ -203,7 +206,8 @@ module _ (decls : DeclsState) (holds : IsWellFormed decls) where
       (subst (λ l. length l ≤ 5000) (sym (ended_more (verb_text verb) who (map (part_text decls.declarations) parts ++ places))) (omega (arith, len, few_parts e.op)))
 
 -- so many pieces, none of them long
-pieces_short : {X : Type 0} (piece : X → List ℕ) (xs : List X) → ((i : ℕ) (x : X) → slice_get xs i ≡ Some x → length (piece x) ≤ 5000) → length (flat_map piece xs) ≤ 5000 * length xs
+pieces_short : {X : Type 0} (piece : X → List ℕ) (xs : List X) → ((i : ℕ) (x : X) → slice_get xs i ≡ Some x → length (piece x) ≤ 5000)
+    → length (flat_map piece xs) ≤ 5000 * length xs
 pieces_short piece [] each = omega arith
 pieces_short piece (x ∷ xs) each =
     let first = each 0 x refl in
@@ -212,14 +216,16 @@ pieces_short piece (x ∷ xs) each =
     omega (arith, first, rest, len)
 
 -- each declaration is of one kind
-kinds_sum : (ds : List Declaration) → length ds ≡ length (of_kind Kind.Goroutine ds) + length (of_kind Kind.Var ds) + length (of_kind Kind.Chan ds) + length (of_kind Kind.Lock ds) + length (of_kind Kind.Once ds)
+kinds_sum : (ds : List Declaration)
+    → length ds ≡ length (of_kind Kind.Goroutine ds) + length (of_kind Kind.Var ds) + length (of_kind Kind.Chan ds) + length (of_kind Kind.Lock ds) + length (of_kind Kind.Once ds)
 kinds_sum [] = refl
 kinds_sum (e ∷ ds) = by e.object (kinds_sum ds)
   where
     some : Bool → Kind → List Declaration
     some b kind = if b then e ∷ of_kind kind ds else of_kind kind ds
 
-    by : (o : Object) → length ds ≡ length (of_kind Kind.Goroutine ds) + length (of_kind Kind.Var ds) + length (of_kind Kind.Chan ds) + length (of_kind Kind.Lock ds) + length (of_kind Kind.Once ds)
+    by : (o : Object)
+        → length ds ≡ length (of_kind Kind.Goroutine ds) + length (of_kind Kind.Var ds) + length (of_kind Kind.Chan ds) + length (of_kind Kind.Lock ds) + length (of_kind Kind.Once ds)
         → length (e ∷ ds) ≡ length (some (is_of_kind Kind.Goroutine o) Kind.Goroutine) + length (some (is_of_kind Kind.Var o) Kind.Var) + length (some (is_of_kind Kind.Chan o) Kind.Chan) + length (some (is_of_kind Kind.Lock o) Kind.Lock) + length (some (is_of_kind Kind.Once o) Kind.Once)
     by Object.Goroutine rest = omega (arith, rest)
     by Object.Var rest = omega (arith, rest)

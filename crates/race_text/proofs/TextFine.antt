@@ -157,7 +157,8 @@ module _ (t : TraceState) (has : HasText t) where
         rest.1,
       )
 
-  events_fine : (done rest : List Event) → done ++ rest ≡ t.events → seen (header ∷ map declaration_line declared ++ map print done) ≡ seen_so_far declared (length done)
+  events_fine : (done rest : List Event) → done ++ rest ≡ t.events
+      → seen (header ∷ map declaration_line declared ++ map print done) ≡ seen_so_far declared (length done)
       → AreFine (header ∷ map declaration_line declared ++ map print done) (map print rest)
   events_fine done [] is says = tt
   events_fine done (e ∷ rest) is says =
@@ -208,7 +209,8 @@ memory_or_not TextCause.OutOfMemory = inl refl
 memory_or_not _ = inr (λ e. cc)
 
 -- so a trace's text is refused for memory alone
-pub text_is_accepted : (bytes : List ℕ) (told : TextFault) → (told.cause ≢ TextCause.OutOfMemory → text_fault bytes ≡ Some told) → IsTraceText bytes → told.cause ≡ TextCause.OutOfMemory
+pub text_is_accepted : (bytes : List ℕ) (told : TextFault) → (told.cause ≢ TextCause.OutOfMemory → text_fault bytes ≡ Some told) → IsTraceText bytes
+    → told.cause ≡ TextCause.OutOfMemory
 text_is_accepted bytes told is_fault is = elim (memory_or_not told.cause) [
   | inl memory ↦ memory
   | inr other ↦ absurd (none-some told (sym (ap text_fault is.1.printed ∙ text_has_no_fault is.0 is.1.has_text) ∙ is_fault other))

@@ -46,7 +46,8 @@ numbers_visible (Some l) (Some n) wanted small = let low = small l refl in (numb
 numbers_visible None (Some n) wanted small = absurd wanted
 numbers_visible (Some l) None wanted small = absurd wanted
 
-pub declaration_again : (d : Declaration) → is_name d.name ≡ true → is_too_wide d.object ≡ false → IsTrue (has_known_word d.object) → IsDeclarationLine d (declaration_line d)
+pub declaration_again : (d : Declaration) → is_name d.name ≡ true → is_too_wide d.object ≡ false → IsTrue (has_known_word d.object)
+    → IsDeclarationLine d (declaration_line d)
 declaration_again d form narrow known =
     let noun = (object_says d.object).0 in
     let numbers = number_words (object_says d.object).1 in
@@ -72,7 +73,8 @@ pub is_no_event : (d : Declaration) (line : List ℕ) → IsDeclarationLine d li
 is_no_event d line is = ap is_event_word is.named
 
 -- what holds of all elements, by recursion over a list that is printed line by line
-each_line : {X : Type 0} (P : List ℕ → Type 0) (line : X → List ℕ) (xs : List X) → ((i : ℕ) (d : X) → i < length xs → P (line (get_or xs i d))) → AllByRecursion P (map line xs)
+each_line : {X : Type 0} (P : List ℕ → Type 0) (line : X → List ℕ) (xs : List X) → ((i : ℕ) (d : X) → i < length xs → P (line (get_or xs i d)))
+    → AllByRecursion P (map line xs)
 each_line P line [] each = tt
 each_line P line (x ∷ xs) each = (each 0 x (omega arith), each_line P line xs (λ i d less. each (suc i) d (omega (arith, less))))
 
@@ -81,16 +83,19 @@ joined_each P [] ys h k = k
 joined_each P (x ∷ xs) ys h k = (h.0, joined_each P xs ys h.1 k)
 
 -- what a scan of printed lines gives
-scan_none : {X Y : Type 0} (f : List ℕ → Option Y) (line : X → List ℕ) (xs : List X) → ((i : ℕ) (d : X) → i < length xs → f (line (get_or xs i d)) ≡ None) → filter_map f (map line xs) ≡ []
+scan_none : {X Y : Type 0} (f : List ℕ → Option Y) (line : X → List ℕ) (xs : List X) → ((i : ℕ) (d : X) → i < length xs → f (line (get_or xs i d)) ≡ None)
+    → filter_map f (map line xs) ≡ []
 scan_none f line [] each = refl
 scan_none f line (x ∷ xs) each = (λ j. cons_option (each 0 x (omega arith) j) (filter_map f (map line xs))) ∙ scan_none f line xs (λ i d less. each (suc i) d (omega (arith, less)))
 
-scan_some : {X Y : Type 0} (f : List ℕ → Option Y) (line : X → List ℕ) (g : X → Y) (xs : List X) → ((i : ℕ) (d : X) → i < length xs → f (line (get_or xs i d)) ≡ Some (g (get_or xs i d))) → filter_map f (map line xs) ≡ map g xs
+scan_some : {X Y : Type 0} (f : List ℕ → Option Y) (line : X → List ℕ) (g : X → Y) (xs : List X)
+    → ((i : ℕ) (d : X) → i < length xs → f (line (get_or xs i d)) ≡ Some (g (get_or xs i d))) → filter_map f (map line xs) ≡ map g xs
 scan_some f line g [] each = refl
 scan_some f line g (x ∷ xs) each = λ j. cons_option (each 0 x (omega arith) j) (scan_some f line g xs (λ i d less. each (suc i) d (omega (arith, less))) j)
 
 -- the text of a second place that fits is the one in the table
-second_at : (places : List (List ℕ)) (two : Bool) (place2 : Option ℕ) → second_place_fits (length places) two place2 ≡ true → second_text places place2 ≡ option_and_then (slice_get places) place2
+second_at : (places : List (List ℕ)) (two : Bool) (place2 : Option ℕ) → second_place_fits (length places) two place2 ≡ true
+    → second_text places place2 ≡ option_and_then (slice_get places) place2
 second_at places two None fit = refl
 second_at places true (Some n) fit = let at = slice_get-get_or places n [] (grind (arith, nat_tests, fit)) in ap (λ o. Some (unwrap_or o [])) at ∙ sym at
 second_at places false (Some n) fit = absurd (true≢false (sym fit))
@@ -106,7 +111,8 @@ module _ (t : TraceState) (has : HasText t) where
   declaration_at : (i : ℕ) (d : Declaration) → i < length ds → IsDeclarationLine (get_or ds i d) (declaration_line (get_or ds i d))
   declaration_at i d less = declaration_again (get_or ds i d) (has.well_formed.names i d less) (has.well_formed.capacities i d less) (has.words i d less)
 
-  says_at : (i : ℕ) (e : Event) → i < length t.events → event_in ds (words_of (event_line t.decls (get_or t.events i e))) ≡ Some (said t.decls (get_or t.events i e))
+  says_at : (i : ℕ) (e : Event) → i < length t.events
+      → event_in ds (words_of (event_line t.decls (get_or t.events i e))) ≡ Some (said t.decls (get_or t.events i e))
   says_at i e less = event_again t.decls has.well_formed (get_or t.events i e) (has.is_trace.fit i e less) (has.is_trace.values i e less)
 
   pub event_at : (i : ℕ) (e : Event) → i < length t.events → IsEventLine ds (event_line t.decls (get_or t.events i e)) (said t.decls (get_or t.events i e))
@@ -152,7 +158,8 @@ module _ (t : TraceState) (has : HasText t) where
       ∙ (λ j. scan_none (λ l. event_in ds (words_of l)) declaration_line ds (λ i d less. says_no_event ds (get_or ds i d) (declaration_line (get_or ds i d)) (declaration_at i d less)) j
       ++ scan_some (λ l. event_in ds (words_of l)) (event_line t.decls) (said t.decls) t.events says_at j)
 
-  recorded_again : (events : List Event) → ((i : ℕ) (e : Event) → i < length events → fits t.decls (get_or events i e) ≡ true) → map recorded_as (map (said t.decls) events) ≡ map (placed t.decls.places) events
+  recorded_again : (events : List Event) → ((i : ℕ) (e : Event) → i < length events → fits t.decls (get_or events i e) ≡ true)
+      → map recorded_as (map (said t.decls) events) ≡ map (placed t.decls.places) events
   recorded_again [] fit = refl
   recorded_again (e ∷ es) fit = λ j. one e (fit 0 e (omega arith)) j ∷ recorded_again es (λ i e less. fit (suc i) e (omega (arith, less))) j
     where

@@ -39,11 +39,13 @@ events_stay t o holds = map_same (event_line (with_places t.decls o)) (event_lin
     ap (λ places. line_of (op_words t.decls.declarations (goroutine_name t.decls.declarations e.who) places e.op)) (words_stay t.decls o e (holds.fit k d within)))
 
 -- the line of the event that is appended
-event_line_is : (decls : DeclsState) (line : List ℕ) (o : Occurrence) → IsEventLine decls.declarations line o → event_line (with_places decls o) (event_of decls o) ≡ line
+event_line_is : (decls : DeclsState) (line : List ℕ) (o : Occurrence) → IsEventLine decls.declarations line o
+    → event_line (with_places decls o) (event_of decls o) ≡ line
 event_line_is decls line o is =
     ap (λ places. line_of (op_words decls.declarations (goroutine_name decls.declarations o.who) places o.op)) (words_are_there decls o) ∙ sym is.line_is
 
-lines_event : (old new : TraceState) (line : List ℕ) (o : Occurrence) → IsTrace old → IsEventLine old.decls.declarations line o → AppendsEvent old new o → lines new ≡ lines old ++ line ∷ []
+lines_event : (old new : TraceState) (line : List ℕ) (o : Occurrence) → IsTrace old → IsEventLine old.decls.declarations line o → AppendsEvent old new o
+    → lines new ≡ lines old ++ line ∷ []
 unfolding lines
 lines_event old new line o holds is added =
     let decls = with_places old.decls o in
@@ -55,7 +57,8 @@ lines_event old new line o holds is added =
     ∙ sym (append_assoc before (map (event_line old.decls) old.events) (line ∷ []))
 
 -- what the lines say after an event
-pub seen_event : (before : List (List ℕ)) (line : List ℕ) (ds : List Declaration) (events : ℕ) → seen before ≡ seen_so_far ds events → declaration_in line ≡ None → is_event_line line ≡ true
+pub seen_event : (before : List (List ℕ)) (line : List ℕ) (ds : List Declaration) (events : ℕ) → seen before ≡ seen_so_far ds events
+    → declaration_in line ≡ None → is_event_line line ≡ true
     → seen (before ++ line ∷ []) ≡ seen_so_far ds (events + 1)
 unfolding seen
 seen_event before line ds events h none event =
@@ -66,7 +69,8 @@ seen_event before line ds events h none event =
     (λ i. seen_so_far (declared i) (counted i)) ∙ ap (λ (s : Seen). seen_so_far s.declarations (s.events + 1)) h
 
 -- and after a declaration
-pub seen_declaration : (before : List (List ℕ)) (line : List ℕ) (ds : List Declaration) (d : Declaration) → seen before ≡ seen_so_far ds 0 → declaration_in line ≡ Some d → is_event_line line ≡ false
+pub seen_declaration : (before : List (List ℕ)) (line : List ℕ) (ds : List Declaration) (d : Declaration) → seen before ≡ seen_so_far ds 0
+    → declaration_in line ≡ Some d → is_event_line line ≡ false
     → seen (before ++ line ∷ []) ≡ seen_so_far (ds ++ d ∷ []) 0
 unfolding seen
 seen_declaration before line ds d h is event =
@@ -76,7 +80,8 @@ seen_declaration before line ds d h is event =
     sum_by-append (λ l. cond (is_event_line l) 1 0) before (line ∷ []) ∙ (λ i. count_by is_event_line before + (0 + cond (event i) 1 0)) in
     (λ i. seen_so_far (declared i) (counted i)) ∙ ap (λ (s : Seen). seen_so_far (s.declarations ++ d ∷ []) (s.events + 0)) h
 
-pub lines_declaration : (decls : DeclsState) (line : List ℕ) (d : Declaration) → line ≡ declaration_line d → lines (begun (with_declaration decls d.name d.object)) ≡ lines (begun decls) ++ line ∷ []
+pub lines_declaration : (decls : DeclsState) (line : List ℕ) (d : Declaration) → line ≡ declaration_line d
+    → lines (begun (with_declaration decls d.name d.object)) ≡ lines (begun decls) ++ line ∷ []
 unfolding lines
 lines_declaration decls line d is =
     ap (λ l. (header ∷ l) ++ []) (map-append declaration_line decls.declarations (d ∷ []))
@@ -105,7 +110,8 @@ pub event_has_room : (t : TraceState) (e : Event) → fits t.decls e ≡ true �
 unfolding push_fault
 event_has_room t e fit room = by (fits t.decls e) fit (nat_le MAX_EVENTS (length t.events)) (grind (arith, nat_tests))
   where
-    by : (a : Bool) → a ≡ true → (b : Bool) → b ≡ false → ◌≡◌ {A = Option PushFault} (if not a then Some PushFault.BadNumber else (if b then Some PushFault.Full else None)) None
+    by : (a : Bool) → a ≡ true → (b : Bool) → b ≡ false
+        → ◌≡◌ {A = Option PushFault} (if not a then Some PushFault.BadNumber else (if b then Some PushFault.Full else None)) None
     by true e true f = absurd (true≢false f)
     by true e false f = refl
     by false e b f = absurd (true≢false (sym e))
@@ -131,7 +137,8 @@ pub bad_byte_is_told : (s : Seen) (line : List ℕ) → has_bad_byte line ≡ tr
 unfolding line_cause
 bad_byte_is_told s line bad = ap (λ b. if b then Some TextCause.BadByte else word_cause s (word_named (first_word (words_of line))) (arguments (words_of line))) bad
 
-pub clean_line : (s : Seen) (line : List ℕ) → has_bad_byte line ≡ false → line_cause s line ≡ word_cause s (word_named (first_word (words_of line))) (arguments (words_of line))
+pub clean_line : (s : Seen) (line : List ℕ) → has_bad_byte line ≡ false
+    → line_cause s line ≡ word_cause s (word_named (first_word (words_of line))) (arguments (words_of line))
 unfolding line_cause
 clean_line s line clean = ap (λ b. if b then Some TextCause.BadByte else word_cause s (word_named (first_word (words_of line))) (arguments (words_of line))) clean
 
@@ -181,14 +188,16 @@ module _ (old new : TraceState) (line : List ℕ) (o : Occurrence) (read : IsRea
         };
       }
 
-  pub event_answered : (r : Result (Unit {0}) TextCause) → MatchResult r (λ _. AppendsEvent old new o) (λ told. told ≢ TextCause.OutOfMemory → IsFull old told) → TakesOrTells (lines old) line r new
+  pub event_answered : (r : Result (Unit {0}) TextCause) → MatchResult r (λ _. AppendsEvent old new o) (λ told. told ≢ TextCause.OutOfMemory → IsFull old told)
+      → TakesOrTells (lines old) line r new
   event_answered (Ok u) added = event_taken added
   event_answered (Err told) full = λ other.
       let h = full other in
       let over = h.full in
       room_is true (grind (arith, nat_tests, over)) ∙ ap Some (sym h.cause)
 
-pub event_grown : (old new : TraceState) (o : Occurrence) (r : Result (Unit {0}) TextCause) → MatchResult r (λ _. AppendsEvent old new o) (λ told. told ≢ TextCause.OutOfMemory → IsFull old told) → OnOk r (0 < length new.events)
+pub event_grown : (old new : TraceState) (o : Occurrence) (r : Result (Unit {0}) TextCause)
+    → MatchResult r (λ _. AppendsEvent old new o) (λ told. told ≢ TextCause.OutOfMemory → IsFull old told) → OnOk r (0 < length new.events)
 event_grown old new o (Ok u) added = let more = ap length added.events ∙ length-append old.events (event_of old.decls o ∷ []) in omega (arith, more)
 event_grown old new o (Err told) full = tt
 
@@ -209,13 +218,16 @@ late_declaration : (ds : List Declaration) (events : ℕ) (word : Word) (kind : 
     → word_cause (seen_so_far ds events) (Some word) words ≡ None → ⊥
 late_declaration ds events word kind words is some h = by (length words == length (fields_of word)) h
   where
-    by : (b : Bool) → (if not b then Some TextCause.WrongCount else or_else (fields_cause ds (fields_of word) words) (room_cause (seen_so_far ds events) (kind_declared word))) ≡ None → ⊥
+    by : (b : Bool)
+        → (if not b then Some TextCause.WrongCount else or_else (fields_cause ds (fields_of word) words) (room_cause (seen_so_far ds events) (kind_declared word))) ≡ None
+        → ⊥
     by false h = none-some TextCause.WrongCount (sym h)
     by true h =
         let told = late ds events kind some in
         or_else_some (fields_cause ds (fields_of word) words) told.0 (ap (or_else (fields_cause ds (fields_of word) words)) (sym (ap (room_cause (seen_so_far ds events)) is ∙ told.1)) ∙ h)
 
-no_event : (ds : List Declaration) (events : ℕ) (word : Option Word) (args : List (List ℕ)) → event_by ds word args ≡ None → (is_declaration_word word ≡ true → 0 < events)
+no_event : (ds : List Declaration) (events : ℕ) (word : Option Word) (args : List (List ℕ)) → event_by ds word args ≡ None
+    → (is_declaration_word word ≡ true → 0 < events)
     → word_cause (seen_so_far ds events) word args ≡ None → ⊥
 no_event ds events None args none behind h = none-some TextCause.UnknownWord (sym h)
 no_event ds events (Some (Word.Declares noun)) args none behind h = late_declaration ds events (Word.Declares noun) (kind_of_noun noun) args refl (behind refl) h
@@ -225,7 +237,8 @@ pub no_word : word_named [] ≡ None
 unfolding word_named
 no_word = refl
 
-pub no_event_is_told : (ds : List Declaration) (events : ℕ) (line : List ℕ) → event_in ds (words_of line) ≡ None → (is_declaration_line line ≡ true → 0 < events)
+pub no_event_is_told : (ds : List Declaration) (events : ℕ) (line : List ℕ) → event_in ds (words_of line) ≡ None
+    → (is_declaration_line line ≡ true → 0 < events)
     → line_cause (seen_so_far ds events) line ≡ None → ⊥
 no_event_is_told ds events line none behind h = cases (has_bad_byte line) refl (λ clean. by (words_of line) none behind (sym (clean_line (seen_so_far ds events) line clean) ∙ h))
   where
@@ -239,7 +252,8 @@ no_event_is_told ds events line none behind h = cases (has_bad_byte line) refl (
     by (first ∷ args) none behind h = no_event ds events (word_named first) args none behind h
 
 -- a line that says an event of these declarations, under another name
-pub says_event : (lent decls : DeclsState) (line : List ℕ) (o : Occurrence) → IsWellFormed lent → lent ≡ decls → event_in lent.declarations (words_of line) ≡ Some o → IsEventLine decls.declarations line o
+pub says_event : (lent decls : DeclsState) (line : List ℕ) (o : Occurrence) → IsWellFormed lent → lent ≡ decls
+    → event_in lent.declarations (words_of line) ≡ Some o → IsEventLine decls.declarations line o
 says_event lent decls line o holds is h = subst (λ (d : DeclsState). IsEventLine d.declarations line o) is (event_line_of lent line o holds h)
 
 -- where a fact fails only without events, there is one

@@ -26,7 +26,8 @@ is_false false seen h unseen = refl
 unseen_is_absent : (decls : DeclsState) (w : List ℕ) → IsWellFormed decls → list_all is_place_byte w ≡ false → find_name decls.declarations w ≡ None
 unseen_is_absent decls w holds h = unnamed_is_absent decls w holds (is_false (is_name w) (list_all is_place_byte w) (name_is_visible w) h)
 
-pub unseen_part : (decls : DeclsState) (kind : PartKind) (ws : List (List ℕ)) → IsWellFormed decls → list_all is_place_byte (first_word ws) ≡ false → first_part decls.declarations kind ws ≡ None
+pub unseen_part : (decls : DeclsState) (kind : PartKind) (ws : List (List ℕ)) → IsWellFormed decls → list_all is_place_byte (first_word ws) ≡ false
+    → first_part decls.declarations kind ws ≡ None
 unseen_part decls kind [] holds h = refl
 unseen_part decls (PartKind.Object kind) (w ∷ ws) holds h = ap (λ o. option_map (with_rest ws) (option_and_then (object_as kind) o)) (unseen_is_absent decls w holds h)
 unseen_part decls PartKind.Value (w ∷ ws) holds h = by (number (2 ^ 64 - 1) w) refl

@@ -30,7 +30,8 @@ found_in : (test : List ℕ → Word → Bool) (entries : List (List ℕ × Word
 found_in test [] w word h all = absurd (none-some word h)
 found_in test (e ∷ es) w word h all = by (bytes_eq w e.0) refl h (λ rest. found_in test es w word rest (both (test e.0 e.1) _ all).1)
   where
-    by : (b : Bool) → bytes_eq w e.0 ≡ b → (if b then Some e.1 else lookup es w) ≡ Some word → (lookup es w ≡ Some word → test w word ≡ true) → test w word ≡ true
+    by : (b : Bool) → bytes_eq w e.0 ≡ b → (if b then Some e.1 else lookup es w) ≡ Some word → (lookup es w ≡ Some word → test w word ≡ true)
+        → test w word ≡ true
     by true same h others = (λ i. test ((bytes_eq-Decides w e.0).0 same i) (sym (same_Some e.1 word h) i)) ∙ (both (test e.0 e.1) _ all).0
     by false other h others = others h
 
@@ -59,7 +60,8 @@ noun_again Noun.Goroutine known = refl
 noun_again _ known = cc
 
 -- the words of a declaration are what it says
-pub object_words_are : (name : List ℕ) (object : Object) → object_words name object ≡ noun_text (object_says object).0 ∷ name ∷ number_words (object_says object).1
+pub object_words_are : (name : List ℕ) (object : Object)
+    → object_words name object ≡ noun_text (object_says object).0 ∷ name ∷ number_words (object_says object).1
 object_words_are name Object.Goroutine = refl
 object_words_are name Object.Var = refl
 object_words_are name (Object.Chan capacity) = refl

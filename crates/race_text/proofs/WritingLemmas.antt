@@ -32,7 +32,8 @@ numbered_line word name None = line_of_2 word name ∙ sym (append_assoc word (3
 numbered_line word name (Some n) =
     ended_more word name (decimal n ∷ []) ∙ ap (λ l. word ++ 32 ∷ l) (line_of_2 name (decimal n)) ∙ sym (append_assoc word (32 ∷ name) (32 ∷ decimal n ++ 10 ∷ []))
 
-pub declaration_printed : (ds : List Declaration) (index : ℕ) (word name : List ℕ) (object : Object) (says : Noun × Option ℕ) → slice_get ds index ≡ Some (record { name = name; object = object })
+pub declaration_printed : (ds : List Declaration) (index : ℕ) (word name : List ℕ) (object : Object) (says : Noun × Option ℕ)
+    → slice_get ds index ≡ Some (record { name = name; object = object })
     → says ≡ object_says object → word ≡ noun_text says.0 → (word ++ 32 ∷ name) ++ number_end says.1 ≡ declaration_text ds index
 declaration_printed ds index word name object says at said spelled =
     sym (ap text_of at ∙ ap (λ ws. ended (line_of ws)) (object_words_are name object)
@@ -50,7 +51,8 @@ line_behind ds a (part ∷ parts) place place2 =
     ∙ ap (λ l. a ++ l) (sym (ap (λ l. l ++ place_end place place2) (flat_map-cons (behind_space ds) part parts) ∙ append_assoc (behind_space ds part) (parts_text ds parts) (place_end place place2)))
 
 -- the line of an event in three pieces: its word and its goroutine, its parts, and its places
-pub event_text : (decls : DeclsState) (e : Event) (word who place : List ℕ) (place2 : Option (List ℕ)) (verb : Verb) (parts : List Part) → word ≡ verb_text verb → verb ≡ (says e.op).0 → parts ≡ (says e.op).1
+pub event_text : (decls : DeclsState) (e : Event) (word who place : List ℕ) (place2 : Option (List ℕ)) (verb : Verb) (parts : List Part) → word ≡ verb_text verb
+    → verb ≡ (says e.op).0 → parts ≡ (says e.op).1
     → name_of decls.declarations (Named.Goroutine e.who) ≡ Some who → slice_get decls.places e.place ≡ Some place
     → place2 ≡ second_text decls.places e.place2 → (word ++ 32 ∷ who) ++ (parts_text decls.declarations parts ++ place_end place place2) ≡ ended (event_line decls e)
 event_text decls e word who place place2 verb parts spelled verb_is parts_are named at second =

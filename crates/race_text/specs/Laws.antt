@@ -21,8 +21,10 @@ IsOnlyTraceOf bytes t = (u : TraceState) → IsTextOf u bytes → recorded u ≡
 -- each line that is printed has the words of the table from which the code reads and prints: those of what its declaration
 -- or its operation says; and each word of an operation is known as itself
 pub record LinesFollowTheTables : Type 0 where
-  pub declarations : (name : List ℕ) (object : Object) → object_words name object ≡ noun_text (object_says object).0 ∷ name ∷ number_words (object_says object).1
-  pub events : (ds : List Declaration) (who : List ℕ) (places : List (List ℕ)) (op : Op) → op_words ds who places op ≡ said_words ds who places (says op).0 (says op).1
+  pub declarations : (name : List ℕ) (object : Object)
+      → object_words name object ≡ noun_text (object_says object).0 ∷ name ∷ number_words (object_says object).1
+  pub events : (ds : List Declaration) (who : List ℕ) (places : List (List ℕ)) (op : Op)
+      → op_words ds who places op ≡ said_words ds who places (says op).0 (says op).1
   pub known : (verb : Verb) → word_named (verb_text verb) ≡ Some (Word.Does verb)
 
 -- the text of a trace has no fault

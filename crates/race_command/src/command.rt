@@ -16,8 +16,8 @@ const CHECK_ABOUT: &str = "Reads a trace from standard input and writes its repo
 
 const CHECK_HELP: &str = "\
 A trace is a text: a header, declarations, and the events of a run in order.
-Each event names its goroutine first and ends with its place in the source; a
-meet ends with two, the sender's and the receiver's.
+Each event says what was done, then by which goroutine, and ends with its place
+in the source; a meet ends with two, the sender's and the receiver's.
 
   gotrace 1
   goroutine w

@@ -51,7 +51,7 @@ op_rules caps past g (RecvClosed c) =
 op_rules caps past g (Close c) = (12, is_closed c past) ∷ []
 -- 22: a case of the select could go on
 op_rules caps past g (Default cases) = (22, list_any (is_ready caps past) cases) ∷ []
--- 23: nothing has failed
+-- 23: the cause of the fault doesn't hold
 op_rules caps past g (Fault cause) = (23, not (cause_holds past cause)) ∷ []
 
 -- the receiver runs, where there is one

@@ -39,6 +39,6 @@ abbrev pub sent : ℕ → Op → Option ℕ
 sent c (Send d v) = if d == c then Some v else None
 sent c _ = None
 
--- the value of the Send that the next Recv from c gets: the kth Recv gets the value of the kth Send; None where there is none
+-- the value that the next Recv from c gets: Recv number k gets that of Send number k; None where there is no such Send
 abbrev pub front : ℕ → List Event → Option ℕ
 front c past = slice_get (filter_map (λ e. sent c e.op) past) (count (receives c) past)

@@ -9,7 +9,7 @@ use Rattle.race_records.specs.declared.trace.PushFault.{PushFault}
 use Rattle.race_records.specs.declared.trace.PushFault.TheVariants.{BadNumber, Full}
 use Rattle.race_records.specs.declared.trace.TheConstants.{MAX_EVENTS}
 use Rattle.race_records.specs.Declarations.{Declaration, DeclsState, is_known, with_place}
-use Rattle.race_records.specs.Events.{TraceState, IsTrace, fits, value_fits, push_fault}
+use Rattle.race_records.specs.Events.{TraceState, IsTrace, fits, op_is_limited, push_fault}
 
 -- what no fault means for an event
 pub record IsAllowedEvent (trace : TraceState) (e : Event) : Type 0 where
@@ -27,7 +27,7 @@ allowed_from_no_push_fault trace e h = by (fits trace.decls e) refl (nat_le MAX_
     by true fit false room h = record { fit = fit; room = grind (arith, nat_tests) }
 
 -- one more event that fits
-pub push_is_trace : (trace : TraceState) (e : Event) (events : List Event) (spare : ℕ) → IsTrace trace → IsTrue (value_fits e.op) → push_fault trace e ≡ None
+pub push_is_trace : (trace : TraceState) (e : Event) (events : List Event) (spare : ℕ) → IsTrace trace → IsTrue (op_is_limited e.op) → push_fault trace e ≡ None
     → events ≡ trace.events ++ e ∷ []
     → IsTrace (record { decls = trace.decls; events = events; spare = spare })
 push_is_trace trace e events spare holds value none is =
@@ -35,7 +35,7 @@ push_is_trace trace e events spare holds value none is =
     let room = allowed.room in
     record {
       fit = subst (λ (es : List Event). All (λ (x : Event). IsTrue (fits trace.decls x)) es) (sym is) (All-push (λ (x : Event). IsTrue (fits trace.decls x)) trace.events e holds.fit allowed.fit);
-      values = subst (λ (es : List Event). All (λ (x : Event). IsTrue (value_fits x.op)) es) (sym is) (All-push (λ (x : Event). IsTrue (value_fits x.op)) trace.events e holds.values value);
+      values = subst (λ (es : List Event). All (λ (x : Event). IsTrue (op_is_limited x.op)) es) (sym is) (All-push (λ (x : Event). IsTrue (op_is_limited x.op)) trace.events e holds.values value);
       limited = subst (λ (es : List Event). length es ≤ MAX_EVENTS) (sym is) (omega (arith, room, length-append trace.events (e ∷ [])));
     }
 

@@ -25,9 +25,9 @@ fits decls e =
     nat_lt e.who (count_of Kind.Goroutine decls.declarations) && op_fits decls.declarations e.op
     && nat_lt e.place (length decls.places) && second_place_fits (length decls.places) (has_two_places (says e.op).0) e.place2
 
--- a value that the operation names is a u64, and it has not too many cases
-abbrev pub value_fits : Op → Bool
-value_fits op = list_all part_is_limited (says op).1
+-- each value of the operation is a u64, and it has at most 16 cases
+abbrev pub op_is_limited : Op → Bool
+op_is_limited op = list_all part_is_limited (says op).1
 
 -- a `Trace` as its callers see it. `spare` is for how many more events there is room
 pub record TraceState : Type 0 where
@@ -44,7 +44,7 @@ push_fault trace e =
 -- what holds of every `Trace`: each event fits its declarations, each value is a u64, no event has too many cases, and there are not too many events
 pub record IsTrace (trace : TraceState) : Type 0 where
   pub fit : All (λ e. IsTrue (fits trace.decls e)) trace.events
-  pub values : All (λ e. IsTrue (value_fits e.op)) trace.events
+  pub values : All (λ e. IsTrue (op_is_limited e.op)) trace.events
   pub limited : length trace.events ≤ MAX_EVENTS
 
 -- all but the spare room is as before

@@ -92,7 +92,7 @@ part_kinds Verb.Close = PartKind.Object Kind.Chan ∷ []
 part_kinds Verb.Default = PartKind.Cases ∷ []
 part_kinds Verb.Fault = PartKind.Cause ∷ []
 
--- the part is one that its place wants
+-- the part is of the kind that is wanted there
 abbrev pub suits : PartKind → Part → Bool
 suits (PartKind.Object kind) (Part.Object named) = is_named kind named
 suits PartKind.Value (Part.Value v) = true
@@ -120,18 +120,18 @@ chan_of_cause (SendClosed c) = Some c
 chan_of_cause (CloseClosed c) = Some c
 chan_of_cause CloseNil = None
 
--- of so many objects of each kind, the part names some
+-- with so many objects of each kind, every number that the part names is in range
 abbrev pub part_is_in_range : (Kind → ℕ) → Part → Bool
 part_is_in_range counts (Part.Object named) = nat_lt (number_of named) (counts (kind_of_named named))
 part_is_in_range counts (Part.Value v) = true
 part_is_in_range counts (Part.Cases cases) = list_all (case_is_in_range (counts Kind.Chan)) cases
 part_is_in_range counts (Part.Cause cause) = chan_is_in_range (counts Kind.Chan) (chan_of_cause cause)
 
--- so does each part of the operation
+-- so is each part of the operation
 abbrev pub op_is_in_range : (Kind → ℕ) → Op → Bool
 op_is_in_range counts op = list_all (part_is_in_range counts) (says op).1
 
--- the object that the part names is declared
+-- all that the part names is declared; nil and a value name nothing
 abbrev pub part_fits : List Declaration → Part → Bool
 part_fits ds part = part_is_in_range (counts_of ds) part
 

@@ -1,7 +1,7 @@
 //! What an operation says: its word, and its parts in the order of its text.
 ghost use Rattle.std.specs.Prelude.{◌≡◌, ◌≤◌, [], ◌∷◌, length, IsTrue};
 ghost use Rattle.race_records.specs.Parts as spec;
-ghost use Rattle.race_records.specs.Events.{value_fits};
+ghost use Rattle.race_records.specs.Events.{op_is_limited};
 
 use crate::{Cases, Cause, Kind, Named, Op};
 use arrayvec::ArrayVec;
@@ -77,11 +77,11 @@ impl Default for Part {
 /// The parts of one operation.
 pub type Parts = ArrayVec<Part, 3>;
 
-/// What the operation says. Its value is a u64.
+/// What the operation says. Its value is a u64, and its cases are 16 at most.
 pub fn says(op: &Op) -> (Verb, Parts)
     ensures verb { result.0 ≡ (spec.says op.now).0 }
     ensures parts { result.1.items ≡ (spec.says op.now).1 }
-    ensures value { IsTrue (value_fits op.now) }
+    ensures value { IsTrue (op_is_limited op.now) }
 {
     match op {
         Op::Go(h) => (Verb::Go, one(Part::Object(Named::Goroutine(*h)))),

@@ -94,7 +94,7 @@ impl<A: Allocator> Trace<A> {
     /// Appends an event of which the caller knows that it is allowed, and tests nothing.
     pub fn append(&mut self, event: Event) -> Result<(), AllocError>
         requires allowed { spec.push_fault self.old event ≡ None }
-        requires value { IsTrue (spec.value_fits event.op) }
+        requires value { IsTrue (spec.op_is_limited event.op) }
         ensures room { 0 < self.old.spare → IsOk result }
         ensures events { OnOk result (self.new.events ≡ self.old.events ++ event ∷ []) }
         ensures decls { OnOk result (self.new.decls ≡ self.old.decls) }
@@ -157,7 +157,7 @@ impl<A: Allocator> Trace<A> {
         requires { i < length self.now.events }
         ensures event { slice_get self.now.events i ≡ Some result.now }
         ensures fits { IsTrue (spec.fits self.now.decls result.now) }
-        ensures value { IsTrue (spec.value_fits result.now.op) }
+        ensures value { IsTrue (spec.op_is_limited result.now.op) }
     {
         &self.events[i]
     }
@@ -208,7 +208,7 @@ impl<A: Allocator> Trace<A> {
 
 // A proof knows the range of a number in an enum once the body has read it.
 fn look_at_value(op: &Op)
-    ensures { IsTrue (spec.value_fits op.now) }
+    ensures { IsTrue (spec.op_is_limited op.now) }
 {
     let _said = says(op);
 }

@@ -10,7 +10,7 @@ use Rattle.race_records.specs.declared.kind.Kind.{Kind}
 use Rattle.race_records.specs.declared.parts.Verb.{Verb}
 use Rattle.race_records.specs.declared.parts.Part.{Part}
 use Rattle.race_records.specs.Declarations.{Declaration, DeclsState, IsWellFormed, count_of}
-use Rattle.race_records.specs.Events.{op_fits, value_fits}
+use Rattle.race_records.specs.Events.{op_fits, op_is_limited}
 use Rattle.race_records.specs.Parts.{says, has_two_places, part_kinds, part_fits, part_is_limited}
 use Rattle.race_text.specs.declared.form.Word.{Word}
 use Rattle.race_text.specs.Words.{words_of, has_bad_byte}
@@ -41,7 +41,7 @@ pub record IsEventLine (ds : List Declaration) (line : List ℕ) (o : Occurrence
   pub places : ArePlaces (has_two_places (says o.op).0) (o.place, o.place2)
   pub who : o.who < count_of Kind.Goroutine ds
   pub op : op_fits ds o.op ≡ true
-  pub value : value_fits o.op ≡ true
+  pub value : op_is_limited o.op ≡ true
   pub clean : has_bad_byte line ≡ false
 
 module _ (decls : DeclsState) (holds : IsWellFormed decls) (line first : List ℕ) (args : List (List ℕ)) (words : words_of line ≡ first ∷ args) (o : Occurrence) where

@@ -13,7 +13,7 @@ use Rattle.race_records.specs.declared.parts.Part.{Part}
 use Rattle.race_records.specs.declared.parts.PartKind.{PartKind}
 use Rattle.race_records.specs.Name.{is_place, is_place_byte}
 use Rattle.race_records.specs.Declarations.{Declaration, DeclsState, IsWellFormed, count_of}
-use Rattle.race_records.specs.Events.{fits, op_fits, value_fits, second_place_fits}
+use Rattle.race_records.specs.Events.{fits, op_fits, op_is_limited, second_place_fits}
 use Rattle.race_records.specs.Parts.{says, has_two_places, suits, suit, part_fits, part_is_limited, part_kinds}
 use Rattle.race_records.proofs.PartLaws.{says_again, says_suits}
 use Rattle.race_text.specs.declared.form.Word.{Word}
@@ -96,7 +96,7 @@ module _ (decls : DeclsState) (holds : IsWellFormed decls) where
 
   -- so the line of an event says it
   op_again : (who : ℕ) (places : Places) → who < count_of Kind.Goroutine ds → (op : Op) → ArePlaces (has_two_places (says op).0) places → op_fits ds op ≡ true
-      → value_fits op ≡ true
+      → op_is_limited op ≡ true
       → event_in ds (words_of (line_of (op_words ds (goroutine_name ds who) (place_words places.0 places.1) op))) ≡ Some (occurrence who op places)
   op_again who places who_less op are fit low =
       let verb = (says op).0 in
@@ -130,7 +130,7 @@ module _ (decls : DeclsState) (holds : IsWellFormed decls) where
       by true false c d h = absurd (true≢false (sym h))
       by false b c d h = absurd (true≢false (sym h))
 
-  pub event_again : (e : Event) → fits decls e ≡ true → value_fits e.op ≡ true → event_in ds (words_of (event_line decls e)) ≡ Some (said decls e)
+  pub event_again : (e : Event) → fits decls e ≡ true → op_is_limited e.op ≡ true → event_in ds (words_of (event_line decls e)) ≡ Some (said decls e)
   event_again e fit low =
       let places = places_again (has_two_places (says e.op).0) e.place e.place2 (fit_place decls e fit) (fit_second decls e fit) in
       op_again e.who (place_text decls.places e.place, second_text decls.places e.place2) (who_fits e fit) e.op places (op_does e fit) low

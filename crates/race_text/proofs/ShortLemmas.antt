@@ -29,7 +29,7 @@ use Rattle.race_records.specs.Nouns.{object_says, number_limit}
 use Rattle.race_records.proofs.NounLaws.{IsWanted, says_wanted}
 use Rattle.race_text.proofs.DeclarationLemmas.{small_limit}
 use Rattle.race_text.proofs.WordTable.{object_words_are}
-use Rattle.race_records.specs.Events.{TraceState, IsTrace, value_fits}
+use Rattle.race_records.specs.Events.{TraceState, IsTrace, op_is_limited}
 use Rattle.race_text.specs.Text.{text, header, ended, line_of, declaration_line, goroutine_name, chan_text, dir_text, case_text, cases_text, place_text, second_text, place_words, event_line}
 use Rattle.race_text.specs.Writing.{declarations_text, events_text, body}
 use Rattle.race_text.proofs.NamesAgain.{stands_at}
@@ -194,7 +194,7 @@ module _ (decls : DeclsState) (holds : IsWellFormed decls) where
   few_parts (Go h) = omega arith
   few_parts _ = omega arith
 
-  event_short : (e : Event) → IsTrue (value_fits e.op) → length (ended (event_line decls e)) ≤ 5000
+  event_short : (e : Event) → IsTrue (op_is_limited e.op) → length (ended (event_line decls e)) ≤ 5000
   event_short e value =
       let who = goroutine_name decls.declarations e.who in
       let places = place_words (place_text decls.places e.place) (second_text decls.places e.place2) in
@@ -238,7 +238,7 @@ pub text_short : (t : TraceState) → IsTrace t → IsWellFormed t.decls → len
 text_short t is_trace holds =
     let ds = t.decls.declarations in
     let declared = pieces_short (λ (d : Declaration). ended (declaration_line d)) ds (λ i d at. declaration_short t.decls holds d (name_short d.name (at_index (λ (x : Declaration). IsTrue (is_name x.name)) ds holds.names i d at)) (at_index (λ (x : Declaration). is_too_wide x.object ≡ false) ds holds.capacities i d at)) in
-    let happened = pieces_short (λ (e : Event). ended (event_line t.decls e)) t.events (λ i e at. event_short t.decls holds e (at_index (λ (x : Event). IsTrue (value_fits x.op)) t.events is_trace.values i e at)) in
+    let happened = pieces_short (λ (e : Event). ended (event_line t.decls e)) t.events (λ i e at. event_short t.decls holds e (at_index (λ (x : Event). IsTrue (op_is_limited x.op)) t.events is_trace.values i e at)) in
     let a = holds.limited Kind.Goroutine in
     let b = holds.limited Kind.Var in
     let c = holds.limited Kind.Chan in

@@ -33,11 +33,13 @@ behind front word = if bytes_eq (take (length front) word) front then Some (drop
 abbrev pub SpelledCase : Type 0
 SpelledCase = Dir × List ℕ
 
+-- by what stands behind each front
 abbrev pub case_by : Option (List ℕ) → Option (List ℕ) → Option SpelledCase
 case_by (Some sent) received = Some (Dir.Send, sent)
 case_by None (Some received) = Some (Dir.Recv, received)
 case_by None None = None
 
+-- a case as it is spelled
 abbrev pub case_spelled : List ℕ → Option SpelledCase
 case_spelled word = case_by (behind (codes "send:") word) (behind (codes "recv:") word)
 
@@ -45,20 +47,22 @@ case_spelled word = case_by (behind (codes "send:") word) (behind (codes "recv:"
 abbrev pub SpelledFailure : Type 0
 SpelledFailure = Attempt × List ℕ
 
+-- the same of a failure
 abbrev pub failure_by : Option (List ℕ) → Option (List ℕ) → Option SpelledFailure
 failure_by (Some sent) closed = Some (Attempt.Send, sent)
 failure_by None (Some closed) = Some (Attempt.Close, closed)
 failure_by None None = None
 
+-- a failure as it is spelled
 abbrev pub failure_spelled : List ℕ → Option SpelledFailure
 failure_spelled word = failure_by (behind (codes "send:") word) (behind (codes "close:") word)
 
--- the kind of the object
+-- the kind of object that this can fail at
 abbrev pub kind_tried : Attempt → Kind
 kind_tried Attempt.Send = Kind.Chan
 kind_tried Attempt.Close = Kind.Chan
 
--- why a run failed that tried so with the object
+-- the cause of a run that failed when it tried this with the object
 abbrev pub cause_by : Attempt → Named → Option Cause
 cause_by Attempt.Send (Named.Chan c) = Some (SendClosed c)
 cause_by Attempt.Close (Named.Chan c) = Some (CloseClosed c)

@@ -6,7 +6,7 @@ use Rattle.race_records.specs.declared.kind.Kind.{Kind}
 use Rattle.race_records.specs.declared.trace.TheConstants.{MAX_EVENTS}
 use Rattle.race_records.specs.Name.{is_place}
 use Rattle.race_records.specs.Declarations.{DeclsState, count_of, place_number, with_place}
-use Rattle.race_records.specs.Events.{TraceState, op_fits, value_fits}
+use Rattle.race_records.specs.Events.{TraceState, op_fits, op_is_limited}
 use Rattle.race_records.specs.Parts.{says, has_two_places}
 use Rattle.race_text.specs.declared.cause.TextCause.{TextCause}
 use Rattle.race_text.specs.Text.{HasText, lines}
@@ -34,7 +34,7 @@ pub record IsFitting (decls : DeclsState) (o : Occurrence) : Type 0 where
   pub two : has_two_places (says o.op).0 ≡ is_some o.place2
   pub who : o.who < count_of Kind.Goroutine decls.declarations
   pub op : op_fits decls.declarations o.op ≡ true
-  pub value : value_fits o.op ≡ true
+  pub value : op_is_limited o.op ≡ true
 
 -- the places of the state, with a second one where there is one
 abbrev pub second_places : DeclsState → Option (List ℕ) → List (List ℕ)

@@ -122,7 +122,7 @@ unfoldable pub text : TraceState → List ℕ
 text t = flat_map ended (lines t)
 
 -- a trace whose text counts: its declarations are well formed and each begins with a known word, its events fit them,
--- each value is a u64, and there are not too many events
+-- each value is a u64, no select has more than 16 cases, and there are not too many events
 pub record HasText (t : TraceState) : Type 0 where
   pub well_formed : IsWellFormed t.decls
   pub is_trace : IsTrace t

@@ -4,8 +4,9 @@ use Rattle.std.proofs.lemmas.Option.{slice_get-map, slice_get-get_or, none-some}
 use Rattle.std.specs.Option.{option_map_or}
 use Rattle.std.specs.Str.{bytes_eq}
 use Rattle.race_records.specs.declared.kind.Kind.{Kind}
+use Rattle.race_records.specs.declared.kind.Object.{Object}
 use Rattle.race_records.specs.declared.names.Slot.{Slot}
-use Rattle.race_records.specs.Declarations.{Declaration, of_kind, width_of}
+use Rattle.race_records.specs.Declarations.{Declaration, of_kind}
 use Rattle.race_records.specs.DeclsHold.{AreNumbered}
 use Rattle.race_records.specs.Rows.{declaration_of, declarations_of}
 use Rattle.race_records.specs.Tables.{Row, IndexesState, indexes_of}
@@ -38,15 +39,15 @@ module _ (rows : List Row) (indexes : IndexesState) (numbered : AreNumbered rows
       sym (option_map-option_map declaration_of (λ (d : Declaration). d.name) (slice_get rows i))
       ∙ ap (option_map (λ (d : Declaration). d.name)) declaration-indexed
 
-  -- and as many values fit into it
-  pub width-indexed : (slot : Slot) → option_map (λ (r : Row). r.slot) (slice_get rows i) ≡ Some slot
-      → width_of slot.object ≡ option_map_or (λ (d : Declaration). width_of d.object) (slice_get (of_kind kind (declarations_of rows)) n) 0
-  width-indexed slot is = by (slice_get rows i) is ∙ ap (λ (o : Option Declaration). option_map_or (λ (d : Declaration). width_of d.object) o 0) declaration-indexed
+  -- and what is told of its object holds of that declaration's
+  pub object-indexed : {X : Type 0} (of : Object → X) (none : X) (slot : Slot) → option_map (λ (r : Row). r.slot) (slice_get rows i) ≡ Some slot
+      → of slot.object ≡ option_map_or (λ (d : Declaration). of d.object) (slice_get (of_kind kind (declarations_of rows)) n) none
+  object-indexed {X} of none slot is = by (slice_get rows i) is ∙ ap (λ (o : Option Declaration). option_map_or (λ (d : Declaration). of d.object) o none) declaration-indexed
     where
       by : (r : Option Row) → option_map (λ (r : Row). r.slot) r ≡ Some slot
-          → width_of slot.object ≡ option_map_or (λ (d : Declaration). width_of d.object) (option_map declaration_of r) 0
+          → of slot.object ≡ option_map_or (λ (d : Declaration). of d.object) (option_map declaration_of r) none
       by None is = cc
-      by (Some row) is = ap (λ (s : Option Slot). option_map_or (λ (s : Slot). width_of s.object) s 0) (sym is)
+      by (Some row) is = ap (λ (s : Option Slot). option_map_or (λ (s : Slot). of s.object) s none) (sym is)
 
   -- and such a row there is
   pub index_within : n < length (of_kind kind (declarations_of rows)) → i < length rows

@@ -1,15 +1,15 @@
 -- What keeps a trace a trace.
-use Rattle.std.proofs.Common.{◌≡◌, ℕ, ◌<◌, ◌≤◌, Bool, true, false, not, nat_le, List, [], ◌∷◌, ◌++◌, length, Option, Some, None, IsTrue, if◌then◌else◌, refl, sym, subst, get_or, arith, All}
+use Rattle.std.proofs.Common.{◌≡◌, ℕ, ◌<◌, ◌≤◌, ◌&&◌, Bool, true, false, not, nat_le, List, [], ◌∷◌, ◌++◌, length, Option, Some, None, IsTrue, IfSome, if◌then◌else◌, refl, sym, subst, get_or, arith, All}
 use Rattle.std.proofs.lemmas.Bool.Decides.{nat_tests}
 use Rattle.std.proofs.lemmas.List.{length-append}
 use Rattle.std.proofs.lemmas.List.Elements.{All-push}
 use Rattle.std.proofs.lemmas.Option.{none-some}
 use Rattle.race_records.specs.declared.event.Event.{Event}
 use Rattle.race_records.specs.declared.trace.PushFault.{PushFault}
-use Rattle.race_records.specs.declared.trace.PushFault.TheVariants.{BadNumber, Full}
+use Rattle.race_records.specs.declared.trace.PushFault.TheVariants.{BadNumber, WrongKind, Full}
 use Rattle.race_records.specs.declared.trace.TheConstants.{MAX_EVENTS}
 use Rattle.race_records.specs.Declarations.{Declaration, DeclsState, is_known, with_place}
-use Rattle.race_records.specs.Events.{TraceState, IsTrace, fits, op_is_limited, push_fault}
+use Rattle.race_records.specs.Events.{TraceState, IsTrace, is_in_range, lock_fits, fits, op_is_limited, push_fault}
 
 -- what no fault means for an event
 pub record IsAllowedEvent (trace : TraceState) (e : Event) : Type 0 where
@@ -17,14 +17,18 @@ pub record IsAllowedEvent (trace : TraceState) (e : Event) : Type 0 where
   pub room : length trace.events < MAX_EVENTS
 
 pub allowed_from_no_push_fault : (trace : TraceState) (e : Event) → push_fault trace e ≡ None → IsAllowedEvent trace e
-unfolding push_fault
-allowed_from_no_push_fault trace e h = by (fits trace.decls e) refl (nat_le MAX_EVENTS (length trace.events)) refl h
+unfolding push_fault fits
+allowed_from_no_push_fault trace e h =
+    by (is_in_range trace.decls e) refl (lock_fits trace.decls.declarations e.op) refl (nat_le MAX_EVENTS (length trace.events)) refl h
   where
-    by : (b : Bool) → fits trace.decls e ≡ b → (full : Bool) → nat_le MAX_EVENTS (length trace.events) ≡ full
-        → ◌≡◌ {A = Option PushFault} (if not b then Some BadNumber else (if full then Some Full else None)) None → IsAllowedEvent trace e
-    by false _ _ _ h = absurd (none-some _ (sym h))
-    by true _ true _ h = absurd (none-some _ (sym h))
-    by true fit false room h = record { fit = fit; room = grind (arith, nat_tests) }
+    by : (b : Bool) → is_in_range trace.decls e ≡ b → (suits : Bool) → lock_fits trace.decls.declarations e.op ≡ suits
+        → (full : Bool) → nat_le MAX_EVENTS (length trace.events) ≡ full
+        → ◌≡◌ {A = Option PushFault} (if not b then Some BadNumber else (if not suits then Some WrongKind else (if full then Some Full else None))) None
+        → IsAllowedEvent trace e
+    by false _ _ _ _ _ h = absurd (none-some _ (sym h))
+    by true _ false _ _ _ h = absurd (none-some _ (sym h))
+    by true _ true _ true _ h = absurd (none-some _ (sym h))
+    by true ranged true suits false room h = record { fit = λ i. ranged i && suits i; room = grind (arith, nat_tests) }
 
 -- one more event that fits
 pub push_is_trace : (trace : TraceState) (e : Event) (events : List Event) (spare : ℕ) → IsTrace trace → IsTrue (op_is_limited e.op) → push_fault trace e ≡ None
@@ -44,6 +48,11 @@ fits-more_places : (ds : List Declaration) (places more : List (List ℕ)) (e : 
     → fits (record { declarations = ds; places = places }) e ≡ true → fits (record { declarations = ds; places = more }) e ≡ true
 unfolding fits
 fits-more_places ds places more e grown h = grind (arith, nat_tests)
+
+-- a second place of an event that fits is in range
+pub second_in_range : (decls : DeclsState) (e : Event) → IsTrue (fits decls e) → IfSome e.place2 (λ place. place < length decls.places)
+unfolding fits
+second_in_range decls e h = grind (arith, nat_tests)
 
 pub with_place_is_trace : (trace : TraceState) (word : List ℕ) (decls : DeclsState) → IsTrace trace → decls ≡ with_place trace.decls word
     → IsTrace (record { decls = decls; events = trace.events; spare = trace.spare })

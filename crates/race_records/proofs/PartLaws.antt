@@ -2,7 +2,7 @@
 use Rattle.std.proofs.Common.{◌≡◌, ◌∙◌, ℕ, Bool, false, if◌then◌else◌, option_map, List, [], ◌∷◌, Option, Some, None, true, true≢false, refl, sym, ap}
 use Rattle.std.proofs.lemmas.Option.{none-some, same_Some}
 use Rattle.race_records.specs.declared.event.Op.{Op}
-use Rattle.race_records.specs.declared.event.Op.TheVariants.{Go, Exit, Read, Write, Send, Recv, Meet, RecvClosed, Close, Default, Fault}
+use Rattle.race_records.specs.declared.event.Op.TheVariants.{Go, Exit, Read, Write, Send, Recv, Meet, RecvClosed, Close, Default, Lock, Unlock, RLock, RUnlock, OnceBegin, OnceEnd, OnceDone, Fault}
 use Rattle.race_records.specs.declared.kind.Kind.{Kind}
 use Rattle.race_records.specs.declared.kind.Named.{Named}
 use Rattle.race_records.specs.Declarations.{is_named, number_of}
@@ -103,6 +103,13 @@ op_by_says verb parts op e = by verb e
     by Verb.RecvClosed e = alone RecvClosed Verb.RecvClosed Kind.Chan (λ n. refl) e
     by Verb.Close e = alone Close Verb.Close Kind.Chan (λ n. refl) e
     by Verb.Default e = defaults parts e
+    by Verb.Lock e = alone Lock Verb.Lock Kind.Lock (λ n. refl) e
+    by Verb.Unlock e = alone Unlock Verb.Unlock Kind.Lock (λ n. refl) e
+    by Verb.RLock e = alone RLock Verb.RLock Kind.Lock (λ n. refl) e
+    by Verb.RUnlock e = alone RUnlock Verb.RUnlock Kind.Lock (λ n. refl) e
+    by Verb.OnceBegin e = alone OnceBegin Verb.OnceBegin Kind.Once (λ n. refl) e
+    by Verb.OnceEnd e = alone OnceEnd Verb.OnceEnd Kind.Once (λ n. refl) e
+    by Verb.OnceDone e = alone OnceDone Verb.OnceDone Kind.Once (λ n. refl) e
     by Verb.Fault e = faults parts e
 
 -- parts that the word wants are an operation's
@@ -117,5 +124,12 @@ op_is_there Verb.Meet (Part.Object (Named.Goroutine r) ∷ Part.Object (Named.Ch
 op_is_there Verb.RecvClosed (Part.Object (Named.Chan c) ∷ []) e = (RecvClosed c, refl)
 op_is_there Verb.Close (Part.Object (Named.Chan c) ∷ []) e = (Close c, refl)
 op_is_there Verb.Default (Part.Cases cases ∷ []) e = (Default cases, refl)
+op_is_there Verb.Lock (Part.Object (Named.Lock l) ∷ []) e = (Lock l, refl)
+op_is_there Verb.Unlock (Part.Object (Named.Lock l) ∷ []) e = (Unlock l, refl)
+op_is_there Verb.RLock (Part.Object (Named.Lock l) ∷ []) e = (RLock l, refl)
+op_is_there Verb.RUnlock (Part.Object (Named.Lock l) ∷ []) e = (RUnlock l, refl)
+op_is_there Verb.OnceBegin (Part.Object (Named.Once o) ∷ []) e = (OnceBegin o, refl)
+op_is_there Verb.OnceEnd (Part.Object (Named.Once o) ∷ []) e = (OnceEnd o, refl)
+op_is_there Verb.OnceDone (Part.Object (Named.Once o) ∷ []) e = (OnceDone o, refl)
 op_is_there Verb.Fault (Part.Cause cause ∷ []) e = (Fault cause, refl)
 op_is_there _ _ e = absurd (true≢false (sym e))

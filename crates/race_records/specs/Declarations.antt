@@ -70,6 +70,15 @@ width_of _ = 0
 abbrev pub capacity_of : List Declaration → ℕ → ℕ
 capacity_of ds c = option_map_or (λ d. width_of d.object) (slice_get (of_kind Kind.Chan ds) c) 0
 
+-- what is declared is an rwmutex
+abbrev pub is_rwmutex : Object → Bool
+is_rwmutex (Object.Lock rw) = rw
+is_rwmutex _ = false
+
+-- the lock of this number is an rwmutex; there is none where no such lock is
+abbrev pub is_rw : List Declaration → ℕ → Bool
+is_rw ds l = option_map_or (λ d. is_rwmutex d.object) (slice_get (of_kind Kind.Lock ds) l) false
+
 -- the object by its kind and its number
 abbrev pub named : Object → ℕ → Named
 named Object.Goroutine n = Named.Goroutine n

@@ -1,14 +1,15 @@
 -- Which events fit the declarations, and when a trace takes one.
-use Rattle.std.specs.Prelude.{◌≡◌, ℕ, ◌≤◌, ◌&&◌, Bool, not, if◌then◌else◌, nat_lt, nat_le, List, length, Option, Some, None, IsTrue, All}
+use Rattle.std.specs.Prelude.{◌≡◌, ℕ, ◌≤◌, ◌&&◌, Bool, true, not, if◌then◌else◌, nat_lt, nat_le, List, length, Option, Some, None, IsTrue, All}
 use Rattle.std.specs.List.{list_all}
+use Rattle.std.specs.Option.{option_map_or}
 use Rattle.race_records.specs.declared.event.Event.{Event}
 use Rattle.race_records.specs.declared.event.Op.{Op}
 use Rattle.race_records.specs.declared.kind.Kind.{Kind}
 use Rattle.race_records.specs.declared.trace.PushFault.{PushFault}
-use Rattle.race_records.specs.declared.trace.PushFault.TheVariants.{BadNumber, Full}
+use Rattle.race_records.specs.declared.trace.PushFault.TheVariants.{BadNumber, WrongKind, Full}
 use Rattle.race_records.specs.declared.trace.TheConstants.{MAX_EVENTS}
-use Rattle.race_records.specs.Declarations.{Declaration, DeclsState, count_of, counts_of}
-use Rattle.race_records.specs.Parts.{says, has_two_places, op_is_in_range, part_is_limited}
+use Rattle.race_records.specs.Declarations.{Declaration, DeclsState, count_of, counts_of, is_rw}
+use Rattle.race_records.specs.Parts.{says, has_two_places, op_is_in_range, part_is_limited, rwmutex_of}
 
 -- the numbers that the operation names are declared, each of its kind
 abbrev pub op_fits : List Declaration → Op → Bool
@@ -19,11 +20,19 @@ abbrev pub second_place_fits : ℕ → Bool → Option ℕ → Bool
 second_place_fits places two None = not two
 second_place_fits places two (Some place) = two && nat_lt place places
 
--- all numbers of the event are in range and of the right kind, and it has a second place just where its operation wants one
-unfoldable pub fits : DeclsState → Event → Bool
-fits decls e =
+-- all numbers of the event are in range, and it has a second place just where its operation wants one
+abbrev pub is_in_range : DeclsState → Event → Bool
+is_in_range decls e =
     nat_lt e.who (count_of Kind.Goroutine decls.declarations) && op_fits decls.declarations e.op
     && nat_lt e.place (length decls.places) && second_place_fits (length decls.places) (has_two_places (says e.op).0) e.place2
+
+-- where the operation wants an rwmutex, its lock is one
+abbrev pub lock_fits : List Declaration → Op → Bool
+lock_fits ds op = option_map_or (is_rw ds) (rwmutex_of op) true
+
+-- all numbers of the event are in range and of the right kind
+unfoldable pub fits : DeclsState → Event → Bool
+fits decls e = is_in_range decls e && lock_fits decls.declarations e.op
 
 -- each value of the operation is a u64, and it has at most 16 cases
 abbrev pub op_is_limited : Op → Bool
@@ -38,8 +47,9 @@ pub record TraceState : Type 0 where
 -- why the event is refused: the first cause, in the order in which they are tested
 unfoldable pub push_fault : TraceState → Event → Option PushFault
 push_fault trace e =
-    if not (fits trace.decls e) then Some BadNumber
-    else (if nat_le MAX_EVENTS (length trace.events) then Some Full else None)
+    if not (is_in_range trace.decls e) then Some BadNumber
+    else (if not (lock_fits trace.decls.declarations e.op) then Some WrongKind
+    else (if nat_le MAX_EVENTS (length trace.events) then Some Full else None))
 
 -- what holds of every `Trace`: each event fits its declarations, each value is a u64, no event has too many cases, and there are not too many events
 pub record IsTrace (trace : TraceState) : Type 0 where

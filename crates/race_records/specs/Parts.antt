@@ -1,11 +1,11 @@
 -- What each operation says: its word, and its parts in the order of its text.
 use Rattle.std.specs.Prelude.{ℕ, ◌^◌, ◌&&◌, Bool, true, false, if◌then◌else◌, nat_lt, nat_le, List, [], ◌∷◌, length, Option, Some, None}
 use Rattle.std.specs.List.{list_all}
-use Rattle.std.specs.Option.{option_map}
+use Rattle.std.specs.Option.{option_map, option_map_or}
 use Rattle.race_records.specs.declared.event.Op.{Op}
-use Rattle.race_records.specs.declared.event.Op.TheVariants.{Go, Exit, Read, Write, Send, Recv, Meet, RecvClosed, Close, Default, Fault}
+use Rattle.race_records.specs.declared.event.Op.TheVariants.{Go, Exit, Read, Write, Send, Recv, Meet, RecvClosed, Close, Default, Lock, Unlock, RLock, RUnlock, OnceBegin, OnceEnd, OnceDone, Fault}
 use Rattle.race_records.specs.declared.event.Cause.{Cause}
-use Rattle.race_records.specs.declared.event.Cause.TheVariants.{SendClosed, CloseClosed, CloseNil}
+use Rattle.race_records.specs.declared.event.Cause.TheVariants.{SendClosed, CloseClosed, CloseNil, UnlockFree, RUnlockFree}
 use Rattle.race_records.specs.declared.cases.Case.{Case}
 use Rattle.race_records.specs.declared.cases.TheConstants.{MAX_CASES}
 use Rattle.race_records.specs.declared.kind.Kind.{Kind}
@@ -27,6 +27,13 @@ says (Meet r c v) = (Verb.Meet, Part.Object (Named.Goroutine r) ∷ Part.Object 
 says (RecvClosed c) = (Verb.RecvClosed, Part.Object (Named.Chan c) ∷ [])
 says (Close c) = (Verb.Close, Part.Object (Named.Chan c) ∷ [])
 says (Default cases) = (Verb.Default, Part.Cases cases ∷ [])
+says (Lock l) = (Verb.Lock, Part.Object (Named.Lock l) ∷ [])
+says (Unlock l) = (Verb.Unlock, Part.Object (Named.Lock l) ∷ [])
+says (RLock l) = (Verb.RLock, Part.Object (Named.Lock l) ∷ [])
+says (RUnlock l) = (Verb.RUnlock, Part.Object (Named.Lock l) ∷ [])
+says (OnceBegin o) = (Verb.OnceBegin, Part.Object (Named.Once o) ∷ [])
+says (OnceEnd o) = (Verb.OnceEnd, Part.Object (Named.Once o) ∷ [])
+says (OnceDone o) = (Verb.OnceDone, Part.Object (Named.Once o) ∷ [])
 says (Fault cause) = (Verb.Fault, Part.Cause cause ∷ [])
 
 -- the event has a second place
@@ -76,6 +83,13 @@ op_by Verb.Meet parts = meet_of parts
 op_by Verb.RecvClosed parts = option_map RecvClosed (object_alone Kind.Chan parts)
 op_by Verb.Close parts = option_map Close (object_alone Kind.Chan parts)
 op_by Verb.Default parts = default_of parts
+op_by Verb.Lock parts = option_map Lock (object_alone Kind.Lock parts)
+op_by Verb.Unlock parts = option_map Unlock (object_alone Kind.Lock parts)
+op_by Verb.RLock parts = option_map RLock (object_alone Kind.Lock parts)
+op_by Verb.RUnlock parts = option_map RUnlock (object_alone Kind.Lock parts)
+op_by Verb.OnceBegin parts = option_map OnceBegin (object_alone Kind.Once parts)
+op_by Verb.OnceEnd parts = option_map OnceEnd (object_alone Kind.Once parts)
+op_by Verb.OnceDone parts = option_map OnceDone (object_alone Kind.Once parts)
 op_by Verb.Fault parts = fault_of parts
 
 -- what the parts behind each word are
@@ -90,11 +104,19 @@ part_kinds Verb.Meet = PartKind.Object Kind.Goroutine ∷ PartKind.Object Kind.C
 part_kinds Verb.RecvClosed = PartKind.Object Kind.Chan ∷ []
 part_kinds Verb.Close = PartKind.Object Kind.Chan ∷ []
 part_kinds Verb.Default = PartKind.Cases ∷ []
+part_kinds Verb.Lock = PartKind.Object Kind.Lock ∷ []
+part_kinds Verb.Unlock = PartKind.Object Kind.Lock ∷ []
+part_kinds Verb.RLock = PartKind.RwMutex ∷ []
+part_kinds Verb.RUnlock = PartKind.RwMutex ∷ []
+part_kinds Verb.OnceBegin = PartKind.Object Kind.Once ∷ []
+part_kinds Verb.OnceEnd = PartKind.Object Kind.Once ∷ []
+part_kinds Verb.OnceDone = PartKind.Object Kind.Once ∷ []
 part_kinds Verb.Fault = PartKind.Cause ∷ []
 
--- the part is of the kind that is wanted there
+-- the part is of the kind that is wanted there; which lock is an rwmutex, the declarations tell
 abbrev pub suits : PartKind → Part → Bool
 suits (PartKind.Object kind) (Part.Object named) = is_named kind named
+suits PartKind.RwMutex (Part.Object named) = is_named Kind.Lock named
 suits PartKind.Value (Part.Value v) = true
 suits PartKind.Cases (Part.Cases cases) = true
 suits PartKind.Cause (Part.Cause cause) = true
@@ -114,22 +136,35 @@ chan_is_in_range chans (Some c) = nat_lt c chans
 abbrev pub case_is_in_range : ℕ → Case → Bool
 case_is_in_range chans case = chan_is_in_range chans case.chan
 
--- the channel at which the run failed
-abbrev pub chan_of_cause : Cause → Option ℕ
-chan_of_cause (SendClosed c) = Some c
-chan_of_cause (CloseClosed c) = Some c
-chan_of_cause CloseNil = None
+-- the object at which the run failed; a nil channel is none
+abbrev pub failed_at : Cause → Option Named
+failed_at (SendClosed c) = Some (Named.Chan c)
+failed_at (CloseClosed c) = Some (Named.Chan c)
+failed_at CloseNil = None
+failed_at (UnlockFree l) = Some (Named.Lock l)
+failed_at (RUnlockFree l) = Some (Named.Lock l)
 
--- with so many objects of each kind, every number that the part names is in range
+-- with so many objects of each kind, the object's number is in range
+abbrev pub named_is_in_range : (Kind → ℕ) → Named → Bool
+named_is_in_range counts named = nat_lt (number_of named) (counts (kind_of_named named))
+
+-- so is every number that the part names
 abbrev pub part_is_in_range : (Kind → ℕ) → Part → Bool
-part_is_in_range counts (Part.Object named) = nat_lt (number_of named) (counts (kind_of_named named))
+part_is_in_range counts (Part.Object named) = named_is_in_range counts named
 part_is_in_range counts (Part.Value v) = true
 part_is_in_range counts (Part.Cases cases) = list_all (case_is_in_range (counts Kind.Chan)) cases
-part_is_in_range counts (Part.Cause cause) = chan_is_in_range (counts Kind.Chan) (chan_of_cause cause)
+part_is_in_range counts (Part.Cause cause) = option_map_or (named_is_in_range counts) (failed_at cause) true
 
 -- so is each part of the operation
 abbrev pub op_is_in_range : (Kind → ℕ) → Op → Bool
 op_is_in_range counts op = list_all (part_is_in_range counts) (says op).1
+
+-- the lock that the operation names and that has to be an rwmutex
+abbrev pub rwmutex_of : Op → Option ℕ
+rwmutex_of (RLock l) = Some l
+rwmutex_of (RUnlock l) = Some l
+rwmutex_of (Fault (RUnlockFree l)) = Some l
+rwmutex_of _ = None
 
 -- all that the part names is declared; nil and a value name nothing
 abbrev pub part_fits : List Declaration → Part → Bool

@@ -8,9 +8,9 @@ use Rattle.std.specs.Cmp.{IsPartialEquivalence, partial_equiv_from_equiv, decide
 use Rattle.std.specs.Str.{bytes_eq}
 use Rattle.race_records.specs.declared.event.Event.{Event}
 use Rattle.race_records.specs.declared.event.Op.{Op}
-use Rattle.race_records.specs.declared.event.Op.TheVariants.{Go, Exit, Read, Write, Send, Recv, Meet, RecvClosed, Close, Default, Fault}
+use Rattle.race_records.specs.declared.event.Op.TheVariants.{Go, Exit, Read, Write, Send, Recv, Meet, RecvClosed, Close, Default, Lock, Unlock, RLock, RUnlock, OnceBegin, OnceEnd, OnceDone, Fault}
 use Rattle.race_records.specs.declared.event.Cause.{Cause}
-use Rattle.race_records.specs.declared.event.Cause.TheVariants.{SendClosed, CloseClosed, CloseNil}
+use Rattle.race_records.specs.declared.event.Cause.TheVariants.{SendClosed, CloseClosed, CloseNil, UnlockFree, RUnlockFree}
 use Rattle.race_records.specs.Cases.{same_cases, same_cases-Decides}
 use Rattle.race_records.specs.Declarations.{Declaration}
 use Rattle.race_records.specs.Events.{TraceState}
@@ -43,6 +43,8 @@ abbrev pub same_cause : Cause → Cause → Bool
 same_cause (SendClosed c) (SendClosed d) = c == d
 same_cause (CloseClosed c) (CloseClosed d) = c == d
 same_cause CloseNil CloseNil = true
+same_cause (UnlockFree l) (UnlockFree m) = l == m
+same_cause (RUnlockFree l) (RUnlockFree m) = l == m
 same_cause _ _ = false
 
 -- the operations are the same
@@ -57,6 +59,13 @@ same_op (Meet r c v) (Meet s d w) = (r == s) && (c == d) && (v == w)
 same_op (RecvClosed c) (RecvClosed d) = c == d
 same_op (Close c) (Close d) = c == d
 same_op (Default cases) (Default others) = same_cases cases others
+same_op (Lock l) (Lock m) = l == m
+same_op (Unlock l) (Unlock m) = l == m
+same_op (RLock l) (RLock m) = l == m
+same_op (RUnlock l) (RUnlock m) = l == m
+same_op (OnceBegin o) (OnceBegin p) = o == p
+same_op (OnceEnd o) (OnceEnd p) = o == p
+same_op (OnceDone o) (OnceDone p) = o == p
 same_op (Fault cause) (Fault other) = same_cause cause other
 same_op _ _ = false
 
@@ -88,6 +97,8 @@ same_cause-Decides : (a b : Cause) → Decides (same_cause a b) (a ≡ b)
 same_cause-Decides (SendClosed c) (SendClosed d) = (λ e. ap SendClosed ((Decides-eqb c d).0 e), λ e. (Decides-eqb c d).1 cc)
 same_cause-Decides (CloseClosed c) (CloseClosed d) = (λ e. ap CloseClosed ((Decides-eqb c d).0 e), λ e. (Decides-eqb c d).1 cc)
 same_cause-Decides CloseNil CloseNil = (λ _. refl, λ _. refl)
+same_cause-Decides (UnlockFree l) (UnlockFree m) = (λ e. ap UnlockFree ((Decides-eqb l m).0 e), λ e. (Decides-eqb l m).1 cc)
+same_cause-Decides (RUnlockFree l) (RUnlockFree m) = (λ e. ap RUnlockFree ((Decides-eqb l m).0 e), λ e. (Decides-eqb l m).1 cc)
 same_cause-Decides _ _ = (λ e. absurd (true≢false (sym e)), λ e. cc)
 
 -- equal operations are the same, and those alone
@@ -107,6 +118,13 @@ same_op-Decides (Meet r c v) (Meet s d w) =
 same_op-Decides (RecvClosed c) (RecvClosed d) = (λ e. ap RecvClosed ((Decides-eqb c d).0 e), λ e. (Decides-eqb c d).1 cc)
 same_op-Decides (Close c) (Close d) = (λ e. ap Close ((Decides-eqb c d).0 e), λ e. (Decides-eqb c d).1 cc)
 same_op-Decides (Default cases) (Default others) = (λ e. ap Default ((same_cases-Decides cases others).0 e), λ e. (same_cases-Decides cases others).1 cc)
+same_op-Decides (Lock l) (Lock m) = (λ e. ap Lock ((Decides-eqb l m).0 e), λ e. (Decides-eqb l m).1 cc)
+same_op-Decides (Unlock l) (Unlock m) = (λ e. ap Unlock ((Decides-eqb l m).0 e), λ e. (Decides-eqb l m).1 cc)
+same_op-Decides (RLock l) (RLock m) = (λ e. ap RLock ((Decides-eqb l m).0 e), λ e. (Decides-eqb l m).1 cc)
+same_op-Decides (RUnlock l) (RUnlock m) = (λ e. ap RUnlock ((Decides-eqb l m).0 e), λ e. (Decides-eqb l m).1 cc)
+same_op-Decides (OnceBegin o) (OnceBegin p) = (λ e. ap OnceBegin ((Decides-eqb o p).0 e), λ e. (Decides-eqb o p).1 cc)
+same_op-Decides (OnceEnd o) (OnceEnd p) = (λ e. ap OnceEnd ((Decides-eqb o p).0 e), λ e. (Decides-eqb o p).1 cc)
+same_op-Decides (OnceDone o) (OnceDone p) = (λ e. ap OnceDone ((Decides-eqb o p).0 e), λ e. (Decides-eqb o p).1 cc)
 same_op-Decides (Fault cause) (Fault other) = (λ e. ap Fault ((same_cause-Decides cause other).0 e), λ e. (same_cause-Decides cause other).1 cc)
 same_op-Decides _ _ = (λ e. absurd (true≢false (sym e)), λ e. cc)
 

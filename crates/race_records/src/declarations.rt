@@ -4,13 +4,16 @@ ghost use Rattle.std.specs.Str.{bytes_eq};
 ghost use Rattle.race_records.specs.Declarations as spec;
 ghost use Rattle.race_records.specs.Refusal.{Refuses, AllowsUnless};
 ghost use Rattle.race_records.specs.Events as events;
-ghost use Rattle.race_records.specs.Parts.{part_fits, chan_is_in_range};
+ghost use Rattle.race_records.specs.Parts.{part_fits, named_is_in_range, chan_is_in_range};
 ghost use Rattle.std.specs.List.{list_all};
 
 use crate::indexes::Indexes;
 use crate::names::{Names, Slot};
 use crate::places::Places;
-use crate::{Cases, Event, Kind, Named, Object, Op, Part, chan_of_cause, is_name, is_place, says};
+use crate::{
+    Cases, Cause, Event, Kind, Named, Object, Op, Part, failed_at, is_name, is_place, rwmutex_of,
+    says,
+};
 use std::alloc::{AllocError, Allocator, Global};
 use std::marker::Model;
 use thiserror::Error;
@@ -155,6 +158,15 @@ impl<A: Allocator> Decls<A> {
         self.names.slot(index).object.width()
     }
 
+    /// Whether a lock is an rwmutex, and no mutex.
+    pub fn is_rw(&self, lock: u32) -> bool
+        requires { lock < spec.count_of Kind.Lock self.now.declarations }
+        ensures { result ≡ spec.is_rw self.now.declarations lock }
+    {
+        let index = self.indexes.get(Kind::Lock, lock as usize);
+        self.names.slot(index).object.is_rwmutex()
+    }
+
     /// The name by which an object was declared, or `main`.
     pub fn name(&self, named: Named) -> &str
         requires { spec.IsDeclared self.now.declarations named }
@@ -193,17 +205,37 @@ impl<A: Allocator> Decls<A> {
         self.places.get(place as usize)
     }
 
-    /// Whether all numbers of the event are declared, each of the kind that it stands for, and a
-    /// second place is there exactly where its operation has one.
+    /// Whether all numbers of the event are declared, each of the kind that it stands for, a
+    /// second place is there exactly where its operation has one, and a lock is an rwmutex where
+    /// the operation wants one.
     #[tactic(auto, unfolding(crate::specs::Events::fits))]
     pub fn fits(&self, event: &Event) -> bool
         ensures { result ≡ events.fits self.now event.now }
+    {
+        self.is_in_range(event) && self.lock_fits(&event.op)
+    }
+
+    // Whether all numbers of the event are in range, and a second place is there exactly where its
+    // operation has one.
+    pub(crate) fn is_in_range(&self, event: &Event) -> bool
+        ensures { result ≡ events.is_in_range self.now event.now }
     {
         let (verb, parts) = says(&event.op);
         event.who < self.count(Kind::Goroutine)
             && self.parts_fit(parts.as_slice())
             && event.place < self.place_count()
             && self.second_place_fits(verb.has_two_places(), event.place2)
+    }
+
+    // Whether the lock is an rwmutex, where the operation wants one.
+    pub(crate) fn lock_fits(&self, op: &Op) -> bool
+        requires { IsTrue (events.op_fits self.now.declarations op.now) }
+        ensures { result ≡ events.lock_fits self.now.declarations op.now }
+    {
+        match rwmutex_of(op) {
+            None => true,
+            Some(lock) => self.is_rw(lock),
+        }
     }
 
     // Whether the second place is there just where there have to be two, and in range then.
@@ -226,10 +258,26 @@ impl<A: Allocator> Decls<A> {
         ensures { result ≡ part_fits self.now.declarations part.now }
     {
         match part {
-            Part::Object(named) => named.number() < self.count(named.kind()),
+            Part::Object(named) => self.is_declared(*named),
             Part::Value(_) => true,
             Part::Cases(cases) => self.cases_fit(cases),
-            Part::Cause(cause) => self.chan_fits(chan_of_cause(*cause)),
+            Part::Cause(cause) => self.cause_fits(*cause),
+        }
+    }
+
+    fn is_declared(&self, named: Named) -> bool
+        ensures { result ≡ named_is_in_range (spec.counts_of self.now.declarations) named }
+    {
+        named.number() < self.count(named.kind())
+    }
+
+    // Whether the object at which the run failed is nil or declared.
+    fn cause_fits(&self, cause: Cause) -> bool
+        ensures { result ≡ part_fits self.now.declarations (Part.Cause cause) }
+    {
+        match failed_at(cause) {
+            None => true,
+            Some(named) => self.is_declared(named),
         }
     }
 
@@ -297,6 +345,35 @@ impl<A: Allocator + Copy> Decls<A> {
         ensures err { OnErr result (self.new ≡ self.old) }
     {
         self.declare(name, Object::Chan(capacity))
+    }
+
+    /// Declares an rwmutex where `rw` is true, else a mutex, and gives its number.
+    pub fn add_lock(&mut self, name: &str, rw: bool) -> Result<u32, DeclFault>
+        ensures refused { Refuses
+            (spec.decl_fault self.old.declarations (Object.Lock rw) name.now) result }
+        ensures allowed { AllowsUnless
+            (spec.decl_fault self.old.declarations (Object.Lock rw) name.now) result
+            DeclFault.OutOfMemory }
+        ensures number { IfOk result (λ n. n ≡ spec.count_of Kind.Lock self.old.declarations) }
+        ensures added { OnOk result (self.new ≡
+            spec.with_declaration self.old name.now (Object.Lock rw)) }
+        ensures err { OnErr result (self.new ≡ self.old) }
+    {
+        self.declare(name, Object::Lock(rw))
+    }
+
+    /// Declares a once, and gives its number.
+    pub fn add_once(&mut self, name: &str) -> Result<u32, DeclFault>
+        ensures refused { Refuses (spec.decl_fault self.old.declarations Object.Once name.now)
+            result }
+        ensures allowed { AllowsUnless (spec.decl_fault self.old.declarations Object.Once name.now)
+            result DeclFault.OutOfMemory }
+        ensures number { IfOk result (λ n. n ≡ spec.count_of Kind.Once self.old.declarations) }
+        ensures added { OnOk result (self.new ≡
+            spec.with_declaration self.old name.now Object.Once) }
+        ensures err { OnErr result (self.new ≡ self.old) }
+    {
+        self.declare(name, Object::Once)
     }
 
     /// Declares the object under the name, and gives its number.

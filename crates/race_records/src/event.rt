@@ -40,6 +40,20 @@ pub enum Op {
     Close(u32),
     /// Took the default of a select with these cases, of which none could go on.
     Default(Cases),
+    /// Locked the mutex or the rwmutex of this number.
+    Lock(u32),
+    /// Unlocked the mutex or the rwmutex of this number.
+    Unlock(u32),
+    /// Locked the rwmutex of this number for reading.
+    RLock(u32),
+    /// Unlocked the rwmutex of this number from reading.
+    RUnlock(u32),
+    /// Began to run the function of the once of this number.
+    OnceBegin(u32),
+    /// Ended the function of the once of this number.
+    OnceEnd(u32),
+    /// Found that the function of the once of this number had run.
+    OnceDone(u32),
     /// Failed at run time, which ended the run.
     Fault(Cause),
 }
@@ -53,4 +67,8 @@ pub enum Cause {
     CloseClosed(u32),
     /// A close of a nil channel.
     CloseNil,
+    /// An unlock of the mutex or the rwmutex of this number, which wasn't locked.
+    UnlockFree(u32),
+    /// An unlock from reading of the rwmutex of this number, which wasn't locked for reading.
+    RUnlockFree(u32),
 }

@@ -166,6 +166,16 @@ impl Object {
         }
     }
 
+    // Whether what is declared is an rwmutex.
+    pub(crate) fn is_rwmutex(self) -> bool
+        ensures { result ≡ spec.is_rwmutex self }
+    {
+        match self {
+            Object::Lock(rw) => rw,
+            _ => false,
+        }
+    }
+
     // Whether a channel's capacity is over its limit.
     pub(crate) fn is_too_wide(self) -> bool
         ensures { result ≡ spec.is_too_wide self }

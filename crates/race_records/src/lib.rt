@@ -20,6 +20,8 @@ mod source;
 #[cfg(test)]
 mod tests;
 mod trace;
+#[cfg(test)]
+mod trace_tests;
 
 pub use cases::{Case, Cases, CasesFull, Dir, MAX_CASES};
 pub use declarations::{DeclFault, Decls, MAX_PLACES};
@@ -32,7 +34,7 @@ pub use name::{MAX_NAME_LEN, MAX_PLACE_LEN, is_name, is_place};
 pub use names::{Names, Slot};
 pub use nouns::{Noun, object_by, object_says};
 pub use page::{BLOCK, Page};
-pub use parts::{Part, PartKind, Parts, Verb, chan_of_cause, op_by, part_kinds, says};
+pub use parts::{Part, PartKind, Parts, Verb, failed_at, op_by, part_kinds, rwmutex_of, says};
 #[doc(hidden)]
 pub use places::Places;
 pub use sink::{Sink, WriteFault};

@@ -29,6 +29,20 @@ pub enum Verb {
     Close,
     /// A select takes its default.
     Default,
+    /// A mutex or an rwmutex is locked.
+    Lock,
+    /// A mutex or an rwmutex is unlocked.
+    Unlock,
+    /// An rwmutex is locked for reading.
+    RLock,
+    /// An rwmutex is unlocked from reading.
+    RUnlock,
+    /// The function of a once begins.
+    OnceBegin,
+    /// The function of a once ends.
+    OnceEnd,
+    /// The function of a once is found to have run.
+    OnceDone,
     /// The run fails.
     Fault,
 }
@@ -60,6 +74,8 @@ pub enum Part {
 pub enum PartKind {
     /// An object of this kind.
     Object(Kind),
+    /// An rwmutex, which is a lock that isn't a mutex.
+    RwMutex,
     /// A value.
     Value,
     /// The cases of a select.
@@ -94,6 +110,13 @@ pub fn says(op: &Op) -> (Verb, Parts)
         Op::RecvClosed(c) => (Verb::RecvClosed, one(Part::Object(Named::Chan(*c)))),
         Op::Close(c) => (Verb::Close, one(Part::Object(Named::Chan(*c)))),
         Op::Default(cases) => (Verb::Default, one(Part::Cases(cases.copy()))),
+        Op::Lock(l) => (Verb::Lock, one(Part::Object(Named::Lock(*l)))),
+        Op::Unlock(l) => (Verb::Unlock, one(Part::Object(Named::Lock(*l)))),
+        Op::RLock(l) => (Verb::RLock, one(Part::Object(Named::Lock(*l)))),
+        Op::RUnlock(l) => (Verb::RUnlock, one(Part::Object(Named::Lock(*l)))),
+        Op::OnceBegin(o) => (Verb::OnceBegin, one(Part::Object(Named::Once(*o)))),
+        Op::OnceEnd(o) => (Verb::OnceEnd, one(Part::Object(Named::Once(*o)))),
+        Op::OnceDone(o) => (Verb::OnceDone, one(Part::Object(Named::Once(*o)))),
         Op::Fault(cause) => (Verb::Fault, one(Part::Cause(*cause))),
     }
 }
@@ -126,14 +149,28 @@ fn with_receiver(receiver: u32, chan: u32, value: u64) -> Parts
     parts
 }
 
-/// The channel at which the run failed.
-pub fn chan_of_cause(cause: Cause) -> Option<u32>
-    ensures { result ≡ spec.chan_of_cause cause }
+/// The object at which the run failed; a nil channel is none.
+pub fn failed_at(cause: Cause) -> Option<Named>
+    ensures { result ≡ spec.failed_at cause }
 {
     match cause {
-        Cause::SendClosed(chan) => Some(chan),
-        Cause::CloseClosed(chan) => Some(chan),
+        Cause::SendClosed(chan) => Some(Named::Chan(chan)),
+        Cause::CloseClosed(chan) => Some(Named::Chan(chan)),
         Cause::CloseNil => None,
+        Cause::UnlockFree(lock) => Some(Named::Lock(lock)),
+        Cause::RUnlockFree(lock) => Some(Named::Lock(lock)),
+    }
+}
+
+/// The lock that the operation names and that has to be an rwmutex.
+pub fn rwmutex_of(op: &Op) -> Option<u32>
+    ensures { result ≡ spec.rwmutex_of op.now }
+{
+    match op {
+        Op::RLock(lock) => Some(*lock),
+        Op::RUnlock(lock) => Some(*lock),
+        Op::Fault(Cause::RUnlockFree(lock)) => Some(*lock),
+        _ => None,
     }
 }
 
@@ -164,6 +201,13 @@ pub fn op_by(verb: Verb, parts: &[Part]) -> Option<Op>
         Verb::RecvClosed => Some(Op::RecvClosed(object_alone(Kind::Chan, parts)?)),
         Verb::Close => Some(Op::Close(object_alone(Kind::Chan, parts)?)),
         Verb::Default => default_of(parts),
+        Verb::Lock => Some(Op::Lock(object_alone(Kind::Lock, parts)?)),
+        Verb::Unlock => Some(Op::Unlock(object_alone(Kind::Lock, parts)?)),
+        Verb::RLock => Some(Op::RLock(object_alone(Kind::Lock, parts)?)),
+        Verb::RUnlock => Some(Op::RUnlock(object_alone(Kind::Lock, parts)?)),
+        Verb::OnceBegin => Some(Op::OnceBegin(object_alone(Kind::Once, parts)?)),
+        Verb::OnceEnd => Some(Op::OnceEnd(object_alone(Kind::Once, parts)?)),
+        Verb::OnceDone => Some(Op::OnceDone(object_alone(Kind::Once, parts)?)),
         Verb::Fault => fault_of(parts),
     }
 }
@@ -236,6 +280,12 @@ static VAR_VALUE: [PartKind; 2] = [PartKind::Object(Kind::Var), PartKind::Value]
 
 static CHAN: [PartKind; 1] = [PartKind::Object(Kind::Chan)];
 
+static LOCK: [PartKind; 1] = [PartKind::Object(Kind::Lock)];
+
+static RW_MUTEX: [PartKind; 1] = [PartKind::RwMutex];
+
+static ONCE: [PartKind; 1] = [PartKind::Object(Kind::Once)];
+
 static CASES: [PartKind; 1] = [PartKind::Cases];
 
 static CAUSE: [PartKind; 1] = [PartKind::Cause];
@@ -264,6 +314,13 @@ pub fn part_kinds(verb: Verb) -> &'static [PartKind]
         Verb::RecvClosed => &CHAN,
         Verb::Close => &CHAN,
         Verb::Default => &CASES,
+        Verb::Lock => &LOCK,
+        Verb::Unlock => &LOCK,
+        Verb::RLock => &RW_MUTEX,
+        Verb::RUnlock => &RW_MUTEX,
+        Verb::OnceBegin => &ONCE,
+        Verb::OnceEnd => &ONCE,
+        Verb::OnceDone => &ONCE,
         Verb::Fault => &CAUSE,
     }
 }

@@ -115,8 +115,11 @@ impl<A: Allocator> Trace<A> {
     fn fault_of(&self, event: &Event) -> Option<PushFault>
         ensures { result ≡ spec.push_fault self.now event.now }
     {
-        if !self.decls.fits(event) {
+        if !self.decls.is_in_range(event) {
             return Some(PushFault::BadNumber);
+        }
+        if !self.decls.lock_fits(&event.op) {
+            return Some(PushFault::WrongKind);
         }
         if self.events.len() >= MAX_EVENTS {
             return Some(PushFault::Full);

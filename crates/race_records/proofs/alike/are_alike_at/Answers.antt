@@ -1,6 +1,13 @@
 use Rattle.std.proofs.Common.{◌∙◌, sym, rules, false}
 use Rattle.race_records.proofs.AlikeLemmas.{alike_by, by_op, by_place, by_texts}
+use Rattle.race_records.proofs.EventLemmas.{second_in_range}
 use Rattle.race_records.proofs.alike.are_alike_at.Goals as goal
+
+pub are_second_places_alike-requires-clause-here : goal.are_second_places_alike-requires-clause-here
+are_second_places_alike-requires-clause-here g c = second_in_range c.args.trace.now.decls c.event-here.result.now c.event-here.ensures.fits
+
+pub are_second_places_alike-requires-clause-there : goal.are_second_places_alike-requires-clause-there
+are_second_places_alike-requires-clause-there g c = second_in_range c.args.other.now.decls c.event-there.result.now c.event-there.ensures.fits
 
 pub returns : goal.returns
 returns g c =

@@ -1,7 +1,7 @@
 use Rattle.std.proofs.Common.{◌<◌, length, sym, subst, ◌∙◌, arith}
 use Rattle.race_records.specs.declared.kind.Kind.{Kind}
 use Rattle.race_records.specs.Declarations as spec
-use Rattle.race_records.proofs.DeclsLemmas.{width-indexed, index_within}
+use Rattle.race_records.proofs.DeclsLemmas.{object-indexed, index_within}
 use Rattle.race_records.proofs.declarations.Decls.capacity.Goals as goal
 
 pub slot-requires : goal.slot-requires
@@ -13,5 +13,5 @@ slot-requires g c =
 pub returns : goal.returns
 returns g c =
     let s = c.self.inside in
-    c.width.ensures ∙ width-indexed s.names s.indexes c.self.invariant.numbered Kind.Chan c.args.chan c.get-index.result c.get-index.ensures c.slot.result c.slot.ensures
+    c.width.ensures ∙ object-indexed s.names s.indexes c.self.invariant.numbered Kind.Chan c.args.chan c.get-index.result c.get-index.ensures spec.width_of 0 c.slot.result c.slot.ensures
     ∙ (λ i. spec.capacity_of (c.self.view_is i).declarations c.args.chan)

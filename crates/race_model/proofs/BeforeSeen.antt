@@ -4,7 +4,7 @@ use Rattle.std.proofs.lemmas.Option.{slice_get_within}
 use Rattle.std.proofs.lemmas.List.{length-take-le}
 use Rattle.race_records.specs.declared.event.Event.{Event}
 use Rattle.race_records.specs.declared.event.Op.{Op}
-use Rattle.race_records.specs.declared.event.Op.TheVariants.{Go, Meet, Read, Write, Send, Recv, RecvClosed}
+use Rattle.race_records.specs.declared.event.Op.TheVariants.{Go, Meet, Read, Write, Send, Recv, RecvClosed, Lock, RLock, OnceDone}
 use Rattle.race_model.specs.Events.{At, accesses, is_access}
 use Rattle.race_model.specs.Order.{Point, Begin, End, SynchronizedInside, IsSource, SynchronizedBefore, Step, Reaches, one_step, then_step, HappensBefore}
 use Rattle.race_model.specs.Race.{Conflict, IsRace}
@@ -26,10 +26,18 @@ pub access_no_source : (caps : ℕ → ℕ) (past : List Event) (i : ℕ) (s o :
 access_no_source caps past i (Read x w) (Send c v) is u = (let no = u.1.0 in cc)
 access_no_source caps past i (Read x w) (Recv c v) is u = (let no = u.0 in cc)
 access_no_source caps past i (Read x w) (RecvClosed c) is u = cc
+access_no_source caps past i (Read x w) (Lock l) is (inl u) = cc
+access_no_source caps past i (Read x w) (Lock l) is (inr u) = (let no = u.0 in cc)
+access_no_source caps past i (Read x w) (RLock l) is u = (let no = u.1.0 in cc)
+access_no_source caps past i (Read x w) (OnceDone o) is u = cc
 access_no_source caps past i (Read x w) _ is u = u
 access_no_source caps past i (Write x w) (Send c v) is u = (let no = u.1.0 in cc)
 access_no_source caps past i (Write x w) (Recv c v) is u = (let no = u.0 in cc)
 access_no_source caps past i (Write x w) (RecvClosed c) is u = cc
+access_no_source caps past i (Write x w) (Lock l) is (inl u) = cc
+access_no_source caps past i (Write x w) (Lock l) is (inr u) = (let no = u.0 in cc)
+access_no_source caps past i (Write x w) (RLock l) is u = (let no = u.1.0 in cc)
+access_no_source caps past i (Write x w) (OnceDone o) is u = cc
 access_no_source caps past i (Write x w) _ is u = u
 access_no_source caps past i _ o is u = cc
 
@@ -116,4 +124,5 @@ module _ (caps : ℕ → ℕ) (events : List Event) where
   unseen_from_race x i j a b ata atb race seen = go race.conflict.1
     where
       go : ((e : Event) × At events i e × IsTrue (accesses x e.op)) → ⊥
-      go (e, at, is) = race.not_before (before_from_seen i j a b ata atb (subst (λ (e : Event). IsTrue (is_access e.op)) (at_same events i e a at ata) (is_access_from x e.op is)) seen)
+      go (e, at, is) = race.not_before
+          (before_from_seen i j a b ata atb (subst (λ (e : Event). IsTrue (is_access e.op)) (at_same events i e a at ata) (is_access_from x e.op is)) seen)

@@ -28,19 +28,21 @@ abbrev IsBounded : (ℕ → ℕ) → ℕ → List Event → Type 0
 IsBounded caps c events = (count (receives c) events ≤ count (sends c) events) × (count (sends c) events ≤ count (receives c) events + caps c)
 
 -- no rule on the operation is broken
-abbrev RulesKept : (ℕ → ℕ) → List Event → ℕ → Op → Type 0
+abbrev pub RulesKept : (ℕ → ℕ) → List Event → ℕ → Op → Type 0
 RulesKept caps past g o = (k : ℕ) (r : ℕ × Bool) → slice_get (op_rules caps past g o) k ≡ Some r → r.1 ≡ false
 
 -- nothing is sent into a full buffer
 not_full : (caps : ℕ → ℕ) (c : ℕ) (past : List Event) (g : ℕ) (o : Op) → IsTrue (sends c o) → RulesKept caps past g o → buffered c past ≢ caps c
-not_full caps c past g (Send d v) same kept = subst (λ d. buffered d past ≢ caps d) (eqb-true d c same) (not_from_Decides _ (Decides-eqb _ _) (kept 2 (7, buffered d past == caps d) refl))
+not_full caps c past g (Send d v) same kept =
+    subst (λ d. buffered d past ≢ caps d) (eqb-true d c same) (not_from_Decides _ (Decides-eqb _ _) (kept 2 (7, buffered d past == caps d) refl))
 not_full caps c past g _ same kept = cc
 
 -- nothing is received from an empty one
 not_empty : (caps : ℕ → ℕ) (c : ℕ) (past : List Event) (g : ℕ) (o : Op) → IsTrue (receives c o) → RulesKept caps past g o
     → count (sends c) past ≢ count (receives c) past
 not_empty caps c past g (Recv d v) same kept =
-    subst (λ d. count (sends d) past ≢ count (receives d) past) (eqb-true d c same) (not_from_Decides _ (Decides-eqb _ _) (kept 1 (8, count (sends d) past == count (receives d) past) refl))
+    subst (λ d. count (sends d) past ≢ count (receives d) past) (eqb-true d c same)
+    (not_from_Decides _ (Decides-eqb _ _) (kept 1 (8, count (sends d) past == count (receives d) past) refl))
 not_empty caps c past g _ same kept = cc
 
 -- so the bounds hold with one operation more
@@ -65,7 +67,7 @@ bounded_by caps c past g _ kept (low, high) = (omega (arith, low), omega (arith,
 
 module _ (caps : ℕ → ℕ) (events : List Event) (legal : IsLegal caps events) where
   -- the rules on an event's operation are kept
-  kept_at : (i : ℕ) (e : Event) → At events i e → RulesKept caps (take i events) e.who e.op
+  pub kept_at : (i : ℕ) (e : Event) → At events i e → RulesKept caps (take i events) e.who e.op
   kept_at i e at k r here = rules_kept (rules caps (take i events) e) (suc (suc k)) r (legal i e at) here
 
   bounded_push : (c n : ℕ) (e : Event) → At events n e → IsBounded caps c (take n events) → IsBounded caps c (take n events ++ e ∷ [])

@@ -63,7 +63,8 @@ all_ordered caps events (p ∷ rest) = keeps_behind caps events p rest && all_or
 -- behind a list that breaks no rule the next event breaks one
 pub illegal_by : (caps : ℕ → ℕ) (past : List Event) (e : Event) (n : ℕ) → AllKept caps [] past → broken caps past e ≡ Some n
     → IsVerdict caps (past ++ e ∷ []) (Illegal (length past) n)
-illegal_by caps past e n kept is = subst (λ es. IsIllegalAt caps es (length past) n) (append-nil (past ++ e ∷ [])) (illegal_push caps past [] e n (legal_by caps [] past (legal_none caps) kept) is)
+illegal_by caps past e n kept is =
+    subst (λ es. IsIllegalAt caps es (length past) n) (append-nil (past ++ e ∷ [])) (illegal_push caps past [] e n (legal_by caps [] past (legal_none caps) kept) is)
 
 module _ (caps : ℕ → ℕ) (events : List Event) where
   behind_at : (p : ℕ) (order : List ℕ) (n j : ℕ) → IsTrue (keeps_behind caps events p order) → slice_get order n ≡ Some j → IsTrue (keeps_order caps events p j)
@@ -74,7 +75,8 @@ module _ (caps : ℕ → ℕ) (events : List Event) where
   ordered_at : (order : List ℕ) (i j : ℕ) → IsTrue (all_ordered caps events order) → StandsBefore order i j → IsTrue (keeps_order caps events i j)
   ordered_at [] i j is (m, n, less, ati, atj) = cc
   ordered_at (p ∷ rest) i j is (m, zero, less, ati, atj) = absurd (omega arith)
-  ordered_at (p ∷ rest) i j is (zero, suc n, less, ati, atj) = let same : p ≡ i = cc in subst (λ p. IsTrue (keeps_order caps events p j)) same (behind_at p rest n j (and_parts _ _ is).0 atj)
+  ordered_at (p ∷ rest) i j is (zero, suc n, less, ati, atj) =
+      let same : p ≡ i = cc in subst (λ p. IsTrue (keeps_order caps events p j)) same (behind_at p rest n j (and_parts _ _ is).0 atj)
   ordered_at (p ∷ rest) i j is (suc m, suc n, less, ati, atj) = ordered_at rest i j (and_parts _ _ is).1 (m, n, omega arith, ati, atj)
 
   -- an access that is seen happens before
@@ -102,7 +104,10 @@ module _ (caps : ℕ → ℕ) (events : List Event) where
           go (a, ata, is_a) (b, atb, is_b) write = r.not_before (before_by ata atb (is_access_from y a.op is_a) seen)
             where
               passes : IsTrue (keeps_order caps events i j)
-              passes = ordered_at (own_order events) i j is (own_stands_before events i j less (passes_from is_access events i a ata (is_access_from y a.op is_a)) (passes_from is_access events j b atb (is_access_from y b.op is_b)))
+              passes =
+                  ordered_at (own_order events) i j is (own_stands_before events i j less
+                  (passes_from is_access events i a ata (is_access_from y a.op is_a))
+                  (passes_from is_access events j b atb (is_access_from y b.op is_b)))
 
               some_write : IsWriteOf events y i ⊎ IsWriteOf events y j → IsTrue (is_write a.op || is_write b.op)
               some_write (inl (e, at, is)) = or_left _ _ (subst (λ (e : Event). IsTrue (is_write e.op)) (at_same events i e a at ata) (is_write_from y e.op is))
@@ -140,7 +145,10 @@ module _ (caps : ℕ → ℕ) (events : List Event) where
         reported = record {
           race = race;
           in_order = up;
-          least = λ k m less r. elim (only x m r.conflict.2).0 [ inl at_p ↦ elim (only x k r.conflict.1).0 [ inl e ↦ absurd (omega arith) | inr e ↦ absurd (omega (arith, up)) ] | inr at_q ↦ omega arith ];
+          least = λ k m less r. elim (only x m r.conflict.2).0 [
+            | inl at_p ↦ elim (only x k r.conflict.1).0 [ inl e ↦ absurd (omega arith) | inr e ↦ absurd (omega (arith, up)) ]
+            | inr at_q ↦ omega arith
+          ];
           greatest = λ k less r. elim (only x k r.conflict.1).0 [ inl at_p ↦ omega arith | inr at_q ↦ absurd (omega arith) ];
         }
 
@@ -165,8 +173,10 @@ module _ (caps : ℕ → ℕ) (events : List Event) where
       at_two i (suc (suc k)) at = cc
 
       variable : (y i : ℕ) (e : Event) → At events i e → IsTrue (accesses y e.op) → (i ≡ p) ⊎ (i ≡ q) → x ≡ y
-      variable y i e at is (inl same) = one_variable x y e.op (subst (λ (a : Event). IsTrue (accesses x a.op)) (at_same events p a e atp (ap (slice_get events) (sym same) ∙ at)) is_a) is
-      variable y i e at is (inr same) = one_variable x y e.op (subst (λ (b : Event). IsTrue (accesses x b.op)) (at_same events q b e atq (ap (slice_get events) (sym same) ∙ at)) is_b) is
+      variable y i e at is (inl same) =
+          one_variable x y e.op (subst (λ (a : Event). IsTrue (accesses x a.op)) (at_same events p a e atp (ap (slice_get events) (sym same) ∙ at)) is_a) is
+      variable y i e at is (inr same) =
+          one_variable x y e.op (subst (λ (b : Event). IsTrue (accesses x b.op)) (at_same events q b e atq (ap (slice_get events) (sym same) ∙ at)) is_b) is
 
       only : (y i : ℕ) → IsAccessOf events y i → ((i ≡ p) ⊎ (i ≡ q)) × (x ≡ y)
       only y i (e, at, is) =

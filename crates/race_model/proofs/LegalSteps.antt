@@ -14,7 +14,9 @@ module _ (caps : ℕ → ℕ) where
   -- a legal list with one event more that breaks no rule is legal
   pub legal_push : (past : List Event) (e : Event) → IsLegal caps past → broken caps past e ≡ None → IsLegal caps (past ++ e ∷ [])
   legal_push past e legal kept i s at = elim (push_at past e i s at) [
-    | inl old ↦ subst (λ es. broken caps es s ≡ None) (sym (take-append-le i past (e ∷ []) (let less : i < length past = slice_get_within past i s old in omega arith))) (legal i s old)
+    | inl old ↦
+        subst (λ es. broken caps es s ≡ None)
+        (sym (take-append-le i past (e ∷ []) (let less : i < length past = slice_get_within past i s old in omega arith))) (legal i s old)
     | inr new ↦
         let front : take i (past ++ e ∷ []) ≡ past = take_at past (e ∷ []) i (sym new.0) in
         subst (λ es. broken caps es s ≡ None) (sym front) (subst (λ s. broken caps past s ≡ None) new.1 kept)
@@ -30,8 +32,13 @@ module _ (caps : ℕ → ℕ) where
   pub illegal_push : (past more : List Event) (e : Event) (n : ℕ) → IsLegal caps past → broken caps past e ≡ Some n
       → IsIllegalAt caps ((past ++ e ∷ []) ++ more) (length past) n
   illegal_push past more e n legal is =
-      let front : take (length past) ((past ++ e ∷ []) ++ more) ≡ past = ap (take (length past)) (append_assoc past (e ∷ []) more) ∙ take_at past (e ∷ [] ++ more) (length past) refl in
-      (e, append_at_old (past ++ e ∷ []) more (length past) e (slice_get-push past e), subst (λ es. broken caps es e ≡ Some n) (sym front) is, subst (IsLegal caps) (sym front) legal)
+      let front : take (length past) ((past ++ e ∷ []) ++ more) ≡ past =
+      ap (take (length past)) (append_assoc past (e ∷ []) more) ∙ take_at past (e ∷ [] ++ more) (length past) refl in (
+        e,
+        append_at_old (past ++ e ∷ []) more (length past) e (slice_get-push past e),
+        subst (λ es. broken caps es e ≡ Some n) (sym front) is,
+        subst (IsLegal caps) (sym front) legal,
+      )
 
 -- each event of rest, coming after past and those before it, breaks no rule
 abbrev pub AllKept : (ℕ → ℕ) → List Event → List Event → Type 0

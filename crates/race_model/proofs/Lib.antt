@@ -11,6 +11,12 @@ pub mod BeforeSeen
 pub mod SynchronizedTests
 pub mod SeenByComputing
 pub mod ChannelOrder
+pub mod LockOrder
+pub mod ClockLemmas
+pub mod ClockSteps
+pub mod SourceSteps
+pub mod StampOrder
+pub mod StampsLawful
 pub mod RaceSteps
 pub mod ReorderLemmas
 pub mod OwnOrder

@@ -75,7 +75,9 @@ own_stands_before events a b up is_a is_b = apart (own_each events a is_a) (own_
 -- the trace's own order is a reordering
 pub own_is_reordering : (caps : ℕ → ℕ) (events : List Event) → IsReordering caps events (own_order events)
 own_is_reordering caps events = record {
-  only = λ i a at. let told : (k : ℕ) × (a ≡ 0 + k) × IsTrue (op_passes is_access events k) = accesses_only 0 events i a at in subst (λ k. IsTrue (op_passes is_access events k)) (sym (told.1 ∙ zero-add told.0)) told.2;
+  only = λ i a at.
+      let told : (k : ℕ) × (a ≡ 0 + k) × IsTrue (op_passes is_access events k) = accesses_only 0 events i a at in
+      subst (λ k. IsTrue (op_passes is_access events k)) (sym (told.1 ∙ zero-add told.0)) told.2;
   each = own_each events;
   once = λ i j a ati atj. elim (cases_order i j) [
     | inl same ↦ same

@@ -1,5 +1,5 @@
 -- Lists of events that differ in places alone are judged alike.
-use Rattle.std.proofs.Common.{◌≡◌, ℕ, ◌+◌, ◌-◌, cond, ◌==◌, ◌||◌, ◌&&◌, not, Bool, false, IsTrue, nat_lt, List, [], ◌∷◌, Option, Some, None, option_map, count_by, filter_map, take, slice_get, unwrap_or, refl, sym, ap, ◌∙◌, subst, inl, inr}
+use Rattle.std.proofs.Common.{◌≡◌, ℕ, ◌+◌, ◌-◌, cond, ◌==◌, ◌||◌, ◌&&◌, not, Bool, false, IsTrue, nat_lt, List, [], ◌∷◌, Option, Some, None, is_some, if◌then◌else◌, option_map, count_by, filter_map, take, slice_get, unwrap_or, refl, sym, ap, ◌∙◌, subst, inl, inr}
 use Rattle.std.specs.List.{cons_option, list_any}
 use Rattle.std.proofs.lemmas.List.{take-map}
 use Rattle.std.proofs.lemmas.List.Folds.{fold-map}
@@ -8,11 +8,11 @@ use Rattle.race_records.specs.declared.event.Event.{Event}
 use Rattle.race_records.specs.declared.cases.Case.{Case}
 use Rattle.race_records.specs.declared.cases.Dir.{Dir}
 use Rattle.race_records.specs.declared.event.Cause.{Cause}
-use Rattle.race_records.specs.declared.event.Cause.TheVariants.{SendClosed, CloseClosed, CloseNil}
+use Rattle.race_records.specs.declared.event.Cause.TheVariants.{SendClosed, CloseClosed, CloseNil, UnlockFree, RUnlockFree}
 use Rattle.race_records.specs.declared.event.Op.{Op}
-use Rattle.race_records.specs.declared.event.Op.TheVariants.{Go, Exit, Read, Write, Send, Recv, Meet, RecvClosed, Close, Default, Fault}
-use Rattle.race_model.specs.Events.{At, operations, TakesPart, partner, gives, starts, is_exit, writes, accesses, count, sends, receives, closes, is_fault, has_exited, last_of}
-use Rattle.race_model.specs.State.{over, started, runs, written, last_value, is_closed, buffered, sent, front}
+use Rattle.race_records.specs.declared.event.Op.TheVariants.{Go, Exit, Read, Write, Send, Recv, Meet, RecvClosed, Close, Default, Lock, Unlock, RLock, RUnlock, OnceBegin, OnceEnd, OnceDone, Fault}
+use Rattle.race_model.specs.Events.{At, operations, TakesPart, partner, gives, starts, is_exit, writes, accesses, count, sends, receives, closes, locks, unlocks, rlocks, runlocks, once_begins, once_ends, is_fault, has, has_exited, last_of}
+use Rattle.race_model.specs.State.{over, started, runs, written, last_value, is_closed, buffered, sent, front, is_held, is_read_held, unended_once, innermost}
 use Rattle.race_model.specs.Legal.{op_rules, can_proceed, is_ready, cause_holds, receiver_runs, least_broken, broken, IsLegal, IsIllegalAt}
 use Rattle.race_model.specs.Order.{Point, Begin, End, SequencedBefore, SynchronizedInside, IsSource, SynchronizedBefore, Step, Reaches, one_step, then_step, HappensBefore}
 use Rattle.race_model.specs.Race.{IsAccessOf, IsWriteOf, Conflict, IsRace, IsReportedRace}
@@ -28,6 +28,10 @@ count_of_operations p es = sym (fold-map (λ n c. n + cond (p c) 1 0) doing 0 es
 last_of_operations : (f : Op → Option ℕ) (es : List Event) → last_of (λ e. f e.op) es ≡ last_of (λ (c : ℕ × Op). f c.1) (operations es)
 last_of_operations f [] = refl
 last_of_operations f (e ∷ es) = ap (λ o. elim o [ Some a ↦ Some a | None ↦ f e.op ]) (last_of_operations f es)
+
+last_by_doing : (f : ℕ × Op → Option ℕ) (es : List Event) → last_of (λ (e : Event). f (e.who, e.op)) es ≡ last_of f (operations es)
+last_by_doing f [] = refl
+last_by_doing f (e ∷ es) = ap (λ o. elim o [ Some a ↦ Some a | None ↦ f (e.who, e.op) ]) (last_by_doing f es)
 
 sent_of_operations : (c : ℕ) (es : List Event) → filter_map (λ (e : Event). sent c e.op) es ≡ filter_map (λ (d : ℕ × Op). sent c d.1) (operations es)
 sent_of_operations c [] = refl
@@ -52,6 +56,10 @@ source_alike : (es fs : List Event) → operations es ≡ operations fs → (cap
 source_alike es fs same caps i s (Recv c v) (is, n) = (is, sym (fronts_alike es fs same i (sends c)) ∙ n ∙ kinds_alike es fs same (receives c))
 source_alike es fs same caps i s (Send c v) (k, (is, n), sum) = (k, (is, sym (fronts_alike es fs same i (receives c)) ∙ n), sum ∙ kinds_alike es fs same (sends c))
 source_alike es fs same caps i s (RecvClosed c) is = is
+source_alike es fs same caps i s (Lock l) (inl is) = inl is
+source_alike es fs same caps i s (Lock l) (inr (is, n)) = inr (is, sym (fronts_alike es fs same i (locks l)) ∙ n ∙ kinds_alike es fs same (locks l))
+source_alike es fs same caps i s (RLock l) (k, (is, n), sum) = (k, (is, sym (fronts_alike es fs same i (unlocks l)) ∙ n), sum ∙ kinds_alike es fs same (unlocks l))
+source_alike es fs same caps i s (OnceDone o) is = is
 source_alike es fs same caps i s _ never = absurd never
 
 matched : (es fs : List Event) → operations es ≡ operations fs → (i : ℕ) (e : Event) → At es i e → IsMatched fs i e
@@ -83,11 +91,14 @@ module _ (es fs : List Event) (same : operations es ≡ operations fs) where
   kind_alike : (kind : Op → Bool) → count kind es ≡ count kind fs
   kind_alike kind = counted_alike (λ c. kind c.1)
 
+  has_alike : (kind : Op → Bool) → has kind es ≡ has kind fs
+  has_alike kind = ap (nat_lt 0) (kind_alike kind)
+
   closed_alike : (c : ℕ) → is_closed c es ≡ is_closed c fs
-  closed_alike c = ap (nat_lt 0) (kind_alike (closes c))
+  closed_alike c = has_alike (closes c)
 
   over_alike : over es ≡ over fs
-  over_alike i = exited_alike 0 i || ap (nat_lt 0) (kind_alike is_fault) i
+  over_alike i = exited_alike 0 i || has_alike is_fault i
 
   runs_alike : (g : ℕ) → runs g es ≡ runs g fs
   runs_alike g i = (g == 0 || started_alike g i) && not (exited_alike g i)
@@ -100,6 +111,21 @@ module _ (es fs : List Event) (same : operations es ≡ operations fs) where
 
   next_alike : (c : ℕ) → front c es ≡ front c fs
   next_alike c i = slice_get (sent_alike c i) (kind_alike (receives c) i)
+
+  held_alike : (l : ℕ) → is_held l es ≡ is_held l fs
+  held_alike l i = nat_lt (kind_alike (unlocks l) i) (kind_alike (locks l) i)
+
+  read_held_alike : (l : ℕ) → is_read_held l es ≡ is_read_held l fs
+  read_held_alike l i = nat_lt (kind_alike (runlocks l) i) (kind_alike (rlocks l) i)
+
+  unended_alike : (g who : ℕ) (o : Op) → unended_once g es who o ≡ unended_once g fs who o
+  unended_alike g who (OnceBegin p) = ap (λ b. if (who == g) && not b then Some p else None) (has_alike (once_ends p))
+  unended_alike g who _ = refl
+
+  innermost_alike : (g : ℕ) → innermost g es ≡ innermost g fs
+  innermost_alike g =
+      let opened = λ (d : ℕ × Op). unended_once g fs d.0 d.1 in
+      (λ i. last_of (λ e. unended_alike g e.who e.op i) es) ∙ last_by_doing opened es ∙ ap (last_of opened) same ∙ sym (last_by_doing opened fs)
 
   can_alike : (caps : ℕ → ℕ) (c : ℕ) (dir : Dir) → can_proceed caps es c dir ≡ can_proceed caps fs c dir
   can_alike caps c Dir.Send i = closed_alike c i || (nat_lt 0 (caps c) && nat_lt (buffered_alike c i) (caps c))
@@ -117,10 +143,12 @@ module _ (es fs : List Event) (same : operations es ≡ operations fs) where
   cause_alike (SendClosed c) = closed_alike c
   cause_alike (CloseClosed c) = closed_alike c
   cause_alike CloseNil = refl
+  cause_alike (UnlockFree l) = ap not (held_alike l)
+  cause_alike (RUnlockFree l) = ap not (read_held_alike l)
 
   op_rules_alike : (caps : ℕ → ℕ) (g : ℕ) (o : Op) → op_rules caps es g o ≡ op_rules caps fs g o
   op_rules_alike caps g (Go h) = ap (λ b. (3, h == 0 || b) ∷ []) (started_alike h)
-  op_rules_alike caps g Exit = refl
+  op_rules_alike caps g Exit = ap (λ o. (20, is_some o) ∷ []) (innermost_alike g)
   op_rules_alike caps g (Read x v) = ap (λ n. (21, not (n == v)) ∷ []) (last_alike x)
   op_rules_alike caps g (Write x v) = refl
   op_rules_alike caps g (Send c v) = λ i. (5, caps c == 0) ∷ (6, closed_alike c i) ∷ (7, buffered_alike c i == caps c) ∷ []
@@ -131,6 +159,13 @@ module _ (es fs : List Event) (same : operations es ≡ operations fs) where
       λ i. (10, not (closed_alike c i)) ∷ (11, nat_lt (kind_alike (receives c) i) (kind_alike (sends c) i)) ∷ []
   op_rules_alike caps g (Close c) = λ i. (12, closed_alike c i) ∷ []
   op_rules_alike caps g (Default cases) = λ i. (22, list_any (λ case. ready_alike caps case i) cases) ∷ []
+  op_rules_alike caps g (Lock l) = λ i. (13, held_alike l i) ∷ (14, read_held_alike l i) ∷ []
+  op_rules_alike caps g (Unlock l) = λ i. (15, not (held_alike l i)) ∷ []
+  op_rules_alike caps g (RLock l) = λ i. (13, held_alike l i) ∷ []
+  op_rules_alike caps g (RUnlock l) = λ i. (16, not (read_held_alike l i)) ∷ []
+  op_rules_alike caps g (OnceBegin o) = λ i. (17, has_alike (once_begins o) i) ∷ []
+  op_rules_alike caps g (OnceEnd o) = λ i. (18, not (gives (innermost_alike g i) o)) ∷ []
+  op_rules_alike caps g (OnceDone o) = λ i. (19, not (has_alike (once_ends o) i)) ∷ []
   op_rules_alike caps g (Fault cause) = λ i. (23, not (cause_alike cause i)) ∷ []
 
   receiver_alike : (o : Op) → receiver_runs es o ≡ receiver_runs fs o

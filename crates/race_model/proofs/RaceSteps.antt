@@ -30,7 +30,13 @@ module _ (caps : ℕ → ℕ) (events more : List Event) where
       under = happens_before_up caps (events ++ more) i j h
 
       go : HappensBefore caps (events ++ more) i j → HappensBefore caps events i j
-      go (a, b, ata, atb, w) = (a, b, sym (slice_get-append events more i (omega (arith, under))) ∙ ata, sym (slice_get-append events more j less) ∙ atb, reaches_old caps events more less w)
+      go (a, b, ata, atb, w) = (
+        a,
+        b,
+        sym (slice_get-append events more i (omega (arith, under))) ∙ ata,
+        sym (slice_get-append events more j less) ∙ atb,
+        reaches_old caps events more less w,
+      )
 
   access_grow : (x i : ℕ) → IsAccessOf events x i → IsAccessOf (events ++ more) x i
   access_grow x i (e, at, is) = (e, append_at_old events more i e at, is)
@@ -54,7 +60,12 @@ module _ (caps : ℕ → ℕ) (events more : List Event) where
 
   -- no conflict comes between events of the list
   pub conflict_old : (x i j : ℕ) → i < length events → j < length events → Conflict (events ++ more) x i j → Conflict events x i j
-  conflict_old x i j less under (differ, a, b, w) = (differ, access_old x i less a, access_old x j under b, elim w [ inl a ↦ inl (write_old x i less a) | inr b ↦ inr (write_old x j under b) ])
+  conflict_old x i j less under (differ, a, b, w) = (
+    differ,
+    access_old x i less a,
+    access_old x j under b,
+    elim w [ inl a ↦ inl (write_old x i less a) | inr b ↦ inr (write_old x j under b) ],
+  )
 
   -- a race stays
   pub race_grow : (x i j : ℕ) → IsRace caps events x i j → IsRace caps (events ++ more) x i j

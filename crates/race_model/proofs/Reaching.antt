@@ -68,5 +68,6 @@ into_end {caps} {events} i h j g (then_step {q} w s) = go q w s
 -- and such a step goes on
 pub out_of_seen : {caps : ℕ → ℕ} {events : List Event} (i h k f j g : ℕ) → SeenAt caps events i h k f → Step caps events (Begin k f) (End j g)
     → Reaches caps events (Begin i h) (End j g)
-out_of_seen {caps} {events} i h k f j g (inl (same, who)) s = one_step (subst (λ i. Step caps events (Begin i h) (End j g)) (sym same) (subst (λ h. Step caps events (Begin k h) (End j g)) (sym who) s))
+out_of_seen {caps} {events} i h k f j g (inl (same, who)) s =
+    one_step (subst (λ i. Step caps events (Begin i h) (End j g)) (sym same) (subst (λ h. Step caps events (Begin k h) (End j g)) (sym who) s))
 out_of_seen i h k f j g (inr w) s = then_step w s

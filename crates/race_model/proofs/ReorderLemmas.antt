@@ -95,7 +95,10 @@ found_is events order x r k here once =
     in_front i j b less ati atj = let same : j ≡ k = once j k r atj here in slice_get-take k order i (omega arith) ∙ ati
 
     go : (o : Option ℕ) → IsLast (write_at events x) (take k order) o → IsFound events order x r o
-    go None none = λ b w (i, j, less, ati, atj). let some : write_at events x b ≡ Some b = write_at_write events x b w in let no_one : write_at events x b ≡ None = none i b (in_front i j b less ati atj) in cc
+    go None none = λ b w (i, j, less, ati, atj).
+        let some : write_at events x b ≡ Some b = write_at_write events x b w in
+        let no_one : write_at events x b ≡ None = none i b (in_front i j b less ati atj) in
+        cc
     go (Some a) (i, l) = (subst (IsWriteOf events x) found.1 found.0, (i, k, take_within k order i l.element l.at, ata, here), others)
       where
         found : IsWriteOf events x l.element × (l.element ≡ a)
@@ -108,7 +111,10 @@ found_is events order x r k here once =
         others b w differ (m, j, less, atm, atj) = elim (cases_order m i) [
           | inl same ↦ absurd (differ (at_same order i b a (ap (slice_get order) (sym same) ∙ atm) ata))
           | inr (inl under) ↦ (m, i, under, atm, ata)
-          | inr (inr above) ↦ let some : write_at events x b ≡ Some b = write_at_write events x b w in let no_one : write_at events x b ≡ None = l.behind m b above (in_front m j b less atm atj) in cc
+          | inr (inr above) ↦
+              let some : write_at events x b ≡ Some b = write_at_write events x b w in
+              let no_one : write_at events x b ≡ None = l.behind m b above (in_front m j b less atm atj) in
+              cc
         ]
 
 -- without a data race a read finds the same write in two reorderings
@@ -133,7 +139,8 @@ same_finds caps events free one two p q x r is = go (finds events one x r) (find
     of_write a (e, at, w) = (e, at, or_right (reads x e.op) (writes x e.op) w)
 
     not_r : (a : ℕ) → IsWriteOf events x a → a ≢ r
-    not_r a (e, at, w) same = read_or_write x e.op (subst (λ (s : Event). IsTrue (reads x s.op)) (at_same events r read.0 e read.1 (ap (slice_get events) (sym same) ∙ at)) read.2) w
+    not_r a (e, at, w) same =
+        read_or_write x e.op (subst (λ (s : Event). IsTrue (reads x s.op)) (at_same events r read.0 e read.1 (ap (slice_get events) (sym same) ∙ at)) read.2) w
 
     with_r : (a : ℕ) → IsWriteOf events x a → Conflict events x a r
     with_r a w = (not_r a w, of_write a w, access, inl w)

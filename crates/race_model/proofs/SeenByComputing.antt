@@ -26,7 +26,8 @@ brought_inside passes who _ g = false
 Decides-inside : (passes : ℕ → Bool) (P : ℕ → Type 0) → ((f : ℕ) → Decides (passes f) (P f)) → (who : ℕ) (o : Op) (g : ℕ)
     → Decides (brought_inside passes who o g) ((f : ℕ) × SynchronizedInside who o f g × P f)
 Decides-inside passes P each who (Go k) g = Decides-like _ (λ p. (who, (refl, p.0), p.1)) (λ q. (q.1.1, subst P (sym q.1.0) q.2)) (Decides-and _ _ (Decides-eqb k g) (each who))
-Decides-inside passes P each who (Meet r c v) g = Decides-like _ to from (Decides-or _ _ (Decides-and _ _ (Decides-eqb r g) (each who)) (Decides-and _ _ (Decides-eqb who g) (each r)))
+Decides-inside passes P each who (Meet r c v) g =
+    Decides-like _ to from (Decides-or _ _ (Decides-and _ _ (Decides-eqb r g) (each who)) (Decides-and _ _ (Decides-eqb who g) (each r)))
   where
     to : ((r ≡ g) × P who) ⊎ ((who ≡ g) × P r) → (f : ℕ) × SynchronizedInside who (Meet r c v) f g × P f
     to (inl p) = (who, inl (refl, p.0), p.1)
@@ -70,7 +71,8 @@ has_seen caps events i h (suc fuel) (suc n) g = seen_after caps (take n events) 
 
 -- what was seen by a begin, by what was seen before its event
 seen_at_front : (caps : ℕ → ℕ) (past : List Event) (i h k : ℕ) (s : Event) → At past k s
-    → (((i ≡ k) × (h ≡ s.who)) ⊎ SeenBy caps (take k past) i h s.who → SeenAt caps past i h k s.who) × (SeenAt caps past i h k s.who → ((i ≡ k) × (h ≡ s.who)) ⊎ SeenBy caps (take k past) i h s.who)
+    → (((i ≡ k) × (h ≡ s.who)) ⊎ SeenBy caps (take k past) i h s.who → SeenAt caps past i h k s.who)
+    × (SeenAt caps past i h k s.who → ((i ≡ k) × (h ≡ s.who)) ⊎ SeenBy caps (take k past) i h s.who)
 seen_at_front caps past i h k s at = (to, from)
   where
     within : k < length past
@@ -78,7 +80,8 @@ seen_at_front caps past i h k s at = (to, from)
 
     to : ((i ≡ k) × (h ≡ s.who)) ⊎ SeenBy caps (take k past) i h s.who → SeenAt caps past i h k s.who
     to (inl own) = inl own
-    to (inr (m, (e, ate, part), w)) = inr (then_step (front_grow caps past k w) (inl (take_within k past m e ate, refl, (e, take_at_old k past m e ate, part), (s, at, who_takes_part s))))
+    to (inr (m, (e, ate, part), w)) =
+        inr (then_step (front_grow caps past k w) (inl (take_within k past m e ate, refl, (e, take_at_old k past m e ate, part), (s, at, who_takes_part s))))
 
     from : SeenAt caps past i h k s.who → ((i ≡ k) × (h ≡ s.who)) ⊎ SeenBy caps (take k past) i h s.who
     from (inl own) = inl own
@@ -106,11 +109,16 @@ module _ (caps : ℕ → ℕ) (past : List Event) (e : Event) (i h g : ℕ) (had
 
           from : BySource k → IsSource caps past k s.op e.op × (((i ≡ k) × (h ≡ s.who)) ⊎ SeenBy caps (take k past) i h s.who)
           from (t, att, source, seen) =
-              let same : t ≡ s = at_same past k t s att at in
-              (subst (λ (t : Event). IsSource caps past k t.op e.op) same source, (seen_at_front caps past i h k s at).1 (subst (λ (t : Event). SeenAt caps past i h k t.who) same seen))
+              let same : t ≡ s = at_same past k t s att at in (
+                subst (λ (t : Event). IsSource caps past k t.op e.op) same source,
+                (seen_at_front caps past i h k s at).1 (subst (λ (t : Event). SeenAt caps past i h k t.who) same seen),
+              )
 
   Decides-brings : Decides (brings caps past e i h g had) (Brings caps past e i h g)
-  Decides-brings = Decides-or _ _ own (Decides-or _ _ (Decides-inside _ _ (λ f. Decides-or _ _ (Decides-and _ _ (Decides-eqb i _) (Decides-eqb h f)) (had_all f)) e.who e.op g) by_source)
+  Decides-brings =
+      Decides-or _ _ own
+      (Decides-or _ _ (Decides-inside _ _ (λ f. Decides-or _ _ (Decides-and _ _ (Decides-eqb i _) (Decides-eqb h f)) (had_all f)) e.who e.op g)
+      by_source)
     where
       own : Decides (is_begin i h (length past) g) ((i ≡ length past) × (h ≡ g))
       own = Decides-and _ _ (Decides-eqb i _) (Decides-eqb h g)
@@ -123,7 +131,8 @@ module _ (caps : ℕ → ℕ) (past : List Event) (e : Event) (i h g : ℕ) (had
       by_source = Decides-like _
           (λ p. (p.1.0, p.1.2.0, p.1.2.1, p.1.2.2, p.0, p.1.2.3))
           (λ q. (q.4, (q.0, slice_get_within past q.0 q.1 q.2, (q.1, q.2, q.3, q.5))))
-          (Decides-and _ _ (Decides-eqb e.who g) (Decides-below_or _ BySource (some_source caps past e (λ k f. is_begin i h k f || had k f)) source_is_passes refl (λ n. refl) (length past)))
+          (Decides-and _ _ (Decides-eqb e.who g)
+          (Decides-below_or _ BySource (some_source caps past e (λ k f. is_begin i h k f || had k f)) source_is_passes refl (λ n. refl) (length past)))
 
 -- one event on
 Decides-after : (caps : ℕ → ℕ) (events : List Event) (i h n g : ℕ) (had : ℕ → ℕ → Bool) → n < length events
@@ -153,7 +162,10 @@ Decides-after caps events i h n g had within had_is = go (at_below events n with
 -- the test passes exactly where it was seen
 pub Decides-seen : (caps : ℕ → ℕ) (events : List Event) (i h fuel n g : ℕ) → n ≤ fuel → n ≤ length events
     → Decides (has_seen caps events i h fuel n g) (SeenBy caps (take n events) i h g)
-Decides-seen caps events i h zero n g le within = ((λ is. cc), (λ seen. absurd (let none : n ≡ 0 = omega arith in seen_none caps i h g (subst (λ n. SeenBy caps (take n events) i h g) none seen))))
+Decides-seen caps events i h zero n g le within = (
+  (λ is. cc),
+  (λ seen. absurd (let none : n ≡ 0 = omega arith in seen_none caps i h g (subst (λ n. SeenBy caps (take n events) i h g) none seen))),
+)
 Decides-seen caps events i h (suc fuel) zero g le within = ((λ is. cc), (λ seen. absurd (seen_none caps i h g seen)))
 Decides-seen caps events i h (suc fuel) (suc n) g le within =
     Decides-after caps events i h n g (has_seen caps events i h fuel) within (λ k f low. Decides-seen caps events i h fuel k f (omega arith) (omega arith))

@@ -2,8 +2,8 @@
 use Rattle.std.proofs.Common.{◌≡◌, ◌⊎◌, ◌↔◌, ◌∙◌, ℕ, ◌+◌, ◌==◌, ◌&&◌, ◌||◌, Bool, true, false, List, refl, sym, ap, inl, inr, true≢false, IsTrue, eqb-true, eq-eqb, take}
 use Rattle.race_records.specs.declared.event.Event.{Event}
 use Rattle.race_records.specs.declared.event.Op.{Op}
-use Rattle.race_records.specs.declared.event.Op.TheVariants.{Go, Send, Recv, Meet, RecvClosed}
-use Rattle.race_model.specs.Events.{sends, receives, count}
+use Rattle.race_records.specs.declared.event.Op.TheVariants.{Go, Send, Recv, Meet, RecvClosed, Lock, RLock, OnceDone}
+use Rattle.race_model.specs.Events.{sends, receives, locks, unlocks, runlocks, count}
 use Rattle.race_model.specs.Order.{SynchronizedInside, IsSource}
 use Rattle.race_model.specs.Synchronized.{joins, is_source}
 
@@ -27,7 +27,9 @@ with_equal false n m = ((λ is. cc), (λ (is, same). cc))
 
 pub joins_is : (who : ℕ) (o : Op) (g h : ℕ) → IsTrue (joins who o g h) ↔ SynchronizedInside who o g h
 joins_is who (Go k) g h = both_equal who g k h
-joins_is who (Meet r c v) g h = either_holds ((who == g) && (r == h)) ((r == g) && (who == h)) ((who ≡ g) × (r ≡ h)) ((r ≡ g) × (who ≡ h)) (both_equal who g r h) (both_equal r g who h)
+joins_is who (Meet r c v) g h =
+    either_holds ((who == g) && (r == h)) ((r == g) && (who == h)) ((who ≡ g) × (r ≡ h)) ((r ≡ g) × (who ≡ h))
+    (both_equal who g r h) (both_equal r g who h)
 joins_is who _ g h = ((λ is. cc), (λ never. absurd never))
 
 pub source_is : (caps : ℕ → ℕ) (past : List Event) (i : ℕ) (s o : Op) → IsTrue (is_source caps past i s o) ↔ IsSource caps past i s o
@@ -38,4 +40,15 @@ source_is caps past i s (Send c v) =
       (λ (k, (is, number), sum). both.1 (is, ap (λ n. n + caps c) number ∙ sum)),
     )
 source_is caps past i s (RecvClosed c) = ((λ is. is), (λ is. is))
+source_is caps past i s (Lock l) =
+    either_holds (unlocks l s) (runlocks l s && (count (locks l) (take i past) == count (locks l) past))
+    (IsTrue (unlocks l s)) (IsTrue (runlocks l s) × (count (locks l) (take i past) ≡ count (locks l) past))
+    ((λ is. is), (λ is. is))
+    (with_equal (runlocks l s) (count (locks l) (take i past)) (count (locks l) past))
+source_is caps past i s (RLock l) =
+    let both = with_equal (unlocks l s) (count (unlocks l) (take i past) + 1) (count (unlocks l) past) in (
+      (λ is. (count (unlocks l) (take i past), ((both.0 is).0, refl), (both.0 is).1)),
+      (λ (k, (is, number), sum). both.1 (is, ap (λ n. n + 1) number ∙ sum)),
+    )
+source_is caps past i s (OnceDone o) = ((λ is. is), (λ is. is))
 source_is caps past i s _ = ((λ is. cc), (λ never. absurd never))

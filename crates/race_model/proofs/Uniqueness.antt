@@ -90,7 +90,8 @@ pub same_rising : (races others : List Race) → Rises races → Rises others �
 same_rising [] [] p q a b = refl
 same_rising [] (s ∷ others) p q a b = let none : (m : ℕ) × (slice_get {X = Race} [] m ≡ Some s) = b 0 s refl in let e = none.1 in cc
 same_rising (r ∷ races) [] p q a b = let none : (m : ℕ) × (slice_get {X = Race} [] m ≡ Some r) = a 0 r refl in let e = none.1 in cc
-same_rising (r ∷ races) (s ∷ others) p q a b = go (same_head r s races others p q (a 0 r refl) (b 0 s refl)) (same_rising races others (rises_behind r races p) (rises_behind s others q))
+same_rising (r ∷ races) (s ∷ others) p q a b =
+    go (same_head r s races others p q (a 0 r refl) (b 0 s refl)) (same_rising races others (rises_behind r races p) (rises_behind s others q))
   where
     go : r ≡ s → (IsPartOf races others → IsPartOf others races → races ≡ others) → r ∷ races ≡ s ∷ others
     go head rest =
@@ -126,4 +127,5 @@ verdict_unique caps events Clean (Races races) p q = absurd (not_free caps event
 verdict_unique caps events (Races races) (Illegal i n) p q = absurd (illegal_not_legal caps events i n q p.0)
 verdict_unique caps events (Races races) Clean p q = absurd (not_free caps events races p.1 p.2 q.1)
 verdict_unique caps events (Races races) (Races others) p q =
-    ap Races (same_rising races others (record { up = p.2.rising }) (record { up = q.2.rising }) (races_part caps events races others p.2 q.2) (races_part caps events others races q.2 p.2))
+    ap Races (same_rising races others (record { up = p.2.rising }) (record { up = q.2.rising })
+    (races_part caps events races others p.2 q.2) (races_part caps events others races q.2 p.2))

@@ -2,7 +2,7 @@
 use Rattle.std.specs.Prelude.{ℕ, ◌≡◌, ◌==◌, ◌||◌, ◌&&◌, nat_lt, Bool, true, false, IsTrue, List, [], ◌∷◌, Option, Some, None, count_by, map, take, slice_get}
 use Rattle.race_records.specs.declared.event.Event.{Event}
 use Rattle.race_records.specs.declared.event.Op.{Op}
-use Rattle.race_records.specs.declared.event.Op.TheVariants.{Go, Exit, Read, Write, Send, Recv, Meet, Close, Fault}
+use Rattle.race_records.specs.declared.event.Op.TheVariants.{Go, Exit, Read, Write, Send, Recv, Meet, Close, Lock, Unlock, RLock, RUnlock, OnceBegin, OnceEnd, Fault}
 
 -- e is the event at index i of the list; indexes count from 0
 abbrev pub At : List Event → ℕ → Event → Type 0
@@ -82,6 +82,36 @@ receives c _ = false
 abbrev pub closes : ℕ → Op → Bool
 closes c (Close d) = d == c
 closes c _ = false
+
+-- a Lock of l; an RLock is none
+abbrev pub locks : ℕ → Op → Bool
+locks l (Lock m) = m == l
+locks l _ = false
+
+-- an Unlock of l; an RUnlock is none
+abbrev pub unlocks : ℕ → Op → Bool
+unlocks l (Unlock m) = m == l
+unlocks l _ = false
+
+-- an RLock of l
+abbrev pub rlocks : ℕ → Op → Bool
+rlocks l (RLock m) = m == l
+rlocks l _ = false
+
+-- an RUnlock of l
+abbrev pub runlocks : ℕ → Op → Bool
+runlocks l (RUnlock m) = m == l
+runlocks l _ = false
+
+-- an OnceBegin of o
+abbrev pub once_begins : ℕ → Op → Bool
+once_begins o (OnceBegin p) = p == o
+once_begins o _ = false
+
+-- an OnceEnd of o
+abbrev pub once_ends : ℕ → Op → Bool
+once_ends o (OnceEnd p) = p == o
+once_ends o _ = false
 
 -- how many events of a kind the list has
 abbrev pub count : (Op → Bool) → List Event → ℕ

@@ -1,8 +1,8 @@
--- The laws of the definitions. Each is the contract of a function in src/laws.rt that does nothing. (The Go Memory Model, "Memory Model": DRF-SC; "Channel communication")
-use Rattle.std.specs.Prelude.{ℕ, ◌≡◌, ◌<◌, ◌+◌, IsTrue, List}
+-- The laws of the definitions. Each is the contract of a function in src/laws.rt that does nothing. (The Go Memory Model, "Memory Model": DRF-SC; "Channel communication", "Locks", "Once")
+use Rattle.std.specs.Prelude.{ℕ, ◌≡◌, ◌<◌, ◌↔◌, ◌+◌, IsTrue, List, take}
 use Rattle.race_records.specs.declared.event.Event.{Event}
-use Rattle.race_records.specs.declared.event.Op.TheVariants.{RecvClosed}
-use Rattle.race_model.specs.Events.{At, operations, sends, receives, closes, IsKth}
+use Rattle.race_records.specs.declared.event.Op.TheVariants.{RecvClosed, OnceDone}
+use Rattle.race_model.specs.Events.{At, operations, sends, receives, closes, locks, unlocks, rlocks, once_ends, count, IsKth}
 use Rattle.race_model.specs.Legal.{IsLegal}
 use Rattle.race_model.specs.Order.{HappensBefore}
 use Rattle.race_model.specs.Race.{IsDataRaceFree, IsReportedRace}
@@ -62,3 +62,21 @@ abbrev pub CloseStandsBeforeWhatFindsIt : List Event → Type 0
 CloseStandsBeforeWhatFindsIt events =
     (caps : ℕ → ℕ) → IsLegal caps events → (c i j : ℕ) (s r : Event) → At events i s → At events j r
     → IsTrue (closes c s.op) → r.op ≡ RecvClosed c → i < j
+
+-- the standard numbers the calls of Lock and of Unlock: the Unlocks with a lower number than a Lock's are those that stand before it
+abbrev pub UnlocksOfALowerNumberStandBeforeALock : List Event → Type 0
+UnlocksOfALowerNumberStandBeforeALock events =
+    (caps : ℕ → ℕ) → IsLegal caps events → (l n m i j : ℕ) (u k : Event) → At events i u → At events j k
+    → IsKth (unlocks l) n events i u.op → IsKth (locks l) m events j k.op → n < m ↔ i < j
+
+-- as many Locks as Unlocks of a lock stand before an RLock. So where that is n, the next Lock is the one of number n, counted from 0
+abbrev pub AsManyLocksAsUnlocksStandBeforeAnRLock : List Event → Type 0
+AsManyLocksAsUnlocksStandBeforeAnRLock events =
+    (caps : ℕ → ℕ) → IsLegal caps events → (l i : ℕ) (e : Event) → At events i e → IsTrue (rlocks l e.op)
+    → count (locks l) (take i events) ≡ count (unlocks l) (take i events)
+
+-- an OnceEnd of a once stands before each OnceDone of it
+abbrev pub OnceEndStandsBeforeEachOnceDone : List Event → Type 0
+OnceEndStandsBeforeEachOnceDone events =
+    (caps : ℕ → ℕ) → IsLegal caps events → (o i j : ℕ) (s r : Event) → At events i s → At events j r
+    → IsTrue (once_ends o s.op) → r.op ≡ OnceDone o → i < j

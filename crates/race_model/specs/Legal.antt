@@ -1,17 +1,17 @@
--- Which rules an event breaks after the events before it, and which lists of events are legal. (The Go Programming Language Specification, "Program execution", "Go statements", "Send statements", "Receive operator", "Close", "Select statements", "Run-time panics")
-use Rattle.std.specs.Prelude.{ℕ, if◌then◌else◌, ◌≡◌, ◌==◌, ◌||◌, ◌&&◌, not, nat_lt, Bool, true, false, List, [], ◌∷◌, Option, Some, None, take}
+-- Which rules an event breaks after the events before it, and which lists of events are legal. (The Go Programming Language Specification, "Program execution", "Go statements", "Send statements", "Receive operator", "Close", "Select statements", "Run-time panics"; package sync)
+use Rattle.std.specs.Prelude.{ℕ, if◌then◌else◌, ◌≡◌, ◌==◌, ◌||◌, ◌&&◌, not, nat_lt, Bool, true, false, List, [], ◌∷◌, Option, Some, None, is_some, take}
 use Rattle.std.specs.List.{list_any}
 use Rattle.race_records.specs.declared.event.Event.{Event}
 use Rattle.race_records.specs.declared.cases.Case.{Case}
 use Rattle.race_records.specs.declared.cases.Dir.{Dir}
 use Rattle.race_records.specs.declared.event.Cause.{Cause}
-use Rattle.race_records.specs.declared.event.Cause.TheVariants.{SendClosed, CloseClosed, CloseNil}
+use Rattle.race_records.specs.declared.event.Cause.TheVariants.{SendClosed, CloseClosed, CloseNil, UnlockFree, RUnlockFree}
 use Rattle.race_records.specs.declared.event.Op.{Op}
-use Rattle.race_records.specs.declared.event.Op.TheVariants.{Go, Exit, Read, Write, Send, Recv, Meet, RecvClosed, Close, Default, Fault}
+use Rattle.race_records.specs.declared.event.Op.TheVariants.{Go, Exit, Read, Write, Send, Recv, Meet, RecvClosed, Close, Default, Lock, Unlock, RLock, RUnlock, OnceBegin, OnceEnd, OnceDone, Fault}
 use Rattle.race_model.specs.Events.{At, gives, sends, receives, count}
-use Rattle.race_model.specs.State.{over, started, runs, last_value, is_closed, buffered, front}
+use Rattle.race_model.specs.State.{over, started, runs, last_value, is_closed, buffered, front, is_held, is_read_held, is_begun, is_ended, innermost}
 
--- Each rule has a number of its own for good, so there are gaps. caps gives the capacity of each channel.
+-- Each rule has a number of its own for good. caps gives the capacity of each channel.
 
 -- a case on channel c could go on at once: a send where it would fail, or where the buffer has room, a receive where the channel
 -- is closed, or where the buffer has a value; of an open unbuffered channel nothing is said
@@ -23,17 +23,20 @@ can_proceed caps past c Dir.Recv = is_closed c past || (nat_lt 0 (caps c) && nat
 abbrev pub is_ready : (ℕ → ℕ) → List Event → Case → Bool
 is_ready caps past case = elim case.chan [ None ↦ false | Some c ↦ can_proceed caps past c case.dir ]
 
--- the cause of a fault holds: a send on a closed channel, a close of one, or of nil
+-- the cause of a fault holds: a send on a closed channel, a close of one, or of nil, an unlock of what isn't locked
 abbrev pub cause_holds : List Event → Cause → Bool
 cause_holds past (SendClosed c) = is_closed c past
 cause_holds past (CloseClosed c) = is_closed c past
 cause_holds past CloseNil = true
+cause_holds past (UnlockFree l) = not (is_held l past)
+cause_holds past (RUnlockFree l) = not (is_read_held l past)
 
 -- the rules on what goroutine g does after the events past, in rising order: the number, and whether the rule is broken
 abbrev pub op_rules : (ℕ → ℕ) → List Event → ℕ → Op → List (ℕ × Bool)
 -- 3: it starts main, or a goroutine that was started before
 op_rules caps past g (Go h) = (3, h == 0 || started h past) ∷ []
-op_rules caps past g Exit = []
+-- 20: it is still in the function of a once
+op_rules caps past g Exit = (20, is_some (innermost g past)) ∷ []
 -- 21: it reads another value than the last one written, or than 0 where none was
 op_rules caps past g (Read x v) = (21, not (last_value x past == v)) ∷ []
 op_rules caps past g (Write x v) = []
@@ -51,6 +54,20 @@ op_rules caps past g (RecvClosed c) =
 op_rules caps past g (Close c) = (12, is_closed c past) ∷ []
 -- 22: a case of the select could go on
 op_rules caps past g (Default cases) = (22, list_any (is_ready caps past) cases) ∷ []
+-- 13: the lock is locked; 14: it is locked for reading
+op_rules caps past g (Lock l) = (13, is_held l past) ∷ (14, is_read_held l past) ∷ []
+-- 15: the lock isn't locked
+op_rules caps past g (Unlock l) = (15, not (is_held l past)) ∷ []
+-- 13: the lock is locked; another reader is no hindrance
+op_rules caps past g (RLock l) = (13, is_held l past) ∷ []
+-- 16: the lock isn't locked for reading
+op_rules caps past g (RUnlock l) = (16, not (is_read_held l past)) ∷ []
+-- 17: the function of the once has begun before
+op_rules caps past g (OnceBegin o) = (17, is_begun o past) ∷ []
+-- 18: the function in which the goroutine runs is that of no once, or of another one
+op_rules caps past g (OnceEnd o) = (18, not (gives (innermost g past) o)) ∷ []
+-- 19: the function of the once hasn't ended
+op_rules caps past g (OnceDone o) = (19, not (is_ended o past)) ∷ []
 -- 23: the cause of the fault doesn't hold
 op_rules caps past g (Fault cause) = (23, not (cause_holds past cause)) ∷ []
 

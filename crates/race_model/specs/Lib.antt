@@ -7,5 +7,8 @@ pub mod Race
 pub mod Verdict
 pub mod Reorder
 pub mod Known
+pub mod Clocks
 pub mod Laws
 pub mod Examples
+pub mod LockExamples
+pub mod OnceExamples

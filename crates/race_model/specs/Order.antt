@@ -1,9 +1,9 @@
--- Which event happens before which. (The Go Memory Model, "Memory Model": sequenced before, synchronized before, happens before; "Goroutine creation", "Goroutine destruction", "Channel communication")
+-- Which event happens before which. (The Go Memory Model, "Memory Model": sequenced before, synchronized before, happens before; "Goroutine creation", "Goroutine destruction", "Channel communication", "Locks", "Once")
 use Rattle.std.specs.Prelude.{ℕ, ◌≡◌, ◌<◌, ◌+◌, ◌⊎◌, IsTrue, List, take}
 use Rattle.race_records.specs.declared.event.Event.{Event}
 use Rattle.race_records.specs.declared.event.Op.{Op}
-use Rattle.race_records.specs.declared.event.Op.TheVariants.{Go, Send, Recv, Meet, RecvClosed}
-use Rattle.race_model.specs.Events.{At, TakesPart, sends, receives, closes, count, IsKth}
+use Rattle.race_records.specs.declared.event.Op.TheVariants.{Go, Send, Recv, Meet, RecvClosed, Lock, RLock, OnceDone}
+use Rattle.race_model.specs.Events.{At, TakesPart, sends, receives, closes, locks, unlocks, runlocks, once_ends, count, IsKth}
 
 -- the begin of goroutine g's part in the event at index i, and its end, which the memory model calls its completion
 pub data Point : Type 0 where
@@ -24,6 +24,14 @@ SynchronizedInside who (Go k) g h = (who ≡ g) × (k ≡ h)
 SynchronizedInside who (Meet r c v) g h = ((who ≡ g) × (r ≡ h)) ⊎ ((r ≡ g) × (who ≡ h))
 SynchronizedInside who _ g h = ⊥
 
+-- s, at index i of the events past, unlocks l for a Lock that comes next: it is an Unlock, or an RUnlock behind which no Lock of l stands
+abbrev pub IsBeforeLock : List Event → ℕ → Op → ℕ → Type 0
+IsBeforeLock past i s l = IsTrue (unlocks l s) ⊎ (IsTrue (runlocks l s) × (count (locks l) (take i past) ≡ count (locks l) past))
+
+-- s, at index i of the events past, is the last Unlock of l there
+abbrev pub IsLastUnlock : List Event → ℕ → Op → ℕ → Type 0
+IsLastUnlock past i s l = (k : ℕ) × IsKth (unlocks l) k past i s × (k + 1 ≡ count (unlocks l) past)
+
 -- the operation s, at index i of the events past, is synchronized before the completion of o, the operation that comes next
 abbrev pub IsSource : (ℕ → ℕ) → List Event → ℕ → Op → Op → Type 0
 -- the kth send on a channel before the completion of the kth receive from it
@@ -32,6 +40,12 @@ IsSource caps past i s (Recv c v) = IsKth (sends c) (count (receives c) past) pa
 IsSource caps past i s (Send c v) = (k : ℕ) × IsKth (receives c) k past i s × (k + caps c ≡ count (sends c) past)
 -- the closing of a channel before each receive that returns because it is closed
 IsSource caps past i s (RecvClosed c) = IsTrue (closes c s)
+-- each Unlock of a lock before each later Lock of it, and each RUnlock before the next Lock
+IsSource caps past i s (Lock l) = IsBeforeLock past i s l
+-- the last Unlock of a lock before each RLock that comes between it and the next Unlock
+IsSource caps past i s (RLock l) = IsLastUnlock past i s l
+-- the end of a once's function before each return that finds it ended
+IsSource caps past i s (OnceDone o) = IsTrue (once_ends o s)
 IsSource caps past i s _ = ⊥
 
 -- p is synchronized before q, always from a begin to an end: inside one event, or from a source among the events before

@@ -1,9 +1,9 @@
--- What the events so far say of the run, its goroutines, variables and channels. (The Go Programming Language Specification, "Program execution", "Go statements", "Channel types", "Close", "Run-time panics")
-use Rattle.std.specs.Prelude.{ℕ, if◌then◌else◌, ◌==◌, ◌-◌, ◌||◌, ◌&&◌, not, Bool, List, Option, Some, None, filter_map, slice_get, unwrap_or}
+-- What the events so far say of the run, its goroutines, variables, channels, locks and onces. (The Go Programming Language Specification, "Program execution", "Go statements", "Channel types", "Close", "Run-time panics"; package sync)
+use Rattle.std.specs.Prelude.{ℕ, if◌then◌else◌, ◌==◌, ◌-◌, ◌||◌, ◌&&◌, not, nat_lt, Bool, List, Option, Some, None, filter_map, slice_get, unwrap_or}
 use Rattle.race_records.specs.declared.event.Event.{Event}
 use Rattle.race_records.specs.declared.event.Op.{Op}
-use Rattle.race_records.specs.declared.event.Op.TheVariants.{Write, Send}
-use Rattle.race_model.specs.Events.{starts, is_fault, sends, receives, closes, count, has, has_exited, last_of}
+use Rattle.race_records.specs.declared.event.Op.TheVariants.{Write, Send, OnceBegin}
+use Rattle.race_model.specs.Events.{starts, is_fault, sends, receives, closes, locks, unlocks, rlocks, runlocks, once_begins, once_ends, count, has, has_exited, last_of}
 
 -- the run is over: main, goroutine 0, has exited, or a goroutine has failed
 abbrev pub over : List Event → Bool
@@ -42,3 +42,28 @@ sent c _ = None
 -- the value that the next Recv from c gets: Recv number k gets that of Send number k; None where there is no such Send
 abbrev pub front : ℕ → List Event → Option ℕ
 front c past = slice_get (filter_map (λ e. sent c e.op) past) (count (receives c) past)
+
+-- l is locked: it was locked more often than unlocked, by whichever goroutines
+abbrev pub is_held : ℕ → List Event → Bool
+is_held l past = nat_lt (count (unlocks l) past) (count (locks l) past)
+
+-- l is locked for reading: it was so locked more often than so unlocked
+abbrev pub is_read_held : ℕ → List Event → Bool
+is_read_held l past = nat_lt (count (runlocks l) past) (count (rlocks l) past)
+
+-- the function of o began to run
+abbrev pub is_begun : ℕ → List Event → Bool
+is_begun o past = has (once_begins o) past
+
+-- it ended
+abbrev pub is_ended : ℕ → List Event → Bool
+is_ended o past = has (once_ends o) past
+
+-- the once that the operation of goroutine who begins, where who is g and the once isn't ended
+abbrev pub unended_once : ℕ → List Event → ℕ → Op → Option ℕ
+unended_once g past who (OnceBegin o) = if (who == g) && not (is_ended o past) then Some o else None
+unended_once g past who _ = None
+
+-- the once that g began last among those that aren't ended: in its function g runs
+abbrev pub innermost : ℕ → List Event → Option ℕ
+innermost g past = last_of (λ e. unended_once g past e.who e.op) past

@@ -1,14 +1,17 @@
 //! The laws of the definitions. Each function does nothing, and its contract is the law.
 ghost use Rattle.race_model.specs.Laws.{
+  AsManyLocksAsUnlocksStandBeforeAnRLock,
   CloseStandsBeforeWhatFindsIt,
   HappensBeforeGoesUp,
   HappensBeforeIsTransitive,
   HasOneReportedRace,
   HasOneVerdict,
+  OnceEndStandsBeforeEachOnceDone,
   OwnOrderIsReordering,
   ReceiveStandsBeforeTheSendItMakesRoomFor,
   ReorderingsFindTheSame,
   SendStandsBeforeItsReceive,
+  UnlocksOfALowerNumberStandBeforeALock,
   VerdictIsOnOperations,
 };
 
@@ -62,4 +65,19 @@ pub fn receive_stands_before_the_send_it_makes_room_for(_events: &[Event])
 /// In a legal list a close stands before each receive that finds the channel closed.
 pub fn close_stands_before_what_finds_it(_events: &[Event])
     ensures { CloseStandsBeforeWhatFindsIt _events.now }
+{}
+
+/// In a legal list the unlocks of a lower number than a lock's are those that stand before it.
+pub fn unlocks_of_a_lower_number_stand_before_a_lock(_events: &[Event])
+    ensures { UnlocksOfALowerNumberStandBeforeALock _events.now }
+{}
+
+/// In a legal list as many locks as unlocks stand before a lock for reading.
+pub fn as_many_locks_as_unlocks_stand_before_an_rlock(_events: &[Event])
+    ensures { AsManyLocksAsUnlocksStandBeforeAnRLock _events.now }
+{}
+
+/// In a legal list the end of a once's function stands before each call that finds it ended.
+pub fn once_end_stands_before_each_once_done(_events: &[Event])
+    ensures { OnceEndStandsBeforeEachOnceDone _events.now }
 {}

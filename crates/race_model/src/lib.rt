@@ -5,3 +5,5 @@
 
 pub mod examples;
 pub mod laws;
+pub mod lock_examples;
+pub mod once_examples;

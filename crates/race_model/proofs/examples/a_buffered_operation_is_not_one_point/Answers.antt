@@ -7,4 +7,6 @@ pub returns-clause-sender : goal.returns-clause-sender
 returns-clause-sender c = clean_by capacities sender_reads (refl, (refl, (refl, (refl, (refl, (refl, (refl, tt))))))) refl
 
 pub returns-clause-receiver : goal.returns-clause-receiver
-returns-clause-receiver c = races_by capacities next_receiver_reads x (refl, (refl, (refl, (refl, (refl, (refl, (refl, (refl, tt)))))))) refl refl refl (omega arith) refl refl refl refl
+returns-clause-receiver c =
+    races_by capacities next_receiver_reads x (refl, (refl, (refl, (refl, (refl, (refl, (refl, (refl, tt))))))))
+    refl refl refl (omega arith) refl refl refl refl

@@ -51,7 +51,8 @@ pub waiting_push : (c : ℕ) (past : List Event) (e : Event) → count (receives
 waiting_push c past e le =
     (λ i. drop (count_push (receives c) past e i) (sent_push c past e i))
     ∙ sym (drop-drop (as_number (receives c e.op)) (count (receives c) past) (values ++ option_to_list (sent c e.op)))
-    ∙ ap (drop (as_number (receives c e.op))) (drop-append-le (count (receives c) past) values (option_to_list (sent c e.op)) (subst (λ n. count (receives c) past ≤ n) (sym (sent_count c past)) le))
+    ∙ ap (drop (as_number (receives c e.op)))
+    (drop-append-le (count (receives c) past) values (option_to_list (sent c e.op)) (subst (λ n. count (receives c) past ≤ n) (sym (sent_count c past)) le))
   where
     values : List ℕ
     values = filter_map (λ e. sent c e.op) past
@@ -74,7 +75,8 @@ received_step k who (Recv d v) c n m kept le waiting = go kept.1.0 (d == c) (eqb
   where
     go : (length (queue_in k.channels d) == 0) ≡ false → (b : Bool) → (b ≡ true → d ≡ c) → n + as_number b ≤ m + 0
     go filled true same =
-        let some : length (queue_in k.channels c) ≡ 0 → ⊥ = eqb-false (length (queue_in k.channels c)) 0 (subst (λ d. (length (queue_in k.channels d) == 0) ≡ false) (same refl) filled) in
+        let some : length (queue_in k.channels c) ≡ 0 → ⊥ =
+        eqb-false (length (queue_in k.channels c)) 0 (subst (λ d. (length (queue_in k.channels d) == 0) ≡ false) (same refl) filled) in
         omega (arith, le, waiting, some)
     go filled false differ = omega (arith, le)
 received_step k who _ c n m kept le waiting = omega (arith, le)

@@ -3,7 +3,12 @@ pub mod Searches
 pub mod RangeLemmas
 pub mod TableSteps
 pub mod ChannelSteps
+pub mod LockSteps
+pub mod OpenOnces
+pub mod OnceSteps
 pub mod Shape
 pub mod ChannelWords
+pub mod LockWords
+pub mod OnceWords
 pub mod ReplayLemmas
 pub mod FirstState

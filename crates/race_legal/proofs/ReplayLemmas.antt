@@ -1,33 +1,38 @@
 -- The tables of a replay answer the state words, one event on.
-use Rattle.std.proofs.Common.{◌≡◌, ℕ, ◌+◌, ◌<◌, ◌==◌, ◌||◌, ◌&&◌, not, nat_lt, List, [], ◌∷◌, ◌++◌, drop, Option, Some, None, unwrap_or, refl, sym, ap, ◌∙◌, subst, arith, rules, IsTrue, length-append}
+use Rattle.std.proofs.Common.{◌≡◌, ℕ, ◌+◌, ◌<◌, ◌==◌, ◌||◌, ◌&&◌, not, nat_lt, true, List, [], ◌∷◌, ◌++◌, drop, Option, Some, None, is_some, unwrap_or, refl, sym, ap, ◌∙◌, subst, arith, rules, IsTrue, length-append}
 use Rattle.std.specs.List.{slice_index_or, list_all, list_any}
-use Rattle.std.specs.Option.{option_to_list}
+use Rattle.std.specs.Option.{option_to_list, option_map_or}
+use Rattle.std.proofs.lemmas.Bool.{eqb-true, not-false}
 use Rattle.std.proofs.lemmas.Bool.Decides.{nat_tests}
 use Rattle.race_records.specs.declared.kind.Kind.{Kind}
 use Rattle.race_records.specs.declared.event.Event.{Event}
 use Rattle.race_records.specs.declared.cases.Case.{Case}
 use Rattle.race_records.specs.declared.cases.Dir.{Dir}
 use Rattle.race_records.specs.declared.event.Cause.{Cause}
-use Rattle.race_records.specs.declared.event.Cause.TheVariants.{SendClosed, CloseClosed, CloseNil}
+use Rattle.race_records.specs.declared.event.Cause.TheVariants.{SendClosed, CloseClosed, CloseNil, UnlockFree, RUnlockFree}
 use Rattle.race_records.specs.declared.event.Op.{Op}
-use Rattle.race_records.specs.declared.event.Op.TheVariants.{Go, Exit, Read, Write, Send, Recv, Meet, RecvClosed, Close, Default, Fault}
+use Rattle.race_records.specs.declared.event.Op.TheVariants.{Go, Exit, Read, Write, Send, Recv, Meet, RecvClosed, Close, Default, Lock, Unlock, RLock, RUnlock, OnceBegin, OnceEnd, OnceDone, Fault}
 use Rattle.race_records.specs.Declarations.{Declaration, capacity_of}
-use Rattle.race_records.specs.Parts.{op_is_in_range, chan_is_in_range, case_is_in_range, chan_of_cause}
-use Rattle.race_model.specs.Events.{starts, is_exit, is_fault, gives, receives, sends, closes}
+use Rattle.race_records.specs.Parts.{op_is_in_range, chan_is_in_range, case_is_in_range, named_is_in_range, failed_at}
+use Rattle.race_model.specs.Events.{starts, is_exit, is_fault, gives, receives, sends, closes, locks, unlocks, rlocks, runlocks, once_begins, once_ends}
 use Rattle.race_model.specs.State.{runs, written, sent}
 use Rattle.race_model.specs.Legal.{broken, least_broken, op_rules, receiver_runs, actors_run, can_proceed, is_ready, cause_holds}
 use Rattle.race_model.proofs.StateSteps.{over_push, started_push, last_value_push, is_closed_push}
-use Rattle.race_model.proofs.CountSteps.{as_number, count_push, has_exited_push}
+use Rattle.race_model.proofs.CountSteps.{as_number, count_push, has_push, has_exited_push}
 use Rattle.race_model.proofs.LegalSteps.{legal_push}
-use Rattle.race_legal.specs.ReplayState.{ReplayState, IsInRange, counts_in, runs_in}
+use Rattle.race_legal.specs.ReplayState.{ReplayState, IsInRange, counts_in, runs_in, innermost_in, begun_in}
 use Rattle.race_legal.specs.After.{after}
-use Rattle.race_legal.specs.RulesKept.{send_rules, recv_rules, meet_rules, recv_closed_rules, can_proceed_in, is_ready_in, cause_holds_in, op_rules_in, receiver_runs_in, actors_run_in, rules_in, broken_in}
+use Rattle.race_legal.specs.RulesKept.{send_rules, recv_rules, meet_rules, recv_closed_rules, lock_rules, can_proceed_in, is_ready_in, cause_holds_in, op_rules_in, receiver_runs_in, actors_run_in, rules_in, broken_in}
 use Rattle.race_legal.specs.StandsFor.{StandsFor}
 use Rattle.race_legal.proofs.TableSteps.{started_step, exited_step, values_step}
-use Rattle.race_legal.proofs.ChannelSteps.{closed_step, queue_step, waiting_push, none_broken, received_step}
+use Rattle.race_legal.proofs.ChannelSteps.{closed_step, queue_step, waiting_push, NoneBroken, none_broken, received_step}
+use Rattle.race_legal.proofs.LockSteps.{held_step, readers_step}
+use Rattle.race_legal.proofs.OnceSteps.{begun_step, ended_step, ended_begun_step}
 use Rattle.race_legal.proofs.Searches.{finds_the_same}
 use Rattle.race_legal.proofs.Shape.{capacities_same, square_after, counts_after}
 use Rattle.race_legal.proofs.ChannelWords.{buffered_is, front_is, empty_is, left_is}
+use Rattle.race_legal.proofs.LockWords.{is_held_is, is_read_held_is}
+use Rattle.race_legal.proofs.OnceWords.{is_begun_is, innermost_is, innermost_began, stack_step}
 
 module _ (declarations : List Declaration) (k : ReplayState) (past : List Event) (S : StandsFor declarations k past) where
   -- a goroutine runs where the tables say so
@@ -75,29 +80,44 @@ module _ (declarations : List Declaration) (k : ReplayState) (past : List Event)
   some_ready_is cases is = finds_the_same (is_ready (capacity_of declarations) past) (is_ready_in k.channels) (case_is_in_range (counts_in k Kind.Chan)) cases is_ready_is is
 
   -- the cause of a fault holds where they say so
-  cause_holds_is : (cause : Cause) → IsTrue (chan_is_in_range (counts_in k Kind.Chan) (chan_of_cause cause))
-      → cause_holds past cause ≡ cause_holds_in k.channels cause
+  cause_holds_is : (cause : Cause) → IsTrue (option_map_or (named_is_in_range (counts_in k)) (failed_at cause) true)
+      → cause_holds past cause ≡ cause_holds_in k cause
   cause_holds_is (SendClosed c) is = let less : c < counts_in k Kind.Chan = grind (arith, nat_tests) in S.closed c less
   cause_holds_is (CloseClosed c) is = let less : c < counts_in k Kind.Chan = grind (arith, nat_tests) in S.closed c less
   cause_holds_is CloseNil is = refl
+  cause_holds_is (UnlockFree l) is = let less : l < counts_in k Kind.Lock = grind (arith, nat_tests) in ap not (is_held_is declarations k past S l less)
+  cause_holds_is (RUnlockFree l) is = let less : l < counts_in k Kind.Lock = grind (arith, nat_tests) in ap not (is_read_held_is declarations k past S l less)
+
+  -- the rules on locks and onces, from their rows
+  lock_rules_is : (who l : ℕ) → l < counts_in k Kind.Lock → op_rules (capacity_of declarations) past who (Lock l) ≡ lock_rules k.locks l
+  lock_rules_is who l less = λ i. (13, is_held_is declarations k past S l less i) ∷ (14, is_read_held_is declarations k past S l less i) ∷ []
 
   -- the rules on the operation, from the tables
-  op_rules_is : (who : ℕ) (o : Op) → IsTrue (op_is_in_range (counts_in k) o) → op_rules (capacity_of declarations) past who o ≡ op_rules_in k who o
-  op_rules_is who (Go h) is = let less : h < counts_in k Kind.Goroutine = grind (arith, nat_tests) in ap (λ b. (3, h == 0 || b) ∷ []) (S.started h less)
-  op_rules_is who Exit is = refl
-  op_rules_is who (Read x v) is = let less : x < counts_in k Kind.Var = grind (arith, nat_tests) in ap (λ n. (21, not (n == v)) ∷ []) (S.values x less)
-  op_rules_is who (Write x v) is = refl
-  op_rules_is who (Send c v) is = let less : c < counts_in k Kind.Chan = grind (arith, nat_tests) in send_rules_is c less who v
-  op_rules_is who (Recv c v) is = let less : c < counts_in k Kind.Chan = grind (arith, nat_tests) in recv_rules_is c less who v
-  op_rules_is who (Meet r c v) is = let less : c < counts_in k Kind.Chan = grind (arith, nat_tests) in meet_rules_is c less who r v
-  op_rules_is who (RecvClosed c) is = let less : c < counts_in k Kind.Chan = grind (arith, nat_tests) in recv_closed_rules_is c less who
-  op_rules_is who (Close c) is = let less : c < counts_in k Kind.Chan = grind (arith, nat_tests) in ap (λ b. (12, b) ∷ []) (S.closed c less)
-  op_rules_is who (Default cases) is = ap (λ b. (22, b) ∷ []) (some_ready_is cases (search rules))
-  op_rules_is who (Fault cause) is = ap (λ b. (23, not b) ∷ []) (cause_holds_is cause (search rules))
+  op_rules_is : (who : ℕ) (o : Op) → who < counts_in k Kind.Goroutine → IsTrue (op_is_in_range (counts_in k) o)
+      → op_rules (capacity_of declarations) past who o ≡ op_rules_in k who o
+  op_rules_is who (Go h) runs is = let less : h < counts_in k Kind.Goroutine = grind (arith, nat_tests) in ap (λ b. (3, h == 0 || b) ∷ []) (S.started h less)
+  op_rules_is who Exit runs is = ap (λ o. (20, is_some o) ∷ []) (innermost_is declarations k past S who runs)
+  op_rules_is who (Read x v) runs is = let less : x < counts_in k Kind.Var = grind (arith, nat_tests) in ap (λ n. (21, not (n == v)) ∷ []) (S.values x less)
+  op_rules_is who (Write x v) runs is = refl
+  op_rules_is who (Send c v) runs is = let less : c < counts_in k Kind.Chan = grind (arith, nat_tests) in send_rules_is c less who v
+  op_rules_is who (Recv c v) runs is = let less : c < counts_in k Kind.Chan = grind (arith, nat_tests) in recv_rules_is c less who v
+  op_rules_is who (Meet r c v) runs is = let less : c < counts_in k Kind.Chan = grind (arith, nat_tests) in meet_rules_is c less who r v
+  op_rules_is who (RecvClosed c) runs is = let less : c < counts_in k Kind.Chan = grind (arith, nat_tests) in recv_closed_rules_is c less who
+  op_rules_is who (Close c) runs is = let less : c < counts_in k Kind.Chan = grind (arith, nat_tests) in ap (λ b. (12, b) ∷ []) (S.closed c less)
+  op_rules_is who (Default cases) runs is = ap (λ b. (22, b) ∷ []) (some_ready_is cases (search rules))
+  op_rules_is who (Lock l) runs is = let less : l < counts_in k Kind.Lock = grind (arith, nat_tests) in lock_rules_is who l less
+  op_rules_is who (Unlock l) runs is = let less : l < counts_in k Kind.Lock = grind (arith, nat_tests) in ap (λ b. (15, not b) ∷ []) (is_held_is declarations k past S l less)
+  op_rules_is who (RLock l) runs is = let less : l < counts_in k Kind.Lock = grind (arith, nat_tests) in ap (λ b. (13, b) ∷ []) (is_held_is declarations k past S l less)
+  op_rules_is who (RUnlock l) runs is =
+      let less : l < counts_in k Kind.Lock = grind (arith, nat_tests) in ap (λ b. (16, not b) ∷ []) (is_read_held_is declarations k past S l less)
+  op_rules_is who (OnceBegin p) runs is = let less : p < counts_in k Kind.Once = grind (arith, nat_tests) in ap (λ b. (17, b) ∷ []) (is_begun_is declarations k past S p less)
+  op_rules_is who (OnceEnd p) runs is = ap (λ o. (18, not (gives o p)) ∷ []) (innermost_is declarations k past S who runs)
+  op_rules_is who (OnceDone p) runs is = let less : p < counts_in k Kind.Once = grind (arith, nat_tests) in ap (λ b. (19, not b) ∷ []) (S.ended p less)
+  op_rules_is who (Fault cause) runs is = ap (λ b. (23, not b) ∷ []) (cause_holds_is cause (search rules))
 
   -- the least broken rule, from the tables
   pub broken_is : (e : Event) → IsInRange (counts_in k) e → broken (capacity_of declarations) past e ≡ broken_in k e
-  broken_is e within = λ i. least_broken ((1, S.over i) ∷ (2, not (actors_run_is e within i)) ∷ op_rules_is e.who e.op within.1 i)
+  broken_is e within = λ i. least_broken ((1, S.over i) ∷ (2, not (actors_run_is e within i)) ∷ op_rules_is e.who e.op within.0 within.1 i)
 
   -- behind an event that breaks no rule the tables still answer
   pub stands_after : (e : Event) → IsInRange (counts_in k) e → broken_in k e ≡ None → StandsFor declarations (after k e) (past ++ e ∷ [])
@@ -121,13 +141,42 @@ module _ (declarations : List Declaration) (k : ReplayState) (past : List Event)
         is_closed_push c past e ∙ ap (λ b. b || closes c e.op) (S.closed c old) ∙ closed_step k.channels e.op c (row c S.square.closed old);
     queue = λ c less.
         let old = before Kind.Chan c less in
-        waiting_push c past e (S.received c old) ∙ ap (λ vs. drop (as_number (receives c e.op)) (vs ++ option_to_list (sent c e.op))) (S.queue c old) ∙ queue_step k.channels e.op c (row c S.square.queues old);
+        waiting_push c past e (S.received c old)
+        ∙ ap (λ vs. drop (as_number (receives c e.op)) (vs ++ option_to_list (sent c e.op))) (S.queue c old)
+        ∙ queue_step k.channels e.op c (row c S.square.queues old);
     received = λ c less.
         let old = before Kind.Chan c less in
-        rw (count_push (receives c) past e, count_push (sends c) past e) (received_step k e.who e.op c _ _ (none_broken (rules_in k e) none).1.1 (S.received c old) (buffered_is declarations k past S c old));
+        rw (count_push (receives c) past e, count_push (sends c) past e) (received_step k e.who e.op c _ _ kept (S.received c old) (buffered_is declarations k past S c old));
+    held = λ l less.
+        let old = before Kind.Lock l less in
+        rw (count_push (locks l) past e, count_push (unlocks l) past e) (held_step k e.who e.op l _ _ old kept (S.held l old));
+    readers = λ l less.
+        let old = before Kind.Lock l less in
+        rw (count_push (rlocks l) past e, count_push (runlocks l) past e) (readers_step k e.who e.op l _ _ (row l S.square.readers old) kept (S.readers l old));
+    begun = λ p less.
+        let old = before Kind.Once p less in
+        rw (count_push (once_begins p) past e) (begun_step k e.who e.op p _ old kept (S.begun p old));
+    ended = λ p less.
+        let old = before Kind.Once p less in
+        has_push (once_ends p) past e ∙ ap (λ b. b || once_ends p e.op) (S.ended p old) ∙ ended_step k.onces e.op p (row p S.square.ended old);
+    ended_begun = λ p less.
+        let old = before Kind.Once p less in
+        ended_begun_step k.onces e.op p old (row p S.square.ended old) (S.ended_begun p old) (ends_begun p old e.op kept);
+    stack = λ g less. stack_step declarations k past S g (before Kind.Goroutine g less) e within.0 within.1 kept;
     square = square_after k e S.square;
   }
     where
+      kept : NoneBroken (op_rules_in k e.who e.op)
+      kept = (none_broken (rules_in k e) none).1.1
+
+      -- what ends began
+      ends_begun : (p : ℕ) → p < counts_in k Kind.Once → (o : Op) → NoneBroken (op_rules_in k e.who o) → IsTrue (once_ends p o) → IsTrue (begun_in k.onces p)
+      ends_begun p less (OnceEnd q) kept is =
+          let inner = innermost_in k.goroutines e.who in
+          let here : gives inner p ≡ true = ap (gives inner) (sym (eqb-true q p is)) ∙ not-false (gives inner q) kept.0 in
+          innermost_began declarations k past S e.who p within.0 less here
+      ends_begun p less _ kept is = cc
+
       counts : counts_in (after k e) ≡ counts_in k
       counts = counts_after k e
 

@@ -1,22 +1,33 @@
 -- Each table of a replay keeps its length.
-use Rattle.std.proofs.Common.{◌≡◌, ℕ, true, List, [], ◌∷◌, ◌++◌, length, drop, refl, sym, ap, ◌∙◌}
+use Rattle.std.proofs.Common.{◌≡◌, ℕ, ◌+◌, ◌-◌, true, false, List, [], ◌∷◌, ◌++◌, length, drop, take, refl, sym, ap, ◌∙◌}
 use Rattle.std.proofs.lemmas.List.{length-set}
 use Rattle.race_records.specs.declared.event.Event.{Event}
 use Rattle.race_records.specs.declared.event.Op.{Op}
-use Rattle.race_records.specs.declared.event.Op.TheVariants.{Go, Exit, Write, Send, Recv, Close}
+use Rattle.race_records.specs.declared.event.Op.TheVariants.{Go, Exit, Write, Send, Recv, Close, Lock, Unlock, RLock, RUnlock, OnceBegin, OnceEnd}
 use Rattle.race_records.specs.declared.kind.Kind.{Kind}
-use Rattle.race_legal.specs.ReplayState.{GoroutinesState, ChannelsState, ReplayState, counts_in, queue_in, IsSquare}
-use Rattle.race_legal.specs.After.{goroutines_after, values_after, channels_after, after}
+use Rattle.race_legal.specs.ReplayState.{GoroutinesState, ChannelsState, LocksState, OncesState, ReplayState, counts_in, stack_in, queue_in, readers_in, IsSquare}
+use Rattle.race_legal.specs.After.{goroutines_after, values_after, channels_after, locks_after, onces_after, after}
 
 length-started : (t : GoroutinesState) (who : ℕ) (o : Op) → length (goroutines_after t who o).started ≡ length t.started
 length-started t who (Go h) = length-set t.started h true
 length-started t who Exit = refl
+length-started t who (OnceBegin p) = refl
+length-started t who (OnceEnd p) = refl
 length-started t who _ = refl
 
 length-exited : (t : GoroutinesState) (who : ℕ) (o : Op) → length (goroutines_after t who o).exited ≡ length t.exited
 length-exited t who (Go h) = refl
 length-exited t who Exit = length-set t.exited who true
+length-exited t who (OnceBegin p) = refl
+length-exited t who (OnceEnd p) = refl
 length-exited t who _ = refl
+
+length-stacks : (t : GoroutinesState) (who : ℕ) (o : Op) → length (goroutines_after t who o).stacks ≡ length t.stacks
+length-stacks t who (Go h) = refl
+length-stacks t who Exit = refl
+length-stacks t who (OnceBegin p) = length-set t.stacks who (stack_in t who ++ p ∷ [])
+length-stacks t who (OnceEnd p) = length-set t.stacks who (take (length (stack_in t who) - 1) (stack_in t who))
+length-stacks t who _ = refl
 
 length-values : (values : List ℕ) (o : Op) → length (values_after values o) ≡ length values
 length-values values (Write x v) = length-set values x v
@@ -41,11 +52,38 @@ capacities_same t (Recv c v) = refl
 capacities_same t (Close c) = refl
 capacities_same t _ = refl
 
+length-held : (t : LocksState) (o : Op) → length (locks_after t o).held ≡ length t.held
+length-held t (Lock l) = length-set t.held l true
+length-held t (Unlock l) = length-set t.held l false
+length-held t (RLock l) = refl
+length-held t (RUnlock l) = refl
+length-held t _ = refl
+
+length-readers : (t : LocksState) (o : Op) → length (locks_after t o).readers ≡ length t.readers
+length-readers t (Lock l) = refl
+length-readers t (Unlock l) = refl
+length-readers t (RLock l) = length-set t.readers l (readers_in t l + 1)
+length-readers t (RUnlock l) = length-set t.readers l (readers_in t l - 1)
+length-readers t _ = refl
+
+length-begun : (t : OncesState) (o : Op) → length (onces_after t o).begun ≡ length t.begun
+length-begun t (OnceBegin p) = length-set t.begun p true
+length-begun t (OnceEnd p) = refl
+length-begun t _ = refl
+
+length-ended : (t : OncesState) (o : Op) → length (onces_after t o).ended ≡ length t.ended
+length-ended t (OnceBegin p) = refl
+length-ended t (OnceEnd p) = length-set t.ended p true
+length-ended t _ = refl
+
 pub square_after : (k : ReplayState) (e : Event) → IsSquare k → IsSquare (after k e)
 square_after k e square = record {
   exited = length-exited k.goroutines e.who e.op ∙ square.exited ∙ sym (length-started k.goroutines e.who e.op);
+  stacks = length-stacks k.goroutines e.who e.op ∙ square.stacks ∙ sym (length-started k.goroutines e.who e.op);
   closed = length-closed k.channels e.op ∙ square.closed ∙ ap length (sym (capacities_same k.channels e.op));
   queues = length-queues k.channels e.op ∙ square.queues ∙ ap length (sym (capacities_same k.channels e.op));
+  readers = length-readers k.locks e.op ∙ square.readers ∙ sym (length-held k.locks e.op);
+  ended = length-ended k.onces e.op ∙ square.ended ∙ sym (length-begun k.onces e.op);
 }
 
 -- so there are as many objects of each kind as before
@@ -56,5 +94,5 @@ counts_after k e = λ i kind. by kind i
     by Kind.Goroutine = length-started k.goroutines e.who e.op
     by Kind.Var = length-values k.values e.op
     by Kind.Chan = ap length (capacities_same k.channels e.op)
-    by Kind.Lock = refl
-    by Kind.Once = refl
+    by Kind.Lock = length-held k.locks e.op
+    by Kind.Once = length-begun k.onces e.op

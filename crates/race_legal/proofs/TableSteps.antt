@@ -4,7 +4,7 @@ use Rattle.std.proofs.lemmas.Bool.{cases_eq}
 use Rattle.std.proofs.Math.Bool.{or-true, or-false}
 use Rattle.std.proofs.lemmas.List.{get_or-set_same, get_or-set_other}
 use Rattle.race_records.specs.declared.event.Op.{Op}
-use Rattle.race_records.specs.declared.event.Op.TheVariants.{Go, Exit, Write}
+use Rattle.race_records.specs.declared.event.Op.TheVariants.{Go, Exit, Write, OnceBegin, OnceEnd}
 use Rattle.race_model.specs.Events.{starts, is_exit}
 use Rattle.race_model.specs.State.{written}
 use Rattle.race_legal.specs.ReplayState.{GoroutinesState, started_in, exited_in}
@@ -28,6 +28,8 @@ started_step t who (Go h) g less = rw (get_or-set t.started h g true false less)
     go true = or-true (started_in t g)
     go false = or-false (started_in t g)
 started_step t who Exit g less = or-false (started_in t g)
+started_step t who (OnceBegin p) g less = or-false (started_in t g)
+started_step t who (OnceEnd p) g less = or-false (started_in t g)
 started_step t who _ g less = or-false (started_in t g)
 
 -- what is no exit adds nothing
@@ -44,6 +46,8 @@ exited_step t who Exit g less = rw (get_or-set t.exited who g true false less) (
     go true = or-true (exited_in t g)
     go false = or-false (exited_in t g)
 exited_step t who (Go h) g less = none_more (exited_in t g) (who == g)
+exited_step t who (OnceBegin p) g less = none_more (exited_in t g) (who == g)
+exited_step t who (OnceEnd p) g less = none_more (exited_in t g) (who == g)
 exited_step t who _ g less = none_more (exited_in t g) (who == g)
 
 -- a Write gives its variable a value, and nothing else does

@@ -1,4 +1,4 @@
--- The rules of legality and their numbers. Rules 13 to 20 are on operations that no list has yet.
+-- The rules of legality and their numbers.
 use Rattle.std.specs.Prelude.{ℕ}
 use Rattle.race_legal.specs.declared.rule.Rule.{Rule}
 

@@ -1,16 +1,16 @@
 -- The rules, read off what a replay keeps.
-use Rattle.std.specs.Prelude.{ℕ, ◌==◌, ◌||◌, ◌&&◌, not, nat_lt, Bool, true, false, List, [], ◌∷◌, length, slice_get, Option, Some, None}
+use Rattle.std.specs.Prelude.{ℕ, ◌==◌, ◌||◌, ◌&&◌, not, nat_lt, Bool, true, false, List, [], ◌∷◌, length, slice_get, Option, Some, None, is_some}
 use Rattle.std.specs.List.{list_any}
 use Rattle.race_records.specs.declared.cases.Case.{Case}
 use Rattle.race_records.specs.declared.cases.Dir.{Dir}
 use Rattle.race_records.specs.declared.event.Cause.{Cause}
-use Rattle.race_records.specs.declared.event.Cause.TheVariants.{SendClosed, CloseClosed, CloseNil}
+use Rattle.race_records.specs.declared.event.Cause.TheVariants.{SendClosed, CloseClosed, CloseNil, UnlockFree, RUnlockFree}
 use Rattle.race_records.specs.declared.event.Event.{Event}
 use Rattle.race_records.specs.declared.event.Op.{Op}
-use Rattle.race_records.specs.declared.event.Op.TheVariants.{Go, Exit, Read, Write, Send, Recv, Meet, RecvClosed, Close, Default, Fault}
+use Rattle.race_records.specs.declared.event.Op.TheVariants.{Go, Exit, Read, Write, Send, Recv, Meet, RecvClosed, Close, Default, Lock, Unlock, RLock, RUnlock, OnceBegin, OnceEnd, OnceDone, Fault}
 use Rattle.race_model.specs.Events.{gives}
 use Rattle.race_model.specs.Legal.{least_broken}
-use Rattle.race_legal.specs.ReplayState.{GoroutinesState, ChannelsState, ReplayState, started_in, runs_in, value_in, capacity_in, closed_in, queue_in}
+use Rattle.race_legal.specs.ReplayState.{GoroutinesState, ChannelsState, LocksState, ReplayState, started_in, runs_in, innermost_in, value_in, capacity_in, closed_in, queue_in, held_in, read_held_in, begun_in, ended_in}
 
 -- the rules on a send
 abbrev pub send_rules : ChannelsState → ℕ → List (ℕ × Bool)
@@ -37,16 +37,22 @@ can_proceed_in t c Dir.Recv = closed_in t c || (nat_lt 0 (capacity_in t c) && na
 abbrev pub is_ready_in : ChannelsState → Case → Bool
 is_ready_in t case = elim case.chan [ None ↦ false | Some c ↦ can_proceed_in t c case.dir ]
 
+-- the rules on a lock for writing
+abbrev pub lock_rules : LocksState → ℕ → List (ℕ × Bool)
+lock_rules t l = (13, held_in t l) ∷ (14, read_held_in t l) ∷ []
+
 -- the cause of a fault holds
-abbrev pub cause_holds_in : ChannelsState → Cause → Bool
-cause_holds_in t (SendClosed c) = closed_in t c
-cause_holds_in t (CloseClosed c) = closed_in t c
-cause_holds_in t CloseNil = true
+abbrev pub cause_holds_in : ReplayState → Cause → Bool
+cause_holds_in k (SendClosed c) = closed_in k.channels c
+cause_holds_in k (CloseClosed c) = closed_in k.channels c
+cause_holds_in k CloseNil = true
+cause_holds_in k (UnlockFree l) = not (held_in k.locks l)
+cause_holds_in k (RUnlockFree l) = not (read_held_in k.locks l)
 
 -- the rules on what the goroutine does
 abbrev pub op_rules_in : ReplayState → ℕ → Op → List (ℕ × Bool)
 op_rules_in k who (Go h) = (3, h == 0 || started_in k.goroutines h) ∷ []
-op_rules_in k who Exit = []
+op_rules_in k who Exit = (20, is_some (innermost_in k.goroutines who)) ∷ []
 op_rules_in k who (Read x v) = (21, not (value_in k x == v)) ∷ []
 op_rules_in k who (Write x v) = []
 op_rules_in k who (Send c v) = send_rules k.channels c
@@ -55,7 +61,14 @@ op_rules_in k who (Meet r c v) = (4, r == who) ∷ meet_rules k.channels c
 op_rules_in k who (RecvClosed c) = recv_closed_rules k.channels c
 op_rules_in k who (Close c) = (12, closed_in k.channels c) ∷ []
 op_rules_in k who (Default cases) = (22, list_any (is_ready_in k.channels) cases) ∷ []
-op_rules_in k who (Fault cause) = (23, not (cause_holds_in k.channels cause)) ∷ []
+op_rules_in k who (Lock l) = lock_rules k.locks l
+op_rules_in k who (Unlock l) = (15, not (held_in k.locks l)) ∷ []
+op_rules_in k who (RLock l) = (13, held_in k.locks l) ∷ []
+op_rules_in k who (RUnlock l) = (16, not (read_held_in k.locks l)) ∷ []
+op_rules_in k who (OnceBegin o) = (17, begun_in k.onces o) ∷ []
+op_rules_in k who (OnceEnd o) = (18, not (gives (innermost_in k.goroutines who) o)) ∷ []
+op_rules_in k who (OnceDone o) = (19, not (ended_in k.onces o)) ∷ []
+op_rules_in k who (Fault cause) = (23, not (cause_holds_in k cause)) ∷ []
 
 -- the receiver runs, where there is one
 abbrev pub receiver_runs_in : GoroutinesState → Op → Bool

@@ -1,12 +1,12 @@
 -- What a replay says of the events that it accepted.
-use Rattle.std.specs.Prelude.{ℕ, ◌≡◌, ◌<◌, List, [], ◌∷◌, ◌++◌, ◌≤◌, length, drop, filter_map, Option}
+use Rattle.std.specs.Prelude.{ℕ, ◌≡◌, ◌<◌, ◌+◌, cond, IsTrue, List, [], ◌∷◌, ◌++◌, ◌≤◌, length, drop, filter_map, Option}
 use Rattle.race_records.specs.declared.kind.Kind.{Kind}
 use Rattle.race_records.specs.declared.event.Event.{Event}
 use Rattle.race_records.specs.Declarations.{Declaration, counts_of, capacity_of}
-use Rattle.race_model.specs.Events.{has_exited, sends, receives, count}
-use Rattle.race_model.specs.State.{over, started, last_value, is_closed, sent}
+use Rattle.race_model.specs.Events.{has_exited, sends, receives, locks, unlocks, rlocks, runlocks, once_begins, count}
+use Rattle.race_model.specs.State.{over, started, last_value, is_closed, sent, is_ended, unended_once}
 use Rattle.race_model.specs.Legal.{broken, IsLegal}
-use Rattle.race_legal.specs.ReplayState.{ReplayState, counts_in, started_in, exited_in, value_in, capacity_in, closed_in, queue_in, IsSquare}
+use Rattle.race_legal.specs.ReplayState.{ReplayState, counts_in, started_in, exited_in, value_in, capacity_in, closed_in, queue_in, stack_in, held_in, readers_in, begun_in, ended_in, IsSquare}
 
 -- under the declarations, the replay stands for a legal list of events: its tables answer each state word
 pub record StandsFor (declarations : List Declaration) (k : ReplayState) (past : List Event) : Type 0 where
@@ -22,6 +22,15 @@ pub record StandsFor (declarations : List Declaration) (k : ReplayState) (past :
   -- the values that were sent, without as many as were received, of which there are no more
   pub queue : (c : ℕ) → c < counts_in k Kind.Chan → drop (count (receives c) past) (filter_map (λ e. sent c e.op) past) ≡ queue_in k.channels c
   pub received : (c : ℕ) → c < counts_in k Kind.Chan → count (receives c) past ≤ count (sends c) past
+  -- a lock was locked as often as unlocked, and once more where it is locked; so it is for reading, once more for each reader
+  pub held : (l : ℕ) → l < counts_in k Kind.Lock → count (locks l) past ≡ count (unlocks l) past + cond (held_in k.locks l) 1 0
+  pub readers : (l : ℕ) → l < counts_in k Kind.Lock → count (rlocks l) past ≡ count (runlocks l) past + readers_in k.locks l
+  -- the function of a once began once at most, and before it ended
+  pub begun : (o : ℕ) → o < counts_in k Kind.Once → count (once_begins o) past ≡ cond (begun_in k.onces o) 1 0
+  pub ended : (o : ℕ) → o < counts_in k Kind.Once → is_ended o past ≡ ended_in k.onces o
+  pub ended_begun : (o : ℕ) → o < counts_in k Kind.Once → IsTrue (ended_in k.onces o) → IsTrue (begun_in k.onces o)
+  -- the onces that the goroutine began and that haven't ended
+  pub stack : (g : ℕ) → g < counts_in k Kind.Goroutine → filter_map (λ e. unended_once g past e.who e.op) past ≡ stack_in k.goroutines g
   pub square : IsSquare k
 
 -- it holds of each list for which the replay stands

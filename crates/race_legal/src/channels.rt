@@ -19,7 +19,7 @@ ghost use Rattle.std.specs.List.{slice_index_or, list_all, list_any};
 ghost use Rattle.std.specs.Option.{option_map};
 ghost use Rattle.race_records.specs.declared.kind.Kind.{Kind};
 ghost use Rattle.race_records.specs.Declarations.{count_of, capacity_of};
-ghost use Rattle.race_records.specs.Parts.{chan_is_in_range, case_is_in_range, chan_of_cause};
+ghost use Rattle.race_records.specs.Parts.{case_is_in_range};
 ghost use Rattle.race_model.specs.Legal.{least_broken};
 ghost use Rattle.race_legal.specs.Rules.{number_of};
 ghost use Rattle.race_legal.specs.ReplayState.{
@@ -35,13 +35,12 @@ ghost use Rattle.race_legal.specs.RulesKept.{
   recv_closed_rules,
   can_proceed_in,
   is_ready_in,
-  cause_holds_in,
 };
 
 use crate::Rule;
 use crate::queue::Queue;
 use crate::rule::rule_if;
-use race_records::{Case, Cases, Cause, Decls, Dir, Kind};
+use race_records::{Case, Cases, Decls, Dir, Kind};
 use std::alloc::{AllocError, Allocator};
 use std::marker::Model;
 
@@ -190,18 +189,6 @@ impl<A: Allocator> Channels<A> {
         match dir {
             Dir::Send => self.is_closed(chan) || capacity > 0 && buffered < capacity,
             Dir::Recv => self.is_closed(chan) || capacity > 0 && buffered > 0,
-        }
-    }
-
-    // Whether the cause of a fault holds.
-    pub(crate) fn cause_holds(&self, cause: Cause) -> bool
-        requires { IsTrue (chan_is_in_range (length self.now.capacities) (chan_of_cause cause)) }
-        ensures { result ≡ cause_holds_in self.now cause }
-    {
-        match cause {
-            Cause::SendClosed(chan) => self.is_closed(chan),
-            Cause::CloseClosed(chan) => self.is_closed(chan),
-            Cause::CloseNil => true,
         }
     }
 

@@ -4,9 +4,14 @@
 mod channels;
 mod goroutines;
 mod listing;
+#[cfg(test)]
+mod lock_tests;
+mod locks;
+mod onces;
 mod queue;
 mod replay;
 mod rule;
+mod stack;
 #[cfg(test)]
 mod tests;
 

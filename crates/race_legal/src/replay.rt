@@ -2,22 +2,24 @@
 //!
 //! The tables are a state machine of their own, with exact contracts; that they answer as the words
 //! of the memory model on the list of events do is a matter of lists alone (proofs/ReplayLemmas).
-ghost use Rattle.std.specs.Prelude.{◌≡◌, if◌then◌else◌, ◌+◌, ◌<◌, [], length, is_ok, IsTrue, Some, None, Err, IfOk, OnOk, OnErr};
-ghost use Rattle.std.specs.Option.{option_map};
-ghost use Rattle.race_records.specs.Parts.{op_is_in_range};
+ghost use Rattle.std.specs.Prelude.{◌≡◌, if◌then◌else◌, ℕ, ◌+◌, ◌<◌, ◌≤◌, [], length, is_ok, IsTrue, true, Some, None, Err, IfOk, OnOk, OnErr};
+ghost use Rattle.std.specs.Option.{option_map, option_map_or};
+ghost use Rattle.race_records.specs.Parts.{op_is_in_range, named_is_in_range, failed_at};
 ghost use Rattle.race_model.specs.Legal.{least_broken};
 ghost use Rattle.race_model.specs.State as words;
 ghost use Rattle.race_legal.specs.Rules.{number_of};
-ghost use Rattle.race_legal.specs.ReplayState.{ReplayState, IsInRange, counts_in, value_in};
+ghost use Rattle.race_legal.specs.ReplayState.{ReplayState, IsInRange, counts_in, value_in, readers_in};
 ghost use Rattle.race_legal.specs.After.{after};
-ghost use Rattle.race_legal.specs.RulesKept.{op_rules_in, receiver_runs_in, broken_in};
+ghost use Rattle.race_legal.specs.RulesKept.{op_rules_in, cause_holds_in, receiver_runs_in, broken_in};
 ghost use Rattle.race_legal.specs.StandsFor.{StandsFor, ForEachPast, GoesOn, IsLeastBroken};
 
 use crate::Rule;
 use crate::channels::Channels;
 use crate::goroutines::Goroutines;
+use crate::locks::Locks;
+use crate::onces::Onces;
 use crate::rule::rule_if;
-use race_records::{Decls, Event, Kind, MAX_EVENTS, Op};
+use race_records::{Cause, Decls, Event, Kind, MAX_EVENTS, Op};
 use std::alloc::{AllocError, Allocator, Global};
 use std::marker::Model;
 use thiserror::Error;
@@ -41,8 +43,8 @@ pub struct Replay<A: Allocator = Global> {
     goroutines: Goroutines<A>,
     values: Vec<u64, A>,
     channels: Channels<A>,
-    locks: u32,
-    onces: u32,
+    locks: Locks<A>,
+    onces: Onces<A>,
 }
 
 impl<A: Allocator> Model for Replay<A> {
@@ -57,6 +59,9 @@ impl<A: Allocator> Model for Replay<A> {
       locks = r.locks;
       onces = r.onces;
     } };
+
+    // A lock has no more readers than there were events.
+    ghost invariant = { λ r. (l : ℕ) → readers_in r.locks l ≤ r.len };
 }
 
 impl<A: Allocator> Replay<A> {
@@ -73,8 +78,8 @@ impl<A: Allocator> Replay<A> {
             goroutines: Goroutines::new(alloc, decls.count(Kind::Goroutine) as usize)?,
             values: vec![in alloc; 0u64; decls.count(Kind::Var) as usize]?,
             channels: Channels::new(alloc, decls)?,
-            locks: decls.count(Kind::Lock),
-            onces: decls.count(Kind::Once),
+            locks: Locks::new(alloc, decls.count(Kind::Lock) as usize)?,
+            onces: Onces::new(alloc, decls.count(Kind::Once) as usize)?,
         })
     }
 
@@ -141,6 +146,46 @@ impl<A: Allocator> Replay<A> {
         self.channels.front(chan)
     }
 
+    /// Whether the lock is locked, by whichever goroutine.
+    pub fn is_held(&self, lock: u32) -> bool
+        requires { lock < counts_in self.now Kind.Lock }
+        ensures { ForEachPast self.now (λ past. result ≡ words.is_held lock past) }
+    {
+        self.locks.is_held(lock)
+    }
+
+    /// Whether the lock is locked for reading.
+    pub fn is_read_held(&self, lock: u32) -> bool
+        requires { lock < counts_in self.now Kind.Lock }
+        ensures { ForEachPast self.now (λ past. result ≡ words.is_read_held lock past) }
+    {
+        self.locks.is_read_held(lock)
+    }
+
+    /// Whether the function of the once began to run.
+    pub fn is_begun(&self, once: u32) -> bool
+        requires { once < counts_in self.now Kind.Once }
+        ensures { ForEachPast self.now (λ past. result ≡ words.is_begun once past) }
+    {
+        self.onces.is_begun(once)
+    }
+
+    /// Whether the function of the once ended.
+    pub fn is_ended(&self, once: u32) -> bool
+        requires { once < counts_in self.now Kind.Once }
+        ensures { ForEachPast self.now (λ past. result ≡ words.is_ended once past) }
+    {
+        self.onces.is_ended(once)
+    }
+
+    /// The once in whose function the goroutine runs: of those that it began and that haven't ended, the last.
+    pub fn innermost(&self, goroutine: u32) -> Option<u32>
+        requires { goroutine < counts_in self.now Kind.Goroutine }
+        ensures { ForEachPast self.now (λ past. result ≡ words.innermost goroutine past) }
+    {
+        self.goroutines.innermost(goroutine)
+    }
+
     /// Accepts the next event where the longer list is legal.
     #[tactic(auto, using(crate::proofs::ReplayLemmas::broken_is))]
     pub fn accept(&mut self, event: &Event) -> Result<(), Broken>
@@ -190,7 +235,8 @@ impl<A: Allocator> Replay<A> {
 
     // The least of the rules on the operation alone that it breaks.
     fn broken_by(&self, who: u32, op: &Op) -> Option<Rule>
-        requires { IsTrue (op_is_in_range (counts_in self.now) op.now) }
+        requires who { who < counts_in self.now Kind.Goroutine }
+        requires op { IsTrue (op_is_in_range (counts_in self.now) op.now) }
         ensures { option_map number_of result ≡ least_broken (op_rules_in self.now who op.now) }
     {
         match op {
@@ -200,7 +246,7 @@ impl<A: Allocator> Replay<A> {
                     *goroutine == 0 || self.goroutines.is_started(*goroutine),
                 )
             }
-            Op::Exit => None,
+            Op::Exit => rule_if(Rule::OnceOpen, self.goroutines.innermost(who).is_some()),
             Op::Read(var, value) => rule_if(Rule::StaleRead, self.values[*var as usize] != *value),
             Op::Write(_, _) => None,
             Op::Send(chan, _) => self.channels.broken_by_send(*chan),
@@ -213,7 +259,31 @@ impl<A: Allocator> Replay<A> {
             Op::RecvClosed(chan) => self.channels.broken_by_recv_closed(*chan),
             Op::Close(chan) => rule_if(Rule::CloseOfClosed, self.channels.is_closed(*chan)),
             Op::Default(cases) => rule_if(Rule::CaseReady, self.channels.has_ready(cases)),
-            Op::Fault(cause) => rule_if(Rule::NoFault, !self.channels.cause_holds(*cause)),
+            Op::Lock(lock) => self.locks.broken_by_lock(*lock),
+            Op::Unlock(lock) => rule_if(Rule::NotHeld, !self.locks.is_held(*lock)),
+            Op::RLock(lock) => rule_if(Rule::Held, self.locks.is_held(*lock)),
+            Op::RUnlock(lock) => rule_if(Rule::NotReadHeld, !self.locks.is_read_held(*lock)),
+            Op::OnceBegin(once) => rule_if(Rule::OnceAgain, self.onces.is_begun(*once)),
+            Op::OnceEnd(once) => rule_if(
+                Rule::OnceNotInner,
+                self.goroutines.innermost(who) != Some(*once),
+            ),
+            Op::OnceDone(once) => rule_if(Rule::OnceNotDone, !self.onces.is_ended(*once)),
+            Op::Fault(cause) => rule_if(Rule::NoFault, !self.cause_holds(*cause)),
+        }
+    }
+
+    // Whether the cause of a fault holds.
+    fn cause_holds(&self, cause: Cause) -> bool
+        requires { IsTrue (option_map_or (named_is_in_range (counts_in self.now)) (failed_at cause) true) }
+        ensures { result ≡ cause_holds_in self.now cause }
+    {
+        match cause {
+            Cause::SendClosed(chan) => self.channels.is_closed(chan),
+            Cause::CloseClosed(chan) => self.channels.is_closed(chan),
+            Cause::CloseNil => true,
+            Cause::UnlockFree(lock) => !self.locks.is_held(lock),
+            Cause::RUnlockFree(lock) => !self.locks.is_read_held(lock),
         }
     }
 
@@ -230,12 +300,29 @@ impl<A: Allocator> Replay<A> {
                 self.over = self.over || event.who == 0;
             }
             Op::Write(var, value) => self.values[*var as usize] = *value,
-            // Alone in growing anything, and it changes nothing before.
+            // This and an OnceBegin alone make anything grow, each before it changes anything.
             Op::Send(chan, value) => self.channels.send(*chan, *value)?,
             Op::Recv(chan, _) => self.channels.receive(*chan),
             Op::Close(chan) => self.channels.close(*chan),
+            Op::Lock(lock) => self.locks.lock(*lock),
+            Op::Unlock(lock) => self.locks.unlock(*lock),
+            Op::RLock(lock) => self.locks.lock_for_reading(*lock),
+            Op::RUnlock(lock) => self.locks.unlock_from_reading(*lock),
+            Op::OnceBegin(once) => {
+                self.goroutines.enter(event.who, *once)?;
+                self.onces.begin(*once);
+            }
+            Op::OnceEnd(once) => {
+                self.goroutines.leave(event.who);
+                self.onces.end(*once);
+            }
             Op::Fault(_) => self.over = true,
-            Op::Read(_, _) | Op::Meet(_, _, _) | Op::RecvClosed(_) | Op::Default(_) => {}
+            // The others change no table.
+            Op::Read(_, _) => {}
+            Op::Meet(_, _, _) => {}
+            Op::RecvClosed(_) => {}
+            Op::Default(_) => {}
+            Op::OnceDone(_) => {}
         }
         self.len += 1;
         Ok(())

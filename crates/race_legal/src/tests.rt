@@ -306,20 +306,27 @@ fn rows(alloc: Global, table: usize) -> Result<Vec<Row>, AllocError> {
     }
 }
 
-fn declared(alloc: Global) -> Result<Decls, DeclFault> {
+static OBJECTS: [(&str, Object); 5] = [
+    ("w", Object::Goroutine),
+    ("x", Object::Var),
+    ("c", Object::Chan(1)),
+    ("d", Object::Chan(0)),
+    ("e", Object::Chan(2)),
+];
+
+// These objects, and one place.
+pub(crate) fn declared(alloc: Global, objects: &[(&str, Object)]) -> Result<Decls, DeclFault> {
     let mut decls = Decls::new(alloc);
-    decls.add_goroutine("w")?;
-    decls.add_var("x")?;
-    decls.declare("c", Object::Chan(1))?;
-    decls.declare("d", Object::Chan(0))?;
-    decls.declare("e", Object::Chan(2))?;
+    for (name, object) in objects {
+        decls.declare(*name, *object)?;
+    }
     decls.add_place("p")?;
     Ok(decls)
 }
 
 // The events of the rows, or those alone that break no rule.
 fn traced(alloc: Global, rows: Vec<Row>, legal_alone: bool) -> Result<Trace, Fail> {
-    let mut trace = Trace::new(declared(alloc)?);
+    let mut trace = Trace::new(declared(alloc, &OBJECTS)?);
     for (who, op, rule, _) in rows {
         if rule.is_none() || !legal_alone {
             let place2 = match &op {

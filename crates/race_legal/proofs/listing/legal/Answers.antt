@@ -23,7 +23,8 @@ returns-in-Rule g c = (
 pub loop-at-preserved : goal.loop-at-preserved
 loop-at-preserved g c = record {
   stands =
-      subst (λ (past : List Event). StandsFor c.args.trace.now.decls.declarations c.accept.new.self past) (sym (take_next c.args.trace.now.events c.loop-at.at c.event.result.now c.event.ensures.event))
+      subst (λ (past : List Event). StandsFor c.args.trace.now.decls.declarations c.accept.new.self past)
+      (sym (take_next c.args.trace.now.events c.loop-at.at c.event.result.now c.event.ensures.event))
       (c.in-Ok.ensures.goes_on c.args.trace.now.decls.declarations (take c.loop-at.at c.args.trace.now.events) c.loop-at.invariant.stands);
 }
 

@@ -19,4 +19,6 @@ pub loop-k-preserved : goal.loop-k-preserved
 loop-k-preserved g c =
     let within : c.loop-k.k < length c.args.cases.now = omega (arith, c.len-k-end.ensures.len, c.loop-k-test.true) in
     list_any_more (is_ready_in c.args.self.now) c.args.cases.now c.loop-k.k c.get.result within
-    ∙ (λ i. c.loop-k.invariant i || passes_at (is_ready_in c.args.self.now) c.args.cases.now c.loop-k.k c.get.result c.is_ready.result false c.get.ensures c.is_ready.ensures c.if-is_ready.false i)
+    ∙ (λ i.
+    c.loop-k.invariant i
+    || passes_at (is_ready_in c.args.self.now) c.args.cases.now c.loop-k.k c.get.result c.is_ready.result false c.get.ensures c.is_ready.ensures c.if-is_ready.false i)

@@ -5,4 +5,7 @@ use Rattle.race_legal.proofs.ChannelWords.{buffered_is}
 use Rattle.race_legal.proofs.replay.Replay.buffered.Goals as goal
 
 pub returns : goal.returns
-returns g c declarations past S = c.buffered.ensures ∙ ap (λ (k : ReplayState). length (queue_in k.channels c.args.chan)) c.self.view_is ∙ sym (buffered_is declarations c.args.self.now past S c.args.chan c.requires)
+returns g c declarations past S =
+    c.buffered.ensures
+    ∙ ap (λ (k : ReplayState). length (queue_in k.channels c.args.chan)) c.self.view_is
+    ∙ sym (buffered_is declarations c.args.self.now past S c.args.chan c.requires)

@@ -1,0 +1,26 @@
+-- Each arm on its own: all of them are too many for one search.
+use Rattle.std.proofs.Common.{rules}
+use Rattle.race_legal.proofs.replay.Replay.step.Goals as goal
+use Rattle.race_legal.proofs.replay.Replay.step.Goals.{in-Go, in-Exit, in-Read, in-Write, in-Send+in_ok-send-in-Send, in-Recv, in-Meet, in-RecvClosed, in-Close, in-Default, in-Lock, in-Unlock, in-RLock, in-RUnlock, in-OnceBegin+in_ok-enter-in-OnceBegin, in-OnceEnd, in-OnceDone, in-Fault}
+
+pub returns : goal.returns
+returns g c = elim c.match-event.branch [
+  | in-Go w ↦ search rules
+  | in-Exit w ↦ search rules
+  | in-Read w ↦ search rules
+  | in-Write w ↦ search rules
+  | in-Send+in_ok-send-in-Send w ↦ search rules
+  | in-Recv w ↦ search rules
+  | in-Meet w ↦ search rules
+  | in-RecvClosed w ↦ search rules
+  | in-Close w ↦ search rules
+  | in-Default w ↦ search rules
+  | in-Lock w ↦ search rules
+  | in-Unlock w ↦ search rules
+  | in-RLock w ↦ search rules
+  | in-RUnlock w ↦ search rules
+  | in-OnceBegin+in_ok-enter-in-OnceBegin w ↦ search rules
+  | in-OnceEnd w ↦ search rules
+  | in-OnceDone w ↦ search rules
+  | in-Fault w ↦ search rules
+]

@@ -1,15 +1,15 @@
--- The numbers of two events tell whether one is a source of the other.
-use Rattle.std.proofs.Common.{◌≡◌, ◌∙◌, ℕ, ◌+◌, ◌<◌, ◌==◌, ◌&&◌, true, false, List, take, Some, None, IsTrue, sym, ap, arith, eqb-true}
+-- The numbers of a receive and a send tell whether one is a source of the other.
+use Rattle.std.proofs.Common.{◌≡◌, ◌∙◌, ℕ, ◌+◌, ◌<◌, ◌==◌, ◌&&◌, true, List, take, Some, None, IsTrue, sym, ap, arith, eqb-true}
 use Rattle.std.proofs.lemmas.Bool.Decides.{nat_tests}
 use Rattle.std.proofs.lemmas.List.{take-take}
 use Rattle.std.proofs.lemmas.Option.{slice_get_within}
 use Rattle.std.specs.List.{slice_index_or}
 use Rattle.race_records.specs.declared.event.Event.{Event}
 use Rattle.race_records.specs.declared.event.Op.{Op}
-use Rattle.race_records.specs.declared.event.Op.TheVariants.{Send, Recv, RecvClosed}
+use Rattle.race_records.specs.declared.event.Op.TheVariants.{Send, Recv}
 use Rattle.race_records.specs.declared.kind.Kind.{Kind}
 use Rattle.race_records.specs.Parts.{op_is_in_range}
-use Rattle.race_model.specs.Events.{At, sends, receives, closes, count}
+use Rattle.race_model.specs.Events.{At, sends, receives, count}
 use Rattle.race_edges.specs.Numbers.{counts, AreNumbers}
 use Rattle.race_model.specs.Synchronized.{is_source}
 use Rattle.race_edges.specs.Synchronized.{source_at}
@@ -19,11 +19,7 @@ use Rattle.race_edges.proofs.SynchronizedLemmas.{source_at_is}
 pub chan_in_range : (kinds : Kind → ℕ) (c v : ℕ) → IsTrue (op_is_in_range kinds (Send c v)) → c < kinds Kind.Chan
 chan_in_range kinds c v is = grind (arith, nat_tests)
 
--- a send has its number among the sends on its channel, a receive among the receives
-send_counts : (c : ℕ) (o : Op) → sends c o ≡ true → counts o ≡ sends c
-send_counts c (Send d v) is = ap sends (eqb-true d c is)
-send_counts c _ is = cc
-
+-- a receive has its number among the receives from its channel
 receive_counts : (c : ℕ) (o : Op) → receives c o ≡ true → counts o ≡ receives c
 receive_counts c (Recv d v) is = ap receives (eqb-true d c is)
 receive_counts c _ is = cc
@@ -42,21 +38,6 @@ module _ (caps : ℕ → ℕ) (events : List Event) (numbers : List ℕ) (are : 
   here : (o : Op) → e.op ≡ o → source_at caps events from to ≡ is_source caps (take to events) from s.op o
   here o is = source_at_is caps events from to s e ats ate ∙ ap (is_source caps (take to events) from s.op) is
 
-  -- the kth send before the kth receive
-  pub told_receive : (c v : ℕ) → e.op ≡ Recv c v → sends c s.op ≡ true
-      → (slice_index_or numbers from 0 == slice_index_or numbers to 0) ≡ source_at caps events from to
-  told_receive c v is sent =
-      (λ i. first i == second i) ∙ (λ i. sym sent i && (count (sends c) (take from (take to events)) == count (receives c) (take to events))) ∙ sym (here (Recv c v) is)
-    where
-      first : slice_index_or numbers from 0 ≡ count (sends c) (take from (take to events))
-      first = number_is events numbers are from s ats ∙ (λ i. count (send_counts c s.op sent i) (sym front i))
-
-      second : slice_index_or numbers to 0 ≡ count (receives c) (take to events)
-      second = number_is events numbers are to e ate ∙ ap (λ o. count (counts o) (take to events)) is
-
-  pub no_send : (c v : ℕ) → e.op ≡ Recv c v → sends c s.op ≡ false → false ≡ source_at caps events from to
-  no_send c v is none = (λ i. sym none i && (count (sends c) (take from (take to events)) == count (receives c) (take to events))) ∙ sym (here (Recv c v) is)
-
   -- the kth receive before the send numbered k plus the capacity
   pub told_send : (c v : ℕ) → e.op ≡ Send c v → receives c s.op ≡ true
       → (slice_index_or numbers from 0 + caps c == slice_index_or numbers to 0) ≡ source_at caps events from to
@@ -68,14 +49,3 @@ module _ (caps : ℕ → ℕ) (events : List Event) (numbers : List ℕ) (are : 
 
       second : slice_index_or numbers to 0 ≡ count (sends c) (take to events)
       second = number_is events numbers are to e ate ∙ ap (λ o. count (counts o) (take to events)) is
-
-  pub no_receive : (c v : ℕ) → e.op ≡ Send c v → receives c s.op ≡ false → false ≡ source_at caps events from to
-  no_receive c v is none = (λ i. sym none i && (count (receives c) (take from (take to events)) + caps c == count (sends c) (take to events))) ∙ sym (here (Send c v) is)
-
-  -- the closing of a channel before each receive that finds it closed
-  pub told_close : (c : ℕ) → e.op ≡ RecvClosed c → closes c s.op ≡ source_at caps events from to
-  told_close c is = sym (here (RecvClosed c) is)
-
-  -- nothing else has sources
-  pub told_none : (o : Op) → e.op ≡ o → is_source caps (take to events) from s.op o ≡ false → false ≡ source_at caps events from to
-  told_none o is none = sym none ∙ sym (here o is)

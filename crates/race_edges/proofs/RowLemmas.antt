@@ -1,5 +1,5 @@
 -- What rows tell after a change.
-use Rattle.std.proofs.Common.{◌≡◌, ◌≢◌, ◌⊎◌, ◌↔◌, ℕ, zero, suc, ◌<◌, Bool, true, false, List, [], length, get_or, set, if◌then◌else◌, Option, Some, None, IfSome, refl, sym, ap, ◌∙◌, subst, inl, inr, arith, IsTrue}
+use Rattle.std.proofs.Common.{◌≡◌, ◌≢◌, ◌⊎◌, ◌↔◌, ℕ, zero, suc, ◌<◌, ◌≤◌, ◌&&◌, not, Bool, true, false, List, [], length, get_or, set, if◌then◌else◌, Option, Some, None, IfSome, refl, sym, ap, ◌∙◌, subst, inl, inr, arith, IsTrue}
 use Rattle.std.proofs.lemmas.Bool.{cases_eq}
 use Rattle.std.proofs.lemmas.List.{get_or-set_same, get_or-set_other, length-set}
 use Rattle.std.proofs.lemmas.Option.{none-some, same_Some}
@@ -225,49 +225,142 @@ sees_inside rows limit who o wide first second g i less within = by (partner o) 
 
 pub shape_taken : (is : ℕ → Bool) (heard rows : List (List Bool)) (who n : ℕ) → AreShaped rows (taken is heard rows who n)
 shape_taken is heard rows who zero = shape_same rows
-shape_taken is heard rows who (suc n) = by (is n) (shape_taken is heard rows who n)
+shape_taken is heard rows who (suc n) = by (not (sees rows who n) && is n) (λ rows. shape_taken is heard rows who n)
   where
-    by : (b : Bool) → AreShaped rows (taken is heard rows who n)
-        → AreShaped rows (if b then with_row (taken is heard rows who n) who (row_of heard n) else taken is heard rows who n)
-    by true old = shape_on rows (taken is heard rows who n) (with_row (taken is heard rows who n) who (row_of heard n)) old (shape_with_row (taken is heard rows who n) who (row_of heard n))
-    by false old = old
+    by : (b : Bool) → ((rows : List (List Bool)) → AreShaped rows (taken is heard rows who n))
+        → AreShaped rows (taken is heard (if b then with_row rows who (row_of heard n) else rows) who n)
+    by true below =
+        let next = with_row rows who (row_of heard n) in
+        shape_on rows next (taken is heard next who n) (shape_with_row rows who (row_of heard n)) (below next)
+    by false below = below rows
+
+-- one source further down
+pub taken_down : (is : ℕ → Bool) (heard rows next : List (List Bool)) (who n above : ℕ) → above ≡ suc n → (has test : Bool) → has ≡ sees rows who n → test ≡ is n
+    → next ≡ (if not has && test then with_row rows who (row_of heard n) else rows) → taken is heard next who n ≡ taken is heard rows who above
+taken_down is heard rows next who n above over has test seen source step =
+    ap (λ rows. taken is heard rows who n) (step ∙ (λ i. if not (seen i) && source i then with_row rows who (row_of heard n) else rows)) ∙ ap (taken is heard rows who) (sym over)
 
 -- g sees what it saw, and where it is who, what was seen at the begin of each source among the first n events
 abbrev pub SeesTaken : (ℕ → Bool) → List (List Bool) → List (List Bool) → ℕ → ℕ → ℕ → ℕ → Type 0
 SeesTaken is heard rows who n g i = IsTrue (sees rows g i) ⊎ ((who ≡ g) × ((k : ℕ) × (k < n) × IsTrue (is k) × IsTrue (sees heard k i)))
 
-pub sees_taken : (is : ℕ → Bool) (heard rows : List (List Bool)) (who n g i : ℕ) → g < length rows → i < length (row_of rows g)
-    → IsTrue (sees (taken is heard rows who n) g i) ↔ SeesTaken is heard rows who n g i
-sees_taken is heard rows who zero g i less within = (λ s. inl s, λ s. elim s [ inl old ↦ old | inr (to, (k, below, source, seen)) ↦ absurd (omega (arith, below)) ])
-sees_taken is heard rows who (suc n) g i less within = by (is n) refl (sees_taken is heard rows who n g i less within)
+-- who has seen of event i all that had been seen of it at the begin of each source among the first n events that it has seen
+abbrev pub HoldsSeen : (ℕ → Bool) → List (List Bool) → List (List Bool) → ℕ → ℕ → ℕ → Type 0
+HoldsSeen is heard rows who n i = (k : ℕ) → k < n → IsTrue (is k) → IsTrue (sees rows who k) → IsTrue (sees heard k i) → IsTrue (sees rows who i)
+
+-- and so it was at the begin of each of them
+abbrev pub HeldSeen : (ℕ → Bool) → List (List Bool) → ℕ → ℕ → Type 0
+HeldSeen is heard n i =
+    (m k : ℕ) → m < n → k < n → IsTrue (is m) → IsTrue (is k) → IsTrue (sees heard m k) → IsTrue (sees heard k i) → IsTrue (sees heard m i)
+
+-- what others see stays
+sees_taken_other : (is : ℕ → Bool) (heard rows : List (List Bool)) (who n g i : ℕ) → who ≢ g → g < length rows → i < length (row_of rows g)
+    → IsTrue (sees (taken is heard rows who n) g i) ↔ IsTrue (sees rows g i)
+sees_taken_other is heard rows who zero g i differ less within = (λ s. s, λ s. s)
+sees_taken_other is heard rows who (suc n) g i differ less within = by (not (sees rows who n) && is n) (λ rows. sees_taken_other is heard rows who n g i differ)
   where
-    wider : SeesTaken is heard rows who n g i → SeesTaken is heard rows who (suc n) g i
-    wider (inl old) = inl old
-    wider (inr (to, (k, below, source, seen))) = inr (to, (k, omega (arith, below), source, seen))
+    by : (b : Bool)
+        → ((rows : List (List Bool)) → g < length rows → i < length (row_of rows g) → IsTrue (sees (taken is heard rows who n) g i) ↔ IsTrue (sees rows g i))
+        → IsTrue (sees (taken is heard (if b then with_row rows who (row_of heard n) else rows) who n) g i) ↔ IsTrue (sees rows g i)
+    by false below = below rows less within
+    by true below =
+        let shape = shape_with_row rows who (row_of heard n) in
+        let one = sees_with_row rows who (row_of heard n) g i less within in
+        let next = below (with_row rows who (row_of heard n)) (omega (arith, less, shape.count)) (omega (arith, within, shape.wide g less)) in (
+          (λ s. elim (one.0 (next.0 s)) [ inl old ↦ old | inr new ↦ absurd (differ new.0) ]),
+          (λ s. next.1 (one.1 (inl s))),
+        )
 
-    by : (b : Bool) → is n ≡ b → (IsTrue (sees (taken is heard rows who n) g i) ↔ SeesTaken is heard rows who n g i)
-        → IsTrue (sees (if b then with_row (taken is heard rows who n) who (row_of heard n) else taken is heard rows who n) g i) ↔ SeesTaken is heard rows who (suc n) g i
-    by true test before = (there, back)
+-- who sees what was seen at the sources too, though those are passed over that it has seen
+sees_taken_own : (is : ℕ → Bool) (heard rows : List (List Bool)) (who n i : ℕ) → who < length rows → n ≤ length (row_of rows who) → i < length (row_of rows who)
+    → HoldsSeen is heard rows who n i → HeldSeen is heard n i
+    → IsTrue (sees (taken is heard rows who n) who i) ↔ (IsTrue (sees rows who i) ⊎ ((k : ℕ) × (k < n) × IsTrue (is k) × IsTrue (sees heard k i)))
+sees_taken_own is heard rows who zero i row wide within holds held = (λ s. inl s, λ s. elim s [ inl old ↦ old | inr (k, below, source, had) ↦ absurd (omega (arith, below)) ])
+sees_taken_own is heard rows who (suc n) i row wide within holds held =
+    by (λ rows row wide within holds. sees_taken_own is heard rows who n i row wide within holds (λ m k first second. held m k (omega (arith, first)) (omega (arith, second))))
+    (sees rows who n) refl (is n) refl
+  where
+    Taken : List (List Bool) → ℕ → Type 0
+    Taken rows n = IsTrue (sees rows who i) ⊎ ((k : ℕ) × (k < n) × IsTrue (is k) × IsTrue (sees heard k i))
+
+    -- what is shown of the sources below
+    Below : Type 0
+    Below = (rows : List (List Bool)) → who < length rows → n ≤ length (row_of rows who) → i < length (row_of rows who) → HoldsSeen is heard rows who n i
+        → IsTrue (sees (taken is heard rows who n) who i) ↔ Taken rows n
+
+    -- it is no source, or brings nothing more
+    passed : Below → (IsTrue (is n) → IsTrue (sees heard n i) → IsTrue (sees rows who i)) → IsTrue (sees (taken is heard rows who n) who i) ↔ Taken rows (suc n)
+    passed rest nothing = ((λ s. wider (before.0 s)), (λ s. before.1 (narrow s)))
       where
-        one : IsTrue (sees (with_row (taken is heard rows who n) who (row_of heard n)) g i) ↔ (IsTrue (sees (taken is heard rows who n) g i) ⊎ ((who ≡ g) × IsTrue (sees heard n i)))
-        one =
-            let shape = shape_taken is heard rows who n in
-            sees_with_row (taken is heard rows who n) who (row_of heard n) g i (omega (arith, less, shape.count)) (omega (arith, within, shape.wide g less))
+        before : IsTrue (sees (taken is heard rows who n) who i) ↔ Taken rows n
+        before = rest rows row (omega (arith, wide)) within (λ k below. holds k (omega (arith, below)))
 
-        there : IsTrue (sees (with_row (taken is heard rows who n) who (row_of heard n)) g i) → SeesTaken is heard rows who (suc n) g i
-        there s = elim (one.0 s) [ inl old ↦ wider (before.0 old) | inr new ↦ inr (new.0, (n, omega arith, test, new.1)) ]
+        wider : Taken rows n → Taken rows (suc n)
+        wider (inl old) = inl old
+        wider (inr (k, below, source, had)) = inr (k, omega (arith, below), source, had)
 
-        back : SeesTaken is heard rows who (suc n) g i → IsTrue (sees (with_row (taken is heard rows who n) who (row_of heard n)) g i)
-        back (inl old) = one.1 (inl (before.1 (inl old)))
-        back (inr (to, (k, below, source, seen))) = elim (cases_eq k n) [
-          | inl here ↦ one.1 (inr (to, subst (λ k. IsTrue (sees heard k i)) here seen))
-          | inr differ ↦ one.1 (inl (before.1 (inr (to, (k, omega (arith, below, differ), source, seen)))))
+        narrow : Taken rows (suc n) → Taken rows n
+        narrow (inl old) = inl old
+        narrow (inr (k, below, source, had)) = elim (cases_eq k n) [
+          | inl here ↦ inl (nothing (subst (λ k. IsTrue (is k)) here source) (subst (λ k. IsTrue (sees heard k i)) here had))
+          | inr differ ↦ inr (k, omega (arith, below, differ), source, had)
         ]
-    by false test before = (λ s. wider (before.0 s), back)
+
+    -- it is a source that isn't seen
+    joins_it : Below → IsTrue (is n) → IsTrue (sees (taken is heard (with_row rows who (row_of heard n)) who n) who i) ↔ Taken rows (suc n)
+    joins_it rest test = ((λ s. there (before.0 s)), (λ s. before.1 (back s)))
       where
-        back : SeesTaken is heard rows who (suc n) g i → IsTrue (sees (taken is heard rows who n) g i)
-        back (inl old) = before.1 (inl old)
-        back (inr (to, (k, below, source, seen))) = elim (cases_eq k n) [
-          | inl here ↦ let was : is n ≡ true = subst (λ k. is k ≡ true) here source in cc
-          | inr differ ↦ before.1 (inr (to, (k, omega (arith, below, differ), source, seen)))
+        next : List (List Bool)
+        next = with_row rows who (row_of heard n)
+
+        shape : AreShaped rows next
+        shape = shape_with_row rows who (row_of heard n)
+
+        one : (j : ℕ) → j < length (row_of rows who) → IsTrue (sees next who j) ↔ (IsTrue (sees rows who j) ⊎ ((who ≡ who) × IsTrue (sees heard n j)))
+        one j = sees_with_row rows who (row_of heard n) who j row
+
+        still : HoldsSeen is heard next who n i
+        still k below source has had = (one i within).1 (elim ((one k (omega (arith, below, wide))).0 has) [
+          | inl old ↦ inl (holds k (omega (arith, below)) source old had)
+          | inr new ↦ inr (refl, held n k (omega arith) (omega (arith, below)) test source new.1 had)
+        ])
+
+        before : IsTrue (sees (taken is heard next who n) who i) ↔ Taken next n
+        before =
+            let count = shape.count in
+            let same = shape.wide who row in
+            rest next (omega (arith, row, count)) (omega (arith, wide, same)) (omega (arith, within, same)) still
+
+        there : Taken next n → Taken rows (suc n)
+        there (inl s) = elim ((one i within).0 s) [ inl old ↦ inl old | inr new ↦ inr (n, omega arith, test, new.1) ]
+        there (inr (k, below, source, had)) = inr (k, omega (arith, below), source, had)
+
+        back : Taken rows (suc n) → Taken next n
+        back (inl old) = inl ((one i within).1 (inl old))
+        back (inr (k, below, source, had)) = elim (cases_eq k n) [
+          | inl here ↦ inl ((one i within).1 (inr (refl, subst (λ k. IsTrue (sees heard k i)) here had)))
+          | inr differ ↦ inr (k, omega (arith, below, differ), source, had)
         ]
+
+    by : Below → (b : Bool) → sees rows who n ≡ b → (c : Bool) → is n ≡ c
+        → IsTrue (sees (taken is heard (if not b && c then with_row rows who (row_of heard n) else rows) who n) who i) ↔ Taken rows (suc n)
+    by rest false unseen true test = joins_it rest test
+    by rest false unseen false test = passed rest (λ source had. let was : is n ≡ true = source in cc)
+    by rest true has c test = passed rest (λ source had. holds n (omega arith) source has had)
+
+pub sees_taken : (is : ℕ → Bool) (heard rows : List (List Bool)) (who n g i : ℕ) → n ≤ length (row_of rows g) → g < length rows → i < length (row_of rows g)
+    → HoldsSeen is heard rows who n i → HeldSeen is heard n i
+    → IsTrue (sees (taken is heard rows who n) g i) ↔ SeesTaken is heard rows who n g i
+sees_taken is heard rows who n g i wide less within holds held = elim (cases_eq who g) [
+  | inl same ↦ subst (λ g. IsTrue (sees (taken is heard rows who n) g i) ↔ SeesTaken is heard rows who n g i) same (own same)
+  | inr differ ↦
+      let other = sees_taken_other is heard rows who n g i differ less within in
+      ((λ s. inl (other.0 s)), (λ s. elim s [ inl old ↦ other.1 old | inr new ↦ absurd (differ new.0) ]))
+]
+  where
+    own : who ≡ g → IsTrue (sees (taken is heard rows who n) who i) ↔ SeesTaken is heard rows who n who i
+    own same =
+        let is_one = sees_taken_own is heard rows who n i (omega (arith, less, same)) (subst (λ g. n ≤ length (row_of rows g)) (sym same) wide) (subst (λ g. i < length (row_of rows g)) (sym same) within) holds held in (
+          (λ s. elim (is_one.0 s) [ inl old ↦ inl old | inr new ↦ inr (refl, new) ]),
+          (λ s. is_one.1 (elim s [ inl old ↦ inl old | inr new ↦ inr new.1 ])),
+        )

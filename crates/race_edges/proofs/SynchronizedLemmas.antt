@@ -2,8 +2,8 @@
 use Rattle.std.proofs.Common.{◌≡◌, ◌⊎◌, ◌∙◌, ℕ, false, List, Some, refl, ap, inl, inr, IsTrue, take, slice_get, None}
 use Rattle.race_records.specs.declared.event.Event.{Event}
 use Rattle.race_records.specs.declared.event.Op.{Op}
-use Rattle.race_records.specs.declared.event.Op.TheVariants.{Go, Send, Recv, Meet, RecvClosed, Close}
-use Rattle.race_model.specs.Events.{At, partner, sends, receives, closes}
+use Rattle.race_records.specs.declared.event.Op.TheVariants.{Go, Send, Recv, Meet, RecvClosed, Close, Lock, Unlock, RLock, RUnlock, OnceEnd, OnceDone}
+use Rattle.race_model.specs.Events.{At, partner, sends, receives, closes, unlocks, runlocks, once_ends}
 use Rattle.race_model.specs.Order.{SynchronizedInside, IsSource}
 use Rattle.race_model.specs.Synchronized.{is_source}
 use Rattle.race_edges.specs.Synchronized.{can_be_source, source_at}
@@ -15,7 +15,7 @@ source_at_is caps events i j s e ats at =
     ap (λ o. elim o [ Some s ↦ elim (slice_get events j) [ Some e ↦ is_source caps (take j events) i s.op e.op | None ↦ false ] | None ↦ false ]) ats
     ∙ ap (λ o. elim o [ Some e ↦ is_source caps (take j events) i s.op e.op | None ↦ false ]) at
 
--- a send, a receive and a close can be sources
+-- each of these can be a source
 send_can_be : (c : ℕ) (s : Op) → IsTrue (sends c s) → IsTrue (can_be_source s)
 send_can_be c (Send d v) is = refl
 send_can_be c _ is = cc
@@ -28,11 +28,27 @@ close_can_be : (c : ℕ) (s : Op) → IsTrue (closes c s) → IsTrue (can_be_sou
 close_can_be c (Close d) is = refl
 close_can_be c _ is = cc
 
+unlock_can_be : (l : ℕ) (s : Op) → IsTrue (unlocks l s) → IsTrue (can_be_source s)
+unlock_can_be l (Unlock m) is = refl
+unlock_can_be l _ is = cc
+
+runlock_can_be : (l : ℕ) (s : Op) → IsTrue (runlocks l s) → IsTrue (can_be_source s)
+runlock_can_be l (RUnlock m) is = refl
+runlock_can_be l _ is = cc
+
+once_end_can_be : (o : ℕ) (s : Op) → IsTrue (once_ends o s) → IsTrue (can_be_source s)
+once_end_can_be o (OnceEnd p) is = refl
+once_end_can_be o _ is = cc
+
 -- what is a source can be one
 pub source_can_be : (caps : ℕ → ℕ) (past : List Event) (i : ℕ) (s o : Op) → IsSource caps past i s o → IsTrue (can_be_source s)
 source_can_be caps past i s (Recv c v) (is, number) = send_can_be c s is
 source_can_be caps past i s (Send c v) (k, (is, number), sum) = receive_can_be c s is
 source_can_be caps past i s (RecvClosed c) is = close_can_be c s is
+source_can_be caps past i s (Lock l) (inl is) = unlock_can_be l s is
+source_can_be caps past i s (Lock l) (inr (is, number)) = runlock_can_be l s is
+source_can_be caps past i s (RLock l) (k, (is, number), sum) = unlock_can_be l s is
+source_can_be caps past i s (OnceDone o) is = once_end_can_be o s is
 source_can_be caps past i s _ never = absurd never
 
 -- an edge inside an event leads from its goroutine to the second participant, or the other way

@@ -5,17 +5,17 @@ use Rattle.std.proofs.lemmas.List.{get_or-replicate, get_or_append_left, length-
 use Rattle.std.proofs.lemmas.Option.{slice_get_within}
 use Rattle.race_records.specs.declared.event.Event.{Event}
 use Rattle.race_model.specs.Events.{At, takes_part, partner}
-use Rattle.race_model.specs.Order.{SynchronizedInside, IsSource}
+use Rattle.race_model.specs.Order.{Begin, SynchronizedInside, IsSource, Reaches}
 use Rattle.race_model.specs.Known.{SeenBy, SeenAt, Brings}
 use Rattle.race_model.proofs.Indexes.{at_same, at_below, slice_get-append, append_at_old, slice_get-push, push_at}
 use Rattle.race_model.proofs.Ranks.{reaches_up}
-use Rattle.race_model.proofs.Reaching.{who_takes_part, inside_to}
+use Rattle.race_model.proofs.Reaching.{reaches_on, who_takes_part, inside_to}
 use Rattle.race_model.proofs.SeenSteps.{seen_at_new, seen_at_from, seen_at_grow, seen_at_old, seen_grow, seen_brings, seen_step}
 use Rattle.race_edges.specs.Synchronized.{can_be_source}
 use Rattle.race_edges.specs.TableState.{TableState, row_of, sees, with_seen, inside, kept, table_after, HasRows}
 use Rattle.race_edges.specs.IsTable.{HasSeen, HadSeen, IsTable}
 use Rattle.race_edges.proofs.SynchronizedLemmas.{source_can_be, inside_pair}
-use Rattle.race_edges.proofs.RowLemmas.{shape_with_seen, sees_with_seen, shape_inside, sees_inside, SeesInside, shape_taken, sees_taken, SeesTaken}
+use Rattle.race_edges.proofs.RowLemmas.{shape_with_seen, sees_with_seen, shape_inside, sees_inside, SeesInside, shape_taken, sees_taken, SeesTaken, HoldsSeen, HeldSeen}
 
 -- only events of the list are seen
 pub seen_within : (caps : ℕ → ℕ) (past : List Event) (i h g : ℕ) → SeenBy caps past i h g → i < length past
@@ -38,6 +38,16 @@ table_seen caps table limit past is g i e less at =
       (λ s. let seen = (is.seen g i less within).0 s in subst (λ (e : Event). SeenBy caps past i e.who g) (at_same past i seen.0 e seen.1 at) seen.2),
       (λ seen. (is.seen g i less within).1 (e, at, seen)),
     )
+
+-- what had been seen at a begin that is seen is seen too
+seen_at_on : (caps : ℕ → ℕ) (past : List Event) (i h k f m g : ℕ) → SeenAt caps past i h k f → SeenAt caps past k f m g → SeenAt caps past i h m g
+seen_at_on caps past i h k f m g (inl (same, who)) second = subst (λ (p : ℕ × ℕ). SeenAt caps past p.0 p.1 m g) (λ j. (sym same j, sym who j)) second
+seen_at_on caps past i h k f m g (inr w) (inl (same, who)) = inr (subst (λ (p : ℕ × ℕ). Reaches caps past (Begin i h) (Begin p.0 p.1)) (λ j. (same j, who j)) w)
+seen_at_on caps past i h k f m g (inr w) (inr v) = inr (reaches_on w v)
+
+seen_by_on : (caps : ℕ → ℕ) (past : List Event) (i h k f g : ℕ) → SeenAt caps past i h k f → SeenBy caps past k f g → SeenBy caps past i h g
+seen_by_on caps past i h k f g (inl (same, who)) second = subst (λ (p : ℕ × ℕ). SeenBy caps past p.0 p.1 g) (λ j. (sym same j, sym who j)) second
+seen_by_on caps past i h k f g (inr w) (j, part, v) = (j, part, reaches_on w v)
 
 -- before the first event
 pub table_none : (caps : ℕ → ℕ) (goroutines limit : ℕ) → IsTable caps (record { rows = replicate goroutines (replicate limit false); heard = [] }) limit []
@@ -92,14 +102,28 @@ module _ (caps : ℕ → ℕ) (table : TableState) (limit : ℕ) (past : List Ev
     | inr pair ↦ subst (λ o. IfSome o (λ p. p < length table.rows)) pair.0 has.1
   ]
 
-  -- what g has seen behind the event: it knew, or an edge inside brings it, or a source does
-  abbrev Sees : ℕ → ℕ → Type 0
-  Sees g i =
-      (Knows g i ⊎ ((f : ℕ) × SynchronizedInside e.who e.op f g × Knows f i))
-      ⊎ ((e.who ≡ g) × ((k : ℕ) × (s : Event) × At past k s × IsSource caps past k s.op e.op × HadSeen caps past i k s.who))
+  -- it knew, or an edge inside the event brings it
+  abbrev KnowsInside : ℕ → ℕ → Type 0
+  KnowsInside g i = Knows g i ⊎ ((f : ℕ) × SynchronizedInside e.who e.op f g × Knows f i)
 
-  sees_after : (g i : ℕ) → g < length table.rows → i < limit → IsTrue (sees (table_after is table (length past) e.who e.op).rows g i) ↔ Sees g i
-  sees_after g i less within = (there, back)
+  -- the rows behind the edges inside the event
+  abbrev rows_inside : List (List Bool)
+  rows_inside = inside (with_seen table.rows e.who (length past)) e.who e.op
+
+  count_inside : length rows_inside ≡ length table.rows
+  count_inside =
+      let own = shape_with_seen table.rows e.who (length past) in
+      let more = shape_inside (with_seen table.rows e.who (length past)) e.who e.op in
+      more.count ∙ own.count
+
+  wide_inside : (g : ℕ) → g < length table.rows → length (row_of rows_inside g) ≡ limit
+  wide_inside g less =
+      let own = shape_with_seen table.rows e.who (length past) in
+      let more = shape_inside (with_seen table.rows e.who (length past)) e.who e.op in
+      more.wide g (omega (arith, less, own.count)) ∙ own.wide g less ∙ is_table.wide g less
+
+  sees_known : (g i : ℕ) → g < length table.rows → i < limit → IsTrue (sees rows_inside g i) ↔ KnowsInside g i
+  sees_known g i less within = ((λ s. there (brought.0 s)), (λ s. brought.1 (back s)))
     where
       wide : (g : ℕ) → g < length (with_seen table.rows e.who (length past)) → length (row_of (with_seen table.rows e.who (length past)) g) ≡ limit
       wide g below =
@@ -113,38 +137,73 @@ module _ (caps : ℕ → ℕ) (table : TableState) (limit : ℕ) (past : List Ev
       partner_row : IfSome (partner e.op) (λ p. p < length (with_seen table.rows e.who (length past)))
       partner_row = let shape = shape_with_seen table.rows e.who (length past) in subst (λ m. IfSome (partner e.op) (λ p. p < m)) (sym shape.count) has.1
 
-      brought : IsTrue (sees (inside (with_seen table.rows e.who (length past)) e.who e.op) g i) ↔ SeesInside (with_seen table.rows e.who (length past)) e.who e.op g i
+      brought : IsTrue (sees rows_inside g i) ↔ SeesInside (with_seen table.rows e.who (length past)) e.who e.op g i
       brought = sees_inside (with_seen table.rows e.who (length past)) limit e.who e.op wide (in_own e.who has.0) partner_row g i (in_own g less) within
 
-      heard : IsTrue (sees (table_after is table (length past) e.who e.op).rows g i)
-          ↔ SeesTaken is table.heard (inside (with_seen table.rows e.who (length past)) e.who e.op) e.who (length past) g i
+      there : SeesInside (with_seen table.rows e.who (length past)) e.who e.op g i → KnowsInside g i
+      there (inl old) = inl ((sees_own g i less within).0 old)
+      there (inr (f, edge, seen)) = inr (f, edge, (sees_own f i (row_inside f g edge) within).0 seen)
+
+      back : KnowsInside g i → SeesInside (with_seen table.rows e.who (length past)) e.who e.op g i
+      back (inl old) = inl ((sees_own g i less within).1 old)
+      back (inr (f, edge, knows)) = inr (f, edge, (sees_own f i (row_inside f g edge) within).1 knows)
+
+  -- what is kept of a source tells what its goroutine had seen
+  heard_is : (k i : ℕ) (s : Event) → At past k s → IsTrue (is k) → i < limit → IsTrue (sees table.heard k i) ↔ HadSeen caps past i k s.who
+  heard_is k i s at test within = is_table.heard k i s at (source_can_be caps past k s.op e.op ((sources k s at).0 test)) within
+
+  -- who knows of event k knows what had been seen at its begin
+  knows_on : (f k i : ℕ) (s : Event) → At past k s → HadSeen caps past i k s.who → Knows f k → Knows f i
+  knows_on f k i s at had (t, att, inl (last, who)) = let below : k < length past = slice_get_within past k s at in absurd (omega (arith, below, last))
+  knows_on f k i s at (d, atd, had) (t, att, inr seen) =
+      let below : k < length past = slice_get_within past k s at in
+      let same : t ≡ s = at_same past k t s (at_old k t att below) at in
+      (d, append_at_old past (e ∷ []) i d atd, inr (seen_by_on caps past i d.who k s.who f had (subst (λ (t : Event). SeenBy caps past k t.who f) same seen)))
+
+  holds_seen : (i : ℕ) → i < limit → HoldsSeen is table.heard rows_inside e.who (length past) i
+  holds_seen i within k below test seen kept =
+      let s = at_below past k below in
+      let had = (heard_is k i s.0 s.1 test within).0 kept in
+      (sees_known e.who i has.0 within).1 (elim ((sees_known e.who k has.0 (omega (arith, below, room))).0 seen) [
+        | inl knows ↦ inl (knows_on e.who k i s.0 s.1 had knows)
+        | inr (f, edge, knows) ↦ inr (f, edge, knows_on f k i s.0 s.1 had knows)
+      ])
+
+  held_seen : (i : ℕ) → i < limit → HeldSeen is table.heard (length past) i
+  held_seen i within m k first second test_m test_k kept_m kept_k =
+      let t = at_below past m first in
+      let s = at_below past k second in
+      let (c, atc, had) = (heard_is m k t.0 t.1 test_m (omega (arith, second, room))).0 kept_m in
+      let (d, atd, before) = (heard_is k i s.0 s.1 test_k within).0 kept_k in
+      (heard_is m i t.0 t.1 test_m within).1 (d, atd, seen_at_on caps past i d.who k s.0.who m t.0.who before (subst (λ (c : Event). SeenAt caps past k c.who m t.0.who) (at_same past k c s.0 atc s.1) had))
+
+  -- what g has seen behind the event: it knew, or an edge inside brings it, or a source does
+  abbrev Sees : ℕ → ℕ → Type 0
+  Sees g i =
+      KnowsInside g i ⊎ ((e.who ≡ g) × ((k : ℕ) × (s : Event) × At past k s × IsSource caps past k s.op e.op × HadSeen caps past i k s.who))
+
+  sees_after : (g i : ℕ) → g < length table.rows → i < limit → IsTrue (sees (table_after is table (length past) e.who e.op).rows g i) ↔ Sees g i
+  sees_after g i less within = (there, back)
+    where
+      heard : IsTrue (sees (table_after is table (length past) e.who e.op).rows g i) ↔ SeesTaken is table.heard rows_inside e.who (length past) g i
       heard =
-          let shape = shape_inside (with_seen table.rows e.who (length past)) e.who e.op in
-          let here = in_own g less in
-          sees_taken is table.heard (inside (with_seen table.rows e.who (length past)) e.who e.op) e.who (length past) g i (omega (arith, here, shape.count))
-          (omega (arith, within, shape.wide g here, wide g here))
-
-      from_inside : SeesInside (with_seen table.rows e.who (length past)) e.who e.op g i → Knows g i ⊎ ((f : ℕ) × SynchronizedInside e.who e.op f g × Knows f i)
-      from_inside (inl old) = inl ((sees_own g i less within).0 old)
-      from_inside (inr (f, edge, seen)) = inr (f, edge, (sees_own f i (row_inside f g edge) within).0 seen)
-
-      to_inside : Knows g i ⊎ ((f : ℕ) × SynchronizedInside e.who e.op f g × Knows f i) → SeesInside (with_seen table.rows e.who (length past)) e.who e.op g i
-      to_inside (inl old) = inl ((sees_own g i less within).1 old)
-      to_inside (inr (f, edge, knows)) = inr (f, edge, (sees_own f i (row_inside f g edge) within).1 knows)
+          let wide = wide_inside g less in
+          sees_taken is table.heard rows_inside e.who (length past) g i (omega (arith, room, wide)) (omega (arith, less, count_inside)) (omega (arith, within, wide))
+          (holds_seen i within) (held_seen i within)
 
       there : IsTrue (sees (table_after is table (length past) e.who e.op).rows g i) → Sees g i
       there s = elim (heard.0 s) [
-        | inl old ↦ inl (from_inside (brought.0 old))
+        | inl old ↦ inl ((sees_known g i less within).0 old)
         | inr (who, (k, below, test, seen)) ↦
             let s = at_below past k below in
-            let source = (sources k s.0 s.1).0 test in
-            inr (who, (k, s.0, s.1, source, (is_table.heard k i s.0 s.1 (source_can_be caps past k s.0.op e.op source) within).0 seen))
+            inr (who, (k, s.0, s.1, (sources k s.0 s.1).0 test, (heard_is k i s.0 s.1 test within).0 seen))
       ]
 
       back : Sees g i → IsTrue (sees (table_after is table (length past) e.who e.op).rows g i)
-      back (inl old) = heard.1 (inl (brought.1 (to_inside old)))
+      back (inl old) = heard.1 (inl ((sees_known g i less within).1 old))
       back (inr (who, (k, s, at, source, had))) =
-          heard.1 (inr (who, (k, slice_get_within past k s at, (sources k s at).1 source, (is_table.heard k i s at (source_can_be caps past k s.op e.op source) within).1 had)))
+          let test = (sources k s at).1 source in
+          heard.1 (inr (who, (k, slice_get_within past k s at, test, (heard_is k i s at test within).1 had)))
 
   -- and that is what the memory model says
   sees_is : (g i : ℕ) → Sees g i ↔ HasSeen caps (past ++ e ∷ []) i g

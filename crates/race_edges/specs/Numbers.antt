@@ -1,15 +1,19 @@
--- The numbers by which operations of a kind are matched: the kth send with the kth receive.
+-- The numbers by which operations of a kind are matched: the kth send with the kth receive, an RLock with the last Unlock before it.
 use Rattle.std.specs.Prelude.{ℕ, ◌≡◌, ◌<◌, Bool, false, List, length, take, slice_get, Some, None}
 use Rattle.std.specs.List.{slice_index_or}
 use Rattle.race_records.specs.declared.event.Event.{Event}
 use Rattle.race_records.specs.declared.event.Op.{Op}
-use Rattle.race_records.specs.declared.event.Op.TheVariants.{Send, Recv}
-use Rattle.race_model.specs.Events.{sends, receives, count}
+use Rattle.race_records.specs.declared.event.Op.TheVariants.{Send, Recv, Lock, Unlock, RLock, RUnlock}
+use Rattle.race_model.specs.Events.{sends, receives, locks, unlocks, count}
 
 -- the operations among which o has its number
 abbrev pub counts : Op → Op → Bool
 counts (Send c v) = sends c
 counts (Recv c v) = receives c
+counts (Lock l) = locks l
+counts (RUnlock l) = locks l
+counts (Unlock l) = unlocks l
+counts (RLock l) = unlocks l
 counts _ = λ o. false
 
 -- how many of them stand before the event at index i

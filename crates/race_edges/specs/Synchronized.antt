@@ -2,7 +2,7 @@
 use Rattle.std.specs.Prelude.{ℕ, Bool, true, false, List, take, slice_get, Some, None}
 use Rattle.race_records.specs.declared.event.Event.{Event}
 use Rattle.race_records.specs.declared.event.Op.{Op}
-use Rattle.race_records.specs.declared.event.Op.TheVariants.{Send, Recv, Close}
+use Rattle.race_records.specs.declared.event.Op.TheVariants.{Send, Recv, Close, Unlock, RUnlock, OnceEnd}
 use Rattle.race_model.specs.Synchronized.{is_source}
 
 -- an event of the operation can be a source
@@ -10,6 +10,9 @@ abbrev pub can_be_source : Op → Bool
 can_be_source (Send c v) = true
 can_be_source (Recv c v) = true
 can_be_source (Close c) = true
+can_be_source (Unlock l) = true
+can_be_source (RUnlock l) = true
+can_be_source (OnceEnd o) = true
 can_be_source _ = false
 
 -- the event at index i is synchronized before the completion of the event at index j

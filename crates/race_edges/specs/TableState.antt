@@ -1,5 +1,5 @@
 -- What the judge keeps of the events so far, and how the next event changes it.
-use Rattle.std.specs.Prelude.{ℕ, zero, suc, ◌<◌, if◌then◌else◌, Bool, true, false, List, [], ◌∷◌, ◌++◌, length, slice_set, IfSome, Some, None}
+use Rattle.std.specs.Prelude.{ℕ, zero, suc, ◌<◌, if◌then◌else◌, Bool, true, false, List, [], ◌∷◌, ◌++◌, not, ◌&&◌, length, slice_set, IfSome, Some, None}
 use Rattle.std.specs.List.{slice_index_or}
 use Rattle.race_records.specs.declared.event.Event.{Event}
 use Rattle.race_records.specs.declared.event.Op.{Op}
@@ -47,11 +47,12 @@ inside rows who o =
       | None ↦ rows
     ]
 
--- g has seen what was seen at the begin of each source among the first n events
+-- g has seen what was seen at the begin of each source among the first n events. The latest comes first, and a source that g has
+-- seen by then is passed over, since it brings nothing more
 abbrev pub taken : (ℕ → Bool) → List (List Bool) → List (List Bool) → ℕ → ℕ → List (List Bool)
 taken is_source heard rows g zero = rows
 taken is_source heard rows g (suc n) =
-    if is_source n then with_row (taken is_source heard rows g n) g (row_of heard n) else taken is_source heard rows g n
+    taken is_source heard (if not (sees rows g n) && is_source n then with_row rows g (row_of heard n) else rows) g n
 
 -- what is kept of an event, in which who does o
 abbrev pub kept : List (List Bool) → ℕ → Op → List Bool

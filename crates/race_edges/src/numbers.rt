@@ -1,4 +1,6 @@
-//! The number of each event among those of its kind on its object, counted from 0.
+//! The numbers by which operations are matched: how many of the kind that it counts stand before each
+//! on its object. A send counts sends and a receive receives; a Lock and an RUnlock count Locks, an
+//! Unlock and an RLock count Unlocks.
 ghost use Rattle.std.specs.Prelude.{◌≡◌, ◌<◌, length, IfOk};
 ghost use Rattle.std.specs.List.{slice_index_or};
 ghost use Rattle.race_edges.specs.Numbers as spec;
@@ -7,7 +9,7 @@ use race_records::{Event, Op, Trace};
 use std::alloc::{AllocError, Allocator};
 use std::marker::Model;
 
-/// A number for each event of a trace: how many of its kind stand before it.
+/// A number for each event of a trace: how many of the kind that it counts stand before it.
 #[derive(Debug, Drop)]
 pub(crate) struct Numbers<A: Allocator> {
     numbers: Vec<u32, A>,
@@ -42,7 +44,7 @@ impl<A: Allocator> Numbers<A> {
     }
 }
 
-// How many of its kind stand before the event at the index.
+// How many of the kind that it counts stand before the event at the index.
 fn number_at(events: &[Event], index: usize) -> u32
     requires within { index < length events.now }
     requires few { length events.now < 4_294_967_296 }
@@ -65,6 +67,10 @@ fn counts(op: &Op, earlier: &Op) -> bool
     match (op, earlier) {
         (Op::Send(chan, _), Op::Send(other, _)) => other == chan,
         (Op::Recv(chan, _), Op::Recv(other, _)) => other == chan,
+        (Op::Lock(lock), Op::Lock(other)) => other == lock,
+        (Op::RUnlock(lock), Op::Lock(other)) => other == lock,
+        (Op::Unlock(lock), Op::Unlock(other)) => other == lock,
+        (Op::RLock(lock), Op::Unlock(other)) => other == lock,
         _ => false,
     }
 }

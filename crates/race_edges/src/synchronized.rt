@@ -26,6 +26,13 @@ pub(crate) fn partner(op: &Op) -> Option<u32>
         Op::RecvClosed(_) => None,
         Op::Close(_) => None,
         Op::Default(_) => None,
+        Op::Lock(_) => None,
+        Op::Unlock(_) => None,
+        Op::RLock(_) => None,
+        Op::RUnlock(_) => None,
+        Op::OnceBegin(_) => None,
+        Op::OnceEnd(_) => None,
+        Op::OnceDone(_) => None,
         Op::Fault(_) => None,
     }
 }
@@ -49,6 +56,13 @@ pub(crate) fn joins(who: u32, op: &Op, from: u32, to: u32) -> bool
         Op::RecvClosed(_) => false,
         Op::Close(_) => false,
         Op::Default(_) => false,
+        Op::Lock(_) => false,
+        Op::Unlock(_) => false,
+        Op::RLock(_) => false,
+        Op::RUnlock(_) => false,
+        Op::OnceBegin(_) => false,
+        Op::OnceEnd(_) => false,
+        Op::OnceDone(_) => false,
         Op::Fault(_) => false,
     }
 }
@@ -68,6 +82,13 @@ pub(crate) fn can_be_source(op: &Op) -> bool
         Op::RecvClosed(_) => false,
         Op::Close(_) => true,
         Op::Default(_) => false,
+        Op::Lock(_) => false,
+        Op::Unlock(_) => true,
+        Op::RLock(_) => false,
+        Op::RUnlock(_) => true,
+        Op::OnceBegin(_) => false,
+        Op::OnceEnd(_) => true,
+        Op::OnceDone(_) => false,
         Op::Fault(_) => false,
     }
 }
@@ -106,6 +127,21 @@ pub(crate) fn is_source<A: Allocator, B: Allocator>(
         Op::RecvClosed(chan) => is_close(*chan, &source.op),
         Op::Close(_) => false,
         Op::Default(_) => false,
+        // Each unlock before each later lock, and each unlock from reading before the next lock.
+        Op::Lock(lock) => {
+            is_unlock(*lock, &source.op)
+                || (is_runlock(*lock, &source.op) && numbers.get(from) == numbers.get(to))
+        }
+        Op::Unlock(_) => false,
+        // The last unlock before a lock for reading.
+        Op::RLock(lock) => {
+            is_unlock(*lock, &source.op) && numbers.get(from) as u64 + 1 == numbers.get(to) as u64
+        }
+        Op::RUnlock(_) => false,
+        Op::OnceBegin(_) => false,
+        Op::OnceEnd(_) => false,
+        // The end of a once's function before each return that finds it ended.
+        Op::OnceDone(once) => is_once_end(*once, &source.op),
         Op::Fault(_) => false,
     }
 }
@@ -133,6 +169,33 @@ fn is_close(chan: u32, op: &Op) -> bool
 {
     match op {
         Op::Close(other) => *other == chan,
+        _ => false,
+    }
+}
+
+fn is_unlock(lock: u32, op: &Op) -> bool
+    ensures { result ≡ model.unlocks lock op.now }
+{
+    match op {
+        Op::Unlock(other) => *other == lock,
+        _ => false,
+    }
+}
+
+fn is_runlock(lock: u32, op: &Op) -> bool
+    ensures { result ≡ model.runlocks lock op.now }
+{
+    match op {
+        Op::RUnlock(other) => *other == lock,
+        _ => false,
+    }
+}
+
+fn is_once_end(once: u32, op: &Op) -> bool
+    ensures { result ≡ model.once_ends once op.now }
+{
+    match op {
+        Op::OnceEnd(other) => *other == once,
         _ => false,
     }
 }

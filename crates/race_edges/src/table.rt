@@ -193,8 +193,10 @@ impl<A: Allocator> Table<A> {
         ensures len { length self.new.rows ≡ length self.old.rows }
     {
         let who = trace.event(at).who;
-        for from in 0..at {
-            if is_source(trace, numbers, from, at) {
+        // What it has seen brings nothing more, and of many sources the latest has often seen the
+        // others.
+        for from in (0..at).rev() {
+            if !self.sees(who, from) && is_source(trace, numbers, from, at) {
                 self.take(who, from);
             }
         }

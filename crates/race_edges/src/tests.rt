@@ -134,3 +134,52 @@ fn edges_and_races_are_told(rt: HostRuntime) -> Result<(), Fail> {
     }
     Ok(())
 }
+
+// A write of a goroutine, so many events that are locks of main and unlocks of the goroutine in turn,
+// and a read of main.
+fn handed_on(alloc: Global, turns: usize) -> Result<Trace, Fail> {
+    let mut decls = Decls::new(alloc);
+    decls.add_goroutine("w")?;
+    decls.add_var("x")?;
+    decls.add_lock("m", false)?;
+    decls.add_place("p")?;
+    let mut trace = Trace::new(decls);
+    let first = [(0, Op::Go(1)), (1, Op::Write(0, 1))];
+    let turns = (0..turns).map(|at| if at % 2 == 0 {
+        (0, Op::Lock(0))
+    } else {
+        (1, Op::Unlock(0))
+    });
+    let last = [(0, Op::Read(0, 1))];
+    for (who, op) in first.into_iter().chain(turns).chain(last) {
+        trace.push(Event {
+            who,
+            op,
+            place: 0,
+            place2: None,
+        })?;
+    }
+    Ok(trace)
+}
+
+// How many edges there are, and whether the trace is clean.
+fn counted(alloc: Global, trace: &Trace) -> Result<(usize, bool), EdgeFault> {
+    let count = edges(alloc, trace)?.len();
+    Ok((count, matches!(plain_judge(alloc, trace)?, Verdict::Clean)))
+}
+
+// Each unlock leads to each later lock: half a million edges, of which the judge needs a thousand.
+#[test]
+fn many_sources_are_judged(rt: HostRuntime) -> Result<(), Fail> {
+    for (turns, edges, clean) in [
+        (0, 1, false),
+        (2, 1, false),
+        (4, 2, true),
+        (6, 4, true),
+        (1_996, 497_504, true),
+    ] {
+        let trace = handed_on(rt.alloc(), turns)?;
+        assert_eq!(rt; counted(rt.alloc(), &trace), Ok((edges, clean)), "{turns}");
+    }
+    Ok(())
+}

@@ -6,7 +6,8 @@ use Rattle.race_edges.proofs.table.Table.take_sources.Given as goal
 
 abbrev pub invariant-loop-from : goal.invariant-loop-from
 invariant-loop-from g l = record {
-  rows : l.self.rows ≡ taken (λ k. source_at (capacities l.trace) l.trace.events k l.at) l.initial.self.heard l.initial.self.rows l.who l.from;
+  rows : taken (λ k. source_at (capacities l.trace) l.trace.events k l.at) l.initial.self.heard l.self.rows l.who l.from
+      ≡ taken (λ k. source_at (capacities l.trace) l.trace.events k l.at) l.initial.self.heard l.initial.self.rows l.who l.at;
   heard : l.self.heard ≡ l.initial.self.heard;
   len : length l.self.rows ≡ length l.initial.self.rows;
 }

@@ -1,5 +1,5 @@
 -- What the word of a select's cases says, piece by piece.
-use Rattle.std.proofs.Common.{◌≡◌, ℕ, suc, ◌+◌, ◌<◌, ◌≤◌, ◌==◌, ◌&&◌, Bool, true, false, true≢false, not, if◌then◌else◌, nat_lt, nat_le, List, [], ◌∷◌, ◌++◌, length, map, take, drop, codes, unwrap_or, Option, Some, None, refl, sym, ap, subst, ◌∙◌, arith, append-nil, append_assoc}
+use Rattle.std.proofs.Common.{◌≡◌, ℕ, suc, ◌+◌, ◌<◌, ◌≤◌, ◌==◌, ◌&&◌, Bool, true, false, true≢false, not, if◌then◌else◌, nat_lt, nat_le, List, [], ◌∷◌, ◌++◌, length, map, take, drop, codes, Option, Some, None, refl, sym, ap, subst, ◌∙◌, arith, append-nil, append_assoc}
 use Rattle.std.proofs.lemmas.Bool.Decides.{nat_tests}
 use Rattle.std.proofs.lemmas.List.{length-append, take-append-drop}
 use Rattle.std.proofs.lemmas.List.Folds.{list_all-append}
@@ -15,17 +15,17 @@ use Rattle.race_records.specs.declared.cases.Dir.{Dir}
 use Rattle.race_records.specs.declared.cases.TheConstants.{MAX_CASES}
 use Rattle.race_records.specs.declared.kind.Kind.{Kind}
 use Rattle.race_records.specs.declared.kind.Named.{Named}
+use Rattle.race_records.specs.declared.parts.PartKind.{PartKind}
 use Rattle.race_records.specs.Name.{is_name, is_name_byte, is_place_byte}
-use Rattle.race_records.specs.Declarations.{Declaration, DeclsState, IsWellFormed, find_name, count_of}
+use Rattle.race_records.specs.Declarations.{Declaration, DeclsState, IsWellFormed, count_of, number_of}
 use Rattle.race_records.specs.Parts.{chan_is_in_range, case_is_in_range}
 use Rattle.race_text.specs.declared.cause.TextCause.{TextCause}
 use Rattle.race_text.specs.Select.{no_cases, nil, pieces_of, behind, SpelledCase, case_by, case_spelled}
 use Rattle.race_text.specs.Text.{chan_name, chan_text, dir_text, case_text, cases_text}
-use Rattle.race_text.specs.Fault.{lesser, use_cause, used_name_cause, case_cause, pieces_cause, cases_cause}
-use Rattle.race_text.specs.Reading.{chan_of, chan_in, case_with, spelled_case_in, case_in, cases_on, cases_in}
+use Rattle.race_text.specs.Fault.{lesser, used_name_cause, case_cause, pieces_cause, cases_cause}
+use Rattle.race_text.specs.Reading.{named_in, chan_of, chan_in, case_with, spelled_case_in, case_in, cases_on, cases_in}
 use Rattle.race_text.proofs.CauseLemmas.{and_then_some, map_some, lesser_none}
-use Rattle.race_text.proofs.FoundLemmas.{found_is_name, found_is_declared, name_of_found}
-use Rattle.race_text.proofs.NamesAgain.{name_again}
+use Rattle.race_text.proofs.UsedNames.{used_is_there, IsUsed, is_used, used_again}
 use Rattle.race_text.proofs.WordLemmas.{both, all_weaken, name_bytes}
 use Rattle.race_text.proofs.WordsAgain.{IsWithout, split_again}
 
@@ -82,9 +82,12 @@ joined_all p byte holds (w ∷ []) each = each.0
 joined_all p byte holds (w ∷ v ∷ ws) each =
     list_all-append p w (byte ∷ join_with_byte byte (v ∷ ws)) ∙ (λ i. each.0 i && (holds i && joined_all p byte holds (v ∷ ws) each.1 i))
 
+abbrev a_chan : PartKind
+a_chan = PartKind.Object Kind.Chan
+
 -- the cause of the word of a channel or nil
 abbrev chan_cause : List Declaration → List ℕ → Option TextCause
-chan_cause ds w = if bytes_eq w nil then None else used_name_cause Kind.Chan ds w
+chan_cause ds w = if bytes_eq w nil then None else used_name_cause ds a_chan w
 
 module _ (decls : DeclsState) (holds : IsWellFormed decls) where
   abbrev ds : List Declaration
@@ -94,16 +97,13 @@ module _ (decls : DeclsState) (holds : IsWellFormed decls) where
   in_range case = case_is_in_range (count_of Kind.Chan ds) case
 
   -- what is printed of a channel says the channel
-  pub named_again : (c : ℕ) → c < count_of Kind.Chan ds → (find_name ds (chan_name ds c) ≡ Some (Named.Chan c)) × (is_name (chan_name ds c) ≡ true)
-  named_again c less = let found = name_again decls holds (Named.Chan c) less in (found, found_is_name decls (chan_name ds c) (Named.Chan c) holds found)
-
   chan_again : (chan : Option ℕ) → chan_is_in_range (count_of Kind.Chan ds) chan ≡ true
       → (chan_in ds (chan_text ds chan) ≡ Some chan) × (list_all is_case_byte (chan_text ds chan) ≡ true)
   chan_again None fit = (refl, refl)
   chan_again (Some c) fit =
       let name = chan_name ds c in
-      let found = named_again c (grind (arith, nat_tests, fit)) in (
-        (λ i. if not_nil name found.1 i then Some None else (if found.1 i then option_and_then chan_of (found.0 i) else None)),
+      let found = used_again decls holds a_chan (Named.Chan c) refl (grind (arith, nat_tests, fit)) in (
+        (λ i. if not_nil name found.1 i then Some None else option_map chan_of (found.0 i)),
         all_weaken is_name_byte is_case_byte name_byte_is_fine name (name_bytes name found.1),
       )
 
@@ -126,7 +126,8 @@ module _ (decls : DeclsState) (holds : IsWellFormed decls) where
 
   pub cases_visible : (cases : List Case) → list_all in_range cases ≡ true → list_all is_place_byte (cases_text ds cases) ≡ true
   cases_visible [] fit = refl
-  cases_visible (case ∷ cases) fit = joined_all is_place_byte 44 refl (map (case_text ds) (case ∷ cases)) (each (map (case_text ds) (case ∷ cases)) (cases_bytes (case ∷ cases) fit))
+  cases_visible (case ∷ cases) fit = joined_all is_place_byte 44 refl (map (case_text ds) (case ∷ cases))
+      (each (map (case_text ds) (case ∷ cases)) (cases_bytes (case ∷ cases) fit))
     where
       each : (ws : List (List ℕ)) → AllByRecursion (λ w. list_all is_case_byte w ≡ true) ws → AllByRecursion (λ w. list_all is_place_byte w ≡ true) ws
       each [] h = tt
@@ -172,28 +173,33 @@ module _ (decls : DeclsState) (holds : IsWellFormed decls) where
     no_cause : chan_cause ds w ≡ None
 
   is_chan : (w : List ℕ) (chan : Option ℕ) → chan_in ds w ≡ Some chan → IsChan w chan
-  is_chan w chan h = by (bytes_eq w nil) refl (is_name w) refl (find_name ds w) refl h
+  is_chan w chan h = by (bytes_eq w nil) refl h
     where
-      by : (a : Bool) → bytes_eq w nil ≡ a → (b : Bool) → is_name w ≡ b → (o : Option Named) → find_name ds w ≡ o
-          → (if a then Some None else (if b then option_and_then chan_of o else None)) ≡ Some chan → IsChan w chan
-      by true e b f o g h = subst (IsChan w) (same_Some None chan h) (record {
+      used_chan : bytes_eq w nil ≡ false → (named : Named) → IsUsed decls holds a_chan w named → IsChan w (chan_of named)
+      used_chan e (Named.Chan c) used = record {
+        text = used.text;
+        fits = let less = used.declared in grind (arith, nat_tests, less);
+        no_cause = (λ i. if e i then None else used_name_cause ds a_chan w) ∙ used.no_cause;
+      }
+      used_chan e _ used = absurd (true≢false (sym used.wanted))
+
+      by : (a : Bool) → bytes_eq w nil ≡ a → (if a then Some None else option_map chan_of (named_in ds a_chan w)) ≡ Some chan → IsChan w chan
+      by true e h = subst (IsChan w) (same_Some None chan h) (record {
         text = (bytes_eq-Decides w nil).0 e;
         fits = refl;
-        no_cause = ap (λ t. if t then None else used_name_cause Kind.Chan ds w) e;
+        no_cause = ap (λ t. if t then None else used_name_cause ds a_chan w) e;
       })
-      by false e true f (Some (Named.Chan c)) g h =
-          let less = found_is_declared ds w (Named.Chan c) g in
-          subst (IsChan w) (same_Some (Some c) chan h) (record {
-            text = ap (λ o. unwrap_or o []) (sym (name_of_found ds w (Named.Chan c) g));
-            fits = grind (arith, nat_tests, less);
-            no_cause = λ i. if e i then None else (if not (f i) then Some TextCause.BadName else use_cause Kind.Chan (g i));
-          })
-      by false e true f (Some (Named.Goroutine n)) g h = absurd (none-some chan h)
-      by false e true f (Some (Named.Var n)) g h = absurd (none-some chan h)
-      by false e true f (Some (Named.Lock n)) g h = absurd (none-some chan h)
-      by false e true f (Some (Named.Once n)) g h = absurd (none-some chan h)
-      by false e true f None g h = absurd (none-some chan h)
-      by false e false f o g h = absurd (none-some chan h)
+      by false e h =
+          let read = map_some chan_of (named_in ds a_chan w) chan h in
+          subst (IsChan w) read.2 (used_chan e read.0 (is_used decls holds a_chan w read.0 read.1))
+
+  -- and the number of a channel is one that a case can have
+  pub chan_is_low : (w : List ℕ) (named : Named) → named_in ds a_chan w ≡ Some named → number_of named < 65535
+  chan_is_low w named h = by named (is_used decls holds a_chan w named h)
+    where
+      by : (named : Named) → IsUsed decls holds a_chan w named → number_of named < 65535
+      by (Named.Chan c) used = let less = used.declared in let limited = holds.limited Kind.Chan in omega (arith, less, limited)
+      by _ used = absurd (true≢false (sym used.wanted))
 
   -- of the piece of a case
   record IsCase (w : List ℕ) (case : Case) : Type 0 where
@@ -224,7 +230,14 @@ module _ (decls : DeclsState) (holds : IsWellFormed decls) where
   are_cases : (got : List Case) (ws : List (List ℕ)) (all : List Case) → cases_on ds got ws ≡ Some all → AreCases got ws all
   are_cases got [] all h =
       let same = same_Some got all h in
-      record { cases = []; all_are = sym same ∙ sym (append-nil got); texts = refl; fits = refl; no_cause = refl; few = λ low. subst (λ (l : List Case). length l ≤ MAX_CASES) same low }
+      record {
+        cases = [];
+        all_are = sym same ∙ sym (append-nil got);
+        texts = refl;
+        fits = refl;
+        no_cause = refl;
+        few = λ low. subst (λ (l : List Case). length l ≤ MAX_CASES) same low;
+      }
   are_cases got (w ∷ ws) all h =
       let a = and_then_some (λ (c : Case). if nat_le MAX_CASES (length got) then None else cases_on ds (got ++ c ∷ []) ws) (case_in ds w) all h in
       by (nat_le MAX_CASES (length got)) refl a.0 (is_case w a.0 a.1) a.2 (λ rest. are_cases (got ++ a.0 ∷ []) ws all rest)
@@ -285,18 +298,12 @@ module _ (decls : DeclsState) (holds : IsWellFormed decls) where
 module _ (ds : List Declaration) where
   -- where nothing is wrong with a word, it says a channel or nil
   chan_is_there : (w : List ℕ) → chan_cause ds w ≡ None → (chan : Option ℕ) × (chan_in ds w ≡ Some chan)
-  chan_is_there w h = by (bytes_eq w nil) (is_name w) (find_name ds w) h
+  chan_is_there w h = by (bytes_eq w nil) h
     where
-      by : (a b : Bool) (o : Option Named) → (if a then None else (if not b then Some TextCause.BadName else use_cause Kind.Chan o)) ≡ None
-          → (chan : Option ℕ) × ((if a then Some None else (if b then option_and_then chan_of o else None)) ≡ Some chan)
-      by true b o h = (None, refl)
-      by false false o h = absurd (none-some TextCause.BadName (sym h))
-      by false true None h = absurd (none-some TextCause.Unknown (sym h))
-      by false true (Some (Named.Chan c)) h = (Some c, refl)
-      by false true (Some (Named.Goroutine n)) h = absurd (none-some TextCause.WrongKind (sym h))
-      by false true (Some (Named.Var n)) h = absurd (none-some TextCause.WrongKind (sym h))
-      by false true (Some (Named.Lock n)) h = absurd (none-some TextCause.WrongKind (sym h))
-      by false true (Some (Named.Once n)) h = absurd (none-some TextCause.WrongKind (sym h))
+      by : (a : Bool) → (if a then None else used_name_cause ds a_chan w) ≡ None
+          → (chan : Option ℕ) × ((if a then Some None else option_map chan_of (named_in ds a_chan w)) ≡ Some chan)
+      by true h = (None, refl)
+      by false h = let there = used_is_there ds a_chan w h in (chan_of there.0, ap (option_map chan_of) there.1)
 
   case_is_there : (w : List ℕ) → case_cause ds (case_spelled w) ≡ None → (case : Case) × (case_in ds w ≡ Some case)
   case_is_there w h = by (case_spelled w) h

@@ -154,14 +154,21 @@ is_named ds kind (Some limit) (name ∷ w ∷ []) h =
       wanted = number.low;
       not_taken = causes.0;
       room = parts.1;
-      read = λ noun rest e. ap (object_read noun (Some limit)) (one_word_left rest w (e ∙ (λ i. sym number.text i ∷ []))) ∙ ap (option_and_then (λ n. object_by noun (Some n))) number.is;
+      read = λ noun rest e. ap (object_read noun (Some limit)) (one_word_left rest w (e ∙ (λ i. sym number.text i ∷ [])))
+          ∙ ap (option_and_then (λ n. object_by noun (Some n))) number.is;
     }
 is_named ds kind (Some limit) (name ∷ w ∷ v ∷ ws) h = absurd (too_many (length (name ∷ w ∷ v ∷ ws)) 2 _ (omega arith) h)
+
+-- the fault of a declaration, by the tests of its name, the room and its capacity
+abbrev pub fault_by : Bool → Bool → Bool → Bool → Option DeclFault
+fault_by named taken full wide =
+    if not named then Some DeclFault.BadName else (if taken then Some DeclFault.Taken
+    else (if full then Some DeclFault.TooMany else (if wide then Some DeclFault.BadCapacity else None)))
 
 -- where neither the name nor the room is in its way, nothing refuses the declaration
 no_fault : (a b c e : Bool) → (if not a then Some TextCause.BadName else (if b then Some TextCause.Taken else None)) ≡ None
     → (if c then Some TextCause.TooMany else None) ≡ None → e ≡ false
-    → (a ≡ true) × ◌≡◌ {A = Option DeclFault} (if not a then Some DeclFault.BadName else (if b then Some DeclFault.Taken else (if c then Some DeclFault.TooMany else (if e then Some DeclFault.BadCapacity else None)))) None
+    → (a ≡ true) × (fault_by a b c e ≡ None)
 no_fault false b c e h k narrow = absurd (none-some TextCause.BadName (sym h))
 no_fault true true c e h k narrow = absurd (none-some TextCause.Taken (sym h))
 no_fault true false true e h k narrow = absurd (none-some TextCause.TooMany (sym k))
@@ -178,7 +185,8 @@ is_there ds noun args h =
     let is = is_named ds (kind_of_noun noun) (number_limit noun) args h in
     let made = object_is_there noun is.number is.wanted in
     let room = subst (λ (kind : Kind). room_cause (seen_so_far ds 0) (Some kind) ≡ None) (kind_made noun is.number made.0 made.1) is.room in
-    let fine = no_fault (is_name is.name) (is_some (find_name ds is.name)) (nat_le (limit_of (kind_of made.0)) (count_of (kind_of made.0) ds)) (is_too_wide made.0) is.not_taken room made.2 in
+    let fine = no_fault (is_name is.name) (is_some (find_name ds is.name))
+    (nat_le (limit_of (kind_of made.0)) (count_of (kind_of made.0) ds)) (is_too_wide made.0) is.not_taken room made.2 in
     record {
       name = is.name;
       others = number_words is.number;
@@ -219,8 +227,10 @@ in_hand ds noun args first behind split none =
       fine = ap (decl_fault ds there.object) (sym name) ∙ there.fine;
     }
 
-pub made_in_hand : (ds : List Declaration) (noun : Noun) (args : List (List ℕ)) (first : List ℕ) (behind : Option (Bor (List ℕ))) (hand : InHand ds noun args first behind) (object : Object)
-    → object_read noun (number_limit noun) (option_map (λ w. w.now) behind) ≡ Some object → (declared_as (Some (Word.Declares noun)) args ≡ Some (declaration first object)) × (decl_fault ds object first ≡ None)
+pub made_in_hand : (ds : List Declaration) (noun : Noun) (args : List (List ℕ)) (first : List ℕ)
+    (behind : Option (Bor (List ℕ))) (hand : InHand ds noun args first behind) (object : Object)
+    → object_read noun (number_limit noun) (option_map (λ w. w.now) behind) ≡ Some object
+    → (declared_as (Some (Word.Declares noun)) args ≡ Some (declaration first object)) × (decl_fault ds object first ≡ None)
 made_in_hand ds noun args first behind hand object read =
     let same = same_Some hand.object object (sym hand.read ∙ read) in
     (hand.declared ∙ (λ i. Some (declaration first (same i))), (λ i. decl_fault ds (sym same i) first) ∙ hand.fine)
@@ -258,7 +268,7 @@ fine_words ds kind None (Some n) name wanted small free room = absurd wanted
 fine_words ds kind (Some l) None name wanted small free room = absurd wanted
 
 allowed_parts : (a b c e : Bool)
-    → ◌≡◌ {A = Option DeclFault} (if not a then Some DeclFault.BadName else (if b then Some DeclFault.Taken else (if c then Some DeclFault.TooMany else (if e then Some DeclFault.BadCapacity else None)))) None
+    → fault_by a b c e ≡ None
     → ((if not a then Some TextCause.BadName else (if b then Some TextCause.Taken else None)) ≡ None) × ((if c then Some TextCause.TooMany else None) ≡ None) × (e ≡ false)
 allowed_parts false b c e h = absurd (none-some DeclFault.BadName (sym h))
 allowed_parts true true c e h = absurd (none-some DeclFault.Taken (sym h))
@@ -279,7 +289,8 @@ pub said_again : (name : List ℕ) (object : Object) → is_too_wide object ≡ 
     → declared_as (Some (Word.Declares (object_says object).0)) (name ∷ number_words (object_says object).1) ≡ Some (declaration name object)
 said_again name object narrow =
     let noun = (object_says object).0 in
-    ap (λ o. option_map (declaration name) (object_by noun o)) (number_again (number_limit noun) (object_says object).1 (says_wanted object narrow) (small_limit noun)) ∙ ap (option_map (declaration name)) (object_says_again object)
+    ap (λ o. option_map (declaration name) (object_by noun o)) (number_again (number_limit noun) (object_says object).1 (says_wanted object narrow) (small_limit noun))
+    ∙ ap (option_map (declaration name)) (object_says_again object)
 
 -- a cause that is there is told
 pub told_refused : (T : Type 0) {E : Type 0} (o : Option E) (e : E) → o ≡ Some e → Refuses {T = T} o (Err e)

@@ -10,7 +10,7 @@ use Rattle.race_records.specs.declared.kind.Kind.{Kind}
 use Rattle.race_records.specs.declared.parts.Verb.{Verb}
 use Rattle.race_records.specs.declared.parts.Part.{Part}
 use Rattle.race_records.specs.Declarations.{Declaration, DeclsState, IsWellFormed, count_of}
-use Rattle.race_records.specs.Events.{op_fits, op_is_limited}
+use Rattle.race_records.specs.Events.{op_fits, lock_fits, op_is_limited}
 use Rattle.race_records.specs.Parts.{says, has_two_places, part_kinds, part_fits, part_is_limited}
 use Rattle.race_text.specs.declared.form.Word.{Word}
 use Rattle.race_text.specs.Words.{words_of, has_bad_byte}
@@ -21,8 +21,9 @@ use Rattle.race_text.specs.Reading.{Occurrence, event_by, event_in}
 use Rattle.race_text.specs.Writing.{verb_text, said_words}
 use Rattle.race_text.proofs.CleanLemmas.{joined_clean, visible_clean}
 use Rattle.race_text.proofs.EventWords.{is_said, said_fine}
-use Rattle.race_text.proofs.PartWords.{texts_are, parts_fit, parts_are_limited, words_clean}
+use Rattle.race_text.proofs.PartWords.{texts_are, parts_fit, parts_are_limited, parts_are_wanted, words_clean}
 use Rattle.race_text.proofs.PlaceWords.{ArePlaces, places_clean}
+use Rattle.race_text.proofs.WantedParts.{are_wanted, wanted_by_op}
 use Rattle.race_text.proofs.WordTable.{word_spelled, word_is_seen}
 
 -- the words of an event are those that its operation says
@@ -41,6 +42,7 @@ pub record IsEventLine (ds : List Declaration) (line : List ℕ) (o : Occurrence
   pub places : ArePlaces (has_two_places (says o.op).0) (o.place, o.place2)
   pub who : o.who < count_of Kind.Goroutine ds
   pub op : op_fits ds o.op ≡ true
+  pub lock : lock_fits ds o.op ≡ true
   pub value : op_is_limited o.op ≡ true
   pub clean : has_bad_byte line ≡ false
 
@@ -60,8 +62,11 @@ module _ (decls : DeclsState) (holds : IsWellFormed decls) (line first : List �
       let places = place_words o.place o.place2 in
       let all_clean = places_clean (has_two_places verb) (o.place, o.place2) is.places_are in
       let who = is.who_is.fits in
-      let clean : AllByRecursion (λ w. has_bad_byte w ≡ false) (first ∷ args) =
-      (visible_clean first (word_is_seen first (Word.Does verb) named), subst (λ ws. AllByRecursion (λ w. has_bad_byte w ≡ false) ws) (sym is.words_are) (is.who_is.clean, words_clean decls holds [] places all_clean (part_kinds verb) is.ws is.parts is.are)) in
+      let clean : AllByRecursion (λ w. has_bad_byte w ≡ false) (first ∷ args) = (
+        visible_clean first (word_is_seen first (Word.Does verb) named),
+        subst (λ ws. AllByRecursion (λ w. has_bad_byte w ≡ false) ws) (sym is.words_are)
+            (is.who_is.clean, words_clean decls holds [] places all_clean (part_kinds verb) is.ws is.parts is.are),
+      ) in
       record {
         line_is =
             joined ∙ (λ i. line_of (word_spelled first (Word.Does verb) named i ∷ is.words_are i))
@@ -74,6 +79,9 @@ module _ (decls : DeclsState) (holds : IsWellFormed decls) (line first : List �
         places = subst (λ (s : Verb × List Part). ArePlaces (has_two_places s.0) (o.place, o.place2)) (sym is.says_is) is.places_are;
         who = grind (arith, nat_tests, who);
         op = ap (λ (s : Verb × List Part). list_all (part_fits ds) s.1) is.says_is ∙ parts_fit decls holds (part_kinds verb) is.ws is.parts is.are;
+        lock =
+            sym (wanted_by_op ds o.op) ∙ ap (λ (s : Verb × List Part). are_wanted ds (part_kinds s.0) s.1) is.says_is
+            ∙ parts_are_wanted decls holds (part_kinds verb) is.ws is.parts is.are;
         value = ap (λ (s : Verb × List Part). list_all part_is_limited s.1) is.says_is ∙ parts_are_limited decls holds (part_kinds verb) is.ws is.parts is.are;
         clean = ap has_bad_byte joined ∙ joined_clean (first ∷ args) clean;
       }

@@ -34,24 +34,28 @@ goroutine_is_there _ h = absurd (true≢false (sym h))
 abbrev pub a_goroutine : PartKind
 a_goroutine = PartKind.Object Kind.Goroutine
 
--- an event by its parts, then its operation, then its places
+-- an event by its operation, then its places
+behind_op : Verb → ℕ → List (List ℕ) → Op → Option Occurrence
+behind_op verb who rest op = option_map (occurrence who op) (last_places (has_two_places verb) rest)
+
+-- by its parts, then these
+behind_parts : Verb → ℕ → ReadParts → Option Occurrence
+behind_parts verb who parts = option_and_then (behind_op verb who parts.1) (op_by verb parts.0)
+
 event_by_parts : (ds : List Declaration) (verb : Verb) (who : ℕ) (words : List (List ℕ))
-    → event_of ds verb who words
-    ≡ option_and_then (λ (parts : ReadParts). option_and_then (λ (op : Op). option_map (occurrence who op) (last_places (has_two_places verb) parts.1)) (op_by verb parts.0))
-    (parts_on ds [] (part_kinds verb) words)
+    → event_of ds verb who words ≡ option_and_then (behind_parts verb who) (parts_on ds [] (part_kinds verb) words)
+unfolding behind_parts behind_op
 event_by_parts ds verb who words = by (parts_on ds [] (part_kinds verb) words)
   where
-    behind_op : List (List ℕ) → Op → Option Occurrence
-    behind_op rest op = option_map (occurrence who op) (last_places (has_two_places verb) rest)
-
     inner : (rest : List (List ℕ)) (made : Option Op)
-        → option_and_then (λ (read : ReadOp). behind_op read.1 read.0) (option_map (op_before rest) made) ≡ option_and_then (behind_op rest) made
+        → option_and_then (λ (read : ReadOp). behind_op verb who read.1 read.0) (option_map (op_before rest) made) ≡ option_and_then (behind_op verb who rest) made
     inner rest None = refl
     inner rest (Some op) = refl
 
     by : (read : Option ReadParts)
-        → option_and_then (λ (read : ReadOp). behind_op read.1 read.0) (option_and_then (λ (parts : ReadParts). option_map (op_before parts.1) (op_by verb parts.0)) read)
-        ≡ option_and_then (λ (parts : ReadParts). option_and_then (behind_op parts.1) (op_by verb parts.0)) read
+        → option_and_then (λ (read : ReadOp). behind_op verb who read.1 read.0)
+        (option_and_then (λ (parts : ReadParts). option_map (op_before parts.1) (op_by verb parts.0)) read)
+        ≡ option_and_then (behind_parts verb who) read
     by None = refl
     by (Some parts) = inner parts.1 (op_by verb parts.0)
 
@@ -71,12 +75,12 @@ module _ (decls : DeclsState) (holds : IsWellFormed decls) (verb : Verb) (words 
   ds = decls.declarations
 
   pub is_said : event_behind ds verb words ≡ Some o → IsSaid
+  unfolding behind_parts behind_op
   is_said h =
       let a = and_then_some (λ (first : ReadPart). option_and_then (λ who. event_of ds verb who first.1) (goroutine_of first.0)) (first_part ds a_goroutine words) o h in
       let b = and_then_some (λ who. event_of ds verb who a.0.1) (goroutine_of a.0.0) o a.2 in
-      let c = and_then_some (λ (parts : ReadParts). option_and_then (λ (op : Op). option_map (occurrence b.0 op) (last_places (has_two_places verb) parts.1)) (op_by verb parts.0)) (parts_on ds [] (part_kinds verb) a.0.1) o
-      (sym (event_by_parts ds verb b.0 a.0.1) ∙ b.2) in
-      let d = and_then_some (λ (op : Op). option_map (occurrence b.0 op) (last_places (has_two_places verb) c.0.1)) (op_by verb c.0.0) o c.2 in
+      let c = and_then_some (behind_parts verb b.0) (parts_on ds [] (part_kinds verb) a.0.1) o (sym (event_by_parts ds verb b.0 a.0.1) ∙ b.2) in
+      let d = and_then_some (behind_op verb b.0 c.0.1) (op_by verb c.0.0) o c.2 in
       let e = map_some (occurrence b.0 d.0) (last_places (has_two_places verb) c.0.1) o d.2 in
       let first = first_part_is ds a_goroutine words a.0 a.1 in
       let who : a.0.0 ≡ Part.Object (Named.Goroutine o.who) = goroutine_is a.0.0 b.0 b.1 ∙ ap (λ (x : Occurrence). Part.Object (Named.Goroutine x.who)) e.2 in
@@ -104,19 +108,22 @@ module _ (decls : DeclsState) (holds : IsWellFormed decls) (verb : Verb) (words 
       let count = (Decides-eqb (length (is.who ∷ args)) (length (fields_of (Word.Does verb)))).1
       (ap suc (words_count decls holds (place_fields two) places (places_count two (o.place, o.place2) is.places_are) (part_kinds verb) is.ws is.parts is.are)) in
       let none : cause_on ds (part_cause ds a_goroutine is.who) fields args ≡ None =
-      ap (λ c. cause_on ds c fields args) is.who_is.no_cause ∙ words_fine decls holds (place_fields two) places (places_fine ds two (o.place, o.place2) is.places_are) (part_kinds verb) is.ws is.parts is.are in
+      ap (λ c. cause_on ds c fields args) is.who_is.no_cause
+      ∙ words_fine decls holds (place_fields two) places (places_fine ds two (o.place, o.place2) is.places_are) (part_kinds verb) is.ws is.parts is.are in
       (λ i. word_cause (seen_so_far ds events) (Some (Word.Does verb)) (is.words_are i))
       ∙ (λ i. if not (count i) then Some TextCause.WrongCount else or_else (none i) (room_cause (seen_so_far ds events) None))
 
 -- a goroutine, parts and places say the event
 pub said_by : (ds : List Declaration) (verb : Verb) (g : List ℕ) (ws : List (List ℕ)) (who : ℕ) (parts : List Part) (op : Op) (places : Places)
-    → part_in ds a_goroutine g ≡ Some (Part.Object (Named.Goroutine who)) → parts_on ds [] (part_kinds verb) ws ≡ Some (parts, place_words places.0 places.1) → op_by verb parts ≡ Some op
+    → part_in ds a_goroutine g ≡ Some (Part.Object (Named.Goroutine who))
+    → parts_on ds [] (part_kinds verb) ws ≡ Some (parts, place_words places.0 places.1) → op_by verb parts ≡ Some op
     → ArePlaces (has_two_places verb) places → event_behind ds verb (g ∷ ws) ≡ Some (occurrence who op places)
+unfolding behind_parts behind_op
 said_by ds verb g ws who parts op places first read is are =
     ap (λ o. option_and_then (λ (first : ReadPart). option_and_then (λ who. event_of ds verb who first.1) (goroutine_of first.0)) (option_map (with_rest ws) o)) first
     ∙ event_by_parts ds verb who ws
-    ∙ ap (option_and_then (λ (parts : ReadParts). option_and_then (λ (op : Op). option_map (occurrence who op) (last_places (has_two_places verb) parts.1)) (op_by verb parts.0))) read
-    ∙ ap (option_and_then (λ (op : Op). option_map (occurrence who op) (last_places (has_two_places verb) (place_words places.0 places.1)))) is
+    ∙ ap (option_and_then (behind_parts verb who)) read
+    ∙ ap (option_and_then (behind_op verb who (place_words places.0 places.1))) is
     ∙ ap (option_map (occurrence who op)) (places_read (has_two_places verb) places are)
 
 -- a later cause is looked at where no earlier one holds

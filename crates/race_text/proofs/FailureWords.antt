@@ -1,102 +1,115 @@
 -- What the word says that tells why a run failed.
-use Rattle.std.proofs.Common.{◌≡◌, ℕ, Bool, true, false, not, if◌then◌else◌, List, [], ◌++◌, codes, unwrap_or, Option, Some, None, refl, sym, ap, subst, ◌∙◌, arith}
+use Rattle.std.proofs.Common.{◌≡◌, ℕ, Bool, true, false, true≢false, if◌then◌else◌, List, [], ◌∷◌, ◌++◌, map, codes, unwrap_or, Option, Some, None, refl, sym, ap, subst, ◌∙◌, arith}
 use Rattle.std.proofs.lemmas.Bool.Decides.{nat_tests}
 use Rattle.std.proofs.lemmas.Option.{none-some, same_Some}
 use Rattle.std.proofs.lemmas.Slice.Eq.{bytes_eq-Decides}
 use Rattle.std.specs.List.{list_all}
-use Rattle.std.specs.Option.{option_and_then}
+use Rattle.std.specs.Option.{option_and_then, option_map, option_map_or}
 use Rattle.std.specs.Str.{bytes_eq}
 use Rattle.race_records.specs.declared.event.Cause.{Cause}
-use Rattle.race_records.specs.declared.event.Cause.TheVariants.{SendClosed, CloseClosed, CloseNil}
-use Rattle.race_records.specs.declared.kind.Kind.{Kind}
+use Rattle.race_records.specs.declared.event.Cause.TheVariants.{SendClosed, CloseClosed, CloseNil, UnlockFree, RUnlockFree}
+use Rattle.race_records.specs.declared.event.Op.TheVariants.{Fault}
 use Rattle.race_records.specs.declared.kind.Named.{Named}
 use Rattle.race_records.specs.declared.parts.Part.{Part}
 use Rattle.race_records.specs.Name.{is_name, is_place_byte}
-use Rattle.race_records.specs.Declarations.{Declaration, DeclsState, IsWellFormed, find_name}
-use Rattle.race_records.specs.Parts.{part_fits}
+use Rattle.race_records.specs.Declarations.{Declaration, DeclsState, IsWellFormed, IsDeclared, counts_of, name_of}
+use Rattle.race_records.specs.Events.{lock_fits}
+use Rattle.race_records.specs.Parts.{failed_at, named_is_in_range, part_fits}
 use Rattle.race_text.specs.declared.cause.TextCause.{TextCause}
 use Rattle.race_text.specs.declared.select.Attempt.{Attempt}
-use Rattle.race_text.specs.Select.{close_nil, behind, SpelledFailure, failure_by, failure_spelled, kind_tried, cause_by}
-use Rattle.race_text.specs.Text.{chan_name, failure_text}
-use Rattle.race_text.specs.Fault.{use_cause, used_name_cause, spelled_failure_cause, failure_cause}
-use Rattle.race_text.specs.Reading.{spelled_failure_in, failure_in}
-use Rattle.race_text.proofs.CaseWords.{behind_is, not_nil, named_again}
-use Rattle.race_text.proofs.CauseLemmas.{and_then_some}
-use Rattle.race_text.proofs.FoundLemmas.{found_is_declared, name_of_found}
-use Rattle.race_text.proofs.WordLemmas.{name_is_visible}
+use Rattle.race_text.specs.declared.select.TheConstants.{ATTEMPTS}
+use Rattle.race_text.specs.Form.{is_wanted}
+use Rattle.race_text.specs.Select.{close_nil, behind, SpelledFailure, failure_by, failure_among, failure_spelled, kind_tried, cause_by}
+use Rattle.race_text.specs.Text.{failure_text}
+use Rattle.race_text.specs.Fault.{spelled_failure_cause, failure_cause}
+use Rattle.race_text.specs.Reading.{named_in, spelled_failure_in, failure_in}
+use Rattle.race_text.proofs.CaseWords.{behind_is, not_nil}
+use Rattle.race_text.proofs.CauseLemmas.{and_then_some, map_some}
+use Rattle.race_text.proofs.UsedNames.{used_is_there, is_used, used_again}
+use Rattle.race_text.proofs.WordLemmas.{both, name_is_visible}
 
 -- the front of the word
 abbrev attempt_text : Attempt → List ℕ
 attempt_text Attempt.Send = codes "send:"
 attempt_text Attempt.Close = codes "close:"
+attempt_text Attempt.Unlock = codes "unlock:"
+attempt_text Attempt.RUnlock = codes "runlock:"
+
+-- a word that is spelled so begins with it
+spelled_in : (entries : List (List ℕ × Attempt)) (w : List ℕ) (failure : SpelledFailure) → failure_among entries w ≡ Some failure
+    → list_all (λ (e : List ℕ × Attempt). bytes_eq e.0 (attempt_text e.1)) entries ≡ true → w ≡ attempt_text failure.0 ++ failure.1
+spelled_in [] w failure h all = absurd (none-some failure h)
+spelled_in (e ∷ es) w failure h all = by (behind e.0 w) refl h (λ rest. spelled_in es w failure rest (both (bytes_eq e.0 (attempt_text e.1)) _ all).1)
+  where
+    by : (o : Option (List ℕ)) → behind e.0 w ≡ o → failure_by e.1 o (failure_among es w) ≡ Some failure
+        → (failure_among es w ≡ Some failure → w ≡ attempt_text failure.0 ++ failure.1) → w ≡ attempt_text failure.0 ++ failure.1
+    by (Some name) is h others =
+        behind_is e.0 w name is ∙ ap (λ front. front ++ name) ((bytes_eq-Decides e.0 (attempt_text e.1)).0 (both (bytes_eq e.0 (attempt_text e.1)) _ all).0)
+        ∙ ap (λ (s : SpelledFailure). attempt_text s.0 ++ s.1) (same_Some (e.1, name) failure h)
+    by None is h others = others h
 
 spelled_is : (w : List ℕ) (failure : SpelledFailure) → failure_spelled w ≡ Some failure → w ≡ attempt_text failure.0 ++ failure.1
-spelled_is w failure h = by (behind (codes "send:") w) refl (behind (codes "close:") w) refl h
-  where
-    by : (a : Option (List ℕ)) → behind (codes "send:") w ≡ a → (b : Option (List ℕ)) → behind (codes "close:") w ≡ b → failure_by a b ≡ Some failure
-        → w ≡ attempt_text failure.0 ++ failure.1
-    by (Some n) e b f h = behind_is (codes "send:") w n e ∙ ap (λ (s : SpelledFailure). attempt_text s.0 ++ s.1) (same_Some (Attempt.Send, n) failure h)
-    by None e (Some n) f h = behind_is (codes "close:") w n f ∙ ap (λ (s : SpelledFailure). attempt_text s.0 ++ s.1) (same_Some (Attempt.Close, n) failure h)
-    by None e None f h = absurd (none-some failure h)
+spelled_is w failure h = spelled_in (map (λ entry. (entry.0.now, entry.1)) ATTEMPTS) w failure h refl
+
+-- and back
+spelled_again : (attempt : Attempt) (name : List ℕ) → failure_spelled (attempt_text attempt ++ name) ≡ Some (attempt, name)
+spelled_again Attempt.Send name = refl
+spelled_again _ name = refl
+
+not_close_nil : (attempt : Attempt) (name : List ℕ) → is_name name ≡ true → bytes_eq (attempt_text attempt ++ name) close_nil ≡ false
+not_close_nil Attempt.Close name form = not_nil name form
+not_close_nil _ name form = refl
+
+attempt_visible : (attempt : Attempt) (name : List ℕ) → is_name name ≡ true → list_all is_place_byte (attempt_text attempt ++ name) ≡ true
+attempt_visible Attempt.Send name form = name_is_visible name form
+attempt_visible _ name form = name_is_visible name form
 
 module _ (decls : DeclsState) (holds : IsWellFormed decls) where
   abbrev ds : List Declaration
   ds = decls.declarations
 
-  -- what is printed of a failure says it, and can be seen
-  pub failure_again : (cause : Cause) → part_fits ds (Part.Cause cause) ≡ true → failure_in ds (failure_text ds cause) ≡ Some cause
-  failure_again (SendClosed c) fit =
-      let found = named_again decls holds c (grind (arith, nat_tests, fit)) in
-      λ i. if found.1 i then option_and_then (cause_by Attempt.Send) (found.0 i) else None
-  failure_again (CloseClosed c) fit =
-      let found = named_again decls holds c (grind (arith, nat_tests, fit)) in
-      λ i. if not_nil (chan_name ds c) found.1 i then Some CloseNil else (if found.1 i then option_and_then (cause_by Attempt.Close) (found.0 i) else None)
-  failure_again CloseNil fit = refl
+  -- what is printed of a failure of an attempt says it, and can be seen
+  abbrev IsAgain : Cause → Type 0
+  IsAgain cause = (failure_in ds (failure_text ds cause) ≡ Some cause) × (list_all is_place_byte (failure_text ds cause) ≡ true)
 
-  pub failure_visible : (cause : Cause) → part_fits ds (Part.Cause cause) ≡ true → list_all is_place_byte (failure_text ds cause) ≡ true
-  failure_visible (SendClosed c) fit = let found = named_again decls holds c (grind (arith, nat_tests, fit)) in name_is_visible (chan_name ds c) found.1
-  failure_visible (CloseClosed c) fit = let found = named_again decls holds c (grind (arith, nat_tests, fit)) in name_is_visible (chan_name ds c) found.1
-  failure_visible CloseNil fit = refl
+  tried_again : (attempt : Attempt) (named : Named) → is_wanted ds (kind_tried attempt) named ≡ true → IsDeclared ds named
+      → (failure_in ds (attempt_text attempt ++ unwrap_or (name_of ds named) []) ≡ Some (cause_by attempt named))
+      × (list_all is_place_byte (attempt_text attempt ++ unwrap_or (name_of ds named) []) ≡ true)
+  tried_again attempt named is less =
+      let name = unwrap_or (name_of ds named) [] in
+      let again = used_again decls holds (kind_tried attempt) named is less in (
+        (λ i. if not_close_nil attempt name again.1 i then Some CloseNil else option_and_then (spelled_failure_in ds) (spelled_again attempt name i))
+            ∙ ap (option_map (cause_by attempt)) again.0,
+        attempt_visible attempt name again.1,
+      )
+
+  -- so does what is printed of any failure
+  pub failure_again : (cause : Cause) → part_fits ds (Part.Cause cause) ≡ true → lock_fits ds (Fault cause) ≡ true → IsAgain cause
+  failure_again (SendClosed c) fit lock = tried_again Attempt.Send (Named.Chan c) refl (grind (arith, nat_tests, fit))
+  failure_again (CloseClosed c) fit lock = tried_again Attempt.Close (Named.Chan c) refl (grind (arith, nat_tests, fit))
+  failure_again CloseNil fit lock = (refl, refl)
+  failure_again (UnlockFree l) fit lock = tried_again Attempt.Unlock (Named.Lock l) refl (grind (arith, nat_tests, fit))
+  failure_again (RUnlockFree l) fit lock = tried_again Attempt.RUnlock (Named.Lock l) lock (grind (arith, nat_tests, fit))
 
   -- what holds of a word that says a failure
   pub record IsFailure (w : List ℕ) (cause : Cause) : Type 0 where
     pub text : w ≡ failure_text ds cause
     pub fits : part_fits ds (Part.Cause cause) ≡ true
+    pub lock : lock_fits ds (Fault cause) ≡ true
     pub no_cause : failure_cause ds w ≡ None
 
-  -- a failure of an attempt
-  record IsTried (failure : SpelledFailure) (cause : Cause) : Type 0 where
-    text : attempt_text failure.0 ++ failure.1 ≡ failure_text ds cause
-    fits : part_fits ds (Part.Cause cause) ≡ true
-    no_cause : used_name_cause (kind_tried failure.0) ds failure.1 ≡ None
+  -- of the cause of an attempt at what is wanted
+  record IsTried (attempt : Attempt) (named : Named) : Type 0 where
+    text : attempt_text attempt ++ unwrap_or (name_of ds named) [] ≡ failure_text ds (cause_by attempt named)
+    at : failed_at (cause_by attempt named) ≡ Some named
+    lock : lock_fits ds (Fault (cause_by attempt named)) ≡ true
 
-  is_tried : (failure : SpelledFailure) (cause : Cause) → spelled_failure_in ds failure ≡ Some cause → IsTried failure cause
-  is_tried (attempt, w) cause h = by attempt (is_name w) refl (find_name ds w) refl h
-    where
-      name_is : (c : ℕ) → find_name ds w ≡ Some (Named.Chan c) → w ≡ chan_name ds c
-      name_is c g = ap (λ o. unwrap_or o []) (sym (name_of_found ds w (Named.Chan c) g))
-
-      fine : (c : ℕ) → is_name w ≡ true → find_name ds w ≡ Some (Named.Chan c) → used_name_cause Kind.Chan ds w ≡ None
-      fine c f g = λ i. if not (f i) then Some TextCause.BadName else use_cause Kind.Chan (g i)
-
-      by : (attempt : Attempt) (b : Bool) → is_name w ≡ b → (o : Option Named) → find_name ds w ≡ o
-          → (if b then option_and_then (cause_by attempt) o else None) ≡ Some cause → IsTried (attempt, w) cause
-      by Attempt.Send true f (Some (Named.Chan c)) g h =
-          let less = found_is_declared ds w (Named.Chan c) g in
-          subst (IsTried (Attempt.Send, w)) (same_Some (SendClosed c) cause h) (record { text = ap (λ n. codes "send:" ++ n) (name_is c g); fits = grind (arith, nat_tests, less); no_cause = fine c f g })
-      by Attempt.Close true f (Some (Named.Chan c)) g h =
-          let less = found_is_declared ds w (Named.Chan c) g in
-          subst (IsTried (Attempt.Close, w)) (same_Some (CloseClosed c) cause h) (record { text = ap (λ n. codes "close:" ++ n) (name_is c g); fits = grind (arith, nat_tests, less); no_cause = fine c f g })
-      by Attempt.Send true f (Some (Named.Goroutine n)) g h = absurd (none-some cause h)
-      by Attempt.Send true f (Some (Named.Var n)) g h = absurd (none-some cause h)
-      by Attempt.Send true f (Some (Named.Lock n)) g h = absurd (none-some cause h)
-      by Attempt.Send true f (Some (Named.Once n)) g h = absurd (none-some cause h)
-      by Attempt.Close true f (Some (Named.Goroutine n)) g h = absurd (none-some cause h)
-      by Attempt.Close true f (Some (Named.Var n)) g h = absurd (none-some cause h)
-      by Attempt.Close true f (Some (Named.Lock n)) g h = absurd (none-some cause h)
-      by Attempt.Close true f (Some (Named.Once n)) g h = absurd (none-some cause h)
-      by attempt true f None g h = absurd (none-some cause h)
-      by attempt false f o g h = absurd (none-some cause h)
+  is_tried : (attempt : Attempt) (named : Named) → is_wanted ds (kind_tried attempt) named ≡ true → IsTried attempt named
+  is_tried Attempt.Send (Named.Chan c) wanted = record { text = refl; at = refl; lock = refl }
+  is_tried Attempt.Close (Named.Chan c) wanted = record { text = refl; at = refl; lock = refl }
+  is_tried Attempt.Unlock (Named.Lock l) wanted = record { text = refl; at = refl; lock = refl }
+  is_tried Attempt.RUnlock (Named.Lock l) wanted = record { text = refl; at = refl; lock = wanted }
+  is_tried _ _ wanted = absurd (true≢false (sym wanted))
 
   pub is_failure : (w : List ℕ) (cause : Cause) → failure_in ds w ≡ Some cause → IsFailure w cause
   is_failure w cause h = by (bytes_eq w close_nil) refl h
@@ -106,38 +119,32 @@ module _ (decls : DeclsState) (holds : IsWellFormed decls) where
       by true e h = subst (IsFailure w) (same_Some CloseNil cause h) (record {
         text = (bytes_eq-Decides w close_nil).0 e;
         fits = refl;
+        lock = refl;
         no_cause = ap (λ t. if t then None else spelled_failure_cause ds (failure_spelled w)) e;
       })
       by false e h =
           let a = and_then_some (spelled_failure_in ds) (failure_spelled w) cause h in
-          let tried = is_tried a.0 cause a.2 in
-          record {
-            text = spelled_is w a.0 a.1 ∙ tried.text;
-            fits = tried.fits;
-            no_cause = (λ i. if e i then None else spelled_failure_cause ds (a.1 i)) ∙ tried.no_cause;
-          }
+          let attempt = a.0.0 in
+          let read = map_some (cause_by attempt) (named_in ds (kind_tried attempt) a.0.1) cause a.2 in
+          let used = is_used decls holds (kind_tried attempt) a.0.1 read.0 read.1 in
+          let tried = is_tried attempt read.0 used.wanted in
+          let less = used.declared in
+          let in_range : named_is_in_range (counts_of ds) read.0 ≡ true = grind (arith, nat_tests, less) in
+          subst (IsFailure w) read.2 (record {
+            text = spelled_is w a.0 a.1 ∙ ap (λ name. attempt_text attempt ++ name) used.text ∙ tried.text;
+            fits = ap (λ o. option_map_or (named_is_in_range (counts_of ds)) o true) tried.at ∙ in_range;
+            lock = tried.lock;
+            no_cause = (λ i. if e i then None else spelled_failure_cause ds (a.1 i)) ∙ used.no_cause;
+          })
 
 -- where nothing is wrong with a word, it says a failure
 pub failure_is_there : (ds : List Declaration) (w : List ℕ) → failure_cause ds w ≡ None → (cause : Cause) × (failure_in ds w ≡ Some cause)
 failure_is_there ds w h = by (bytes_eq w close_nil) (failure_spelled w) h
   where
-    tried : (attempt : Attempt) (b : Bool) (o : Option Named) → (if not b then Some TextCause.BadName else use_cause (kind_tried attempt) o) ≡ None
-        → (cause : Cause) × ((if b then option_and_then (cause_by attempt) o else None) ≡ Some cause)
-    tried attempt false o h = absurd (none-some TextCause.BadName (sym h))
-    tried attempt true None h = absurd (none-some TextCause.Unknown (sym h))
-    tried Attempt.Send true (Some (Named.Chan c)) h = (SendClosed c, refl)
-    tried Attempt.Close true (Some (Named.Chan c)) h = (CloseClosed c, refl)
-    tried Attempt.Send true (Some (Named.Goroutine n)) h = absurd (none-some TextCause.WrongKind (sym h))
-    tried Attempt.Send true (Some (Named.Var n)) h = absurd (none-some TextCause.WrongKind (sym h))
-    tried Attempt.Send true (Some (Named.Lock n)) h = absurd (none-some TextCause.WrongKind (sym h))
-    tried Attempt.Send true (Some (Named.Once n)) h = absurd (none-some TextCause.WrongKind (sym h))
-    tried Attempt.Close true (Some (Named.Goroutine n)) h = absurd (none-some TextCause.WrongKind (sym h))
-    tried Attempt.Close true (Some (Named.Var n)) h = absurd (none-some TextCause.WrongKind (sym h))
-    tried Attempt.Close true (Some (Named.Lock n)) h = absurd (none-some TextCause.WrongKind (sym h))
-    tried Attempt.Close true (Some (Named.Once n)) h = absurd (none-some TextCause.WrongKind (sym h))
-
     by : (a : Bool) (o : Option SpelledFailure) → (if a then None else spelled_failure_cause ds o) ≡ None
         → (cause : Cause) × ((if a then Some CloseNil else option_and_then (spelled_failure_in ds) o) ≡ Some cause)
     by true o h = (CloseNil, refl)
     by false None h = absurd (none-some TextCause.BadName (sym h))
-    by false (Some (attempt, name)) h = tried attempt (is_name name) (find_name ds name) h
+    by false (Some (attempt, name)) h =
+        let there = used_is_there ds (kind_tried attempt) name h in
+        (cause_by attempt there.0, ap (option_map (cause_by attempt)) there.1)

@@ -1,5 +1,7 @@
 pub mod CutLemmas
 pub mod WordTable
+pub mod UsedNames
+pub mod WantedParts
 pub mod CaseWords
 pub mod FailureWords
 pub mod CasePieces

@@ -81,7 +81,8 @@ some_line t = grind (arith, nat_tests)
 pub end_behind : (t : TraceState) (last : List ℕ) (b : Bool) → (length last == 0) ≡ b
     → end_cause (lines t) last ≡ (if b then None else Some TextCause.NoNewline)
 unfolding lines cause
-end_behind t last true e = (λ i. if e i && nat_lt 0 (length (lines t)) then None else Some TextCause.NoNewline) ∙ ap (λ b. if b then None else Some TextCause.NoNewline) (some_line t)
+end_behind t last true e = (λ i. if e i && nat_lt 0 (length (lines t)) then None else Some TextCause.NoNewline)
+    ∙ ap (λ b. if b then None else Some TextCause.NoNewline) (some_line t)
 end_behind t last false e = λ i. if e i && nat_lt 0 (length (lines t)) then None else Some TextCause.NoNewline
 
 end_first : (last : List ℕ) → end_cause [] last ≡ cause [] last false

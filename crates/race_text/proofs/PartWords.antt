@@ -1,5 +1,5 @@
 -- What the words of an operation's parts say, word by word.
-use Rattle.std.proofs.Common.{◌≡◌, ℕ, suc, ◌<◌, ◌-◌, ◌^◌, ◌&&◌, Bool, true, false, not, if◌then◌else◌, nat_lt, nat_le, List, [], ◌∷◌, ◌++◌, length, map, Option, Some, None, is_none, unwrap_or, refl, sym, ap, subst, ◌∙◌, arith, append-nil, append_assoc}
+use Rattle.std.proofs.Common.{◌≡◌, ℕ, suc, ◌<◌, ◌-◌, ◌^◌, ◌&&◌, Bool, true, false, if◌then◌else◌, nat_lt, nat_le, List, [], ◌∷◌, ◌++◌, length, map, Option, Some, None, is_none, refl, sym, ap, subst, ◌∙◌, arith, append-nil, append_assoc}
 use Rattle.std.proofs.lemmas.Bool.Decides.{nat_tests}
 use Rattle.std.proofs.lemmas.Option.{none-some, same_Some}
 use Rattle.std.proofs.lemmas.Slice.Eq.{bytes_eq-Decides}
@@ -8,25 +8,25 @@ use Rattle.std.specs.List.{list_all, AllByRecursion}
 use Rattle.std.specs.Option.{option_and_then, option_map}
 use Rattle.std.specs.Str.{bytes_eq}
 use Rattle.std.specs.Str.Parse.{digits_value}
-use Rattle.race_records.specs.declared.kind.Kind.{Kind}
 use Rattle.race_records.specs.declared.kind.Named.{Named}
 use Rattle.race_records.specs.declared.parts.Part.{Part}
 use Rattle.race_records.specs.declared.parts.PartKind.{PartKind}
-use Rattle.race_records.specs.Name.{is_name}
-use Rattle.race_records.specs.Declarations.{Declaration, DeclsState, IsWellFormed, find_name, is_named}
+use Rattle.race_records.specs.Declarations.{Declaration, DeclsState, IsWellFormed}
 use Rattle.race_records.specs.Parts.{suits, suit, part_fits, part_is_limited}
 use Rattle.race_text.specs.declared.cause.TextCause.{TextCause}
 use Rattle.race_text.specs.declared.form.Field.{Field}
 use Rattle.race_text.specs.Words.{has_bad_byte, number}
-use Rattle.race_text.specs.Fault.{lesser, use_cause, part_cause, field_cause}
+use Rattle.race_text.specs.Form.{is_wanted}
+use Rattle.race_text.specs.Fault.{lesser, used_name_cause, part_cause, field_cause}
 use Rattle.race_text.specs.Text.{cases_text, failure_text}
-use Rattle.race_text.specs.Reading.{ReadPart, ReadParts, object_as, cases_in, failure_in, part_in, with_rest, first_part, parts_on}
+use Rattle.race_text.specs.Reading.{ReadPart, ReadParts, named_in, cases_in, failure_in, part_in, with_rest, first_part, parts_on}
 use Rattle.race_text.specs.Writing.{part_text}
 use Rattle.race_text.proofs.CaseWords.{is_cases, cases_visible, cases_are_there}
-use Rattle.race_text.proofs.FailureWords.{is_failure, failure_visible, failure_is_there}
+use Rattle.race_text.proofs.FailureWords.{is_failure, failure_again, failure_is_there}
 use Rattle.race_text.proofs.CauseLemmas.{and_then_some, map_some, lesser_none, cause_on}
 use Rattle.race_text.proofs.CleanLemmas.{name_clean, visible_clean, number_is_visible}
-use Rattle.race_text.proofs.FoundLemmas.{found_is_name, found_is_declared, name_of_found}
+use Rattle.race_text.proofs.UsedNames.{named_is, used_is_there, rwmutex_is_lock, is_used}
+use Rattle.race_text.proofs.WantedParts.{part_is_wanted, are_wanted}
 
 -- a number that was read is spelled as it is printed, and is in its limit
 pub number_spelled : (limit : ℕ) (w : List ℕ) (n : ℕ) → number limit w ≡ Some n → w ≡ decimal n
@@ -50,13 +50,11 @@ number_within limit w n small h = by (bytes_eq w (decimal (digits_value 10 w))) 
 -- what was read is what was wanted
 pub read_suits : (ds : List Declaration) (kind : PartKind) (w : List ℕ) (part : Part) → part_in ds kind w ≡ Some part → suits kind part ≡ true
 read_suits ds (PartKind.Object kind) w part h =
-    let found = and_then_some (object_as kind) (find_name ds w) part h in
-    by found.0 (is_named kind found.0) refl found.2
-  where
-    by : (named : Named) (b : Bool) → is_named kind named ≡ b → (if b then Some (Part.Object named) else None) ≡ Some part
-        → suits (PartKind.Object kind) part ≡ true
-    by named true of h = ap (suits (PartKind.Object kind)) (sym (same_Some (Part.Object named) part h)) ∙ of
-    by named false of h = absurd (none-some part h)
+    let read = map_some Part.Object (named_in ds (PartKind.Object kind) w) part h in
+    ap (suits (PartKind.Object kind)) (sym read.2) ∙ (named_is ds (PartKind.Object kind) w read.0 read.1).1
+read_suits ds PartKind.RwMutex w part h =
+    let read = map_some Part.Object (named_in ds PartKind.RwMutex w) part h in
+    ap (suits PartKind.RwMutex) (sym read.2) ∙ rwmutex_is_lock ds read.0 (named_is ds PartKind.RwMutex w read.0 read.1).1
 read_suits ds PartKind.Value w part h = ap (suits PartKind.Value) (sym (map_some Part.Value (number (2 ^ 64 - 1) w) part h).2)
 read_suits ds PartKind.Cases w part h = ap (suits PartKind.Cases) (sym (map_some Part.Cases (cases_in ds w) part h).2)
 read_suits ds PartKind.Cause w part h = ap (suits PartKind.Cause) (sym (map_some Part.Cause (failure_in ds w) part h).2)
@@ -78,34 +76,36 @@ module _ (decls : DeclsState) (holds : IsWellFormed decls) where
     pub text : w ≡ part_text ds part
     pub fits : part_fits ds part ≡ true
     pub is_limited : part_is_limited part ≡ true
+    pub wanted : part_is_wanted ds kind part ≡ true
     pub clean : has_bad_byte w ≡ false
     pub no_cause : part_cause ds kind w ≡ None
 
-  is_object : (kind : Kind) (w : List ℕ) (named : Named) → find_name ds w ≡ Some named → is_named kind named ≡ true
-      → IsPart (PartKind.Object kind) w (Part.Object named)
-  is_object kind w named found of = record {
-    text = ap (λ o. unwrap_or o []) (sym (name_of_found ds w named found));
-    fits = let less = found_is_declared ds w named found in grind (arith, nat_tests, less);
-    is_limited = refl;
-    clean = name_clean w (found_is_name decls w named holds found);
-    no_cause = (λ i. if not (found_is_name decls w named holds found i) then Some TextCause.BadName else use_cause kind (found i))
-        ∙ ap (λ b. if b then None else Some TextCause.WrongKind) of;
-  }
+  -- of a word that names an object
+  is_object : (kind : PartKind) (w : List ℕ) (part : Part) → part_cause ds kind w ≡ used_name_cause ds kind w
+      → ((named : Named) → part_is_wanted ds kind (Part.Object named) ≡ is_wanted ds kind named)
+      → option_map Part.Object (named_in ds kind w) ≡ Some part → IsPart kind w part
+  is_object kind w part causes wants h =
+      let read = map_some Part.Object (named_in ds kind w) part h in
+      let used = is_used decls holds kind w read.0 read.1 in
+      let less = used.declared in
+      subst (IsPart kind w) read.2 (record {
+        text = used.text;
+        fits = grind (arith, nat_tests, less);
+        is_limited = refl;
+        wanted = wants read.0 ∙ used.wanted;
+        clean = name_clean w used.form;
+        no_cause = causes ∙ used.no_cause;
+      })
 
   pub is_part : (kind : PartKind) (w : List ℕ) (part : Part) → part_in ds kind w ≡ Some part → IsPart kind w part
-  is_part (PartKind.Object kind) w part h =
-      let found = and_then_some (object_as kind) (find_name ds w) part h in
-      by found.0 found.1 (is_named kind found.0) refl found.2
-    where
-      by : (named : Named) → find_name ds w ≡ Some named → (b : Bool) → is_named kind named ≡ b → (if b then Some (Part.Object named) else None) ≡ Some part
-          → IsPart (PartKind.Object kind) w part
-      by named found true of h = subst (IsPart (PartKind.Object kind) w) (same_Some (Part.Object named) part h) (is_object kind w named found of)
-      by named found false of h = absurd (none-some part h)
+  is_part (PartKind.Object kind) w part h = is_object (PartKind.Object kind) w part refl (λ named. refl) h
+  is_part PartKind.RwMutex w part h = is_object PartKind.RwMutex w part refl (λ named. refl) h
   is_part PartKind.Value w part h =
       let read = map_some Part.Value (number (2 ^ 64 - 1) w) part h in
       subst (IsPart PartKind.Value w) read.2 (record {
         text = number_spelled (2 ^ 64 - 1) w read.0 read.1;
         fits = refl;
+        wanted = refl;
         is_limited = number_within (2 ^ 64 - 1) w read.0 (omega arith) read.1;
         clean = visible_clean w (number_is_visible (2 ^ 64 - 1) w read.0 (omega arith) read.1);
         no_cause = ap (λ o. if is_none o then Some TextCause.BadNumber else None) read.1;
@@ -117,6 +117,7 @@ module _ (decls : DeclsState) (holds : IsWellFormed decls) where
         text = is.text;
         fits = is.fits;
         is_limited = is.few;
+        wanted = refl;
         clean = ap has_bad_byte is.text ∙ visible_clean (cases_text ds read.0) (cases_visible decls holds read.0 is.fits);
         no_cause = is.no_cause;
       })
@@ -127,7 +128,8 @@ module _ (decls : DeclsState) (holds : IsWellFormed decls) where
         text = is.text;
         fits = is.fits;
         is_limited = refl;
-        clean = ap has_bad_byte is.text ∙ visible_clean (failure_text ds read.0) (failure_visible decls holds read.0 is.fits);
+        wanted = is.lock;
+        clean = ap has_bad_byte is.text ∙ visible_clean (failure_text ds read.0) (failure_again decls holds read.0 is.fits is.lock).1;
         no_cause = is.no_cause;
       })
 
@@ -164,7 +166,7 @@ module _ (decls : DeclsState) (holds : IsWellFormed decls) where
         are = (is_part kind w first.0.0 part_is, others.are);
       }
 
-  -- of the parts: their texts are the words, they are declared, and in their limits
+  -- of the parts: their texts are the words, they are declared, in their limits, and what is wanted
   pub texts_are : (kinds : List PartKind) (ws : List (List ℕ)) (parts : List Part) → AreParts kinds ws parts → ws ≡ map (part_text ds) parts
   texts_are [] [] [] are = refl
   texts_are (kind ∷ kinds) (w ∷ ws) (part ∷ parts) are = λ i. are.0.text i ∷ texts_are kinds ws parts are.1 i
@@ -179,6 +181,11 @@ module _ (decls : DeclsState) (holds : IsWellFormed decls) where
   parts_are_limited [] [] [] are = refl
   parts_are_limited (kind ∷ kinds) (w ∷ ws) (part ∷ parts) are = λ i. are.0.is_limited i && parts_are_limited kinds ws parts are.1 i
   parts_are_limited _ _ _ are = absurd are
+
+  pub parts_are_wanted : (kinds : List PartKind) (ws : List (List ℕ)) (parts : List Part) → AreParts kinds ws parts → are_wanted ds kinds parts ≡ true
+  parts_are_wanted [] [] [] are = refl
+  parts_are_wanted (kind ∷ kinds) (w ∷ ws) (part ∷ parts) are = λ i. are.0.wanted i && parts_are_wanted kinds ws parts are.1 i
+  parts_are_wanted _ _ _ are = absurd are
 
   -- and of the words, with others behind them: none has a bad byte or a cause, and there are as many as fields, where it is so of the others
   module _ (fields : List Field) (rest : List (List ℕ)) where
@@ -206,18 +213,9 @@ module _ (decls : DeclsState) (holds : IsWellFormed decls) where
 module _ (ds : List Declaration) where
   -- where nothing is wrong with a word, it says a part
   pub part_is_there : (kind : PartKind) (w : List ℕ) → part_cause ds kind w ≡ None → (part : Part) × (part_in ds kind w ≡ Some part)
-  part_is_there (PartKind.Object kind) w h = by (is_name w) (find_name ds w) h
-    where
-      with_kind : (named : Named) (b : Bool) → (if b then None else Some TextCause.WrongKind) ≡ None
-          → (part : Part) × ((if b then Some (Part.Object named) else None) ≡ Some part)
-      with_kind named true h = (Part.Object named, refl)
-      with_kind named false h = absurd (none-some TextCause.WrongKind (sym h))
-
-      by : (b : Bool) (o : Option Named) → (if not b then Some TextCause.BadName else use_cause kind o) ≡ None
-          → (part : Part) × (option_and_then (object_as kind) o ≡ Some part)
-      by false o h = absurd (none-some TextCause.BadName (sym h))
-      by true None h = absurd (none-some TextCause.Unknown (sym h))
-      by true (Some named) h = with_kind named (is_named kind named) h
+  part_is_there (PartKind.Object kind) w h =
+      let there = used_is_there ds (PartKind.Object kind) w h in (Part.Object there.0, ap (option_map Part.Object) there.1)
+  part_is_there PartKind.RwMutex w h = let there = used_is_there ds PartKind.RwMutex w h in (Part.Object there.0, ap (option_map Part.Object) there.1)
   part_is_there PartKind.Value w h = by (number (2 ^ 64 - 1) w) h
     where
       by : (o : Option ℕ) → (if is_none o then Some TextCause.BadNumber else None) ≡ None → (part : Part) × (option_map Part.Value o ≡ Some part)

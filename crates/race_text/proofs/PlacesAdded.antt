@@ -12,7 +12,7 @@ use Rattle.race_records.specs.declared.declarations.TheConstants.{MAX_PLACES}
 use Rattle.race_records.specs.declared.kind.Kind.{Kind}
 use Rattle.race_records.specs.Name.{is_place}
 use Rattle.race_records.specs.Declarations.{DeclsState, is_known, place_number, with_place, place_fault, IsWellFormed, count_of}
-use Rattle.race_records.specs.Events.{TraceState, IsTrace, fits, op_fits, second_place_fits}
+use Rattle.race_records.specs.Events.{TraceState, IsTrace, fits, is_in_range, lock_fits, op_fits, second_place_fits}
 use Rattle.race_records.specs.Parts.{says, has_two_places}
 use Rattle.race_records.proofs.EventLemmas.{with_place_is_trace}
 use Rattle.race_records.proofs.ListLemmas.{slice_get-push_within, slice_get-push_last}
@@ -21,6 +21,7 @@ use Rattle.race_records.proofs.TextLemmas.{position_or_len-absent}
 use Rattle.race_text.specs.Text.{place_text, second_text, place_words}
 use Rattle.race_text.specs.Reading.{Occurrence}
 use Rattle.race_text.specs.Taking.{with_second, with_places, event_of}
+use Rattle.race_text.proofs.WordLemmas.{both}
 
 -- the number of a place leads to it
 known_at : (places : List (List ℕ)) (word : List ℕ) → list_any (bytes_eq word) places ≡ true
@@ -56,7 +57,8 @@ pub place_grows : (decls : DeclsState) (word : List ℕ)
 place_grows decls word = by (is_known decls.places word)
   where
     by : (b : Bool)
-        → (length decls.places ≤ length (if b then decls.places else decls.places ++ word ∷ [])) × (length (if b then decls.places else decls.places ++ word ∷ []) ≤ length decls.places + 1)
+        → (length decls.places ≤ length (if b then decls.places else decls.places ++ word ∷ []))
+        × (length (if b then decls.places else decls.places ++ word ∷ []) ≤ length decls.places + 1)
     by true = (omega arith, omega arith)
     by false = (omega (arith, length-append decls.places (word ∷ [])), omega (arith, length-append decls.places (word ∷ [])))
 
@@ -90,7 +92,9 @@ second_grows decls (Some word) = (place_grows decls word).1
 second_fits : (decls : DeclsState) (place2 : Option (List ℕ))
     → second_place_fits (length (with_second decls place2).places) (is_some place2) (option_map (place_number decls.places) place2) ≡ true
 second_fits decls None = refl
-second_fits decls (Some word) = let within = slice_get_within (with_place decls word).places (place_number decls.places word) word (place_is_there decls word) in grind (arith, nat_tests, within)
+second_fits decls (Some word) =
+    let within = slice_get_within (with_place decls word).places (place_number decls.places word) word (place_is_there decls word) in
+    grind (arith, nat_tests, within)
 
 second_well_formed : (decls : DeclsState) (place2 : Option (List ℕ)) → IfSome place2 (λ place. is_place place ≡ true) → length decls.places < MAX_PLACES
     → IsWellFormed decls → IsWellFormed (with_second decls place2)
@@ -119,33 +123,40 @@ first_within decls o = slice_get_within (with_place decls o.place).places (place
 
 -- the words of the places of the event that is appended
 pub words_are_there : (decls : DeclsState) (o : Occurrence)
-    → place_words (place_text (with_places decls o).places (event_of decls o).place) (second_text (with_places decls o).places (event_of decls o).place2) ≡ place_words o.place o.place2
+    → place_words (place_text (with_places decls o).places (event_of decls o).place) (second_text (with_places decls o).places (event_of decls o).place2)
+    ≡ place_words o.place o.place2
 words_are_there decls o =
     let mid = with_place decls o.place in
     let first = second_stays mid o.place2 (place_number decls.places o.place) (first_within decls o) ∙ place_is_there decls o.place in
     λ i. place_words (unwrap_or (first i) []) (second_is_there mid o.place2 i)
 
--- and of those before
-pub fit_place : (decls : DeclsState) (e : Event) → fits decls e ≡ true → e.place < length decls.places
-unfolding fits
-fit_place decls e h = grind (arith, nat_tests)
+-- what fits of an event
+pub record IsFit (decls : DeclsState) (e : Event) : Type 0 where
+  pub who : e.who < count_of Kind.Goroutine decls.declarations
+  pub op : op_fits decls.declarations e.op ≡ true
+  pub place : e.place < length decls.places
+  pub second : second_place_fits (length decls.places) (has_two_places (says e.op).0) e.place2 ≡ true
+  pub lock : lock_fits decls.declarations e.op ≡ true
 
-pub fit_second : (decls : DeclsState) (e : Event) → fits decls e ≡ true → second_place_fits (length decls.places) (has_two_places (says e.op).0) e.place2 ≡ true
+pub is_fit : (decls : DeclsState) (e : Event) → fits decls e ≡ true → IsFit decls e
 unfolding fits
-fit_second decls e h =
-    by (nat_lt e.who (count_of Kind.Goroutine decls.declarations)) (op_fits decls.declarations e.op) (nat_lt e.place (length decls.places))
-    (second_place_fits (length decls.places) (has_two_places (says e.op).0) e.place2) h
-  where
-    by : (a b c d : Bool) → (a && b && c && d) ≡ true → d ≡ true
-    by true true true d h = h
-    by true true false d h = absurd (true≢false (sym h))
-    by true false c d h = absurd (true≢false (sym h))
-    by false b c d h = absurd (true≢false (sym h))
+is_fit decls e h =
+    let who = nat_lt e.who (count_of Kind.Goroutine decls.declarations) in
+    let op = op_fits decls.declarations e.op in
+    let place = nat_lt e.place (length decls.places) in
+    let second = second_place_fits (length decls.places) (has_two_places (says e.op).0) e.place2 in
+    let a = both (is_in_range decls e) (lock_fits decls.declarations e.op) h in
+    let b = both (who && op && place) second a.0 in
+    let c = both (who && op) place b.0 in
+    let d = both who op c.0 in
+    record { who = grind (arith, nat_tests, d.0); op = d.1; place = grind (arith, nat_tests, c.1); second = b.1; lock = a.1 }
 
+-- the words of the places of those before
 pub words_stay : (decls : DeclsState) (o : Occurrence) (e : Event) → fits decls e ≡ true
-    → place_words (place_text (with_places decls o).places e.place) (second_text (with_places decls o).places e.place2) ≡ place_words (place_text decls.places e.place) (second_text decls.places e.place2)
+    → place_words (place_text (with_places decls o).places e.place) (second_text (with_places decls o).places e.place2)
+    ≡ place_words (place_text decls.places e.place) (second_text decls.places e.place2)
 words_stay decls o e fit =
-    λ i. place_words (unwrap_or (places_stay decls o e.place (fit_place decls e fit) i) []) (second (has_two_places (says e.op).0) e.place2 (fit_second decls e fit) i)
+    λ i. place_words (unwrap_or (places_stay decls o e.place (is_fit decls e fit).place i) []) (second (has_two_places (says e.op).0) e.place2 (is_fit decls e fit).second i)
   where
     second : (two : Bool) (place2 : Option ℕ) → second_place_fits (length decls.places) two place2 ≡ true
         → second_text (with_places decls o).places place2 ≡ second_text decls.places place2
@@ -172,6 +183,7 @@ places_are_trace trace o holds =
 pub both_fit : (decls : DeclsState) (o : Occurrence) (two : Bool) → two ≡ is_some o.place2
     → (place_number decls.places o.place < length (with_places decls o).places) × (second_place_fits (length (with_places decls o).places) two (event_of decls o).place2 ≡ true)
 both_fit decls o two count = (
-  slice_get_within (with_places decls o).places (place_number decls.places o.place) o.place (second_stays (with_place decls o.place) o.place2 (place_number decls.places o.place) (first_within decls o) ∙ place_is_there decls o.place),
+  slice_get_within (with_places decls o).places (place_number decls.places o.place) o.place
+      (second_stays (with_place decls o.place) o.place2 (place_number decls.places o.place) (first_within decls o) ∙ place_is_there decls o.place),
   ap (λ b. second_place_fits (length (with_places decls o).places) b (event_of decls o).place2) count ∙ second_fits (with_place decls o.place) o.place2,
 )

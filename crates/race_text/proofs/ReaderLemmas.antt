@@ -1,6 +1,5 @@
 -- The header, and lines that declare.
-use Rattle.std.proofs.Common.{◌≡◌, ◌≢◌, ℕ, ◌≤◌, length, Bool, true, false, not, if◌then◌else◌, List, [], ◌∷◌, ◌++◌, Option, Some, None, is_some, Result, Ok, Err, IfOk, IsTrue, refl, sym, ap, subst, ◌∙◌, arith, true≢false}
-use Rattle.std.proofs.lemmas.List.Elements.{All-push}
+use Rattle.std.proofs.Common.{◌≡◌, ◌≢◌, ℕ, ◌≤◌, length, Bool, true, false, not, if◌then◌else◌, List, [], ◌∷◌, ◌++◌, Option, Some, None, Result, Ok, Err, IfOk, refl, sym, ap, subst, ◌∙◌, arith, true≢false}
 use Rattle.std.proofs.lemmas.List.Splits.{join_with_byte-slice_split}
 use Rattle.std.proofs.lemmas.Option.{none-some}
 use Rattle.std.proofs.lemmas.Slice.Eq.{bytes_eq-Decides}
@@ -13,7 +12,7 @@ use Rattle.race_records.proofs.DeclsKept.{empty_well_formed, push_well_formed}
 use Rattle.race_text.specs.declared.cause.TextCause.{TextCause}
 use Rattle.race_text.specs.declared.form.Word.{Word}
 use Rattle.race_text.specs.Words.{words_of, has_bad_byte}
-use Rattle.race_text.specs.Text.{header, line_of, declaration_line, has_known_word, lines, HasText}
+use Rattle.race_text.specs.Text.{header, line_of, declaration_line, lines, HasText}
 use Rattle.race_text.specs.Form.{word_named, first_word, arguments}
 use Rattle.race_text.specs.Fault.{seen, seen_so_far, cause, word_cause, declaration, declaration_in, is_event_line, is_event_word}
 use Rattle.race_text.specs.Writing.{noun_text, number_words}
@@ -22,7 +21,7 @@ use Rattle.race_text.specs.Declaring.{is_declaration_line, is_declaration_word, 
 use Rattle.race_text.specs.Taking.{state_of, IsRead, TakesLine, begun}
 use Rattle.race_text.specs.Reader.{trace_read, lines_read, IsReading, GoesOn, TakesIfDeclared, TakesDeclaration}
 use Rattle.race_text.proofs.DeclarationLemmas.{declaration_cause-words, declaration_in-words, is_there, declared_there, spelled_there}
-use Rattle.race_text.proofs.WordTable.{word_spelled, noun_is_known, object_words_are, known_by_noun}
+use Rattle.race_text.proofs.WordTable.{word_spelled, object_words_are}
 use Rattle.race_text.proofs.TraceLemmas.{cause_behind, clean_line, lines_declaration, seen_declaration, no_word}
 
 abbrev empty : DeclsState
@@ -60,7 +59,6 @@ pub empty_has_text : HasText (begun empty)
 empty_has_text = record {
   well_formed = empty_well_formed;
   is_trace = no_events empty;
-  words = λ i d less. absurd (omega (arith, less));
 }
 
 pub header_reading : (decls : DeclsState) (trace : Option TraceState) → IsReading false decls trace → IsReading true decls trace
@@ -75,7 +73,6 @@ pub record IsDeclaration (ds : List Declaration) (line : List ℕ) : Type 0 wher
   pub text : line ≡ declaration_line d
   pub event : is_event_line line ≡ false
   pub fine : decl_fault ds d.object d.name ≡ None
-  pub words : IsTrue (has_known_word d.object)
 
 module _ (ds : List Declaration) (line first : List ℕ) (args : List (List ℕ)) (words : words_of line ≡ first ∷ args) where
   joined : line ≡ line_of (first ∷ args)
@@ -89,16 +86,15 @@ module _ (ds : List Declaration) (line first : List ℕ) (args : List (List ℕ)
   by_word (Some (Word.Declares noun)) named h none =
       let there = is_there ds noun args (sym (declaration_cause-words line first args (Some (Word.Declares noun)) words (sym named) ds) ∙ none) in
       let said = spelled_there ds noun args there in
-      let known = noun_is_known first noun named in
       record {
         d = declaration there.name there.object;
         is = declaration_in-words line first args (Some (Word.Declares noun)) words (sym named) ∙ declared_there ds noun args there;
         text =
-            joined ∙ (λ i. line_of (word_spelled first (Word.Declares noun) named i ∷ said.1 i)) ∙ (λ i. line_of (noun_text (said.0 i) ∷ there.name ∷ number_words (object_says there.object).1))
+            joined ∙ (λ i. line_of (word_spelled first (Word.Declares noun) named i ∷ said.1 i))
+            ∙ (λ i. line_of (noun_text (said.0 i) ∷ there.name ∷ number_words (object_says there.object).1))
             ∙ ap line_of (sym (object_words_are there.name there.object));
         event = ap is_event_word (named_line (Word.Declares noun) named);
         fine = there.fine;
-        words = known_by_noun there.object ∙ ap (λ n. is_some (word_named (noun_text n))) (sym said.0) ∙ known;
       }
   by_word (Some (Word.Does verb)) named h none = absurd (true≢false (sym h))
 
@@ -128,7 +124,6 @@ module _ (old new : DeclsState) (line : List ℕ) (read : IsRead (begun old)) (c
           has_text = subst (λ (d : DeclsState). HasText (begun d)) (sym new_is) (record {
             well_formed = push_well_formed old read.has_text.well_formed is.d.name is.d.object (allowed_from_no_fault old.declarations is.d.object is.d.name is.fine);
             is_trace = no_events (with_declaration old is.d.name is.d.object);
-            words = All-push (λ (x : Declaration). IsTrue (has_known_word x.object)) old.declarations is.d read.has_text.words is.words;
           });
           seen_is = ap seen after ∙ seen_declaration (lines (begun old)) line old.declarations is.d read.seen_is is.is is.event
               ∙ (λ i. seen_so_far (sym new_is i).declarations 0);

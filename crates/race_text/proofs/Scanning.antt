@@ -63,7 +63,7 @@ module _ (t : TraceState) (read : IsRead t) (line : List ℕ) (none : cause (lin
   with_declared_line empty declares =
       let same = lines_begun empty in
       let before : IsRead (begun t.decls) = record {
-        has_text = record { well_formed = read.has_text.well_formed; is_trace = no_events t.decls; words = read.has_text.words };
+        has_text = record { well_formed = read.has_text.well_formed; is_trace = no_events t.decls };
         seen_is = ap seen same ∙ read.seen_is ∙ (λ i. seen_so_far ds (length (empty i)));
         few_places = subst (λ (es : List Event). length t.decls.places ≤ 2 * length es) empty read.few_places;
       } in
@@ -100,7 +100,8 @@ scanned (last ∷ []) t read some none =
     (t, read.has_text, sym (ap (λ l. flat_map ended (lines t) ++ l) (no_bytes last empty.0) ∙ append-nil (flat_map ended (lines t))))
 scanned (line ∷ part ∷ others) t read some none =
     let parts = part ∷ others in
-    let split = or_later_none (length (lines t) + 1) (cause (lines t) line true) (fault_after (lines t ++ line ∷ []) parts) (sym (fault_step (lines t) line parts (omega arith)) ∙ none) in
+    let split = or_later_none (length (lines t) + 1) (cause (lines t) line true)
+    (fault_after (lines t ++ line ∷ []) parts) (sym (fault_step (lines t) line parts (omega arith)) ∙ none) in
     let next = with_line t read line split.0 in
     let rest = scanned (part ∷ others) next.next next.read (omega arith) (ap (λ ls. fault_after ls parts) next.lines_are ∙ split.1) in
     let front = flat_map ended (lines t) in (

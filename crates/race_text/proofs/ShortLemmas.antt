@@ -9,7 +9,7 @@ use Rattle.std.specs.Str.{bytes_eq}
 use Rattle.race_records.specs.declared.cases.Case.{Case}
 use Rattle.race_records.specs.declared.cases.Dir.{Dir}
 use Rattle.race_records.specs.declared.cases.TheConstants.{MAX_CASES}
-use Rattle.race_records.specs.declared.event.Cause.TheVariants.{SendClosed, CloseClosed, CloseNil}
+use Rattle.race_records.specs.declared.event.Cause.TheVariants.{SendClosed, CloseClosed, CloseNil, UnlockFree, RUnlockFree}
 use Rattle.race_records.specs.declared.event.Event.{Event}
 use Rattle.race_records.specs.declared.event.Op.{Op}
 use Rattle.race_records.specs.declared.event.Op.TheVariants.{Go}
@@ -72,7 +72,9 @@ of_kind_each P kind ds each m d at = let s = stands_at kind ds m d at in each s.
 
 module _ (decls : DeclsState) (holds : IsWellFormed decls) where
   nth_short : (kind : Kind) (m : ℕ) → length (unwrap_or (nth_name kind decls.declarations m) []) ≤ 64
-  nth_short kind m = by (slice_get (of_kind kind decls.declarations) m) (of_kind_each (λ (d : Declaration). length d.name ≤ 64) kind decls.declarations (λ i d at. name_short d.name (at_index (λ (x : Declaration). IsTrue (is_name x.name)) decls.declarations holds.names i d at)) m)
+  nth_short kind m = by (slice_get (of_kind kind decls.declarations) m)
+      (of_kind_each (λ (d : Declaration). length d.name ≤ 64) kind decls.declarations
+      (λ i d at. name_short d.name (at_index (λ (x : Declaration). IsTrue (is_name x.name)) decls.declarations holds.names i d at)) m)
     where
       by : (o : Option Declaration) → ((d : Declaration) → o ≡ Some d → length d.name ≤ 64)
           → length (unwrap_or (option_map (λ (d : Declaration). d.name) o) []) ≤ 64
@@ -160,6 +162,8 @@ module _ (decls : DeclsState) (holds : IsWellFormed decls) where
   part_short (Part.Cause (SendClosed c)) low = let short = nth_short Kind.Chan c in omega (arith, short)
   part_short (Part.Cause (CloseClosed c)) low = let short = nth_short Kind.Chan c in omega (arith, short)
   part_short (Part.Cause CloseNil) low = omega arith
+  part_short (Part.Cause (UnlockFree l)) low = let short = nth_short Kind.Lock l in omega (arith, short)
+  part_short (Part.Cause (RUnlockFree l)) low = let short = nth_short Kind.Lock l in omega (arith, short)
 
   -- a word, and the parts behind it, and the places
   places_short : (a : List ℕ) (n : ℕ) (place2 : Option ℕ) → length a ≤ 1120
@@ -176,7 +180,8 @@ module _ (decls : DeclsState) (holds : IsWellFormed decls) where
       subst (λ l. length l ≤ 1380) (sym (ended_more a place (second ∷ []) ∙ ap (λ l. a ++ 32 ∷ l) (line_of_2 place second))) (omega (arith, len))
 
   parts_short : (a : List ℕ) (parts : List Part) (n : ℕ) (place2 : Option ℕ) → length a ≤ 1120 → list_all part_is_limited parts ≡ true
-      → length (ended (line_of (a ∷ map (part_text decls.declarations) parts ++ place_words (place_text decls.places n) (second_text decls.places place2)))) ≤ 1121 * length parts + 1380
+      → length (ended (line_of (a ∷ map (part_text decls.declarations) parts ++ place_words (place_text decls.places n) (second_text decls.places place2))))
+      ≤ 1121 * length parts + 1380
   parts_short a [] n place2 short low = places_short a n place2 short
   parts_short a (part ∷ parts) n place2 short low =
       let lows = both (part_is_limited part) (list_all part_is_limited parts) low in
@@ -212,21 +217,21 @@ pieces_short piece [] each = omega arith
 pieces_short piece (x ∷ xs) each =
     let first = each 0 x refl in
     let rest = pieces_short piece xs (λ i y at. each (suc i) y at) in
-    let len : length (flat_map piece (x ∷ xs)) ≡ length (piece x) + length (flat_map piece xs) = ap length (flat_map-cons piece x xs) ∙ length-append (piece x) (flat_map piece xs) in
+    let len : length (flat_map piece (x ∷ xs)) ≡ length (piece x) + length (flat_map piece xs) =
+    ap length (flat_map-cons piece x xs) ∙ length-append (piece x) (flat_map piece xs) in
     omega (arith, first, rest, len)
 
 -- each declaration is of one kind
-kinds_sum : (ds : List Declaration)
-    → length ds ≡ length (of_kind Kind.Goroutine ds) + length (of_kind Kind.Var ds) + length (of_kind Kind.Chan ds) + length (of_kind Kind.Lock ds) + length (of_kind Kind.Once ds)
+in_all : (Kind → List Declaration) → ℕ
+in_all of = length (of Kind.Goroutine) + length (of Kind.Var) + length (of Kind.Chan) + length (of Kind.Lock) + length (of Kind.Once)
+
+kinds_sum : (ds : List Declaration) → length ds ≡ in_all (λ kind. of_kind kind ds)
+unfolding in_all
 kinds_sum [] = refl
 kinds_sum (e ∷ ds) = by e.object (kinds_sum ds)
   where
-    some : Bool → Kind → List Declaration
-    some b kind = if b then e ∷ of_kind kind ds else of_kind kind ds
-
-    by : (o : Object)
-        → length ds ≡ length (of_kind Kind.Goroutine ds) + length (of_kind Kind.Var ds) + length (of_kind Kind.Chan ds) + length (of_kind Kind.Lock ds) + length (of_kind Kind.Once ds)
-        → length (e ∷ ds) ≡ length (some (is_of_kind Kind.Goroutine o) Kind.Goroutine) + length (some (is_of_kind Kind.Var o) Kind.Var) + length (some (is_of_kind Kind.Chan o) Kind.Chan) + length (some (is_of_kind Kind.Lock o) Kind.Lock) + length (some (is_of_kind Kind.Once o) Kind.Once)
+    by : (o : Object) → length ds ≡ in_all (λ kind. of_kind kind ds)
+        → length (e ∷ ds) ≡ in_all (λ kind. if is_of_kind kind o then e ∷ of_kind kind ds else of_kind kind ds)
     by Object.Goroutine rest = omega (arith, rest)
     by Object.Var rest = omega (arith, rest)
     by (Object.Chan c) rest = omega (arith, rest)
@@ -235,10 +240,14 @@ kinds_sum (e ∷ ds) = by e.object (kinds_sum ds)
 
 -- the length of a text is a u64
 pub text_short : (t : TraceState) → IsTrace t → IsWellFormed t.decls → length (text t) < 2 ^ 64
+unfolding in_all
 text_short t is_trace holds =
     let ds = t.decls.declarations in
-    let declared = pieces_short (λ (d : Declaration). ended (declaration_line d)) ds (λ i d at. declaration_short t.decls holds d (name_short d.name (at_index (λ (x : Declaration). IsTrue (is_name x.name)) ds holds.names i d at)) (at_index (λ (x : Declaration). is_too_wide x.object ≡ false) ds holds.capacities i d at)) in
-    let happened = pieces_short (λ (e : Event). ended (event_line t.decls e)) t.events (λ i e at. event_short t.decls holds e (at_index (λ (x : Event). IsTrue (op_is_limited x.op)) t.events is_trace.values i e at)) in
+    let declared = pieces_short (λ (d : Declaration). ended (declaration_line d)) ds
+    (λ i d at. declaration_short t.decls holds d (name_short d.name (at_index (λ (x : Declaration). IsTrue (is_name x.name)) ds holds.names i d at))
+    (at_index (λ (x : Declaration). is_too_wide x.object ≡ false) ds holds.capacities i d at)) in
+    let happened = pieces_short (λ (e : Event). ended (event_line t.decls e)) t.events
+    (λ i e at. event_short t.decls holds e (at_index (λ (x : Event). IsTrue (op_is_limited x.op)) t.events is_trace.values i e at)) in
     let a = holds.limited Kind.Goroutine in
     let b = holds.limited Kind.Var in
     let c = holds.limited Kind.Chan in

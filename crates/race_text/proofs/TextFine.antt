@@ -1,5 +1,5 @@
 -- The text of a trace has no fault.
-use Rattle.std.proofs.Common.{◌≡◌, ◌≢◌, ℕ, suc, ◌+◌, ◌<◌, Bool, true, false, not, nat_le, nat_lt, cond, if◌then◌else◌, List, [], ◌∷◌, ◌++◌, length, map, get_or, Option, Some, None, ◌⊎◌, inl, inr, is_some, IsTrue, refl, sym, ap, subst, ◌∙◌, arith, true≢false, append-nil, append_assoc}
+use Rattle.std.proofs.Common.{◌≡◌, ◌≢◌, ℕ, suc, ◌+◌, ◌<◌, Bool, true, false, nat_le, nat_lt, cond, if◌then◌else◌, List, [], ◌∷◌, ◌++◌, length, map, get_or, Some, None, ◌⊎◌, inl, inr, is_some, refl, sym, ap, subst, ◌∙◌, arith, true≢false, append-nil, append_assoc}
 use Rattle.std.proofs.lemmas.Bool.Decides.{nat_tests}
 use Rattle.std.proofs.lemmas.List.{length-append, map-append}
 use Rattle.std.proofs.lemmas.List.Elements.{filter-append}
@@ -9,7 +9,6 @@ use Rattle.std.proofs.Math.ListN.{get_or-append}
 use Rattle.std.proofs.Math.Seq.{get_or-append_seam}
 use Rattle.std.specs.Option.{option_and_then}
 use Rattle.std.specs.Str.{bytes_eq}
-use Rattle.race_records.specs.declared.declarations.DeclFault.{DeclFault}
 use Rattle.race_records.specs.declared.event.Event.{Event}
 use Rattle.race_records.specs.declared.kind.Named.{Named}
 use Rattle.race_records.specs.declared.kind.Object.{Object}
@@ -19,12 +18,12 @@ use Rattle.race_records.specs.Declarations.{Declaration, DeclsState, IsWellForme
 use Rattle.race_records.specs.Events.{TraceState}
 use Rattle.race_text.specs.declared.cause.TextCause.{TextCause}
 use Rattle.race_text.specs.declared.cause.TextFault.{TextFault}
-use Rattle.race_text.specs.Text.{header, declaration_line, event_line, has_known_word, lines, text}
+use Rattle.race_text.specs.Text.{header, declaration_line, event_line, lines, text}
 use Rattle.race_text.specs.Form.{arguments}
 use Rattle.race_text.specs.Fault.{Seen, seen, seen_so_far, line_cause, word_cause, cause, or_later, fault_after, text_fault}
 use Rattle.race_text.specs.Text.{HasText, IsTraceText}
 use Rattle.race_text.specs.Reader.{end_cause}
-use Rattle.race_text.proofs.DeclarationLemmas.{said_fine}
+use Rattle.race_text.proofs.DeclarationLemmas.{fault_by, said_fine}
 use Rattle.race_text.proofs.NamesAgain.{differ}
 use Rattle.race_text.proofs.ParseLemmas.{fault_step, fault_end}
 use Rattle.race_text.proofs.ReaderLemmas.{header_says}
@@ -81,7 +80,8 @@ module _ (decls : DeclsState) (holds : IsWellFormed decls) (before after : List 
   differs_before : (k : ℕ) → k < length before → bytes_eq d.name (get_or before k d).name ≡ false
   differs_before k less =
       let there : get_or ds k d ≡ get_or before k d = ap (λ l. get_or l k d) (sym is) ∙ get_or-append before (d ∷ after) d k less in
-      differ d.name (get_or before k d).name (λ same. holds.distinct k (length before) d less within (ap (λ (x : Declaration). x.name) there ∙ sym same ∙ ap (λ (x : Declaration). x.name) (sym here)))
+      differ d.name (get_or before k d).name
+      (λ same. holds.distinct k (length before) d less within (ap (λ (x : Declaration). x.name) there ∙ sym same ∙ ap (λ (x : Declaration). x.name) (sym here)))
 
   is_new : find_name before d.name ≡ None
   is_new =
@@ -94,8 +94,10 @@ module _ (decls : DeclsState) (holds : IsWellFormed decls) (before after : List 
   has_room =
       let kind = kind_of d.object in
       let all : length (of_kind kind ds) ≡ length (of_kind kind before) + length (of_kind kind (d ∷ after)) =
-      ap (λ l. length (of_kind kind l)) (sym is) ∙ ap length (filter-append (λ (x : Declaration). is_of_kind kind x.object) before (d ∷ after)) ∙ length-append (of_kind kind before) (of_kind kind (d ∷ after)) in
-      let own : length (of_kind kind (d ∷ after)) ≡ suc (length (of_kind kind after)) = ap (λ b. length (if b then d ∷ of_kind kind after else of_kind kind after)) (of_own_kind d.object) in
+      ap (λ l. length (of_kind kind l)) (sym is) ∙ ap length (filter-append (λ (x : Declaration). is_of_kind kind x.object) before (d ∷ after))
+      ∙ length-append (of_kind kind before) (of_kind kind (d ∷ after)) in
+      let own : length (of_kind kind (d ∷ after)) ≡ suc (length (of_kind kind after)) =
+      ap (λ b. length (if b then d ∷ of_kind kind after else of_kind kind after)) (of_own_kind d.object) in
       let limited = holds.limited kind in
       omega (arith, all, own, limited)
 
@@ -109,7 +111,7 @@ module _ (decls : DeclsState) (holds : IsWellFormed decls) (before after : List 
       form (ap is_some is_new) (let room = has_room in grind (arith, nat_tests, room)) narrow
     where
       by : (a b c e : Bool) → a ≡ true → b ≡ false → c ≡ false → e ≡ false
-          → ◌≡◌ {A = Option DeclFault} (if not a then Some DeclFault.BadName else (if b then Some DeclFault.Taken else (if c then Some DeclFault.TooMany else (if e then Some DeclFault.BadCapacity else None)))) None
+          → fault_by a b c e ≡ None
       by true false false false _ _ _ _ = refl
       by true false false true _ _ _ h = absurd (true≢false h)
       by true false true e _ _ h _ = absurd (true≢false h)
@@ -117,9 +119,9 @@ module _ (decls : DeclsState) (holds : IsWellFormed decls) (before after : List 
       by false b c e h _ _ _ = absurd (true≢false (sym h))
 
   -- so no cause holds at its line
-  pub no_cause : IsTrue (has_known_word d.object) → line_cause (seen_so_far before 0) (declaration_line d) ≡ None
-  no_cause has =
-      let line = declaration_again d form narrow has in
+  pub no_cause : line_cause (seen_so_far before 0) (declaration_line d) ≡ None
+  no_cause =
+      let line = declaration_again d form narrow in
       clean_line (seen_so_far before 0) (declaration_line d) line.clean
       ∙ (λ j. word_cause (seen_so_far before 0) (line.named j) (arguments (line.words j)))
       ∙ said_fine before d.name d.object allowed
@@ -142,16 +144,15 @@ module _ (t : TraceState) (has : HasText t) where
   declarations_fine before (d ∷ after) is says =
       let at = here t.decls has.well_formed before after d is in
       let less = within t.decls has.well_formed before after d is in
-      let words : IsTrue (has_known_word d.object) = ap (λ (x : Declaration). has_known_word x.object) (sym at) ∙ has.words (length before) d less in
       let name : is_name d.name ≡ true = ap (λ (x : Declaration). is_name x.name) (sym at) ∙ has.well_formed.names (length before) d less in
       let narrow = ap (λ (x : Declaration). is_too_wide x.object) (sym at) ∙ has.well_formed.capacities (length before) d less in
-      let line = declaration_again d name narrow words in
+      let line = declaration_again d name narrow in
       let more = map-append declaration_line before (d ∷ []) in
       let rest = declarations_fine (before ++ d ∷ []) after (append_assoc before (d ∷ []) after ∙ is)
       (ap (λ ls. seen (header ∷ ls)) more
       ∙ seen_declaration (header ∷ map declaration_line before) (declaration_line d) before d says line.declares (is_no_event d (declaration_line d) line)) in (
         (
-          cause_by_seen (map declaration_line before) (declaration_line d) (seen_so_far before 0) says ∙ no_cause t.decls has.well_formed before after d is words,
+          cause_by_seen (map declaration_line before) (declaration_line d) (seen_so_far before 0) says ∙ no_cause t.decls has.well_formed before after d is,
           subst (λ ls. AreFine (header ∷ ls) (map declaration_line after)) more rest.0,
         ),
         rest.1,
@@ -171,11 +172,13 @@ module _ (t : TraceState) (has : HasText t) where
       let room : nat_le MAX_EVENTS (length done) ≡ false = grind (arith, nat_tests, less, limited) in
       let head = map declaration_line declared ++ map print done in
       let fine : line_cause (seen_so_far declared (length done)) (print (get_or t.events (length done) e)) ≡ None =
-      clean_line (seen_so_far declared (length done)) (print (get_or t.events (length done) e)) line.clean ∙ line.cause_is (length done) ∙ ap (λ b. if b then Some TextCause.TooMany else None) room in
+      clean_line (seen_so_far declared (length done)) (print (get_or t.events (length done) e)) line.clean
+      ∙ line.cause_is (length done) ∙ ap (λ b. if b then Some TextCause.TooMany else None) room in
       let more : map declaration_line declared ++ map print (done ++ e ∷ []) ≡ head ++ print e ∷ [] =
       ap (λ l. map declaration_line declared ++ l) (map-append print done (e ∷ [])) ∙ sym (append_assoc (map declaration_line declared) (map print done) (print e ∷ [])) in
       let told : seen (header ∷ head ++ print e ∷ []) ≡ seen_so_far declared (length done + 1) =
-      ap (λ l. seen (header ∷ head ++ l ∷ [])) (sym same) ∙ seen_event (header ∷ head) (print (get_or t.events (length done) e)) declared (length done) says line.declares line.is_event in
+      ap (λ l. seen (header ∷ head ++ l ∷ [])) (sym same)
+      ∙ seen_event (header ∷ head) (print (get_or t.events (length done) e)) declared (length done) says line.declares line.is_event in
       let next = events_fine (done ++ e ∷ []) rest (append_assoc done (e ∷ []) rest ∙ is)
       (ap (λ ls. seen (header ∷ ls)) more ∙ told ∙ ap (seen_so_far declared) (sym (length-append done (e ∷ [])))) in (
         ap (λ l. cause (header ∷ head) l true) (sym same) ∙ cause_by_seen head (print (get_or t.events (length done) e)) (seen_so_far declared (length done)) says ∙ fine,

@@ -1,5 +1,5 @@
 -- What the lines of a trace say: its declarations, and its events.
-use Rattle.std.proofs.Common.{◌≡◌, ℕ, suc, ◌<◌, ◌^◌, Bool, true, false, true≢false, List, [], ◌∷◌, ◌++◌, length, map, get_or, slice_get, unwrap_or, Option, Some, None, IsTrue, refl, sym, ap, ◌∙◌, arith, append-nil}
+use Rattle.std.proofs.Common.{◌≡◌, ℕ, suc, ◌<◌, ◌^◌, Bool, true, false, true≢false, List, [], ◌∷◌, ◌++◌, length, map, get_or, slice_get, unwrap_or, Option, Some, None, refl, sym, ap, ◌∙◌, arith, append-nil}
 use Rattle.std.proofs.lemmas.List.{append_cancel_right}
 use Rattle.std.proofs.lemmas.List.Elements.{filter_map-append}
 use Rattle.std.proofs.lemmas.Option.{slice_get-get_or}
@@ -17,7 +17,7 @@ use Rattle.std.proofs.lemmas.Bool.Decides.{nat_tests}
 use Rattle.race_records.specs.TraceEquality.{PlacedEvent, placed, placed_events, recorded}
 use Rattle.race_text.specs.declared.form.Word.{Word}
 use Rattle.race_text.specs.Words.{parts_of, words_of, has_bad_byte}
-use Rattle.race_text.specs.Text.{header, line_of, second_text, declaration_line, event_line, has_known_word, lines, text}
+use Rattle.race_text.specs.Text.{header, line_of, second_text, declaration_line, event_line, lines, text}
 use Rattle.race_text.specs.Form.{word_named, first_word, arguments}
 use Rattle.race_text.specs.Fault.{declaration_in, declared_as, is_event_line, is_event_word}
 use Rattle.race_text.specs.Text.{HasText}
@@ -28,8 +28,8 @@ use Rattle.race_text.proofs.DeclarationLemmas.{small_limit, said_again}
 use Rattle.race_text.proofs.NumberLemmas.{number-some}
 use Rattle.race_text.proofs.EventLines.{IsEventLine, event_line as event_line_of}
 use Rattle.race_text.proofs.EventsAgain.{said, event_again}
-use Rattle.race_text.proofs.PlacesAdded.{fit_place, fit_second}
-use Rattle.race_text.proofs.WordTable.{word_is_seen, object_words_are, noun_again, known_by_noun}
+use Rattle.race_text.proofs.PlacesAdded.{is_fit}
+use Rattle.race_text.proofs.WordTable.{word_is_seen, object_words_are, noun_again}
 use Rattle.race_text.proofs.WordLemmas.{name_is_visible}
 use Rattle.race_text.proofs.WordsAgain.{AreVisible, words_again, visible_line_clean, parts_again}
 
@@ -46,14 +46,15 @@ numbers_visible (Some l) (Some n) wanted small = let low = small l refl in (numb
 numbers_visible None (Some n) wanted small = absurd wanted
 numbers_visible (Some l) None wanted small = absurd wanted
 
-pub declaration_again : (d : Declaration) → is_name d.name ≡ true → is_too_wide d.object ≡ false → IsTrue (has_known_word d.object)
-    → IsDeclarationLine d (declaration_line d)
-declaration_again d form narrow known =
+pub declaration_again : (d : Declaration) → is_name d.name ≡ true → is_too_wide d.object ≡ false → IsDeclarationLine d (declaration_line d)
+declaration_again d form narrow =
     let noun = (object_says d.object).0 in
     let numbers = number_words (object_says d.object).1 in
-    let found = noun_again noun (sym (known_by_noun d.object) ∙ known) in
-    let visible : AreVisible (noun_text noun ∷ d.name ∷ numbers) =
-    (word_is_seen (noun_text noun) (Word.Declares noun) found, (name_is_visible d.name form, numbers_visible (number_limit noun) (object_says d.object).1 (says_wanted d.object narrow) (small_limit noun))) in
+    let found = noun_again noun in
+    let visible : AreVisible (noun_text noun ∷ d.name ∷ numbers) = (
+      word_is_seen (noun_text noun) (Word.Declares noun) found,
+      (name_is_visible d.name form, numbers_visible (number_limit noun) (object_says d.object).1 (says_wanted d.object narrow) (small_limit noun)),
+    ) in
     let printed = object_words_are d.name d.object in
     let again = ap (λ ws. words_of (line_of ws)) printed ∙ words_again (noun_text noun) (d.name ∷ numbers) visible in
     let named = ap (λ ws. word_named (first_word ws)) again ∙ found in
@@ -109,7 +110,7 @@ module _ (t : TraceState) (has : HasText t) where
   ds = t.decls.declarations
 
   declaration_at : (i : ℕ) (d : Declaration) → i < length ds → IsDeclarationLine (get_or ds i d) (declaration_line (get_or ds i d))
-  declaration_at i d less = declaration_again (get_or ds i d) (has.well_formed.names i d less) (has.well_formed.capacities i d less) (has.words i d less)
+  declaration_at i d less = declaration_again (get_or ds i d) (has.well_formed.names i d less) (has.well_formed.capacities i d less)
 
   says_at : (i : ℕ) (e : Event) → i < length t.events
       → event_in ds (words_of (event_line t.decls (get_or t.events i e))) ≡ Some (said t.decls (get_or t.events i e))
@@ -155,7 +156,8 @@ module _ (t : TraceState) (has : HasText t) where
   events_again =
       (λ j. cons_option (header_scanned.1 j) (filter_map (λ l. event_in ds (words_of l)) (map declaration_line ds ++ map (event_line t.decls) t.events)))
       ∙ filter_map-append (λ l. event_in ds (words_of l)) (map declaration_line ds) (map (event_line t.decls) t.events)
-      ∙ (λ j. scan_none (λ l. event_in ds (words_of l)) declaration_line ds (λ i d less. says_no_event ds (get_or ds i d) (declaration_line (get_or ds i d)) (declaration_at i d less)) j
+      ∙ (λ j. scan_none (λ l. event_in ds (words_of l)) declaration_line ds
+      (λ i d less. says_no_event ds (get_or ds i d) (declaration_line (get_or ds i d)) (declaration_at i d less)) j
       ++ scan_some (λ l. event_in ds (words_of l)) (event_line t.decls) (said t.decls) t.events says_at j)
 
   recorded_again : (events : List Event) → ((i : ℕ) (e : Event) → i < length events → fits t.decls (get_or events i e) ≡ true)
@@ -165,8 +167,14 @@ module _ (t : TraceState) (has : HasText t) where
     where
       one : (e : Event) → fits t.decls e ≡ true → recorded_as (said t.decls e) ≡ placed t.decls.places e
       one e fit =
-          let at = slice_get-get_or t.decls.places e.place [] (fit_place t.decls e fit) in
-          λ j. record { who = e.who; op = e.op; place = (ap (λ o. Some (unwrap_or o [])) at ∙ sym at) j; place2 = second_at t.decls.places (has_two_places (says e.op).0) e.place2 (fit_second t.decls e fit) j }
+          let is = is_fit t.decls e fit in
+          let at = slice_get-get_or t.decls.places e.place [] is.place in
+          λ j. record {
+            who = e.who;
+            op = e.op;
+            place = (ap (λ o. Some (unwrap_or o [])) at ∙ sym at) j;
+            place2 = second_at t.decls.places (has_two_places (says e.op).0) e.place2 is.second j;
+          }
 
   pub placed_again : map recorded_as (filter_map (λ l. event_in ds (words_of l)) (lines t)) ≡ placed_events t
   placed_again = ap (map recorded_as) events_again ∙ recorded_again t.events (λ i e less. has.is_trace.fit i e less)

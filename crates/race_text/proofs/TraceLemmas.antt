@@ -1,5 +1,5 @@
 -- One more event, or one more declaration: the lines of a trace, and what they say to the next one.
-use Rattle.std.proofs.Common.{◌≡◌, ℕ, suc, ◌+◌, ◌<◌, ◌==◌, ◌&&◌, Bool, true, false, not, if◌then◌else◌, nat_lt, nat_le, cond, List, [], ◌∷◌, ◌++◌, length, map, get_or, Option, Some, None, ◌≢◌, Result, Ok, Err, MatchResult, IsOkUnless, IsSome, IsTrue, All, OnOk, refl, sym, ap, subst, ◌∙◌, arith, true≢false, append-nil, append_assoc}
+use Rattle.std.proofs.Common.{◌≡◌, ℕ, suc, ◌+◌, ◌<◌, ◌==◌, ◌&&◌, Bool, true, false, not, if◌then◌else◌, nat_lt, nat_le, cond, List, [], ◌∷◌, ◌++◌, length, map, get_or, Option, Some, None, ◌≢◌, Result, Ok, Err, MatchResult, IsOkUnless, IsSome, OnOk, refl, sym, ap, subst, ◌∙◌, arith, true≢false, append-nil, append_assoc}
 use Rattle.std.proofs.lemmas.Bool.Decides.{nat_tests}
 use Rattle.std.proofs.lemmas.List.{length-append, map-append}
 use Rattle.std.proofs.lemmas.List.Elements.{filter_map-append}
@@ -12,7 +12,7 @@ use Rattle.race_records.specs.declared.trace.TheConstants.{MAX_EVENTS}
 use Rattle.race_records.specs.Declarations.{Declaration, DeclsState, place_number, with_declaration, IsWellFormed, count_of, limit_of}
 use Rattle.race_records.specs.declared.kind.Kind.{Kind}
 use Rattle.race_records.specs.Nouns.{kind_of_noun}
-use Rattle.race_records.specs.Events.{TraceState, IsTrace, fits, op_fits, second_place_fits, push_fault}
+use Rattle.race_records.specs.Events.{TraceState, IsTrace, fits, is_in_range, lock_fits, push_fault}
 use Rattle.race_records.specs.Parts.{says, has_two_places}
 use Rattle.race_records.proofs.EventLemmas.{push_is_trace}
 use Rattle.race_text.specs.declared.cause.TextCause.{TextCause}
@@ -20,7 +20,7 @@ use Rattle.race_text.specs.declared.form.Word.{Word}
 use Rattle.race_text.specs.Words.{words_of, has_bad_byte}
 use Rattle.race_text.specs.Form.{word_named, fields_of, kind_declared, first_word, arguments}
 use Rattle.race_text.specs.Declaring.{is_declaration_word, is_declaration_line}
-use Rattle.race_text.specs.Text.{header, has_known_word, declaration_line, event_line, op_words, goroutine_name, line_of, lines, HasText}
+use Rattle.race_text.specs.Text.{header, declaration_line, event_line, op_words, goroutine_name, line_of, lines, HasText}
 use Rattle.race_text.specs.Fault.{Seen, seen, seen_so_far, declaration_in, is_event_line, or_else, fields_cause, room_cause, line_cause, cause, word_cause}
 use Rattle.race_text.specs.Reading.{Occurrence, event_by, event_in}
 use Rattle.race_text.specs.Taking.{state_of, IsRead, begun, IsFitting, with_places, event_of, AppendsEvent, IsFull, TakesLine, TakesOrTells}
@@ -95,11 +95,9 @@ event_fits decls o fitting =
     let both = both_fit decls o (has_two_places (says o.op).0) fitting.two in
     let who = fitting.who in
     let less = both.0 in
-    by (nat_lt o.who (count_of Kind.Goroutine decls.declarations)) (op_fits decls.declarations o.op) (nat_lt (place_number decls.places o.place) (length (with_places decls o).places))
-    (second_place_fits (length (with_places decls o).places) (has_two_places (says o.op).0) (event_of decls o).place2) (grind (arith, nat_tests, who)) fitting.op (grind (arith, nat_tests, less)) both.1
-  where
-    by : (a b c d : Bool) → a ≡ true → b ≡ true → c ≡ true → d ≡ true → (a && b && c && d) ≡ true
-    by a b c d e f g h = (λ i. e i && f i && g i && h i)
+    let who_fits : nat_lt o.who (count_of Kind.Goroutine decls.declarations) ≡ true = grind (arith, nat_tests, who) in
+    let place_fits : nat_lt (place_number decls.places o.place) (length (with_places decls o).places) ≡ true = grind (arith, nat_tests, less) in
+    λ i. (who_fits i && fitting.op i && place_fits i && both.1 i) && fitting.lock i
 
 -- what is refused with room for it is refused for memory
 pub memory_alone : {T E : Type 0} (r : Result T E) (e m : E) → IsOkUnless r m → r ≡ Err e → e ≡ m
@@ -107,14 +105,17 @@ memory_alone (Ok x) e m h is = cc
 memory_alone (Err d) e m h is = cc
 
 pub event_has_room : (t : TraceState) (e : Event) → fits t.decls e ≡ true → length t.events < MAX_EVENTS → push_fault t e ≡ None
-unfolding push_fault
-event_has_room t e fit room = by (fits t.decls e) fit (nat_le MAX_EVENTS (length t.events)) (grind (arith, nat_tests))
+unfolding push_fault fits
+event_has_room t e fit room =
+    let full : nat_le MAX_EVENTS (length t.events) ≡ false = grind (arith, nat_tests) in
+    by (is_in_range t.decls e) (lock_fits t.decls.declarations e.op) fit (nat_le MAX_EVENTS (length t.events)) full
   where
-    by : (a : Bool) → a ≡ true → (b : Bool) → b ≡ false
-        → ◌≡◌ {A = Option PushFault} (if not a then Some PushFault.BadNumber else (if b then Some PushFault.Full else None)) None
-    by true e true f = absurd (true≢false f)
-    by true e false f = refl
-    by false e b f = absurd (true≢false (sym e))
+    by : (a b : Bool) → (a && b) ≡ true → (c : Bool) → c ≡ false
+        → ◌≡◌ {A = Option PushFault} (if not a then Some PushFault.BadNumber else (if not b then Some PushFault.WrongKind else (if c then Some PushFault.Full else None))) None
+    by true true e true f = absurd (true≢false f)
+    by true true e false f = refl
+    by true false e c f = absurd (true≢false (sym e))
+    by false b e c f = absurd (true≢false (sym e))
 
 -- after its places were added there is room for the event
 pub draft_has_room : (old mid : TraceState) (o : Occurrence) (e : Event) → IsFitting old.decls o → length old.events < MAX_EVENTS
@@ -144,7 +145,7 @@ clean_line s line clean = ap (λ b. if b then Some TextCause.BadByte else word_c
 
 -- an event that a line says fits
 pub fitting : (decls : DeclsState) (line : List ℕ) (o : Occurrence) → IsEventLine decls.declarations line o → IsFitting decls o
-fitting decls line o is = record { place = is.places.first; second = is.places.second; two = is.places.count; who = is.who; op = is.op; value = is.value }
+fitting decls line o is = record { place = is.places.first; second = is.places.second; two = is.places.count; who = is.who; op = is.op; lock = is.lock; value = is.value }
 
 -- an event that was appended, or refused
 module _ (old new : TraceState) (line : List ℕ) (o : Occurrence) (read : IsRead old) (is : IsEventLine old.decls.declarations line o) where
@@ -167,7 +168,6 @@ module _ (old new : TraceState) (line : List ℕ) (o : Occurrence) (read : IsRea
         well_formed = subst IsWellFormed (sym added.decls) (places_well_formed old.decls o is.places.first is.places.second (omega (arith, few, room)) before.well_formed);
         is_trace = subst (λ (d : DeclsState). IsTrace (record { decls = d; events = new.events; spare = new.spare })) (sym added.decls)
             (push_is_trace mid e new.events new.spare (places_are_trace old o before.is_trace) is.value (event_has_room mid e fit added.room) added.events);
-        words = subst (λ (d : DeclsState). All (λ (x : Declaration). IsTrue (has_known_word x.object)) d.declarations) (sym added.decls) before.words;
       }
 
   pub event_taken : AppendsEvent old new o → TakesLine (lines old) line new
@@ -224,7 +224,8 @@ late_declaration ds events word kind words is some h = by (length words == lengt
     by false h = none-some TextCause.WrongCount (sym h)
     by true h =
         let told = late ds events kind some in
-        or_else_some (fields_cause ds (fields_of word) words) told.0 (ap (or_else (fields_cause ds (fields_of word) words)) (sym (ap (room_cause (seen_so_far ds events)) is ∙ told.1)) ∙ h)
+        or_else_some (fields_cause ds (fields_of word) words) told.0
+        (ap (or_else (fields_cause ds (fields_of word) words)) (sym (ap (room_cause (seen_so_far ds events)) is ∙ told.1)) ∙ h)
 
 no_event : (ds : List Declaration) (events : ℕ) (word : Option Word) (args : List (List ℕ)) → event_by ds word args ≡ None
     → (is_declaration_word word ≡ true → 0 < events)

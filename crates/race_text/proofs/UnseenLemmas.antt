@@ -7,13 +7,13 @@ use Rattle.race_records.specs.declared.event.Cause.{Cause}
 use Rattle.race_records.specs.declared.parts.Part.{Part}
 use Rattle.race_records.specs.declared.parts.PartKind.{PartKind}
 use Rattle.race_records.specs.Name.{is_name, is_place, is_place_byte}
-use Rattle.race_records.specs.Declarations.{Declaration, DeclsState, IsWellFormed, find_name}
+use Rattle.race_records.specs.Declarations.{Declaration, DeclsState, IsWellFormed}
 use Rattle.race_text.specs.declared.form.Word.{Word}
 use Rattle.race_text.specs.Words.{number}
 use Rattle.race_text.specs.Form.{word_named, first_word}
-use Rattle.race_text.specs.Reading.{object_as, cases_in, failure_in, with_rest, first_part, first_place, event_by, event_in}
+use Rattle.race_text.specs.Reading.{as_wanted, named_in, cases_in, failure_in, with_rest, first_part, first_place, event_by, event_in}
 use Rattle.race_text.proofs.CaseWords.{is_cases, cases_visible}
-use Rattle.race_text.proofs.FailureWords.{is_failure, failure_visible}
+use Rattle.race_text.proofs.FailureWords.{is_failure, failure_again}
 use Rattle.race_text.proofs.CleanLemmas.{place_is_visible, number_is_visible}
 use Rattle.race_text.proofs.WordTable.{word_is_seen}
 use Rattle.race_text.proofs.FoundLemmas.{unnamed_is_absent}
@@ -23,13 +23,18 @@ is_false : (b seen : Bool) → (b ≡ true → seen ≡ true) → seen ≡ false
 is_false true seen h unseen = absurd (true≢false (sym (h refl) ∙ unseen))
 is_false false seen h unseen = refl
 
-unseen_is_absent : (decls : DeclsState) (w : List ℕ) → IsWellFormed decls → list_all is_place_byte w ≡ false → find_name decls.declarations w ≡ None
-unseen_is_absent decls w holds h = unnamed_is_absent decls w holds (is_false (is_name w) (list_all is_place_byte w) (name_is_visible w) h)
+pub no_name : (decls : DeclsState) (kind : PartKind) (w : List ℕ) → IsWellFormed decls → is_name w ≡ false → named_in decls.declarations kind w ≡ None
+no_name decls kind w holds h = ap (option_and_then (as_wanted decls.declarations kind)) (unnamed_is_absent decls w holds h)
+
+unseen_name : (decls : DeclsState) (kind : PartKind) (w : List ℕ) → IsWellFormed decls → list_all is_place_byte w ≡ false
+    → named_in decls.declarations kind w ≡ None
+unseen_name decls kind w holds h = no_name decls kind w holds (is_false (is_name w) (list_all is_place_byte w) (name_is_visible w) h)
 
 pub unseen_part : (decls : DeclsState) (kind : PartKind) (ws : List (List ℕ)) → IsWellFormed decls → list_all is_place_byte (first_word ws) ≡ false
     → first_part decls.declarations kind ws ≡ None
 unseen_part decls kind [] holds h = refl
-unseen_part decls (PartKind.Object kind) (w ∷ ws) holds h = ap (λ o. option_map (with_rest ws) (option_and_then (object_as kind) o)) (unseen_is_absent decls w holds h)
+unseen_part decls (PartKind.Object kind) (w ∷ ws) holds h = ap (λ o. option_map (with_rest ws) (option_map Part.Object o)) (unseen_name decls (PartKind.Object kind) w holds h)
+unseen_part decls PartKind.RwMutex (w ∷ ws) holds h = ap (λ o. option_map (with_rest ws) (option_map Part.Object o)) (unseen_name decls PartKind.RwMutex w holds h)
 unseen_part decls PartKind.Value (w ∷ ws) holds h = by (number (2 ^ 64 - 1) w) refl
   where
     by : (o : Option ℕ) → number (2 ^ 64 - 1) w ≡ o → option_map (with_rest ws) (option_map Part.Value o) ≡ None
@@ -48,7 +53,7 @@ unseen_part decls PartKind.Cause (w ∷ ws) holds h = by (failure_in decls.decla
     by None e = refl
     by (Some cause) e =
         let is = is_failure decls holds w cause e in
-        absurd (true≢false (sym (ap (list_all is_place_byte) is.text ∙ failure_visible decls holds cause is.fits) ∙ h))
+        absurd (true≢false (sym (ap (list_all is_place_byte) is.text ∙ (failure_again decls holds cause is.fits is.lock).1) ∙ h))
 
 pub unseen_place : (ws : List (List ℕ)) → list_all is_place_byte (first_word ws) ≡ false → first_place ws ≡ None
 unseen_place [] h = refl

@@ -1,5 +1,5 @@
 -- The table of words, and its way back.
-use Rattle.std.proofs.Common.{◌≡◌, ℕ, Bool, true, false, is_some, if◌then◌else◌, List, [], ◌∷◌, map, Some, refl, sym, ap, ◌∙◌}
+use Rattle.std.proofs.Common.{◌≡◌, ℕ, Bool, true, false, if◌then◌else◌, List, [], ◌∷◌, map, Some, refl, sym, ◌∙◌}
 use Rattle.std.proofs.lemmas.Option.{none-some, same_Some}
 use Rattle.std.proofs.lemmas.Slice.Eq.{bytes_eq-Decides}
 use Rattle.std.specs.List.{list_all}
@@ -11,8 +11,8 @@ use Rattle.race_records.specs.Name.{is_place_byte}
 use Rattle.race_records.specs.Nouns.{object_says}
 use Rattle.race_text.specs.declared.form.Word.{Word}
 use Rattle.race_text.specs.declared.form.TheConstants.{WORDS}
-use Rattle.race_text.specs.Form.{lookup, word_named, first_word}
-use Rattle.race_text.specs.Text.{object_words, has_known_word}
+use Rattle.race_text.specs.Form.{lookup, word_named}
+use Rattle.race_text.specs.Text.{object_words}
 use Rattle.race_text.specs.Writing.{noun_text, number_words, verb_text}
 use Rattle.race_text.proofs.WordLemmas.{both}
 
@@ -50,14 +50,10 @@ unfolding word_named
 verb_again Verb.Go = refl
 verb_again _ = refl
 
--- a noun that is found is found at its own word
-pub noun_is_known : (w : List ℕ) (noun : Noun) → word_named w ≡ Some (Word.Declares noun) → is_some (word_named (noun_text noun)) ≡ true
-noun_is_known w noun h = ap (λ v. is_some (word_named v)) (sym (word_spelled w (Word.Declares noun) h)) ∙ ap is_some h
-
-pub noun_again : (noun : Noun) → is_some (word_named (noun_text noun)) ≡ true → word_named (noun_text noun) ≡ Some (Word.Declares noun)
+pub noun_again : (noun : Noun) → word_named (noun_text noun) ≡ Some (Word.Declares noun)
 unfolding word_named
-noun_again Noun.Goroutine known = refl
-noun_again _ known = cc
+noun_again Noun.Goroutine = refl
+noun_again _ = refl
 
 -- the words of a declaration are what it says
 pub object_words_are : (name : List ℕ) (object : Object)
@@ -68,7 +64,3 @@ object_words_are name (Object.Chan capacity) = refl
 object_words_are name (Object.Lock false) = refl
 object_words_are name (Object.Lock true) = refl
 object_words_are name Object.Once = refl
-
--- so it has a known word where its noun's is
-pub known_by_noun : (object : Object) → has_known_word object ≡ is_some (word_named (noun_text (object_says object).0))
-known_by_noun object = ap (λ ws. is_some (word_named (first_word ws))) (object_words_are [] object)

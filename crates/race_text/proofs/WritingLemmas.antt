@@ -48,7 +48,8 @@ line_behind ds a [] place (Some second) = ended_more a place (second ∷ []) ∙
 line_behind ds a (part ∷ parts) place place2 =
     ended_more a (part_text ds part) (map (part_text ds) parts ++ place_words place place2)
     ∙ ap (λ l. a ++ 32 ∷ l) (line_behind ds (part_text ds part) parts place place2)
-    ∙ ap (λ l. a ++ l) (sym (ap (λ l. l ++ place_end place place2) (flat_map-cons (behind_space ds) part parts) ∙ append_assoc (behind_space ds part) (parts_text ds parts) (place_end place place2)))
+    ∙ ap (λ l. a ++ l) (sym (ap (λ l. l ++ place_end place place2) (flat_map-cons (behind_space ds) part parts)
+    ∙ append_assoc (behind_space ds part) (parts_text ds parts) (place_end place place2)))
 
 -- the line of an event in three pieces: its word and its goroutine, its parts, and its places
 pub event_text : (decls : DeclsState) (e : Event) (word who place : List ℕ) (place2 : Option (List ℕ)) (verb : Verb) (parts : List Part) → word ≡ verb_text verb

@@ -42,3 +42,7 @@ unknown_name = codes "gotrace 1\ngoroutine a\nvar x\nread a y 0 p\n"
 -- names in each other's place
 abbrev pub wrong_kind : List ℕ
 wrong_kind = codes "gotrace 1\ngoroutine a\nvar x\nread x a 0 p\n"
+
+-- a mutex where an rwmutex is wanted
+abbrev pub mutex_for_rwmutex : List ℕ
+mutex_for_rwmutex = codes "gotrace 1\ngoroutine a\nmutex m\nrwmutex l\nonce o\nrlock main m p\n"

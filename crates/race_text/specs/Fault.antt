@@ -11,7 +11,7 @@ use Rattle.race_records.specs.declared.kind.Object.{Object}
 use Rattle.race_records.specs.declared.parts.PartKind.{PartKind}
 use Rattle.race_records.specs.declared.trace.TheConstants.{MAX_EVENTS}
 use Rattle.race_records.specs.Name.{is_name, is_place}
-use Rattle.race_records.specs.Declarations.{Declaration, find_name, is_named, count_of, limit_of}
+use Rattle.race_records.specs.Declarations.{Declaration, find_name, count_of, limit_of}
 use Rattle.race_records.specs.Nouns.{object_by}
 use Rattle.race_text.specs.declared.cause.TextCause.{TextCause}
 use Rattle.race_text.specs.declared.cause.TextFault.{TextFault}
@@ -20,7 +20,7 @@ use Rattle.race_text.specs.declared.form.Field.{Field}
 use Rattle.race_text.specs.Words.{parts_of, words_of, has_bad_byte, number}
 use Rattle.race_text.specs.Select.{no_cases, nil, close_nil, pieces_of, SpelledCase, case_spelled, SpelledFailure, failure_spelled, kind_tried}
 use Rattle.race_text.specs.Text.{header}
-use Rattle.race_text.specs.Form.{word_named, fields_of, kind_declared, first_word, arguments}
+use Rattle.race_text.specs.Form.{word_named, fields_of, is_wanted, kind_declared, first_word, arguments}
 
 -- the place of a cause in the order in which a line is tested. Two never come of a trace's line: a block is of a program's
 -- text, and memory is told by calls alone
@@ -92,13 +92,13 @@ unfoldable pub seen : List (List ℕ) → Seen
 seen before = seen_so_far (filter_map declaration_in before) (count_by is_event_line before)
 
 -- what is found for a used name is nothing, or of another kind than is wanted
-abbrev pub use_cause : Kind → Option Named → Option TextCause
-use_cause kind None = Some TextCause.Unknown
-use_cause kind (Some named) = if is_named kind named then None else Some TextCause.WrongKind
+abbrev pub use_cause : List Declaration → PartKind → Option Named → Option TextCause
+use_cause ds kind None = Some TextCause.Unknown
+use_cause ds kind (Some named) = if is_wanted ds kind named then None else Some TextCause.WrongKind
 
 -- the least cause of a used name
-abbrev pub used_name_cause : Kind → List Declaration → List ℕ → Option TextCause
-used_name_cause kind ds w = if not (is_name w) then Some TextCause.BadName else use_cause kind (find_name ds w)
+abbrev pub used_name_cause : List Declaration → PartKind → List ℕ → Option TextCause
+used_name_cause ds kind w = if not (is_name w) then Some TextCause.BadName else use_cause ds kind (find_name ds w)
 
 -- the least cause of a name that is declared
 abbrev pub new_name_cause : List Declaration → List ℕ → Option TextCause
@@ -113,7 +113,7 @@ number_cause limit w = if is_none (number limit w) then Some TextCause.BadNumber
 -- the least cause of one case of a select: it has another form, or names what is no channel
 abbrev pub case_cause : List Declaration → Option SpelledCase → Option TextCause
 case_cause ds None = Some TextCause.BadName
-case_cause ds (Some case) = if bytes_eq case.1 nil then None else used_name_cause Kind.Chan ds case.1
+case_cause ds (Some case) = if bytes_eq case.1 nil then None else used_name_cause ds (PartKind.Object Kind.Chan) case.1
 
 -- the least cause of them all
 abbrev pub pieces_cause : List Declaration → Option TextCause → List (List ℕ) → Option TextCause
@@ -128,14 +128,15 @@ cases_cause ds w =
 -- the least cause of the word that says why a run failed
 abbrev pub spelled_failure_cause : List Declaration → Option SpelledFailure → Option TextCause
 spelled_failure_cause ds None = Some TextCause.BadName
-spelled_failure_cause ds (Some failure) = used_name_cause (kind_tried failure.0) ds failure.1
+spelled_failure_cause ds (Some failure) = used_name_cause ds (kind_tried failure.0) failure.1
 
 abbrev pub failure_cause : List Declaration → List ℕ → Option TextCause
 failure_cause ds w = if bytes_eq w close_nil then None else spelled_failure_cause ds (failure_spelled w)
 
 -- the least cause of what an operation names
 abbrev pub part_cause : List Declaration → PartKind → List ℕ → Option TextCause
-part_cause ds (PartKind.Object kind) w = used_name_cause kind ds w
+part_cause ds (PartKind.Object kind) w = used_name_cause ds (PartKind.Object kind) w
+part_cause ds PartKind.RwMutex w = used_name_cause ds PartKind.RwMutex w
 part_cause ds PartKind.Value w = number_cause (2 ^ 64 - 1) w
 part_cause ds PartKind.Cases w = cases_cause ds w
 part_cause ds PartKind.Cause w = failure_cause ds w

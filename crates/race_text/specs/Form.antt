@@ -2,7 +2,9 @@
 use Rattle.std.specs.Prelude.{ℕ, Bool, true, false, if◌then◌else◌, List, [], ◌∷◌, ◌++◌, map, Option, Some, None}
 use Rattle.std.specs.Str.{bytes_eq}
 use Rattle.race_records.specs.declared.kind.Kind.{Kind}
+use Rattle.race_records.specs.declared.kind.Named.{Named}
 use Rattle.race_records.specs.declared.parts.PartKind.{PartKind}
+use Rattle.race_records.specs.Declarations.{Declaration, is_named, is_rw}
 use Rattle.race_records.specs.Nouns.{number_limit, kind_of_noun}
 use Rattle.race_records.specs.Parts.{part_kinds, has_two_places}
 use Rattle.race_text.specs.declared.form.Word.{Word}
@@ -33,6 +35,12 @@ place_fields true = Field.Place ∷ Field.Place ∷ []
 abbrev pub fields_of : Word → List Field
 fields_of (Word.Declares noun) = Field.NewName ∷ number_fields (number_limit noun)
 fields_of (Word.Does verb) = Field.Part (PartKind.Object Kind.Goroutine) ∷ map Field.Part (part_kinds verb) ++ place_fields (has_two_places verb)
+
+-- what is named is an object of the kind that is wanted; which lock is an rwmutex, the declarations tell
+abbrev pub is_wanted : List Declaration → PartKind → Named → Bool
+is_wanted ds (PartKind.Object kind) named = is_named kind named
+is_wanted ds PartKind.RwMutex (Named.Lock l) = is_rw ds l
+is_wanted ds _ named = false
 
 -- the kind of what a line of the word declares, where it declares anything
 abbrev pub kind_declared : Word → Option Kind

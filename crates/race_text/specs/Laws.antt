@@ -2,6 +2,7 @@
 use Rattle.std.specs.Prelude.{◌≡◌, ℕ, List, ◌∷◌, Some, None}
 use Rattle.race_records.specs.declared.event.Op.{Op}
 use Rattle.race_records.specs.declared.kind.Object.{Object}
+use Rattle.race_records.specs.declared.nouns.Noun.{Noun}
 use Rattle.race_records.specs.declared.parts.Verb.{Verb}
 use Rattle.race_records.specs.Declarations.{Declaration}
 use Rattle.race_records.specs.Events.{TraceState}
@@ -19,13 +20,14 @@ abbrev pub IsOnlyTraceOf : List ℕ → TraceState → Type 0
 IsOnlyTraceOf bytes t = (u : TraceState) → IsTextOf u bytes → recorded u ≡ recorded t
 
 -- each line that is printed has the words of the table from which the code reads and prints: those of what its declaration
--- or its operation says; and each word of an operation is known as itself
+-- or its operation says; and each word of a declaration or of an operation is known as itself
 pub record LinesFollowTheTables : Type 0 where
   pub declarations : (name : List ℕ) (object : Object)
       → object_words name object ≡ noun_text (object_says object).0 ∷ name ∷ number_words (object_says object).1
   pub events : (ds : List Declaration) (who : List ℕ) (places : List (List ℕ)) (op : Op)
       → op_words ds who places op ≡ said_words ds who places (says op).0 (says op).1
-  pub known : (verb : Verb) → word_named (verb_text verb) ≡ Some (Word.Does verb)
+  pub noun_known : (noun : Noun) → word_named (noun_text noun) ≡ Some (Word.Declares noun)
+  pub verb_known : (verb : Verb) → word_named (verb_text verb) ≡ Some (Word.Does verb)
 
 -- the text of a trace has no fault
 abbrev pub TextsHaveNoFault : Type 0

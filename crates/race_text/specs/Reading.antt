@@ -14,14 +14,14 @@ use Rattle.race_records.specs.declared.kind.Named.{Named}
 use Rattle.race_records.specs.declared.parts.Part.{Part}
 use Rattle.race_records.specs.declared.parts.PartKind.{PartKind}
 use Rattle.race_records.specs.declared.parts.Verb.{Verb}
-use Rattle.race_records.specs.Name.{is_name, is_place}
-use Rattle.race_records.specs.Declarations.{Declaration, find_name, is_named}
+use Rattle.race_records.specs.Name.{is_place}
+use Rattle.race_records.specs.Declarations.{Declaration, find_name, number_of}
 use Rattle.race_records.specs.Parts.{op_by, part_kinds, has_two_places}
 use Rattle.race_text.specs.declared.event.Draft.{Draft}
 use Rattle.race_text.specs.declared.form.Word.{Word}
 use Rattle.race_text.specs.Words.{parts_left, number}
-use Rattle.race_text.specs.Form.{word_named}
-use Rattle.race_text.specs.Select.{no_cases, nil, close_nil, pieces_of, SpelledCase, case_spelled, SpelledFailure, failure_spelled, cause_by}
+use Rattle.race_text.specs.Form.{word_named, is_wanted}
+use Rattle.race_text.specs.Select.{no_cases, nil, close_nil, pieces_of, SpelledCase, case_spelled, SpelledFailure, failure_spelled, kind_tried, cause_by}
 
 -- an event with its places as they are spelled
 pub record Occurrence : Type 0 where
@@ -46,17 +46,19 @@ places_read places = (places.0.now, option_map (λ place. place.now) places.1)
 abbrev pub drafted : Draft → Occurrence
 drafted draft = occurrence draft.who draft.op (places_read (draft.place, draft.place2))
 
--- the object, where it is of the kind
-abbrev pub object_as : Kind → Named → Option Part
-object_as kind named = if is_named kind named then Some (Part.Object named) else None
+-- what a word names, where that is wanted
+abbrev pub as_wanted : List Declaration → PartKind → Named → Option Named
+as_wanted ds kind named = if is_wanted ds kind named then Some named else None
+
+abbrev pub named_in : List Declaration → PartKind → List ℕ → Option Named
+named_in ds kind w = option_and_then (as_wanted ds kind) (find_name ds w)
 
 -- what a word says as a channel, or nil
-abbrev pub chan_of : Named → Option (Option ℕ)
-chan_of (Named.Chan c) = Some (Some c)
-chan_of _ = None
+abbrev pub chan_of : Named → Option ℕ
+chan_of named = Some (number_of named)
 
 abbrev pub chan_in : List Declaration → List ℕ → Option (Option ℕ)
-chan_in ds w = if bytes_eq w nil then Some None else (if is_name w then option_and_then chan_of (find_name ds w) else None)
+chan_in ds w = if bytes_eq w nil then Some None else option_map chan_of (named_in ds (PartKind.Object Kind.Chan) w)
 
 -- and as a case of a select
 abbrev pub case_with : Dir → Option ℕ → Case
@@ -80,14 +82,15 @@ cases_in ds w = if bytes_eq w no_cases then Some [] else cases_on ds [] (pieces_
 
 -- why a run failed
 abbrev pub spelled_failure_in : List Declaration → SpelledFailure → Option Cause
-spelled_failure_in ds failure = if is_name failure.1 then option_and_then (cause_by failure.0) (find_name ds failure.1) else None
+spelled_failure_in ds failure = option_map (cause_by failure.0) (named_in ds (kind_tried failure.0) failure.1)
 
 abbrev pub failure_in : List Declaration → List ℕ → Option Cause
 failure_in ds w = if bytes_eq w close_nil then Some Cause.CloseNil else option_and_then (spelled_failure_in ds) (failure_spelled w)
 
 -- what a word says as a part of this kind
 abbrev pub part_in : List Declaration → PartKind → List ℕ → Option Part
-part_in ds (PartKind.Object kind) w = option_and_then (object_as kind) (find_name ds w)
+part_in ds (PartKind.Object kind) w = option_map Part.Object (named_in ds (PartKind.Object kind) w)
+part_in ds PartKind.RwMutex w = option_map Part.Object (named_in ds PartKind.RwMutex w)
 part_in ds PartKind.Value w = option_map Part.Value (number (2 ^ 64 - 1) w)
 part_in ds PartKind.Cases w = option_map Part.Cases (cases_in ds w)
 part_in ds PartKind.Cause w = option_map Part.Cause (failure_in ds w)

@@ -1,13 +1,16 @@
 -- The words of the cases of a select, and of why a run failed: how they are spelled, before any name is looked up.
-use Rattle.std.specs.Prelude.{ℕ, ◌==◌, if◌then◌else◌, List, length, take, drop, codes, Option, Some, None}
+use Rattle.std.specs.Prelude.{ℕ, ◌==◌, if◌then◌else◌, List, [], ◌∷◌, length, map, take, drop, codes, Option, Some, None}
 use Rattle.std.specs.List.{slice_split}
 use Rattle.std.specs.Str.{bytes_eq}
 use Rattle.race_records.specs.declared.cases.Dir.{Dir}
 use Rattle.race_records.specs.declared.event.Cause.{Cause}
-use Rattle.race_records.specs.declared.event.Cause.TheVariants.{SendClosed, CloseClosed}
+use Rattle.race_records.specs.declared.event.Cause.TheVariants.{SendClosed, CloseClosed, UnlockFree, RUnlockFree}
 use Rattle.race_records.specs.declared.kind.Kind.{Kind}
 use Rattle.race_records.specs.declared.kind.Named.{Named}
+use Rattle.race_records.specs.declared.parts.PartKind.{PartKind}
+use Rattle.race_records.specs.Declarations.{number_of}
 use Rattle.race_text.specs.declared.select.Attempt.{Attempt}
+use Rattle.race_text.specs.declared.select.TheConstants.{ATTEMPTS}
 
 -- the word of no case
 abbrev pub no_cases : List ℕ
@@ -47,23 +50,30 @@ case_spelled word = case_by (behind (codes "send:") word) (behind (codes "recv:"
 abbrev pub SpelledFailure : Type 0
 SpelledFailure = Attempt × List ℕ
 
--- the same of a failure
-abbrev pub failure_by : Option (List ℕ) → Option (List ℕ) → Option SpelledFailure
-failure_by (Some sent) closed = Some (Attempt.Send, sent)
-failure_by None (Some closed) = Some (Attempt.Close, closed)
-failure_by None None = None
+-- the failure whose front the word begins with, and else a later one
+abbrev pub failure_by : Attempt → Option (List ℕ) → Option SpelledFailure → Option SpelledFailure
+failure_by attempt (Some name) later = Some (attempt, name)
+failure_by attempt None later = later
 
--- a failure as it is spelled
+-- by the fronts of a table
+abbrev pub failure_among : List (List ℕ × Attempt) → List ℕ → Option SpelledFailure
+failure_among [] word = None
+failure_among (entry ∷ entries) word = failure_by entry.1 (behind entry.0 word) (failure_among entries word)
+
+-- a failure as it is spelled, by the table of attempts in src/select.rt
 abbrev pub failure_spelled : List ℕ → Option SpelledFailure
-failure_spelled word = failure_by (behind (codes "send:") word) (behind (codes "close:") word)
+failure_spelled word = failure_among (map (λ entry. (entry.0.now, entry.1)) ATTEMPTS) word
 
--- the kind of object that this can fail at
-abbrev pub kind_tried : Attempt → Kind
-kind_tried Attempt.Send = Kind.Chan
-kind_tried Attempt.Close = Kind.Chan
+-- what this can fail at
+abbrev pub kind_tried : Attempt → PartKind
+kind_tried Attempt.Send = PartKind.Object Kind.Chan
+kind_tried Attempt.Close = PartKind.Object Kind.Chan
+kind_tried Attempt.Unlock = PartKind.Object Kind.Lock
+kind_tried Attempt.RUnlock = PartKind.RwMutex
 
 -- the cause of a run that failed when it tried this with the object
-abbrev pub cause_by : Attempt → Named → Option Cause
-cause_by Attempt.Send (Named.Chan c) = Some (SendClosed c)
-cause_by Attempt.Close (Named.Chan c) = Some (CloseClosed c)
-cause_by _ _ = None
+abbrev pub cause_by : Attempt → Named → Cause
+cause_by Attempt.Send named = SendClosed (number_of named)
+cause_by Attempt.Close named = CloseClosed (number_of named)
+cause_by Attempt.Unlock named = UnlockFree (number_of named)
+cause_by Attempt.RUnlock named = RUnlockFree (number_of named)

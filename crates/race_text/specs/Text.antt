@@ -1,20 +1,19 @@
 -- The text of a trace. It prints: nothing here reads.
-use Rattle.std.specs.Prelude.{ℕ, Bool, true, false, List, [], ◌∷◌, ◌++◌, map, codes, slice_get, unwrap_or, Option, Some, None, is_some, ◌≡◌, IsTrue, All}
+use Rattle.std.specs.Prelude.{ℕ, true, false, List, [], ◌∷◌, ◌++◌, map, codes, slice_get, unwrap_or, Option, Some, None, ◌≡◌}
 use Rattle.std.specs.List.{flat_map, join_with_byte}
 use Rattle.std.specs.Fmt.{decimal}
 use Rattle.std.specs.Option.{option_map}
 use Rattle.race_records.specs.declared.event.Event.{Event}
 use Rattle.race_records.specs.declared.event.Op.{Op}
-use Rattle.race_records.specs.declared.event.Op.TheVariants.{Go, Exit, Read, Write, Send, Recv, Meet, RecvClosed, Close, Default, Fault}
+use Rattle.race_records.specs.declared.event.Op.TheVariants.{Go, Exit, Read, Write, Send, Recv, Meet, RecvClosed, Close, Default, Lock, Unlock, RLock, RUnlock, OnceBegin, OnceEnd, OnceDone, Fault}
 use Rattle.race_records.specs.declared.event.Cause.{Cause}
-use Rattle.race_records.specs.declared.event.Cause.TheVariants.{SendClosed, CloseClosed, CloseNil}
+use Rattle.race_records.specs.declared.event.Cause.TheVariants.{SendClosed, CloseClosed, CloseNil, UnlockFree, RUnlockFree}
 use Rattle.race_records.specs.declared.cases.Case.{Case}
 use Rattle.race_records.specs.declared.cases.Dir.{Dir}
 use Rattle.race_records.specs.declared.kind.Named.{Named}
 use Rattle.race_records.specs.declared.kind.Object.{Object}
 use Rattle.race_records.specs.Declarations.{Declaration, DeclsState, IsWellFormed, name_of}
 use Rattle.race_records.specs.Events.{TraceState, IsTrace}
-use Rattle.race_text.specs.Form.{word_named, first_word}
 
 -- the first line
 abbrev pub header : List ℕ
@@ -33,10 +32,6 @@ object_words name (Object.Lock false) = codes "mutex" ∷ name ∷ []
 object_words name (Object.Lock true) = codes "rwmutex" ∷ name ∷ []
 object_words name Object.Once = codes "once" ∷ name ∷ []
 
--- the first of them is a word that a line may begin with
-abbrev pub has_known_word : Object → Bool
-has_known_word object = is_some (word_named (first_word (object_words [] object)))
-
 -- the line of a declaration
 abbrev pub declaration_line : Declaration → List ℕ
 declaration_line d = line_of (object_words d.name d.object)
@@ -52,6 +47,14 @@ var_name ds n = unwrap_or (name_of ds (Named.Var n)) []
 -- the name by which a channel's number is printed
 abbrev pub chan_name : List Declaration → ℕ → List ℕ
 chan_name ds n = unwrap_or (name_of ds (Named.Chan n)) []
+
+-- the name by which a mutex's or an rwmutex's number is printed
+abbrev pub lock_name : List Declaration → ℕ → List ℕ
+lock_name ds n = unwrap_or (name_of ds (Named.Lock n)) []
+
+-- the name by which a once's number is printed
+abbrev pub once_name : List Declaration → ℕ → List ℕ
+once_name ds n = unwrap_or (name_of ds (Named.Once n)) []
 
 -- a channel, or nil
 abbrev pub chan_text : List Declaration → Option ℕ → List ℕ
@@ -76,6 +79,8 @@ abbrev pub failure_text : List Declaration → Cause → List ℕ
 failure_text ds (SendClosed c) = codes "send:" ++ chan_name ds c
 failure_text ds (CloseClosed c) = codes "close:" ++ chan_name ds c
 failure_text ds CloseNil = codes "close:nil"
+failure_text ds (UnlockFree l) = codes "unlock:" ++ lock_name ds l
+failure_text ds (RUnlockFree l) = codes "runlock:" ++ lock_name ds l
 
 -- the place by which its number is printed
 abbrev pub place_text : List (List ℕ) → ℕ → List ℕ
@@ -102,6 +107,13 @@ op_words ds who places (Meet r c v) = codes "meet" ∷ who ∷ goroutine_name ds
 op_words ds who places (RecvClosed c) = codes "recvclosed" ∷ who ∷ chan_name ds c ∷ places
 op_words ds who places (Close c) = codes "close" ∷ who ∷ chan_name ds c ∷ places
 op_words ds who places (Default cases) = codes "default" ∷ who ∷ cases_text ds cases ∷ places
+op_words ds who places (Lock l) = codes "lock" ∷ who ∷ lock_name ds l ∷ places
+op_words ds who places (Unlock l) = codes "unlock" ∷ who ∷ lock_name ds l ∷ places
+op_words ds who places (RLock l) = codes "rlock" ∷ who ∷ lock_name ds l ∷ places
+op_words ds who places (RUnlock l) = codes "runlock" ∷ who ∷ lock_name ds l ∷ places
+op_words ds who places (OnceBegin o) = codes "oncebegin" ∷ who ∷ once_name ds o ∷ places
+op_words ds who places (OnceEnd o) = codes "onceend" ∷ who ∷ once_name ds o ∷ places
+op_words ds who places (OnceDone o) = codes "oncedone" ∷ who ∷ once_name ds o ∷ places
 op_words ds who places (Fault cause) = codes "fault" ∷ who ∷ failure_text ds cause ∷ places
 
 -- the line of an event
@@ -121,12 +133,11 @@ ended line = line ++ 10 ∷ []
 unfoldable pub text : TraceState → List ℕ
 text t = flat_map ended (lines t)
 
--- a trace whose text counts: its declarations are well formed and each begins with a known word, its events fit them,
--- each value is a u64, no select has more than 16 cases, and there are not too many events
+-- a trace whose text counts: its declarations are well formed, its events fit them, each value is a u64, no select has more
+-- than 16 cases, and there are not too many events
 pub record HasText (t : TraceState) : Type 0 where
   pub well_formed : IsWellFormed t.decls
   pub is_trace : IsTrace t
-  pub words : All (λ (d : Declaration). IsTrue (has_known_word d.object)) t.decls.declarations
 
 -- the bytes are the trace's text
 pub record IsTextOf (t : TraceState) (bytes : List ℕ) : Type 0 where

@@ -60,6 +60,13 @@ verb_text Verb.Meet = codes "meet"
 verb_text Verb.RecvClosed = codes "recvclosed"
 verb_text Verb.Close = codes "close"
 verb_text Verb.Default = codes "default"
+verb_text Verb.Lock = codes "lock"
+verb_text Verb.Unlock = codes "unlock"
+verb_text Verb.RLock = codes "rlock"
+verb_text Verb.RUnlock = codes "runlock"
+verb_text Verb.OnceBegin = codes "oncebegin"
+verb_text Verb.OnceEnd = codes "onceend"
+verb_text Verb.OnceDone = codes "oncedone"
 verb_text Verb.Fault = codes "fault"
 
 -- what is printed of a part

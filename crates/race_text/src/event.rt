@@ -1,18 +1,18 @@
 //! Lines that are events. Slices and parts go through memory at a call, so the path of the common
 //! words is one function, and what a select or a fault says is read by others.
-ghost use Rattle.std.specs.Prelude.{◌≡◌, ◌-◌, ◌≤◌, ◌<◌, ◌^◌, [], ◌∷◌, length, true, IfSome};
+ghost use Rattle.std.specs.Prelude.{◌≡◌, ◌≤◌, ◌<◌, [], length, true, IfSome};
 ghost use Rattle.std.specs.List.{list_all};
 ghost use Rattle.std.specs.Option.{option_map};
 ghost use Rattle.race_records.specs.Name.{is_place_byte};
-ghost use Rattle.race_records.specs.Declarations.{IsWellFormed, find_name};
+ghost use Rattle.race_records.specs.Declarations.{IsWellFormed};
 ghost use Rattle.race_text.specs.Words.{parts_left, words_of};
 ghost use Rattle.race_text.specs.Reading as spec;
 
 use crate::cut::{cut_at, cut_word};
-use crate::fields::{as_text, look_up};
+use crate::fields::{as_text, is_wanted};
 use crate::form::{Word, word_named};
 use crate::number::read_number;
-use crate::select::{case_spelled, cause_by, failure_spelled};
+use crate::select::{case_spelled, cause_by, failure_spelled, kind_tried};
 use race_records::{
     Case, Cases, Cause, Decls, Kind, MAX_PLACE_LEN, Named, Op, Part, PartKind, Parts, Verb,
     is_name, op_by, part_kinds,
@@ -82,7 +82,8 @@ fn goroutine_of(part: Part) -> Option<u32>
     }
 }
 
-// The operation of the word whose parts are of these kinds, and what is left behind it.
+// The operation of the word whose parts are of these kinds, and what is left behind it. Most are on
+// an object and with a value, and these are read with no list of their parts in memory.
 #[inline(always)]
 fn next_op<'a, A: Allocator>(
     decls: &Decls<A>,
@@ -96,27 +97,14 @@ fn next_op<'a, A: Allocator>(
         (parts_left 32 rest.entry) }
 {
     match kinds {
-        [PartKind::Object(kind), PartKind::Value] => valued_op(decls, verb, *kind, rest),
+        [PartKind::Object(kind), PartKind::Value] => {
+            let (object, rest) = next_part(decls, PartKind::Object(*kind), rest)?;
+            let (value, rest) = next_part(decls, PartKind::Value, rest)?;
+            let op = op_by(verb, [object, value].as_slice())?;
+            Some((op, rest))
+        }
         _ => other_op(decls, verb, kinds, rest),
     }
-}
-
-// An operation on an object and with a value, as most are: with no list of its parts in memory.
-#[inline(always)]
-fn valued_op<'a, A: Allocator>(
-    decls: &Decls<A>,
-    verb: Verb,
-    kind: Kind,
-    rest: Option<&'a [u8]>,
-) -> Option<(Op, Option<&'a [u8]>)>
-    requires { IsWellFormed decls.now }
-    ensures { option_map spec.op_so_far result ≡ spec.op_in decls.now.declarations verb
-        (PartKind.Object kind ∷ PartKind.Value ∷ []) (parts_left 32 rest.entry) }
-{
-    let (object, rest) = next_part(decls, PartKind::Object(kind), rest)?;
-    let (value, rest) = next_part(decls, PartKind::Value, rest)?;
-    let op = op_by(verb, [object, value].as_slice())?;
-    Some((op, rest))
 }
 
 // Any operation.
@@ -189,15 +177,9 @@ fn part_in<A: Allocator>(decls: &Decls<A>, kind: PartKind, word: &[u8]) -> Optio
     ensures { result ≡ spec.part_in decls.now.declarations kind word.now }
 {
     match kind {
-        PartKind::Object(kind) => match decls.find(as_text(word)) {
+        PartKind::Object(_) | PartKind::RwMutex => match object_in(decls, kind, word) {
             None => None,
-            Some(named) => {
-                if named.is_of(kind) {
-                    Some(Part::Object(named))
-                } else {
-                    None
-                }
-            }
+            Some(named) => Some(Part::Object(named)),
         },
         PartKind::Value => match read_number(word, u64::MAX) {
             None => None,
@@ -211,6 +193,36 @@ fn part_in<A: Allocator>(decls: &Decls<A>, kind: PartKind, word: &[u8]) -> Optio
             None => None,
             Some(cause) => Some(Part::Cause(cause)),
         },
+    }
+}
+
+// What a word names, where that is wanted.
+#[inline(always)]
+fn object_in<A: Allocator>(decls: &Decls<A>, kind: PartKind, word: &[u8]) -> Option<Named>
+    requires { list_all is_place_byte word.now ≡ true }
+    ensures { result ≡ spec.named_in decls.now.declarations kind word.now }
+{
+    match decls.find(as_text(word)) {
+        None => None,
+        Some(named) => {
+            if is_wanted(decls, kind, named) {
+                Some(named)
+            } else {
+                None
+            }
+        }
+    }
+}
+
+// The same of a piece of a word, which may be no name.
+fn named_in<A: Allocator>(decls: &Decls<A>, kind: PartKind, word: &[u8]) -> Option<Named>
+    requires { IsWellFormed decls.now }
+    ensures { result ≡ spec.named_in decls.now.declarations kind word.now }
+{
+    if is_name(word) {
+        object_in(decls, kind, word)
+    } else {
+        None
     }
 }
 
@@ -256,29 +268,23 @@ fn chan_in<A: Allocator>(decls: &Decls<A>, word: &[u8]) -> Option<Option<u32>>
     if word == b"nil".as_slice() {
         return Some(None);
     }
-    if !is_name(word) {
-        return None;
-    }
-    match look_up(decls, word)? {
-        Named::Chan(c) => Some(Some(c)),
-        _ => None,
-    }
+    let named = named_in(decls, PartKind::Object(Kind::Chan), word)?;
+    Some(Some(named.number()))
 }
 
 // Why a run failed.
 #[cold]
 #[inline(never)]
 fn failure_in<A: Allocator>(decls: &Decls<A>, word: &[u8]) -> Option<Cause>
+    requires { IsWellFormed decls.now }
     ensures { result ≡ spec.failure_in decls.now.declarations word.now }
 {
     if word == b"close:nil".as_slice() {
         return Some(Cause::CloseNil);
     }
     let (attempt, name) = failure_spelled(word)?;
-    if !is_name(name) {
-        return None;
-    }
-    cause_by(attempt, look_up(decls, name)?)
+    let named = named_in(decls, kind_tried(attempt), name)?;
+    Some(cause_by(attempt, named))
 }
 
 // The words that are left, which are a place, or two.

@@ -30,4 +30,6 @@ pub fn names_are_declared_first()
     ensures word { text_fault text.unknown_word ≡ Some (text.fault_at 9 TextCause.UnknownWord) }
     ensures unknown { text_fault text.unknown_name ≡ Some (text.fault_at 4 TextCause.Unknown) }
     ensures kind { text_fault text.wrong_kind ≡ Some (text.fault_at 4 TextCause.WrongKind) }
+    ensures rwmutex { text_fault text.mutex_for_rwmutex
+        ≡ Some (text.fault_at 6 TextCause.WrongKind) }
 {}

@@ -1,8 +1,9 @@
 //! The words behind the first, and the least cause that holds of them.
-ghost use Rattle.std.specs.Prelude.{◌≡◌, true, nat_lt, length, None, IsTrue};
+ghost use Rattle.std.specs.Prelude.{◌≡◌, true, nat_lt, length, None};
 ghost use Rattle.std.specs.List.{list_all};
 ghost use Rattle.race_records.specs.Name as name;
-ghost use Rattle.race_records.specs.Declarations.{find_name};
+ghost use Rattle.race_records.specs.Declarations.{IsDeclared, find_name};
+ghost use Rattle.race_text.specs.Form.{is_wanted};
 ghost use Rattle.race_text.specs.Words.{parts_left};
 ghost use Rattle.race_text.specs.Select.{pieces_of, case_spelled};
 ghost use Rattle.race_text.specs.Fault as spec;
@@ -24,7 +25,7 @@ pub(crate) fn as_text(word: &[u8]) -> &str
 }
 
 // What a name stands for.
-pub(crate) fn look_up<A: Allocator>(decls: &Decls<A>, word: &[u8]) -> Option<Named>
+fn look_up<A: Allocator>(decls: &Decls<A>, word: &[u8]) -> Option<Named>
     requires { name.is_name word.now ≡ true }
     ensures { result ≡ find_name decls.now.declarations word.now }
 {
@@ -43,8 +44,21 @@ fn new_name_cause<A: Allocator>(decls: &Decls<A>, word: &[u8]) -> Option<TextCau
     None
 }
 
-fn used_name_cause<A: Allocator>(decls: &Decls<A>, kind: Kind, word: &[u8]) -> Option<TextCause>
-    ensures { result ≡ spec.used_name_cause kind decls.now.declarations word.now }
+// Whether what is named is an object of the kind that is wanted.
+#[inline(always)]
+pub(crate) fn is_wanted<A: Allocator>(decls: &Decls<A>, kind: PartKind, named: Named) -> bool
+    requires { IsDeclared decls.now.declarations named }
+    ensures { result ≡ is_wanted decls.now.declarations kind named }
+{
+    match (kind, named) {
+        (PartKind::Object(kind), _) => named.is_of(kind),
+        (PartKind::RwMutex, Named::Lock(lock)) => decls.is_rw(lock),
+        _ => false,
+    }
+}
+
+fn used_name_cause<A: Allocator>(decls: &Decls<A>, kind: PartKind, word: &[u8]) -> Option<TextCause>
+    ensures { result ≡ spec.used_name_cause decls.now.declarations kind word.now }
 {
     if !is_name(word) {
         return Some(TextCause::BadName);
@@ -52,7 +66,7 @@ fn used_name_cause<A: Allocator>(decls: &Decls<A>, kind: Kind, word: &[u8]) -> O
     match look_up(decls, word) {
         None => Some(TextCause::Unknown),
         Some(named) => {
-            if named.is_of(kind) {
+            if is_wanted(decls, kind, named) {
                 None
             } else {
                 Some(TextCause::WrongKind)
@@ -65,7 +79,7 @@ fn part_cause<A: Allocator>(decls: &Decls<A>, kind: PartKind, word: &[u8]) -> Op
     ensures { result ≡ spec.part_cause decls.now.declarations kind word.now }
 {
     match kind {
-        PartKind::Object(kind) => used_name_cause(decls, kind, word),
+        PartKind::Object(_) | PartKind::RwMutex => used_name_cause(decls, kind, word),
         PartKind::Value => number_cause(word, u64::MAX),
         PartKind::Cases => cases_cause(decls, word),
         PartKind::Cause => failure_cause(decls, word),
@@ -124,7 +138,7 @@ fn case_cause<A: Allocator>(decls: &Decls<A>, piece: &[u8]) -> Option<TextCause>
             if chan == b"nil".as_slice() {
                 None
             } else {
-                used_name_cause(decls, Kind::Chan, chan)
+                used_name_cause(decls, PartKind::Object(Kind::Chan), chan)
             }
         }
     }

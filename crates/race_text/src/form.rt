@@ -15,7 +15,7 @@ pub enum Word {
 }
 
 /// The words that a line may begin with.
-pub const WORDS: [(&[u8], Word); 14] = [
+pub const WORDS: [(&[u8], Word); 24] = [
     (b"read", Word::Does(Verb::Read)),
     (b"write", Word::Does(Verb::Write)),
     (b"send", Word::Does(Verb::Send)),
@@ -25,11 +25,21 @@ pub const WORDS: [(&[u8], Word); 14] = [
     (b"exit", Word::Does(Verb::Exit)),
     (b"recvclosed", Word::Does(Verb::RecvClosed)),
     (b"close", Word::Does(Verb::Close)),
+    (b"lock", Word::Does(Verb::Lock)),
+    (b"unlock", Word::Does(Verb::Unlock)),
+    (b"rlock", Word::Does(Verb::RLock)),
+    (b"runlock", Word::Does(Verb::RUnlock)),
+    (b"oncebegin", Word::Does(Verb::OnceBegin)),
+    (b"onceend", Word::Does(Verb::OnceEnd)),
+    (b"oncedone", Word::Does(Verb::OnceDone)),
     (b"default", Word::Does(Verb::Default)),
     (b"fault", Word::Does(Verb::Fault)),
     (b"goroutine", Word::Declares(Noun::Goroutine)),
     (b"var", Word::Declares(Noun::Var)),
     (b"chan", Word::Declares(Noun::Chan)),
+    (b"mutex", Word::Declares(Noun::Mutex)),
+    (b"rwmutex", Word::Declares(Noun::RwMutex)),
+    (b"once", Word::Declares(Noun::Once)),
 ];
 
 /// What can stand behind the first word.

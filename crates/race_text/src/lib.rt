@@ -2,6 +2,8 @@
 #![tactic(auto)]
 
 mod cause;
+#[cfg(test)]
+mod channel_tests;
 mod cut;
 mod declaration;
 mod event;
@@ -10,6 +12,8 @@ mod fields;
 mod finder;
 mod form;
 pub mod laws;
+#[cfg(test)]
+mod lock_tests;
 mod number;
 mod parse;
 mod reader;

@@ -1,8 +1,8 @@
 //! The cases of a select, and why a run failed: how the two are spelled.
-ghost use Rattle.std.specs.Prelude.{◌≡◌, ◌<◌, IfSome, option_map};
+ghost use Rattle.std.specs.Prelude.{◌≡◌, map, option_map};
 ghost use Rattle.race_text.specs.Select as spec;
 
-use race_records::{Cause, Dir, Kind, Named};
+use race_records::{Cause, Dir, Kind, Named, PartKind};
 
 /// What a run failed at.
 #[derive(Clone, Copy, Debug, PartialEq, Eq)]
@@ -11,7 +11,19 @@ pub enum Attempt {
     Send,
     /// A close.
     Close,
+    /// An unlock.
+    Unlock,
+    /// An unlock from reading.
+    RUnlock,
 }
+
+/// What a run can fail at, by the front of the word that says so.
+pub const ATTEMPTS: [(&[u8], Attempt); 4] = [
+    (b"send:", Attempt::Send),
+    (b"close:", Attempt::Close),
+    (b"unlock:", Attempt::Unlock),
+    (b"runlock:", Attempt::RUnlock),
+];
 
 // What stands behind the front, where the word begins so.
 fn behind<'a>(front: &[u8], word: &'a [u8]) -> Option<&'a [u8]>
@@ -37,32 +49,43 @@ pub(crate) fn case_spelled(word: &[u8]) -> Option<(Dir, &[u8])>
 pub(crate) fn failure_spelled(word: &[u8]) -> Option<(Attempt, &[u8])>
     ensures { option_map (λ s. (s.0, s.1.now)) result ≡ spec.failure_spelled word.now }
 {
-    match behind(b"send:", word) {
-        Some(sent) => Some((Attempt::Send, sent)),
-        None => match behind(b"close:", word) {
-            Some(closed) => Some((Attempt::Close, closed)),
-            None => None,
-        },
-    }
+    failure_among(&ATTEMPTS, word)
 }
 
-// The kind of the object that was tried.
-pub(crate) fn kind_tried(attempt: Attempt) -> Kind
+fn failure_among<'a>(mut table: &[(&[u8], Attempt)], word: &'a [u8]) -> Option<(Attempt, &'a [u8])>
+    ensures { option_map (λ s. (s.0, s.1.now)) result ≡ spec.failure_among
+        (map (λ entry. (entry.0.now, entry.1)) table.entry.now) word.now }
+{
+    while let [entry, others @ ..] = table {
+        if let Some(name) = behind(entry.0, word) {
+            return Some((entry.1, name));
+        }
+        table = others;
+    }
+    None
+}
+
+// What this can fail at.
+pub(crate) fn kind_tried(attempt: Attempt) -> PartKind
     ensures { result ≡ spec.kind_tried attempt }
 {
     match attempt {
-        Attempt::Send => Kind::Chan,
-        Attempt::Close => Kind::Chan,
+        Attempt::Send => PartKind::Object(Kind::Chan),
+        Attempt::Close => PartKind::Object(Kind::Chan),
+        Attempt::Unlock => PartKind::Object(Kind::Lock),
+        Attempt::RUnlock => PartKind::RwMutex,
     }
 }
 
 // Why a run failed that tried so with the object.
-pub(crate) fn cause_by(attempt: Attempt, named: Named) -> Option<Cause>
+pub(crate) fn cause_by(attempt: Attempt, named: Named) -> Cause
     ensures { result ≡ spec.cause_by attempt named }
 {
-    match (attempt, named) {
-        (Attempt::Send, Named::Chan(c)) => Some(Cause::SendClosed(c)),
-        (Attempt::Close, Named::Chan(c)) => Some(Cause::CloseClosed(c)),
-        _ => None,
+    let number = named.number();
+    match attempt {
+        Attempt::Send => Cause::SendClosed(number),
+        Attempt::Close => Cause::CloseClosed(number),
+        Attempt::Unlock => Cause::UnlockFree(number),
+        Attempt::RUnlock => Cause::RUnlockFree(number),
     }
 }

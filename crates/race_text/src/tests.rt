@@ -5,11 +5,15 @@ use crate::TextCause::{
 use crate::{
     TextCause, TextFault, parse_trace, read_declaration, read_number, split_words, write_trace,
 };
-use race_records::{Case, Cases, Cause, Decls, Dir, Op, Sink, Trace};
-use std::alloc::Allocator;
+use race_records::{Decls, Op, Sink, Trace};
+use std::alloc::{AllocGlobal, Allocator};
 use std::io;
 use std::io::Write;
+use std::process::Abort;
 use std::test::Fail;
+
+// A text with an event, behind which a line is the fifth.
+static EVENT_BEFORE: &[u8] = b"gotrace 1\ngoroutine a\nvar x\nread main x 0 p\n";
 
 // The first fault of the bytes.
 fn fault_of<A: Allocator + Copy>(alloc: A, bytes: &[u8]) -> Option<TextFault> {
@@ -19,17 +23,8 @@ fn fault_of<A: Allocator + Copy>(alloc: A, bytes: &[u8]) -> Option<TextFault> {
     }
 }
 
-// The fault of one line behind `goroutine a`, `var x` and one event, which is line 5.
-fn fault_of_line<A: Allocator + Copy>(alloc: A, line: &[u8]) -> Result<Option<TextFault>, Fail> {
-    fault_behind(
-        alloc,
-        b"gotrace 1\ngoroutine a\nvar x\nread main x 0 p\n",
-        line,
-    )
-}
-
 // The fault of a text with one more line.
-fn fault_behind<A: Allocator + Copy>(
+pub(crate) fn fault_behind<A: Allocator + Copy>(
     alloc: A,
     before: &[u8],
     line: &[u8],
@@ -39,6 +34,88 @@ fn fault_behind<A: Allocator + Copy>(
     bytes.extend_from_slice(line)?;
     bytes.extend_from_slice(b"\n")?;
     Ok(fault_of(alloc, bytes.as_slice()))
+}
+
+// Tests that each of the lines has its cause, or none, behind those before, as the line of this number.
+pub(crate) fn tells_causes(
+    rt: &(impl Abort + AllocGlobal),
+    before: &[u8],
+    number: u64,
+    lines: &[(&[u8], Option<TextCause>)],
+) -> Result<(), Fail> {
+    for (line, cause) in lines {
+        let fault = fault_behind(rt.alloc(), before, *line)?;
+        assert_eq!(rt;
+            fault,
+            cause.map(|cause| TextFault {
+                line: number,
+                cause
+            }),
+            "in {line:?}"
+        );
+    }
+    Ok(())
+}
+
+// Declares 65,535 names by the two forms in turn, each a word before the name and what stands behind
+// it, and tests what is answered to the lines then.
+pub(crate) fn at_the_limit(
+    rt: &(impl Abort + AllocGlobal),
+    forms: [(&str, &str); 2],
+    lines: &[(&[u8], Result<bool, TextCause>)],
+) -> Result<(), Fail> {
+    let mut decls = Decls::new(rt.alloc());
+    for n in 0..65_535u32 {
+        let (word, end) = forms[n as usize % 2];
+        let line = format!(in rt.alloc(); "{word} n{n}{end}")?;
+        let told = read_declaration(&mut decls, line.as_bytes());
+        assert!(rt; told == Ok(true), "at {n}");
+    }
+    for (line, answer) in lines {
+        let told = read_declaration(&mut decls, *line);
+        assert!(rt; told == *answer, "at {line:?}");
+    }
+    Ok(())
+}
+
+// The second place of event `i`, or an empty text.
+fn second_place<A: Allocator>(trace: &Trace<A>, i: usize) -> &str {
+    if i >= trace.len() {
+        return "";
+    }
+    match trace.event(i).place2 {
+        Some(place) => {
+            if place < trace.decls().place_count() {
+                trace.place_text(place)
+            } else {
+                ""
+            }
+        }
+        None => "",
+    }
+}
+
+// Tests that the text is read as these events, each with its places, and written again.
+pub(crate) fn reads(
+    rt: &(impl Abort + AllocGlobal),
+    text: &[u8],
+    events: &[(u32, Op, &str, &str)],
+) -> Result<(), Fail> {
+    let trace = parse_trace(rt.alloc(), text)?;
+    assert_eq!(rt; trace.len(), events.len());
+    for (i, (who, op, place, second)) in events.iter().enumerate() {
+        let event = &trace.events()[i];
+        assert!(rt; event.op == *op, "at {i}");
+        assert_eq!(rt; event.who, *who, "at {i}");
+        assert!(rt; event.place < trace.decls().place_count(), "at {i}");
+        assert_eq!(rt; trace.place_text(event.place), *place, "at {i}");
+        assert_eq!(rt; second_place(&trace, i), *second, "at {i}");
+    }
+    let mut written = Vec::new(rt.alloc());
+    let mut sink = Sink::new(&mut written);
+    assert!(rt; write_trace(&trace, &mut sink).is_ok());
+    assert_eq!(rt; written.as_slice(), text);
+    Ok(())
 }
 
 #[test]
@@ -91,50 +168,47 @@ fn tells_the_first_fault_of_a_text(rt: HostRuntime) {
 // One line for each cause, and the lesser of each two that one line can have at once.
 #[test]
 fn tells_the_least_cause_of_a_line(rt: HostRuntime) -> Result<(), Fail> {
-    let lines: [(&[u8], TextCause); 38] = [
-        (b"exit main \x80", BadByte),
-        (b"exit main p\r", BadByte),
-        (b"jump\t", BadByte),
-        (b"exit main\t", BadByte),
-        (b"go q a p\t", BadByte),
-        (b"exit -\t p", BadByte),
-        (b"var x\t", BadByte),
-        (b"exit q p\t", BadByte),
-        (b"exit x p\t", BadByte),
-        (b"read main x 01 p\t", BadByte),
-        (b"var y\t", BadByte),
-        (b"", UnknownWord),
-        (b" exit main p", UnknownWord),
-        (b"lock m", UnknownWord),
-        (b"exit main", WrongCount),
-        (b"exit main p ", WrongCount),
-        (b"var - y", WrongCount),
-        (b"var x y", WrongCount),
-        (b"exit q", WrongCount),
-        (b"exit x", WrongCount),
-        (b"read main x 01", WrongCount),
-        (b"var y z", WrongCount),
-        (b"exit main ", BadName),
-        (b"exit nil p", BadName),
-        (b"go q - p", BadName),
-        (b"read x - 0 p", BadName),
-        (b"read main x 01 ", BadName),
-        (b"var -", BadName),
-        (b"var main", Taken),
-        (b"var a", Taken),
-        (b"go main q p", Unknown),
-        (b"read x q 0 p", Unknown),
-        (b"read main q 01 p", Unknown),
-        (b"read main a 0 p", WrongKind),
-        (b"read x x 01 p", WrongKind),
-        (b"read main x - p", BadNumber),
-        (b"read main x +1 p", BadNumber),
-        (b"var y", LateDeclaration),
+    let lines: [(&[u8], Option<TextCause>); 38] = [
+        (b"exit main \x80", Some(BadByte)),
+        (b"exit main p\r", Some(BadByte)),
+        (b"jump\t", Some(BadByte)),
+        (b"exit main\t", Some(BadByte)),
+        (b"go q a p\t", Some(BadByte)),
+        (b"exit -\t p", Some(BadByte)),
+        (b"var x\t", Some(BadByte)),
+        (b"exit q p\t", Some(BadByte)),
+        (b"exit x p\t", Some(BadByte)),
+        (b"read main x 01 p\t", Some(BadByte)),
+        (b"var y\t", Some(BadByte)),
+        (b"", Some(UnknownWord)),
+        (b" exit main p", Some(UnknownWord)),
+        (b"locks m", Some(UnknownWord)),
+        (b"exit main", Some(WrongCount)),
+        (b"exit main p ", Some(WrongCount)),
+        (b"var - y", Some(WrongCount)),
+        (b"var x y", Some(WrongCount)),
+        (b"exit q", Some(WrongCount)),
+        (b"exit x", Some(WrongCount)),
+        (b"read main x 01", Some(WrongCount)),
+        (b"var y z", Some(WrongCount)),
+        (b"exit main ", Some(BadName)),
+        (b"exit nil p", Some(BadName)),
+        (b"go q - p", Some(BadName)),
+        (b"read x - 0 p", Some(BadName)),
+        (b"read main x 01 ", Some(BadName)),
+        (b"var -", Some(BadName)),
+        (b"var main", Some(Taken)),
+        (b"var a", Some(Taken)),
+        (b"go main q p", Some(Unknown)),
+        (b"read x q 0 p", Some(Unknown)),
+        (b"read main q 01 p", Some(Unknown)),
+        (b"read main a 0 p", Some(WrongKind)),
+        (b"read x x 01 p", Some(WrongKind)),
+        (b"read main x - p", Some(BadNumber)),
+        (b"read main x +1 p", Some(BadNumber)),
+        (b"var y", Some(LateDeclaration)),
     ];
-    for (line, cause) in lines {
-        let fault = fault_of_line(rt.alloc(), line)?;
-        assert_eq!(rt; fault, Some(TextFault { line: 5, cause }), "in {line:?}");
-    }
+    tells_causes(&rt, EVENT_BEFORE, 5, &lines)?;
     let fault = TextFault {
         line: 5,
         cause: BadNumber,
@@ -143,147 +217,6 @@ fn tells_the_least_cause_of_a_line(rt: HostRuntime) -> Result<(), Fail> {
         format!(in rt.alloc(); "{fault}")?.as_str(),
         "line 5: bad number"
     );
-    Ok(())
-}
-
-// Lines of channels behind `goroutine w`, `var x` and `chan c 2`.
-#[test]
-fn tells_the_causes_of_channels(rt: HostRuntime) -> Result<(), Fail> {
-    let lines: [(&[u8], Option<TextCause>); 40] = [
-        (b"chan d", Some(WrongCount)),
-        (b"chan d 0 1", Some(WrongCount)),
-        (b"chan d 65535", None),
-        (b"chan d 0", None),
-        (b"chan d 65536", Some(BadNumber)),
-        (b"chan d 01", Some(BadNumber)),
-        (b"chan d ", Some(BadNumber)),
-        (b"chan d 18446744073709551616", Some(BadNumber)),
-        (b"chan nil 70000", Some(BadName)),
-        (b"chan c 70000", Some(Taken)),
-        (b"chan x 0", Some(Taken)),
-        (b"send main c 18446744073709551615 p", None),
-        (b"send main c 18446744073709551616 p", Some(BadNumber)),
-        (b"send main x 1 p", Some(WrongKind)),
-        (b"send main x 01 p", Some(WrongKind)),
-        (b"send main d 1 p", Some(Unknown)),
-        (b"send main nil 1 p", Some(BadName)),
-        (b"send main c 1", Some(WrongCount)),
-        (b"recv w c 0 p", None),
-        (b"recv c c 0 p", Some(WrongKind)),
-        (b"recv w w 0 p", Some(WrongKind)),
-        (b"recv w c p", Some(WrongCount)),
-        (b"recvclosed w c p", None),
-        (b"recvclosed w d p", Some(Unknown)),
-        (b"recvclosed w c 0 p", Some(WrongCount)),
-        (b"close main c p", None),
-        (b"close main nil p", Some(BadName)),
-        (b"close main x p", Some(WrongKind)),
-        (b"close main p", Some(WrongCount)),
-        (b"meet main w c 1 p q", None),
-        (b"meet main w c 1 p p", None),
-        (b"meet main w c 1 p", Some(WrongCount)),
-        (b"meet main w c 1 p q r", Some(WrongCount)),
-        (b"meet main w c 1 p ", Some(BadName)),
-        (b"meet main w c 1  q", Some(BadName)),
-        (b"meet main c w 1 p q", Some(WrongKind)),
-        (b"meet main v c 1 p q", Some(Unknown)),
-        (b"meet x w c 01 p ", Some(BadName)),
-        (b"meet main w c 01 p q", Some(BadNumber)),
-        (b"meets main w c 1 p q", Some(UnknownWord)),
-    ];
-    for (line, cause) in lines {
-        let before = b"gotrace 1\ngoroutine w\nvar x\nchan c 2\n";
-        let fault = fault_behind(rt.alloc(), before, line)?;
-        assert_eq!(rt;
-            fault,
-            cause.map(|cause| TextFault { line: 5, cause }),
-            "in {line:?}"
-        );
-    }
-    Ok(())
-}
-
-// Lines of selects and of faults behind `goroutine w`, `var x`, `chan c 0` and `chan d 2`.
-#[test]
-fn tells_the_causes_of_selects(rt: HostRuntime) -> Result<(), Fail> {
-    let lines: [(&[u8], Option<TextCause>); 38] = [
-        (b"default main send:d,recv:nil p", None),
-        (b"default main send:c,send:c p", None),
-        (b"default main recv:nil p", None),
-        (b"default main - p", None),
-        (b"default main  p", Some(BadName)),
-        (b"default main p", Some(WrongCount)),
-        (b"default main send:c recv:d p", Some(WrongCount)),
-        (b"default main -- p", Some(BadName)),
-        (b"default main -,send:c p", Some(BadName)),
-        (b"default main send p", Some(BadName)),
-        (b"default main send: p", Some(BadName)),
-        (b"default main send:c, p", Some(BadName)),
-        (b"default main ,send:c p", Some(BadName)),
-        (b"default main send:c,,send:c p", Some(BadName)),
-        (b"default main Send:c p", Some(BadName)),
-        (b"default main close:c p", Some(BadName)),
-        (b"default main send:c:d p", Some(BadName)),
-        (b"default main send:q,send:c, p", Some(BadName)),
-        (b"default main send:q ", Some(BadName)),
-        (b"default main send:x p", Some(WrongKind)),
-        (b"default main recv:main p", Some(WrongKind)),
-        (b"default main send:x,recv:q p", Some(Unknown)),
-        (b"default q send:x p", Some(Unknown)),
-        (b"fault main send:c p", None),
-        (b"fault main close:d p", None),
-        (b"fault main close:nil p", None),
-        (b"fault main send:nil p", Some(BadName)),
-        (b"fault main close: p", Some(BadName)),
-        (b"fault main close p", Some(BadName)),
-        (b"fault main nil p", Some(BadName)),
-        (b"fault main recv:c p", Some(BadName)),
-        (b"fault main send:c,close:d p", Some(BadName)),
-        (b"fault main unlock:m p", Some(BadName)),
-        (b"fault main runlock:c p", Some(BadName)),
-        (b"fault main send:q p", Some(Unknown)),
-        (b"fault main close:x p", Some(WrongKind)),
-        (b"fault main close:w p", Some(WrongKind)),
-        (b"fault main close:nil p q", Some(WrongCount)),
-    ];
-    for (line, cause) in lines {
-        let before = b"gotrace 1\ngoroutine w\nvar x\nchan c 0\nchan d 2\n";
-        let fault = fault_behind(rt.alloc(), before, line)?;
-        assert_eq!(rt;
-            fault,
-            cause.map(|cause| TextFault { line: 6, cause }),
-            "in {line:?}"
-        );
-    }
-    Ok(())
-}
-
-// So many cases: 16 are fine, and 17 are told only where no cause before holds.
-#[test]
-fn holds_the_limit_on_cases(rt: HostRuntime) -> Result<(), Fail> {
-    let ends: [(u32, &[u8], Option<TextCause>); 7] = [
-        (16, b"c p", None),
-        (17, b"c p", Some(TooMany)),
-        (17, b"nil p", Some(TooMany)),
-        (17, b"q p", Some(Unknown)),
-        (17, b"x p", Some(WrongKind)),
-        (17, b"c ", Some(BadName)),
-        (30, b" p", Some(BadName)),
-    ];
-    for (count, end, cause) in ends {
-        let mut line = Vec::new(rt.alloc());
-        line.extend_from_slice(b"default main send:")?;
-        for _i in 1..count {
-            line.extend_from_slice(b"nil,recv:")?;
-        }
-        line.extend_from_slice(end)?;
-        let fault = fault_behind(rt.alloc(), b"gotrace 1\nvar x\nchan c 0\n", line.as_slice())?;
-        assert_eq!(rt;
-            fault,
-            cause.map(|cause| TextFault { line: 4, cause }),
-            "at {end:?}"
-        );
-    }
     Ok(())
 }
 
@@ -326,26 +259,6 @@ fn holds_the_limit_on_goroutines(rt: HostRuntime) -> Result<(), Fail> {
     Ok(())
 }
 
-// 65,535 channels and one more. A capacity over its limit is told first.
-#[test]
-fn holds_the_limit_on_channels(rt: HostRuntime) -> Result<(), Fail> {
-    let mut decls = Decls::new(rt.alloc());
-    for n in 0..65_535u32 {
-        decls.add_chan(format!(in rt.alloc(); "c{n}")?.as_str(), 0)?;
-    }
-    let lines: [(&[u8], Result<bool, TextCause>); 4] = [
-        (b"chan c 0", Err(TooMany)),
-        (b"chan c 65536", Err(BadNumber)),
-        (b"chan c7 65536", Err(Taken)),
-        (b"var x", Ok(true)),
-    ];
-    for (line, answer) in lines {
-        let told = read_declaration(&mut decls, line);
-        assert!(rt; told == answer, "at {line:?}");
-    }
-    Ok(())
-}
-
 #[test]
 fn holds_the_limit_on_places(rt: HostRuntime) -> Result<(), Fail> {
     for (len, cause) in [(1, None), (128, None), (129, Some(BadName))] {
@@ -354,7 +267,7 @@ fn holds_the_limit_on_places(rt: HostRuntime) -> Result<(), Fail> {
         for _i in 0..len {
             line.push(b'~')?;
         }
-        let fault = fault_of_line(rt.alloc(), line.as_slice())?;
+        let fault = fault_behind(rt.alloc(), EVENT_BEFORE, line.as_slice())?;
         assert_eq!(rt;
             fault,
             cause.map(|cause| TextFault { line: 5, cause }),
@@ -366,116 +279,16 @@ fn holds_the_limit_on_places(rt: HostRuntime) -> Result<(), Fail> {
 
 #[test]
 fn reads_a_trace(rt: HostRuntime) -> Result<(), Fail> {
-    let text =
-        "gotrace 1\ngoroutine w\nvar x\nwrite main x 18446744073709551615 a.go:1\ngo main w a.go:2\nread w x 7 a.go:1\nexit main a.go:3\n";
-    let trace = parse_trace(rt.alloc(), text.as_bytes())?;
-    let ops = [Op::Write(0, u64::MAX), Op::Go(1), Op::Read(0, 7), Op::Exit];
-    let seen = [(0, "a.go:1"), (0, "a.go:2"), (1, "a.go:1"), (0, "a.go:3")];
-    assert_eq!(rt; trace.len(), 4);
-    for (i, op) in ops.iter().enumerate() {
-        let event = &trace.events()[i];
-        assert!(rt; event.op == *op, "at {i}");
-        assert_eq!(rt; event.who, seen[i].0, "at {i}");
-        assert!(rt; event.place < trace.decls().place_count(), "at {i}");
-        assert_eq!(rt; trace.place_text(event.place), seen[i].1, "at {i}");
-    }
-    Ok(())
-}
-
-// The second place of event `i`, or an empty text.
-fn second_place<A: Allocator>(trace: &Trace<A>, i: usize) -> &str {
-    if i >= trace.len() {
-        return "";
-    }
-    match trace.event(i).place2 {
-        Some(place) => {
-            if place < trace.decls().place_count() {
-                trace.place_text(place)
-            } else {
-                ""
-            }
-        }
-        None => "",
-    }
-}
-
-// Whether the text of the trace that the bytes are is those bytes.
-fn is_written_again<A: Allocator + Copy>(alloc: A, text: &[u8]) -> Result<bool, Fail> {
-    let trace = parse_trace(alloc, text)?;
-    let mut written = Vec::new(alloc);
-    let mut sink = Sink::new(&mut written);
-    if write_trace(&trace, &mut sink).is_err() {
-        return Ok(false);
-    }
-    Ok(written.as_slice() == text)
-}
-
-// Each word of channels, with its places and the second one.
-#[test]
-fn reads_channels(rt: HostRuntime) -> Result<(), Fail> {
-    let text =
-        b"gotrace 1\ngoroutine w\nchan c 65535\nchan u 0\ngo main w a\nsend main c 7 b\nrecv w c 7 c\nmeet w main u 8 c d\nmeet main w u 9 e e\nclose main u a\nrecvclosed w u f\n";
-    let trace = parse_trace(rt.alloc(), text)?;
-    let ops = [
-        Op::Go(1),
-        Op::Send(0, 7),
-        Op::Recv(0, 7),
-        Op::Meet(0, 1, 8),
-        Op::Meet(1, 1, 9),
-        Op::Close(1),
-        Op::RecvClosed(1),
-    ];
-    let seen = [
-        (0, "a", ""),
-        (0, "b", ""),
-        (1, "c", ""),
-        (1, "c", "d"),
-        (0, "e", "e"),
-        (0, "a", ""),
-        (1, "f", ""),
-    ];
-    assert_eq!(rt; trace.len(), 7);
-    assert_eq!(rt; trace.decls().place_count(), 6);
-    for (i, op) in ops.iter().enumerate() {
-        let event = &trace.events()[i];
-        assert!(rt; event.op == *op, "at {i}");
-        assert_eq!(rt; event.who, seen[i].0, "at {i}");
-        assert!(rt; event.place < trace.decls().place_count(), "at {i}");
-        assert_eq!(rt; trace.place_text(event.place), seen[i].1, "at {i}");
-        assert_eq!(rt; second_place(&trace, i), seen[i].2, "at {i}");
-    }
-    let same = is_written_again(rt.alloc(), text)?;
-    assert!(rt; same);
-    Ok(())
-}
-
-#[test]
-fn reads_selects_and_faults(rt: HostRuntime) -> Result<(), Fail> {
-    let text =
-        b"gotrace 1\nchan c 0\nchan d 2\ndefault main send:d,recv:nil,recv:c p\ndefault main - p\nfault main close:d p\nfault main close:nil p\nfault main send:c p\n";
-    let trace = parse_trace(rt.alloc(), text)?;
-    let mut cases = Cases::new();
-    for (dir, chan) in [
-        (Dir::Send, Some(1)),
-        (Dir::Recv, None),
-        (Dir::Recv, Some(0)),
-    ] {
-        assert!(rt; cases.push(Case { dir, chan }).is_ok());
-    }
-    let ops = [
-        Op::Default(cases),
-        Op::Default(Cases::new()),
-        Op::Fault(Cause::CloseClosed(1)),
-        Op::Fault(Cause::CloseNil),
-        Op::Fault(Cause::SendClosed(0)),
-    ];
-    assert_eq!(rt; trace.len(), 5);
-    for (i, op) in ops.iter().enumerate() {
-        assert!(rt; trace.events()[i].op == *op, "at {i}");
-    }
-    let same = is_written_again(rt.alloc(), text)?;
-    assert!(rt; same);
-    Ok(())
+    reads(
+        &rt,
+        b"gotrace 1\ngoroutine w\nvar x\nwrite main x 18446744073709551615 a.go:1\ngo main w a.go:2\nread w x 7 a.go:1\nexit main a.go:3\n",
+        &[
+            (0, Op::Write(0, u64::MAX), "a.go:1", ""),
+            (0, Op::Go(1), "a.go:2", ""),
+            (1, Op::Read(0, 7), "a.go:1", ""),
+            (0, Op::Exit, "a.go:3", ""),
+        ],
+    )
 }
 
 #[test]

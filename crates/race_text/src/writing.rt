@@ -15,7 +15,7 @@ ghost use Rattle.std.specs.Option.{option_map};
 use itoa::Buffer;
 use race_records::{
     Case, Cases, Cause, Decls, Dir, Event, Kind, Named, Noun, Page, Part, Sink, Trace, Verb,
-    WriteFault, chan_of_cause, object_says, says,
+    WriteFault, failed_at, object_says, says,
 };
 use std::alloc::Allocator;
 use std::io::Write;
@@ -216,6 +216,13 @@ fn verb_text(verb: Verb) -> &'static str
         Verb::RecvClosed => "recvclosed",
         Verb::Close => "close",
         Verb::Default => "default",
+        Verb::Lock => "lock",
+        Verb::Unlock => "unlock",
+        Verb::RLock => "rlock",
+        Verb::RUnlock => "runlock",
+        Verb::OnceBegin => "oncebegin",
+        Verb::OnceEnd => "onceend",
+        Verb::OnceDone => "oncedone",
         Verb::Fault => "fault",
     }
 }
@@ -371,12 +378,14 @@ fn print_failure<W: Write, A: Allocator>(
         Cause::SendClosed(_) => "send:",
         Cause::CloseClosed(_) => "close:",
         Cause::CloseNil => "close:",
+        Cause::UnlockFree(_) => "unlock:",
+        Cause::RUnlockFree(_) => "runlock:",
     };
-    let parts = [
-        b" ".as_slice(),
-        tried.as_bytes(),
-        chan_text(decls, chan_of_cause(cause)).as_bytes(),
-    ];
+    let name = match failed_at(cause) {
+        None => "nil",
+        Some(named) => decls.name(named),
+    };
+    let parts = [b" ".as_slice(), tried.as_bytes(), name.as_bytes()];
     page.put_all(sink, &parts)
 }
 

@@ -6,7 +6,8 @@ use Rattle.race_text.proofs.taking.take_event.Goals as goal
 
 pub append-requires-clause-fits : goal.append-requires-clause-fits
 append-requires-clause-fits g c =
-    let is = says_event c.decls-decls.result.now c.args.trace.now.decls c.args.line.now (drafted c.in-Some.draft) c.decls-decls.ensures.well_formed c.decls-decls.ensures.decls (sym c.in-Some.ensures) in
+    let is = says_event c.decls-decls.result.now c.args.trace.now.decls c.args.line.now
+    (drafted c.in-Some.draft) c.decls-decls.ensures.well_formed c.decls-decls.ensures.decls (sym c.in-Some.ensures) in
     fitting c.args.trace.now.decls c.args.line.now (drafted c.in-Some.draft) is
 
 pub unwrap-requires : goal.unwrap-requires
@@ -16,7 +17,8 @@ unwrap-requires g c = is_there c.line_cause.result (λ none.
 
 pub returns-in-Some-clause-taken : goal.returns-in-Some-clause-taken
 returns-in-Some-clause-taken g c =
-    let is = says_event c.decls-decls.result.now c.args.trace.now.decls c.args.line.now (drafted c.in-Some.draft) c.decls-decls.ensures.well_formed c.decls-decls.ensures.decls (sym c.in-Some.ensures) in
+    let is = says_event c.decls-decls.result.now c.args.trace.now.decls c.args.line.now
+    (drafted c.in-Some.draft) c.decls-decls.ensures.well_formed c.decls-decls.ensures.decls (sym c.in-Some.ensures) in
     event_answered c.args.trace.now c.append.new.trace c.args.line.now (drafted c.in-Some.draft) c.requires.read is c.append.result c.append.ensures
 
 pub returns-in-Some-clause-grown : goal.returns-in-Some-clause-grown

@@ -31,7 +31,8 @@ returns-in-Err g c =
     let within : k < length cases = omega (arith, c.len-k-end.ensures.len, c.loop-k-test.true) in
     let piece : separator k ∷ case_text ds case ≡ get_or (all_pieces ds cases) k [] =
     ap (λ (x : Case). separator k ∷ case_text ds x) (sym (get_or_from_slice_get cases k case case c.get.ensures)) ∙ sym (piece_at ds cases k case [] within) in
-    subst (λ (l : List ℕ). Printing g.W.Write.contents (Err c.in-Err.fault) c.args.sink.now c.print_case.new.sink c.args.page.now c.print_case.new.page l) (pieces_printed ds cases (omega (arith, within)))
+    subst (λ (l : List ℕ). Printing g.W.Write.contents (Err c.in-Err.fault) c.args.sink.now c.print_case.new.sink c.args.page.now c.print_case.new.page l)
+    (pieces_printed ds cases (omega (arith, within)))
     (piece_breaks_off (λ w. w) (all_pieces ds cases) k [] (omega (arith, within, pieces_len ds 32 cases)) c.loop-k.invariant
     (subst (λ (l : List ℕ). Printing g.W.Write.contents (Err c.in-Err.fault) c.loop-k.sink c.print_case.new.sink c.loop-k.page c.print_case.new.page l) piece c.in-Err.ensures))
 

@@ -16,7 +16,8 @@ returns-in-Ok-clause-ok g c =
     let is = printed_is trace c.decls.result.now c.events.result.now c.decls.ensures.decls c.events.ensures.events in
     let start = g.W.Write.contents c.args.sink.now.writer in
     let middle = g.W.Write.contents c.print_trace.new.sink.writer in
-    flushed start middle c.new-page.result c.print_trace.new.page (text trace) c.new-page.ensures.waiting c.new-page.ensures.sent c.flush.result (g.W.Write.contents c.flush.new.sink.writer) c.flush.new.self
+    flushed start middle c.new-page.result c.print_trace.new.page (text trace) c.new-page.ensures.waiting
+    c.new-page.ensures.sent c.flush.result (g.W.Write.contents c.flush.new.sink.writer) c.flush.new.self
     (subst (λ (l : List ℕ). Prints start middle c.new-page.result c.print_trace.new.page l) is c.in-Ok.ensures.ok) c.flush.ensures.empty c.flush.ensures.ok
 
 pub returns-in-Ok-clause-sent : goal.returns-in-Ok-clause-sent
@@ -29,7 +30,8 @@ returns-in-Ok-clause-sent g c =
     let now = g.W.Write.contents c.flush.new.sink.writer in
     let printed = subst (λ (l : List ℕ). Prints start middle c.new-page.result c.print_trace.new.page l) is c.in-Ok.ensures.ok in
     IfErr-map c.flush.result _ (λ (fault : WriteFault). Appends start now (take fault.sent (text trace)))
-    (λ (fault : WriteFault) cuts. (cut_is_exact start now fault.sent (text trace) bounded (cut_off start middle c.new-page.result c.print_trace.new.page (text trace) c.new-page.ensures.waiting c.new-page.ensures.sent now fault.sent printed cuts)).0)
+    (λ (fault : WriteFault) cuts. (cut_is_exact start now fault.sent (text trace) bounded
+    (cut_off start middle c.new-page.result c.print_trace.new.page (text trace) c.new-page.ensures.waiting c.new-page.ensures.sent now fault.sent printed cuts)).0)
     c.flush.ensures.sent
 
 pub returns-in-Ok-clause-short : goal.returns-in-Ok-clause-short
@@ -42,7 +44,8 @@ returns-in-Ok-clause-short g c =
     let now = g.W.Write.contents c.flush.new.sink.writer in
     let printed = subst (λ (l : List ℕ). Prints start middle c.new-page.result c.print_trace.new.page l) is c.in-Ok.ensures.ok in
     IfErr-map c.flush.result _ (λ (fault : WriteFault). fault.sent < length (text trace))
-    (λ (fault : WriteFault) cuts. (cut_is_exact start now fault.sent (text trace) bounded (cut_off start middle c.new-page.result c.print_trace.new.page (text trace) c.new-page.ensures.waiting c.new-page.ensures.sent now fault.sent printed cuts)).1)
+    (λ (fault : WriteFault) cuts. (cut_is_exact start now fault.sent (text trace) bounded
+    (cut_off start middle c.new-page.result c.print_trace.new.page (text trace) c.new-page.ensures.waiting c.new-page.ensures.sent now fault.sent printed cuts)).1)
     c.flush.ensures.sent
 
 pub returns-in-Err-clause-sent : goal.returns-in-Err-clause-sent
@@ -53,7 +56,8 @@ returns-in-Err-clause-sent g c =
     let start = g.W.Write.contents c.args.sink.now.writer in
     let middle = g.W.Write.contents c.print_trace.new.sink.writer in
     let broke = subst (λ (l : List ℕ). BreaksOff start middle c.new-page.result c.in-Err.fault.sent l) is c.in-Err.ensures.sent in
-    (cut_is_exact start middle c.in-Err.fault.sent (text trace) bounded (broken_off start middle c.new-page.result c.in-Err.fault.sent (text trace) c.new-page.ensures.waiting c.new-page.ensures.sent broke)).0
+    (cut_is_exact start middle c.in-Err.fault.sent (text trace) bounded
+    (broken_off start middle c.new-page.result c.in-Err.fault.sent (text trace) c.new-page.ensures.waiting c.new-page.ensures.sent broke)).0
 
 pub returns-in-Err-clause-short : goal.returns-in-Err-clause-short
 returns-in-Err-clause-short g c =
@@ -63,4 +67,5 @@ returns-in-Err-clause-short g c =
     let start = g.W.Write.contents c.args.sink.now.writer in
     let middle = g.W.Write.contents c.print_trace.new.sink.writer in
     let broke = subst (λ (l : List ℕ). BreaksOff start middle c.new-page.result c.in-Err.fault.sent l) is c.in-Err.ensures.sent in
-    (cut_is_exact start middle c.in-Err.fault.sent (text trace) bounded (broken_off start middle c.new-page.result c.in-Err.fault.sent (text trace) c.new-page.ensures.waiting c.new-page.ensures.sent broke)).1
+    (cut_is_exact start middle c.in-Err.fault.sent (text trace) bounded
+    (broken_off start middle c.new-page.result c.in-Err.fault.sent (text trace) c.new-page.ensures.waiting c.new-page.ensures.sent broke)).1

@@ -181,7 +181,7 @@ static ENDS: [(&str, &str, u8); 15] = [
         status::TEXT_FAULT,
     ),
     (
-        "fault main unlock:m p",
+        "fault main lock:c p",
         "line 6: bad name",
         status::TEXT_FAULT,
     ),

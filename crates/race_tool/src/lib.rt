@@ -9,6 +9,8 @@ mod edges_found;
 mod finding;
 mod input;
 pub mod laws;
+#[cfg(test)]
+mod lock_tests;
 mod printing;
 pub mod status;
 #[cfg(test)]

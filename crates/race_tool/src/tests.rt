@@ -16,12 +16,16 @@ fn text_of(alloc: Global, row: &str) -> Result<Vec<u8>, Fail> {
     Ok(text)
 }
 
-// Checks the bytes with the default options.
-fn checked(alloc: Global, bytes: &[u8]) -> (u8, Vec<u8>) {
+// Checks the bytes, by the plain judge or as the default is.
+fn checked(alloc: Global, bytes: &[u8], plain: bool) -> (u8, Vec<u8>) {
+    let options = CheckOptions {
+        plain,
+        ..CheckOptions::default()
+    };
     let mut source = Source::new(bytes);
     let mut output = Vec::new(alloc);
     let mut sink = Sink::new(&mut output);
-    let answer = run_check(&(), alloc, &mut source, &mut sink, &CheckOptions::default());
+    let answer = run_check(&(), alloc, &mut source, &mut sink, &options);
     (answer, output)
 }
 
@@ -34,7 +38,7 @@ fn listed(alloc: Global, bytes: &[u8]) -> (u8, Vec<u8>) {
     (answer, output)
 }
 
-// Checks the rows, each behind these first lines.
+// Checks the rows, each behind these first lines, by both judges.
 pub(crate) fn check(
     rt: &(impl Abort + AllocGlobal),
     first: &str,
@@ -42,10 +46,13 @@ pub(crate) fn check(
 ) -> Result<(), Fail> {
     for (row, report, status) in rows {
         let text = format!(in rt.alloc(); "{first}{row}")?;
-        let (answer, output) = checked(rt.alloc(), text_of(rt.alloc(), text.as_str())?.as_slice());
+        let bytes = text_of(rt.alloc(), text.as_str())?;
         let want = text_of(rt.alloc(), *report)?;
-        assert_eq!(rt; answer, *status, "{row}");
-        assert_eq!(rt; output.as_slice(), want.as_slice(), "{row}");
+        for plain in [false, true] {
+            let (answer, output) = checked(rt.alloc(), bytes.as_slice(), plain);
+            assert_eq!(rt; answer, *status, "{row}");
+            assert_eq!(rt; output.as_slice(), want.as_slice(), "{row}");
+        }
     }
     Ok(())
 }
@@ -200,7 +207,7 @@ fn a_text_ends_with_a_newline(rt: HostRuntime) {
         (b"".as_slice(), b"line 1: bad header\n".as_slice()),
         (b"gotrace 1".as_slice(), b"line 1: no newline\n".as_slice()),
     ] {
-        let (answer, output) = checked(rt.alloc(), bytes);
+        let (answer, output) = checked(rt.alloc(), bytes, false);
         assert_eq!(rt; answer, status::TEXT_FAULT);
         assert_eq!(rt; output.as_slice(), report);
     }
@@ -325,7 +332,7 @@ fn both_engines_tell_of_traces_up_to_each_limit(rt: HostRuntime) -> Result<(), F
             text.extend_from_slice(b"write main x0 1 p\n")?;
         }
         for (answer, want) in [
-            (checked(rt.alloc(), text.as_slice()), &row.check),
+            (checked(rt.alloc(), text.as_slice(), false), &row.check),
             (listed(rt.alloc(), text.as_slice()), &row.edges),
         ] {
             let report = text_of(rt.alloc(), want.text)?;

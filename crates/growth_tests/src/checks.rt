@@ -47,5 +47,5 @@ fn report(alloc: Global, engine: Engine, nth: u64) -> Outcome
 
 #[test]
 fn engines(rt: HostRuntime) {
-    assert_refusals!(rt, report, [(Engine::Check, 26), (Engine::Edges, 21)]);
+    assert_refusals!(rt, report, [(Engine::Check, 27), (Engine::Edges, 22)]);
 }

@@ -69,5 +69,5 @@ fn on_a_trace(alloc: Global, call: Call, nth: u64) -> Outcome
 
 #[test]
 fn edges_and_verdicts(rt: HostRuntime) {
-    assert_refusals!(rt, on_a_trace, [(Call::Edges, 9), (Call::PlainJudge, 15)]);
+    assert_refusals!(rt, on_a_trace, [(Call::Edges, 10), (Call::PlainJudge, 16)]);
 }

@@ -39,6 +39,8 @@ enum Addition {
     Goroutine,
     Var,
     Chan,
+    Lock,
+    Once,
     Place,
 }
 
@@ -47,6 +49,8 @@ fn add<A: Allocator + Copy>(decls: &mut Decls<A>, addition: Addition) -> Result<
         Addition::Goroutine => decls.add_goroutine("v"),
         Addition::Var => decls.add_var("y"),
         Addition::Chan => decls.add_chan("y", 2),
+        Addition::Lock => decls.add_lock("y", true),
+        Addition::Once => decls.add_once("y"),
         Addition::Place => decls.add_place("s"),
     }
 }
@@ -174,6 +178,8 @@ fn names_and_places(rt: HostRuntime) {
             ((Start::Nothing, Addition::Goroutine, 1), 6),
             ((Start::Nothing, Addition::Var, 0), 6),
             ((Start::Nothing, Addition::Chan, 0), 6),
+            ((Start::Nothing, Addition::Lock, 0), 6),
+            ((Start::Nothing, Addition::Once, 0), 6),
             ((Start::Nothing, Addition::Place, 0), 5),
             ((Start::Copy, Addition::Goroutine, 2), 4),
             ((Start::Copy, Addition::Var, 2), 4),

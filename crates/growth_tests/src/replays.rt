@@ -8,21 +8,19 @@ use race_records::{Decls, Event, Op, Trace};
 use refusing_heap::RefusingHeap;
 use std::alloc::{Allocator, Global};
 
-// A goroutine, a variable, a channel, and a send of main or a write.
-fn traced<A: Allocator + Copy>(heap: A, sends: bool) -> Option<Trace<A>> {
+// A goroutine, a variable, a channel, an rwmutex, a once, and what main does.
+fn traced<A: Allocator + Copy>(heap: A, op: Op) -> Option<Trace<A>> {
     let mut decls = Decls::new(heap);
     decls.add_goroutine("w").ok()?;
     decls.add_var("x").ok()?;
     decls.add_chan("c", 2).ok()?;
+    decls.add_lock("l", true).ok()?;
+    decls.add_once("o").ok()?;
     decls.add_place("p").ok()?;
     let mut trace = Trace::new(decls);
     let event = Event {
         who: 0,
-        op: if sends {
-            Op::Send(0, 7)
-        } else {
-            Op::Write(0, 7)
-        },
+        op,
         place: 0,
         place2: None,
     };
@@ -36,6 +34,8 @@ enum Call {
     New,
     AcceptWrite,
     AcceptSend,
+    AcceptLock,
+    AcceptOnceBegin,
     Legal,
 }
 
@@ -77,13 +77,22 @@ fn judged<A: Allocator + Copy>(heap: A, trace: &Trace<A>) -> Reply {
     }
 }
 
+// What main does.
+fn op_of(call: Call) -> Op {
+    match call {
+        Call::AcceptWrite => Op::Write(0, 7),
+        Call::AcceptLock => Op::Lock(0),
+        Call::AcceptOnceBegin => Op::OnceBegin(0),
+        Call::New | Call::AcceptSend | Call::Legal => Op::Send(0, 7),
+    }
+}
+
 // What is asked is made before any growth is refused.
 fn on_a_trace(alloc: Global, call: Call, nth: u64) -> Outcome
     requires { 0 < nth }
 {
     let heap = RefusingHeap::new(alloc);
-    let sends = !matches!(call, Call::AcceptWrite);
-    let Some(trace) = traced(&heap, sends) else {
+    let Some(trace) = traced(&heap, op_of(call)) else {
         return Outcome::Wrong;
     };
     let Ok(mut replay) = Replay::new(&heap, trace.decls()) else {
@@ -95,8 +104,8 @@ fn on_a_trace(alloc: Global, call: Call, nth: u64) -> Outcome
     heap.refuse(nth);
     let reply = match call {
         Call::New => new(&heap, &trace),
-        Call::AcceptWrite | Call::AcceptSend => accept(&mut replay, trace.event(0)),
         Call::Legal => judged(&heap, &trace),
+        _ => accept(&mut replay, trace.event(0)),
     };
     judge(&heap, reply == Reply::OutOfMemory, reply == Reply::Right)
 }
@@ -106,13 +115,15 @@ fn replays(rt: HostRuntime) {
     assert_refusals!(
         rt,
         on_a_trace,
-        // A replay of a channel has two lists for goroutines, one for variables and three for channels.
-        // A value that is sent makes it grow.
+        // A replay has three lists for goroutines, one for variables, three for channels, two for locks
+        // and two for onces. A value that is sent makes it grow, and a once whose function begins.
         [
-            (Call::New, 6),
+            (Call::New, 11),
             (Call::AcceptWrite, 0),
             (Call::AcceptSend, 1),
-            (Call::Legal, 7)
+            (Call::AcceptLock, 0),
+            (Call::AcceptOnceBegin, 1),
+            (Call::Legal, 12)
         ]
     );
 }

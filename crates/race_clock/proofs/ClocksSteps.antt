@@ -1,0 +1,495 @@
+-- The clocks stand for the events, one event on.
+use Rattle.std.proofs.Common.{◌≡◌, ◌≢◌, ℕ, ◌+◌, ◌<◌, ◌≤◌, ◌==◌, ◌||◌, max, false, Some, None, List, [], ◌∷◌, ◌++◌, length, get_or, set, refl, sym, ap, ◌∙◌, subst, inl, inr, arith, IsTrue, if◌then◌else◌, eq-eqb, ne_eqb}
+use Rattle.std.proofs.Math.Nat.{max-zero, max_comm, le-max_right}
+use Rattle.std.proofs.lemmas.Bool.{cases_eq, or_right}
+use Rattle.std.proofs.lemmas.List.{get_or-set_same, get_or-set_other, length-set}
+use Rattle.race_records.specs.declared.event.Event.{Event}
+use Rattle.race_records.specs.declared.event.Op.{Op}
+use Rattle.race_records.specs.declared.event.Op.TheVariants.{Go, Read, Write, Send, Recv, Meet, RecvClosed, Close, Lock, Unlock, RLock, RUnlock, OnceEnd, OnceDone}
+use Rattle.race_model.specs.Events.{is_access, partner, gives, takes_part, count, sends, receives, closes, locks, unlocks, runlocks, once_ends}
+use Rattle.race_model.specs.Order.{Begin, SynchronizedInside, IsSource, Reaches}
+use Rattle.race_model.specs.Clocks.{participations, CountsBegins, Handed, owning, CountsSeen, CountsAt, CountsFrom}
+use Rattle.race_model.proofs.Reaching.{who_takes_part}
+use Rattle.race_model.proofs.ClockLemmas.{one_if, participations_push, counts_like, max_within}
+use Rattle.race_model.proofs.ClockSteps.{counts_seen_from, counts_before, counts_at_begin, counts_alone, counts_pair, counts_other}
+use Rattle.race_model.proofs.SourceSteps.{from_none}
+use Rattle.race_clock.specs.ClockState.{knows, joined, with_count}
+use Rattle.race_clock.specs.ClocksState.{SlotState, ClocksState, no_slot, no_channel, no_lock, slot_of, next_slot, both_seen, met, clock_of, parts_of, channel_of, lock_of, end_of, begin_of, handed, channels_after, locks_after, ends_after, acted, paired, after, channel_sent, channel_received, channel_closed, lock_locked, lock_unlocked, lock_read_unlocked}
+use Rattle.race_clock.specs.StandsFor.{StandsForChannel, StandsForLock, ClocksStandFor, CountsReaching}
+use Rattle.race_clock.specs.Needs.{FindsRoom, OpHasClocks, HasClocks}
+use Rattle.race_clock.proofs.ClockLists.{knows_joined, knows_with_count, joined_long, joined_long_right}
+use Rattle.race_clock.proofs.ChannelSteps.{all_same, all_more, hands_receive, hands_send, hands_closed, channel_same, channel_send, channel_receive, channel_close}
+use Rattle.race_clock.proofs.LockSteps.{hands_lock, hands_rlock, lock_same, lock_lock, lock_unlock, lock_runlock}
+
+-- the greater of two is the one that is no less
+max_above : (m n : ℕ) → m ≤ n → max m n ≡ n
+max_above m n le = let up : max m n ≤ n = max_within m n n le (omega arith) in let down : n ≤ max m n = le-max_right m n in omega (arith, up, down)
+
+module _ (caps : ℕ → ℕ) (k : ClocksState) (past : List Event) (S : ClocksStandFor caps k past) where
+  -- what the objects hand to an operation
+  pub handed_counts : (o : Op) → OpHasClocks k o → FindsRoom caps past o → CountsFrom caps past (λ i s. IsSource caps past i s o) (knows (handed k o))
+  handed_counts (Recv c v) within room = hands_receive caps past c (channel_of k.channels c) (S.all_channels c within) v room
+  handed_counts (Send c v) within room = hands_send caps past c (channel_of k.channels c) (S.all_channels c within) v room
+  handed_counts (RecvClosed c) within room = hands_closed caps past c (channel_of k.channels c) (S.all_channels c within)
+  handed_counts (Lock l) within room = hands_lock caps past l (lock_of k.locks l) (S.all_locks l within)
+  handed_counts (RLock l) within room = hands_rlock caps past l (lock_of k.locks l) (S.all_locks l within)
+  handed_counts (OnceDone o) within room = S.all_ends o within
+  handed_counts o within room = from_none caps past (λ i s. IsSource caps past i s o) (knows []) (λ i s at is. is) (λ h. refl)
+
+  module _ (e : Event) where
+    -- the clock of a participant's begin
+    pub begin_counts : (g : ℕ) → g < length k.slots → IsTrue (takes_part g e) → CountsAt caps (past ++ e ∷ []) (length past) g (knows (begin_of k g))
+    begin_counts g less is =
+        counts_like (past ++ e ∷ []) (owning g (participations g past + 1) (knows (clock_of k g))) (knows (begin_of k g)) _
+        (λ h. knows_with_count (clock_of k g) g (parts_of k g + 1) h (S.wide g less) ∙ ap (λ n. owning g (n + 1) (knows (clock_of k g)) h) (S.all_parts g less))
+        (counts_at_begin caps past e g (knows (clock_of k g)) is (S.all_clocks g less))
+
+    -- of others it knows what the clock knew
+    begin_knows : (g h : ℕ) → g < length k.slots → h ≢ g → knows (begin_of k g) h ≡ knows (clock_of k g) h
+    begin_knows g h less differ =
+        knows_with_count (clock_of k g) g (parts_of k g + 1) h (S.wide g less) ∙ ap (λ b. if b then parts_of k g + 1 else knows (clock_of k g) h) (ne_eqb h g differ)
+
+    -- and of g this begin
+    begin_own : (g : ℕ) → g < length k.slots → knows (begin_of k g) g ≡ parts_of k g + 1
+    begin_own g less = get_or-set_same (clock_of k g) g (parts_of k g + 1) 0 (S.wide g less)
+
+    -- no other knows more of f than there is
+    knows_within : (g f : ℕ) → g < length k.slots → f < length k.slots → f ≢ g → knows (clock_of k g) f ≤ parts_of k f
+    knows_within g f within below differ =
+        let bound : owning g (participations g past) (knows (clock_of k g)) f ≤ participations f past = (S.all_clocks g within).bound f in
+        let other : owning g (participations g past) (knows (clock_of k g)) f ≡ knows (clock_of k g) f =
+        ap (λ b. if b then participations g past else knows (clock_of k g) f) (ne_eqb f g differ) in
+        let parts : parts_of k f ≡ participations f past = S.all_parts f below in
+        omega (arith, bound, other, parts)
+
+    -- what two have seen, with the begin of the second
+    both_knows : (g f x : ℕ) → g < length k.slots → f < length k.slots → x ≢ g
+        → owning f (parts_of k f + 1) (λ x. max (knows (clock_of k g) x) (knows (clock_of k f) x)) x ≡ max (knows (begin_of k g) x) (knows (begin_of k f) x)
+    both_knows g f x within below apart = elim (cases_eq x f) [
+      | inl same ↦ at_f same
+      | inr differ ↦ rw (ne_eqb x f differ, begin_knows g x within apart, begin_knows f x below differ) refl
+    ]
+      where
+        at_f : x ≡ f → owning f (parts_of k f + 1) (λ x. max (knows (clock_of k g) x) (knows (clock_of k f) x)) x ≡ max (knows (begin_of k g) x) (knows (begin_of k f) x)
+        at_f same =
+            let known : knows (clock_of k g) f ≤ parts_of k f = knows_within g f within below (λ is. apart (same ∙ is)) in
+            rw (eq-eqb x f same, begin_knows g x within apart, same, begin_own f below) (sym (max_above (knows (clock_of k g) f) (parts_of k f + 1) (omega (arith, known))))
+
+    -- participations one event on
+    parts_more : (g : ℕ) → g < length k.slots → IsTrue (takes_part g e) → parts_of k g + 1 ≡ participations g (past ++ e ∷ [])
+    parts_more g less is =
+        let all : participations g (past ++ e ∷ []) ≡ participations g past + one_if (takes_part g e) = participations_push g past e in
+        let unit : one_if (takes_part g e) ≡ 1 = ap one_if is in
+        let old : parts_of k g ≡ participations g past = S.all_parts g less in
+        omega (arith, all, unit, old)
+
+    parts_same : (g : ℕ) → g < length k.slots → takes_part g e ≡ false → parts_of k g ≡ participations g (past ++ e ∷ [])
+    parts_same g less none =
+        let all : participations g (past ++ e ∷ []) ≡ participations g past + one_if (takes_part g e) = participations_push g past e in
+        let zero : one_if (takes_part g e) ≡ 0 = ap one_if none in
+        let old : parts_of k g ≡ participations g past = S.all_parts g less in
+        omega (arith, all, zero, old)
+
+    -- the objects
+    channels_next : (c : ℕ) (b : List ℕ) (o : Op) → e.op ≡ o → c < length k.channels → FindsRoom caps past o → CountsAt caps (past ++ e ∷ []) (length past) e.who (knows b)
+        → StandsForChannel caps (past ++ e ∷ []) c (channel_of (channels_after k.channels o b) c)
+    channels_next c b (Send d v) is less room own = elim (cases_eq d c) [
+      | inl same ↦
+          subst (λ d. StandsForChannel caps (past ++ e ∷ []) c (channel_of (set k.channels d (channel_sent (channel_of k.channels d) b)) c)) (sym same)
+          (subst (StandsForChannel caps (past ++ e ∷ []) c) (sym (get_or-set_same k.channels c (channel_sent (channel_of k.channels c) b) no_channel less))
+          (channel_send caps past c (channel_of k.channels c) (S.all_channels c less) e b (ap (sends c) is ∙ eq-eqb d c same) (ap (receives c) is) (ap (closes c) is)
+          (subst (λ d. count (sends d) past < count (receives d) past + caps d) same room) own))
+      | inr differ ↦
+          subst (StandsForChannel caps (past ++ e ∷ []) c) (sym (get_or-set_other k.channels d c (channel_sent (channel_of k.channels d) b) no_channel (λ e. differ (sym e))))
+          (channel_same caps past c (channel_of k.channels c) (S.all_channels c less) e (ap (sends c) is ∙ ne_eqb d c differ) (ap (receives c) is) (ap (closes c) is))
+    ]
+    channels_next c b (Recv d v) is less room own = elim (cases_eq d c) [
+      | inl same ↦
+          subst (λ d. StandsForChannel caps (past ++ e ∷ []) c (channel_of (set k.channels d (channel_received (channel_of k.channels d) b)) c)) (sym same)
+          (subst (StandsForChannel caps (past ++ e ∷ []) c) (sym (get_or-set_same k.channels c (channel_received (channel_of k.channels c) b) no_channel less))
+          (channel_receive caps past c (channel_of k.channels c) (S.all_channels c less) e b (ap (receives c) is ∙ eq-eqb d c same) (ap (sends c) is) (ap (closes c) is)
+          (subst (λ d. count (receives d) past < count (sends d) past) same room) own))
+      | inr differ ↦
+          subst (StandsForChannel caps (past ++ e ∷ []) c) (sym (get_or-set_other k.channels d c (channel_received (channel_of k.channels d) b) no_channel (λ e. differ (sym e))))
+          (channel_same caps past c (channel_of k.channels c) (S.all_channels c less) e (ap (sends c) is) (ap (receives c) is ∙ ne_eqb d c differ) (ap (closes c) is))
+    ]
+    channels_next c b (Close d) is less room own = elim (cases_eq d c) [
+      | inl same ↦
+          subst (λ d. StandsForChannel caps (past ++ e ∷ []) c (channel_of (set k.channels d (channel_closed (channel_of k.channels d) b)) c)) (sym same)
+          (subst (StandsForChannel caps (past ++ e ∷ []) c) (sym (get_or-set_same k.channels c (channel_closed (channel_of k.channels c) b) no_channel less))
+          (channel_close caps past c (channel_of k.channels c) (S.all_channels c less) e b (ap (closes c) is ∙ eq-eqb d c same) (ap (sends c) is) (ap (receives c) is) own))
+      | inr differ ↦
+          subst (StandsForChannel caps (past ++ e ∷ []) c) (sym (get_or-set_other k.channels d c (channel_closed (channel_of k.channels d) b) no_channel (λ e. differ (sym e))))
+          (channel_same caps past c (channel_of k.channels c) (S.all_channels c less) e (ap (sends c) is) (ap (receives c) is) (ap (closes c) is ∙ ne_eqb d c differ))
+    ]
+    channels_next c b o is less room own = channel_same caps past c (channel_of k.channels c) (S.all_channels c less) e (ap (sends c) is) (ap (receives c) is) (ap (closes c) is)
+
+    locks_next : (l : ℕ) (b : List ℕ) (o : Op) → e.op ≡ o → l < length k.locks → CountsAt caps (past ++ e ∷ []) (length past) e.who (knows b)
+        → StandsForLock caps (past ++ e ∷ []) l (lock_of (locks_after k.locks o b) l)
+    locks_next l b (Lock m) is less own = elim (cases_eq m l) [
+      | inl same ↦
+          subst (λ m. StandsForLock caps (past ++ e ∷ []) l (lock_of (set k.locks m (lock_locked (lock_of k.locks m))) l)) (sym same)
+          (subst (StandsForLock caps (past ++ e ∷ []) l) (sym (get_or-set_same k.locks l (lock_locked (lock_of k.locks l)) no_lock less))
+          (lock_lock caps past l (lock_of k.locks l) (S.all_locks l less) e (ap (unlocks l) is) (ap (locks l) is ∙ eq-eqb m l same)))
+      | inr differ ↦
+          subst (StandsForLock caps (past ++ e ∷ []) l) (sym (get_or-set_other k.locks m l (lock_locked (lock_of k.locks m)) no_lock (λ e. differ (sym e))))
+          (lock_same caps past l (lock_of k.locks l) (S.all_locks l less) e (ap (unlocks l) is) (ap (locks l) is ∙ ne_eqb m l differ) (ap (runlocks l) is))
+    ]
+    locks_next l b (Unlock m) is less own = elim (cases_eq m l) [
+      | inl same ↦
+          subst (λ m. StandsForLock caps (past ++ e ∷ []) l (lock_of (set k.locks m (lock_unlocked (lock_of k.locks m) b)) l)) (sym same)
+          (subst (StandsForLock caps (past ++ e ∷ []) l) (sym (get_or-set_same k.locks l (lock_unlocked (lock_of k.locks l) b) no_lock less))
+          (lock_unlock caps past l (lock_of k.locks l) (S.all_locks l less) e b (ap (unlocks l) is ∙ eq-eqb m l same) (ap (locks l) is) (ap (runlocks l) is) own))
+      | inr differ ↦
+          subst (StandsForLock caps (past ++ e ∷ []) l) (sym (get_or-set_other k.locks m l (lock_unlocked (lock_of k.locks m) b) no_lock (λ e. differ (sym e))))
+          (lock_same caps past l (lock_of k.locks l) (S.all_locks l less) e (ap (unlocks l) is ∙ ne_eqb m l differ) (ap (locks l) is) (ap (runlocks l) is))
+    ]
+    locks_next l b (RUnlock m) is less own = elim (cases_eq m l) [
+      | inl same ↦
+          subst (λ m. StandsForLock caps (past ++ e ∷ []) l (lock_of (set k.locks m (lock_read_unlocked (lock_of k.locks m) b)) l)) (sym same)
+          (subst (StandsForLock caps (past ++ e ∷ []) l) (sym (get_or-set_same k.locks l (lock_read_unlocked (lock_of k.locks l) b) no_lock less))
+          (lock_runlock caps past l (lock_of k.locks l) (S.all_locks l less) e b (ap (unlocks l) is) (ap (locks l) is) (ap (runlocks l) is ∙ eq-eqb m l same) own))
+      | inr differ ↦
+          subst (StandsForLock caps (past ++ e ∷ []) l) (sym (get_or-set_other k.locks m l (lock_read_unlocked (lock_of k.locks m) b) no_lock (λ e. differ (sym e))))
+          (lock_same caps past l (lock_of k.locks l) (S.all_locks l less) e (ap (unlocks l) is) (ap (locks l) is) (ap (runlocks l) is ∙ ne_eqb m l differ))
+    ]
+    locks_next l b o is less own = lock_same caps past l (lock_of k.locks l) (S.all_locks l less) e (ap (unlocks l) is) (ap (locks l) is) (ap (runlocks l) is)
+
+    ends_next : (p : ℕ) (b : List ℕ) (o : Op) → e.op ≡ o → p < length k.ends → CountsAt caps (past ++ e ∷ []) (length past) e.who (knows b)
+        → CountsFrom caps (past ++ e ∷ []) (λ i s. IsTrue (once_ends p s)) (knows (end_of (ends_after k.ends o b) p))
+    ends_next p b (OnceEnd q) is less own = elim (cases_eq q p) [
+      | inl same ↦
+          subst (λ q. CountsFrom caps (past ++ e ∷ []) (λ i s. IsTrue (once_ends p s)) (knows (end_of (set k.ends q (joined (end_of k.ends q) b)) p))) (sym same)
+          (subst (λ c. CountsFrom caps (past ++ e ∷ []) (λ i s. IsTrue (once_ends p s)) (knows c)) (sym (get_or-set_same k.ends p (joined (end_of k.ends p) b) [] less))
+          (all_more caps past e (once_ends p) (end_of k.ends p) (S.all_ends p less) b (ap (once_ends p) is ∙ eq-eqb q p same) own))
+      | inr differ ↦
+          subst (λ c. CountsFrom caps (past ++ e ∷ []) (λ i s. IsTrue (once_ends p s)) (knows c))
+          (sym (get_or-set_other k.ends q p (joined (end_of k.ends q) b) [] (λ e. differ (sym e))))
+          (all_same caps past e (once_ends p) (end_of k.ends p) (S.all_ends p less) (ap (once_ends p) is ∙ ne_eqb q p differ))
+    ]
+    ends_next p b o is less own = all_same caps past e (once_ends p) (end_of k.ends p) (S.all_ends p less) (ap (once_ends p) is)
+
+    length_channels : (o : Op) (b : List ℕ) → length (channels_after k.channels o b) ≡ length k.channels
+    length_channels (Send c v) b = length-set k.channels c (channel_sent (channel_of k.channels c) b)
+    length_channels (Recv c v) b = length-set k.channels c (channel_received (channel_of k.channels c) b)
+    length_channels (Close c) b = length-set k.channels c (channel_closed (channel_of k.channels c) b)
+    length_channels _ b = refl
+
+    length_locks : (o : Op) (b : List ℕ) → length (locks_after k.locks o b) ≡ length k.locks
+    length_locks (Lock l) b = length-set k.locks l (lock_locked (lock_of k.locks l))
+    length_locks (Unlock l) b = length-set k.locks l (lock_unlocked (lock_of k.locks l) b)
+    length_locks (RUnlock l) b = length-set k.locks l (lock_read_unlocked (lock_of k.locks l) b)
+    length_locks _ b = refl
+
+    length_ends : (o : Op) (b : List ℕ) → length (ends_after k.ends o b) ≡ length k.ends
+    length_ends (OnceEnd p) b = length-set k.ends p (joined (end_of k.ends p) b)
+    length_ends _ b = refl
+
+    -- who takes part in an operation without a partner
+    sole_part : (g : ℕ) → partner e.op ≡ None → e.who ≢ g → takes_part g e ≡ false
+    sole_part g none differ = ap (λ b. b || gives (partner e.op) g) (ne_eqb e.who g differ) ∙ ap (λ o. gives o g) none
+
+    -- one goroutine acts
+    acted_stands : (c : List ℕ) → partner e.op ≡ None → e.who < length k.slots → FindsRoom caps past e.op → e.who < length c → CountsSeen caps (past ++ e ∷ []) e.who (knows c)
+        → ClocksStandFor caps (acted k e.who e.op c) (past ++ e ∷ [])
+    acted_stands c none within room long new = record {
+      wide = λ g less. elim (cases_eq e.who g) [
+        | inl same ↦ subst (λ g. g < length (slot_at g).clock) same (subst (λ (s : SlotState). e.who < length s.clock) (sym here) long)
+        | inr differ ↦ subst (λ (s : SlotState). g < length s.clock) (sym (apart g differ)) (S.wide g (old g less))
+      ];
+      all_parts = λ g less. elim (cases_eq e.who g) [
+        | inl same ↦ subst (λ g. (slot_at g).parts ≡ participations g (past ++ e ∷ [])) same (ap (λ (s : SlotState). s.parts) here ∙ parts_more e.who within (who_takes_part e))
+        | inr differ ↦ ap (λ (s : SlotState). s.parts) (apart g differ) ∙ parts_same g (old g less) (sole_part g none differ)
+      ];
+      all_clocks = λ g less. elim (cases_eq e.who g) [
+        | inl same ↦ subst (λ g. CountsSeen caps (past ++ e ∷ []) g (knows (slot_at g).clock)) same
+            (subst (λ (s : SlotState). CountsSeen caps (past ++ e ∷ []) e.who (knows s.clock)) (sym here) new)
+        | inr differ ↦ subst (λ (s : SlotState). CountsSeen caps (past ++ e ∷ []) g (knows s.clock)) (sym (apart g differ))
+            (counts_other caps past e g (knows (clock_of k g)) (sole_part g none differ) (S.all_clocks g (old g less)))
+      ];
+      all_channels = λ c less. channels_next c (begin_of k e.who) e.op refl (omega (arith, less, length_channels e.op (begin_of k e.who))) room own;
+      all_locks = λ l less. locks_next l (begin_of k e.who) e.op refl (omega (arith, less, length_locks e.op (begin_of k e.who))) own;
+      all_ends = λ p less. ends_next p (begin_of k e.who) e.op refl (omega (arith, less, length_ends e.op (begin_of k e.who))) own;
+    }
+      where
+        slot_at : ℕ → SlotState
+        slot_at g = get_or (set k.slots e.who (next_slot k e.who c)) g no_slot
+
+        here : get_or (set k.slots e.who (next_slot k e.who c)) e.who no_slot ≡ next_slot k e.who c
+        here = get_or-set_same k.slots e.who (next_slot k e.who c) no_slot within
+
+        apart : (g : ℕ) → e.who ≢ g → get_or (set k.slots e.who (next_slot k e.who c)) g no_slot ≡ slot_of k g
+        apart g differ = get_or-set_other k.slots e.who g (next_slot k e.who c) no_slot (λ e. differ (sym e))
+
+        old : (g : ℕ) → g < length (set k.slots e.who (next_slot k e.who c)) → g < length k.slots
+        old g less = omega (arith, less, length-set k.slots e.who (next_slot k e.who c))
+
+        own : CountsAt caps (past ++ e ∷ []) (length past) e.who (knows (begin_of k e.who))
+        own = begin_counts e.who within (who_takes_part e)
+
+    -- no other takes part in an event of two
+    others_part : (h g : ℕ) → partner e.op ≡ Some h → e.who ≢ g → h ≢ g → takes_part g e ≡ false
+    others_part h g two differ apart = ap (λ b. b || gives (partner e.op) g) (ne_eqb e.who g differ) ∙ ap (λ o. gives o g) two ∙ ne_eqb h g apart
+
+    second_part : (h : ℕ) → partner e.op ≡ Some h → IsTrue (takes_part h e)
+    second_part h two = or_right (e.who == h) (gives (partner e.op) h) (ap (λ o. gives o h) two ∙ eq-eqb h h refl)
+
+    -- two goroutines take part, and no object
+    paired_stands : (h : ℕ) (c d : List ℕ) → partner e.op ≡ Some h → e.who < length k.slots → h < length k.slots → e.who < length c → h < length d
+        → (h ≢ e.who → CountsSeen caps (past ++ e ∷ []) e.who (knows c)) → CountsSeen caps (past ++ e ∷ []) h (knows d)
+        → ((c : ℕ) → c < length k.channels → StandsForChannel caps (past ++ e ∷ []) c (channel_of k.channels c))
+        → ((l : ℕ) → l < length k.locks → StandsForLock caps (past ++ e ∷ []) l (lock_of k.locks l))
+        → ((o : ℕ) → o < length k.ends → CountsFrom caps (past ++ e ∷ []) (λ i s. IsTrue (once_ends o s)) (knows (end_of k.ends o)))
+        → ClocksStandFor caps (paired k e.who h c d) (past ++ e ∷ [])
+    paired_stands h c d two within beside long wide_enough first second channels locks ends = record {
+      wide = λ g less. elim (cases_eq h g) [
+        | inl same ↦ subst (λ g. g < length (slot_at g).clock) same (subst (λ (s : SlotState). h < length s.clock) (sym there) wide_enough)
+        | inr apart ↦ elim (cases_eq e.who g) [
+          | inl same ↦ subst (λ (s : SlotState). g < length s.clock) (sym (off_second g apart))
+              (subst (λ g. g < length (get_or (set k.slots e.who (next_slot k e.who c)) g no_slot).clock) same (subst (λ (s : SlotState). e.who < length s.clock) (sym here) long))
+          | inr differ ↦ subst (λ (s : SlotState). g < length s.clock) (sym (off_both g apart differ)) (S.wide g (old g less))
+        ]
+      ];
+      all_parts = λ g less. elim (cases_eq h g) [
+        | inl same ↦ subst (λ g. (slot_at g).parts ≡ participations g (past ++ e ∷ [])) same (ap (λ (s : SlotState). s.parts) there ∙ parts_more h beside (second_part h two))
+        | inr apart ↦ elim (cases_eq e.who g) [
+          | inl same ↦ ap (λ (s : SlotState). s.parts) (off_second g apart)
+              ∙ subst (λ g. (get_or (set k.slots e.who (next_slot k e.who c)) g no_slot).parts ≡ participations g (past ++ e ∷ [])) same
+              (ap (λ (s : SlotState). s.parts) here ∙ parts_more e.who within (who_takes_part e))
+          | inr differ ↦ ap (λ (s : SlotState). s.parts) (off_both g apart differ) ∙ parts_same g (old g less) (others_part h g two differ apart)
+        ]
+      ];
+      all_clocks = λ g less. elim (cases_eq h g) [
+        | inl same ↦ subst (λ g. CountsSeen caps (past ++ e ∷ []) g (knows (slot_at g).clock)) same
+            (subst (λ (s : SlotState). CountsSeen caps (past ++ e ∷ []) h (knows s.clock)) (sym there) second)
+        | inr apart ↦ elim (cases_eq e.who g) [
+          | inl same ↦ subst (λ (s : SlotState). CountsSeen caps (past ++ e ∷ []) g (knows s.clock)) (sym (off_second g apart))
+              (subst (λ g. CountsSeen caps (past ++ e ∷ []) g (knows (get_or (set k.slots e.who (next_slot k e.who c)) g no_slot).clock)) same
+              (subst (λ (s : SlotState). CountsSeen caps (past ++ e ∷ []) e.who (knows s.clock)) (sym here) (first (λ is. apart (is ∙ same)))))
+          | inr differ ↦ subst (λ (s : SlotState). CountsSeen caps (past ++ e ∷ []) g (knows s.clock)) (sym (off_both g apart differ))
+              (counts_other caps past e g (knows (clock_of k g)) (others_part h g two differ apart) (S.all_clocks g (old g less)))
+        ]
+      ];
+      all_channels = channels;
+      all_locks = locks;
+      all_ends = ends;
+    }
+      where
+        slot_at : ℕ → SlotState
+        slot_at g = get_or (set (set k.slots e.who (next_slot k e.who c)) h (next_slot k h d)) g no_slot
+
+        there : get_or (set (set k.slots e.who (next_slot k e.who c)) h (next_slot k h d)) h no_slot ≡ next_slot k h d
+        there = get_or-set_same (set k.slots e.who (next_slot k e.who c)) h (next_slot k h d) no_slot (omega (arith, beside, length-set k.slots e.who (next_slot k e.who c)))
+
+        here : get_or (set k.slots e.who (next_slot k e.who c)) e.who no_slot ≡ next_slot k e.who c
+        here = get_or-set_same k.slots e.who (next_slot k e.who c) no_slot within
+
+        off_second : (g : ℕ) → h ≢ g
+            → get_or (set (set k.slots e.who (next_slot k e.who c)) h (next_slot k h d)) g no_slot ≡ get_or (set k.slots e.who (next_slot k e.who c)) g no_slot
+        off_second g apart = get_or-set_other (set k.slots e.who (next_slot k e.who c)) h g (next_slot k h d) no_slot (λ e. apart (sym e))
+
+        off_both : (g : ℕ) → h ≢ g → e.who ≢ g → get_or (set (set k.slots e.who (next_slot k e.who c)) h (next_slot k h d)) g no_slot ≡ slot_of k g
+        off_both g apart differ = off_second g apart ∙ get_or-set_other k.slots e.who g (next_slot k e.who c) no_slot (λ e. differ (sym e))
+
+        old : (g : ℕ) → g < length (set (set k.slots e.who (next_slot k e.who c)) h (next_slot k h d)) → g < length k.slots
+        old g less = omega (arith, less, length-set (set k.slots e.who (next_slot k e.who c)) h (next_slot k h d), length-set k.slots e.who (next_slot k e.who c))
+
+    -- the clock of a goroutine that acts alone: right where it is, of all others, what the begin knew or the objects hand over
+    alone_seen : (c : List ℕ) → e.who < length k.slots → OpHasClocks k e.op → FindsRoom caps past e.op → ((f : ℕ) → SynchronizedInside e.who e.op f e.who → ⊥)
+        → ((h : ℕ) → h ≢ e.who → knows c h ≡ max (knows (begin_of k e.who) h) (knows (handed k e.op) h)) → CountsSeen caps (past ++ e ∷ []) e.who (knows c)
+    alone_seen c within range room no_partner same =
+        counts_seen_from caps (past ++ e ∷ []) e.who (knows c) (λ h. max (knows (begin_of k e.who) h) (knows (handed k e.op) h))
+        (counts_alone caps past e (knows (begin_of k e.who)) (knows (handed k e.op)) no_partner (begin_counts e.who within (who_takes_part e))
+        (handed_counts e.op range room)) same
+
+    -- the clock of one of two
+    pair_seen : (f g : ℕ) (c : List ℕ) → f < length k.slots → g < length k.slots → IsTrue (takes_part f e) → IsTrue (takes_part g e) → SynchronizedInside e.who e.op f g
+        → ((x : ℕ) → SynchronizedInside e.who e.op x g → x ≡ f)
+        → ((i h : ℕ) → Handed caps past e.op i h → ⊥)
+        → ((x : ℕ) → x ≢ g → knows c x ≡ owning f (parts_of k f + 1) (λ x. max (knows (clock_of k g) x) (knows (clock_of k f) x)) x)
+        → CountsSeen caps (past ++ e ∷ []) g (knows c)
+    pair_seen f g c below within is_f is_g inside sole unhanded same =
+        counts_seen_from caps (past ++ e ∷ []) g (knows c) (λ h. max (knows (begin_of k g) h) (knows (begin_of k f) h))
+        (counts_pair caps past e f g (knows (begin_of k g)) (knows (begin_of k f)) is_g inside sole unhanded (begin_counts g within is_g) (begin_counts f below is_f))
+        (λ h differ. same h differ ∙ both_knows g f h within below differ)
+
+    -- behind an access the clock has as many own begins as stood before it
+    pub access_counts : e.who < length k.slots
+        → CountsBegins (past ++ e ∷ []) (knows (with_count (clock_of k e.who) e.who (parts_of k e.who)))
+        (λ i h. Reaches caps (past ++ e ∷ []) (Begin i h) (Begin (length past) e.who))
+    access_counts within =
+        counts_like (past ++ e ∷ []) (owning e.who (participations e.who past) (knows (clock_of k e.who))) (knows (with_count (clock_of k e.who) e.who (parts_of k e.who))) _
+        (λ h. knows_with_count (clock_of k e.who) e.who (parts_of k e.who) h (S.wide e.who within) ∙ ap (λ n. owning e.who n (knows (clock_of k e.who)) h)
+        (S.all_parts e.who within))
+        (counts_before caps past e e.who (owning e.who (participations e.who past) (knows (clock_of k e.who))) (who_takes_part e) (S.all_clocks e.who within))
+
+    -- what the two clocks know behind their event
+    both_seen_knows : (g f x : ℕ) → f < length k.slots → knows (both_seen k g f) x ≡ owning f (parts_of k f + 1) (λ x. max (knows (clock_of k g) x) (knows (clock_of k f) x)) x
+    both_seen_knows g f x below =
+        knows_with_count (joined (clock_of k g) (clock_of k f)) f (parts_of k f + 1) x
+        (let le : length (clock_of k f) ≤ length (joined (clock_of k g) (clock_of k f)) = joined_long_right (clock_of k g) (clock_of k f) in let long : f < length
+        (clock_of k f) = S.wide f below in omega (arith, le, long))
+        ∙ ap (λ n. if x == f then parts_of k f + 1 else n) (knows_joined (clock_of k g) (clock_of k f) x)
+
+    met_long : (s r g : ℕ) → s < length k.slots → g < length (clock_of k s) → g < length (met k s r)
+    met_long s r g within long =
+        let le : length (clock_of k s) ≤ length (joined (clock_of k s) (clock_of k r)) = joined_long (clock_of k s) (clock_of k r) in
+        omega (
+          arith,
+          le,
+          long,
+          length-set (with_count (joined (clock_of k s) (clock_of k r)) s (parts_of k s + 1)) r (parts_of k r + 1),
+          length-set
+              (joined (clock_of k s) (clock_of k r)) s (parts_of k s + 1),
+        )
+
+    met_long_right : (s r g : ℕ) → r < length k.slots → g < length (clock_of k r) → g < length (met k s r)
+    met_long_right s r g within long =
+        let le : length (clock_of k r) ≤ length (joined (clock_of k s) (clock_of k r)) = joined_long_right (clock_of k s) (clock_of k r) in
+        omega (
+          arith,
+          le,
+          long,
+          length-set (with_count (joined (clock_of k s) (clock_of k r)) s (parts_of k s + 1)) r (parts_of k r + 1),
+          length-set
+              (joined (clock_of k s) (clock_of k r)) s (parts_of k s + 1),
+        )
+
+    met_knows : (s r x : ℕ) → s < length k.slots → r < length k.slots
+        → knows (met k s r) x ≡ owning r (parts_of k r + 1) (owning s (parts_of k s + 1) (λ x. max (knows (clock_of k s) x) (knows (clock_of k r) x))) x
+    met_knows s r x within beside =
+        let le : length (clock_of k s) ≤ length (joined (clock_of k s) (clock_of k r)) = joined_long (clock_of k s) (clock_of k r) in
+        let right : length (clock_of k r) ≤ length (joined (clock_of k s) (clock_of k r)) = joined_long_right (clock_of k s) (clock_of k r) in
+        let long : s < length (clock_of k s) = S.wide s within in
+        let far : r < length (clock_of k r) = S.wide r beside in
+        knows_with_count (with_count (joined (clock_of k s) (clock_of k r)) s (parts_of k s + 1)) r (parts_of k r + 1) x
+        (omega (arith, right, far, length-set (joined (clock_of k s) (clock_of k r)) s (parts_of k s + 1)))
+        ∙ ap (λ n. if x == r then parts_of k r + 1 else n)
+        (knows_with_count (joined (clock_of k s) (clock_of k r)) s (parts_of k s + 1) x (omega (arith, le, long)) ∙ ap (λ n. if x == s then parts_of k s + 1 else n)
+        (knows_joined (clock_of k s) (clock_of k r) x))
+
+    -- the next state stands for the longer list
+    pub stands_after : HasClocks k e.who e.op → FindsRoom caps past e.op → ClocksStandFor caps (after k e.who e.op) (past ++ e ∷ [])
+    stands_after (within, range) room = go e.op refl
+      where
+        mine : e.who < length (clock_of k e.who)
+        mine = S.wide e.who within
+
+        -- an operation without a partner, whose goroutine's clock is joined with what it is handed
+        joins : (o : Op) → e.op ≡ o → partner o ≡ None → ((f : ℕ) → SynchronizedInside e.who o f e.who → ⊥)
+            → ClocksStandFor caps (acted k e.who o (joined (clock_of k e.who) (handed k o))) (past ++ e ∷ [])
+        joins o is none no_partner =
+            subst (λ o. ClocksStandFor caps (acted k e.who o (joined (clock_of k e.who) (handed k o))) (past ++ e ∷ [])) is
+            (acted_stands (joined (clock_of k e.who) (handed k e.op)) (ap partner is ∙ none) within room
+            (let le : length (clock_of k e.who) ≤ length (joined (clock_of k e.who) (handed k e.op)) = joined_long (clock_of k e.who) (handed k e.op) in omega (arith, le, mine))
+            (alone_seen (joined (clock_of k e.who) (handed k e.op)) within range room (λ f inside. no_partner f (subst (λ o. SynchronizedInside e.who o f e.who) is inside))
+            (λ h differ. knows_joined (clock_of k e.who) (handed k e.op) h ∙ ap (λ n. max n (knows (handed k e.op) h)) (sym (begin_knows e.who h within differ)))))
+
+        -- an access
+        keeps : (o : Op) → e.op ≡ o → partner o ≡ None → ((f : ℕ) → SynchronizedInside e.who o f e.who → ⊥) → handed k o ≡ []
+            → ClocksStandFor caps (acted k e.who o (with_count (clock_of k e.who) e.who (parts_of k e.who))) (past ++ e ∷ [])
+        keeps o is none no_partner nothing =
+            subst (λ o. ClocksStandFor caps (acted k e.who o (with_count (clock_of k e.who) e.who (parts_of k e.who))) (past ++ e ∷ [])) is
+            (acted_stands (with_count (clock_of k e.who) e.who (parts_of k e.who)) (ap partner is ∙ none) within room
+            (omega (arith, mine, length-set (clock_of k e.who) e.who (parts_of k e.who)))
+            (alone_seen (with_count (clock_of k e.who) e.who (parts_of k e.who)) within range room
+            (λ f inside. no_partner f (subst (λ o. SynchronizedInside e.who o f e.who) is inside))
+            (λ h differ. knows_with_count (clock_of k e.who) e.who (parts_of k e.who) h mine ∙ ap (λ b. if b then parts_of k e.who else knows (clock_of k e.who) h)
+            (ne_eqb h e.who differ) ∙ sym (begin_knows e.who h within differ) ∙ sym (max-zero (knows (begin_of k e.who) h))
+            ∙ ap (λ d. max (knows (begin_of k e.who) h) (knows d h)) (sym (ap (handed k) is ∙ nothing)))))
+
+        starts : (h : ℕ) → e.op ≡ Go h → h < length k.slots → ClocksStandFor caps (paired k e.who h (clock_of k e.who) (both_seen k h e.who)) (past ++ e ∷ [])
+        starts h is beside =
+            paired_stands h (clock_of k e.who) (both_seen k h e.who) two within beside mine
+            (let le : length (clock_of k h) ≤ length (joined (clock_of k h) (clock_of k e.who)) = joined_long (clock_of k h) (clock_of k e.who) in let long : h < length
+            (clock_of k h) = S.wide h beside in omega (arith, le, long, length-set (joined (clock_of k h) (clock_of k e.who)) e.who (parts_of k e.who + 1)))
+            (λ apart. alone_seen (clock_of k e.who) within range room
+            (λ f inside. let ends : (e.who ≡ f) × (h ≡ e.who) = subst (λ o. SynchronizedInside e.who o f e.who) is inside in apart ends.1)
+            (λ x differ. sym (begin_knows e.who x within differ) ∙ sym (max-zero (knows (begin_of k e.who) x)) ∙ ap (λ d. max (knows (begin_of k e.who) x) (knows d x))
+            (sym (ap (handed k) is))))
+            (pair_seen e.who h (both_seen k h e.who) within beside (who_takes_part e) (second_part h two)
+            (subst (λ o. SynchronizedInside e.who o e.who h) (sym is) (refl, refl))
+            (λ x inside. let ends : (e.who ≡ x) × (h ≡ h) = subst (λ o. SynchronizedInside e.who o x h) is inside in sym ends.0)
+            (λ i g by. unhanded by.0 by.1 by.3)
+            (λ x differ. both_seen_knows h e.who x within))
+            (λ c less. channels_next c (begin_of k e.who) (Go h) is less tt own)
+            (λ l less. locks_next l (begin_of k e.who) (Go h) is less own)
+            (λ p less. ends_next p (begin_of k e.who) (Go h) is less own)
+          where
+            two : partner e.op ≡ Some h
+            two = ap partner is
+
+            unhanded : (i : ℕ) (s : Event) → IsSource caps past i s.op e.op → ⊥
+            unhanded i s source = subst (λ o. IsSource caps past i s.op o) is source
+
+            own : CountsAt caps (past ++ e ∷ []) (length past) e.who (knows (begin_of k e.who))
+            own = begin_counts e.who within (who_takes_part e)
+
+        meets : (r c v : ℕ) → e.op ≡ Meet r c v → r < length k.slots → ClocksStandFor caps (paired k e.who r (met k e.who r) (met k e.who r)) (past ++ e ∷ [])
+        meets r c v is beside =
+            paired_stands r (met k e.who r) (met k e.who r) two within beside (met_long e.who r e.who within mine) (met_long_right e.who r r beside (S.wide r beside))
+            (λ apart. pair_seen r e.who (met k e.who r) beside within (second_part r two) (who_takes_part e)
+            (subst (λ o. SynchronizedInside e.who o r e.who) (sym is) (inr (refl, refl)))
+            (λ x inside. from_receiver x (subst (λ o. SynchronizedInside e.who o x e.who) is inside))
+            (λ i g by. unhanded by.0 by.1 by.3)
+            (λ x differ. met_knows e.who r x within beside ∙ ap (λ n. if x == r then parts_of k r + 1 else n)
+            (ap (λ b. if b then parts_of k e.who + 1 else max (knows (clock_of k e.who) x) (knows (clock_of k r) x)) (ne_eqb x e.who differ))))
+            (pair_seen e.who r (met k e.who r) within beside (who_takes_part e) (second_part r two)
+            (subst (λ o. SynchronizedInside e.who o e.who r) (sym is) (inl (refl, refl)))
+            (λ x inside. from_sender x (subst (λ o. SynchronizedInside e.who o x r) is inside))
+            (λ i g by. unhanded by.0 by.1 by.3)
+            (λ x differ. met_knows e.who r x within beside ∙ ap
+            (λ b. if b then parts_of k r + 1 else owning e.who (parts_of k e.who + 1) (λ x. max (knows (clock_of k e.who) x) (knows (clock_of k r) x)) x) (ne_eqb x r differ)
+            ∙ ap (λ n. if x == e.who then parts_of k e.who + 1 else n) (max_comm (knows (clock_of k e.who) x) (knows (clock_of k r) x))))
+            (λ d less. channels_next d (begin_of k e.who) (Meet r c v) is less tt own)
+            (λ l less. locks_next l (begin_of k e.who) (Meet r c v) is less own)
+            (λ p less. ends_next p (begin_of k e.who) (Meet r c v) is less own)
+          where
+            two : partner e.op ≡ Some r
+            two = ap partner is
+
+            from_receiver : (x : ℕ) → SynchronizedInside e.who (Meet r c v) x e.who → x ≡ r
+            from_receiver x (inl (from, to)) = sym from ∙ sym to
+            from_receiver x (inr (from, to)) = sym from
+
+            from_sender : (x : ℕ) → SynchronizedInside e.who (Meet r c v) x r → x ≡ e.who
+            from_sender x (inl (from, to)) = sym from
+            from_sender x (inr (from, to)) = sym from ∙ sym to
+
+            unhanded : (i : ℕ) (s : Event) → IsSource caps past i s.op e.op → ⊥
+            unhanded i s source = subst (λ o. IsSource caps past i s.op o) is source
+
+            own : CountsAt caps (past ++ e ∷ []) (length past) e.who (knows (begin_of k e.who))
+            own = begin_counts e.who within (who_takes_part e)
+
+        go : (o : Op) → e.op ≡ o → ClocksStandFor caps (after k e.who o) (past ++ e ∷ [])
+        go (Go h) is = starts h is (subst (OpHasClocks k) is range)
+        go (Meet r c v) is = meets r c v is (subst (OpHasClocks k) is range)
+        go (Read x v) is = keeps (Read x v) is refl (λ f inside. inside) refl
+        go (Write x v) is = keeps (Write x v) is refl (λ f inside. inside) refl
+        go o is = joins o is refl (λ f inside. inside)
+
+-- the clock behind an access
+clock_after_access : (k : ClocksState) (who : ℕ) (o : Op) → who < length k.slots → IsTrue (is_access o)
+    → clock_of (after k who o) who ≡ with_count (clock_of k who) who (parts_of k who)
+clock_after_access k who (Read x v) less is =
+    ap (λ (s : SlotState). s.clock) (get_or-set_same k.slots who (next_slot k who (with_count (clock_of k who) who (parts_of k who))) no_slot less)
+clock_after_access k who (Write x v) less is =
+    ap (λ (s : SlotState). s.clock) (get_or-set_same k.slots who (next_slot k who (with_count (clock_of k who) who (parts_of k who))) no_slot less)
+clock_after_access k who _ less is = cc
+
+-- counts what reaches it
+pub reaching_after : (caps : ℕ → ℕ) (k : ClocksState) (past : List Event) (e : Event) → ClocksStandFor caps k past → e.who < length k.slots → IsTrue (is_access e.op)
+    → CountsReaching caps past e e.who (clock_of (after k e.who e.op) e.who)
+reaching_after caps k past e S less is =
+    subst (λ c. CountsReaching caps past e e.who c) (sym (clock_after_access k e.who e.op less is)) (access_counts caps k past S e less)
+
+-- no goroutine comes or goes
+pub length_after : (k : ClocksState) (who : ℕ) (o : Op) → length (after k who o).slots ≡ length k.slots
+length_after k who (Go h) =
+    length-set (set k.slots who (next_slot k who (clock_of k who))) h (next_slot k h (both_seen k h who)) ∙ length-set k.slots who (next_slot k who (clock_of k who))
+length_after k who (Meet r c v) =
+    length-set (set k.slots who (next_slot k who (met k who r))) r (next_slot k r (met k who r)) ∙ length-set k.slots who (next_slot k who (met k who r))
+length_after k who (Read x v) = length-set k.slots who _
+length_after k who (Write x v) = length-set k.slots who _
+length_after k who o = length-set k.slots who _

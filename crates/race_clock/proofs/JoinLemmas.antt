@@ -1,0 +1,162 @@
+-- Joined clocks as lists.
+use Rattle.std.proofs.Common.{◌≡◌, ◌⊎◌, inl, inr, ℕ, zero, suc, ◌+◌, ◌-◌, ◌<◌, ◌≤◌, max, List, [], ◌∷◌, ◌++◌, take, drop, length, get_or, set, refl, sym, ap, ◌∙◌, arith, append-nil, take_at, length-append, replicate}
+use Rattle.std.proofs.Math.Nat.{max_comm, zero-max, le-max_left, le-max_right}
+use Rattle.race_model.proofs.ClockLemmas.{max_within}
+use Rattle.std.proofs.lemmas.List.{append_assoc, replicate-append-replicate}
+use Rattle.race_clock.specs.ClockState.{joined, padded}
+use Rattle.race_clock.specs.ClocksState.{filled}
+
+-- a clock joined with nothing
+pub joined_nothing : (c : List ℕ) → joined c [] ≡ c
+joined_nothing [] = refl
+joined_nothing (m ∷ c) = refl
+
+-- joined with a shorter clock, a clock keeps its length
+pub length_joined : (c d : List ℕ) → length d ≤ length c → length (joined c d) ≡ length c
+length_joined [] [] le = refl
+length_joined [] (n ∷ d) le = absurd (omega arith)
+length_joined (m ∷ c) [] le = refl
+length_joined (m ∷ c) (n ∷ d) le = ap suc (length_joined c d (omega arith))
+
+-- one count more is raised
+joined_suc : (c d : List ℕ) (i : ℕ) → i < length d → length d ≤ length c
+    → joined c (take (suc i) d) ≡ set (joined c (take i d)) i (max (get_or (joined c (take i d)) i 0) (get_or d i 0))
+joined_suc c [] i less le = absurd (omega arith)
+joined_suc [] (n ∷ d) i less le = absurd (omega arith)
+joined_suc (m ∷ c) (n ∷ d) zero less le = ap (λ c. max m n ∷ c) (joined_nothing c)
+joined_suc (m ∷ c) (n ∷ d) (suc i) less le = ap (λ c. max m n ∷ c) (joined_suc c d i (omega arith) (omega arith))
+
+pub joined_one : (c d : List ℕ) (i : ℕ) → i < length d → length d ≤ length c
+    → joined c (take (i + 1) d) ≡ set (joined c (take i d)) i (max (get_or (joined c (take i d)) i 0) (get_or d i 0))
+joined_one c d i less le = ap (λ n. joined c (take n d)) (let same : i + 1 ≡ suc i = omega arith in same) ∙ joined_suc c d i less le
+
+-- of two clocks either may come first
+pub joined_comm : (c d : List ℕ) → joined c d ≡ joined d c
+joined_comm [] d = sym (joined_nothing d)
+joined_comm (m ∷ c) [] = refl
+joined_comm (m ∷ c) (n ∷ d) = ap (λ h. h ∷ joined c d) (max_comm m n) ∙ ap (λ t. max n m ∷ t) (joined_comm c d)
+
+-- the greatest of three
+max_assoc : (l m n : ℕ) → max (max l m) n ≡ max l (max m n)
+max_assoc l m n =
+    let a : l ≤ max l m = le-max_left l m in
+    let b : m ≤ max l m = le-max_right l m in
+    let c : max l m ≤ max (max l m) n = le-max_left (max l m) n in
+    let d : n ≤ max (max l m) n = le-max_right (max l m) n in
+    let e : l ≤ max l (max m n) = le-max_left l (max m n) in
+    let f : max m n ≤ max l (max m n) = le-max_right l (max m n) in
+    let g : m ≤ max m n = le-max_left m n in
+    let h : n ≤ max m n = le-max_right m n in
+    let up : max (max l m) n ≤ max l (max m n) = max_within (max l m) n (max l (max m n)) (max_within l m (max l (max m n)) e (omega (arith, f, g))) (omega (arith, f, h)) in
+    let down : max l (max m n) ≤ max (max l m) n = max_within l (max m n) (max (max l m) n) (omega (arith, a, c)) (max_within m n (max (max l m) n) (omega (arith, b, c)) d) in
+    omega (arith, up, down)
+
+-- of three any two may come first
+pub joined_assoc : (b c d : List ℕ) → joined (joined b c) d ≡ joined b (joined c d)
+joined_assoc [] c d = refl
+joined_assoc (l ∷ b) [] d = refl
+joined_assoc (l ∷ b) (m ∷ c) [] = refl
+joined_assoc (l ∷ b) (m ∷ c) (n ∷ d) = ap (λ h. h ∷ joined (joined b c) d) (max_assoc l m n) ∙ ap (λ t. max l (max m n) ∷ t) (joined_assoc b c d)
+
+-- a clock joined with itself
+joined_same : (c : List ℕ) → joined c c ≡ c
+joined_same [] = refl
+joined_same (m ∷ c) = ap (λ h. h ∷ joined c c) (let same : max m m ≡ m = omega arith in same) ∙ ap (λ t. m ∷ t) (joined_same c)
+
+-- the other's counts behind its own change nothing
+pub joined_extended : (c d : List ℕ) → joined (c ++ drop (length c) d) d ≡ joined c d
+joined_extended [] d = joined_same d
+joined_extended (m ∷ c) [] = joined_nothing (m ∷ c ++ drop (length (m ∷ c)) []) ∙ ap (λ t. m ∷ c ++ t) (none (length (m ∷ c))) ∙ append-nil (m ∷ c)
+  where
+    none : (n : ℕ) → drop {A = ℕ} n [] ≡ []
+    none zero = refl
+    none (suc n) = refl
+joined_extended (m ∷ c) (n ∷ d) = ap (λ t. max m n ∷ t) (joined_extended c d)
+
+-- what a slice wrote back is the list
+pub written_back : (new old : List ℕ) (n : ℕ) → length new ≡ n → length old ≡ n → take n (new ++ drop (length new) old) ≡ new
+written_back new old n long same = take_at new (drop (length new) old) n long
+
+-- an empty queue hands nothing over
+pub joined_front_none : (c : List ℕ) (queue : List (List ℕ)) → length queue ≡ 0 → joined c (get_or queue 0 []) ≡ c
+joined_front_none c [] none = joined_nothing c
+joined_front_none c (d ∷ queue) none = absurd (omega arith)
+
+-- a place that was opened at the end of a queue, and filled
+pub fill_opened : (queue : List (List ℕ)) (b : List ℕ) → filled (queue ++ [] ∷ []) b ≡ queue ++ b ∷ []
+fill_opened [] b = refl
+fill_opened (c ∷ queue) b = go (length queue) refl (fill_opened queue b)
+  where
+    long : length (queue ++ [] ∷ []) ≡ length queue + 1
+    long = length-append queue ([] ∷ [])
+
+    go : (n : ℕ) → length queue ≡ n → filled (queue ++ [] ∷ []) b ≡ queue ++ b ∷ [] → set (c ∷ queue ++ [] ∷ []) (length (c ∷ queue ++ [] ∷ []) - 1) b ≡ c ∷ queue ++ b ∷ []
+    go n is rest =
+        ap (λ i. set (c ∷ queue ++ [] ∷ []) i b) (let last : length (c ∷ queue ++ [] ∷ []) - 1 ≡ suc (length (queue ++ [] ∷ []) - 1) = omega (arith, long) in last)
+        ∙ ap (λ q. c ∷ q) rest
+
+-- clocks in two parts, of which the first fills up first, are joined part by part
+pub joined_parts : (f m g n : List ℕ) → length g ≤ length f → (length g ≡ length f) ⊎ (n ≡ []) → joined (f ++ m) (g ++ n) ≡ joined f g ++ joined m n
+joined_parts [] m [] n le full = refl
+joined_parts [] m (y ∷ g) n le full = absurd (omega arith)
+joined_parts (x ∷ f) m [] n le (inl same) = absurd (omega (arith, same))
+joined_parts (x ∷ f) m [] n le (inr none) = ap (joined (x ∷ f ++ m)) none ∙ ap (λ t. x ∷ f ++ t) (sym (joined_nothing m)) ∙ ap (λ n. x ∷ f ++ joined m n) (sym none)
+joined_parts (x ∷ f) m (y ∷ g) n le (inl same) = ap (λ t. max x y ∷ t) (joined_parts f m g n (omega arith) (inl (omega (arith, same))))
+joined_parts (x ∷ f) m (y ∷ g) n le (inr none) = ap (λ t. max x y ∷ t) (joined_parts f m g n (omega arith) (inr none))
+
+-- where the first parts hold eight before the second hold any, the second part of a shorter clock is no longer
+pub parts_fit : (f m g n : List ℕ) → length f ≤ 8 → (0 < length n → length g ≡ 8) → length (g ++ n) ≤ length (f ++ m) → length n ≤ length m
+parts_fit f m g [] most eight le = omega arith
+parts_fit f m g (y ∷ n) most eight le =
+    let full : length g ≡ 8 = eight (omega arith) in
+    omega (arith, le, full, most, length-append g (y ∷ n), length-append f m)
+
+-- and then the first parts are of one length, or it is empty
+pub parts_full : (f m g n : List ℕ) → length f ≤ 8 → (0 < length m → length f ≡ 8) → (0 < length n → length g ≡ 8) → length (g ++ n) ≤ length (f ++ m)
+    → (length g ≡ length f) ⊎ (n ≡ [])
+parts_full f m g [] most old eight le = inr refl
+parts_full f m g (y ∷ n) most old eight le =
+    let full : length g ≡ 8 = eight (omega arith) in
+    let fits : length (y ∷ n) ≤ length m = parts_fit f m g (y ∷ n) most eight le in
+    let other : length f ≡ 8 = old (omega (arith, fits)) in
+    inl (full ∙ sym other)
+
+-- nor is the first
+pub parts_below : (f m g n : List ℕ) → length g ≤ 8 → (0 < length m → length f ≡ 8) → length (g ++ n) ≤ length (f ++ m) → length g ≤ length f
+parts_below f [] g n most old le = omega (arith, le, length-append g n, length-append {A = ℕ} f [])
+parts_below f (x ∷ m) g n most old le = let full : length f ≡ 8 = old (omega arith) in omega (arith, full, most)
+
+-- zeros joined with a list of as many
+joined_zeros : (k : ℕ) (d : List ℕ) → k ≡ length d → joined (replicate k 0) d ≡ d
+joined_zeros zero [] same = refl
+joined_zeros (suc k) [] same = absurd (omega (arith, same))
+joined_zeros zero (n ∷ d) same = absurd (omega (arith, same))
+joined_zeros (suc k) (n ∷ d) same = ap (λ h. h ∷ joined (replicate k 0) d) (zero-max n) ∙ ap (λ t. n ∷ t) (joined_zeros k d (omega (arith, same)))
+
+-- zeros that a join would write out
+joined_longer : (c d : List ℕ) (k : ℕ) → k ≡ length d - length c → joined (c ++ replicate k 0) d ≡ joined c d
+joined_longer [] d k same = joined_zeros k d (omega (arith, same))
+joined_longer (m ∷ c) [] k same =
+    ap (λ k. joined (m ∷ c ++ replicate k 0) []) (let none : k ≡ 0 = omega (arith, same) in none) ∙ ap (λ t. joined t []) (append-nil (m ∷ c))
+joined_longer (m ∷ c) (n ∷ d) k same = ap (λ t. max m n ∷ t) (joined_longer c d k (omega (arith, same)))
+
+pub joined_padded : (c d : List ℕ) → joined (padded c (length d)) d ≡ joined c d
+joined_padded c d = joined_longer c d (length d - length c) refl
+
+-- zeros written out in two parts, of which the first fills up first
+pub padded_parts : (f m : List ℕ) (n : ℕ) → length f ≤ 8 → (0 < length m → length f ≡ 8) → 8 < n → padded f 8 ++ padded m (n - 8) ≡ padded (f ++ m) n
+padded_parts f m n most eight more =
+    append_assoc f (replicate (8 - length f) 0) (padded m (n - 8))
+    ∙ ap (λ t. f ++ t) (rest m eight)
+    ∙ sym (append_assoc f m (replicate (n - length (f ++ m)) 0))
+  where
+    rest : (m : List ℕ) → (0 < length m → length f ≡ 8) → replicate (8 - length f) 0 ++ padded m (n - 8) ≡ m ++ replicate (n - length (f ++ m)) 0
+    rest [] eight =
+        replicate-append-replicate (8 - length f) (n - 8 - 0) 0
+        ∙ ap (λ k. replicate k 0) (let same : 8 - length f + (n - 8 - 0) ≡ n - length (f ++ []) = omega (arith, most, more, length-append {A = ℕ} f []) in same)
+    rest (x ∷ m) eight =
+        ap (λ k. replicate k 0 ++ padded (x ∷ m) (n - 8)) (let none : 8 - length f ≡ 0 = omega (arith, full) in none)
+        ∙ ap (λ k. x ∷ m ++ replicate k 0) (let same : n - 8 - length (x ∷ m) ≡ n - length (f ++ x ∷ m) = omega (arith, full, more, length-append f (x ∷ m)) in same)
+      where
+        full : length f ≡ 8
+        full = eight (omega arith)

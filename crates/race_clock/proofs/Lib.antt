@@ -1,0 +1,12 @@
+pub mod ClockLists
+pub mod JoinLemmas
+pub mod QueueSteps
+pub mod ChannelSteps
+pub mod LockSteps
+pub mod ClocksSteps
+pub mod RoomLemmas
+pub mod Opening
+pub mod NextLemmas
+pub mod StamperSteps
+pub mod StampLaws
+pub mod NextFrom

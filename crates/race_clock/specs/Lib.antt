@@ -1,0 +1,7 @@
+pub mod ClockState
+pub mod ClocksState
+pub mod StamperState
+pub mod Stamps
+pub mod StandsFor
+pub mod Needs
+pub mod Laws

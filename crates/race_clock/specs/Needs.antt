@@ -1,0 +1,45 @@
+-- What a step needs of the next operation: not needed to understand a contract.
+use Rattle.std.specs.Prelude.{ℕ, ◌≢◌, ◌<◌, ◌+◌, ◌^◌, List, length}
+use Rattle.race_records.specs.declared.event.Event.{Event}
+use Rattle.race_records.specs.declared.event.Op.{Op}
+use Rattle.race_records.specs.declared.event.Op.TheVariants.{Go, Send, Recv, Meet, RecvClosed, Close, Lock, Unlock, RLock, RUnlock, OnceEnd, OnceDone}
+use Rattle.race_model.specs.Events.{count, sends, receives}
+use Rattle.race_clock.specs.ClocksState.{ClocksState, parts_of}
+
+-- a send finds room, and a receive finds a value
+abbrev pub FindsRoom : (ℕ → ℕ) → List Event → Op → Type 0
+FindsRoom caps past (Send c v) = count (sends c) past < count (receives c) past + caps c
+FindsRoom caps past (Recv c v) = count (receives c) past < count (sends c) past
+FindsRoom caps past _ = Unit {0}
+
+-- there is a clock for each number that the operation names
+abbrev pub OpHasClocks : ClocksState → Op → Type 0
+OpHasClocks k (Go h) = h < length k.slots
+OpHasClocks k (Meet r c v) = r < length k.slots
+OpHasClocks k (Send c v) = c < length k.channels
+OpHasClocks k (Recv c v) = c < length k.channels
+OpHasClocks k (RecvClosed c) = c < length k.channels
+OpHasClocks k (Close c) = c < length k.channels
+OpHasClocks k (Lock l) = l < length k.locks
+OpHasClocks k (Unlock l) = l < length k.locks
+OpHasClocks k (RLock l) = l < length k.locks
+OpHasClocks k (RUnlock l) = l < length k.locks
+OpHasClocks k (OnceEnd o) = o < length k.ends
+OpHasClocks k (OnceDone o) = o < length k.ends
+OpHasClocks k _ = Unit {0}
+
+-- and one for who acts
+abbrev pub HasClocks : ClocksState → ℕ → Op → Type 0
+HasClocks k who o = (who < length k.slots) × OpHasClocks k o
+
+-- who acts starts another, or meets another
+abbrev pub IsApart : ℕ → Op → Type 0
+IsApart who (Go h) = h ≢ who
+IsApart who (Meet r c v) = r ≢ who
+IsApart who _ = Unit {0}
+
+-- the counts of those who take part fit, with one more
+abbrev pub CountsFit : ClocksState → ℕ → Op → Type 0
+CountsFit k who (Go h) = (parts_of k who + 1 < 2 ^ 32) × (parts_of k h + 1 < 2 ^ 32)
+CountsFit k who (Meet r c v) = (parts_of k who + 1 < 2 ^ 32) × (parts_of k r + 1 < 2 ^ 32)
+CountsFit k who _ = parts_of k who + 1 < 2 ^ 32

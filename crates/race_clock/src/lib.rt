@@ -1,0 +1,17 @@
+//! Vector clocks, and the stamps that they put on accesses.
+#![tactic(auto)]
+
+mod channel;
+mod clock;
+mod clocks;
+pub mod laws;
+mod lock;
+mod slot;
+mod stamp;
+mod stamper;
+#[cfg(test)]
+mod tests;
+
+pub use clock::Clock;
+pub use stamp::Stamp;
+pub use stamper::Stamper;

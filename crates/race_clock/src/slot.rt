@@ -1,0 +1,92 @@
+//! A goroutine's clock, with how many events it took part in.
+ghost use Rattle.std.specs.Prelude.{◌≡◌, ◌+◌, ◌<◌, ◌^◌, IfOk, OnOk};
+ghost use Rattle.race_clock.specs.ClockState.{with_count};
+ghost use Rattle.race_clock.specs.ClocksState.{SlotState, first_slot};
+
+use crate::clock::Clock;
+use std::alloc::{AllocError, Allocator};
+use std::marker::Model;
+use std::mem;
+
+#[derive(Debug, Drop)]
+pub(crate) struct Slot<A: Allocator> {
+    clock: Clock<A>,
+    parts: u32,
+}
+
+impl<A: Allocator> Model for Slot<A> {
+    ghost Value = { SlotState };
+
+    ghost view = { λ s. record { clock = s.clock; parts = s.parts } };
+}
+
+impl<A: Allocator> Slot<A> {
+    /// A goroutine that has seen nothing.
+    pub(crate) fn new(alloc: A, who: u32) -> Result<Slot<A>, AllocError>
+        ensures { IfOk result (λ slot. slot ≡ first_slot who) }
+    {
+        let mut clock = Clock::new(alloc);
+        clock.grow(who as usize + 1)?;
+        Ok(Slot { clock, parts: 0 })
+    }
+
+    pub(crate) fn clock(&self) -> &Clock<A>
+        ensures { result.now ≡ self.now.clock }
+    {
+        &self.clock
+    }
+
+    pub(crate) fn parts(&self) -> u32
+        ensures { result ≡ self.now.parts }
+    {
+        self.parts
+    }
+
+    /// Takes part in an access: the clock counts the begins before it, and the access is one part more.
+    pub(crate) fn access(&mut self, who: u32)
+        requires { self.old.parts + 1 < 2 ^ 32 }
+        ensures { self.new ≡ record { clock = with_count self.old.clock who self.old.parts; parts = self.old.parts + 1 } }
+    {
+        self.clock.set(who, self.parts);
+        self.parts += 1;
+    }
+
+    /// The clock of the next event's begin.
+    pub(crate) fn begin(&self, who: u32, to: &mut Clock<A>) -> Result<(), AllocError>
+        requires { self.now.parts + 1 < 2 ^ 32 }
+        ensures { OnOk result (to.new ≡ with_count self.now.clock who (self.now.parts + 1)) }
+    {
+        to.become_copy(&self.clock)?;
+        to.set(who, self.parts + 1);
+        Ok(())
+    }
+
+    /// Takes part in an event that leaves the clock as it is.
+    pub(crate) fn pass(&mut self)
+        requires { self.old.parts + 1 < 2 ^ 32 }
+        ensures { self.new ≡ record { clock = self.old.clock; parts = self.old.parts + 1 } }
+    {
+        self.parts += 1;
+    }
+
+    /// Takes part in an event that exchanges the clock for this one.
+    pub(crate) fn take(&mut self, clock: &mut Clock<A>)
+        requires { self.old.parts + 1 < 2 ^ 32 }
+        ensures slot { self.new ≡ record { clock = clock.old; parts = self.old.parts + 1 } }
+        ensures given { clock.new ≡ self.old.clock }
+    {
+        mem::swap(&mut self.clock, clock);
+        self.parts += 1;
+    }
+
+    /// Takes part in an event that exchanges the clock for this one, and gives that of its begin.
+    pub(crate) fn exchange(&mut self, who: u32, clock: &mut Clock<A>)
+        requires { self.old.parts + 1 < 2 ^ 32 }
+        ensures slot { self.new ≡ record { clock = clock.old; parts = self.old.parts + 1 } }
+        ensures given { clock.new ≡ with_count self.old.clock who (self.old.parts + 1) }
+    {
+        mem::swap(&mut self.clock, clock);
+        self.parts += 1;
+        clock.set(who, self.parts);
+    }
+}

@@ -1,5 +1,6 @@
 -- The clocks of a channel, one event on.
-use Rattle.std.proofs.Common.{◌≡◌, ℕ, ◌+◌, ◌-◌, ◌<◌, ◌≤◌, max, Bool, true, false, List, [], ◌∷◌, ◌++◌, take, drop, length, refl, sym, ap, ◌∙◌, subst, arith, IsTrue, if◌then◌else◌, eqb-true, eq-eqb}
+use Rattle.std.proofs.Common.{◌≡◌, ℕ, ◌+◌, ◌-◌, ◌<◌, ◌≤◌, max, Bool, true, false, List, [], ◌∷◌, ◌++◌}
+use Rattle.std.proofs.Common.{take, drop, length, refl, sym, ap, ◌∙◌, subst, arith, IsTrue, if◌then◌else◌, eqb-true, eq-eqb}
 use Rattle.race_records.specs.declared.event.Event.{Event}
 use Rattle.race_records.specs.declared.event.Op.{Op}
 use Rattle.race_records.specs.declared.event.Op.TheVariants.{Send, Recv, RecvClosed}
@@ -90,7 +91,9 @@ module _ (caps : ℕ → ℕ) (past : List Event) (c : ℕ) (ch : ChannelState) 
           (λ k s at. (
             λ is. (count (sends c) past - caps c, is, omega (arith, used)),
             λ is.
-                (is.1.0, let number : count (receives c) (take k past) ≡ is.0 = is.1.1 in let sum : is.0 + caps c ≡ count (sends c) past = is.2 in omega (arith, used, number, sum)),
+                let number : count (receives c) (take k past) ≡ is.0 = is.1.1 in
+                let sum : is.0 + caps c ≡ count (sends c) past = is.2 in
+                (is.1.0, omega (arith, used, number, sum)),
           ))
           (queue_front caps past (receives c) (count (sends c) past - caps c) ch.freed S.freed (waits_freed used less))
       go false short =

@@ -1,5 +1,6 @@
 -- The clocks stand for the events, one event on.
-use Rattle.std.proofs.Common.{◌≡◌, ◌≢◌, ℕ, ◌+◌, ◌<◌, ◌≤◌, ◌==◌, ◌||◌, max, false, Some, None, List, [], ◌∷◌, ◌++◌, length, get_or, set, refl, sym, ap, ◌∙◌, subst, inl, inr, arith, IsTrue, if◌then◌else◌, eq-eqb, ne_eqb}
+use Rattle.std.proofs.Common.{◌≡◌, ◌≢◌, ℕ, ◌+◌, ◌<◌, ◌≤◌, ◌==◌, ◌||◌, max, false, Some, None, List, [], ◌∷◌, ◌++◌}
+use Rattle.std.proofs.Common.{length, get_or, set, refl, sym, ap, ◌∙◌, subst, inl, inr, arith, IsTrue, if◌then◌else◌, eq-eqb, ne_eqb}
 use Rattle.std.proofs.Math.Nat.{max-zero, max_comm, le-max_right}
 use Rattle.std.proofs.lemmas.Bool.{cases_eq, or_right}
 use Rattle.std.proofs.lemmas.List.{get_or-set_same, get_or-set_other, length-set}
@@ -14,7 +15,9 @@ use Rattle.race_model.proofs.ClockLemmas.{one_if, participations_push, counts_li
 use Rattle.race_model.proofs.ClockSteps.{counts_seen_from, counts_before, counts_at_begin, counts_alone, counts_pair, counts_other}
 use Rattle.race_model.proofs.SourceSteps.{from_none}
 use Rattle.race_clock.specs.ClockState.{knows, joined, with_count}
-use Rattle.race_clock.specs.ClocksState.{SlotState, ClocksState, no_slot, no_channel, no_lock, slot_of, next_slot, both_seen, met, clock_of, parts_of, channel_of, lock_of, end_of, begin_of, handed, channels_after, locks_after, ends_after, acted, paired, after, channel_sent, channel_received, channel_closed, lock_locked, lock_unlocked, lock_read_unlocked}
+use Rattle.race_clock.specs.ClocksState.{SlotState, ClocksState, no_slot, no_channel, no_lock, slot_of, next_slot, both_seen, met, clock_of}
+use Rattle.race_clock.specs.ClocksState.{parts_of, channel_of, lock_of, end_of, begin_of, handed, channels_after, locks_after, ends_after, acted}
+use Rattle.race_clock.specs.ClocksState.{paired, after, channel_sent, channel_received, channel_closed, lock_locked, lock_unlocked, lock_read_unlocked}
 use Rattle.race_clock.specs.StandsFor.{StandsForChannel, StandsForLock, ClocksStandFor, CountsReaching}
 use Rattle.race_clock.specs.Needs.{FindsRoom, OpHasClocks, HasClocks}
 use Rattle.race_clock.proofs.ClockLists.{knows_joined, knows_with_count, joined_long, joined_long_right}

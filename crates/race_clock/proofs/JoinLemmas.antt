@@ -1,5 +1,6 @@
 -- Joined clocks as lists.
-use Rattle.std.proofs.Common.{◌≡◌, ◌⊎◌, inl, inr, ℕ, zero, suc, ◌+◌, ◌-◌, ◌<◌, ◌≤◌, max, List, [], ◌∷◌, ◌++◌, take, drop, length, get_or, set, refl, sym, ap, ◌∙◌, arith, append-nil, take_at, length-append, replicate}
+use Rattle.std.proofs.Common.{◌≡◌, ◌⊎◌, inl, inr, ℕ, zero, suc, ◌+◌, ◌-◌, ◌<◌, ◌≤◌, max, List, [], ◌∷◌}
+use Rattle.std.proofs.Common.{◌++◌, take, drop, length, get_or, set, refl, sym, ap, ◌∙◌, arith, append-nil, take_at, length-append, replicate}
 use Rattle.std.proofs.Math.Nat.{max_comm, zero-max, le-max_left, le-max_right}
 use Rattle.race_model.proofs.ClockLemmas.{max_within}
 use Rattle.std.proofs.lemmas.List.{append_assoc, replicate-append-replicate}
@@ -57,6 +58,11 @@ joined_assoc [] c d = refl
 joined_assoc (l ∷ b) [] d = refl
 joined_assoc (l ∷ b) (m ∷ c) [] = refl
 joined_assoc (l ∷ b) (m ∷ c) (n ∷ d) = ap (λ h. h ∷ joined (joined b c) d) (max_assoc l m n) ∙ ap (λ t. max l (max m n) ∷ t) (joined_assoc b c d)
+
+-- what a lock is handed, its runlocks first
+pub joined_locks : (c unlocks runlocks : List ℕ) → joined (joined runlocks c) unlocks ≡ joined c (joined unlocks runlocks)
+joined_locks c unlocks runlocks =
+    ap (λ b. joined b unlocks) (joined_comm runlocks c) ∙ joined_assoc c runlocks unlocks ∙ ap (joined c) (joined_comm runlocks unlocks)
 
 -- a clock joined with itself
 joined_same : (c : List ℕ) → joined c c ≡ c

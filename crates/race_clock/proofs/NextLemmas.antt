@@ -1,5 +1,6 @@
 -- What a step needs, from the next event's being in range and breaking no rule.
-use Rattle.std.proofs.Common.{◌≡◌, ◌≢◌, ℕ, suc, ◌+◌, ◌<◌, ◌≤◌, ◌^◌, ◌==◌, ◌||◌, ◌&&◌, not, nat_lt, Bool, true, false, List, Some, length, slice_get, refl, sym, ◌∙◌, subst, arith, IsTrue, eq-eqb, ltb-true}
+use Rattle.std.proofs.Common.{◌≡◌, ◌≢◌, ℕ, suc, ◌+◌, ◌<◌, ◌≤◌, ◌^◌, ◌==◌, ◌||◌, ◌&&◌, not, nat_lt, Bool}
+use Rattle.std.proofs.Common.{true, false, List, Some, length, slice_get, refl, sym, ◌∙◌, subst, arith, IsTrue, eq-eqb, ltb-true}
 use Rattle.std.proofs.lemmas.List.Sums.{count_by-le-length}
 use Rattle.std.proofs.lemmas.Bool.{not-false}
 use Rattle.race_records.specs.declared.event.Event.{Event}

@@ -1,5 +1,6 @@
 -- Before the first event.
-use Rattle.std.proofs.Common.{◌≡◌, ℕ, zero, suc, ◌+◌, ◌-◌, ◌<◌, ◌==◌, Bool, true, false, List, [], ◌∷◌, ◌++◌, length, replicate, get_or, refl, sym, ap, ◌∙◌, subst, inl, inr, arith, if◌then◌else◌, length-append}
+use Rattle.std.proofs.Common.{◌≡◌, ℕ, zero, suc, ◌+◌, ◌-◌, ◌<◌, ◌==◌, Bool, true, false, List, [], ◌∷◌}
+use Rattle.std.proofs.Common.{◌++◌, length, replicate, get_or, refl, sym, ap, ◌∙◌, subst, inl, inr, arith, if◌then◌else◌, length-append}
 use Rattle.std.proofs.lemmas.Bool.{cases_lt}
 use Rattle.std.proofs.lemmas.List.{get_or_append_left, length-replicate, get_or-replicate}
 use Rattle.std.proofs.Math.Seq.{get_or-append_seam}
@@ -12,7 +13,8 @@ use Rattle.race_model.proofs.SeenSteps.{seen_none}
 use Rattle.race_model.proofs.ClockLemmas.{counts_none}
 use Rattle.race_model.proofs.SourceSteps.{from_none}
 use Rattle.race_clock.specs.ClockState.{knows, padded}
-use Rattle.race_clock.specs.ClocksState.{ChannelState, SlotState, ClocksState, no_slot, no_channel, no_lock, slot_of, channel_of, lock_of, end_of, first_slot, first_slots, first_channel}
+use Rattle.race_clock.specs.ClocksState.{ChannelState, SlotState, ClocksState, no_slot, no_channel, no_lock, slot_of}
+use Rattle.race_clock.specs.ClocksState.{channel_of, lock_of, end_of, first_slot, first_slots, first_channel}
 use Rattle.race_clock.specs.StandsFor.{StandsForChannel, StandsForLock, StandsFor}
 use Rattle.race_clock.proofs.ClockLists.{knows_padded, long_enough}
 

@@ -1,5 +1,6 @@
 -- A queue of clocks, one event on.
-use Rattle.std.proofs.Common.{◌≡◌, ℕ, ◌+◌, ◌-◌, ◌<◌, Bool, true, false, List, [], ◌∷◌, ◌++◌, take, drop, length, get_or, refl, sym, ap, ◌∙◌, subst, inl, inr, arith, length-append, length-drop}
+use Rattle.std.proofs.Common.{◌≡◌, ℕ, ◌+◌, ◌-◌, ◌<◌, Bool, true, false, List, [], ◌∷◌, ◌++◌, take}
+use Rattle.std.proofs.Common.{drop, length, get_or, refl, sym, ap, ◌∙◌, subst, inl, inr, arith, length-append, length-drop}
 use Rattle.std.proofs.lemmas.Bool.{cases_lt}
 use Rattle.std.proofs.lemmas.List.{get_or-drop, get_or_append_left, take_all}
 use Rattle.std.proofs.Math.Seq.{get_or-append_seam}

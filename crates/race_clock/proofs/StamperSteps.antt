@@ -6,7 +6,8 @@ use Rattle.race_records.specs.declared.event.Op.{Op}
 use Rattle.race_records.specs.declared.event.Op.TheVariants.{Send, Recv, Close, Lock, Unlock, RUnlock, OnceEnd}
 use Rattle.race_records.specs.Declarations.{Declaration, capacity_of}
 use Rattle.race_model.specs.Events.{is_access}
-use Rattle.race_clock.specs.ClocksState.{ClocksState, clock_of, channel_of, lock_of, end_of, begin_of, channel_sent, channel_received, channel_closed, lock_locked, lock_unlocked, lock_read_unlocked, after}
+use Rattle.race_clock.specs.ClocksState.{ClocksState, clock_of, channel_of, lock_of, end_of, begin_of, channel_sent}
+use Rattle.race_clock.specs.ClocksState.{channel_received, channel_closed, lock_locked, lock_unlocked, lock_read_unlocked, after}
 use Rattle.race_clock.specs.ClockState.{joined}
 use Rattle.race_clock.specs.StamperState.{StamperState}
 use Rattle.race_clock.specs.StandsFor.{ClocksStandFor, StandsFor, IsAllowed, CountsReaching}

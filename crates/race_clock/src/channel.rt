@@ -3,11 +3,14 @@
 //! A value that waits in the buffer has the clock of its send, and room that was freed that of its receive. So a channel
 //! keeps a clock for each value that was ever on its way, up to its capacity, and each clock that a send or a receive
 //! takes out is written again by the same event: in the long run none is allocated.
-ghost use Rattle.std.specs.Prelude.{◌≡◌, if◌then◌else◌, ◌+◌, ◌-◌, ◌<◌, ℕ, List, [], ◌∷◌, ◌++◌, length, take, drop, OnOk, OnErr};
-ghost use Rattle.race_clock.specs.ClockState.{joined};
-ghost use Rattle.race_clock.specs.ClocksState.{ChannelState, first_channel, is_used_up, front, filled};
+ghost use Rattle.std.specs.Prelude.{◌≡◌, if◌then◌else◌, ◌+◌, ◌-◌, ◌<◌, ◌^◌, ℕ, List, [], ◌∷◌, ◌++◌, length, take, drop, OnOk, OnErr};
+ghost use Rattle.std.specs.Option.{option_map_or};
+ghost use Rattle.race_clock.specs.ClockState.{joined, with_count};
+ghost use Rattle.race_clock.specs.ClocksState.{ChannelState, first_channel, is_used_up, front, filled, channel_closed};
 
 use crate::clock::Clock;
+use crate::kept::Kept;
+use crate::slot::Slot;
 use std::alloc::{AllocError, Allocator};
 use std::collections::VecDeque;
 use std::marker::Model;
@@ -74,44 +77,70 @@ impl<A: Allocator> Queue<A> {
     }
 }
 
+// The clocks of what is on its way.
 #[derive(Debug, Drop)]
-pub(crate) struct Channel<A: Allocator> {
-    capacity: usize,
+struct Queues<A: Allocator> {
     sent: Queue<A>,
     freed: Queue<A>,
-    closed: Clock<A>,
 }
 
-impl<A: Allocator> Model for Channel<A> {
-    ghost Value = { ChannelState };
-
-    ghost view = { λ c. record { capacity = c.capacity; sent = c.sent; freed = c.freed; closed = c.closed } };
-}
-
-impl<A: Allocator> Channel<A> {
-    /// A channel with nothing on its way.
-    pub(crate) fn new(alloc: A, capacity: usize) -> Channel<A>
-    where
-        A: Copy,
-        ensures { result ≡ first_channel capacity }
+impl<A: Allocator + Copy> Queues<A> {
+    fn new(alloc: A) -> Queues<A>
+        ensures sent { result.sent ≡ [] }
+        ensures freed { result.freed ≡ [] }
     {
-        Channel {
-            capacity,
+        Queues {
             sent: Queue {
                 clocks: VecDeque::new(alloc),
             },
             freed: Queue {
                 clocks: VecDeque::new(alloc),
             },
-            closed: Clock::new(alloc),
+        }
+    }
+}
+
+#[derive(Debug, Drop)]
+pub(crate) struct Channel<A: Allocator> {
+    capacity: usize,
+    // Made at the first send.
+    queues: Option<Box<Queues<A>, A>>,
+    closed: Kept<A>,
+}
+
+impl<A: Allocator> Model for Channel<A> {
+    ghost Value = { ChannelState };
+
+    ghost view = { λ c. record {
+      capacity = c.capacity;
+      sent = option_map_or (λ queues. queues.value.sent) c.queues [];
+      freed = option_map_or (λ queues. queues.value.freed) c.queues [];
+      closed = c.closed;
+    } };
+}
+
+impl<A: Allocator> Channel<A> {
+    /// A channel with nothing on its way.
+    pub(crate) fn new(capacity: usize) -> Channel<A>
+        ensures { result ≡ first_channel capacity }
+    {
+        Channel {
+            capacity,
+            queues: None,
+            closed: Kept::new(),
         }
     }
 
     fn is_used_up(&self) -> bool
         ensures { result ≡ is_used_up self.now }
     {
-        let sent = self.sent.len();
-        sent <= self.capacity && self.capacity - sent == self.freed.len()
+        match &self.queues {
+            Some(queues) => {
+                let sent = queues.sent.len();
+                sent <= self.capacity && self.capacity - sent == queues.freed.len()
+            }
+            None => self.capacity == 0,
+        }
     }
 
     /// What a send joins to its goroutine's clock.
@@ -119,13 +148,14 @@ impl<A: Allocator> Channel<A> {
     pub(crate) fn hand_to_send(&self, clock: &Clock<A>, to: &mut Clock<A>) -> Result<(), AllocError>
         ensures { OnOk result (to.new ≡ joined clock.now (if is_used_up self.now then front self.now.freed else [])) }
     {
-        if self.is_used_up() {
-            return self.freed.join_front(clock, to);
+        match &self.queues {
+            Some(queues) if self.is_used_up() => queues.freed.join_front(clock, to),
+            _ => to.become_copy(clock),
         }
-        to.become_copy(clock)
     }
 
     /// What a receive joins to it.
+    #[tactic(auto, using(crate::proofs::JoinLemmas::joined_nothing))]
     pub(crate) fn hand_to_receive(
         &self,
         clock: &Clock<A>,
@@ -133,38 +163,55 @@ impl<A: Allocator> Channel<A> {
     ) -> Result<(), AllocError>
         ensures { OnOk result (to.new ≡ joined clock.now (front self.now.sent)) }
     {
-        self.sent.join_front(clock, to)
+        match &self.queues {
+            Some(queues) => queues.sent.join_front(clock, to),
+            None => to.become_copy(clock),
+        }
     }
 
-    /// What a receive that finds the channel closed joins to it.
-    pub(crate) fn hand_to_closed(
+    /// Joins the clock of the close to that of who finds the channel closed.
+    pub(crate) fn receive_closed(
         &self,
-        clock: &Clock<A>,
-        to: &mut Clock<A>,
+        slot: &mut Slot<A>,
+        spare: &mut Clock<A>,
     ) -> Result<(), AllocError>
-        ensures { OnOk result (to.new ≡ joined clock.now self.now.closed) }
+        requires { slot.old.parts + 1 < 2 ^ 32 }
+        ensures ok { OnOk result (slot.new ≡ record { clock = joined slot.old.clock self.now.closed; parts = slot.old.parts + 1 }) }
+        ensures unchanged { OnErr result (slot.new ≡ slot.old) }
     {
-        to.become_join(clock, &self.closed)
+        slot.learn(&self.closed, spare)
     }
 
     /// Opens a place for a send's clock.
-    pub(crate) fn open_send(&mut self) -> Result<(), AllocError>
+    pub(crate) fn open_send(&mut self, alloc: A) -> Result<(), AllocError>
     where
         A: Copy,
         ensures ok { OnOk result (self.new ≡ record { capacity = self.old.capacity; sent = self.old.sent ++ [] ∷ []; freed = self.old.freed; closed = self.old.closed }) }
         ensures unchanged { OnErr result (self.new ≡ self.old) }
     {
-        self.sent.open()
+        if let Some(queues) = &mut self.queues {
+            return queues.sent.open();
+        }
+        let mut queues = Box::new(alloc, Queues::new(alloc))?;
+        queues.sent.open()?;
+        self.queues = Some(queues);
+        Ok(())
     }
 
     /// Opens a place for a receive's clock.
-    pub(crate) fn open_receive(&mut self) -> Result<(), AllocError>
+    pub(crate) fn open_receive(&mut self, alloc: A) -> Result<(), AllocError>
     where
         A: Copy,
         ensures ok { OnOk result (self.new ≡ record { capacity = self.old.capacity; sent = self.old.sent; freed = self.old.freed ++ [] ∷ []; closed = self.old.closed }) }
         ensures unchanged { OnErr result (self.new ≡ self.old) }
     {
-        self.freed.open()
+        if let Some(queues) = &mut self.queues {
+            return queues.freed.open();
+        }
+        let mut queues = Box::new(alloc, Queues::new(alloc))?;
+        queues.freed.open()?;
+        self.queues = Some(queues);
+        Ok(())
     }
 
     /// Whether the place that is open for a send takes freed room.
@@ -178,9 +225,11 @@ impl<A: Allocator> Channel<A> {
     pub(crate) fn fill_send(&mut self, begin: &mut Clock<A>, takes_freed: bool)
         ensures { self.new ≡ record { capacity = self.old.capacity; sent = filled self.old.sent begin.old; freed = if takes_freed then drop 1 self.old.freed else self.old.freed; closed = self.old.closed } }
     {
-        self.sent.fill(begin);
-        if takes_freed {
-            self.freed.pop(begin);
+        if let Some(queues) = &mut self.queues {
+            queues.sent.fill(begin);
+            if takes_freed {
+                queues.freed.pop(begin);
+            }
         }
     }
 
@@ -188,21 +237,28 @@ impl<A: Allocator> Channel<A> {
     pub(crate) fn fill_receive(&mut self, begin: &mut Clock<A>)
         ensures { self.new ≡ record { capacity = self.old.capacity; sent = drop 1 self.old.sent; freed = filled self.old.freed begin.old; closed = self.old.closed } }
     {
-        self.freed.fill(begin);
-        self.sent.pop(begin);
+        if let Some(queues) = &mut self.queues {
+            queues.freed.fill(begin);
+            queues.sent.pop(begin);
+        }
     }
 
-    /// The clock of the close, with one more.
-    pub(crate) fn with_close(&self, begin: &Clock<A>, to: &mut Clock<A>) -> Result<(), AllocError>
-        ensures { OnOk result (to.new ≡ joined self.now.closed begin.now) }
+    /// Joins the clock of a close's begin to that of the close.
+    pub(crate) fn close(
+        &mut self,
+        who: u32,
+        slot: &mut Slot<A>,
+        begin: &mut Clock<A>,
+        spare: &mut Clock<A>,
+    ) -> Result<(), AllocError>
+    where
+        A: Copy,
+        requires { slot.old.parts + 1 < 2 ^ 32 }
+        ensures slot { OnOk result (slot.new ≡ record { clock = slot.old.clock; parts = slot.old.parts + 1 }) }
+        ensures ok { OnOk result (self.new ≡ channel_closed self.old (with_count slot.old.clock who (slot.old.parts + 1))) }
+        ensures unchanged { OnErr result (self.new ≡ self.old) }
+        ensures slot_unchanged { OnErr result (slot.new ≡ slot.old) }
     {
-        to.become_join(&self.closed, begin)
-    }
-
-    /// Exchanges the clock of the close for this one.
-    pub(crate) fn close(&mut self, closed: &mut Clock<A>)
-        ensures { self.new ≡ record { capacity = self.old.capacity; sent = self.old.sent; freed = self.old.freed; closed = closed.old } }
-    {
-        mem::swap(&mut self.closed, closed);
+        slot.tell(who, &mut self.closed, begin, spare)
     }
 }

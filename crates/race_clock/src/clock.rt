@@ -163,6 +163,13 @@ impl<A: Allocator> Clock<A> {
         Ok(())
     }
 
+    pub(crate) fn allocator(&self) -> A
+    where
+        A: Copy,
+    {
+        *self.many.allocator()
+    }
+
     // How many counts are written out.
     fn len(&self) -> usize
         ensures { result ≡ length self.now }

@@ -14,19 +14,19 @@ ghost use Rattle.race_clock.specs.Needs.{HasClocks, IsApart, CountsFit};
 
 use crate::channel::Channel;
 use crate::clock::Clock;
+use crate::kept::Kept;
 use crate::lock::LockClocks;
 use crate::slot::Slot;
 use race_records::{Decls, Kind, Op};
 use std::alloc::{AllocError, Allocator};
 use std::marker::Model;
-use std::mem;
 
 #[derive(Debug, Drop)]
 pub(crate) struct Clocks<A: Allocator> {
     slots: Vec<Slot<A>, A>,
     channels: Vec<Channel<A>, A>,
     locks: Vec<LockClocks<A>, A>,
-    ends: Vec<Clock<A>, A>,
+    ends: Vec<Kept<A>, A>,
     // Free to be written.
     spare: Clock<A>,
     second: Clock<A>,
@@ -63,7 +63,7 @@ fn first_channels<A: Allocator + Copy, B: Allocator>(
 {
     let mut channels = Vec::new(alloc);
     for chan in 0..decls.count(Kind::Chan) {
-        channels.push(Channel::new(alloc, decls.capacity(chan) as usize))?;
+        channels.push(Channel::new(decls.capacity(chan) as usize))?;
     }
     Ok(channels)
 }
@@ -77,18 +77,18 @@ fn first_locks<A: Allocator + Copy>(
 {
     let mut clocks = Vec::new(alloc);
     for _ in 0..locks {
-        clocks.push(LockClocks::new(alloc))?;
+        clocks.push(LockClocks::new())?;
     }
     Ok(clocks)
 }
 
 // So many clocks that know nothing.
-fn first_ends<A: Allocator + Copy>(alloc: A, onces: usize) -> Result<Vec<Clock<A>, A>, AllocError>
+fn first_ends<A: Allocator + Copy>(alloc: A, onces: usize) -> Result<Vec<Kept<A>, A>, AllocError>
     ensures { IfOk result (λ clocks. clocks.items ≡ replicate onces []) }
 {
     let mut clocks = Vec::new(alloc);
     for _ in 0..onces {
-        clocks.push(Clock::new(alloc))?;
+        clocks.push(Kept::new())?;
     }
     Ok(clocks)
 }
@@ -227,7 +227,7 @@ impl<A: Allocator + Copy> Clocks<A> {
         let channel = &mut self.channels[chan as usize];
         channel.hand_to_send(slot.clock(), &mut self.spare)?;
         let takes_freed = channel.takes_freed();
-        channel.open_send()?;
+        channel.open_send(self.spare.allocator())?;
         slot.exchange(who, &mut self.spare);
         channel.fill_send(&mut self.spare, takes_freed);
         Ok(())
@@ -260,8 +260,8 @@ impl<A: Allocator + Copy> Clocks<A> {
         let clocks = &mut self.locks[lock as usize];
         slot.begin(who, &mut self.second)?;
         clocks.with_unlock(&self.second, &mut self.spare)?;
+        clocks.unlock(&mut self.spare, &mut self.second)?;
         slot.pass();
-        clocks.unlock(&mut self.spare, &mut self.second);
         Ok(())
     }
 
@@ -299,7 +299,7 @@ impl<A: Allocator + Copy> Clocks<A> {
         let slot = &mut self.slots[who as usize];
         let channel = &mut self.channels[chan as usize];
         channel.hand_to_receive(slot.clock(), &mut self.spare)?;
-        channel.open_receive()?;
+        channel.open_receive(self.spare.allocator())?;
         slot.exchange(who, &mut self.spare);
         channel.fill_receive(&mut self.spare);
         Ok(())
@@ -313,9 +313,7 @@ impl<A: Allocator + Copy> Clocks<A> {
         ensures unchanged { OnErr result (self.new ≡ self.old) }
     {
         let slot = &mut self.slots[who as usize];
-        self.channels[chan as usize].hand_to_closed(slot.clock(), &mut self.spare)?;
-        slot.take(&mut self.spare);
-        Ok(())
+        self.channels[chan as usize].receive_closed(slot, &mut self.spare)
     }
 
     #[tactic(auto, using(crate::proofs::JoinLemmas::joined_nothing))]
@@ -328,11 +326,7 @@ impl<A: Allocator + Copy> Clocks<A> {
     {
         let slot = &mut self.slots[who as usize];
         let channel = &mut self.channels[chan as usize];
-        slot.begin(who, &mut self.second)?;
-        channel.with_close(&self.second, &mut self.spare)?;
-        slot.pass();
-        channel.close(&mut self.spare);
-        Ok(())
+        channel.close(who, slot, &mut self.second, &mut self.spare)
     }
 
     fn read_lock(&mut self, who: u32, lock: u32) -> Result<(), AllocError>
@@ -358,11 +352,7 @@ impl<A: Allocator + Copy> Clocks<A> {
     {
         let slot = &mut self.slots[who as usize];
         let clocks = &mut self.locks[lock as usize];
-        slot.begin(who, &mut self.second)?;
-        clocks.with_runlock(&self.second, &mut self.spare)?;
-        slot.pass();
-        clocks.read_unlock(&mut self.spare);
-        Ok(())
+        clocks.read_unlock(who, slot, &mut self.second, &mut self.spare)
     }
 
     #[tactic(auto, using(crate::proofs::JoinLemmas::joined_nothing))]
@@ -375,11 +365,7 @@ impl<A: Allocator + Copy> Clocks<A> {
     {
         let slot = &mut self.slots[who as usize];
         let end = &mut self.ends[once as usize];
-        slot.begin(who, &mut self.second)?;
-        self.spare.become_join(end, &self.second)?;
-        slot.pass();
-        mem::swap(end, &mut self.spare);
-        Ok(())
+        slot.tell(who, end, &mut self.second, &mut self.spare)
     }
 
     fn find_done(&mut self, who: u32, once: u32) -> Result<(), AllocError>
@@ -390,9 +376,6 @@ impl<A: Allocator + Copy> Clocks<A> {
         ensures unchanged { OnErr result (self.new ≡ self.old) }
     {
         let slot = &mut self.slots[who as usize];
-        self.spare
-            .become_join(slot.clock(), &self.ends[once as usize])?;
-        slot.take(&mut self.spare);
-        Ok(())
+        slot.learn(&self.ends[once as usize], &mut self.spare)
     }
 }

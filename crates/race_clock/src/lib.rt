@@ -4,6 +4,7 @@
 mod channel;
 mod clock;
 mod clocks;
+mod kept;
 pub mod laws;
 mod lock;
 mod slot;

@@ -1,50 +1,64 @@
-//! The clocks of a lock.
-ghost use Rattle.std.specs.Prelude.{◌≡◌, List, [], OnOk};
-ghost use Rattle.race_clock.specs.ClockState.{joined};
-ghost use Rattle.race_clock.specs.ClocksState.{LockState, no_lock, lock_locked};
+//! The clocks of a lock: four words, until it is first unlocked.
+ghost use Rattle.std.specs.Prelude.{◌≡◌, ◌+◌, ◌<◌, ◌^◌, List, [], OnOk, OnErr};
+ghost use Rattle.std.specs.Option.{option_map_or};
+ghost use Rattle.race_clock.specs.ClockState.{joined, with_count};
+ghost use Rattle.race_clock.specs.ClocksState.{LockState, no_lock, lock_locked, lock_read_unlocked};
 
 use crate::clock::Clock;
+use crate::kept::Kept;
+use crate::slot::Slot;
 use std::alloc::{AllocError, Allocator};
 use std::marker::Model;
 use std::mem;
 
+// Of the unlocks: what all of them bring, and what the last of them does.
+#[derive(Debug, Drop)]
+struct Unlocks<A: Allocator> {
+    all: Clock<A>,
+    last: Clock<A>,
+}
+
 #[derive(Debug, Drop)]
 pub(crate) struct LockClocks<A: Allocator> {
-    unlocks: Clock<A>,
-    last: Clock<A>,
-    runlocks: Clock<A>,
+    unlocks: Option<Box<Unlocks<A>, A>>,
+    runlocks: Kept<A>,
 }
 
 impl<A: Allocator> Model for LockClocks<A> {
     ghost Value = { LockState };
 
-    ghost view = { λ k. record { unlocks = k.unlocks; last = k.last; runlocks = k.runlocks } };
+    ghost view = { λ k. record {
+      unlocks = option_map_or (λ unlocks. unlocks.value.all) k.unlocks [];
+      last = option_map_or (λ unlocks. unlocks.value.last) k.unlocks [];
+      runlocks = k.runlocks;
+    } };
 }
 
 impl<A: Allocator> LockClocks<A> {
     /// A lock that nobody has unlocked.
-    pub(crate) fn new(alloc: A) -> LockClocks<A>
-    where
-        A: Copy,
+    pub(crate) fn new() -> LockClocks<A>
         ensures { result ≡ no_lock }
     {
         LockClocks {
-            unlocks: Clock::new(alloc),
-            last: Clock::new(alloc),
-            runlocks: Clock::new(alloc),
+            unlocks: None,
+            runlocks: Kept::new(),
         }
     }
 
     /// What a lock joins to its goroutine's clock.
-    #[tactic(auto, using(crate::proofs::JoinLemmas::joined_assoc))]
+    #[tactic(auto, using(crate::proofs::JoinLemmas::joined_locks))]
     pub(crate) fn hand_to_lock(&self, clock: &Clock<A>, to: &mut Clock<A>) -> Result<(), AllocError>
         ensures { OnOk result (to.new ≡ joined clock.now (joined self.now.unlocks self.now.runlocks)) }
     {
-        to.become_join(clock, &self.unlocks)?;
-        to.join(&self.runlocks)
+        self.runlocks.join_with(clock, to)?;
+        match &self.unlocks {
+            Some(unlocks) => to.join(&unlocks.all),
+            None => Ok(()),
+        }
     }
 
     /// What an rlock joins to it.
+    #[tactic(auto, using(crate::proofs::JoinLemmas::joined_nothing))]
     pub(crate) fn hand_to_rlock(
         &self,
         clock: &Clock<A>,
@@ -52,21 +66,20 @@ impl<A: Allocator> LockClocks<A> {
     ) -> Result<(), AllocError>
         ensures { OnOk result (to.new ≡ joined clock.now self.now.last) }
     {
-        to.become_join(clock, &self.last)
+        match &self.unlocks {
+            Some(unlocks) => to.become_join(clock, &unlocks.last),
+            None => to.become_copy(clock),
+        }
     }
 
     /// All unlocks, with one more.
     pub(crate) fn with_unlock(&self, begin: &Clock<A>, to: &mut Clock<A>) -> Result<(), AllocError>
         ensures { OnOk result (to.new ≡ joined self.now.unlocks begin.now) }
     {
-        to.become_join(&self.unlocks, begin)
-    }
-
-    /// The runlocks since the last lock, with one more.
-    pub(crate) fn with_runlock(&self, begin: &Clock<A>, to: &mut Clock<A>) -> Result<(), AllocError>
-        ensures { OnOk result (to.new ≡ joined self.now.runlocks begin.now) }
-    {
-        to.become_join(&self.runlocks, begin)
+        match &self.unlocks {
+            Some(unlocks) => to.become_join(&unlocks.all, begin),
+            None => to.become_copy(begin),
+        }
     }
 
     pub(crate) fn lock(&mut self)
@@ -76,17 +89,64 @@ impl<A: Allocator> LockClocks<A> {
     }
 
     /// Exchanges the clock of all unlocks and that of the last for these.
-    pub(crate) fn unlock(&mut self, unlocks: &mut Clock<A>, begin: &mut Clock<A>)
-        ensures { self.new ≡ record { unlocks = unlocks.old; last = begin.old; runlocks = self.old.runlocks } }
+    pub(crate) fn unlock(
+        &mut self,
+        all: &mut Clock<A>,
+        begin: &mut Clock<A>,
+    ) -> Result<(), AllocError>
+    where
+        A: Copy,
+        ensures ok { OnOk result (self.new ≡ record { unlocks = all.old; last = begin.old; runlocks = self.old.runlocks }) }
+        ensures unchanged { OnErr result (self.new ≡ self.old) }
     {
-        mem::swap(&mut self.unlocks, unlocks);
-        mem::swap(&mut self.last, begin);
+        match &mut self.unlocks {
+            Some(unlocks) => unlocks.exchange(all, begin),
+            None => {
+                let alloc = begin.allocator();
+                let mut unlocks = Box::new(alloc, Unlocks::new(alloc))?;
+                unlocks.exchange(all, begin);
+                self.unlocks = Some(unlocks);
+            }
+        }
+        Ok(())
     }
 
-    /// Exchanges the clock of the runlocks for this one.
-    pub(crate) fn read_unlock(&mut self, runlocks: &mut Clock<A>)
-        ensures { self.new ≡ record { unlocks = self.old.unlocks; last = self.old.last; runlocks = runlocks.old } }
+    /// Joins the clock of a runlock's begin to those since the last lock.
+    pub(crate) fn read_unlock(
+        &mut self,
+        who: u32,
+        slot: &mut Slot<A>,
+        begin: &mut Clock<A>,
+        spare: &mut Clock<A>,
+    ) -> Result<(), AllocError>
+    where
+        A: Copy,
+        requires { slot.old.parts + 1 < 2 ^ 32 }
+        ensures slot { OnOk result (slot.new ≡ record { clock = slot.old.clock; parts = slot.old.parts + 1 }) }
+        ensures ok { OnOk result (self.new ≡ lock_read_unlocked self.old (with_count slot.old.clock who (slot.old.parts + 1))) }
+        ensures unchanged { OnErr result (self.new ≡ self.old) }
+        ensures slot_unchanged { OnErr result (slot.new ≡ slot.old) }
     {
-        mem::swap(&mut self.runlocks, runlocks);
+        slot.tell(who, &mut self.runlocks, begin, spare)
+    }
+}
+
+impl<A: Allocator> Unlocks<A> {
+    fn new(alloc: A) -> Unlocks<A>
+    where
+        A: Copy,
+    {
+        Unlocks {
+            all: Clock::new(alloc),
+            last: Clock::new(alloc),
+        }
+    }
+
+    fn exchange(&mut self, all: &mut Clock<A>, last: &mut Clock<A>)
+        ensures all { self.new.all ≡ all.old }
+        ensures last { self.new.last ≡ last.old }
+    {
+        mem::swap(&mut self.all, all);
+        mem::swap(&mut self.last, last);
     }
 }

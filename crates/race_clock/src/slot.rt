@@ -1,9 +1,10 @@
 //! A goroutine's clock, with how many events it took part in.
-ghost use Rattle.std.specs.Prelude.{◌≡◌, ◌+◌, ◌<◌, ◌^◌, IfOk, OnOk};
-ghost use Rattle.race_clock.specs.ClockState.{with_count};
+ghost use Rattle.std.specs.Prelude.{◌≡◌, ◌+◌, ◌<◌, ◌^◌, IfOk, OnOk, OnErr};
+ghost use Rattle.race_clock.specs.ClockState.{joined, with_count};
 ghost use Rattle.race_clock.specs.ClocksState.{SlotState, first_slot};
 
 use crate::clock::Clock;
+use crate::kept::Kept;
 use std::alloc::{AllocError, Allocator};
 use std::marker::Model;
 use std::mem;
@@ -88,5 +89,40 @@ impl<A: Allocator> Slot<A> {
         mem::swap(&mut self.clock, clock);
         self.parts += 1;
         clock.set(who, self.parts);
+    }
+
+    /// Takes part in an event that joins what is kept to the goroutine's clock.
+    #[tactic(auto, using(crate::proofs::JoinLemmas::joined_comm))]
+    pub(crate) fn learn(&mut self, from: &Kept<A>, spare: &mut Clock<A>) -> Result<(), AllocError>
+        requires { self.old.parts + 1 < 2 ^ 32 }
+        ensures ok { OnOk result (self.new ≡ record { clock = joined self.old.clock from.now; parts = self.old.parts + 1 }) }
+        ensures unchanged { OnErr result (self.new ≡ self.old) }
+    {
+        from.join_with(&self.clock, spare)?;
+        self.take(spare);
+        Ok(())
+    }
+
+    /// Takes part in an event that joins the clock of its begin to what is kept.
+    pub(crate) fn tell(
+        &mut self,
+        who: u32,
+        to: &mut Kept<A>,
+        begin: &mut Clock<A>,
+        spare: &mut Clock<A>,
+    ) -> Result<(), AllocError>
+    where
+        A: Copy,
+        requires { self.old.parts + 1 < 2 ^ 32 }
+        ensures slot { OnOk result (self.new ≡ record { clock = self.old.clock; parts = self.old.parts + 1 }) }
+        ensures kept { OnOk result (to.new ≡ joined to.old (with_count self.old.clock who (self.old.parts + 1))) }
+        ensures unchanged { OnErr result (self.new ≡ self.old) }
+        ensures kept_unchanged { OnErr result (to.new ≡ to.old) }
+    {
+        self.begin(who, begin)?;
+        to.join_with(begin, spare)?;
+        to.put(spare)?;
+        self.pass();
+        Ok(())
     }
 }

@@ -1,6 +1,6 @@
 use crate::{Clock, Stamp, Stamper};
 use race_legal::Replay;
-use race_records::{Decls, Event, Object, Op, Trace};
+use race_records::{Case, Cases, Cause, Decls, Dir, Event, Object, Op, Trace};
 use std::alloc::{AllocError, Global};
 use std::test::Fail;
 
@@ -146,6 +146,31 @@ fn rows_of_a_once(alloc: Global) -> Result<(Vec<Row>, Vec<Known>), AllocError> {
     ))
 }
 
+// The default of a select and the failure that ends a run count as events of who they befall, and hand nothing over.
+fn rows_that_hand_nothing_over(alloc: Global) -> Result<(Vec<Row>, Vec<Known>), AllocError> {
+    let mut cases = Cases::new();
+    let case = Case {
+        dir: Dir::Recv,
+        chan: Some(0),
+    };
+    let _fits = cases.push(case);
+    Ok((
+        vec![in alloc;
+            (0, Op::Go(1)),
+            (0, Op::Default(cases)),
+            (0, Op::Write(0, 1)),
+            (1, Op::Read(0, 1)),
+            (0, Op::Read(0, 1)),
+            (1, Op::Fault(Cause::UnlockFree(0))),
+        ]?,
+        vec![in alloc;
+            (stamp(2, 0, 3, true), [2, 0, 0]),
+            (stamp(3, 1, 2, false), [1, 1, 0]),
+            (stamp(4, 0, 4, false), [3, 0, 0]),
+        ]?,
+    ))
+}
+
 fn rows(alloc: Global, table: usize) -> Result<(Vec<Row>, Vec<Known>), AllocError> {
     match table {
         0 => rows_of_a_buffer(alloc),
@@ -153,7 +178,8 @@ fn rows(alloc: Global, table: usize) -> Result<(Vec<Row>, Vec<Known>), AllocErro
         2 => rows_of_a_meeting(alloc),
         3 => rows_of_a_mutex(alloc),
         4 => rows_of_readers(alloc),
-        _ => rows_of_a_once(alloc),
+        5 => rows_of_a_once(alloc),
+        _ => rows_that_hand_nothing_over(alloc),
     }
 }
 
@@ -209,7 +235,7 @@ fn stamps(alloc: Global, trace: &Trace) -> Result<Vec<Known>, AllocError> {
 
 #[test]
 fn accesses_are_stamped(rt: HostRuntime) -> Result<(), Fail> {
-    for table in 0..6 {
+    for table in 0..7 {
         let (rows, known) = rows(rt.alloc(), table)?;
         let trace = traced(rt.alloc(), rows)?;
         let stamps = stamps(rt.alloc(), &trace)?;

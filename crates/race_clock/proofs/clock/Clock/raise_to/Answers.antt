@@ -8,7 +8,8 @@ raise_many-requires g c =
     let le : length (c.by.inside.few.items ++ c.by.inside.many.items) ≤ length (c.self.inside.few.items ++ c.self.inside.many.items) =
     omega (arith, c.requires, ap length c.by.view_is, ap length c.self.view_is) in
     let most : length c.self.inside.few.items ≤ 8 = c.raise_few.ensures.few in
-    omega (arith, ap length c.as_slice-2.ensures.value, parts_fit c.self.inside.few.items c.self.inside.many.items c.by.inside.few.items c.by.inside.many.items most c.by.invariant le)
+    let fit = parts_fit c.self.inside.few.items c.self.inside.many.items c.by.inside.few.items c.by.inside.many.items most c.by.invariant le in
+    omega (arith, ap length c.as_slice-2.ensures.value, fit)
 
 pub returns : goal.returns
 returns g c =

@@ -1,0 +1,91 @@
+-- What is kept stands for the list, one touch on.
+use Rattle.std.proofs.Common.{◌≡◌, ◌⊎◌, ℕ, ◌<◌, ◌≤◌, Bool, true, false, List, [], ◌∷◌, ◌++◌, Some, sym, ap, ◌∙◌, subst, inl, inr, arith, IsTrue}
+use Rattle.std.specs.List.{Contains}
+use Rattle.std.proofs.lemmas.Bool.{cases_lt}
+use Rattle.std.proofs.lemmas.List.Elements.{Contains-append_left, Contains-push, Contains-push_cases}
+use Rattle.race_access.specs.declared.access.Access.{Access}
+use Rattle.race_access.specs.Touches.{Touch, IsKnownTo, IsLawful}
+use Rattle.race_access.specs.Kept.{access_of, Knows, IsGreatestUnknown, KeepsRead}
+use Rattle.race_access.specs.TouchHolds.{IsCovered, Covers}
+use Rattle.race_access.proofs.TouchSteps.{later}
+
+module _ (touched : List Touch) (t : Touch) (lawful : IsLawful (touched ++ t ∷ [])) (passes : Touch → Bool) where
+  inside : (a : Touch) → Contains touched a → Contains (touched ++ t ∷ []) a
+  inside a is = Contains-append_left touched (t ∷ []) a is
+
+  last : Contains (touched ++ t ∷ []) t
+  last = Contains-push touched t
+
+  -- what a known one covers is known
+  known_under : (a b : Touch) → Contains touched a → Contains touched b → (a ≡ b) ⊎ IsKnownTo a b → IsKnownTo b t → IsKnownTo a t
+  known_under a b ina inb (inl same) known = subst (λ a. IsKnownTo a t) (sym same) known
+  known_under a b ina inb (inr covered) known = lawful.transitive a b t (inside a ina) (inside b inb) last covered known
+
+  module _ (kept : List Access) (covers : Covers passes touched kept) where
+    -- where all that is kept is known, all that it covers is
+    pub all_known : ((e : Access) → Contains kept e → Knows t.clock e) → (a : Touch) → Contains touched a → IsTrue (passes a) → IsKnownTo a t
+    all_known known a ina passed = go (covers.covered a ina passed)
+      where
+        go : IsCovered touched kept a → IsKnownTo a t
+        go (b, inb, keptb, order, under) = known_under a b ina inb under (known (access_of b.stamp) keptb)
+
+    -- the greatest one that is kept and isn't known is the greatest of all that it covers
+    pub greatest_of_all : (i : ℕ) → IsGreatestUnknown t.clock kept (Some i)
+        → (a : Touch) × Contains touched a × IsTrue (passes a) × (a.stamp.at ≡ i) × (¬ IsKnownTo a t)
+        × ((b : Touch) → Contains touched b → IsTrue (passes b) → ¬ IsKnownTo b t → b.stamp.at ≤ i)
+    greatest_of_all i (e, kepte, ate, unknown, greatest) = go (covers.real e kepte counted)
+      where
+        counted : 0 < e.count
+        counted = elim (cases_lt 0 e.count) [ inl less ↦ less | inr none ↦ absurd (unknown (omega (arith, none))) ]
+
+        most : (b : Touch) → Contains touched b → IsTrue (passes b) → ¬ IsKnownTo b t → b.stamp.at ≤ i
+        most b inb passed unknownb = over (covers.covered b inb passed)
+          where
+            over : IsCovered touched kept b → b.stamp.at ≤ i
+            over (c, inc, keptc, order, under) =
+                let bound : c.stamp.at ≤ i = greatest (access_of c.stamp) keptc (λ known. unknownb (known_under b c inb inc under known)) in
+                omega (arith, bound, order)
+
+        go : ((a : Touch) × Contains touched a × IsTrue (passes a) × (access_of a.stamp ≡ e))
+            → (a : Touch) × Contains touched a × IsTrue (passes a) × (a.stamp.at ≡ i) × (¬ IsKnownTo a t)
+            × ((b : Touch) → Contains touched b → IsTrue (passes b) → ¬ IsKnownTo b t → b.stamp.at ≤ i)
+        go (a, ina, passed, is) = (a, ina, passed, ap (λ (e : Access). e.at) is ∙ ate, (λ known. unknown (subst (Knows t.clock) is known)), most)
+
+    -- what is kept goes on covering where the next one doesn't pass
+    pub covers_on : passes t ≡ false → Covers passes (touched ++ t ∷ []) kept
+    covers_on fails = record {
+      real = λ e kepte counted. let old = covers.real e kepte counted in (old.0, inside old.0 old.1, old.2, old.3);
+      covered = λ a ina passed. elim (Contains-push_cases touched t a ina) [
+        | inl olda ↦ let old = covers.covered a olda passed in (old.0, inside old.0 old.1, old.2, old.3, old.4)
+        | inr new ↦ let passed : passes t ≡ true = subst (λ a. passes a ≡ true) (sym new) passed in cc
+      ];
+    }
+
+    -- and covers the next one too, where it is kept with all that it doesn't know
+    pub covers_next : (new : List Access) → IsTrue (passes t) → KeepsRead kept new (access_of t.stamp) t.clock → Covers passes (touched ++ t ∷ []) new
+    covers_next new passed keeps = record {
+      real = λ e kepte counted. elim (keeps.nothing_else e kepte counted) [
+        | inl olde ↦ let old = covers.real e olde counted in (old.0, inside old.0 old.1, old.2, old.3)
+        | inr is ↦ (t, last, passed, sym is)
+      ];
+      covered = λ a ina passeda. elim (Contains-push_cases touched t a ina) [
+        | inl olda ↦ old a olda (covers.covered a olda passeda)
+        | inr newa ↦ (t, last, keeps.itself, at_most a newa, inl (sym newa))
+      ];
+    }
+      where
+        at_most : (a : Touch) → t ≡ a → a.stamp.at ≤ t.stamp.at
+        at_most a is = let same : t.stamp.at ≡ a.stamp.at = ap (λ (a : Touch). a.stamp.at) is in omega (arith, same)
+
+        old : (a : Touch) → Contains touched a → IsCovered touched kept a → IsCovered (touched ++ t ∷ []) new a
+        old a ina (b, inb, keptb, order, under) = go (keeps.dropped (access_of b.stamp) keptb)
+          where
+            by_next : IsKnownTo b t → IsCovered (touched ++ t ∷ []) new a
+            by_next known =
+                let less : a.stamp.at < t.stamp.at = later touched t lawful a ina in
+                (t, last, keeps.itself, omega (arith, less), inr (known_under a b ina inb under known))
+
+            go : Contains new (access_of b.stamp) ⊎ Knows t.clock (access_of b.stamp) ⊎ (b.stamp.who ≡ t.stamp.who) → IsCovered (touched ++ t ∷ []) new a
+            go (inl stays) = (b, inside b inb, stays, order, under)
+            go (inr (inl known)) = by_next known
+            go (inr (inr own)) = by_next (lawful.own b t (inside b inb) last (later touched t lawful b inb) own)

@@ -1,0 +1,5 @@
+pub mod TouchSteps
+pub mod KeptSteps
+pub mod KeepSteps
+pub mod StandSteps
+pub mod StampSteps

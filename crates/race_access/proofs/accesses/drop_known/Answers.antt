@@ -1,0 +1,12 @@
+use Rattle.std.proofs.Common.{◌≡◌, not, rules}
+use Rattle.std.specs.List.{filter}
+use Rattle.std.proofs.lemmas.Fn.{filter_same}
+use Rattle.race_access.specs.Kept.{is_known}
+use Rattle.race_access.proofs.KeepSteps.{drops_by_filter, known_or_kept}
+use Rattle.race_access.proofs.accesses.drop_known.Goals as goal
+
+pub returns-then-len-capacity-clause-kept : goal.returns-then-len-capacity-clause-kept
+returns-then-len-capacity-clause-kept g c =
+    let left : c.retain.new.self.items ≡ filter (λ e. not (is_known c.args.clock.now e)) c.args.reads.now.items =
+    filter_same _ (λ e. not (is_known c.args.clock.now e)) _ (λ x b f k. search rules) _ _ c.retain.ensures.filtered in
+    rw left (drops_by_filter (λ e. not (is_known c.args.clock.now e)) c.args.reads.now.items c.args.clock.now (known_or_kept c.args.clock.now))

@@ -1,0 +1,202 @@
+//! What is kept of a variable's accesses.
+ghost use Rattle.std.specs.Prelude.{◌≡◌, ◌≤◌, ◌∷◌, [], false, length, vec_capacity, OnOk, OnErr, IsTrue};
+ghost use Rattle.std.specs.Option.{is_some};
+ghost use Rattle.race_access.specs.Kept as spec;
+ghost use Rattle.race_access.specs.KeptOf.{kept_of};
+
+use crate::access::Access;
+use race_clock::{Clock, Stamp};
+use std::alloc::{AllocError, Allocator};
+
+/// What is kept of the accesses.
+#[derive(Drop)]
+pub(crate) enum Accesses<A: Allocator> {
+    /// The last Write and one Read.
+    Few {
+        /// The last Write.
+        write: Access,
+        /// The last Read, which knows all earlier ones since the Write.
+        read: Access,
+    },
+    /// The last Write and several Reads.
+    Many {
+        /// The last Write.
+        write: Access,
+        /// The last Read since then of some goroutines, in rising order of these. Each other Read
+        /// since then is known to one of these, or to the Write.
+        reads: Vec<Access, A>,
+    },
+    /// The pair of the first race.
+    Raced {
+        /// The earlier access.
+        first: u32,
+        /// The later one.
+        second: u32,
+    },
+}
+
+// The index of the access, where the clock doesn't know it.
+fn unknown<B: Allocator>(access: &Access, clock: &Clock<B>) -> Option<u32>
+    ensures { spec.IsGreatestUnknown clock.now (access.now ∷ []) result }
+{
+    if access.is_known(clock) {
+        None
+    } else {
+        Some(access.at)
+    }
+}
+
+// The greatest index of an access that the clock doesn't know.
+fn greatest_unknown<B: Allocator>(accesses: &[Access], clock: &Clock<B>) -> Option<u32>
+    ensures { spec.IsGreatestUnknown clock.now accesses.now result }
+{
+    let mut greatest = None;
+    for access in accesses {
+        greatest = greater(greatest, unknown(access, clock));
+    }
+    greatest
+}
+
+// The greater of two numbers, where there are any.
+fn greater(a: Option<u32>, b: Option<u32>) -> Option<u32>
+    ensures { result ≡ spec.greater a b }
+{
+    match (a, b) {
+        (Some(i), Some(j)) => Some(i.max(j)),
+        (Some(i), None) => Some(i),
+        (None, Some(j)) => Some(j),
+        (None, None) => None,
+    }
+}
+
+impl<A: Allocator> Accesses<A> {
+    pub(crate) fn is_raced(&self) -> bool
+        ensures { result ≡ is_some (kept_of self.now).pair }
+    {
+        match self {
+            Accesses::Few { .. } => false,
+            Accesses::Many { .. } => false,
+            Accesses::Raced { .. } => true,
+        }
+    }
+
+    pub(crate) fn pair(&self) -> Option<(u32, u32)>
+        ensures { result ≡ (kept_of self.now).pair }
+    {
+        match self {
+            Accesses::Few { .. } => None,
+            Accesses::Many { .. } => None,
+            Accesses::Raced { first, second } => Some((*first, *second)),
+        }
+    }
+
+    /// The greatest index of an access that races with the next one.
+    pub(crate) fn partner<B: Allocator>(&self, stamp: &Stamp, clock: &Clock<B>) -> Option<u32>
+        ensures { spec.IsGreatestUnknown clock.now (spec.candidates stamp.now (kept_of self.now))
+            result }
+    {
+        match self {
+            Accesses::Few { write, read } => {
+                if stamp.write {
+                    greater(unknown(write, clock), unknown(read, clock))
+                } else {
+                    unknown(write, clock)
+                }
+            }
+            Accesses::Many { write, reads } => {
+                if stamp.write {
+                    greater(unknown(write, clock), greatest_unknown(reads, clock))
+                } else {
+                    unknown(write, clock)
+                }
+            }
+            Accesses::Raced { .. } => None,
+        }
+    }
+}
+
+impl<A: Allocator + Copy> Accesses<A> {
+    /// Keeps an access that races with none.
+    pub(crate) fn keep<B: Allocator>(
+        &mut self,
+        alloc: A,
+        stamp: &Stamp,
+        clock: &Clock<B>,
+    ) -> Result<(), AllocError>
+        requires unraced { is_some (kept_of self.old).pair ≡ false }
+        ensures ok { OnOk result
+            (spec.IsKeptOn (kept_of self.old) (kept_of self.new) stamp.now clock.now) }
+        ensures unchanged { OnErr result (kept_of self.new ≡ kept_of self.old) }
+        ensures write { IsTrue stamp.now.write → result ≡ Ok tt }
+    {
+        let access = Access::of(stamp);
+        match self {
+            Accesses::Few { write, read } => {
+                if stamp.write {
+                    *write = access;
+                    *read = Access::NONE;
+                    return Ok(());
+                }
+                if read.is_known(clock) {
+                    *read = access;
+                    return Ok(());
+                }
+                let write = *write;
+                let mut reads = Vec::with_capacity(alloc, 4)?;
+                reads.push(*read)?;
+                reads.push(access)?;
+                *self = Accesses::Many { write, reads };
+                Ok(())
+            }
+            Accesses::Many { write, reads } => {
+                if stamp.write {
+                    *write = access;
+                    reads.clear();
+                    return Ok(());
+                }
+                keep_read(reads, access, clock)
+            }
+            Accesses::Raced { .. } => Ok(()),
+        }
+    }
+}
+
+// Where the goroutine's Read is, or is to be: Reads stand in rising order of their goroutines.
+fn place_of(reads: &[Access], who: u32) -> usize
+    ensures { result ≤ length reads.now }
+{
+    match reads.binary_search_by_key(&who, |read| read.who) {
+        Ok(place) => place,
+        Err(place) => place,
+    }
+}
+
+// Drops what the clock knows before memory is taken. Where one is dropped there is room.
+fn drop_known<A: Allocator, B: Allocator>(reads: &mut Vec<Access, A>, clock: &Clock<B>)
+    ensures kept { spec.DropsKnown reads.old.items reads.new.items clock.now }
+    ensures capacity { vec_capacity reads.new ≡ vec_capacity reads.old }
+{
+    if reads.len() == reads.capacity() {
+        reads.retain(|read| !read.is_known(clock));
+    }
+}
+
+// Keeps a Read in the place of its goroutine's last one, or beside those that it doesn't know.
+fn keep_read<A: Allocator, B: Allocator>(
+    reads: &mut Vec<Access, A>,
+    access: Access,
+    clock: &Clock<B>,
+) -> Result<(), AllocError>
+    ensures ok { OnOk result (spec.KeepsRead reads.old.items reads.new.items access clock.now) }
+    ensures unchanged { OnErr result (reads.new.items ≡ reads.old.items) }
+{
+    let place = place_of(reads, access.who);
+    if place < reads.len() && reads[place].who == access.who {
+        reads[place] = access;
+        return Ok(());
+    }
+    drop_known(reads, clock);
+    let place = place_of(reads, access.who);
+    reads.insert(place, access)?;
+    Ok(())
+}

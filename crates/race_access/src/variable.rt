@@ -1,0 +1,85 @@
+//! The accesses of one variable.
+//!
+//! An access is dropped where a later one that stays knows it: whoever doesn't know the dropped one doesn't know that
+//! one either, which is the greater. So the greatest access with which the next one races is always among those that
+//! are kept. The last Write stays also where a Read knows it, since a later Read races with Writes alone: behind
+//! `write x` by main, which a knows and b doesn't, `read x` by a and then by b race in main's Write and b's Read.
+ghost use Rattle.std.specs.Prelude.{◌≡◌, List, [], true, OnOk, OnErr, IsTrue};
+ghost use Rattle.std.specs.Option.{is_some};
+ghost use Rattle.race_access.specs.Touches.{Touch, IsReported};
+ghost use Rattle.race_access.specs.TouchHolds.{StandsFor, GoesOn};
+
+use crate::access::Access;
+use crate::accesses::Accesses;
+use race_clock::{Clock, Stamp};
+use std::alloc::{AllocError, Allocator, Global};
+use std::marker::Model;
+
+// There may be 65,535 of them.
+const _: () = prove!(size_of::<VarState<Global>>() <= 40);
+
+/// The accesses of a variable that can still race, or its reported race once it has one.
+#[derive(Drop)]
+pub struct VarState<A: Allocator = Global> {
+    accesses: Accesses<A>,
+    alloc: A,
+}
+
+impl<A: Allocator> Model for VarState<A> {
+    ghost use Rattle.race_access.specs.Kept.{Kept};
+
+    ghost Value = { Kept };
+
+    ghost use Rattle.race_access.specs.KeptOf.{kept_of};
+
+    ghost view = { λ v. kept_of v.accesses };
+}
+
+impl<A: Allocator + Copy> VarState<A> {
+    /// No access. Takes no memory.
+    pub fn new(alloc: A) -> VarState<A>
+        ensures { StandsFor result [] }
+    {
+        VarState {
+            accesses: Accesses::Few {
+                write: Access::NONE,
+                read: Access::NONE,
+            },
+            alloc,
+        }
+    }
+
+    /// Takes the next access of the variable, with the clock of its goroutine behind it.
+    pub fn touch<B: Allocator>(&mut self, stamp: &Stamp, clock: &Clock<B>) -> Result<(), AllocError>
+        ensures goes_on { OnOk result (GoesOn self.old self.new
+            (record { stamp = stamp.now; clock = clock.now })) }
+        ensures unchanged { OnErr result (self.new ≡ self.old) }
+
+        // What takes no memory.
+        ensures raced { is_some self.old.pair ≡ true → (result ≡ Ok tt) × (self.new ≡ self.old) }
+        ensures write { IsTrue stamp.now.write → result ≡ Ok tt }
+    {
+        if self.accesses.is_raced() {
+            return Ok(());
+        }
+        match self.accesses.partner(stamp, clock) {
+            Some(first) => {
+                self.accesses = Accesses::Raced {
+                    first,
+                    second: stamp.at,
+                };
+                Ok(())
+            }
+            None => self.accesses.keep(self.alloc, stamp, clock),
+        }
+    }
+
+    /// The race that is reported of the accesses so far: its two events, counted from 0.
+    pub fn raced(&self) -> Option<(u32, u32)>
+        ensures reported { (touched : List Touch) → StandsFor self.now touched
+            → IsReported touched result }
+        ensures pair { result ≡ self.now.pair }
+    {
+        self.accesses.pair()
+    }
+}

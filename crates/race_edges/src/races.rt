@@ -1,5 +1,5 @@
 //! The races of a list of events, found event by event.
-ghost use Rattle.std.specs.Prelude.{◌≡◌, ◌↔◌, ◌<◌, ◌^◌, [], None, replicate, length, IfOk, IsTrue};
+ghost use Rattle.std.specs.Prelude.{◌≡◌, ◌↔◌, ◌<◌, ◌^◌, [], ◌∷◌, ◌++◌, None, replicate, length, IfOk, OnOk, OnErr, IsTrue};
 ghost use Rattle.race_model.specs.Events.{reads, writes, accesses};
 ghost use Rattle.race_edges.specs.Partners.{
   accessed,
@@ -43,6 +43,24 @@ impl<A: Allocator> Model for RaceList<A> {
 }
 
 impl<A: Allocator> RaceList<A> {
+    /// No race. Takes no memory.
+    pub fn new(alloc: A) -> RaceList<A>
+        ensures { result ≡ [] }
+    {
+        RaceList {
+            races: Vec::new(alloc),
+        }
+    }
+
+    /// Puts a race behind the others.
+    pub fn push(&mut self, race: Race) -> Result<(), AllocError>
+        ensures pushed { OnOk result (self.new ≡ self.old ++ race ∷ []) }
+        ensures unchanged { OnErr result (self.new ≡ self.old) }
+    {
+        self.races.push(race)?;
+        Ok(())
+    }
+
     /// The races in order.
     pub fn as_slice(&self) -> &[Race]
         ensures { result.now ≡ self.now }

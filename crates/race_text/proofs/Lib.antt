@@ -1,4 +1,5 @@
 pub mod CutLemmas
+pub mod LaneLemmas
 pub mod WordTable
 pub mod UsedNames
 pub mod WantedParts

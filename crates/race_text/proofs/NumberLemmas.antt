@@ -1,13 +1,15 @@
 -- Which words are numbers.
-use Rattle.std.proofs.Common.{◌≡◌, ℕ, zero, suc, ◌⊎◌, inl, inr, ◌≢◌, ◌<◌, ◌≤◌, ◌^◌, Bool, true, false, ◌&&◌, if◌then◌else◌, nat_le, List, length, get_or, Option, Some, None, refl, sym, ap, subst, ◌∙◌, arith, true≢false}
+use Rattle.std.proofs.Common.{◌≡◌, ℕ, zero, suc, ◌⊎◌, inl, inr, ◌≢◌, ◌+◌, ◌-◌, ◌*◌, ◌<◌, ◌≤◌, ◌^◌, Bool, true, false, ◌&&◌, if◌then◌else◌, nat_le, List, length, take, get_or, Option, Some, None, refl, sym, ap, subst, ◌∙◌, arith, true≢false}
 use Rattle.std.proofs.lemmas.Bool.Decides.{nat_tests}
-use Rattle.std.proofs.lemmas.Fmt.{decimal_is_IsNumeral, decimal_digit, first_decimal, decimal_nonempty, decimal-digits_value, IsAscii-decimal}
+use Rattle.std.proofs.lemmas.Fmt.{decimal_is_IsNumeral, decimal_digit, first_decimal, decimal_nonempty, decimal-digits_value}
+use Rattle.std.proofs.lemmas.Int.Digits.{digits_more, digits_value_more}
 use Rattle.std.proofs.lemmas.Slice.Eq.{bytes_eq-Decides}
-use Rattle.std.proofs.lemmas.Str.{IsUtf8-from_ascii}
-use Rattle.std.proofs.lemmas.Str.Parse.{digit_at, numerals_by_value, tells_digits, without_leading_plus_none}
+use Rattle.std.proofs.lemmas.Str.{digit_value_digit}
+use Rattle.std.proofs.lemmas.Str.Parse.{digit_at, numerals_by_value, tells_digits, digits_value-take-le}
 use Rattle.std.specs.Fmt.{decimal}
-use Rattle.std.specs.Str.{bytes_eq, IsUtf8, IsAscii}
-use Rattle.std.specs.Str.Parse.{AllDigits, IsNumeral, digits_value, without_leading_plus}
+use Rattle.std.specs.Int.{IsInRange}
+use Rattle.std.specs.Str.{bytes_eq}
+use Rattle.std.specs.Str.Parse.{AllDigits, IsNumeral, digits_value}
 use Rattle.race_text.specs.Words.{number}
 
 -- what is no number's text is no number
@@ -47,9 +49,6 @@ module _ (max : ℕ) (word : List ℕ) (small : max < 2 ^ 64) where
   pub number-empty : length word ≡ 0 → number max word ≡ None
   number-empty h = number-none max word (λ n low e. let d = decimal_nonempty n (omega arith) in let l = ap length e in omega arith)
 
-  pub number-plus : 0 < length word → get_or word 0 0 ≡ 43 → number max word ≡ None
-  number-plus some h = number-none max word (λ n low e. let d = digit_at word 0 (digits_of_text n low e).0.1 some in omega (arith, d.0, d.1))
-
   pub number-zero : get_or word 0 0 ≡ 48 → 1 < length word → number max word ≡ None
   number-zero h long = number-none max word (λ n low e. by n low e)
     where
@@ -60,29 +59,33 @@ module _ (max : ℕ) (word : List ℕ) (small : max < 2 ^ 64) where
           let same : get_or word 0 0 ≡ get_or (decimal (suc n)) 0 0 = λ i. get_or (e i) 0 0 in
           omega (arith, first, same, h)
 
-  pub number-not_text : (IsUtf8 word → ⊥) → number max word ≡ None
-  number-not_text h = number-none max word (λ n low e. h (IsUtf8-from_ascii word (subst IsAscii (sym e) (IsAscii-decimal n (omega arith)))))
+  -- a byte that is no digit, or a digit with which the value is too great
+  pub number-stops : (i value : ℕ) → i < length word → value ≡ digits_value 10 (take i word)
+      → ((IsInRange 48 57 (get_or word i 0) × (value * 10 + (get_or word i 0 - 48) < 2 ^ 64)) → ⊥) → number max word ≡ None
+  number-stops i value within is stops =
+      number-none max word (λ n low e.
+      let d = digits_of_text n low e in
+      let digit = digit_at word i d.0.1 within in
+      let more = digits_value_more 10 word i within in
+      let digit_is = digit_value_digit (get_or word i 0) digit in
+      let front = digits_value-take-le 10 word (i + 1) (omega arith) in
+      stops (digit, omega (arith, is, low, d.1, more, digit_is, front)))
 
-  module _ (plain : get_or word 0 0 ≢ 43) (alone : get_or word 0 0 ≡ 48 → length word ≡ 1) where
-    -- where `parse` reads nothing, there is no number
-    pub number-unread : ((IsNumeral 10 (without_leading_plus word) × (digits_value 10 (without_leading_plus word) < 2 ^ 64)) → ⊥) → number max word ≡ None
-    number-unread h = number-none max word (λ n low e.
-        let d = digits_of_text n low e in
-        h (subst (λ w. IsNumeral 10 w × (digits_value 10 w < 2 ^ 64)) (sym (without_leading_plus_none word plain)) (d.0, omega (arith, d.1))))
+  -- what the digits say, where a leading zero stands alone
+  module _ (alone : get_or word 0 0 ≡ 48 → length word ≡ 1) (value : ℕ) (some : 0 < length word) (digits : AllDigits 10 word)
+      (is : value ≡ digits_value 10 word) where
+    pub number-read : value ≤ max → number max word ≡ Some value
+    number-read low =
+        let model = numerals_by_value (AllDigits 10) tells_digits in
+        number-some max value word small low (sym (decimal-digits_value model word digits some alone (omega (arith, is, low))) ∙ ap decimal (sym is))
 
-    -- and what it reads is the number, where that is in the limit
-    module _ (value : ℕ) (numeral : IsNumeral 10 (without_leading_plus word)) (fits : digits_value 10 (without_leading_plus word) < 2 ^ 64)
-        (is : digits_value 10 (without_leading_plus word) ≡ value) where
-      value_is : digits_value 10 word ≡ value
-      value_is = ap (digits_value 10) (sym (without_leading_plus_none word plain)) ∙ is
+    pub number-over : max < value → number max word ≡ None
+    number-over over = number-none max word (λ n low e. let d = digits_of_text n low e in omega (arith, d.1, is))
 
-      text_is : word ≡ decimal value
-      text_is =
-          let n : IsNumeral 10 word = subst (IsNumeral 10) (without_leading_plus_none word plain) numeral in
-          sym (decimal-digits_value (numerals_by_value (AllDigits 10) tells_digits) word n.1 n.0 alone (omega (arith, value_is, is, fits))) ∙ ap decimal value_is
-
-      pub number-read : value ≤ max → number max word ≡ Some value
-      number-read low = number-some max value word small low text_is
-
-      pub number-over : max < value → number max word ≡ None
-      number-over over = number-none max word (λ n low e. let d = digits_of_text n low e in omega (arith, d.1, value_is))
+-- one more digit
+pub digits_go_on : (word : List ℕ) (i value more : ℕ) → i < length word → AllDigits 10 (take i word) → value ≡ digits_value 10 (take i word)
+    → IsInRange 48 57 (get_or word i 0) → more ≡ value * 10 + (get_or word i 0 - 48)
+    → AllDigits 10 (take (i + 1) word) × (more ≡ digits_value 10 (take (i + 1) word))
+digits_go_on word i value more within digits is digit more_is =
+    let digit_is = digit_value_digit (get_or word i 0) digit in
+    (digits_more 10 word i within digits (omega (arith, digit_is, digit.1)), omega (arith, is, more_is, digits_value_more 10 word i within, digit_is, digit.0))

@@ -1,9 +1,11 @@
 //! A text is cut into lines, and a line into words.
-ghost use Rattle.std.specs.Prelude.{◌≡◌, ◌==◌, ◌∷◌, position, not, true, false, MatchOption};
+ghost use Rattle.std.specs.Prelude.{◌≡◌, ◌==◌, ◌∷◌, true, false, MatchOption};
 ghost use Rattle.std.specs.List.{slice_split, list_all};
 ghost use Rattle.race_records.specs.Name.{is_place_byte};
 ghost use Rattle.race_text.specs.Form.{first_word};
 ghost use Rattle.race_text.specs.Words as spec;
+
+use crate::lanes::{first_index, first_unseen};
 
 // What stands before the first such byte, and what stands behind it where there is one.
 pub(crate) fn cut_at(bytes: &[u8], byte: u8) -> (&[u8], Option<&[u8]>)
@@ -14,13 +16,6 @@ pub(crate) fn cut_at(bytes: &[u8], byte: u8) -> (&[u8], Option<&[u8]>)
         Some(end) => (&bytes[..end], Some(&bytes[end + 1..])),
         None => (bytes, None),
     }
-}
-
-// Where the byte stands first.
-fn first_index(bytes: &[u8], byte: u8) -> Option<usize>
-    ensures { result ≡ position (λ b. b == byte) bytes.now }
-{
-    bytes.iter().position(|b| *b == byte)
 }
 
 // Whether the line has a byte that no line may have.
@@ -54,17 +49,4 @@ pub(crate) fn cut_word(bytes: &[u8]) -> Option<(&[u8], Option<&[u8]>)>
             }
         }
     }
-}
-
-// Where the first byte stands that can't be seen.
-fn first_unseen(bytes: &[u8]) -> Option<usize>
-    ensures { result ≡ position (λ b. not (is_place_byte b)) bytes.now }
-{
-    bytes.iter().position(|b| !is_seen(*b))
-}
-
-fn is_seen(byte: u8) -> bool
-    ensures { result ≡ is_place_byte byte }
-{
-    b'!' <= byte && byte <= b'~'
 }

@@ -11,6 +11,7 @@ pub mod examples;
 mod fields;
 mod finder;
 mod form;
+mod lanes;
 pub mod laws;
 #[cfg(test)]
 mod lock_tests;

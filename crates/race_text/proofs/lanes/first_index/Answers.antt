@@ -1,0 +1,30 @@
+use Rattle.std.proofs.Common.{ℕ, ◌+◌, ◌==◌, Some, position, sym, ap, ◌∙◌, arith}
+use lib.Count.{count_trailing_zeros}
+use Rattle.race_text.proofs.CutLemmas.{rest_is}
+use Rattle.race_text.proofs.LaneLemmas.{first_in_lanes, none_in_lanes, first_behind, none_behind}
+use Rattle.race_text.proofs.lanes.first_index.Goals as goal
+
+pub returns-then-found-ne0 : goal.returns-then-found-ne0
+returns-then-found-ne0 c =
+    let at = c.loop-at.at in
+    let found = c.equal_in-found.ensures in
+    sym (first_in_lanes (λ b. b == c.args.byte) c.args.bytes.now 0 at 64 (omega arith) (omega arith) c.loop-at.invariant.1 (omega (arith, found))
+    ∙ ap (λ mask. Some (at + count_trailing_zeros 64 mask)) (sym found))
+
+pub loop-at-preserved : goal.loop-at-preserved
+loop-at-preserved c = (
+  omega arith,
+  none_in_lanes (λ b. b == c.args.byte) c.args.bytes.now 0 c.loop-at.at 64 (omega arith) c.loop-at.invariant.1 (omega (arith, c.equal_in-found.ensures)),
+)
+
+pub returns-in-Some : goal.returns-in-Some
+returns-in-Some c =
+    let p = λ (b : ℕ). b == c.args.byte in
+    sym (first_behind p c.args.bytes.now 0 c.loop-at.at c.in-Some.behind c.loop-at.invariant.0 c.loop-at.invariant.1
+    (ap (position p) (sym (rest_is c.args.bytes.now c.loop-at.at)) ∙ sym c.in-Some.ensures))
+
+pub returns-in-None : goal.returns-in-None
+returns-in-None c =
+    let p = λ (b : ℕ). b == c.args.byte in
+    sym (none_behind p c.args.bytes.now 0 c.loop-at.at c.loop-at.invariant.0 c.loop-at.invariant.1
+    (ap (position p) (sym (rest_is c.args.bytes.now c.loop-at.at)) ∙ sym c.in-None.ensures))

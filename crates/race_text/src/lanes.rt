@@ -1,0 +1,84 @@
+//! Where a byte stands first. Many bytes are tested at once, as lanes of a vector.
+ghost use Rattle.std.specs.Prelude.{◌≡◌, ◌==◌, ◌+◌, ◌≤◌, position, not, map, length};
+ghost use Rattle.std.specs.Simd.Lanes.{chunk, mask_l};
+ghost use Rattle.race_records.specs.Name.{is_place_byte};
+
+use std::simd::prelude::*;
+
+// Where the byte stands first.
+pub(crate) fn first_index(bytes: &[u8], byte: u8) -> Option<usize>
+    ensures { result ≡ position (λ b. b == byte) bytes.now }
+{
+    let mut at = 0;
+    while bytes.len() - at >= 64 {
+        let found = equal_in(bytes, at, byte);
+        if found != 0 {
+            return Some(at + found.trailing_zeros() as usize);
+        }
+        at += 64;
+    }
+    match index_by_one(&bytes[at..], byte) {
+        Some(behind) => Some(at + behind),
+        None => None,
+    }
+}
+
+// Where the first byte stands that can't be seen. A word is short, so fewer bytes are tested at once.
+pub(crate) fn first_unseen(bytes: &[u8]) -> Option<usize>
+    ensures { result ≡ position (λ b. not (is_place_byte b)) bytes.now }
+{
+    let mut at = 0;
+    while bytes.len() - at >= 16 {
+        let found = unseen_in(bytes, at);
+        if found != 0 {
+            return Some(at + found.trailing_zeros() as usize);
+        }
+        at += 16;
+    }
+    match unseen_by_one(&bytes[at..]) {
+        Some(behind) => Some(at + behind),
+        None => None,
+    }
+}
+
+// A bit for each of 64 bytes: whether it is the byte.
+#[inline(always)]
+fn equal_in(bytes: &[u8], at: usize, byte: u8) -> u64
+    requires { at + 64 ≤ length bytes.now }
+    ensures { result ≡ mask_l (map (λ b. b == byte) (chunk at 64 bytes.now)) }
+{
+    u8x64::from_slice(&bytes[at..])
+        .simd_eq(u8x64::splat(byte))
+        .to_bitmask()
+}
+
+// A bit for each of 16 bytes: whether it can't be seen. What is below the first byte that can be
+// seen wraps, and is then above the last.
+#[inline(always)]
+fn unseen_in(bytes: &[u8], at: usize) -> u64
+    requires { at + 16 ≤ length bytes.now }
+    ensures { result ≡ mask_l (map (λ b. not (is_place_byte b)) (chunk at 16 bytes.now)) }
+{
+    (u8x16::from_slice(&bytes[at..]) - u8x16::splat(b'!'))
+        .simd_ge(u8x16::splat(94))
+        .to_bitmask()
+}
+
+// The same of the last bytes, which are too few for a vector.
+fn index_by_one(bytes: &[u8], byte: u8) -> Option<usize>
+    ensures { result ≡ position (λ b. b == byte) bytes.now }
+{
+    bytes.iter().position(|b| *b == byte)
+}
+
+fn unseen_by_one(bytes: &[u8]) -> Option<usize>
+    ensures { result ≡ position (λ b. not (is_place_byte b)) bytes.now }
+{
+    bytes.iter().position(|b| !is_seen(*b))
+}
+
+fn is_seen(byte: u8) -> bool
+    ensures { result ≡ is_place_byte byte }
+{
+    b'!' <= byte && byte <= b'~'
+}

@@ -1,5 +1,5 @@
 -- How the program ends: with which status, and what was read and written.
-use Rattle.std.specs.Prelude.{◌≡◌, ◌≢◌, ◌⊎◌, ◌==◌, ℕ, if◌then◌else◌, List, Option, Some, None, codes}
+use Rattle.std.specs.Prelude.{◌≡◌, ◌≢◌, ◌⊎◌, ◌==◌, ℕ, if◌then◌else◌, Bool, List, Option, Some, None, codes}
 use Rattle.std.specs.declared.io.ErrorKind.{ErrorKind as IoErrorKind}
 use Rattle.std.specs.declared.io.ErrorKind.TheVariants as io
 use Rattle.clap.specs.declared.error.kind.ErrorKind.{ErrorKind}
@@ -12,10 +12,10 @@ use Rattle.race_tool.specs.Outcome.{ReadsAndReports, ReadsAndLists, ReadsTextWhe
 use Rattle.race_edges.specs.Traces.{IsClean, IsRacy, IsIllegal}
 use Rattle.race_tool.specs.declared.status.TheConstants as status
 
--- the input was checked: what run_check promises of options in their limits
-pub record Checks {R W : Type 0} (remaining : R → Option (List ℕ)) (contents : W → Option (List ℕ)) (source source_now : Source R) (sink sink_now : Sink W) (answer : ℕ) : Type 0 where
+-- the input was checked, by the plain judge or not: what run_check promises of options in their limits
+pub record Checks {R W : Type 0} (plain : Bool) (remaining : R → Option (List ℕ)) (contents : W → Option (List ℕ)) (source source_now : Source R) (sink sink_now : Sink W) (answer : ℕ) : Type 0 where
   pub reported : answer ≢ status.REFUSED → answer ≢ status.DEVICE
-      → ReadsAndReports (unread remaining source) (unread remaining source_now) (written contents sink) (written contents sink_now) answer
+      → ReadsAndReports plain (unread remaining source) (unread remaining source_now) (written contents sink) (written contents sink_now) answer
   pub clean : answer ≡ status.CLEAN → ReadsTextWhere IsClean (unread remaining source) (unread remaining source_now)
   pub races : answer ≡ status.RACES → ReadsTextWhere IsRacy (unread remaining source) (unread remaining source_now)
   pub illegal : answer ≡ status.ILLEGAL → ReadsTextWhere IsIllegal (unread remaining source) (unread remaining source_now)
@@ -23,7 +23,7 @@ pub record Checks {R W : Type 0} (remaining : R → Option (List ℕ)) (contents
   pub device : answer ≡ status.DEVICE
       → FailsToRead source source_now sink sink_now
       ⊎ GivesUpReading remaining source source_now sink sink_now
-      ⊎ FailsToWrite remaining contents source source_now sink sink_now
+      ⊎ FailsToWrite plain remaining contents source source_now sink sink_now
   pub calm : answer ≢ status.DEVICE → (source_failures source_now ≡ source_failures source) × (sink_failures sink_now ≡ sink_failures sink)
 
 -- the edges of the input were listed: what run_edges promises
@@ -39,7 +39,7 @@ pub record Lists {R W : Type 0} (remaining : R → Option (List ℕ)) (contents 
 
 -- what was asked for is done
 abbrev pub Does : {R W : Type 0} → Request → (R → Option (List ℕ)) → (W → Option (List ℕ)) → Source R → Source R → Sink W → Sink W → ℕ → Type 0
-Does (Request.Check options) remaining contents source source_now sink sink_now answer = Checks remaining contents source source_now sink sink_now answer
+Does (Request.Check options) remaining contents source source_now sink sink_now answer = Checks options.plain remaining contents source source_now sink sink_now answer
 Does Request.Edges remaining contents source source_now sink sink_now answer = Lists remaining contents source source_now sink sink_now answer
 
 -- the status where the words ask for no work: help was printed or couldn't be, memory was refused, or else they are at fault

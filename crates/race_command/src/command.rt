@@ -36,7 +36,7 @@ Statuses:
   66  data races, one line for each variable
   1   an event that breaks a rule of traces; its number, and the rule
   2   not a trace; the line at fault and why
-  3   usage, or more events than are judged (2,000)
+  3   usage, or more events than --plain takes (2,000)
   4   memory was refused
   5   reading or writing failed";
 
@@ -109,7 +109,7 @@ fn check<'a>(alloc: Global) -> Result<Command<'a>, AllocError> {
     let plain = Arg::new(alloc, "plain")
         .long("plain")
         .action(ArgAction::SetTrue)
-        .help("Judge with the plain judge, the only one so far");
+        .help("Judge with the plain judge, which takes at most 2,000 events");
     Command::new(alloc, "check")
         .about(CHECK_ABOUT)
         .after_help(CHECK_HELP)

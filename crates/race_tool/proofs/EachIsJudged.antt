@@ -1,5 +1,5 @@
 -- Every list of bytes has a finding: its fault, or its trace with the verdict.
-use Rattle.std.proofs.Common.{◌≡◌, ℕ, Bool, true, false, nat_lt, List, length, Option, Some, None, refl, arith}
+use Rattle.std.proofs.Common.{◌≡◌, ◌≤◌, ℕ, IsTrue, sym, ◌∙◌, Bool, true, false, nat_lt, List, length, Option, Some, None, refl, arith}
 use Rattle.std.proofs.lemmas.Bool.Decides.{nat_tests}
 use Rattle.race_records.specs.Events.{TraceState}
 use Rattle.race_text.specs.declared.cause.TextFault.{TextFault}
@@ -10,13 +10,17 @@ use Rattle.race_edges.specs.declared.fault.TheConstants.{MAX_PLAIN_EVENTS}
 use Rattle.race_edges.proofs.EachHasAVerdict.{judged}
 use Rattle.race_tool.specs.Finding.{Finding, Faulty, TooLong, Judged, IsFinding}
 
-pub a_finding : (bytes : List ℕ) → (f : Finding) × IsFinding bytes f
-a_finding bytes = by (text_fault bytes) refl
+pub a_finding : (plain : Bool) (bytes : List ℕ) → (f : Finding) × IsFinding plain bytes f
+a_finding plain bytes = by (text_fault bytes) refl
   where
-    on : (t : TraceState) → IsTextOf t bytes → (b : Bool) → nat_lt MAX_PLAIN_EVENTS (length t.events) ≡ b → (f : Finding) × IsFinding bytes f
-    on t is true over = (TooLong (length t.events), (t, is, refl, grind (arith, nat_tests)))
-    on t is false short = let verdict = judged t is.has_text.is_trace in (Judged t verdict.0, (is, grind (arith, nat_tests), verdict.1))
+    judging : (t : TraceState) → IsTextOf t bytes → (IsTrue plain → length t.events ≤ MAX_PLAIN_EVENTS) → (f : Finding) × IsFinding plain bytes f
+    judging t is short = let verdict = judged t is.has_text.is_trace in (Judged t verdict.0, (is, short, verdict.1))
 
-    by : (o : Option TextFault) → text_fault bytes ≡ o → (f : Finding) × IsFinding bytes f
+    on : (t : TraceState) → IsTextOf t bytes → (p b : Bool) → plain ≡ p → nat_lt MAX_PLAIN_EVENTS (length t.events) ≡ b → (f : Finding) × IsFinding plain bytes f
+    on t is true true plainly over = (TooLong (length t.events), (plainly, (t, is, refl, grind (arith, nat_tests))))
+    on t is true false plainly short = judging t is (λ wanted. grind (arith, nat_tests))
+    on t is false b plainly any = judging t is (λ wanted. let both : false ≡ true = sym plainly ∙ wanted in cc)
+
+    by : (o : Option TextFault) → text_fault bytes ≡ o → (f : Finding) × IsFinding plain bytes f
     by (Some fault) h = (Faulty fault, h)
-    by None h = let found = faultless_is_text bytes h in on found.0 found.1 (nat_lt MAX_PLAIN_EVENTS (length found.0.events)) refl
+    by None h = let found = faultless_is_text bytes h in on found.0 found.1 plain (nat_lt MAX_PLAIN_EVENTS (length found.0.events)) refl refl

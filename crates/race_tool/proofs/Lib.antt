@@ -1,3 +1,5 @@
+pub mod VariableSteps
+pub mod ClockedSteps
 pub mod InputLemmas
 pub mod PrintableLemmas
 pub mod StatusLemmas

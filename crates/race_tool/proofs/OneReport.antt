@@ -1,5 +1,5 @@
 -- Whichever finding is right for a list of bytes, the report is the same.
-use Rattle.std.proofs.Common.{◌≡◌, ℕ, ◌+◌, List, [], ◌∷◌, ◌++◌, length, map, slice_get, unwrap_or, codes, decimal, Option, Some, None, option_map, refl, sym, ap, ◌∙◌, subst, arith}
+use Rattle.std.proofs.Common.{◌≡◌, ℕ, ◌+◌, Bool, IsTrue, List, [], ◌∷◌, ◌++◌, length, map, slice_get, unwrap_or, codes, decimal, Option, Some, None, option_map, refl, sym, ap, ◌∙◌, subst, arith}
 use Rattle.std.proofs.lemmas.List.{length-map}
 use Rattle.std.proofs.lemmas.Option.{none-some, same_Some, slice_get-map}
 use Rattle.std.proofs.lemmas.Simd.{map-map}
@@ -20,6 +20,7 @@ use Rattle.race_text.proofs.TextFine.{text_has_no_fault}
 use Rattle.race_text.proofs.TextLaws.{equal_texts}
 use Rattle.race_report.specs.Report.{newline, clean_line, access_word, access_text, race_line, races_line, report}
 use Rattle.race_edges.specs.Traces.{capacities, HasVerdict}
+use Rattle.race_tool.specs.declared.status.TheConstants as status
 use Rattle.race_tool.specs.Finding.{Finding, Faulty, TooLong, Judged, IsFinding, report_of, status_of}
 
 -- two traces that record the same
@@ -97,21 +98,23 @@ module _ (bytes : List ℕ) where
       let verdict : HasVerdict u v = subst (λ ds. IsVerdict (capacity_of ds) u.events v) (declarations_same t u same) (verdict_alike t.events u.events (operations_same t u same) (capacities t) v judged) in
       verdict_unique (capacities u) u.events v w verdict other
 
-  pub one_report : (f g : Finding) → IsFinding bytes f → IsFinding bytes g → (report_of f ≡ report_of g) × (status_of f ≡ status_of g)
-  one_report (Faulty a) (Faulty b) h k = let same = same_Some a b (sym h ∙ k) in (ap (λ x. report_of (Faulty x)) same, refl)
-  one_report (Faulty a) (TooLong n) h (u, are, length_is, over) = absurd (never_both u a are h)
-  one_report (Faulty a) (Judged u w) h (are, short, judged) = absurd (never_both u a are h)
-  one_report (TooLong m) (Faulty b) (t, is, length_is, over) k = absurd (never_both t b is k)
-  one_report (TooLong m) (TooLong n) (t, is, m_is, over) (u, are, n_is, more) =
+  -- two right findings print the same, unless one judge takes what is too long for the other
+  pub one_report : (p q : Bool) (f g : Finding) → (status_of f ≡ status.USAGE → IsTrue p → IsTrue q) → (IsTrue q → IsTrue p)
+      → IsFinding p bytes f → IsFinding q bytes g → (report_of f ≡ report_of g) × (status_of f ≡ status_of g)
+  one_report p q (Faulty a) (Faulty b) there back h k = let same = same_Some a b (sym h ∙ k) in (ap (λ x. report_of (Faulty x)) same, refl)
+  one_report p q (Faulty a) (TooLong n) there back h (plain, (u, are, length_is, over)) = absurd (never_both u a are h)
+  one_report p q (Faulty a) (Judged u w) there back h (are, short, judged) = absurd (never_both u a are h)
+  one_report p q (TooLong m) (Faulty b) there back (plain, (t, is, length_is, over)) k = absurd (never_both t b is k)
+  one_report p q (TooLong m) (TooLong n) there back (plain, (t, is, m_is, over)) (both, (u, are, n_is, more)) =
       let same : m ≡ n = sym m_is ∙ length_same t u (one_trace t u is are) ∙ n_is in
       (ap (λ k. report_of (TooLong k)) same, refl)
-  one_report (TooLong m) (Judged u w) (t, is, m_is, over) (are, short, judged) =
+  one_report p q (TooLong m) (Judged u w) there back (plain, (t, is, m_is, over)) (are, short, judged) =
       let same = length_same t u (one_trace t u is are) in
-      absurd (omega (arith, same, m_is, over, short))
-  one_report (Judged t v) (Faulty b) (is, short, judged) k = absurd (never_both t b is k)
-  one_report (Judged t v) (TooLong n) (is, short, judged) (u, are, n_is, over) =
+      absurd (omega (arith, same, m_is, over, short (there refl plain)))
+  one_report p q (Judged t v) (Faulty b) there back (is, short, judged) k = absurd (never_both t b is k)
+  one_report p q (Judged t v) (TooLong n) there back (is, short, judged) (plain, (u, are, n_is, over)) =
       let same = length_same t u (one_trace t u is are) in
-      absurd (omega (arith, same, n_is, over, short))
-  one_report (Judged t v) (Judged u w) (is, short, judged) (are, less, other) =
+      absurd (omega (arith, same, n_is, over, short (back plain)))
+  one_report p q (Judged t v) (Judged u w) there back (is, short, judged) (are, less, other) =
       let same = one_verdict t u v w is are judged other in
       (report_same t u (one_trace t u is are) v ∙ ap (report u) same, ap (λ x. status_of (Judged u x)) same)

@@ -1,5 +1,5 @@
 -- What the status of a right finding says of the bytes.
-use Rattle.std.proofs.Common.{◌≡◌, ℕ, List, [], ◌∷◌, refl}
+use Rattle.std.proofs.Common.{◌≡◌, ℕ, Bool, List, [], ◌∷◌, refl}
 use Rattle.race_model.specs.Reorder.{own_order}
 use Rattle.race_model.specs.Verdict.{Illegal, Clean, Races}
 use Rattle.race_model.proofs.OwnOrder.{own_is_reordering}
@@ -9,8 +9,8 @@ use Rattle.race_edges.specs.Traces.{capacities, IsClean, IsRacy, IsIllegal}
 use Rattle.race_tool.specs.Finding.{Finding, Faulty, TooLong, Judged, IsFinding, IsTextWhere, status_of}
 
 -- clean: no race, so each read finds the same write in every reordering
-pub clean_text : (finding : Finding) (bytes : List ℕ) → IsFinding bytes finding → status_of finding ≡ status.CLEAN → IsTextWhere IsClean bytes
-clean_text (Judged trace Clean) bytes right is = record {
+pub clean_text : (plain : Bool) (finding : Finding) (bytes : List ℕ) → IsFinding plain bytes finding → status_of finding ≡ status.CLEAN → IsTextWhere IsClean bytes
+clean_text plain (Judged trace Clean) bytes right is = record {
   trace = trace;
   text = right.0;
   holds = record {
@@ -19,15 +19,15 @@ clean_text (Judged trace Clean) bytes right is = record {
     same_reads = λ order is. same_finds (capacities trace) trace.events right.2.1 order (own_order trace.events) is (own_is_reordering (capacities trace) trace.events);
   };
 }
-clean_text (Judged trace (Illegal index rule)) bytes right is = cc
-clean_text (Judged trace (Races races)) bytes right is = cc
-clean_text (Faulty fault) bytes right is = cc
-clean_text (TooLong events) bytes right is = cc
+clean_text plain (Judged trace (Illegal index rule)) bytes right is = cc
+clean_text plain (Judged trace (Races races)) bytes right is = cc
+clean_text plain (Faulty fault) bytes right is = cc
+clean_text plain (TooLong events) bytes right is = cc
 
 -- races: the first that is listed
-pub racy_text : (finding : Finding) (bytes : List ℕ) → IsFinding bytes finding → status_of finding ≡ status.RACES → IsTextWhere IsRacy bytes
-racy_text (Judged trace (Races [])) bytes right is = absurd (right.2.1 refl)
-racy_text (Judged trace (Races (race ∷ races))) bytes right is = record {
+pub racy_text : (plain : Bool) (finding : Finding) (bytes : List ℕ) → IsFinding plain bytes finding → status_of finding ≡ status.RACES → IsTextWhere IsRacy bytes
+racy_text plain (Judged trace (Races [])) bytes right is = absurd (right.2.1 refl)
+racy_text plain (Judged trace (Races (race ∷ races))) bytes right is = record {
   trace = trace;
   text = right.0;
   holds = record {
@@ -38,16 +38,16 @@ racy_text (Judged trace (Races (race ∷ races))) bytes right is = record {
     race = (right.2.2.each 0 race refl).race;
   };
 }
-racy_text (Judged trace (Illegal index rule)) bytes right is = cc
-racy_text (Judged trace Clean) bytes right is = cc
-racy_text (Faulty fault) bytes right is = cc
-racy_text (TooLong events) bytes right is = cc
+racy_text plain (Judged trace (Illegal index rule)) bytes right is = cc
+racy_text plain (Judged trace Clean) bytes right is = cc
+racy_text plain (Faulty fault) bytes right is = cc
+racy_text plain (TooLong events) bytes right is = cc
 
 -- illegal: the event and the rule that are told
-pub illegal_text : (finding : Finding) (bytes : List ℕ) → IsFinding bytes finding → status_of finding ≡ status.ILLEGAL → IsTextWhere IsIllegal bytes
-illegal_text (Judged trace (Illegal index rule)) bytes right is =
+pub illegal_text : (plain : Bool) (finding : Finding) (bytes : List ℕ) → IsFinding plain bytes finding → status_of finding ≡ status.ILLEGAL → IsTextWhere IsIllegal bytes
+illegal_text plain (Judged trace (Illegal index rule)) bytes right is =
     record { trace = trace; text = right.0; holds = record { index = index; rule = rule; broken = right.2 } }
-illegal_text (Judged trace Clean) bytes right is = cc
-illegal_text (Judged trace (Races races)) bytes right is = cc
-illegal_text (Faulty fault) bytes right is = cc
-illegal_text (TooLong events) bytes right is = cc
+illegal_text plain (Judged trace Clean) bytes right is = cc
+illegal_text plain (Judged trace (Races races)) bytes right is = cc
+illegal_text plain (Faulty fault) bytes right is = cc
+illegal_text plain (TooLong events) bytes right is = cc

@@ -1,5 +1,5 @@
 -- What a check finds of a list of bytes, what it prints of it, and with which status.
-use Rattle.std.specs.Prelude.{ℕ, ◌≡◌, ◌<◌, ◌≤◌, List, length, Some}
+use Rattle.std.specs.Prelude.{ℕ, ◌≡◌, ◌<◌, ◌≤◌, Bool, IsTrue, List, length, Some}
 use Rattle.race_records.specs.Events.{TraceState}
 use Rattle.race_model.specs.Verdict.{Verdict, Illegal, Clean, Races}
 use Rattle.race_text.specs.declared.cause.TextFault.{TextFault}
@@ -15,18 +15,18 @@ use Rattle.race_tool.specs.Report.{too_long_line}
 pub data Finding : Type 0 where
   -- it is the text of no trace: its first line at fault, with the least cause
   Faulty : (fault : TextFault) → Finding
-  -- it is the text of a trace of so many events, more than are judged
+  -- it is the text of a trace of so many events, more than the plain judge takes
   TooLong : (events : ℕ) → Finding
   -- it is the text of this trace, with this verdict
   Judged : (trace : TraceState) (verdict : Verdict) → Finding
 
--- the finding is right for the bytes
-abbrev pub IsFinding : List ℕ → Finding → Type 0
-IsFinding bytes (Faulty fault) = text_fault bytes ≡ Some fault
-IsFinding bytes (TooLong events) =
-    (trace : TraceState) × IsTextOf trace bytes × (length trace.events ≡ events) × (MAX_PLAIN_EVENTS < events)
-IsFinding bytes (Judged trace verdict) =
-    IsTextOf trace bytes × (length trace.events ≤ MAX_PLAIN_EVENTS) × HasVerdict trace verdict
+-- the finding is right for the bytes, where the plain judge is wanted or not; it alone takes no long trace
+abbrev pub IsFinding : Bool → List ℕ → Finding → Type 0
+IsFinding plain bytes (Faulty fault) = text_fault bytes ≡ Some fault
+IsFinding plain bytes (TooLong events) =
+    IsTrue plain × ((trace : TraceState) × IsTextOf trace bytes × (length trace.events ≡ events) × (MAX_PLAIN_EVENTS < events))
+IsFinding plain bytes (Judged trace verdict) =
+    IsTextOf trace bytes × (IsTrue plain → length trace.events ≤ MAX_PLAIN_EVENTS) × HasVerdict trace verdict
 
 -- what is printed
 abbrev pub report_of : Finding → List ℕ

@@ -1,5 +1,5 @@
 -- A finding of the code as the definition has it.
-use Rattle.std.specs.Prelude.{ℕ, List, ⊤}
+use Rattle.std.specs.Prelude.{ℕ, Bool, List, ⊤}
 use Rattle.race_records.specs.Events.{TraceState}
 use Rattle.race_text.specs.Text.{IsTextOf}
 use Rattle.race_tool.specs.Finding as spec
@@ -14,8 +14,8 @@ finding_of (Finding.TooLong events) = spec.TooLong events
 finding_of (Finding.Judged trace verdict) = spec.Judged trace (verdict_of verdict)
 
 -- the finding is right for each list of bytes that is the text of the trace
-abbrev pub IsFindingOn : TraceState → spec.Finding → Type 0
-IsFindingOn trace finding = (bytes : List ℕ) → IsTextOf trace bytes → spec.IsFinding bytes finding
+abbrev pub IsFindingOn : Bool → TraceState → spec.Finding → Type 0
+IsFindingOn plain trace finding = (bytes : List ℕ) → IsTextOf trace bytes → spec.IsFinding plain bytes finding
 
 -- a finding that can be printed
 abbrev pub IsPrintable : {A : Type 0} → Finding A → Type 0

@@ -1,5 +1,6 @@
 pub mod Input
 pub mod Report
+pub mod Variables
 pub mod Finding
 pub mod Findings
 pub mod Listing

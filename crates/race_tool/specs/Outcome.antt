@@ -40,12 +40,12 @@ pub record ReadsAndWrites {F : Type 0} (IsRight : List ℕ → F → Type 0) (te
   pub reported : WritesText IsRight text status_for bytes output output_now status
 
 -- of a check: the report on the bytes was written, and the status is the report's
-abbrev pub WritesReport : List ℕ → Option (List ℕ) → Option (List ℕ) → ℕ → Type 0
-WritesReport bytes output output_now status = WritesText IsFinding report_of status_of bytes output output_now status
+abbrev pub WritesReport : Bool → List ℕ → Option (List ℕ) → Option (List ℕ) → ℕ → Type 0
+WritesReport plain bytes output output_now status = WritesText (IsFinding plain) report_of status_of bytes output output_now status
 
 -- the input was read to its end, and the report on its bytes was written
-abbrev pub ReadsAndReports : Option (List ℕ) → Option (List ℕ) → Option (List ℕ) → Option (List ℕ) → ℕ → Type 0
-ReadsAndReports input input_left output output_now status = ReadsAndWrites IsFinding report_of status_of input input_left output output_now status
+abbrev pub ReadsAndReports : Bool → Option (List ℕ) → Option (List ℕ) → Option (List ℕ) → Option (List ℕ) → ℕ → Type 0
+ReadsAndReports plain input input_left output output_now status = ReadsAndWrites (IsFinding plain) report_of status_of input input_left output output_now status
 
 -- of a listing of edges: the edges were written, or why there are none
 abbrev pub WritesListing : List ℕ → Option (List ℕ) → Option (List ℕ) → ℕ → Type 0
@@ -77,11 +77,11 @@ pub record FailsToWriteText {F R W : Type 0} (IsRight : List ℕ → F → Type 
   pub front : WritesFrontOf IsRight text bytes contents sink sink_now
 
 -- of a check: only a front of the report was written
-abbrev pub WritesFront : {W : Type 0} → List ℕ → (W → Option (List ℕ)) → Sink W → Sink W → Type 0
-WritesFront bytes contents sink sink_now = WritesFrontOf IsFinding report_of bytes contents sink sink_now
+abbrev pub WritesFront : {W : Type 0} → Bool → List ℕ → (W → Option (List ℕ)) → Sink W → Sink W → Type 0
+WritesFront plain bytes contents sink sink_now = WritesFrontOf (IsFinding plain) report_of bytes contents sink sink_now
 
-abbrev pub FailsToWrite : {R W : Type 0} → (R → Option (List ℕ)) → (W → Option (List ℕ)) → Source R → Source R → Sink W → Sink W → Type 0
-FailsToWrite remaining contents source source_now sink sink_now = FailsToWriteText IsFinding report_of remaining contents source source_now sink sink_now
+abbrev pub FailsToWrite : {R W : Type 0} → Bool → (R → Option (List ℕ)) → (W → Option (List ℕ)) → Source R → Source R → Sink W → Sink W → Type 0
+FailsToWrite plain remaining contents source source_now sink sink_now = FailsToWriteText (IsFinding plain) report_of remaining contents source source_now sink sink_now
 
 -- of a listing of edges: only a front of it was written
 abbrev pub WritesListingFront : {W : Type 0} → List ℕ → (W → Option (List ℕ)) → Sink W → Sink W → Type 0

@@ -40,7 +40,7 @@ pub struct CheckOptions {
     pub shards: usize,
     /// How many events the shards are handed at a time, 1 to 65,536. It changes nothing yet.
     pub block: usize,
-    /// Whether the plain judge is wanted. It is the only one yet, and takes at most 2,000 events.
+    /// Whether the plain judge is wanted, which takes at most 2,000 events.
     pub plain: bool,
 }
 
@@ -71,9 +71,9 @@ impl CheckOptions {
 /// Judges a trace: reads its text to the end, and writes the report.
 ///
 /// The answer is a status. 0 clean, 66 races, 1 illegal and 2 text fault are told by the report; 3
-/// says that an option is out of its limits, or that there are more than 2,000 events, which the
-/// report tells; 4 that memory was refused; 5 that a device failed. No runtime is needed, so any
-/// value will do for one.
+/// says that an option is out of its limits, or that there are more events than the plain judge
+/// takes, which the report tells; 4 that memory was refused; 5 that a device failed. No runtime is
+/// needed, so any value will do for one.
 pub fn run_check<T, R: Read, W: Write, A: Allocator + Copy>(
     _rt: &T,
     alloc: A,
@@ -91,7 +91,7 @@ pub fn run_check<T, R: Read, W: Write, A: Allocator + Copy>(
     // report was written, and the status is the report's.
     ensures reported { are_in_limits options.now ≡ true
         → result ≢ status.REFUSED → result ≢ status.DEVICE
-        → ReadsAndReports (unread R.remaining source.old) (unread R.remaining source.new)
+        → ReadsAndReports options.now.plain (unread R.remaining source.old) (unread R.remaining source.new)
         (written W.contents sink.old) (written W.contents sink.new) result }
 
     // The input is the text of a trace. With CLEAN it is a legal one without a data race, in which
@@ -111,7 +111,7 @@ pub fn run_check<T, R: Read, W: Write, A: Allocator + Copy>(
     ensures device { result ≡ status.DEVICE
         → FailsToRead source.old source.new sink.old sink.new
         ⊎ GivesUpReading R.remaining source.old source.new sink.old sink.new
-        ⊎ FailsToWrite R.remaining W.contents source.old source.new sink.old sink.new }
+        ⊎ FailsToWrite options.now.plain R.remaining W.contents source.old source.new sink.old sink.new }
 
     // With every other status no device failed.
     ensures calm { result ≢ status.DEVICE
@@ -122,7 +122,7 @@ pub fn run_check<T, R: Read, W: Write, A: Allocator + Copy>(
         return status::USAGE;
     }
     match read_to_end(alloc, source) {
-        Ok(bytes) => report(alloc, bytes.as_slice(), sink),
+        Ok(bytes) => report(alloc, bytes.as_slice(), options.plain, sink),
         Err(fault) => status_of_fault(fault),
     }
 }
@@ -139,18 +139,23 @@ pub(crate) fn status_of_fault(fault: ReadFault) -> u8
 }
 
 // Writes the report on the bytes.
-fn report<W: Write, A: Allocator + Copy>(alloc: A, bytes: &[u8], sink: &mut Sink<W>) -> u8
+fn report<W: Write, A: Allocator + Copy>(
+    alloc: A,
+    bytes: &[u8],
+    plain: bool,
+    sink: &mut Sink<W>,
+) -> u8
     ensures reported { result ≢ status.REFUSED → result ≢ status.DEVICE
-        → WritesReport bytes.now (written W.contents sink.old) (written W.contents sink.new) result }
+        → WritesReport plain bytes.now (written W.contents sink.old) (written W.contents sink.new) result }
     ensures clean { result ≡ status.CLEAN → IsTextWhere IsClean bytes.now }
     ensures races { result ≡ status.RACES → IsTextWhere IsRacy bytes.now }
     ensures illegal { result ≡ status.ILLEGAL → IsTextWhere IsIllegal bytes.now }
     ensures refused { result ≡ status.REFUSED → sink.new ≡ sink.old }
     ensures device { result ≡ status.DEVICE
-        → WritesFront bytes.now W.contents sink.old sink.new }
+        → WritesFront plain bytes.now W.contents sink.old sink.new }
     ensures calm { result ≢ status.DEVICE → sink_failures sink.new ≡ sink_failures sink.old }
 {
-    match find(alloc, bytes) {
+    match find(alloc, bytes, plain) {
         Ok(finding) => match write_finding(&finding, sink) {
             Ok(()) => finding.status(),
             Err(_) => status::DEVICE,

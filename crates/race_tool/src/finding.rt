@@ -3,6 +3,7 @@ ghost use Rattle.std.specs.Prelude.{◌≡◌, IfOk};
 ghost use Rattle.race_tool.specs.Finding as spec;
 ghost use Rattle.race_tool.specs.Findings.{finding_of, IsFindingOn};
 
+use crate::clocked::judge_by_clocks;
 use crate::status;
 use race_edges::{EdgeFault, Verdict, plain_judge};
 use race_records::Trace;
@@ -14,18 +15,22 @@ use std::alloc::{AllocError, Allocator};
 pub(crate) enum Finding<A: Allocator> {
     /// It is no trace: its first line at fault.
     Faulty(TextFault),
-    /// It is a trace of so many events, more than are judged.
+    /// It is a trace of so many events, more than the plain judge takes.
     TooLong(usize),
     /// It is this trace, with this verdict.
     Judged(Trace<A>, Verdict<A>),
 }
 
-/// Finds what there is to say of the bytes.
-pub(crate) fn find<A: Allocator + Copy>(alloc: A, bytes: &[u8]) -> Result<Finding<A>, AllocError>
-    ensures { IfOk result (λ finding. spec.IsFinding bytes.now (finding_of finding)) }
+/// Finds what there is to say of the bytes, by the plain judge or by clocks.
+pub(crate) fn find<A: Allocator + Copy>(
+    alloc: A,
+    bytes: &[u8],
+    plain: bool,
+) -> Result<Finding<A>, AllocError>
+    ensures { IfOk result (λ finding. spec.IsFinding plain bytes.now (finding_of finding)) }
 {
     match parse_trace(alloc, bytes) {
-        Ok(trace) => find_verdict(alloc, trace),
+        Ok(trace) => find_verdict(alloc, trace, plain),
         Err(fault) => {
             if fault.cause == TextCause::OutOfMemory {
                 Err(AllocError)
@@ -37,9 +42,17 @@ pub(crate) fn find<A: Allocator + Copy>(alloc: A, bytes: &[u8]) -> Result<Findin
 }
 
 // What there is to say of a trace.
-fn find_verdict<A: Allocator + Copy>(alloc: A, trace: Trace<A>) -> Result<Finding<A>, AllocError>
-    ensures { IfOk result (λ finding. IsFindingOn trace (finding_of finding)) }
+fn find_verdict<A: Allocator + Copy>(
+    alloc: A,
+    trace: Trace<A>,
+    plain: bool,
+) -> Result<Finding<A>, AllocError>
+    ensures { IfOk result (λ finding. IsFindingOn plain trace (finding_of finding)) }
 {
+    if !plain {
+        let verdict = judge_by_clocks(alloc, &trace)?;
+        return Ok(Finding::Judged(trace, verdict));
+    }
     let events = trace.len();
     match plain_judge(alloc, &trace) {
         Ok(verdict) => Ok(Finding::Judged(trace, verdict)),

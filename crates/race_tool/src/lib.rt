@@ -4,10 +4,13 @@
 #[cfg(test)]
 mod channel_tests;
 mod check;
+mod clocked;
 mod edges_engine;
 mod edges_found;
 mod finding;
 mod input;
+#[cfg(test)]
+mod judges_tests;
 pub mod laws;
 #[cfg(test)]
 mod lock_tests;
@@ -15,6 +18,7 @@ mod printing;
 pub mod status;
 #[cfg(test)]
 mod tests;
+mod variables;
 
 pub use check::{CheckOptions, MAX_BLOCK, MAX_SHARDS, run_check};
 pub use edges_engine::run_edges;

@@ -16,7 +16,7 @@ fn text_of(alloc: Global, row: &str) -> Result<Vec<u8>, Fail> {
     Ok(text)
 }
 
-// Checks the bytes, by the plain judge or as the default is.
+// Checks the bytes, by the plain judge or by clocks.
 fn checked(alloc: Global, bytes: &[u8], plain: bool) -> (u8, Vec<u8>) {
     let options = CheckOptions {
         plain,
@@ -238,6 +238,7 @@ struct Row {
     first: &'static str,
     writes: u32,
     check: Told,
+    plain: Told,
     edges: Told,
 }
 
@@ -256,6 +257,10 @@ static LONG_ROWS: [Row; 6] = [
             status: status::CLEAN,
             text: "clean: 2000 events, 2000 accesses",
         },
+        plain: Told {
+            status: status::CLEAN,
+            text: "clean: 2000 events, 2000 accesses",
+        },
         edges: Told {
             status: status::CLEAN,
             text: "edges: 0",
@@ -266,16 +271,24 @@ static LONG_ROWS: [Row; 6] = [
         vars: 1,
         first: "write main x0 1 p",
         writes: 2_000,
-        check: TOO_LONG,
+        check: Told {
+            status: status::CLEAN,
+            text: "clean: 2001 events, 2001 accesses",
+        },
+        plain: TOO_LONG,
         edges: TOO_LONG,
     },
-    // Length is looked at before legality.
+    // Where a trace may be too long, its length is looked at before its legality.
     Row {
         goroutines: 1,
         vars: 1,
         first: "exit main p",
         writes: 2_000,
-        check: TOO_LONG,
+        check: Told {
+            status: status::ILLEGAL,
+            text: "illegal: event 2: after end",
+        },
+        plain: TOO_LONG,
         edges: TOO_LONG,
     },
     Row {
@@ -284,6 +297,10 @@ static LONG_ROWS: [Row; 6] = [
         first: "read main x0 1 p",
         writes: 1_999,
         check: Told {
+            status: status::ILLEGAL,
+            text: "illegal: event 1: stale read",
+        },
+        plain: Told {
             status: status::ILLEGAL,
             text: "illegal: event 1: stale read",
         },
@@ -302,6 +319,10 @@ static LONG_ROWS: [Row; 6] = [
             status: status::RACES,
             text: "race on x65534: write by main at q (event 2), write by g1023 at r (event 3) / races: 1",
         },
+        plain: Told {
+            status: status::RACES,
+            text: "race on x65534: write by main at q (event 2), write by g1023 at r (event 3) / races: 1",
+        },
         edges: Told {
             status: status::CLEAN,
             text: "edge 1 main 1 g1023 / edges: 1",
@@ -313,6 +334,10 @@ static LONG_ROWS: [Row; 6] = [
         first: "go main g1 m:1 / exit main m:2 / jump g1 g:1",
         writes: 0,
         check: Told {
+            status: status::TEXT_FAULT,
+            text: "line 6: unknown word",
+        },
+        plain: Told {
             status: status::TEXT_FAULT,
             text: "line 6: unknown word",
         },
@@ -333,6 +358,7 @@ fn both_engines_tell_of_traces_up_to_each_limit(rt: HostRuntime) -> Result<(), F
         }
         for (answer, want) in [
             (checked(rt.alloc(), text.as_slice(), false), &row.check),
+            (checked(rt.alloc(), text.as_slice(), true), &row.plain),
             (listed(rt.alloc(), text.as_slice()), &row.edges),
         ] {
             let report = text_of(rt.alloc(), want.text)?;

@@ -2,7 +2,6 @@
 ghost use Rattle.std.specs.Prelude.{◌≡◌, ◌<◌, ◌≤◌, ◌↔◌, [], ◌∷◌, ◌++◌, length, IsTrue, IfSome, Some, slice_get, IsErr, OnOk, OnErr};
 ghost use Rattle.race_records.specs.Cases as spec;
 
-use arrayvec::ArrayVec;
 use std::marker::Model;
 use thiserror::Error;
 
@@ -41,22 +40,24 @@ pub struct CasesFull;
 /// The cases of a select in order, at most 16. They lie in place, so that an event stays small.
 #[derive(Debug, Drop)]
 pub struct Cases {
-    // The number of each case's channel, or `NIL`.
-    chans: ArrayVec<u16, MAX_CASES>,
+    // The number of each case's channel, or `NIL`. What stands behind the last case says nothing.
+    chans: [u16; MAX_CASES],
     // Bit k is set where case k sends.
     sends: u16,
+    // How many cases there are. An `ArrayVec` would count them in eight bytes.
+    count: u16,
 }
 
 impl Model for Cases {
-    ghost use Rattle.std.specs.Prelude.{◌<◌, ◌≤◌, ◌^◌, List, length};
+    ghost use Rattle.std.specs.Prelude.{◌<◌, ◌≤◌, ◌^◌, List, take};
     ghost use Rattle.race_records.specs.declared.cases.Case.{Case};
     ghost use Rattle.race_records.specs.Cases.{cases_of};
 
     ghost Value = { List Case };
 
-    ghost view = { λ c. cases_of c.chans.items c.sends };
+    ghost view = { λ c. cases_of (take c.count c.chans) c.sends };
 
-    ghost invariant = { λ c. (length c.chans.items ≤ 16) × (c.sends < 2 ^ length c.chans.items) };
+    ghost invariant = { λ c. (c.count ≤ 16) × (c.sends < 2 ^ c.count) };
 }
 
 impl Cases {
@@ -65,8 +66,9 @@ impl Cases {
         ensures { result ≡ [] }
     {
         Cases {
-            chans: ArrayVec::new(),
+            chans: [0; MAX_CASES],
             sends: 0,
+            count: 0,
         }
     }
 
@@ -76,11 +78,10 @@ impl Cases {
         ensures same { result ≡ self.now }
         ensures few { length self.now ≤ MAX_CASES }
     {
-        let mut chans = ArrayVec::new();
-        let _ = chans.try_extend_from_slice(self.chans.as_slice());
         Cases {
-            chans,
+            chans: self.chans,
             sends: self.sends,
+            count: self.count,
         }
     }
 
@@ -90,7 +91,7 @@ impl Cases {
         ensures len { result ≡ length self.now }
         ensures few { result ≤ MAX_CASES }
     {
-        self.chans.len()
+        self.count as usize
     }
 
     /// Whether there is none.
@@ -106,7 +107,7 @@ impl Cases {
         requires { k < length self.now }
         ensures { slice_get self.now k ≡ Some result }
     {
-        case_in(self.chans.as_slice(), self.sends, k)
+        case_in(&self.chans[..self.len()], self.sends, k)
     }
 
     /// Puts a case last. A channel's number is at most 65,534.
@@ -116,13 +117,13 @@ impl Cases {
         ensures pushed { OnOk result (self.new ≡ self.old ++ case ∷ []) }
         ensures err { OnErr result (self.new ≡ self.old) }
     {
-        let len = self.chans.len();
-        if len == MAX_CASES {
+        if self.len() == MAX_CASES {
             return Err(CasesFull);
         }
         let (bit, number) = numbers_of(case);
-        self.sends += bit << len;
-        self.chans.push(number);
+        self.chans[self.len()] = number;
+        self.sends += bit << self.count;
+        self.count += 1;
         Ok(())
     }
 }

@@ -5,12 +5,13 @@ use crate::Cases;
 /// One event of a trace: who did what, and where in the source.
 ///
 /// Goroutines, objects and places are numbers of the trace's declarations.
+// The operation stands first: it alone holds a number of 64 bits, so that nothing is left blank.
 #[derive(Debug, PartialEq, Eq, Drop)]
 pub struct Event {
+    /// What was done.
+    pub op: Op,
     /// The goroutine whose event it is.
     pub who: u32,
-    /// What it did.
-    pub op: Op,
     /// Where in the source.
     pub place: u32,
     /// Where the receiver of a `Meet` stood; no other event has it.

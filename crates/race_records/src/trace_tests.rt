@@ -184,7 +184,7 @@ fn traces_are_equal_by_the_texts_of_their_places(rt: HostRuntime) -> Result<(), 
 
 #[test]
 fn an_event_is_small(rt: HostRuntime) {
-    assert!(rt; size_of::<Event>() <= 80);
+    assert!(rt; size_of::<Event>() <= 56);
 }
 
 // What case number k is: all three forms take turns, and no two cases are the same.

@@ -1,0 +1,13 @@
+use Rattle.std.proofs.Common.{◌≡◌, length, take, List, slice_get, sym, ap, ◌∙◌}
+use Rattle.race_records.specs.declared.cases.Case.{Case}
+use Rattle.race_records.specs.Cases.{cases_of}
+use Rattle.race_records.proofs.CaseLemmas.{counted_len}
+use Rattle.race_records.proofs.cases.Cases.get.Goals as goal
+
+pub returns : goal.returns
+returns c =
+    let chans = c.self.inside.chans in
+    let sends = c.self.inside.sends in
+    let len = counted_len chans sends c.self.inside.count c.self.told c.self.invariant.0 in
+    let counted : c.self.inside.count ≡ c.len.result = sym len ∙ ap (λ (cases : List Case). length cases) c.self.view_is ∙ sym c.len.ensures.len in
+    ap (λ cases. slice_get cases c.args.k) (sym c.self.view_is ∙ ap (λ n. cases_of (take n chans) sends) counted) ∙ c.case_in.ensures

@@ -83,7 +83,7 @@ fn goroutine_of(part: Part) -> Option<u32>
 }
 
 // The operation of the word whose parts are of these kinds, and what is left behind it. Most are on
-// an object and with a value, and these are read with no list of their parts in memory.
+// an object, alone or with a value, and these are read with no list of their parts in memory.
 #[inline(always)]
 fn next_op<'a, A: Allocator>(
     decls: &Decls<A>,
@@ -101,6 +101,11 @@ fn next_op<'a, A: Allocator>(
             let (object, rest) = next_part(decls, PartKind::Object(*kind), rest)?;
             let (value, rest) = next_part(decls, PartKind::Value, rest)?;
             let op = op_by(verb, [object, value].as_slice())?;
+            Some((op, rest))
+        }
+        [kind] => {
+            let (part, rest) = next_part(decls, *kind, rest)?;
+            let op = op_by(verb, [part].as_slice())?;
             Some((op, rest))
         }
         _ => other_op(decls, verb, kinds, rest),

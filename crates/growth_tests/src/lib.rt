@@ -18,4 +18,6 @@ mod records;
 #[cfg(test)]
 mod replays;
 #[cfg(test)]
+mod stamps;
+#[cfg(test)]
 mod texts;

@@ -1,5 +1,6 @@
 //! Both judges on many small traces.
-ghost use Rattle.std.specs.Prelude.{◌<◌};
+ghost use Rattle.std.specs.Prelude.{◌<◌, IfOk};
+ghost use Rattle.race_legal.specs.StandsFor.{StandsFor};
 
 use crate::clocked::judge_by_clocks;
 use race_edges::{Verdict, plain_judge};
@@ -10,6 +11,9 @@ use std::test::Fail;
 
 // How many operations there are.
 const KINDS: u32 = 18;
+
+// A trace has no more events than this.
+const MOST_EVENTS: usize = 200;
 
 // Numbers that look like chance: a linear congruence modulo 2^64, of which the upper half is taken.
 #[derive(Clone, Copy, Debug)]
@@ -116,6 +120,22 @@ fn next(numbers: &mut Numbers) -> (u32, Event) {
     (kind, event)
 }
 
+// Puts the event behind the trace where it is legal there, and tells whether it is.
+fn tried(trace: &mut Trace, replay: &mut Replay, event: Event) -> Result<bool, Fail>
+    requires { StandsFor trace.old.decls.declarations replay.old trace.old.events }
+    ensures { IfOk result (λ _.
+        StandsFor trace.new.decls.declarations replay.new trace.new.events) }
+{
+    if trace.len() >= MOST_EVENTS || !trace.decls().fits(&event) {
+        return Ok(false);
+    }
+    let Ok(()) = replay.accept(&event) else {
+        return Ok(false);
+    };
+    trace.push(event)?;
+    Ok(true)
+}
+
 // A legal trace: of so many events that are tried those that a replay accepts. And a bit for each
 // kind of operation in it.
 fn recorded(alloc: Global, numbers: &mut Numbers, tries: u32) -> Result<(Trace, u32), Fail> {
@@ -124,8 +144,7 @@ fn recorded(alloc: Global, numbers: &mut Numbers, tries: u32) -> Result<(Trace, 
     let mut kinds = 0u32;
     for _ in 0..tries {
         let (kind, event) = next(numbers);
-        if trace.len() < 200 && trace.decls().fits(&event) && replay.accept(&event).is_ok() {
-            trace.push(event)?;
+        if tried(&mut trace, &mut replay, event)? {
             kinds |= 1u32.wrapping_shl(kind);
         }
     }

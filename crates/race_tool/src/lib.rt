@@ -13,6 +13,8 @@ mod input;
 mod judges_tests;
 pub mod laws;
 #[cfg(test)]
+mod limit_tests;
+#[cfg(test)]
 mod lock_tests;
 mod printing;
 pub mod status;

@@ -7,7 +7,7 @@ use std::process::Abort;
 use std::test::Fail;
 
 // The lines of a row, each with its newline.
-fn text_of(alloc: Global, row: &str) -> Result<Vec<u8>, Fail> {
+pub(crate) fn text_of(alloc: Global, row: &str) -> Result<Vec<u8>, Fail> {
     let mut text = Vec::new(alloc);
     for line in row.split(" / ") {
         text.extend_from_slice(line.as_bytes())?;
@@ -17,7 +17,7 @@ fn text_of(alloc: Global, row: &str) -> Result<Vec<u8>, Fail> {
 }
 
 // Checks the bytes, by the plain judge or by clocks.
-fn checked(alloc: Global, bytes: &[u8], plain: bool) -> (u8, Vec<u8>) {
+pub(crate) fn checked(alloc: Global, bytes: &[u8], plain: bool) -> (u8, Vec<u8>) {
     let options = CheckOptions {
         plain,
         ..CheckOptions::default()
@@ -30,7 +30,7 @@ fn checked(alloc: Global, bytes: &[u8], plain: bool) -> (u8, Vec<u8>) {
 }
 
 // Lists the edges of the bytes.
-fn listed(alloc: Global, bytes: &[u8]) -> (u8, Vec<u8>) {
+pub(crate) fn listed(alloc: Global, bytes: &[u8]) -> (u8, Vec<u8>) {
     let mut source = Source::new(bytes);
     let mut output = Vec::new(alloc);
     let mut sink = Sink::new(&mut output);
@@ -211,162 +211,6 @@ fn a_text_ends_with_a_newline(rt: HostRuntime) {
         assert_eq!(rt; answer, status::TEXT_FAULT);
         assert_eq!(rt; output.as_slice(), report);
     }
-}
-
-// The lines before the first event: so many goroutines, main among them, and so many variables.
-fn declarations_of(alloc: Global, goroutines: u32, vars: u32) -> Result<Vec<u8>, Fail> {
-    let mut text = text_of(alloc, "gotrace 1")?;
-    for number in 1..goroutines {
-        text.extend_from_slice(format!(in alloc; "goroutine g{number}\n")?.as_bytes())?;
-    }
-    for number in 0..vars {
-        text.extend_from_slice(format!(in alloc; "var x{number}\n")?.as_bytes())?;
-    }
-    Ok(text)
-}
-
-// What each engine writes of a trace.
-struct Told {
-    status: u8,
-    text: &'static str,
-}
-
-// A first line or more behind so many goroutines and variables, and so many writes behind it.
-struct Row {
-    goroutines: u32,
-    vars: u32,
-    first: &'static str,
-    writes: u32,
-    check: Told,
-    plain: Told,
-    edges: Told,
-}
-
-const TOO_LONG: Told = Told {
-    status: status::USAGE,
-    text: "too long: 2001 events",
-};
-
-static LONG_ROWS: [Row; 6] = [
-    Row {
-        goroutines: 1,
-        vars: 1,
-        first: "write main x0 1 p",
-        writes: 1_999,
-        check: Told {
-            status: status::CLEAN,
-            text: "clean: 2000 events, 2000 accesses",
-        },
-        plain: Told {
-            status: status::CLEAN,
-            text: "clean: 2000 events, 2000 accesses",
-        },
-        edges: Told {
-            status: status::CLEAN,
-            text: "edges: 0",
-        },
-    },
-    Row {
-        goroutines: 1,
-        vars: 1,
-        first: "write main x0 1 p",
-        writes: 2_000,
-        check: Told {
-            status: status::CLEAN,
-            text: "clean: 2001 events, 2001 accesses",
-        },
-        plain: TOO_LONG,
-        edges: TOO_LONG,
-    },
-    // Where a trace may be too long, its length is looked at before its legality.
-    Row {
-        goroutines: 1,
-        vars: 1,
-        first: "exit main p",
-        writes: 2_000,
-        check: Told {
-            status: status::ILLEGAL,
-            text: "illegal: event 2: after end",
-        },
-        plain: TOO_LONG,
-        edges: TOO_LONG,
-    },
-    Row {
-        goroutines: 1,
-        vars: 1,
-        first: "read main x0 1 p",
-        writes: 1_999,
-        check: Told {
-            status: status::ILLEGAL,
-            text: "illegal: event 1: stale read",
-        },
-        plain: Told {
-            status: status::ILLEGAL,
-            text: "illegal: event 1: stale read",
-        },
-        edges: Told {
-            status: status::ILLEGAL,
-            text: "illegal: event 1: stale read",
-        },
-    },
-    // The last goroutine and the last variable that can be declared.
-    Row {
-        goroutines: 1_024,
-        vars: 65_535,
-        first: "go main g1023 p / write main x65534 1 q / write g1023 x65534 2 r",
-        writes: 0,
-        check: Told {
-            status: status::RACES,
-            text: "race on x65534: write by main at q (event 2), write by g1023 at r (event 3) / races: 1",
-        },
-        plain: Told {
-            status: status::RACES,
-            text: "race on x65534: write by main at q (event 2), write by g1023 at r (event 3) / races: 1",
-        },
-        edges: Told {
-            status: status::CLEAN,
-            text: "edge 1 main 1 g1023 / edges: 1",
-        },
-    },
-    Row {
-        goroutines: 3,
-        vars: 0,
-        first: "go main g1 m:1 / exit main m:2 / jump g1 g:1",
-        writes: 0,
-        check: Told {
-            status: status::TEXT_FAULT,
-            text: "line 6: unknown word",
-        },
-        plain: Told {
-            status: status::TEXT_FAULT,
-            text: "line 6: unknown word",
-        },
-        edges: Told {
-            status: status::TEXT_FAULT,
-            text: "line 6: unknown word",
-        },
-    },
-];
-
-#[test]
-fn both_engines_tell_of_traces_up_to_each_limit(rt: HostRuntime) -> Result<(), Fail> {
-    for row in &LONG_ROWS {
-        let mut text = declarations_of(rt.alloc(), row.goroutines, row.vars)?;
-        text.extend_from_slice(text_of(rt.alloc(), row.first)?.as_slice())?;
-        for _ in 0..row.writes {
-            text.extend_from_slice(b"write main x0 1 p\n")?;
-        }
-        for (answer, want) in [
-            (checked(rt.alloc(), text.as_slice(), false), &row.check),
-            (checked(rt.alloc(), text.as_slice(), true), &row.plain),
-            (listed(rt.alloc(), text.as_slice()), &row.edges),
-        ] {
-            let report = text_of(rt.alloc(), want.text)?;
-            assert_eq!(rt; answer.0, want.status, "{}", want.text);
-            assert_eq!(rt; answer.1.as_slice(), report.as_slice());
-        }
-    }
-    Ok(())
 }
 
 // Lists the edges of the rows, all of which are legal.

@@ -175,6 +175,7 @@ pub fn rwmutex_of(op: &Op) -> Option<u32>
 }
 
 /// The operation that says so, where there is one.
+#[inline(always)]
 pub fn op_by(verb: Verb, parts: &[Part]) -> Option<Op>
     ensures { result ≡ spec.op_by verb parts.now }
 {
@@ -213,6 +214,7 @@ pub fn op_by(verb: Verb, parts: &[Part]) -> Option<Op>
 }
 
 // The number of the object of the kind, where the parts are that.
+#[inline(always)]
 fn object_alone(kind: Kind, parts: &[Part]) -> Option<u32>
     ensures { result ≡ spec.object_alone kind parts.now }
 {
@@ -223,6 +225,7 @@ fn object_alone(kind: Kind, parts: &[Part]) -> Option<u32>
 }
 
 // The number of the object of the kind and the value, where the parts are these.
+#[inline(always)]
 fn object_value(kind: Kind, parts: &[Part]) -> Option<(u32, u64)>
     ensures { result ≡ spec.object_value kind parts.now }
 {

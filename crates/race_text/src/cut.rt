@@ -33,6 +33,7 @@ fn is_bad_byte(byte: u8) -> bool
 
 // The first word of a line and what is left behind it, in one pass. Nothing where the word has a
 // byte that can't be seen.
+#[inline(always)]
 pub(crate) fn cut_word(bytes: &[u8]) -> Option<(&[u8], Option<&[u8]>)>
     ensures { MatchOption result
         (list_all is_place_byte (first_word (spec.words_of bytes.now)) ≡ false)

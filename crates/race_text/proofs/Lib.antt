@@ -28,6 +28,7 @@ pub mod PieceLemmas
 pub mod ShortLemmas
 pub mod ReaderLemmas
 pub mod ParseLemmas
+pub mod FedLemmas
 pub mod TextLaws
 pub mod TextFine
 pub mod Scanning

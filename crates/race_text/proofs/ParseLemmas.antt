@@ -17,7 +17,7 @@ use Rattle.race_text.specs.Fault.{cause, or_later, fault_after, text_fault}
 use Rattle.race_text.proofs.WordLemmas.{both}
 use Rattle.race_text.specs.Reader.{lines_read, end_cause, IsLineOf, IsNoneBefore}
 
-abbrev told : ℕ → TextCause → TextFault
+abbrev pub told : ℕ → TextCause → TextFault
 told line c = record { line = line; cause = c }
 
 -- a part behind which another stands
@@ -38,12 +38,12 @@ fault_end before last = by ((length last == 0) && nat_lt 0 (length before))
     by false = refl
 
 -- a fault is none of the lines before
-or_later_from : (n : ℕ) (o : Option TextCause) (later : Option TextFault) (f : TextFault) → or_later n o later ≡ Some f
+pub or_later_from : (n : ℕ) (o : Option TextCause) (later : Option TextFault) (f : TextFault) → or_later n o later ≡ Some f
     → ((g : TextFault) → later ≡ Some g → n ≤ g.line) → n ≤ f.line
 or_later_from n None later f h rest = rest f h
 or_later_from n (Some c) later f h rest = let same : n ≡ f.line = ap (λ (x : TextFault). x.line) (same_Some (told n c) f h) in omega (arith, same)
 
-fault_from : (parts before : List (List ℕ)) (f : TextFault) → fault_after before parts ≡ Some f → length before + 1 ≤ f.line
+pub fault_from : (parts before : List (List ℕ)) (f : TextFault) → fault_after before parts ≡ Some f → length before + 1 ≤ f.line
 unfolding fault_after
 fault_from [] before f h = absurd (none-some f h)
 fault_from (last ∷ []) before f h = or_later_from (length before + 1) (end_cause before last) None f (sym (fault_end before last) ∙ h) (λ g e. absurd (none-some g e))
@@ -106,20 +106,8 @@ pub header_before_end : (has_header : Bool) (decls : DeclsState) (trace : Option
 header_before_end true decls trace last h = refl
 header_before_end false decls trace last h = let e = end_empty [] last h in let some = e.1 in absurd (omega (arith, some))
 
--- so many lines were read of the bytes, with no fault, and these are left
-pub record IsAt (bytes : List ℕ) (before : List (List ℕ)) (left : List ℕ) (line : ℕ) : Type 0 where
-  pub fault : fault_after before (parts_of left) ≡ text_fault bytes
-  pub bytes_are : flat_map ended before ++ left ≡ bytes
-  pub number : line ≡ length before + 1
-  pub all : length before + length (parts_of left) ≡ length (parts_of bytes)
-  pub short : line + length left ≤ length bytes + 1
-
-pub at_start : (bytes : List ℕ) → IsAt bytes [] bytes 1
-unfolding text_fault
-at_start bytes = record { fault = refl; bytes_are = refl; number = refl; all = omega arith; short = omega arith }
-
 -- a part that a newline ends
-cut_joined : (left part others : List ℕ) → parts_of left ≡ part ∷ parts_of others → left ≡ part ++ 10 ∷ others
+pub cut_joined : (left part others : List ℕ) → parts_of left ≡ part ∷ parts_of others → left ≡ part ++ 10 ∷ others
 cut_joined left part others e = sym (join_with_byte-slice_split 10 left) ∙ ap (join_with_byte 10) e ∙ by (parts_of others) some (join_with_byte-slice_split 10 others)
   where
     some : 0 < length (parts_of others)
@@ -128,55 +116,3 @@ cut_joined left part others e = sym (join_with_byte-slice_split 10 left) ∙ ap 
     by : (ps : List (List ℕ)) → 0 < length ps → join_with_byte 10 ps ≡ others → join_with_byte 10 (part ∷ ps) ≡ part ++ 10 ∷ others
     by [] h e = absurd (omega arith)
     by (p ∷ ps) h e = ap (λ l. part ++ 10 ∷ l) e
-
-module _ (bytes : List ℕ) (before : List (List ℕ)) (left : List ℕ) (line : ℕ) (at : IsAt bytes before left line) where
-  pub is_line : IsLineOf bytes line
-  is_line = let n = at.number in let all = at.all in let some = length-slice_split (λ b. b == 10) left in (omega (arith, n), omega (arith, n, all, some))
-
-  pub none_before : IsNoneBefore line (text_fault bytes)
-  none_before f h = let from = fault_from (parts_of left) before f (at.fault ∙ h) in let n = at.number in omega (arith, from, n)
-
-  module _ (part others : List ℕ) (parts : parts_of left ≡ part ∷ parts_of others) where
-    step_is : text_fault bytes ≡ or_later (length before + 1) (cause before part true) (fault_after (before ++ part ∷ []) (parts_of others))
-    step_is = sym at.fault ∙ ap (fault_after before) parts
-        ∙ fault_step before part (parts_of others) (let l = length-slice_split (λ b. b == 10) others in omega (arith, l))
-
-    shorter_by : length left ≡ length part + length others + 1
-    shorter_by = let l = ap length (cut_joined left part others parts) ∙ length-append part (10 ∷ others) in omega (arith, l)
-
-    pub is_shorter : length others < length left
-    is_shorter = let l = shorter_by in omega (arith, l)
-
-    pub number_fits : line + 1 ≤ length bytes + 1
-    number_fits = let l = shorter_by in let short = at.short in omega (arith, l, short)
-
-    -- a fault is told at its line
-    pub told_at : (c : TextCause) → cause before part true ≡ Some c → text_fault bytes ≡ Some (told line c)
-    told_at c h = step_is ∙ (λ i. or_later (sym at.number i) (h i) (fault_after (before ++ part ∷ []) (parts_of others)))
-
-    -- and where there is none, the next line is read
-    pub at_next : (after : List (List ℕ)) → after ≡ before ++ part ∷ [] → cause before part true ≡ None → IsAt bytes after others (line + 1)
-    at_next after e h = record {
-      fault = ap (λ b. fault_after b (parts_of others)) e ∙ sym (step_is ∙ ap (λ o. or_later (length before + 1) o (fault_after (before ++ part ∷ []) (parts_of others))) h);
-      bytes_are = ap (λ b. flat_map ended b ++ others) e
-          ∙ ap (λ b. b ++ others) (flat_map-append ended before (part ∷ []) ∙ ap (λ l. flat_map ended before ++ l) (append-nil (ended part)))
-          ∙ append_assoc (flat_map ended before) (ended part) others
-          ∙ ap (λ l. flat_map ended before ++ l) (append_assoc part (10 ∷ []) others ∙ sym (cut_joined left part others parts))
-          ∙ at.bytes_are;
-      number = let n = at.number in let l = ap length e ∙ length-append before (part ∷ []) in omega (arith, n, l);
-      all = let all = at.all in let cut = ap length parts in let l = ap length e ∙ length-append before (part ∷ []) in omega (arith, all, cut, l);
-      short = let l = shorter_by in let short = at.short in omega (arith, l, short);
-    }
-
-  module _ (last : List ℕ) (parts : parts_of left ≡ last ∷ []) where
-    end_is : text_fault bytes ≡ or_later (length before + 1) (end_cause before last) None
-    end_is = sym at.fault ∙ ap (fault_after before) parts ∙ fault_end before last
-
-    pub end_told_at : (c : TextCause) → end_cause before last ≡ Some c → text_fault bytes ≡ Some (told line c)
-    end_told_at c h = end_is ∙ (λ i. or_later (sym at.number i) (h i) None)
-
-    -- then nothing is left
-    pub end_bytes : end_cause before last ≡ None → bytes ≡ flat_map ended before
-    end_bytes h =
-        let none_left : left ≡ [] = sym (join_with_byte-slice_split 10 left) ∙ ap (join_with_byte 10) parts ∙ no_bytes last (end_empty before last h).0 in
-        sym at.bytes_are ∙ ap (λ l. flat_map ended before ++ l) none_left ∙ append-nil _

@@ -1,5 +1,5 @@
 -- The laws of trace text, which functions of src/laws.rt that do nothing have as their contracts.
-use Rattle.std.specs.Prelude.{◌≡◌, ℕ, List, ◌∷◌, Some, None}
+use Rattle.std.specs.Prelude.{◌≡◌, ℕ, List, ◌∷◌, ◌++◌, Some, None}
 use Rattle.race_records.specs.declared.event.Op.{Op}
 use Rattle.race_records.specs.declared.kind.Object.{Object}
 use Rattle.race_records.specs.declared.nouns.Noun.{Noun}
@@ -9,11 +9,13 @@ use Rattle.race_records.specs.Events.{TraceState}
 use Rattle.race_records.specs.Nouns.{object_says}
 use Rattle.race_records.specs.Parts.{says}
 use Rattle.race_records.specs.TraceEquality.{recorded}
+use Rattle.race_text.specs.declared.cause.TextFault.{TextFault}
 use Rattle.race_text.specs.declared.form.Word.{Word}
 use Rattle.race_text.specs.Form.{word_named}
 use Rattle.race_text.specs.Writing.{noun_text, number_words, verb_text, said_words}
 use Rattle.race_text.specs.Text.{object_words, op_words, text, HasText, IsTextOf, IsTraceText}
 use Rattle.race_text.specs.Fault.{text_fault}
+use Rattle.race_text.specs.Fed.{ended_fault}
 
 -- every trace whose text the bytes are records what t records; that t is one isn't said
 abbrev pub IsOnlyTraceOf : List ℕ → TraceState → Type 0
@@ -40,3 +42,7 @@ FaultlessBytesAreTexts = (bytes : List ℕ) → text_fault bytes ≡ None → Is
 -- traces with equal texts record the same: declarations, and events with the texts of their places
 abbrev pub EqualTextsAreOfEqualTraces : Type 0
 EqualTextsAreOfEqualTraces = (t u : TraceState) → HasText t → HasText u → text t ≡ text u → recorded t ≡ recorded u
+
+-- the first fault of the lines that are ended is the whole text's, whatever follows
+abbrev pub EndedFaultsStay : Type 0
+EndedFaultsStay = (bytes more : List ℕ) (fault : TextFault) → ended_fault bytes ≡ Some fault → text_fault (bytes ++ more) ≡ Some fault

@@ -7,6 +7,7 @@ pub mod Declaring
 pub mod Reading
 pub mod Taking
 pub mod Reader
+pub mod Fed
 pub mod Laws
 pub mod Examples
 pub mod Writing

@@ -1,5 +1,6 @@
 //! The laws of trace text. Each function does nothing, and its contract is the law.
 ghost use Rattle.race_text.specs.Laws.{
+  EndedFaultsStay,
   EqualTextsAreOfEqualTraces,
   FaultlessBytesAreTexts,
   LinesFollowTheTables,
@@ -24,4 +25,9 @@ pub fn faultless_bytes_are_texts()
 /// Equal texts come from equal traces.
 pub fn equal_texts_are_of_equal_traces()
     ensures { EqualTextsAreOfEqualTraces }
+{}
+
+/// The first fault of the lines that are ended is the whole text's, whatever follows.
+pub fn ended_faults_stay()
+    ensures { EndedFaultsStay }
 {}

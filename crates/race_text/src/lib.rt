@@ -8,11 +8,14 @@ mod cut;
 mod declaration;
 mod event;
 pub mod examples;
+#[cfg(test)]
+mod feeding_tests;
 mod fields;
 mod finder;
 mod form;
 mod lanes;
 pub mod laws;
+mod line_reader;
 #[cfg(test)]
 mod lock_tests;
 mod number;
@@ -29,6 +32,9 @@ pub use declaration::read_declaration;
 pub use event::Draft;
 #[doc(hidden)]
 pub use form::{Field, Word};
+pub use line_reader::LineReader;
+#[doc(hidden)]
+pub use line_reader::Lines;
 pub use number::read_number;
 pub use parse::parse_trace;
 pub use race_records::{WriteFault, is_name, is_place};

@@ -6,8 +6,7 @@ ghost use Rattle.race_text.specs.Laws.{IsOnlyTraceOf};
 ghost use Rattle.race_text.specs.Reader.{IsLineOf, IsNoneBefore};
 
 use crate::cause::{TextCause, TextFault};
-use crate::cut::cut_at;
-use crate::reader::Reader;
+use crate::line_reader::LineReader;
 use race_records::Trace;
 use std::alloc::Allocator;
 
@@ -25,23 +24,7 @@ pub fn parse_trace<A: Allocator + Copy>(alloc: A, bytes: &[u8]) -> Result<Trace<
     ensures memory { IfErr result (λ told. IsNoneBefore told.line (text_fault bytes.now)) }
     ensures line { IfErr result (λ told. IsLineOf bytes.now told.line) }
 {
-    let mut reader = Reader::new(alloc);
-    let mut left = bytes;
-    let mut line = 1;
-    loop {
-        let (part, rest) = cut_at(left, b'\n');
-        match rest {
-            None => match reader.end_cause(part) {
-                Some(cause) => return Err(TextFault { line, cause }),
-                None => return Ok(reader.into_trace()),
-            },
-            Some(others) => match reader.take_line(part) {
-                Err(cause) => return Err(TextFault { line, cause }),
-                Ok(()) => {
-                    line += 1;
-                    left = others;
-                }
-            },
-        }
-    }
+    let mut reader = LineReader::new(alloc);
+    reader.feed(bytes)?;
+    reader.finish()
 }

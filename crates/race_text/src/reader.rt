@@ -1,5 +1,5 @@
 //! A trace that is read line by line.
-ghost use Rattle.std.specs.Prelude.{◌≡◌, ◌≢◌, [], true, false, Some, None, MatchResult, OnOk};
+ghost use Rattle.std.specs.Prelude.{◌≡◌, ◌≢◌, ◌+◌, [], length, true, false, Some, None, MatchResult, OnOk};
 ghost use Rattle.race_text.specs.Fault as fault;
 ghost use Rattle.race_text.specs.Text.{HasText, lines};
 ghost use Rattle.race_text.specs.Taking.{IsRead, begun};
@@ -57,6 +57,20 @@ impl<A: Allocator + Copy> Reader<A> {
         match &mut self.trace {
             Some(trace) => take_event(trace, line),
             None => self.take_before_events(line),
+        }
+    }
+
+    // The number of the line that comes next, counted from 1.
+    pub(crate) fn line(&self) -> u64
+        requires { spec.IsReading self.now.has_header self.now.decls self.now.trace }
+        ensures { result ≡ length (spec.lines_read self.now.has_header self.now.decls self.now.trace) + 1 }
+    {
+        if !self.has_header {
+            return 1;
+        }
+        match &self.trace {
+            Some(trace) => trace.decls().len() as u64 + trace.len() as u64 + 2,
+            None => self.decls.len() as u64 + 2,
         }
     }
 

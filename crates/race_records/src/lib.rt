@@ -4,8 +4,6 @@
 mod alike;
 mod cases;
 mod declarations;
-#[cfg(test)]
-mod device_tests;
 mod event;
 mod indexes;
 mod kind;
@@ -17,11 +15,7 @@ mod parts;
 mod places;
 mod sink;
 mod source;
-#[cfg(test)]
-mod tests;
 mod trace;
-#[cfg(test)]
-mod trace_tests;
 
 pub use cases::{Case, Cases, CasesFull, Dir, MAX_CASES};
 pub use declarations::{DeclFault, Decls, MAX_PLACES};

@@ -1,10 +1,11 @@
-use crate::{DeclFault, Decls, Kind, Named, Object, is_name, is_place};
+use race_records::{DeclFault, Decls, Kind, Named, Object, is_name, is_place};
 use std::alloc::Global;
 use std::test::Fail;
 
-// A check of these tests takes long where a test carries much from call to call. So each public call
-// stands once, most in functions without a contract, and a test is a loop over a table that stands
-// apart, with one assertion.
+// A check of these tests takes long where a function carries much from call to call. So each public
+// call stands once, most in functions without a contract, and a test is a loop over a table that stands
+// apart, with one assertion. Each place where a function lets go of declarations or of a trace costs
+// seconds, so most functions borrow them.
 
 static WORDS: [(&str, bool, bool); 11] = [
     ("w", true, true),
@@ -63,20 +64,38 @@ pub(crate) fn add(decls: &mut Decls, addition: Addition) -> Result<u32, DeclFaul
     }
 }
 
+// Declarations to which all this is added.
+pub(crate) fn declared(alloc: Global, additions: &[Addition]) -> Result<Decls, DeclFault> {
+    let mut decls = Decls::new(alloc);
+    add_all(&mut decls, additions)?;
+    Ok(decls)
+}
+
+fn add_all(decls: &mut Decls, additions: &[Addition]) -> Result<(), DeclFault> {
+    for addition in additions {
+        add(decls, *addition)?;
+    }
+    Ok(())
+}
+
+// How many values fit into the channel, where there is one.
+fn capacity(decls: &Decls, chan: u32) -> Option<u32> {
+    if chan < decls.count(Kind::Chan) {
+        Some(decls.capacity(chan))
+    } else {
+        None
+    }
+}
+
 // How many declarations there are, and how many goroutines, variables and places, and how many values
 // fit into the first channel.
 fn sizes(decls: &Decls) -> (usize, u32, u32, u32, Option<u32>) {
-    let room = if decls.count(Kind::Chan) > 0 {
-        Some(decls.capacity(0))
-    } else {
-        None
-    };
     (
         decls.len(),
         decls.count(Kind::Goroutine),
         decls.count(Kind::Var),
         decls.place_count(),
-        room,
+        capacity(decls, 0),
     )
 }
 
@@ -151,21 +170,15 @@ fn declares_in_order(rt: HostRuntime) {
 }
 
 // Two goroutines, two variables, a mutex, an rwmutex and a once.
-fn declared(alloc: Global) -> Result<Decls, DeclFault> {
-    let mut decls = Decls::new(alloc);
-    for addition in [
-        Addition::Goroutine("w"),
-        Addition::Var("x"),
-        Addition::Goroutine("v"),
-        Addition::Var("y"),
-        Addition::Lock("m", false),
-        Addition::Once("o"),
-        Addition::Lock("l", true),
-    ] {
-        add(&mut decls, addition)?;
-    }
-    Ok(decls)
-}
+static SEVEN: [Addition; 7] = [
+    Addition::Goroutine("w"),
+    Addition::Var("x"),
+    Addition::Goroutine("v"),
+    Addition::Var("y"),
+    Addition::Lock("m", false),
+    Addition::Once("o"),
+    Addition::Lock("l", true),
+];
 
 // What the name stands for, and the name of that.
 fn found<'a>(decls: &'a Decls, name: &str) -> Option<(Named, &'a str)> {
@@ -187,7 +200,8 @@ fn declared_at(decls: &Decls, index: usize) -> Option<(Named, Object, &str)> {
     }
 }
 
-static DECLARED: [(&str, Option<(Named, &str)>, Option<(Named, Object, &str)>); 9] = [
+// Of each of the seven, and of two names more: what is found by the name, and what stands at the index.
+static FOUND: [(&str, Option<(Named, &str)>, Option<(Named, Object, &str)>); 9] = [
     (
         "w",
         Some((Named::Goroutine(1), "w")),
@@ -240,12 +254,12 @@ fn is_rw(decls: &Decls, lock: u32) -> Option<bool> {
 
 #[test]
 fn declarations_are_found_again(rt: HostRuntime) -> Result<(), Fail> {
-    let decls = declared(rt.alloc())?;
+    let decls = declared(rt.alloc(), &SEVEN)?;
     for (lock, rw) in [(0, Some(false)), (1, Some(true)), (2, None)] {
         assert_eq!(rt; is_rw(&decls, lock), rw, "{lock}");
     }
-    for index in 0..DECLARED.len() {
-        let (name, named, told) = DECLARED[index];
+    for index in 0..FOUND.len() {
+        let (name, named, told) = FOUND[index];
         let answer = (found(&decls, name), declared_at(&decls, index));
         assert_eq!(rt; answer, (named, told), "{name}");
     }
@@ -255,9 +269,7 @@ fn declarations_are_found_again(rt: HostRuntime) -> Result<(), Fail> {
 // A copy to which all this is added.
 fn copied(decls: &Decls, additions: &[Addition]) -> Result<Decls, Fail> {
     let mut copy = decls.copy()?;
-    for addition in additions {
-        add(&mut copy, *addition)?;
-    }
+    add_all(&mut copy, additions)?;
     Ok(copy)
 }
 
@@ -266,10 +278,9 @@ fn are_equal(decls: &Decls, others: &Decls) -> bool {
 }
 
 // Whether declarations are equal to a copy to which all this is added.
-fn is_equal_with(alloc: Global, additions: &[Addition]) -> Result<bool, Fail> {
-    let decls = declared(alloc)?;
-    let copy = copied(&decls, additions)?;
-    Ok(are_equal(&decls, &copy))
+fn is_equal_with(decls: &Decls, additions: &[Addition]) -> Result<bool, Fail> {
+    let copy = copied(decls, additions)?;
+    Ok(are_equal(decls, &copy))
 }
 
 static ADDED: [Addition; 4] = [
@@ -281,8 +292,9 @@ static ADDED: [Addition; 4] = [
 
 #[test]
 fn equal_by_declarations_alone(rt: HostRuntime) -> Result<(), Fail> {
+    let decls = declared(rt.alloc(), &SEVEN)?;
     for (count, equal) in [(0, true), (1, true), (2, true), (3, true), (4, false)] {
-        let answer = is_equal_with(rt.alloc(), &ADDED[..count])?;
+        let answer = is_equal_with(&decls, &ADDED[..count])?;
         assert_eq!(rt; answer, equal, "{count}");
     }
     Ok(())

@@ -1,16 +1,13 @@
-use crate::tests::{Addition, add};
-use crate::{Case, Cases, CasesFull, Cause, DeclFault, Decls, Dir, Event, Op, PushFault, Trace};
+use crate::declarations::{Addition, declared};
+use race_records::{Case, Cases, CasesFull, Cause, DeclFault, Dir, Event, Op, PushFault, Trace};
 use std::alloc::Global;
 use std::mem::size_of;
+use std::process::Abort;
 use std::test::Fail;
 
 // A trace with room for an event, to whose declarations all this is added.
 fn started(alloc: Global, additions: &[Addition]) -> Result<Trace, Fail> {
-    let mut decls = Decls::new(alloc);
-    for addition in additions {
-        add(&mut decls, *addition)?;
-    }
-    let mut trace = Trace::new(decls);
+    let mut trace = Trace::new(declared(alloc, additions)?);
     trace.reserve()?;
     Ok(trace)
 }
@@ -45,13 +42,17 @@ fn a_place_of_a_trace_is_found_again(rt: HostRuntime) -> Result<(), Fail> {
     Ok(())
 }
 
-fn push(trace: &mut Trace, who: u32, op: Op, place: u32, place2: Option<u32>) -> Option<PushFault> {
-    let event = Event {
+// A function of its own, so that the proof of a push knows nothing of its event.
+fn event(who: u32, op: Op, place: u32, place2: Option<u32>) -> Event {
+    Event {
         who,
         op,
         place,
         place2,
-    };
+    }
+}
+
+fn push(trace: &mut Trace, event: Event) -> Option<PushFault> {
     trace.push(event).err()
 }
 
@@ -74,8 +75,17 @@ fn cases_on(dir: Dir, chan: Option<u32>) -> Cases {
     cases
 }
 
-// Events, and why a trace with a variable, a channel, a mutex, an rwmutex, a once and a place refuses
-// each.
+// A variable, a channel, a mutex, an rwmutex, a once and a place.
+static EACH: [Addition; 6] = [
+    Addition::Var("x"),
+    Addition::Chan("c", 0),
+    Addition::Lock("m", false),
+    Addition::Lock("l", true),
+    Addition::Once("o"),
+    Addition::Place("a.go:1"),
+];
+
+// Events, and why a trace with one of each refuses it.
 fn events() -> [(u32, Op, u32, Option<u32>, Option<PushFault>); 32] {
     let refused = Some(PushFault::BadNumber);
     let wrong = Some(PushFault::WrongKind);
@@ -124,20 +134,18 @@ fn events() -> [(u32, Op, u32, Option<u32>, Option<PushFault>); 32] {
     ]
 }
 
+// Tests what is answered to each of the events.
+fn push_all(rt: &impl Abort, trace: &mut Trace) {
+    for (who, op, place, place2, fault) in events() {
+        let answer = push(trace, event(who, op, place, place2));
+        assert_eq!(rt; answer, fault);
+    }
+}
+
 #[test]
 fn takes_events_that_fit(rt: HostRuntime) -> Result<(), Fail> {
-    let additions = [
-        Addition::Var("x"),
-        Addition::Chan("c", 0),
-        Addition::Lock("m", false),
-        Addition::Lock("l", true),
-        Addition::Once("o"),
-        Addition::Place("a.go:1"),
-    ];
-    let mut trace = started(rt.alloc(), &additions)?;
-    for (who, op, place, place2, fault) in events() {
-        assert_eq!(rt; push(&mut trace, who, op, place, place2), fault);
-    }
+    let mut trace = started(rt.alloc(), &EACH)?;
+    push_all(&rt, &mut trace);
     assert_eq!(rt; last(&trace), Some((13, &Op::OnceDone(0))));
     Ok(())
 }
@@ -149,9 +157,9 @@ fn trace_at(alloc: Global, places: [&str; 3], exits: bool) -> Result<Trace, Fail
     for text in places {
         place = add_place(&mut trace, text)?;
     }
-    push(&mut trace, 0, Op::Write(0, 7), place, None);
+    push(&mut trace, event(0, Op::Write(0, 7), place, None));
     if exits {
-        push(&mut trace, 0, Op::Exit, 0, None);
+        push(&mut trace, event(0, Op::Exit, 0, None));
     }
     Ok(trace)
 }

@@ -1,4 +1,4 @@
-use crate::{BLOCK, Page, Sink, Source, WriteFault};
+use race_records::{BLOCK, Page, Sink, Source, WriteFault};
 use std::io;
 use std::io::{Read, Write};
 use std::test::Fail;
@@ -40,26 +40,26 @@ impl Write for Broken {
 }
 
 #[test]
-fn failures_of_devices_are_counted(rt: HostRuntime) {
+fn failed_reads_are_counted(rt: HostRuntime) {
     let mut source = Source::new(Broken { calls: 0 });
-    let mut sink = Sink::new(Broken { calls: 0 });
     let mut block = [0u8; 2];
     for (read, failed) in [(2, 0), (2, 0), (9, 1), (0, 1)] {
-        assert_eq!(rt; source.read(&mut block).unwrap_or(9), read);
-        assert_eq!(rt; source.failures(), failed);
+        let answer = source.read(&mut block).unwrap_or(9);
+        assert_eq!(rt; (answer, source.failures()), (read, failed));
     }
-    for (text, sent, failures) in [
-        ("ab", None, 0),
-        ("abcd", Some(2), 1),
-        ("", None, 1),
-        ("ab", Some(0), 2),
+}
+
+#[test]
+fn failed_writes_are_counted(rt: HostRuntime) {
+    let mut sink = Sink::new(Broken { calls: 0 });
+    for (text, answer, failures) in [
+        ("ab", Ok(()), 0),
+        ("abcd", Err(WriteFault { sent: 2 }), 1),
+        ("", Ok(()), 1),
+        ("ab", Err(WriteFault { sent: 0 }), 2),
     ] {
-        let answer = match sent {
-            None => Ok(()),
-            Some(sent) => Err(WriteFault { sent }),
-        };
-        assert_eq!(rt; sink.send(text.as_bytes()), answer, "{text}");
-        assert_eq!(rt; sink.failures(), failures, "{text}");
+        let told = sink.send(text.as_bytes());
+        assert_eq!(rt; (told, sink.failures()), (answer, failures), "{text}");
     }
 }
 
@@ -100,21 +100,31 @@ impl Write for FailsOnce {
 }
 
 #[test]
-fn a_failed_call_is_not_tried_again(rt: HostRuntime) {
-    let mut block = [0u8; 2];
+fn a_failed_write_is_not_tried_again(rt: HostRuntime) {
     for fails_at in [1, 2] {
         let mut device = FailsOnce { calls: 0, fails_at };
         let mut sink = Sink::new(&mut device);
+        let told = sink.send(b"abcdef");
+        let failures = sink.failures();
         let sent = 2 * (fails_at - 1);
-        assert_eq!(rt; sink.send(b"abcdef"), Err(WriteFault { sent }));
-        assert_eq!(rt; sink.failures(), 1);
-        assert_eq!(rt; device.calls, fails_at);
+        assert_eq!(rt;
+            (told, failures, device.calls),
+            (Err(WriteFault { sent }), 1, fails_at)
+        );
+    }
+}
 
+#[test]
+fn a_failed_read_is_not_tried_again(rt: HostRuntime) {
+    let mut block = [0u8; 2];
+    for fails_at in [1, 2] {
         let mut source = Source::new(FailsOnce { calls: 0, fails_at });
         for reads in 1..4 {
-            assert_eq!(rt; source.read(&mut block).is_err(), reads == fails_at);
-            assert_eq!(rt; source.reads(), reads);
-            assert_eq!(rt; source.failures(), u64::from(reads >= fails_at));
+            let failed = source.read(&mut block).is_err();
+            assert_eq!(rt;
+                (failed, source.reads(), source.failures()),
+                (reads == fails_at, reads, u64::from(reads >= fails_at))
+            );
         }
     }
 }

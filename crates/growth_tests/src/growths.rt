@@ -1,5 +1,4 @@
-use refusing_heap::RefusingHeap;
-use std::alloc::Global;
+ghost use Rattle.std.specs.Prelude.{◌≡◌, ◌↔◌, IsTrue};
 
 /// How a run went in which one growth of the call was to be refused.
 #[derive(Clone, Copy, Debug, PartialEq, Eq)]
@@ -15,9 +14,13 @@ pub enum Outcome {
     Wrong,
 }
 
-/// The outcome of a run: `refused` tells whether it is right with a refusal, `done` without one.
-pub fn judge(heap: &RefusingHeap<Global>, refused: bool, done: bool) -> Outcome {
-    let has_refused = heap.has_refused();
+/// The outcome of a run in which a growth was refused or none was: `refused` tells whether the run is
+/// right with a refusal, `done` without one.
+pub fn judge(has_refused: bool, refused: bool, done: bool) -> Outcome
+    ensures refused { (result ≡ Outcome.Refused) ↔ (IsTrue has_refused × IsTrue refused × ¬ IsTrue done) }
+    ensures done_without { (result ≡ Outcome.DoneWithout) ↔ (IsTrue has_refused × ¬ IsTrue refused × IsTrue done) }
+    ensures done { (result ≡ Outcome.Done) ↔ (¬ IsTrue has_refused × ¬ IsTrue refused × IsTrue done) }
+{
     match (has_refused, refused, done) {
         (true, true, false) => Outcome::Refused,
         (true, false, true) => Outcome::DoneWithout,
@@ -28,21 +31,20 @@ pub fn judge(heap: &RefusingHeap<Global>, refused: bool, done: bool) -> Outcome 
 
 /// Lets growth 1, 2, 3 and so on of each call be refused until a run meets no refusal, and asserts
 /// that it answered want of memory so many times.
+#[macro_export]
 macro_rules! assert_refusals {
     ($rt:ident, $run:ident, $calls:expr) => {{
         for (call, want) in $calls {
             let mut refusals = 0u64;
             for nth in 1..64u64 {
                 match $run($rt.alloc(), call, nth) {
-                    Outcome::Refused => refusals = refusals.saturating_add(1),
-                    Outcome::DoneWithout => {}
-                    Outcome::Done => break,
-                    Outcome::Wrong => assert!($rt; false, "{call:?}: wrong at growth {nth}"),
+                    $crate::Outcome::Refused => refusals = refusals.saturating_add(1),
+                    $crate::Outcome::DoneWithout => {}
+                    $crate::Outcome::Done => break,
+                    $crate::Outcome::Wrong => assert!($rt; false, "{call:?}: wrong at growth {nth}"),
                 }
             }
             assert_eq!($rt; refusals, want, "{call:?}");
         }
     }};
 }
-
-pub(crate) use assert_refusals;

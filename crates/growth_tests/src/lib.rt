@@ -1,23 +1,11 @@
-//! Each growth of each call that takes memory, refused in turn: the call answers want of memory, and
+//! Each growth of a call that takes memory, refused in turn: the call answers want of memory, and
 //! what it works on is as before.
 //!
 //! A test makes its value, calls `heap.refuse(nth)` and then the one call: growth 1, 2, 3 and so on
-//! is refused, until a run meets no refusal. `assert_refusals!` is that loop.
+//! is refused, until a run meets no refusal. `assert_refusals!` is that loop. The tests stand in the
+//! crates above, each over only the crates whose calls it makes.
 #![tactic(auto)]
 
-#[cfg(test)]
-mod accesses;
-#[cfg(test)]
-mod checks;
-#[cfg(test)]
 mod growths;
-#[cfg(test)]
-mod orders;
-#[cfg(test)]
-mod records;
-#[cfg(test)]
-mod replays;
-#[cfg(test)]
-mod stamps;
-#[cfg(test)]
-mod texts;
+
+pub use growths::{Outcome, judge};

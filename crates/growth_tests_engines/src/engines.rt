@@ -1,7 +1,7 @@
 //! The engines of race_tool.
 ghost use Rattle.std.specs.Prelude.{◌<◌};
 
-use crate::growths::{Outcome, assert_refusals, judge};
+use growth_tests::{Outcome, assert_refusals, judge};
 use race_records::{Sink, Source};
 use race_tool::{CheckOptions, run_check, run_edges, status};
 use refusing_heap::RefusingHeap;
@@ -48,7 +48,11 @@ fn report(alloc: Global, engine: Engine, nth: u64) -> Outcome
         Engine::Check | Engine::PlainCheck => (status::RACES, 75),
         Engine::Edges => (status::CLEAN, 25),
     };
-    judge(&heap, answer == (status::REFUSED, 0), answer == right)
+    judge(
+        heap.has_refused(),
+        answer == (status::REFUSED, 0),
+        answer == right,
+    )
 }
 
 #[test]

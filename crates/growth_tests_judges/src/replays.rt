@@ -2,29 +2,40 @@
 ghost use Rattle.std.specs.Prelude.{◌≡◌, ◌<◌};
 ghost use Rattle.race_legal.specs.ReplayState.{IsInRange, counts_in};
 
-use crate::growths::{Outcome, assert_refusals, judge};
+use growth_tests::{Outcome, assert_refusals, judge};
 use race_legal::{Broken, Replay, legal};
 use race_records::{Decls, Event, Op, Trace};
 use refusing_heap::RefusingHeap;
 use std::alloc::{Allocator, Global};
 
-// A goroutine, a variable, a channel, an rwmutex, a once, and what main does.
-fn traced<A: Allocator + Copy>(heap: A, op: Op) -> Option<Trace<A>> {
-    let mut decls = Decls::new(heap);
+// A goroutine, a variable, a channel, an rwmutex, a once.
+fn declare<A: Allocator + Copy>(decls: &mut Decls<A>) -> Option<()> {
     decls.add_goroutine("w").ok()?;
     decls.add_var("x").ok()?;
     decls.add_chan("c", 2).ok()?;
     decls.add_lock("l", true).ok()?;
     decls.add_once("o").ok()?;
     decls.add_place("p").ok()?;
-    let mut trace = Trace::new(decls);
+    Some(())
+}
+
+// Adds what main does.
+fn push<A: Allocator>(trace: &mut Trace<A>, op: Op) -> Option<()> {
     let event = Event {
         who: 0,
         op,
         place: 0,
         place2: None,
     };
-    trace.push(event).ok()?;
+    trace.push(event).ok()
+}
+
+// All that is declared, and what main does.
+fn traced<A: Allocator + Copy>(heap: A, op: Op) -> Option<Trace<A>> {
+    let mut decls = Decls::new(heap);
+    declare(&mut decls)?;
+    let mut trace = Trace::new(decls);
+    push(&mut trace, op)?;
     Some(trace)
 }
 
@@ -87,27 +98,55 @@ fn op_of(call: Call) -> Op {
     }
 }
 
-// What is asked is made before any growth is refused.
+// A growth is refused once the replay is made.
+fn accepted(heap: &RefusingHeap<Global>, nth: u64, trace: &Trace<&RefusingHeap<Global>>) -> Reply
+    requires { 0 < nth }
+{
+    if trace.is_empty() {
+        return Reply::Wrong;
+    }
+    let Ok(mut replay) = Replay::new(heap, trace.decls()) else {
+        return Reply::Wrong;
+    };
+    heap.refuse(nth);
+    accept(&mut replay, trace.event(0))
+}
+
+// A growth is refused in the call.
+fn answered<'a>(
+    heap: &'a RefusingHeap<Global>,
+    nth: u64,
+    trace: &Trace<&'a RefusingHeap<Global>>,
+    call: Call,
+) -> Reply
+    requires { 0 < nth }
+{
+    match call {
+        Call::New => {
+            heap.refuse(nth);
+            new(heap, trace)
+        }
+        Call::Legal => {
+            heap.refuse(nth);
+            judged(heap, trace)
+        }
+        _ => accepted(heap, nth, trace),
+    }
+}
+
 fn on_a_trace(alloc: Global, call: Call, nth: u64) -> Outcome
     requires { 0 < nth }
 {
     let heap = RefusingHeap::new(alloc);
-    let Some(trace) = traced(&heap, op_of(call)) else {
-        return Outcome::Wrong;
+    let reply = match traced(&heap, op_of(call)) {
+        Some(trace) => answered(&heap, nth, &trace, call),
+        None => Reply::Wrong,
     };
-    let Ok(mut replay) = Replay::new(&heap, trace.decls()) else {
-        return Outcome::Wrong;
-    };
-    if trace.is_empty() {
-        return Outcome::Wrong;
-    }
-    heap.refuse(nth);
-    let reply = match call {
-        Call::New => new(&heap, &trace),
-        Call::Legal => judged(&heap, &trace),
-        _ => accept(&mut replay, trace.event(0)),
-    };
-    judge(&heap, reply == Reply::OutOfMemory, reply == Reply::Right)
+    judge(
+        heap.has_refused(),
+        reply == Reply::OutOfMemory,
+        reply == Reply::Right,
+    )
 }
 
 #[test]

@@ -1,7 +1,7 @@
 //! The calls of race_records.
 ghost use Rattle.std.specs.Prelude.{◌<◌};
 
-use crate::growths::{Outcome, assert_refusals, judge};
+use growth_tests::{Outcome, assert_refusals, judge};
 use race_records::{DeclFault, Decls, Event, Kind, Named, Op, PushFault, Trace};
 use race_text::{TextFault, parse_trace};
 use refusing_heap::RefusingHeap;
@@ -87,7 +87,7 @@ fn one_more(alloc: Global, call: (Start, Addition, u32), nth: u64) -> Outcome
     heap.refuse(nth);
     let answer = add(&mut decls, addition);
     let refused = answer == Err(DeclFault::OutOfMemory) && is_as_started(&decls, start);
-    judge(&heap, refused, answer == Ok(number))
+    judge(heap.has_refused(), refused, answer == Ok(number))
 }
 
 /// A call on a trace.
@@ -166,7 +166,7 @@ fn on_a_trace(alloc: Global, call: Call, nth: u64) -> Outcome
     heap.refuse(nth);
     let answer = make(&mut trace, call);
     let refused = answer == Reply::OutOfMemory && is_as_traced(&trace);
-    judge(&heap, refused, answer == Reply::Right)
+    judge(heap.has_refused(), refused, answer == Reply::Right)
 }
 
 #[test]

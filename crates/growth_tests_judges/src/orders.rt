@@ -1,7 +1,7 @@
 //! The calls of race_edges.
 ghost use Rattle.std.specs.Prelude.{◌<◌};
 
-use crate::growths::{Outcome, assert_refusals, judge};
+use growth_tests::{Outcome, assert_refusals, judge};
 use race_edges::{EdgeFault, Verdict, edges, plain_judge};
 use race_records::Trace;
 use race_text::{TextFault, parse_trace};
@@ -64,7 +64,11 @@ fn on_a_trace(alloc: Global, call: Call, nth: u64) -> Outcome
         Call::Edges => listed(&heap, &trace),
         Call::PlainJudge => judged(&heap, &trace),
     };
-    judge(&heap, reply == Reply::OutOfMemory, reply == Reply::Right)
+    judge(
+        heap.has_refused(),
+        reply == Reply::OutOfMemory,
+        reply == Reply::Right,
+    )
 }
 
 #[test]

@@ -1,7 +1,7 @@
 //! The calls of race_access.
 ghost use Rattle.std.specs.Prelude.{◌<◌};
 
-use crate::growths::{Outcome, assert_refusals, judge};
+use growth_tests::{Outcome, assert_refusals, judge};
 use race_access::VarState;
 use race_clock::{Clock, Stamp};
 use refusing_heap::RefusingHeap;
@@ -75,7 +75,7 @@ fn on_a_variable(alloc: Global, call: Call, nth: u64) -> Outcome
         }
     };
     judge(
-        &heap,
+        heap.has_refused(),
         refused == Some(1) && right,
         refused == Some(0) && right,
     )

@@ -1,8 +1,8 @@
 //! The calls of race_text.
 ghost use Rattle.std.specs.Prelude.{◌<◌};
 
-use crate::growths::{Outcome, assert_refusals, judge};
 use crate::records::{Start, is_as_started, started};
+use growth_tests::{Outcome, assert_refusals, judge};
 use race_records::{Decls, Trace};
 use race_text::{TextCause, TextFault, parse_trace, read_declaration};
 use refusing_heap::RefusingHeap;
@@ -33,7 +33,7 @@ fn text(alloc: Global, _call: (), nth: u64) -> Outcome
             (fault == told, false)
         }
     };
-    judge(&heap, refused, done)
+    judge(heap.has_refused(), refused, done)
 }
 
 fn declare<A: Allocator + Copy>(decls: &mut Decls<A>) -> Result<bool, TextCause> {
@@ -50,7 +50,7 @@ fn declaration(alloc: Global, start: Start, nth: u64) -> Outcome
     heap.refuse(nth);
     let answer = declare(&mut decls);
     let refused = answer == Err(TextCause::OutOfMemory) && is_as_started(&decls, start);
-    judge(&heap, refused, answer == Ok(true))
+    judge(heap.has_refused(), refused, answer == Ok(true))
 }
 
 #[test]

@@ -2,7 +2,7 @@
 ghost use Rattle.std.specs.Prelude.{◌<◌, length};
 ghost use Rattle.race_clock.specs.StandsFor.{IsNext};
 
-use crate::growths::{Outcome, assert_refusals, judge};
+use growth_tests::{Outcome, assert_refusals, judge};
 use race_clock::Stamper;
 use race_legal::Replay;
 use race_records::{Decls, Event, Kind, Op, Trace};
@@ -78,9 +78,8 @@ fn event_of(op: Op) -> Event {
     }
 }
 
-// Eight goroutines beside main, a variable, a channel, a mutex, a once, and what main does.
-fn traced<A: Allocator + Copy>(heap: A, ops: (Op, Op)) -> Option<Trace<A>> {
-    let mut decls = Decls::new(heap);
+// Eight goroutines beside main, a variable, a channel, a mutex, a once.
+fn declare<A: Allocator + Copy>(decls: &mut Decls<A>) -> Option<()> {
     for name in ["w1", "w2", "w3", "w4", "w5", "w6", "w7", "w8"] {
         decls.add_goroutine(name).ok()?;
     }
@@ -89,10 +88,21 @@ fn traced<A: Allocator + Copy>(heap: A, ops: (Op, Op)) -> Option<Trace<A>> {
     decls.add_lock("m", false).ok()?;
     decls.add_once("o").ok()?;
     decls.add_place("p").ok()?;
+    Some(())
+}
+
+fn push<A: Allocator>(trace: &mut Trace<A>, event: Event) -> Option<()> {
+    trace.push(event).ok()
+}
+
+// All that is declared, and what main does.
+fn traced<A: Allocator + Copy>(heap: A, ops: (Op, Op)) -> Option<Trace<A>> {
+    let mut decls = Decls::new(heap);
+    declare(&mut decls)?;
     let mut trace = Trace::new(decls);
     let (first, second) = ops;
-    trace.push(event_of(first)).ok()?;
-    trace.push(event_of(second)).ok()?;
+    push(&mut trace, event_of(first))?;
+    push(&mut trace, event_of(second))?;
     Some(trace)
 }
 
@@ -161,22 +171,37 @@ fn stepped(
     Reply::Wrong
 }
 
-// What is asked is made before any growth is refused.
+// A growth is refused in the call.
+fn answered<'a>(
+    heap: &'a RefusingHeap<Global>,
+    nth: u64,
+    trace: &Trace<&'a RefusingHeap<Global>>,
+    call: Call,
+) -> Reply
+    requires { 0 < nth }
+{
+    match call {
+        Call::New => {
+            heap.refuse(nth);
+            new(heap, trace)
+        }
+        _ => stepped(heap, nth, trace, right_of(call)),
+    }
+}
+
 fn on_a_trace(alloc: Global, call: Call, nth: u64) -> Outcome
     requires { 0 < nth }
 {
     let heap = RefusingHeap::new(alloc);
-    let Some(trace) = traced(&heap, ops_of(call)) else {
-        return Outcome::Wrong;
+    let reply = match traced(&heap, ops_of(call)) {
+        Some(trace) => answered(&heap, nth, &trace, call),
+        None => Reply::Wrong,
     };
-    let reply = match call {
-        Call::New => {
-            heap.refuse(nth);
-            new(&heap, &trace)
-        }
-        _ => stepped(&heap, nth, &trace, right_of(call)),
-    };
-    judge(&heap, reply == Reply::OutOfMemory, reply == Reply::Right)
+    judge(
+        heap.has_refused(),
+        reply == Reply::OutOfMemory,
+        reply == Reply::Right,
+    )
 }
 
 #[test]

@@ -1,0 +1,94 @@
+-- The laws of the table and of the choices, which functions of src/laws.rt that do nothing have as their contracts.
+use Rattle.std.specs.Prelude.{ℕ, ◌≡◌, false, List, [], ◌∷◌, Some, None}
+use Rattle.race_records.specs.declared.event.Cause.TheVariants.{SendClosed, CloseClosed, CloseNil, UnlockFree, RUnlockFree}
+use Rattle.race_records.specs.declared.event.Event.{Event}
+use Rattle.race_records.specs.declared.event.Op.TheVariants.{Go, Exit, Read, Write, Send, Recv, RecvClosed, Close, Lock, Unlock, RLock, RUnlock, OnceBegin, OnceEnd, OnceDone, Fault}
+use Rattle.race_model.specs.Examples.{does}
+use Rattle.race_hub.specs.declared.request.Answer.{Answer}
+use Rattle.race_hub.specs.declared.request.Ask.{Ask}
+use Rattle.race_hub.specs.declared.request.Waiter.{Waiter}
+use Rattle.race_hub.specs.Table.{done_by, IsRow}
+use Rattle.race_hub.specs.Choices.{choice, choices, event_of, is_legal_next, meet_event}
+use Rattle.race_hub.specs.Rows.{capacities, waits, HasRow, Stays, three_started, one_meets_main}
+
+-- a start and an exit always go on
+pub record RowsOfGoroutines : Type 0 where
+  pub start : HasRow [] (Ask.Go 1) (Go 1) (Some Answer.Unit)
+  pub exit : HasRow [] Ask.Exit Exit None
+
+-- a read finds the last value written, or 0
+pub record RowsOfVariables : Type 0 where
+  pub unwritten : HasRow [] (Ask.Read 0) (Read 0 0) (Some (Answer.Value 0))
+  pub written : HasRow (does 0 (Write 0 7) ∷ []) (Ask.Read 0) (Read 0 7) (Some (Answer.Value 7))
+  pub writes : HasRow [] (Ask.Write 0 7) (Write 0 7) (Some Answer.Unit)
+
+-- a send fails on a closed channel, goes on where the buffer has room, and waits otherwise
+pub record RowsOfSends : Type 0 where
+  pub closed : HasRow (does 0 (Close 1) ∷ []) (Ask.Send (Some 1) 7) (Fault (SendClosed 1)) None
+  pub closed_unbuffered : HasRow (does 0 (Close 0) ∷ []) (Ask.Send (Some 0) 7) (Fault (SendClosed 0)) None
+  pub room : HasRow [] (Ask.Send (Some 1) 7) (Send 1 7) (Some Answer.Unit)
+  pub full : Stays (does 0 (Send 1 7) ∷ []) (Ask.Send (Some 1) 8)
+  pub unbuffered : Stays [] (Ask.Send (Some 0) 7)
+  pub nil : Stays [] (Ask.Send None 7)
+
+-- a receive takes the first value, then finds the channel closed, and waits otherwise
+pub record RowsOfReceives : Type 0 where
+  pub value : HasRow (does 0 (Send 1 7) ∷ []) (Ask.Recv (Some 1)) (Recv 1 7) (Some (Answer.Value 7))
+  pub first : HasRow (does 0 (Send 2 7) ∷ does 0 (Send 2 8) ∷ []) (Ask.Recv (Some 2)) (Recv 2 7) (Some (Answer.Value 7))
+  pub left : HasRow (does 0 (Send 1 7) ∷ does 0 (Close 1) ∷ []) (Ask.Recv (Some 1)) (Recv 1 7) (Some (Answer.Value 7))
+  pub closed : HasRow (does 0 (Close 1) ∷ []) (Ask.Recv (Some 1)) (RecvClosed 1) (Some Answer.Closed)
+  pub closed_unbuffered : HasRow (does 0 (Close 0) ∷ []) (Ask.Recv (Some 0)) (RecvClosed 0) (Some Answer.Closed)
+  pub empty : Stays [] (Ask.Recv (Some 1))
+  pub unbuffered : Stays [] (Ask.Recv (Some 0))
+  pub nil : Stays [] (Ask.Recv None)
+
+-- a close fails on a closed channel and on nil
+pub record RowsOfCloses : Type 0 where
+  pub open_channel : HasRow [] (Ask.Close (Some 0)) (Close 0) (Some Answer.Unit)
+  pub closed : HasRow (does 0 (Close 0) ∷ []) (Ask.Close (Some 0)) (Fault (CloseClosed 0)) None
+  pub nil : HasRow [] (Ask.Close None) (Fault CloseNil) None
+
+-- a lock waits for whoever holds it, readers share it, and an unlock of what isn't locked fails
+pub record RowsOfLocks : Type 0 where
+  pub free : HasRow [] (Ask.Lock 0) (Lock 0) (Some Answer.Unit)
+  pub held : Stays (does 0 (Lock 0) ∷ []) (Ask.Lock 0)
+  pub read_held : Stays (does 0 (RLock 0) ∷ []) (Ask.Lock 0)
+  pub reader : HasRow [] (Ask.RLock 0) (RLock 0) (Some Answer.Unit)
+  pub second_reader : HasRow (does 0 (RLock 0) ∷ []) (Ask.RLock 0) (RLock 0) (Some Answer.Unit)
+  pub reader_waits : Stays (does 0 (Lock 0) ∷ []) (Ask.RLock 0)
+  pub unlock : HasRow (does 0 (Lock 0) ∷ []) (Ask.Unlock 0) (Unlock 0) (Some Answer.Unit)
+  pub unlock_free : HasRow [] (Ask.Unlock 0) (Fault (UnlockFree 0)) None
+  pub runlock : HasRow (does 0 (RLock 0) ∷ []) (Ask.RUnlock 0) (RUnlock 0) (Some Answer.Unit)
+  pub runlock_free : HasRow [] (Ask.RUnlock 0) (Fault (RUnlockFree 0)) None
+
+-- the function of a once is run once, and who comes while it runs waits
+pub record RowsOfOnces : Type 0 where
+  pub first : HasRow [] (Ask.Do 0) (OnceBegin 0) (Some Answer.Run)
+  pub running : Stays (does 0 (OnceBegin 0) ∷ []) (Ask.Do 0)
+  pub ends : HasRow (does 0 (OnceBegin 0) ∷ []) (Ask.EndDo 0) (OnceEnd 0) (Some Answer.Unit)
+  pub done : HasRow (does 0 (OnceBegin 0) ∷ does 0 (OnceEnd 0) ∷ []) (Ask.Do 0) (OnceDone 0) (Some Answer.AlreadyDone)
+
+-- who sends on an unbuffered channel meets who receives from it: one event, listed at the sender
+pub record RowsOfMeets : Type 0 where
+  pub only : choices capacities three_started (waits 0 (Ask.Recv (Some 0)) ∷ waits 1 (Ask.Send (Some 0) 7) ∷ []) ≡ choice 1 0 1 1 ∷ []
+  pub event : event_of three_started (waits 0 (Ask.Recv (Some 0)) ∷ waits 1 (Ask.Send (Some 0) 7) ∷ []) (choice 1 0 1 1) ≡ Some one_meets_main
+  pub sender : IsRow (Ask.Send (Some 0) 7) 0 (done_by 1 one_meets_main.op) (Some Answer.Unit)
+  pub receiver : IsRow (Ask.Recv (Some 0)) 0 (done_by 0 one_meets_main.op) (Some (Answer.Value 7))
+  pub other_channel : choices capacities three_started (waits 0 (Ask.Recv (Some 0)) ∷ waits 1 (Ask.Send (Some 2) 7) ∷ []) ≡ choice 1 0 0 0 ∷ []
+
+-- several senders and receivers of one unbuffered channel: by the sender's place, and then by the receiver's
+abbrev pub MeetsAreListedBySender : Type 0
+MeetsAreListedBySender =
+    choices capacities three_started (waits 0 (Ask.Recv (Some 0)) ∷ waits 1 (Ask.Send (Some 0) 7) ∷ waits 2 (Ask.Recv (Some 0)) ∷ waits 3 (Ask.Send (Some 0) 8) ∷ [])
+    ≡ choice 1 0 1 1 ∷ choice 1 0 3 1 ∷ choice 3 0 1 1 ∷ choice 3 0 3 1 ∷ []
+
+-- what goes on alone stands among the meets by the place of its request
+abbrev pub OthersStandAtTheirPlace : Type 0
+OthersStandAtTheirPlace =
+    choices capacities three_started (waits 0 (Ask.Send (Some 0) 7) ∷ waits 1 (Ask.Read 0) ∷ waits 2 (Ask.Recv (Some 0)) ∷ waits 3 Ask.Exit ∷ [])
+    ≡ choice 0 0 3 1 ∷ choice 1 0 0 0 ∷ choice 3 0 0 0 ∷ []
+
+-- no goroutine meets itself
+abbrev pub NobodyMeetsItself : Type 0
+NobodyMeetsItself =
+    (caps : ℕ → ℕ) (past : List Event) (w r : Waiter) (k q : ℕ) → w.who ≡ r.who → is_legal_next caps past (meet_event w k r q) ≡ false

@@ -1,0 +1,66 @@
+-- The table of requests: what a goroutine that asks does in an event, and what it is told. (The Go Programming Language Specification, "Go statements", "Send statements", "Receive operator", "Close", "Run-time panics"; package sync)
+use Rattle.std.specs.Prelude.{ℕ, ◌≡◌, ◌==◌, ◌⊎◌, cond, Option, Some, None, List, [], ◌∷◌}
+use Rattle.race_records.specs.declared.event.Cause.TheVariants.{SendClosed, CloseClosed, CloseNil, UnlockFree, RUnlockFree}
+use Rattle.race_records.specs.declared.event.Event.{Event}
+use Rattle.race_records.specs.declared.event.Op.{Op}
+use Rattle.race_records.specs.declared.event.Op.TheVariants.{Go, Exit, Read, Write, Send, Recv, Meet, RecvClosed, Close, Lock, Unlock, RLock, RUnlock, OnceBegin, OnceEnd, OnceDone, Fault}
+use Rattle.race_hub.specs.declared.request.Answer.{Answer}
+use Rattle.race_hub.specs.declared.request.Ask.{Ask}
+use Rattle.race_hub.specs.declared.request.Offer.{Offer}
+use Rattle.race_hub.specs.declared.request.Step.{Step}
+
+-- what a request offers to do with channels: a send or a receive is one offer
+abbrev pub offers_of : Ask → List Offer
+offers_of (Ask.Send c v) = Offer.Send c v ∷ []
+offers_of (Ask.Recv c) = Offer.Recv c ∷ []
+offers_of _ = []
+
+-- what g did in the event: in a Meet the sender sent, and the receiver received
+abbrev pub done_by : ℕ → Op → Op
+done_by g (Meet r c v) = cond (r == g) (Recv c v) (Send c v)
+done_by g op = op
+
+-- g's place in the event: the receiver's is the second one
+abbrev pub place_of : ℕ → Event → Option ℕ
+place_of g e = elim e.op [ Meet r c v ↦ cond (r == g) e.place2 (Some e.place) | _ ↦ Some e.place ]
+
+-- by the offer the operation was done, and this value was received, if any
+abbrev pub IsOffered : Offer → Op → Option ℕ → Type 0
+IsOffered (Offer.Send c v) op got = (d : ℕ) × (c ≡ Some d) × (op ≡ Send d v) × (got ≡ None)
+IsOffered (Offer.Recv c) op got =
+    (d : ℕ) × (c ≡ Some d) × (((v : ℕ) × (op ≡ Recv d v) × (got ≡ Some v)) ⊎ ((op ≡ RecvClosed d) × (got ≡ None)))
+
+-- the offer sends on a channel that was closed
+abbrev pub IsOfferedFault : Offer → Op → Type 0
+IsOfferedFault (Offer.Send c v) op = (d : ℕ) × (c ≡ Some d) × (op ≡ Fault (SendClosed d))
+IsOfferedFault (Offer.Recv c) op = ⊥
+
+-- what a send or a receive is told
+abbrev pub plain_answer : Offer → Option ℕ → Answer
+plain_answer (Offer.Send c v) got = Answer.Unit
+plain_answer (Offer.Recv c) got = elim got [ Some v ↦ Answer.Value v | None ↦ Answer.Closed ]
+
+-- a row of the table: who asks does the operation, by its way k, and is told that; nothing after an exit and a fault
+abbrev pub IsRow : Ask → ℕ → Op → Option Answer → Type 0
+IsRow (Ask.Go h) k op told = (op ≡ Go h) × (told ≡ Some Answer.Unit)
+IsRow Ask.Exit k op told = (op ≡ Exit) × (told ≡ None)
+IsRow (Ask.Read x) k op told = (v : ℕ) × (op ≡ Read x v) × (told ≡ Some (Answer.Value v))
+IsRow (Ask.Write x v) k op told = (op ≡ Write x v) × (told ≡ Some Answer.Unit)
+IsRow (Ask.Send c v) k op told =
+    (k ≡ 0) × (((got : Option ℕ) × IsOffered (Offer.Send c v) op got × (told ≡ Some (plain_answer (Offer.Send c v) got)))
+    ⊎ (IsOfferedFault (Offer.Send c v) op × (told ≡ None)))
+IsRow (Ask.Recv c) k op told =
+    (k ≡ 0) × (got : Option ℕ) × IsOffered (Offer.Recv c) op got × (told ≡ Some (plain_answer (Offer.Recv c) got))
+IsRow (Ask.Close c) k op told =
+    ((d : ℕ) × (c ≡ Some d) × (((op ≡ Close d) × (told ≡ Some Answer.Unit)) ⊎ ((op ≡ Fault (CloseClosed d)) × (told ≡ None))))
+    ⊎ ((c ≡ None) × (op ≡ Fault CloseNil) × (told ≡ None))
+IsRow (Ask.Lock l) k op told = (op ≡ Lock l) × (told ≡ Some Answer.Unit)
+IsRow (Ask.RLock l) k op told = (op ≡ RLock l) × (told ≡ Some Answer.Unit)
+IsRow (Ask.Unlock l) k op told = ((op ≡ Unlock l) × (told ≡ Some Answer.Unit)) ⊎ ((op ≡ Fault (UnlockFree l)) × (told ≡ None))
+IsRow (Ask.RUnlock l) k op told = ((op ≡ RUnlock l) × (told ≡ Some Answer.Unit)) ⊎ ((op ≡ Fault (RUnlockFree l)) × (told ≡ None))
+IsRow (Ask.Do o) k op told = ((op ≡ OnceBegin o) × (told ≡ Some Answer.Run)) ⊎ ((op ≡ OnceDone o) × (told ≡ Some Answer.AlreadyDone))
+IsRow (Ask.EndDo o) k op told = (op ≡ OnceEnd o) × (told ≡ Some Answer.Unit)
+
+-- the step fits the event, in which g takes part: the places are the same, and some way's row has both
+abbrev pub Fits : ℕ → Step → Event → Type 0
+Fits g step e = (place_of g e ≡ Some step.asked.place) × ((k : ℕ) × IsRow step.asked.ask k (done_by g e.op) step.told)

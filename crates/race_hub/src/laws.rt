@@ -1,0 +1,69 @@
+//! The laws of the table and of the choices. Each function does nothing, and its contract is the law.
+ghost use Rattle.race_hub.specs.Laws.{
+  MeetsAreListedBySender,
+  NobodyMeetsItself,
+  OthersStandAtTheirPlace,
+  RowsOfCloses,
+  RowsOfGoroutines,
+  RowsOfLocks,
+  RowsOfMeets,
+  RowsOfOnces,
+  RowsOfReceives,
+  RowsOfSends,
+  RowsOfVariables,
+};
+
+/// A start and an exit always go on.
+pub fn rows_of_goroutines()
+    ensures { RowsOfGoroutines }
+{}
+
+/// A read finds the last value written, or 0.
+pub fn rows_of_variables()
+    ensures { RowsOfVariables }
+{}
+
+/// A send fails on a closed channel, goes on where the buffer has room, and waits otherwise.
+pub fn rows_of_sends()
+    ensures { RowsOfSends }
+{}
+
+/// A receive takes the first value, then finds the channel closed, and waits otherwise.
+pub fn rows_of_receives()
+    ensures { RowsOfReceives }
+{}
+
+/// A close fails on a closed channel and on nil.
+pub fn rows_of_closes()
+    ensures { RowsOfCloses }
+{}
+
+/// A lock waits for whoever holds it, readers share it, and an unlock of what isn't locked fails.
+pub fn rows_of_locks()
+    ensures { RowsOfLocks }
+{}
+
+/// The function of a once is run once, and who comes while it runs waits.
+pub fn rows_of_onces()
+    ensures { RowsOfOnces }
+{}
+
+/// Who sends on an unbuffered channel meets who receives from it.
+pub fn rows_of_meets()
+    ensures { RowsOfMeets }
+{}
+
+/// Of several senders and receivers of one unbuffered channel the meets are listed by sender, and then by receiver.
+pub fn meets_are_listed_by_sender()
+    ensures { MeetsAreListedBySender }
+{}
+
+/// What goes on alone stands among the meets by the place of its request.
+pub fn others_stand_at_their_place()
+    ensures { OthersStandAtTheirPlace }
+{}
+
+/// No goroutine meets itself.
+pub fn nobody_meets_itself()
+    ensures { NobodyMeetsItself }
+{}

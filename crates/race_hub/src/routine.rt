@@ -1,0 +1,31 @@
+//! What a goroutine runs: it is told an answer, and asks its next request.
+
+use crate::{Answer, Request};
+
+/// The code of one goroutine, as a box that is told and asks. It is started with `Answer::Begin`.
+pub trait Routine: Send + Drop {
+    ghost use Rattle.race_hub.specs.declared.request.Answer.{Answer};
+    ghost use Rattle.race_hub.specs.declared.request.Request.{Request};
+
+    // What `next` makes of the box and the answer: the request, and the box after.
+    ghost asks: { Self → Answer → Request → Self → Type 0 };
+
+    /// Goes on with this answer up to the next request.
+    fn next(&mut self, answer: Answer) -> Request
+        ensures { asks self.old answer result self.new };
+}
+
+/// A routine of any type, for goroutines of several types in one recording.
+#[derive(Drop)]
+pub struct Boxed(pub Box<dyn Routine + Send>);
+
+impl Routine for Boxed {
+    ghost use Rattle.std.specs.Prelude.{⊤};
+
+    // Of the boxed value nothing is known here but that it is one.
+    ghost asks = { λ _ _ _ _. ⊤ };
+
+    fn next(&mut self, answer: Answer) -> Request {
+        self.0.next(answer)
+    }
+}

@@ -6,6 +6,8 @@ mod job;
 pub mod laws;
 mod request;
 mod routine;
+mod search;
+mod table;
 #[cfg(test)]
 mod tests;
 
@@ -13,3 +15,5 @@ pub use choice::Choice;
 pub use job::Job;
 pub use request::{Answer, Ask, Offer, Request, Step, Waiter};
 pub use routine::{Boxed, Routine};
+pub use search::{Board, Found, find, pick_choice};
+pub use table::{answer_of, fits_step};

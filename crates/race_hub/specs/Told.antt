@@ -1,0 +1,60 @@
+-- The rows of Table as tests: they give an answer exactly where IsRow holds, as proofs/RowLemmas shows.
+use Rattle.std.specs.Prelude.{ℕ, if◌then◌else◌, ◌==◌, ◌&&◌, Bool, true, Option, Some, None}
+use Rattle.race_records.specs.declared.event.Cause.TheVariants.{SendClosed, CloseClosed, CloseNil, UnlockFree, RUnlockFree}
+use Rattle.race_records.specs.declared.event.Op.{Op}
+use Rattle.race_records.specs.declared.event.Op.TheVariants.{Go, Exit, Read, Write, Send, Recv, RecvClosed, Close, Lock, Unlock, RLock, RUnlock, OnceBegin, OnceEnd, OnceDone, Fault}
+use Rattle.race_hub.specs.declared.request.Answer.{Answer}
+use Rattle.race_hub.specs.declared.request.Ask.{Ask}
+
+-- there is a row where the test passes, and it tells that
+abbrev pub told_if : Bool → Option Answer → Option (Option Answer)
+told_if test told = if test then Some told else None
+
+-- what is told who asks to send
+abbrev pub told_sender : Option ℕ → ℕ → Op → Option (Option Answer)
+told_sender (Some c) v (Send d w) = told_if ((d == c) && (w == v)) (Some Answer.Unit)
+told_sender (Some c) v (Fault (SendClosed d)) = told_if (d == c) None
+told_sender _ _ _ = None
+
+-- to receive
+abbrev pub told_receiver : Option ℕ → Op → Option (Option Answer)
+told_receiver (Some c) (Recv d v) = told_if (d == c) (Some (Answer.Value v))
+told_receiver (Some c) (RecvClosed d) = told_if (d == c) (Some Answer.Closed)
+told_receiver _ _ = None
+
+-- to close
+abbrev pub told_closer : Option ℕ → Op → Option (Option Answer)
+told_closer (Some c) (Close d) = told_if (d == c) (Some Answer.Unit)
+told_closer (Some c) (Fault (CloseClosed d)) = told_if (d == c) None
+told_closer None (Fault CloseNil) = Some None
+told_closer _ _ = None
+
+-- what is told who asks and did the operation, by whatever way; None where no row has both
+abbrev pub told_by : Ask → Op → Option (Option Answer)
+told_by (Ask.Go h) (Go g) = told_if (g == h) (Some Answer.Unit)
+told_by Ask.Exit Exit = Some None
+told_by (Ask.Read x) (Read y v) = told_if (y == x) (Some (Answer.Value v))
+told_by (Ask.Write x v) (Write y w) = told_if ((y == x) && (w == v)) (Some Answer.Unit)
+told_by (Ask.Send c v) op = told_sender c v op
+told_by (Ask.Recv c) op = told_receiver c op
+told_by (Ask.Close c) op = told_closer c op
+told_by (Ask.Lock l) (Lock m) = told_if (m == l) (Some Answer.Unit)
+told_by (Ask.Unlock l) (Unlock m) = told_if (m == l) (Some Answer.Unit)
+told_by (Ask.Unlock l) (Fault (UnlockFree m)) = told_if (m == l) None
+told_by (Ask.RLock l) (RLock m) = told_if (m == l) (Some Answer.Unit)
+told_by (Ask.RUnlock l) (RUnlock m) = told_if (m == l) (Some Answer.Unit)
+told_by (Ask.RUnlock l) (Fault (RUnlockFree m)) = told_if (m == l) None
+told_by (Ask.Do o) (OnceBegin p) = told_if (p == o) (Some Answer.Run)
+told_by (Ask.Do o) (OnceDone p) = told_if (p == o) (Some Answer.AlreadyDone)
+told_by (Ask.EndDo o) (OnceEnd p) = told_if (p == o) (Some Answer.Unit)
+told_by _ _ = None
+
+-- a send and a receive have the way 0 alone, and at the others the way says nothing
+abbrev pub is_way : Ask → ℕ → Bool
+is_way (Ask.Send c v) k = k == 0
+is_way (Ask.Recv c) k = k == 0
+is_way _ k = true
+
+-- the same by the way k
+abbrev pub told_at : Ask → ℕ → Op → Option (Option Answer)
+told_at ask k op = if is_way ask k then told_by ask op else None

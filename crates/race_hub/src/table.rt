@@ -1,0 +1,205 @@
+//! The rows of the table: what a goroutine is told, and which event a step of its log fits.
+ghost use Rattle.std.specs.Prelude.{◌≡◌, ◌↔◌, if◌then◌else◌, Option, Some, None, IsTrue};
+ghost use Rattle.race_hub.specs.declared.request.Answer.{Answer};
+ghost use Rattle.race_hub.specs.Table as spec;
+ghost use Rattle.race_hub.specs.Table.{done_by, IsRow, Fits};
+ghost use Rattle.race_hub.specs.Told.{told_if, told_sender, told_receiver, told_closer, told_by, is_way, told_at};
+
+use crate::{Answer, Ask, Step};
+use race_records::{Cause, Event, Op};
+
+// What is told, where the test passes.
+fn tells(test: bool, told: Option<Answer>) -> Option<Option<Answer>>
+    ensures { result ≡ told_if test told }
+{
+    if test { Some(told) } else { None }
+}
+
+// What is told who asks to send.
+fn tells_sender(chan: Option<u32>, value: u64, done: &Op) -> Option<Option<Answer>>
+    ensures { result ≡ told_sender chan value done.now }
+{
+    let Some(chan) = chan else {
+        return None;
+    };
+    match done {
+        Op::Send(on, sent) => tells(*on == chan && *sent == value, Some(Answer::Unit)),
+        Op::Fault(Cause::SendClosed(on)) => tells(*on == chan, None),
+        _ => None,
+    }
+}
+
+// What is told who asks to receive.
+fn tells_receiver(chan: Option<u32>, done: &Op) -> Option<Option<Answer>>
+    ensures { result ≡ told_receiver chan done.now }
+{
+    let Some(chan) = chan else {
+        return None;
+    };
+    match done {
+        Op::Recv(from, value) => tells(*from == chan, Some(Answer::Value(*value))),
+        Op::RecvClosed(from) => tells(*from == chan, Some(Answer::Closed)),
+        _ => None,
+    }
+}
+
+// What is told who asks to close.
+fn tells_closer(chan: Option<u32>, done: &Op) -> Option<Option<Answer>>
+    ensures { result ≡ told_closer chan done.now }
+{
+    let Some(chan) = chan else {
+        return match done {
+            Op::Fault(Cause::CloseNil) => Some(None),
+            _ => None,
+        };
+    };
+    match done {
+        Op::Close(closed) => tells(*closed == chan, Some(Answer::Unit)),
+        Op::Fault(Cause::CloseClosed(closed)) => tells(*closed == chan, None),
+        _ => None,
+    }
+}
+
+// What is told who asks to unlock.
+fn tells_unlocker(lock: u32, done: &Op) -> Option<Option<Answer>>
+    ensures { result ≡ told_by (Ask.Unlock lock) done.now }
+{
+    match done {
+        Op::Unlock(unlocked) => tells(*unlocked == lock, Some(Answer::Unit)),
+        Op::Fault(Cause::UnlockFree(unlocked)) => tells(*unlocked == lock, None),
+        _ => None,
+    }
+}
+
+// What is told who asks to unlock from reading.
+fn tells_runlocker(lock: u32, done: &Op) -> Option<Option<Answer>>
+    ensures { result ≡ told_by (Ask.RUnlock lock) done.now }
+{
+    match done {
+        Op::RUnlock(unlocked) => tells(*unlocked == lock, Some(Answer::Unit)),
+        Op::Fault(Cause::RUnlockFree(unlocked)) => tells(*unlocked == lock, None),
+        _ => None,
+    }
+}
+
+// What is told who asks to run the function of a once.
+fn tells_doer(once: u32, done: &Op) -> Option<Option<Answer>>
+    ensures { result ≡ told_by (Ask.Do once) done.now }
+{
+    match done {
+        Op::OnceBegin(begun) => tells(*begun == once, Some(Answer::Run)),
+        Op::OnceDone(found) => tells(*found == once, Some(Answer::AlreadyDone)),
+        _ => None,
+    }
+}
+
+// What is told who asks and did that, by whatever way.
+fn tells_by(ask: &Ask, done: &Op) -> Option<Option<Answer>>
+    ensures { result ≡ told_by ask.now done.now }
+{
+    match ask {
+        Ask::Go(goroutine) => match done {
+            Op::Go(started) => tells(*started == *goroutine, Some(Answer::Unit)),
+            _ => None,
+        },
+        Ask::Exit => match done {
+            Op::Exit => Some(None),
+            _ => None,
+        },
+        Ask::Read(var) => match done {
+            Op::Read(read, value) => tells(*read == *var, Some(Answer::Value(*value))),
+            _ => None,
+        },
+        Ask::Write(var, value) => match done {
+            Op::Write(on, written) => tells(*on == *var && *written == *value, Some(Answer::Unit)),
+            _ => None,
+        },
+        Ask::Send(chan, value) => tells_sender(*chan, *value, done),
+        Ask::Recv(chan) => tells_receiver(*chan, done),
+        Ask::Close(chan) => tells_closer(*chan, done),
+        Ask::Lock(lock) => match done {
+            Op::Lock(locked) => tells(*locked == *lock, Some(Answer::Unit)),
+            _ => None,
+        },
+        Ask::Unlock(lock) => tells_unlocker(*lock, done),
+        Ask::RLock(lock) => match done {
+            Op::RLock(locked) => tells(*locked == *lock, Some(Answer::Unit)),
+            _ => None,
+        },
+        Ask::RUnlock(lock) => tells_runlocker(*lock, done),
+        Ask::Do(once) => tells_doer(*once, done),
+        Ask::EndDo(once) => match done {
+            Op::OnceEnd(ended) => tells(*ended == *once, Some(Answer::Unit)),
+            _ => None,
+        },
+    }
+}
+
+// What is told who asks and did that by its way of this number.
+fn tells_at(ask: &Ask, way: u32, done: &Op) -> Option<Option<Answer>>
+    ensures { result ≡ told_at ask.now way done.now }
+{
+    let has_way = match ask {
+        Ask::Send(_, _) => way == 0,
+        Ask::Recv(_) => way == 0,
+        _ => true,
+    };
+    if has_way { tells_by(ask, done) } else { None }
+}
+
+// What is told who asks and did its part of an event with this operation.
+fn tells_in(who: u32, ask: &Ask, way: u32, op: &Op) -> Option<Option<Answer>>
+    ensures { result ≡ told_at ask.now way (done_by who op.now) }
+{
+    match op {
+        Op::Meet(receiver, chan, value) => if *receiver == who {
+            tells_at(ask, way, &Op::Recv(*chan, *value))
+        } else {
+            tells_at(ask, way, &Op::Send(*chan, *value))
+        },
+        _ => tells_at(ask, way, op),
+    }
+}
+
+/// What the goroutine is told that asks and takes part in an event with this operation, by its way of this number: `None`
+/// where the table has no such row, and `Some(None)` where it is told nothing, as after an exit and a fault.
+pub fn answer_of(who: u32, ask: &Ask, way: u32, op: &Op) -> Option<Option<Answer>>
+    ensures { (told : Option Answer) → (result ≡ Some told) ↔ IsRow ask.now way (done_by who op.now) told }
+{
+    tells_in(who, ask, way, op)
+}
+
+// Where the goroutine stands in the event.
+fn place_of(who: u32, event: &Event) -> Option<u32>
+    ensures { result ≡ spec.place_of who event.now }
+{
+    match event.op {
+        Op::Meet(receiver, _, _) => if receiver == who {
+            event.place2
+        } else {
+            Some(event.place)
+        },
+        _ => Some(event.place),
+    }
+}
+
+// Whether the table has a row, and it tells that.
+fn is_told(row: Option<Option<Answer>>, told: Option<Answer>) -> bool
+    ensures { IsTrue result ↔ (row ≡ Some told) }
+{
+    match (row, told) {
+        (Some(None), None) => true,
+        (Some(Some(answer)), Some(other)) => answer == other,
+        _ => false,
+    }
+}
+
+/// Whether the step of a goroutine's log fits the event.
+pub fn fits_step(who: u32, step: &Step, event: &Event) -> bool
+    ensures { IsTrue result ↔ Fits who step.now event.now }
+{
+    if place_of(who, event) != Some(step.asked.place) {
+        return false;
+    }
+    is_told(answer_of(who, &step.asked.ask, 0, &event.op), step.told)
+}

@@ -1,3 +1,4 @@
 pub mod RowLemmas
 pub mod FoundLemmas
 pub mod CountLemmas
+pub mod PossibleLemmas

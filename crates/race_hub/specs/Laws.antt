@@ -1,14 +1,16 @@
 -- The laws of the table and of the choices, which functions of src/laws.rt that do nothing have as their contracts.
-use Rattle.std.specs.Prelude.{ℕ, ◌≡◌, false, List, [], ◌∷◌, Some, None}
+use Rattle.std.specs.Prelude.{ℕ, ◌≡◌, ◌&&◌, not, false, List, [], ◌∷◌, Some, None}
 use Rattle.race_records.specs.declared.event.Cause.TheVariants.{SendClosed, CloseClosed, CloseNil, UnlockFree, RUnlockFree}
 use Rattle.race_records.specs.declared.event.Event.{Event}
-use Rattle.race_records.specs.declared.event.Op.TheVariants.{Go, Exit, Read, Write, Send, Recv, RecvClosed, Close, Lock, Unlock, RLock, RUnlock, OnceBegin, OnceEnd, OnceDone, Fault}
+use Rattle.race_records.specs.declared.event.Op.TheVariants.{Go, Exit, Read, Write, Send, Recv, Meet, RecvClosed, Close, Lock, Unlock, RLock, RUnlock, OnceBegin, OnceEnd, OnceDone, Fault}
+use Rattle.race_model.specs.State.{over, runs}
 use Rattle.race_model.specs.Examples.{does}
 use Rattle.race_hub.specs.declared.request.Answer.{Answer}
 use Rattle.race_hub.specs.declared.request.Ask.{Ask}
 use Rattle.race_hub.specs.declared.request.Waiter.{Waiter}
 use Rattle.race_hub.specs.Table.{done_by, IsRow}
-use Rattle.race_hub.specs.Choices.{choice, choices, event_of, is_legal_next, meet_event}
+use Rattle.race_hub.specs.Choices.{choice, choices, event_of, is_legal_next, lone_event, meet_event}
+use Rattle.race_hub.specs.Possible.{goes_on, meet_goes_on}
 use Rattle.race_hub.specs.Rows.{capacities, waits, HasRow, Stays, three_started, one_meets_main}
 
 -- a start and an exit always go on
@@ -92,3 +94,16 @@ OthersStandAtTheirPlace =
 abbrev pub NobodyMeetsItself : Type 0
 NobodyMeetsItself =
     (caps : ℕ → ℕ) (past : List Event) (w r : Waiter) (k q : ℕ) → w.who ≡ r.who → is_legal_next caps past (meet_event w k r q) ≡ false
+
+-- each request goes on alone just where the words of the run so far say so
+abbrev pub EachRowGoesOn : Type 0
+EachRowGoesOn =
+    (caps : ℕ → ℕ) (past : List Event) (w : Waiter) (k : ℕ)
+    → is_legal_next caps past (lone_event past w k) ≡ (not (over past) && (runs w.who past && goes_on caps past w.who w.asked.ask))
+
+-- so does a sender with a receiver of the same channel
+abbrev pub EachMeetGoesOn : Type 0
+EachMeetGoesOn =
+    (caps : ℕ → ℕ) (past : List Event) (sender receiver place place2 c v : ℕ)
+    → is_legal_next caps past (Some (record { who = sender; op = Meet receiver c v; place = place; place2 = Some place2 }))
+    ≡ (not (over past) && ((runs sender past && runs receiver past) && meet_goes_on caps past sender receiver c))

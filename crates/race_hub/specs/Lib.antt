@@ -4,5 +4,6 @@ pub mod Choices
 pub mod Search
 pub mod Part
 pub mod Job
+pub mod Possible
 pub mod Rows
 pub mod Laws

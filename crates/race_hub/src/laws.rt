@@ -1,5 +1,7 @@
 //! The laws of the table and of the choices. Each function does nothing, and its contract is the law.
 ghost use Rattle.race_hub.specs.Laws.{
+  EachMeetGoesOn,
+  EachRowGoesOn,
   MeetsAreListedBySender,
   NobodyMeetsItself,
   OthersStandAtTheirPlace,
@@ -66,4 +68,14 @@ pub fn others_stand_at_their_place()
 /// No goroutine meets itself.
 pub fn nobody_meets_itself()
     ensures { NobodyMeetsItself }
+{}
+
+/// Each request goes on alone just where the words of the run so far say so.
+pub fn each_row_goes_on()
+    ensures { EachRowGoesOn }
+{}
+
+/// So does a sender with a receiver of the same channel.
+pub fn each_meet_goes_on()
+    ensures { EachMeetGoesOn }
 {}

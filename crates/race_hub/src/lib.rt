@@ -4,6 +4,7 @@
 mod choice;
 mod job;
 pub mod laws;
+mod possible;
 mod request;
 mod routine;
 mod search;
@@ -13,6 +14,7 @@ mod tests;
 
 pub use choice::Choice;
 pub use job::Job;
+pub use possible::can_go_on;
 pub use request::{Answer, Ask, Offer, Request, Step, Waiter};
 pub use routine::{Boxed, Routine};
 pub use search::{Board, Found, find, pick_choice};

@@ -1,0 +1,65 @@
+-- Where a request can go on, in the words of the run so far. (The Go Programming Language Specification, "Go statements", "Send statements", "Receive operator", "Close"; package sync)
+use Rattle.std.specs.Prelude.{ℕ, ◌==◌, ◌||◌, ◌&&◌, not, nat_lt, Bool, true, false, List, Option, Some, None, is_none}
+use Rattle.race_records.specs.declared.event.Event.{Event}
+use Rattle.race_records.specs.declared.kind.Kind.{Kind}
+use Rattle.race_records.specs.Parts.{chan_is_in_range}
+use Rattle.race_model.specs.Events.{gives}
+use Rattle.race_model.specs.State.{started, is_closed, buffered, front, is_held, is_read_held, is_begun, is_ended, innermost}
+use Rattle.race_hub.specs.declared.request.Ask.{Ask}
+use Rattle.race_hub.specs.declared.request.Waiter.{Waiter}
+
+-- who sends goes on alone where the channel is closed, which is a fault, or where its buffer has room
+abbrev pub sender_goes_on : (ℕ → ℕ) → List Event → Option ℕ → Bool
+sender_goes_on caps past None = false
+sender_goes_on caps past (Some c) = is_closed c past || (nat_lt 0 (caps c) && not (buffered c past == caps c))
+
+-- who receives, where a value waits, or where the channel is closed and none does
+abbrev pub receiver_goes_on : (ℕ → ℕ) → List Event → Option ℕ → Bool
+receiver_goes_on caps past None = false
+receiver_goes_on caps past (Some c) = elim (front c past) [ Some v ↦ nat_lt 0 (caps c) | None ↦ is_closed c past ]
+
+-- where g's ask goes on alone, while the run isn't over and g runs
+abbrev pub goes_on : (ℕ → ℕ) → List Event → ℕ → Ask → Bool
+-- nobody is started twice
+goes_on caps past g (Ask.Go h) = not (h == 0) && not (started h past)
+-- nobody leaves in the function of a once
+goes_on caps past g Ask.Exit = is_none (innermost g past)
+goes_on caps past g (Ask.Read x) = true
+goes_on caps past g (Ask.Write x v) = true
+goes_on caps past g (Ask.Send c v) = sender_goes_on caps past c
+goes_on caps past g (Ask.Recv c) = receiver_goes_on caps past c
+-- on a closed channel and on nil this is a fault
+goes_on caps past g (Ask.Close c) = true
+-- neither a writer nor a reader has the lock
+goes_on caps past g (Ask.Lock l) = not (is_held l past) && not (is_read_held l past)
+goes_on caps past g (Ask.RLock l) = not (is_held l past)
+-- where nothing is locked this is a fault
+goes_on caps past g (Ask.Unlock l) = true
+goes_on caps past g (Ask.RUnlock l) = true
+-- the function hasn't begun, or it ended
+goes_on caps past g (Ask.Do o) = not (is_begun o past) || is_ended o past
+goes_on caps past g (Ask.EndDo o) = gives (innermost g past) o
+
+-- where the two meet on the channel, while the run isn't over and both run
+abbrev pub meet_goes_on : (ℕ → ℕ) → List Event → ℕ → ℕ → ℕ → Bool
+meet_goes_on caps past sender receiver c = not (receiver == sender) && ((caps c == 0) && not (is_closed c past))
+
+-- with so many objects of each kind, every number that the ask names is in range
+abbrev pub ask_is_in_range : (Kind → ℕ) → Ask → Bool
+ask_is_in_range counts (Ask.Go h) = nat_lt h (counts Kind.Goroutine)
+ask_is_in_range counts Ask.Exit = true
+ask_is_in_range counts (Ask.Read x) = nat_lt x (counts Kind.Var)
+ask_is_in_range counts (Ask.Write x v) = nat_lt x (counts Kind.Var)
+ask_is_in_range counts (Ask.Send c v) = chan_is_in_range (counts Kind.Chan) c
+ask_is_in_range counts (Ask.Recv c) = chan_is_in_range (counts Kind.Chan) c
+ask_is_in_range counts (Ask.Close c) = chan_is_in_range (counts Kind.Chan) c
+ask_is_in_range counts (Ask.Lock l) = nat_lt l (counts Kind.Lock)
+ask_is_in_range counts (Ask.Unlock l) = nat_lt l (counts Kind.Lock)
+ask_is_in_range counts (Ask.RLock l) = nat_lt l (counts Kind.Lock)
+ask_is_in_range counts (Ask.RUnlock l) = nat_lt l (counts Kind.Lock)
+ask_is_in_range counts (Ask.Do o) = nat_lt o (counts Kind.Once)
+ask_is_in_range counts (Ask.EndDo o) = nat_lt o (counts Kind.Once)
+
+-- so is its goroutine
+abbrev pub waiter_is_in_range : (Kind → ℕ) → Waiter → Bool
+waiter_is_in_range counts w = nat_lt w.who (counts Kind.Goroutine) && ask_is_in_range counts w.asked.ask

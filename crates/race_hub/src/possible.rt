@@ -1,0 +1,149 @@
+//! Which requests can go on after the events so far, asked of a replay of these events, and which event each makes.
+ghost use Rattle.std.specs.Prelude.{ℕ, ◌≡◌, ◌<◌, ◌==◌, ◌&&◌, ◌||◌, not, nat_lt, List, is_none, IsTrue};
+ghost use Rattle.race_model.specs.Events.{gives};
+ghost use Rattle.race_records.specs.declared.event.Event.{Event};
+ghost use Rattle.race_records.specs.Parts.{chan_is_in_range};
+ghost use Rattle.race_records.specs.Declarations.{capacity_of, count_of};
+ghost use Rattle.race_model.specs.State.{over, runs};
+ghost use Rattle.race_legal.specs.ReplayState.{counts_in};
+ghost use Rattle.race_legal.specs.StandsFor.{StandsFor};
+ghost use Rattle.race_hub.specs.Choices as spec;
+ghost use Rattle.race_hub.specs.Possible.{sender_goes_on, receiver_goes_on, goes_on, meet_goes_on, ask_is_in_range, waiter_is_in_range};
+
+use crate::{Ask, Waiter};
+use race_legal::Replay;
+use race_records::{Decls, Kind};
+use std::alloc::Allocator;
+
+// Neither of the two holds.
+fn neither(this: bool, that: bool) -> bool
+    ensures { result ≡ (not this && not that) }
+{
+    !this && !that
+}
+
+// The one holds only where the other does.
+fn only_if(this: bool, that: bool) -> bool
+    ensures { result ≡ (not this || that) }
+{
+    !this || that
+}
+
+// The channel is closed, or its buffer has room.
+fn takes_value(closed: bool, capacity: u32, buffered: usize) -> bool
+    ensures { result ≡ (closed || (nat_lt 0 capacity && not (buffered == capacity))) }
+{
+    closed || (capacity > 0 && buffered != capacity as usize)
+}
+
+// There is no number.
+fn is_absent(found: Option<u32>) -> bool
+    ensures { result ≡ is_none found }
+{
+    match found {
+        None => true,
+        Some(_) => false,
+    }
+}
+
+// There is a number, and it is this.
+fn is_number(found: Option<u32>, number: u32) -> bool
+    ensures { result ≡ gives found number }
+{
+    found == Some(number)
+}
+
+// The run isn't over, who acts runs, and the rest lets it.
+fn acts(over: bool, runs: bool, can: bool) -> bool
+    ensures { result ≡ (not over && (runs && can)) }
+{
+    !over && runs && can
+}
+
+// Whether who asks to send goes on alone.
+fn sender_can<A: Allocator, B: Allocator>(
+    replay: &Replay<A>,
+    decls: &Decls<B>,
+    chan: Option<u32>,
+) -> bool
+    requires same { count_of Kind.Chan decls.now.declarations ≡ counts_in replay.now Kind.Chan }
+    requires range { IsTrue (chan_is_in_range (counts_in replay.now Kind.Chan) chan) }
+    ensures { (past : List Event) → StandsFor decls.now.declarations replay.now past
+        → result ≡ sender_goes_on (capacity_of decls.now.declarations) past chan }
+{
+    let Some(chan) = chan else {
+        return false;
+    };
+    takes_value(
+        replay.is_closed(chan),
+        decls.capacity(chan),
+        replay.buffered(chan),
+    )
+}
+
+// Whether who asks to receive goes on alone.
+fn receiver_can<A: Allocator, B: Allocator>(
+    replay: &Replay<A>,
+    decls: &Decls<B>,
+    chan: Option<u32>,
+) -> bool
+    requires same { count_of Kind.Chan decls.now.declarations ≡ counts_in replay.now Kind.Chan }
+    requires range { IsTrue (chan_is_in_range (counts_in replay.now Kind.Chan) chan) }
+    ensures { (past : List Event) → StandsFor decls.now.declarations replay.now past
+        → result ≡ receiver_goes_on (capacity_of decls.now.declarations) past chan }
+{
+    let Some(chan) = chan else {
+        return false;
+    };
+    match replay.front(chan) {
+        Some(_) => decls.capacity(chan) > 0,
+        None => replay.is_closed(chan),
+    }
+}
+
+// Whether who asks goes on alone, while the run isn't over and it runs.
+fn ask_can<A: Allocator, B: Allocator>(
+    replay: &Replay<A>,
+    decls: &Decls<B>,
+    who: u32,
+    ask: &Ask,
+) -> bool
+    requires same { count_of Kind.Chan decls.now.declarations ≡ counts_in replay.now Kind.Chan }
+    requires who { who < counts_in replay.now Kind.Goroutine }
+    requires range { IsTrue (ask_is_in_range (counts_in replay.now) ask.now) }
+    ensures { (past : List Event) → StandsFor decls.now.declarations replay.now past
+        → result ≡ goes_on (capacity_of decls.now.declarations) past who ask.now }
+{
+    match ask {
+        Ask::Go(goroutine) => neither(*goroutine == 0, replay.started(*goroutine)),
+        Ask::Exit => is_absent(replay.innermost(who)),
+        Ask::Send(chan, _) => sender_can(replay, decls, *chan),
+        Ask::Recv(chan) => receiver_can(replay, decls, *chan),
+        Ask::Lock(lock) => neither(replay.is_held(*lock), replay.is_read_held(*lock)),
+        Ask::RLock(lock) => !replay.is_held(*lock),
+        Ask::Do(once) => only_if(replay.is_begun(*once), replay.is_ended(*once)),
+        Ask::EndDo(once) => is_number(replay.innermost(who), *once),
+        // These go on always: some of them as a fault.
+        Ask::Read(_) => true,
+        Ask::Write(_, _) => true,
+        Ask::Close(_) => true,
+        Ask::Unlock(_) => true,
+        Ask::RUnlock(_) => true,
+    }
+}
+
+/// Whether the waiting request can go on alone: whether its event breaks no rule after the events so far.
+pub fn can_go_on<A: Allocator, B: Allocator>(
+    replay: &Replay<A>,
+    decls: &Decls<B>,
+    waiter: &Waiter,
+) -> bool
+    requires same { count_of Kind.Chan decls.now.declarations ≡ counts_in replay.now Kind.Chan }
+    requires who { waiter.now.who < counts_in replay.now Kind.Goroutine }
+    requires range { IsTrue (ask_is_in_range (counts_in replay.now) waiter.now.asked.ask) }
+    ensures { (past : List Event) (way : ℕ) → StandsFor decls.now.declarations replay.now past
+        → result ≡ spec.is_legal_next (capacity_of decls.now.declarations) past (spec.lone_event past waiter.now way) }
+{
+    let can = ask_can(replay, decls, waiter.who, &waiter.asked.ask);
+    acts(replay.over(), replay.runs(waiter.who), can)
+}

@@ -2,3 +2,4 @@ pub mod RowLemmas
 pub mod FoundLemmas
 pub mod CountLemmas
 pub mod PossibleLemmas
+pub mod MeetLemmas

@@ -1,12 +1,14 @@
 -- For each row: its event breaks no rule just where the words of the run so far let it go on.
-use Rattle.std.proofs.Common.{◌≡◌, ℕ, ◌<◌, ◌≤◌, ◌==◌, ◌||◌, ◌&&◌, not, nat_lt, cond, Bool, true, false, List, [], ◌∷◌, length, filter_map, Option, Some, None, is_none, is_some, refl, sym, ap, ◌∙◌, arith}
+use Rattle.std.proofs.Common.{◌≡◌, ℕ, ◌<◌, ◌≤◌, ◌==◌, ◌||◌, ◌&&◌, not, nat_lt, cond, Bool, true, false, List, [], ◌∷◌, length, filter_map, Option, Some, None}
+use Rattle.std.proofs.Common.{is_none, is_some, refl, sym, ap, ◌∙◌, arith}
 use Rattle.std.proofs.lemmas.Bool.Decides.{nat_tests, Decides-eqb}
 use Rattle.std.proofs.lemmas.Option.{slice_get_within}
 use Rattle.race_records.proofs.ListLemmas.{slice_get-within}
 use Rattle.race_records.specs.declared.event.Event.{Event}
 use Rattle.race_records.specs.declared.event.Cause.TheVariants.{SendClosed, CloseClosed, CloseNil, UnlockFree, RUnlockFree}
 use Rattle.race_records.specs.declared.event.Op.{Op}
-use Rattle.race_records.specs.declared.event.Op.TheVariants.{Go, Exit, Read, Lock, RLock, OnceEnd, Send, Recv, Meet, RecvClosed, Close, Unlock, RUnlock, OnceBegin, OnceDone, Fault}
+use Rattle.race_records.specs.declared.event.Op.TheVariants.{Go, Exit, Read, Lock, RLock, OnceEnd, Send, Recv, Meet, RecvClosed, Close, Unlock, RUnlock}
+use Rattle.race_records.specs.declared.event.Op.TheVariants.{OnceBegin, OnceDone, Fault}
 use Rattle.race_model.specs.Events.{gives, sends, receives, count}
 use Rattle.race_model.specs.State.{over, runs, is_closed, buffered, front, sent, is_held, is_read_held, is_begun, is_ended, innermost, started, last_value}
 use Rattle.race_model.specs.Legal.{least_broken, broken, op_rules}
@@ -126,11 +128,13 @@ module _ (caps : ℕ → ℕ) (past : List Event) (g place : ℕ) where
 
   unlock_row : (l : ℕ) (held : Bool) → is_held l past ≡ held → fits (cond held (Unlock l) (Fault (UnlockFree l))) ≡ and_acts true
   unlock_row l true is = head (over past) (runs g past) true (op_rules caps past g (Unlock l)) (one 15 (not (is_held l past)) ∙ twice (is_held l past) ∙ is)
-  unlock_row l false is = head (over past) (runs g past) true (op_rules caps past g (Fault (UnlockFree l))) (one 23 (not (not (is_held l past))) ∙ ap (λ b. not (not (not b))) is)
+  unlock_row l false is = head (over past) (runs g past) true (op_rules caps past g (Fault (UnlockFree l)))
+      (one 23 (not (not (is_held l past))) ∙ ap (λ b. not (not (not b))) is)
 
   runlock_row : (l : ℕ) (held : Bool) → is_read_held l past ≡ held → fits (cond held (RUnlock l) (Fault (RUnlockFree l))) ≡ and_acts true
   runlock_row l true is = head (over past) (runs g past) true (op_rules caps past g (RUnlock l)) (one 16 (not (is_read_held l past)) ∙ twice (is_read_held l past) ∙ is)
-  runlock_row l false is = head (over past) (runs g past) true (op_rules caps past g (Fault (RUnlockFree l))) (one 23 (not (not (is_read_held l past))) ∙ ap (λ b. not (not (not b))) is)
+  runlock_row l false is = head (over past) (runs g past) true (op_rules caps past g (Fault (RUnlockFree l)))
+      (one 23 (not (not (is_read_held l past))) ∙ ap (λ b. not (not (not b))) is)
 
   do_row : (o : ℕ) (begun : Bool) → is_begun o past ≡ begun → fits (cond begun (OnceDone o) (OnceBegin o)) ≡ and_acts (not begun || is_ended o past)
   do_row o true is = head (over past) (runs g past) _ (op_rules caps past g (OnceDone o)) (one 19 (not (is_ended o past)) ∙ twice (is_ended o past))
@@ -146,7 +150,10 @@ module _ (caps : ℕ → ℕ) (past : List Event) (g place : ℕ) where
       → is_legal_next caps past (lone_event past (record { who = g; asked = record { ask = ask; place = place } }) k) ≡ and_acts (goes_on caps past g ask)
   row_goes_on (Ask.Go h) k = head (over past) (runs g past) _ (op_rules caps past g (Go h)) (one 3 (h == 0 || started h past) ∙ neither_is (h == 0) (started h past))
   row_goes_on Ask.Exit k = head (over past) (runs g past) _ (op_rules caps past g (Exit)) (one 20 (is_some (innermost g past)) ∙ some_none (innermost g past))
-  row_goes_on (Ask.Read x) k = head (over past) (runs g past) true (op_rules caps past g (Read x (last_value x past))) (one 21 (not (last_value x past == last_value x past)) ∙ twice (last_value x past == last_value x past) ∙ (Decides-eqb (last_value x past) (last_value x past)).1 refl)
+  row_goes_on (Ask.Read x) k = head (over past) (runs g past) true
+      (op_rules caps past g (Read x (last_value x past)))
+      (one 21 (not (last_value x past == last_value x past)) ∙ twice (last_value x past == last_value x past)
+      ∙ (Decides-eqb (last_value x past) (last_value x past)).1 refl)
   row_goes_on (Ask.Write x v) k = head (over past) (runs g past) true [] refl
   row_goes_on (Ask.Send None v) k = nothing (over past) (runs g past)
   row_goes_on (Ask.Send (Some c) v) k = send_row c v (is_closed c past) refl
@@ -159,7 +166,8 @@ module _ (caps : ℕ → ℕ) (past : List Event) (g place : ℕ) where
   row_goes_on (Ask.Unlock l) k = unlock_row l (is_held l past) refl
   row_goes_on (Ask.RUnlock l) k = runlock_row l (is_read_held l past) refl
   row_goes_on (Ask.Do o) k = do_row o (is_begun o past) refl
-  row_goes_on (Ask.EndDo o) k = head (over past) (runs g past) _ (op_rules caps past g (OnceEnd o)) (one 18 (not (gives (innermost g past) o)) ∙ twice (gives (innermost g past) o))
+  row_goes_on (Ask.EndDo o) k = head (over past) (runs g past) _ (op_rules caps past g (OnceEnd o))
+      (one 18 (not (gives (innermost g past) o)) ∙ twice (gives (innermost g past) o))
 
 -- each request goes on alone just where the words of the run so far say so
 pub each_row : (caps : ℕ → ℕ) (past : List Event) (w : Waiter) (k : ℕ)

@@ -1,11 +1,12 @@
 -- Where a request can go on, in the words of the run so far. (The Go Programming Language Specification, "Go statements", "Send statements", "Receive operator", "Close"; package sync)
-use Rattle.std.specs.Prelude.{ℕ, ◌==◌, ◌||◌, ◌&&◌, not, nat_lt, Bool, true, false, List, Option, Some, None, is_none}
+use Rattle.std.specs.Prelude.{ℕ, if◌then◌else◌, ◌==◌, ◌||◌, ◌&&◌, not, nat_lt, Bool, true, false, List, Option, Some, None, is_none}
 use Rattle.race_records.specs.declared.event.Event.{Event}
 use Rattle.race_records.specs.declared.kind.Kind.{Kind}
 use Rattle.race_records.specs.Parts.{chan_is_in_range}
 use Rattle.race_model.specs.Events.{gives}
 use Rattle.race_model.specs.State.{started, is_closed, buffered, front, is_held, is_read_held, is_begun, is_ended, innermost}
 use Rattle.race_hub.specs.declared.request.Ask.{Ask}
+use Rattle.race_hub.specs.declared.request.Offer.{Offer}
 use Rattle.race_hub.specs.declared.request.Waiter.{Waiter}
 
 -- who sends goes on alone where the channel is closed, which is a fault, or where its buffer has room
@@ -60,6 +61,12 @@ ask_is_in_range counts (Ask.RUnlock l) = nat_lt l (counts Kind.Lock)
 ask_is_in_range counts (Ask.Do o) = nat_lt o (counts Kind.Once)
 ask_is_in_range counts (Ask.EndDo o) = nat_lt o (counts Kind.Once)
 
--- so is its goroutine
-abbrev pub waiter_is_in_range : (Kind → ℕ) → Waiter → Bool
-waiter_is_in_range counts w = nat_lt w.who (counts Kind.Goroutine) && ask_is_in_range counts w.asked.ask
+-- over which channel which value is handed, where the one offers to send on it and the other to receive from it
+abbrev pub handed : Option Offer → Option Offer → Option (ℕ × ℕ)
+handed (Some (Offer.Send (Some c) v)) (Some (Offer.Recv (Some d))) = if c == d then Some (c, v) else None
+handed _ _ = None
+
+-- of so many channels, the offer's is one, or it is nil
+abbrev pub offer_is_in_range : ℕ → Offer → Bool
+offer_is_in_range chans (Offer.Send c v) = chan_is_in_range chans c
+offer_is_in_range chans (Offer.Recv c) = chan_is_in_range chans c

@@ -2,7 +2,8 @@
 use Rattle.std.specs.Prelude.{ℕ, if◌then◌else◌, ◌==◌, ◌&&◌, Bool, true, Option, Some, None}
 use Rattle.race_records.specs.declared.event.Cause.TheVariants.{SendClosed, CloseClosed, CloseNil, UnlockFree, RUnlockFree}
 use Rattle.race_records.specs.declared.event.Op.{Op}
-use Rattle.race_records.specs.declared.event.Op.TheVariants.{Go, Exit, Read, Write, Send, Recv, RecvClosed, Close, Lock, Unlock, RLock, RUnlock, OnceBegin, OnceEnd, OnceDone, Fault}
+use Rattle.race_records.specs.declared.event.Op.TheVariants.{Go, Exit, Read, Write, Send, Recv, RecvClosed, Close, Lock, Unlock, RLock, RUnlock, OnceBegin}
+use Rattle.race_records.specs.declared.event.Op.TheVariants.{OnceEnd, OnceDone, Fault}
 use Rattle.race_hub.specs.declared.request.Answer.{Answer}
 use Rattle.race_hub.specs.declared.request.Ask.{Ask}
 

@@ -4,16 +4,22 @@
 mod choice;
 mod job;
 pub mod laws;
+mod making;
+mod meet;
 mod possible;
 mod request;
 mod routine;
 mod search;
+#[cfg(test)]
+mod search_tests;
 mod table;
 #[cfg(test)]
 mod tests;
 
 pub use choice::Choice;
 pub use job::Job;
+pub use making::lone_event;
+pub use meet::{can_meet, meet_event};
 pub use possible::can_go_on;
 pub use request::{Answer, Ask, Offer, Request, Step, Waiter};
 pub use routine::{Boxed, Routine};

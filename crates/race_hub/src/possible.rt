@@ -8,7 +8,7 @@ ghost use Rattle.race_model.specs.State.{over, runs};
 ghost use Rattle.race_legal.specs.ReplayState.{counts_in};
 ghost use Rattle.race_legal.specs.StandsFor.{StandsFor};
 ghost use Rattle.race_hub.specs.Choices as spec;
-ghost use Rattle.race_hub.specs.Possible.{sender_goes_on, receiver_goes_on, goes_on, meet_goes_on, ask_is_in_range, waiter_is_in_range};
+ghost use Rattle.race_hub.specs.Possible.{sender_goes_on, receiver_goes_on, goes_on, meet_goes_on, ask_is_in_range};
 
 use crate::{Ask, Waiter};
 use race_legal::Replay;
@@ -54,7 +54,7 @@ fn is_number(found: Option<u32>, number: u32) -> bool
 }
 
 // The run isn't over, who acts runs, and the rest lets it.
-fn acts(over: bool, runs: bool, can: bool) -> bool
+pub(crate) fn acts(over: bool, runs: bool, can: bool) -> bool
     ensures { result ≡ (not over && (runs && can)) }
 {
     !over && runs && can

@@ -6,4 +6,5 @@ use Rattle.race_hub.specs.Search.{IsFound}
 use Rattle.race_hub.proofs.search.with_each_partner.Given as goal
 
 abbrev pub invariant-loop-partner : goal.invariant-loop-partner
-invariant-loop-partner g l = IsFound (filter (g.B.Board.admitted l.board) (flat_map (with_partner (g.B.Board.ways_at l.board) l.place l.way) (below l.partner))) l.skip (Left l.left)
+invariant-loop-partner g l =
+    IsFound (filter (g.B.Board.admitted l.board) (flat_map (with_partner (g.B.Board.ways_at l.board) l.place l.way) (below l.partner))) l.skip (Left l.left)

@@ -1,0 +1,39 @@
+-- Each reader answers the word of the run so far.
+use Rattle.std.proofs.Common.{◌≡◌, ℕ, cond, Bool, Option, Some, None, sym, ap, ◌∙◌}
+use Rattle.race_records.specs.declared.event.Cause.TheVariants.{SendClosed, CloseClosed, UnlockFree, RUnlockFree}
+use Rattle.race_records.specs.declared.event.Op.{Op}
+use Rattle.race_records.specs.declared.event.Op.TheVariants.{Read, Send, Recv, RecvClosed, Close, Unlock, RUnlock, OnceBegin, OnceDone, Fault}
+use Rattle.race_hub.specs.declared.request.Ask.{Ask}
+use Rattle.race_hub.specs.Choices.{op_of}
+use Rattle.race_hub.proofs.making.lone_op.Goals as goal
+
+pub returns-in-Read : goal.returns-in-Read
+returns-in-Read g c D past S way =
+    ap (λ (v : ℕ). Some (Read c.in-Read.var v)) (c.last_value.ensures D past S) ∙ sym (ap (λ (a : Ask). op_of past a way) c.in-Read.is)
+
+pub returns-in-Unlock : goal.returns-in-Unlock
+returns-in-Unlock g c D past S way =
+    ap (λ (o : Op). Some o) c.unlock_op.ensures
+    ∙ ap (λ (b : Bool). Some (cond b (Unlock c.in-Unlock.lock) (Fault (UnlockFree c.in-Unlock.lock)))) (c.is_held.ensures D past S)
+    ∙ sym (ap (λ (a : Ask). op_of past a way) c.in-Unlock.is)
+
+pub returns-in-RUnlock : goal.returns-in-RUnlock
+returns-in-RUnlock g c D past S way =
+    ap (λ (o : Op). Some o) c.runlock_op.ensures
+    ∙ ap (λ (b : Bool). Some (cond b (RUnlock c.in-RUnlock.lock) (Fault (RUnlockFree c.in-RUnlock.lock)))) (c.is_read_held.ensures D past S)
+    ∙ sym (ap (λ (a : Ask). op_of past a way) c.in-RUnlock.is)
+
+pub returns-in-Do : goal.returns-in-Do
+returns-in-Do g c D past S way =
+    ap (λ (o : Op). Some o) c.do_op.ensures
+    ∙ ap (λ (b : Bool). Some (cond b (OnceDone c.in-Do.once) (OnceBegin c.in-Do.once))) (c.is_begun.ensures D past S)
+    ∙ sym (ap (λ (a : Ask). op_of past a way) c.in-Do.is)
+
+pub returns-in-Send : goal.returns-in-Send
+returns-in-Send g c D past S way = c.lone_send.ensures D past S way ∙ sym (ap (λ (a : Ask). op_of past a way) c.in-Send.is)
+
+pub returns-in-Recv : goal.returns-in-Recv
+returns-in-Recv g c D past S way = c.lone_recv.ensures D past S way ∙ sym (ap (λ (a : Ask). op_of past a way) c.in-Recv.is)
+
+pub returns-in-Close : goal.returns-in-Close
+returns-in-Close g c D past S way = c.lone_close.ensures D past S way ∙ sym (ap (λ (a : Ask). op_of past a way) c.in-Close.is)

@@ -1,0 +1,68 @@
+ghost use Rattle.std.specs.Prelude.{◌≤◌};
+
+use crate::{Board, Choice, pick_choice};
+
+// So many requests with one way each. Those at even places meet those at odd ones, or each goes on alone.
+#[derive(Drop)]
+struct Crowd {
+    waiting: u32,
+    pairs: bool,
+    ghost few: { waiting ≤ 1024 },
+}
+
+impl Board for Crowd {
+    ghost use Rattle.std.specs.Prelude.{if◌then◌else◌, ◌==◌, ◌%◌, ◌&&◌, nat_lt};
+
+    ghost size = { λ c. c.waiting };
+
+    ghost ways_at = { λ _ _. 1 };
+
+    ghost admitted = { λ c t. if c.pairs then ((t.place % 2 == 0) && (nat_lt 0 t.partner && (t.partner % 2 == 0))) else (t.partner == 0) };
+
+    fn len(&self) -> u32 {
+        self.waiting
+    }
+
+    fn ways(&self, _place: u32) -> u32 {
+        1
+    }
+
+    fn meets(&self, place: u32, _way: u32) -> bool {
+        self.pairs && place % 2 == 0
+    }
+
+    fn admits(&self, choice: Choice) -> bool {
+        if self.pairs {
+            choice.place % 2 == 0 && choice.partner > 0 && choice.partner % 2 == 0
+        } else {
+            choice.partner == 0
+        }
+    }
+}
+
+fn meet(place: u32, partner: u32) -> Option<Choice> {
+    Some(Choice {
+        place,
+        offer: 0,
+        partner,
+        partner_offer: 1,
+    })
+}
+
+#[test]
+fn picks_go_round_the_choices_in_order(rt: HostRuntime) {
+    let crowd = Crowd {
+        waiting: 4,
+        pairs: true,
+    };
+    assert_eq!(rt; pick_choice(&crowd, 0), meet(0, 2));
+    assert_eq!(rt; pick_choice(&crowd, 1), meet(0, 4));
+    assert_eq!(rt; pick_choice(&crowd, 2), meet(2, 2));
+    assert_eq!(rt; pick_choice(&crowd, 3), meet(2, 4));
+    assert_eq!(rt; pick_choice(&crowd, 4), meet(0, 2));
+    let nobody = Crowd {
+        waiting: 0,
+        pairs: false,
+    };
+    assert_eq!(rt; pick_choice(&nobody, 7), None);
+}

@@ -7,7 +7,6 @@ use Rattle.race_model.specs.Events.{gives}
 use Rattle.race_model.specs.State.{started, is_closed, buffered, front, is_held, is_read_held, is_begun, is_ended, innermost}
 use Rattle.race_hub.specs.declared.request.Ask.{Ask}
 use Rattle.race_hub.specs.declared.request.Offer.{Offer}
-use Rattle.race_hub.specs.declared.request.Waiter.{Waiter}
 
 -- who sends goes on alone where the channel is closed, which is a fault, or where its buffer has room
 abbrev pub sender_goes_on : (ℕ → ℕ) → List Event → Option ℕ → Bool

@@ -1,8 +1,8 @@
 -- Each reader answers the word of the run so far.
-use Rattle.std.proofs.Common.{◌≡◌, ℕ, cond, Bool, Option, Some, None, sym, ap, ◌∙◌}
-use Rattle.race_records.specs.declared.event.Cause.TheVariants.{SendClosed, CloseClosed, UnlockFree, RUnlockFree}
+use Rattle.std.proofs.Common.{ℕ, cond, Bool, Some, sym, ap, ◌∙◌}
+use Rattle.race_records.specs.declared.event.Cause.TheVariants.{UnlockFree, RUnlockFree}
 use Rattle.race_records.specs.declared.event.Op.{Op}
-use Rattle.race_records.specs.declared.event.Op.TheVariants.{Read, Send, Recv, RecvClosed, Close, Unlock, RUnlock, OnceBegin, OnceDone, Fault}
+use Rattle.race_records.specs.declared.event.Op.TheVariants.{Read, Unlock, RUnlock, OnceBegin, OnceDone, Fault}
 use Rattle.race_hub.specs.declared.request.Ask.{Ask}
 use Rattle.race_hub.specs.Choices.{op_of}
 use Rattle.race_hub.proofs.making.lone_op.Goals as goal

@@ -1,8 +1,7 @@
 -- The reader answers the word of the run so far.
-use Rattle.std.proofs.Common.{ℕ, cond, Bool, Option, Some, None, sym, ap, ◌∙◌}
-use Rattle.race_records.specs.declared.event.Cause.TheVariants.{SendClosed, CloseClosed}
+use Rattle.std.proofs.Common.{ℕ, Option, Some, None, sym, ap, ◌∙◌}
 use Rattle.race_records.specs.declared.event.Op.{Op}
-use Rattle.race_records.specs.declared.event.Op.TheVariants.{Send, Recv, RecvClosed, Close, Fault}
+use Rattle.race_records.specs.declared.event.Op.TheVariants.{Recv, RecvClosed}
 use Rattle.race_hub.specs.declared.request.Ask.{Ask}
 use Rattle.race_hub.specs.Choices.{op_of}
 use Rattle.race_hub.proofs.making.lone_recv.Goals as goal

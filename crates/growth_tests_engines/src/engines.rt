@@ -62,6 +62,6 @@ fn engines(rt: HostRuntime) {
         report,
         // The judge by clocks takes seven lists: four of the replay, for goroutines and variables, one
         // for their clocks, one for what is kept of variables, and the races.
-        [(Engine::Check, 23), (Engine::PlainCheck, 27), (Engine::Edges, 22)]
+        [(Engine::Check, 22), (Engine::PlainCheck, 26), (Engine::Edges, 21)]
     );
 }

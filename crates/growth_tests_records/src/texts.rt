@@ -4,7 +4,7 @@ ghost use Rattle.std.specs.Prelude.{◌<◌};
 use crate::records::{Start, is_as_started, started};
 use growth_tests::{Outcome, assert_refusals, judge};
 use race_records::{Decls, Trace};
-use race_text::{TextCause, TextFault, parse_trace, read_declaration};
+use race_text::{LineReader, TextCause, TextFault, parse_trace, read_declaration};
 use refusing_heap::RefusingHeap;
 use std::alloc::{Allocator, Global};
 
@@ -13,9 +13,19 @@ fn parse<A: Allocator + Copy>(alloc: A) -> Result<Trace<A>, TextFault> {
     parse_trace(alloc, b"gotrace 1\nvar x\nwrite main x 7 a.go:1\n")
 }
 
-// The line at which memory runs out: the variable takes six growths, the place and the event six.
-fn line_of_growth(nth: u64) -> u64 {
-    if nth <= 6 { 2 } else { 3 }
+// The fault where this growth is refused: the variable takes six, the place and the event six, and a
+// line that isn't ended yet is kept.
+fn fault_of_growth(nth: u64) -> TextFault {
+    TextFault {
+        line: if nth <= 6 {
+            2
+        } else if nth <= 12 {
+            3
+        } else {
+            4
+        },
+        cause: TextCause::OutOfMemory,
+    }
 }
 
 fn text(alloc: Global, _call: (), nth: u64) -> Outcome
@@ -25,15 +35,54 @@ fn text(alloc: Global, _call: (), nth: u64) -> Outcome
     heap.refuse(nth);
     let (refused, done) = match parse(&heap) {
         Ok(trace) => (false, trace.len() == 1),
-        Err(fault) => {
-            let told = TextFault {
-                line: line_of_growth(nth),
-                cause: TextCause::OutOfMemory,
-            };
-            (fault == told, false)
-        }
+        Err(fault) => (fault == fault_of_growth(nth), false),
     };
     judge(heap.has_refused(), refused, done)
+}
+
+// Feeds a trace and half a line more.
+fn feed<A: Allocator + Copy>(reader: &mut LineReader<A>) -> Result<(), TextFault> {
+    reader.feed(b"gotrace 1\nvar x\nwrite main x 7 a.go:1\nexit")
+}
+
+// What a reader answers at the end: how many events.
+fn finish<A: Allocator + Copy>(reader: LineReader<A>) -> Result<usize, TextFault> {
+    Ok(reader.finish()?.len())
+}
+
+// After a refusal the same is told again.
+fn feeding(alloc: Global, _call: (), nth: u64) -> Outcome
+    requires { 0 < nth }
+{
+    let heap = RefusingHeap::new(alloc);
+    let mut reader = LineReader::new(&heap);
+    heap.refuse(nth);
+    let answer = feed(&mut reader);
+    let told = Err(fault_of_growth(nth));
+    let refused = answer == told && feed(&mut reader) == told;
+    let done = answer == Ok(());
+    let ended = finish(reader).err();
+    judge(
+        heap.has_refused(),
+        refused && ended == Some(fault_of_growth(nth)),
+        done,
+    )
+}
+
+fn finishing(alloc: Global, _call: (), nth: u64) -> Outcome
+    requires { 0 < nth }
+{
+    let heap = RefusingHeap::new(alloc);
+    let mut reader = LineReader::new(&heap);
+    let Ok(()) = feed(&mut reader) else {
+        return Outcome::Wrong;
+    };
+    let Ok(()) = reader.feed(b" main a.go:1\n") else {
+        return Outcome::Wrong;
+    };
+    heap.refuse(nth);
+    let answer = finish(reader);
+    judge(heap.has_refused(), false, answer == Ok(2))
 }
 
 fn declare<A: Allocator + Copy>(decls: &mut Decls<A>) -> Result<bool, TextCause> {
@@ -56,5 +105,7 @@ fn declaration(alloc: Global, start: Start, nth: u64) -> Outcome
 #[test]
 fn texts(rt: HostRuntime) {
     assert_refusals!(rt, text, [((), 12)]);
+    assert_refusals!(rt, feeding, [((), 13)]);
+    assert_refusals!(rt, finishing, [((), 0)]);
     assert_refusals!(rt, declaration, [(Start::Nothing, 6), (Start::Copy, 4)]);
 }

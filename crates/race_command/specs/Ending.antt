@@ -21,7 +21,7 @@ pub record Checks {R W : Type 0} (plain : Bool) (remaining : R → Option (List 
   pub illegal : answer ≡ status.ILLEGAL → ReadsTextWhere IsIllegal (unread remaining source) (unread remaining source_now)
   pub refused : answer ≡ status.REFUSED → sink_now ≡ sink
   pub device : answer ≡ status.DEVICE
-      → FailsToRead source source_now sink sink_now
+      → FailsToRead remaining source source_now sink sink_now
       ⊎ GivesUpReading remaining source source_now sink sink_now
       ⊎ FailsToWrite plain remaining contents source source_now sink sink_now
   pub calm : answer ≢ status.DEVICE → (source_failures source_now ≡ source_failures source) × (sink_failures sink_now ≡ sink_failures sink)
@@ -32,7 +32,7 @@ pub record Lists {R W : Type 0} (remaining : R → Option (List ℕ)) (contents 
       → ReadsAndLists (unread remaining source) (unread remaining source_now) (written contents sink) (written contents sink_now) answer
   pub refused : answer ≡ status.REFUSED → sink_now ≡ sink
   pub device : answer ≡ status.DEVICE
-      → FailsToRead source source_now sink sink_now
+      → FailsToRead remaining source source_now sink sink_now
       ⊎ GivesUpReading remaining source source_now sink sink_now
       ⊎ FailsToWriteListing remaining contents source source_now sink sink_now
   pub calm : answer ≢ status.DEVICE → (source_failures source_now ≡ source_failures source) × (sink_failures sink_now ≡ sink_failures sink)

@@ -14,7 +14,11 @@ static SMALL: &[u8] =
     b"gotrace 1\ngoroutine w\nvar x\nwrite main x 7 a.go:1\ngo main w a.go:2\nread w x 7 a.go:5\nexit main a.go:3\n";
 
 // What a reader answers that is fed the text in pieces of this size.
-fn in_pieces<A: Allocator + Copy>(alloc: A, text: &[u8], size: usize) -> Result<Trace<A>, TextFault> {
+fn in_pieces<A: Allocator + Copy>(
+    alloc: A,
+    text: &[u8],
+    size: usize,
+) -> Result<Trace<A>, TextFault> {
     let mut reader = LineReader::new(alloc);
     for piece in text.chunks(size.max(1)) {
         reader.feed(piece)?;

@@ -1,10 +1,11 @@
 //! The engine of `gorace check`: a trace's text in, its report out.
 ghost use Rattle.std.specs.Prelude.{◌≡◌, ◌≢◌, ◌⊎◌, true, false};
 ghost use Rattle.race_records.specs.Devices.{unread, written, source_failures, sink_failures};
-ghost use Rattle.race_tool.specs.Finding.{IsTextWhere};
+ghost use Rattle.race_tool.specs.Input.{IsReadable};
 ghost use Rattle.race_tool.specs.Outcome.{
   are_in_limits,
   status_of_fault,
+  AreTextWhere,
   WritesReport,
   WritesFront,
   ReadsAndReports,
@@ -17,10 +18,11 @@ ghost use Rattle.race_edges.specs.Traces.{IsClean, IsRacy, IsIllegal};
 ghost use Rattle.race_tool.specs.declared.status.TheConstants as status;
 
 use crate::finding::find;
-use crate::input::{ReadFault, read_to_end};
+use crate::input::{ReadFault, read_trace};
 use crate::printing::write_finding;
 use crate::status;
-use race_records::{Sink, Source};
+use race_records::{Sink, Source, Trace};
+use race_text::TextFault;
 use std::alloc::Allocator;
 use std::io::{Read, Write};
 
@@ -68,7 +70,8 @@ impl CheckOptions {
     }
 }
 
-/// Judges a trace: reads its text to the end, and writes the report.
+/// Judges a trace: reads its text in blocks, and writes the report. It stops reading behind the block
+/// that ends the first faulty line, since nothing that follows changes the report then.
 ///
 /// The answer is a status. 0 clean, 66 races, 1 illegal and 2 text fault are told by the report; 3
 /// says that an option is out of its limits, or that there are more events than the plain judge
@@ -87,8 +90,9 @@ pub fn run_check<T, R: Read, W: Write, A: Allocator + Copy>(
     ensures untouched { are_in_limits options.now ≡ false
         → (source.new ≡ source.old) × (sink.new ≡ sink.old) }
 
-    // Otherwise, unless memory or a device was wanting: the whole input was read, exactly its
-    // report was written, and the status is the report's.
+    // Otherwise, unless memory or a device was wanting: the input was read to its end, or to the
+    // end of the block that ends its first faulty line, exactly the report of the whole input was
+    // written, and the status is the report's.
     ensures reported { are_in_limits options.now ≡ true
         → result ≢ status.REFUSED → result ≢ status.DEVICE
         → ReadsAndReports options.now.plain (unread R.remaining source.old) (unread R.remaining source.new)
@@ -107,9 +111,10 @@ pub fn run_check<T, R: Read, W: Write, A: Allocator + Copy>(
     // Memory was refused: nothing is written.
     ensures refused { result ≡ status.REFUSED → sink.new ≡ sink.old }
 
-    // A device failed, which its count shows, or the input didn't end.
+    // A device failed, which its count shows, or the input didn't end. Behind a faulty line no read
+    // can fail, since there is none.
     ensures device { result ≡ status.DEVICE
-        → FailsToRead source.old source.new sink.old sink.new
+        → FailsToRead R.remaining source.old source.new sink.old sink.new
         ⊎ GivesUpReading R.remaining source.old source.new sink.old sink.new
         ⊎ FailsToWrite options.now.plain R.remaining W.contents source.old source.new sink.old sink.new }
 
@@ -121,8 +126,8 @@ pub fn run_check<T, R: Read, W: Write, A: Allocator + Copy>(
     if !options.are_in_limits() {
         return status::USAGE;
     }
-    match read_to_end(alloc, source) {
-        Ok(bytes) => report(alloc, bytes.as_slice(), options.plain, sink),
+    match read_trace(alloc, source) {
+        Ok(text) => report(alloc, text, options.plain, sink),
         Err(fault) => status_of_fault(fault),
     }
 }
@@ -138,24 +143,25 @@ pub(crate) fn status_of_fault(fault: ReadFault) -> u8
     }
 }
 
-// Writes the report on the bytes.
+// Writes the report on what was read.
 fn report<W: Write, A: Allocator + Copy>(
     alloc: A,
-    bytes: &[u8],
+    text: Result<Trace<A>, TextFault>,
     plain: bool,
     sink: &mut Sink<W>,
 ) -> u8
+    requires { IsReadable text }
     ensures reported { result ≢ status.REFUSED → result ≢ status.DEVICE
-        → WritesReport plain bytes.now (written W.contents sink.old) (written W.contents sink.new) result }
-    ensures clean { result ≡ status.CLEAN → IsTextWhere IsClean bytes.now }
-    ensures races { result ≡ status.RACES → IsTextWhere IsRacy bytes.now }
-    ensures illegal { result ≡ status.ILLEGAL → IsTextWhere IsIllegal bytes.now }
+        → WritesReport plain text (written W.contents sink.old) (written W.contents sink.new) result }
+    ensures clean { result ≡ status.CLEAN → AreTextWhere IsClean text }
+    ensures races { result ≡ status.RACES → AreTextWhere IsRacy text }
+    ensures illegal { result ≡ status.ILLEGAL → AreTextWhere IsIllegal text }
     ensures refused { result ≡ status.REFUSED → sink.new ≡ sink.old }
     ensures device { result ≡ status.DEVICE
-        → WritesFront plain bytes.now W.contents sink.old sink.new }
+        → WritesFront plain text W.contents sink.old sink.new }
     ensures calm { result ≢ status.DEVICE → sink_failures sink.new ≡ sink_failures sink.old }
 {
-    match find(alloc, bytes, plain) {
+    match find(alloc, text, plain) {
         Ok(finding) => match write_finding(&finding, sink) {
             Ok(()) => finding.status(),
             Err(_) => status::DEVICE,

@@ -7,6 +7,7 @@ ghost use Rattle.race_edges.specs.declared.fault.TheConstants.{MAX_PLAIN_EVENTS}
 ghost use Rattle.race_edges.specs.Traces.{IsIllegal};
 ghost use Rattle.race_tool.specs.Listing as spec;
 ghost use Rattle.race_tool.specs.Listings.{listing_of, IsListingOn, CanBeListed};
+ghost use Rattle.race_tool.specs.Outcome.{IsRightOn};
 
 use crate::printing::write_too_long;
 use crate::status;
@@ -14,7 +15,7 @@ use race_edges::{Edge, EdgeFault, Verdict, edges};
 use race_legal::{Illegal, legal};
 use race_records::{Sink, Trace, WriteFault};
 use race_report::{write_edges, write_report, write_text_fault};
-use race_text::{TextCause, TextFault, parse_trace};
+use race_text::TextFault;
 use std::alloc::{AllocError, Allocator};
 use std::io::Write;
 
@@ -31,22 +32,16 @@ pub(crate) enum Found<A: Allocator> {
     Listed(Trace<A>, Vec<Edge, A>),
 }
 
-/// Finds what there is to list of the bytes.
+/// Finds what there is to list of what was read.
 pub(crate) fn find_edges<A: Allocator + Copy>(
     alloc: A,
-    bytes: &[u8],
+    text: Result<Trace<A>, TextFault>,
 ) -> Result<Found<A>, AllocError>
-    ensures { IfOk result (λ found. spec.IsListing bytes.now (listing_of found)) }
+    ensures { IfOk result (λ found. IsRightOn spec.IsListing text (listing_of found)) }
 {
-    match parse_trace(alloc, bytes) {
+    match text {
         Ok(trace) => find_edges_of(alloc, trace),
-        Err(fault) => {
-            if fault.cause == TextCause::OutOfMemory {
-                Err(AllocError)
-            } else {
-                Ok(Found::NoTrace(fault))
-            }
-        }
+        Err(fault) => Ok(Found::NoTrace(fault)),
     }
 }
 

@@ -2,12 +2,13 @@
 ghost use Rattle.std.specs.Prelude.{◌≡◌, IfOk};
 ghost use Rattle.race_tool.specs.Finding as spec;
 ghost use Rattle.race_tool.specs.Findings.{finding_of, IsFindingOn};
+ghost use Rattle.race_tool.specs.Outcome.{IsRightOn};
 
 use crate::clocked::judge_by_clocks;
 use crate::status;
 use race_edges::{EdgeFault, Verdict, plain_judge};
 use race_records::Trace;
-use race_text::{TextCause, TextFault, parse_trace};
+use race_text::TextFault;
 use std::alloc::{AllocError, Allocator};
 
 /// What there is to say of a list of bytes.
@@ -21,23 +22,17 @@ pub(crate) enum Finding<A: Allocator> {
     Judged(Trace<A>, Verdict<A>),
 }
 
-/// Finds what there is to say of the bytes, by the plain judge or by clocks.
+/// Finds what there is to say of what was read, by the plain judge or by clocks.
 pub(crate) fn find<A: Allocator + Copy>(
     alloc: A,
-    bytes: &[u8],
+    text: Result<Trace<A>, TextFault>,
     plain: bool,
 ) -> Result<Finding<A>, AllocError>
-    ensures { IfOk result (λ finding. spec.IsFinding plain bytes.now (finding_of finding)) }
+    ensures { IfOk result (λ finding. IsRightOn (spec.IsFinding plain) text (finding_of finding)) }
 {
-    match parse_trace(alloc, bytes) {
+    match text {
         Ok(trace) => find_verdict(alloc, trace, plain),
-        Err(fault) => {
-            if fault.cause == TextCause::OutOfMemory {
-                Err(AllocError)
-            } else {
-                Ok(Finding::Faulty(fault))
-            }
-        }
+        Err(fault) => Ok(Finding::Faulty(fault)),
     }
 }
 

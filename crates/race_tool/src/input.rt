@@ -1,9 +1,12 @@
-//! Reading an input to its end.
-ghost use Rattle.std.specs.Prelude.{◌≡◌, ◌≢◌, ◌<◌, length, vec_len, IfOk};
+//! Reading an input block by block, to its end or to its first faulty line.
+ghost use Rattle.std.specs.Prelude.{◌≡◌, ◌≢◌, length, vec_len, IfOk, IfErr};
+ghost use Rattle.std.specs.Io.KnownBytes.{Keeps};
 ghost use Rattle.race_records.specs.Devices.{unread, source_reads, source_failures, one_more};
-ghost use Rattle.race_tool.specs.Input.{ReadsAll, ReadsMany, ReadsMore};
+ghost use Rattle.race_text.specs.declared.cause.TextCause.{TextCause as Cause};
+ghost use Rattle.race_tool.specs.Input.{ReadsAs, ReadsFine, ReadsMany, FeedsMore};
 
-use race_records::Source;
+use race_records::{Source, Trace};
+use race_text::{LineReader, TextCause, TextFault};
 use std::alloc::{AllocError, Allocator};
 use std::io::Read;
 use thiserror::Error;
@@ -31,28 +34,32 @@ pub(crate) enum ReadFault {
     OutOfMemory,
 }
 
-/// Reads to the end, in blocks.
-pub(crate) fn read_to_end<R: Read, A: Allocator + Copy>(
+/// Reads a trace in blocks. It stops at the end of the input, or of the block that ends the first
+/// faulty line.
+pub(crate) fn read_trace<R: Read, A: Allocator + Copy>(
     alloc: A,
     source: &mut Source<R>,
-) -> Result<Vec<u8, A>, ReadFault>
-    ensures ok { IfOk result (λ bytes.
-        ReadsAll (unread R.remaining source.old) (unread R.remaining source.new) bytes.items) }
+) -> Result<Result<Trace<A>, TextFault>, ReadFault>
+    ensures ok { IfOk result (λ text.
+        ReadsAs (unread R.remaining source.old) (unread R.remaining source.new) text) }
     ensures calm { result ≢ Err ReadFault.Failed
         → source_failures source.new ≡ source_failures source.old }
     ensures failed { result ≡ Err ReadFault.Failed
         → source_failures source.new ≡ one_more (source_failures source.old) }
+    ensures fine { result ≡ Err ReadFault.Failed
+        → ReadsFine (unread R.remaining source.old) (unread R.remaining source.new) }
     ensures endless { result ≡ Err ReadFault.Endless
         → ReadsMany R.remaining source.old source.new }
 {
     let Ok(mut block) = blank_block(alloc) else {
         return Err(ReadFault::OutOfMemory);
     };
-    let mut bytes = Vec::new(alloc);
+    let mut reader = LineReader::new(alloc);
     for _ in 0..MAX_TURNS {
-        let more = read_block(source, block.as_mut_slice(), &mut bytes)?;
-        if !more {
-            return Ok(bytes);
+        match feed_block(source, block.as_mut_slice(), &mut reader)? {
+            Ok(true) => {}
+            Ok(false) => return set_memory_apart(reader.finish()),
+            Err(fault) => return Ok(Err(fault)),
         }
     }
     Err(ReadFault::Endless)
@@ -64,27 +71,50 @@ fn blank_block<A: Allocator>(alloc: A) -> Result<Vec<u8, A>, AllocError>
     Vec::from_elem(alloc, 0, BLOCK)
 }
 
-// Reads once, and tells whether there were bytes.
-fn read_block<R: Read, A: Allocator>(
+// Reads once, and feeds what was read. Tells whether there were bytes, or the first faulty line.
+fn feed_block<R: Read, A: Allocator + Copy>(
     source: &mut Source<R>,
     block: &mut [u8],
-    bytes: &mut Vec<u8, A>,
-) -> Result<bool, ReadFault>
-    requires { 0 < length block.old }
-    ensures ok { IfOk result (λ more. ReadsMore (unread R.remaining source.old)
-        (unread R.remaining source.new) bytes.old.items bytes.new.items more) }
+    reader: &mut LineReader<A>,
+) -> Result<Result<bool, TextFault>, ReadFault>
+    requires { length block.old ≡ BLOCK }
+    ensures ok { IfOk result (λ answer. FeedsMore (unread R.remaining source.old)
+        (unread R.remaining source.new) reader.old reader.new answer) }
     ensures calm { result ≢ Err ReadFault.Failed
         → source_failures source.new ≡ source_failures source.old }
     ensures failed { result ≡ Err ReadFault.Failed
         → source_failures source.new ≡ one_more (source_failures source.old) }
+    ensures kept { result ≡ Err ReadFault.Failed
+        → Keeps (unread R.remaining source.old) (unread R.remaining source.new) }
     ensures ends { result ≢ Err ReadFault.Endless }
     ensures reads { source_reads source.new ≡ one_more (source_reads source.old) }
 {
     match source.read(block) {
-        Ok(taken) => match bytes.extend_from_slice(&block[..taken]) {
-            Ok(()) => Ok(taken > 0),
-            Err(_) => Err(ReadFault::OutOfMemory),
+        Ok(taken) => match set_memory_apart(reader.feed(&block[..taken])) {
+            Ok(Ok(())) => Ok(Ok(taken > 0)),
+            Ok(Err(fault)) => Ok(Err(fault)),
+            Err(fault) => Err(fault),
         },
         Err(_) => Err(ReadFault::Failed),
+    }
+}
+
+// Tells want of memory apart from the faults of the text.
+fn set_memory_apart<T: Drop>(
+    answer: Result<T, TextFault>,
+) -> Result<Result<T, TextFault>, ReadFault>
+    ensures same { IfOk result (λ text. text ≡ answer) }
+    ensures others { IfOk result (λ text. IfErr text (λ fault. fault.cause ≢ Cause.OutOfMemory)) }
+    ensures memory { IfErr result (λ fault. fault ≡ ReadFault.OutOfMemory) }
+{
+    match answer {
+        Err(fault) => {
+            if fault.cause == TextCause::OutOfMemory {
+                Err(ReadFault::OutOfMemory)
+            } else {
+                Ok(Err(fault))
+            }
+        }
+        Ok(value) => Ok(Ok(value)),
     }
 }

@@ -17,6 +17,8 @@ mod limit_tests;
 #[cfg(test)]
 mod lock_tests;
 mod printing;
+#[cfg(test)]
+mod reading_tests;
 pub mod status;
 #[cfg(test)]
 mod tests;

@@ -271,41 +271,6 @@ fn options_out_of_their_limits_leave_the_input_unread(rt: HostRuntime) {
     }
 }
 
-// Gives its bytes, and then fails.
-#[derive(Drop)]
-struct FailingReader<'a> {
-    bytes: &'a [u8],
-}
-
-impl Read for FailingReader<'_> {
-    fn read(&mut self, buf: &mut [u8]) -> io::Result<usize> {
-        if self.bytes.is_empty() {
-            return Err(io::ErrorKind::Other.into());
-        }
-        self.bytes.read(buf)
-    }
-}
-
-#[test]
-fn a_failed_read_writes_nothing(rt: HostRuntime) {
-    // The second has a faulty line before the failure.
-    for bytes in [b"gotrace 1\nvar x\n".as_slice(), b"gotrace 2\n".as_slice()] {
-        let mut source = Source::new(FailingReader { bytes });
-        let mut output = Vec::new(rt.alloc());
-        let mut sink = Sink::new(&mut output);
-        let answer = run_check(
-            &rt,
-            rt.alloc(),
-            &mut source,
-            &mut sink,
-            &CheckOptions::default(),
-        );
-        assert_eq!(rt; answer, status::DEVICE);
-        assert_eq!(rt; source.failures(), 1);
-        assert_eq!(rt; output.len(), 0);
-    }
-}
-
 // Takes five bytes, and then fails or takes none.
 #[derive(Drop)]
 struct FullWriter {

@@ -1,0 +1,62 @@
+-- A block is fed, and the reader of lines stands for all that was read.
+use Rattle.std.proofs.Common.{◌≡◌, ◌≢◌, ℕ, Bool, true, false, List, Option, Result, Ok, Err, IfOk, IfErr, refl, sym, ap, subst, ◌∙◌, arith}
+use Rattle.race_records.specs.Devices.{unread, source_reads}
+use Rattle.race_records.specs.Events.{TraceState}
+use Rattle.race_text.specs.declared.cause.TextCause.{TextCause}
+use Rattle.race_text.specs.declared.cause.TextFault.{TextFault}
+use Rattle.race_tool.specs.declared.input.ReadFault.{ReadFault}
+use Rattle.race_tool.specs.Input.{FeedsMore, ReadsAs}
+use Rattle.race_tool.proofs.InputLemmas.{fed_none, fed_more, fine_before, fault_read, end_answered, err_same, err_other, read_more}
+use Rattle.race_tool.proofs.input.read_trace.Goals as goal
+
+pub loop-init : goal.loop-init
+loop-init g c = record {
+  fed = fed_none (unread g.R.Read.remaining c.args.source.now) c.new-reader.result c.new-reader.ensures;
+  first = λ none. refl;
+  reads = λ some. absurd (omega arith);
+  calm = refl;
+  room = c.in-Ok.ensures;
+}
+
+pub returns-in_err-feed_block-clause-calm : goal.returns-in_err-feed_block-clause-calm
+returns-in_err-feed_block-clause-calm g c = λ other.
+    c.in_err-feed_block.ensures.calm (err_other c.from_residual.result c.in_err-feed_block.field-0.0 ReadFault.Failed c.from_residual.ensures.1 other) ∙ c.loop.invariant.calm
+
+pub returns-in_err-feed_block-clause-fine : goal.returns-in_err-feed_block-clause-fine
+returns-in_err-feed_block-clause-fine g c = λ failed.
+    fine_before (unread g.R.Read.remaining c.args.source.now) (unread g.R.Read.remaining c.loop.source) (unread g.R.Read.remaining c.feed_block.new.source)
+    c.loop.reader c.feed_block.new.reader c.loop.counter c.loop.invariant.fed
+    (c.in_err-feed_block.ensures.kept (err_same c.from_residual.result c.in_err-feed_block.field-0.0 ReadFault.Failed c.from_residual.ensures.1 failed))
+
+pub returns-in-Ok-false-clause-ok : goal.returns-in-Ok-false-clause-ok
+returns-in-Ok-false-clause-ok g c =
+    let before = unread g.R.Read.remaining c.loop.source in
+    let after = unread g.R.Read.remaining c.feed_block.new.source in
+    end_answered (unread g.R.Read.remaining c.args.source.now) before after c.loop.reader c.feed_block.new.reader c.loop.counter c.loop.invariant.fed
+    c.finish.result c.set_memory_apart.result
+    (subst (λ (answer : Result Bool TextFault). FeedsMore before after c.loop.reader c.feed_block.new.reader answer)
+    (c.in-Ok-false.is ∙ ap (λ (b : Bool). Ok b) c.in-Ok-false.field-0-test) c.in_ok-feed_block.ensures.ok)
+    c.finish.ensures.text c.finish.ensures.fault c.set_memory_apart.ensures.same c.set_memory_apart.ensures.others
+
+pub returns-in-Err-clause-ok : goal.returns-in-Err-clause-ok
+returns-in-Err-clause-ok g c =
+    let before = unread g.R.Read.remaining c.loop.source in
+    let after = unread g.R.Read.remaining c.feed_block.new.source in
+    fault_read (unread g.R.Read.remaining c.args.source.now) before after c.loop.reader c.feed_block.new.reader c.loop.counter c.loop.invariant.fed c.in-Err.fault
+    (subst (λ (answer : Result Bool TextFault). FeedsMore before after c.loop.reader c.feed_block.new.reader answer) c.in-Err.is c.in_ok-feed_block.ensures.ok)
+
+pub loop-preserved : goal.loop-preserved
+loop-preserved g c =
+    let held = c.loop.invariant in
+    let before = unread g.R.Read.remaining c.loop.source in
+    let after = unread g.R.Read.remaining c.feed_block.new.source in
+    record {
+      fed = fed_more (unread g.R.Read.remaining c.args.source.now) before after c.loop.reader c.feed_block.new.reader c.loop.counter held.fed
+          (subst (λ (answer : Result Bool TextFault). FeedsMore before after c.loop.reader c.feed_block.new.reader answer)
+          (c.in-Ok-true.is ∙ ap (λ (b : Bool). Ok b) c.in-Ok-true.field-0-test) c.in_ok-feed_block.ensures.ok);
+      first = λ none. absurd (omega arith);
+      reads = λ some. read_more c.loop.counter (source_reads c.args.source.now) (source_reads c.loop.source) (source_reads c.feed_block.new.source) held.first held.reads
+          c.in_ok-feed_block.ensures.reads;
+      calm = c.in_ok-feed_block.ensures.calm (λ e. cc) ∙ held.calm;
+      room = held.room;
+    }

@@ -2,22 +2,16 @@
 #![tactic(auto)]
 
 mod cause;
-#[cfg(test)]
-mod channel_tests;
 mod cut;
 mod declaration;
 mod event;
 pub mod examples;
-#[cfg(test)]
-mod feeding_tests;
 mod fields;
 mod finder;
 mod form;
 mod lanes;
 pub mod laws;
 mod line_reader;
-#[cfg(test)]
-mod lock_tests;
 mod number;
 mod parse;
 mod reader;
@@ -44,6 +38,3 @@ pub use reader::Reader;
 pub use select::Attempt;
 pub use words::{Words, split_words};
 pub use writing::write_trace;
-
-#[cfg(test)]
-mod tests;

@@ -1,17 +1,14 @@
 //! A text that is fed in pieces.
 ghost use Rattle.std.specs.Prelude.{◌≤◌, length};
 
-use crate::TextCause::{
+use crate::writing::{SMALL, is_written_as};
+use race_records::Trace;
+use race_text::TextCause::{
     BadHeader, BadName, BadNumber, LateDeclaration, NoNewline, Unknown, UnknownWord, WrongCount,
 };
-use crate::{LineReader, TextCause, TextFault, parse_trace, write_trace};
-use race_records::{Sink, Trace};
-use std::alloc::{AllocGlobal, Allocator};
-use std::process::Abort;
+use race_text::{LineReader, TextCause, TextFault, parse_trace};
+use std::alloc::Allocator;
 use std::test::Fail;
-
-static SMALL: &[u8] =
-    b"gotrace 1\ngoroutine w\nvar x\nwrite main x 7 a.go:1\ngo main w a.go:2\nread w x 7 a.go:5\nexit main a.go:3\n";
 
 // What a reader answers that is fed the text in pieces of this size.
 fn in_pieces<A: Allocator + Copy>(
@@ -41,19 +38,6 @@ fn in_two<A: Allocator + Copy>(
         Ok(()) => (told, reader.finish()),
         Err(fault) => (told, Err(fault)),
     }
-}
-
-// Tests that the trace is written as this text.
-fn is_written_as<A: Allocator>(
-    rt: &(impl Abort + AllocGlobal),
-    trace: &Trace<A>,
-    text: &[u8],
-) -> Result<(), Fail> {
-    let mut written = Vec::new(rt.alloc());
-    let mut sink = Sink::new(&mut written);
-    assert!(rt; write_trace(trace, &mut sink).is_ok());
-    assert_eq!(rt; written.as_slice(), text);
-    Ok(())
 }
 
 fn newlines(bytes: &[u8]) -> u64 {

@@ -1,13 +1,15 @@
-use crate::TextCause;
-use crate::TextCause::{
+//! Locks and onces: lines behind a text, what is told once as many are declared as may be, and events.
+use crate::reading::Row;
+use race_records::{Cause, Op};
+use race_text::TextCause;
+use race_text::TextCause::{
     BadName, LateDeclaration, Taken, TooMany, Unknown, UnknownWord, WrongCount, WrongKind,
 };
-use crate::tests::{at_the_limit, reads, tells_causes};
-use race_records::{Cause, Op};
-use std::test::Fail;
 
-// Lines behind `goroutine a`, `chan c 0`, `mutex m`, `rwmutex l` and `once o`.
-static LOCKS: [(&[u8], Option<TextCause>); 45] = [
+pub(crate) static BEFORE: &[u8] = b"gotrace 1\ngoroutine a\nchan c 0\nmutex m\nrwmutex l\nonce o\n";
+
+// Events behind it.
+pub(crate) static LINES: [(&[u8], Option<TextCause>); 45] = [
     (b"lock main m p", None),
     (b"lock main l p", None),
     (b"unlock main m p", None),
@@ -56,7 +58,7 @@ static LOCKS: [(&[u8], Option<TextCause>); 45] = [
 ];
 
 // Declarations behind the same.
-static DECLARED: [(&[u8], Option<TextCause>); 9] = [
+pub(crate) static DECLARED: [(&[u8], Option<TextCause>); 9] = [
     (b"mutex n", None),
     (b"rwmutex n", None),
     (b"once n", None),
@@ -68,65 +70,43 @@ static DECLARED: [(&[u8], Option<TextCause>); 9] = [
     (b"once -", Some(BadName)),
 ];
 
-// And behind an event besides.
-static LATE: [(&[u8], Option<TextCause>); 4] = [
+pub(crate) static EVENT_BEFORE: &[u8] = b"gotrace 1\nmutex m\nlock main m p\n";
+
+// Declarations behind an event.
+pub(crate) static LATE: [(&[u8], Option<TextCause>); 4] = [
     (b"mutex n", Some(LateDeclaration)),
     (b"rwmutex n", Some(LateDeclaration)),
     (b"once n", Some(LateDeclaration)),
     (b"once m", Some(Taken)),
 ];
 
-#[test]
-fn tells_the_causes_of_locks_and_onces(rt: HostRuntime) -> Result<(), Fail> {
-    let before = b"gotrace 1\ngoroutine a\nchan c 0\nmutex m\nrwmutex l\nonce o\n";
-    let behind_an_event = b"gotrace 1\nmutex m\nlock main m p\n";
-    let tables: [(&[u8], u64, &[(&[u8], Option<TextCause>)]); 3] = [
-        (before, 7, &LOCKS),
-        (before, 7, &DECLARED),
-        (behind_an_event, 4, &LATE),
-    ];
-    for (before, number, lines) in tables {
-        tells_causes(&rt, before, number, lines)?;
-    }
-    Ok(())
-}
-
-// Mutexes and rwmutexes count together.
-#[test]
-fn holds_the_limit_on_locks(rt: HostRuntime) -> Result<(), Fail> {
-    at_the_limit(
-        &rt,
-        [("mutex", ""), ("rwmutex", "")],
-        &[
-            (b"mutex m", Err(TooMany)),
-            (b"rwmutex l", Err(TooMany)),
-            (b"mutex n7", Err(Taken)),
-            (b"once o", Ok(true)),
-        ],
-    )
-}
+// Behind as many mutexes and rwmutexes as may be: they count together.
+pub(crate) static AT_THE_LIMIT: [(&[u8], Result<bool, TextCause>); 4] = [
+    (b"mutex m", Err(TooMany)),
+    (b"rwmutex l", Err(TooMany)),
+    (b"mutex n7", Err(Taken)),
+    (b"once o", Ok(true)),
+];
 
 // Each word of locks and onces. Mutexes and rwmutexes are numbered together.
-#[test]
-fn reads_locks_and_onces(rt: HostRuntime) -> Result<(), Fail> {
-    reads(
-        &rt,
-        b"gotrace 1\ngoroutine w\nmutex m\nonce o\nrwmutex l\nonce u\nmutex n\n\
-          lock main m a\nunlock w m b\nrlock main l c\nrunlock w l d\nlock w n a\nunlock main l b\n\
-          oncebegin main o e\nonceend main o f\noncedone w u g\nfault w unlock:n h\nfault main unlock:l h\nfault main runlock:l h\n",
-        &[
-            (0, Op::Lock(0), "a", ""),
-            (1, Op::Unlock(0), "b", ""),
-            (0, Op::RLock(1), "c", ""),
-            (1, Op::RUnlock(1), "d", ""),
-            (1, Op::Lock(2), "a", ""),
-            (0, Op::Unlock(1), "b", ""),
-            (0, Op::OnceBegin(0), "e", ""),
-            (0, Op::OnceEnd(0), "f", ""),
-            (1, Op::OnceDone(1), "g", ""),
-            (1, Op::Fault(Cause::UnlockFree(2)), "h", ""),
-            (0, Op::Fault(Cause::UnlockFree(1)), "h", ""),
-            (0, Op::Fault(Cause::RUnlockFree(1)), "h", ""),
-        ],
-    )
+pub(crate) static TEXT: &[u8] =
+    b"gotrace 1\ngoroutine w\nmutex m\nonce o\nrwmutex l\nonce u\nmutex n\n\
+      lock main m a\nunlock w m b\nrlock main l c\nrunlock w l d\nlock w n a\nunlock main l b\n\
+      oncebegin main o e\nonceend main o f\noncedone w u g\nfault w unlock:n h\nfault main unlock:l h\nfault main runlock:l h\n";
+
+pub(crate) fn events() -> [Row; 12] {
+    [
+        (0, Op::Lock(0), "a", ""),
+        (1, Op::Unlock(0), "b", ""),
+        (0, Op::RLock(1), "c", ""),
+        (1, Op::RUnlock(1), "d", ""),
+        (1, Op::Lock(2), "a", ""),
+        (0, Op::Unlock(1), "b", ""),
+        (0, Op::OnceBegin(0), "e", ""),
+        (0, Op::OnceEnd(0), "f", ""),
+        (1, Op::OnceDone(1), "g", ""),
+        (1, Op::Fault(Cause::UnlockFree(2)), "h", ""),
+        (0, Op::Fault(Cause::UnlockFree(1)), "h", ""),
+        (0, Op::Fault(Cause::RUnlockFree(1)), "h", ""),
+    ]
 }

@@ -4,16 +4,12 @@
 mod channels;
 mod goroutines;
 mod listing;
-#[cfg(test)]
-mod lock_tests;
 mod locks;
 mod onces;
 mod queue;
 mod replay;
 mod rule;
 mod stack;
-#[cfg(test)]
-mod tests;
 
 pub use listing::{Illegal, legal};
 pub use replay::{Broken, Replay};

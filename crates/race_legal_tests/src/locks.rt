@@ -2,8 +2,8 @@
 ghost use Rattle.std.specs.Prelude.{◌<◌};
 ghost use Rattle.race_legal.specs.ReplayState.{counts_in};
 
-use crate::tests::declared;
-use crate::{Broken, Replay, Rule};
+use crate::events::declared;
+use race_legal::{Broken, Replay, Rule};
 use race_records::{Cause, Event, Kind, Object, Op, Trace};
 use std::alloc::{AllocError, Global};
 use std::test::Fail;

@@ -1,7 +1,8 @@
+//! What goroutines do with each other, with variables and with channels.
 ghost use Rattle.std.specs.Prelude.{◌<◌};
 ghost use Rattle.race_legal.specs.ReplayState.{counts_in};
 
-use crate::{Broken, Illegal, Replay, Rule, legal};
+use race_legal::{Broken, Illegal, Replay, Rule, legal};
 use race_records::{Case, Cases, Cause, DeclFault, Decls, Dir, Event, Kind, Object, Op, Trace};
 use std::alloc::{AllocError, Global};
 use std::test::Fail;

@@ -4,7 +4,7 @@ use Rattle.race_records.specs.declared.kind.Kind.{Kind}
 use Rattle.race_records.specs.Declarations.{DeclsState, counts_of}
 use Rattle.race_legal.specs.ReplayState.{IsInRange}
 use Rattle.race_legal.proofs.RangeLemmas.{range_from_fits}
-use Rattle.race_legal.proofs.tests.answers.Goals as goal
+use Rattle.race_legal_tests.proofs.events.answers.Goals as goal
 
 pub loop-at-init : goal.loop-at-init
 loop-at-init c =

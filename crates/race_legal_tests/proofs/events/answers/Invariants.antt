@@ -2,7 +2,7 @@ use Rattle.std.proofs.Common.{◌≡◌, ◌<◌, ◌≤◌}
 use Rattle.race_records.specs.declared.kind.Kind.{Kind}
 use Rattle.race_records.specs.Declarations.{counts_of}
 use Rattle.race_legal.specs.ReplayState.{counts_in}
-use Rattle.race_legal.proofs.tests.answers.Given as goal
+use Rattle.race_legal_tests.proofs.events.answers.Given as goal
 
 abbrev pub invariant-loop-at : goal.invariant-loop-at
 invariant-loop-at l = record {

@@ -8,8 +8,6 @@ mod numbers;
 mod races;
 mod synchronized;
 mod table;
-#[cfg(test)]
-mod tests;
 
 pub use fault::{EdgeFault, MAX_PLAIN_EVENTS};
 pub use judge::{Verdict, plain_judge};

@@ -1,4 +1,5 @@
-use crate::{Edge, EdgeFault, MAX_PLAIN_EVENTS, Race, Verdict, edges, plain_judge};
+//! Traces with their edges and their races, up to the longest that is judged.
+use race_edges::{Edge, EdgeFault, MAX_PLAIN_EVENTS, Race, Verdict, edges, plain_judge};
 use race_legal::{Illegal, Rule};
 use race_records::{Decls, Event, Op, Trace};
 use std::alloc::Global;

@@ -7,3 +7,5 @@ pub mod Job
 pub mod Possible
 pub mod Rows
 pub mod Laws
+pub mod Waiting
+pub mod WaitingHolds

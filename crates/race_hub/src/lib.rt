@@ -1,6 +1,7 @@
 //! The recorder's table: which event each request makes, what its goroutine is told, and between which requests there is a choice.
 #![tactic(auto)]
 
+mod board;
 mod choice;
 mod job;
 pub mod laws;
@@ -16,6 +17,7 @@ mod table;
 #[cfg(test)]
 mod tests;
 
+pub use board::WaitingList;
 pub use choice::Choice;
 pub use job::Job;
 pub use making::lone_event;

@@ -16,7 +16,7 @@ use race_records::{Decls, Event, Kind, Op};
 use std::alloc::Allocator;
 
 // What the ask offers by its way of this number.
-fn offer_at(ask: &Ask, way: u32) -> Option<Offer>
+pub(crate) fn offer_at(ask: &Ask, way: u32) -> Option<Offer>
     ensures offer { result ≡ slice_get (offers_of ask.now) way }
     ensures range { (counts : Kind → ℕ) → IsTrue (ask_is_in_range counts ask.now)
         → IfSome result (λ o. IsTrue (offer_is_in_range (counts Kind.Chan) o)) }

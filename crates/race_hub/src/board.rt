@@ -1,0 +1,223 @@
+//! The requests that wait, where the run stands, and which of their choices is picked.
+ghost use Rattle.std.specs.Prelude.{ℕ, ◌≡◌, ◌≤◌, ◌<◌, ◌==◌, ◌&&◌, not, Some, IsTrue, IfSome, All, length, slice_get};
+ghost use Rattle.std.specs.Option.{option_copied};
+ghost use Rattle.race_records.specs.declared.kind.Kind.{Kind};
+ghost use Rattle.race_records.specs.declared.kind.TheConstants.{MAX_GOROUTINES};
+ghost use Rattle.race_records.specs.Declarations.{capacity_of, count_of};
+ghost use Rattle.race_legal.specs.StandsFor.{StandsFor};
+ghost use Rattle.race_hub.specs.Choices as spec;
+ghost use Rattle.race_hub.specs.Possible.{offer_is_in_range};
+ghost use Rattle.race_hub.specs.Search.{picked};
+ghost use Rattle.race_hub.specs.Waiting as list;
+
+use crate::meet::offer_at;
+use crate::{
+    Ask, Board, Choice, Offer, Waiter, can_go_on, can_meet, lone_event, meet_event, pick_choice,
+};
+use race_legal::Replay;
+use race_records::{Decls, Event, Trace};
+use std::alloc::{Allocator, Global};
+use std::marker::Model;
+
+/// The requests that wait behind the events so far, with a replay that stands for these events.
+#[derive(Drop)]
+pub struct WaitingList<'a, A: Allocator = Global, B: Allocator = Global> {
+    replay: &'a Replay<A>,
+    trace: &'a Trace<B>,
+    waiting: &'a [Waiter],
+}
+
+impl<'a, A: Allocator, B: Allocator> Model for WaitingList<'a, A, B> {
+    ghost use Rattle.race_hub.specs.Waiting.{WaitingState};
+    ghost use Rattle.race_hub.specs.WaitingHolds.{WaitingHolds};
+
+    ghost Value = { WaitingState };
+
+    ghost view = { λ l. record {
+      declarations = l.trace.now.decls.declarations;
+      past = l.trace.now.events;
+      waiting = l.waiting.now;
+    } };
+
+    ghost invariant = { λ l. WaitingHolds l.trace.now.decls.declarations l.replay.now l.trace.now.events l.waiting.now };
+}
+
+impl<'a, A: Allocator, B: Allocator> WaitingList<'a, A, B> {
+    /// The list of these requests. It borrows the run, so it is made anew after each event.
+    pub fn new(
+        replay: &'a Replay<A>,
+        trace: &'a Trace<B>,
+        waiting: &'a [Waiter],
+    ) -> WaitingList<'a, A, B>
+        requires stands { StandsFor trace.now.decls.declarations replay.now trace.now.events }
+        requires declared { All (λ w. IsTrue (list.is_declared trace.now.decls.declarations w)) waiting.now }
+        requires few { length waiting.now ≤ MAX_GOROUTINES }
+        ensures declarations { result.declarations ≡ trace.now.decls.declarations }
+        ensures past { result.past ≡ trace.now.events }
+        ensures waiting { result.waiting ≡ waiting.now }
+    {
+        WaitingList {
+            replay,
+            trace,
+            waiting,
+        }
+    }
+
+    /// The choice number `pick`, modulo the count of choices, if there is one. Takes no memory.
+    pub fn pick(&self, pick: u64) -> Option<Choice>
+        ensures { result ≡ picked pick (list.choices_of self.now) }
+    {
+        pick_choice(self, pick)
+    }
+
+    /// The event that the choice makes, if it makes one.
+    pub fn event_of(&self, choice: Choice) -> Option<Event>
+        ensures { result ≡ spec.event_of self.now.past self.now.waiting choice }
+    {
+        let Some(waiter) = self.get(choice.place as usize) else {
+            return None;
+        };
+        if choice.partner == 0 {
+            return self.event_alone(waiter);
+        }
+        let Some(partner) = self.get(choice.partner as usize - 1) else {
+            return None;
+        };
+        let other_way = choice.partner_offer.saturating_sub(1);
+        meet_event(waiter, choice.offer, partner, other_way)
+    }
+
+    // Where the run stands.
+    fn run(&self) -> (&Replay<A>, &Decls<B>)
+        ensures stands { StandsFor result.1.now.declarations result.0.now self.now.past }
+        ensures declarations { result.1.now.declarations ≡ self.now.declarations }
+    {
+        (self.replay, self.trace.decls())
+    }
+
+    // The request at this place.
+    fn at(&self, place: usize) -> &Waiter
+        requires { place < length self.now.waiting }
+        ensures found { slice_get self.now.waiting place ≡ Some result.now }
+        ensures declared { IsTrue (list.is_declared self.now.declarations result.now) }
+    {
+        let waiting = self.waiting;
+        &waiting[place]
+    }
+
+    // The request at this place, if there is one.
+    fn get(&self, place: usize) -> Option<&Waiter>
+        ensures found { option_copied result ≡ slice_get self.now.waiting place }
+        ensures declared { IfSome result (λ w. IsTrue (list.is_declared self.now.declarations w.now)) }
+    {
+        if place < self.waiting.len() {
+            Some(self.at(place))
+        } else {
+            None
+        }
+    }
+
+    // The event of the request alone.
+    fn event_alone(&self, waiter: &Waiter) -> Option<Event>
+        requires { IsTrue (list.is_declared self.now.declarations waiter.now) }
+        ensures { (way : ℕ) → result ≡ spec.lone_event self.now.past waiter.now way }
+    {
+        let (replay, _) = self.run();
+        lone_event(replay, waiter)
+    }
+
+    // Whether the request can go on alone.
+    fn goes_on(&self, waiter: &Waiter) -> bool
+        requires { IsTrue (list.is_declared self.now.declarations waiter.now) }
+        ensures { (way : ℕ) → result ≡ spec.is_legal_next (capacity_of self.now.declarations) self.now.past
+            (spec.lone_event self.now.past waiter.now way) }
+    {
+        let (replay, decls) = self.run();
+        can_go_on(replay, decls, waiter)
+    }
+
+    // Whether the request by its way can meet the other by its way.
+    fn goes_on_with(&self, sender: &Waiter, way: u32, receiver: &Waiter, other_way: u32) -> bool
+        requires sender { IsTrue (list.is_declared self.now.declarations sender.now) }
+        requires receiver { IsTrue (list.is_declared self.now.declarations receiver.now) }
+        ensures { result ≡ spec.is_legal_next (capacity_of self.now.declarations) self.now.past
+            (spec.meet_event sender.now way receiver.now other_way) }
+    {
+        let (replay, decls) = self.run();
+        can_meet(replay, decls, sender, way, receiver, other_way)
+    }
+
+    // Whether the offer sends on an open channel without a buffer.
+    fn hands_over(&self, offer: Option<Offer>) -> bool
+        requires { IfSome offer (λ o. IsTrue (offer_is_in_range (count_of Kind.Chan self.now.declarations) o)) }
+        ensures { result ≡ list.hands_over (capacity_of self.now.declarations) self.now.past offer }
+    {
+        let Some(chan) = sent_on(offer) else {
+            return false;
+        };
+        let (replay, decls) = self.run();
+        is_rendezvous(decls.capacity(chan), replay.is_closed(chan))
+    }
+}
+
+// The channel on which the offer sends.
+fn sent_on(offer: Option<Offer>) -> Option<u32>
+    ensures { result ≡ list.sent_on offer }
+{
+    match offer {
+        Some(Offer::Send(chan, _)) => chan,
+        _ => None,
+    }
+}
+
+// The channel is unbuffered and open.
+fn is_rendezvous(capacity: u32, closed: bool) -> bool
+    ensures { result ≡ ((capacity == 0) && not closed) }
+{
+    capacity == 0 && !closed
+}
+
+// In how many ways who asks can go on.
+fn ways(_ask: &Ask) -> u32
+    ensures { result ≡ spec.ways _ask.now }
+{
+    1
+}
+
+impl<'a, A: Allocator, B: Allocator> Board for WaitingList<'a, A, B> {
+    ghost use Rattle.std.specs.Prelude.{length};
+    ghost use Rattle.race_records.specs.Declarations.{capacity_of};
+    ghost use Rattle.race_hub.specs.Choices as spec;
+
+    ghost size = { λ l. length l.waiting };
+
+    ghost ways_at = { λ l. spec.ways_at l.waiting };
+
+    ghost admitted = { λ l. spec.is_possible (capacity_of l.declarations) l.past l.waiting };
+
+    fn len(&self) -> u32 {
+        self.waiting.len() as u32
+    }
+
+    fn ways(&self, place: u32) -> u32 {
+        ways(&self.at(place as usize).asked.ask)
+    }
+
+    fn meets(&self, place: u32, way: u32) -> bool {
+        self.hands_over(offer_at(&self.at(place as usize).asked.ask, way))
+    }
+
+    fn admits(&self, choice: Choice) -> bool {
+        let Some(waiter) = self.get(choice.place as usize) else {
+            return false;
+        };
+        if choice.partner == 0 {
+            return self.goes_on(waiter);
+        }
+        let Some(partner) = self.get(choice.partner as usize - 1) else {
+            return false;
+        };
+        let other_way = choice.partner_offer.saturating_sub(1);
+        self.goes_on_with(waiter, choice.offer, partner, other_way)
+    }
+}

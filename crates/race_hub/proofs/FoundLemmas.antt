@@ -1,5 +1,5 @@
 -- How a search goes on from one part of a list to the next.
-use Rattle.std.proofs.Common.{◌≡◌, ℕ, zero, suc, ◌+◌, ◌-◌, ◌<◌, Bool, false, cond, List, [], ◌∷◌, ◌++◌, length, map, filter, flat_map, slice_get, refl, sym, ap}
+use Rattle.std.proofs.Common.{◌≡◌, ℕ, zero, suc, ◌+◌, ◌-◌, ◌<◌, ◌≤◌, Bool, false, cond, List, [], ◌∷◌, ◌++◌, length, map, filter, flat_map, slice_get, refl, sym, ap}
 use Rattle.std.proofs.Common.{◌∙◌, subst, arith, append-nil, length-append}
 use Rattle.std.specs.List.{range_with_len}
 use Rattle.std.proofs.lemmas.Grind.{flat_map-append}
@@ -70,13 +70,21 @@ module _ (p : Choice → Bool) (f : ℕ → List Choice) where
       (subst (λ xs. IsFound xs k (At c)) (sym (pieces_more i))
       (found_next (filter p (flat_map f (below i))) (filter p (f i)) k l (At c) first second)))
 
-  -- where no piece has an element that passes, none is found
-  pub none_found : (n k : ℕ) → ((i : ℕ) → filter p (f i) ≡ []) → IsFound (filter p (flat_map f (below n))) k (Left k)
-  none_found n k none = let e = ap length (none_passes (below n)) in omega (arith, e)
-    where
-      none_passes : (xs : List ℕ) → filter p (flat_map f xs) ≡ []
-      none_passes [] = refl
-      none_passes (x ∷ xs) = filter-append p (f x) (flat_map f xs) ∙ (λ i. none x i ++ none_passes xs i)
+  found_past : (d i k l : ℕ) → IsFound (filter p (flat_map f (below i))) k (Left l)
+      → ((n : ℕ) → i ≤ n → n < i + d → filter p (f n) ≡ []) → IsFound (filter p (flat_map f (below (i + d)))) k (Left l)
+  found_past zero i k l so_far none = subst (λ m. IsFound (filter p (flat_map f (below m))) k (Left l)) (let e : i ≡ i + 0 = omega arith in e) so_far
+  found_past (suc d) i k l so_far none =
+      let empty = ap length (none i (omega arith) (omega arith)) in
+      subst (λ m. IsFound (filter p (flat_map f (below m))) k (Left l)) (let e : i + 1 + d ≡ i + suc d = omega arith in e)
+      (found_past d (i + 1) k l (found_step i k l l so_far (omega (arith, empty)))
+      (λ n at least. none n (omega (arith, at)) (omega (arith, least))))
+
+  -- pieces from i up to j of which no element passes are passed by
+  pub found_up_to : (i j k l : ℕ) → i ≤ j → IsFound (filter p (flat_map f (below i))) k (Left l)
+      → ((n : ℕ) → i ≤ n → n < j → filter p (f n) ≡ []) → IsFound (filter p (flat_map f (below j))) k (Left l)
+  found_up_to i j k l before so_far none =
+      subst (λ m. IsFound (filter p (flat_map f (below m))) k (Left l)) (let e : i + (j - i) ≡ j = omega (arith, before) in e)
+      (found_past (j - i) i k l so_far (λ n at least. none n at (omega (arith, least, before))))
 
 -- nothing passes that fails the test at each number
 pub filter_none : (p : Choice → Bool) (f : ℕ → Choice) → ((q : ℕ) → p (f q) ≡ false) → (xs : List ℕ) → filter p (map f xs) ≡ []

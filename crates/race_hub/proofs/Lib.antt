@@ -1,6 +1,5 @@
 pub mod RowLemmas
 pub mod FoundLemmas
-pub mod CountLemmas
 pub mod PossibleLemmas
 pub mod MeetLemmas
 pub mod WaitingLemmas

@@ -1,10 +1,11 @@
 -- A list of waiting requests, and where the run stands. (The Go Programming Language Specification, "Channel types": without a buffer sender and receiver wait for one another)
-use Rattle.std.specs.Prelude.{ℕ, ◌==◌, ◌&&◌, not, nat_lt, Bool, false, List, Option, Some, None}
+use Rattle.std.specs.Prelude.{ℕ, ◌==◌, ◌&&◌, not, nat_lt, Bool, false, List, slice_get, Option, Some, None}
 use Rattle.race_records.specs.declared.event.Event.{Event}
 use Rattle.race_records.specs.declared.kind.Kind.{Kind}
 use Rattle.race_records.specs.Declarations.{Declaration, capacity_of, counts_of}
 use Rattle.race_model.specs.State.{is_closed}
 use Rattle.race_hub.specs.declared.choice.Choice.{Choice}
+use Rattle.race_hub.specs.declared.request.Ask.{Ask}
 use Rattle.race_hub.specs.declared.request.Offer.{Offer}
 use Rattle.race_hub.specs.declared.request.Waiter.{Waiter}
 use Rattle.race_hub.specs.Choices.{choices}
@@ -32,3 +33,12 @@ sent_on _ = None
 -- the offer sends on an open channel without a buffer: by no other is anybody met
 abbrev pub hands_over : (ℕ → ℕ) → List Event → Option Offer → Bool
 hands_over caps past offer = elim (sent_on offer) [ Some c ↦ (caps c == 0) && not (is_closed c past) | None ↦ false ]
+
+-- who asks receives from the channel
+abbrev pub receives : ℕ → Ask → Bool
+receives c (Ask.Recv (Some d)) = d == c
+receives c _ = false
+
+-- the request at that place does
+abbrev pub receives_at : List Waiter → ℕ → ℕ → Bool
+receives_at waiting c i = elim (slice_get waiting i) [ None ↦ false | Some w ↦ receives c w.asked.ask ]

@@ -1,5 +1,5 @@
 //! The requests that wait, where the run stands, and which of their choices is picked.
-ghost use Rattle.std.specs.Prelude.{ℕ, ◌≡◌, ◌≤◌, ◌<◌, ◌==◌, ◌&&◌, not, Some, IsTrue, IfSome, All, length, slice_get};
+ghost use Rattle.std.specs.Prelude.{ℕ, ◌≡◌, ◌≤◌, ◌<◌, ◌==◌, ◌&&◌, not, false, Some, IsTrue, IfSome, All, length, slice_get};
 ghost use Rattle.std.specs.Option.{option_copied};
 ghost use Rattle.race_records.specs.declared.kind.Kind.{Kind};
 ghost use Rattle.race_records.specs.declared.kind.TheConstants.{MAX_GOROUTINES};
@@ -158,6 +158,31 @@ impl<'a, A: Allocator, B: Allocator> WaitingList<'a, A, B> {
         let (replay, decls) = self.run();
         is_rendezvous(decls.capacity(chan), replay.is_closed(chan))
     }
+
+    // The first place from this one on whose request receives from the channel. It asks nothing of the run.
+    fn next_receiver(&self, chan: u32, from: u32) -> u32
+        ensures onward { from ≤ result }
+        ensures passed { (p : ℕ) → from ≤ p → p < result → list.receives_at self.now.waiting chan p ≡ false }
+    {
+        let waiting = self.waiting;
+        let count = waiting.len() as u32;
+        for place in from..count {
+            if receives(&waiting[place as usize].asked.ask, chan) {
+                return place;
+            }
+        }
+        from.max(count)
+    }
+}
+
+// Who asks receives from the channel.
+fn receives(ask: &Ask, chan: u32) -> bool
+    ensures { result ≡ list.receives chan ask.now }
+{
+    match ask {
+        Ask::Recv(Some(from)) => *from == chan,
+        _ => false,
+    }
 }
 
 // The channel on which the offer sends.
@@ -203,8 +228,15 @@ impl<'a, A: Allocator, B: Allocator> Board for WaitingList<'a, A, B> {
         ways(&self.at(place as usize).asked.ask)
     }
 
-    fn meets(&self, place: u32, way: u32) -> bool {
-        self.hands_over(offer_at(&self.at(place as usize).asked.ask, way))
+    fn next_partner(&self, place: u32, way: u32, from: u32) -> u32 {
+        let offer = offer_at(&self.at(place as usize).asked.ask, way);
+        if !self.hands_over(offer) {
+            return from.max(self.len());
+        }
+        match sent_on(offer) {
+            Some(chan) => self.next_receiver(chan, from),
+            None => from.max(self.len()),
+        }
     }
 
     fn admits(&self, choice: Choice) -> bool {

@@ -1,7 +1,7 @@
 //! Finds a choice by its number, without a list of the choices.
 //!
 //! All tuples of requests and ways are gone through in lexicographic order, and those that are admitted are counted. What is
-//! admitted the caller tells, so that nothing here knows of channels but one thing: whether a way meets anybody at all.
+//! admitted the caller tells, so that nothing here knows of channels but one thing: where the next partner may be.
 ghost use Rattle.std.specs.Prelude.{◌≡◌, ◌<◌, ◌≤◌, ◌%◌, ◌∷◌, [], length, filter, flat_map, slice_get};
 ghost use Rattle.race_hub.specs.Choices.{below, choice, with_partner, of_way, tuples};
 ghost use Rattle.race_hub.specs.Search.{IsFound, picked};
@@ -42,10 +42,11 @@ pub trait Board {
         requires { place < size self.now }
         ensures { result ≡ ways_at self.now place };
 
-    /// Whether the request at this place may have a partner by this way. Where it can't, none is looked for.
-    fn meets(&self, place: u32, way: u32) -> bool
+    /// The first place from this one on where the request may have a partner by this way; `len` or more where there is none.
+    fn next_partner(&self, place: u32, way: u32, from: u32) -> u32
         requires { place < size self.now }
-        ensures { result ≡ false → (p q : ℕ) → admitted self.now (choice place way (p + 1) (q + 1)) ≡ false };
+        ensures onward { from ≤ result }
+        ensures passed { (p : ℕ) → from ≤ p → p < result → (q : ℕ) → admitted self.now (choice place way (p + 1) (q + 1)) ≡ false };
 
     /// Whether the tuple is a choice.
     fn admits(&self, choice: Choice) -> bool
@@ -89,15 +90,24 @@ fn with_each_way<B: Board>(board: &B, place: u32, way: u32, partner: u32, skip: 
 
 // The request by its way, with each partner.
 fn with_each_partner<B: Board>(board: &B, place: u32, way: u32, skip: u64) -> Found
+    requires { place < B.size board.now }
     ensures { IsFound (filter (B.admitted board.now)
         (flat_map (with_partner (B.ways_at board.now) place way) (below (B.size board.now)))) skip result }
 {
+    let count = board.len();
     let mut left = skip;
-    for partner in 0..board.len() {
+    let mut from = 0;
+    while from < count {
+        // Most requests meet nobody: trying all partners of each would take the square of the list's length.
+        let partner = board.next_partner(place, way, from);
+        if partner >= count {
+            return Found::Left(left);
+        }
         match with_each_way(board, place, way, partner, left) {
             Found::At(choice) => return Found::At(choice),
             Found::Left(rest) => left = rest,
         }
+        from = partner + 1;
     }
     Found::Left(left)
 }
@@ -116,12 +126,7 @@ fn by_way<B: Board>(board: &B, place: u32, way: u32, skip: u64) -> Found
     };
     match one(board, alone, skip) {
         Found::At(choice) => Found::At(choice),
-        // Most requests meet nobody: going to the partners of each would take the square of the list's length.
-        Found::Left(left) => if board.meets(place, way) {
-            with_each_partner(board, place, way, left)
-        } else {
-            Found::Left(left)
-        },
+        Found::Left(left) => with_each_partner(board, place, way, left),
     }
 }
 
@@ -159,14 +164,12 @@ pub fn find<B: Board>(board: &B, skip: u64) -> Found
 pub fn pick_choice<B: Board>(board: &B, pick: u64) -> Option<Choice>
     ensures { result ≡ picked pick (filter (B.admitted board.now) (tuples (B.size board.now) (B.ways_at board.now))) }
 {
-    if board.len() == 0 {
-        return None;
-    }
-    // No choice has so great a number, so this counts them.
-    let Found::Left(rest) = find(board, u64::MAX) else {
-        return None;
+    // A number behind the last choice tells by how much, and so how many there are.
+    let rest = match find(board, pick) {
+        Found::At(choice) => return Some(choice),
+        Found::Left(rest) => rest,
     };
-    let count = u64::MAX - rest;
+    let count = pick - rest;
     if count == 0 {
         return None;
     }

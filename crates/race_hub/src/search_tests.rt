@@ -27,8 +27,12 @@ impl Board for Crowd {
         1
     }
 
-    fn meets(&self, place: u32, _way: u32) -> bool {
-        self.pairs && place % 2 == 0
+    fn next_partner(&self, place: u32, _way: u32, from: u32) -> u32 {
+        if self.pairs && place % 2 == 0 {
+            from
+        } else {
+            from.max(self.waiting)
+        }
     }
 
     fn admits(&self, choice: Choice) -> bool {

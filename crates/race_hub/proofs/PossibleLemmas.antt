@@ -76,7 +76,9 @@ module _ (caps : ℕ → ℕ) (past : List Event) (g place : ℕ) where
 
   send_row : (c v : ℕ) (closed : Bool) → is_closed c past ≡ closed
       → fits (cond closed (Fault (SendClosed c)) (Send c v)) ≡ and_acts (closed || (nat_lt 0 (caps c) && not (buffered c past == caps c)))
-  send_row c v true is = head (over past) (runs g past) true (op_rules caps past g (Fault (SendClosed c))) (one 23 (not (is_closed c past)) ∙ twice (is_closed c past) ∙ is)
+  send_row c v true is =
+      head (over past) (runs g past) true (op_rules caps past g (Fault (SendClosed c)))
+      (one 23 (not (is_closed c past)) ∙ twice (is_closed c past) ∙ is)
   send_row c v false is =
       head (over past) (runs g past) _ (op_rules caps past g (Send c v))
       (three 5 6 7 (caps c == 0) (is_closed c past) (buffered c past == caps c)
@@ -123,7 +125,9 @@ module _ (caps : ℕ → ℕ) (past : List Event) (g place : ℕ) where
       and_true false = refl
 
   close_row : (c : ℕ) (closed : Bool) → is_closed c past ≡ closed → fits (cond closed (Fault (CloseClosed c)) (Close c)) ≡ and_acts true
-  close_row c true is = head (over past) (runs g past) true (op_rules caps past g (Fault (CloseClosed c))) (one 23 (not (is_closed c past)) ∙ twice (is_closed c past) ∙ is)
+  close_row c true is =
+      head (over past) (runs g past) true (op_rules caps past g (Fault (CloseClosed c)))
+      (one 23 (not (is_closed c past)) ∙ twice (is_closed c past) ∙ is)
   close_row c false is = head (over past) (runs g past) true (op_rules caps past g (Close c)) (one 12 (is_closed c past) ∙ ap not is)
 
   unlock_row : (l : ℕ) (held : Bool) → is_held l past ≡ held → fits (cond held (Unlock l) (Fault (UnlockFree l))) ≡ and_acts true
@@ -132,7 +136,9 @@ module _ (caps : ℕ → ℕ) (past : List Event) (g place : ℕ) where
       (one 23 (not (not (is_held l past))) ∙ ap (λ b. not (not (not b))) is)
 
   runlock_row : (l : ℕ) (held : Bool) → is_read_held l past ≡ held → fits (cond held (RUnlock l) (Fault (RUnlockFree l))) ≡ and_acts true
-  runlock_row l true is = head (over past) (runs g past) true (op_rules caps past g (RUnlock l)) (one 16 (not (is_read_held l past)) ∙ twice (is_read_held l past) ∙ is)
+  runlock_row l true is =
+      head (over past) (runs g past) true (op_rules caps past g (RUnlock l))
+      (one 16 (not (is_read_held l past)) ∙ twice (is_read_held l past) ∙ is)
   runlock_row l false is = head (over past) (runs g past) true (op_rules caps past g (Fault (RUnlockFree l)))
       (one 23 (not (not (is_read_held l past))) ∙ ap (λ b. not (not (not b))) is)
 
@@ -148,7 +154,9 @@ module _ (caps : ℕ → ℕ) (past : List Event) (g place : ℕ) where
 
   row_goes_on : (ask : Ask) (k : ℕ)
       → is_legal_next caps past (lone_event past (record { who = g; asked = record { ask = ask; place = place } }) k) ≡ and_acts (goes_on caps past g ask)
-  row_goes_on (Ask.Go h) k = head (over past) (runs g past) _ (op_rules caps past g (Go h)) (one 3 (h == 0 || started h past) ∙ neither_is (h == 0) (started h past))
+  row_goes_on (Ask.Go h) k =
+      head (over past) (runs g past) _ (op_rules caps past g (Go h))
+      (one 3 (h == 0 || started h past) ∙ neither_is (h == 0) (started h past))
   row_goes_on Ask.Exit k = head (over past) (runs g past) _ (op_rules caps past g (Exit)) (one 20 (is_some (innermost g past)) ∙ some_none (innermost g past))
   row_goes_on (Ask.Read x) k = head (over past) (runs g past) true
       (op_rules caps past g (Read x (last_value x past)))

@@ -36,7 +36,8 @@ module _ (declarations : List Declaration) (k : ReplayState) (past : List Event)
       second false b is = absurd (let e : false ≡ true = is in cc)
 
 -- the channel of an offer in range is one
-pub sent_is_in_range : (chans : ℕ) (offer : Option Offer) (c : ℕ) → Some c ≡ sent_on offer → IfSome offer (λ o. IsTrue (offer_is_in_range chans o)) → nat_lt c chans ≡ true
+pub sent_is_in_range : (chans : ℕ) (offer : Option Offer) (c : ℕ) → Some c ≡ sent_on offer
+    → IfSome offer (λ o. IsTrue (offer_is_in_range chans o)) → nat_lt c chans ≡ true
 sent_is_in_range chans None c e is = absurd (let no : Some c ≡ None = e in cc)
 sent_is_in_range chans (Some (Offer.Recv d)) c e is = absurd (let no : Some c ≡ None = e in cc)
 sent_is_in_range chans (Some (Offer.Send None v)) c e is = absurd (let no : Some c ≡ None = e in cc)

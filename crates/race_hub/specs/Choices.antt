@@ -1,4 +1,5 @@
--- The choices of a waiting list: which of its requests can go on, each alone or with whom it meets. (The Go Programming Language Specification, "Send statements", "Receive operator", "Channel types"; package sync)
+-- The choices of a waiting list: which of its requests can go on, each alone or with whom it meets. (The Go Programming Language Specification, "Send
+-- statements", "Receive operator", "Channel types"; package sync)
 use Rattle.std.specs.Prelude.{ℕ, ◌+◌, ◌-◌, ◌==◌, cond, Bool, false, List, ◌∷◌, length, map, filter, slice_get, Option, Some, None, is_none}
 use Rattle.std.specs.List.{flat_map, range_with_len}
 use Rattle.race_records.specs.declared.event.Cause.TheVariants.{SendClosed, CloseClosed, CloseNil, UnlockFree, RUnlockFree}

@@ -82,7 +82,8 @@ pub record RowsOfMeets : Type 0 where
 -- several senders and receivers of one unbuffered channel: by the sender's place, and then by the receiver's
 abbrev pub MeetsAreListedBySender : Type 0
 MeetsAreListedBySender =
-    choices capacities three_started (waits 0 (Ask.Recv (Some 0)) ∷ waits 1 (Ask.Send (Some 0) 7) ∷ waits 2 (Ask.Recv (Some 0)) ∷ waits 3 (Ask.Send (Some 0) 8) ∷ [])
+    choices capacities three_started
+    (waits 0 (Ask.Recv (Some 0)) ∷ waits 1 (Ask.Send (Some 0) 7) ∷ waits 2 (Ask.Recv (Some 0)) ∷ waits 3 (Ask.Send (Some 0) 8) ∷ [])
     ≡ choice 1 0 1 1 ∷ choice 1 0 3 1 ∷ choice 3 0 1 1 ∷ choice 3 0 3 1 ∷ []
 
 -- what goes on alone stands among the meets by the place of its request

@@ -1,4 +1,5 @@
--- Small waiting lists whose choices, events and answers are computed. (The Go Programming Language Specification, "Send statements", "Receive operator", "Close"; package sync)
+-- Small waiting lists whose choices, events and answers are computed. (The Go Programming Language Specification, "Send statements", "Receive operator",
+-- "Close"; package sync)
 use Rattle.std.specs.Prelude.{ℕ, ◌≡◌, ◌+◌, List, [], ◌∷◌, Option, Some, None}
 use Rattle.race_records.specs.declared.event.Event.{Event}
 use Rattle.race_records.specs.declared.event.Op.{Op}

@@ -1,4 +1,5 @@
--- A list of waiting requests, and where the run stands. (The Go Programming Language Specification, "Channel types": without a buffer sender and receiver wait for one another)
+-- A list of waiting requests, and where the run stands. (The Go Programming Language Specification, "Channel types": without a buffer sender and
+-- receiver wait for one another)
 use Rattle.std.specs.Prelude.{ℕ, ◌==◌, ◌&&◌, not, nat_lt, Bool, false, List, slice_get, Option, Some, None}
 use Rattle.race_records.specs.declared.event.Event.{Event}
 use Rattle.race_records.specs.declared.kind.Kind.{Kind}

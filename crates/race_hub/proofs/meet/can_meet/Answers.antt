@@ -15,7 +15,9 @@ returns g c past S =
     let caps = capacity_of D in
     let w = c.args.sender.now in
     let r = c.args.receiver.now in
-    let met : Some (c.in-Some.chan, c.in-Some.field-0-1) ≡ handed (slice_get (offers_of w.asked.ask) c.args.way) (slice_get (offers_of r.asked.ask) c.args.other_way) =
+    let met :
+    Some (c.in-Some.chan, c.in-Some.field-0-1)
+    ≡ handed (slice_get (offers_of w.asked.ask) c.args.way) (slice_get (offers_of r.asked.ask) c.args.other_way) =
     c.in-Some.ensures.handed ∙ (λ i. handed (c.offer_at-sends.ensures.offer i) (c.offer_at-receives.ensures.offer i)) in
     c.acts.ensures
     ∙ (λ i. not (c.over.ensures D past S i) && (c.both-run.ensures i && c.meets_on-can.ensures i))

@@ -9,7 +9,8 @@ pub returns-in-Some-front : goal.returns-in-Some-front
 returns-in-Some-front g c past S =
     let D = c.args.decls.now.declarations in
     ap (nat_lt 0) c.capacity.ensures
-    ∙ ap (λ (f : Option ℕ). elim f [ Some v ↦ nat_lt 0 (capacity_of D c.in-Some.chan) | None ↦ is_closed c.in-Some.chan past ]) (c.in-Some-front.ensures D past S)
+    ∙ ap (λ (f : Option ℕ). elim f [ Some v ↦ nat_lt 0 (capacity_of D c.in-Some.chan) | None ↦ is_closed c.in-Some.chan past ])
+    (c.in-Some-front.ensures D past S)
     ∙ sym (ap (receiver_goes_on (capacity_of D) past) c.in-Some.is)
 
 pub returns-in-None : goal.returns-in-None

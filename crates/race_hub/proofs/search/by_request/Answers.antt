@@ -8,7 +8,8 @@ pub returns-in-At : goal.returns-in-At
 returns-in-At g c =
     let less : c.loop-way.way < g.B.Board.ways_at c.args.board.now c.args.place = omega (arith, c.ways-way-end.ensures) in
     found_at (g.B.Board.admitted c.args.board.now)
-    (of_way (g.B.Board.size c.args.board.now) (g.B.Board.ways_at c.args.board.now) c.args.place) c.loop-way.way (g.B.Board.ways_at c.args.board.now c.args.place)
+    (of_way (g.B.Board.size c.args.board.now) (g.B.Board.ways_at c.args.board.now) c.args.place) c.loop-way.way
+    (g.B.Board.ways_at c.args.board.now c.args.place)
     c.args.skip c.loop-way.left c.in-At.choice less c.loop-way.invariant c.in-At.ensures
 
 pub loop-way-preserved : goal.loop-way-preserved

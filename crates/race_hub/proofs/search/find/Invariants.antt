@@ -8,4 +8,5 @@ use Rattle.race_hub.proofs.search.find.Given as goal
 abbrev pub invariant-loop-place : goal.invariant-loop-place
 invariant-loop-place g l =
     IsFound (filter (g.B.Board.admitted l.board)
-    (flat_map (λ w. flat_map (of_way (g.B.Board.size l.board) (g.B.Board.ways_at l.board) w) (below (g.B.Board.ways_at l.board w))) (below l.place))) l.skip (Left l.left)
+    (flat_map (λ w. flat_map (of_way (g.B.Board.size l.board) (g.B.Board.ways_at l.board) w) (below (g.B.Board.ways_at l.board w))) (below l.place)))
+    l.skip (Left l.left)

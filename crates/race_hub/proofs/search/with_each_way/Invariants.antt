@@ -6,4 +6,6 @@ use Rattle.race_hub.specs.Search.{IsFound}
 use Rattle.race_hub.proofs.search.with_each_way.Given as goal
 
 abbrev pub invariant-loop-other : goal.invariant-loop-other
-invariant-loop-other g l = IsFound (filter (g.B.Board.admitted l.board) (flat_map (λ q. choice l.place l.way (l.partner + 1) (q + 1) ∷ []) (below l.other))) l.skip (Left l.left)
+invariant-loop-other g l =
+    IsFound (filter (g.B.Board.admitted l.board) (flat_map (λ q. choice l.place l.way (l.partner + 1) (q + 1) ∷ []) (below l.other)))
+    l.skip (Left l.left)

@@ -17,7 +17,8 @@ can_meet-requires-clause-who g c =
 pub can_meet-requires-clause-whom : goal.can_meet-requires-clause-whom
 can_meet-requires-clause-whom g c =
     let r = c.run.result in
-    who_is_in_range r.1.now.declarations r.0.now c.args.self.now.past c.run.ensures.stands c.args.receiver.now (rw c.run.ensures.declarations c.requires.receiver)
+    who_is_in_range r.1.now.declarations r.0.now c.args.self.now.past c.run.ensures.stands c.args.receiver.now
+    (rw c.run.ensures.declarations c.requires.receiver)
 
 pub can_meet-requires-clause-range : goal.can_meet-requires-clause-range
 can_meet-requires-clause-range g c =

@@ -2,6 +2,8 @@
 #![tactic(auto)]
 
 mod board;
+#[cfg(test)]
+mod board_tests;
 mod choice;
 mod job;
 pub mod laws;

@@ -1,0 +1,235 @@
+ghost use Rattle.std.specs.Prelude.{◌≡◌, ◌≤◌, ◌<◌, true, length, IsTrue, IfOk, IfSome, All};
+ghost use Rattle.race_legal.specs.StandsFor.{StandsFor};
+ghost use Rattle.race_hub.specs.Waiting.{is_declared};
+
+use crate::{Ask, Choice, Request, Waiter, WaitingList};
+use race_legal::Replay;
+use race_records::{Cause, Decls, Event, Kind, Object, Op, Trace};
+use std::alloc::{AllocError, Global};
+use std::test::Fail;
+
+/// Who asks what, and the choices in their order: the request's place in the list, and the partner's plus 1 or 0. Requests
+/// stand in the source at the places from 5 on.
+#[derive(Debug)]
+struct Row {
+    asks: &'static [(u32, Ask)],
+    choices: &'static [(u32, u32)],
+}
+
+// The request at this place by its one way, with the partner of this number less 1, or with none.
+fn choice(place: u32, partner: u32) -> Choice {
+    Choice {
+        place,
+        offer: 0,
+        partner,
+        partner_offer: partner.min(1),
+    }
+}
+
+// The operation of the choice of this number in that row.
+fn wanted_op(row: usize, number: usize) -> Op {
+    match (row, number) {
+        (0, 0) => Op::Meet(0, 0, 7),
+        (0, 1) => Op::Meet(2, 0, 7),
+        (0, 2) => Op::Meet(0, 0, 8),
+        (0, _) => Op::Meet(2, 0, 8),
+        (1, 0) => Op::Meet(2, 0, 7),
+        (1, _) => Op::Read(0, 0),
+        (_, 0) => Op::Fault(Cause::SendClosed(2)),
+        _ => Op::RecvClosed(2),
+    }
+}
+
+// The event of the request at this place, with the partner's place where there is one.
+fn is_event(event: Option<Event>, place: u32, partner: u32, op: &Op) -> bool {
+    let place2 = if partner == 0 {
+        None
+    } else {
+        Some(partner.saturating_add(4))
+    };
+    match event {
+        Some(event) => event.place == place.saturating_add(5)
+            && event.op == *op
+            && event.place2 == place2,
+        None => false,
+    }
+}
+
+// Channels 0 and 3 are unbuffered and open, channel 1 is empty and has room for one, and channel 2 is closed.
+static ROWS: [Row; 7] = [
+    Row {
+        asks: &[
+            (0, Ask::Recv(Some(0))),
+            (1, Ask::Send(Some(0), 7)),
+            (2, Ask::Recv(Some(0))),
+            (3, Ask::Send(Some(0), 8)),
+        ],
+        choices: &[(1, 1), (1, 3), (3, 1), (3, 3)],
+    },
+    Row {
+        asks: &[
+            (0, Ask::Send(Some(0), 7)),
+            (1, Ask::Read(0)),
+            (2, Ask::Recv(Some(0))),
+            (3, Ask::Recv(Some(3))),
+        ],
+        choices: &[(0, 3), (1, 0)],
+    },
+    // A send on a closed channel goes on, as a fault, and a receive finds it closed.
+    Row {
+        asks: &[(1, Ask::Send(Some(2), 7)), (2, Ask::Recv(Some(2)))],
+        choices: &[(0, 0), (1, 0)],
+    },
+    // Nobody asks, or the channel is empty, or who sends is who receives, or the two name different channels.
+    Row {
+        asks: &[],
+        choices: &[],
+    },
+    Row {
+        asks: &[(1, Ask::Recv(Some(1)))],
+        choices: &[],
+    },
+    Row {
+        asks: &[(1, Ask::Send(Some(0), 7)), (1, Ask::Recv(Some(0)))],
+        choices: &[],
+    },
+    Row {
+        asks: &[(1, Ask::Send(Some(0), 7)), (2, Ask::Recv(Some(3)))],
+        choices: &[],
+    },
+];
+
+static OBJECTS: [(&str, Object); 8] = [
+    ("g", Object::Goroutine),
+    ("h", Object::Goroutine),
+    ("i", Object::Goroutine),
+    ("x", Object::Var),
+    ("c", Object::Chan(0)),
+    ("b", Object::Chan(1)),
+    ("d", Object::Chan(0)),
+    ("e", Object::Chan(0)),
+];
+
+fn by_main(op: Op) -> Event {
+    Event {
+        who: 0,
+        op,
+        place: 0,
+        place2: None,
+    }
+}
+
+// Main started three goroutines and closed channel 2.
+fn traced(alloc: Global) -> Result<Trace, Fail> {
+    let mut decls = Decls::new(alloc);
+    for (name, object) in &OBJECTS {
+        decls.declare(*name, *object)?;
+    }
+    decls.add_place("p")?;
+    let mut trace = Trace::new(decls);
+    for goroutine in 1..4_u32 {
+        trace.push(by_main(Op::Go(goroutine)))?;
+    }
+    trace.push(by_main(Op::Close(2)))?;
+    Ok(trace)
+}
+
+// Where the run stands behind these events, if they are legal.
+fn replayed(alloc: Global, trace: &Trace) -> Result<Option<Replay>, AllocError>
+    ensures { IfOk result (λ r. IfSome r (λ replay. StandsFor trace.now.decls.declarations replay trace.now.events)) }
+{
+    let mut replay = Replay::new(alloc, trace.decls())?;
+    for at in 0..trace.len() {
+        match replay.accept(trace.event(at)) {
+            Ok(()) => {}
+            Err(_) => return Ok(None),
+        }
+    }
+    Ok(Some(replay))
+}
+
+// All that the request names is declared.
+fn is_fit(decls: &Decls, waiter: &Waiter) -> bool
+    ensures { result ≡ true → IsTrue (is_declared decls.now.declarations waiter.now) }
+{
+    if waiter.who >= decls.count(Kind::Goroutine) {
+        return false;
+    }
+    match &waiter.asked.ask {
+        Ask::Read(var) => *var < decls.count(Kind::Var),
+        Ask::Send(Some(chan), _) => *chan < decls.count(Kind::Chan),
+        Ask::Recv(Some(chan)) => *chan < decls.count(Kind::Chan),
+        _ => false,
+    }
+}
+
+// These requests, at the places from 5 on.
+fn listed(alloc: Global, decls: &Decls, asks: &[(u32, Ask)]) -> Result<Vec<Waiter>, AllocError>
+    ensures { IfOk result (λ v. (All (λ w. IsTrue (is_declared decls.now.declarations w)) v.items) × (length v.items ≤ 8)) }
+{
+    let mut waiting = Vec::new(alloc);
+    for i in 0..asks.len().min(8) {
+        let asked = Request {
+            ask: asks[i].1.copy(),
+            place: i as u32 + 5,
+        };
+        let waiter = Waiter {
+            who: asks[i].0,
+            asked,
+        };
+        if !is_fit(decls, &waiter) {
+            return Ok(waiting);
+        }
+        waiting.push(waiter)?;
+    }
+    Ok(waiting)
+}
+
+// The picks go round the row's choices in their order, and each makes its event.
+fn goes_round(list: &WaitingList, at: usize, choices: &[(u32, u32)]) -> bool {
+    let round = choices.len();
+    for number in 0..round {
+        let (place, partner) = choices[number];
+        let wanted = choice(place, partner);
+        let later = (number as u64).wrapping_add(round as u64);
+        if list.pick(number as u64) != Some(wanted) || list.pick(later) != Some(wanted) {
+            return false;
+        }
+        if !is_event(
+            list.event_of(wanted),
+            place,
+            partner,
+            &wanted_op(at, number),
+        ) {
+            return false;
+        }
+    }
+    list.pick(0).is_none() == (round == 0)
+}
+
+// How many rows are as they are wanted, up to the first that isn't.
+fn rows_kept(alloc: Global, trace: &Trace, replay: &Replay) -> Result<usize, AllocError>
+    requires { StandsFor trace.now.decls.declarations replay.now trace.now.events }
+{
+    for at in 0..ROWS.len() {
+        let row = &ROWS[at];
+        let waiting = listed(alloc, trace.decls(), row.asks)?;
+        let list = WaitingList::new(replay, trace, waiting.as_slice());
+        if waiting.len() != row.asks.len() || !goes_round(&list, at, row.choices) {
+            return Ok(at);
+        }
+    }
+    Ok(ROWS.len())
+}
+
+#[test]
+fn picks_go_round_the_choices_of_a_run(rt: HostRuntime) -> Result<(), Fail> {
+    let alloc = rt.alloc();
+    let trace = traced(alloc)?;
+    let kept = match replayed(alloc, &trace)? {
+        Some(replay) => rows_kept(alloc, &trace, &replay)?,
+        None => 0,
+    };
+    assert_eq!(rt; kept, 7);
+    Ok(())
+}

@@ -5,6 +5,7 @@ mod alike;
 mod cases;
 mod declarations;
 mod event;
+mod fitting;
 mod indexes;
 mod kind;
 mod name;

@@ -210,16 +210,17 @@ module _ (bytes : List ℕ) (lines : List (List ℕ)) (left : List ℕ) (t : IsT
       let none_left : left ≡ [] = no_bytes left (end_empty lines left h).0 in
       sym t.bytes_are ∙ ap (λ (l : List ℕ). flat_map ended lines ++ l) none_left ∙ append-nil _
 
+-- how many declarations there are, kind by kind
+abbrev by_kind : List Declaration → ℕ
+by_kind ds =
+    length (of_kind Kind.Goroutine ds) + length (of_kind Kind.Var ds) + length (of_kind Kind.Chan ds) + length (of_kind Kind.Lock ds) + length (of_kind Kind.Once ds)
+
 -- how many lines there are
-counted : (ds : List Declaration)
-    → length ds ≡ length (of_kind Kind.Goroutine ds) + length (of_kind Kind.Var ds) + length (of_kind Kind.Chan ds) + length (of_kind Kind.Lock ds) + length (of_kind Kind.Once ds)
+counted : (ds : List Declaration) → length ds ≡ by_kind ds
 counted [] = refl
 counted (d ∷ ds) = by d.name d.object (counted ds)
   where
-    by : (name : List ℕ) (o : Object)
-        → length ds ≡ length (of_kind Kind.Goroutine ds) + length (of_kind Kind.Var ds) + length (of_kind Kind.Chan ds) + length (of_kind Kind.Lock ds) + length (of_kind Kind.Once ds)
-        → let all = record { name = name; object = o } ∷ ds in
-        length all ≡ length (of_kind Kind.Goroutine all) + length (of_kind Kind.Var all) + length (of_kind Kind.Chan all) + length (of_kind Kind.Lock all) + length (of_kind Kind.Once all)
+    by : (name : List ℕ) (o : Object) → length ds ≡ by_kind ds → let all = record { name = name; object = o } ∷ ds in length all ≡ by_kind all
     by name Object.Goroutine more = omega (arith, more)
     by name Object.Var more = omega (arith, more)
     by name (Object.Chan capacity) more = omega (arith, more)

@@ -14,10 +14,12 @@ pub enum Word {
     Does(Verb),
 }
 
-/// The words that a line may begin with.
+/// The words that a line may begin with, the common ones first: they are looked for in this order.
 pub const WORDS: [(&[u8], Word); 24] = [
     (b"read", Word::Does(Verb::Read)),
     (b"write", Word::Does(Verb::Write)),
+    (b"lock", Word::Does(Verb::Lock)),
+    (b"unlock", Word::Does(Verb::Unlock)),
     (b"send", Word::Does(Verb::Send)),
     (b"recv", Word::Does(Verb::Recv)),
     (b"meet", Word::Does(Verb::Meet)),
@@ -25,8 +27,6 @@ pub const WORDS: [(&[u8], Word); 24] = [
     (b"exit", Word::Does(Verb::Exit)),
     (b"recvclosed", Word::Does(Verb::RecvClosed)),
     (b"close", Word::Does(Verb::Close)),
-    (b"lock", Word::Does(Verb::Lock)),
-    (b"unlock", Word::Does(Verb::Unlock)),
     (b"rlock", Word::Does(Verb::RLock)),
     (b"runlock", Word::Does(Verb::RUnlock)),
     (b"oncebegin", Word::Does(Verb::OnceBegin)),

@@ -16,19 +16,22 @@ pub returns-in_err-feed-clause-accepted : goal.returns-in_err-feed-clause-accept
 returns-in_err-feed-clause-accepted g c = λ is.
     match_err _ (λ (f : TextFault). f.cause ≡ TextCause.OutOfMemory) c.from_residual.result c.in_err-feed.field-0.0 c.from_residual.ensures.1
     (text_is_accepted c.args.bytes.now c.in_err-feed.field-0.0
-    (told_at_once c.new-reader.result c.feed.new.self c.args.bytes.now c.in_err-feed.field-0.0 c.new-reader.ensures c.in_err-feed.ensures.goes_on c.in_err-feed.ensures.told).whole is)
+    (told_at_once c.new-reader.result c.feed.new.self c.args.bytes.now c.in_err-feed.field-0.0 c.new-reader.ensures
+    c.in_err-feed.ensures.goes_on c.in_err-feed.ensures.told).whole is)
 
 pub returns-in_err-feed-clause-fault : goal.returns-in_err-feed-clause-fault
 returns-in_err-feed-clause-fault g c =
     match_err _ (λ (f : TextFault). f.cause ≢ TextCause.OutOfMemory → text_fault c.args.bytes.now ≡ Some f)
     c.from_residual.result c.in_err-feed.field-0.0 c.from_residual.ensures.1
-    (told_at_once c.new-reader.result c.feed.new.self c.args.bytes.now c.in_err-feed.field-0.0 c.new-reader.ensures c.in_err-feed.ensures.goes_on c.in_err-feed.ensures.told).whole
+    (told_at_once c.new-reader.result c.feed.new.self c.args.bytes.now c.in_err-feed.field-0.0 c.new-reader.ensures
+    c.in_err-feed.ensures.goes_on c.in_err-feed.ensures.told).whole
 
 pub returns-in_err-feed-clause-memory : goal.returns-in_err-feed-clause-memory
 returns-in_err-feed-clause-memory g c =
     match_err _ (λ (f : TextFault). IsNoneBefore f.line (text_fault c.args.bytes.now))
     c.from_residual.result c.in_err-feed.field-0.0 c.from_residual.ensures.1
-    (told_at_once c.new-reader.result c.feed.new.self c.args.bytes.now c.in_err-feed.field-0.0 c.new-reader.ensures c.in_err-feed.ensures.goes_on c.in_err-feed.ensures.told).none_before
+    (told_at_once c.new-reader.result c.feed.new.self c.args.bytes.now c.in_err-feed.field-0.0 c.new-reader.ensures
+    c.in_err-feed.ensures.goes_on c.in_err-feed.ensures.told).none_before
 
 module _ (g : _) (c : goal.After-finish g) where
   stands : StandsFor c.feed.new.self c.args.bytes.now

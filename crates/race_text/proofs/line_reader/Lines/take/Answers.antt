@@ -43,6 +43,8 @@ returns-in_err-take_part-in-Some-clause-taken g c =
 
 pub returns-in-None-clause-taken : goal.returns-in-None-clause-taken
 returns-in-None-clause-taken g c = λ whole more t.
+    let reader = c.args.self.now.reader in
+    let lines = lines_read reader.has_header reader.decls reader.trace in
     let part = c.args.self.now.part.items in
     let piece = c.args.piece.now in
     let end = c.cut_at.result.0.now in
@@ -50,7 +52,7 @@ returns-in-None-clause-taken g c = λ whole more t.
     let kept : c.keep.new.self.part.items ≡ part ++ piece = c.in_ok-keep.ensures.kept ∙ ap (λ (bytes : List ℕ). part ++ bytes) (last_is piece end last) in
     subst (λ (ls : List (List ℕ)). IsTaken whole ls (c.keep.new.self.part.items ++ more))
     (λ i. lines_read (sym c.in_ok-keep.ensures.same i).has_header (sym c.in_ok-keep.ensures.same i).decls (sym c.in_ok-keep.ensures.same i).trace)
-    (subst (λ (bytes : List ℕ). IsTaken whole (lines_read c.args.self.now.reader.has_header c.args.self.now.reader.decls c.args.self.now.reader.trace) (bytes ++ more)) (sym kept) t)
+    (subst (λ (bytes : List ℕ). IsTaken whole lines (bytes ++ more)) (sym kept) t)
 
 pub returns-in-None-clause-unended : goal.returns-in-None-clause-unended
 returns-in-None-clause-unended g c =

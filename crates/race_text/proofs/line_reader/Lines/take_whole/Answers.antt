@@ -17,7 +17,8 @@ pub returns-in-None-clause-taken : goal.returns-in-None-clause-taken
 returns-in-None-clause-taken g c = λ whole more t.
     let reader = c.loop-self.self.reader in
     let last : parts_of c.loop-self.left.now ≡ c.cut_at.result.0.now ∷ [] = c.cut_at.ensures ∙ ap (λ r. c.cut_at.result.0.now ∷ parts_left 10 r) c.in-None.is in
-    let kept : c.keep.new.self.part.items ≡ [] ++ c.cut_at.result.0.now = c.in_ok-keep-in-None.ensures.kept ∙ ap (λ (p : List ℕ). p ++ c.cut_at.result.0.now) c.loop-self.invariant.none in
+    let kept : c.keep.new.self.part.items ≡ [] ++ c.cut_at.result.0.now =
+    c.in_ok-keep-in-None.ensures.kept ∙ ap (λ (p : List ℕ). p ++ c.cut_at.result.0.now) c.loop-self.invariant.none in
     subst (λ (ls : List (List ℕ)). IsTaken whole ls (c.keep.new.self.part.items ++ more))
     (λ i. lines_read (sym c.in_ok-keep-in-None.ensures.same i).has_header (sym c.in_ok-keep-in-None.ensures.same i).decls (sym c.in_ok-keep-in-None.ensures.same i).trace)
     (kept_taken whole (lines_read reader.has_header reader.decls reader.trace) c.loop-self.left.now c.cut_at.result.0.now c.keep.new.self.part.items more last kept
@@ -26,7 +27,8 @@ returns-in-None-clause-taken g c = λ whole more t.
 pub returns-in-None-clause-unended : goal.returns-in-None-clause-unended
 returns-in-None-clause-unended g c =
     let last : parts_of c.loop-self.left.now ≡ c.cut_at.result.0.now ∷ [] = c.cut_at.ensures ∙ ap (λ r. c.cut_at.result.0.now ∷ parts_left 10 r) c.in-None.is in
-    let kept : c.keep.new.self.part.items ≡ [] ++ c.cut_at.result.0.now = c.in_ok-keep-in-None.ensures.kept ∙ ap (λ (p : List ℕ). p ++ c.cut_at.result.0.now) c.loop-self.invariant.none in
+    let kept : c.keep.new.self.part.items ≡ [] ++ c.cut_at.result.0.now =
+    c.in_ok-keep-in-None.ensures.kept ∙ ap (λ (p : List ℕ). p ++ c.cut_at.result.0.now) c.loop-self.invariant.none in
     subst (λ (bytes : List ℕ). IsUnended bytes) (sym kept) (last_unended c.loop-self.left.now c.cut_at.result.0.now last)
 
 pub returns-in_err-take_line-in-Some-clause-taken : goal.returns-in_err-take_line-in-Some-clause-taken

@@ -13,13 +13,13 @@ fn parse<A: Allocator + Copy>(alloc: A) -> Result<Trace<A>, TextFault> {
     parse_trace(alloc, b"gotrace 1\nvar x\nwrite main x 7 a.go:1\n")
 }
 
-// The fault where this growth is refused: the variable takes six, the place and the event six, and a
-// line that isn't ended yet is kept.
+// The fault where this growth is refused: the variable takes six, and a seventh for its short name that
+// it can do without, the place and the event six, and a line that isn't ended yet is kept.
 fn fault_of_growth(nth: u64) -> TextFault {
     TextFault {
-        line: if nth <= 6 {
+        line: if nth <= 7 {
             2
-        } else if nth <= 12 {
+        } else if nth <= 13 {
             3
         } else {
             4

@@ -1,15 +1,17 @@
 -- What the tables of a `Decls` say of its declarations.
-use Rattle.std.proofs.Common.{◌≡◌, ℕ, zero, suc, ◌<◌, List, [], ◌∷◌, length, position, slice_get, Option, Some, None, option_map, refl, sym, ap, ◌∙◌, arith}
+use Rattle.std.proofs.Common.{◌≡◌, ℕ, zero, suc, ◌<◌, false, if◌then◌else◌, List, [], ◌∷◌, length, take, position, slice_get, Option, Some, None, option_map, refl, sym, ap, ◌∙◌, arith}
 use Rattle.std.proofs.lemmas.Option.{slice_get-map, slice_get-get_or, none-some}
-use Rattle.std.specs.Option.{option_map_or}
+use Rattle.std.specs.Option.{option_map_or, option_and_then}
 use Rattle.std.specs.Str.{bytes_eq}
 use Rattle.race_records.specs.declared.kind.Kind.{Kind}
 use Rattle.race_records.specs.declared.kind.Object.{Object}
 use Rattle.race_records.specs.declared.names.Slot.{Slot}
-use Rattle.race_records.specs.Declarations.{Declaration, of_kind}
+use Rattle.race_records.specs.declared.kind.Named.{Named}
+use Rattle.race_records.specs.Declarations.{Declaration, count_of, declared_at, find_name, kind_of, named, of_kind}
+use Rattle.race_records.specs.Name.{main}
 use Rattle.race_records.specs.DeclsHold.{AreNumbered}
 use Rattle.race_records.specs.Rows.{declaration_of, declarations_of}
-use Rattle.race_records.specs.Tables.{Row, IndexesState, indexes_of}
+use Rattle.race_records.specs.Tables.{Row, IndexesState, indexes_of, slot_named}
 use Rattle.race_records.proofs.TextLemmas.{position-map}
 
 option_map-option_map : {A B C : Type 0} (f : A → B) (g : B → C) (o : Option A) → option_map g (option_map f o) ≡ option_map (λ x. g (f x)) o
@@ -26,6 +28,35 @@ within_by_map f (x ∷ xs) (suc i) y h = let n = within_by_map f xs i y h in ome
 pub position-names : (rows : List Row) (name : List ℕ)
     → position (λ (r : Row). bytes_eq name r.name) rows ≡ position (λ (d : Declaration). bytes_eq name d.name) (declarations_of rows)
 position-names rows name = sym (position-map declaration_of (λ (d : Declaration). bytes_eq name d.name) rows)
+
+-- what a slot's object is named
+abbrev pub slot_stands : Slot → Named
+slot_stands slot = named slot.object slot.number
+
+-- what is found by a name is what its row's slot says
+module _ (rows : List Row) (indexes : IndexesState) (numbered : AreNumbered rows indexes) (name : List ℕ) where
+  abbrev declared : ℕ → Declaration → Named
+  declared i d = named d.object (count_of (kind_of d.object) (take i (declarations_of rows)))
+
+  stands_at : (i : ℕ) (o : Option Row) → slice_get rows i ≡ o
+      → option_map (declared i) (option_map declaration_of o) ≡ option_map slot_stands (option_map (λ (r : Row). r.slot) o)
+  stands_at i None at = refl
+  stands_at i (Some r) at = λ j. Some (named r.slot.object (sym (numbered.numbers i r at) j))
+
+  stands : (o : Option ℕ)
+      → option_and_then (declared_at (declarations_of rows)) o ≡ option_map slot_stands (option_and_then (λ i. option_map (λ (r : Row). r.slot) (slice_get rows i)) o)
+  stands None = refl
+  stands (Some i) = ap (option_map (declared i)) (slice_get-map declaration_of rows i) ∙ stands_at i (slice_get rows i) refl
+
+  find_name-slot : bytes_eq name main ≡ false → find_name (declarations_of rows) name ≡ option_map slot_stands (slot_named name rows)
+  find_name-slot other =
+      let ds = declarations_of rows in
+      (λ j. if other j then Some (Named.Goroutine 0) else option_and_then (declared_at ds) (position (λ (d : Declaration). bytes_eq name d.name) ds))
+      ∙ ap (option_and_then (declared_at ds)) (sym (position-names rows name)) ∙ stands (position (λ (r : Row). bytes_eq name r.name) rows)
+
+  pub find_name-found : (ds : List Declaration) (found : Option Slot) → declarations_of rows ≡ ds → bytes_eq name main ≡ false → found ≡ slot_named name rows
+      → find_name ds name ≡ option_map slot_stands found
+  find_name-found ds found view other is = (λ j. find_name (sym view j) name) ∙ find_name-slot other ∙ ap (option_map slot_stands) (sym is)
 
 module _ (rows : List Row) (indexes : IndexesState) (numbered : AreNumbered rows indexes) (kind : Kind) (n i : ℕ)
     (at : slice_get (indexes_of kind indexes) n ≡ Some i) where

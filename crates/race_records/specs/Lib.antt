@@ -9,6 +9,7 @@ pub mod Nouns
 pub mod Events
 pub mod Tables
 pub mod Rows
+pub mod Shorts
 pub mod DeclsHold
 pub mod TraceHolds
 pub mod Devices

@@ -1,5 +1,7 @@
 -- The private tables under a `Decls`: names with what they stand for, and where the objects of each kind stand.
-use Rattle.std.specs.Prelude.{ℕ, List, [], ◌∷◌, ◌++◌}
+use Rattle.std.specs.Prelude.{ℕ, List, [], ◌∷◌, ◌++◌, Option, position, slice_get, option_map}
+use Rattle.std.specs.Option.{option_and_then}
+use Rattle.std.specs.Str.{bytes_eq}
 use Rattle.race_records.specs.declared.kind.Kind.{Kind}
 use Rattle.race_records.specs.declared.names.Slot.{Slot}
 
@@ -10,6 +12,10 @@ pub record Row : Type 0 where
 
 abbrev pub row : List ℕ → Slot → Row
 row name slot = record { name = name; slot = slot }
+
+-- the slot of the first row with the name
+abbrev pub slot_named : List ℕ → List Row → Option Slot
+slot_named name rows = option_and_then (λ i. option_map (λ r. r.slot) (slice_get rows i)) (position (λ r. bytes_eq name r.name) rows)
 
 -- where in the list of declarations the objects of each kind stand, in order
 pub record IndexesState : Type 0 where

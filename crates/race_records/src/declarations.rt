@@ -1,5 +1,5 @@
 //! The declarations of a trace, and its table of places.
-ghost use Rattle.std.specs.Prelude.{◌≡◌, ◌<◌, ◌≤◌, ◌↔◌, ℕ, [], length, position, IsTrue, true, false, Some, None, slice_get, IsOk, IfSome, IfNone, OnSome, IfOk, OnOk, OnErr};
+ghost use Rattle.std.specs.Prelude.{◌≡◌, ◌<◌, ◌≤◌, ◌↔◌, ℕ, [], length, IsTrue, true, false, Some, None, slice_get, IsOk, IfSome, IfNone, OnSome, IfOk, OnOk, OnErr};
 ghost use Rattle.std.specs.Str.{bytes_eq};
 ghost use Rattle.race_records.specs.Declarations as spec;
 ghost use Rattle.race_records.specs.Refusal.{Refuses, AllowsUnless};
@@ -122,17 +122,10 @@ impl<A: Allocator> Decls<A> {
         if name == "main" {
             return Some(Named::Goroutine(0));
         }
-        match self.index_of(name) {
-            Some(index) => Some(self.declared(index)),
+        match self.names.find(name) {
+            Some(slot) => Some(slot.object.named(slot.number)),
             None => None,
         }
-    }
-
-    // The index of the declaration of the name.
-    fn index_of(&self, name: &str) -> Option<usize>
-        ensures { result ≡ position (λ d. bytes_eq name.now d.name) self.now.declarations }
-    {
-        self.names.index_of(name)
     }
 
     /// How many of the kind there are, main counted.

@@ -87,6 +87,7 @@ impl Named {
     }
 
     /// Whether it is of the kind.
+    #[inline(always)]
     pub fn is_of(self, kind: Kind) -> bool
         ensures { result ≡ spec.is_named kind self }
     {

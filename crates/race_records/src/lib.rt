@@ -14,6 +14,7 @@ mod nouns;
 mod page;
 mod parts;
 mod places;
+mod shorts;
 mod sink;
 mod source;
 mod trace;
@@ -32,6 +33,8 @@ pub use page::{BLOCK, Page};
 pub use parts::{Part, PartKind, Parts, Verb, failed_at, op_by, part_kinds, rwmutex_of, says};
 #[doc(hidden)]
 pub use places::Places;
+#[doc(hidden)]
+pub use shorts::{Short, Shorts};
 pub use sink::{Sink, WriteFault};
 pub use source::Source;
 pub use trace::{MAX_EVENTS, PushFault, Trace};

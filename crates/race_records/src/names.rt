@@ -2,9 +2,10 @@
 ghost use Rattle.std.specs.Prelude.{◌≡◌, ◌<◌, [], ◌∷◌, ◌++◌, length, ◌↔◌, Some, slice_get, position, option_map, IsTrue, IfOk, OnOk, OnErr, IsNone};
 ghost use Rattle.std.specs.Str.{bytes_eq};
 ghost use Rattle.race_records.specs.Rows.{declarations_of};
-ghost use Rattle.race_records.specs.Tables.{Row, row};
+ghost use Rattle.race_records.specs.Tables.{Row, row, slot_named};
 
 use crate::Object;
+use crate::shorts::Shorts;
 use indexmap::IndexMap;
 use std::alloc::{AllocError, Allocator};
 use std::hash::{BuildHasherDefault, FoldHasher};
@@ -27,16 +28,21 @@ pub struct Slot {
 #[derive(Debug, Drop)]
 pub struct Names<A: Allocator> {
     slots: IndexMap<String<A>, Slot, BuildHasherDefault<FoldHasher>, A>,
+    // Short names are looked for here first: one look at memory, where the map has four.
+    shorts: Shorts<A>,
 }
 
 impl<A: Allocator> Model for Names<A> {
     ghost use Rattle.std.specs.Prelude.{List, map};
     ghost use Rattle.std.specs.String.{string_bytes};
     ghost use Rattle.race_records.specs.Tables.{Row, row};
+    ghost use Rattle.race_records.specs.Shorts.{AreNoted};
 
     ghost Value = { List Row };
 
     ghost view = { λ n. map (λ e. row (string_bytes e.0) e.1) n.slots.entries };
+
+    ghost invariant = { λ n. AreNoted (map (λ e. row (string_bytes e.0) e.1) n.slots.entries) n.shorts };
 }
 
 impl<A: Allocator> Names<A> {
@@ -47,6 +53,7 @@ impl<A: Allocator> Names<A> {
     {
         Names {
             slots: IndexMap::new(alloc),
+            shorts: Shorts::new(alloc),
         }
     }
 
@@ -60,6 +67,28 @@ impl<A: Allocator> Names<A> {
         ensures { result ≡ position (λ r. bytes_eq name.now r.name) self.now }
     {
         self.slots.get_index_of(name)
+    }
+
+    // What the name stands for.
+    #[inline(always)]
+    pub(crate) fn find(&self, name: &str) -> Option<Slot>
+        ensures { result ≡ slot_named name.now self.now }
+    {
+        match self.shorts.get(name.as_bytes()) {
+            Some(slot) => Some(slot),
+            None => self.find_any(name),
+        }
+    }
+
+    // The same of a name that may be long.
+    #[inline(never)]
+    fn find_any(&self, name: &str) -> Option<Slot>
+        ensures { result ≡ slot_named name.now self.now }
+    {
+        match self.index_of(name) {
+            Some(index) => Some(self.slot(index)),
+            None => None,
+        }
     }
 
     pub(crate) fn name(&self, index: usize) -> &str
@@ -109,8 +138,9 @@ impl<A: Allocator> Names<A> {
         ensures ok { OnOk result (self.new ≡ self.old ++ row name.now slot ∷ []) }
         ensures err { OnErr result (self.new ≡ self.old) }
     {
-        let name = String::from_str(*self.slots.allocator(), name)?;
-        self.slots.insert(name, slot)?;
+        let text = String::from_str(*self.slots.allocator(), name)?;
+        self.slots.insert(text, slot)?;
+        self.shorts.note(name.as_bytes(), slot);
         Ok(())
     }
 
@@ -121,6 +151,7 @@ impl<A: Allocator> Names<A> {
     {
         Ok(Names {
             slots: self.slots.clone()?,
+            shorts: Shorts::new(*self.slots.allocator()),
         })
     }
 }

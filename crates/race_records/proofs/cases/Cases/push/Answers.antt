@@ -1,6 +1,4 @@
-use Rattle.std.proofs.Common.{◌≡◌, ◌<◌, ◌≤◌, ◌+◌, ◌*◌, ◌%◌, ◌^◌, ◌++◌, ◌∷◌, [], length, take, set, List, sym, ap, ◌∙◌, arith}
-use Rattle.std.proofs.Math.Nat.{mod-eq_of_lt}
-use Rattle.std.proofs.Math.Pow.{pow_mono}
+use Rattle.std.proofs.Common.{◌≡◌, ◌≤◌, ◌+◌, ◌++◌, ◌∷◌, [], length, take, set, List, sym, ap, ◌∙◌, arith}
 use Rattle.race_records.specs.declared.cases.Case.{Case}
 use Rattle.race_records.specs.Cases.{cases_of}
 use Rattle.race_records.proofs.CaseLemmas.{counted_len, counted_push, shifted, shifted_below}

@@ -1,0 +1,8 @@
+use Rattle.std.proofs.Common.{List}
+use Rattle.race_records.specs.Tables.{Row}
+use Rattle.race_records.specs.Shorts.{AreNoted}
+use Rattle.race_records.proofs.shorts.put_each.Given as goal
+
+-- what was noted still is
+abbrev pub invariant-loop-at : goal.invariant-loop-at
+invariant-loop-at g l = (rows : List Row) → AreNoted rows l.from → AreNoted rows l.initial.slots.items → AreNoted rows l.slots.items

@@ -1,0 +1,37 @@
+-- A table of short names that are found by their bytes alone: what it may say of the table of all names.
+use Rattle.std.specs.Prelude.{◌≡◌, ◌<◌, ℕ, ◌-◌, nat_le, if◌then◌else◌, List, ◌++◌, length, take, drop, replicate, get_or, All, Option, Some, None}
+use Rattle.std.specs.Int.{from_le_bytes, w32, w64}
+use Rattle.race_records.specs.declared.shorts.Key.{Key}
+use Rattle.race_records.specs.declared.shorts.Short.{Short}
+use Rattle.race_records.specs.Tables.{Row, slot_named}
+
+-- the first eight bytes as a number, or the first four, or all
+abbrev pub front_of : List ℕ → ℕ
+front_of name =
+    if nat_le 8 (length name) then from_le_bytes w64 (take 8 name)
+    else (if nat_le 4 (length name) then from_le_bytes w32 (take 4 name) else from_le_bytes w32 (name ++ replicate (4 - length name) 0))
+
+-- the last eight bytes, or the last four, or none
+abbrev pub back_of : List ℕ → ℕ
+back_of name =
+    if nat_le 8 (length name) then from_le_bytes w64 (drop (length name - 8) name)
+    else (if nat_le 4 (length name) then from_le_bytes w32 (drop (length name - 4) name) else 0)
+
+-- the key of a name of at most 16 bytes
+abbrev pub short_key : List ℕ → Option Key
+short_key name =
+    if nat_le (length name) 16 then Some (record { len = length name; front = front_of name; back = back_of name }) else None
+
+-- the key that is noted
+abbrev pub key_in : Short → Key
+key_in short = record { len = short.len; front = short.front; back = short.back }
+
+abbrev pub AreBytes : List ℕ → Type 0
+AreBytes name = (i : ℕ) → get_or name i 0 < 256
+
+-- each name with that key stands in a row with that slot
+abbrev pub IsNoted : List Row → Short → Type 0
+IsNoted rows short = (name : List ℕ) → AreBytes name → short_key name ≡ Some (key_in short) → slot_named name rows ≡ Some short.slot
+
+abbrev pub AreNoted : List Row → List Short → Type 0
+AreNoted rows shorts = All (IsNoted rows) shorts

@@ -1,0 +1,255 @@
+//! Short names with what they stand for, found by their bytes alone: one look at memory for a name,
+//! where a map has four.
+ghost use Rattle.std.specs.Prelude.{ℕ, ◌≡◌, ◌↔◌, [], List, Some, IfSome, IsTrue};
+ghost use Rattle.race_records.specs.Tables.{Row, slot_named};
+ghost use Rattle.race_records.specs.Shorts as spec;
+ghost use Rattle.race_records.specs.Shorts.{AreBytes, AreNoted, IsNoted};
+
+use crate::Object;
+use crate::names::Slot;
+use std::alloc::Allocator;
+use std::fmt::{Debug, Error, Formatter, Write};
+use std::marker::Model;
+
+// The most bytes of a short name, which its first and its last eight are.
+const MAX_SHORT: usize = 16;
+
+// The least and the most slots: a kind has at most 65,535 objects.
+const MIN_SLOTS: usize = 1_024;
+
+const MAX_SLOTS: usize = 262_144;
+
+/// A short name as numbers: how many bytes it has, the first of them and the last of them.
+#[derive(Clone, Copy)]
+pub struct Key {
+    pub(crate) len: u32,
+    pub(crate) front: u64,
+    pub(crate) back: u64,
+}
+
+/// A short name, and what it stands for.
+#[derive(Clone, Copy)]
+pub struct Short {
+    pub(crate) front: u64,
+    pub(crate) back: u64,
+    pub(crate) len: u32,
+    pub(crate) slot: Slot,
+}
+
+// What stands in a slot without a name: none is so long.
+const BLANK: Short = Short {
+    front: 0,
+    back: 0,
+    len: 255,
+    slot: Slot {
+        object: Object::Var,
+        number: 0,
+    },
+};
+
+/// Some of the short names; one that isn't found may be declared all the same.
+#[derive(Drop)]
+pub struct Shorts<A: Allocator> {
+    slots: Vec<Short, A>,
+    noted: usize,
+}
+
+impl<A: Allocator> Model for Shorts<A> {
+    ghost use Rattle.std.specs.Prelude.{List};
+    ghost use Rattle.race_records.specs.declared.shorts.Short.{Short};
+
+    ghost Value = { List Short };
+
+    ghost view = { λ s. s.slots.items };
+}
+
+// What it holds is in the table of all names as well.
+impl<A: Allocator> Debug for Shorts<A> {
+    fn fmt<W: Write>(&self, f: &mut Formatter<W>) -> Result<(), Error> {
+        f.write_str("Shorts")
+    }
+}
+
+impl<A: Allocator> Shorts<A> {
+    /// None is noted. Takes no memory.
+    pub(crate) fn new(alloc: A) -> Shorts<A>
+        ensures { result ≡ [] }
+    {
+        Shorts {
+            slots: Vec::new(alloc),
+            noted: 0,
+        }
+    }
+
+    /// What the name stands for, where it is found at once.
+    #[inline(always)]
+    pub(crate) fn get(&self, name: &[u8]) -> Option<Slot>
+        ensures { IfSome result (λ slot. (rows : List Row) → AreNoted rows self.now
+            → slot_named name.now rows ≡ Some slot) }
+    {
+        let key = key_of(name)?;
+        find_in(self.slots.as_slice(), key)
+    }
+
+    /// Notes a name, if it is a short one. Where memory is refused for more slots another name may be
+    /// forgotten.
+    pub(crate) fn note(&mut self, name: &[u8], slot: Slot)
+    where
+        A: Copy,
+        ensures { (rows : List Row) → AreNoted rows self.old
+            → slot_named name.now rows ≡ Some slot → AreNoted rows self.new }
+    {
+        let Some(key) = key_of(name) else {
+            return;
+        };
+        self.make_room();
+        self.noted = self.noted.saturating_add(1);
+        put(
+            &mut self.slots,
+            Short {
+                front: key.front,
+                back: key.back,
+                len: key.len,
+                slot,
+            },
+        );
+    }
+
+    // Twice as many slots where half of them is taken, unless memory is refused.
+    fn make_room(&mut self)
+    where
+        A: Copy,
+        ensures { (rows : List Row) → AreNoted rows self.old → AreNoted rows self.new }
+    {
+        if self.slots.len() >= MAX_SLOTS || self.noted < self.slots.len() / 2 {
+            return;
+        }
+        let count = self
+            .slots
+            .len()
+            .saturating_mul(2)
+            .max(MIN_SLOTS)
+            .min(MAX_SLOTS);
+        let Ok(mut slots) = Vec::from_elem(*self.slots.allocator(), BLANK, count) else {
+            return;
+        };
+        put_each(&mut slots, self.slots.as_slice());
+        self.slots = slots;
+    }
+}
+
+// The key of a short name.
+#[inline(always)]
+fn key_of(name: &[u8]) -> Option<Key>
+    ensures { result ≡ spec.short_key name.now }
+{
+    if name.len() > MAX_SHORT {
+        return None;
+    }
+    Some(Key {
+        len: name.len() as u32,
+        front: front_of(name),
+        back: back_of(name),
+    })
+}
+
+// The first eight bytes, or four, or all.
+#[inline(always)]
+fn front_of(name: &[u8]) -> u64
+    ensures { result ≡ spec.front_of name.now }
+{
+    if let Some(bytes) = name.first_chunk::<8>() {
+        return u64::from_le_bytes(*bytes);
+    }
+    if let Some(bytes) = name.first_chunk::<4>() {
+        return u32::from_le_bytes(*bytes) as u64;
+    }
+    let bytes = match name {
+        [a] => [*a, 0, 0, 0],
+        [a, b] => [*a, *b, 0, 0],
+        [a, b, c] => [*a, *b, *c, 0],
+        _ => [0; 4],
+    };
+    u32::from_le_bytes(bytes) as u64
+}
+
+// The last eight bytes, or four, or none.
+#[inline(always)]
+fn back_of(name: &[u8]) -> u64
+    ensures { result ≡ spec.back_of name.now }
+{
+    if let Some(bytes) = name.last_chunk::<8>() {
+        return u64::from_le_bytes(*bytes);
+    }
+    if let Some(bytes) = name.last_chunk::<4>() {
+        return u32::from_le_bytes(*bytes) as u64;
+    }
+    0
+}
+
+// The first of the four slots of the key among so many slots, a power of two. Every byte of a name
+// has a part in it, so that names which are numbered in a row don't share their slots.
+#[inline(always)]
+fn place_of(key: Key, count: usize) -> usize {
+    let once = (key.front ^ key.back.rotate_left(29)).wrapping_mul(0x9e37_79b9_7f4a_7c15);
+    let mixed = (once ^ (once >> 32)).wrapping_mul(0xa076_1d64_78bd_642f);
+    (mixed >> 32) as usize & count.wrapping_sub(1) & !3
+}
+
+// What is noted for the key.
+#[inline(always)]
+fn find_in(slots: &[Short], key: Key) -> Option<Slot>
+    ensures { IfSome result (λ slot. (name : List ℕ) (rows : List Row) → AreBytes name → spec.short_key name ≡ Some key
+        → AreNoted rows slots.now → slot_named name rows ≡ Some slot) }
+{
+    let at = place_of(key, slots.len());
+    for i in at..at.saturating_add(4).min(slots.len()) {
+        if has_key(&slots[i], key) {
+            return Some(slots[i].slot);
+        }
+    }
+    None
+}
+
+// Whether the slot has that key.
+#[inline(always)]
+fn has_key(short: &Short, key: Key) -> bool
+    ensures { IsTrue result ↔ (spec.key_in short.now ≡ key) }
+{
+    short.front == key.front && short.back == key.back && short.len == key.len
+}
+
+// Puts a name into one of its four slots.
+fn put<A: Allocator>(slots: &mut Vec<Short, A>, short: Short)
+    ensures { (rows : List Row) → AreNoted rows slots.old.items → IsNoted rows short → AreNoted rows slots.new.items }
+{
+    let i = free_place(slots.as_slice(), &short);
+    if i < slots.len() {
+        slots[i] = short;
+    }
+}
+
+// The first blank one of the four slots of the name, or the last of them.
+fn free_place(slots: &[Short], short: &Short) -> usize {
+    let key = Key {
+        len: short.len,
+        front: short.front,
+        back: short.back,
+    };
+    let at = place_of(key, slots.len());
+    for i in at..at.saturating_add(3).min(slots.len()) {
+        if slots[i].len == BLANK.len {
+            return i;
+        }
+    }
+    at.saturating_add(3)
+}
+
+// Puts each of these names into one of its slots.
+fn put_each<A: Allocator>(slots: &mut Vec<Short, A>, from: &[Short])
+    ensures { (rows : List Row) → AreNoted rows from.now → AreNoted rows slots.old.items → AreNoted rows slots.new.items }
+{
+    for at in 0..from.len() {
+        put(slots, from[at]);
+    }
+}

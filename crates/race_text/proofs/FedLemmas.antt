@@ -1,6 +1,5 @@
 -- A text that is cut into pieces: its parts, and its first fault behind the lines that were taken.
-use Rattle.std.proofs.Common.{◌≡◌, ◌≢◌, ℕ, ◌+◌, ◌<◌, ◌≤◌, ◌==◌, ◌&&◌, nat_lt, Bool, true, false, if◌then◌else◌, List, [], ◌∷◌, ◌++◌, ◌^◌, length, map, Option, Some, None, Result, Ok, Err, IsErrAnd, MatchResult, refl, sym, ap, subst, ◌∙◌, arith, append-nil, append_assoc}
-use Rattle.std.proofs.lemmas.Bool.Decides.{nat_tests}
+use Rattle.std.proofs.Common.{◌≡◌, ℕ, ◌+◌, ◌<◌, ◌≤◌, ◌==◌, Bool, true, false, List, [], ◌∷◌, ◌++◌, ◌^◌, length, map, Option, Some, None, Result, Ok, Err, IsErrAnd, MatchResult, refl, sym, ap, subst, ◌∙◌, arith, append-nil, append_assoc}
 use Rattle.std.proofs.lemmas.List.{length-append, length-map}
 use Rattle.std.proofs.lemmas.List.Splits.{join_with_byte-slice_split, length-slice_split, slice_split-cons_yes, slice_split-cons_no}
 use Rattle.std.proofs.lemmas.Grind.{flat_map-append}
@@ -18,7 +17,7 @@ use Rattle.race_text.specs.Fault.{cause, or_later, fault_after, text_fault}
 use Rattle.race_text.specs.Taking.{begun}
 use Rattle.race_text.specs.Reader.{lines_read, end_cause, IsLineOf, IsNoneBefore, GoesOn}
 use Rattle.race_text.specs.Fed.{ended_after, ended_fault, IsTaken, IsUnended, IsTold, TellsOfLine, TellsOfMemory, TakesBytes, TellsOfBytes, LinesState, StandsFor, GoesOnBy}
-use Rattle.race_text.proofs.ParseLemmas.{told, or_later_from, fault_step, fault_end, fault_from, end_empty, no_bytes, cut_joined}
+use Rattle.race_text.proofs.ParseLemmas.{or_later_from, fault_step, fault_end, fault_from, end_empty, no_bytes, cut_joined}
 
 -- two lists of parts, of which the last one of the first list goes on in the first one of the second
 onto : List ℕ → List (List ℕ) → List (List ℕ)

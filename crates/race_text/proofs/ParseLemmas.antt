@@ -1,21 +1,20 @@
 -- A text that is read part by part: what is left of it, and its first fault.
-use Rattle.std.proofs.Common.{◌≡◌, ℕ, ◌+◌, ◌<◌, ◌≤◌, ◌==◌, ◌&&◌, nat_lt, Bool, true, false, not, if◌then◌else◌, List, [], ◌∷◌, ◌++◌, length, Option, Some, None, refl, sym, ap, ◌∙◌, arith, append-nil, append_assoc}
+use Rattle.std.proofs.Common.{◌≡◌, ℕ, ◌+◌, ◌<◌, ◌≤◌, ◌==◌, ◌&&◌, nat_lt, Bool, true, false, not, if◌then◌else◌, List, [], ◌∷◌, ◌++◌, length, Option, Some, None, refl, sym, ap, ◌∙◌, arith}
 use Rattle.std.proofs.lemmas.Bool.Decides.{nat_tests}
 use Rattle.std.proofs.lemmas.List.{length-append}
 use Rattle.std.proofs.lemmas.List.Splits.{join_with_byte-slice_split, length-slice_split}
-use Rattle.std.proofs.lemmas.Grind.{flat_map-append}
 use Rattle.std.proofs.lemmas.Option.{none-some, same_Some}
-use Rattle.std.specs.List.{flat_map, join_with_byte}
+use Rattle.std.specs.List.{join_with_byte}
 use Rattle.std.specs.Str.{bytes_eq}
 use Rattle.race_records.specs.Declarations.{DeclsState}
 use Rattle.race_records.specs.Events.{TraceState}
 use Rattle.race_text.specs.declared.cause.TextCause.{TextCause}
 use Rattle.race_text.specs.declared.cause.TextFault.{TextFault}
 use Rattle.race_text.specs.Words.{parts_of}
-use Rattle.race_text.specs.Text.{header, ended, lines}
-use Rattle.race_text.specs.Fault.{cause, or_later, fault_after, text_fault}
+use Rattle.race_text.specs.Text.{header, lines}
+use Rattle.race_text.specs.Fault.{cause, or_later, fault_after}
 use Rattle.race_text.proofs.WordLemmas.{both}
-use Rattle.race_text.specs.Reader.{lines_read, end_cause, IsLineOf, IsNoneBefore}
+use Rattle.race_text.specs.Reader.{lines_read, end_cause}
 
 abbrev pub told : ℕ → TextCause → TextFault
 told line c = record { line = line; cause = c }

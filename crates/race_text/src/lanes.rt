@@ -1,5 +1,5 @@
 //! Where a byte stands first. Many bytes are tested at once, as lanes of a vector.
-ghost use Rattle.std.specs.Prelude.{◌≡◌, ◌==◌, ◌+◌, ◌≤◌, position, not, map, length};
+ghost use Rattle.std.specs.Prelude.{◌≡◌, ◌==◌, ◌+◌, ◌<◌, ◌≤◌, position, not, map, length};
 ghost use Rattle.std.specs.Simd.Lanes.{chunk, mask_l};
 ghost use Rattle.race_records.specs.Name.{is_place_byte};
 
@@ -27,6 +27,9 @@ pub(crate) fn first_index(bytes: &[u8], byte: u8) -> Option<usize>
 pub(crate) fn first_unseen(bytes: &[u8]) -> Option<usize>
     ensures { result ≡ position (λ b. not (is_place_byte b)) bytes.now }
 {
+    if bytes.len() < 16 {
+        return unseen_in_few(bytes);
+    }
     let mut at = 0;
     while bytes.len() - at >= 16 {
         let found = unseen_in(bytes, at);
@@ -35,10 +38,33 @@ pub(crate) fn first_unseen(bytes: &[u8]) -> Option<usize>
         }
         at += 16;
     }
-    match unseen_by_one(&bytes[at..]) {
-        Some(behind) => Some(at + behind),
-        None => None,
+    // The last 16, of which the first were tested already.
+    let last = bytes.len() - 16;
+    let behind = unseen_in(bytes, last);
+    if behind != 0 {
+        return Some(last + behind.trailing_zeros() as usize);
     }
+    None
+}
+
+// The same of fewer than 16 bytes.
+fn unseen_in_few(bytes: &[u8]) -> Option<usize>
+    requires { length bytes.now < 16 }
+    ensures { result ≡ position (λ b. not (is_place_byte b)) bytes.now }
+{
+    if bytes.len() < 8 {
+        return unseen_by_one(bytes);
+    }
+    let found = unseen_in_eight(bytes, 0);
+    if found != 0 {
+        return Some(found.trailing_zeros() as usize);
+    }
+    let last = bytes.len() - 8;
+    let behind = unseen_in_eight(bytes, last);
+    if behind != 0 {
+        return Some(last + behind.trailing_zeros() as usize);
+    }
+    None
 }
 
 // A bit for each of 64 bytes: whether it is the byte.
@@ -61,6 +87,17 @@ fn unseen_in(bytes: &[u8], at: usize) -> u64
 {
     (u8x16::from_slice(&bytes[at..]) - u8x16::splat(b'!'))
         .simd_ge(u8x16::splat(94))
+        .to_bitmask()
+}
+
+// The same of 8 bytes.
+#[inline(always)]
+fn unseen_in_eight(bytes: &[u8], at: usize) -> u64
+    requires { at + 8 ≤ length bytes.now }
+    ensures { result ≡ mask_l (map (λ b. not (is_place_byte b)) (chunk at 8 bytes.now)) }
+{
+    (u8x8::from_slice(&bytes[at..]) - u8x8::splat(b'!'))
+        .simd_ge(u8x8::splat(94))
         .to_bitmask()
 }
 

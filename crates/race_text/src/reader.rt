@@ -112,6 +112,8 @@ impl<A: Allocator + Copy> Reader<A> {
     }
 
     // Takes the first line.
+    #[cold]
+    #[inline(never)]
     fn take_header(&mut self, line: &[u8]) -> Result<(), TextCause>
         requires header { self.old.has_header ≡ false }
         requires reading { spec.IsReading self.old.has_header self.old.decls self.old.trace }
@@ -129,6 +131,7 @@ impl<A: Allocator + Copy> Reader<A> {
     }
 
     // Takes a line before which no event stands.
+    #[inline(never)]
     fn take_before_events(&mut self, line: &[u8]) -> Result<(), TextCause>
         requires header { self.old.has_header ≡ true }
         requires trace { self.old.trace ≡ None }

@@ -1,8 +1,7 @@
-use Rattle.std.proofs.Common.{ℕ, ◌+◌, not, Some, position, sym, ap, ◌∙◌, arith}
+use Rattle.std.proofs.Common.{ℕ, ◌+◌, ◌-◌, not, length, Some, sym, ap, ◌∙◌, arith}
 use lib.Count.{count_trailing_zeros}
 use Rattle.race_records.specs.Name.{is_place_byte}
-use Rattle.race_text.proofs.CutLemmas.{rest_is}
-use Rattle.race_text.proofs.LaneLemmas.{first_in_lanes, none_in_lanes, first_behind, none_behind}
+use Rattle.race_text.proofs.LaneLemmas.{first_in_lanes, none_in_lanes, position_is_none}
 use Rattle.race_text.proofs.lanes.first_unseen.Goals as goal
 
 pub returns-then-found-ne0 : goal.returns-then-found-ne0
@@ -18,14 +17,16 @@ loop-at-preserved c = (
   none_in_lanes (λ b. not (is_place_byte b)) c.args.bytes.now 0 c.loop-at.at 16 (omega arith) c.loop-at.invariant.1 (omega (arith, c.unseen_in-found.ensures)),
 )
 
-pub returns-in-Some : goal.returns-in-Some
-returns-in-Some c =
-    let p = λ (b : ℕ). not (is_place_byte b) in
-    sym (first_behind p c.args.bytes.now 0 c.loop-at.at c.in-Some.behind c.loop-at.invariant.0 c.loop-at.invariant.1
-    (ap (position p) (sym (rest_is c.args.bytes.now c.loop-at.at)) ∙ sym c.in-Some.ensures))
+pub returns-then-behind-ne0 : goal.returns-then-behind-ne0
+returns-then-behind-ne0 c =
+    let last = length c.args.bytes.now - 16 in
+    let behind = c.unseen_in-behind.ensures in
+    sym (first_in_lanes (λ b. not (is_place_byte b)) c.args.bytes.now 0 last 16 (omega arith) (omega arith) (λ k below. c.loop-at.invariant.1 k (omega (arith, below))) (omega (arith, behind))
+    ∙ ap (λ mask. Some (last + count_trailing_zeros 64 mask)) (sym behind))
 
-pub returns-in-None : goal.returns-in-None
-returns-in-None c =
+pub returns : goal.returns
+returns c =
     let p = λ (b : ℕ). not (is_place_byte b) in
-    sym (none_behind p c.args.bytes.now 0 c.loop-at.at c.loop-at.invariant.0 c.loop-at.invariant.1
-    (ap (position p) (sym (rest_is c.args.bytes.now c.loop-at.at)) ∙ sym c.in-None.ensures))
+    let last = length c.args.bytes.now - 16 in
+    let behind = none_in_lanes p c.args.bytes.now 0 last 16 (omega arith) (λ k below. c.loop-at.invariant.1 k (omega (arith, below))) (omega (arith, c.unseen_in-behind.ensures)) in
+    sym (position_is_none p c.args.bytes.now 0 (λ k below. behind k (omega (arith, below))))

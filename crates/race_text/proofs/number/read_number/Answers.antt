@@ -1,4 +1,4 @@
-use Rattle.std.proofs.Common.{◌≡◌, take, length, sym, ap, subst, ◌∙◌, rules, arith}
+use Rattle.std.proofs.Common.{◌≡◌, take, sym, ap, subst, ◌∙◌, rules, arith}
 use Rattle.std.proofs.Math.Seq.{take-length}
 use Rattle.std.specs.Str.Parse.{AllDigits, digits_value}
 use Rattle.race_text.proofs.NumberLemmas.{number-empty, number-zero, number-stops, number-read, number-over, digits_go_on, zero_alone}

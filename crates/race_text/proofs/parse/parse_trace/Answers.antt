@@ -1,13 +1,13 @@
 -- What the reader says of the bytes that it was fed.
-use Rattle.std.proofs.Common.{◌≡◌, ◌≢◌, ℕ, List, [], ◌++◌, Some, refl, MatchResult}
+use Rattle.std.proofs.Common.{◌≡◌, ◌≢◌, [], Some}
 use Rattle.std.proofs.lemmas.Result.{IfOk-weaker, IfErr-weaker}
 use Rattle.race_text.specs.declared.cause.TextCause.{TextCause}
 use Rattle.race_text.specs.declared.cause.TextFault.{TextFault}
-use Rattle.race_text.specs.Text.{IsTextOf, IsTraceText}
+use Rattle.race_text.specs.Text.{IsTextOf}
 use Rattle.race_text.specs.Fault.{text_fault}
 use Rattle.race_text.specs.Laws.{IsOnlyTraceOf}
 use Rattle.race_text.specs.Reader.{IsLineOf, IsNoneBefore}
-use Rattle.race_text.specs.Fed.{StandsFor, IsTold, ForEachFed}
+use Rattle.race_text.specs.Fed.{StandsFor}
 use Rattle.race_text.proofs.TextFine.{text_is_accepted}
 use Rattle.race_text.proofs.FedLemmas.{told_at_once, match_err}
 use Rattle.race_text.proofs.parse.parse_trace.Goals as goal

@@ -1,6 +1,5 @@
 -- What is behind the lines that were taken goes on in the piece, and a fault that was told stays.
 use Rattle.std.proofs.Common.{◌≡◌, ℕ, List, [], ◌++◌, Some, None, refl, sym, ap, subst, ◌∙◌}
-use Rattle.race_text.specs.declared.cause.TextFault.{TextFault}
 use Rattle.race_text.specs.Reader.{lines_read}
 use Rattle.race_text.specs.Fed.{LinesState, StandsFor, IsTold}
 use Rattle.race_text.proofs.FedLemmas.{fed_takes, fed_tells, told_stays, told_of, none_of}

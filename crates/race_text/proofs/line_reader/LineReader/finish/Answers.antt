@@ -1,11 +1,9 @@
 -- The fault that was told, or that of the bytes that are left behind the lines.
-use Rattle.std.proofs.Common.{◌≡◌, ◌≢◌, ℕ, ◌+◌, List, ◌∷◌, ◌++◌, length, Some, None, sym, ap, subst, ◌∙◌}
+use Rattle.std.proofs.Common.{◌≡◌, ℕ, List, Some, sym, ap, subst, ◌∙◌}
 use Rattle.std.specs.List.{flat_map}
-use Rattle.race_text.specs.declared.cause.TextCause.{TextCause}
-use Rattle.race_text.specs.declared.cause.TextFault.{TextFault}
 use Rattle.race_text.specs.Text.{IsTextOf, text, ended}
 use Rattle.race_text.specs.Fault.{text_fault}
-use Rattle.race_text.specs.Reader.{lines_read, end_cause, IsLineOf, IsNoneBefore}
+use Rattle.race_text.specs.Reader.{lines_read, end_cause}
 use Rattle.race_text.specs.Fed.{LinesState, StandsFor, IsTaken, IsTold}
 use Rattle.race_text.proofs.ParseLemmas.{header_before_end}
 use Rattle.race_text.proofs.TextFine.{text_is_accepted}

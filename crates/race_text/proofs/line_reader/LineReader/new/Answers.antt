@@ -1,5 +1,5 @@
 -- Nothing is fed, and nothing is taken.
-use Rattle.std.proofs.Common.{◌≡◌, ℕ, List, [], ◌++◌, sym, subst}
+use Rattle.std.proofs.Common.{ℕ, List, ◌++◌, sym, subst}
 use Rattle.std.proofs.lemmas.Option.{none-some}
 use Rattle.race_text.specs.Reader.{lines_read}
 use Rattle.race_text.specs.Fed.{IsTaken}

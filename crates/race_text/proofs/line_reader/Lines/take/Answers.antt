@@ -2,7 +2,7 @@
 use Rattle.std.proofs.Common.{◌≡◌, ℕ, List, [], ◌∷◌, ◌++◌, ap, sym, subst, ◌∙◌}
 use Rattle.race_text.specs.Words.{parts_of, parts_left}
 use Rattle.race_text.specs.Reader.{lines_read, GoesOn}
-use Rattle.race_text.specs.Fed.{IsTaken, IsUnended, TakesBytes, TellsOfBytes, TellsOfLine}
+use Rattle.race_text.specs.Fed.{IsTaken, IsUnended, TellsOfLine}
 use Rattle.race_text.proofs.FedLemmas.{seam_line, seam_part, last_is, kept_unended, memory_told, line_told, line_taken, match_err, match_map}
 use Rattle.race_text.proofs.line_reader.Lines.take.Goals as goal
 

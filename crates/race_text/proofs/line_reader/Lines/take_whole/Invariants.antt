@@ -1,5 +1,5 @@
 -- What is left behind the lines that were taken.
-use Rattle.std.proofs.Common.{◌≡◌, ℕ, List, [], ◌++◌, length}
+use Rattle.std.proofs.Common.{◌≡◌, [], length}
 use Rattle.race_text.specs.Reader.{IsReading, lines_read}
 use Rattle.race_text.specs.Fed.{TakesBytes}
 use Rattle.race_text.proofs.line_reader.Lines.take_whole.Given as goal

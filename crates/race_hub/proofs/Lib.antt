@@ -3,3 +3,4 @@ pub mod FoundLemmas
 pub mod PossibleLemmas
 pub mod MeetLemmas
 pub mod WaitingLemmas
+pub mod ReceiverLemmas

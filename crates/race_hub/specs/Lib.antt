@@ -8,4 +8,5 @@ pub mod Possible
 pub mod Rows
 pub mod Laws
 pub mod Waiting
+pub mod Receivers
 pub mod WaitingHolds

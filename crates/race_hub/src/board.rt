@@ -11,6 +11,7 @@ ghost use Rattle.race_hub.specs.Search.{picked};
 ghost use Rattle.race_hub.specs.Waiting as list;
 
 use crate::meet::offer_at;
+use crate::receivers::Receivers;
 use crate::{
     Ask, Board, Choice, Offer, Waiter, can_go_on, can_meet, lone_event, meet_event, pick_choice,
 };
@@ -25,6 +26,7 @@ pub struct WaitingList<'a, A: Allocator = Global, B: Allocator = Global> {
     replay: &'a Replay<A>,
     trace: &'a Trace<B>,
     waiting: &'a [Waiter],
+    receivers: Receivers,
 }
 
 impl<'a, A: Allocator, B: Allocator> Model for WaitingList<'a, A, B> {
@@ -39,7 +41,7 @@ impl<'a, A: Allocator, B: Allocator> Model for WaitingList<'a, A, B> {
       waiting = l.waiting.now;
     } };
 
-    ghost invariant = { λ l. WaitingHolds l.trace.now.decls.declarations l.replay.now l.trace.now.events l.waiting.now };
+    ghost invariant = { λ l. WaitingHolds l.trace.now.decls.declarations l.replay.now l.trace.now.events l.waiting.now l.receivers };
 }
 
 impl<'a, A: Allocator, B: Allocator> WaitingList<'a, A, B> {
@@ -60,6 +62,7 @@ impl<'a, A: Allocator, B: Allocator> WaitingList<'a, A, B> {
             replay,
             trace,
             waiting,
+            receivers: Receivers::of(waiting),
         }
     }
 
@@ -166,6 +169,9 @@ impl<'a, A: Allocator, B: Allocator> WaitingList<'a, A, B> {
     {
         let waiting = self.waiting;
         let count = waiting.len() as u32;
+        if !self.receivers.may_have(chan) {
+            return from.max(count);
+        }
         for place in from..count {
             if receives(&waiting[place as usize].asked.ask, chan) {
                 return place;

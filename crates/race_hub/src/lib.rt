@@ -10,6 +10,7 @@ pub mod laws;
 mod making;
 mod meet;
 mod possible;
+mod receivers;
 mod request;
 mod routine;
 mod search;

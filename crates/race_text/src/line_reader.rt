@@ -222,6 +222,7 @@ impl<A: Allocator + Copy> Lines<A> {
 }
 
 // Takes a line, or tells its least cause with its number.
+#[inline(always)]
 fn take_line<A: Allocator + Copy>(reader: &mut Reader<A>, line: &[u8]) -> Result<(), TextFault>
     requires { IsReading reader.old.has_header reader.old.decls reader.old.trace }
     ensures taken { MatchResult result

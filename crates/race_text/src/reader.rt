@@ -41,6 +41,7 @@ impl<A: Allocator + Copy> Reader<A> {
     }
 
     // Takes the next line, or tells its least cause. After a cause nothing more is to be taken.
+    #[inline(always)]
     pub(crate) fn take_line(&mut self, line: &[u8]) -> Result<(), TextCause>
         requires { spec.IsReading self.old.has_header self.old.decls self.old.trace }
         ensures taken { MatchResult result

@@ -17,6 +17,7 @@ use race_records::{Event, MAX_EVENTS, MAX_PLACES, Trace};
 use std::alloc::Allocator;
 
 // Takes a line behind the declarations: an event that fits, or the least cause of what isn't one.
+#[inline(never)]
 pub(crate) fn take_event<A: Allocator + Copy>(
     trace: &mut Trace<A>,
     line: &[u8],

@@ -1,5 +1,5 @@
 //! The words that a line may begin with, and what each wants behind it.
-ghost use Rattle.std.specs.Prelude.{◌≡◌, ◌++◌, ◌∷◌, [], length, map, take};
+ghost use Rattle.std.specs.Prelude.{◌≡◌, ◌++◌, ◌∷◌, [], length, map, take, Some, IfSome};
 ghost use Rattle.race_text.specs.Form as spec;
 
 use arrayvec::ArrayVec;
@@ -62,13 +62,61 @@ impl Default for Field {
 }
 
 // What the first word of a line says that the line is.
+#[inline(always)]
 #[tactic(auto, unfolding(crate::specs::Form::word_named))]
 pub(crate) fn word_named(word: &[u8]) -> Option<Word>
     ensures { result ≡ spec.word_named word.now }
 {
-    lookup(&WORDS, word)
+    match common_word(word) {
+        Some(found) => Some(found),
+        None => lookup(&WORDS, word),
+    }
 }
 
+// A common word, told by its bytes without a look into the table.
+#[tactic(auto, unfolding(crate::specs::Form::word_named))]
+fn common_word(word: &[u8]) -> Option<Word>
+    ensures { IfSome result (λ found. spec.word_named word.now ≡ Some found) }
+{
+    match word {
+        [b'r', rest @ ..] => word_behind_r(rest),
+        [b'l', b'o', b'c', b'k'] => Some(Word::Does(Verb::Lock)),
+        [b's', b'e', b'n', b'd'] => Some(Word::Does(Verb::Send)),
+        [b'm', b'e', b'e', b't'] => Some(Word::Does(Verb::Meet)),
+        [b'w', rest @ ..] => match rest {
+            [b'r', b'i', b't', b'e'] => Some(Word::Does(Verb::Write)),
+            _ => None,
+        },
+        [b'u', b'n', rest @ ..] => match rest {
+            [b'l', b'o', b'c', b'k'] => Some(Word::Does(Verb::Unlock)),
+            _ => None,
+        },
+        [b'o', b'n', b'c', b'e', rest @ ..] => match rest {
+            [b'd', b'o', b'n', b'e'] => Some(Word::Does(Verb::OnceDone)),
+            _ => None,
+        },
+        _ => None,
+    }
+}
+
+// The common word that begins with `r`, from the bytes behind it.
+#[tactic(auto, unfolding(crate::specs::Form::word_named))]
+fn word_behind_r(rest: &[u8]) -> Option<Word>
+    ensures { IfSome result (λ found. spec.word_named (114 ∷ rest.now) ≡ Some found) }
+{
+    match rest {
+        [b'e', b'a', b'd'] => Some(Word::Does(Verb::Read)),
+        [b'e', b'c', b'v'] => Some(Word::Does(Verb::Recv)),
+        [b'l', b'o', b'c', b'k'] => Some(Word::Does(Verb::RLock)),
+        [b'u', b'n', others @ ..] => match others {
+            [b'l', b'o', b'c', b'k'] => Some(Word::Does(Verb::RUnlock)),
+            _ => None,
+        },
+        _ => None,
+    }
+}
+
+#[inline(never)]
 fn lookup(mut table: &[(&[u8], Word)], word: &[u8]) -> Option<Word>
     ensures { result ≡ spec.lookup (map (λ entry. (entry.0.now, entry.1)) table.entry.now) word.now }
 {

@@ -3,9 +3,10 @@ use Rattle.std.proofs.Common.{◌≡◌, ℕ, zero, suc, ◌⊎◌, inl, inr, �
 use Rattle.std.proofs.lemmas.Bool.Decides.{nat_tests}
 use Rattle.std.proofs.lemmas.Fmt.{decimal_is_IsNumeral, decimal_digit, first_decimal, decimal_nonempty, decimal-digits_value}
 use Rattle.std.proofs.lemmas.Int.Digits.{digits_more, digits_value_more}
+use Rattle.std.proofs.lemmas.List.{length-take}
 use Rattle.std.proofs.lemmas.Slice.Eq.{bytes_eq-Decides}
 use Rattle.std.proofs.lemmas.Str.{digit_value_digit}
-use Rattle.std.proofs.lemmas.Str.Parse.{digit_at, numerals_by_value, tells_digits, digits_value-take-le}
+use Rattle.std.proofs.lemmas.Str.Parse.{digit_at, numerals_by_value, tells_digits, digits_value_short, digits_value-take-le}
 use Rattle.std.specs.Fmt.{decimal}
 use Rattle.std.specs.Int.{IsInRange}
 use Rattle.std.specs.Str.{bytes_eq}
@@ -89,3 +90,12 @@ pub digits_go_on : (word : List ℕ) (i value more : ℕ) → i < length word �
 digits_go_on word i value more within digits is digit more_is =
     let digit_is = digit_value_digit (get_or word i 0) digit in
     (digits_more 10 word i within digits (omega (arith, digit_is, digit.1)), omega (arith, is, more_is, digits_value_more 10 word i within, digit_is, digit.0))
+
+-- of fewer than 20 digits each further one fits
+pub digits_fit : (word : List ℕ) (i value : ℕ) → i < length word → length word < 20 → AllDigits 10 (take i word) → value ≡ digits_value 10 (take i word)
+    → value * 10 + 9 < 2 ^ 64
+digits_fit word i value within few digits is =
+    let model = numerals_by_value (AllDigits 10) tells_digits in
+    let long = length-take i word in
+    let low = digits_value_short model (take i word) 18 digits (omega (arith, within, few, long)) in
+    omega (arith, is, low)

@@ -1,6 +1,7 @@
 //! Numbers in a text.
-ghost use Rattle.std.specs.Prelude.{◌≡◌, ◌+◌, ◌-◌, ◌*◌, ◌^◌, ◌<◌, SomeIff};
+ghost use Rattle.std.specs.Prelude.{◌≡◌, ◌+◌, ◌-◌, ◌*◌, ◌^◌, ◌<◌, ℕ, None, length, IfNone, IfSome, SomeIff};
 ghost use Rattle.std.specs.Int.{IsInRange};
+ghost use Rattle.std.specs.Str.Parse.{AllDigits, digits_value};
 ghost use Rattle.race_text.specs.Words as spec;
 
 /// Reads a number: `0`, or digits without a leading zero, of at most `max`.
@@ -13,6 +14,47 @@ pub fn read_number(word: &[u8], max: u64) -> Option<u64>
     if word[0] == b'0' && word.len() > 1 {
         return None;
     }
+    let value = digits_in(word)?;
+    if value <= max { Some(value) } else { None }
+}
+
+// What the digits say. Nothing where a byte is none, or the number too great for any limit.
+#[inline(always)]
+fn digits_in(word: &[u8]) -> Option<u64>
+    ensures digits { IfSome result (λ value. AllDigits 10 word.now × (value ≡ digits_value 10 word.now)) }
+    ensures other { IfNone result ((max : ℕ) → max < 2 ^ 64 → spec.number max word.now ≡ None) }
+{
+    if word.len() < 20 {
+        few_digits(word)
+    } else {
+        many_digits(word)
+    }
+}
+
+// The same of so few that no number of them is too great.
+#[inline(always)]
+fn few_digits(word: &[u8]) -> Option<u64>
+    requires { length word.now < 20 }
+    ensures digits { IfSome result (λ value. AllDigits 10 word.now × (value ≡ digits_value 10 word.now)) }
+    ensures other { IfNone result ((max : ℕ) → max < 2 ^ 64 → spec.number max word.now ≡ None) }
+{
+    let mut value = 0;
+    for byte in word {
+        match digit_of(*byte) {
+            None => return None,
+            Some(digit) => value = value * 10 + digit,
+        }
+    }
+    Some(value)
+}
+
+// The same of any, which is tested at each digit.
+#[cold]
+#[inline(never)]
+fn many_digits(word: &[u8]) -> Option<u64>
+    ensures digits { IfSome result (λ value. AllDigits 10 word.now × (value ≡ digits_value 10 word.now)) }
+    ensures other { IfNone result ((max : ℕ) → max < 2 ^ 64 → spec.number max word.now ≡ None) }
+{
     let mut value = 0;
     for byte in word {
         match with_digit(value, *byte) {
@@ -20,7 +62,19 @@ pub fn read_number(word: &[u8], max: u64) -> Option<u64>
             Some(more) => value = more,
         }
     }
-    if value <= max { Some(value) } else { None }
+    Some(value)
+}
+
+// What a digit says.
+#[inline(always)]
+fn digit_of(byte: u8) -> Option<u64>
+    ensures { SomeIff result (IsInRange 48 57 byte) (byte - 48) }
+{
+    if byte.is_ascii_digit() {
+        Some((byte - b'0') as u64)
+    } else {
+        None
+    }
 }
 
 // The number with one more digit. Nothing where the byte is none, or the number too great.

@@ -9,4 +9,5 @@ returns-in-None-clause-other c max small =
 pub loop-byte-preserved : goal.loop-byte-preserved
 loop-byte-preserved c =
     let is = c.in-Some.ensures in
-    digits_go_on c.args.word.now c.loop-byte.byte-index c.loop-byte.value c.in-Some.more (omega arith) c.loop-byte.invariant.0 c.loop-byte.invariant.1 is.0.0 is.1
+    digits_go_on c.args.word.now c.loop-byte.byte-index c.loop-byte.value c.in-Some.more (omega arith) c.loop-byte.invariant.0 c.loop-byte.invariant.1
+    is.0.0 is.1

@@ -1,5 +1,9 @@
 -- What the tables of a `Decls` say of its declarations.
-use Rattle.std.proofs.Common.{◌≡◌, ℕ, zero, suc, ◌<◌, false, if◌then◌else◌, List, [], ◌∷◌, length, take, position, slice_get, Option, Some, None, option_map, refl, sym, ap, ◌∙◌, arith}
+use Rattle.std.proofs.Common.{◌≡◌, subst, ◌≢◌, All, Bool, true, get_or, ℕ, zero, suc, ◌<◌, false, if◌then◌else◌, List, [], ◌∷◌, length, take, position, slice_get, Option, Some, None, option_map, refl, sym, ap, ◌∙◌, arith}
+use Rattle.std.proofs.lemmas.List.{get_or-map, length-map}
+use Rattle.std.proofs.lemmas.List.Elements.{All-get_or}
+use Rattle.std.proofs.lemmas.List.Quantifiers.{position-Some}
+use Rattle.std.proofs.lemmas.Slice.Eq.{bytes_eq-Decides}
 use Rattle.std.proofs.lemmas.Option.{slice_get-map, slice_get-get_or, none-some}
 use Rattle.std.specs.Option.{option_map_or, option_and_then}
 use Rattle.std.specs.Str.{bytes_eq}
@@ -11,7 +15,7 @@ use Rattle.race_records.specs.Declarations.{Declaration, count_of, declared_at, 
 use Rattle.race_records.specs.Name.{main}
 use Rattle.race_records.specs.DeclsHold.{AreNumbered}
 use Rattle.race_records.specs.Rows.{declaration_of, declarations_of}
-use Rattle.race_records.specs.Tables.{Row, IndexesState, indexes_of, slot_named}
+use Rattle.race_records.specs.Tables.{Row, row, IndexesState, indexes_of, slot_named}
 use Rattle.race_records.proofs.TextLemmas.{position-map}
 
 option_map-option_map : {A B C : Type 0} (f : A → B) (g : B → C) (o : Option A) → option_map g (option_map f o) ≡ option_map (λ x. g (f x)) o
@@ -57,6 +61,29 @@ module _ (rows : List Row) (indexes : IndexesState) (numbered : AreNumbered rows
   pub find_name-found : (ds : List Declaration) (found : Option Slot) → declarations_of rows ≡ ds → bytes_eq name main ≡ false → found ≡ slot_named name rows
       → find_name ds name ≡ option_map slot_stands found
   find_name-found ds found view other is = (λ j. find_name (sym view j) name) ∙ find_name-slot other ∙ ap (option_map slot_stands) (sym is)
+
+not_main : (rows : List Row) → All (λ d. d.name ≢ main) (declarations_of rows) → All (λ (r : Row). r.name ≢ main) rows
+not_main rows others k r within =
+    subst (λ (d : Declaration). d.name ≢ main) (get_or-map declaration_of rows k r (declaration_of r) within)
+    (others k (declaration_of r) (omega (arith, within, length-map rows declaration_of)))
+
+-- a name that stands in a row isn't main's
+pub named_is_not_main : (rows : List Row) (name : List ℕ) (slot : Slot) → slot_named name rows ≡ Some slot
+    → All (λ d. d.name ≢ main) (declarations_of rows) → bytes_eq name main ≡ false
+named_is_not_main rows name slot is others = by (position (λ (r : Row). bytes_eq name r.name) rows) refl is
+  where
+    differs : (b : Bool) → bytes_eq name main ≡ b → name ≢ main → bytes_eq name main ≡ false
+    differs true is other = absurd (other ((bytes_eq-Decides name main).0 is))
+    differs false is other = is
+
+    by : (o : Option ℕ) → position (λ (r : Row). bytes_eq name r.name) rows ≡ o
+        → option_and_then (λ i. option_map (λ (r : Row). r.slot) (slice_get rows i)) o ≡ Some slot → bytes_eq name main ≡ false
+    by None none h = absurd (none-some slot h)
+    by (Some i) found h =
+        let at = position-Some (λ (r : Row). bytes_eq name r.name) rows i (row name slot) found in
+        let same = (bytes_eq-Decides name (get_or rows i (row name slot)).name).0 at.1 in
+        let other = All-get_or (λ (r : Row). r.name ≢ main) rows i (row name slot) at.0 (not_main rows others) in
+        differs (bytes_eq name main) refl (λ main_is. other (sym same ∙ main_is))
 
 module _ (rows : List Row) (indexes : IndexesState) (numbered : AreNumbered rows indexes) (kind : Kind) (n i : ℕ)
     (at : slice_get (indexes_of kind indexes) n ≡ Some i) where

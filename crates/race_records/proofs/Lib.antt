@@ -1,5 +1,6 @@
 pub mod TextLemmas
 pub mod NameLemmas
+pub mod VisibleLemmas
 pub mod ShortLemmas
 pub mod DeclsLemmas
 pub mod ListLemmas

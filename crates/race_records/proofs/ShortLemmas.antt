@@ -1,8 +1,8 @@
 -- Short names by their keys: two names with one key are the same.
-use Rattle.std.proofs.Common.{◌≡◌, ℕ, zero, suc, ◌+◌, ◌-◌, ◌<◌, ◌≤◌, nat_lt, nat_le, eqb, cond, not, Bool, true, false, true≢false, if◌then◌else◌, List, [], ◌∷◌, ◌++◌, length, replicate, take, drop, position, slice_get, option_map, Option, Some, None, IsNone, refl, sym, ap, subst, ◌∙◌, arith, w32, w64}
-use Rattle.std.specs.Int.{from_le_bytes, to_le_bytes}
-use Rattle.std.proofs.lemmas.Nat.{le_bytes_4, le_bytes_8}
-use Rattle.std.proofs.lemmas.List.{take-take, take-append-drop, length-take-le, length-drop, length-replicate, get_or-drop}
+use Rattle.std.proofs.Common.{◌≡◌, ℕ, zero, suc, ◌+◌, ◌-◌, ◌*◌, ◌^◌, ◌%◌, min, get_or, bit_and, ◌<◌, ◌≤◌, nat_lt, nat_le, eqb, cond, not, Bool, true, false, true≢false, if◌then◌else◌, List, [], ◌∷◌, ◌++◌, length, take, drop, position, slice_get, option_map, Option, Some, None, IsNone, refl, sym, ap, subst, ◌∙◌, arith, w64}
+use Rattle.std.specs.Int.{from_le_bytes, to_le_bytes, sum_through, byte_worth}
+use Rattle.std.proofs.lemmas.Nat.{le_bytes_8, and_mask}
+use Rattle.std.proofs.lemmas.List.{length-take-le, length-drop, get_or-take, get_or_past, drop-take, drop_all, get_or-drop, ext_get_or}
 use Rattle.std.proofs.lemmas.Bool.Decides.{nat_tests}
 use Rattle.std.proofs.lemmas.Option.{none-some, same_Some, cond_some}
 use Rattle.std.proofs.lemmas.List.{length-append}
@@ -12,7 +12,6 @@ use Rattle.std.proofs.lemmas.Slice.Eq.{bytes_eq-Decides}
 use Rattle.std.specs.List.{position_or_len}
 use Rattle.std.specs.Option.{option_and_then}
 use Rattle.std.proofs.lemmas.List.Elements.{All-weaker}
-use Rattle.std.proofs.Math.Seq.{take-append_seam}
 use Rattle.std.specs.Str.{bytes_eq}
 use Rattle.race_records.specs.declared.names.Slot.{Slot}
 use Rattle.race_records.specs.declared.shorts.Key.{Key}
@@ -21,21 +20,51 @@ use Rattle.race_records.specs.Tables.{Row, row, slot_named}
 use Rattle.race_records.specs.Shorts.{front_of, back_of, short_key, key_in, AreBytes, IsNoted, AreNoted}
 use Rattle.race_records.proofs.ListLemmas.{slice_get-push_within, slice_get-push_last}
 
--- eight bytes are told by their number, and so are four
-eight : (x y : List ℕ) → AreBytes x → AreBytes y → length x ≡ 8 → length y ≡ 8 → from_le_bytes w64 x ≡ from_le_bytes w64 y → x ≡ y
-eight x y bx by lx ly same = sym (le_bytes_8 x (from_le_bytes w64 x) lx bx refl) ∙ ap (to_le_bytes w64) same ∙ le_bytes_8 y (from_le_bytes w64 y) ly by refl
+-- a number of eight bytes tells each of them
+pub first_eight : List ℕ → List ℕ
+first_eight xs =
+    get_or xs 0 0 ∷ get_or xs 1 0 ∷ get_or xs 2 0 ∷ get_or xs 3 0 ∷ get_or xs 4 0 ∷ get_or xs 5 0 ∷ get_or xs 6 0 ∷ get_or xs 7 0 ∷ []
 
-four : (x y : List ℕ) → AreBytes x → AreBytes y → length x ≡ 4 → length y ≡ 4 → from_le_bytes w32 x ≡ from_le_bytes w32 y → x ≡ y
-four x y bx by lx ly same = sym (le_bytes_4 x (from_le_bytes w32 x) lx bx refl) ∙ ap (to_le_bytes w32) same ∙ le_bytes_4 y (from_le_bytes w32 y) ly by refl
+are_bytes : (xs : List ℕ) → AreBytes xs → AreBytes (first_eight xs)
+unfolding first_eight
+are_bytes xs bytes zero = bytes 0
+are_bytes xs bytes (suc zero) = bytes 1
+are_bytes xs bytes (suc (suc zero)) = bytes 2
+are_bytes xs bytes (suc (suc (suc zero))) = bytes 3
+are_bytes xs bytes (suc (suc (suc (suc zero)))) = bytes 4
+are_bytes xs bytes (suc (suc (suc (suc (suc zero))))) = bytes 5
+are_bytes xs bytes (suc (suc (suc (suc (suc (suc zero)))))) = bytes 6
+are_bytes xs bytes (suc (suc (suc (suc (suc (suc (suc zero))))))) = bytes 7
+are_bytes xs bytes (suc (suc (suc (suc (suc (suc (suc (suc i)))))))) = omega arith
 
--- a list is its front and its back, where these meet
-whole : (k : ℕ) (a b : List ℕ) → length a ≡ length b → length a ≤ k + k → take k a ≡ take k b → drop (length a - k) a ≡ drop (length b - k) b → a ≡ b
-whole k a b same long front back =
-    let m = length a - k in
-    let fronts : take m a ≡ take m b = sym (take-take m k a (omega (arith, long))) ∙ ap (take m) front ∙ take-take m k b (omega (arith, long)) in
-    sym (take-append-drop m a) ∙ (λ i. fronts i ++ (back ∙ (λ j. drop (sym same j - k) b)) i) ∙ take-append-drop m b
+-- what holds of each number up to eight
+up_to_eight : (P : ℕ → Type 0) → P 0 → P 1 → P 2 → P 3 → P 4 → P 5 → P 6 → P 7 → P 8 → (i : ℕ) → i ≤ 8 → P i
+up_to_eight P p0 p1 p2 p3 p4 p5 p6 p7 p8 zero h = p0
+up_to_eight P p0 p1 p2 p3 p4 p5 p6 p7 p8 (suc zero) h = p1
+up_to_eight P p0 p1 p2 p3 p4 p5 p6 p7 p8 (suc (suc zero)) h = p2
+up_to_eight P p0 p1 p2 p3 p4 p5 p6 p7 p8 (suc (suc (suc zero))) h = p3
+up_to_eight P p0 p1 p2 p3 p4 p5 p6 p7 p8 (suc (suc (suc (suc zero)))) h = p4
+up_to_eight P p0 p1 p2 p3 p4 p5 p6 p7 p8 (suc (suc (suc (suc (suc zero))))) h = p5
+up_to_eight P p0 p1 p2 p3 p4 p5 p6 p7 p8 (suc (suc (suc (suc (suc (suc zero)))))) h = p6
+up_to_eight P p0 p1 p2 p3 p4 p5 p6 p7 p8 (suc (suc (suc (suc (suc (suc (suc zero))))))) h = p7
+up_to_eight P p0 p1 p2 p3 p4 p5 p6 p7 p8 (suc (suc (suc (suc (suc (suc (suc (suc zero)))))))) h = p8
+up_to_eight P p0 p1 p2 p3 p4 p5 p6 p7 p8 (suc (suc (suc (suc (suc (suc (suc (suc (suc i))))))))) h = absurd (omega (arith, h))
 
-bytes_in_take : (k : ℕ) (name : List ℕ) → AreBytes name → AreBytes (take k name)
+module _ (xs ys : List ℕ) (bx : AreBytes xs) (by : AreBytes ys) (same : from_le_bytes w64 xs ≡ from_le_bytes w64 ys) where
+  same_eight : first_eight xs ≡ first_eight ys
+  unfolding first_eight
+  same_eight =
+      sym (le_bytes_8 (first_eight xs) (from_le_bytes w64 xs) refl (are_bytes xs bx) refl) ∙ ap (to_le_bytes w64) same
+      ∙ le_bytes_8 (first_eight ys) (from_le_bytes w64 ys) refl (are_bytes ys by) refl
+
+  same_byte : (i : ℕ) → i < 8 → get_or xs i 0 ≡ get_or ys i 0
+  unfolding first_eight
+  same_byte i h = up_to_eight (λ i. i < 8 → get_or xs i 0 ≡ get_or ys i 0) (at 0) (at 1) (at 2) (at 3) (at 4) (at 5) (at 6) (at 7) (λ h. absurd (omega (arith, h))) i (omega (arith, h)) h
+    where
+      at : (i : ℕ) → i < 8 → get_or (first_eight xs) i 0 ≡ get_or (first_eight ys) i 0
+      at i h = ap (λ l. get_or l i 0) same_eight
+
+pub bytes_in_take : (k : ℕ) (name : List ℕ) → AreBytes name → AreBytes (take k name)
 bytes_in_take zero name bytes i = omega arith
 bytes_in_take (suc k) [] bytes i = bytes i
 bytes_in_take (suc k) (x ∷ xs) bytes zero = bytes zero
@@ -44,102 +73,93 @@ bytes_in_take (suc k) (x ∷ xs) bytes (suc i) = bytes_in_take k xs (λ j. bytes
 bytes_in_drop : (k : ℕ) (name : List ℕ) → AreBytes name → AreBytes (drop k name)
 bytes_in_drop k name bytes i = subst (λ (n : ℕ). n < 256) (sym (get_or-drop k name i 0)) (bytes (k + i))
 
-zeros : (k : ℕ) → AreBytes (replicate k 0)
-zeros zero i = omega arith
-zeros (suc k) zero = omega arith
-zeros (suc k) (suc i) = zeros k i
-
-bytes_filled : (k : ℕ) (name : List ℕ) → AreBytes name → AreBytes (name ++ replicate k 0)
-bytes_filled k [] bytes i = zeros k i
-bytes_filled k (x ∷ xs) bytes zero = bytes zero
-bytes_filled k (x ∷ xs) bytes (suc i) = bytes_filled k xs (λ j. bytes (suc j)) i
-
--- the bytes that a key is made of, by the name's length
-module _ (name : List ℕ) where
-  filled : List ℕ
-  filled = name ++ replicate (4 - length name) 0
-
-  front_8 : nat_le 8 (length name) ≡ true → front_of name ≡ from_le_bytes w64 (take 8 name)
-  unfolding filled
-  front_8 p = λ i. if p i then from_le_bytes w64 (take 8 name)
-      else (if nat_le 4 (length name) then from_le_bytes w32 (take 4 name) else from_le_bytes w32 filled)
-
-  back_8 : nat_le 8 (length name) ≡ true → back_of name ≡ from_le_bytes w64 (drop (length name - 8) name)
-  back_8 p = λ i. if p i then from_le_bytes w64 (drop (length name - 8) name)
-      else (if nat_le 4 (length name) then from_le_bytes w32 (drop (length name - 4) name) else 0)
-
-  front_4 : nat_le 8 (length name) ≡ false → nat_le 4 (length name) ≡ true → front_of name ≡ from_le_bytes w32 (take 4 name)
-  unfolding filled
-  front_4 p q =
-      (λ i. if p i then from_le_bytes w64 (take 8 name) else (if nat_le 4 (length name) then from_le_bytes w32 (take 4 name) else from_le_bytes w32 filled))
-      ∙ (λ i. if q i then from_le_bytes w32 (take 4 name) else from_le_bytes w32 filled)
-
-  back_4 : nat_le 8 (length name) ≡ false → nat_le 4 (length name) ≡ true → back_of name ≡ from_le_bytes w32 (drop (length name - 4) name)
-  back_4 p q =
-      (λ i. if p i then from_le_bytes w64 (drop (length name - 8) name) else (if nat_le 4 (length name) then from_le_bytes w32 (drop (length name - 4) name) else 0))
-      ∙ (λ i. if q i then from_le_bytes w32 (drop (length name - 4) name) else 0)
-
-  front_all : nat_le 8 (length name) ≡ false → nat_le 4 (length name) ≡ false → front_of name ≡ from_le_bytes w32 filled
-  unfolding filled
-  front_all p q =
-      (λ i. if p i then from_le_bytes w64 (take 8 name) else (if nat_le 4 (length name) then from_le_bytes w32 (take 4 name) else from_le_bytes w32 filled))
-      ∙ (λ i. if q i then from_le_bytes w32 (take 4 name) else from_le_bytes w32 filled)
-
-  taken : (k : ℕ) → k ≤ length name → length (take k name) ≡ k
-  taken k within = length-take-le k name within
-
-  dropped : (k : ℕ) → k ≤ length name → length (drop (length name - k) name) ≡ k
-  dropped k within = let l = length-drop (length name - k) name in omega (arith, l, within)
-
-  is_filled : length name ≤ 4 → length filled ≡ 4
-  unfolding filled
-  is_filled few = let l = length-append name (replicate (4 - length name) 0) in let r = length-replicate {A = ℕ} (4 - length name) 0 in omega (arith, l, r, few)
-
 -- names of one length with one front and one back are the same
-module _ (a b : List ℕ) (ba : AreBytes a) (bb : AreBytes b) (same : length a ≡ length b) where
-  told : (k : ℕ) (p : Bool) → nat_le k (length a) ≡ p → nat_le k (length b) ≡ p
-  told k p is = (λ i. nat_le k (sym same i)) ∙ is
+same_parts : (a b : List ℕ) → AreBytes a → AreBytes b → length a ≡ length b → length a ≤ 16 → front_of a ≡ front_of b → back_of a ≡ back_of b → a ≡ b
+same_parts a b ba bb same few front back = ext_get_or 0 a b same (λ i within. at i within (nat_lt i 8) refl)
+  where
+    at : (i : ℕ) → i < length a → (early : Bool) → nat_lt i 8 ≡ early → get_or a i 0 ≡ get_or b i 0
+    at i within true is = same_byte a b ba bb front i (grind (arith, nat_tests, is))
+    at i within false is =
+        let late : 8 ≤ i = grind (arith, nat_tests, is) in
+        let sum : 8 + (i - 8) ≡ i = omega (arith, late) in
+        ap (λ j. get_or a j 0) (sym sum) ∙ sym (get_or-drop 8 a (i - 8) 0)
+        ∙ same_byte (drop 8 a) (drop 8 b) (bytes_in_drop 8 a ba) (bytes_in_drop 8 b bb) back (i - 8) (omega (arith, within, few, late))
+        ∙ get_or-drop 8 b (i - 8) 0 ∙ ap (λ j. get_or b j 0) sum
 
-  long : nat_le 8 (length a) ≡ true → length a ≤ 16 → front_of a ≡ front_of b → back_of a ≡ back_of b → a ≡ b
-  long p few front back =
-      let within : 8 ≤ length a = grind (arith, nat_tests, p) in
-      let also : 8 ≤ length b = grind (arith, nat_tests, within, same) in
-      let fronts = eight (take 8 a) (take 8 b) (bytes_in_take 8 a ba) (bytes_in_take 8 b bb) (taken a 8 within) (taken b 8 also) (sym (front_8 a p) ∙ front ∙ front_8 b (told 8 true p)) in
-      let backs = eight (drop (length a - 8) a) (drop (length b - 8) b) (bytes_in_drop (length a - 8) a ba) (bytes_in_drop (length b - 8) b bb) (dropped a 8 within) (dropped b 8 also)
-      (sym (back_8 a p) ∙ back ∙ back_8 b (told 8 true p)) in
-      whole 8 a b same few fronts backs
+-- the bits of k bytes of a number of eight are that of the first k
+module _ (b c : ℕ → ℕ) (bytes : (i : ℕ) → b i < 256) where
+  abbrev CutAt : ℕ → Type 0
+  CutAt k = ((i : ℕ) → nat_lt i k ≡ true → c i ≡ b i) → ((i : ℕ) → nat_le k i ≡ true → nat_lt i 8 ≡ true → c i ≡ 0)
+      → sum_through (λ i. byte_worth i (b i)) 7 % 2 ^ (8 * k) ≡ sum_through (λ i. byte_worth i (c i)) 7
 
-  short : nat_le 8 (length a) ≡ false → nat_le 4 (length a) ≡ true → front_of a ≡ front_of b → back_of a ≡ back_of b → a ≡ b
-  short p q front back =
-      let within : 4 ≤ length a = grind (arith, nat_tests, q) in
-      let also : 4 ≤ length b = grind (arith, nat_tests, within, same) in
-      let few : length a ≤ 8 = grind (arith, nat_tests, p) in
-      let fronts = four (take 4 a) (take 4 b) (bytes_in_take 4 a ba) (bytes_in_take 4 b bb) (taken a 4 within) (taken b 4 also)
-      (sym (front_4 a p q) ∙ front ∙ front_4 b (told 8 false p) (told 4 true q)) in
-      let backs = four (drop (length a - 4) a) (drop (length b - 4) b) (bytes_in_drop (length a - 4) a ba) (bytes_in_drop (length b - 4) b bb) (dropped a 4 within) (dropped b 4 also)
-      (sym (back_4 a p q) ∙ back ∙ back_4 b (told 8 false p) (told 4 true q)) in
-      whole 4 a b same few fronts backs
+  low : (k : ℕ) → k ≤ 8 → CutAt k
+  low k few = up_to_eight CutAt
+      (λ is no. omega (arith, no 0 refl refl, no 1 refl refl, no 2 refl refl, no 3 refl refl, no 4 refl refl, no 5 refl refl, no 6 refl refl, no 7 refl refl))
+      (λ is no. omega (arith, bytes 0, is 0 refl, no 1 refl refl, no 2 refl refl, no 3 refl refl, no 4 refl refl, no 5 refl refl, no 6 refl refl,
+      no 7 refl refl))
+      (λ is no. omega (arith, bytes 0, bytes 1, is 0 refl, is 1 refl, no 2 refl refl, no 3 refl refl, no 4 refl refl, no 5 refl refl, no 6 refl refl,
+      no 7 refl refl))
+      (λ is no. omega (arith, bytes 0, bytes 1, bytes 2, is 0 refl, is 1 refl, is 2 refl, no 3 refl refl, no 4 refl refl, no 5 refl refl,
+      no 6 refl refl, no 7 refl refl))
+      (λ is no. omega (arith, bytes 0, bytes 1, bytes 2, bytes 3, is 0 refl, is 1 refl, is 2 refl, is 3 refl, no 4 refl refl, no 5 refl refl,
+      no 6 refl refl, no 7 refl refl))
+      (λ is no. omega (arith, bytes 0, bytes 1, bytes 2, bytes 3, bytes 4, is 0 refl, is 1 refl, is 2 refl, is 3 refl, is 4 refl, no 5 refl refl,
+      no 6 refl refl, no 7 refl refl))
+      (λ is no. omega (arith, bytes 0, bytes 1, bytes 2, bytes 3, bytes 4, bytes 5, is 0 refl, is 1 refl, is 2 refl, is 3 refl, is 4 refl, is 5 refl,
+      no 6 refl refl, no 7 refl refl))
+      (λ is no. omega (arith, bytes 0, bytes 1, bytes 2, bytes 3, bytes 4, bytes 5, bytes 6, is 0 refl, is 1 refl, is 2 refl, is 3 refl, is 4 refl,
+      is 5 refl, is 6 refl, no 7 refl refl))
+      (λ is no. omega (arith, bytes 0, bytes 1, bytes 2, bytes 3, bytes 4, bytes 5, bytes 6, bytes 7, is 0 refl, is 1 refl, is 2 refl, is 3 refl,
+      is 4 refl, is 5 refl, is 6 refl, is 7 refl))
+      k few
 
-  tiny : nat_le 8 (length a) ≡ false → nat_le 4 (length a) ≡ false → front_of a ≡ front_of b → a ≡ b
-  unfolding filled
-  tiny p q front =
-      let few : length a ≤ 4 = grind (arith, nat_tests, q) in
-      let also : length b ≤ 4 = grind (arith, nat_tests, few, same) in
-      let all : filled a ≡ filled b = four (filled a) (filled b) (bytes_filled (4 - length a) a ba) (bytes_filled (4 - length b) b bb) (is_filled a few) (is_filled b also)
-      (sym (front_all a p q) ∙ front ∙ front_all b (told 8 false p) (told 4 false q)) in
-      sym (take-append_seam a (replicate (4 - length a) 0)) ∙ ap (take (length a)) all
-      ∙ (λ i. take (same i) (filled b)) ∙ take-append_seam b (replicate (4 - length b) 0)
+-- so it is cut out of more bytes
+pub cut_front : (bytes : List ℕ) (k : ℕ) → AreBytes bytes → k ≤ length bytes
+    → bit_and (from_le_bytes w64 bytes) (2 ^ (8 * min k 8) - 1) ≡ from_le_bytes w64 (take k bytes)
+cut_front bytes k are within =
+    and_mask (from_le_bytes w64 bytes) (8 * min k 8)
+    ∙ low (λ i. get_or bytes i 0) (λ i. get_or (take k bytes) i 0) are (min k 8) (omega arith)
+    (λ i h. get_or-take k bytes i 0 (before i h)) (λ i h early. get_or_past (take k bytes) i 0 (behind i h early))
+  where
+    before : (i : ℕ) → nat_lt i (min k 8) ≡ true → i < k
+    before i h = let l : i < min k 8 = grind (arith, nat_tests, h) in omega (arith, l)
+    behind : (i : ℕ) → nat_le (min k 8) i ≡ true → nat_lt i 8 ≡ true → length (take k bytes) ≤ i
+    behind i h early =
+        let l : min k 8 ≤ i = grind (arith, nat_tests, h) in
+        let e : i < 8 = grind (arith, nat_tests, early) in
+        omega (arith, l, e, length-take-le k bytes within)
 
-  same_parts : length a ≤ 16 → front_of a ≡ front_of b → back_of a ≡ back_of b → a ≡ b
-  same_parts few front back = by (nat_le 8 (length a)) refl (nat_le 4 (length a)) refl
-    where
-      by : (p : Bool) → nat_le 8 (length a) ≡ p → (q : Bool) → nat_le 4 (length a) ≡ q → a ≡ b
-      by true p q e = long p few front back
-      by false p true e = short p e front back
-      by false p false e = tiny p e front
+-- and so are the eight behind them
+pub cut_back : (bytes : List ℕ) (k : ℕ) → AreBytes bytes → k ≤ length bytes → 8 ≤ length bytes
+    → bit_and (from_le_bytes w64 (drop 8 bytes)) (2 ^ (8 * min (k - 8) 8) - 1) ≡ from_le_bytes w64 (drop 8 (take k bytes))
+cut_back bytes k are within enough =
+    cut_front (drop 8 bytes) (k - 8) (bytes_in_drop 8 bytes are) (omega (arith, within, length-drop 8 bytes))
+    ∙ ap (from_le_bytes w64) (behind (nat_le 8 k) refl)
+  where
+    behind : (b : Bool) → nat_le 8 k ≡ b → take (k - 8) (drop 8 bytes) ≡ drop 8 (take k bytes)
+    behind true is =
+        let long : 8 ≤ k = grind (arith, nat_tests, is) in
+        sym (drop-take 8 (k - 8) bytes) ∙ ap (λ j. drop 8 (take j bytes)) (omega (arith, long))
+    behind false is =
+        let short : k ≤ 8 = grind (arith, nat_tests, is) in
+        let none : k - 8 ≡ 0 = omega (arith, short) in
+        ap (λ j. take j (drop 8 bytes)) none ∙ sym (drop_all 8 (take k bytes) (omega (arith, length-take-le k bytes within, short)))
+
+-- the key of a name in front of more bytes
+pub key_cut : (bytes : List ℕ) (k e f g h : ℕ) → AreBytes bytes → 16 ≤ length bytes → k ≤ 16
+    → e ≡ from_le_bytes w64 bytes → f ≡ 2 ^ (8 * min k 8) - 1 → g ≡ from_le_bytes w64 (drop 8 bytes) → h ≡ 2 ^ (8 * min (k - 8) 8) - 1
+    → short_key (take k bytes) ≡ Some (record { len = k; front = bit_and e f; back = bit_and g h })
+key_cut bytes k e f g h are enough few es fs gs hs =
+    let within : k ≤ length bytes = omega (arith, enough, few) in
+    let len = length-take-le k bytes within in
+    let small : nat_le (length (take k bytes)) 16 ≡ true = grind (arith, nat_tests, len, few) in
+    let front : front_of (take k bytes) ≡ bit_and e f = sym (cut_front bytes k are within) ∙ (λ i. bit_and (sym es i) (sym fs i)) in
+    let back : back_of (take k bytes) ≡ bit_and g h = sym (cut_back bytes k are within (omega (arith, enough))) ∙ (λ i. bit_and (sym gs i) (sym hs i)) in
+    λ i. if small i then Some (record { len = len i; front = front i; back = back i }) else None
 
 -- what a key is
-keyed : (name : List ℕ) (key : Key) → short_key name ≡ Some key → (record { len = length name; front = front_of name; back = back_of name } ≡ key) × (length name ≤ 16)
+keyed : (name : List ℕ) (key : Key) → short_key name ≡ Some key
+    → (record { len = length name; front = front_of name; back = back_of name } ≡ key) × (length name ≤ 16)
 keyed name key is = by (nat_le (length name) 16) refl is
   where
     by : (b : Bool) → nat_le (length name) 16 ≡ b
@@ -164,7 +184,8 @@ blank_noted rows short blank = λ name bytes is.
     absurd (omega (arith, len, few, blank))
 
 -- a name that is noted with what it stands for
-pub short_noted : (rows : List Row) (name : List ℕ) (short : Short) → AreBytes name → short_key name ≡ Some (key_in short) → slot_named name rows ≡ Some short.slot
+pub short_noted : (rows : List Row) (name : List ℕ) (short : Short) → AreBytes name → short_key name ≡ Some (key_in short)
+    → slot_named name rows ≡ Some short.slot
     → IsNoted rows short
 short_noted rows name short bytes is named = λ other fit also.
     subst (λ (n : List ℕ). slot_named n rows ≡ Some short.slot) (same_key name other (key_in short) bytes fit is also) named
@@ -191,7 +212,8 @@ module _ (name : List ℕ) (rows : List Row) where
       let found = cond_some (nat_lt n (length rows)) n i is in
       let within : n < length rows = let t = found.0 in grind (arith, nat_tests, t) in
       let other : eqb n (length rows) ≡ false = grind (arith, nat_tests, within) in
-      let same : position_or_len test (rows ++ last ∷ []) ≡ n = position_or_len_push test rows last ∙ (λ j. cond (other j) (length rows + cond (test last) 0 1) n) in
+      let same : position_or_len test (rows ++ last ∷ []) ≡ n = position_or_len_push test rows last
+      ∙ (λ j. cond (other j) (length rows + cond (test last) 0 1) n) in
       let longer : nat_lt n (length (rows ++ last ∷ [])) ≡ true = let l = length-append rows (last ∷ []) in grind (arith, nat_tests, within, l) in
       (λ j. cond (nat_lt (same j) (length (rows ++ last ∷ []))) (Some (same j)) None) ∙ (λ j. cond (longer j) (Some (found.1 j)) None)
 
@@ -202,7 +224,8 @@ module _ (name : List ℕ) (rows : List Row) where
       by None none h = absurd (none-some slot h)
       by (Some i) found h =
           let within = (position-Some test rows i last found).0 in
-          ap (option_and_then (at (rows ++ last ∷ []))) (found_before last i found) ∙ ap (option_map (λ (r : Row). r.slot)) (slice_get-push_within rows last i within) ∙ h
+          ap (option_and_then (at (rows ++ last ∷ []))) (found_before last i found)
+          ∙ ap (option_map (λ (r : Row). r.slot)) (slice_get-push_within rows last i within) ∙ h
 
   -- a new name is found in the last row
   last_found : (slot : Slot) → IsNone (position test rows) → position test (rows ++ row name slot ∷ []) ≡ Some (length rows)

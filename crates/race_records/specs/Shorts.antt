@@ -1,21 +1,17 @@
 -- A table of short names that are found by their bytes alone: what it may say of the table of all names.
-use Rattle.std.specs.Prelude.{◌≡◌, ◌<◌, ℕ, ◌-◌, nat_le, if◌then◌else◌, List, ◌++◌, length, take, drop, replicate, get_or, All, Option, Some, None}
-use Rattle.std.specs.Int.{from_le_bytes, w32, w64}
+use Rattle.std.specs.Prelude.{◌≡◌, ◌<◌, ℕ, nat_le, if◌then◌else◌, List, length, drop, get_or, All, Option, Some, None}
+use Rattle.std.specs.Int.{from_le_bytes, w64}
 use Rattle.race_records.specs.declared.shorts.Key.{Key}
 use Rattle.race_records.specs.declared.shorts.Short.{Short}
 use Rattle.race_records.specs.Tables.{Row, slot_named}
 
--- the first eight bytes as a number, or the first four, or all
+-- the first eight bytes as a number, the lowest first, 0 for each that isn't there
 abbrev pub front_of : List ℕ → ℕ
-front_of name =
-    if nat_le 8 (length name) then from_le_bytes w64 (take 8 name)
-    else (if nat_le 4 (length name) then from_le_bytes w32 (take 4 name) else from_le_bytes w32 (name ++ replicate (4 - length name) 0))
+front_of name = from_le_bytes w64 name
 
--- the last eight bytes, or the last four, or none
+-- the eight behind them
 abbrev pub back_of : List ℕ → ℕ
-back_of name =
-    if nat_le 8 (length name) then from_le_bytes w64 (drop (length name - 8) name)
-    else (if nat_le 4 (length name) then from_le_bytes w32 (drop (length name - 4) name) else 0)
+back_of name = from_le_bytes w64 (drop 8 name)
 
 -- the key of a name of at most 16 bytes
 abbrev pub short_key : List ℕ → Option Key

@@ -1,13 +1,15 @@
 //! The declarations of a trace, and its table of places.
-ghost use Rattle.std.specs.Prelude.{◌≡◌, ◌<◌, ◌≤◌, ◌↔◌, ℕ, [], length, IsTrue, true, false, Some, None, slice_get, IsOk, IfSome, IfNone, OnSome, IfOk, OnOk, OnErr};
+ghost use Rattle.std.specs.Prelude.{◌≡◌, ◌<◌, ◌≤◌, ◌↔◌, ℕ, [], length, take, IsTrue, true, false, Some, None, slice_get, IsOk, IfSome, IfNone, OnSome, IfOk, OnOk, OnErr};
+ghost use Rattle.std.specs.List.{list_all};
 ghost use Rattle.std.specs.Str.{bytes_eq};
+ghost use Rattle.race_records.specs.Name.{is_place_byte};
 ghost use Rattle.race_records.specs.Declarations as spec;
 ghost use Rattle.race_records.specs.Refusal.{Refuses, AllowsUnless};
 
 use crate::indexes::Indexes;
 use crate::names::{Names, Slot};
 use crate::places::Places;
-use crate::{Kind, Named, Object, is_name, is_place};
+use crate::{Kind, Named, Object, as_text, is_name, is_place};
 use std::alloc::{AllocError, Allocator, Global};
 use std::marker::Model;
 use thiserror::Error;
@@ -126,6 +128,20 @@ impl<A: Allocator> Decls<A> {
             Some(slot) => Some(slot.object.named(slot.number)),
             None => None,
         }
+    }
+
+    /// What the name stands for that the first `len` of these bytes are, as [`Decls::find`] tells it.
+    ///
+    /// It is faster for a name of at most 16 bytes, and most where 16 bytes are there.
+    pub fn find_at(&self, bytes: &[u8], len: usize) -> Option<Named>
+        requires len { len ≤ length bytes.now }
+        requires visible { list_all is_place_byte (take len bytes.now) ≡ true }
+        ensures { result ≡ spec.find_name self.now.declarations (take len bytes.now) }
+    {
+        if let Some(slot) = self.names.find_short(bytes, len) {
+            return Some(slot.object.named(slot.number));
+        }
+        self.find(as_text(&bytes[..len]))
     }
 
     /// How many of the kind there are, main counted.

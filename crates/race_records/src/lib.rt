@@ -25,7 +25,7 @@ pub use event::{Cause, Event, Op};
 #[doc(hidden)]
 pub use indexes::Indexes;
 pub use kind::{Kind, MAX_CAPACITY, MAX_GOROUTINES, MAX_OBJECTS, Named, Object};
-pub use name::{MAX_NAME_LEN, MAX_PLACE_LEN, is_name, is_place};
+pub use name::{MAX_NAME_LEN, MAX_PLACE_LEN, as_text, is_name, is_place};
 #[doc(hidden)]
 pub use names::{Names, Slot};
 pub use nouns::{Noun, object_by, object_says};

@@ -1,5 +1,5 @@
 //! Which words are names, and which are places in a source.
-ghost use Rattle.std.specs.Prelude.{◌≡◌, ◌<◌, ◌≤◌};
+ghost use Rattle.std.specs.Prelude.{◌≡◌, ◌<◌, ◌≤◌, true};
 ghost use Rattle.std.specs.List.{list_all};
 ghost use Rattle.race_records.specs.Name as spec;
 
@@ -30,6 +30,15 @@ pub fn is_place(word: &[u8]) -> bool
         return false;
     }
     all_place_bytes(word)
+}
+
+/// Bytes that can be seen, as text.
+#[inline(always)]
+pub fn as_text(word: &[u8]) -> &str
+    requires { list_all spec.is_place_byte word.now ≡ true }
+    ensures { result.now ≡ word.now }
+{
+    unsafe { std::str::from_utf8_unchecked(word) }
 }
 
 fn all_name_bytes(word: &[u8]) -> bool

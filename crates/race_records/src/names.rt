@@ -1,5 +1,5 @@
 //! The table of names: what each was declared as, in the order of the declarations.
-ghost use Rattle.std.specs.Prelude.{◌≡◌, ◌<◌, [], ◌∷◌, ◌++◌, length, ◌↔◌, Some, slice_get, position, option_map, IsTrue, IfOk, OnOk, OnErr, IsNone};
+ghost use Rattle.std.specs.Prelude.{◌≡◌, ◌<◌, ◌≤◌, take, IfSome, [], ◌∷◌, ◌++◌, length, ◌↔◌, Some, slice_get, position, option_map, IsTrue, IfOk, OnOk, OnErr, IsNone};
 ghost use Rattle.std.specs.Str.{bytes_eq};
 ghost use Rattle.race_records.specs.Rows.{declarations_of};
 ghost use Rattle.race_records.specs.Tables.{Row, row, slot_named};
@@ -70,25 +70,22 @@ impl<A: Allocator> Names<A> {
     }
 
     // What the name stands for.
-    #[inline(always)]
     pub(crate) fn find(&self, name: &str) -> Option<Slot>
-        ensures { result ≡ slot_named name.now self.now }
-    {
-        match self.shorts.get(name.as_bytes()) {
-            Some(slot) => Some(slot),
-            None => self.find_any(name),
-        }
-    }
-
-    // The same of a name that may be long.
-    #[inline(never)]
-    fn find_any(&self, name: &str) -> Option<Slot>
         ensures { result ≡ slot_named name.now self.now }
     {
         match self.index_of(name) {
             Some(index) => Some(self.slot(index)),
             None => None,
         }
+    }
+
+    // What the name that the first `len` of these bytes are stands for, where that is found at once.
+    #[inline(always)]
+    pub(crate) fn find_short(&self, bytes: &[u8], len: usize) -> Option<Slot>
+        requires { len ≤ length bytes.now }
+        ensures { IfSome result (λ slot. slot_named (take len bytes.now) self.now ≡ Some slot) }
+    {
+        self.shorts.get(bytes, len)
     }
 
     pub(crate) fn name(&self, index: usize) -> &str

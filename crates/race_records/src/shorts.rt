@@ -1,6 +1,7 @@
 //! Short names with what they stand for, found by their bytes alone: one look at memory for a name,
 //! where a map has four.
-ghost use Rattle.std.specs.Prelude.{ℕ, ◌≡◌, ◌↔◌, [], List, Some, IfSome, IsTrue};
+ghost use Rattle.std.specs.Prelude.{ℕ, ◌≡◌, ◌↔◌, ◌≤◌, ◌-◌, ◌*◌, ◌^◌, min, [], List, length, take, Some, IfSome, IsTrue};
+ghost use Rattle.std.specs.Int.{from_le_bytes, w64};
 ghost use Rattle.race_records.specs.Tables.{Row, slot_named};
 ghost use Rattle.race_records.specs.Shorts as spec;
 ghost use Rattle.race_records.specs.Shorts.{AreBytes, AreNoted, IsNoted};
@@ -81,13 +82,14 @@ impl<A: Allocator> Shorts<A> {
         }
     }
 
-    /// What the name stands for, where it is found at once.
+    /// What the name that the first `len` of these bytes are stands for, where it is found at once.
     #[inline(always)]
-    pub(crate) fn get(&self, name: &[u8]) -> Option<Slot>
+    pub(crate) fn get(&self, bytes: &[u8], len: usize) -> Option<Slot>
+        requires { len ≤ length bytes.now }
         ensures { IfSome result (λ slot. (rows : List Row) → AreNoted rows self.now
-            → slot_named name.now rows ≡ Some slot) }
+            → slot_named (take len bytes.now) rows ≡ Some slot) }
     {
-        let key = key_of(name)?;
+        let key = key_at(bytes, len)?;
         find_in(self.slots.as_slice(), key)
     }
 
@@ -139,52 +141,75 @@ impl<A: Allocator> Shorts<A> {
 }
 
 // The key of a short name.
-#[inline(always)]
+#[inline(never)]
 fn key_of(name: &[u8]) -> Option<Key>
     ensures { result ≡ spec.short_key name.now }
 {
     if name.len() > MAX_SHORT {
         return None;
     }
-    Some(Key {
-        len: name.len() as u32,
-        front: front_of(name),
-        back: back_of(name),
-    })
+    let mut bytes = [0; MAX_SHORT];
+    bytes[..name.len()].copy_from_slice(name);
+    Some(key_in_front(&bytes, name.len()))
 }
 
-// The first eight bytes, or four, or all.
+// The key of the name that the first `len` of these bytes are, if it is a short one.
 #[inline(always)]
-fn front_of(name: &[u8]) -> u64
-    ensures { result ≡ spec.front_of name.now }
+fn key_at(bytes: &[u8], len: usize) -> Option<Key>
+    requires { len ≤ length bytes.now }
+    ensures { result ≡ spec.short_key (take len bytes.now) }
 {
-    if let Some(bytes) = name.first_chunk::<8>() {
-        return u64::from_le_bytes(*bytes);
+    if len > MAX_SHORT {
+        return None;
     }
-    if let Some(bytes) = name.first_chunk::<4>() {
-        return u32::from_le_bytes(*bytes) as u64;
+    if bytes.len() < MAX_SHORT {
+        return key_of(&bytes[..len]);
     }
-    let bytes = match name {
-        [a] => [*a, 0, 0, 0],
-        [a, b] => [*a, *b, 0, 0],
-        [a, b, c] => [*a, *b, *c, 0],
-        _ => [0; 4],
-    };
-    u32::from_le_bytes(bytes) as u64
+    Some(key_in_front(bytes, len))
 }
 
-// The last eight bytes, or four, or none.
+// The same where so many bytes are there that those behind the name are cut away as bits.
 #[inline(always)]
-fn back_of(name: &[u8]) -> u64
-    ensures { result ≡ spec.back_of name.now }
+fn key_in_front(bytes: &[u8], len: usize) -> Key
+    requires enough { 16 ≤ length bytes.now }
+    requires short { len ≤ 16 }
+    ensures { spec.short_key (take len bytes.now) ≡ Some result }
 {
-    if let Some(bytes) = name.last_chunk::<8>() {
-        return u64::from_le_bytes(*bytes);
+    Key {
+        len: len as u32,
+        front: eight_bytes(bytes) & low_bytes(len),
+        back: eight_bytes(&bytes[8..]) & low_bytes(len.saturating_sub(8)),
     }
-    if let Some(bytes) = name.last_chunk::<4>() {
-        return u32::from_le_bytes(*bytes) as u64;
+}
+
+// The first eight bytes.
+#[inline(always)]
+fn eight_bytes(bytes: &[u8]) -> u64
+    requires { 8 ≤ length bytes.now }
+    ensures { result ≡ from_le_bytes w64 bytes.now }
+{
+    match bytes.first_chunk::<8>() {
+        Some(eight) => u64::from_le_bytes(*eight),
+        None => unreachable!(),
     }
-    0
+}
+
+// The bits of so many bytes, of eight at most.
+#[inline(always)]
+fn low_bytes(count: usize) -> u64
+    ensures { result ≡ 2 ^ (8 * min count 8) - 1 }
+{
+    match count.min(8) {
+        0 => 0,
+        1 => 0xff,
+        2 => 0xffff,
+        3 => 0xff_ffff,
+        4 => 0xffff_ffff,
+        5 => 0xff_ffff_ffff,
+        6 => 0xffff_ffff_ffff,
+        7 => 0xff_ffff_ffff_ffff,
+        _ => u64::MAX,
+    }
 }
 
 // The first of the four slots of the key among so many slots, a power of two. Every byte of a name

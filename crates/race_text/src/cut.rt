@@ -1,5 +1,5 @@
 //! A text is cut into lines, and a line into words.
-ghost use Rattle.std.specs.Prelude.{◌≡◌, ◌==◌, ◌∷◌, true, false, MatchOption};
+ghost use Rattle.std.specs.Prelude.{◌≡◌, ◌==◌, ◌≤◌, ◌∷◌, length, take, true, false, MatchOption};
 ghost use Rattle.std.specs.List.{slice_split, list_all};
 ghost use Rattle.race_records.specs.Name.{is_place_byte};
 ghost use Rattle.race_text.specs.Form.{first_word};
@@ -31,20 +31,21 @@ fn is_bad_byte(byte: u8) -> bool
     !(b' ' <= byte && byte <= b'~')
 }
 
-// The first word of a line and what is left behind it, in one pass. Nothing where the word has a
-// byte that can't be seen.
+// How long the first word of a line is, and what is left behind it, in one pass. Nothing where the
+// word has a byte that can't be seen.
 #[inline(always)]
-pub(crate) fn cut_word(bytes: &[u8]) -> Option<(&[u8], Option<&[u8]>)>
+pub(crate) fn cut_word(bytes: &[u8]) -> Option<(usize, Option<&[u8]>)>
     ensures { MatchOption result
         (list_all is_place_byte (first_word (spec.words_of bytes.now)) ≡ false)
-        (λ cut. (spec.words_of bytes.now ≡ cut.0.now ∷ spec.parts_left 32 cut.1)
-        × (list_all is_place_byte cut.0.now ≡ true)) }
+        (λ cut. (cut.0 ≤ length bytes.now)
+        × (spec.words_of bytes.now ≡ take cut.0 bytes.now ∷ spec.parts_left 32 cut.1)
+        × (list_all is_place_byte (take cut.0 bytes.now) ≡ true)) }
 {
     match first_unseen(bytes) {
-        None => Some((bytes, None)),
+        None => Some((bytes.len(), None)),
         Some(end) => {
             if bytes[end] == b' ' {
-                Some((&bytes[..end], Some(&bytes[end + 1..])))
+                Some((end, Some(&bytes[end + 1..])))
             } else {
                 None
             }

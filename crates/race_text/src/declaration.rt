@@ -8,11 +8,10 @@ ghost use Rattle.race_text.specs.Declaring as spec;
 
 use crate::cause::TextCause;
 use crate::cut::cut_at;
-use crate::fields::as_text;
 use crate::finder::word_cause;
 use crate::form::{Word, word_named};
 use crate::number::read_number;
-use race_records::{DeclFault, Decls, Noun, Object, object_by};
+use race_records::{DeclFault, Decls, Noun, Object, as_text, object_by};
 use std::alloc::Allocator;
 
 /// Adds the declaration that the line is, and answers true. Where the first word declares

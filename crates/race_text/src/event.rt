@@ -1,6 +1,6 @@
 //! Lines that are events. Slices and parts go through memory at a call, so the path of the common
 //! words is one function, and what a select or a fault says is read by others.
-ghost use Rattle.std.specs.Prelude.{◌≡◌, ◌≤◌, ◌<◌, [], length, true, IfSome};
+ghost use Rattle.std.specs.Prelude.{◌≡◌, ◌≤◌, ◌<◌, [], length, take, true, IfSome};
 ghost use Rattle.std.specs.List.{list_all};
 ghost use Rattle.std.specs.Option.{option_map};
 ghost use Rattle.race_records.specs.Name.{is_place_byte};
@@ -9,7 +9,7 @@ ghost use Rattle.race_text.specs.Words.{parts_left, words_of};
 ghost use Rattle.race_text.specs.Reading as spec;
 
 use crate::cut::{cut_at, cut_word};
-use crate::fields::{as_text, is_wanted};
+use crate::fields::is_wanted;
 use crate::form::{Word, word_named};
 use crate::number::read_number;
 use crate::select::{case_spelled, cause_by, failure_spelled, kind_tried};
@@ -40,7 +40,7 @@ pub(crate) fn read_event<'a, A: Allocator>(decls: &Decls<A>, line: &'a [u8]) -> 
 {
     match cut_word(line) {
         None => None,
-        Some((first, rest)) => match word_named(first) {
+        Some((end, rest)) => match word_named(&line[..end]) {
             None => None,
             Some(word) => match word {
                 Word::Declares(_) => None,
@@ -167,7 +167,7 @@ fn next_part<'a, A: Allocator>(
         None => None,
         Some(bytes) => match cut_word(bytes) {
             None => None,
-            Some((word, others)) => match part_in(decls, kind, word) {
+            Some((end, others)) => match part_in(decls, kind, bytes, end) {
                 None => None,
                 Some(part) => Some((part, others)),
             },
@@ -175,39 +175,47 @@ fn next_part<'a, A: Allocator>(
     }
 }
 
+// The part that the first `len` bytes say. Those behind them let a name be found faster.
 #[inline(always)]
-fn part_in<A: Allocator>(decls: &Decls<A>, kind: PartKind, word: &[u8]) -> Option<Part>
+fn part_in<A: Allocator>(decls: &Decls<A>, kind: PartKind, bytes: &[u8], len: usize) -> Option<Part>
     requires decls { IsWellFormed decls.now }
-    requires seen { list_all is_place_byte word.now ≡ true }
-    ensures { result ≡ spec.part_in decls.now.declarations kind word.now }
+    requires len { len ≤ length bytes.now }
+    requires seen { list_all is_place_byte (take len bytes.now) ≡ true }
+    ensures { result ≡ spec.part_in decls.now.declarations kind (take len bytes.now) }
 {
     match kind {
-        PartKind::Object(_) | PartKind::RwMutex => match object_in(decls, kind, word) {
+        PartKind::Object(_) | PartKind::RwMutex => match object_in(decls, kind, bytes, len) {
             None => None,
             Some(named) => Some(Part::Object(named)),
         },
-        PartKind::Value => match read_number(word, u64::MAX) {
+        PartKind::Value => match read_number(&bytes[..len], u64::MAX) {
             None => None,
             Some(value) => Some(Part::Value(value)),
         },
-        PartKind::Cases => match cases_in(decls, word) {
+        PartKind::Cases => match cases_in(decls, &bytes[..len]) {
             None => None,
             Some(cases) => Some(Part::Cases(cases)),
         },
-        PartKind::Cause => match failure_in(decls, word) {
+        PartKind::Cause => match failure_in(decls, &bytes[..len]) {
             None => None,
             Some(cause) => Some(Part::Cause(cause)),
         },
     }
 }
 
-// What a word names, where that is wanted.
+// What the first `len` bytes name, where that is wanted.
 #[inline(always)]
-fn object_in<A: Allocator>(decls: &Decls<A>, kind: PartKind, word: &[u8]) -> Option<Named>
-    requires { list_all is_place_byte word.now ≡ true }
-    ensures { result ≡ spec.named_in decls.now.declarations kind word.now }
+fn object_in<A: Allocator>(
+    decls: &Decls<A>,
+    kind: PartKind,
+    bytes: &[u8],
+    len: usize,
+) -> Option<Named>
+    requires len { len ≤ length bytes.now }
+    requires seen { list_all is_place_byte (take len bytes.now) ≡ true }
+    ensures { result ≡ spec.named_in decls.now.declarations kind (take len bytes.now) }
 {
-    match decls.find(as_text(word)) {
+    match decls.find_at(bytes, len) {
         None => None,
         Some(named) => {
             if is_wanted(decls, kind, named) {
@@ -225,7 +233,7 @@ fn named_in<A: Allocator>(decls: &Decls<A>, kind: PartKind, word: &[u8]) -> Opti
     ensures { result ≡ spec.named_in decls.now.declarations kind word.now }
 {
     if is_name(word) {
-        object_in(decls, kind, word)
+        object_in(decls, kind, word, word.len())
     } else {
         None
     }
@@ -329,11 +337,11 @@ fn first_place<'a>(rest: Option<&'a [u8]>) -> Option<(&'a [u8], Option<&'a [u8]>
         None => None,
         Some(bytes) => match cut_word(bytes) {
             None => None,
-            Some((word, behind)) => {
-                if word.is_empty() || word.len() > MAX_PLACE_LEN {
+            Some((end, behind)) => {
+                if end == 0 || end > MAX_PLACE_LEN {
                     None
                 } else {
-                    Some((word, behind))
+                    Some((&bytes[..end], behind))
                 }
             }
         },

@@ -13,16 +13,8 @@ use crate::cut::cut_at;
 use crate::form::Field;
 use crate::number::read_number;
 use crate::select::{case_spelled, failure_spelled, kind_tried};
-use race_records::{Decls, Kind, MAX_CASES, Named, PartKind, is_name, is_place};
+use race_records::{Decls, Kind, MAX_CASES, Named, PartKind, as_text, is_name, is_place};
 use std::alloc::Allocator;
-
-// Bytes that can be seen, as text.
-pub(crate) fn as_text(word: &[u8]) -> &str
-    requires { list_all name.is_place_byte word.now ≡ true }
-    ensures { result.now ≡ word.now }
-{
-    unsafe { std::str::from_utf8_unchecked(word) }
-}
 
 // What a name stands for.
 fn look_up<A: Allocator>(decls: &Decls<A>, word: &[u8]) -> Option<Named>

@@ -11,9 +11,8 @@ ghost use Rattle.race_text.specs.Taking as spec;
 use crate::cause::TextCause;
 use crate::declaration::cause_of;
 use crate::event::{Draft, read_event};
-use crate::fields::as_text;
 use crate::finder::line_cause;
-use race_records::{Event, MAX_EVENTS, MAX_PLACES, Trace};
+use race_records::{Event, MAX_EVENTS, MAX_PLACES, Trace, as_text};
 use std::alloc::Allocator;
 
 // Takes a line behind the declarations: an event that fits, or the least cause of what isn't one.

@@ -252,6 +252,25 @@ fn is_rw(decls: &Decls, lock: u32) -> Option<bool> {
     }
 }
 
+// A name in front of more bytes, how long it is, and what it stands for.
+static IN_FRONT: [(&[u8], usize, Option<Named>); 7] = [
+    (b"w x 1 http/handler.go:3", 1, Some(Named::Goroutine(1))),
+    (b"x 1 http/handler.go:3", 1, Some(Named::Var(0))),
+    (b"x", 1, Some(Named::Var(0))),
+    (b"main x 1 http/handler.go:3", 4, Some(Named::Goroutine(0))),
+    (b"xw 1 http/handler.go:3", 2, None),
+    (b"seventeen_letters http/handler.go:3", 17, None),
+    (b"x http/handler.go:3", 2, None),
+];
+
+// What the first bytes stand for, where they can be seen.
+fn found_in_front(decls: &Decls, bytes: &[u8], len: usize) -> Option<Named> {
+    if len > bytes.len() || !is_place(&bytes[..len]) {
+        return None;
+    }
+    decls.find_at(bytes, len)
+}
+
 #[test]
 fn declarations_are_found_again(rt: HostRuntime) -> Result<(), Fail> {
     let decls = declared(rt.alloc(), &SEVEN)?;
@@ -262,6 +281,9 @@ fn declarations_are_found_again(rt: HostRuntime) -> Result<(), Fail> {
         let (name, named, told) = FOUND[index];
         let answer = (found(&decls, name), declared_at(&decls, index));
         assert_eq!(rt; answer, (named, told), "{name}");
+    }
+    for (bytes, len, named) in IN_FRONT {
+        assert_eq!(rt; found_in_front(&decls, bytes, len), named, "{len}");
     }
     Ok(())
 }

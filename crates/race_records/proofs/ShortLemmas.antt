@@ -95,22 +95,130 @@ module _ (b c : ℕ → ℕ) (bytes : (i : ℕ) → b i < 256) where
   low : (k : ℕ) → k ≤ 8 → CutAt k
   low k few = up_to_eight CutAt
       (λ is no. omega (arith, no 0 refl refl, no 1 refl refl, no 2 refl refl, no 3 refl refl, no 4 refl refl, no 5 refl refl, no 6 refl refl, no 7 refl refl))
-      (λ is no. omega (arith, bytes 0, is 0 refl, no 1 refl refl, no 2 refl refl, no 3 refl refl, no 4 refl refl, no 5 refl refl, no 6 refl refl,
-      no 7 refl refl))
-      (λ is no. omega (arith, bytes 0, bytes 1, is 0 refl, is 1 refl, no 2 refl refl, no 3 refl refl, no 4 refl refl, no 5 refl refl, no 6 refl refl,
-      no 7 refl refl))
-      (λ is no. omega (arith, bytes 0, bytes 1, bytes 2, is 0 refl, is 1 refl, is 2 refl, no 3 refl refl, no 4 refl refl, no 5 refl refl,
-      no 6 refl refl, no 7 refl refl))
-      (λ is no. omega (arith, bytes 0, bytes 1, bytes 2, bytes 3, is 0 refl, is 1 refl, is 2 refl, is 3 refl, no 4 refl refl, no 5 refl refl,
-      no 6 refl refl, no 7 refl refl))
-      (λ is no. omega (arith, bytes 0, bytes 1, bytes 2, bytes 3, bytes 4, is 0 refl, is 1 refl, is 2 refl, is 3 refl, is 4 refl, no 5 refl refl,
-      no 6 refl refl, no 7 refl refl))
-      (λ is no. omega (arith, bytes 0, bytes 1, bytes 2, bytes 3, bytes 4, bytes 5, is 0 refl, is 1 refl, is 2 refl, is 3 refl, is 4 refl, is 5 refl,
-      no 6 refl refl, no 7 refl refl))
-      (λ is no. omega (arith, bytes 0, bytes 1, bytes 2, bytes 3, bytes 4, bytes 5, bytes 6, is 0 refl, is 1 refl, is 2 refl, is 3 refl, is 4 refl,
-      is 5 refl, is 6 refl, no 7 refl refl))
-      (λ is no. omega (arith, bytes 0, bytes 1, bytes 2, bytes 3, bytes 4, bytes 5, bytes 6, bytes 7, is 0 refl, is 1 refl, is 2 refl, is 3 refl,
-      is 4 refl, is 5 refl, is 6 refl, is 7 refl))
+      (λ is no. omega (
+        arith,
+        bytes 0,
+        is 0 refl,
+        no 1 refl refl,
+        no 2 refl refl,
+        no 3 refl refl,
+        no 4 refl refl,
+        no 5 refl refl,
+        no 6 refl refl,
+        no 7 refl refl,
+      ))
+      (λ is no. omega (
+        arith,
+        bytes 0,
+        bytes 1,
+        is 0 refl,
+        is 1 refl,
+        no 2 refl refl,
+        no 3 refl refl,
+        no 4 refl refl,
+        no 5 refl refl,
+        no 6 refl refl,
+        no 7 refl refl,
+      ))
+      (λ is no. omega (
+        arith,
+        bytes 0,
+        bytes 1,
+        bytes 2,
+        is 0 refl,
+        is 1 refl,
+        is 2 refl,
+        no 3 refl refl,
+        no 4 refl refl,
+        no 5 refl refl,
+        no 6 refl refl,
+        no 7 refl refl,
+      ))
+      (λ is no. omega (
+        arith,
+        bytes 0,
+        bytes 1,
+        bytes 2,
+        bytes 3,
+        is 0 refl,
+        is 1 refl,
+        is 2 refl,
+        is 3 refl,
+        no 4 refl refl,
+        no 5 refl refl,
+        no 6 refl refl,
+        no 7 refl refl,
+      ))
+      (λ is no. omega (
+        arith,
+        bytes 0,
+        bytes 1,
+        bytes 2,
+        bytes 3,
+        bytes 4,
+        is 0 refl,
+        is 1 refl,
+        is 2 refl,
+        is 3 refl,
+        is 4 refl,
+        no 5 refl refl,
+        no 6 refl refl,
+        no 7 refl refl,
+      ))
+      (λ is no. omega (
+        arith,
+        bytes 0,
+        bytes 1,
+        bytes 2,
+        bytes 3,
+        bytes 4,
+        bytes 5,
+        is 0 refl,
+        is 1 refl,
+        is 2 refl,
+        is 3 refl,
+        is 4 refl,
+        is 5 refl,
+        no 6 refl refl,
+        no 7 refl refl,
+      ))
+      (λ is no. omega (
+        arith,
+        bytes 0,
+        bytes 1,
+        bytes 2,
+        bytes 3,
+        bytes 4,
+        bytes 5,
+        bytes 6,
+        is 0 refl,
+        is 1 refl,
+        is 2 refl,
+        is 3 refl,
+        is 4 refl,
+        is 5 refl,
+        is 6 refl,
+        no 7 refl refl,
+      ))
+      (λ is no. omega (
+        arith,
+        bytes 0,
+        bytes 1,
+        bytes 2,
+        bytes 3,
+        bytes 4,
+        bytes 5,
+        bytes 6,
+        bytes 7,
+        is 0 refl,
+        is 1 refl,
+        is 2 refl,
+        is 3 refl,
+        is 4 refl,
+        is 5 refl,
+        is 6 refl,
+        is 7 refl,
+      ))
       k few
 
 -- so it is cut out of more bytes
@@ -123,6 +231,7 @@ cut_front bytes k are within =
   where
     before : (i : ℕ) → nat_lt i (min k 8) ≡ true → i < k
     before i h = let l : i < min k 8 = grind (arith, nat_tests, h) in omega (arith, l)
+
     behind : (i : ℕ) → nat_le (min k 8) i ≡ true → nat_lt i 8 ≡ true → length (take k bytes) ≤ i
     behind i h early =
         let l : min k 8 ≤ i = grind (arith, nat_tests, h) in

@@ -4,3 +4,11 @@ pub mod PossibleLemmas
 pub mod MeetLemmas
 pub mod WaitingLemmas
 pub mod ReceiverLemmas
+pub mod EndLemmas
+pub mod ChoiceLemmas
+pub mod FitLemmas
+pub mod FiringLemmas
+pub mod PerformLemmas
+pub mod SubmitLemmas
+pub mod AmongLemmas
+pub mod OpeningLemmas

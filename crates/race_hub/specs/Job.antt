@@ -1,5 +1,5 @@
 -- A goroutine between its turns: what it was told and asked. (Our own)
-use Rattle.std.specs.Prelude.{ℕ, List, [], ◌∷◌, ◌++◌, Option, Some, None}
+use Rattle.std.specs.Prelude.{ℕ, List, [], Option, Some, None}
 use Rattle.race_hub.specs.declared.request.Answer.{Answer}
 use Rattle.race_hub.specs.declared.request.Request.{Request}
 use Rattle.race_hub.specs.declared.request.Step.{Step}
@@ -19,11 +19,3 @@ begun who routine = record { who = who; routine = routine; answer = Answer.Begin
 -- its box, which is this one now, has asked
 abbrev pub asking : {R : Type 0} → JobState R → R → Request → JobState R
 asking job routine request = record { who = job.who; routine = routine; answer = job.answer; log = job.log; asked = Some request }
-
--- the log with what was asked, and what was told
-abbrev pub logged : {R : Type 0} → JobState R → Option Answer → List Step
-logged job told = elim job.asked [ None ↦ job.log | Some request ↦ job.log ++ record { asked = request; told = told } ∷ [] ]
-
--- it is told
-abbrev pub told : {R : Type 0} → JobState R → Answer → JobState R
-told job answer = record { who = job.who; routine = job.routine; answer = answer; log = logged job (Some answer); asked = None }

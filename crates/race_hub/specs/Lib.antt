@@ -10,3 +10,10 @@ pub mod Laws
 pub mod Waiting
 pub mod Receivers
 pub mod WaitingHolds
+pub mod Hub
+pub mod Fires
+pub mod Submits
+pub mod Holds
+pub mod HubHolds
+pub mod Opening
+pub mod Firing

@@ -1,8 +1,9 @@
 //! A goroutine with its box, its log and what it asks.
-ghost use Rattle.std.specs.Prelude.{◌≡◌, [], ◌∷◌, ◌++◌, Ok, Some, None, IsSome, OnErr, IfOk, option_map};
-ghost use Rattle.race_hub.specs.Job.{JobState, begun, asking, logged, told};
+ghost use Rattle.std.specs.Prelude.{◌≡◌, Ok, Some, None, is_some, IsSome, OnErr, IfOk};
+ghost use Rattle.race_hub.specs.Job.{JobState, begun, asking};
 
-use crate::{Answer, Request, Routine, Step};
+use crate::parked::Parked;
+use crate::{Answer, Request, Routine, Step, Waiter};
 use std::alloc::{AllocError, Allocator, Global};
 use std::marker::Model;
 
@@ -42,6 +43,19 @@ impl<R, A: Allocator> Job<R, A> {
         }
     }
 
+    /// The goroutine that was told this, with its log so far. Takes no memory.
+    pub(crate) fn resumed(who: u32, routine: R, answer: Answer, log: Vec<Step, A>) -> Job<R, A>
+        ensures { result ≡ record { who = who; routine = routine; answer = answer; log = log.items; asked = None } }
+    {
+        Job {
+            who,
+            routine,
+            answer,
+            log,
+            asked: None,
+        }
+    }
+
     /// The number of the goroutine.
     pub fn who(&self) -> u32
         ensures { result ≡ self.now.who }
@@ -64,6 +78,13 @@ impl<R, A: Allocator> Job<R, A> {
             Some(asked) => Some(asked.copy()),
             None => None,
         }
+    }
+
+    /// Whether it asks something that it isn't told yet.
+    pub(crate) fn has_asked(&self) -> bool
+        ensures { result ≡ is_some self.now.asked }
+    {
+        self.asked.is_some()
     }
 
     /// What it asked so far, and was told.
@@ -95,32 +116,23 @@ impl<R, A: Allocator> Job<R, A> {
         Ok(asked)
     }
 
-    /// Tells the answer to what is asked, and writes both down. Takes no memory.
-    pub(crate) fn tell(&mut self, answer: Answer)
-        requires { IsSome self.old.asked }
-        ensures { self.new ≡ told self.old answer }
-    {
-        let asked = self.asked.take();
-        if let Some(asked) = asked {
-            self.log.push_reserved(Step {
-                asked,
-                told: Some(answer),
-            });
-        }
-        self.answer = answer;
-    }
-
-    /// Ends the goroutine, which isn't told: the log with what it asked last. Takes no memory.
-    pub(crate) fn leave(self) -> Vec<Step, A>
-    where
-        R: Drop,
+    /// What it asks, and what stands behind that.
+    pub(crate) fn park(self) -> (Waiter, Parked<R, A>)
         requires { IsSome self.asked }
-        ensures { result.items ≡ logged self None }
+        ensures who { result.0.who ≡ self.who }
+        ensures asked { self.asked ≡ Some result.0.asked }
+        ensures parked { result.1 ≡ record { routine = self.routine; log = self.log } }
     {
-        let Job { asked, mut log, .. } = self;
-        if let Some(asked) = asked {
-            log.push_reserved(Step { asked, told: None });
-        }
-        log
+        let Job {
+            who,
+            routine,
+            log,
+            asked,
+            ..
+        } = self;
+        let Some(asked) = asked else {
+            unreachable!();
+        };
+        (Waiter { who, asked }, Parked::new(routine, log))
     }
 }

@@ -5,10 +5,15 @@ mod board;
 #[cfg(test)]
 mod board_tests;
 mod choice;
+mod ending;
+mod firing;
+mod hub;
 mod job;
 pub mod laws;
 mod making;
 mod meet;
+mod moves;
+mod parked;
 mod possible;
 mod receivers;
 mod request;
@@ -16,12 +21,15 @@ mod routine;
 mod search;
 #[cfg(test)]
 mod search_tests;
+mod sound;
 mod table;
 #[cfg(test)]
 mod tests;
 
 pub use board::WaitingList;
 pub use choice::Choice;
+pub use ending::End;
+pub use hub::{Hub, HubFault, SubmitFault};
 pub use job::Job;
 pub use making::lone_event;
 pub use meet::{can_meet, meet_event};

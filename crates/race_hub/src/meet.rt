@@ -79,7 +79,7 @@ fn meets_on(sender: u32, receiver: u32, capacity: u32, closed: bool) -> bool
 }
 
 // Both hold.
-fn both(this: bool, that: bool) -> bool
+pub(crate) fn both(this: bool, that: bool) -> bool
     ensures { result ≡ (this && that) }
 {
     this && that

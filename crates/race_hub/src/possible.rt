@@ -47,7 +47,7 @@ fn is_absent(found: Option<u32>) -> bool
 }
 
 // There is a number, and it is this.
-fn is_number(found: Option<u32>, number: u32) -> bool
+pub(crate) fn is_number(found: Option<u32>, number: u32) -> bool
     ensures { result ≡ gives found number }
 {
     found == Some(number)

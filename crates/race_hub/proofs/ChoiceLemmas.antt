@@ -1,0 +1,338 @@
+-- What a listed choice is: who takes part in its event, and what each is told.
+use Rattle.std.proofs.Common.{◌≡◌, ◌==◌, ℕ, zero, suc, ◌<◌, ◌≤◌, ◌+◌, ◌-◌, ◌%◌, ◌++◌, Bool, true, false, cond, List, [], ◌∷◌, map, filter, flat_map, length, All}
+use Rattle.std.proofs.Common.{Option, Some, None, is_none, refl, sym, ap, ◌∙◌, subst, inl, inr, arith, slice_get, eqb-true, eq-eqb, true≢false}
+use Rattle.std.specs.List.{range_with_len}
+use Rattle.std.proofs.lemmas.Option.{none-some, slice_get_within, get_or_from_slice_get}
+use Rattle.std.proofs.lemmas.List.Elements.{filter_passes}
+use Rattle.race_records.specs.declared.event.Event.{Event}
+use Rattle.race_records.specs.declared.event.Op.{Op}
+use Rattle.race_records.specs.declared.event.Cause.TheVariants.{SendClosed, CloseClosed, UnlockFree, RUnlockFree}
+use Rattle.race_records.specs.declared.event.Op.TheVariants.{Send, Recv, Meet, RecvClosed, Close, Unlock, RUnlock}
+use Rattle.race_records.specs.declared.event.Op.TheVariants.{OnceBegin, OnceDone, Fault}
+use Rattle.race_model.specs.State.{is_closed, front, is_held, is_read_held, is_begun, last_value}
+use Rattle.race_model.specs.Legal.{broken, rules}
+use Rattle.race_model.proofs.Indexes.{at_below}
+use Rattle.race_model.proofs.ChannelOrder.{rules_kept}
+use Rattle.race_hub.specs.declared.choice.Choice.{Choice}
+use Rattle.race_hub.specs.declared.request.Answer.{Answer}
+use Rattle.race_hub.specs.declared.request.Ask.{Ask}
+use Rattle.race_hub.specs.declared.request.Offer.{Offer}
+use Rattle.race_hub.specs.declared.request.Waiter.{Waiter}
+use Rattle.race_hub.specs.Table.{offers_of, done_by, IsRow}
+use Rattle.race_hub.specs.Choices.{choice, op_of, meet_op, lone_event, meet_event, event_of, is_legal_next, is_possible, below, with_partner, of_way, tuples}
+use Rattle.race_hub.specs.Choices.{ways_at, tuples_of, choices}
+use Rattle.race_hub.specs.Fires.{IsPartnerRow}
+use Rattle.race_hub.specs.Firing.{HasSomeRows}
+
+pub some_is : {X : Type 0} {x y : X} → Some x ≡ Some y → x ≡ y
+some_is is = cc
+
+-- what holds of each element holds of the one at an index
+pub all_at : {X : Type 0} (P : X → Type 0) (xs : List X) (i : ℕ) (x : X) → All P xs → slice_get xs i ≡ Some x → P x
+all_at P xs i x all is = subst P (get_or_from_slice_get xs i x x is) (all i x (slice_get_within xs i x is))
+
+-- the same by recursion, to be made piece by piece
+abbrev Each : {X : Type 0} → (X → Type 0) → List X → Type 0
+Each P [] = Unit {0}
+Each P (x ∷ xs) = P x × Each P xs
+
+each_append : {X : Type 0} (P : X → Type 0) (xs ys : List X) → Each P xs → Each P ys → Each P (xs ++ ys)
+each_append P [] ys this that = that
+each_append P (x ∷ xs) ys this that = (this.0, each_append P xs ys this.1 that)
+
+each_at : {X : Type 0} (P : X → Type 0) (xs : List X) (i : ℕ) (x : X) → Each P xs → slice_get xs i ≡ Some x → P x
+each_at P [] i x each is = absurd (none-some x is)
+each_at P (y ∷ ys) zero x each is = subst P (some_is is) each.0
+each_at P (y ∷ ys) (suc i) x each is = each_at P ys i x each.1 is
+
+each_if : {X : Type 0} (P : X → Type 0) (x : X) (xs : List X) (b : Bool) → P x → Each P xs → Each P (cond b (x ∷ xs) xs)
+each_if P x xs true one each = (one, each)
+each_if P x xs false one each = each
+
+each_filter : {X : Type 0} (P : X → Type 0) (p : X → Bool) (xs : List X) → Each P xs → Each P (filter p xs)
+each_filter P p [] each = tt
+each_filter P p (x ∷ xs) each = each_if P x (filter p xs) (p x) each.0 (each_filter P p xs each.1)
+
+each_map : {X : Type 0} (P : X → Type 0) (f : ℕ → X) (xs : List ℕ) → ((i : ℕ) → P (f i)) → Each P (map f xs)
+each_map P f [] each = tt
+each_map P f (x ∷ xs) each = (each x, each_map P f xs each)
+
+each_flat_map : {X : Type 0} (Q : ℕ → Type 0) (P : X → Type 0) (f : ℕ → List X) (xs : List ℕ) → Each Q xs → ((i : ℕ) → Q i → Each P (f i))
+    → Each P (flat_map f xs)
+each_flat_map Q P f [] all each = tt
+each_flat_map Q P f (x ∷ xs) all each = each_append P (f x) (flat_map f xs) (each x all.0) (each_flat_map Q P f xs all.1 each)
+
+each_below : (n a m : ℕ) → a + n ≤ m → Each (λ i. i < m) (range_with_len a n)
+each_below zero a m le = tt
+each_below (suc n) a m le = (omega (arith, le), each_below n (a + 1) m (omega (arith, le)))
+
+each_of : {X : Type 0} (xs : List X) → Each (λ _. Unit {0}) xs
+each_of [] = tt
+each_of (x ∷ xs) = (tt, each_of xs)
+
+-- each tuple has one of the ways
+ways_of_tuples : (n : ℕ) (ways : ℕ → ℕ) → Each (λ t. t.offer < ways t.place) (tuples n ways)
+ways_of_tuples n ways =
+    each_flat_map (λ _. Unit {0}) (λ t. t.offer < ways t.place) (λ w. flat_map (of_way n ways w) (below (ways w))) (below n) (each_of (below n))
+    (λ w _. each_flat_map (λ k. k < ways w) (λ t. t.offer < ways t.place) (of_way n ways w) (below (ways w)) (each_below (ways w) 0 (ways w) (omega arith))
+    (λ k less. (
+      less,
+      each_flat_map (λ _. Unit {0}) (λ t. t.offer < ways t.place) (with_partner ways w k) (below n) (each_of (below n))
+          (λ r _. each_map (λ t. t.offer < ways t.place) (λ q. choice w k (r + 1) (q + 1)) (below (ways r)) (λ _. less)),
+    )))
+
+one_way : (waiting : List Waiter) (i k : ℕ) → k < ways_at waiting i → k ≡ 0
+one_way waiting i k less = by (slice_get waiting i) less
+  where
+    by : (w : Option Waiter) → k < elim w [ Some w ↦ 1 | None ↦ 0 ] → k ≡ 0
+    by None less = absurd (omega (arith, less))
+    by (Some w) less = omega (arith, less)
+
+-- some answer stands in the row
+record HasTold (ask : Ask) (k g : ℕ) (op : Op) : Type 0 where
+  told : Option Answer
+  row : IsRow ask k (done_by g op) told
+
+module _ (past : List Event) (g k : ℕ) (first : k ≡ 0) where
+  sent_told : (c v : ℕ) (closed : Bool) → HasTold (Ask.Send (Some c) v) k g (cond closed (Fault (SendClosed c)) (Send c v))
+  sent_told c v true = record { told = None; row = (first, inr ((c, refl, refl), refl)) }
+  sent_told c v false = record { told = Some Answer.Unit; row = (first, inl (None, (c, refl, refl, refl), refl)) }
+
+  received_told : (c : ℕ) (waits : Option ℕ) → HasTold (Ask.Recv (Some c)) k g (elim waits [ Some v ↦ Recv c v | None ↦ RecvClosed c ])
+  received_told c (Some v) = record { told = Some (Answer.Value v); row = (first, Some v, (c, refl, inl (v, refl, refl)), refl) }
+  received_told c None = record { told = Some Answer.Closed; row = (first, None, (c, refl, inr (refl, refl)), refl) }
+
+  closed_told : (c : ℕ) (closed : Bool) → HasTold (Ask.Close (Some c)) k g (cond closed (Fault (CloseClosed c)) (Close c))
+  closed_told c true = record { told = None; row = inl (c, refl, inr (refl, refl)) }
+  closed_told c false = record { told = Some Answer.Unit; row = inl (c, refl, inl (refl, refl)) }
+
+  unlocked_told : (l : ℕ) (held : Bool) → HasTold (Ask.Unlock l) k g (cond held (Unlock l) (Fault (UnlockFree l)))
+  unlocked_told l true = record { told = Some Answer.Unit; row = inl (refl, refl) }
+  unlocked_told l false = record { told = None; row = inr (refl, refl) }
+
+  runlocked_told : (l : ℕ) (held : Bool) → HasTold (Ask.RUnlock l) k g (cond held (RUnlock l) (Fault (RUnlockFree l)))
+  runlocked_told l true = record { told = Some Answer.Unit; row = inl (refl, refl) }
+  runlocked_told l false = record { told = None; row = inr (refl, refl) }
+
+  did_told : (o : ℕ) (begun : Bool) → HasTold (Ask.Do o) k g (cond begun (OnceDone o) (OnceBegin o))
+  did_told o true = record { told = Some Answer.AlreadyDone; row = inr (refl, refl) }
+  did_told o false = record { told = Some Answer.Run; row = inl (refl, refl) }
+
+  -- what a request does alone has a row
+  lone_told : (ask : Ask) (op : Op) → op_of past ask k ≡ Some op → HasTold ask k g op
+  lone_told (Ask.Go h) op is = subst (HasTold (Ask.Go h) k g) (some_is is) (record { told = Some Answer.Unit; row = (refl, refl) })
+  lone_told Ask.Exit op is = subst (HasTold Ask.Exit k g) (some_is is) (record { told = None; row = (refl, refl) })
+  lone_told (Ask.Read x) op is =
+      subst (HasTold (Ask.Read x) k g) (some_is is) (record { told = Some (Answer.Value (last_value x past)); row = (last_value x past, refl, refl) })
+  lone_told (Ask.Write x v) op is = subst (HasTold (Ask.Write x v) k g) (some_is is) (record { told = Some Answer.Unit; row = (refl, refl) })
+  lone_told (Ask.Send None v) op is = absurd (none-some op is)
+  lone_told (Ask.Send (Some c) v) op is = subst (HasTold (Ask.Send (Some c) v) k g) (some_is is) (sent_told c v (is_closed c past))
+  lone_told (Ask.Recv None) op is = absurd (none-some op is)
+  lone_told (Ask.Recv (Some c)) op is = subst (HasTold (Ask.Recv (Some c)) k g) (some_is is) (received_told c (front c past))
+  lone_told (Ask.Close None) op is = subst (HasTold (Ask.Close None) k g) (some_is is) (record { told = None; row = inr (refl, refl, refl) })
+  lone_told (Ask.Close (Some c)) op is = subst (HasTold (Ask.Close (Some c)) k g) (some_is is) (closed_told c (is_closed c past))
+  lone_told (Ask.Lock l) op is = subst (HasTold (Ask.Lock l) k g) (some_is is) (record { told = Some Answer.Unit; row = (refl, refl) })
+  lone_told (Ask.RLock l) op is = subst (HasTold (Ask.RLock l) k g) (some_is is) (record { told = Some Answer.Unit; row = (refl, refl) })
+  lone_told (Ask.Unlock l) op is = subst (HasTold (Ask.Unlock l) k g) (some_is is) (unlocked_told l (is_held l past))
+  lone_told (Ask.RUnlock l) op is = subst (HasTold (Ask.RUnlock l) k g) (some_is is) (runlocked_told l (is_read_held l past))
+  lone_told (Ask.Do o) op is = subst (HasTold (Ask.Do o) k g) (some_is is) (did_told o (is_begun o past))
+  lone_told (Ask.EndDo o) op is = subst (HasTold (Ask.EndDo o) k g) (some_is is) (record { told = Some Answer.Unit; row = (refl, refl) })
+
+-- the operation of two offers, where there are both
+abbrev pub meets_by : ℕ → Option Offer → Option Offer → Option Op
+meets_by r x y = elim x [ Some a ↦ elim y [ Some b ↦ meet_op r a b | None ↦ None ] | None ↦ None ]
+
+-- a Meet sends by the one offer and receives by the other
+pub record IsMeet (r : ℕ) (x y : Option Offer) (op : Op) : Type 0 where
+  pub chan : ℕ
+  pub value : ℕ
+  pub sends : x ≡ Some (Offer.Send (Some chan) value)
+  pub receives : y ≡ Some (Offer.Recv (Some chan))
+  pub op_is : op ≡ Meet r chan value
+
+met_on : (r c d v : ℕ) (op : Op) (same : Bool) → (c == d) ≡ same → cond same (Some (Meet r c v)) None ≡ Some op
+    → IsMeet r (Some (Offer.Send (Some c) v)) (Some (Offer.Recv (Some d))) op
+met_on r c d v op false test is = absurd (none-some op is)
+met_on r c d v op true test is =
+    record { chan = c; value = v; sends = refl; receives = ap (λ e. Some (Offer.Recv (Some e))) (sym (eqb-true c d test)); op_is = sym (some_is is) }
+
+pub is_meet : (r : ℕ) (x y : Option Offer) (op : Op) → meets_by r x y ≡ Some op → IsMeet r x y op
+is_meet r (Some (Offer.Send (Some c) v)) (Some (Offer.Recv (Some d))) op is = met_on r c d v op (c == d) refl is
+is_meet r None y op is = absurd (none-some op is)
+is_meet r (Some (Offer.Send None v)) None op is = absurd (none-some op is)
+is_meet r (Some (Offer.Send None v)) (Some b) op is = absurd (none-some op is)
+is_meet r (Some (Offer.Send (Some c) v)) None op is = absurd (none-some op is)
+is_meet r (Some (Offer.Send (Some c) v)) (Some (Offer.Send d u)) op is = absurd (none-some op is)
+is_meet r (Some (Offer.Send (Some c) v)) (Some (Offer.Recv None)) op is = absurd (none-some op is)
+is_meet r (Some (Offer.Recv c)) None op is = absurd (none-some op is)
+is_meet r (Some (Offer.Recv c)) (Some b) op is = absurd (none-some op is)
+
+-- who offers to send asks to, by its first way
+pub is_sender : (ask : Ask) (k c v : ℕ) → slice_get (offers_of ask) k ≡ Some (Offer.Send (Some c) v) → (k ≡ 0) × (ask ≡ Ask.Send (Some c) v)
+is_sender (Ask.Send d u) zero c v is = (refl, ap (λ (o : Offer). elim o [ Offer.Send e w ↦ Ask.Send e w | Offer.Recv e ↦ Ask.Exit ]) (some_is is))
+is_sender (Ask.Recv d) zero c v is = absurd cc
+is_sender (Ask.Send d u) (suc k) c v is = absurd (none-some _ is)
+is_sender (Ask.Recv d) (suc k) c v is = absurd (none-some _ is)
+is_sender (Ask.Go h) k c v is = absurd (none-some _ is)
+is_sender Ask.Exit k c v is = absurd (none-some _ is)
+is_sender (Ask.Read x) k c v is = absurd (none-some _ is)
+is_sender (Ask.Write x w) k c v is = absurd (none-some _ is)
+is_sender (Ask.Close d) k c v is = absurd (none-some _ is)
+is_sender (Ask.Lock l) k c v is = absurd (none-some _ is)
+is_sender (Ask.Unlock l) k c v is = absurd (none-some _ is)
+is_sender (Ask.RLock l) k c v is = absurd (none-some _ is)
+is_sender (Ask.RUnlock l) k c v is = absurd (none-some _ is)
+is_sender (Ask.Do o) k c v is = absurd (none-some _ is)
+is_sender (Ask.EndDo o) k c v is = absurd (none-some _ is)
+
+-- so does who offers to receive
+is_receiver : (ask : Ask) (k c : ℕ) → slice_get (offers_of ask) k ≡ Some (Offer.Recv (Some c)) → (k ≡ 0) × (ask ≡ Ask.Recv (Some c))
+is_receiver (Ask.Recv d) zero c is = (refl, ap (λ (o : Offer). elim o [ Offer.Recv e ↦ Ask.Recv e | Offer.Send e w ↦ Ask.Exit ]) (some_is is))
+is_receiver (Ask.Send d u) zero c is = absurd cc
+is_receiver (Ask.Send d u) (suc k) c is = absurd (none-some _ is)
+is_receiver (Ask.Recv d) (suc k) c is = absurd (none-some _ is)
+is_receiver (Ask.Go h) k c is = absurd (none-some _ is)
+is_receiver Ask.Exit k c is = absurd (none-some _ is)
+is_receiver (Ask.Read x) k c is = absurd (none-some _ is)
+is_receiver (Ask.Write x w) k c is = absurd (none-some _ is)
+is_receiver (Ask.Close d) k c is = absurd (none-some _ is)
+is_receiver (Ask.Lock l) k c is = absurd (none-some _ is)
+is_receiver (Ask.Unlock l) k c is = absurd (none-some _ is)
+is_receiver (Ask.RLock l) k c is = absurd (none-some _ is)
+is_receiver (Ask.RUnlock l) k c is = absurd (none-some _ is)
+is_receiver (Ask.Do o) k c is = absurd (none-some _ is)
+is_receiver (Ask.EndDo o) k c is = absurd (none-some _ is)
+
+-- the row of a Meet that its sender has, and that of its receiver
+module _ (g r : ℕ) (apart : (r == g) ≡ false) (a b : Ask) (k q : ℕ) (op : Op)
+    (is : IsMeet r (slice_get (offers_of a) k) (slice_get (offers_of b) q) op) where
+  sender_told : IsRow a k (done_by g op) (Some Answer.Unit)
+  sender_told =
+      let ask = is_sender a k is.chan is.value is.sends in
+      let done : done_by g op ≡ Send is.chan is.value =
+      ap (done_by g) is.op_is ∙ ap (λ t. cond t (Recv is.chan is.value) (Send is.chan is.value)) apart in
+      subst (λ x. IsRow x k (done_by g op) (Some Answer.Unit)) (sym ask.1)
+      (ask.0, inl (None, (is.chan, refl, done, refl), refl))
+
+  receiver_told : IsRow b q (done_by r op) (Some (Answer.Value is.value))
+  receiver_told =
+      let ask = is_receiver b q is.chan is.receives in
+      let done : done_by r op ≡ Recv is.chan is.value =
+      ap (done_by r) is.op_is ∙ ap (λ t. cond t (Recv is.chan is.value) (Send is.chan is.value)) (eq-eqb r r refl) in
+      subst (λ x. IsRow x q (done_by r op) (Some (Answer.Value is.value))) (sym ask.1)
+      (ask.0, Some is.value, (is.chan, refl, inl (is.value, done, refl)), refl)
+
+-- who makes an event, and by which operation
+made_by : (w : Waiter) (place2 : Option ℕ) (o : Option Op) (e : Event)
+    → elim o [ None ↦ None | Some op ↦ Some (record { who = w.who; op = op; place = w.asked.place; place2 = place2 }) ] ≡ Some e
+    → (o ≡ Some e.op) × (e.who ≡ w.who)
+made_by w place2 None e is = absurd (none-some e is)
+made_by w place2 (Some op) e is = (ap (λ (x : Event). Some x.op) (some_is is), ap (λ (x : Event). x.who) (sym (some_is is)))
+
+-- rule 4: nobody receives from itself
+apart_by : (caps : ℕ → ℕ) (past : List Event) (e : Event) (r c v : ℕ) → broken caps past e ≡ None → e.op ≡ Meet r c v → (r == e.who) ≡ false
+apart_by caps past e r c v legal is =
+    rules_kept (rules caps past (record { who = e.who; op = Meet r c v; place = e.place; place2 = e.place2 })) 2 (4, r == e.who)
+    (ap (λ op. broken caps past (record { who = e.who; op = op; place = e.place; place2 = e.place2 })) (sym is) ∙ legal) refl
+
+module _ (caps : ℕ → ℕ) (past : List Event) (ws : List Waiter) (t : Choice) (e : Event) (legal : broken caps past e ≡ None) (first : t.offer ≡ 0) where
+  with_rows : (w : Waiter) (r : Option Waiter) (alone : Bool) → slice_get ws t.place ≡ Some w → slice_get ws (t.partner - 1) ≡ r → (t.partner == 0) ≡ alone
+      → cond alone (lone_event past w t.offer) (elim r [ None ↦ None | Some r ↦ meet_event w t.offer r (t.partner_offer - 1) ]) ≡ Some e
+      → HasSomeRows ws t e
+  with_rows w r true at other alone made =
+      let by = made_by w None (op_of past w.asked.ask t.offer) e made in
+      let row = lone_told past w.who t.offer first w.asked.ask e.op by.0 in
+      let none = eqb-true t.partner 0 alone in
+      record {
+        told = row.told;
+        partner_told = None;
+        rows = record {
+          w = w;
+          asks = at;
+          row = row.row;
+          partner_row = subst (λ b. IsPartnerRow (cond b None (slice_get ws (t.partner - 1))) (t.partner_offer - 1) e.op None) (sym alone) refl;
+          place = slice_get_within ws t.place w at;
+          partner = omega (arith, none);
+          apart = λ q. omega (arith, none, q);
+        };
+      }
+  with_rows w None false at other alone made = absurd (none-some e made)
+  with_rows w (Some r) false at other alone made =
+      let x = slice_get (offers_of w.asked.ask) t.offer in
+      let y = slice_get (offers_of r.asked.ask) (t.partner_offer - 1) in
+      let by = made_by w (Some r.asked.place) (meets_by r.who x y) e made in
+      let met = is_meet r.who x y e.op by.0 in
+      let unlike : (r.who == w.who) ≡ false =
+      subst (λ g. (r.who == g) ≡ false) by.1 (apart_by caps past e r.who met.chan met.value legal met.op_is) in
+      let within = slice_get_within ws (t.partner - 1) r other in
+      record {
+        told = Some Answer.Unit;
+        partner_told = Some (Answer.Value met.value);
+        rows = record {
+          w = w;
+          asks = at;
+          row = sender_told w.who r.who unlike w.asked.ask r.asked.ask t.offer (t.partner_offer - 1) e.op met;
+          partner_row = subst (λ b. IsPartnerRow (cond b None (slice_get ws (t.partner - 1))) (t.partner_offer - 1) e.op (Some (Answer.Value met.value))) (sym alone)
+              (subst (λ o. IsPartnerRow o (t.partner_offer - 1) e.op (Some (Answer.Value met.value))) (sym other)
+              ((Answer.Value met.value, refl), receiver_told w.who r.who unlike w.asked.ask r.asked.ask t.offer (t.partner_offer - 1) e.op met));
+          place = slice_get_within ws t.place w at;
+          partner = omega (arith, within);
+          apart = λ q. same_place w r at (other_at w r at other q) unlike;
+        };
+      }
+    where
+      other_at : (w r : Waiter) → slice_get ws t.place ≡ Some w → slice_get ws (t.partner - 1) ≡ Some r → t.partner ≡ t.place + 1 → slice_get ws t.place ≡ Some r
+      other_at w r at other q = ap (slice_get ws) (let e : t.place ≡ t.partner - 1 = omega (arith, q) in e) ∙ other
+
+      same_place : (w r : Waiter) → slice_get ws t.place ≡ Some w → slice_get ws t.place ≡ Some r → (r.who == w.who) ≡ false → ⊥
+      same_place w r at other unlike =
+          let same : r ≡ w = some_is (sym other ∙ at) in
+          let is : (r.who == w.who) ≡ true = eq-eqb r.who w.who (ap (λ (v : Waiter). v.who) same) in
+          true≢false (sym is ∙ unlike)
+
+  by_place : (w : Option Waiter) → slice_get ws t.place ≡ w
+      → elim w [
+        | None ↦ None
+        | Some w ↦ cond (t.partner == 0) (lone_event past w t.offer) (elim (slice_get ws (t.partner - 1)) [
+          | None ↦ None
+          | Some r ↦ meet_event w t.offer r (t.partner_offer - 1)
+        ])
+      ] ≡ Some e → HasSomeRows ws t e
+  by_place None at made = absurd (none-some e made)
+  by_place (Some w) at made = with_rows w (slice_get ws (t.partner - 1)) (t.partner == 0) at refl refl made
+
+  -- who takes part in a legal event that a choice makes has its row
+  pub rows_of : event_of past ws t ≡ Some e → HasSomeRows ws t e
+  rows_of made = by_place (slice_get ws t.place) refl made
+
+-- a possible tuple makes an event, which is legal
+pub record IsPossible (caps : ℕ → ℕ) (past : List Event) (ws : List Waiter) (t : Choice) : Type 0 where
+  pub e : Event
+  pub makes : event_of past ws t ≡ Some e
+  pub legal : broken caps past e ≡ None
+  pub first : t.offer ≡ 0
+
+possible_by : (caps : ℕ → ℕ) (past : List Event) (ws : List Waiter) (t : Choice) (made : Option Event) → event_of past ws t ≡ made
+    → is_legal_next caps past made ≡ true → t.offer ≡ 0 → IsPossible caps past ws t
+possible_by caps past ws t None is legal first = absurd cc
+possible_by caps past ws t (Some e) is legal first = record { e = e; makes = is; legal = none_is (broken caps past e) legal; first = first }
+  where
+    none_is : (o : Option ℕ) → is_none o ≡ true → o ≡ None
+    none_is None is = refl
+    none_is (Some n) is = absurd cc
+
+-- so does each choice that is listed
+pub listed_is_possible : (caps : ℕ → ℕ) (past : List Event) (ws : List Waiter) (i : ℕ) (t : Choice) → slice_get (choices caps past ws) i ≡ Some t
+    → IsPossible caps past ws t
+listed_is_possible caps past ws i t is =
+    possible_by caps past ws t (event_of past ws t) refl
+    (all_at (λ t. is_possible caps past ws t ≡ true) (choices caps past ws) i t (filter_passes (is_possible caps past ws) (tuples_of ws)) is)
+    (one_way ws t.place t.offer (each_at (λ t. t.offer < ways_at ws t.place) (choices caps past ws) i t
+    (each_filter (λ t. t.offer < ways_at ws t.place) (is_possible caps past ws) (tuples_of ws) (ways_of_tuples (length ws) (ways_at ws))) is))
+
+-- from an empty list alone nothing is picked
+pub none_picked : {X : Type 0} (xs : List X) (pick : ℕ) → None ≡ slice_get xs (pick % length xs) → xs ≡ []
+none_picked [] pick is = refl
+none_picked (x ∷ xs) pick is =
+    let there = at_below (x ∷ xs) (pick % length (x ∷ xs)) (let less : pick % length (x ∷ xs) < length (x ∷ xs) = omega arith in less) in
+    absurd (none-some there.0 (is ∙ there.1))

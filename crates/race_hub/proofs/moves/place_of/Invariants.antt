@@ -1,0 +1,6 @@
+use Rattle.std.proofs.Common.{◌≡◌, ◌==◌, false, take}
+use Rattle.std.specs.List.{list_any}
+use Rattle.race_hub.proofs.moves.place_of.Given as goal
+
+abbrev pub invariant-loop-at : goal.invariant-loop-at
+invariant-loop-at l = list_any (λ n. n == l.number) (take l.at l.numbers) ≡ false

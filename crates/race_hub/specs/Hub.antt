@@ -1,0 +1,91 @@
+-- The hub: its state, the opening one, and when it has ended. (Our own; compare The Go Programming Language Specification, "Program execution")
+use Rattle.std.specs.Prelude.{ℕ, ◌==◌, ◌-◌, ◌&&◌, if◌then◌else◌, Bool, false, List, [], ◌∷◌, length, map, slice_get, Option}
+use Rattle.std.specs.Prelude.{Some, None}
+use Rattle.race_records.specs.declared.event.Event.{Event}
+use Rattle.race_records.specs.Declarations.{DeclsState, capacity_of}
+use Rattle.race_model.specs.Events.{is_exit, is_fault}
+use Rattle.race_hub.specs.declared.choice.Choice.{Choice}
+use Rattle.race_hub.specs.declared.ending.End.{End}
+use Rattle.race_hub.specs.declared.request.Step.{Step}
+use Rattle.race_hub.specs.declared.request.Waiter.{Waiter}
+use Rattle.race_hub.specs.Choices.{choices}
+use Rattle.race_hub.specs.Job.{JobState, begun}
+use Rattle.race_hub.specs.Waiting.{WaitingState}
+
+-- the box of a goroutine that waits, and its log so far
+pub record ParkedState (R : Type 0) : Type 0 where
+  pub routine : R
+  pub log : List Step
+
+-- a `Hub` as its callers see it
+pub record HubState (R : Type 0) : Type 0 where
+  pub decls : DeclsState
+  pub events : List Event
+  -- how many events there may be
+  pub limit : ℕ
+  -- who is to be told, in order
+  pub ready : List (JobState R)
+  -- the requests that wait, in the order in which they came, and the box and the log behind each
+  pub waiting : List Waiter
+  pub parked : List (ParkedState R)
+  -- whose job was taken and isn't back
+  pub out : List ℕ
+  -- the boxes by goroutine, None where it was started
+  pub unstarted : List (Option R)
+  -- who exited or failed, and its log
+  pub ended : List (ℕ × List Step)
+  -- whose request was bad
+  pub bad : Option ℕ
+
+-- before the first event: main is ready, and nobody else was started
+abbrev pub opening : {R : Type 0} → DeclsState → ℕ → R → List R → HubState R
+opening decls limit main others = record {
+  decls = decls;
+  events = [];
+  limit = limit;
+  ready = begun 0 main ∷ [];
+  waiting = [];
+  parked = [];
+  out = [];
+  unstarted = None ∷ map Some others;
+  ended = [];
+  bad = None;
+}
+
+-- where the run stands, and what waits
+abbrev pub list_of : {R : Type 0} → HubState R → WaitingState
+list_of h = record { declarations = h.decls.declarations; past = h.events; waiting = h.waiting }
+
+-- the choices that the hub has
+abbrev pub choices_of : {R : Type 0} → HubState R → List Choice
+choices_of h = choices (capacity_of h.decls.declarations) h.events h.waiting
+
+-- the last event
+abbrev pub last_event : List Event → Option Event
+last_event events = slice_get events (length events - 1)
+
+-- the last event is such a one
+abbrev pub is_last : (Event → Bool) → List Event → Bool
+is_last test events = elim (last_event events) [ None ↦ false | Some e ↦ test e ]
+
+-- main returned
+abbrev pub is_main_exit : Event → Bool
+is_main_exit e = is_exit e.op && (e.who == 0)
+
+-- what stops the hub, whoever is ready and whatever waits: the first that holds
+unfoldable pub stop_of : {R : Type 0} → HubState R → Option End
+stop_of h =
+    if is_last is_main_exit h.events then Some End.Main
+    else (if is_last (λ e. is_fault e.op) h.events then Some End.Fault
+    else elim h.bad [
+      | Some g ↦ Some (End.Bad g)
+      | None ↦ if length h.events == h.limit then Some End.Limit else None
+    ])
+
+-- every running goroutine waits, and there is no choice
+abbrev pub is_deadlock : {R : Type 0} → HubState R → Bool
+is_deadlock h = (length h.ready == 0) && ((length h.out == 0) && (length (choices_of h) == 0))
+
+-- the end: what stops the hub, or else a deadlock
+abbrev pub end_of : {R : Type 0} → HubState R → Option End
+end_of h = elim (stop_of h) [ Some e ↦ Some e | None ↦ if is_deadlock h then Some End.Deadlock else None ]

@@ -1,0 +1,20 @@
+-- When a hub can be made. (Our own)
+use Rattle.std.specs.Prelude.{ℕ, ◌==◌, ◌||◌, not, nat_lt, ◌≡◌, if◌then◌else◌, List, ◌∷◌, Option, Some, None}
+use Rattle.race_records.specs.declared.kind.Kind.{Kind}
+use Rattle.race_records.specs.declared.trace.TheConstants.{MAX_EVENTS}
+use Rattle.race_records.specs.Declarations.{DeclsState, count_of}
+use Rattle.race_hub.specs.declared.hub.HubFault.{HubFault}
+use Rattle.race_hub.specs.Hub.{HubState, opening}
+
+-- why no hub of so many boxes is made: the first cause, in the order in which they are tested
+unfoldable pub hub_fault : DeclsState → ℕ → ℕ → Option HubFault
+hub_fault decls limit boxes =
+    if not (boxes == count_of Kind.Goroutine decls.declarations) then Some HubFault.WrongCount
+    else (if (limit == 0) || nat_lt MAX_EVENTS limit then Some HubFault.BadLimit else None)
+
+-- the hub opens with the first box as main's, and with one for each other goroutine
+pub record IsOpening {R : Type 0} (decls : DeclsState) (limit : ℕ) (boxes : List R) (hub : HubState R) : Type 0 where
+  pub main : R
+  pub others : List R
+  pub all : boxes ≡ main ∷ others
+  pub hub_is : hub ≡ opening decls limit main others

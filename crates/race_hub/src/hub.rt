@@ -1,0 +1,440 @@
+//! The hub: the goroutines of a run, their requests, and the trace that they make.
+ghost use Rattle.std.specs.Prelude.{◌≡◌, ◌≢◌, ◌<◌, ◌⊎◌, ◌++◌, ◌∷◌, [], List, map, length, if◌then◌else◌, Some, None, Ok, Err, true, false, ◌≤◌, ◌==◌, ◌&&◌, ◌||◌, nat_lt, not, is_none, IsTrue, All, IfOk, IfSome, IsNone, OnOk, OnErr};
+ghost use Rattle.race_records.specs.Refusal.{Refuses, AllowsUnless};
+ghost use Rattle.race_model.specs.Events as model;
+ghost use Rattle.race_records.specs.declared.kind.Kind.{Kind};
+ghost use Rattle.race_records.specs.Declarations.{count_of};
+ghost use Rattle.race_hub.specs.Search.{picked};
+ghost use Rattle.race_hub.specs.Holds.{HaveBoxes};
+ghost use Rattle.race_hub.specs.Hub as spec;
+ghost use Rattle.race_hub.specs.Hub.{choices_of, stop_of, end_of};
+ghost use Rattle.race_hub.specs.Opening.{hub_fault, IsOpening};
+ghost use Rattle.race_records.specs.declared.trace.TheConstants.{MAX_EVENTS};
+ghost use Rattle.race_hub.specs.Firing.{IsFiring};
+ghost use Rattle.race_hub.specs.Fires.{Fires, IsFired};
+ghost use Rattle.race_hub.specs.Submits as submits;
+ghost use Rattle.race_hub.specs.Submits.{Takes, Submits};
+ghost use Rattle.race_hub.specs.Job.{JobState};
+
+use crate::firing::{Firing, firing_of, started_in};
+use crate::meet::both;
+use crate::moves::{go_on, is_among, partner_on, start, take_first, take_out};
+use crate::parked::{Ended, Parked};
+use crate::sound::{is_out_of_turn, is_sound};
+use crate::{Choice, End, Job, Request, Waiter, WaitingList};
+use race_legal::Replay;
+use race_records::{Decls, Event, Kind, MAX_EVENTS, Op, Trace};
+use std::alloc::{AllocError, Allocator, Global};
+use std::marker::Model;
+use thiserror::Error;
+
+/// Why no hub is made. The first that holds is told.
+#[derive(Clone, Copy, Debug, PartialEq, Eq, Error)]
+pub enum HubFault {
+    /// There isn't one box for each goroutine, main first.
+    #[error("there is not one box for each goroutine")]
+    WrongCount,
+    /// The limit is 0, or more than a trace can have.
+    #[error("the limit is out of range")]
+    BadLimit,
+    /// A growth was refused.
+    #[error("out of memory")]
+    OutOfMemory,
+}
+
+/// What came of a job that wasn't put back as it should be. The last that holds is told.
+#[derive(Drop)]
+pub enum SubmitFault<R, A: Allocator = Global> {
+    /// The request is bad. The hub keeps the job, and has ended.
+    BadRequest,
+    /// A growth was refused. The job comes back.
+    OutOfMemory(Job<R, A>),
+    /// The job wasn't taken from this hub, or it has asked nothing. It comes back.
+    Stray(Job<R, A>),
+}
+
+/// The goroutines of a run, their requests, and the trace that they make.
+#[derive(Drop)]
+pub struct Hub<R, A: Allocator = Global> {
+    alloc: A,
+    replay: Replay<A>,
+    trace: Trace<A>,
+    limit: u32,
+    ready: Vec<Job<R, A>, A>,
+    waiting: Vec<Waiter, A>,
+    parked: Vec<Parked<R, A>, A>,
+    out: Vec<u32, A>,
+    unstarted: Vec<Option<R>, A>,
+    ended: Vec<Ended<A>, A>,
+    bad: Option<u32>,
+}
+
+impl<R, A: Allocator> Model for Hub<R, A> {
+    ghost use Rattle.race_hub.specs.Hub.{HubState};
+
+    ghost Value = { HubState R };
+
+    ghost use Rattle.race_hub.specs.HubHolds.{hub_state, HubHolds};
+
+    ghost view = { hub_state };
+
+    ghost invariant = { HubHolds };
+}
+
+// Whether main returned.
+fn is_main_exit(event: &Event) -> bool
+    ensures { result ≡ spec.is_main_exit event.now }
+{
+    match event.op {
+        Op::Exit => event.who == 0,
+        _ => false,
+    }
+}
+
+// Whether a goroutine failed.
+fn is_fault(event: &Event) -> bool
+    ensures { result ≡ model.is_fault event.now.op }
+{
+    match event.op {
+        Op::Fault(_) => true,
+        _ => false,
+    }
+}
+
+// The boxes by goroutine, of whom main alone was started.
+fn unstarted<R: Drop, A: Allocator + Copy>(
+    alloc: A,
+    others: Vec<R, A>,
+) -> Result<Vec<Option<R>, A>, AllocError>
+    ensures { IfOk result (λ boxes. boxes.items ≡ None ∷ map Some others.items) }
+{
+    let mut boxes = Vec::new(alloc);
+    boxes.push(None)?;
+    for routine in others {
+        boxes.push(Some(routine))?;
+    }
+    Ok(boxes)
+}
+
+// Whether no trace can have so many events.
+fn is_bad_limit(limit: u32) -> bool
+    ensures { result ≡ ((limit == 0) || nat_lt MAX_EVENTS limit) }
+{
+    limit == 0 || limit as usize > MAX_EVENTS
+}
+
+// Why no hub is made, memory aside.
+#[tactic(auto, unfolding(crate::specs::Opening::hub_fault))]
+fn fault_of<A: Allocator>(decls: &Decls<A>, limit: u32, boxes: usize) -> Option<HubFault>
+    ensures fault { result ≡ hub_fault decls.now limit boxes }
+    ensures count { IsNone result → boxes ≡ count_of Kind.Goroutine decls.now.declarations }
+    ensures few { IsNone result → limit ≤ MAX_EVENTS }
+{
+    if boxes != decls.count(Kind::Goroutine) as usize {
+        return Some(HubFault::WrongCount);
+    }
+    if is_bad_limit(limit) {
+        return Some(HubFault::BadLimit);
+    }
+    None
+}
+
+impl<R: Drop, A: Allocator + Copy> Hub<R, A> {
+    /// The hub of these declarations, which may make as many events as the limit says, with a box for each goroutine, main
+    /// first. Main is ready, and nobody else was started.
+    pub fn new(
+        alloc: A,
+        decls: Decls<A>,
+        limit: u32,
+        routines: Vec<R, A>,
+    ) -> Result<Hub<R, A>, HubFault>
+        ensures refused { Refuses (hub_fault decls limit (length routines.items)) result }
+        ensures allowed { AllowsUnless (hub_fault decls limit (length routines.items)) result HubFault.OutOfMemory }
+        ensures ok { IfOk result (λ hub. IsOpening decls limit routines.items hub) }
+    {
+        match fault_of(&decls, limit, routines.len()) {
+            Some(fault) => Err(fault),
+            None => match Hub::open(alloc, decls, limit, routines) {
+                Ok(hub) => Ok(hub),
+                Err(_) => Err(HubFault::OutOfMemory),
+            },
+        }
+    }
+
+    // The hub before its first event.
+    fn open(
+        alloc: A,
+        decls: Decls<A>,
+        limit: u32,
+        routines: Vec<R, A>,
+    ) -> Result<Hub<R, A>, AllocError>
+        requires count { length routines.items ≡ count_of Kind.Goroutine decls.declarations }
+        requires few { limit ≤ MAX_EVENTS }
+        ensures { IfOk result (λ hub. IsOpening decls limit routines.items hub) }
+    {
+        // A proof knows how many goroutines there may be once they are counted.
+        let _count = decls.count(Kind::Goroutine);
+        let replay = Replay::new(alloc, &decls)?;
+        let mut others = routines;
+        let main = others.remove(0);
+        let unstarted = unstarted(alloc, others)?;
+        let mut ready = Vec::new(alloc);
+        ready.push(Job::new(alloc, 0, main))?;
+        let mut out = Vec::new(alloc);
+        out.reserve(1)?;
+        Ok(Hub {
+            alloc,
+            replay,
+            trace: Trace::new(decls),
+            limit,
+            ready,
+            waiting: Vec::new(alloc),
+            parked: Vec::new(alloc),
+            out,
+            unstarted,
+            ended: Vec::new(alloc),
+            bad: None,
+        })
+    }
+}
+
+impl<R, A: Allocator> Hub<R, A> {
+    /// The trace so far.
+    pub fn trace(&self) -> &Trace<A>
+        ensures decls { result.now.decls ≡ self.now.decls }
+        ensures events { result.now.events ≡ self.now.events }
+    {
+        &self.trace
+    }
+
+    /// How many events there may be.
+    pub fn limit(&self) -> u32
+        ensures { result ≡ self.now.limit }
+    {
+        self.limit
+    }
+
+    /// How many jobs were taken and aren't back.
+    pub fn out(&self) -> usize
+        ensures { result ≡ length self.now.out }
+    {
+        self.out.len()
+    }
+
+    // What stops the hub, whoever is ready and whatever waits.
+    #[tactic(auto, unfolding(crate::specs::Hub::stop_of))]
+    fn stop(&self) -> Option<End>
+        ensures { result ≡ stop_of self.now }
+    {
+        let len = self.trace.len();
+        if len > 0 {
+            let last = self.trace.event(len - 1);
+            if is_main_exit(last) {
+                return Some(End::Main);
+            }
+            if is_fault(last) {
+                return Some(End::Fault);
+            }
+        }
+        if let Some(goroutine) = self.bad {
+            return Some(End::Bad(goroutine));
+        }
+        if len == self.limit as usize {
+            Some(End::Limit)
+        } else {
+            None
+        }
+    }
+
+    // Where the run stands, and what waits.
+    fn list(&self) -> WaitingList<A, A>
+        requires { stop_of self.now ≡ None }
+        ensures list { result ≡ spec.list_of self.now }
+        ensures sound { All (λ w. IsTrue (submits.is_sound self.now.decls w)) self.now.waiting }
+        ensures boxes { HaveBoxes self.now }
+        ensures count { length self.now.unstarted ≡ count_of Kind.Goroutine self.now.decls.declarations }
+    {
+        WaitingList::new(&self.replay, &self.trace, self.waiting.as_slice())
+    }
+
+    // The requests that wait.
+    fn requests(&self) -> &[Waiter]
+        ensures { result.now ≡ self.now.waiting }
+    {
+        self.waiting.as_slice()
+    }
+
+    // The choice number `pick`, modulo their count.
+    fn pick(&self, pick: u64) -> Option<Choice>
+        requires { stop_of self.now ≡ None }
+        ensures picked { result ≡ picked pick (choices_of self.now) }
+        ensures none { IsNone result → choices_of self.now ≡ [] }
+    {
+        self.list().pick(pick)
+    }
+
+    // Whether every running goroutine waits, and there is no choice.
+    fn is_deadlock(&self) -> bool
+        requires { stop_of self.now ≡ None }
+        ensures { result ≡ spec.is_deadlock self.now }
+    {
+        self.ready.is_empty() && self.out.is_empty() && self.pick(0).is_none()
+    }
+
+    /// How the hub has ended, if it has. Takes no memory.
+    pub fn end(&self) -> Option<End>
+        ensures { result ≡ end_of self.now }
+    {
+        match self.stop() {
+            Some(end) => Some(end),
+            None => if self.is_deadlock() {
+                Some(End::Deadlock)
+            } else {
+                None
+            },
+        }
+    }
+
+    /// The goroutine that has been ready longest, to let it go on elsewhere; none where nobody is ready or the hub has ended.
+    /// Takes no memory.
+    pub fn take(&mut self) -> Option<Job<R, A>>
+        ensures some { IfSome result (λ job. (end_of self.old ≡ None) × Takes self.old job self.new) }
+        ensures none { IsNone result → (self.new ≡ self.old) × ((end_of self.old ≢ None) ⊎ (self.old.ready ≡ [])) }
+    {
+        if self.ready.is_empty() || self.stop().is_some() {
+            return None;
+        }
+        let job = self.ready.remove(0);
+        self.out.push_reserved(job.who());
+        Some(job)
+    }
+
+    // Whether the job was taken from here and has asked since.
+    fn is_back(&self, job: &Job<R, A>) -> bool
+        ensures { result ≡ submits.is_back self.now job.now }
+    {
+        both(job.has_asked(), is_among(self.out.as_slice(), job.who()))
+    }
+
+    // Whether the request is bad, while nothing stops the hub.
+    fn is_bad(&self, waiter: &Waiter) -> bool
+        ensures { result ≡ (is_none (stop_of self.now) && submits.is_bad self.now waiter.now) }
+    {
+        if self.stop().is_some() {
+            return false;
+        }
+        if !is_sound(self.trace.decls(), waiter) {
+            return true;
+        }
+        self.is_out_of_turn(waiter)
+    }
+
+    // Whether it asks for what can't be now and never will be.
+    fn is_out_of_turn(&self, waiter: &Waiter) -> bool
+        requires { IsTrue (submits.is_sound self.now.decls waiter.now) }
+        ensures { result ≡ submits.is_out_of_turn self.now.events self.now.waiting waiter.now.who waiter.now.asked.ask }
+    {
+        is_out_of_turn(&self.replay, self.waiting.as_slice(), waiter)
+    }
+
+    /// Puts a job back that was taken and has asked: its request waits behind the others. Once the hub has ended no request is
+    /// tested.
+    pub fn submit(&mut self, job: Job<R, A>) -> Result<(), SubmitFault<R, A>>
+    where
+        R: Drop,
+        ensures stray { submits.is_stray self.old job ≡ true → (result ≡ Err (SubmitFault.Stray job)) × (self.new ≡ self.old) }
+        ensures only { (back : JobState R) → result ≡ Err (SubmitFault.Stray back) → submits.is_stray self.old job ≡ true }
+        ensures memory { (back : JobState R) → result ≡ Err (SubmitFault.OutOfMemory back) → (back ≡ job) × (self.new ≡ self.old) }
+        ensures bad { result ≡ Err SubmitFault.BadRequest → (submits.ends_hub self.old job ≡ true) × Submits self.old job self.new }
+        ensures ok { OnOk result ((submits.ends_hub self.old job ≡ false) × Submits self.old job self.new) }
+    {
+        if !self.is_back(&job) {
+            return Err(SubmitFault::Stray(job));
+        }
+        if self.waiting.reserve(1).is_err() || self.parked.reserve(1).is_err() {
+            return Err(SubmitFault::OutOfMemory(job));
+        }
+        let (waiter, parked) = job.park();
+        let who = waiter.who;
+        let bad = self.is_bad(&waiter);
+        self.waiting.push_reserved(waiter);
+        self.parked.push_reserved(parked);
+        take_first(&mut self.out, who);
+        if bad {
+            self.bad = Some(who);
+            return Err(SubmitFault::BadRequest);
+        }
+        Ok(())
+    }
+
+    // What a firing of this pick is to do, if there is a choice.
+    fn next_firing(&self, pick: u64) -> Option<Firing>
+        requires { stop_of self.now ≡ None }
+        ensures some { IfSome result (λ f. (picked pick (choices_of self.now) ≡ Some f.choice) × IsFiring self.now f) }
+        ensures none { IsNone result → choices_of self.now ≡ [] }
+    {
+        let list = self.list();
+        let Some(choice) = list.pick(pick) else {
+            return None;
+        };
+        let Some(event) = list.event_of(choice) else {
+            unreachable!();
+        };
+        Some(firing_of(self.requests(), choice, event))
+    }
+
+    // Does it.
+    fn perform(&mut self, firing: Firing) -> Result<(), AllocError>
+    where
+        R: Drop,
+        A: Copy,
+        requires on { stop_of self.old ≡ None }
+        requires firing { IsFiring self.old firing }
+        ensures fires { OnOk result (Fires self.old firing.choice self.new) }
+        ensures err { OnErr result (self.new ≡ self.old) }
+    {
+        let Firing {
+            choice,
+            event,
+            told,
+            partner,
+        } = firing;
+        self.ready.reserve(3)?;
+        self.out.reserve(self.ready.len() + 3)?;
+        self.ended.reserve(1)?;
+        self.trace.reserve()?;
+        let Ok(()) = self.replay.accept(&event) else {
+            return Err(AllocError);
+        };
+        let started = started_in(&event.op);
+        let Ok(()) = self.trace.push(event) else {
+            unreachable!();
+        };
+        let (waiter, other) = take_out(&mut self.waiting, choice);
+        let (parked, other_parked) = take_out(&mut self.parked, choice);
+        go_on(&mut self.ready, &mut self.ended, waiter, parked, told);
+        partner_on(&mut self.ready, other, other_parked, partner);
+        start(self.alloc, &mut self.ready, &mut self.unstarted, started);
+        Ok(())
+    }
+
+    /// Lets the choice number `pick`, modulo the count of choices, happen: one event more, and who takes part is ready again.
+    /// False where there is no choice or the hub has ended. Where it is false or refused, nothing is changed.
+    pub fn fire(&mut self, pick: u64) -> Result<bool, AllocError>
+    where
+        R: Drop,
+        A: Copy,
+        ensures fired { IfOk result (λ b. b ≡ true → IsFired pick self.old self.new) }
+        ensures idle { IfOk result (λ b. b ≡ false → (self.new ≡ self.old) × ((end_of self.old ≢ None) ⊎ (choices_of self.old ≡ []))) }
+        ensures err { OnErr result (self.new ≡ self.old) }
+    {
+        if self.stop().is_some() {
+            return Ok(false);
+        }
+        let Some(firing) = self.next_firing(pick) else {
+            return Ok(false);
+        };
+        self.perform(firing)?;
+        Ok(true)
+    }
+}

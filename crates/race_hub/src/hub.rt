@@ -1,9 +1,12 @@
 //! The hub: the goroutines of a run, their requests, and the trace that they make.
 ghost use Rattle.std.specs.Prelude.{◌≡◌, ◌≢◌, ◌<◌, ◌⊎◌, ◌++◌, ◌∷◌, [], List, map, length, if◌then◌else◌, Some, None, Ok, Err, true, false, ◌≤◌, ◌==◌, ◌&&◌, ◌||◌, nat_lt, not, is_none, IsTrue, All, IfOk, IfSome, IsNone, OnOk, OnErr};
+ghost use Rattle.std.specs.List.{find};
+ghost use Rattle.std.specs.Option.{option_copied, option_map};
 ghost use Rattle.race_records.specs.Refusal.{Refuses, AllowsUnless};
 ghost use Rattle.race_model.specs.Events as model;
 ghost use Rattle.race_records.specs.declared.kind.Kind.{Kind};
-ghost use Rattle.race_records.specs.Declarations.{count_of};
+ghost use Rattle.race_records.specs.Declarations.{capacity_of, count_of};
+ghost use Rattle.race_model.specs.Legal.{IsLegal};
 ghost use Rattle.race_hub.specs.Search.{picked};
 ghost use Rattle.race_hub.specs.Holds.{HaveBoxes};
 ghost use Rattle.race_hub.specs.Hub as spec;
@@ -198,11 +201,23 @@ impl<R: Drop, A: Allocator + Copy> Hub<R, A> {
     }
 }
 
+// What the goroutine asks, where its request is one of these.
+fn request_of(waiting: &[Waiter], goroutine: u32) -> Option<&Request>
+    ensures { option_copied result ≡ option_map (λ w. w.asked) (find (λ w. w.who == goroutine) waiting.now) }
+{
+    match waiting.iter().find(|waiter| waiter.who == goroutine) {
+        Some(waiter) => Some(&waiter.asked),
+        None => None,
+    }
+}
+
 impl<R, A: Allocator> Hub<R, A> {
-    /// The trace so far.
+    /// The trace so far: it is legal, and has no more events than it may have.
     pub fn trace(&self) -> &Trace<A>
         ensures decls { result.now.decls ≡ self.now.decls }
         ensures events { result.now.events ≡ self.now.events }
+        ensures legal { IsLegal (capacity_of self.now.decls.declarations) self.now.events }
+        ensures limited { length self.now.events ≤ self.now.limit }
     {
         &self.trace
     }
@@ -219,6 +234,13 @@ impl<R, A: Allocator> Hub<R, A> {
         ensures { result ≡ length self.now.out }
     {
         self.out.len()
+    }
+
+    /// What the goroutine asks that waits, if it waits.
+    pub fn waiting(&self, goroutine: u32) -> Option<&Request>
+        ensures { option_copied result ≡ option_map (λ w. w.asked) (find (λ w. w.who == goroutine) self.now.waiting) }
+    {
+        request_of(self.waiting.as_slice(), goroutine)
     }
 
     // What stops the hub, whoever is ready and whatever waits.

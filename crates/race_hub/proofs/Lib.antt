@@ -12,3 +12,5 @@ pub mod PerformLemmas
 pub mod SubmitLemmas
 pub mod AmongLemmas
 pub mod OpeningLemmas
+pub mod OnceLemmas
+pub mod FiringsLemmas

@@ -1,7 +1,8 @@
 -- What the first state holds.
-use Rattle.std.proofs.Common.{◌≡◌, ℕ, zero, suc, ◌<◌, ◌≤◌, ◌+◌, false, List, [], ◌∷◌, length, map, Option, Some, None, get_or, slice_get, refl, sym, ap, ◌∙◌, arith}
+use Rattle.std.proofs.Common.{◌≡◌, ◌==◌, ◌||◌, ◌&&◌, Bool, true, cond, ℕ, zero, suc, ◌<◌, ◌≤◌, ◌+◌, false, List, [], ◌∷◌, length, map, Option, Some, None, get_or, slice_get, refl, sym, ap, ◌∙◌, arith}
 use Rattle.std.specs.List.{count_by, remove}
 use Rattle.std.specs.Prelude.{is_some}
+use Rattle.std.proofs.lemmas.Bool.Decides.{nat_tests}
 use Rattle.std.proofs.lemmas.List.Sums.{count_by-le-length}
 use Rattle.race_records.specs.declared.kind.Kind.{Kind}
 use Rattle.race_records.specs.declared.kind.TheConstants.{MAX_GOROUTINES}
@@ -11,6 +12,7 @@ use Rattle.race_legal.specs.ReplayState.{ReplayState}
 use Rattle.race_legal.specs.StandsFor.{StandsFor}
 use Rattle.race_hub.specs.Hub.{opening}
 use Rattle.race_hub.specs.Holds.{Holds}
+use Rattle.race_hub.specs.Kept.{standing, is_active}
 
 length_some : {X : Type 0} (xs : List X) → length (map Some xs) ≡ length xs
 length_some [] = refl
@@ -38,6 +40,21 @@ heads xs None none le = omega (arith, le)
 pub first_of : {X : Type 0} (xs : List X) (x : X) → 0 < length xs → x ≡ get_or xs 0 x → xs ≡ x ∷ remove xs 0
 first_of [] x less is = absurd (omega (arith, less))
 first_of (y ∷ ys) x less is = ap (λ z. z ∷ ys) (sym is)
+
+either_way : (g : ℕ) → (0 == g) ≡ (g == 0)
+either_way zero = refl
+either_way (suc g) = let no : (0 == suc g) ≡ false = grind (arith, nat_tests) in let not : (suc g == 0) ≡ false = grind (arith, nat_tests) in no ∙ sym not
+
+-- main stands in one list, and nobody else in any
+pub opening_once : {R : Type 0} (decls : DeclsState) (limit : ℕ) (main : R) (others : List R) (g : ℕ)
+    → standing (opening decls limit main others) g ≡ cond (is_active g []) 1 0
+opening_once decls limit main others g = by (0 == g) (g == 0) (either_way g)
+  where
+    by : (a b : Bool) → a ≡ b → 0 + cond a 1 0 + 0 + 0 ≡ cond (((b || false) && true) && true) 1 0
+    by true true is = refl
+    by false false is = refl
+    by true false is = absurd cc
+    by false true is = absurd cc
 
 pub holds_opening : {R : Type 0} (k : ReplayState) (decls : DeclsState) (limit : ℕ) (main : R) (others : List R) → StandsFor decls.declarations k []
     → limit ≤ MAX_EVENTS → length (main ∷ others) ≡ count_of Kind.Goroutine decls.declarations → length (main ∷ others) ≤ MAX_GOROUTINES

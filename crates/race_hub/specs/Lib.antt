@@ -17,3 +17,5 @@ pub mod Holds
 pub mod HubHolds
 pub mod Opening
 pub mod Firing
+pub mod Kept
+pub mod Firings

@@ -1,4 +1,5 @@
 //! The laws of the table and of the choices. Each function does nothing, and its contract is the law.
+ghost use Rattle.race_hub.specs.Firings.{AFiringIsAnEvent, AGoIsFired, AMeetIsFired, AStarterIsReadyFirst, OpeningIsKept};
 ghost use Rattle.race_hub.specs.Laws.{
   EachMeetGoesOn,
   EachRowGoesOn,
@@ -78,4 +79,29 @@ pub fn each_row_goes_on()
 /// So does a sender with a receiver of the same channel.
 pub fn each_meet_goes_on()
     ensures { EachMeetGoesOn }
+{}
+
+/// A start is a firing: one event more, and both are ready, the starter first.
+pub fn a_go_is_fired()
+    ensures { AGoIsFired }
+{}
+
+/// A meet is a firing: one event more, and both are ready, the sender first.
+pub fn a_meet_is_fired()
+    ensures { AMeetIsFired }
+{}
+
+/// The state in which the new goroutine is ready before its starter is that of no firing.
+pub fn a_starter_is_ready_first()
+    ensures { AStarterIsReadyFirst }
+{}
+
+/// Neither is a state without an event more.
+pub fn a_firing_is_an_event<R>()
+    ensures { AFiringIsAnEvent R }
+{}
+
+/// The first state is a kept one.
+pub fn opening_is_kept<R>()
+    ensures { OpeningIsKept R }
 {}

@@ -1,0 +1,107 @@
+-- Small firings are computed, and a wrong state is none.
+use Rattle.std.proofs.Common.{◌≡◌, ℕ, zero, suc, ◌<◌, ◌≤◌, ◌++◌, List, [], ◌∷◌, length, Option, Some, None, slice_get, refl, sym, ap, ◌∙◌, subst, inl, arith, length-append}
+use Rattle.std.proofs.lemmas.Option.{none-some}
+use Rattle.race_records.specs.Declarations.{DeclsState, capacity_of}
+use Rattle.race_model.proofs.LegalSteps.{legal_none}
+use Rattle.race_hub.specs.declared.choice.Choice.{Choice}
+use Rattle.race_hub.specs.declared.request.Answer.{Answer}
+use Rattle.race_hub.specs.declared.request.Ask.{Ask}
+use Rattle.race_hub.specs.declared.request.Waiter.{Waiter}
+use Rattle.race_hub.specs.Choices.{choice}
+use Rattle.race_hub.specs.Rows.{waits}
+use Rattle.race_hub.specs.Job.{JobState}
+use Rattle.race_hub.specs.Table.{IsRow, done_by}
+use Rattle.race_hub.specs.Hub.{ParkedState, HubState, opening, stop_of}
+use Rattle.race_hub.specs.Fires.{IsFired, goes_on, partner_goes_on, partner_of, born_of, started_by}
+use Rattle.race_hub.specs.Kept.{IsKept}
+use Rattle.race_hub.proofs.ChoiceLemmas.{some_is}
+use Rattle.race_hub.proofs.OpeningLemmas.{opening_once}
+use Rattle.race_hub.specs.Firings.{before_go, after_go, went, before_meet, after_meet, met, behind, AGoIsFired, AMeetIsFired, OpeningIsKept, AFiringIsAnEvent, AStarterIsReadyFirst}
+
+pub go_is_fired : AGoIsFired
+unfolding stop_of
+go_is_fired = record {
+  t = choice 0 0 0 0;
+  running = refl;
+  chosen = refl;
+  fires = record {
+    w = waits 0 (Ask.Go 1);
+    p = behind 10;
+    e = went;
+    told = Some Answer.Unit;
+    partner_told = None;
+    asks = refl;
+    behind = refl;
+    makes = refl;
+    legal = refl;
+    row = (refl, refl);
+    partner_row = refl;
+    box = (11, refl);
+    events = refl;
+    waiting = refl;
+    parked = refl;
+    ready = refl;
+    unstarted = refl;
+    ended = refl;
+    same = (refl, refl, refl, refl);
+  };
+}
+
+pub meet_is_fired : AMeetIsFired
+unfolding stop_of
+meet_is_fired = record {
+  t = choice 1 0 1 1;
+  running = refl;
+  chosen = refl;
+  fires = record {
+    w = waits 0 (Ask.Send (Some 0) 9);
+    p = behind 10;
+    e = met;
+    told = Some Answer.Unit;
+    partner_told = Some (Answer.Value 9);
+    asks = refl;
+    behind = refl;
+    makes = refl;
+    legal = refl;
+    row = (refl, inl (None, (0, refl, refl, refl), refl));
+    partner_row = ((Answer.Value 9, refl), (refl, Some 9, (0, refl, inl (9, refl, refl)), refl));
+    box = tt;
+    events = refl;
+    waiting = refl;
+    parked = refl;
+    ready = refl;
+    unstarted = refl;
+    ended = refl;
+    same = (refl, refl, refl, refl);
+  };
+}
+
+pub firing_is_an_event : (R : Type 0) → AFiringIsAnEvent R
+firing_is_an_event R pick h new same fired =
+    let more = length-append h.events (fired.fires.e ∷ []) in
+    let is = ap length (sym same ∙ fired.fires.events) in
+    absurd (omega (arith, more, is))
+
+pub opening_kept : (R : Type 0) → OpeningIsKept R
+opening_kept R decls limit main others = record {
+  legal = legal_none (capacity_of decls.declarations);
+  limited = omega arith;
+  once = opening_once decls limit main others;
+}
+
+abbrev first_who : List (JobState ℕ) → ℕ
+first_who [] = 0
+first_who (j ∷ jobs) = j.who
+
+pub starter_is_first : AStarterIsReadyFirst
+starter_is_first fired =
+    let f = fired.fires in
+    let chosen : choice 0 0 0 0 ≡ fired.t = some_is fired.chosen in
+    let asks : waits 0 (Ask.Go 1) ≡ f.w = some_is (subst (λ (t : Choice). slice_get before_go.waiting t.place ≡ Some f.w) (sym chosen) f.asks) in
+    let row = subst (λ (w : Waiter). IsRow w.asked.ask fired.t.offer (done_by f.w.who f.e.op) f.told) (sym asks) f.row in
+    let ready : 1 ≡ f.w.who = ap first_who f.ready
+    ∙ ap (λ (told : Option Answer). first_who (before_go.ready ++ goes_on f.w f.p told
+    ++ partner_goes_on (partner_of fired.t before_go.waiting) (partner_of fired.t before_go.parked) f.partner_told
+    ++ born_of before_go.unstarted (started_by f.e.op))) row.1 in
+    let who : 0 ≡ f.w.who = ap (λ (w : Waiter). w.who) asks in
+    absurd (omega (arith, ready, who))

@@ -1,0 +1,281 @@
+-- How often a goroutine stands in the lists of a hub, one step on.
+use Rattle.std.proofs.Common.{◌≡◌, ◌≢◌, ◌==◌, ◌||◌, ◌&&◌, not, ℕ, zero, suc, ◌<◌, ◌≤◌, ◌+◌, ◌-◌, ◌++◌, nat_lt, Bool, true, false, cond, if◌then◌else◌, List, [], ◌∷◌}
+use Rattle.std.proofs.Common.{length, take, drop, Option, Some, None, refl, sym, ap, ◌∙◌, subst, arith, slice_get, true≢false, take_all, inl, inr}
+use Rattle.std.specs.List.{remove, count_by}
+use Rattle.std.specs.Prelude.{is_some}
+use Rattle.std.proofs.Math.Bool.{or-false}
+use Rattle.std.proofs.lemmas.Bool.Decides.{nat_tests}
+use Rattle.std.proofs.lemmas.List.Sums.{sum_by-append, sum_by-cons, sum_by-remove, sum_by_push, sum_by-le-sum_by}
+use Rattle.std.proofs.lemmas.Option.{none-some, slice_get_within, get_or_from_slice_get}
+use Rattle.race_records.specs.declared.event.Event.{Event}
+use Rattle.race_records.specs.declared.event.Op.{Op}
+use Rattle.race_records.specs.declared.event.Op.TheVariants.{Go, Exit, Read, Write, Send, Recv, Meet, RecvClosed, Close, Lock, Unlock, RLock, RUnlock}
+use Rattle.race_records.specs.declared.event.Op.TheVariants.{OnceBegin, OnceEnd, OnceDone, Fault, Default}
+use Rattle.race_model.specs.Events.{starts, is_exit, is_fault, has, has_exited, count}
+use Rattle.race_model.specs.State.{over, started, runs}
+use Rattle.race_model.specs.Legal.{broken, rules, actors_run, receiver_runs, IsLegal}
+use Rattle.race_model.proofs.Indexes.{at_below, take_suc, slice_get-take}
+use Rattle.race_model.proofs.CountSteps.{as_number, positive_more, has_exited_push}
+use Rattle.race_model.proofs.StateSteps.{started_push, runs_push}
+use Rattle.race_model.proofs.ChannelOrder.{rules_kept}
+use Rattle.race_hub.specs.declared.choice.Choice.{Choice}
+use Rattle.race_hub.specs.declared.request.Answer.{Answer}
+use Rattle.race_hub.specs.declared.request.Ask.{Ask}
+use Rattle.race_hub.specs.declared.request.Offer.{Offer}
+use Rattle.race_hub.specs.declared.request.Waiter.{Waiter}
+use Rattle.race_hub.specs.Choices.{op_of, meet_op, offer_at, lone_event, meet_event, event_of}
+use Rattle.race_hub.specs.Table.{IsRow, done_by, offers_of}
+use Rattle.race_hub.specs.Job.{JobState, begun}
+use Rattle.race_hub.specs.Hub.{ParkedState, HubState}
+use Rattle.race_hub.specs.Fires.{without, partner_of, answered, goes_on, partner_goes_on, IsPartnerRow, started_by, begins, born_of, HasBox}
+use Rattle.race_hub.specs.Kept.{has_failed, is_active}
+use Rattle.race_hub.proofs.ChoiceLemmas.{some_is}
+use Rattle.race_hub.proofs.FiringLemmas.{both_true, both_false}
+
+-- Counts by a test.
+
+remove_before : {X : Type 0} (xs : List X) (j i : ℕ) → i < j → slice_get (remove xs j) i ≡ slice_get xs i
+remove_before xs zero i less = absurd (omega (arith, less))
+remove_before [] (suc j) i less = refl
+remove_before (x ∷ xs) (suc j) zero less = refl
+remove_before (x ∷ xs) (suc j) (suc i) less = remove_before xs j i (omega (arith, less))
+
+module _ {X : Type 0} (p : X → Bool) where
+  pub count_append : (xs ys : List X) → count_by p (xs ++ ys) ≡ count_by p xs + count_by p ys
+  count_append xs ys = sum_by-append (λ x. cond (p x) 1 0) xs ys
+
+  pub count_one : (x : X) → count_by p (x ∷ []) ≡ as_number (p x)
+  count_one x = let one = sum_by-cons (λ x. cond (p x) 1 0) x [] in omega (arith, one)
+
+  pub count_remove : (xs : List X) (i : ℕ) (x : X) → slice_get xs i ≡ Some x → count_by p (remove xs i) + as_number (p x) ≡ count_by p xs
+  count_remove xs i x is =
+      let one = sum_by-remove (λ x. cond (p x) 1 0) xs i x (slice_get_within xs i x is) in
+      let same = ap (λ x. as_number (p x)) (get_or_from_slice_get xs i x x is) in
+      omega (arith, one, same)
+
+  -- 1 where there is one and it passes
+  abbrev pub passes : Option X → ℕ
+  passes None = 0
+  passes (Some x) = as_number (p x)
+
+  count_two : (xs : List X) (i j : ℕ) (x y : X) → slice_get xs i ≡ Some x → slice_get xs j ≡ Some y → i < j
+      → count_by p (remove (remove xs j) i) + as_number (p x) + as_number (p y) ≡ count_by p xs
+  count_two xs i j x y first second less =
+      let one = count_remove xs j y second in
+      let two = count_remove (remove xs j) i x (remove_before xs j i less ∙ first) in
+      omega (arith, one, two)
+
+  pub count_without : (t : Choice) (xs : List X) (x : X) → slice_get xs t.place ≡ Some x → t.partner ≤ length xs → t.partner ≢ t.place + 1
+      → count_by p (without t xs) + as_number (p x) + passes (partner_of t xs) ≡ count_by p xs
+  count_without t xs x is partner apart = by (t.partner == 0) (nat_lt t.place (t.partner - 1)) refl refl
+    where
+      by : (alone before : Bool) → (t.partner == 0) ≡ alone → nat_lt t.place (t.partner - 1) ≡ before
+          → count_by p (if alone then remove xs t.place else (if before then remove (remove xs (t.partner - 1)) t.place else remove (remove xs t.place) (t.partner - 1)))
+          + as_number (p x) + passes (if alone then None else slice_get xs (t.partner - 1)) ≡ count_by p xs
+      by true before none test = let one = count_remove xs t.place x is in omega (arith, one)
+      by false true none test =
+          let some : 0 < t.partner = grind (arith, nat_tests) in
+          let less : t.place < t.partner - 1 = grind (arith, nat_tests) in
+          let other = at_below xs (t.partner - 1) (omega (arith, some, partner)) in
+          let two = count_two xs t.place (t.partner - 1) x other.0 is other.1 less in
+          let same : passes (slice_get xs (t.partner - 1)) ≡ as_number (p other.0) = ap passes other.1 in
+          omega (arith, two, same)
+      by false false none test =
+          let some : 0 < t.partner = grind (arith, nat_tests) in
+          let least : t.partner - 1 ≤ t.place = grind (arith, nat_tests) in
+          let other = at_below xs (t.partner - 1) (omega (arith, some, partner)) in
+          let two = count_two xs (t.partner - 1) t.place other.0 x other.1 is (omega (arith, least, some, apart)) in
+          let same : passes (slice_get xs (t.partner - 1)) ≡ as_number (p other.0) = ap passes other.1 in
+          omega (arith, two, same)
+
+-- Who is told nothing.
+
+-- who does it goes on no more
+abbrev pub leaves : Op → Bool
+leaves op = is_exit op || is_fault op
+
+by_row : (op did : Op) (told answer : Option Answer) → op ≡ did → told ≡ answer → is_some answer ≡ not (leaves did) → is_some told ≡ not (leaves op)
+by_row op did told answer o t is = ap is_some t ∙ is ∙ sym (ap (λ o. not (leaves o)) o)
+
+row_leaves : (ask : Ask) (k : ℕ) (op : Op) (told : Option Answer) → IsRow ask k op told → is_some told ≡ not (leaves op)
+row_leaves (Ask.Go h) k op told (o, t) = by_row op _ told _ o t refl
+row_leaves Ask.Exit k op told (o, t) = by_row op _ told _ o t refl
+row_leaves (Ask.Read x) k op told (v, o, t) = by_row op _ told _ o t refl
+row_leaves (Ask.Write x v) k op told (o, t) = by_row op _ told _ o t refl
+row_leaves (Ask.Send c v) k op told (z, inl (got, (d, e, o, n), t)) = by_row op _ told _ o t refl
+row_leaves (Ask.Send c v) k op told (z, inr ((d, e, o), t)) = by_row op _ told _ o t refl
+row_leaves (Ask.Recv c) k op told (z, got, (d, e, inl (v, o, n)), t) = by_row op _ told _ o t refl
+row_leaves (Ask.Recv c) k op told (z, got, (d, e, inr (o, n)), t) = by_row op _ told _ o t refl
+row_leaves (Ask.Close c) k op told (inl (d, e, inl (o, t))) = by_row op _ told _ o t refl
+row_leaves (Ask.Close c) k op told (inl (d, e, inr (o, t))) = by_row op _ told _ o t refl
+row_leaves (Ask.Close c) k op told (inr (n, o, t)) = by_row op _ told _ o t refl
+row_leaves (Ask.Lock l) k op told (o, t) = by_row op _ told _ o t refl
+row_leaves (Ask.RLock l) k op told (o, t) = by_row op _ told _ o t refl
+row_leaves (Ask.Unlock l) k op told (inl (o, t)) = by_row op _ told _ o t refl
+row_leaves (Ask.Unlock l) k op told (inr (o, t)) = by_row op _ told _ o t refl
+row_leaves (Ask.RUnlock l) k op told (inl (o, t)) = by_row op _ told _ o t refl
+row_leaves (Ask.RUnlock l) k op told (inr (o, t)) = by_row op _ told _ o t refl
+row_leaves (Ask.Do o) k op told (inl (d, t)) = by_row op _ told _ d t refl
+row_leaves (Ask.Do o) k op told (inr (d, t)) = by_row op _ told _ d t refl
+row_leaves (Ask.EndDo o) k op told (d, t) = by_row op _ told _ d t refl
+
+done_leaves : (g : ℕ) (op : Op) → leaves (done_by g op) ≡ leaves op
+done_leaves g (Meet r c v) = by (r == g)
+  where
+    by : (b : Bool) → leaves (cond b (Recv c v) (Send c v)) ≡ false
+    by true = refl
+    by false = refl
+done_leaves g (Go k) = refl
+done_leaves g Exit = refl
+done_leaves g (Read x v) = refl
+done_leaves g (Write x v) = refl
+done_leaves g (Send c v) = refl
+done_leaves g (Recv c v) = refl
+done_leaves g (RecvClosed c) = refl
+done_leaves g (Close c) = refl
+done_leaves g (Default cases) = refl
+done_leaves g (Lock l) = refl
+done_leaves g (Unlock l) = refl
+done_leaves g (RLock l) = refl
+done_leaves g (RUnlock l) = refl
+done_leaves g (OnceBegin o) = refl
+done_leaves g (OnceEnd o) = refl
+done_leaves g (OnceDone o) = refl
+done_leaves g (Fault cause) = refl
+
+-- who asked is told nothing just where it leaves
+pub told_leaves : (ask : Ask) (k g : ℕ) (op : Op) (told : Option Answer) → IsRow ask k (done_by g op) told → is_some told ≡ not (leaves op)
+told_leaves ask k g op told row = row_leaves ask k (done_by g op) told row ∙ ap not (done_leaves g op)
+
+-- Whose event it is.
+
+with_op : (who place : ℕ) (place2 : Option ℕ) (made : Option Op) (e : Event)
+    → elim made [ None ↦ None | Some op ↦ Some (record { who = who; op = op; place = place; place2 = place2 }) ] ≡ Some e → e.who ≡ who
+with_op who place place2 None e is = absurd (none-some e is)
+with_op who place place2 (Some op) e is = ap (λ (e : Event). e.who) (sym (some_is is))
+
+-- the event of a choice is its first request's
+pub event_who : (past : List Event) (waiting : List Waiter) (t : Choice) (w : Waiter) (e : Event) → slice_get waiting t.place ≡ Some w
+    → event_of past waiting t ≡ Some e → e.who ≡ w.who
+event_who past waiting t w e is makes = by (t.partner == 0) (slice_get waiting (t.partner - 1)) (ap (λ (o : Option Waiter). elim o [
+  | None ↦ None
+  | Some w ↦ cond (t.partner == 0) (lone_event past w t.offer) (elim (slice_get waiting (t.partner - 1)) [
+    | None ↦ None
+    | Some r ↦ meet_event w t.offer r (t.partner_offer - 1)
+  ])
+]) (sym is) ∙ makes)
+  where
+    by : (alone : Bool) (other : Option Waiter)
+        → cond alone (lone_event past w t.offer) (elim other [ None ↦ None | Some r ↦ meet_event w t.offer r (t.partner_offer - 1) ]) ≡ Some e → e.who ≡ w.who
+    by true other made = with_op w.who w.asked.place None (op_of past w.asked.ask t.offer) e made
+    by false None made = absurd (none-some e made)
+    by false (Some r) made =
+        with_op w.who w.asked.place (Some r.asked.place)
+        (offer_at (offers_of w.asked.ask) t.offer (λ a. offer_at (offers_of r.asked.ask) (t.partner_offer - 1) (meet_op r.who a))) e made
+
+-- Who is active.
+
+same_number : (m n : ℕ) → (m == n) ≡ true → m ≡ n
+same_number m n is = grind (arith, nat_tests)
+
+-- where no Go started it, who isn't main hasn't exited
+pub unstarted_stays : (caps : ℕ → ℕ) (past : List Event) (g : ℕ) → IsLegal caps past → (g == 0) ≡ false → started g past ≡ false → has_exited g past ≡ false
+unstarted_stays caps past g legal main fresh =
+    let all = take_all (length past) past (omega arith) in
+    ap (has_exited g) (sym all) ∙ upto (length past) (omega arith) (ap (started g) all ∙ fresh)
+  where
+    here : (n : ℕ) (e : Event) → slice_get past n ≡ Some e → started g (take n past) ≡ false → (b : Bool) → (e.who == g) ≡ b → (b && is_exit e.op) ≡ false
+    here n e at none false q = refl
+    here n e at none true q =
+        let acts = rules_kept (rules caps (take n past) e) 1 (2, not (actors_run (take n past) e)) (legal n e at) refl in
+        let runs_who = (both_true (runs e.who (take n past)) (receiver_runs (take n past) e.op) (by (actors_run (take n past) e) acts)).0 in
+        let runs_not = ap (λ b. (b || started g (take n past)) && not (has_exited g (take n past))) main
+        ∙ ap (λ b. b && not (has_exited g (take n past))) none in
+        absurd (true≢false (sym runs_who ∙ ap (λ k. runs k (take n past)) (same_number e.who g q) ∙ runs_not))
+      where
+        by : (b : Bool) → not b ≡ false → b ≡ true
+        by true is = refl
+        by false is = absurd cc
+
+    upto : (n : ℕ) → n ≤ length past → started g (take n past) ≡ false → has_exited g (take n past) ≡ false
+    upto zero le none = refl
+    upto (suc n) le none =
+        let at = at_below past n (omega (arith, le)) in
+        let cut = take_suc n past at.0 at.1 in
+        let parts = both_false (started g (take n past)) (starts g at.0.op)
+        (sym (started_push g (take n past) at.0) ∙ ap (started g) (sym cut) ∙ none) in
+        let before = upto n (omega (arith, le)) parts.0 in
+        ap (has_exited g) cut ∙ has_exited_push g (take n past) at.0
+        ∙ ap (λ b. b || ((at.0.who == g) && is_exit at.0.op)) before ∙ here n at.0 at.1 parts.0 (at.0.who == g) refl
+
+-- while the run isn't over nobody has failed
+pub nobody_failed : (past : List Event) (g : ℕ) → over past ≡ false → has_failed g past ≡ false
+nobody_failed past g on =
+    let none : nat_lt 0 (count is_fault past) ≡ false = (both_false (has_exited 0 past) (has is_fault past) on).1 in
+    let le : count_by (λ (e : Event). (e.who == g) && is_fault e.op) past ≤ count is_fault past =
+    sum_by-le-sum_by (λ (e : Event). cond ((e.who == g) && is_fault e.op) 1 0) (λ (e : Event). cond (is_fault e.op) 1 0) past
+    (λ e. each (e.who == g) (is_fault e.op)) in
+    low _ _ le none
+  where
+    each : (a b : Bool) → cond (a && b) 1 0 ≤ cond b 1 0
+    each true b = omega arith
+    each false true = omega arith
+    each false false = omega arith
+
+    low : (m n : ℕ) → m ≤ n → nat_lt 0 n ≡ false → nat_lt 0 m ≡ false
+    low m n le none = grind (arith, nat_tests)
+
+has_failed_push : (g : ℕ) (past : List Event) (e : Event) → has_failed g (past ++ e ∷ []) ≡ (has_failed g past || ((e.who == g) && is_fault e.op))
+has_failed_push g past e = ap (nat_lt 0) (sum_by_push (λ e. cond ((e.who == g) && is_fault e.op) 1 0) past e) ∙ positive_more _ ((e.who == g) && is_fault e.op)
+
+pub active_push : (g : ℕ) (past : List Event) (e : Event)
+    → is_active g (past ++ e ∷ [])
+    ≡ (((g == 0 || (started g past || starts g e.op)) && not (has_exited g past || ((e.who == g) && is_exit e.op)))
+    && not (has_failed g past || ((e.who == g) && is_fault e.op)))
+active_push g past e = λ i. runs_push g past e i && not (has_failed_push g past e i)
+
+-- One step of the count: v says that g is main or was started, x that it exited, f that it failed.
+
+leaving : (v x f lx lf : Bool) (m n : ℕ) → m ≡ cond ((v && not x) && not f) 1 0 → m ≡ n + as_number (lx || lf) → 0 < m
+    → n ≡ cond ((v && not (x || lx)) && not (f || lf)) 1 0
+leaving true false false true lf m n old sums less = omega (arith, old, sums)
+leaving true false false false true m n old sums less = omega (arith, old, sums)
+leaving true false false false false m n old sums less = omega (arith, old, sums)
+leaving true true f lx lf m n old sums less = absurd (omega (arith, old, less))
+leaving true false true lx lf m n old sums less = absurd (omega (arith, old, less))
+leaving false x f lx lf m n old sums less = absurd (omega (arith, old, less))
+
+-- who is started was nothing before
+pub record IsFresh (v x f lx lf : Bool) : Type 0 where
+  pub main : v ≡ false
+  pub exited : x ≡ false
+  pub failed : f ≡ false
+  pub no_exit : lx ≡ false
+  pub no_fault : lf ≡ false
+
+starting : (v x f q lx lf : Bool) (m n : ℕ) → IsFresh v x f lx lf → m ≡ cond ((v && not x) && not f) 1 0 → m + 1 ≡ n + as_number (q && (lx || lf))
+    → n ≡ cond ((true && not (x || (q && lx))) && not (f || (q && lf))) 1 0
+starting true x f q lx lf m n fresh old sums = absurd (true≢false fresh.main)
+starting false true f q lx lf m n fresh old sums = absurd (true≢false fresh.exited)
+starting false false true q lx lf m n fresh old sums = absurd (true≢false fresh.failed)
+starting false false false q true lf m n fresh old sums = absurd (true≢false fresh.no_exit)
+starting false false false q false true m n fresh old sums = absurd (true≢false fresh.no_fault)
+starting false false false true false false m n fresh old sums = omega (arith, old, sums)
+starting false false false false false false m n fresh old sums = omega (arith, old, sums)
+
+pub one_step : (z s x f b q lx lf : Bool) (m n : ℕ) → m ≡ cond (((z || s) && not x) && not f) 1 0 → m + as_number b ≡ n + as_number (q && (lx || lf))
+    → (q ≡ true → 0 < m) → (b ≡ true → IsFresh (z || s) x f lx lf)
+    → n ≡ cond (((z || (s || b)) && not (x || (q && lx))) && not (f || (q && lf))) 1 0
+one_step z s x f true q lx lf m n old sums stands fresh =
+    starting (z || s) x f q lx lf m n (fresh refl) old sums ∙ ap (λ b. cond ((b && not (x || (q && lx))) && not (f || (q && lf))) 1 0) (sym (all z s))
+  where
+    all : (z s : Bool) → (z || (s || true)) ≡ true
+    all true s = refl
+    all false true = refl
+    all false false = refl
+one_step z s x f false true lx lf m n old sums stands fresh =
+    leaving (z || s) x f lx lf m n old (omega (arith, sums)) (stands refl)
+    ∙ ap (λ b. cond (((z || b) && not (x || lx)) && not (f || lf)) 1 0) (sym (or-false s))
+one_step z s x f false false lx lf m n old sums stands fresh =
+    let same : n ≡ m = omega (arith, sums) in
+    same ∙ old ∙ sym (λ i. cond (((z || or-false s i) && not (or-false x i)) && not (or-false f i)) 1 0)

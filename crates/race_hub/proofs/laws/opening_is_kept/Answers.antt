@@ -1,0 +1,5 @@
+use Rattle.race_hub.proofs.FiringsLemmas.{opening_kept}
+use Rattle.race_hub.proofs.laws.opening_is_kept.Goals as goal
+
+pub returns : goal.returns
+returns g c = opening_kept g.row.R.Denot

@@ -1,0 +1,26 @@
+-- The states that a hub keeps to. (Our own)
+use Rattle.std.specs.Prelude.{ℕ, ◌≡◌, ◌==◌, ◌≤◌, ◌+◌, ◌&&◌, not, nat_lt, cond, Bool, List, length, count_by}
+use Rattle.race_records.specs.declared.event.Event.{Event}
+use Rattle.race_records.specs.Declarations.{capacity_of}
+use Rattle.race_model.specs.Events.{is_fault}
+use Rattle.race_model.specs.State.{runs}
+use Rattle.race_model.specs.Legal.{IsLegal}
+use Rattle.race_hub.specs.Hub.{HubState}
+
+-- g failed
+abbrev pub has_failed : ℕ → List Event → Bool
+has_failed g events = nat_lt 0 (count_by (λ e. (e.who == g) && is_fault e.op) events)
+
+-- g runs and hasn't failed
+abbrev pub is_active : ℕ → List Event → Bool
+is_active g events = runs g events && not (has_failed g events)
+
+-- how often g stands among those that are ready, that wait, and whose job is out
+abbrev pub standing : {R : Type 0} → HubState R → ℕ → ℕ
+standing h g = count_by (λ j. j.who == g) h.ready + count_by (λ w. w.who == g) h.waiting + count_by (λ o. o == g) h.out
+
+-- a kept state: the trace is legal and within the limit, and who is active stands in exactly one of the lists, and once, and nobody else does
+pub record IsKept {R : Type 0} (h : HubState R) : Type 0 where
+  pub legal : IsLegal (capacity_of h.decls.declarations) h.events
+  pub limited : length h.events ≤ h.limit
+  pub once : (g : ℕ) → standing h g ≡ cond (is_active g h.events) 1 0

@@ -25,7 +25,7 @@ use Rattle.race_hub.proofs.ChoiceLemmas.{some_is, none_picked, IsPossible, liste
 use Rattle.race_hub.proofs.FitLemmas.{choice_fits}
 
 -- what a legal start starts: not main, and whom no Go started
-go_kept : (caps : ℕ → ℕ) (past : List Event) (e : Event) (h : ℕ) → broken caps past e ≡ None → e.op ≡ Go h → (h == 0 || started h past) ≡ false
+pub go_kept : (caps : ℕ → ℕ) (past : List Event) (e : Event) (h : ℕ) → broken caps past e ≡ None → e.op ≡ Go h → (h == 0 || started h past) ≡ false
 go_kept caps past e h legal is =
     rules_kept (rules caps past (record { who = e.who; op = Go h; place = e.place; place2 = e.place2 })) 2 (3, h == 0 || started h past)
     (ap (λ op. broken caps past (record { who = e.who; op = op; place = e.place; place2 = e.place2 })) (sym is) ∙ legal) refl

@@ -14,3 +14,4 @@ pub mod AmongLemmas
 pub mod OpeningLemmas
 pub mod OnceLemmas
 pub mod FiringsLemmas
+pub mod RunLemmas

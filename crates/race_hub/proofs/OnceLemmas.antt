@@ -30,7 +30,7 @@ use Rattle.race_hub.specs.Hub.{ParkedState, HubState}
 use Rattle.race_hub.specs.Fires.{without, partner_of, answered, goes_on, partner_goes_on, IsPartnerRow, started_by, begins, born_of, HasBox}
 use Rattle.race_hub.specs.Kept.{has_failed, is_active}
 use Rattle.race_hub.proofs.ChoiceLemmas.{some_is}
-use Rattle.race_hub.proofs.FiringLemmas.{both_true, both_false}
+use Rattle.race_hub.proofs.FiringLemmas.{both_true, both_false, go_kept}
 
 -- Counts by a test.
 
@@ -46,6 +46,9 @@ module _ {X : Type 0} (p : X → Bool) where
 
   pub count_one : (x : X) → count_by p (x ∷ []) ≡ as_number (p x)
   count_one x = let one = sum_by-cons (λ x. cond (p x) 1 0) x [] in omega (arith, one)
+
+  pub count_cons : (x : X) (xs : List X) → count_by p (x ∷ xs) ≡ as_number (p x) + count_by p xs
+  count_cons x xs = sum_by-cons (λ x. cond (p x) 1 0) x xs
 
   pub count_remove : (xs : List X) (i : ℕ) (x : X) → slice_get xs i ≡ Some x → count_by p (remove xs i) + as_number (p x) ≡ count_by p xs
   count_remove xs i x is =
@@ -279,3 +282,111 @@ one_step z s x f false true lx lf m n old sums stands fresh =
 one_step z s x f false false lx lf m n old sums stands fresh =
     let same : n ≡ m = omega (arith, sums) in
     same ∙ old ∙ sym (λ i. cond (((z || or-false s i) && not (or-false x i)) && not (or-false f i)) 1 0)
+
+-- Who is ready after a firing.
+
+starts_is : (g : ℕ) (op : Op) → as_number (starts g op) ≡ as_number (elim (started_by op) [ None ↦ false | Some h ↦ h == g ])
+starts_is g (Go k) = refl
+starts_is g Exit = refl
+starts_is g (Read x v) = refl
+starts_is g (Write x v) = refl
+starts_is g (Send c v) = refl
+starts_is g (Recv c v) = refl
+starts_is g (Meet r c v) = refl
+starts_is g (RecvClosed c) = refl
+starts_is g (Close c) = refl
+starts_is g (Default cases) = refl
+starts_is g (Lock l) = refl
+starts_is g (Unlock l) = refl
+starts_is g (RLock l) = refl
+starts_is g (RUnlock l) = refl
+starts_is g (OnceBegin o) = refl
+starts_is g (OnceEnd o) = refl
+starts_is g (OnceDone o) = refl
+starts_is g (Fault cause) = refl
+
+starts_go : (g : ℕ) (op : Op) → starts g op ≡ true → op ≡ Go g
+starts_go g (Go k) is = ap Go (same_number k g is)
+starts_go g Exit is = absurd cc
+starts_go g (Read x v) is = absurd cc
+starts_go g (Write x v) is = absurd cc
+starts_go g (Send c v) is = absurd cc
+starts_go g (Recv c v) is = absurd cc
+starts_go g (Meet r c v) is = absurd cc
+starts_go g (RecvClosed c) is = absurd cc
+starts_go g (Close c) is = absurd cc
+starts_go g (Default cases) is = absurd cc
+starts_go g (Lock l) is = absurd cc
+starts_go g (Unlock l) is = absurd cc
+starts_go g (RLock l) is = absurd cc
+starts_go g (RUnlock l) is = absurd cc
+starts_go g (OnceBegin o) is = absurd cc
+starts_go g (OnceEnd o) is = absurd cc
+starts_go g (OnceDone o) is = absurd cc
+starts_go g (Fault cause) is = absurd cc
+
+-- whom a legal event starts was nothing before
+pub started_fresh : (caps : ℕ → ℕ) (past : List Event) (e : Event) (g : ℕ) → IsLegal caps past → broken caps past e ≡ None → starts g e.op ≡ true
+    → IsFresh (g == 0 || started g past) (has_exited g past) (has_failed g past) (is_exit e.op) (is_fault e.op)
+started_fresh caps past e g legal kept is =
+    let goes = starts_go g e.op is in
+    let none = go_kept caps past e g kept goes in
+    let parts = both_false (g == 0) (started g past) none in
+    record {
+      main = none;
+      exited = unstarted_stays caps past g legal parts.0 parts.1;
+      failed = nobody_failed past g (rules_kept (rules caps past e) 0 (1, over past) kept refl);
+      no_exit = ap is_exit goes;
+      no_fault = ap is_fault goes;
+    }
+
+-- who leaves and who goes on are together who asked
+pub asker_balance : (l q : Bool) → as_number (not l && q) + as_number (q && l) ≡ as_number q
+asker_balance true true = refl
+asker_balance true false = refl
+asker_balance false true = refl
+asker_balance false false = refl
+
+abbrev pub is_waiter : ℕ → Waiter → Bool
+is_waiter g w = w.who == g
+
+module _ {R : Type 0} (g : ℕ) where
+  -- how often g stands among jobs
+  abbrev pub jobs_of : List (JobState R) → ℕ
+  jobs_of jobs = count_by (λ (j : JobState R). j.who == g) jobs
+
+  pub goes_count : (w : Waiter) (p : ParkedState R) (told : Option Answer) → jobs_of (goes_on w p told) ≡ as_number (is_some told && (w.who == g))
+  goes_count w p None = refl
+  goes_count w p (Some answer) = count_one (λ (j : JobState R). j.who == g) (answered w p answer)
+
+  pub partner_count : (t : Choice) (ws : List Waiter) (ps : List (ParkedState R)) (way : ℕ) (op : Op) (told : Option Answer) → length ps ≡ length ws
+      → t.partner ≤ length ws → IsPartnerRow (partner_of t ws) way op told
+      → jobs_of (partner_goes_on (partner_of t ws) (partner_of t ps) told) ≡ passes (is_waiter g) (partner_of t ws)
+  partner_count t ws ps way op told same partner row =
+      by (t.partner == 0) (slice_get ws (t.partner - 1)) (slice_get ps (t.partner - 1)) refl
+      (λ less. at_below ws (t.partner - 1) less) (λ less. at_below ps (t.partner - 1) (subst (λ n. t.partner - 1 < n) (sym same) less)) row
+    where
+      by : (alone : Bool) (o : Option Waiter) (q : Option (ParkedState R)) → (t.partner == 0) ≡ alone
+          → (t.partner - 1 < length ws → (w : Waiter) × (o ≡ Some w)) → (t.partner - 1 < length ws → (p : ParkedState R) × (q ≡ Some p))
+          → IsPartnerRow (if alone then None else o) way op told
+          → jobs_of (partner_goes_on (if alone then None else o) (if alone then None else q) told) ≡ passes (is_waiter g) (if alone then None else o)
+      by true o q none w p row = refl
+      by false None q none w p row = let some : 0 < t.partner = grind (arith, nat_tests) in absurd (none-some _ (w (omega (arith, some, partner))).1)
+      by false (Some w) None none s p row = let some : 0 < t.partner = grind (arith, nat_tests) in absurd (none-some _ (p (omega (arith, some, partner))).1)
+      by false (Some w) (Some p) none s q row = goes_count w p told ∙ ap (λ (o : Option Answer). as_number (is_some o && (w.who == g))) row.0.1
+
+  begun_by : (boxes : List (Option R)) (started : Option ℕ) → HasBox boxes started
+      → jobs_of (born_of boxes started) ≡ as_number (elim started [ None ↦ false | Some h ↦ h == g ])
+  begun_by boxes None box = refl
+  begun_by boxes (Some h) box =
+      ap (λ (o : Option (Option R)). jobs_of (begins h o)) box.1 ∙ count_one (λ (j : JobState R). j.who == g) (begun h box.0)
+
+  pub begun_count : (boxes : List (Option R)) (op : Op) → HasBox boxes (started_by op) → jobs_of (born_of boxes (started_by op)) ≡ as_number (starts g op)
+  begun_count boxes op box = begun_by boxes (started_by op) box ∙ sym (starts_is g op)
+
+  pub four_counts : (a b c d : List (JobState R)) → jobs_of (a ++ b ++ c ++ d) ≡ jobs_of a + jobs_of b + jobs_of c + jobs_of d
+  four_counts a b c d =
+      let p = count_append (λ (j : JobState R). j.who == g) (a ++ b ++ c) d in
+      let q = count_append (λ (j : JobState R). j.who == g) (a ++ b) c in
+      let r = count_append (λ (j : JobState R). j.who == g) a b in
+      omega (arith, p, q, r)

@@ -65,6 +65,7 @@ holds_opening k decls limit main others stands few count less =
     record {
       stands = stands;
       limited = omega arith;
+      once = opening_once decls limit main others;
       few = few;
       parked = refl;
       few_goroutines = omega (arith, len, less);

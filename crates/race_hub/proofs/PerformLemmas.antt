@@ -15,9 +15,9 @@ use Rattle.race_records.specs.declared.event.Op.TheVariants.{OnceBegin, OnceEnd,
 use Rattle.race_records.specs.declared.kind.Kind.{Kind}
 use Rattle.race_records.specs.declared.trace.PushFault.TheVariants.{BadNumber, WrongKind, Full}
 use Rattle.race_records.specs.declared.trace.TheConstants.{MAX_EVENTS}
-use Rattle.race_records.specs.Declarations.{DeclsState, counts_of}
+use Rattle.race_records.specs.Declarations.{DeclsState, capacity_of, counts_of}
 use Rattle.race_records.specs.Events.{TraceState, fits, push_fault, is_in_range, lock_fits}
-use Rattle.race_model.specs.Events.{starts, is_fault}
+use Rattle.race_model.specs.Events.{starts, is_exit, is_fault, has_exited}
 use Rattle.race_model.specs.State.{started}
 use Rattle.race_model.proofs.Indexes.{take_at_old}
 use Rattle.race_model.proofs.CountSteps.{has_push, as_number}
@@ -28,13 +28,19 @@ use Rattle.race_hub.specs.declared.ending.End.{End}
 use Rattle.race_hub.specs.declared.request.Waiter.{Waiter}
 use Rattle.race_hub.specs.Hub.{ParkedState, HubState, stop_of, is_last, is_main_exit}
 use Rattle.race_hub.specs.Holds.{Holds}
+use Rattle.race_hub.specs.Kept.{standing, has_failed, is_active, StandOnce}
+use Rattle.race_hub.specs.Choices.{event_of}
+use Rattle.race_model.specs.Legal.{broken, IsLegal}
+use Rattle.race_hub.specs.Table.{IsRow, done_by}
 use Rattle.race_hub.specs.Submits.{is_sound}
 use Rattle.race_hub.specs.declared.request.Answer.{Answer}
 use Rattle.race_hub.specs.declared.firing.Firing.{Firing}
 use Rattle.race_hub.specs.Job.{JobState}
-use Rattle.race_hub.specs.Firing.{IsFiring}
+use Rattle.race_hub.specs.Firing.{IsFiring, HasRows}
 use Rattle.race_hub.specs.Fires.{without, partner_of, goes_on, partner_goes_on, started_by, begins, born_of, boxes_after, HasBox}
-use Rattle.race_hub.proofs.ChoiceLemmas.{all_at}
+use Rattle.race_hub.proofs.ChoiceLemmas.{all_at, some_is}
+use Rattle.race_hub.proofs.OnceLemmas.{leaves, told_leaves, event_who, count_without, jobs_of, goes_count, partner_count, begun_count, four_counts}
+use Rattle.race_hub.proofs.OnceLemmas.{asker_balance, one_step, started_fresh, active_push}
 use Rattle.race_hub.proofs.FiringLemmas.{both_true, both_false, below}
 
 -- what is right isn't wrong
@@ -217,6 +223,7 @@ module _ {R : Type 0} where
   pub record Moves (old new : HubState R) (f : Firing) : Type 0 where
     pub w : Waiter
     pub p : ParkedState R
+    pub asks : slice_get old.waiting f.choice.place ≡ Some w
     pub decls : new.decls ≡ old.decls
     pub events : new.events ≡ old.events ++ f.event ∷ []
     pub limit : new.limit ≡ old.limit
@@ -233,6 +240,35 @@ module _ {R : Type 0} where
       let q = length-append (a ++ b) c in
       let r = length-append a b in
       omega (arith, p, q, r)
+
+  -- who is active stands in one of the lists after a firing
+  pub once_after : (old new : HubState R) (f : Firing) → Moves old new f → IsLegal (capacity_of old.decls.declarations) old.events → StandOnce old
+      → length old.parked ≡ length old.waiting → HasRows old.waiting f.choice f.event f.told f.partner
+      → event_of old.events old.waiting f.choice ≡ Some f.event → broken (capacity_of old.decls.declarations) old.events f.event ≡ None
+      → HasBox old.unstarted (started_by f.event.op) → StandOnce new
+  once_after old new f m legal once parked rows makes kept box g =
+      let same : rows.w ≡ m.w = some_is (sym rows.asks ∙ m.asks) in
+      let row = subst (λ (w : Waiter). IsRow w.asked.ask f.choice.offer (done_by w.who f.event.op) f.told) same rows.row in
+      let who = ap (λ n. n == g) (event_who old.events old.waiting f.choice m.w f.event m.asks makes) in
+      let told = told_leaves m.w.asked.ask f.choice.offer m.w.who f.event.op f.told row in
+      let asker : jobs_of g (goes_on m.w m.p f.told) ≡ as_number (not (leaves f.event.op) && (m.w.who == g)) =
+      goes_count g m.w m.p f.told ∙ ap (λ b. as_number (b && (m.w.who == g))) told in
+      let other = partner_count g f.choice old.waiting old.parked (f.choice.partner_offer - 1) f.event.op f.partner parked rows.partner rows.partner_row in
+      let born = begun_count g old.unstarted f.event.op box in
+      let ready = ap (jobs_of g) m.ready ∙ four_counts g old.ready (goes_on m.w m.p f.told)
+      (partner_goes_on (partner_of f.choice old.waiting) (partner_of f.choice old.parked) f.partner) (born_of old.unstarted (started_by f.event.op)) in
+      let waits = count_without (λ (w : Waiter). w.who == g) f.choice old.waiting m.w m.asks rows.partner rows.apart in
+      let left = ap (count_by (λ (w : Waiter). w.who == g)) m.waiting in
+      let out = ap (count_by (λ o. o == g)) m.out in
+      let balance = asker_balance (leaves f.event.op) (m.w.who == g) in
+      let leaver = ap (λ b. as_number (b && leaves f.event.op)) who in
+      let sums : standing old g + as_number (starts g f.event.op) ≡ standing new g + as_number ((f.event.who == g) && leaves f.event.op) =
+      omega (arith, asker, other, born, ready, waits, left, out, balance, leaver) in
+      one_step (g == 0) (started g old.events) (has_exited g old.events) (has_failed g old.events) (starts g f.event.op) (f.event.who == g)
+      (is_exit f.event.op) (is_fault f.event.op) (standing old g) (standing new g) (once g) sums
+      (λ is. let one : as_number (m.w.who == g) ≡ 1 = ap as_number (sym who ∙ is) in omega (arith, waits, one))
+      (started_fresh (capacity_of old.decls.declarations) old.events f.event g legal kept)
+      ∙ ap (λ b. cond b 1 0) (sym (active_push g old.events f.event)) ∙ ap (λ es. cond (is_active g es) 1 0) (sym m.events)
 
   -- what a hub holds it holds after a firing
   pub holds_after : (k l : ReplayState) (old new : HubState R) (f : Firing) → Moves old new f → Holds k old → stop_of old ≡ None → IsFiring old f
@@ -255,6 +291,7 @@ module _ {R : Type 0} where
       record {
         stands = rw (m.decls, m.events) stands;
         limited = rw (m.events, m.limit) (omega (arith, less, more));
+        once = once_after old new f m holds.stands.legal holds.once holds.parked rows firing.makes firing.legal firing.box;
         few = rw m.limit holds.few;
         parked = rw (m.parked, m.waiting) (omega (arith, waits, rests, same));
         few_goroutines = rw (m.unstarted, boxes) holds.few_goroutines;

@@ -1,13 +1,22 @@
--- The state after a job was put back.
-use Rattle.std.proofs.Common.{◌≡◌, ◌==◌, ◌&&◌, ◌||◌, not, ℕ, ◌<◌, ◌+◌, ◌++◌, Bool, true, false, if◌then◌else◌, [], ◌∷◌, length, All, IsTrue, Option, Some, None, is_none, refl, sym, ap, ◌∙◌, subst, arith, length-append, slice_get, zero, suc}
+-- The state after a job was put back, or taken.
+use Rattle.std.proofs.Common.{List, ◌≡◌, ◌==◌, ◌&&◌, ◌||◌, not, ℕ, ◌<◌, ◌+◌, ◌++◌, Bool, true, false, if◌then◌else◌, [], ◌∷◌, length, All, IsTrue, Option, Some, None, is_none, refl, sym, ap, ◌∙◌, subst, arith, length-append, slice_get, zero, suc}
 use Rattle.std.proofs.lemmas.Option.{none-some}
 use Rattle.std.proofs.lemmas.List.Elements.{All-append}
+use Rattle.std.specs.List.{count_by, list_any}
+use Rattle.std.specs.Prelude.{cond, is_some}
+use Rattle.race_model.proofs.CountSteps.{as_number}
 use Rattle.race_legal.specs.ReplayState.{ReplayState}
 use Rattle.race_hub.specs.declared.ending.End.{End}
 use Rattle.race_hub.specs.declared.request.Waiter.{Waiter}
-use Rattle.race_hub.specs.Hub.{ParkedState, HubState, stop_of, is_last, is_main_exit}
+use Rattle.race_hub.specs.Hub.{ParkedState, HubState, stop_of, end_of, is_last, is_main_exit}
 use Rattle.race_hub.specs.Holds.{Holds}
-use Rattle.race_hub.specs.Submits.{is_sound, is_out_of_turn, is_bad}
+use Rattle.race_hub.specs.Job.{JobState}
+use Rattle.race_hub.specs.Kept.{standing, is_active, StandOnce}
+use Rattle.race_hub.specs.Submits.{is_sound, is_out_of_turn, is_bad, is_back, ends_hub, Takes}
+use Rattle.race_hub.specs.declared.request.Request.{Request}
+use Rattle.race_hub.proofs.EndLemmas.{end_while_out}
+use Rattle.race_hub.proofs.FiringLemmas.{both_true}
+use Rattle.race_hub.proofs.OnceLemmas.{count_append, count_one, count_cons}
 use Rattle.race_model.specs.Events.{is_fault}
 use Rattle.race_model.specs.State.{started}
 
@@ -20,6 +29,7 @@ pub record Joins {R : Type 0} (old new : HubState R) (w : Waiter) (p : ParkedSta
   pub waiting : new.waiting ≡ old.waiting ++ w ∷ []
   pub parked : new.parked ≡ old.parked ++ p ∷ []
   pub out : length new.out + 1 ≡ length old.out
+  pub gone : (g : ℕ) → count_by (λ o. o == g) new.out + as_number (w.who == g) ≡ count_by (λ o. o == g) old.out
   pub unstarted : new.unstarted ≡ old.unstarted
 
 all_one : {X : Type 0} (P : X → Type 0) (x : X) → P x → All P (x ∷ [])
@@ -53,6 +63,28 @@ module _ {R : Type 0} where
       by true b is = refl
       by false b is = absurd cc
 
+  -- who is active stands in one of the lists once its request waits
+  pub once_joined : (old new : HubState R) (w : Waiter) → new.ready ≡ old.ready → new.events ≡ old.events → new.waiting ≡ old.waiting ++ w ∷ []
+      → ((g : ℕ) → count_by (λ o. o == g) new.out + as_number (w.who == g) ≡ count_by (λ o. o == g) old.out) → StandOnce old → StandOnce new
+  once_joined old new w ready events waiting gone once g =
+      let jobs = ap (count_by (λ (r : JobState R). r.who == g)) ready in
+      let more = ap (count_by (λ (r : Waiter). r.who == g)) waiting ∙ count_append (λ (r : Waiter). r.who == g) old.waiting (w ∷ []) in
+      let one = count_one (λ (r : Waiter). r.who == g) w in
+      let left = gone g in
+      let same : standing new g ≡ standing old g = omega (arith, jobs, more, one, left) in
+      same ∙ once g ∙ ap (λ es. cond (is_active g es) 1 0) (sym events)
+
+  -- and once its job is out
+  pub once_taken : (old new : HubState R) (job : JobState R) → Takes old job new → StandOnce old → StandOnce new
+  once_taken old new job t once g =
+      let (decls, events, limit, waiting, parked, unstarted, ended, bad) = t.same in
+      let before = ap (count_by (λ (r : JobState R). r.who == g)) t.ready ∙ count_cons (λ (r : JobState R). r.who == g) job new.ready in
+      let after = ap (count_by (λ o. o == g)) t.out ∙ count_append (λ o. o == g) old.out (job.who ∷ []) in
+      let one = count_one (λ o. o == g) job.who in
+      let waits = ap (count_by (λ (r : Waiter). r.who == g)) waiting in
+      let same : standing new g ≡ standing old g = omega (arith, before, after, one, waits) in
+      same ∙ once g ∙ ap (λ es. cond (is_active g es) 1 0) (sym events)
+
   -- what a hub holds it holds with one request more, where that is sound until the hub is stopped
   joined : (k : ReplayState) (old new : HubState R) (w : Waiter) (p : ParkedState R) → Joins old new w p → Holds k old
       → (stop_of new ≡ None → (stop_of old ≡ None) × (is_sound old.decls w ≡ true)) → Holds k new
@@ -65,6 +97,7 @@ module _ {R : Type 0} where
       record {
         stands = rw (j.decls, j.events) holds.stands;
         limited = rw (j.events, j.limit) holds.limited;
+        once = once_joined old new w j.ready j.events j.waiting j.gone holds.once;
         few = rw j.limit holds.few;
         parked = rw (j.parked, j.waiting) (omega (arith, waits, rests, same));
         few_goroutines = rw j.unstarted holds.few_goroutines;
@@ -89,3 +122,58 @@ module _ {R : Type 0} where
   pub joined_badly : (k : ReplayState) (old new : HubState R) (w : Waiter) (p : ParkedState R) (g : ℕ) → Joins old new w p → new.bad ≡ Some g → Holds k old
       → Holds k new
   joined_badly k old new w p g j bad holds = joined k old new w p j holds (λ on. absurd (bad_stops new g bad on))
+
+  -- what a hub holds it holds with one job out
+  pub taken : (k : ReplayState) (old new : HubState R) (job : JobState R) → Takes old job new → Holds k old → Holds k new
+  taken k old new job t holds =
+      let (decls, events, limit, waiting, parked, unstarted, ended, bad) = t.same in
+      let fewer = ap length t.ready in
+      let more = ap length t.out ∙ length-append old.out (job.who ∷ []) in
+      let heads = holds.heads in
+      record {
+        stands = rw (decls, events) holds.stands;
+        limited = rw (events, limit) holds.limited;
+        once = once_taken old new job t holds.once;
+        few = rw limit holds.few;
+        parked = rw (parked, waiting) holds.parked;
+        few_goroutines = rw unstarted holds.few_goroutines;
+        boxes = rw (unstarted, decls) holds.boxes;
+        unborn = λ g positive within fresh.
+            let there = holds.unborn g positive (subst (λ bs. g < length bs) unstarted within) (subst (λ es. started g es ≡ false) events fresh) in
+            (there.0, ap (λ bs. slice_get bs g) unstarted ∙ there.1);
+        heads = rw (waiting, unstarted) (omega (arith, fewer, more, heads));
+        sound = λ on. rw (waiting, decls) (holds.sound (sym (stop_same old new events limit bad) ∙ on));
+      }
+
+  -- whose job is back was out
+  pub back_was_out : (h : HubState R) (job : JobState R) (back : Bool) (who : ℕ) → back ≡ is_back h job → back ≡ true → who ≡ job.who
+      → list_any (λ o. o == who) h.out ≡ true
+  back_was_out h job back who is test same =
+      subst (λ n. list_any (λ o. o == n) h.out ≡ true) (sym same) (both_true (is_some job.asked) _ (sym is ∙ test)).1
+
+  abbrev with_lists : HubState R → List Waiter → List (ParkedState R) → HubState R
+  with_lists h waiting parked = record {
+    decls = h.decls;
+    events = h.events;
+    limit = h.limit;
+    ready = h.ready;
+    waiting = waiting;
+    parked = parked;
+    out = h.out;
+    unstarted = h.unstarted;
+    ended = h.ended;
+    bad = h.bad;
+  }
+
+  -- room alone changes no test
+  pub test_same : (h : HubState R) (waiting : List Waiter) (parked : List (ParkedState R)) (w : Waiter) → waiting ≡ h.waiting → parked ≡ h.parked
+      → (is_none (stop_of (with_lists h waiting parked)) && is_bad (with_lists h waiting parked) w) ≡ (is_none (stop_of h) && is_bad h w)
+  test_same h waiting parked w p q = λ i. is_none (stop_of (with_lists h (p i) (q i))) && is_bad (with_lists h (p i) (q i)) w
+
+  -- a bad request ends the hub
+  pub ends_by : (h : HubState R) (job : JobState R) (w : Waiter) → list_any (λ o. o == w.who) h.out ≡ true → w.who ≡ job.who → job.asked ≡ Some w.asked
+      → (is_none (stop_of h) && is_bad h w) ≡ true → ends_hub h job ≡ true
+  ends_by h job w among same asks bad =
+      ap (λ (o : Option Request). elim o [ None ↦ false | Some asked ↦ is_none (end_of h) && is_bad h (record { who = job.who; asked = asked }) ]) asks
+      ∙ ap (λ n. is_none (end_of h) && is_bad h (record { who = n; asked = w.asked })) (sym same)
+      ∙ ap (λ (e : Option End). is_none e && is_bad h w) (end_while_out h (λ o. o == w.who) among) ∙ bad

@@ -8,6 +8,7 @@ use Rattle.race_model.specs.State.{started}
 use Rattle.race_legal.specs.ReplayState.{ReplayState}
 use Rattle.race_legal.specs.StandsFor.{StandsFor}
 use Rattle.race_hub.specs.Hub.{HubState, stop_of}
+use Rattle.race_hub.specs.Kept.{StandOnce}
 use Rattle.race_hub.specs.Submits.{is_sound}
 
 -- whoever wasn't started has its box there
@@ -19,6 +20,8 @@ HaveBoxes {R} h =
 pub record Holds {R : Type 0} (k : ReplayState) (h : HubState R) : Type 0 where
   pub stands : StandsFor h.decls.declarations k h.events
   pub limited : length h.events ≤ h.limit
+  -- who runs and hasn't failed stands in exactly one of the lists, and once, and nobody else does
+  pub once : StandOnce h
   pub few : h.limit ≤ MAX_EVENTS
   -- a box and a log stand behind each request
   pub parked : length h.parked ≡ length h.waiting

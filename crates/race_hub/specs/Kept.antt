@@ -19,8 +19,12 @@ is_active g events = runs g events && not (has_failed g events)
 abbrev pub standing : {R : Type 0} → HubState R → ℕ → ℕ
 standing h g = count_by (λ j. j.who == g) h.ready + count_by (λ w. w.who == g) h.waiting + count_by (λ o. o == g) h.out
 
--- a kept state: the trace is legal and within the limit, and who is active stands in exactly one of the lists, and once, and nobody else does
+-- who is active stands in exactly one of the lists, and once, and nobody else does
+abbrev pub StandOnce : {R : Type 0} → HubState R → Type 0
+StandOnce h = (g : ℕ) → standing h g ≡ cond (is_active g h.events) 1 0
+
+-- a kept state: the trace is legal and within the limit, and each goroutine stands where it has to
 pub record IsKept {R : Type 0} (h : HubState R) : Type 0 where
   pub legal : IsLegal (capacity_of h.decls.declarations) h.events
   pub limited : length h.events ≤ h.limit
-  pub once : (g : ℕ) → standing h g ≡ cond (is_active g h.events) 1 0
+  pub once : StandOnce h

@@ -19,3 +19,4 @@ pub mod Opening
 pub mod Firing
 pub mod Kept
 pub mod Firings
+pub mod Runs

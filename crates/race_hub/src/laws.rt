@@ -1,5 +1,6 @@
 //! The laws of the table and of the choices. Each function does nothing, and its contract is the law.
 ghost use Rattle.race_hub.specs.Firings.{AFiringIsAnEvent, AGoIsFired, AMeetIsFired, AStarterIsReadyFirst, OpeningIsKept};
+ghost use Rattle.race_hub.specs.Runs.{EachRunIsKept};
 ghost use Rattle.race_hub.specs.Laws.{
   EachMeetGoesOn,
   EachRowGoesOn,
@@ -104,4 +105,9 @@ pub fn a_firing_is_an_event<R>()
 /// The first state is a kept one.
 pub fn opening_is_kept<R>()
     ensures { OpeningIsKept R }
+{}
+
+/// Whatever jobs are taken and put back, and whichever picks are performed, each state from the first on is a kept one.
+pub fn each_run_is_kept<R>()
+    ensures { EachRunIsKept R }
 {}

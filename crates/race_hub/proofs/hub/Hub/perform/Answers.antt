@@ -60,6 +60,7 @@ abbrev moved : (g : given.Over) (c : goal.After-start g) → Moves (hub_state c.
 moved g c = record {
   w = c.take_out-other.result.0;
   p = c.take_out-parked.result.0;
+  asks = c.take_out-other.ensures.first;
   decls = c.in-Ok-push.ensures.decls ∙ c.reserve-4.ensures.unchanged.decls;
   events = c.in-Ok-push.ensures.events ∙ ap (λ es. es ++ c.args.firing.event ∷ []) c.reserve-4.ensures.unchanged.events;
   limit = refl;

@@ -1,8 +1,12 @@
-use Rattle.std.proofs.Common.{◌≡◌, ◌++◌, ◌∷◌, [], ◌∙◌, ap, refl, arith, sym, ◌&&◌, is_none, Some}
+use Rattle.std.proofs.Common.{◌≡◌, ◌==◌, ◌+◌, cond, ◌++◌, ◌∷◌, [], ◌∙◌, ap, subst, refl, arith, sym, ◌&&◌, if◌then◌else◌, is_none, Some, true, false}
+use Rattle.std.specs.List.{count_by}
 use Rattle.race_hub.specs.Hub.{HubState, stop_of}
 use Rattle.race_hub.specs.HubHolds.{hub_state}
-use Rattle.race_hub.specs.Submits.{is_bad}
-use Rattle.race_hub.proofs.SubmitLemmas.{joined_well, joined_badly}
+use Rattle.race_hub.specs.declared.request.Waiter.{Waiter}
+use Rattle.race_hub.specs.Submits.{is_bad, is_back, ends_hub, without_first, Submits}
+use Rattle.race_hub.proofs.AmongLemmas.{first_gone}
+use Rattle.race_hub.proofs.SubmitLemmas.{joined_well, joined_badly, back_was_out, test_same, ends_by, Joins}
+use Rattle.race_hub.proofs.hub.Hub.submit.Given as given
 use Rattle.race_hub.proofs.hub.Hub.submit.Goals as goal
 
 pub invariant_of-self-then-bad : goal.invariant_of-self-then-bad
@@ -11,6 +15,9 @@ invariant_of-self-then-bad g c =
     let len = c.take_first.ensures.len in
     let cap = c.take_first.ensures.room in
     let old = hub_state c.self.inside in
+    let w = c.park-parked.result.0 in
+    let among = back_was_out old c.args.job c.is_back.result w.who (c.is_back.ensures ∙ ap (λ h. is_back h c.args.job) (sym c.self.view_is))
+    c.if-not-is_back.false c.park-parked.ensures.who in
     let new : HubState g.row.R.Denot = record {
       decls = old.decls;
       events = old.events;
@@ -21,21 +28,60 @@ invariant_of-self-then-bad g c =
       out = c.take_first.new.numbers.items;
       unstarted = old.unstarted;
       ended = old.ended;
-      bad = Some c.park-parked.result.0.who;
+      bad = Some w.who;
     } in (
-      joined_badly c.self.inside.replay old new c.park-parked.result.0 c.park-parked.result.1 c.park-parked.result.0.who
+      joined_badly c.self.inside.replay old new w c.park-parked.result.1 w.who
           (record {
             decls = refl;
             events = refl;
             limit = refl;
             ready = refl;
-            waiting = c.push_reserved.ensures.items ∙ ap (λ xs. xs ++ c.park-parked.result.0 ∷ []) c.reserve.ensures.items;
+            waiting = c.push_reserved.ensures.items ∙ ap (λ xs. xs ++ w ∷ []) c.reserve.ensures.items;
             parked = c.push_reserved-2.ensures.items ∙ ap (λ xs. xs ++ c.park-parked.result.1 ∷ []) c.reserve-else-is_err.ensures.items;
             out = c.take_first.ensures.count;
+            gone = λ k.
+                ap (λ xs. count_by (λ o. o == k) xs + cond (w.who == k) 1 0) c.take_first.ensures.numbers ∙ first_gone old.out w.who k among;
             unstarted = refl;
           })
           refl c.self.invariant.0,
       omega (arith, room, len, cap),
+    )
+
+pub returns-then-bad-clause-bad : goal.returns-then-bad-clause-bad
+returns-then-bad-clause-bad g c _ =
+    let old = hub_state c.self.inside in
+    let w = c.park-parked.result.0 in
+    let who = c.park-parked.ensures.who in
+    let among = back_was_out old c.args.job c.is_back.result w.who (c.is_back.ensures ∙ ap (λ h. is_back h c.args.job) (sym c.self.view_is))
+    c.if-not-is_back.false who in
+    let same = test_same old c.reserve.new.self.items c.reserve-else-is_err.new.self.items w c.reserve.ensures.items c.reserve-else-is_err.ensures.items in
+    let ends : ends_hub old c.args.job ≡ true =
+    ends_by old c.args.job w among who c.park-parked.ensures.asked (sym same ∙ sym c.is_bad-bad.ensures ∙ c.if-bad.true) in
+    let new : HubState g.row.R.Denot = record {
+      decls = old.decls;
+      events = old.events;
+      limit = old.limit;
+      ready = old.ready;
+      waiting = c.push_reserved.new.self.items;
+      parked = c.push_reserved-2.new.self.items;
+      out = c.take_first.new.numbers.items;
+      unstarted = old.unstarted;
+      ended = old.ended;
+      bad = Some w.who;
+    } in
+    let submits : Submits old c.args.job new = record {
+      asked = w.asked;
+      asks = c.park-parked.ensures.asked;
+      waiting = c.push_reserved.ensures.items ∙ ap (λ xs. xs ++ w ∷ []) c.reserve.ensures.items
+          ∙ ap (λ n. old.waiting ++ record { who = n; asked = w.asked } ∷ []) who;
+      parked = c.push_reserved-2.ensures.items ∙ ap (λ xs. xs ++ c.park-parked.result.1 ∷ []) c.reserve-else-is_err.ensures.items
+          ∙ ap (λ p. old.parked ++ p ∷ []) c.park-parked.ensures.parked;
+      out = c.take_first.ensures.numbers ∙ ap (λ n. without_first n old.out) who;
+      bad = ap Some who ∙ sym (ap (λ b. if b then Some c.args.job.who else old.bad) ends);
+      same = (refl, refl, refl, refl, refl, refl);
+    } in (
+      subst (λ h. ends_hub h c.args.job ≡ true) c.self.view_is ends,
+      subst (λ h. Submits h c.args.job new) c.self.view_is submits,
     )
 
 pub invariant_of-self-else-bad : goal.invariant_of-self-else-bad
@@ -44,6 +90,9 @@ invariant_of-self-else-bad g c =
     let len = c.take_first.ensures.len in
     let cap = c.take_first.ensures.room in
     let old = hub_state c.self.inside in
+    let w = c.park-parked.result.0 in
+    let among = back_was_out old c.args.job c.is_back.result w.who (c.is_back.ensures ∙ ap (λ h. is_back h c.args.job) (sym c.self.view_is))
+    c.if-not-is_back.false c.park-parked.ensures.who in
     let new : HubState g.row.R.Denot = record {
       decls = old.decls;
       events = old.events;
@@ -56,52 +105,18 @@ invariant_of-self-else-bad g c =
       ended = old.ended;
       bad = old.bad;
     } in
-    let w = c.park-parked.result.0 in
-    let same : (is_none (stop_of (hub_state (record {
-      alloc = c.self.inside.alloc;
-      replay = c.self.inside.replay;
-      trace = c.self.inside.trace;
-      limit = c.self.inside.limit;
-      ready = c.self.inside.ready;
-      waiting = c.reserve.new.self;
-      parked = c.reserve-else-is_err.new.self;
-      out = c.self.inside.out;
-      unstarted = c.self.inside.unstarted;
-      ended = c.self.inside.ended;
-      bad = c.self.inside.bad;
-    }))) && is_bad (hub_state (record {
-      alloc = c.self.inside.alloc;
-      replay = c.self.inside.replay;
-      trace = c.self.inside.trace;
-      limit = c.self.inside.limit;
-      ready = c.self.inside.ready;
-      waiting = c.reserve.new.self;
-      parked = c.reserve-else-is_err.new.self;
-      out = c.self.inside.out;
-      unstarted = c.self.inside.unstarted;
-      ended = c.self.inside.ended;
-      bad = c.self.inside.bad;
-    })) w) ≡ (is_none (stop_of old) && is_bad old w) = ap (λ (h : HubState g.row.R.Denot). is_none (stop_of h) && is_bad h w) (λ i. record {
-      decls = old.decls;
-      events = old.events;
-      limit = old.limit;
-      ready = old.ready;
-      waiting = c.reserve.ensures.items i;
-      parked = c.reserve-else-is_err.ensures.items i;
-      out = old.out;
-      unstarted = old.unstarted;
-      ended = old.ended;
-      bad = old.bad;
-    }) in (
+    let same = test_same old c.reserve.new.self.items c.reserve-else-is_err.new.self.items w c.reserve.ensures.items c.reserve-else-is_err.ensures.items in (
       joined_well c.self.inside.replay old new w c.park-parked.result.1
           (record {
             decls = refl;
             events = refl;
             limit = refl;
             ready = refl;
-            waiting = c.push_reserved.ensures.items ∙ ap (λ xs. xs ++ c.park-parked.result.0 ∷ []) c.reserve.ensures.items;
+            waiting = c.push_reserved.ensures.items ∙ ap (λ xs. xs ++ w ∷ []) c.reserve.ensures.items;
             parked = c.push_reserved-2.ensures.items ∙ ap (λ xs. xs ++ c.park-parked.result.1 ∷ []) c.reserve-else-is_err.ensures.items;
             out = c.take_first.ensures.count;
+            gone = λ k.
+                ap (λ xs. count_by (λ o. o == k) xs + cond (w.who == k) 1 0) c.take_first.ensures.numbers ∙ first_gone old.out w.who k among;
             unstarted = refl;
           })
           refl c.self.invariant.0 (sym same ∙ sym c.is_bad-bad.ensures ∙ c.if-bad.false),

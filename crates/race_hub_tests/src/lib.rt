@@ -1,0 +1,5 @@
+//! What race_hub does that no contract says.
+#![tactic(auto)]
+
+#[cfg(test)]
+mod hubs;

@@ -1,5 +1,6 @@
 -- What a listed choice is: who takes part in its event, and what each is told.
-use Rattle.std.proofs.Common.{◌≡◌, ◌==◌, ℕ, zero, suc, ◌<◌, ◌≤◌, ◌+◌, ◌-◌, ◌%◌, ◌++◌, Bool, true, false, cond, List, [], ◌∷◌, map, filter, flat_map, length, All}
+use Rattle.std.proofs.Common.{◌≡◌, ◌==◌, ℕ, zero, suc, ◌<◌, ◌≤◌, ◌+◌, ◌-◌, ◌%◌, ◌++◌, Bool, true, false, cond, List, [], ◌∷◌, map, filter, flat_map, length}
+use Rattle.std.proofs.Common.{All}
 use Rattle.std.proofs.Common.{Option, Some, None, is_none, refl, sym, ap, ◌∙◌, subst, inl, inr, arith, slice_get, eqb-true, eq-eqb, true≢false}
 use Rattle.std.specs.List.{range_with_len}
 use Rattle.std.proofs.lemmas.Option.{none-some, slice_get_within, get_or_from_slice_get}
@@ -272,7 +273,8 @@ module _ (caps : ℕ → ℕ) (past : List Event) (ws : List Waiter) (t : Choice
           w = w;
           asks = at;
           row = sender_told w.who r.who unlike w.asked.ask r.asked.ask t.offer (t.partner_offer - 1) e.op met;
-          partner_row = subst (λ b. IsPartnerRow (cond b None (slice_get ws (t.partner - 1))) (t.partner_offer - 1) e.op (Some (Answer.Value met.value))) (sym alone)
+          partner_row = subst (λ b. IsPartnerRow (cond b None (slice_get ws (t.partner - 1))) (t.partner_offer - 1) e.op
+              (Some (Answer.Value met.value))) (sym alone)
               (subst (λ o. IsPartnerRow o (t.partner_offer - 1) e.op (Some (Answer.Value met.value))) (sym other)
               ((Answer.Value met.value, refl), receiver_told w.who r.who unlike w.asked.ask r.asked.ask t.offer (t.partner_offer - 1) e.op met));
           place = slice_get_within ws t.place w at;
@@ -281,7 +283,8 @@ module _ (caps : ℕ → ℕ) (past : List Event) (ws : List Waiter) (t : Choice
         };
       }
     where
-      other_at : (w r : Waiter) → slice_get ws t.place ≡ Some w → slice_get ws (t.partner - 1) ≡ Some r → t.partner ≡ t.place + 1 → slice_get ws t.place ≡ Some r
+      other_at : (w r : Waiter) → slice_get ws t.place ≡ Some w → slice_get ws (t.partner - 1) ≡ Some r → t.partner ≡ t.place + 1
+          → slice_get ws t.place ≡ Some r
       other_at w r at other q = ap (slice_get ws) (let e : t.place ≡ t.partner - 1 = omega (arith, q) in e) ∙ other
 
       same_place : (w r : Waiter) → slice_get ws t.place ≡ Some w → slice_get ws t.place ≡ Some r → (r.who == w.who) ≡ false → ⊥

@@ -35,7 +35,8 @@ middle_false : (a b c : Bool) → b ≡ false → (a && (b && c)) ≡ false
 middle_false true b c is = rw is refl
 middle_false false b c is = refl
 
-by_dead : (stop : Option End) (dead : Bool) → dead ≡ false → ◌≡◌ {A = Option End} (elim stop [ Some e ↦ Some e | None ↦ if dead then Some End.Deadlock else None ]) stop
+by_dead : (stop : Option End) (dead : Bool) → dead ≡ false
+    → ◌≡◌ {A = Option End} (elim stop [ Some e ↦ Some e | None ↦ if dead then Some End.Deadlock else None ]) stop
 by_dead (Some e) dead is = refl
 by_dead None dead is = rw is refl
 

@@ -1,5 +1,6 @@
 -- What the hub owes to a firing, and what its choice says of it.
-use Rattle.std.proofs.Common.{◌≡◌, ◌==◌, ◌||◌, ◌&&◌, ℕ, ◌<◌, ◌%◌, nat_lt, Bool, true, false, List, [], length, All, IsTrue, Option, Some, None, IsNone, refl, sym, ap, ◌∙◌, subst}
+use Rattle.std.proofs.Common.{◌≡◌, ◌==◌, ◌||◌, ◌&&◌, ℕ, ◌<◌, ◌%◌, nat_lt, Bool, true, false, List, [], length, All, IsTrue, Option, Some, None, IsNone, refl}
+use Rattle.std.proofs.Common.{sym, ap, ◌∙◌, subst}
 use Rattle.std.proofs.Common.{arith, slice_get}
 use Rattle.std.proofs.lemmas.Bool.Decides.{nat_tests}
 use Rattle.race_records.specs.declared.event.Event.{Event}
@@ -91,10 +92,12 @@ module _ {R : Type 0} (h : HubState R) where
       listed_is_possible (capacity_of h.decls.declarations) h.events h.waiting (pick % length (choices_of h)) t is
 
   -- a choice that makes an event makes it
-  made_event : (t : Choice) (e : Event) (p : IsPossible (capacity_of h.decls.declarations) h.events h.waiting t) → event_of h.events h.waiting t ≡ Some e → p.e ≡ e
+  made_event : (t : Choice) (e : Event) (p : IsPossible (capacity_of h.decls.declarations) h.events h.waiting t)
+      → event_of h.events h.waiting t ≡ Some e → p.e ≡ e
   made_event t e p makes = some_is (sym p.makes ∙ makes)
 
-  pub picked_rows : (pick : ℕ) (t : Choice) (e : Event) → picked pick (choices_of h) ≡ Some t → event_of h.events h.waiting t ≡ Some e → HasSomeRows h.waiting t e
+  pub picked_rows : (pick : ℕ) (t : Choice) (e : Event) → picked pick (choices_of h) ≡ Some t → event_of h.events h.waiting t ≡ Some e
+      → HasSomeRows h.waiting t e
   picked_rows pick t e is makes =
       let p = picked_is_possible pick t is in
       let same = made_event t e p makes in

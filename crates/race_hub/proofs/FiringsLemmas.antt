@@ -1,7 +1,7 @@
 -- Small firings are computed, and a wrong state is none.
-use Rattle.std.proofs.Common.{◌≡◌, ℕ, zero, suc, ◌<◌, ◌≤◌, ◌++◌, List, [], ◌∷◌, length, Option, Some, None, slice_get, refl, sym, ap, ◌∙◌, subst, inl, arith, length-append}
-use Rattle.std.proofs.lemmas.Option.{none-some}
-use Rattle.race_records.specs.Declarations.{DeclsState, capacity_of}
+use Rattle.std.proofs.Common.{◌≡◌, ℕ, ◌++◌, List, [], ◌∷◌, length, Option, Some, None, slice_get, refl, sym, ap, ◌∙◌, subst, inl, arith}
+use Rattle.std.proofs.Common.{length-append}
+use Rattle.race_records.specs.Declarations.{capacity_of}
 use Rattle.race_model.proofs.LegalSteps.{legal_none}
 use Rattle.race_hub.specs.declared.choice.Choice.{Choice}
 use Rattle.race_hub.specs.declared.request.Answer.{Answer}
@@ -11,12 +11,12 @@ use Rattle.race_hub.specs.Choices.{choice}
 use Rattle.race_hub.specs.Rows.{waits}
 use Rattle.race_hub.specs.Job.{JobState}
 use Rattle.race_hub.specs.Table.{IsRow, done_by}
-use Rattle.race_hub.specs.Hub.{ParkedState, HubState, opening, stop_of}
-use Rattle.race_hub.specs.Fires.{IsFired, goes_on, partner_goes_on, partner_of, born_of, started_by}
-use Rattle.race_hub.specs.Kept.{IsKept}
+use Rattle.race_hub.specs.Hub.{stop_of}
+use Rattle.race_hub.specs.Fires.{goes_on, partner_goes_on, partner_of, born_of, started_by}
 use Rattle.race_hub.proofs.ChoiceLemmas.{some_is}
 use Rattle.race_hub.proofs.OpeningLemmas.{opening_once}
-use Rattle.race_hub.specs.Firings.{before_go, after_go, went, before_meet, after_meet, met, behind, AGoIsFired, AMeetIsFired, OpeningIsKept, AFiringIsAnEvent, AStarterIsReadyFirst}
+use Rattle.race_hub.specs.Firings.{before_go, went, met, behind, AGoIsFired, AMeetIsFired, OpeningIsKept, AFiringIsAnEvent}
+use Rattle.race_hub.specs.Firings.{AStarterIsReadyFirst}
 
 pub go_is_fired : AGoIsFired
 unfolding stop_of

@@ -1,6 +1,7 @@
 -- How often a goroutine stands in the lists of a hub, one step on.
-use Rattle.std.proofs.Common.{◌≡◌, ◌≢◌, ◌==◌, ◌||◌, ◌&&◌, not, ℕ, zero, suc, ◌<◌, ◌≤◌, ◌+◌, ◌-◌, ◌++◌, nat_lt, Bool, true, false, cond, if◌then◌else◌, List, [], ◌∷◌}
-use Rattle.std.proofs.Common.{length, take, drop, Option, Some, None, refl, sym, ap, ◌∙◌, subst, arith, slice_get, true≢false, take_all, inl, inr}
+use Rattle.std.proofs.Common.{◌≡◌, ◌≢◌, ◌==◌, ◌||◌, ◌&&◌, not, ℕ, zero, suc, ◌<◌, ◌≤◌, ◌+◌, ◌-◌, ◌++◌, nat_lt, Bool, true, false, cond, if◌then◌else◌, List}
+use Rattle.std.proofs.Common.{[], ◌∷◌}
+use Rattle.std.proofs.Common.{length, take, Option, Some, None, refl, sym, ap, ◌∙◌, subst, arith, slice_get, true≢false, take_all, inl, inr}
 use Rattle.std.specs.List.{remove, count_by}
 use Rattle.std.specs.Prelude.{is_some}
 use Rattle.std.proofs.Math.Bool.{or-false}
@@ -14,19 +15,18 @@ use Rattle.race_records.specs.declared.event.Op.TheVariants.{OnceBegin, OnceEnd,
 use Rattle.race_model.specs.Events.{starts, is_exit, is_fault, has, has_exited, count}
 use Rattle.race_model.specs.State.{over, started, runs}
 use Rattle.race_model.specs.Legal.{broken, rules, actors_run, receiver_runs, IsLegal}
-use Rattle.race_model.proofs.Indexes.{at_below, take_suc, slice_get-take}
+use Rattle.race_model.proofs.Indexes.{at_below, take_suc}
 use Rattle.race_model.proofs.CountSteps.{as_number, positive_more, has_exited_push}
 use Rattle.race_model.proofs.StateSteps.{started_push, runs_push}
 use Rattle.race_model.proofs.ChannelOrder.{rules_kept}
 use Rattle.race_hub.specs.declared.choice.Choice.{Choice}
 use Rattle.race_hub.specs.declared.request.Answer.{Answer}
 use Rattle.race_hub.specs.declared.request.Ask.{Ask}
-use Rattle.race_hub.specs.declared.request.Offer.{Offer}
 use Rattle.race_hub.specs.declared.request.Waiter.{Waiter}
 use Rattle.race_hub.specs.Choices.{op_of, meet_op, offer_at, lone_event, meet_event, event_of}
 use Rattle.race_hub.specs.Table.{IsRow, done_by, offers_of}
 use Rattle.race_hub.specs.Job.{JobState, begun}
-use Rattle.race_hub.specs.Hub.{ParkedState, HubState}
+use Rattle.race_hub.specs.Hub.{ParkedState}
 use Rattle.race_hub.specs.Fires.{without, partner_of, answered, goes_on, partner_goes_on, IsPartnerRow, started_by, begins, born_of, HasBox}
 use Rattle.race_hub.specs.Kept.{has_failed, is_active}
 use Rattle.race_hub.proofs.ChoiceLemmas.{some_is}
@@ -73,7 +73,8 @@ module _ {X : Type 0} (p : X → Bool) where
   count_without t xs x is partner apart = by (t.partner == 0) (nat_lt t.place (t.partner - 1)) refl refl
     where
       by : (alone before : Bool) → (t.partner == 0) ≡ alone → nat_lt t.place (t.partner - 1) ≡ before
-          → count_by p (if alone then remove xs t.place else (if before then remove (remove xs (t.partner - 1)) t.place else remove (remove xs t.place) (t.partner - 1)))
+          → count_by p (if alone then remove xs t.place else (if before then remove (remove xs (t.partner - 1)) t.place
+          else remove (remove xs t.place) (t.partner - 1)))
           + as_number (p x) + passes (if alone then None else slice_get xs (t.partner - 1)) ≡ count_by p xs
       by true before none test = let one = count_remove xs t.place x is in omega (arith, one)
       by false true none test =

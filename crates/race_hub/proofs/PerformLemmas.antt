@@ -1,6 +1,8 @@
 -- The state after a firing.
-use Rattle.std.proofs.Common.{◌≡◌, ◌≢◌, ◌==◌, ◌⊎◌, ℕ, zero, suc, ◌<◌, ◌≤◌, ◌+◌, ◌-◌, ◌++◌, nat_lt, Bool, true, false, if◌then◌else◌, List, [], ◌∷◌, length, take, drop, All}
-use Rattle.std.proofs.Common.{IsTrue, IsOk, Result, Err, IfSome, Option, Some, None, refl, sym, ap, ◌∙◌, subst, inl, inr, arith, not, ◌&&◌, nat_le, slice_get, slice_set, get_or, length-append, eq-eqb, true≢false}
+use Rattle.std.proofs.Common.{◌≡◌, ◌≢◌, ◌==◌, ◌⊎◌, ℕ, zero, suc, ◌<◌, ◌≤◌, ◌+◌, ◌-◌, ◌++◌, nat_lt, Bool, true, false, if◌then◌else◌, List, [], ◌∷◌, length}
+use Rattle.std.proofs.Common.{take, drop, All}
+use Rattle.std.proofs.Common.{IsTrue, IsOk, Result, Err, IfSome, Option, Some, None, refl, sym, ap, ◌∙◌, subst, inl, inr, arith, not, ◌&&◌, nat_le, slice_get}
+use Rattle.std.proofs.Common.{slice_set, get_or, length-append, eq-eqb, true≢false}
 use Rattle.std.specs.List.{remove, count_by}
 use Rattle.std.specs.Prelude.{is_some, cond}
 use Rattle.std.proofs.lemmas.List.Sums.{sum_by-set}
@@ -53,7 +55,11 @@ pub fit_is_in_range : (decls : DeclsState) (k : ReplayState) (past : List Event)
 unfolding fits
 fit_is_in_range decls k past e stands is =
     let range = (both_true (is_in_range decls e) (lock_fits decls.declarations e.op) is).0 in
-    subst (λ counts. IsInRange counts e) (sym stands.counts) (below e.who (counts_of decls.declarations Kind.Goroutine) (first _ _ _ _ range), middle _ _ _ _ range)
+    subst (λ counts. IsInRange counts e) (sym stands.counts) (
+      below e.who (counts_of decls.declarations Kind.Goroutine)
+          (first _ _ _ _ range),
+      middle _ _ _ _ range,
+    )
   where
     first : (a b c d : Bool) → (a && b && c && d) ≡ true → a ≡ true
     first true b c d is = refl
@@ -69,9 +75,11 @@ pub fit_is_taken : (trace : TraceState) (e : Event) → IsTrue (fits trace.decls
 unfolding fits push_fault
 fit_is_taken trace e is less =
     let parts = both_true (is_in_range trace.decls e) (lock_fits trace.decls.declarations e.op) is in
-    by (is_in_range trace.decls e) (lock_fits trace.decls.declarations e.op) (nat_le MAX_EVENTS (length trace.events)) parts.0 parts.1 (grind (arith, nat_tests))
+    by (is_in_range trace.decls e) (lock_fits trace.decls.declarations e.op) (nat_le MAX_EVENTS (length trace.events)) parts.0 parts.1
+    (grind (arith, nat_tests))
   where
-    by : (a b c : Bool) → a ≡ true → b ≡ true → c ≡ false → (if not a then Some BadNumber else (if not b then Some WrongKind else (if c then Some Full else None))) ≡ None
+    by : (a b c : Bool) → a ≡ true → b ≡ true → c ≡ false
+        → (if not a then Some BadNumber else (if not b then Some WrongKind else (if c then Some Full else None))) ≡ None
     by a b c p q r = rw (p, q, r) refl
 
 module _ {R : Type 0} where
@@ -82,7 +90,8 @@ module _ {R : Type 0} where
       by (is_last is_main_exit h.events) (is_last (λ e. is_fault e.op) h.events) h.bad (length h.events == h.limit) refl on
     where
       by : (a b : Bool) (bad : Option ℕ) (full : Bool) → (length h.events == h.limit) ≡ full
-          → (if a then Some End.Main else (if b then Some End.Fault else elim bad [ Some g ↦ Some (End.Bad g) | None ↦ if full then Some End.Limit else None ])) ≡ None
+          → (if a then Some End.Main else (if b then Some End.Fault
+          else elim bad [ Some g ↦ Some (End.Bad g) | None ↦ if full then Some End.Limit else None ])) ≡ None
           → length h.events < h.limit
       by true b bad full is on = absurd (none-some _ (sym on))
       by false true bad full is on = absurd (none-some _ (sym on))
@@ -139,7 +148,8 @@ pub length_without : {X : Type 0} (t : Choice) (xs : List X) → t.place < lengt
 length_without t xs place partner apart = by (t.partner == 0) (nat_lt t.place (t.partner - 1)) refl refl
   where
     by : (alone before : Bool) → (t.partner == 0) ≡ alone → nat_lt t.place (t.partner - 1) ≡ before
-        → length (if alone then remove xs t.place else (if before then remove (remove xs (t.partner - 1)) t.place else remove (remove xs t.place) (t.partner - 1)))
+        → length (if alone then remove xs t.place else (if before then remove (remove xs (t.partner - 1)) t.place
+        else remove (remove xs t.place) (t.partner - 1)))
         + cond alone 1 2 ≡ length xs
     by true before is test = length-remove xs t.place place
     by false true is test =

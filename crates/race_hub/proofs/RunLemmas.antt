@@ -1,5 +1,6 @@
 -- Every step of a hub goes from a kept state to a kept one.
-use Rattle.std.proofs.Common.{◌≡◌, ◌==◌, ◌&&◌, not, ℕ, zero, suc, ◌<◌, ◌≤◌, ◌+◌, ◌++◌, Bool, true, false, if◌then◌else◌, List, [], ◌∷◌, length, Option, Some, None}
+use Rattle.std.proofs.Common.{◌≡◌, ◌==◌, not, ℕ, zero, suc, ◌<◌, ◌≤◌, ◌+◌, ◌++◌, Bool, true, false, if◌then◌else◌, List, [], ◌∷◌, length, Option, Some}
+use Rattle.std.proofs.Common.{None}
 use Rattle.std.proofs.Common.{refl, sym, ap, ◌∙◌, subst, inl, inr, arith, slice_get, length-append}
 use Rattle.std.specs.List.{count_by, list_any}
 use Rattle.std.specs.Prelude.{is_some, cond}
@@ -8,12 +9,11 @@ use Rattle.race_records.specs.declared.event.Event.{Event}
 use Rattle.race_records.specs.Declarations.{DeclsState, capacity_of}
 use Rattle.race_model.specs.Legal.{IsLegal}
 use Rattle.race_model.proofs.LegalSteps.{legal_push}
-use Rattle.race_hub.specs.declared.choice.Choice.{Choice}
 use Rattle.race_hub.specs.declared.ending.End.{End}
 use Rattle.race_hub.specs.declared.firing.Firing.{Firing}
 use Rattle.race_hub.specs.declared.request.Waiter.{Waiter}
 use Rattle.race_hub.specs.Job.{JobState}
-use Rattle.race_hub.specs.Hub.{HubState, opening, stop_of, end_of, is_deadlock}
+use Rattle.race_hub.specs.Hub.{HubState, opening, stop_of, is_deadlock}
 use Rattle.race_hub.specs.Firing.{HasRows}
 use Rattle.race_hub.specs.Fires.{IsFired}
 use Rattle.race_hub.specs.Submits.{Takes, Submits, is_stray}
@@ -108,7 +108,8 @@ module _ {R : Type 0} where
       } in
       let same = s.parked in
       let waits = length_without t old.waiting found.place found.partner found.apart in
-      let rests = length_without t old.parked (subst (λ n. t.place < n) (sym same) found.place) (subst (λ n. t.partner ≤ n) (sym same) found.partner) found.apart in
+      let rests = length_without t old.parked (subst (λ n. t.place < n) (sym same) found.place)
+      (subst (λ n. t.partner ≤ n) (sym same) found.partner) found.apart in
       let less = below_limit old (on_of (stop_of old) (is_deadlock old) fired.running) s.kept.limited in
       let more = length-append old.events (f.e ∷ []) in
       record {

@@ -1,5 +1,6 @@
 -- The state after a job was put back, or taken.
-use Rattle.std.proofs.Common.{List, ◌≡◌, ◌==◌, ◌&&◌, ◌||◌, not, ℕ, ◌<◌, ◌+◌, ◌++◌, Bool, true, false, if◌then◌else◌, [], ◌∷◌, length, All, IsTrue, Option, Some, None, is_none, refl, sym, ap, ◌∙◌, subst, arith, length-append, slice_get, zero, suc}
+use Rattle.std.proofs.Common.{List, ◌≡◌, ◌==◌, ◌&&◌, ◌||◌, not, ℕ, ◌<◌, ◌+◌, ◌++◌, Bool, true, false, if◌then◌else◌, [], ◌∷◌, length, All, IsTrue, Option}
+use Rattle.std.proofs.Common.{Some, None, is_none, refl, sym, ap, ◌∙◌, subst, arith, length-append, slice_get, zero, suc}
 use Rattle.std.proofs.lemmas.Option.{none-some}
 use Rattle.std.proofs.lemmas.List.Elements.{All-append}
 use Rattle.std.specs.List.{count_by, list_any}
@@ -49,7 +50,8 @@ module _ {R : Type 0} where
   bad_stops h g is on = by (is_last is_main_exit h.events) (is_last (λ e. is_fault e.op) h.events) h.bad (length h.events == h.limit) is on
     where
       by : (a b : Bool) (bad : Option ℕ) (full : Bool) → bad ≡ Some g
-          → ◌≡◌ {A = Option End} (if a then Some End.Main else (if b then Some End.Fault else elim bad [ Some g ↦ Some (End.Bad g) | None ↦ if full then Some End.Limit else None ])) None → ⊥
+          → ◌≡◌ {A = Option End} (if a then Some End.Main else (if b then Some End.Fault
+          else elim bad [ Some g ↦ Some (End.Bad g) | None ↦ if full then Some End.Limit else None ])) None → ⊥
       by true b bad full is on = none-some _ (sym on)
       by false true bad full is on = none-some _ (sym on)
       by false false (Some g) full is on = none-some _ (sym on)

@@ -1,5 +1,7 @@
--- What a job that is put back does to the hub, and which requests are bad. (Our own; compare The Go Programming Language Specification, "Go statements"; package sync)
-use Rattle.std.specs.Prelude.{ℕ, ◌≡◌, ◌==◌, ◌||◌, ◌&&◌, not, nat_lt, if◌then◌else◌, Bool, true, false, List, [], ◌∷◌, ◌++◌, length, remove, Option, Some, None, is_none, is_some}
+-- What a job that is put back does to the hub, and which requests are bad. (Our own; compare The Go Programming Language Specification, "Go statements";
+-- package sync)
+use Rattle.std.specs.Prelude.{ℕ, ◌≡◌, ◌==◌, ◌||◌, ◌&&◌, not, nat_lt, if◌then◌else◌, Bool, true, false, List, [], ◌∷◌, ◌++◌, length, remove, Option, Some}
+use Rattle.std.specs.Prelude.{None, is_none, is_some}
 use Rattle.std.specs.List.{list_any, position_or_len}
 use Rattle.std.specs.Option.{option_map_or}
 use Rattle.race_records.specs.declared.event.Event.{Event}

@@ -12,7 +12,8 @@ is_out_of_turn-requires-clause-who g c =
     let old = hub_state c.self.inside in
     let w = c.args.waiter.now in
     let sound = subst (λ h. IsTrue (is_sound h.decls w)) (sym c.self.view_is) c.requires in
-    let declared = (both_true (is_declared old.decls.declarations w) (lock_suits old.decls w.asked.ask && nat_lt w.asked.place (length old.decls.places)) sound).0 in
+    let declared = (both_true (is_declared old.decls.declarations w)
+    (lock_suits old.decls w.asked.ask && nat_lt w.asked.place (length old.decls.places)) sound).0 in
     who_is_in_range old.decls.declarations c.self.inside.replay old.events c.self.invariant.0.stands w declared
 
 pub is_out_of_turn-requires-clause-range : goal.is_out_of_turn-requires-clause-range
@@ -20,7 +21,8 @@ is_out_of_turn-requires-clause-range g c =
     let old = hub_state c.self.inside in
     let w = c.args.waiter.now in
     let sound = subst (λ h. IsTrue (is_sound h.decls w)) (sym c.self.view_is) c.requires in
-    let declared = (both_true (is_declared old.decls.declarations w) (lock_suits old.decls w.asked.ask && nat_lt w.asked.place (length old.decls.places)) sound).0 in
+    let declared = (both_true (is_declared old.decls.declarations w)
+    (lock_suits old.decls w.asked.ask && nat_lt w.asked.place (length old.decls.places)) sound).0 in
     ask_is old.decls.declarations c.self.inside.replay old.events c.self.invariant.0.stands w declared
 
 pub returns : goal.returns

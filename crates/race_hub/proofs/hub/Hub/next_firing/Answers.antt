@@ -10,7 +10,8 @@ use Rattle.race_hub.proofs.hub.Hub.next_firing.Goals as goal
 
 pub returns-in_default-clause-none : goal.returns-in_default-clause-none
 returns-in_default-clause-none g c _ =
-    nothing_by c.pick.result (choices_of c.args.self.now) c.args.pick (c.pick.ensures ∙ ap (λ l. picked c.args.pick (list.choices_of l)) c.list-list.ensures.list) c.in_default.is
+    nothing_by c.pick.result (choices_of c.args.self.now) c.args.pick
+    (c.pick.ensures ∙ ap (λ l. picked c.args.pick (list.choices_of l)) c.list-list.ensures.list) c.in_default.is
 
 pub unreachable-requires : goal.unreachable-requires
 unreachable-requires g c =
@@ -44,5 +45,6 @@ returns-clause-some g c =
     let made : event_of h.events h.waiting f.choice ≡ Some f.event =
     ap (event_of h.events h.waiting) c.firing_of.ensures.choice ∙ makes ∙ ap Some (sym c.firing_of.ensures.event) in
     let rows : HasRows h.waiting f.choice f.event f.told f.partner =
-    rw (c.firing_of.ensures.choice, c.firing_of.ensures.event) (subst (λ ws. HasRows ws c.in-Some.choice c.in-Some-event_of.event f.told f.partner) c.requests.ensures c.firing_of.ensures.rows) in
+    rw (c.firing_of.ensures.choice, c.firing_of.ensures.event)
+    (subst (λ ws. HasRows ws c.in-Some.choice c.in-Some-event_of.event f.told f.partner) c.requests.ensures c.firing_of.ensures.rows) in
     (chosen, picked_firing h c.args.pick f chosen made rows c.list-list.ensures.sound c.list-list.ensures.boxes c.list-list.ensures.count)

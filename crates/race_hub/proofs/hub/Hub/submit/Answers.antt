@@ -1,12 +1,10 @@
-use Rattle.std.proofs.Common.{◌≡◌, ◌==◌, ◌+◌, cond, ◌++◌, ◌∷◌, [], ◌∙◌, ap, subst, refl, arith, sym, ◌&&◌, if◌then◌else◌, is_none, Some, true, false}
+use Rattle.std.proofs.Common.{◌≡◌, ◌==◌, ◌+◌, cond, ◌++◌, ◌∷◌, [], ◌∙◌, ap, subst, refl, arith, sym, if◌then◌else◌, Some, true}
 use Rattle.std.specs.List.{count_by}
-use Rattle.race_hub.specs.Hub.{HubState, stop_of}
+use Rattle.race_hub.specs.Hub.{HubState}
 use Rattle.race_hub.specs.HubHolds.{hub_state}
-use Rattle.race_hub.specs.declared.request.Waiter.{Waiter}
-use Rattle.race_hub.specs.Submits.{is_bad, is_back, ends_hub, without_first, Submits}
+use Rattle.race_hub.specs.Submits.{is_back, ends_hub, without_first, Submits}
 use Rattle.race_hub.proofs.AmongLemmas.{first_gone}
-use Rattle.race_hub.proofs.SubmitLemmas.{joined_well, joined_badly, back_was_out, test_same, ends_by, Joins}
-use Rattle.race_hub.proofs.hub.Hub.submit.Given as given
+use Rattle.race_hub.proofs.SubmitLemmas.{joined_well, joined_badly, back_was_out, test_same, ends_by}
 use Rattle.race_hub.proofs.hub.Hub.submit.Goals as goal
 
 pub invariant_of-self-then-bad : goal.invariant_of-self-then-bad

@@ -14,7 +14,9 @@ loop-place-preserved c = elim c.match-received_from.branch [
       | inl early ↦ w.mark.ensures.kept chan (c.loop-place.invariant.marked chan p early received)
       | inr late ↦
           let last : p ≡ c.loop-place.place = omega (arith, below, late) in
-          let from = sym w.in-Some.is ∙ c.received_from.ensures chan (receiver_asks c.args.waiting.now chan c.loop-place.place _ c.loop-place-test.true (ap (receives_at c.args.waiting.now chan) (sym last) ∙ received)) in
+          let from = sym w.in-Some.is ∙ c.received_from.ensures chan
+          (receiver_asks c.args.waiting.now chan c.loop-place.place _ c.loop-place-test.true
+          (ap (receives_at c.args.waiting.now chan) (sym last) ∙ received)) in
           ap (is_marked w.mark.new.self) (sym (same_Some w.in-Some.chan chan from)) ∙ w.mark.ensures.marked
     ];
   }
@@ -23,7 +25,9 @@ loop-place-preserved c = elim c.match-received_from.branch [
       | inl early ↦ c.loop-place.invariant.marked chan p early received
       | inr late ↦
           let last : p ≡ c.loop-place.place = omega (arith, below, late) in
-          absurd (w.in_default.not-Some chan (c.received_from.ensures chan (receiver_asks c.args.waiting.now chan c.loop-place.place _ c.loop-place-test.true (ap (receives_at c.args.waiting.now chan) (sym last) ∙ received))))
+          absurd (w.in_default.not-Some chan (c.received_from.ensures chan
+          (receiver_asks c.args.waiting.now chan c.loop-place.place _ c.loop-place-test.true
+          (ap (receives_at c.args.waiting.now chan) (sym last) ∙ received))))
     ];
   }
 ]

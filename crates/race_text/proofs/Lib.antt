@@ -29,6 +29,8 @@ pub mod ShortLemmas
 pub mod ReaderLemmas
 pub mod ParseLemmas
 pub mod FedLemmas
+pub mod MarkLemmas
+pub mod CommonLemmas
 pub mod TextLaws
 pub mod TextFine
 pub mod Scanning

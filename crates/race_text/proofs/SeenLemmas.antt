@@ -14,7 +14,7 @@ use Rattle.race_text.proofs.CutLemmas.{slice_split-found}
 not_space : (b : ℕ) → is_place_byte b ≡ true → (b == 32) ≡ false
 not_space b h = grind (arith, nat_tests)
 
-is_seen : (b : Bool) → not b ≡ false → b ≡ true
+pub is_seen : (b : Bool) → not b ≡ false → b ≡ true
 is_seen true h = refl
 is_seen false h = absurd (true≢false h)
 
@@ -22,7 +22,7 @@ is_unseen : (b : Bool) → not b ≡ true → b ≡ false
 is_unseen true h = absurd (true≢false (sym h))
 is_unseen false h = refl
 
-first_onto : (x : ℕ) (ps : List (List ℕ)) → first_word (onto_first x ps) ≡ x ∷ first_word ps
+pub first_onto : (x : ℕ) (ps : List (List ℕ)) → first_word (onto_first x ps) ≡ x ∷ first_word ps
 first_onto x [] = refl
 first_onto x (p ∷ ps) = refl
 
@@ -43,7 +43,7 @@ pub whole_is_word : (bytes : List ℕ) → position (λ b. not (is_place_byte b)
     → (list_all is_place_byte bytes ≡ true) × (words_of bytes ≡ bytes ∷ [])
 whole_is_word bytes h = all_seen bytes (list_any-absent (λ b. not (is_place_byte b)) bytes (ap is_some h))
 
-seen_front : (bytes : List ℕ) (n : ℕ) → n ≤ length bytes → ((k : ℕ) → k < n → is_place_byte (get_or bytes k 0) ≡ true)
+pub seen_front : (bytes : List ℕ) (n : ℕ) → n ≤ length bytes → ((k : ℕ) → k < n → is_place_byte (get_or bytes k 0) ≡ true)
     → list_all is_place_byte (take n bytes) ≡ true
 seen_front bytes zero within h = refl
 seen_front [] (suc n) within h = refl

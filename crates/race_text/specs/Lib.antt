@@ -8,6 +8,7 @@ pub mod Reading
 pub mod Taking
 pub mod Reader
 pub mod Fed
+pub mod Common
 pub mod Laws
 pub mod Examples
 pub mod Writing

@@ -73,7 +73,7 @@ fn read_behind<'a, A: Allocator>(
 }
 
 // The number of a goroutine.
-fn goroutine_of(part: Part) -> Option<u32>
+pub(crate) fn goroutine_of(part: Part) -> Option<u32>
     ensures { result ≡ spec.goroutine_of part }
 {
     match part {
@@ -205,7 +205,7 @@ fn part_in<A: Allocator>(decls: &Decls<A>, kind: PartKind, bytes: &[u8], len: us
 
 // What the first `len` bytes name, where that is wanted.
 #[inline(always)]
-fn object_in<A: Allocator>(
+pub(crate) fn object_in<A: Allocator>(
     decls: &Decls<A>,
     kind: PartKind,
     bytes: &[u8],

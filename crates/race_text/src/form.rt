@@ -75,7 +75,7 @@ pub(crate) fn word_named(word: &[u8]) -> Option<Word>
 
 // A common word, told by its bytes without a look into the table.
 #[tactic(auto, unfolding(crate::specs::Form::word_named))]
-fn common_word(word: &[u8]) -> Option<Word>
+pub(crate) fn common_word(word: &[u8]) -> Option<Word>
     ensures { IfSome result (λ found. spec.word_named word.now ≡ Some found) }
 {
     match word {

@@ -90,6 +90,17 @@ fn unseen_in(bytes: &[u8], at: usize) -> u64
         .to_bitmask()
 }
 
+// The same of the 64 bytes in front.
+#[inline(always)]
+pub(crate) fn unseen_in_front(bytes: &[u8]) -> u64
+    requires { 64 ≤ length bytes.now }
+    ensures { result ≡ mask_l (map (λ b. not (is_place_byte b)) (chunk 0 64 bytes.now)) }
+{
+    (u8x64::from_slice(bytes) - u8x64::splat(b'!'))
+        .simd_ge(u8x64::splat(94))
+        .to_bitmask()
+}
+
 // The same of 8 bytes.
 #[inline(always)]
 fn unseen_in_eight(bytes: &[u8], at: usize) -> u64

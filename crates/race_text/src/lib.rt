@@ -2,6 +2,7 @@
 #![tactic(auto)]
 
 mod cause;
+mod common;
 mod cut;
 mod declaration;
 mod event;
@@ -21,6 +22,8 @@ mod words;
 mod writing;
 
 pub use cause::{TextCause, TextFault};
+#[doc(hidden)]
+pub use common::Front;
 pub use declaration::read_declaration;
 #[doc(hidden)]
 pub use event::Draft;

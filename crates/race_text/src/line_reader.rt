@@ -4,6 +4,7 @@ ghost use Rattle.race_text.specs.Text.{IsTextOf, IsTraceText};
 ghost use Rattle.race_text.specs.Fault.{text_fault};
 ghost use Rattle.race_text.specs.Laws.{IsOnlyTraceOf};
 ghost use Rattle.race_text.specs.Reader.{IsLineOf, IsNoneBefore, IsReading, GoesOn, lines_read};
+ghost use Rattle.race_text.specs.Common.{TakesNext, TellsOfNext};
 ghost use Rattle.race_text.specs.Fed as spec;
 
 use crate::cause::{TextCause, TextFault};
@@ -172,16 +173,12 @@ impl<A: Allocator + Copy> Lines<A> {
     {
         let mut left = bytes;
         loop {
-            let (line, rest) = cut_at(left, b'\n');
-            match rest {
+            match take_next(&mut self.reader, left)? {
                 None => {
-                    self.keep(line)?;
+                    self.keep(left)?;
                     return Ok(());
                 }
-                Some(others) => {
-                    take_line(&mut self.reader, line)?;
-                    left = others;
-                }
+                Some(others) => left = others,
             }
         }
     }
@@ -218,6 +215,55 @@ impl<A: Allocator + Copy> Lines<A> {
                 cause: TextCause::OutOfMemory,
             }),
         }
+    }
+}
+
+// Takes the line in front of the bytes, and tells what is behind it; nothing where no newline ends it.
+#[inline(always)]
+fn take_next<'a, A: Allocator + Copy>(
+    reader: &mut Reader<A>,
+    bytes: &'a [u8],
+) -> Result<Option<&'a [u8]>, TextFault>
+    requires { IsReading reader.old.has_header reader.old.decls reader.old.trace }
+    ensures taken { MatchResult result
+        (λ rest. TakesNext (lines_read reader.old.has_header reader.old.decls reader.old.trace) bytes.now rest
+        (lines_read reader.new.has_header reader.new.decls reader.new.trace))
+        (TellsOfNext (lines_read reader.old.has_header reader.old.decls reader.old.trace) bytes.now) }
+    ensures reading { OnOk result (IsReading reader.new.has_header reader.new.decls reader.new.trace) }
+{
+    let number = reader.line();
+    match reader.take_common(bytes) {
+        Err(cause) => Err(TextFault {
+            line: number,
+            cause,
+        }),
+        Ok(taken) => match taken {
+            Some(rest) => Ok(Some(rest)),
+            None => take_other(reader, bytes),
+        },
+    }
+}
+
+// The same of any line.
+#[inline(never)]
+fn take_other<'a, A: Allocator + Copy>(
+    reader: &mut Reader<A>,
+    bytes: &'a [u8],
+) -> Result<Option<&'a [u8]>, TextFault>
+    requires { IsReading reader.old.has_header reader.old.decls reader.old.trace }
+    ensures taken { MatchResult result
+        (λ rest. TakesNext (lines_read reader.old.has_header reader.old.decls reader.old.trace) bytes.now rest
+        (lines_read reader.new.has_header reader.new.decls reader.new.trace))
+        (TellsOfNext (lines_read reader.old.has_header reader.old.decls reader.old.trace) bytes.now) }
+    ensures reading { OnOk result (IsReading reader.new.has_header reader.new.decls reader.new.trace) }
+{
+    let (line, rest) = cut_at(bytes, b'\n');
+    match rest {
+        None => Ok(None),
+        Some(others) => match take_line(reader, line) {
+            Ok(()) => Ok(Some(others)),
+            Err(fault) => Err(fault),
+        },
     }
 }
 

@@ -3,12 +3,13 @@ ghost use Rattle.std.specs.Prelude.{◌≡◌, ◌≢◌, ◌+◌, [], length, t
 ghost use Rattle.race_text.specs.Fault as fault;
 ghost use Rattle.race_text.specs.Text.{HasText, lines};
 ghost use Rattle.race_text.specs.Taking.{IsRead, begun};
+ghost use Rattle.race_text.specs.Common.{GoesOnIfTold, TellsOfCommon};
 ghost use Rattle.race_text.specs.Reader as spec;
 
 use crate::cause::TextCause;
 use crate::cut::has_bad_byte;
 use crate::declaration::read_declaration;
-use crate::taking::take_event;
+use crate::taking::{take_common, take_event};
 use race_records::{Decls, Trace};
 use std::alloc::Allocator;
 use std::mem;
@@ -58,6 +59,24 @@ impl<A: Allocator + Copy> Reader<A> {
         match &mut self.trace {
             Some(trace) => take_event(trace, line),
             None => self.take_before_events(line),
+        }
+    }
+
+    // Takes the next line where it is the common one in front of the bytes, and tells what is behind
+    // it. Tells nothing, and takes nothing, where it is another.
+    #[inline(always)]
+    pub(crate) fn take_common<'b>(&mut self, bytes: &'b [u8]) -> Result<Option<&'b [u8]>, TextCause>
+        requires { spec.IsReading self.old.has_header self.old.decls self.old.trace }
+        ensures taken { MatchResult result
+            (λ rest. GoesOnIfTold (spec.lines_read self.old.has_header self.old.decls self.old.trace) bytes.now rest
+            (spec.lines_read self.new.has_header self.new.decls self.new.trace))
+            (TellsOfCommon (spec.lines_read self.old.has_header self.old.decls self.old.trace) bytes.now) }
+        ensures reading { OnOk result
+            (spec.IsReading self.new.has_header self.new.decls self.new.trace) }
+    {
+        match &mut self.trace {
+            Some(trace) => take_common(trace, bytes),
+            None => Ok(None),
         }
     }
 

@@ -6,9 +6,11 @@ ghost use Rattle.race_records.specs.Declarations.{place_number, with_place};
 ghost use Rattle.race_text.specs.Declaring.{is_declaration_line};
 ghost use Rattle.race_text.specs.Reading.{drafted};
 ghost use Rattle.race_text.specs.Text.{lines};
+ghost use Rattle.race_text.specs.Common.{GoesOnIfTold, TellsOfCommon};
 ghost use Rattle.race_text.specs.Taking as spec;
 
 use crate::cause::TextCause;
+use crate::common::read_common;
 use crate::declaration::cause_of;
 use crate::event::{Draft, read_event};
 use crate::finder::line_cause;
@@ -31,6 +33,29 @@ pub(crate) fn take_event<A: Allocator + Copy>(
     match read_event(decls, line) {
         Some(draft) => append(trace, draft),
         None => Err(line_cause(decls, count, line).unwrap()),
+    }
+}
+
+// Takes the line in front of the bytes where it is common, and tells what is behind it.
+#[inline(always)]
+pub(crate) fn take_common<'a, A: Allocator + Copy>(
+    trace: &mut Trace<A>,
+    bytes: &'a [u8],
+) -> Result<Option<&'a [u8]>, TextCause>
+    requires read { spec.IsRead trace.old }
+    requires some { 0 < length trace.old.events }
+    ensures taken { MatchResult result
+        (λ rest. GoesOnIfTold (lines trace.old) bytes.now rest (lines trace.new))
+        (TellsOfCommon (lines trace.old) bytes.now) }
+    ensures read { OnOk result (spec.IsRead trace.new) }
+    ensures some { OnOk result (0 < length trace.new.events) }
+{
+    match read_common(trace.decls(), bytes) {
+        None => Ok(None),
+        Some((draft, rest)) => match append(trace, draft) {
+            Ok(()) => Ok(Some(rest)),
+            Err(cause) => Err(cause),
+        },
     }
 }
 

@@ -1,59 +1,68 @@
 -- Each line is taken where it lies, and the last part is kept.
-use Rattle.std.proofs.Common.{◌≡◌, ℕ, List, [], ◌∷◌, ◌++◌, ap, sym, subst, ◌∙◌}
-use Rattle.race_text.specs.Words.{parts_of, parts_left}
+use Rattle.std.proofs.Common.{◌≡◌, ℕ, List, [], ◌++◌, None, Some, ap, sym, subst, ◌∙◌}
 use Rattle.race_text.specs.Reader.{lines_read}
-use Rattle.race_text.specs.Fed.{IsTaken, IsUnended}
-use Rattle.race_text.proofs.FedLemmas.{seam_line, last_unended, memory_told, line_told, line_taken, shorter, kept_taken, match_err}
+use Rattle.race_text.specs.Fed.{IsTaken, TellsOfMemory}
+use Rattle.race_text.specs.Common.{line_in, TakesNext}
+use Rattle.race_text.proofs.FedLemmas.{seam_line, memory_told, line_told, line_taken, shorter, kept_taken, match_err}
 use Rattle.race_text.proofs.line_reader.Lines.take_whole.Goals as goal
+
+pub returns-in_err-take_next-clause-taken : goal.returns-in_err-take_next-clause-taken
+returns-in_err-take_next-clause-taken g c =
+    let reader = c.loop-self.self.reader in
+    let left = c.loop-self.left.now in
+    let told = c.in_err-take_next.ensures.taken in
+    match_err _ _ c.from_residual.result c.in_err-take_next.field-0.0 c.from_residual.ensures.1
+    (λ whole more t. line_told whole (lines_read reader.has_header reader.decls reader.trace) (left ++ more) (c.loop-self.invariant.taken whole more t)
+    (line_in left) (told.rest ++ more) (seam_line left (line_in left) told.rest more told.ends)
+    c.in_err-take_next.field-0.0 told.is)
 
 pub returns-in_err-keep-in-None-clause-taken : goal.returns-in_err-keep-in-None-clause-taken
 returns-in_err-keep-in-None-clause-taken g c =
     let reader = c.loop-self.self.reader in
-    match_err _ _ c.from_residual.result c.in_err-keep-in-None.field-0.0 c.from_residual.ensures.1
-    (λ whole more t. memory_told whole (lines_read reader.has_header reader.decls reader.trace) (c.loop-self.left.now ++ more) (c.loop-self.invariant.taken whole more t)
-    c.in_err-keep-in-None.field-0.0 c.in_err-keep-in-None.ensures.told)
+    let new = c.take_next.new.reader in
+    let before = lines_read reader.has_header reader.decls reader.trace in
+    let none : TakesNext before c.loop-self.left.now None (lines_read new.has_header new.decls new.trace) =
+    subst (λ o. TakesNext before c.loop-self.left.now o (lines_read new.has_header new.decls new.trace)) c.in-None.is c.in_ok-take_next.ensures.taken in
+    match_err _ _ c.from_residual-in_err-keep-in-None.result c.in_err-keep-in-None.field-0.0 c.from_residual-in_err-keep-in-None.ensures.1
+    (λ whole more t. memory_told whole before (c.loop-self.left.now ++ more) (c.loop-self.invariant.taken whole more t)
+    c.in_err-keep-in-None.field-0.0 (subst (λ ls. TellsOfMemory ls c.in_err-keep-in-None.field-0.0) none.1 c.in_err-keep-in-None.ensures.told))
 
 pub returns-in-None-clause-taken : goal.returns-in-None-clause-taken
 returns-in-None-clause-taken g c = λ whole more t.
     let reader = c.loop-self.self.reader in
-    let last : parts_of c.loop-self.left.now ≡ c.cut_at.result.0.now ∷ [] = c.cut_at.ensures ∙ ap (λ r. c.cut_at.result.0.now ∷ parts_left 10 r) c.in-None.is in
-    let kept : c.keep.new.self.part.items ≡ [] ++ c.cut_at.result.0.now =
-    c.in_ok-keep-in-None.ensures.kept ∙ ap (λ (p : List ℕ). p ++ c.cut_at.result.0.now) c.loop-self.invariant.none in
+    let new = c.take_next.new.reader in
+    let before = lines_read reader.has_header reader.decls reader.trace in
+    let left = c.loop-self.left.now in
+    let none : TakesNext before left None (lines_read new.has_header new.decls new.trace) =
+    subst (λ o. TakesNext before left o (lines_read new.has_header new.decls new.trace)) c.in-None.is c.in_ok-take_next.ensures.taken in
+    let kept : c.keep.new.self.part.items ≡ [] ++ left = c.in_ok-keep-in-None.ensures.kept ∙ ap (λ (p : List ℕ). p ++ left) c.loop-self.invariant.none in
     subst (λ (ls : List (List ℕ)). IsTaken whole ls (c.keep.new.self.part.items ++ more))
-    (λ i. lines_read (sym c.in_ok-keep-in-None.ensures.same i).has_header (sym c.in_ok-keep-in-None.ensures.same i).decls (sym c.in_ok-keep-in-None.ensures.same i).trace)
-    (kept_taken whole (lines_read reader.has_header reader.decls reader.trace) c.loop-self.left.now c.cut_at.result.0.now c.keep.new.self.part.items more last kept
-    (c.loop-self.invariant.taken whole more t))
-
-pub returns-in-None-clause-unended : goal.returns-in-None-clause-unended
-returns-in-None-clause-unended g c =
-    let last : parts_of c.loop-self.left.now ≡ c.cut_at.result.0.now ∷ [] = c.cut_at.ensures ∙ ap (λ r. c.cut_at.result.0.now ∷ parts_left 10 r) c.in-None.is in
-    let kept : c.keep.new.self.part.items ≡ [] ++ c.cut_at.result.0.now =
-    c.in_ok-keep-in-None.ensures.kept ∙ ap (λ (p : List ℕ). p ++ c.cut_at.result.0.now) c.loop-self.invariant.none in
-    subst (λ (bytes : List ℕ). IsUnended bytes) (sym kept) (last_unended c.loop-self.left.now c.cut_at.result.0.now last)
-
-pub returns-in_err-take_line-in-Some-clause-taken : goal.returns-in_err-take_line-in-Some-clause-taken
-returns-in_err-take_line-in-Some-clause-taken g c =
-    let reader = c.loop-self.self.reader in
-    let parts : parts_of c.loop-self.left.now ≡ c.cut_at.result.0.now ∷ parts_of c.in-Some.others.now =
-    c.cut_at.ensures ∙ ap (λ r. c.cut_at.result.0.now ∷ parts_left 10 r) c.in-Some.is in
-    match_err _ _ c.from_residual-in_err-take_line-in-Some.result c.in_err-take_line-in-Some.field-0.0 c.from_residual-in_err-take_line-in-Some.ensures.1
-    (λ whole more t. line_told whole (lines_read reader.has_header reader.decls reader.trace) (c.loop-self.left.now ++ more) (c.loop-self.invariant.taken whole more t)
-    c.cut_at.result.0.now (c.in-Some.others.now ++ more) (seam_line c.loop-self.left.now c.cut_at.result.0.now c.in-Some.others.now more parts)
-    c.in_err-take_line-in-Some.field-0.0 c.in_err-take_line-in-Some.ensures.taken)
+    (sym none.1
+    ∙ (λ i. lines_read (sym c.in_ok-keep-in-None.ensures.same i).has_header (sym c.in_ok-keep-in-None.ensures.same i).decls (sym c.in_ok-keep-in-None.ensures.same i).trace))
+    (kept_taken whole before left left c.keep.new.self.part.items more none.0 kept (c.loop-self.invariant.taken whole more t))
 
 pub loop-self-smaller : goal.loop-self-smaller
-loop-self-smaller g c = shorter c.loop-self.left.now c.cut_at.result.0.now c.in-Some.others.now
-    (c.cut_at.ensures ∙ ap (λ r. c.cut_at.result.0.now ∷ parts_left 10 r) c.in-Some.is)
+loop-self-smaller g c =
+    let reader = c.loop-self.self.reader in
+    let new = c.take_next.new.reader in
+    let left = c.loop-self.left.now in
+    let some : TakesNext (lines_read reader.has_header reader.decls reader.trace) left (Some c.in-Some.others) (lines_read new.has_header new.decls new.trace) =
+    subst (λ o. TakesNext (lines_read reader.has_header reader.decls reader.trace) left o (lines_read new.has_header new.decls new.trace)) c.in-Some.is c.in_ok-take_next.ensures.taken in
+    shorter left (line_in left) c.in-Some.others.now some.0
 
 pub loop-self-preserved : goal.loop-self-preserved
-loop-self-preserved g c = record {
-  reading = c.in_ok-take_line-in-Some.ensures.reading;
-  none = c.loop-self.invariant.none;
-  taken = λ whole more t.
-      let reader = c.loop-self.self.reader in
-      let parts : parts_of c.loop-self.left.now ≡ c.cut_at.result.0.now ∷ parts_of c.in-Some.others.now =
-      c.cut_at.ensures ∙ ap (λ r. c.cut_at.result.0.now ∷ parts_left 10 r) c.in-Some.is in
-      line_taken whole (lines_read reader.has_header reader.decls reader.trace) (c.loop-self.left.now ++ more) (c.loop-self.invariant.taken whole more t)
-      c.cut_at.result.0.now (c.in-Some.others.now ++ more) (seam_line c.loop-self.left.now c.cut_at.result.0.now c.in-Some.others.now more parts)
-      (lines_read c.take_line.new.reader.has_header c.take_line.new.reader.decls c.take_line.new.reader.trace) c.in_ok-take_line-in-Some.ensures.taken;
-}
+loop-self-preserved g c =
+    let reader = c.loop-self.self.reader in
+    let new = c.take_next.new.reader in
+    let before = lines_read reader.has_header reader.decls reader.trace in
+    let left = c.loop-self.left.now in
+    let some : TakesNext before left (Some c.in-Some.others) (lines_read new.has_header new.decls new.trace) =
+    subst (λ o. TakesNext before left o (lines_read new.has_header new.decls new.trace)) c.in-Some.is c.in_ok-take_next.ensures.taken in
+    record {
+      reading = c.in_ok-take_next.ensures.reading;
+      none = c.loop-self.invariant.none;
+      taken = λ whole more t.
+          line_taken whole before (left ++ more) (c.loop-self.invariant.taken whole more t)
+          (line_in left) (c.in-Some.others.now ++ more) (seam_line left (line_in left) c.in-Some.others.now more some.0)
+          (lines_read new.has_header new.decls new.trace) some.1;
+    }

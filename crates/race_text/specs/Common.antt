@@ -1,0 +1,109 @@
+-- A line of a common word, read from the bytes from it on.
+use Rattle.std.specs.Prelude.{◌≡◌, ◌≢◌, ℕ, ◌≤◌, Bool, true, false, not, List, [], ◌∷◌, ◌++◌, length, take, map, Option, Some, None}
+use Rattle.std.specs.Borrow.{Bor}
+use Rattle.std.specs.List.{list_all}
+use Rattle.std.specs.Simd.Lanes.{chunk, mask_l}
+use Rattle.race_records.specs.declared.kind.Named.{Named}
+use Rattle.race_records.specs.declared.parts.Part.{Part}
+use Rattle.race_records.specs.declared.parts.PartKind.{PartKind}
+use Rattle.race_records.specs.declared.parts.Verb.{Verb}
+use Rattle.race_records.specs.Name.{is_place_byte}
+use Rattle.race_records.specs.Declarations.{Declaration}
+use Rattle.race_text.specs.declared.cause.TextCause.{TextCause}
+use Rattle.race_text.specs.declared.cause.TextFault.{TextFault}
+use Rattle.race_text.specs.Words.{parts_of, words_of}
+use Rattle.race_text.specs.Form.{first_word, arguments}
+use Rattle.race_text.specs.Fault.{cause}
+use Rattle.race_text.specs.Reading.{Occurrence, first_part, parts_on, last_place, event_behind, event_in}
+use Rattle.race_text.specs.Reader.{GoesOn}
+use Rattle.race_text.specs.Fed.{IsUnended, TellsOfLine}
+
+-- so many bytes in front are marked: a bit for each, which is set where the byte can't be seen
+pub record IsMarked (marks : ℕ) (bytes : List ℕ) : Type 0 where
+  pub count : ℕ
+  pub few : count ≤ 64
+  pub within : count ≤ length bytes
+  pub marks_are : marks ≡ mask_l (map (λ b. not (is_place_byte b)) (chunk 0 count bytes))
+
+-- the line in front, its words, and the parts of the text behind it
+abbrev pub line_in : List ℕ → List ℕ
+line_in bytes = first_word (parts_of bytes)
+
+abbrev pub words_in : List ℕ → List (List ℕ)
+words_in bytes = words_of (line_in bytes)
+
+abbrev pub parts_behind : List ℕ → List (List ℕ)
+parts_behind bytes = arguments (parts_of bytes)
+
+-- the first word of the line is so long, and its other words stand in front of the rest
+pub record CutsWord (bytes : List ℕ) (len : ℕ) (rest : List ℕ) : Type 0 where
+  pub within : len ≤ length bytes
+  pub is_seen : list_all is_place_byte (take len bytes) ≡ true
+  pub words : words_in bytes ≡ take len bytes ∷ words_in rest
+  pub behind : parts_behind bytes ≡ parts_behind rest
+
+-- the line is an event of this word, and what it says stands in front of the rest
+pub record SaysVerb (bytes : List ℕ) (verb : Verb) (rest : List ℕ) : Type 0 where
+  pub says : (ds : List Declaration) → event_in ds (words_in bytes) ≡ event_behind ds verb (words_in rest)
+  pub behind : parts_behind bytes ≡ parts_behind rest
+
+-- an object is wanted
+abbrev pub names_object : PartKind → Bool
+names_object (PartKind.Object kind) = true
+names_object PartKind.RwMutex = true
+names_object _ = false
+
+-- the first word names an object of this kind
+pub record SaysObject (ds : List Declaration) (kind : PartKind) (bytes : List ℕ) (named : Named) (rest : List ℕ) : Type 0 where
+  pub says : first_part ds kind (words_in bytes) ≡ Some (Part.Object named, words_in rest)
+  pub behind : parts_behind bytes ≡ parts_behind rest
+
+-- a value, where one is wanted
+abbrev pub value_kinds : Bool → List PartKind
+value_kinds true = PartKind.Value ∷ []
+value_kinds false = []
+
+abbrev pub value_parts : Option ℕ → List Part
+value_parts (Some v) = Part.Value v ∷ []
+value_parts None = []
+
+pub record SaysValue (wanted : Bool) (bytes : List ℕ) (value : Option ℕ) (rest : List ℕ) : Type 0 where
+  pub says : (ds : List Declaration) (parts : List Part)
+      → parts_on ds parts (value_kinds wanted) (words_in bytes) ≡ Some (parts ++ value_parts value, words_in rest)
+  pub behind : parts_behind bytes ≡ parts_behind rest
+
+-- the one word that is left is a place, and a newline stands between it and the rest
+pub record SaysPlace (bytes place rest : List ℕ) : Type 0 where
+  pub says : last_place (words_in bytes) ≡ Some place
+  pub behind : parts_behind bytes ≡ parts_of rest
+
+-- a newline ends the line in front of the rest
+abbrev pub EndsLine : List ℕ → List ℕ → Type 0
+EndsLine bytes rest = parts_of bytes ≡ line_in bytes ∷ parts_of rest
+
+-- the line says this event
+pub record SaysEvent (ds : List Declaration) (bytes : List ℕ) (o : Occurrence) (rest : List ℕ) : Type 0 where
+  pub says : event_in ds (words_in bytes) ≡ Some o
+  pub ends : EndsLine bytes rest
+
+-- the lines go on with the one in front where the bytes behind it are told, and else they are the same
+abbrev pub GoesOnIfTold : List (List ℕ) → List ℕ → Option (Bor (List ℕ)) → List (List ℕ) → Type 0
+GoesOnIfTold before bytes (Some rest) after = EndsLine bytes rest.now × GoesOn before (line_in bytes) after
+GoesOnIfTold before bytes None after = after ≡ before
+
+-- a newline ends the line, whose least cause is told, memory aside
+pub record TellsOfCommon (before : List (List ℕ)) (bytes : List ℕ) (told : TextCause) : Type 0 where
+  pub rest : List ℕ
+  pub ends : EndsLine bytes rest
+  pub least : told ≢ TextCause.OutOfMemory → cause before (line_in bytes) true ≡ Some told
+
+-- the same where each line that a newline ends is taken
+abbrev pub TakesNext : List (List ℕ) → List ℕ → Option (Bor (List ℕ)) → List (List ℕ) → Type 0
+TakesNext before bytes (Some rest) after = EndsLine bytes rest.now × GoesOn before (line_in bytes) after
+TakesNext before bytes None after = IsUnended bytes × (after ≡ before)
+
+-- or its least cause is told, with its number
+pub record TellsOfNext (before : List (List ℕ)) (bytes : List ℕ) (told : TextFault) : Type 0 where
+  pub rest : List ℕ
+  pub ends : EndsLine bytes rest
+  pub is : TellsOfLine before (line_in bytes) told

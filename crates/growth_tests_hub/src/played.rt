@@ -1,0 +1,172 @@
+//! Hubs, and how far each is played before the call.
+
+use race_hub::{Answer, Ask, Hub, Job, Request, Routine};
+use race_records::Decls;
+use std::alloc::{Allocator, Global};
+
+/// Asks these one after another, and then to write how often it was called.
+#[derive(Drop)]
+pub(crate) struct Asks {
+    asks: &'static [Ask],
+    calls: usize,
+}
+
+impl Routine for Asks {
+    ghost use Rattle.std.specs.Prelude.{⊤};
+
+    ghost asks = { λ _ _ _ _. ⊤ };
+
+    fn next(&mut self, _answer: Answer) -> Request {
+        let at = self.calls;
+        self.calls = at.saturating_add(1);
+        let ask = if at < self.asks.len() {
+            self.asks[at].copy()
+        } else {
+            Ask::Write(0, self.calls as u64)
+        };
+        Request { ask, place: 0 }
+    }
+}
+
+/// What is done with a hub before the call.
+#[derive(Clone, Copy, Debug)]
+pub(crate) enum Move {
+    /// The goroutine that has been ready longest asks.
+    Ask,
+    /// The choice of this pick happens.
+    Fire(u64),
+    /// One after the other, where there is one choice.
+    Step,
+}
+
+/// What main asks, what each other one does, and how far both are played.
+#[derive(Clone, Copy)]
+pub(crate) struct Script {
+    pub main: &'static [Ask],
+    pub others: &'static [Ask],
+    pub moves: &'static [Move],
+}
+
+// Four goroutines beside main.
+fn declare_goroutines<A: Allocator + Copy>(decls: &mut Decls<A>) -> Option<()> {
+    decls.add_goroutine("w1").ok()?;
+    decls.add_goroutine("w2").ok()?;
+    decls.add_goroutine("w3").ok()?;
+    decls.add_goroutine("w4").ok()?;
+    Some(())
+}
+
+// A variable, a buffered channel, an unbuffered one, a mutex, a once.
+fn declare_objects<A: Allocator + Copy>(decls: &mut Decls<A>) -> Option<()> {
+    decls.add_var("x").ok()?;
+    decls.add_chan("c", 2).ok()?;
+    decls.add_chan("d", 0).ok()?;
+    decls.add_lock("l", false).ok()?;
+    decls.add_once("o").ok()?;
+    decls.add_place("p").ok()?;
+    Some(())
+}
+
+fn declare<A: Allocator + Copy>(decls: &mut Decls<A>) -> Option<()> {
+    declare_goroutines(decls)?;
+    declare_objects(decls)
+}
+
+/// Goroutines, an object of each kind, and a place.
+pub(crate) fn declared<A: Allocator + Copy>(heap: A) -> Option<Decls<A>> {
+    let mut decls = Decls::new(heap);
+    match declare(&mut decls) {
+        Some(()) => Some(decls),
+        None => None,
+    }
+}
+
+/// Their boxes.
+pub(crate) fn boxes<A: Allocator>(heap: A, script: Script) -> Option<Vec<Asks, A>> {
+    let mut boxes = Vec::new(heap);
+    let main = Asks {
+        asks: script.main,
+        calls: 0,
+    };
+    boxes.push(main).ok()?;
+    for _ in 0..4 {
+        let other = Asks {
+            asks: script.others,
+            calls: 0,
+        };
+        boxes.push(other).ok()?;
+    }
+    Some(boxes)
+}
+
+/// The job that is ready longest, once it has asked.
+pub(crate) fn asked<A: Allocator>(hub: &mut Hub<Asks, A>) -> Option<Job<Asks, A>> {
+    let mut job = hub.take()?;
+    job.turn().ok()?;
+    Some(job)
+}
+
+fn ask<A: Allocator>(hub: &mut Hub<Asks, A>) -> Option<()> {
+    let job = asked(hub)?;
+    hub.submit(job).ok()?;
+    Some(())
+}
+
+fn fire<A: Allocator + Copy>(hub: &mut Hub<Asks, A>, pick: u64) -> Option<()> {
+    match hub.fire(pick) {
+        Ok(true) => Some(()),
+        _ => None,
+    }
+}
+
+fn step<A: Allocator + Copy>(hub: &mut Hub<Asks, A>, step: Move) -> Option<()> {
+    match step {
+        Move::Ask => ask(hub),
+        Move::Fire(pick) => fire(hub, pick),
+        Move::Step => {
+            ask(hub)?;
+            fire(hub, 0)
+        }
+    }
+}
+
+fn play<A: Allocator + Copy>(hub: &mut Hub<Asks, A>, moves: &'static [Move]) -> Option<()> {
+    for at in 0..moves.len() {
+        step(hub, moves[at])?;
+    }
+    Some(())
+}
+
+fn opened<A: Allocator + Copy>(heap: A, script: Script) -> Option<Hub<Asks, A>> {
+    match (declared(heap), boxes(heap, script)) {
+        (Some(decls), Some(boxes)) => Hub::new(heap, decls, 64, boxes).ok(),
+        _ => None,
+    }
+}
+
+/// A hub that was played so far.
+pub(crate) fn played<A: Allocator + Copy>(heap: A, script: Script) -> Option<Hub<Asks, A>> {
+    let mut hub = opened(heap, script)?;
+    match play(&mut hub, script.moves) {
+        Some(()) => Some(hub),
+        None => None,
+    }
+}
+
+/// Whether two hubs answer the same.
+pub(crate) fn are_alike<A: Allocator>(one: &Hub<Asks, A>, other: &Hub<Asks, A>) -> bool {
+    for who in 0..5 {
+        if one.waiting(who) != other.waiting(who) {
+            return false;
+        }
+    }
+    one.end() == other.end() && one.out() == other.out() && one.trace() == other.trace()
+}
+
+/// Whether two jobs answer the same.
+pub(crate) fn are_jobs_alike<A: Allocator>(one: &Job<Asks, A>, other: &Job<Asks, A>) -> bool {
+    one.who() == other.who()
+        && one.answer() == other.answer()
+        && one.asked() == other.asked()
+        && one.log() == other.log()
+}

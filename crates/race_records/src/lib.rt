@@ -32,6 +32,8 @@ pub use nouns::{Noun, object_by, object_says};
 pub use page::{BLOCK, Page};
 pub use parts::{Part, PartKind, Parts, Verb, failed_at, op_by, part_kinds, rwmutex_of, says};
 #[doc(hidden)]
+pub use parts::{object_alone, object_value};
+#[doc(hidden)]
 pub use places::Places;
 #[doc(hidden)]
 pub use shorts::{Short, Shorts};

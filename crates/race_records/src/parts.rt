@@ -215,7 +215,7 @@ pub fn op_by(verb: Verb, parts: &[Part]) -> Option<Op>
 
 // The number of the object of the kind, where the parts are that.
 #[inline(always)]
-fn object_alone(kind: Kind, parts: &[Part]) -> Option<u32>
+pub fn object_alone(kind: Kind, parts: &[Part]) -> Option<u32>
     ensures { result ≡ spec.object_alone kind parts.now }
 {
     match parts {
@@ -226,7 +226,7 @@ fn object_alone(kind: Kind, parts: &[Part]) -> Option<u32>
 
 // The number of the object of the kind and the value, where the parts are these.
 #[inline(always)]
-fn object_value(kind: Kind, parts: &[Part]) -> Option<(u32, u64)>
+pub fn object_value(kind: Kind, parts: &[Part]) -> Option<(u32, u64)>
     ensures { result ≡ spec.object_value kind parts.now }
 {
     match parts {

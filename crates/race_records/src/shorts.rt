@@ -1,6 +1,6 @@
 //! Short names with what they stand for, found by their bytes alone: one look at memory for a name,
 //! where a map has four.
-ghost use Rattle.std.specs.Prelude.{ℕ, ◌≡◌, ◌↔◌, ◌≤◌, ◌-◌, ◌*◌, ◌^◌, min, [], List, length, take, Some, IfSome, IsTrue};
+ghost use Rattle.std.specs.Prelude.{ℕ, ◌≡◌, ◌↔◌, ◌<◌, ◌≤◌, ◌-◌, ◌*◌, ◌^◌, min, [], List, length, take, Some, IfSome, IsTrue};
 ghost use Rattle.std.specs.Int.{from_le_bytes, w64};
 ghost use Rattle.race_records.specs.Tables.{Row, slot_named};
 ghost use Rattle.race_records.specs.Shorts as spec;
@@ -19,6 +19,9 @@ const MAX_SHORT: usize = 16;
 const MIN_SLOTS: usize = 1_024;
 
 const MAX_SLOTS: usize = 262_144;
+
+// In how many slots a name may stand: its own, and those whose numbers differ in the lowest bits.
+const SLOTS_OF_ONE: usize = 8;
 
 /// A short name as numbers: how many bytes it has, the first of them and the last of them.
 #[derive(Clone, Copy)]
@@ -93,8 +96,7 @@ impl<A: Allocator> Shorts<A> {
         find_in(self.slots.as_slice(), key)
     }
 
-    /// Notes a name, if it is a short one. Where memory is refused for more slots another name may be
-    /// forgotten.
+    /// Notes a name, if it is a short one and one of its slots is blank. None makes room for it.
     pub(crate) fn note(&mut self, name: &[u8], slot: Slot)
     where
         A: Copy,
@@ -212,24 +214,25 @@ fn low_bytes(count: usize) -> u64
     }
 }
 
-// The first of the four slots of the key among so many slots, a power of two. Every byte of a name
-// has a part in it, so that names which are numbered in a row don't share their slots.
+// The key's own slot among so many slots, a power of two. Every byte of a name has a part in it, so
+// that names which are numbered in a row don't share their slots.
 #[inline(always)]
 fn place_of(key: Key, count: usize) -> usize {
     let once = (key.front ^ key.back.rotate_left(29)).wrapping_mul(0x9e37_79b9_7f4a_7c15);
     let mixed = (once ^ (once >> 32)).wrapping_mul(0xa076_1d64_78bd_642f);
-    (mixed >> 32) as usize & count.wrapping_sub(1) & !3
+    (mixed >> 32) as usize & count.wrapping_sub(1)
 }
 
-// What is noted for the key.
+// What is noted for the key. Most names stand in their own slot, which is looked at first.
 #[inline(always)]
 fn find_in(slots: &[Short], key: Key) -> Option<Slot>
     ensures { IfSome result (λ slot. (name : List ℕ) (rows : List Row) → AreBytes name → spec.short_key name ≡ Some key
         → AreNoted rows slots.now → slot_named name rows ≡ Some slot) }
 {
     let at = place_of(key, slots.len());
-    for i in at..at.saturating_add(4).min(slots.len()) {
-        if has_key(&slots[i], key) {
+    for nth in 0..SLOTS_OF_ONE {
+        let i = at ^ nth;
+        if i < slots.len() && has_key(&slots[i], key) {
             return Some(slots[i].slot);
         }
     }
@@ -244,30 +247,32 @@ fn has_key(short: &Short, key: Key) -> bool
     short.front == key.front && short.back == key.back && short.len == key.len
 }
 
-// Puts a name into one of its four slots.
+// Puts a name into one of its slots, if one of them is blank.
 fn put<A: Allocator>(slots: &mut Vec<Short, A>, short: Short)
     ensures { (rows : List Row) → AreNoted rows slots.old.items → IsNoted rows short → AreNoted rows slots.new.items }
 {
-    let i = free_place(slots.as_slice(), &short);
-    if i < slots.len() {
+    if let Some(i) = free_slot(slots.as_slice(), &short) {
         slots[i] = short;
     }
 }
 
-// The first blank one of the four slots of the name, or the last of them.
-fn free_place(slots: &[Short], short: &Short) -> usize {
+// The first blank one of the name's slots.
+fn free_slot(slots: &[Short], short: &Short) -> Option<usize>
+    ensures { IfSome result (λ i. i < length slots.now) }
+{
     let key = Key {
         len: short.len,
         front: short.front,
         back: short.back,
     };
     let at = place_of(key, slots.len());
-    for i in at..at.saturating_add(3).min(slots.len()) {
-        if slots[i].len == BLANK.len {
-            return i;
+    for nth in 0..SLOTS_OF_ONE {
+        let i = at ^ nth;
+        if i < slots.len() && slots[i].len == BLANK.len {
+            return Some(i);
         }
     }
-    at.saturating_add(3)
+    None
 }
 
 // Puts each of these names into one of its slots.

@@ -23,11 +23,11 @@ use Rattle.race_text.proofs.CauseLemmas.{and_then_some, map_some, cause_on}
 use Rattle.race_text.proofs.PartWords.{first_part_is, read_suits, IsPart, is_part, AreParts, are_read, words_count, words_fine, part_is_there, are_there}
 use Rattle.race_text.proofs.PlaceWords.{ArePlaces, places_read, are_places, places_count, places_fine, places_are_there}
 
-goroutine_is : (part : Part) (n : ℕ) → goroutine_of part ≡ Some n → part ≡ Part.Object (Named.Goroutine n)
+pub goroutine_is : (part : Part) (n : ℕ) → goroutine_of part ≡ Some n → part ≡ Part.Object (Named.Goroutine n)
 goroutine_is (Part.Object (Named.Goroutine m)) n h = ap (λ k. Part.Object (Named.Goroutine k)) (same_Some m n h)
 goroutine_is _ n h = absurd (none-some n h)
 
-goroutine_is_there : (part : Part) → suits (PartKind.Object Kind.Goroutine) part ≡ true → (n : ℕ) × (part ≡ Part.Object (Named.Goroutine n))
+pub goroutine_is_there : (part : Part) → suits (PartKind.Object Kind.Goroutine) part ≡ true → (n : ℕ) × (part ≡ Part.Object (Named.Goroutine n))
 goroutine_is_there (Part.Object (Named.Goroutine n)) h = (n, refl)
 goroutine_is_there _ h = absurd (true≢false (sym h))
 

@@ -53,7 +53,7 @@ module _ (decls : DeclsState) (holds : IsWellFormed decls) where
       (ap (option_map Part.Object) again.0, name_is_visible (part_text ds (Part.Object named)) again.1)
 
   -- of any part
-  part_again : (kind : PartKind) (part : Part) → part_is_wanted ds kind part ≡ true → part_fits ds part ≡ true → part_is_limited part ≡ true
+  pub part_again : (kind : PartKind) (part : Part) → part_is_wanted ds kind part ≡ true → part_fits ds part ≡ true → part_is_limited part ≡ true
       → (part_in ds kind (part_text ds part) ≡ Some part) × (list_all is_place_byte (part_text ds part) ≡ true)
   part_again (PartKind.Object kind) (Part.Object named) wanted fit low = named_again (PartKind.Object kind) named wanted fit
   part_again PartKind.RwMutex (Part.Object named) wanted fit low = named_again PartKind.RwMutex named wanted fit
@@ -65,7 +65,7 @@ module _ (decls : DeclsState) (holds : IsWellFormed decls) where
       let again = failure_again decls holds cause fit wanted in (ap (option_map Part.Cause) again.0, again.1)
   part_again _ _ wanted fit low = absurd (true≢false (sym wanted))
 
-  parts_again : (got : List Part) (kinds : List PartKind) (parts : List Part) (rest : List (List ℕ)) → are_wanted ds kinds parts ≡ true
+  pub parts_again : (got : List Part) (kinds : List PartKind) (parts : List Part) (rest : List (List ℕ)) → are_wanted ds kinds parts ≡ true
       → list_all (part_fits ds) parts ≡ true → list_all part_is_limited parts ≡ true → AreVisible rest
       → (parts_on ds got kinds (map (part_text ds) parts ++ rest) ≡ Some (got ++ parts, rest)) × AreVisible (map (part_text ds) parts ++ rest)
   parts_again got [] [] rest wanted fit low visible = (λ i. Some (sym (append-nil got) i, rest), visible)
@@ -82,7 +82,7 @@ module _ (decls : DeclsState) (holds : IsWellFormed decls) where
   parts_again got _ _ rest wanted fit low visible = absurd (true≢false (sym wanted))
 
   -- a place that is printed has a place's form, and there are two just where there have to be
-  place_again : (n : ℕ) → n < length decls.places → is_place (place_text decls.places n) ≡ true
+  pub place_again : (n : ℕ) → n < length decls.places → is_place (place_text decls.places n) ≡ true
   place_again n less = ap (λ o. is_place (unwrap_or o [])) (slice_get-get_or decls.places n [] less) ∙ holds.places n [] less
 
   places_again : (two : Bool) (n : ℕ) (second : Option ℕ) → n < length decls.places → second_place_fits (length decls.places) two second ≡ true

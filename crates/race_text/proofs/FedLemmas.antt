@@ -20,11 +20,11 @@ use Rattle.race_text.specs.Fed.{ended_after, ended_fault, IsTaken, IsUnended, Is
 use Rattle.race_text.proofs.ParseLemmas.{or_later_from, fault_step, fault_end, fault_from, end_empty, no_bytes, cut_joined}
 
 -- two lists of parts, of which the last one of the first list goes on in the first one of the second
-onto : List ℕ → List (List ℕ) → List (List ℕ)
+unfoldable pub onto : List ℕ → List (List ℕ) → List (List ℕ)
 onto p [] = p ∷ []
 onto p (q ∷ qs) = (p ++ q) ∷ qs
 
-glue : List (List ℕ) → List (List ℕ) → List (List ℕ)
+unfoldable pub glue : List (List ℕ) → List (List ℕ) → List (List ℕ)
 glue [] qs = qs
 glue (p ∷ []) qs = onto p qs
 glue (p ∷ next ∷ ps) qs = p ∷ glue (next ∷ ps) qs
@@ -49,7 +49,7 @@ glue_first x (p ∷ []) [] some = refl
 glue_first x (p ∷ []) (q ∷ qs) some = refl
 glue_first x (p ∷ next ∷ ps) qs some = refl
 
-seam : (xs ys : List ℕ) → parts_of (xs ++ ys) ≡ glue (parts_of xs) (parts_of ys)
+pub seam : (xs ys : List ℕ) → parts_of (xs ++ ys) ≡ glue (parts_of xs) (parts_of ys)
 unfolding glue
 seam [] ys = sym (onto_none (parts_of ys) (some_part ys))
 seam (x ∷ xs) ys = by (x == 10) refl (seam xs ys)

@@ -207,7 +207,7 @@ module _ (t : TraceState) (has : HasText t) where
   unfolding text_fault
   text_has_no_fault = ap (fault_after []) (lines_again t has) ∙ fine_lines [] (lines t) some_lines lines_fine
 
-memory_or_not : (c : TextCause) → (c ≡ TextCause.OutOfMemory) ⊎ (c ≢ TextCause.OutOfMemory)
+pub memory_or_not : (c : TextCause) → (c ≡ TextCause.OutOfMemory) ⊎ (c ≢ TextCause.OutOfMemory)
 memory_or_not TextCause.OutOfMemory = inl refl
 memory_or_not _ = inr (λ e. cc)
 

@@ -214,7 +214,7 @@ late ds events kind some = by (nat_le (limit_of kind) (count_of kind ds)) (nat_l
     by false true e = (TextCause.LateDeclaration, refl)
     by false false e = absurd (true≢false (sym e))
 
-late_declaration : (ds : List Declaration) (events : ℕ) (word : Word) (kind : Kind) (words : List (List ℕ)) → kind_declared word ≡ Some kind → 0 < events
+pub late_declaration : (ds : List Declaration) (events : ℕ) (word : Word) (kind : Kind) (words : List (List ℕ)) → kind_declared word ≡ Some kind → 0 < events
     → word_cause (seen_so_far ds events) (Some word) words ≡ None → ⊥
 late_declaration ds events word kind words is some h = by (length words == length (fields_of word)) h
   where

@@ -142,6 +142,7 @@ fn next_word(front: Front<'_>) -> Option<(usize, Front<'_>)>
 }
 
 // What stands behind the goroutine: an object of this kind, and a value or none.
+#[inline(always)]
 fn parts_wanted(verb: Verb) -> Option<(PartKind, bool)>
     ensures kinds { IfSome result (λ wanted. parts.part_kinds verb ≡ wanted.0 ∷ spec.value_kinds wanted.1) }
     ensures object { IfSome result (λ wanted. spec.names_object wanted.0 ≡ true) }
@@ -157,7 +158,8 @@ fn parts_wanted(verb: Verb) -> Option<(PartKind, bool)>
     }
 }
 
-// The operation that the word, its object and its value say.
+// The operation that the word, its object and its value say. In a call it would go through memory.
+#[inline(always)]
 fn op_said(verb: Verb, object: Named, value: Option<u64>) -> Option<Op>
     ensures { IfSome result (λ op. parts.op_by verb (Part.Object object ∷ spec.value_parts value) ≡ Some op) }
 {

@@ -73,7 +73,7 @@ fn read_behind<'a, A: Allocator>(
 }
 
 // The number of a goroutine.
-pub(crate) fn goroutine_of(part: Part) -> Option<u32>
+pub fn goroutine_of(part: Part) -> Option<u32>
     ensures { result ≡ spec.goroutine_of part }
 {
     match part {
@@ -131,7 +131,7 @@ fn other_op<'a, A: Allocator>(
 }
 
 // A part for each of the kinds, and what is left behind them.
-fn next_parts<'a, A: Allocator>(
+pub fn next_parts<'a, A: Allocator>(
     decls: &Decls<A>,
     mut kinds: &[PartKind],
     rest: Option<&'a [u8]>,
@@ -154,7 +154,7 @@ fn next_parts<'a, A: Allocator>(
 
 // The part of this kind that the next word says, and what is left behind it.
 #[inline(always)]
-fn next_part<'a, A: Allocator>(
+pub fn next_part<'a, A: Allocator>(
     decls: &Decls<A>,
     kind: PartKind,
     rest: Option<&'a [u8]>,
@@ -316,7 +316,7 @@ fn last_places<'a>(two: bool, rest: Option<&'a [u8]>) -> Option<(&'a [u8], Optio
 
 // The one word that is left, which is a place.
 #[inline(always)]
-fn last_place<'a>(rest: Option<&'a [u8]>) -> Option<&'a [u8]>
+pub fn last_place<'a>(rest: Option<&'a [u8]>) -> Option<&'a [u8]>
     ensures { option_map (λ place. place.now) result ≡ spec.last_place (parts_left 32 rest.entry) }
 {
     match first_place(rest) {

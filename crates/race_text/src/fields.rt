@@ -220,7 +220,7 @@ fn lesser(a: Option<TextCause>, b: Option<TextCause>) -> Option<TextCause>
 }
 
 // The least cause of the words behind the first.
-pub(crate) fn fields_cause<A: Allocator>(
+pub fn fields_cause<A: Allocator>(
     decls: &Decls<A>,
     fields: &[Field],
     rest: Option<&[u8]>,

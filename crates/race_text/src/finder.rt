@@ -30,7 +30,7 @@ pub(crate) fn line_cause<A: Allocator>(
 }
 
 // The least cause of the words behind the first.
-pub(crate) fn word_cause<A: Allocator>(
+pub fn word_cause<A: Allocator>(
     decls: &Decls<A>,
     events: usize,
     word: Word,
@@ -50,7 +50,7 @@ pub(crate) fn word_cause<A: Allocator>(
 }
 
 // Whether so many words are left.
-fn has_count(rest: Option<&[u8]>, count: usize) -> bool
+pub fn has_count(rest: Option<&[u8]>, count: usize) -> bool
     ensures { result ≡ (length (parts_left 32 rest.entry) == count) }
 {
     let mut left = rest;

@@ -64,7 +64,7 @@ impl Default for Field {
 // What the first word of a line says that the line is.
 #[inline(always)]
 #[tactic(auto, unfolding(crate::specs::Form::word_named))]
-pub(crate) fn word_named(word: &[u8]) -> Option<Word>
+pub fn word_named(word: &[u8]) -> Option<Word>
     ensures { result ≡ spec.word_named word.now }
 {
     match common_word(word) {

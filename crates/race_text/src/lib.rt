@@ -24,11 +24,19 @@ mod writing;
 pub use cause::{TextCause, TextFault};
 #[doc(hidden)]
 pub use common::Front;
+#[doc(hidden)]
+pub use cut::{cut_at, has_bad_byte};
+#[doc(hidden)]
+pub use declaration::cause_of;
 pub use declaration::read_declaration;
 #[doc(hidden)]
-pub use event::Draft;
+pub use event::{Draft, goroutine_of, last_place, next_part, next_parts};
 #[doc(hidden)]
-pub use form::{Field, Word};
+pub use fields::fields_cause;
+#[doc(hidden)]
+pub use finder::{has_count, word_cause};
+#[doc(hidden)]
+pub use form::{Field, Word, word_named};
 pub use line_reader::LineReader;
 #[doc(hidden)]
 pub use line_reader::Lines;

@@ -60,6 +60,7 @@ pub(crate) fn take_common<'a, A: Allocator + Copy>(
 }
 
 // Appends an event that fits. Nothing but a full trace and want of memory is in its way.
+#[inline(always)]
 fn append<A: Allocator + Copy>(trace: &mut Trace<A>, draft: Draft<'_>) -> Result<(), TextCause>
     requires fits { spec.IsFitting trace.old.decls (drafted draft) }
     requires few { length trace.old.decls.places ≤ 2 * length trace.old.events }

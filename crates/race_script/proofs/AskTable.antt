@@ -1,0 +1,326 @@
+-- The table of what asks say, and its way back; and the table of the words of lines.
+use Rattle.std.proofs.Common.{◌≡◌, ℕ, ◌^◌, ◌&&◌, Bool, true, false, true≢false, nat_lt, if◌then◌else◌, List, [], ◌∷◌, ◌++◌, map, codes, Option, Some, None, option_map, refl, sym, ap, ◌∙◌}
+use Rattle.std.proofs.lemmas.Option.{none-some, same_Some}
+use Rattle.std.proofs.lemmas.Slice.Eq.{bytes_eq-Decides}
+use Rattle.std.specs.List.{list_all}
+use Rattle.std.specs.Str.{bytes_eq}
+use Rattle.race_records.specs.declared.kind.Kind.{Kind}
+use Rattle.race_records.specs.declared.kind.Named.{Named}
+use Rattle.race_records.specs.declared.parts.Part.{Part}
+use Rattle.race_records.specs.declared.parts.PartKind.{PartKind}
+use Rattle.race_records.specs.Declarations.{Declaration, counts_of, is_rw, is_named, number_of}
+use Rattle.race_records.specs.Name.{is_place_byte}
+use Rattle.race_records.specs.Parts.{object_alone, object_value, suit, part_fits, part_is_limited}
+use Rattle.race_hub.specs.declared.request.Ask.{Ask}
+use Rattle.race_text.specs.declared.form.Word.{Word}
+use Rattle.race_text.specs.Fault.{declared_as}
+use Rattle.race_text.specs.Form.{word_named}
+use Rattle.race_text.specs.Writing.{noun_text, part_text}
+use Rattle.race_text.proofs.WantedParts.{are_wanted}
+use Rattle.race_text.proofs.WordLemmas.{both}
+use Rattle.race_records.specs.declared.nouns.Noun.{Noun}
+use Rattle.race_script.specs.declared.form.AskWord.{AskWord}
+use Rattle.race_script.specs.declared.form.LineWord.{LineWord}
+use Rattle.race_script.specs.declared.form.TheConstants.{BODY_WORDS}
+use Rattle.race_script.specs.Form.{lookup, noun_or, line_word, ask_kinds, value_alone, if_none, ask_by}
+use Rattle.race_script.specs.Program.{ask_fits}
+use Rattle.race_script.specs.Text.{ask_words}
+
+-- what is asked, by its word and parts
+abbrev pub ask_says : Ask → AskWord × List Part
+ask_says (Ask.Go h) = (AskWord.Go, Part.Object (Named.Goroutine h) ∷ [])
+ask_says Ask.Exit = (AskWord.Exit, [])
+ask_says (Ask.Read x) = (AskWord.Read, Part.Object (Named.Var x) ∷ [])
+ask_says (Ask.Write x v) = (AskWord.Write, Part.Object (Named.Var x) ∷ Part.Value v ∷ [])
+ask_says (Ask.Send (Some c) v) = (AskWord.Send, Part.Object (Named.Chan c) ∷ Part.Value v ∷ [])
+ask_says (Ask.Send None v) = (AskWord.SendNil, Part.Value v ∷ [])
+ask_says (Ask.Recv (Some c)) = (AskWord.Recv, Part.Object (Named.Chan c) ∷ [])
+ask_says (Ask.Recv None) = (AskWord.RecvNil, [])
+ask_says (Ask.Close (Some c)) = (AskWord.Close, Part.Object (Named.Chan c) ∷ [])
+ask_says (Ask.Close None) = (AskWord.CloseNil, [])
+ask_says (Ask.Lock l) = (AskWord.Lock, Part.Object (Named.Lock l) ∷ [])
+ask_says (Ask.Unlock l) = (AskWord.Unlock, Part.Object (Named.Lock l) ∷ [])
+ask_says (Ask.RLock l) = (AskWord.RLock, Part.Object (Named.Lock l) ∷ [])
+ask_says (Ask.RUnlock l) = (AskWord.RUnlock, Part.Object (Named.Lock l) ∷ [])
+ask_says (Ask.Do o) = (AskWord.Do, Part.Object (Named.Once o) ∷ [])
+ask_says (Ask.EndDo o) = (AskWord.EndDo, Part.Object (Named.Once o) ∷ [])
+
+-- the words in front of the parts
+abbrev pub front_words : AskWord → List (List ℕ)
+front_words AskWord.Go = codes "go" ∷ []
+front_words AskWord.Exit = codes "exit" ∷ []
+front_words AskWord.Read = codes "read" ∷ []
+front_words AskWord.Write = codes "write" ∷ []
+front_words AskWord.Send = codes "send" ∷ []
+front_words AskWord.SendNil = codes "send" ∷ codes "nil" ∷ []
+front_words AskWord.Recv = codes "recv" ∷ []
+front_words AskWord.RecvNil = codes "recv" ∷ codes "nil" ∷ []
+front_words AskWord.Close = codes "close" ∷ []
+front_words AskWord.CloseNil = codes "close" ∷ codes "nil" ∷ []
+front_words AskWord.Lock = codes "lock" ∷ []
+front_words AskWord.Unlock = codes "unlock" ∷ []
+front_words AskWord.RLock = codes "rlock" ∷ []
+front_words AskWord.RUnlock = codes "runlock" ∷ []
+front_words AskWord.Do = codes "do" ∷ []
+front_words AskWord.EndDo = codes "enddo" ∷ []
+
+-- the words of an ask are those that it says
+pub ask_words_are : (ds : List Declaration) (place : List ℕ) (ask : Ask)
+    → ask_words ds place ask ≡ front_words (ask_says ask).0 ++ (map (part_text ds) (ask_says ask).1 ++ place ∷ [])
+ask_words_are ds place (Ask.Send None v) = refl
+ask_words_are ds place (Ask.Send (Some c) v) = refl
+ask_words_are ds place (Ask.Recv None) = refl
+ask_words_are ds place (Ask.Recv (Some c)) = refl
+ask_words_are ds place (Ask.Close None) = refl
+ask_words_are ds place (Ask.Close (Some c)) = refl
+ask_words_are ds place _ = refl
+
+-- what an ask says leads back to it
+pub says_again : (ask : Ask) → ask_by (ask_says ask).0 (ask_says ask).1 ≡ Some ask
+says_again (Ask.Send None v) = refl
+says_again (Ask.Send (Some c) v) = refl
+says_again (Ask.Recv None) = refl
+says_again (Ask.Recv (Some c)) = refl
+says_again (Ask.Close None) = refl
+says_again (Ask.Close (Some c)) = refl
+says_again _ = refl
+
+-- what is named, by its kind and its number
+abbrev named_by : Kind → ℕ → Named
+named_by Kind.Goroutine n = Named.Goroutine n
+named_by Kind.Var n = Named.Var n
+named_by Kind.Chan n = Named.Chan n
+named_by Kind.Lock n = Named.Lock n
+named_by Kind.Once n = Named.Once n
+
+named_again : (kind : Kind) (named : Named) → is_named kind named ≡ true → named ≡ named_by kind (number_of named)
+named_again Kind.Goroutine (Named.Goroutine n) is = refl
+named_again Kind.Var (Named.Var n) is = refl
+named_again Kind.Chan (Named.Chan n) is = refl
+named_again Kind.Lock (Named.Lock n) is = refl
+named_again Kind.Once (Named.Once n) is = refl
+named_again _ _ is = absurd (true≢false (sym is))
+
+-- what a choice gives was chosen
+chosen : {X : Type 0} (b : Bool) (x y : X) → ◌≡◌ {A = Option X} (if b then Some x else None) (Some y) → (b ≡ true) × (x ≡ y)
+chosen true x y e = (refl, same_Some x y e)
+chosen false x y e = absurd (none-some y e)
+
+alone_again : (kind : Kind) (parts : List Part) (n : ℕ) → object_alone kind parts ≡ Some n → parts ≡ Part.Object (named_by kind n) ∷ []
+alone_again kind (Part.Object named ∷ []) n e =
+    let is = chosen (is_named kind named) (number_of named) n e in
+    ap (λ name. Part.Object name ∷ []) (named_again kind named is.0 ∙ ap (named_by kind) is.1)
+alone_again kind _ n e = absurd (none-some n e)
+
+valued_again : (kind : Kind) (parts : List Part) (p : ℕ × ℕ) → object_value kind parts ≡ Some p → parts ≡ Part.Object (named_by kind p.0) ∷ Part.Value p.1 ∷ []
+valued_again kind (Part.Object named ∷ Part.Value v ∷ []) p e =
+    let is = chosen (is_named kind named) (number_of named, v) p e in
+    (λ i. Part.Object ((named_again kind named is.0 ∙ ap (λ (q : ℕ × ℕ). named_by kind q.0) is.1) i) ∷ Part.Value (is.1 i).1 ∷ [])
+valued_again kind _ p e = absurd (none-some p e)
+
+value_again : (parts : List Part) (v : ℕ) → value_alone parts ≡ Some v → parts ≡ Part.Value v ∷ []
+value_again (Part.Value w ∷ []) v e = ap (λ n. Part.Value n ∷ []) (same_Some w v e)
+value_again _ v e = absurd (none-some v e)
+
+-- where parts of a form give an ask, it says these parts
+made_says : {X : Type 0} (make : X → Ask) (said : X → AskWord × List Part) → ((x : X) → ask_says (make x) ≡ said x)
+    → (found : Option X) (ask : Ask) (word : AskWord) (parts : List Part)
+    → ((x : X) → found ≡ Some x → said x ≡ (word, parts)) → option_map make found ≡ Some ask → ask_says ask ≡ (word, parts)
+made_says make said is (Some x) ask word parts again e = ap ask_says (sym (same_Some (make x) ask e)) ∙ is x ∙ again x refl
+made_says make said is None ask word parts again e = absurd (none-some ask e)
+
+-- what is asked by a word and parts says these
+pub ask_by_says : (word : AskWord) (parts : List Part) (ask : Ask) → ask_by word parts ≡ Some ask → ask_says ask ≡ (word, parts)
+ask_by_says word parts ask e = by word e
+  where
+    alone : (make : ℕ → Ask) (word : AskWord) (kind : Kind) → ((n : ℕ) → ask_says (make n) ≡ (word, Part.Object (named_by kind n) ∷ []))
+        → option_map make (object_alone kind parts) ≡ Some ask → ask_says ask ≡ (word, parts)
+    alone make word kind says_it e = made_says make (λ n. (word, Part.Object (named_by kind n) ∷ [])) says_it (object_alone kind parts) ask word parts
+        (λ n found i. (word, sym (alone_again kind parts n found) i)) e
+
+    valued_by : (make : ℕ × ℕ → Ask) (word : AskWord) (kind : Kind) → ((p : ℕ × ℕ) → ask_says (make p) ≡ (word, Part.Object (named_by kind p.0) ∷ Part.Value p.1 ∷ []))
+        → option_map make (object_value kind parts) ≡ Some ask → ask_says ask ≡ (word, parts)
+    valued_by make word kind says_it e = made_says make (λ p. (word, Part.Object (named_by kind p.0) ∷ Part.Value p.1 ∷ [])) says_it (object_value kind parts) ask word parts
+        (λ p found i. (word, sym (valued_again kind parts p found) i)) e
+
+    nothing : (made : Ask) (word : AskWord) → ask_says made ≡ (word, []) → (parts : List Part) → if_none made parts ≡ Some ask → ask_says ask ≡ (word, parts)
+    nothing made word says_it [] e = ap ask_says (sym (same_Some made ask e)) ∙ says_it
+    nothing made word says_it _ e = absurd (none-some ask e)
+
+    by : (word : AskWord) → ask_by word parts ≡ Some ask → ask_says ask ≡ (word, parts)
+    by AskWord.Go e = alone Ask.Go AskWord.Go Kind.Goroutine (λ n. refl) e
+    by AskWord.Exit e = nothing Ask.Exit AskWord.Exit refl parts e
+    by AskWord.Read e = alone Ask.Read AskWord.Read Kind.Var (λ n. refl) e
+    by AskWord.Write e = valued_by (λ p. Ask.Write p.0 p.1) AskWord.Write Kind.Var (λ p. refl) e
+    by AskWord.Send e = valued_by (λ p. Ask.Send (Some p.0) p.1) AskWord.Send Kind.Chan (λ p. refl) e
+    by AskWord.SendNil e = made_says (λ v. Ask.Send None v) (λ v. (AskWord.SendNil, Part.Value v ∷ [])) (λ v. refl) (value_alone parts) ask AskWord.SendNil parts
+        (λ v found i. (AskWord.SendNil, sym (value_again parts v found) i)) e
+    by AskWord.Recv e = alone (λ c. Ask.Recv (Some c)) AskWord.Recv Kind.Chan (λ n. refl) e
+    by AskWord.RecvNil e = nothing (Ask.Recv None) AskWord.RecvNil refl parts e
+    by AskWord.Close e = alone (λ c. Ask.Close (Some c)) AskWord.Close Kind.Chan (λ n. refl) e
+    by AskWord.CloseNil e = nothing (Ask.Close None) AskWord.CloseNil refl parts e
+    by AskWord.Lock e = alone Ask.Lock AskWord.Lock Kind.Lock (λ n. refl) e
+    by AskWord.Unlock e = alone Ask.Unlock AskWord.Unlock Kind.Lock (λ n. refl) e
+    by AskWord.RLock e = alone Ask.RLock AskWord.RLock Kind.Lock (λ n. refl) e
+    by AskWord.RUnlock e = alone Ask.RUnlock AskWord.RUnlock Kind.Lock (λ n. refl) e
+    by AskWord.Do e = alone Ask.Do AskWord.Do Kind.Once (λ n. refl) e
+    by AskWord.EndDo e = alone Ask.EndDo AskWord.EndDo Kind.Once (λ n. refl) e
+
+-- parts that the word wants are an ask's
+pub ask_is_there : (word : AskWord) (parts : List Part) → suit (ask_kinds word) parts ≡ true → (ask : Ask) × (ask_by word parts ≡ Some ask)
+ask_is_there AskWord.Go (Part.Object (Named.Goroutine n) ∷ []) e = (Ask.Go n, refl)
+ask_is_there AskWord.Exit [] e = (Ask.Exit, refl)
+ask_is_there AskWord.Read (Part.Object (Named.Var n) ∷ []) e = (Ask.Read n, refl)
+ask_is_there AskWord.Write (Part.Object (Named.Var n) ∷ Part.Value v ∷ []) e = (Ask.Write n v, refl)
+ask_is_there AskWord.Send (Part.Object (Named.Chan n) ∷ Part.Value v ∷ []) e = (Ask.Send (Some n) v, refl)
+ask_is_there AskWord.SendNil (Part.Value v ∷ []) e = (Ask.Send None v, refl)
+ask_is_there AskWord.Recv (Part.Object (Named.Chan n) ∷ []) e = (Ask.Recv (Some n), refl)
+ask_is_there AskWord.RecvNil [] e = (Ask.Recv None, refl)
+ask_is_there AskWord.Close (Part.Object (Named.Chan n) ∷ []) e = (Ask.Close (Some n), refl)
+ask_is_there AskWord.CloseNil [] e = (Ask.Close None, refl)
+ask_is_there AskWord.Lock (Part.Object (Named.Lock n) ∷ []) e = (Ask.Lock n, refl)
+ask_is_there AskWord.Unlock (Part.Object (Named.Lock n) ∷ []) e = (Ask.Unlock n, refl)
+ask_is_there AskWord.RLock (Part.Object (Named.Lock n) ∷ []) e = (Ask.RLock n, refl)
+ask_is_there AskWord.RUnlock (Part.Object (Named.Lock n) ∷ []) e = (Ask.RUnlock n, refl)
+ask_is_there AskWord.Do (Part.Object (Named.Once n) ∷ []) e = (Ask.Do n, refl)
+ask_is_there AskWord.EndDo (Part.Object (Named.Once n) ∷ []) e = (Ask.EndDo n, refl)
+ask_is_there _ _ e = absurd (true≢false (sym e))
+
+-- an ask fits where its parts do
+abbrev pub parts_fit : List Declaration → List PartKind → List Part → Bool
+parts_fit ds kinds parts = list_all (part_fits ds) parts && list_all part_is_limited parts && are_wanted ds kinds parts
+
+one : (x : Bool) → ((x && true) && true) ≡ (((x && true) && true) && true)
+one true = refl
+one false = refl
+
+locked : (x y : Bool) → ((x && y) && true) ≡ (((x && true) && true) && (y && true))
+locked true true = refl
+locked true false = refl
+locked false true = refl
+locked false false = refl
+
+valued : (x z : Bool) → ((x && true) && z) ≡ (((x && true) && (z && true)) && true)
+valued true true = refl
+valued true false = refl
+valued false true = refl
+valued false false = refl
+
+pub fits_are : (ds : List Declaration) (ask : Ask) → ask_fits ds ask ≡ parts_fit ds (ask_kinds (ask_says ask).0) (ask_says ask).1
+fits_are ds (Ask.Go h) = one (nat_lt h (counts_of ds Kind.Goroutine))
+fits_are ds Ask.Exit = refl
+fits_are ds (Ask.Read x) = one (nat_lt x (counts_of ds Kind.Var))
+fits_are ds (Ask.Write x v) = valued (nat_lt x (counts_of ds Kind.Var)) (nat_lt v (2 ^ 64))
+fits_are ds (Ask.Send (Some c) v) = valued (nat_lt c (counts_of ds Kind.Chan)) (nat_lt v (2 ^ 64))
+fits_are ds (Ask.Send None v) = valued true (nat_lt v (2 ^ 64))
+fits_are ds (Ask.Recv (Some c)) = one (nat_lt c (counts_of ds Kind.Chan))
+fits_are ds (Ask.Recv None) = refl
+fits_are ds (Ask.Close (Some c)) = one (nat_lt c (counts_of ds Kind.Chan))
+fits_are ds (Ask.Close None) = refl
+fits_are ds (Ask.Lock l) = one (nat_lt l (counts_of ds Kind.Lock))
+fits_are ds (Ask.Unlock l) = one (nat_lt l (counts_of ds Kind.Lock))
+fits_are ds (Ask.RLock l) = locked (nat_lt l (counts_of ds Kind.Lock)) (is_rw ds l)
+fits_are ds (Ask.RUnlock l) = locked (nat_lt l (counts_of ds Kind.Lock)) (is_rw ds l)
+fits_are ds (Ask.Do o) = one (nat_lt o (counts_of ds Kind.Once))
+fits_are ds (Ask.EndDo o) = one (nat_lt o (counts_of ds Kind.Once))
+
+-- the bytes of the first word of a line
+abbrev pub first_text : LineWord → List ℕ
+first_text (LineWord.Declares noun) = noun_text noun
+first_text LineWord.Begins = codes "body"
+first_text (LineWord.Asks AskWord.Go) = codes "go"
+first_text (LineWord.Asks AskWord.Exit) = codes "exit"
+first_text (LineWord.Asks AskWord.Read) = codes "read"
+first_text (LineWord.Asks AskWord.Write) = codes "write"
+first_text (LineWord.Asks AskWord.Send) = codes "send"
+first_text (LineWord.Asks AskWord.SendNil) = []
+first_text (LineWord.Asks AskWord.Recv) = codes "recv"
+first_text (LineWord.Asks AskWord.RecvNil) = []
+first_text (LineWord.Asks AskWord.Close) = codes "close"
+first_text (LineWord.Asks AskWord.CloseNil) = []
+first_text (LineWord.Asks AskWord.Lock) = codes "lock"
+first_text (LineWord.Asks AskWord.Unlock) = codes "unlock"
+first_text (LineWord.Asks AskWord.RLock) = codes "rlock"
+first_text (LineWord.Asks AskWord.RUnlock) = codes "runlock"
+first_text (LineWord.Asks AskWord.Do) = codes "do"
+first_text (LineWord.Asks AskWord.EndDo) = codes "enddo"
+
+abbrev table : List (List ℕ × LineWord)
+table = map (λ entry. (entry.0.now, entry.1)) BODY_WORDS
+
+-- what holds of each entry holds of what is found
+found_in : (test : List ℕ → LineWord → Bool) (entries : List (List ℕ × LineWord)) (w : List ℕ) (word : LineWord) → lookup entries w ≡ Some word
+    → list_all (λ (e : List ℕ × LineWord). test e.0 e.1) entries ≡ true → test w word ≡ true
+found_in test [] w word h all = absurd (none-some word h)
+found_in test (e ∷ es) w word h all = by (bytes_eq w e.0) refl h (λ rest. found_in test es w word rest (both (test e.0 e.1) _ all).1)
+  where
+    by : (b : Bool) → bytes_eq w e.0 ≡ b → (if b then Some e.1 else lookup es w) ≡ Some word → (lookup es w ≡ Some word → test w word ≡ true)
+        → test w word ≡ true
+    by true same h others = (λ i. test ((bytes_eq-Decides w e.0).0 same i) (sym (same_Some e.1 word h) i)) ∙ (both (test e.0 e.1) _ all).0
+    by false other h others = others h
+
+-- no word of the table declares
+abbrev declares_nothing : LineWord → Bool
+declares_nothing (LineWord.Declares noun) = false
+declares_nothing _ = true
+
+-- what holds of a first word that begins a line of a body
+pub record IsBodyWord (w : List ℕ) (word : LineWord) : Type 0 where
+  pub text : w ≡ first_text word
+  pub seen : list_all is_place_byte w ≡ true
+  pub declares : (args : List (List ℕ)) → declared_as (word_named w) args ≡ None
+
+pub body_word : (w : List ℕ) (word : LineWord) → line_word w ≡ Some word → declares_nothing word ≡ true → IsBodyWord w word
+unfolding line_word
+body_word w word h body = by (word_named w) refl h
+  where
+    by : (o : Option Word) → word_named w ≡ o → noun_or o (lookup table w) ≡ Some word → IsBodyWord w word
+    by (Some (Word.Declares noun)) e h = absurd (true≢false (sym body ∙ ap declares_nothing (sym (same_Some (LineWord.Declares noun) word h))))
+    by (Some (Word.Does verb)) e h = record {
+      text = (bytes_eq-Decides w (first_text word)).0 (found_in (λ w word. bytes_eq w (first_text word)) table w word h refl);
+      seen = found_in (λ w word. list_all is_place_byte w) table w word h refl;
+      declares = λ args. ap (λ o. declared_as o args) e;
+    }
+    by None e h = record {
+      text = (bytes_eq-Decides w (first_text word)).0 (found_in (λ w word. bytes_eq w (first_text word)) table w word h refl);
+      seen = found_in (λ w word. list_all is_place_byte w) table w word h refl;
+      declares = λ args. ap (λ o. declared_as o args) e;
+    }
+
+-- a word that declares is one in a trace
+pub noun_word : (w : List ℕ) (noun : Noun) → line_word w ≡ Some (LineWord.Declares noun) → word_named w ≡ Some (Word.Declares noun)
+unfolding line_word
+noun_word w noun h = by (word_named w) refl h
+  where
+    other : lookup table w ≡ Some (LineWord.Declares noun) → word_named w ≡ Some (Word.Declares noun)
+    other h = absurd (true≢false (sym (found_in (λ w word. declares_nothing word) table w (LineWord.Declares noun) h refl)))
+
+    by : (o : Option Word) → word_named w ≡ o → noun_or o (lookup table w) ≡ Some (LineWord.Declares noun) → word_named w ≡ Some (Word.Declares noun)
+    by (Some (Word.Declares n)) e h = let same = same_Some (LineWord.Declares n) (LineWord.Declares noun) h in cc
+    by (Some (Word.Does verb)) e h = other h
+    by None e h = other h
+
+pub noun_line_word : (w : List ℕ) (noun : Noun) → word_named w ≡ Some (Word.Declares noun) → line_word w ≡ Some (LineWord.Declares noun)
+unfolding line_word
+noun_line_word w noun h = ap (λ o. noun_or o (lookup table w)) h
+
+-- the words of lines of bodies are found
+pub begins_again : line_word (codes "body") ≡ Some LineWord.Begins
+unfolding line_word word_named
+begins_again = refl
+
+-- the table has no word of nil
+abbrev pub has_front : LineWord → Bool
+has_front (LineWord.Asks AskWord.SendNil) = false
+has_front (LineWord.Asks AskWord.RecvNil) = false
+has_front (LineWord.Asks AskWord.CloseNil) = false
+has_front _ = true
+
+pub found_has_front : (w : List ℕ) (word : LineWord) → line_word w ≡ Some word → has_front word ≡ true
+unfolding line_word
+found_has_front w word h = by (word_named w) h
+  where
+    by : (o : Option Word) → noun_or o (lookup table w) ≡ Some word → has_front word ≡ true
+    by (Some (Word.Declares noun)) h = ap has_front (sym (same_Some (LineWord.Declares noun) word h))
+    by (Some (Word.Does verb)) h = found_in (λ w word. has_front word) table w word h refl
+    by None h = found_in (λ w word. has_front word) table w word h refl

@@ -1,0 +1,13 @@
+pub mod BodyLemmas
+pub mod ScriptLemmas
+pub mod ParseLemmas
+pub mod FedLemmas
+pub mod AskTable
+pub mod SaidLines
+pub mod LineLemmas
+pub mod TakingLemmas
+pub mod ReadLemmas
+pub mod TextFine
+pub mod LineCount
+pub mod SaidAgain
+pub mod Scanning

@@ -1,0 +1,71 @@
+-- A program's text that is read part by part: what is left of it, and its first fault.
+use Rattle.std.proofs.Common.{◌≡◌, ℕ, ◌+◌, ◌<◌, ◌≤◌, ◌==◌, ◌&&◌, nat_lt, Bool, true, false, not, if◌then◌else◌, List, [], ◌∷◌, ◌++◌, length, Some, None, refl, sym, arith}
+use Rattle.std.proofs.lemmas.Bool.Decides.{nat_tests}
+use Rattle.std.proofs.lemmas.List.{length-append}
+use Rattle.std.proofs.lemmas.Option.{none-some}
+use Rattle.std.specs.Str.{bytes_eq}
+use Rattle.race_text.specs.declared.cause.TextCause.{TextCause}
+use Rattle.race_text.specs.declared.cause.TextFault.{TextFault}
+use Rattle.race_text.specs.Fault.{or_later}
+use Rattle.race_text.proofs.ParseLemmas.{or_later_from}
+use Rattle.race_text.proofs.WordLemmas.{both}
+use Rattle.race_script.specs.Fault.{cause, end_cause, fault_after, is_whole}
+use Rattle.race_script.specs.Program.{Draft}
+use Rattle.race_script.specs.Reader.{lines_by}
+use Rattle.race_script.specs.Reading.{seen}
+use Rattle.race_script.specs.Text.{header}
+
+-- a part behind which another stands
+pub fault_step : (before : List (List ℕ)) (line : List ℕ) (parts : List (List ℕ)) → 0 < length parts
+    → fault_after before (line ∷ parts) ≡ or_later (length before + 1) (cause before line true) (fault_after (before ++ line ∷ []) parts)
+unfolding fault_after
+fault_step before line [] h = absurd (omega arith)
+fault_step before line (next ∷ others) h = refl
+
+-- the last part
+pub fault_end : (before : List (List ℕ)) (last : List ℕ) → fault_after before (last ∷ []) ≡ or_later (length before + 1) (end_cause before last) None
+unfolding fault_after
+fault_end before last = refl
+
+pub fault_from : (parts before : List (List ℕ)) (f : TextFault) → fault_after before parts ≡ Some f → length before + 1 ≤ f.line
+unfolding fault_after
+fault_from [] before f h = absurd (none-some f h)
+fault_from (last ∷ []) before f h = or_later_from (length before + 1) (end_cause before last) None f h (λ g e. absurd (none-some g e))
+fault_from (line ∷ next ∷ others) before f h =
+    or_later_from (length before + 1) (cause before line true) (fault_after (before ++ line ∷ []) (next ∷ others)) f h
+    (λ g e. let later = fault_from (next ∷ others) (before ++ line ∷ []) g e in omega (arith, later, length-append before (line ∷ [])))
+
+-- a part that no newline ends is at fault where it is a line
+unended : (before : List (List ℕ)) (last : List ℕ) → cause before last false ≡ None → ⊥
+unfolding cause
+unended [] last h = by (bytes_eq last header) h
+  where
+    by : (b : Bool) → (if not b then Some TextCause.BadHeader else Some TextCause.NoNewline) ≡ None → ⊥
+    by true h = none-some TextCause.NoNewline (sym h)
+    by false h = none-some TextCause.BadHeader (sym h)
+unended (first ∷ before) last h = none-some TextCause.NoNewline (sym h)
+
+-- where nothing is wrong at the end, no byte is left, and all bodies have ended
+pub end_empty : (before : List (List ℕ)) (last : List ℕ) → end_cause before last ≡ None
+    → (length last ≡ 0) × (0 < length before) × (is_whole (seen before) ≡ true)
+unfolding end_cause
+end_empty before last h = by ((length last == 0) && nat_lt 0 (length before)) refl h
+  where
+    ends : (w : Bool) → (if w then None else Some TextCause.BadBlock) ≡ None → w ≡ true
+    ends true h = refl
+    ends false h = absurd (none-some TextCause.BadBlock (sym h))
+
+    by : (b : Bool) → ((length last == 0) && nat_lt 0 (length before)) ≡ b
+        → (if b then (if is_whole (seen before) then None else Some TextCause.BadBlock) else cause before last false) ≡ None
+        → (length last ≡ 0) × (0 < length before) × (is_whole (seen before) ≡ true)
+    by true e h =
+        let p = both (length last == 0) (nat_lt 0 (length before)) e in
+        let a = p.0 in
+        let b = p.1 in
+        (grind (arith, nat_tests, a), grind (arith, nat_tests, b), ends (is_whole (seen before)) h)
+    by false e h = absurd (unended before last h)
+
+-- an end without a cause stands behind the header
+pub header_before_end : (has_header : Bool) (d : Draft) (last : List ℕ) → end_cause (lines_by has_header d) last ≡ None → has_header ≡ true
+header_before_end true d last h = refl
+header_before_end false d last h = let e = end_empty [] last h in let some = e.1 in absurd (omega (arith, some))

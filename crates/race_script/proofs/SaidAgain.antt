@@ -1,0 +1,113 @@
+-- What is printed of a line of a body says it again.
+use Rattle.std.proofs.Common.{◌≡◌, ℕ, Bool, true, false, nat_lt, if◌then◌else◌, List, [], ◌∷◌, ◌++◌, map, codes, Some, None, refl, sym, ap, subst, ◌∙◌, ◌&&◌, ◌^◌, arith}
+use Rattle.std.proofs.lemmas.Bool.Decides.{nat_tests}
+use Rattle.std.specs.Option.{option_map_or}
+use Rattle.std.specs.Str.{bytes_eq}
+use Rattle.race_records.specs.declared.kind.Kind.{Kind}
+use Rattle.race_records.specs.declared.kind.Named.{Named}
+use Rattle.race_records.specs.declared.parts.PartKind.{PartKind}
+use Rattle.race_records.specs.Declarations.{Declaration, DeclsState, IsWellFormed, counts_of}
+use Rattle.race_records.specs.Name.{is_name}
+use Rattle.race_hub.specs.declared.request.Ask.{Ask}
+use Rattle.race_text.specs.Form.{word_named, first_word}
+use Rattle.race_text.specs.Select.{nil}
+use Rattle.race_text.specs.Text.{line_of, goroutine_name, chan_name}
+use Rattle.race_text.specs.Words.{has_bad_byte}
+use Rattle.race_text.specs.Writing.{part_text}
+use Rattle.race_text.proofs.CaseWords.{not_nil}
+use Rattle.race_text.proofs.UsedNames.{used_again}
+use Rattle.race_text.proofs.WordLemmas.{both}
+use Rattle.race_text.proofs.WordsAgain.{AreVisible, words_again, visible_line_clean}
+use Rattle.race_script.specs.declared.form.AskWord.{AskWord}
+use Rattle.race_script.specs.declared.form.LineWord.{LineWord}
+use Rattle.race_script.specs.Form.{line_word, word_on_nil, AskedWords, on_nil}
+use Rattle.race_script.specs.Program.{ask_fits}
+use Rattle.race_script.specs.Reader.{HasWords}
+use Rattle.race_script.specs.Reading.{asked_in}
+use Rattle.race_script.specs.Text.{Said, Begins, Asks, said_line}
+use Rattle.race_script.proofs.AskTable.{ask_says, ask_words_are, front_words, body_word, begins_again}
+use Rattle.race_script.proofs.LineLemmas.{SaidFits, IsSaidLine, begins_line, asks_line}
+use Rattle.race_script.proofs.SaidLines.{asked_again, begun_again}
+
+-- a word of which nil can't be asked
+plain : (word : AskWord) (args : List (List ℕ)) → word_on_nil word ≡ None → on_nil word args ≡ (word, args)
+plain word [] h = refl
+plain word (w ∷ ws) h = by (bytes_eq w nil)
+  where
+    by : (b : Bool) → ◌≡◌ {A = AskedWords} (if b then option_map_or (λ other. (other, ws)) (word_on_nil word) (word, w ∷ ws) else (word, w ∷ ws)) (word, w ∷ ws)
+    by true = ap (λ o. option_map_or (λ other. (other, ws)) o (word, w ∷ ws)) h
+    by false = refl
+
+-- and one of which it isn't
+named : (word : AskWord) (w : List ℕ) (ws : List (List ℕ)) → is_name w ≡ true → on_nil word (w ∷ ws) ≡ (word, w ∷ ws)
+named word w ws form = ap (λ b. if b then option_map_or (λ other. (other, ws)) (word_on_nil word) (word, w ∷ ws) else (word, w ∷ ws)) (not_nil w form)
+
+-- the words in front of what an ask says, with others behind them
+record IsFront (word : AskWord) (args : List (List ℕ)) : Type 0 where
+  table : AskWord
+  first : List ℕ
+  rest : List (List ℕ)
+  words : front_words word ++ args ≡ first ∷ rest
+  known : line_word first ≡ Some (LineWord.Asks table)
+  cut : on_nil table rest ≡ (word, args)
+  visible : AreVisible args → AreVisible rest
+
+module _ (decls : DeclsState) (holds : IsWellFormed decls) where
+  abbrev ds : List Declaration
+  ds = decls.declarations
+
+  chan_is_name : (c : ℕ) → nat_lt c (counts_of ds Kind.Chan) ≡ true → is_name (chan_name ds c) ≡ true
+  chan_is_name c less = (used_again decls holds (PartKind.Object Kind.Chan) (Named.Chan c) refl (grind (arith, nat_tests, less))).1
+
+  front_again : (ask : Ask) (place : List ℕ) → ask_fits ds ask ≡ true → IsFront (ask_says ask).0 (map (part_text ds) (ask_says ask).1 ++ place ∷ [])
+  unfolding line_word word_named
+  front_again (Ask.Go h) place fits = record { table = AskWord.Go; first = codes "go"; rest = _; words = refl; known = refl; cut = plain AskWord.Go _ refl; visible = λ v. v }
+  front_again Ask.Exit place fits = record { table = AskWord.Exit; first = codes "exit"; rest = _; words = refl; known = refl; cut = plain AskWord.Exit _ refl; visible = λ v. v }
+  front_again (Ask.Read x) place fits = record { table = AskWord.Read; first = codes "read"; rest = _; words = refl; known = refl; cut = plain AskWord.Read _ refl; visible = λ v. v }
+  front_again (Ask.Write x w) place fits = record { table = AskWord.Write; first = codes "write"; rest = _; words = refl; known = refl; cut = plain AskWord.Write _ refl; visible = λ v. v }
+  front_again (Ask.Send None w) place fits = record { table = AskWord.Send; first = codes "send"; rest = _; words = refl; known = refl; cut = refl; visible = λ v. (refl, v) }
+  front_again (Ask.Send (Some c) w) place fits =
+      let less = both (nat_lt c (counts_of ds Kind.Chan)) true (both (nat_lt c (counts_of ds Kind.Chan) && true) (nat_lt w (2 ^ 64)) fits).0 in
+      record { table = AskWord.Send; first = codes "send"; rest = _; words = refl; known = refl; cut = named AskWord.Send (chan_name ds c) _ (chan_is_name c less.0); visible = λ v. v }
+  front_again (Ask.Recv None) place fits = record { table = AskWord.Recv; first = codes "recv"; rest = _; words = refl; known = refl; cut = refl; visible = λ v. (refl, v) }
+  front_again (Ask.Recv (Some c)) place fits =
+      let less = both (nat_lt c (counts_of ds Kind.Chan)) true (both (nat_lt c (counts_of ds Kind.Chan) && true) true fits).0 in
+      record { table = AskWord.Recv; first = codes "recv"; rest = _; words = refl; known = refl; cut = named AskWord.Recv (chan_name ds c) _ (chan_is_name c less.0); visible = λ v. v }
+  front_again (Ask.Close None) place fits = record { table = AskWord.Close; first = codes "close"; rest = _; words = refl; known = refl; cut = refl; visible = λ v. (refl, v) }
+  front_again (Ask.Close (Some c)) place fits =
+      let less = both (nat_lt c (counts_of ds Kind.Chan)) true (both (nat_lt c (counts_of ds Kind.Chan) && true) true fits).0 in
+      record { table = AskWord.Close; first = codes "close"; rest = _; words = refl; known = refl; cut = named AskWord.Close (chan_name ds c) _ (chan_is_name c less.0); visible = λ v. v }
+  front_again (Ask.Lock l) place fits = record { table = AskWord.Lock; first = codes "lock"; rest = _; words = refl; known = refl; cut = plain AskWord.Lock _ refl; visible = λ v. v }
+  front_again (Ask.Unlock l) place fits = record { table = AskWord.Unlock; first = codes "unlock"; rest = _; words = refl; known = refl; cut = plain AskWord.Unlock _ refl; visible = λ v. v }
+  front_again (Ask.RLock l) place fits = record { table = AskWord.RLock; first = codes "rlock"; rest = _; words = refl; known = refl; cut = plain AskWord.RLock _ refl; visible = λ v. v }
+  front_again (Ask.RUnlock l) place fits = record { table = AskWord.RUnlock; first = codes "runlock"; rest = _; words = refl; known = refl; cut = plain AskWord.RUnlock _ refl; visible = λ v. v }
+  front_again (Ask.Do o) place fits = record { table = AskWord.Do; first = codes "do"; rest = _; words = refl; known = refl; cut = plain AskWord.Do _ refl; visible = λ v. v }
+  front_again (Ask.EndDo o) place fits = record { table = AskWord.EndDo; first = codes "enddo"; rest = _; words = refl; known = refl; cut = plain AskWord.EndDo _ refl; visible = λ v. v }
+
+  -- words that can be seen are those of their line
+  has_words : (first : List ℕ) (rest : List (List ℕ)) (word : LineWord) → line_word first ≡ Some word → AreVisible (first ∷ rest) → HasWords (line_of (first ∷ rest)) word rest
+  has_words first rest word known visible =
+      let again = words_again first rest visible in
+      record {
+        clean = visible_line_clean (first ∷ rest) visible;
+        named = ap (λ ws. line_word (first_word ws)) again ∙ known;
+        behind = again ∙ ap (λ ws. first_word ws ∷ rest) (sym again);
+      }
+
+  pub said_again : (said : Said) → SaidFits ds said → (IsSaidLine ds (said_line ds said) said) × (has_bad_byte (said_line ds said) ≡ false)
+  said_again (Begins g) less =
+      let again = begun_again decls holds g less in
+      let visible : AreVisible (codes "body" ∷ goroutine_name ds g ∷ []) = (refl, again.1) in (
+        begins_line decls holds (said_line ds (Begins g)) (goroutine_name ds g ∷ []) g (has_words (codes "body") (goroutine_name ds g ∷ []) LineWord.Begins begins_again visible) again.0,
+        visible_line_clean (codes "body" ∷ goroutine_name ds g ∷ []) visible,
+      )
+  said_again (Asks i) fits =
+      let word = (ask_says i.ask).0 in
+      let args = map (part_text ds) (ask_says i.ask).1 ++ i.place ∷ [] in
+      let again = asked_again decls holds i fits.0 fits.1 in
+      let is = front_again i.ask i.place fits.0 in
+      let visible : AreVisible (is.first ∷ is.rest) = ((body_word is.first (LineWord.Asks is.table) is.known refl).seen, is.visible again.1) in
+      let line : said_line ds (Asks i) ≡ line_of (is.first ∷ is.rest) = ap line_of (ask_words_are ds i.place i.ask ∙ is.words) in
+      let says : asked_in ds (on_nil is.table is.rest).0 (on_nil is.table is.rest).1 ≡ Some i = ap (λ (a : AskedWords). asked_in ds a.0 a.1) is.cut ∙ again.0 in
+      let whole = asks_line decls holds (line_of (is.first ∷ is.rest)) is.table is.rest i (has_words is.first is.rest (LineWord.Asks is.table) is.known visible) says in
+      (subst (λ l. IsSaidLine ds l (Asks i)) (sym line) whole, ap has_bad_byte line ∙ visible_line_clean (is.first ∷ is.rest) visible)

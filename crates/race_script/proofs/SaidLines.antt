@@ -1,0 +1,163 @@
+-- A line of a body: what it says, and that no cause holds of its words.
+use Rattle.std.proofs.Common.{◌≡◌, ℕ, ◌<◌, ◌==◌, ◌&&◌, Bool, true, false, true≢false, not, if◌then◌else◌, List, [], ◌∷◌, ◌++◌, length, map, Option, Some, None, refl, sym, ap, ◌∙◌, arith}
+use Rattle.std.proofs.lemmas.Bool.Decides.{nat_tests, Decides-eqb}
+use Rattle.std.proofs.lemmas.Option.{none-some}
+use Rattle.std.specs.List.{list_all}
+use Rattle.std.specs.Option.{option_and_then, option_map}
+use Rattle.race_records.specs.declared.kind.Kind.{Kind}
+use Rattle.race_records.specs.declared.kind.Named.{Named}
+use Rattle.race_records.specs.declared.parts.Part.{Part}
+use Rattle.race_records.specs.declared.parts.PartKind.{PartKind}
+use Rattle.race_records.specs.Declarations.{Declaration, DeclsState, IsWellFormed, count_of}
+use Rattle.race_records.specs.Name.{is_place}
+use Rattle.race_records.specs.Parts.{part_fits, part_is_limited}
+use Rattle.race_text.specs.declared.cause.TextCause.{TextCause}
+use Rattle.race_text.specs.declared.form.Field.{Field}
+use Rattle.race_text.specs.Fault.{fields_cause, field_cause}
+use Rattle.race_text.specs.Form.{place_fields}
+use Rattle.race_text.specs.Reading.{part_in, parts_on, last_place, alone, goroutine_of}
+use Rattle.race_text.specs.Text.{goroutine_name, place_words}
+use Rattle.race_text.specs.Writing.{part_text}
+use Rattle.race_text.proofs.CauseLemmas.{and_then_some, map_some}
+use Rattle.race_text.proofs.CleanLemmas.{place_is_visible}
+use Rattle.race_text.proofs.EventsAgain.{part_again, parts_again}
+use Rattle.race_text.proofs.EventWords.{goroutine_is, goroutine_is_there}
+use Rattle.race_text.proofs.PartWords.{is_part, are_read, texts_are, parts_are_limited, parts_are_wanted, words_count, words_fine, part_is_there, are_there, read_suits}
+use Rattle.race_text.proofs.PartWords.{parts_fit as all_parts_fit}
+use Rattle.race_text.proofs.PlaceWords.{ArePlaces, last_by_form, are_places, places_fine, places_are_there}
+use Rattle.race_text.proofs.WantedParts.{are_wanted}
+use Rattle.race_text.proofs.WordLemmas.{both}
+use Rattle.race_text.proofs.WordsAgain.{AreVisible}
+use Rattle.race_script.specs.declared.form.AskWord.{AskWord}
+use Rattle.race_script.specs.Fault.{words_cause}
+use Rattle.race_script.specs.Form.{ask_kinds, ask_fields, begin_fields, ask_by}
+use Rattle.race_script.specs.Program.{Instruction, ask_fits}
+use Rattle.race_script.specs.Reading.{asked_at, before_place, asked_by_parts, asked_in, begun_in}
+use Rattle.race_script.proofs.AskTable.{ask_says, ask_by_says, ask_is_there, says_again, fits_are, parts_fit}
+
+-- no cause holds of the words just where there are as many as there have to be, and none holds of each
+pub words_fine_by : (ds : List Declaration) (fields : List Field) (words : List (List ℕ)) → length words ≡ length fields → fields_cause ds fields words ≡ None
+    → words_cause ds fields words ≡ None
+words_fine_by ds fields words count fine =
+    ap (λ b. if not b then Some TextCause.WrongCount else fields_cause ds fields words) ((Decides-eqb (length words) (length fields)).1 count) ∙ fine
+
+pub words_are_fine : (ds : List Declaration) (fields : List Field) (words : List (List ℕ)) → words_cause ds fields words ≡ None
+    → (length words ≡ length fields) × (fields_cause ds fields words ≡ None)
+words_are_fine ds fields words h = by (length words == length fields) refl h
+  where
+    by : (b : Bool) → (length words == length fields) ≡ b → (if not b then Some TextCause.WrongCount else fields_cause ds fields words) ≡ None
+        → (length words ≡ length fields) × (fields_cause ds fields words ≡ None)
+    by true e h = (grind (arith, nat_tests, e), h)
+    by false e h = absurd (none-some TextCause.WrongCount (sym h))
+
+module _ (ds : List Declaration) where
+  -- where nothing is wrong with the words, something is asked
+  pub asked_is_there : (word : AskWord) (words : List (List ℕ)) → words_cause ds (ask_fields word) words ≡ None
+      → (i : Instruction) × (asked_in ds word words ≡ Some i)
+  asked_is_there word words h =
+      let fine = words_are_fine ds (ask_fields word) words h in
+      let there = are_there ds (place_fields false) (ask_kinds word) words None fine.0 fine.1 in
+      let ask = ask_is_there word there.parts there.suit_is in
+      let places = places_are_there ds false there.rest there.count there.fine in (
+        asked_at ask.0 places.0.0,
+        ap (option_and_then (asked_by_parts word)) (there.read [])
+            ∙ ap (option_and_then (before_place there.rest)) ask.1
+            ∙ ap (option_map (asked_at ask.0)) (ap last_place (places.2 ∙ one_place places.0 places.1) ∙ last_by_form places.0.0 places.1.first),
+      )
+    where
+      one_place : (places : List ℕ × Option (List ℕ)) → ArePlaces false places → place_words places.0 places.1 ≡ places.0 ∷ []
+      one_place (w, None) are = refl
+      one_place (w, Some v) are = absurd (true≢false (sym are.count))
+
+  -- and where `body` stands before them, a goroutine is named
+  pub begun_is_there : (words : List (List ℕ)) → words_cause ds begin_fields words ≡ None → (g : ℕ) × (begun_in ds words ≡ Some g)
+  unfolding field_cause
+  begun_is_there [] h = absurd (none-some TextCause.WrongCount (sym h))
+  begun_is_there (w ∷ v ∷ ws) h = let count = (words_are_fine ds begin_fields (w ∷ v ∷ ws) h).0 in absurd (omega (arith, count))
+  begun_is_there (w ∷ []) h =
+      let kind = PartKind.Object Kind.Goroutine in
+      let there = part_is_there ds kind w (words_are_fine ds begin_fields (w ∷ []) h).1 in
+      let g = goroutine_is_there there.0 (read_suits ds kind w there.0 there.1) in
+      (g.0, ap (option_and_then goroutine_of) (there.1 ∙ ap Some g.1))
+
+module _ (decls : DeclsState) (holds : IsWellFormed decls) where
+  abbrev ds' : List Declaration
+  ds' = decls.declarations
+
+  -- what holds of words that ask
+  pub record AreAsked (word : AskWord) (words : List (List ℕ)) (i : Instruction) : Type 0 where
+    pub parts : List Part
+    pub text : words ≡ map (part_text ds') parts ++ i.place ∷ []
+    pub says : ask_says i.ask ≡ (word, parts)
+    pub fits : ask_fits ds' i.ask ≡ true
+    pub form : is_place i.place ≡ true
+    pub fine : words_cause ds' (ask_fields word) words ≡ None
+
+  pub are_asked : (word : AskWord) (words : List (List ℕ)) (i : Instruction) → asked_in ds' word words ≡ Some i → AreAsked word words i
+  are_asked word words i h =
+      let a = and_then_some (asked_by_parts word) (parts_on ds' [] (ask_kinds word) words) i h in
+      let b = and_then_some (before_place a.0.1) (ask_by word a.0.0) i a.2 in
+      let c = map_some (asked_at b.0) (last_place a.0.1) i b.2 in
+      let read = are_read decls holds [] (ask_kinds word) words a.0 a.1 in
+      let places = are_places false a.0.1 (c.0, None) (ap (option_map alone) c.1) in
+      let place : c.0 ≡ i.place = ap (λ (x : Instruction). x.place) c.2 in
+      let says : ask_says i.ask ≡ (word, read.parts) =
+      ap (λ (x : Instruction). ask_says x.ask) (sym c.2) ∙ ask_by_says word a.0.0 b.0 b.1 ∙ (λ k. (word, read.parts_are k)) in
+      let fit : parts_fit ds' (ask_kinds word) read.parts ≡ true =
+      λ k. all_parts_fit decls holds (ask_kinds word) read.ws read.parts read.are k && parts_are_limited decls holds (ask_kinds word) read.ws read.parts read.are k
+      && parts_are_wanted decls holds (ask_kinds word) read.ws read.parts read.are k in
+      let rest : a.0.1 ≡ c.0 ∷ [] = places.1 in
+      let none = places_fine ds' false (c.0, None) places.0 in
+      record {
+        parts = read.parts;
+        text = read.words_are ∙ (λ k. texts_are decls holds (ask_kinds word) read.ws read.parts read.are k ++ (places.1 ∙ ap (λ w. w ∷ []) place) k);
+        says = says;
+        fits = fits_are ds' i.ask ∙ (λ k. parts_fit ds' (ask_kinds (says k).0) (says k).1) ∙ fit;
+        form = ap is_place (sym place) ∙ places.0.first;
+        fine = words_fine_by ds' (ask_fields word) words
+            (ap length (read.words_are ∙ ap (λ r. read.ws ++ r) rest) ∙ words_count decls holds (Field.Place ∷ []) (c.0 ∷ []) refl (ask_kinds word) read.ws read.parts read.are)
+            (ap (fields_cause ds' (ask_fields word)) (read.words_are ∙ ap (λ r. read.ws ++ r) rest)
+            ∙ words_fine decls holds (Field.Place ∷ []) (c.0 ∷ []) none (ask_kinds word) read.ws read.parts read.are);
+      }
+
+  -- the words of what is asked ask it, and can be seen
+  pub asked_again : (i : Instruction) → ask_fits ds' i.ask ≡ true → is_place i.place ≡ true
+      → (asked_in ds' (ask_says i.ask).0 (map (part_text ds') (ask_says i.ask).1 ++ i.place ∷ []) ≡ Some i)
+      × AreVisible (map (part_text ds') (ask_says i.ask).1 ++ i.place ∷ [])
+  asked_again i fits form =
+      let word = (ask_says i.ask).0 in
+      let parts = (ask_says i.ask).1 in
+      let three = both (list_all (part_fits ds') parts && list_all part_is_limited parts) (are_wanted ds' (ask_kinds word) parts) (sym (fits_are ds' i.ask) ∙ fits) in
+      let two = both (list_all (part_fits ds') parts) (list_all part_is_limited parts) three.0 in
+      let again = parts_again decls holds [] (ask_kinds word) parts (i.place ∷ []) three.1 two.0 two.1 (place_is_visible i.place form, tt) in (
+        ap (option_and_then (asked_by_parts word)) again.0
+            ∙ ap (option_and_then (before_place (i.place ∷ []))) (says_again i.ask)
+            ∙ ap (option_map (asked_at i.ask)) (last_by_form i.place form),
+        again.1,
+      )
+
+  -- what holds of the word behind `body`
+  pub record IsBegun (words : List (List ℕ)) (g : ℕ) : Type 0 where
+    pub text : words ≡ goroutine_name ds' g ∷ []
+    pub less : g < count_of Kind.Goroutine ds'
+    pub fine : words_cause ds' begin_fields words ≡ None
+
+  pub is_begun : (words : List (List ℕ)) (g : ℕ) → begun_in ds' words ≡ Some g → IsBegun words g
+  unfolding field_cause
+  is_begun [] g h = absurd (none-some g h)
+  is_begun (w ∷ v ∷ ws) g h = absurd (none-some g h)
+  is_begun (w ∷ []) g h =
+      let kind = PartKind.Object Kind.Goroutine in
+      let a = and_then_some goroutine_of (part_in ds' kind w) g h in
+      let is = is_part decls holds kind w (Part.Object (Named.Goroutine g)) (a.1 ∙ ap Some (goroutine_is a.0 g a.2)) in
+      let fits = is.fits in
+      record {
+        text = ap (λ v. v ∷ []) is.text;
+        less = grind (arith, nat_tests, fits);
+        fine = words_fine_by ds' begin_fields (w ∷ []) refl is.no_cause;
+      }
+
+  pub begun_again : (g : ℕ) → g < count_of Kind.Goroutine ds' → (begun_in ds' (goroutine_name ds' g ∷ []) ≡ Some g) × AreVisible (goroutine_name ds' g ∷ [])
+  begun_again g less =
+      let again = part_again decls holds (PartKind.Object Kind.Goroutine) (Part.Object (Named.Goroutine g)) refl (grind (arith, nat_tests, less)) refl in
+      (ap (option_and_then goroutine_of) again.0, (again.1, tt))

@@ -1,0 +1,5 @@
+use Rattle.race_script.proofs.FedLemmas.{ended_fault_stays}
+use Rattle.race_script.proofs.laws.ended_faults_stay.Goals as goal
+
+pub returns : goal.returns
+returns c = ended_fault_stays

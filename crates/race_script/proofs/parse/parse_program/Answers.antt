@@ -1,0 +1,66 @@
+-- What the reader says of the bytes that it was fed.
+use Rattle.std.proofs.Common.{◌≡◌, ◌≢◌, [], Some}
+use Rattle.std.proofs.lemmas.Result.{IfOk-weaker, IfErr-weaker}
+use Rattle.race_text.specs.declared.cause.TextCause.{TextCause}
+use Rattle.race_text.specs.declared.cause.TextFault.{TextFault}
+use Rattle.race_script.specs.Text.{IsTextOf}
+use Rattle.race_script.specs.Fault.{text_fault}
+use Rattle.race_script.specs.Laws.{IsOnlyProgramOf}
+use Rattle.race_text.specs.Reader.{IsLineOf, IsNoneBefore}
+use Rattle.race_script.specs.Fed.{StandsFor}
+use Rattle.race_script.proofs.TextFine.{text_is_accepted}
+use Rattle.race_text.proofs.FedLemmas.{match_err}
+use Rattle.race_script.proofs.FedLemmas.{told_at_once}
+use Rattle.race_script.proofs.parse.parse_program.Goals as goal
+
+pub returns-in_err-feed-clause-accepted : goal.returns-in_err-feed-clause-accepted
+returns-in_err-feed-clause-accepted g c = λ is.
+    match_err _ (λ (f : TextFault). f.cause ≡ TextCause.OutOfMemory) c.from_residual.result c.in_err-feed.field-0.0 c.from_residual.ensures.1
+    (text_is_accepted c.args.bytes.now c.in_err-feed.field-0.0
+    (told_at_once c.new-reader.result c.feed.new.self c.args.bytes.now c.in_err-feed.field-0.0 c.new-reader.ensures
+    c.in_err-feed.ensures.goes_on c.in_err-feed.ensures.told).whole is)
+
+pub returns-in_err-feed-clause-fault : goal.returns-in_err-feed-clause-fault
+returns-in_err-feed-clause-fault g c =
+    match_err _ (λ (f : TextFault). f.cause ≢ TextCause.OutOfMemory → text_fault c.args.bytes.now ≡ Some f)
+    c.from_residual.result c.in_err-feed.field-0.0 c.from_residual.ensures.1
+    (told_at_once c.new-reader.result c.feed.new.self c.args.bytes.now c.in_err-feed.field-0.0 c.new-reader.ensures
+    c.in_err-feed.ensures.goes_on c.in_err-feed.ensures.told).whole
+
+pub returns-in_err-feed-clause-memory : goal.returns-in_err-feed-clause-memory
+returns-in_err-feed-clause-memory g c =
+    match_err _ (λ (f : TextFault). IsNoneBefore f.line (text_fault c.args.bytes.now))
+    c.from_residual.result c.in_err-feed.field-0.0 c.from_residual.ensures.1
+    (told_at_once c.new-reader.result c.feed.new.self c.args.bytes.now c.in_err-feed.field-0.0 c.new-reader.ensures
+    c.in_err-feed.ensures.goes_on c.in_err-feed.ensures.told).none_before
+
+module _ (g : _) (c : goal.After-finish g) where
+  stands : StandsFor c.feed.new.self c.args.bytes.now
+  stands = c.in_ok-feed.ensures.goes_on [] c.new-reader.ensures
+
+pub returns-clause-text : goal.returns-clause-text
+returns-clause-text g c =
+    IfOk-weaker c.finish.result _ (λ program. IsTextOf program c.args.bytes.now) (λ program each. each c.args.bytes.now (stands g c)) c.finish.ensures.text
+
+pub returns-clause-only : goal.returns-clause-only
+returns-clause-only g c =
+    IfOk-weaker c.finish.result _ (λ program. IsOnlyProgramOf c.args.bytes.now program) (λ program each. each c.args.bytes.now (stands g c)) c.finish.ensures.only
+
+pub returns-clause-accepted : goal.returns-clause-accepted
+returns-clause-accepted g c = λ is.
+    IfErr-weaker c.finish.result _ (λ (f : TextFault). f.cause ≡ TextCause.OutOfMemory) (λ f each. each c.args.bytes.now (stands g c) is) c.finish.ensures.accepted
+
+pub returns-clause-fault : goal.returns-clause-fault
+returns-clause-fault g c =
+    IfErr-weaker c.finish.result _ (λ (f : TextFault). f.cause ≢ TextCause.OutOfMemory → text_fault c.args.bytes.now ≡ Some f)
+    (λ f each. each c.args.bytes.now (stands g c)) c.finish.ensures.fault
+
+pub returns-clause-memory : goal.returns-clause-memory
+returns-clause-memory g c =
+    IfErr-weaker c.finish.result _ (λ (f : TextFault). IsNoneBefore f.line (text_fault c.args.bytes.now))
+    (λ f each. each c.args.bytes.now (stands g c)) c.finish.ensures.memory
+
+pub returns-clause-line : goal.returns-clause-line
+returns-clause-line g c =
+    IfErr-weaker c.finish.result _ (λ (f : TextFault). IsLineOf c.args.bytes.now f.line)
+    (λ f each. each c.args.bytes.now (stands g c)) c.finish.ensures.line

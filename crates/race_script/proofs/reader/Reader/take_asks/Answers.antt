@@ -1,0 +1,68 @@
+use Rattle.std.proofs.Common.{◌≡◌, List, ℕ, Option, Bor, Some, None, true, is_some, sym, ap, refl, ◌∙◌, option_map}
+use Rattle.std.proofs.lemmas.Option.{none-some}
+use Rattle.race_hub.specs.declared.request.Ask.{Ask}
+use Rattle.race_text.specs.Words.{parts_left}
+use Rattle.race_script.specs.Fault.{words_cause}
+use Rattle.race_script.specs.Form.{on_nil, ask_fields}
+use Rattle.race_script.specs.Program.{Instruction}
+use Rattle.race_script.specs.Reading.{asked_read, asked_in}
+use Rattle.race_script.specs.Text.{Asks}
+use Rattle.race_script.proofs.ReadLemmas.{asks_told, said_answered}
+use Rattle.race_script.proofs.SaidLines.{asked_is_there, are_asked}
+use Rattle.race_script.proofs.LineLemmas.{asks_line}
+use Rattle.race_script.proofs.reader.Reader.take_asks.Goals as goal
+
+-- what gives an instruction is there
+there_is : (o : Option (Ask × Bor (List ℕ))) (i : Instruction) → option_map asked_read o ≡ Some i → is_some o ≡ true
+there_is None i h = absurd (none-some i h)
+there_is (Some x) i h = refl
+
+-- what was read, of the declarations that the caller sees
+module _ (g : _) (c : goal.After-add-arg-1 g) where
+  abbrev asked : Instruction
+  asked = asked_read c.unwrap-ask.result
+
+  read : asked_in c.args.self.now.decls.declarations (on_nil c.args.word (parts_left 32 c.args.rest)).0 (on_nil c.args.word (parts_left 32 c.args.rest)).1 ≡ Some asked
+  read =
+      (λ k. asked_in (sym c.self.view_is k).decls.declarations (sym c.on_nil-word.ensures k).0 (sym c.on_nil-word.ensures k).1)
+      ∙ sym c.asked_in.ensures ∙ ap (option_map asked_read) c.unwrap-ask.ensures
+
+pub returns-in-Some : goal.returns-in-Some
+returns-in-Some g c = record {
+  taken = λ _.
+      let s = c.args.self.now in
+      let words = parts_left 32 c.args.rest in
+      asks_told s c.requires.read c.args.line.now c.args.word words c.in-Some.cause c.requires.words
+      ((λ k. words_cause (sym c.self.view_is k).decls.declarations (ask_fields (sym c.on_nil-word.ensures k).0) (sym c.on_nil-word.ensures k).1)
+      ∙ (λ k. words_cause c.self.inside.decls.declarations (sym (c.as_slice.ensures.value ∙ c.ask_fields-fields.ensures) k) (parts_left 32 c.on_nil-word.result.1))
+      ∙ sym c.words_cause.ensures ∙ c.in-Some.is);
+}
+
+pub unwrap-ask-requires : goal.unwrap-ask-requires
+unwrap-ask-requires g c =
+    let word = c.on_nil-word.result.0 in
+    let words = parts_left 32 c.on_nil-word.result.1 in
+    let ds = c.self.inside.decls.declarations in
+    let none : words_cause ds (ask_fields word) words ≡ None =
+    (λ k. words_cause ds (sym (c.as_slice.ensures.value ∙ c.ask_fields-fields.ensures) k) words) ∙ sym c.words_cause.ensures ∙ c.in_default.is in
+    let there = asked_is_there ds word words none in
+    there_is c.asked_in.result there.0 (c.asked_in.ensures ∙ there.1)
+
+pub add-requires-clause-fits : goal.add-requires-clause-fits
+add-requires-clause-fits g c =
+    let cut = on_nil c.args.word (parts_left 32 c.args.rest) in
+    (are_asked c.args.self.now.decls c.requires.read.sound.well_formed cut.0 cut.1 (asked g c) (read g c)).fits
+
+pub add-requires-clause-form : goal.add-requires-clause-form
+add-requires-clause-form g c =
+    let cut = on_nil c.args.word (parts_left 32 c.args.rest) in
+    (are_asked c.args.self.now.decls c.requires.read.sound.well_formed cut.0 cut.1 (asked g c) (read g c)).form
+
+pub returns : goal.returns
+returns g c =
+    let s = c.args.self.now in
+    let words = parts_left 32 c.args.rest in
+    let read = (λ k. asked_in (sym c.self.view_is k).decls.declarations (sym c.on_nil-word.ensures k).0 (sym c.on_nil-word.ensures k).1)
+    ∙ sym c.asked_in.ensures ∙ ap (option_map asked_read) c.unwrap-ask.ensures in
+    let line = asks_line s.decls c.requires.read.sound.well_formed c.args.line.now c.args.word words (asked_read c.unwrap-ask.result) c.requires.words read in
+    record { taken = said_answered s c.requires.read c.args.line.now (Asks (asked_read c.unwrap-ask.result)) c.add.result c.add.new.self line c.add.ensures }

@@ -1,0 +1,27 @@
+-- The laws of program text, which functions of src/laws.rt that do nothing have as their contracts.
+use Rattle.std.specs.Prelude.{◌≡◌, ℕ, List, ◌++◌, Some, None}
+use Rattle.race_text.specs.declared.cause.TextFault.{TextFault}
+use Rattle.race_script.specs.Fault.{text_fault}
+use Rattle.race_script.specs.Fed.{ended_fault}
+use Rattle.race_script.specs.Program.{ProgramState, IsProgram, draft_of}
+use Rattle.race_script.specs.Text.{program_text, IsTextOf, IsProgramText}
+
+-- every program whose text the bytes are is the same as p, with the texts of its places; that p is one isn't said
+abbrev pub IsOnlyProgramOf : List ℕ → ProgramState → Type 0
+IsOnlyProgramOf bytes p = (q : ProgramState) → IsTextOf q bytes → draft_of q ≡ draft_of p
+
+-- the text of a program has no fault
+abbrev pub TextsHaveNoFault : Type 0
+TextsHaveNoFault = (p : ProgramState) → IsProgram p → text_fault (program_text p) ≡ None
+
+-- bytes without a fault are some program's text
+abbrev pub FaultlessBytesAreTexts : Type 0
+FaultlessBytesAreTexts = (bytes : List ℕ) → text_fault bytes ≡ None → IsProgramText bytes
+
+-- programs with equal texts are equal: the declarations, and the bodies with the texts of their places
+abbrev pub EqualTextsAreOfEqualPrograms : Type 0
+EqualTextsAreOfEqualPrograms = (p q : ProgramState) → IsProgram p → IsProgram q → program_text p ≡ program_text q → draft_of p ≡ draft_of q
+
+-- the first fault of the lines that are ended is the whole text's, whatever follows
+abbrev pub EndedFaultsStay : Type 0
+EndedFaultsStay = (bytes more : List ℕ) (fault : TextFault) → ended_fault bytes ≡ Some fault → text_fault (bytes ++ more) ≡ Some fault

@@ -1,0 +1,10 @@
+pub mod Bodies
+pub mod Program
+pub mod Run
+pub mod Form
+pub mod Text
+pub mod Reading
+pub mod Fault
+pub mod Reader
+pub mod Fed
+pub mod Laws

@@ -1,0 +1,82 @@
+-- What the lines of a program say, each looked at alone, and together.
+use Rattle.std.specs.Prelude.{ℕ, List, [], ◌∷◌, ◌++◌, fold, Option, Some, None, if◌then◌else◌}
+use Rattle.std.specs.Borrow.{Bor}
+use Rattle.std.specs.List.{filter_map}
+use Rattle.std.specs.Option.{option_and_then, option_map}
+use Rattle.race_records.specs.declared.kind.Kind.{Kind}
+use Rattle.race_records.specs.declared.parts.PartKind.{PartKind}
+use Rattle.race_records.specs.Declarations.{Declaration}
+use Rattle.race_hub.specs.declared.request.Ask.{Ask}
+use Rattle.race_text.specs.Fault.{declaration_in}
+use Rattle.race_text.specs.Form.{first_word, arguments}
+use Rattle.race_text.specs.Reading.{ReadParts, part_in, parts_on, last_place, goroutine_of}
+use Rattle.race_text.specs.Words.{words_of}
+use Rattle.race_script.specs.declared.form.AskWord.{AskWord}
+use Rattle.race_script.specs.declared.form.LineWord.{LineWord}
+use Rattle.race_script.specs.Bodies.{is_exit}
+use Rattle.race_script.specs.Form.{line_word, AskedWords, on_nil, ask_kinds, ask_by}
+use Rattle.race_script.specs.Program.{Instruction, Draft}
+use Rattle.race_script.specs.Text.{Said, Begins, Asks}
+
+-- what is asked at a place
+abbrev pub asked_at : Ask → List ℕ → Instruction
+asked_at ask place = record { ask = ask; place = place }
+
+-- what an ask in the code with its place stands for
+abbrev pub asked_read : Ask × Bor (List ℕ) → Instruction
+asked_read asked = asked_at asked.0 asked.1.now
+
+-- an ask, and then the one word that is left, its place
+abbrev pub before_place : List (List ℕ) → Ask → Option Instruction
+before_place rest ask = option_map (asked_at ask) (last_place rest)
+
+-- what is asked by the parts that were read, and the words behind them
+abbrev pub asked_by_parts : AskWord → ReadParts → Option Instruction
+asked_by_parts word read = option_and_then (before_place read.1) (ask_by word read.0)
+
+-- what the words behind this one ask
+abbrev pub asked_in : List Declaration → AskWord → List (List ℕ) → Option Instruction
+asked_in ds word words = option_and_then (asked_by_parts word) (parts_on ds [] (ask_kinds word) words)
+
+-- the goroutine that the one word names
+abbrev pub begun_in : List Declaration → List (List ℕ) → Option ℕ
+begun_in ds (w ∷ []) = option_and_then goroutine_of (part_in ds (PartKind.Object Kind.Goroutine) w)
+begun_in ds _ = None
+
+-- what words that begin with an ask's say
+abbrev pub asks_by : List Declaration → AskedWords → Option Said
+asks_by ds asked = option_map Asks (asked_in ds asked.0 asked.1)
+
+-- what the words behind a first word say
+abbrev pub said_by : List Declaration → Option LineWord → List (List ℕ) → Option Said
+said_by ds (Some LineWord.Begins) words = option_map Begins (begun_in ds words)
+said_by ds (Some (LineWord.Asks word)) words = asks_by ds (on_nil word words)
+said_by ds _ words = None
+
+-- what a line says of the bodies
+abbrev pub said_in : List Declaration → List ℕ → Option Said
+said_in ds line = said_by ds (line_word (first_word (words_of line))) (arguments (words_of line))
+
+-- the program with one more instruction in the body that has not ended: an exit ends it
+abbrev pub with_instruction : Draft → Instruction → Option (List Instruction) → Draft
+with_instruction d i None = d
+with_instruction d i (Some body) =
+    if is_exit i.ask then record { declarations = d.declarations; ended = d.ended ++ (body ++ i ∷ []) ∷ []; unended = None }
+    else record { declarations = d.declarations; ended = d.ended; unended = Some (body ++ i ∷ []) }
+
+-- the program with what one more line says
+abbrev pub with_said : Draft → Said → Draft
+with_said d (Begins g) = record { declarations = d.declarations; ended = d.ended; unended = Some [] }
+with_said d (Asks i) = with_instruction d i d.unended
+
+-- the program of which nothing but this is declared
+abbrev pub nothing_said : List Declaration → Draft
+nothing_said ds = record { declarations = ds; ended = []; unended = None }
+
+-- what lines say of the bodies, in order
+abbrev pub all_said : List Declaration → List (List ℕ) → Draft
+all_said ds lines = fold with_said (nothing_said ds) (filter_map (said_in ds) lines)
+
+-- what the lines before say together, whether one is at fault or not
+unfoldable pub seen : List (List ℕ) → Draft
+seen before = all_said (filter_map declaration_in before) before

@@ -1,0 +1,27 @@
+//! The laws of program text. Each function does nothing, and its contract is the law.
+ghost use Rattle.race_script.specs.Laws.{
+  EndedFaultsStay,
+  EqualTextsAreOfEqualPrograms,
+  FaultlessBytesAreTexts,
+  TextsHaveNoFault,
+};
+
+/// The text of a program has no fault.
+pub fn texts_have_no_fault()
+    ensures { TextsHaveNoFault }
+{}
+
+/// Bytes without a fault are some program's text.
+pub fn faultless_bytes_are_texts()
+    ensures { FaultlessBytesAreTexts }
+{}
+
+/// Equal texts come from equal programs.
+pub fn equal_texts_are_of_equal_programs()
+    ensures { EqualTextsAreOfEqualPrograms }
+{}
+
+/// The first fault of the lines that are ended is the whole text's, whatever follows.
+pub fn ended_faults_stay()
+    ensures { EndedFaultsStay }
+{}

@@ -1,0 +1,24 @@
+//! Programs: their texts, and scripts that ask what their bodies say.
+#![tactic(auto)]
+
+mod asks;
+mod form;
+pub mod laws;
+mod parse;
+mod program;
+mod program_reader;
+mod reader;
+mod script;
+
+#[doc(hidden)]
+pub use asks::ask_by;
+#[doc(hidden)]
+pub use form::{AskWord, BODY_WORDS, LineWord, ask_kinds};
+pub use parse::parse_program;
+pub use program::{MAX_STEPS, Program};
+#[doc(hidden)]
+pub use program_reader::Lines;
+pub use program_reader::ProgramReader;
+#[doc(hidden)]
+pub use reader::{Reader, Unended};
+pub use script::Script;

@@ -1,0 +1,360 @@
+//! A program that is read line by line.
+ghost use Rattle.std.specs.Prelude.{◌≡◌, ◌≢◌, ◌+◌, ◌^◌, ◌<◌, [], length, sum_by, reverse, true, false, Some, None, Ok, is_some, IfOk, IfSome, MatchResult, OnOk};
+ghost use Rattle.race_records.specs.Declarations.{IsWellFormed};
+ghost use Rattle.race_records.specs.Name.{is_place};
+ghost use Rattle.race_text.specs.Words.{parts_left};
+ghost use Rattle.race_script.specs.Bodies as bodies;
+ghost use Rattle.race_script.specs.Fault as fault;
+ghost use Rattle.race_script.specs.Form as form;
+ghost use Rattle.race_script.specs.Program as program;
+ghost use Rattle.race_script.specs.Reading as reading;
+ghost use Rattle.race_script.specs.Text.{Asks};
+ghost use Rattle.race_script.specs.Reader as spec;
+
+use crate::asks::{asked_in, begun_in, words_cause};
+use crate::form::{AskWord, LineWord, ask_fields, line_word, on_nil};
+use crate::program::{MAX_STEPS, Program};
+use crate::script::is_exit;
+use race_hub::{Ask, Request};
+use race_records::{Decls, Kind, Noun, PartKind, as_text};
+use race_text::{
+    Field, TextCause, Word, cause_of, cut_at, has_bad_byte, read_declaration, word_cause,
+};
+use std::alloc::{AllocError, Allocator};
+use std::marker::Model;
+use std::mem;
+
+/// The body that has not ended.
+#[derive(Debug, Drop)]
+pub struct Unended<A: Allocator> {
+    /// Its requests so far.
+    pub requests: Vec<Request, A>,
+    /// The onces whose functions are open, the innermost last.
+    pub onces: Vec<u32, A>,
+}
+
+/// What was read so far.
+#[derive(Debug, Drop)]
+pub struct Reader<A: Allocator> {
+    alloc: A,
+    has_header: bool,
+    decls: Decls<A>,
+    ended: Vec<Vec<Request, A>, A>,
+    unended: Option<Unended<A>>,
+}
+
+impl<A: Allocator> Model for Reader<A> {
+    ghost use Rattle.std.specs.Prelude.{map};
+    ghost use Rattle.std.specs.Option.{option_map};
+    ghost use Rattle.race_script.specs.Reader.{ReadState};
+
+    ghost Value = { ReadState };
+
+    ghost view = { λ r. record {
+      has_header = r.has_header;
+      decls = r.decls;
+      ended = map (λ body. body.items) r.ended.items;
+      unended = option_map (λ u. record { requests = u.requests.items; onces = u.onces.items }) r.unended;
+    } };
+}
+
+// What stands behind `body`.
+static BEGIN_FIELDS: [Field; 1] = [Field::Part(PartKind::Object(Kind::Goroutine))];
+
+impl<A: Allocator + Copy> Reader<A> {
+    // Nothing is read yet. Takes no memory.
+    pub(crate) fn new(alloc: A) -> Reader<A>
+        ensures header { result.has_header ≡ false }
+        ensures reading { spec.IsReading result }
+    {
+        Reader {
+            alloc,
+            has_header: false,
+            decls: Decls::new(alloc),
+            ended: Vec::new(alloc),
+            unended: None,
+        }
+    }
+
+    // Takes the next line, or tells its least cause. After a cause nothing more is to be taken.
+    pub(crate) fn take_line(&mut self, line: &[u8]) -> Result<(), TextCause>
+        requires { spec.IsReading self.old }
+        ensures taken { MatchResult result
+            (λ _. spec.GoesOn (spec.lines_read self.old) line.now (spec.lines_read self.new))
+            (λ told. told ≢ TextCause.OutOfMemory
+            → fault.cause (spec.lines_read self.old) line.now true ≡ Some told) }
+        ensures reading { OnOk result (spec.IsReading self.new) }
+    {
+        if !self.has_header {
+            return self.take_header(line);
+        }
+        if has_bad_byte(line) {
+            return Err(TextCause::BadByte);
+        }
+        let (first, rest) = cut_at(line, b' ');
+        match line_word(first) {
+            None => Err(TextCause::UnknownWord),
+            Some(LineWord::Declares(noun)) => self.take_declaration(noun, line, rest),
+            Some(LineWord::Begins) => self.take_begin(line, rest),
+            Some(LineWord::Asks(word)) => self.take_asks(word, line, rest),
+        }
+    }
+
+    // The number of the line that comes next, counted from 1.
+    pub(crate) fn line(&self) -> u64
+        requires { spec.IsReading self.now }
+        ensures { result ≡ length (spec.lines_read self.now) + 1 }
+    {
+        if !self.has_header {
+            return 1;
+        }
+        let before = self.decls.len() as u64 + 2 + count_lines(self.ended.as_slice());
+        match &self.unended {
+            None => before,
+            Some(unended) => before + 1 + unended.requests.len() as u64,
+        }
+    }
+
+    // The cause of what stands behind the last newline.
+    pub(crate) fn end_cause(&self, last: &[u8]) -> Option<TextCause>
+        requires { spec.IsReading self.now }
+        ensures { result ≡ fault.end_cause (spec.lines_read self.now) last.now }
+    {
+        if !self.has_header {
+            return if last == b"goprogram 1".as_slice() {
+                Some(TextCause::NoNewline)
+            } else {
+                Some(TextCause::BadHeader)
+            };
+        }
+        if !last.is_empty() {
+            return Some(TextCause::NoNewline);
+        }
+        if self.is_whole() {
+            None
+        } else {
+            Some(TextCause::BadBlock)
+        }
+    }
+
+    // Whether each goroutine's body has ended.
+    fn is_whole(&self) -> bool
+        ensures { result ≡ fault.is_whole (spec.draft_read self.now) }
+    {
+        self.unended.is_none() && self.ended.len() == self.decls.count(Kind::Goroutine) as usize
+    }
+
+    // The program that was read. Takes no memory.
+    pub(crate) fn into_program(self) -> Program<A>
+        requires header { self.has_header ≡ true }
+        requires reading { spec.IsReading self }
+        requires whole { fault.is_whole (spec.draft_read self) ≡ true }
+        ensures { result ≡ spec.program_read self }
+    {
+        let Reader {
+            alloc: _,
+            has_header: _,
+            decls,
+            ended,
+            unended: _,
+        } = self;
+        Program::new(decls, ended)
+    }
+
+    // Takes the first line.
+    fn take_header(&mut self, line: &[u8]) -> Result<(), TextCause>
+        requires header { self.old.has_header ≡ false }
+        requires reading { spec.IsReading self.old }
+        ensures taken { MatchResult result
+            (λ _. spec.GoesOn [] line.now (spec.lines_read self.new))
+            (λ told. fault.cause [] line.now true ≡ Some told) }
+        ensures reading { OnOk result (spec.IsReading self.new) }
+    {
+        if line == b"goprogram 1".as_slice() {
+            self.has_header = true;
+            return Ok(());
+        }
+        Err(TextCause::BadHeader)
+    }
+
+    // How many bodies have begun.
+    fn begun(&self) -> usize
+        ensures { result ≡ length (program.bodies_of (spec.draft_read self.now)) }
+    {
+        match &self.unended {
+            None => self.ended.len(),
+            Some(_) => self.ended.len() + 1,
+        }
+    }
+
+    // Takes a line that declares.
+    fn take_declaration(
+        &mut self,
+        noun: Noun,
+        line: &[u8],
+        rest: Option<&[u8]>,
+    ) -> Result<(), TextCause>
+        requires header { self.old.has_header ≡ true }
+        requires read { spec.IsRead self.old }
+        requires words { spec.HasWords line.now (LineWord.Declares noun) (parts_left 32 rest) }
+        ensures taken { spec.TakesOrTells self.old line.now result self.new }
+    {
+        let begun = self.begun();
+        if begun > 0 {
+            return Err(word_cause(&self.decls, begun, Word::Declares(noun), rest).unwrap());
+        }
+        match read_declaration(&mut self.decls, line) {
+            Ok(_) => Ok(()),
+            Err(cause) => Err(cause),
+        }
+    }
+
+    // Takes a line that begins a body.
+    fn take_begin(&mut self, line: &[u8], rest: Option<&[u8]>) -> Result<(), TextCause>
+        requires header { self.old.has_header ≡ true }
+        requires read { spec.IsRead self.old }
+        requires words { spec.HasWords line.now LineWord.Begins (parts_left 32 rest) }
+        ensures taken { spec.TakesOrTells self.old line.now result self.new }
+    {
+        if let Some(cause) = words_cause(&self.decls, &BEGIN_FIELDS, rest) {
+            return Err(cause);
+        }
+        let goroutine = begun_in(&self.decls, rest).unwrap();
+        if !self.may_begin(goroutine) {
+            return Err(TextCause::BadBlock);
+        }
+        self.unended = Some(Unended::new(self.alloc));
+        Ok(())
+    }
+
+    // Whether the body of the goroutine is the next one.
+    fn may_begin(&self, goroutine: u32) -> bool
+        ensures { result ≡ fault.may_begin (spec.draft_read self.now) goroutine }
+    {
+        self.unended.is_none() && self.ended.len() == goroutine as usize
+    }
+
+    // Takes a line that asks.
+    fn take_asks(
+        &mut self,
+        word: AskWord,
+        line: &[u8],
+        rest: Option<&[u8]>,
+    ) -> Result<(), TextCause>
+        requires header { self.old.has_header ≡ true }
+        requires read { spec.IsRead self.old }
+        requires words { spec.HasWords line.now (LineWord.Asks word) (parts_left 32 rest) }
+        ensures taken { spec.TakesOrTells self.old line.now result self.new }
+    {
+        let (word, rest) = on_nil(word, rest);
+        let fields = ask_fields(word);
+        if let Some(cause) = words_cause(&self.decls, fields.as_slice(), rest) {
+            return Err(cause);
+        }
+        let (ask, place) = asked_in(&self.decls, word, rest).unwrap();
+        self.add(ask, place)
+    }
+
+    // Adds a request to the body that has not ended.
+    fn add(&mut self, ask: Ask, place: &[u8]) -> Result<(), TextCause>
+        requires header { self.old.has_header ≡ true }
+        requires sound { spec.IsSound self.old }
+        requires fits { program.ask_fits self.old.decls.declarations ask ≡ true }
+        requires form { is_place place.now ≡ true }
+        ensures { MatchResult result
+            (λ _. spec.TakesSaid self.old (Asks (reading.asked_at ask place.now)) self.new)
+            (λ told. told ≢ TextCause.OutOfMemory → fault.said_cause (spec.draft_read self.old)
+            (Asks (reading.asked_at ask place.now)) ≡ Some told) }
+    {
+        let Some(mut unended) = mem::replace(&mut self.unended, None) else {
+            return Err(TextCause::BadBlock);
+        };
+        if unended.requests.len() >= MAX_STEPS {
+            return Err(TextCause::TooMany);
+        }
+        let number = match self.decls.add_place(as_text(place)) {
+            Ok(number) => number,
+            Err(refused) => return Err(cause_of(refused)),
+        };
+        let exits = is_exit(&ask);
+        unended.push(Request { ask, place: number })?;
+        if !exits {
+            self.unended = Some(unended);
+            return Ok(());
+        }
+        let Unended { requests, onces: _ } = unended;
+        match self.ended.push(requests) {
+            Ok(()) => Ok(()),
+            Err(_) => Err(TextCause::OutOfMemory),
+        }
+    }
+}
+
+impl<A: Allocator> Unended<A> {
+    // Nothing is asked yet. Takes no memory.
+    fn new(alloc: A) -> Unended<A>
+    where
+        A: Copy,
+        ensures requests { result.requests.items ≡ [] }
+        ensures onces { result.onces.items ≡ [] }
+    {
+        Unended {
+            requests: Vec::new(alloc),
+            onces: Vec::new(alloc),
+        }
+    }
+
+    // Adds a request that may follow.
+    fn push(&mut self, request: Request) -> Result<(), TextCause>
+        ensures { MatchResult result
+            (λ _. spec.Pushes self.old.requests.items self.old.onces.items request
+            self.new.requests.items self.new.onces.items)
+            (λ told. told ≢ TextCause.OutOfMemory → (told ≡ TextCause.BadBlock)
+            × (fault.may_follow (Some (reverse self.old.onces.items)) request.ask ≡ false)) }
+    {
+        match enter(&mut self.onces, &request.ask) {
+            Err(_) => return Err(TextCause::OutOfMemory),
+            Ok(follows) => {
+                if !follows {
+                    return Err(TextCause::BadBlock);
+                }
+            }
+        }
+        match self.requests.push(request) {
+            Ok(()) => Ok(()),
+            Err(_) => Err(TextCause::OutOfMemory),
+        }
+    }
+}
+
+// Whether the ask may follow where these functions are open; those behind it are then.
+fn enter<A: Allocator>(onces: &mut Vec<u32, A>, ask: &Ask) -> Result<bool, AllocError>
+    ensures follows { IfOk result (λ follows. follows ≡ fault.may_follow (Some (reverse onces.old.items)) ask.now) }
+    ensures inside { result ≡ Ok true → bodies.is_exit ask.now ≡ false
+        → bodies.after_ask (reverse onces.old.items) ask.now ≡ Some (reverse onces.new.items) }
+{
+    match ask {
+        Ask::Exit => Ok(onces.is_empty()),
+        Ask::Do(once) => {
+            onces.push(*once)?;
+            Ok(true)
+        }
+        Ask::EndDo(once) => match onces.pop() {
+            None => Ok(false),
+            Some(innermost) => Ok(innermost == *once),
+        },
+        _ => Ok(true),
+    }
+}
+
+// How many lines the bodies have.
+fn count_lines<A: Allocator>(bodies: &[Vec<Request, A>]) -> u64
+    requires { sum_by (λ body. 1 + length body.items) bodies.now < 2 ^ 64 }
+    ensures { result ≡ sum_by (λ body. 1 + length body.items) bodies.now }
+{
+    let mut count = 0u64;
+    for body in bodies {
+        count += 1 + body.len() as u64;
+    }
+    count
+}

@@ -1,0 +1,7 @@
+//! What race_script does that no contract says.
+#![tactic(auto)]
+
+#[cfg(test)]
+mod programs;
+#[cfg(test)]
+mod texts;

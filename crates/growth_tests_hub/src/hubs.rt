@@ -236,8 +236,8 @@ fn hubs(rt: HostRuntime) {
         rt,
         on_a_hub,
         [
-            // The replay's lists, the five boxes in a list that grows twice, who is ready and who is out.
-            (Call::New, 15),
+            // The replay's lists, the five boxes and their logs' places in lists that grow twice, who is ready and who is out.
+            (Call::New, 17),
             // The requests, and what stands behind them.
             (Call::Submit, 2),
             (Call::SubmitSecond, 0),

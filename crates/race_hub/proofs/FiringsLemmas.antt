@@ -11,7 +11,7 @@ use Rattle.race_hub.specs.Choices.{choice}
 use Rattle.race_hub.specs.Rows.{waits}
 use Rattle.race_hub.specs.Job.{JobState}
 use Rattle.race_hub.specs.Table.{IsRow, done_by}
-use Rattle.race_hub.specs.Hub.{stop_of}
+use Rattle.race_hub.specs.Hub.{stop_by}
 use Rattle.race_hub.specs.Fires.{goes_on, partner_goes_on, partner_of, born_of, started_by}
 use Rattle.race_hub.proofs.ChoiceLemmas.{some_is}
 use Rattle.race_hub.proofs.OpeningLemmas.{opening_once}
@@ -19,7 +19,7 @@ use Rattle.race_hub.specs.Firings.{before_go, went, met, behind, AGoIsFired, AMe
 use Rattle.race_hub.specs.Firings.{AStarterIsReadyFirst}
 
 pub go_is_fired : AGoIsFired
-unfolding stop_of
+unfolding stop_by
 go_is_fired = record {
   t = choice 0 0 0 0;
   running = refl;
@@ -48,7 +48,7 @@ go_is_fired = record {
 }
 
 pub meet_is_fired : AMeetIsFired
-unfolding stop_of
+unfolding stop_by
 meet_is_fired = record {
   t = choice 1 0 1 1;
   running = refl;
@@ -87,6 +87,7 @@ opening_kept R decls limit main others = record {
   legal = legal_none (capacity_of decls.declarations);
   limited = omega arith;
   once = opening_once decls limit main others;
+  ends = λ g. refl;
 }
 
 abbrev first_who : List (JobState ℕ) → ℕ

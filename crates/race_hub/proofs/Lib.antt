@@ -13,5 +13,8 @@ pub mod SubmitLemmas
 pub mod AmongLemmas
 pub mod OpeningLemmas
 pub mod OnceLemmas
+pub mod EndedLemmas
+pub mod TrackLemmas
+pub mod FinishLemmas
 pub mod FiringsLemmas
 pub mod RunLemmas

@@ -229,7 +229,7 @@ nobody_failed past g on =
     low : (m n : ℕ) → m ≤ n → nat_lt 0 n ≡ false → nat_lt 0 m ≡ false
     low m n le none = grind (arith, nat_tests)
 
-has_failed_push : (g : ℕ) (past : List Event) (e : Event) → has_failed g (past ++ e ∷ []) ≡ (has_failed g past || ((e.who == g) && is_fault e.op))
+pub has_failed_push : (g : ℕ) (past : List Event) (e : Event) → has_failed g (past ++ e ∷ []) ≡ (has_failed g past || ((e.who == g) && is_fault e.op))
 has_failed_push g past e = ap (nat_lt 0) (sum_by_push (λ e. cond ((e.who == g) && is_fault e.op) 1 0) past e) ∙ positive_more _ ((e.who == g) && is_fault e.op)
 
 pub active_push : (g : ℕ) (past : List Event) (e : Event)

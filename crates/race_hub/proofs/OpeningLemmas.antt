@@ -4,6 +4,7 @@ use Rattle.std.proofs.Common.{get_or, slice_get, refl, sym, ap, ◌∙◌, arith
 use Rattle.std.specs.List.{count_by, remove}
 use Rattle.std.specs.Prelude.{is_some}
 use Rattle.std.proofs.lemmas.Bool.Decides.{nat_tests}
+use Rattle.std.proofs.lemmas.Option.{none-some}
 use Rattle.std.proofs.lemmas.List.Sums.{count_by-le-length}
 use Rattle.race_records.specs.declared.kind.Kind.{Kind}
 use Rattle.race_records.specs.declared.kind.TheConstants.{MAX_GOROUTINES}
@@ -14,6 +15,10 @@ use Rattle.race_legal.specs.StandsFor.{StandsFor}
 use Rattle.race_hub.specs.Hub.{opening}
 use Rattle.race_hub.specs.Holds.{Holds}
 use Rattle.race_hub.specs.Kept.{standing, is_active}
+
+pub length_map : {X Y : Type 0} (f : X → Y) (xs : List X) → length (map f xs) ≡ length xs
+length_map f [] = refl
+length_map f (x ∷ xs) = ap suc (length_map f xs)
 
 length_some : {X : Type 0} (xs : List X) → length (map Some xs) ≡ length xs
 length_some [] = refl
@@ -67,6 +72,7 @@ holds_opening k decls limit main others stands few count less =
       stands = stands;
       limited = omega arith;
       once = opening_once decls limit main others;
+      ends = λ g. refl;
       few = few;
       parked = refl;
       few_goroutines = omega (arith, len, less);
@@ -74,4 +80,5 @@ holds_opening k decls limit main others stands few count less =
       unborn = λ g more within _. box_at others g more within;
       heads = heads (map Some others) None refl boxes;
       sound = λ _ k d at. absurd (omega (arith, at));
+      bad_waits = λ g is. absurd (none-some g is);
     }

@@ -2,7 +2,7 @@
 use Rattle.std.proofs.Common.{◌≡◌, ◌≢◌, ◌==◌, ◌⊎◌, ℕ, zero, suc, ◌<◌, ◌≤◌, ◌+◌, ◌-◌, ◌++◌, nat_lt, Bool, true, false, if◌then◌else◌, List, [], ◌∷◌, length}
 use Rattle.std.proofs.Common.{take, drop, All}
 use Rattle.std.proofs.Common.{IsTrue, IsOk, Result, Err, IfSome, Option, Some, None, refl, sym, ap, ◌∙◌, subst, inl, inr, arith, not, ◌&&◌, nat_le, slice_get}
-use Rattle.std.proofs.Common.{slice_set, get_or, length-append, eq-eqb, true≢false}
+use Rattle.std.proofs.Common.{slice_set, get_or, length-append, eq-eqb, true≢false, ◌||◌}
 use Rattle.std.specs.List.{remove, count_by}
 use Rattle.std.specs.Prelude.{is_some, cond}
 use Rattle.std.proofs.lemmas.List.Sums.{sum_by-set}
@@ -28,9 +28,10 @@ use Rattle.race_legal.specs.StandsFor.{StandsFor}
 use Rattle.race_hub.specs.declared.choice.Choice.{Choice}
 use Rattle.race_hub.specs.declared.ending.End.{End}
 use Rattle.race_hub.specs.declared.request.Waiter.{Waiter}
-use Rattle.race_hub.specs.Hub.{ParkedState, HubState, stop_of, is_last, is_main_exit}
+use Rattle.race_hub.specs.Hub.{ParkedState, HubState, stop_by, stop_of, is_last, is_main_exit}
 use Rattle.race_hub.specs.Holds.{Holds}
-use Rattle.race_hub.specs.Kept.{standing, has_failed, is_active, StandOnce}
+use Rattle.race_hub.specs.Kept.{standing, has_failed, has_left, is_active, StandOnce, EndOnce}
+use Rattle.race_hub.specs.declared.request.Step.{Step}
 use Rattle.race_hub.specs.Choices.{event_of}
 use Rattle.race_model.specs.Legal.{broken, IsLegal}
 use Rattle.race_hub.specs.Table.{IsRow, done_by}
@@ -39,10 +40,12 @@ use Rattle.race_hub.specs.declared.request.Answer.{Answer}
 use Rattle.race_hub.specs.declared.firing.Firing.{Firing}
 use Rattle.race_hub.specs.Job.{JobState}
 use Rattle.race_hub.specs.Firing.{IsFiring, HasRows}
-use Rattle.race_hub.specs.Fires.{without, partner_of, goes_on, partner_goes_on, started_by, begins, born_of, boxes_after, HasBox}
+use Rattle.race_hub.specs.Fires.{without, partner_of, goes_on, is_through, partner_goes_on, started_by, begins, born_of, boxes_after, HasBox}
 use Rattle.race_hub.proofs.ChoiceLemmas.{all_at, some_is}
 use Rattle.race_hub.proofs.OnceLemmas.{leaves, told_leaves, event_who, count_without, jobs_of, goes_count, partner_count, begun_count, four_counts}
-use Rattle.race_hub.proofs.OnceLemmas.{asker_balance, one_step, started_fresh, active_push}
+use Rattle.race_hub.proofs.OnceLemmas.{asker_balance, one_step, started_fresh, active_push, count_append}
+use Rattle.race_hub.proofs.EndedLemmas.{through_of, through_count, standing_stays, left_push, not_not}
+use Rattle.race_hub.proofs.SubmitLemmas.{bad_stops}
 use Rattle.race_hub.proofs.FiringLemmas.{both_true, both_false, below}
 
 -- what is right isn't wrong
@@ -85,7 +88,7 @@ fit_is_taken trace e is less =
 module _ {R : Type 0} where
   -- a hub that doesn't stop is below its limit, and nobody's request was bad
   pub below_limit : (h : HubState R) → stop_of h ≡ None → length h.events ≤ h.limit → length h.events < h.limit
-  unfolding stop_of
+  unfolding stop_by
   below_limit h on le =
       by (is_last is_main_exit h.events) (is_last (λ e. is_fault e.op) h.events) h.bad (length h.events == h.limit) refl on
     where
@@ -165,7 +168,7 @@ length_without t xs place partner apart = by (t.partner == 0) (nat_lt t.place (t
         let second = length-remove (remove xs t.place) (t.partner - 1) (omega (arith, first, less, some, place, partner, apart)) in
         omega (arith, first, second)
 
-set_other : {X : Type 0} (xs : List X) (k g : ℕ) (y : X) → (k ≡ g → ⊥) → slice_get (slice_set xs k y) g ≡ slice_get xs g
+pub set_other : {X : Type 0} (xs : List X) (k g : ℕ) (y : X) → (k ≡ g → ⊥) → slice_get (slice_set xs k y) g ≡ slice_get xs g
 set_other [] k g y unlike = refl
 set_other (x ∷ xs) zero zero y unlike = absurd (unlike refl)
 set_other (x ∷ xs) zero (suc g) y unlike = refl
@@ -243,6 +246,8 @@ module _ {R : Type 0} where
     pub ready : new.ready ≡ old.ready ++ goes_on w p f.told ++ partner_goes_on (partner_of f.choice old.waiting) (partner_of f.choice old.parked) f.partner
         ++ born_of old.unstarted (started_by f.event.op)
     pub unstarted : new.unstarted ≡ boxes_after old.unstarted (started_by f.event.op)
+    pub ended : new.ended ≡ old.ended ++ is_through w p f.told
+    pub bad : new.bad ≡ old.bad
 
   four_lengths : (a b c d : List (JobState R)) → length (a ++ b ++ c ++ d) ≡ length a + length b + length c + length d
   four_lengths a b c d =
@@ -280,6 +285,23 @@ module _ {R : Type 0} where
       (started_fresh (capacity_of old.decls.declarations) old.events f.event g legal kept)
       ∙ ap (λ b. cond b 1 0) (sym (active_push g old.events f.event)) ∙ ap (λ es. cond (is_active g es) 1 0) (sym m.events)
 
+  -- who leaves is through after a firing
+  pub ends_after : (old new : HubState R) (f : Firing) → Moves old new f → StandOnce old → EndOnce old
+      → HasRows old.waiting f.choice f.event f.told f.partner → event_of old.events old.waiting f.choice ≡ Some f.event → EndOnce new
+  ends_after old new f m once ends rows makes g =
+      let same : rows.w ≡ m.w = some_is (sym rows.asks ∙ m.asks) in
+      let row = subst (λ (w : Waiter). IsRow w.asked.ask f.choice.offer (done_by w.who f.event.op) f.told) same rows.row in
+      let who = ap (λ n. n == g) (event_who old.events old.waiting f.choice m.w f.event m.asks makes) in
+      let told = told_leaves m.w.asked.ask f.choice.offer m.w.who f.event.op f.told row in
+      let through : through_of g (is_through m.w m.p f.told) ≡ as_number (leaves f.event.op && (f.event.who == g)) =
+      through_count g m.w m.p f.told ∙ (λ i. as_number (not (told i) && sym who i)) ∙ ap (λ b. as_number (b && (f.event.who == g))) (not_not (leaves f.event.op)) in
+      let more = ap (through_of g) m.ended ∙ count_append (λ (l : ℕ × List Step). l.0 == g) old.ended (is_through m.w m.p f.told) in
+      let waits = count_without (λ (w : Waiter). w.who == g) f.choice old.waiting m.w m.asks rows.partner rows.apart in
+      left_push g old.events f.event (through_of g old.ended) (through_of g new.ended) (ends g) (omega (arith, more, through))
+      (λ is. let one : as_number (m.w.who == g) ≡ 1 = ap as_number (sym who ∙ is) in
+      standing_stays (g == 0 || started g old.events) (has_exited g old.events) (has_failed g old.events) (standing old g) (once g) (omega (arith, waits, one)))
+      ∙ ap (λ es. cond (has_left g es) 1 0) (sym m.events)
+
   -- what a hub holds it holds after a firing
   pub holds_after : (k l : ReplayState) (old new : HubState R) (f : Firing) → Moves old new f → Holds k old → stop_of old ≡ None → IsFiring old f
       → StandsFor old.decls.declarations l (old.events ++ f.event ∷ []) → Holds l new
@@ -302,6 +324,7 @@ module _ {R : Type 0} where
         stands = rw (m.decls, m.events) stands;
         limited = rw (m.events, m.limit) (omega (arith, less, more));
         once = once_after old new f m holds.stands.legal holds.once holds.parked rows firing.makes firing.legal firing.box;
+        ends = ends_after old new f m holds.once holds.ends rows firing.makes;
         few = rw m.limit holds.few;
         parked = rw (m.parked, m.waiting) (omega (arith, waits, rests, same));
         few_goroutines = rw (m.unstarted, boxes) holds.few_goroutines;
@@ -313,4 +336,5 @@ module _ {R : Type 0} where
             (there.0, ap (λ bs. slice_get bs g) m.unstarted ∙ boxes_other f.event.op old.unstarted g parts.1 ∙ there.1);
         heads = rw (m.ready, m.waiting, m.out, m.unstarted) (omega (arith, waits, heads, born, ready, one, other, boxes));
         sound = λ _. rw (m.waiting, m.decls) (all_without (λ w. IsTrue (is_sound old.decls w)) f.choice old.waiting (holds.sound on));
+        bad_waits = λ g is. absurd (bad_stops old g (sym m.bad ∙ is) on);
       }

@@ -23,8 +23,8 @@ use Rattle.race_hub.proofs.AmongLemmas.{first_gone}
 use Rattle.race_hub.proofs.ChoiceLemmas.{some_is}
 use Rattle.race_hub.proofs.FiringLemmas.{both_true, picked_rows}
 use Rattle.race_hub.proofs.FiringsLemmas.{opening_kept}
-use Rattle.race_hub.proofs.PerformLemmas.{Moves, once_after, below_limit, length_without}
-use Rattle.race_hub.proofs.SubmitLemmas.{once_joined, once_taken}
+use Rattle.race_hub.proofs.PerformLemmas.{Moves, once_after, ends_after, below_limit, length_without}
+use Rattle.race_hub.proofs.SubmitLemmas.{once_joined, once_taken, ends_same}
 
 not_false : (b : Bool) → not b ≡ false → b ≡ true
 not_false true is = refl
@@ -55,6 +55,7 @@ module _ {R : Type 0} where
           legal = legal_same old.decls new.decls old.events new.events decls events s.kept.legal;
           limited = rw (events, limit) s.kept.limited;
           once = once_taken old new job t s.kept.once;
+          ends = ends_same old new ended events s.kept.ends;
         };
         parked = rw (parked, waiting) s.parked;
       }
@@ -73,6 +74,7 @@ module _ {R : Type 0} where
           limited = rw (events, limit) s.kept.limited;
           once = once_joined old new w ready events t.waiting
               (λ g. ap (λ xs. count_by (λ o. o == g) xs + cond (job.who == g) 1 0) t.out ∙ first_gone old.out job.who g among) s.kept.once;
+          ends = ends_same old new ended events s.kept.ends;
         };
         parked = rw (t.parked, t.waiting) (omega (arith, waits, rests, same));
       }
@@ -105,6 +107,8 @@ module _ {R : Type 0} where
         out = out;
         ready = f.ready;
         unstarted = f.unstarted;
+        ended = f.ended;
+        bad = bad;
       } in
       let same = s.parked in
       let waits = length_without t old.waiting found.place found.partner found.apart in
@@ -118,6 +122,7 @@ module _ {R : Type 0} where
               (legal_push (capacity_of old.decls.declarations) old.events f.e s.kept.legal f.legal);
           limited = rw (f.events, limit) (omega (arith, less, more));
           once = once_after old new firing moves s.kept.legal s.kept.once s.parked rows f.makes f.legal f.box;
+          ends = ends_after old new firing moves s.kept.once s.kept.ends rows f.makes;
         };
         parked = rw (f.parked, f.waiting) (omega (arith, waits, rests, same));
       }

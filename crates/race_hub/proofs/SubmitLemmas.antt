@@ -1,6 +1,6 @@
 -- The state after a job was put back, or taken.
 use Rattle.std.proofs.Common.{List, ◌≡◌, ◌==◌, ◌&&◌, ◌||◌, not, ℕ, ◌<◌, ◌+◌, ◌++◌, Bool, true, false, if◌then◌else◌, [], ◌∷◌, length, All, IsTrue, Option}
-use Rattle.std.proofs.Common.{Some, None, is_none, refl, sym, ap, ◌∙◌, subst, arith, length-append, slice_get, zero, suc}
+use Rattle.std.proofs.Common.{Some, None, is_none, refl, sym, ap, ◌∙◌, subst, arith, length-append, slice_get, zero, suc, eq-eqb}
 use Rattle.std.proofs.lemmas.Option.{none-some}
 use Rattle.std.proofs.lemmas.List.Elements.{All-append}
 use Rattle.std.specs.List.{count_by, list_any}
@@ -9,13 +9,16 @@ use Rattle.race_model.proofs.CountSteps.{as_number}
 use Rattle.race_legal.specs.ReplayState.{ReplayState}
 use Rattle.race_hub.specs.declared.ending.End.{End}
 use Rattle.race_hub.specs.declared.request.Waiter.{Waiter}
-use Rattle.race_hub.specs.Hub.{ParkedState, HubState, stop_of, end_of, is_last, is_main_exit}
+use Rattle.race_hub.specs.Hub.{ParkedState, HubState, stop_by, stop_of, end_of, is_last, is_main_exit}
 use Rattle.race_hub.specs.Holds.{Holds}
 use Rattle.race_hub.specs.Job.{JobState}
-use Rattle.race_hub.specs.Kept.{standing, is_active, StandOnce}
+use Rattle.race_hub.specs.Kept.{standing, is_active, has_left, StandOnce, EndOnce}
+use Rattle.race_hub.specs.Recording.{HasBadRequest}
 use Rattle.race_hub.specs.Submits.{is_sound, is_out_of_turn, is_bad, is_back, ends_hub, Takes}
 use Rattle.race_hub.specs.declared.request.Request.{Request}
+use Rattle.race_hub.proofs.ChoiceLemmas.{some_is}
 use Rattle.race_hub.proofs.EndLemmas.{end_while_out}
+use Rattle.race_hub.proofs.EndedLemmas.{through_of, bad_stays, bad_joins, out_waits_not}
 use Rattle.race_hub.proofs.FiringLemmas.{both_true}
 use Rattle.race_hub.proofs.OnceLemmas.{count_append, count_one, count_cons}
 use Rattle.race_model.specs.Events.{is_fault}
@@ -32,6 +35,7 @@ pub record Joins {R : Type 0} (old new : HubState R) (w : Waiter) (p : ParkedSta
   pub out : length new.out + 1 ≡ length old.out
   pub gone : (g : ℕ) → count_by (λ o. o == g) new.out + as_number (w.who == g) ≡ count_by (λ o. o == g) old.out
   pub unstarted : new.unstarted ≡ old.unstarted
+  pub ended : new.ended ≡ old.ended
 
 all_one : {X : Type 0} (P : X → Type 0) (x : X) → P x → All P (x ∷ [])
 all_one P x holds zero d less = holds
@@ -40,13 +44,10 @@ all_one P x holds (suc k) d less = absurd (omega (arith, less))
 module _ {R : Type 0} where
   -- a hub with no bad goroutine is stopped by its events and its limit alone
   stop_same : (old new : HubState R) → new.events ≡ old.events → new.limit ≡ old.limit → new.bad ≡ old.bad → stop_of new ≡ stop_of old
-  unfolding stop_of
-  stop_same old new e l b =
-      λ i. if is_last is_main_exit (e i) then Some End.Main else (if is_last (λ e. is_fault e.op) (e i) then Some End.Fault
-      else elim (b i) [ Some g ↦ Some (End.Bad g) | None ↦ if length (e i) == l i then Some End.Limit else None ])
+  stop_same old new e l b = λ i. stop_by (e i) (l i) (b i)
 
-  bad_stops : (h : HubState R) (g : ℕ) → h.bad ≡ Some g → stop_of h ≡ None → ⊥
-  unfolding stop_of
+  pub bad_stops : (h : HubState R) (g : ℕ) → h.bad ≡ Some g → stop_of h ≡ None → ⊥
+  unfolding stop_by
   bad_stops h g is on = by (is_last is_main_exit h.events) (is_last (λ e. is_fault e.op) h.events) h.bad (length h.events == h.limit) is on
     where
       by : (a b : Bool) (bad : Option ℕ) (full : Bool) → bad ≡ Some g
@@ -76,6 +77,10 @@ module _ {R : Type 0} where
       let same : standing new g ≡ standing old g = omega (arith, jobs, more, one, left) in
       same ∙ once g ∙ ap (λ es. cond (is_active g es) 1 0) (sym events)
 
+  -- who left is through
+  pub ends_same : (old new : HubState R) → new.ended ≡ old.ended → new.events ≡ old.events → EndOnce old → EndOnce new
+  ends_same old new ended events ends g = ap (through_of g) ended ∙ ends g ∙ ap (λ es. cond (has_left g es) 1 0) (sym events)
+
   -- and once its job is out
   pub once_taken : (old new : HubState R) (job : JobState R) → Takes old job new → StandOnce old → StandOnce new
   once_taken old new job t once g =
@@ -89,8 +94,9 @@ module _ {R : Type 0} where
 
   -- what a hub holds it holds with one request more, where that is sound until the hub is stopped
   joined : (k : ReplayState) (old new : HubState R) (w : Waiter) (p : ParkedState R) → Joins old new w p → Holds k old
-      → (stop_of new ≡ None → (stop_of old ≡ None) × (is_sound old.decls w ≡ true)) → Holds k new
-  joined k old new w p j holds sound =
+      → (stop_of new ≡ None → (stop_of old ≡ None) × (is_sound old.decls w ≡ true))
+      → ((g : ℕ) → new.bad ≡ Some g → HasBadRequest old.decls old.events (old.waiting ++ w ∷ []) g) → Holds k new
+  joined k old new w p j holds sound bad =
       let waits = length-append old.waiting (w ∷ []) in
       let rests = length-append old.parked (p ∷ []) in
       let same = holds.parked in
@@ -100,6 +106,7 @@ module _ {R : Type 0} where
         stands = rw (j.decls, j.events) holds.stands;
         limited = rw (j.events, j.limit) holds.limited;
         once = once_joined old new w j.ready j.events j.waiting j.gone holds.once;
+        ends = ends_same old new j.ended j.events holds.ends;
         few = rw j.limit holds.few;
         parked = rw (j.parked, j.waiting) (omega (arith, waits, rests, same));
         few_goroutines = rw j.unstarted holds.few_goroutines;
@@ -110,6 +117,7 @@ module _ {R : Type 0} where
         heads = rw (j.ready, j.waiting, j.unstarted) (omega (arith, waits, heads, out));
         sound = λ on. rw (j.waiting, j.decls) (All-append (λ w. IsTrue (is_sound old.decls w)) old.waiting (w ∷ []) (holds.sound (sound on).0)
             (all_one (λ w. IsTrue (is_sound old.decls w)) w (sound on).1));
+        bad_waits = λ g is. rw (j.decls, j.events, j.waiting) (bad g is);
       }
 
   -- the request wasn't bad
@@ -119,11 +127,18 @@ module _ {R : Type 0} where
       joined k old new w p j holds (λ on.
       let before = sym (stop_same old new j.events j.limit bad) ∙ on in
       (before, not_bad old w (stop_of old) before test))
+      (λ g is. bad_stays old.decls old.events old.waiting (w ∷ []) g (holds.bad_waits g (sym bad ∙ is)))
 
   -- it was
-  pub joined_badly : (k : ReplayState) (old new : HubState R) (w : Waiter) (p : ParkedState R) (g : ℕ) → Joins old new w p → new.bad ≡ Some g → Holds k old
-      → Holds k new
-  joined_badly k old new w p g j bad holds = joined k old new w p j holds (λ on. absurd (bad_stops new g bad on))
+  pub joined_badly : (k : ReplayState) (old new : HubState R) (w : Waiter) (p : ParkedState R) → Joins old new w p → new.bad ≡ Some w.who → Holds k old
+      → (is_none (stop_of old) && is_bad old w) ≡ true → Holds k new
+  joined_badly k old new w p j bad holds test =
+      let one : as_number (w.who == w.who) ≡ 1 = ap as_number (eq-eqb w.who w.who refl) in
+      let gone = j.gone w.who in
+      let none = out_waits_not old w.who (count_by (λ o. o == w.who) new.out) holds.once (omega (arith, gone, one)) in
+      joined k old new w p j holds (λ on. absurd (bad_stops new w.who bad on))
+      (λ g is. subst (HasBadRequest old.decls old.events (old.waiting ++ w ∷ [])) (some_is (sym bad ∙ is))
+      (bad_joins old.decls old.events old.waiting w none (both_true (is_none (stop_of old)) (is_bad old w) test).1))
 
   -- what a hub holds it holds with one job out
   pub taken : (k : ReplayState) (old new : HubState R) (job : JobState R) → Takes old job new → Holds k old → Holds k new
@@ -136,6 +151,7 @@ module _ {R : Type 0} where
         stands = rw (decls, events) holds.stands;
         limited = rw (events, limit) holds.limited;
         once = once_taken old new job t holds.once;
+        ends = ends_same old new ended events holds.ends;
         few = rw limit holds.few;
         parked = rw (parked, waiting) holds.parked;
         few_goroutines = rw unstarted holds.few_goroutines;
@@ -145,6 +161,7 @@ module _ {R : Type 0} where
             (there.0, ap (λ bs. slice_get bs g) unstarted ∙ there.1);
         heads = rw (waiting, unstarted) (omega (arith, fewer, more, heads));
         sound = λ on. rw (waiting, decls) (holds.sound (sym (stop_same old new events limit bad) ∙ on));
+        bad_waits = λ g is. rw (decls, events, waiting) (holds.bad_waits g (sym bad ∙ is));
       }
 
   -- whose job is back was out

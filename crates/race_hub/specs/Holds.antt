@@ -8,7 +8,8 @@ use Rattle.race_model.specs.State.{started}
 use Rattle.race_legal.specs.ReplayState.{ReplayState}
 use Rattle.race_legal.specs.StandsFor.{StandsFor}
 use Rattle.race_hub.specs.Hub.{HubState, stop_of}
-use Rattle.race_hub.specs.Kept.{StandOnce}
+use Rattle.race_hub.specs.Kept.{StandOnce, EndOnce}
+use Rattle.race_hub.specs.Recording.{HasBadRequest}
 use Rattle.race_hub.specs.Submits.{is_sound}
 
 -- whoever wasn't started has its box there
@@ -22,6 +23,8 @@ pub record Holds {R : Type 0} (k : ReplayState) (h : HubState R) : Type 0 where
   pub limited : length h.events ≤ h.limit
   -- who runs and hasn't failed stands in exactly one of the lists, and once, and nobody else does
   pub once : StandOnce h
+  -- who exited or failed is among those that are through, once, and nobody else is
+  pub ends : EndOnce h
   pub few : h.limit ≤ MAX_EVENTS
   -- a box and a log stand behind each request
   pub parked : length h.parked ≡ length h.waiting
@@ -32,3 +35,5 @@ pub record Holds {R : Type 0} (k : ReplayState) (h : HubState R) : Type 0 where
   pub heads : length h.ready + length h.waiting + length h.out + count_by is_some h.unstarted ≤ length h.unstarted
   -- until it stops, each request that waits is sound
   pub sound : stop_of h ≡ None → All (λ w. IsTrue (is_sound h.decls w)) h.waiting
+  -- whose request was bad, that one's waits
+  pub bad_waits : (g : ℕ) → h.bad ≡ Some g → HasBadRequest h.decls h.events h.waiting g

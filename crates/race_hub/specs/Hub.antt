@@ -72,15 +72,19 @@ is_last test events = elim (last_event events) [ None ↦ false | Some e ↦ tes
 abbrev pub is_main_exit : Event → Bool
 is_main_exit e = is_exit e.op && (e.who == 0)
 
--- what stops the hub, whoever is ready and whatever waits: the first that holds
-unfoldable pub stop_of : {R : Type 0} → HubState R → Option End
-stop_of h =
-    if is_last is_main_exit h.events then Some End.Main
-    else (if is_last (λ e. is_fault e.op) h.events then Some End.Fault
-    else elim h.bad [
+-- what stops a run of so many events at most in which this goroutine's request was bad, if any: the first that holds
+unfoldable pub stop_by : List Event → ℕ → Option ℕ → Option End
+stop_by events limit bad =
+    if is_last is_main_exit events then Some End.Main
+    else (if is_last (λ e. is_fault e.op) events then Some End.Fault
+    else elim bad [
       | Some g ↦ Some (End.Bad g)
-      | None ↦ if length h.events == h.limit then Some End.Limit else None
+      | None ↦ if length events == limit then Some End.Limit else None
     ])
+
+-- what stops the hub, whoever is ready and whatever waits
+abbrev pub stop_of : {R : Type 0} → HubState R → Option End
+stop_of h = stop_by h.events h.limit h.bad
 
 -- every running goroutine waits, and there is no choice
 abbrev pub is_deadlock : {R : Type 0} → HubState R → Bool

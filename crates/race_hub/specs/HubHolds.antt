@@ -1,8 +1,9 @@
 -- What the fields of a `Hub` stand for, and what holds of them.
-use Rattle.std.specs.Prelude.{◌+◌, ◌≤◌, vec_len, vec_capacity}
+use Rattle.std.specs.Prelude.{◌+◌, ◌≤◌, length, vec_len, vec_capacity}
 use Rattle.race_hub.specs.declared.hub.Hub.TheInside.{Inside}
 use Rattle.race_hub.specs.Hub.{HubState}
 use Rattle.race_hub.specs.Holds.{Holds}
+use Rattle.race_hub.specs.Tracks.{AreBlank}
 
 module _ {R A : Type 0} where
   abbrev pub hub_state : Inside R A → HubState R
@@ -19,6 +20,7 @@ module _ {R A : Type 0} where
     bad = h.bad;
   }
 
-  -- who is ready has its room among those that are out
+  -- who is ready has its room among those that are out, and each goroutine's log among the tracks of a recording
   abbrev pub HubHolds : Inside R A → Type 0
-  HubHolds h = Holds h.replay (hub_state h) × (vec_len h.ready + vec_len h.out ≤ vec_capacity h.out)
+  HubHolds h =
+      Holds h.replay (hub_state h) × (vec_len h.ready + vec_len h.out ≤ vec_capacity h.out) × AreBlank (length h.unstarted.items) h.tracks.items

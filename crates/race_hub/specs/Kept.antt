@@ -1,8 +1,8 @@
 -- The states that a hub keeps to. (Our own)
-use Rattle.std.specs.Prelude.{ℕ, ◌≡◌, ◌==◌, ◌≤◌, ◌+◌, ◌&&◌, not, nat_lt, cond, Bool, List, length, count_by}
+use Rattle.std.specs.Prelude.{ℕ, ◌≡◌, ◌==◌, ◌≤◌, ◌+◌, ◌&&◌, ◌||◌, not, nat_lt, cond, Bool, List, length, count_by}
 use Rattle.race_records.specs.declared.event.Event.{Event}
 use Rattle.race_records.specs.Declarations.{capacity_of}
-use Rattle.race_model.specs.Events.{is_fault}
+use Rattle.race_model.specs.Events.{is_fault, has_exited}
 use Rattle.race_model.specs.State.{runs}
 use Rattle.race_model.specs.Legal.{IsLegal}
 use Rattle.race_hub.specs.Hub.{HubState}
@@ -23,8 +23,17 @@ standing h g = count_by (λ j. j.who == g) h.ready + count_by (λ w. w.who == g)
 abbrev pub StandOnce : {R : Type 0} → HubState R → Type 0
 StandOnce h = (g : ℕ) → standing h g ≡ cond (is_active g h.events) 1 0
 
+-- g exited or failed
+abbrev pub has_left : ℕ → List Event → Bool
+has_left g events = has_exited g events || has_failed g events
+
+-- who exited or failed stands among those that are through, once, and nobody else does
+abbrev pub EndOnce : {R : Type 0} → HubState R → Type 0
+EndOnce h = (g : ℕ) → count_by (λ l. l.0 == g) h.ended ≡ cond (has_left g h.events) 1 0
+
 -- a kept state: the trace is legal and within the limit, and each goroutine stands where it has to
 pub record IsKept {R : Type 0} (h : HubState R) : Type 0 where
   pub legal : IsLegal (capacity_of h.decls.declarations) h.events
   pub limited : length h.events ≤ h.limit
   pub once : StandOnce h
+  pub ends : EndOnce h

@@ -20,3 +20,7 @@ pub mod Firing
 pub mod Kept
 pub mod Firings
 pub mod Runs
+pub mod Recording
+pub mod RecordingHolds
+pub mod Tracks
+pub mod Finish

@@ -3,7 +3,7 @@ use Rattle.std.specs.Prelude.{ℕ, ◌==◌, ◌||◌, not, nat_lt, ◌≡◌, i
 use Rattle.race_records.specs.declared.kind.Kind.{Kind}
 use Rattle.race_records.specs.declared.trace.TheConstants.{MAX_EVENTS}
 use Rattle.race_records.specs.Declarations.{DeclsState, count_of}
-use Rattle.race_hub.specs.declared.hub.HubFault.{HubFault}
+use Rattle.race_hub.specs.declared.opening.HubFault.{HubFault}
 use Rattle.race_hub.specs.Hub.{HubState, opening}
 
 -- why no hub of so many boxes is made: the first cause, in the order in which they are tested

@@ -42,9 +42,13 @@ is_out_of_turn past waiting g Ask.Exit = is_some (innermost g past)
 is_out_of_turn past waiting g (Ask.EndDo o) = not (gives (innermost g past) o)
 is_out_of_turn past waiting g _ = false
 
--- the request is bad
+-- the request is bad behind these events and beside these requests
+abbrev pub is_bad_among : DeclsState → List Event → List Waiter → Waiter → Bool
+is_bad_among decls past waiting w = not (is_sound decls w) || is_out_of_turn past waiting w.who w.asked.ask
+
+-- it is bad in the hub
 abbrev pub is_bad : {R : Type 0} → HubState R → Waiter → Bool
-is_bad h w = not (is_sound h.decls w) || is_out_of_turn h.events h.waiting w.who w.asked.ask
+is_bad h w = is_bad_among h.decls h.events h.waiting w
 
 -- the job is one that was taken from the hub and has asked since
 abbrev pub is_back : {R : Type 0} → HubState R → JobState R → Bool

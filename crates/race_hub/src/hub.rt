@@ -1,5 +1,5 @@
 //! The hub: the goroutines of a run, their requests, and the trace that they make.
-ghost use Rattle.std.specs.Prelude.{◌≡◌, ◌≢◌, ◌<◌, ◌⊎◌, ◌++◌, ◌∷◌, [], List, map, length, if◌then◌else◌, Some, None, Ok, Err, true, false, ◌≤◌, ◌==◌, ◌&&◌, ◌||◌, nat_lt, not, is_none, IsTrue, All, IfOk, IfSome, IsNone, OnOk, OnErr};
+ghost use Rattle.std.specs.Prelude.{◌≡◌, ◌≢◌, ◌<◌, ◌⊎◌, ◌++◌, ◌∷◌, [], List, map, length, if◌then◌else◌, Some, None, Ok, Err, true, false, ◌≤◌, ◌==◌, ◌&&◌, ◌||◌, nat_lt, not, is_none, IsTrue, All, IfOk, IfErr, IfSome, IsNone, OnOk, OnErr};
 ghost use Rattle.std.specs.List.{find};
 ghost use Rattle.std.specs.Option.{option_copied, option_map};
 ghost use Rattle.race_records.specs.Refusal.{Refuses, AllowsUnless};
@@ -18,32 +18,24 @@ ghost use Rattle.race_hub.specs.Fires.{Fires, IsFired};
 ghost use Rattle.race_hub.specs.Submits as submits;
 ghost use Rattle.race_hub.specs.Submits.{Takes, Submits};
 ghost use Rattle.race_hub.specs.Job.{JobState};
+ghost use Rattle.race_hub.specs.Recording.{HasEnded};
+ghost use Rattle.race_hub.specs.Finish.{IsRecorded, IsMismatch};
 
 use crate::firing::{Firing, firing_of, started_in};
 use crate::meet::both;
 use crate::moves::{go_on, is_among, partner_on, start, take_first, take_out};
+use crate::opening::{HubFault, fault_of, unstarted};
 use crate::parked::{Ended, Parked};
 use crate::sound::{is_out_of_turn, is_sound};
-use crate::{Choice, End, Job, Request, Waiter, WaitingList};
+use crate::track::{
+    Track, blank_tracks, first_other, least, pass_all, put_ended, put_parked, put_ready,
+};
+use crate::waiters::request_of;
+use crate::{Choice, End, Job, Mismatch, Recording, Request, Waiter, WaitingList};
 use race_legal::Replay;
-use race_records::{Decls, Event, Kind, MAX_EVENTS, Op, Trace};
+use race_records::{Decls, Event, Kind, Op, Trace};
 use std::alloc::{AllocError, Allocator, Global};
 use std::marker::Model;
-use thiserror::Error;
-
-/// Why no hub is made. The first that holds is told.
-#[derive(Clone, Copy, Debug, PartialEq, Eq, Error)]
-pub enum HubFault {
-    /// There isn't one box for each goroutine, main first.
-    #[error("there is not one box for each goroutine")]
-    WrongCount,
-    /// The limit is 0, or more than a trace can have.
-    #[error("the limit is out of range")]
-    BadLimit,
-    /// A growth was refused.
-    #[error("out of memory")]
-    OutOfMemory,
-}
 
 /// What came of a job that wasn't put back as it should be. The last that holds is told.
 #[derive(Drop)]
@@ -70,6 +62,8 @@ pub struct Hub<R, A: Allocator = Global> {
     unstarted: Vec<Option<R>, A>,
     ended: Vec<Ended<A>, A>,
     bad: Option<u32>,
+    // A place for each log: what a recording needs is there from the start.
+    tracks: Vec<Track<A>, A>,
 }
 
 impl<R, A: Allocator> Model for Hub<R, A> {
@@ -102,44 +96,6 @@ fn is_fault(event: &Event) -> bool
         Op::Fault(_) => true,
         _ => false,
     }
-}
-
-// The boxes by goroutine, of whom main alone was started.
-fn unstarted<R: Drop, A: Allocator + Copy>(
-    alloc: A,
-    others: Vec<R, A>,
-) -> Result<Vec<Option<R>, A>, AllocError>
-    ensures { IfOk result (λ boxes. boxes.items ≡ None ∷ map Some others.items) }
-{
-    let mut boxes = Vec::new(alloc);
-    boxes.push(None)?;
-    for routine in others {
-        boxes.push(Some(routine))?;
-    }
-    Ok(boxes)
-}
-
-// Whether no trace can have so many events.
-fn is_bad_limit(limit: u32) -> bool
-    ensures { result ≡ ((limit == 0) || nat_lt MAX_EVENTS limit) }
-{
-    limit == 0 || limit as usize > MAX_EVENTS
-}
-
-// Why no hub is made, memory aside.
-#[tactic(auto, unfolding(crate::specs::Opening::hub_fault))]
-fn fault_of<A: Allocator>(decls: &Decls<A>, limit: u32, boxes: usize) -> Option<HubFault>
-    ensures fault { result ≡ hub_fault decls.now limit boxes }
-    ensures count { IsNone result → boxes ≡ count_of Kind.Goroutine decls.now.declarations }
-    ensures few { IsNone result → limit ≤ MAX_EVENTS }
-{
-    if boxes != decls.count(Kind::Goroutine) as usize {
-        return Some(HubFault::WrongCount);
-    }
-    if is_bad_limit(limit) {
-        return Some(HubFault::BadLimit);
-    }
-    None
 }
 
 impl<R: Drop, A: Allocator + Copy> Hub<R, A> {
@@ -185,6 +141,7 @@ impl<R: Drop, A: Allocator + Copy> Hub<R, A> {
         ready.push(Job::new(alloc, 0, main))?;
         let mut out = Vec::new(alloc);
         out.reserve(1)?;
+        let tracks = blank_tracks(alloc, unstarted.len())?;
         Ok(Hub {
             alloc,
             replay,
@@ -197,17 +154,8 @@ impl<R: Drop, A: Allocator + Copy> Hub<R, A> {
             unstarted,
             ended: Vec::new(alloc),
             bad: None,
+            tracks,
         })
-    }
-}
-
-// What the goroutine asks, where its request is one of these.
-fn request_of(waiting: &[Waiter], goroutine: u32) -> Option<&Request>
-    ensures { option_copied result ≡ option_map (λ w. w.asked) (find (λ w. w.who == goroutine) waiting.now) }
-{
-    match waiting.iter().find(|waiter| waiter.who == goroutine) {
-        Some(waiter) => Some(&waiter.asked),
-        None => None,
     }
 }
 
@@ -244,7 +192,7 @@ impl<R, A: Allocator> Hub<R, A> {
     }
 
     // What stops the hub, whoever is ready and whatever waits.
-    #[tactic(auto, unfolding(crate::specs::Hub::stop_of))]
+    #[tactic(auto, unfolding(crate::specs::Hub::stop_by))]
     fn stop(&self) -> Option<End>
         ensures { result ≡ stop_of self.now }
     {
@@ -458,5 +406,38 @@ impl<R, A: Allocator> Hub<R, A> {
         };
         self.perform(firing)?;
         Ok(true)
+    }
+    /// The recording of the run, where the hub has ended, every job is back, and each log is its goroutine's part of the
+    /// trace. Takes no memory.
+    pub fn finish(self) -> Result<Recording<A>, Mismatch>
+    where
+        R: Drop,
+        ensures ok { IfOk result (λ recording. IsRecorded self recording) }
+        ensures end { IfOk result (λ recording. HasEnded self.limit recording) }
+        ensures err { IfErr result (λ mismatch. IsMismatch self mismatch) }
+    {
+        let Some(end) = self.end() else {
+            return Err(Mismatch::NotEnded);
+        };
+        if let Some(goroutine) = least(self.out.as_slice()) {
+            return Err(Mismatch::Out(goroutine));
+        }
+        let Hub {
+            trace,
+            ready,
+            waiting,
+            parked,
+            ended,
+            mut tracks,
+            ..
+        } = self;
+        put_ready(&mut tracks, ready);
+        put_parked(&mut tracks, waiting.as_slice(), parked);
+        put_ended(&mut tracks, ended);
+        pass_all(&mut tracks, trace.events());
+        if let Some(goroutine) = first_other(tracks.as_slice()) {
+            return Err(Mismatch::Log(goroutine));
+        }
+        Ok(Recording::new(trace, tracks, waiting, end))
     }
 }

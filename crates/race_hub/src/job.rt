@@ -135,4 +135,14 @@ impl<R, A: Allocator> Job<R, A> {
         };
         (Waiter { who, asked }, Parked::new(routine, log))
     }
+    /// The goroutine, and its log.
+    pub(crate) fn into_log(self) -> (u32, Vec<Step, A>)
+    where
+        R: Drop,
+        ensures who { result.0 ≡ self.who }
+        ensures log { result.1.items ≡ self.log }
+    {
+        let Job { who, log, .. } = self;
+        (who, log)
+    }
 }

@@ -48,6 +48,16 @@ impl<R, A: Allocator> Parked<R, A> {
         Job::resumed(who, routine, answer, log)
     }
 
+    /// The log.
+    pub(crate) fn into_log(self) -> Vec<Step, A>
+    where
+        R: Drop,
+        ensures { result.items ≡ self.log }
+    {
+        let Parked { log, .. } = self;
+        log
+    }
+
     /// It is through, and is told nothing: the log with what it asked last. Takes no memory.
     pub(crate) fn through(self, waiter: Waiter) -> Ended<A>
     where
@@ -78,4 +88,15 @@ impl<A: Allocator> Model for Ended<A> {
     ghost Value = { ℕ × List StepValue };
 
     ghost view = { λ e. (e.who, e.log.items) };
+}
+
+impl<A: Allocator> Ended<A> {
+    /// The goroutine, and its log.
+    pub(crate) fn into_log(self) -> (u32, Vec<Step, A>)
+        ensures who { result.0 ≡ self.0 }
+        ensures log { result.1.items ≡ self.1 }
+    {
+        let Ended { who, log } = self;
+        (who, log)
+    }
 }

@@ -1,7 +1,9 @@
 //! What a hub gives, step by step.
 
-use race_hub::{Answer, Ask, Boxed, End, Hub, HubFault, Job, Request, Routine, SubmitFault};
-use race_records::{Decls, Object};
+use race_hub::{
+    Answer, Ask, Boxed, End, Hub, HubFault, Job, Mismatch, Recording, Request, Routine, SubmitFault,
+};
+use race_records::{Decls, Kind, Object};
 use std::alloc::{AllocError, Global};
 use std::test::Fail;
 
@@ -302,5 +304,126 @@ fn a_hub_has_a_box_for_each_goroutine_and_a_limit(rt: HostRuntime) -> Result<(),
     assert_eq!(rt; fault(alloc, 0, true)?, Some(HubFault::BadLimit));
     assert_eq!(rt; fault(alloc, 16_777_217, true)?, Some(HubFault::BadLimit));
     assert_eq!(rt; fault(alloc, 16_777_216, true)?, None);
+    Ok(())
+}
+
+/// How a run ended, how many steps the logs of main and w have, and whether they wait; or why nothing is recorded.
+type Finished = Result<(End, usize, usize, bool, bool), Mismatch>;
+
+// How many steps the goroutine's log has.
+fn steps(recording: &Recording, goroutine: u32) -> usize {
+    if goroutine < recording.trace().decls().count(Kind::Goroutine) {
+        recording.logs(goroutine).len()
+    } else {
+        usize::MAX
+    }
+}
+
+fn finished<R: Routine>(hub: Hub<R>) -> Finished {
+    let recording = hub.finish()?;
+    Ok((
+        recording.end(),
+        steps(&recording, 0),
+        steps(&recording, 1),
+        recording.waiting(0).is_some(),
+        recording.waiting(1).is_some(),
+    ))
+}
+
+// What comes of a hub that main and w ask these, once the rows were played on it.
+fn finished_by(
+    alloc: Global,
+    limit: u32,
+    asks: (&'static [Ask], &'static [Ask]),
+    rows: &[Row],
+) -> Result<(usize, Finished), Fail> {
+    let boxes = vec![in alloc; box_of(asks.0), box_of(asks.1)]?;
+    let mut hub = Hub::new(alloc, declared(alloc)?, limit, boxes)?;
+    let came = played(&mut hub, rows)?;
+    Ok((came, finished(hub)))
+}
+
+#[test]
+fn a_hub_is_recorded_once_it_has_ended(rt: HostRuntime) -> Result<(), Fail> {
+    let alloc = rt.alloc();
+    let goes: &'static [Ask] = &[Ask::Go(1), Ask::Read(0)];
+    let tables: [(u32, (&'static [Ask], &'static [Ask]), &[Row], Finished); 6] = [
+        (8, (&[], &[]), &[], Err(Mismatch::NotEnded)),
+        (
+            2,
+            (goes, &[Ask::Write(0, 5)]),
+            &LIMIT[..9],
+            Err(Mismatch::Out(0)),
+        ),
+        (
+            2,
+            (goes, &[Ask::Write(0, 5)]),
+            &LIMIT,
+            Ok((End::Limit, 1, 1, true, false)),
+        ),
+        (
+            8,
+            (&[Ask::Recv(None)], &[]),
+            &DEADLOCK,
+            Ok((End::Deadlock, 0, 0, true, false)),
+        ),
+        (
+            8,
+            (&[Ask::Go(0)], &[]),
+            &BAD,
+            Ok((End::Bad(0), 0, 0, true, false)),
+        ),
+        (
+            8,
+            (&[Ask::Close(None)], &[]),
+            &FAULT,
+            Ok((End::Fault, 1, 0, false, false)),
+        ),
+    ];
+    for at in 0..6 {
+        let (limit, asks, rows, want) = tables[at];
+        assert_eq!(rt; finished_by(alloc, limit, asks, rows)?, (rows.len(), want));
+    }
+    Ok(())
+}
+
+fn hub_of(alloc: Global, main: &'static [Ask]) -> Result<Hub<Asks>, Fail> {
+    let boxes = vec![in alloc; box_of(main), box_of(&[])]?;
+    Ok(Hub::new(alloc, declared(alloc)?, 8, boxes)?)
+}
+
+// Lets the job of main ask, and puts it into the other hub, where its choice happens.
+fn go_on_in(from: &mut Hub<Asks>, into: &mut Hub<Asks>) -> Result<bool, Fail> {
+    let Some(mut job) = from.take() else {
+        return Ok(false);
+    };
+    job.turn()?;
+    if into.submit(job).is_err() {
+        return Ok(false);
+    }
+    Ok(into.fire(0)?)
+}
+
+fn go_on<R: Routine>(hub: &mut Hub<R>) -> Result<bool, Fail> {
+    let Some(mut job) = hub.take() else {
+        return Ok(false);
+    };
+    job.turn()?;
+    if hub.submit(job).is_err() {
+        return Ok(false);
+    }
+    Ok(hub.fire(0)?)
+}
+
+#[test]
+fn a_job_of_another_hub_is_no_part(rt: HostRuntime) -> Result<(), Fail> {
+    let alloc = rt.alloc();
+    let mut writes = hub_of(alloc, &[Ask::Write(0, 5)])?;
+    let mut exits = hub_of(alloc, &[])?;
+    assert!(rt; go_on(&mut writes)?);
+    let own = writes.take();
+    assert!(rt; own.is_some());
+    assert!(rt; go_on_in(&mut exits, &mut writes)?);
+    assert_eq!(rt; finished(writes), Err(Mismatch::Log(0)));
     Ok(())
 }

@@ -1,5 +1,5 @@
 -- The events up to the index are accepted.
-use Rattle.std.proofs.Common.{◌≤◌, List, length, Err, ap, sym, subst, take, take_all, arith}
+use Rattle.std.proofs.Common.{List, sym, subst, take}
 use Rattle.race_records.specs.declared.event.Event.{Event}
 use Rattle.race_legal.specs.StandsFor.{StandsFor}
 use Rattle.race_legal.proofs.Fronts.{take_next}

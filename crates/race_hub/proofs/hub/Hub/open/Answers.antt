@@ -2,6 +2,7 @@ use Rattle.std.proofs.Common.{◌≡◌, ◌∷◌, [], ◌++◌, ◌∙◌, ap,
 use Rattle.std.specs.List.{remove}
 use Rattle.race_hub.specs.Hub.{HubState, opening}
 use Rattle.race_hub.specs.Holds.{Holds}
+use Rattle.race_hub.specs.Tracks.{AreBlank}
 use Rattle.race_hub.proofs.OpeningLemmas.{holds_opening, first_of}
 use Rattle.race_hub.proofs.hub.Hub.open.Given as given
 use Rattle.race_hub.proofs.hub.Hub.open.Goals as goal
@@ -56,6 +57,7 @@ invariant_of-result g c =
           (holds_opening c.in_ok-replay.replay c.args.decls c.args.limit c.remove-main.result (remove c.args.routines.items 0) c.in_ok-replay.ensures.stands
           c.requires.few (many ∙ all) (omega (arith, many, all, few, counted))),
       omega (arith, room, pushed, fresh, none, same),
+      subst (λ n. AreBlank n c.in_ok-tracks.tracks.items) c.in_ok-unstarted.unstarted.ok.0 (subst (λ n. AreBlank n c.in_ok-tracks.tracks.items) c.len.ensures c.in_ok-tracks.ensures),
     )
 
 pub returns : goal.returns

@@ -3,9 +3,10 @@ use Rattle.race_records.specs.Events.{fits}
 use Rattle.race_hub.specs.Hub.{HubState, stop_of}
 use Rattle.race_hub.specs.HubHolds.{hub_state}
 use Rattle.race_hub.specs.Firing.{IsFiring}
-use Rattle.race_hub.specs.Fires.{Fires}
+use Rattle.race_hub.specs.Fires.{Fires, started_by}
+use Rattle.race_hub.specs.Tracks.{AreBlank}
 use Rattle.race_hub.specs.Table.{IsRow, done_by}
-use Rattle.race_hub.proofs.PerformLemmas.{fit_is_in_range, fit_is_taken, below_limit, started_fits, holds_after, not_both, Moves}
+use Rattle.race_hub.proofs.PerformLemmas.{fit_is_in_range, fit_is_taken, below_limit, started_fits, holds_after, not_both, boxes_len, Moves}
 use Rattle.race_hub.proofs.ChoiceLemmas.{some_is}
 use Rattle.race_hub.proofs.hub.Hub.perform.Given as given
 use Rattle.race_hub.proofs.hub.Hub.perform.Goals as goal
@@ -77,6 +78,8 @@ moved g c = record {
     c.started_in-started.ensures,
   ) refl;
   unstarted = rw (c.start.ensures.unstarted, c.started_in-started.ensures) refl;
+  ended = rw (c.go_on.ensures.ended, c.reserve-3.ensures.items) refl;
+  bad = refl;
 }
 
 pub invariant_of-self-2 : goal.invariant_of-self-2
@@ -90,10 +93,12 @@ invariant_of-self-2 g c =
     let d = c.go_on.ensures.len in
     let e = c.in_ok-reserve-2.ensures.ok in
     let f = c.len.ensures in
-    let i = c.reserve-2.ensures.len in (
+    let i = c.reserve-2.ensures.len in
+    let boxes = ap length (moved g c).unstarted ∙ boxes_len old.unstarted (started_by c.args.firing.event.op) in (
       holds_after c.self.inside.replay c.accept.new.self old (after_of g c) c.args.firing (moved g c) holds on firing
           (c.in-Ok.ensures.goes_on old.decls.declarations old.events holds.stands),
       omega (arith, a, b, d, e, f, i),
+      subst (λ n. AreBlank n c.self.inside.tracks.items) (sym boxes) c.self.invariant.2,
     )
 
 fired : (g : given.Over) (c : goal.After-start g) → Fires (hub_state c.self.inside) c.args.firing.choice (after_of g c)

@@ -27,8 +27,9 @@ invariant_of-self-then-bad g c =
       unstarted = old.unstarted;
       ended = old.ended;
       bad = Some w.who;
-    } in (
-      joined_badly c.self.inside.replay old new w c.park-parked.result.1 w.who
+    } in
+    let same = test_same old c.reserve.new.self.items c.reserve-else-is_err.new.self.items w c.reserve.ensures.items c.reserve-else-is_err.ensures.items in (
+      joined_badly c.self.inside.replay old new w c.park-parked.result.1
           (record {
             decls = refl;
             events = refl;
@@ -40,9 +41,11 @@ invariant_of-self-then-bad g c =
             gone = λ k.
                 ap (λ xs. count_by (λ o. o == k) xs + cond (w.who == k) 1 0) c.take_first.ensures.numbers ∙ first_gone old.out w.who k among;
             unstarted = refl;
+            ended = refl;
           })
-          refl c.self.invariant.0,
+          refl c.self.invariant.0 (sym same ∙ sym c.is_bad-bad.ensures ∙ c.if-bad.true),
       omega (arith, room, len, cap),
+      c.self.invariant.2,
     )
 
 pub returns-then-bad-clause-bad : goal.returns-then-bad-clause-bad
@@ -116,7 +119,9 @@ invariant_of-self-else-bad g c =
             gone = λ k.
                 ap (λ xs. count_by (λ o. o == k) xs + cond (w.who == k) 1 0) c.take_first.ensures.numbers ∙ first_gone old.out w.who k among;
             unstarted = refl;
+            ended = refl;
           })
           refl c.self.invariant.0 (sym same ∙ sym c.is_bad-bad.ensures ∙ c.if-bad.false),
       omega (arith, room, len, cap),
+      c.self.invariant.2,
     )

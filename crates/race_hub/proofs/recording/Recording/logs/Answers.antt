@@ -1,0 +1,24 @@
+use Rattle.std.proofs.Common.{◌≡◌, ◌∙◌, ◌<◌, ℕ, sym, ap, subst, length, arith, Some}
+use Rattle.std.specs.Option.{option_map}
+use Rattle.std.proofs.lemmas.Option.{slice_get-get_or, slice_get-map}
+use Rattle.race_records.specs.declared.kind.Kind.{Kind}
+use Rattle.race_records.specs.Declarations.{count_of}
+use Rattle.race_hub.specs.Part.{IsPart}
+use Rattle.race_hub.specs.RecordingHolds.{recording_state}
+use Rattle.race_hub.specs.Recording.{RecordingState}
+use Rattle.race_hub.specs.Tracks.{TrackState}
+use Rattle.race_hub.proofs.recording.Recording.logs.Goals as goal
+
+within_tracks : (n g : ℕ) (r s : RecordingState) → r ≡ s → n ≡ count_of Kind.Goroutine r.decls.declarations → g < count_of Kind.Goroutine s.decls.declarations → g < n
+within_tracks n g r s same is less =
+    let count = ap (λ (r : RecordingState). count_of Kind.Goroutine r.decls.declarations) same in
+    omega (arith, is, less, count)
+
+pub returns-clause-part : goal.returns-clause-part
+returns-clause-part g c =
+    let within = within_tracks (length c.self.inside.tracks.items) c.args.goroutine (recording_state c.self.inside) c.args.self.now c.self.view_is
+    c.self.invariant.count c.requires in
+    let at = slice_get-map (λ (t : TrackState). t.log) c.self.inside.tracks.items c.args.goroutine
+    ∙ ap (option_map (λ (t : TrackState). t.log)) (slice_get-get_or c.self.inside.tracks.items c.args.goroutine c.index.result.now within ∙ ap Some (sym c.index.ensures)) in
+    subst (IsPart c.args.goroutine c.log.result.now) (ap (λ (r : RecordingState). r.events) c.self.view_is)
+    (c.self.invariant.parts c.args.goroutine c.log.result.now (at ∙ ap Some (sym c.log.ensures)))

@@ -1,0 +1,45 @@
+use Rattle.std.proofs.Common.{◌≡◌, ◌∙◌, ◌∷◌, [], sym, ap, slice_set, slice_get, length, length-append, arith, get_or}
+use Rattle.std.proofs.lemmas.Option.{slice_get-get_or}
+use Rattle.race_hub.specs.declared.request.Ask.{Ask}
+use Rattle.race_hub.specs.declared.request.Waiter.{Waiter}
+use Rattle.race_hub.specs.Finish.{placed, logs_behind}
+use Rattle.race_hub.specs.Tracks.{fresh}
+use Rattle.race_hub.proofs.TrackLemmas.{placed_one, none_behind, behind_next, behind_all}
+use Rattle.race_hub.proofs.track.put_parked.Goals as goal
+
+pub loop-behind-init : goal.loop-behind-init
+loop-behind-init g c = record {
+  places = sym (ap (λ logs. placed logs c.args.tracks.now.items) (none_behind g.row.R.Denot c.args.waiting.now));
+  at = omega arith;
+}
+
+pub loop-behind-preserved-then-at-waiting : goal.loop-behind-preserved-then-at-waiting
+loop-behind-preserved-then-at-waiting g c =
+    let waiting = c.args.waiting.now in
+    let parked = c.loop-behind.yielded in
+    let less = c.if-at-waiting.true in
+    let at = c.loop-behind.invariant.at in
+    let same : c.loop-behind.at ≡ length parked = omega (arith, at, less) in
+    let more = length-append parked (c.in-Some.behind ∷ []) in
+    let none : Waiter = record { who = 0; asked = record { ask = Ask.Go 0; place = 0 } } in
+    let w = get_or waiting c.loop-behind.at none in
+    let there = ap (slice_get waiting) (sym same) ∙ slice_get-get_or waiting c.loop-behind.at none less in
+    record {
+      places = c.put.ensures ∙ (λ i. slice_set (c.loop-behind.invariant.places i) w.who (fresh (c.into_log.ensures i)))
+          ∙ sym (placed_one (logs_behind waiting parked) w.who c.in-Some.behind.log c.args.tracks.now.items)
+          ∙ ap (λ logs. placed logs c.args.tracks.now.items) (sym (behind_next waiting parked c.in-Some.behind w there));
+      at = omega (arith, at, less, more);
+    }
+
+pub loop-behind-preserved : goal.loop-behind-preserved
+loop-behind-preserved g c =
+    let waiting = c.args.waiting.now in
+    let parked = c.loop-behind.yielded in
+    let beyond = c.if-at-waiting.false in
+    let at = c.loop-behind.invariant.at in
+    let more = length-append parked (c.in-Some.behind ∷ []) in
+    record {
+      places = c.loop-behind.invariant.places
+          ∙ ap (λ logs. placed logs c.args.tracks.now.items) (sym (behind_all waiting parked c.in-Some.behind (omega (arith, at, beyond))));
+      at = omega (arith, at, beyond, more);
+    }

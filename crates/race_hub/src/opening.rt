@@ -1,0 +1,62 @@
+//! What a hub needs before its first event, and why it can't be made.
+ghost use Rattle.std.specs.Prelude.{◌≡◌, ◌==◌, ◌||◌, ◌∷◌, ◌≤◌, nat_lt, map, Some, None, IfOk, IsNone};
+ghost use Rattle.race_records.specs.declared.kind.Kind.{Kind};
+ghost use Rattle.race_records.specs.declared.trace.TheConstants.{MAX_EVENTS};
+ghost use Rattle.race_records.specs.Declarations.{count_of};
+ghost use Rattle.race_hub.specs.Opening.{hub_fault};
+
+use race_records::{Decls, Kind, MAX_EVENTS};
+use std::alloc::{AllocError, Allocator};
+use thiserror::Error;
+
+/// Why no hub is made. The first that holds is told.
+#[derive(Clone, Copy, Debug, PartialEq, Eq, Error)]
+pub enum HubFault {
+    /// There isn't one box for each goroutine, main first.
+    #[error("there is not one box for each goroutine")]
+    WrongCount,
+    /// The limit is 0, or more than a trace can have.
+    #[error("the limit is out of range")]
+    BadLimit,
+    /// A growth was refused.
+    #[error("out of memory")]
+    OutOfMemory,
+}
+
+/// The boxes by goroutine, of whom main alone was started.
+pub(crate) fn unstarted<R: Drop, A: Allocator + Copy>(
+    alloc: A,
+    others: Vec<R, A>,
+) -> Result<Vec<Option<R>, A>, AllocError>
+    ensures { IfOk result (λ boxes. boxes.items ≡ None ∷ map Some others.items) }
+{
+    let mut boxes = Vec::new(alloc);
+    boxes.push(None)?;
+    for routine in others {
+        boxes.push(Some(routine))?;
+    }
+    Ok(boxes)
+}
+
+// Whether no trace can have so many events.
+fn is_bad_limit(limit: u32) -> bool
+    ensures { result ≡ ((limit == 0) || nat_lt MAX_EVENTS limit) }
+{
+    limit == 0 || limit as usize > MAX_EVENTS
+}
+
+/// Why no hub is made, memory aside.
+#[tactic(auto, unfolding(crate::specs::Opening::hub_fault))]
+pub(crate) fn fault_of<A: Allocator>(decls: &Decls<A>, limit: u32, boxes: usize) -> Option<HubFault>
+    ensures fault { result ≡ hub_fault decls.now limit boxes }
+    ensures count { IsNone result → boxes ≡ count_of Kind.Goroutine decls.now.declarations }
+    ensures few { IsNone result → limit ≤ MAX_EVENTS }
+{
+    if boxes != decls.count(Kind::Goroutine) as usize {
+        return Some(HubFault::WrongCount);
+    }
+    if is_bad_limit(limit) {
+        return Some(HubFault::BadLimit);
+    }
+    None
+}

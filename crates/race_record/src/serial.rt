@@ -41,8 +41,8 @@ fn run<R: Routine, A: Allocator + Copy>(
     ensures { OnOk result (IsRunOut R.asks picks.now hub.old hub.new) }
 {
     let begun = hub.trace().len();
-    loop {
-        while turn_next(hub)? {}
+    'events: loop {
+        'turns: while turn_next(hub)? {}
         // A turn that makes no event leaves the pick to the next one.
         let made = hub.trace().len() - begun;
         if !hub.fire(pick_at(picks, made))? {

@@ -3,20 +3,20 @@ use Rattle.race_record.specs.Serial.{Comes}
 use Rattle.race_record.proofs.serial.run.Given as goal
 
 -- the hub has come so far, and no job is out
-abbrev pub invariant-loop-hub : goal.invariant-loop-hub
-invariant-loop-hub g l = record {
+abbrev pub invariant-events : goal.invariant-events
+invariant-events g l = record {
   comes : Comes g.R.Routine.asks l.fn.picks l.fn.hub l.hub;
   back : l.hub.out ≡ [];
   begun : l.begun ≡ length l.fn.hub.events;
 }
 
 -- each event brings it nearer to its limit
-abbrev pub decreases-loop-hub : goal.decreases-loop-hub
-decreases-loop-hub g l = l.hub.limit - length l.hub.events
+abbrev pub decreases-events : goal.decreases-events
+decreases-events g l = l.hub.limit - length l.hub.events
 
 -- turns make no event
-abbrev pub invariant-loop : goal.invariant-loop
-invariant-loop g l = record {
+abbrev pub invariant-turns : goal.invariant-turns
+invariant-turns g l = record {
   comes : Comes g.R.Routine.asks l.fn.picks l.fn.hub l.hub;
   back : l.hub.out ≡ [];
   begun : l.begun ≡ length l.fn.hub.events;
@@ -25,5 +25,5 @@ invariant-loop g l = record {
 }
 
 -- each makes one goroutine fewer ready
-abbrev pub decreases-loop : goal.decreases-loop
-decreases-loop g l = length l.hub.ready
+abbrev pub decreases-turns : goal.decreases-turns
+decreases-turns g l = length l.hub.ready

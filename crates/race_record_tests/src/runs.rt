@@ -2,7 +2,7 @@
 
 use race_hub::{End, Hub, Recording};
 use race_record::{RecordFault, record_serial};
-use race_records::Kind;
+use race_records::{Decls, Kind};
 use race_script::{Program, Script, parse_program};
 use race_text::parse_trace;
 use std::alloc::{AllocError, Global};
@@ -106,11 +106,16 @@ fn scripts(alloc: Global, program: &Program) -> Result<Vec<Script>, AllocError> 
     Ok(scripts)
 }
 
+// The declarations of a program, and a box for each goroutine.
+fn parts(alloc: Global, text: &[u8]) -> Result<(Decls, Vec<Script>), Fail> {
+    let program = parse_program(alloc, text)?;
+    let scripts = scripts(alloc, &program)?;
+    Ok((program.decls().copy()?, scripts))
+}
+
 // The hub of the program before its first event.
 fn hub_of(alloc: Global, text: &[u8], limit: u32) -> Result<Hub<Script>, Fail> {
-    let program = parse_program(alloc, text)?;
-    let decls = program.decls().copy()?;
-    let scripts = scripts(alloc, &program)?;
+    let (decls, scripts) = parts(alloc, text)?;
     Ok(Hub::new(alloc, decls, limit, scripts)?)
 }
 
@@ -183,33 +188,49 @@ fn go_on(hub: &mut Hub<Script>) -> Result<bool, Fail> {
     Ok(hub.fire(0)?)
 }
 
+// A hub whose main has gone on once.
+fn begun(alloc: Global, text: &[u8]) -> Result<Hub<Script>, Fail> {
+    let mut hub = hub_of(alloc, text, 8)?;
+    if go_on(&mut hub)? {
+        Ok(hub)
+    } else {
+        Err(AllocError.into())
+    }
+}
+
 #[test]
 fn a_hub_goes_on_behind_its_events(rt: HostRuntime) -> Result<(), Fail> {
     let alloc = rt.alloc();
-    let mut hub = hub_of(alloc, READS, 8)?;
-    assert!(rt; go_on(&mut hub)?);
+    let hub = begun(alloc, READS)?;
     let trace =
         b"gotrace 1\ngoroutine w\nvar x\ngo main w m:1\nwrite w x 5 w:1\nread main x 5 m:2\nexit w w:2\nexit main m:3\n";
     assert!(rt; comes_to(alloc, hub, &[1], trace, End::Main, (false, false))?);
     Ok(())
 }
 
+// Lets main of the other program go on in this hub in place of its own.
+fn exchanged(alloc: Global, hub: &mut Hub<Script>) -> Result<bool, Fail> {
+    let own = hub.take();
+    let mut exits = hub_of(alloc, b"goprogram 1\nvar x\nbody main\nexit m:2\n", 8)?;
+    Ok(go_on_in(&mut exits, hub)? && own.is_some())
+}
+
+// Why the hub isn't recorded, where no job is out.
+fn fault_of(hub: Hub<Script>) -> Option<RecordFault> {
+    if hub.out() != 0 {
+        return None;
+    }
+    record_serial(hub, &[]).err()
+}
+
 #[test]
 fn a_job_of_another_hub_is_no_part(rt: HostRuntime) -> Result<(), Fail> {
     let alloc = rt.alloc();
-    let text = b"goprogram 1\nvar x\nbody main\nwrite x 5 m:1\nexit m:2\n";
-    let mut writes = hub_of(alloc, text, 8)?;
-    let mut exits = hub_of(alloc, b"goprogram 1\nvar x\nbody main\nexit m:2\n", 8)?;
-    assert!(rt; go_on(&mut writes)?);
-    let own = writes.take();
-    assert!(rt; own.is_some());
-    assert!(rt; go_on_in(&mut exits, &mut writes)?);
-    assert_eq!(rt; writes.out(), 0);
-    if writes.out() == 0 {
-        assert_eq!(rt;
-            record_serial(writes, &[]).err(),
-            Some(RecordFault::Mismatch)
-        );
-    }
+    let mut writes = begun(
+        alloc,
+        b"goprogram 1\nvar x\nbody main\nwrite x 5 m:1\nexit m:2\n",
+    )?;
+    assert!(rt; exchanged(alloc, &mut writes)?);
+    assert_eq!(rt; fault_of(writes), Some(RecordFault::Mismatch));
     Ok(())
 }

@@ -3,7 +3,7 @@ ghost use Rattle.std.specs.Prelude.{◌<◌};
 
 use growth_tests::{Outcome, assert_refusals, judge};
 use race_records::{Sink, Source};
-use race_tool::{CheckOptions, run_check, run_edges, status};
+use race_tool::{CheckOptions, RunOptions, run_check, run_edges, run_run, status};
 use refusing_heap::RefusingHeap;
 use std::alloc::{Allocator, Global};
 
@@ -13,14 +13,23 @@ enum Engine {
     Check,
     PlainCheck,
     Edges,
+    Run,
 }
+
+static TRACE: &[u8] =
+    b"gotrace 1\ngoroutine w\nvar x\ngo main w p\nwrite main x 1 p\nread w x 1 p\n";
+
+// A run of this has the trace up to its third event.
+static PROGRAM: &[u8] =
+    b"goprogram 1\ngoroutine w\nvar x\nbody main\ngo w p\nwrite x 1 p\nexit p\nbody w\nread x p\nexit p\n";
 
 // A goroutine, a variable and a race, and what an engine writes of them into a list of its own.
 // Gives the status, and how much is out.
-fn ended<A: Allocator + Copy>(alloc: A, engine: Engine) -> (u8, usize) {
-    let mut source = Source::new(
-        b"gotrace 1\ngoroutine w\nvar x\ngo main w p\nwrite main x 1 p\nread w x 1 p\n".as_slice(),
-    );
+fn ended<A: Allocator + Copy + Send>(alloc: A, engine: Engine) -> (u8, usize) {
+    let mut source = Source::new(match engine {
+        Engine::Run => PROGRAM,
+        _ => TRACE,
+    });
     let mut output = [0; 128];
     let mut sink = Sink::new(output.as_mut_slice());
     let mut options = CheckOptions::default();
@@ -31,6 +40,13 @@ fn ended<A: Allocator + Copy>(alloc: A, engine: Engine) -> (u8, usize) {
             run_check(&(), alloc, &mut source, &mut sink, &options)
         }
         Engine::Edges => run_edges(alloc, &mut source, &mut sink),
+        Engine::Run => {
+            let options = RunOptions {
+                limit: 3,
+                picks: None,
+            };
+            run_run(&(), alloc, &mut source, &mut sink, &options)
+        }
     };
     (
         answer,
@@ -47,6 +63,7 @@ fn report(alloc: Global, engine: Engine, nth: u64) -> Outcome
     let right = match engine {
         Engine::Check | Engine::PlainCheck => (status::RACES, 75),
         Engine::Edges => (status::CLEAN, 25),
+        Engine::Run => (status::LIMIT, TRACE.len()),
     };
     judge(
         heap.has_refused(),
@@ -62,6 +79,6 @@ fn engines(rt: HostRuntime) {
         report,
         // The judge by clocks takes seven lists: four of the replay, for goroutines and variables, one
         // for their clocks, one for what is kept of variables, and the races.
-        [(Engine::Check, 22), (Engine::PlainCheck, 26), (Engine::Edges, 21)]
+        [(Engine::Check, 22), (Engine::PlainCheck, 26), (Engine::Edges, 21), (Engine::Run, 47)]
     );
 }

@@ -8,7 +8,6 @@ use Rattle.race_records.specs.Declarations.{count_of, counts_of}
 use Rattle.race_records.specs.Events.{TraceState, IsTrace, fits}
 use Rattle.race_model.specs.Legal.{IsLegal}
 use Rattle.race_model.specs.Clocks.{participations}
-use Rattle.race_legal.specs.ReplayState.{IsInRange}
 use Rattle.race_clock.specs.declared.stamp.Stamp.{Stamp}
 use Rattle.race_clock.specs.StamperState.{StamperState}
 use Rattle.race_clock.specs.Stamps.{stamp_of}

@@ -6,3 +6,4 @@ pub mod StatusLemmas
 pub mod OneReport
 pub mod EachIsJudged
 pub mod ListingLemmas
+pub mod RunLemmas

@@ -1,5 +1,5 @@
 -- What is kept of the variables stands for the events, one event on, and tells their races.
-use Rattle.std.proofs.Common.{◌≡◌, ◌≢◌, ◌⊎◌, ℕ, zero, suc, ◌+◌, ◌<◌, List, [], ◌∷◌, ◌++◌, length, Option, Some, None, slice_set, get_or, take, refl, sym, ap, ◌∙◌, subst, inl, inr, arith, IsTrue, length-append}
+use Rattle.std.proofs.Common.{◌≡◌, ℕ, zero, suc, ◌+◌, ◌<◌, List, [], ◌∷◌, ◌++◌, length, Option, Some, None, slice_set, get_or, take, refl, sym, ap, ◌∙◌, subst, inl, inr, arith, IsTrue, length-append}
 use Rattle.std.specs.Option.{option_map}
 use Rattle.std.proofs.Math.Seq.{get_or-append_seam}
 use Rattle.std.proofs.lemmas.Bool.{cases_eq, cases_lt}
@@ -9,18 +9,17 @@ use Rattle.race_records.specs.declared.event.Event.{Event}
 use Rattle.race_model.specs.Events.{accesses}
 use Rattle.race_model.specs.Race.{IsAccessOf}
 use Rattle.race_model.specs.Clocks.{participations}
-use Rattle.race_clock.specs.declared.stamp.Stamp.{Stamp}
 use Rattle.race_clock.specs.Stamps.{stamp_of}
 use Rattle.race_access.specs.Kept.{Kept}
-use Rattle.race_access.specs.Touches.{Touch, IsReported}
-use Rattle.race_access.specs.StampsOf.{AreStampsOf, IsReportedOn}
+use Rattle.race_access.specs.Touches.{Touch}
+use Rattle.race_access.specs.StampsOf.{IsReportedOn}
 use Rattle.race_access.specs.TouchHolds.{StandsFor}
 use Rattle.race_access.specs.TouchHolds as touch
 use Rattle.race_access.proofs.StampSteps.{accesses_one, accesses_none, touches_lawful, reported_on, stamps_next, stamps_other}
 use Rattle.race_access.proofs.StandSteps.{stands_reports}
 use Rattle.race_edges.specs.declared.races.Race.{Race}
 use Rattle.race_edges.specs.Answers.{IsFound, AreFound, races_of}
-use Rattle.race_tool.specs.Variables.{IsKeptOf, AreKept, IsTouch, GoesOn, kept_of, nothing_kept, race_of, races_from}
+use Rattle.race_tool.specs.Variables.{IsKeptOf, AreKept, IsTouch, kept_of, nothing_kept, race_of, races_from}
 
 -- before the first event a variable has no access
 pub kept_first : (caps : ℕ → ℕ) (x : ℕ) (kept : Kept) → StandsFor kept [] → IsKeptOf caps [] x kept

@@ -7,45 +7,69 @@ use Rattle.race_records.specs.Events.{TraceState}
 use Rattle.race_text.specs.declared.cause.TextFault.{TextFault}
 use Rattle.race_text.specs.Text.{IsTextOf}
 use Rattle.race_text.specs.Fault.{text_fault}
-use Rattle.race_text.specs.Fed.{ended_fault, LinesState, GoesOnBy, ForEachFed}
+use Rattle.race_text.specs.Fed.{ended_fault}
+use Rattle.race_script.specs.Fault as program
+use Rattle.race_script.specs.Fed as program_fed
 use Rattle.race_tool.specs.declared.input.TheConstants.{BLOCK, MAX_TURNS}
 
+-- which fault bytes have as a text of some kind: the first one, and the first one of the lines that a newline ends
+pub record Faults : Type 0 where
+  pub first : List ℕ → Option TextFault
+  pub ended : List ℕ → Option TextFault
+
+-- as the text of a trace
+abbrev pub of_traces : Faults
+of_traces = record { first = text_fault; ended = ended_fault }
+
+-- as the text of a program
+abbrev pub of_programs : Faults
+of_programs = record { first = program.text_fault; ended = program_fed.ended_fault }
+
 -- the last block that was read is the one that ends the first faulty line
-pub record StopsAtFault (bytes : List ℕ) : Type 0 where
+pub record StopsAtFault (faults : Faults) (bytes : List ℕ) : Type 0 where
   pub front : List ℕ
   pub block : List ℕ
   pub bytes_are : bytes ≡ front ++ block
   pub short : length block ≤ BLOCK
-  pub fine : ended_fault front ≡ None
+  pub fine : faults.ended front ≡ None
   pub fault : TextFault
-  pub faulty : ended_fault bytes ≡ Some fault
+  pub faulty : faults.ended bytes ≡ Some fault
 
 -- these bytes were read: to the end of the input, and no line that a newline ends is at fault, or to the end of the block that ends the first faulty line
-pub record Reads (before after : Option (List ℕ)) (bytes : List ℕ) (to_end : Bool) : Type 0 where
+pub record Reads (faults : Faults) (before after : Option (List ℕ)) (bytes : List ℕ) (to_end : Bool) : Type 0 where
   pub consumed : Consumes before after bytes
-  pub stops : MatchBool to_end (IsAtEnd after × (ended_fault bytes ≡ None)) (StopsAtFault bytes)
+  pub stops : MatchBool to_end (IsAtEnd after × (faults.ended bytes ≡ None)) (StopsAtFault faults bytes)
 
 -- an input of which these bytes were read: to its end, or else anything may follow them
 abbrev pub IsInput : List ℕ → Bool → List ℕ → Type 0
 IsInput bytes true whole = whole ≡ bytes
 IsInput bytes false whole = (rest : List ℕ) × (whole ≡ bytes ++ rest)
 
+module _ {V : Type 0} (IsText : V → List ℕ → Type 0) (faults : Faults) where
+  -- the bytes are the text of that, or else this is their first fault
+  abbrev pub IsReadBy : List ℕ → Result V TextFault → Type 0
+  IsReadBy bytes (Ok value) = IsText value bytes
+  IsReadBy bytes (Err fault) = faults.first bytes ≡ Some fault
+
+  -- the input was read as a text, which needs its end, or with its first fault
+  pub record ReadsBy (before after : Option (List ℕ)) (text : Result V TextFault) : Type 0 where
+    pub bytes : List ℕ
+    pub to_end : Bool
+    pub read : Reads faults before after bytes to_end
+    pub is_so : (whole : List ℕ) → IsInput bytes to_end whole → IsReadBy whole text
+    pub all : OnOk text (IsTrue to_end)
+
 -- the bytes are the text of this trace, or else this is their first fault
 abbrev pub IsReadAs : List ℕ → Result TraceState TextFault → Type 0
-IsReadAs bytes (Ok trace) = IsTextOf trace bytes
-IsReadAs bytes (Err fault) = text_fault bytes ≡ Some fault
+IsReadAs bytes text = IsReadBy IsTextOf of_traces bytes text
 
 -- some bytes are read so
 abbrev pub IsReadable : Result TraceState TextFault → Type 0
 IsReadable text = (bytes : List ℕ) × IsReadAs bytes text
 
--- the input was read as a trace, which needs its end, or with its first fault
-pub record ReadsAs (before after : Option (List ℕ)) (text : Result TraceState TextFault) : Type 0 where
-  pub bytes : List ℕ
-  pub to_end : Bool
-  pub read : Reads before after bytes to_end
-  pub is_so : (whole : List ℕ) → IsInput bytes to_end whole → IsReadAs whole text
-  pub all : OnOk text (IsTrue to_end)
+-- the input was read as a trace
+abbrev pub ReadsAs : Option (List ℕ) → Option (List ℕ) → Result TraceState TextFault → Type 0
+ReadsAs before after text = ReadsBy IsTextOf of_traces before after text
 
 -- the bytes were read, and they were all that was left
 pub record ReadsAll (before after : Option (List ℕ)) (bytes : List ℕ) : Type 0 where
@@ -53,30 +77,30 @@ pub record ReadsAll (before after : Option (List ℕ)) (bytes : List ℕ) : Type
   pub at_end : IsAtEnd after
 
 -- some bytes were read, and no line that a newline ends is at fault in them
-pub record ReadsFine (before after : Option (List ℕ)) : Type 0 where
+pub record ReadsFine (faults : Faults) (before after : Option (List ℕ)) : Type 0 where
   pub bytes : List ℕ
   pub consumed : Consumes before after bytes
-  pub fine : ended_fault bytes ≡ None
+  pub fine : faults.ended bytes ≡ None
 
 -- the reader was read as often as an input may be, each of these reads gave bytes, and no line that a newline ends is at fault in them
-pub record ReadsMany {R : Type 0} (remaining : R → Option (List ℕ)) (source source_now : Source R) : Type 0 where
+pub record ReadsMany {R : Type 0} (faults : Faults) (remaining : R → Option (List ℕ)) (source source_now : Source R) : Type 0 where
   pub reads : source_reads source_now ≡ more_by MAX_TURNS (source_reads source)
   pub bytes : List ℕ
   pub consumed : Consumes (unread remaining source) (unread remaining source_now) bytes
   pub many : MAX_TURNS ≤ length bytes
-  pub fine : ended_fault bytes ≡ None
+  pub fine : faults.ended bytes ≡ None
 
 -- what is known of one more block, as its lines were told: fine, with whether there were bytes, or with the first fault
-abbrev pub IsToldOf : LinesState → Option (List ℕ) → List ℕ → Result Bool TextFault → Type 0
-IsToldOf old after taken answer =
+abbrev pub IsToldOf : Faults → (List ℕ → Type 0) → Option (List ℕ) → List ℕ → Result Bool TextFault → Type 0
+IsToldOf faults StandsFor after taken answer =
     MatchResult answer
-    (λ more. ForEachFed old (λ fed. ended_fault (fed ++ taken) ≡ None) × MatchBool more (0 < length taken) (IsAtEnd after))
-    (λ told. ForEachFed old (λ fed. ended_fault (fed ++ taken) ≡ Some told))
+    (λ more. ((fed : List ℕ) → StandsFor fed → faults.ended (fed ++ taken) ≡ None) × MatchBool more (0 < length taken) (IsAtEnd after))
+    (λ told. (fed : List ℕ) → StandsFor fed → faults.ended (fed ++ taken) ≡ Some told)
 
--- one read was fed to a reader of lines
-pub record FeedsMore (before after : Option (List ℕ)) (old new : LinesState) (answer : Result Bool TextFault) : Type 0 where
+-- one read was fed to a reader of lines, which stood for some bytes, and stands for them with these behind
+pub record FeedsMore (faults : Faults) (before after : Option (List ℕ)) (StoodFor StandsFor : List ℕ → Type 0) (answer : Result Bool TextFault) : Type 0 where
   pub taken : List ℕ
   pub short : length taken ≤ BLOCK
   pub consumed : Consumes before after taken
-  pub goes_on : GoesOnBy old new taken
-  pub told : IsToldOf old after taken answer
+  pub goes_on : (fed : List ℕ) → StoodFor fed → StandsFor (fed ++ taken)
+  pub told : IsToldOf faults StoodFor after taken answer

@@ -1,9 +1,12 @@
 pub mod Input
+pub mod PieceLaws
 pub mod Report
 pub mod Variables
 pub mod Finding
 pub mod Findings
 pub mod Listing
 pub mod Listings
+pub mod Run
+pub mod Picks
 pub mod Outcome
 pub mod Laws

@@ -1,10 +1,8 @@
 -- What is kept of all variables, and what it says of a list of events.
-use Rattle.std.specs.Prelude.{ℕ, ◌≡◌, ◌<◌, ◌+◌, IsTrue, List, [], ◌∷◌, ◌++◌, length, Option, Some, None}
+use Rattle.std.specs.Prelude.{ℕ, ◌≡◌, ◌<◌, ◌+◌, List, [], ◌∷◌, ◌++◌, length, Option, Some, None}
 use Rattle.std.specs.List.{slice_index_or}
 use Rattle.std.specs.Option.{option_map}
 use Rattle.race_records.specs.declared.event.Event.{Event}
-use Rattle.race_model.specs.Events.{accesses}
-use Rattle.race_model.specs.Race.{IsAccessOf}
 use Rattle.race_clock.specs.declared.stamp.Stamp.{Stamp}
 use Rattle.race_clock.specs.Stamps.{stamp_of}
 use Rattle.race_clock.specs.StandsFor.{CountsReaching}

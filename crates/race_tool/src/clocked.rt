@@ -14,7 +14,7 @@ use race_records::{Kind, Trace};
 use std::alloc::{AllocError, Allocator};
 
 /// The verdict on a trace.
-pub(crate) fn judge_by_clocks<A: Allocator + Copy, B: Allocator>(
+pub fn judge_by_clocks<A: Allocator + Copy, B: Allocator>(
     alloc: A,
     trace: &Trace<B>,
 ) -> Result<Verdict<A>, AllocError>

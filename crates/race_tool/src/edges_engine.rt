@@ -1,7 +1,7 @@
 //! The engine of `gorace edges`: a trace's text in, its synchronization edges out.
 ghost use Rattle.std.specs.Prelude.{◌≡◌, ◌≢◌, ◌⊎◌};
 ghost use Rattle.race_records.specs.Devices.{unread, written, source_failures, sink_failures};
-ghost use Rattle.race_tool.specs.Input.{IsReadable};
+ghost use Rattle.race_tool.specs.Input.{of_traces, IsReadable};
 ghost use Rattle.race_tool.specs.Outcome.{
   WritesListing,
   WritesListingFront,
@@ -43,8 +43,8 @@ pub fn run_edges<R: Read, W: Write, A: Allocator + Copy>(
 
     // A device failed, which its count shows, or the input didn't end.
     ensures device { result ≡ status.DEVICE
-        → FailsToRead R.remaining source.old source.new sink.old sink.new
-        ⊎ GivesUpReading R.remaining source.old source.new sink.old sink.new
+        → FailsToRead of_traces R.remaining source.old source.new sink.old sink.new
+        ⊎ GivesUpReading of_traces R.remaining source.old source.new sink.old sink.new
         ⊎ FailsToWriteListing R.remaining W.contents source.old source.new sink.old sink.new }
 
     // With every other status no device failed.

@@ -1,10 +1,11 @@
 //! Reading an input block by block, to its end or to its first faulty line.
-ghost use Rattle.std.specs.Prelude.{◌≡◌, ◌≢◌, length, vec_len, IfOk, IfErr};
+ghost use Rattle.std.specs.Prelude.{◌≡◌, ◌≢◌, [], length, vec_len, IfOk, IfErr};
 ghost use Rattle.std.specs.Io.KnownBytes.{Keeps};
 ghost use Rattle.race_records.specs.Devices.{unread, source_reads, source_failures, one_more};
 ghost use Rattle.race_text.specs.declared.cause.TextCause.{TextCause as Cause};
-ghost use Rattle.race_tool.specs.Input.{ReadsAs, ReadsFine, ReadsMany, FeedsMore};
+ghost use Rattle.race_tool.specs.Input.{of_traces, ReadsAs, ReadsBy, ReadsFine, ReadsMany, FeedsMore};
 
+use crate::pieces::PieceReader;
 use race_records::{Source, Trace};
 use race_text::{LineReader, TextCause, TextFault};
 use std::alloc::{AllocError, Allocator};
@@ -47,14 +48,36 @@ pub(crate) fn read_trace<R: Read, A: Allocator + Copy>(
     ensures failed { result ≡ Err ReadFault.Failed
         → source_failures source.new ≡ one_more (source_failures source.old) }
     ensures fine { result ≡ Err ReadFault.Failed
-        → ReadsFine (unread R.remaining source.old) (unread R.remaining source.new) }
+        → ReadsFine of_traces (unread R.remaining source.old) (unread R.remaining source.new) }
     ensures endless { result ≡ Err ReadFault.Endless
-        → ReadsMany R.remaining source.old source.new }
+        → ReadsMany of_traces R.remaining source.old source.new }
+{
+    read_text(alloc, source, LineReader::new(alloc))
+}
+
+/// Reads a text in blocks by a reader to which nothing was fed. It stops at the end of the input, or
+/// of the block that ends the first faulty line.
+pub(crate) fn read_text<R: Read, P: PieceReader, A: Allocator>(
+    alloc: A,
+    source: &mut Source<R>,
+    reader: P,
+) -> Result<Result<P::Whole, TextFault>, ReadFault>
+    requires { P.stands_for reader [] }
+    ensures ok { IfOk result (λ text. ReadsBy P.is_text_of P.faults
+        (unread R.remaining source.old) (unread R.remaining source.new) text) }
+    ensures calm { result ≢ Err ReadFault.Failed
+        → source_failures source.new ≡ source_failures source.old }
+    ensures failed { result ≡ Err ReadFault.Failed
+        → source_failures source.new ≡ one_more (source_failures source.old) }
+    ensures fine { result ≡ Err ReadFault.Failed
+        → ReadsFine P.faults (unread R.remaining source.old) (unread R.remaining source.new) }
+    ensures endless { result ≡ Err ReadFault.Endless
+        → ReadsMany P.faults R.remaining source.old source.new }
 {
     let Ok(mut block) = blank_block(alloc) else {
         return Err(ReadFault::OutOfMemory);
     };
-    let mut reader = LineReader::new(alloc);
+    let mut reader = reader;
     for _ in 0..MAX_TURNS {
         match feed_block(source, block.as_mut_slice(), &mut reader)? {
             Ok(true) => {}
@@ -72,14 +95,14 @@ fn blank_block<A: Allocator>(alloc: A) -> Result<Vec<u8, A>, AllocError>
 }
 
 // Reads once, and feeds what was read. Tells whether there were bytes, or the first faulty line.
-fn feed_block<R: Read, A: Allocator + Copy>(
+fn feed_block<R: Read, P: PieceReader>(
     source: &mut Source<R>,
     block: &mut [u8],
-    reader: &mut LineReader<A>,
+    reader: &mut P,
 ) -> Result<Result<bool, TextFault>, ReadFault>
     requires { length block.old ≡ BLOCK }
-    ensures ok { IfOk result (λ answer. FeedsMore (unread R.remaining source.old)
-        (unread R.remaining source.new) reader.old reader.new answer) }
+    ensures ok { IfOk result (λ answer. FeedsMore P.faults (unread R.remaining source.old)
+        (unread R.remaining source.new) (P.stands_for reader.old) (P.stands_for reader.new) answer) }
     ensures calm { result ≢ Err ReadFault.Failed
         → source_failures source.new ≡ source_failures source.old }
     ensures failed { result ≡ Err ReadFault.Failed

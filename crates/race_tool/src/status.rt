@@ -1,6 +1,6 @@
 //! The statuses that the engines answer.
 
-/// The trace is legal and has no race.
+/// The trace is legal and has no race; of a run, main returned.
 pub const CLEAN: u8 = 0;
 
 /// The trace is legal and has races. Go's own race detector exits with it too.
@@ -22,6 +22,21 @@ pub const REFUSED: u8 = 4;
 /// A read or a write failed, or reading was given up after 2^32 reads.
 pub const DEVICE: u8 = 5;
 
+/// A run ended with a goroutine that failed.
+pub const FAILED: u8 = 10;
+
+/// A run ended since every goroutine that runs waits, and none can go on.
+pub const DEADLOCK: u8 = 11;
+
+/// A run ended with as many events as it may have.
+pub const LIMIT: u8 = 12;
+
+/// A run ended since a goroutine asked what can't be.
+pub const BAD_REQUEST: u8 = 13;
+
+/// A run is not recorded, since what a goroutine asked and was told isn't its part of the trace.
+pub const MISMATCH: u8 = 15;
+
 // Definitions cite these numbers, so each is written down twice.
 const _: () = prove!(
     CLEAN == 0
@@ -31,4 +46,9 @@ const _: () = prove!(
         && USAGE == 3
         && REFUSED == 4
         && DEVICE == 5
+        && FAILED == 10
+        && DEADLOCK == 11
+        && LIMIT == 12
+        && BAD_REQUEST == 13
+        && MISMATCH == 15
 );

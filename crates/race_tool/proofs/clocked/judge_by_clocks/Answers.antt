@@ -1,18 +1,14 @@
 -- Behind each event the replay, the stamper and what is kept of the variables stand for the front up to it; at the end for all events.
-use Rattle.std.proofs.Common.{◌≡◌, ◌≤◌, ◌<◌, ◌∙◌, true, List, [], ◌∷◌, ◌++◌, length, take, Err, Some, None, sym, ap, subst, arith}
-use Rattle.std.proofs.lemmas.List.{take_all}
+use Rattle.std.proofs.Common.{◌≡◌, ◌∙◌, true, List, [], ◌∷◌, ◌++◌, length, take, Err, sym, ap, subst, arith}
 use Rattle.race_records.specs.declared.event.Event.{Event}
 use Rattle.race_records.specs.declared.kind.Kind.{Kind}
 use Rattle.race_records.specs.Declarations.{DeclsState, count_of}
-use Rattle.race_model.specs.Legal.{IsLegal}
 use Rattle.race_legal.specs.StandsFor as legal
 use Rattle.race_legal.proofs.Fronts.{take_next}
 use Rattle.race_legal.proofs.RangeLemmas.{in_range}
-use Rattle.race_clock.specs.Stamps.{stamp_of}
 use Rattle.race_clock.specs.StandsFor as clock
 use Rattle.race_clock.proofs.NextFrom.{allowed_last}
 use Rattle.race_edges.specs.Traces.{capacities}
-use Rattle.race_edges.specs.Answers.{AreRaces}
 use Rattle.race_edges.proofs.RaceLists.{free_from_none, listed_some}
 use Rattle.race_tool.specs.Variables.{AreKept}
 use Rattle.race_tool.proofs.VariableSteps.{kept_other}

@@ -1,4 +1,4 @@
-use Rattle.std.proofs.Common.{◌≡◌, ◌+◌, [], ◌∷◌, length, sym, ap, ◌∙◌, subst, arith, length-append}
+use Rattle.std.proofs.Common.{◌+◌, [], ◌∷◌, length, sym, ap, ◌∙◌, subst, length-append}
 use Rattle.race_tool.specs.Variables.{AreKept}
 use Rattle.race_tool.proofs.VariableSteps.{kept_first, kept_push}
 use Rattle.race_tool.proofs.variables.Variables.new.Goals as goal

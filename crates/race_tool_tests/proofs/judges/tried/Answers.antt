@@ -5,7 +5,7 @@ use Rattle.race_records.specs.Declarations.{DeclsState}
 use Rattle.race_records.specs.Events.{fits}
 use Rattle.race_legal.specs.StandsFor.{StandsFor}
 use Rattle.race_legal.proofs.RangeLemmas.{in_range}
-use Rattle.race_tool.proofs.judges_tests.tried.Goals as goal
+use Rattle.race_tool_tests.proofs.judges.tried.Goals as goal
 
 pub accept-requires-clause-range : goal.accept-requires-clause-range
 accept-requires-clause-range c =

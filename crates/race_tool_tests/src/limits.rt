@@ -1,6 +1,6 @@
 //! Traces as long and as wide as they may be, and one event longer than the plain judge takes.
-use crate::status;
-use crate::tests::{checked, listed, text_of};
+use crate::rows::{checked, listed, text_of};
+use race_tool::status;
 use std::alloc::Global;
 use std::test::Fail;
 

@@ -1,5 +1,5 @@
-use crate::{CheckOptions, run_check, run_edges, status};
 use race_records::{Sink, Source};
+use race_tool::{CheckOptions, run_check, run_edges, status};
 use std::alloc::Global;
 use std::io;
 use std::io::{Read, Write};

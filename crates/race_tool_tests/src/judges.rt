@@ -2,10 +2,10 @@
 ghost use Rattle.std.specs.Prelude.{◌<◌, IfOk};
 ghost use Rattle.race_legal.specs.StandsFor.{StandsFor};
 
-use crate::clocked::judge_by_clocks;
 use race_edges::{Verdict, plain_judge};
 use race_legal::Replay;
 use race_records::{Case, Cases, Cause, Decls, Dir, Event, Object, Op, Trace};
+use race_tool::judge_by_clocks;
 use std::alloc::{AllocError, Global};
 use std::test::Fail;
 

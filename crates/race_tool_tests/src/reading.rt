@@ -1,7 +1,7 @@
 //! Inputs that are read in blocks.
 
-use crate::{CheckOptions, run_check, run_edges, status};
 use race_records::{Sink, Source};
+use race_tool::{CheckOptions, run_check, run_edges, status};
 use std::alloc::{AllocGlobal, Global};
 use std::io;
 use std::io::Read;

@@ -1,5 +1,5 @@
 use Rattle.race_legal.specs.StandsFor.{StandsFor}
-use Rattle.race_tool.proofs.judges_tests.recorded.Given as goal
+use Rattle.race_tool_tests.proofs.judges.recorded.Given as goal
 
 abbrev pub invariant-loop : goal.invariant-loop
 invariant-loop l = record {

@@ -1,5 +1,5 @@
-use crate::status;
-use crate::tests::{check, list};
+use crate::rows::{check, list};
+use race_tool::status;
 use std::test::Fail;
 
 // Traces with their reports and statuses.

@@ -1,0 +1,10 @@
+use Rattle.std.proofs.Common.{◌∙◌}
+use Rattle.race_tool.proofs.RunLemmas.{one_more_script}
+use Rattle.race_tool.proofs.recorded.scripts.Goals as goal
+
+pub loop-goroutine-preserved : goal.loop-goroutine-preserved
+loop-goroutine-preserved g c = record {
+  made = c.in_ok-push.ensures.items
+      ∙ one_more_script c.args.program.now.bodies c.loop-goroutine.goroutine c.loop-goroutine.scripts.items c.in_ok-new.field-0 c.loop-goroutine.invariant.made
+      c.in_ok-new.ensures.whole c.in_ok-new.ensures.position;
+}

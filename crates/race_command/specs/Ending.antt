@@ -8,7 +8,11 @@ use Rattle.race_records.specs.declared.source.Source.{Source}
 use Rattle.race_records.specs.declared.sink.Sink.{Sink}
 use Rattle.race_records.specs.Devices.{unread, written, source_failures, sink_failures}
 use Rattle.race_command.specs.declared.command.Request.{Request}
-use Rattle.race_tool.specs.Outcome.{ReadsAndReports, ReadsAndLists, ReadsTextWhere, FailsToRead, GivesUpReading, FailsToWrite, FailsToWriteListing}
+use Rattle.race_tool.specs.Input.{of_traces, of_programs}
+use Rattle.race_tool.specs.Outcome.{ReadsAndReports, ReadsAndLists, ReadsAndRuns, ReadsTextWhere, ReadsProgramOf, FailsToRead, GivesUpReading}
+use Rattle.race_tool.specs.Outcome.{FailsToWrite, FailsToWriteListing, FailsToWriteRun}
+use Rattle.race_tool.specs.Run.{IsRefusedRun}
+use Rattle.race_tool.specs.Picks.{picks_asked}
 use Rattle.race_edges.specs.Traces.{IsClean, IsRacy, IsIllegal}
 use Rattle.race_tool.specs.declared.status.TheConstants as status
 
@@ -21,8 +25,8 @@ pub record Checks {R W : Type 0} (plain : Bool) (remaining : R → Option (List 
   pub illegal : answer ≡ status.ILLEGAL → ReadsTextWhere IsIllegal (unread remaining source) (unread remaining source_now)
   pub refused : answer ≡ status.REFUSED → sink_now ≡ sink
   pub device : answer ≡ status.DEVICE
-      → FailsToRead remaining source source_now sink sink_now
-      ⊎ GivesUpReading remaining source source_now sink sink_now
+      → FailsToRead of_traces remaining source source_now sink sink_now
+      ⊎ GivesUpReading of_traces remaining source source_now sink sink_now
       ⊎ FailsToWrite plain remaining contents source source_now sink sink_now
   pub calm : answer ≢ status.DEVICE → (source_failures source_now ≡ source_failures source) × (sink_failures sink_now ≡ sink_failures sink)
 
@@ -32,15 +36,30 @@ pub record Lists {R W : Type 0} (remaining : R → Option (List ℕ)) (contents 
       → ReadsAndLists (unread remaining source) (unread remaining source_now) (written contents sink) (written contents sink_now) answer
   pub refused : answer ≡ status.REFUSED → sink_now ≡ sink
   pub device : answer ≡ status.DEVICE
-      → FailsToRead remaining source source_now sink sink_now
-      ⊎ GivesUpReading remaining source source_now sink sink_now
+      → FailsToRead of_traces remaining source source_now sink sink_now
+      ⊎ GivesUpReading of_traces remaining source source_now sink sink_now
       ⊎ FailsToWriteListing remaining contents source source_now sink sink_now
+  pub calm : answer ≢ status.DEVICE → (source_failures source_now ≡ source_failures source) × (sink_failures sink_now ≡ sink_failures sink)
+
+-- the program that was read was run: what run_run promises of a limit in its limits
+pub record Runs {R W : Type 0} (limit : ℕ) (picks : List ℕ) (remaining : R → Option (List ℕ)) (contents : W → Option (List ℕ)) (source source_now : Source R) (sink sink_now : Sink W) (answer : ℕ) : Type 0 where
+  pub ran : answer ≢ status.REFUSED → answer ≢ status.DEVICE → answer ≢ status.MISMATCH
+      → ReadsAndRuns limit picks (unread remaining source) (unread remaining source_now) (written contents sink) (written contents sink_now) answer
+  pub refused : answer ≡ status.REFUSED → sink_now ≡ sink
+  pub mismatch : answer ≡ status.MISMATCH
+      → (sink_now ≡ sink) × ReadsProgramOf (IsRefusedRun limit picks) (unread remaining source) (unread remaining source_now)
+  pub device : answer ≡ status.DEVICE
+      → FailsToRead of_programs remaining source source_now sink sink_now
+      ⊎ GivesUpReading of_programs remaining source source_now sink sink_now
+      ⊎ FailsToWriteRun limit picks remaining contents source source_now sink sink_now
   pub calm : answer ≢ status.DEVICE → (source_failures source_now ≡ source_failures source) × (sink_failures sink_now ≡ sink_failures sink)
 
 -- what was asked for is done
 abbrev pub Does : {R W : Type 0} → Request → (R → Option (List ℕ)) → (W → Option (List ℕ)) → Source R → Source R → Sink W → Sink W → ℕ → Type 0
 Does (Request.Check options) remaining contents source source_now sink sink_now answer = Checks options.plain remaining contents source source_now sink sink_now answer
 Does Request.Edges remaining contents source source_now sink sink_now answer = Lists remaining contents source source_now sink sink_now answer
+Does (Request.Run options) remaining contents source source_now sink sink_now answer =
+    Runs options.limit (picks_asked options) remaining contents source source_now sink sink_now answer
 
 -- the status where the words ask for no work: help was printed or couldn't be, memory was refused, or else they are at fault
 abbrev pub IsAnswerTo : ErrorKind → ℕ → Type 0
@@ -70,4 +89,5 @@ abbrev pub message_of : ℕ → Option (List ℕ)
 message_of answer =
     if answer == status.REFUSED then Some (codes "gorace: refused for memory or a thread")
     else if answer == status.DEVICE then Some (codes "gorace: reading or writing failed")
+    else if answer == status.MISMATCH then Some (codes "gorace: the run could not be recorded")
     else None

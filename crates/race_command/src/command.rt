@@ -1,12 +1,14 @@
 //! The command line: what it asks for, and the help.
 ghost use Rattle.std.specs.Prelude.{◌≤◌, IsTrue, IfOk, IfSome};
 ghost use Rattle.race_tool.specs.Outcome.{are_in_limits};
+ghost use Rattle.race_tool.specs.Run.{is_run_limit};
 ghost use Rattle.race_command.specs.Request.{is_in_limits};
 
-use crate::number::number_in;
+use crate::number::{number_in, picks_in};
 use clap::error::ErrorKind;
 use clap::{Arg, ArgAction, ArgMatches, Command, Error};
-use race_tool::{CheckOptions, MAX_BLOCK, MAX_SHARDS};
+use race_records::MAX_EVENTS;
+use race_tool::{CheckOptions, MAX_BLOCK, MAX_SHARDS, RunOptions};
 use std::alloc::{AllocError, Global};
 use std::convert::AsStr;
 
@@ -59,13 +61,78 @@ Statuses:
   4   memory was refused
   5   reading or writing failed";
 
+const RUN_ABOUT: &str = "Reads a program from standard input, runs it, and writes the trace";
+
+const RUN_HELP: &str = "\
+A program is a text: a header, declarations, and for main and each goroutine a
+body of steps, of which the last is its exit. Each step ends with its place.
+
+  goprogram 1
+  goroutine w
+  chan c 0
+  var x
+  body main
+  go w m:1
+  recv c m:2
+  read x m:3
+  exit m:4
+  body w
+  write x 8 w:1
+  send c 1 w:2
+  exit w:3
+
+A goroutine goes on to its next step as soon as it has done one. Where several
+could do their steps next, a pick says which: they stand in the order in which
+they came to their steps, a meet where its sender stands, and a pick is a number
+modulo their count. Each event uses up a pick; behind the last one they are 0.
+With --picks 0,0,0,1 main reads before w exits; else w exits first.
+
+'gorace run < PROGRAM | gorace check' judges the run.
+
+Statuses:
+  0   main returned
+  10  a goroutine failed, as by a close of a closed channel
+  11  deadlock: each goroutine waits, and none can go on
+  12  the limit is reached
+  13  a goroutine asked what can't be, as to start another a second time
+  2   not a program; the line at fault and why
+  3   usage
+  4   memory was refused
+  5   reading or writing failed
+  15  the run could not be recorded";
+
 /// What the words ask for.
-#[derive(Clone, Copy, Debug, PartialEq, Eq)]
+#[derive(Debug, Drop)]
 pub(crate) enum Request {
     /// Judge the trace on standard input.
     Check(CheckOptions),
     /// List the synchronization edges of the trace on standard input.
     Edges,
+    /// Run the program on standard input.
+    Run(RunOptions),
+}
+
+/// A command that has numbers for options.
+#[derive(Clone, Copy, Debug)]
+enum Numbered {
+    Check,
+    Run,
+}
+
+impl Numbered {
+    // The command with its whole name, for what is wrong with its words.
+    fn command<'a>(self, alloc: Global) -> Result<Command<'a>, AllocError> {
+        match self {
+            Numbered::Check => check(alloc)?.bin_name("gorace check"),
+            Numbered::Run => run(alloc)?.bin_name("gorace run"),
+        }
+    }
+
+    // What is wrong with a value.
+    fn refuse(self, alloc: Global, text: &str) -> Result<Error, AllocError> {
+        let mut command = self.command(alloc)?;
+        command.error(ErrorKind::ValueValidation, text)
+    }
 }
 
 /// The request that the words make; the first is the program's name.
@@ -78,6 +145,9 @@ pub(crate) fn parse<'a, S: AsStr>(alloc: Global, words: &'a [S]) -> Result<Reque
     let matches = command.try_get_matches_from_mut(words)?;
     if let Some(given) = matches.subcommand_matches("check") {
         return Ok(Request::Check(check_options(alloc, given)?));
+    }
+    if let Some(given) = matches.subcommand_matches("run") {
+        return Ok(Request::Run(run_options(alloc, given)?));
     }
     match matches.subcommand_matches("edges") {
         Some(_) => Ok(Request::Edges),
@@ -93,7 +163,8 @@ fn gorace<'a>(alloc: Global) -> Result<Command<'a>, AllocError> {
         )
         .subcommand_required(true)
         .subcommand(check(alloc)?)?
-        .subcommand(edges(alloc))
+        .subcommand(edges(alloc))?
+        .subcommand(run(alloc)?)
 }
 
 fn check<'a>(alloc: Global) -> Result<Command<'a>, AllocError> {
@@ -124,20 +195,64 @@ fn edges<'a>(alloc: Global) -> Command<'a> {
         .after_help(EDGES_HELP)
 }
 
+fn run<'a>(alloc: Global) -> Result<Command<'a>, AllocError> {
+    let limit = Arg::new(alloc, "limit").long("limit").value_name("N").help(
+        "How many events the run may have, 1 to 16777216 [default: 16777216]",
+    );
+    let picks = Arg::new(alloc, "picks")
+        .long("picks")
+        .value_name("LIST")
+        .help("Numbers with commas between them, which say what happens next");
+    Command::new(alloc, "run")
+        .about(RUN_ABOUT)
+        .after_help(RUN_HELP)
+        .arg(limit)?
+        .arg(picks)
+}
+
 fn check_options(alloc: Global, given: &ArgMatches<'_>) -> Result<CheckOptions, Error>
     ensures { IfOk result (λ options. IsTrue (are_in_limits options)) }
 {
     let usual = CheckOptions::default();
     Ok(CheckOptions {
-        shards: limited(alloc, given, "shards", MAX_SHARDS)?.unwrap_or(usual.shards),
-        block: limited(alloc, given, "block", MAX_BLOCK)?.unwrap_or(usual.block),
+        shards: limited(alloc, Numbered::Check, given, "shards", MAX_SHARDS)?.unwrap_or(
+            usual.shards,
+        ),
+        block: limited(alloc, Numbered::Check, given, "block", MAX_BLOCK)?.unwrap_or(usual.block),
         plain: given.get_flag("plain"),
     })
 }
 
-// The number that is given for an option, 1 to `most`.
+fn run_options(alloc: Global, given: &ArgMatches<'_>) -> Result<RunOptions, Error>
+    ensures { IfOk result (λ options. IsTrue (is_run_limit options.limit)) }
+{
+    let limit = limited(alloc, Numbered::Run, given, "limit", MAX_EVENTS)?.unwrap_or(MAX_EVENTS);
+    Ok(RunOptions {
+        limit: limit as u32,
+        picks: picks(alloc, given)?,
+    })
+}
+
+// The list that is given for the picks.
+fn picks(alloc: Global, given: &ArgMatches<'_>) -> Result<Option<Vec<u64>>, Error> {
+    let Some(word) = given.get_str("picks") else {
+        return Ok(None);
+    };
+    match picks_in(alloc, word)? {
+        Some(picks) => Ok(Some(picks)),
+        None => {
+            let text = format!(in alloc;
+                "--picks takes numbers with commas between them, not '{word}'"
+            )?;
+            Err(Numbered::Run.refuse(alloc, text.as_str())?)
+        }
+    }
+}
+
+// The number that is given for an option of the command, 1 to `most`.
 fn limited(
     alloc: Global,
+    command: Numbered,
     given: &ArgMatches<'_>,
     option: &str,
     most: usize,
@@ -153,8 +268,7 @@ fn limited(
             let text = format!(in alloc;
                 "--{option} takes a number from 1 to {most}, not '{word}'"
             )?;
-            let mut command = check(alloc)?.bin_name("gorace check")?;
-            Err(command.error(ErrorKind::ValueValidation, text.as_str())?)
+            Err(command.refuse(alloc, text.as_str())?)
         }
     }
 }

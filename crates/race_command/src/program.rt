@@ -11,7 +11,7 @@ use crate::command::{Request, parse};
 use clap::Error;
 use clap::error::ErrorKind;
 use race_records::{Sink, Source};
-use race_tool::{run_check, run_edges, status};
+use race_tool::{run_check, run_edges, run_run, status};
 use std::alloc::Global;
 use std::env::Args;
 use std::io;
@@ -21,17 +21,17 @@ use std::process::ExitCode;
 /// Does what the words ask for, and says on standard error what no report says.
 ///
 /// A check ends with the status that `run_check` answers, a listing of edges with that of
-/// `run_edges`. Help ends with 0, or with 5 where it can't
-/// be printed. Words that are at fault or aren't text end with 3, of which a line on standard error
-/// tells, and want of memory for them with 4.
+/// `run_edges`, a run with that of `run_run`. Help ends with 0, or with 5 where it can't be printed.
+/// Words that are at fault or aren't text end with 3, of which a line on standard error tells, and
+/// want of memory for them with 4.
 pub fn run<T: AllocGlobal + Print + Eprint, R: Read, W: Write>(
     rt: &T,
     args: io::Result<Args>,
     source: &mut Source<R>,
     sink: &mut Sink<W>,
 ) -> ExitCode
-    // Either the input is checked or its edges are listed, or the words ask for neither, and nothing
-    // is read or written.
+    // The input is checked, its edges are listed or it is run, or the words ask for none of these, and
+    // nothing is read or written.
     ensures words { IfOk args (λ words.
         Ends R.remaining W.contents source.old source.new sink.old sink.new (exit_status result)) }
 
@@ -94,6 +94,7 @@ fn answer_request<T: AllocGlobal + Print + Eprint, R: Read, W: Write>(
         Ok(asked) => match asked {
             Request::Check(options) => run_check(rt, rt.alloc(), source, sink, &options),
             Request::Edges => run_edges(rt.alloc(), source, sink),
+            Request::Run(options) => run_run(rt, rt.alloc(), source, sink, &options),
         },
         Err(error) => print(rt, &error),
     }
@@ -141,6 +142,7 @@ fn message(answer: u8) -> Option<&'static str>
     match answer {
         status::REFUSED => Some("gorace: refused for memory or a thread"),
         status::DEVICE => Some("gorace: reading or writing failed"),
+        status::MISMATCH => Some("gorace: the run could not be recorded"),
         _ => None,
     }
 }

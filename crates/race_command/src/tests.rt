@@ -2,7 +2,7 @@ use crate::command::{Request, parse};
 use crate::program::run;
 use clap::error::ErrorKind;
 use race_records::{Sink, Source};
-use race_tool::{CheckOptions, status};
+use race_tool::{CheckOptions, RunOptions, status};
 use std::alloc::Global;
 use std::env::Args;
 use std::io;
@@ -14,8 +14,61 @@ fn options_of(alloc: Global, given: &[&str; 2]) -> Result<CheckOptions, ErrorKin
     let words = ["gorace", "check", given[0], given[1]];
     match parse(alloc, words.as_slice()) {
         Ok(Request::Check(options)) => Ok(options),
-        Ok(Request::Edges) => Err(ErrorKind::InvalidSubcommand),
+        Ok(_) => Err(ErrorKind::InvalidSubcommand),
         Err(error) => Err(error.kind()),
+    }
+}
+
+// The options of the words behind `gorace run`, or why there are none.
+fn run_options_of(alloc: Global, given: &[&str; 2]) -> Result<RunOptions, ErrorKind> {
+    let words = ["gorace", "run", given[0], given[1]];
+    match parse(alloc, words.as_slice()) {
+        Ok(Request::Run(options)) => Ok(options),
+        Ok(_) => Err(ErrorKind::InvalidSubcommand),
+        Err(error) => Err(error.kind()),
+    }
+}
+
+// The limit and the picks where they are as these.
+fn are_options(
+    options: &Result<RunOptions, ErrorKind>,
+    want: Result<(u32, Option<&[u64]>), ErrorKind>,
+) -> bool {
+    match (options, want) {
+        (Ok(options), Ok((limit, picks))) => {
+            let given = match &options.picks {
+                Some(picks) => Some(picks.as_slice()),
+                None => None,
+            };
+            options.limit == limit && given == picks
+        }
+        (Err(kind), Err(want)) => *kind == want,
+        _ => false,
+    }
+}
+
+#[test]
+fn a_run_has_a_limit_and_picks(rt: HostRuntime) {
+    let refused = Err(ErrorKind::ValueValidation);
+    let most = 16_777_216;
+    let rows: [([&str; 2], Result<(u32, Option<&[u64]>), ErrorKind>); 10] = [
+        (["--limit", "1"], Ok((1, None))),
+        (["--limit", "16777216"], Ok((most, None))),
+        (["--limit", "0"], refused),
+        (["--limit", "16777217"], refused),
+        (["--picks", "0"], Ok((most, Some(&[0])))),
+        (
+            ["--limit=2", "--picks=3,18446744073709551615"],
+            Ok((2, Some(&[3, 18_446_744_073_709_551_615]))),
+        ),
+        (["--picks", "18446744073709551616"], refused),
+        (["--picks", "1,,2"], refused),
+        (["--picks", "01"], refused),
+        (["--workers", "1"], Err(ErrorKind::UnknownArgument)),
+    ];
+    for (given, want) in rows {
+        let options = run_options_of(rt.alloc(), &given);
+        assert!(rt; are_options(&options, want), "{given:?}");
     }
 }
 
@@ -60,7 +113,7 @@ fn options_are_numbers_in_their_limits(rt: HostRuntime) {
 #[test]
 fn a_command_is_wanted(rt: HostRuntime) {
     for (word, want) in [
-        ("run", ErrorKind::InvalidSubcommand),
+        ("race", ErrorKind::InvalidSubcommand),
         ("--help", ErrorKind::DisplayHelp),
     ] {
         let words = ["gorace", word];
@@ -114,6 +167,19 @@ fn words_and_input_decide_the_status(rt: HostRuntime) -> Result<(), Fail> {
             status::CLEAN,
             "edge 1 main 1 w\nedges: 1\n",
         ),
+        (
+            "gorace run --picks 0",
+            "goprogram 1\nbody main\nexit m:1\n",
+            status::CLEAN,
+            "gotrace 1\nexit main m:1\n",
+        ),
+        (
+            "gorace run --limit 1",
+            "goprogram 1\nbody main\nclose nil m:1\nexit m:2\n",
+            status::FAILED,
+            "gotrace 1\nfault main close:nil m:1\n",
+        ),
+        ("gorace run --picks x", "", status::USAGE, ""),
         ("gorace edges --plain", "gotrace 1\n", status::USAGE, ""),
         ("gorace edges --help", "gotrace 1\n", status::CLEAN, ""),
         ("gorace check --help", "gotrace 1\n", status::CLEAN, ""),

@@ -2,10 +2,10 @@
 ghost use Rattle.std.specs.Prelude.{◌<◌};
 
 use crate::played::{
-    Asks, Move, Script, are_alike, are_jobs_alike, asked, boxes, declared, played,
+    Asks, Move, Plain, Script, are_alike, are_jobs_alike, asked, boxes, declared, played,
 };
 use growth_tests::{Outcome, assert_refusals, judge};
-use race_hub::{Ask, Hub, HubFault, Job, SubmitFault};
+use race_hub::{Hub, HubFault, Job, SubmitFault};
 use race_records::Op;
 use refusing_heap::RefusingHeap;
 use std::alloc::{Allocator, Global};
@@ -59,26 +59,31 @@ static MEET: [Move; 6] = [
     Move::Ask,
 ];
 
-static SENDS: [Ask; 1] = [Ask::Send(Some(0), 7)];
+static SENDS: [Plain; 1] = [Plain::Send(0, 7)];
 
-static BEGINS: [Ask; 1] = [Ask::Do(0)];
+static BEGINS: [Plain; 1] = [Plain::Do(0)];
 
-static STARTS: [Ask; 4] = [Ask::Go(1), Ask::Go(2), Ask::Go(3), Ask::Go(4)];
+static STARTS: [Plain; 4] = [Plain::Go(1), Plain::Go(2), Plain::Go(3), Plain::Go(4)];
 
-static WRITES_AND_STARTS: [Ask; 4] = [Ask::Write(0, 1), Ask::Write(0, 2), Ask::Go(1), Ask::Go(2)];
-
-static HANDS_OVER: [Ask; 5] = [
-    Ask::Write(0, 1),
-    Ask::Write(0, 2),
-    Ask::Write(0, 3),
-    Ask::Go(1),
-    Ask::Send(Some(1), 7),
+static WRITES_AND_STARTS: [Plain; 4] = [
+    Plain::Write(0, 1),
+    Plain::Write(0, 2),
+    Plain::Go(1),
+    Plain::Go(2),
 ];
 
-static RECEIVES: [Ask; 1] = [Ask::Recv(Some(1))];
+static HANDS_OVER: [Plain; 5] = [
+    Plain::Write(0, 1),
+    Plain::Write(0, 2),
+    Plain::Write(0, 3),
+    Plain::Go(1),
+    Plain::Send(1, 7),
+];
+
+static RECEIVES: [Plain; 1] = [Plain::Recv(Some(1))];
 
 fn script_of(call: Call) -> Script {
-    let (main, others, moves): (&'static [Ask], &'static [Ask], &'static [Move]) = match call {
+    let (main, others, moves): (&'static [Plain], &'static [Plain], &'static [Move]) = match call {
         Call::New | Call::Submit => (&[], &[], &NONE),
         Call::SubmitSecond => (&STARTS, &[], &ONE_WAITS),
         Call::SubmitFifth => (&STARTS, &[], &FOUR_WAIT),

@@ -4,10 +4,30 @@ use race_hub::{Answer, Ask, Hub, Job, Request, Routine};
 use race_records::Decls;
 use std::alloc::{Allocator, Global};
 
+// An ask but for a select, of which no table can be written down.
+#[derive(Clone, Copy, Debug)]
+pub(crate) enum Plain {
+    Go(u32),
+    Write(u32, u64),
+    Send(u32, u64),
+    Recv(Option<u32>),
+    Do(u32),
+}
+
+fn ask_of(plain: Plain) -> Ask {
+    match plain {
+        Plain::Go(goroutine) => Ask::Go(goroutine),
+        Plain::Write(var, value) => Ask::Write(var, value),
+        Plain::Send(chan, value) => Ask::Send(Some(chan), value),
+        Plain::Recv(chan) => Ask::Recv(chan),
+        Plain::Do(once) => Ask::Do(once),
+    }
+}
+
 /// Asks these one after another, and then to write how often it was called.
 #[derive(Drop)]
 pub(crate) struct Asks {
-    asks: &'static [Ask],
+    asks: &'static [Plain],
     calls: usize,
 }
 
@@ -20,7 +40,7 @@ impl Routine for Asks {
         let at = self.calls;
         self.calls = at.saturating_add(1);
         let ask = if at < self.asks.len() {
-            self.asks[at].copy()
+            ask_of(self.asks[at])
         } else {
             Ask::Write(0, self.calls as u64)
         };
@@ -42,8 +62,8 @@ pub(crate) enum Move {
 /// What main asks, what each other one does, and how far both are played.
 #[derive(Clone, Copy)]
 pub(crate) struct Script {
-    pub main: &'static [Ask],
-    pub others: &'static [Ask],
+    pub main: &'static [Plain],
+    pub others: &'static [Plain],
     pub moves: &'static [Move],
 }
 

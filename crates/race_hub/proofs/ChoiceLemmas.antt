@@ -1,5 +1,5 @@
 -- What a listed choice is: who takes part in its event, and what each is told.
-use Rattle.std.proofs.Common.{◌≡◌, ◌==◌, ℕ, zero, suc, ◌<◌, ◌≤◌, ◌+◌, ◌-◌, ◌%◌, ◌++◌, Bool, true, false, cond, List, [], ◌∷◌, map, filter, flat_map, length}
+use Rattle.std.proofs.Common.{◌≡◌, ◌==◌, ℕ, zero, suc, ◌<◌, ◌≤◌, ◌+◌, ◌-◌, ◌%◌, ◌++◌, ◌&&◌, ◌⊎◌, Bool, true, false, cond, List, [], ◌∷◌, map, filter, flat_map, length}
 use Rattle.std.proofs.Common.{All}
 use Rattle.std.proofs.Common.{Option, Some, None, is_none, refl, sym, ap, ◌∙◌, subst, inl, inr, arith, slice_get, eqb-true, eq-eqb, true≢false}
 use Rattle.std.specs.List.{range_with_len}
@@ -8,7 +8,7 @@ use Rattle.std.proofs.lemmas.List.Elements.{filter_passes}
 use Rattle.race_records.specs.declared.event.Event.{Event}
 use Rattle.race_records.specs.declared.event.Op.{Op}
 use Rattle.race_records.specs.declared.event.Cause.TheVariants.{SendClosed, CloseClosed, UnlockFree, RUnlockFree}
-use Rattle.race_records.specs.declared.event.Op.TheVariants.{Send, Recv, Meet, RecvClosed, Close, Unlock, RUnlock}
+use Rattle.race_records.specs.declared.event.Op.TheVariants.{Send, Recv, Meet, RecvClosed, Close, Default, Unlock, RUnlock}
 use Rattle.race_records.specs.declared.event.Op.TheVariants.{OnceBegin, OnceDone, Fault}
 use Rattle.race_model.specs.State.{is_closed, front, is_held, is_read_held, is_begun, last_value}
 use Rattle.race_model.specs.Legal.{broken, rules}
@@ -19,8 +19,10 @@ use Rattle.race_hub.specs.declared.request.Answer.{Answer}
 use Rattle.race_hub.specs.declared.request.Ask.{Ask}
 use Rattle.race_hub.specs.declared.request.Offer.{Offer}
 use Rattle.race_hub.specs.declared.request.Waiter.{Waiter}
-use Rattle.race_hub.specs.Table.{offers_of, done_by, IsRow}
-use Rattle.race_hub.specs.Choices.{choice, op_of, meet_op, lone_event, meet_event, event_of, is_legal_next, is_possible, below, with_partner, of_way, tuples}
+use Rattle.race_hub.specs.Offers.{chan_of, case_of}
+use Rattle.race_hub.specs.Table.{offers_of, done_by, IsOffered, IsOfferedFault, IsRow}
+use Rattle.race_hub.specs.Choices.{choice, lone_op, offer_at, op_of, meet_op, lone_event, meet_event, event_of, is_legal_next, is_choice}
+use Rattle.race_hub.specs.Choices.{ways, below, with_partner, of_way, tuples}
 use Rattle.race_hub.specs.Choices.{ways_at, tuples_of, choices}
 use Rattle.race_hub.specs.Fires.{IsPartnerRow}
 use Rattle.race_hub.specs.Firing.{HasSomeRows}
@@ -82,26 +84,59 @@ ways_of_tuples n ways =
           (λ r _. each_map (λ t. t.offer < ways t.place) (λ q. choice w k (r + 1) (q + 1)) (below (ways r)) (λ _. less)),
     )))
 
-one_way : (waiting : List Waiter) (i k : ℕ) → k < ways_at waiting i → k ≡ 0
-one_way waiting i k less = by (slice_get waiting i) less
-  where
-    by : (w : Option Waiter) → k < elim w [ Some w ↦ 1 | None ↦ 0 ] → k ≡ 0
-    by None less = absurd (omega (arith, less))
-    by (Some w) less = omega (arith, less)
-
 -- some answer stands in the row
 record HasTold (ask : Ask) (k g : ℕ) (op : Op) : Type 0 where
   told : Option Answer
   row : IsRow ask k (done_by g op) told
 
-module _ (past : List Event) (g k : ℕ) (first : k ≡ 0) where
-  sent_told : (c v : ℕ) (closed : Bool) → HasTold (Ask.Send (Some c) v) k g (cond closed (Fault (SendClosed c)) (Send c v))
-  sent_told c v true = record { told = None; row = (first, inr ((c, refl, refl), refl)) }
-  sent_told c v false = record { told = Some Answer.Unit; row = (first, inl (None, (c, refl, refl, refl), refl)) }
+-- so it does of an offer that is asked alone, and of a select by that offer
+record HasOffered (o : Offer) (op : Op) : Type 0 where
+  row : ((got : Option ℕ) × IsOffered o op got) ⊎ IsOfferedFault o op
 
-  received_told : (c : ℕ) (waits : Option ℕ) → HasTold (Ask.Recv (Some c)) k g (elim waits [ Some v ↦ Recv c v | None ↦ RecvClosed c ])
-  received_told c (Some v) = record { told = Some (Answer.Value v); row = (first, Some v, (c, refl, inl (v, refl, refl)), refl) }
-  received_told c None = record { told = Some Answer.Closed; row = (first, None, (c, refl, inr (refl, refl)), refl) }
+chosen_told : (offers : List Offer) (has_default : Bool) (k g : ℕ) (o : Offer) (op : Op) → slice_get offers k ≡ Some o → HasOffered o (done_by g op)
+    → HasTold (Ask.Select offers has_default) k g op
+chosen_told offers has_default k g o op there has = elim has.row [
+  | inl (got, offered) ↦ record { told = Some (Answer.Chosen k got); row = inl (o, there, inl (got, offered, refl)) }
+  | inr fault ↦ record { told = None; row = inl (o, there, inr (fault, refl)) }
+]
+
+offered_alone : (past : List Event) (g : ℕ) (o : Offer) (op : Op) → lone_op past o ≡ Some op → HasOffered o (done_by g op)
+offered_alone past g (Offer.Send None v) op is = absurd (none-some op is)
+offered_alone past g (Offer.Send (Some c) v) op is = subst (λ op. HasOffered (Offer.Send (Some c) v) (done_by g op)) (some_is is) (by (is_closed c past))
+  where
+    by : (closed : Bool) → HasOffered (Offer.Send (Some c) v) (done_by g (cond closed (Fault (SendClosed c)) (Send c v)))
+    by true = record { row = inr (c, refl, refl) }
+    by false = record { row = inl (None, (c, refl, refl, refl)) }
+offered_alone past g (Offer.Recv None) op is = absurd (none-some op is)
+offered_alone past g (Offer.Recv (Some c)) op is = subst (λ op. HasOffered (Offer.Recv (Some c)) (done_by g op)) (some_is is) (by (front c past))
+  where
+    by : (waits : Option ℕ) → HasOffered (Offer.Recv (Some c)) (done_by g (elim waits [ Some v ↦ Recv c v | None ↦ RecvClosed c ]))
+    by (Some v) = record { row = inl (Some v, (c, refl, inl (v, refl, refl))) }
+    by None = record { row = inl (None, (c, refl, inr (refl, refl))) }
+
+-- a select by its offer k, or by its default where it has one
+select_told : (past : List Event) (g k : ℕ) (offers : List Offer) (has_default behind : Bool) (op : Op) → (k == length offers) ≡ behind
+    → k < length offers + cond has_default 1 0
+    → cond behind (Some (Default (map case_of offers))) (offer_at offers k (lone_op past)) ≡ Some op → HasTold (Ask.Select offers has_default) k g op
+select_told past g k offers true true op test less is =
+    subst (HasTold (Ask.Select offers true) k g) (some_is is) (record { told = Some Answer.DefaultTaken; row = inr (refl, refl, refl) })
+select_told past g k offers false true op test less is =
+    let same = eqb-true k (length offers) test in absurd (omega (arith, same, less))
+select_told past g k offers has_default false op test less is = by (slice_get offers k) refl is
+  where
+    by : (o : Option Offer) → slice_get offers k ≡ o → elim o [ Some o ↦ lone_op past o | None ↦ None ] ≡ Some op
+        → HasTold (Ask.Select offers has_default) k g op
+    by None there is = absurd (none-some op is)
+    by (Some o) there is = chosen_told offers has_default k g o op there (offered_alone past g o op is)
+
+module _ (past : List Event) (g k : ℕ) where
+  sent_told : (c v : ℕ) (closed : Bool) → k ≡ 0 → HasTold (Ask.Send (Some c) v) k g (cond closed (Fault (SendClosed c)) (Send c v))
+  sent_told c v true first = record { told = None; row = (first, inr ((c, refl, refl), refl)) }
+  sent_told c v false first = record { told = Some Answer.Unit; row = (first, inl (None, (c, refl, refl, refl), refl)) }
+
+  received_told : (c : ℕ) (waits : Option ℕ) → k ≡ 0 → HasTold (Ask.Recv (Some c)) k g (elim waits [ Some v ↦ Recv c v | None ↦ RecvClosed c ])
+  received_told c (Some v) first = record { told = Some (Answer.Value v); row = (first, Some v, (c, refl, inl (v, refl, refl)), refl) }
+  received_told c None first = record { told = Some Answer.Closed; row = (first, None, (c, refl, inr (refl, refl)), refl) }
 
   closed_told : (c : ℕ) (closed : Bool) → HasTold (Ask.Close (Some c)) k g (cond closed (Fault (CloseClosed c)) (Close c))
   closed_told c true = record { told = None; row = inl (c, refl, inr (refl, refl)) }
@@ -120,24 +155,25 @@ module _ (past : List Event) (g k : ℕ) (first : k ≡ 0) where
   did_told o false = record { told = Some Answer.Run; row = inl (refl, refl) }
 
   -- what a request does alone has a row
-  lone_told : (ask : Ask) (op : Op) → op_of past ask k ≡ Some op → HasTold ask k g op
-  lone_told (Ask.Go h) op is = subst (HasTold (Ask.Go h) k g) (some_is is) (record { told = Some Answer.Unit; row = (refl, refl) })
-  lone_told Ask.Exit op is = subst (HasTold Ask.Exit k g) (some_is is) (record { told = None; row = (refl, refl) })
-  lone_told (Ask.Read x) op is =
+  lone_told : (ask : Ask) (op : Op) → k < ways ask → op_of past ask k ≡ Some op → HasTold ask k g op
+  lone_told (Ask.Go h) op less is = subst (HasTold (Ask.Go h) k g) (some_is is) (record { told = Some Answer.Unit; row = (refl, refl) })
+  lone_told Ask.Exit op less is = subst (HasTold Ask.Exit k g) (some_is is) (record { told = None; row = (refl, refl) })
+  lone_told (Ask.Read x) op less is =
       subst (HasTold (Ask.Read x) k g) (some_is is) (record { told = Some (Answer.Value (last_value x past)); row = (last_value x past, refl, refl) })
-  lone_told (Ask.Write x v) op is = subst (HasTold (Ask.Write x v) k g) (some_is is) (record { told = Some Answer.Unit; row = (refl, refl) })
-  lone_told (Ask.Send None v) op is = absurd (none-some op is)
-  lone_told (Ask.Send (Some c) v) op is = subst (HasTold (Ask.Send (Some c) v) k g) (some_is is) (sent_told c v (is_closed c past))
-  lone_told (Ask.Recv None) op is = absurd (none-some op is)
-  lone_told (Ask.Recv (Some c)) op is = subst (HasTold (Ask.Recv (Some c)) k g) (some_is is) (received_told c (front c past))
-  lone_told (Ask.Close None) op is = subst (HasTold (Ask.Close None) k g) (some_is is) (record { told = None; row = inr (refl, refl, refl) })
-  lone_told (Ask.Close (Some c)) op is = subst (HasTold (Ask.Close (Some c)) k g) (some_is is) (closed_told c (is_closed c past))
-  lone_told (Ask.Lock l) op is = subst (HasTold (Ask.Lock l) k g) (some_is is) (record { told = Some Answer.Unit; row = (refl, refl) })
-  lone_told (Ask.RLock l) op is = subst (HasTold (Ask.RLock l) k g) (some_is is) (record { told = Some Answer.Unit; row = (refl, refl) })
-  lone_told (Ask.Unlock l) op is = subst (HasTold (Ask.Unlock l) k g) (some_is is) (unlocked_told l (is_held l past))
-  lone_told (Ask.RUnlock l) op is = subst (HasTold (Ask.RUnlock l) k g) (some_is is) (runlocked_told l (is_read_held l past))
-  lone_told (Ask.Do o) op is = subst (HasTold (Ask.Do o) k g) (some_is is) (did_told o (is_begun o past))
-  lone_told (Ask.EndDo o) op is = subst (HasTold (Ask.EndDo o) k g) (some_is is) (record { told = Some Answer.Unit; row = (refl, refl) })
+  lone_told (Ask.Write x v) op less is = subst (HasTold (Ask.Write x v) k g) (some_is is) (record { told = Some Answer.Unit; row = (refl, refl) })
+  lone_told (Ask.Send None v) op less is = absurd (none-some op is)
+  lone_told (Ask.Send (Some c) v) op less is = subst (HasTold (Ask.Send (Some c) v) k g) (some_is is) (sent_told c v (is_closed c past) (omega (arith, less)))
+  lone_told (Ask.Recv None) op less is = absurd (none-some op is)
+  lone_told (Ask.Recv (Some c)) op less is = subst (HasTold (Ask.Recv (Some c)) k g) (some_is is) (received_told c (front c past) (omega (arith, less)))
+  lone_told (Ask.Close None) op less is = subst (HasTold (Ask.Close None) k g) (some_is is) (record { told = None; row = inr (refl, refl, refl) })
+  lone_told (Ask.Close (Some c)) op less is = subst (HasTold (Ask.Close (Some c)) k g) (some_is is) (closed_told c (is_closed c past))
+  lone_told (Ask.Select offers has_default) op less is = select_told past g k offers has_default (k == length offers) op refl less is
+  lone_told (Ask.Lock l) op less is = subst (HasTold (Ask.Lock l) k g) (some_is is) (record { told = Some Answer.Unit; row = (refl, refl) })
+  lone_told (Ask.RLock l) op less is = subst (HasTold (Ask.RLock l) k g) (some_is is) (record { told = Some Answer.Unit; row = (refl, refl) })
+  lone_told (Ask.Unlock l) op less is = subst (HasTold (Ask.Unlock l) k g) (some_is is) (unlocked_told l (is_held l past))
+  lone_told (Ask.RUnlock l) op less is = subst (HasTold (Ask.RUnlock l) k g) (some_is is) (runlocked_told l (is_read_held l past))
+  lone_told (Ask.Do o) op less is = subst (HasTold (Ask.Do o) k g) (some_is is) (did_told o (is_begun o past))
+  lone_told (Ask.EndDo o) op less is = subst (HasTold (Ask.EndDo o) k g) (some_is is) (record { told = Some Answer.Unit; row = (refl, refl) })
 
 -- the operation of two offers, where there are both
 abbrev pub meets_by : ℕ → Option Offer → Option Offer → Option Op
@@ -168,60 +204,51 @@ is_meet r (Some (Offer.Send (Some c) v)) (Some (Offer.Recv None)) op is = absurd
 is_meet r (Some (Offer.Recv c)) None op is = absurd (none-some op is)
 is_meet r (Some (Offer.Recv c)) (Some b) op is = absurd (none-some op is)
 
--- who offers to send asks to, by its first way
-pub is_sender : (ask : Ask) (k c v : ℕ) → slice_get (offers_of ask) k ≡ Some (Offer.Send (Some c) v) → (k ≡ 0) × (ask ≡ Ask.Send (Some c) v)
-is_sender (Ask.Send d u) zero c v is = (refl, ap (λ (o : Offer). elim o [ Offer.Send e w ↦ Ask.Send e w | Offer.Recv e ↦ Ask.Exit ]) (some_is is))
-is_sender (Ask.Recv d) zero c v is = absurd cc
-is_sender (Ask.Send d u) (suc k) c v is = absurd (none-some _ is)
-is_sender (Ask.Recv d) (suc k) c v is = absurd (none-some _ is)
-is_sender (Ask.Go h) k c v is = absurd (none-some _ is)
-is_sender Ask.Exit k c v is = absurd (none-some _ is)
-is_sender (Ask.Read x) k c v is = absurd (none-some _ is)
-is_sender (Ask.Write x w) k c v is = absurd (none-some _ is)
-is_sender (Ask.Close d) k c v is = absurd (none-some _ is)
-is_sender (Ask.Lock l) k c v is = absurd (none-some _ is)
-is_sender (Ask.Unlock l) k c v is = absurd (none-some _ is)
-is_sender (Ask.RLock l) k c v is = absurd (none-some _ is)
-is_sender (Ask.RUnlock l) k c v is = absurd (none-some _ is)
-is_sender (Ask.Do o) k c v is = absurd (none-some _ is)
-is_sender (Ask.EndDo o) k c v is = absurd (none-some _ is)
+-- who offers to send is told by its row that it did
+record HasAnswer (ask : Ask) (k : ℕ) (op : Op) : Type 0 where
+  answer : Answer
+  row : IsRow ask k op (Some answer)
 
--- so does who offers to receive
-is_receiver : (ask : Ask) (k c : ℕ) → slice_get (offers_of ask) k ≡ Some (Offer.Recv (Some c)) → (k ≡ 0) × (ask ≡ Ask.Recv (Some c))
-is_receiver (Ask.Recv d) zero c is = (refl, ap (λ (o : Offer). elim o [ Offer.Recv e ↦ Ask.Recv e | Offer.Send e w ↦ Ask.Exit ]) (some_is is))
-is_receiver (Ask.Send d u) zero c is = absurd cc
-is_receiver (Ask.Send d u) (suc k) c is = absurd (none-some _ is)
-is_receiver (Ask.Recv d) (suc k) c is = absurd (none-some _ is)
-is_receiver (Ask.Go h) k c is = absurd (none-some _ is)
-is_receiver Ask.Exit k c is = absurd (none-some _ is)
-is_receiver (Ask.Read x) k c is = absurd (none-some _ is)
-is_receiver (Ask.Write x w) k c is = absurd (none-some _ is)
-is_receiver (Ask.Close d) k c is = absurd (none-some _ is)
-is_receiver (Ask.Lock l) k c is = absurd (none-some _ is)
-is_receiver (Ask.Unlock l) k c is = absurd (none-some _ is)
-is_receiver (Ask.RLock l) k c is = absurd (none-some _ is)
-is_receiver (Ask.RUnlock l) k c is = absurd (none-some _ is)
-is_receiver (Ask.Do o) k c is = absurd (none-some _ is)
-is_receiver (Ask.EndDo o) k c is = absurd (none-some _ is)
+sender_has : (ask : Ask) (k c v : ℕ) → slice_get (offers_of ask) k ≡ Some (Offer.Send (Some c) v) → HasAnswer ask k (Send c v)
+sender_has (Ask.Select offers has_default) k c v is =
+    record { answer = Answer.Chosen k None; row = inl (Offer.Send (Some c) v, is, inl (None, (c, refl, refl, refl), refl)) }
+sender_has (Ask.Send d u) zero c v is =
+    let same : (d ≡ Some c) × (u ≡ v) = (ap chan_of (some_is is), ap value_of (some_is is)) in
+    record { answer = Answer.Unit; row = (refl, inl (None, (c, same.0, ap (Send c) (sym same.1), refl), refl)) }
+  where
+    value_of : Offer → ℕ
+    value_of (Offer.Send c v) = v
+    value_of (Offer.Recv c) = 0
+sender_has (Ask.Recv d) zero c v is = absurd cc
+sender_has (Ask.Send d u) (suc k) c v is = absurd (none-some _ is)
+sender_has (Ask.Recv d) (suc k) c v is = absurd (none-some _ is)
+sender_has _ k c v is = absurd (none-some _ is)
+
+-- so is who offers to receive
+receiver_has : (ask : Ask) (k c v : ℕ) → slice_get (offers_of ask) k ≡ Some (Offer.Recv (Some c)) → HasAnswer ask k (Recv c v)
+receiver_has (Ask.Select offers has_default) k c v is =
+    record { answer = Answer.Chosen k (Some v); row = inl (Offer.Recv (Some c), is, inl (Some v, (c, refl, inl (v, refl, refl)), refl)) }
+receiver_has (Ask.Recv d) zero c v is =
+    record { answer = Answer.Value v; row = (refl, Some v, (c, ap chan_of (some_is is), inl (v, refl, refl)), refl) }
+receiver_has (Ask.Send d u) zero c v is = absurd cc
+receiver_has (Ask.Send d u) (suc k) c v is = absurd (none-some _ is)
+receiver_has (Ask.Recv d) (suc k) c v is = absurd (none-some _ is)
+receiver_has _ k c v is = absurd (none-some _ is)
 
 -- the row of a Meet that its sender has, and that of its receiver
 module _ (g r : ℕ) (apart : (r == g) ≡ false) (a b : Ask) (k q : ℕ) (op : Op)
     (is : IsMeet r (slice_get (offers_of a) k) (slice_get (offers_of b) q) op) where
-  sender_told : IsRow a k (done_by g op) (Some Answer.Unit)
+  sender_told : HasAnswer a k (done_by g op)
   sender_told =
-      let ask = is_sender a k is.chan is.value is.sends in
-      let done : done_by g op ≡ Send is.chan is.value =
-      ap (done_by g) is.op_is ∙ ap (λ t. cond t (Recv is.chan is.value) (Send is.chan is.value)) apart in
-      subst (λ x. IsRow x k (done_by g op) (Some Answer.Unit)) (sym ask.1)
-      (ask.0, inl (None, (is.chan, refl, done, refl), refl))
+      let done : Send is.chan is.value ≡ done_by g op =
+      sym (ap (done_by g) is.op_is ∙ ap (λ t. cond t (Recv is.chan is.value) (Send is.chan is.value)) apart) in
+      subst (HasAnswer a k) done (sender_has a k is.chan is.value is.sends)
 
-  receiver_told : IsRow b q (done_by r op) (Some (Answer.Value is.value))
+  receiver_told : HasAnswer b q (done_by r op)
   receiver_told =
-      let ask = is_receiver b q is.chan is.receives in
-      let done : done_by r op ≡ Recv is.chan is.value =
-      ap (done_by r) is.op_is ∙ ap (λ t. cond t (Recv is.chan is.value) (Send is.chan is.value)) (eq-eqb r r refl) in
-      subst (λ x. IsRow x q (done_by r op) (Some (Answer.Value is.value))) (sym ask.1)
-      (ask.0, Some is.value, (is.chan, refl, inl (is.value, done, refl)), refl)
+      let done : Recv is.chan is.value ≡ done_by r op =
+      sym (ap (done_by r) is.op_is ∙ ap (λ t. cond t (Recv is.chan is.value) (Send is.chan is.value)) (eq-eqb r r refl)) in
+      subst (HasAnswer b q) done (receiver_has b q is.chan is.value is.receives)
 
 -- who makes an event, and by which operation
 made_by : (w : Waiter) (place2 : Option ℕ) (o : Option Op) (e : Event)
@@ -236,13 +263,13 @@ apart_by caps past e r c v legal is =
     rules_kept (rules caps past (record { who = e.who; op = Meet r c v; place = e.place; place2 = e.place2 })) 2 (4, r == e.who)
     (ap (λ op. broken caps past (record { who = e.who; op = op; place = e.place; place2 = e.place2 })) (sym is) ∙ legal) refl
 
-module _ (caps : ℕ → ℕ) (past : List Event) (ws : List Waiter) (t : Choice) (e : Event) (legal : broken caps past e ≡ None) (first : t.offer ≡ 0) where
-  with_rows : (w : Waiter) (r : Option Waiter) (alone : Bool) → slice_get ws t.place ≡ Some w → slice_get ws (t.partner - 1) ≡ r → (t.partner == 0) ≡ alone
+module _ (caps : ℕ → ℕ) (past : List Event) (ws : List Waiter) (t : Choice) (e : Event) (legal : broken caps past e ≡ None) where
+  with_rows : (w : Waiter) (r : Option Waiter) (alone : Bool) → t.offer < ways w.asked.ask → slice_get ws t.place ≡ Some w → slice_get ws (t.partner - 1) ≡ r → (t.partner == 0) ≡ alone
       → cond alone (lone_event past w t.offer) (elim r [ None ↦ None | Some r ↦ meet_event w t.offer r (t.partner_offer - 1) ]) ≡ Some e
       → HasSomeRows ws t e
-  with_rows w r true at other alone made =
+  with_rows w r true less at other alone made =
       let by = made_by w None (op_of past w.asked.ask t.offer) e made in
-      let row = lone_told past w.who t.offer first w.asked.ask e.op by.0 in
+      let row = lone_told past w.who t.offer w.asked.ask e.op less by.0 in
       let none = eqb-true t.partner 0 alone in
       record {
         told = row.told;
@@ -257,8 +284,8 @@ module _ (caps : ℕ → ℕ) (past : List Event) (ws : List Waiter) (t : Choice
           apart = λ q. omega (arith, none, q);
         };
       }
-  with_rows w None false at other alone made = absurd (none-some e made)
-  with_rows w (Some r) false at other alone made =
+  with_rows w None false less at other alone made = absurd (none-some e made)
+  with_rows w (Some r) false less at other alone made =
       let x = slice_get (offers_of w.asked.ask) t.offer in
       let y = slice_get (offers_of r.asked.ask) (t.partner_offer - 1) in
       let by = made_by w (Some r.asked.place) (meets_by r.who x y) e made in
@@ -266,17 +293,19 @@ module _ (caps : ℕ → ℕ) (past : List Event) (ws : List Waiter) (t : Choice
       let unlike : (r.who == w.who) ≡ false =
       subst (λ g. (r.who == g) ≡ false) by.1 (apart_by caps past e r.who met.chan met.value legal met.op_is) in
       let within = slice_get_within ws (t.partner - 1) r other in
+      let sends = sender_told w.who r.who unlike w.asked.ask r.asked.ask t.offer (t.partner_offer - 1) e.op met in
+      let receives = receiver_told w.who r.who unlike w.asked.ask r.asked.ask t.offer (t.partner_offer - 1) e.op met in
       record {
-        told = Some Answer.Unit;
-        partner_told = Some (Answer.Value met.value);
+        told = Some sends.answer;
+        partner_told = Some receives.answer;
         rows = record {
           w = w;
           asks = at;
-          row = sender_told w.who r.who unlike w.asked.ask r.asked.ask t.offer (t.partner_offer - 1) e.op met;
+          row = sends.row;
           partner_row = subst (λ b. IsPartnerRow (cond b None (slice_get ws (t.partner - 1))) (t.partner_offer - 1) e.op
-              (Some (Answer.Value met.value))) (sym alone)
-              (subst (λ o. IsPartnerRow o (t.partner_offer - 1) e.op (Some (Answer.Value met.value))) (sym other)
-              ((Answer.Value met.value, refl), receiver_told w.who r.who unlike w.asked.ask r.asked.ask t.offer (t.partner_offer - 1) e.op met));
+              (Some receives.answer)) (sym alone)
+              (subst (λ o. IsPartnerRow o (t.partner_offer - 1) e.op (Some receives.answer)) (sym other)
+              ((receives.answer, refl), receives.row));
           place = slice_get_within ws t.place w at;
           partner = omega (arith, within);
           apart = λ q. same_place w r at (other_at w r at other q) unlike;
@@ -293,7 +322,7 @@ module _ (caps : ℕ → ℕ) (past : List Event) (ws : List Waiter) (t : Choice
           let is : (r.who == w.who) ≡ true = eq-eqb r.who w.who (ap (λ (v : Waiter). v.who) same) in
           true≢false (sym is ∙ unlike)
 
-  by_place : (w : Option Waiter) → slice_get ws t.place ≡ w
+  by_place : (w : Option Waiter) → slice_get ws t.place ≡ w → t.offer < elim w [ Some w ↦ ways w.asked.ask | None ↦ 0 ]
       → elim w [
         | None ↦ None
         | Some w ↦ cond (t.partner == 0) (lone_event past w t.offer) (elim (slice_get ws (t.partner - 1)) [
@@ -301,24 +330,24 @@ module _ (caps : ℕ → ℕ) (past : List Event) (ws : List Waiter) (t : Choice
           | Some r ↦ meet_event w t.offer r (t.partner_offer - 1)
         ])
       ] ≡ Some e → HasSomeRows ws t e
-  by_place None at made = absurd (none-some e made)
-  by_place (Some w) at made = with_rows w (slice_get ws (t.partner - 1)) (t.partner == 0) at refl refl made
+  by_place None at less made = absurd (none-some e made)
+  by_place (Some w) at less made = with_rows w (slice_get ws (t.partner - 1)) (t.partner == 0) less at refl refl made
 
   -- who takes part in a legal event that a choice makes has its row
-  pub rows_of : event_of past ws t ≡ Some e → HasSomeRows ws t e
-  rows_of made = by_place (slice_get ws t.place) refl made
+  pub rows_of : t.offer < ways_at ws t.place → event_of past ws t ≡ Some e → HasSomeRows ws t e
+  rows_of less made = by_place (slice_get ws t.place) refl less made
 
 -- a possible tuple makes an event, which is legal
 pub record IsPossible (caps : ℕ → ℕ) (past : List Event) (ws : List Waiter) (t : Choice) : Type 0 where
   pub e : Event
   pub makes : event_of past ws t ≡ Some e
   pub legal : broken caps past e ≡ None
-  pub first : t.offer ≡ 0
+  pub way : t.offer < ways_at ws t.place
 
 possible_by : (caps : ℕ → ℕ) (past : List Event) (ws : List Waiter) (t : Choice) (made : Option Event) → event_of past ws t ≡ made
-    → is_legal_next caps past made ≡ true → t.offer ≡ 0 → IsPossible caps past ws t
-possible_by caps past ws t None is legal first = absurd cc
-possible_by caps past ws t (Some e) is legal first = record { e = e; makes = is; legal = none_is (broken caps past e) legal; first = first }
+    → is_legal_next caps past made ≡ true → t.offer < ways_at ws t.place → IsPossible caps past ws t
+possible_by caps past ws t None is legal way = absurd cc
+possible_by caps past ws t (Some e) is legal way = record { e = e; makes = is; legal = none_is (broken caps past e) legal; way = way }
   where
     none_is : (o : Option ℕ) → is_none o ≡ true → o ≡ None
     none_is None is = refl
@@ -329,9 +358,13 @@ pub listed_is_possible : (caps : ℕ → ℕ) (past : List Event) (ws : List Wai
     → IsPossible caps past ws t
 listed_is_possible caps past ws i t is =
     possible_by caps past ws t (event_of past ws t) refl
-    (all_at (λ t. is_possible caps past ws t ≡ true) (choices caps past ws) i t (filter_passes (is_possible caps past ws) (tuples_of ws)) is)
-    (one_way ws t.place t.offer (each_at (λ t. t.offer < ways_at ws t.place) (choices caps past ws) i t
-    (each_filter (λ t. t.offer < ways_at ws t.place) (is_possible caps past ws) (tuples_of ws) (ways_of_tuples (length ws) (ways_at ws))) is))
+    (first _ _ (all_at (λ t. is_choice caps past ws t ≡ true) (choices caps past ws) i t (filter_passes (is_choice caps past ws) (tuples_of ws)) is))
+    (each_at (λ t. t.offer < ways_at ws t.place) (choices caps past ws) i t
+    (each_filter (λ t. t.offer < ways_at ws t.place) (is_choice caps past ws) (tuples_of ws) (ways_of_tuples (length ws) (ways_at ws))) is)
+  where
+    first : (a b : Bool) → (a && b) ≡ true → a ≡ true
+    first true b is = refl
+    first false b is = absurd cc
 
 -- from an empty list alone nothing is picked
 pub none_picked : {X : Type 0} (xs : List X) (pick : ℕ) → None ≡ slice_get xs (pick % length xs) → xs ≡ []

@@ -108,6 +108,7 @@ turn_stays past ws vs g (Ask.Write x v) is = is
 turn_stays past ws vs g (Ask.Send c v) is = is
 turn_stays past ws vs g (Ask.Recv c) is = is
 turn_stays past ws vs g (Ask.Close c) is = is
+turn_stays past ws vs g (Ask.Select offers has_default) is = is
 turn_stays past ws vs g (Ask.Lock l) is = is
 turn_stays past ws vs g (Ask.Unlock l) is = is
 turn_stays past ws vs g (Ask.RLock l) is = is

@@ -102,7 +102,7 @@ module _ {R : Type 0} (h : HubState R) where
       let p = picked_is_possible pick t is in
       let same = made_event t e p makes in
       rows_of (capacity_of h.decls.declarations) h.events h.waiting t e
-      (subst (λ e. broken (capacity_of h.decls.declarations) h.events e ≡ None) same p.legal) p.first makes
+      (subst (λ e. broken (capacity_of h.decls.declarations) h.events e ≡ None) same p.legal) p.way makes
 
   pub picked_firing : (pick : ℕ) (f : Firing) → picked pick (choices_of h) ≡ Some f.choice → event_of h.events h.waiting f.choice ≡ Some f.event
       → HasRows h.waiting f.choice f.event f.told f.partner

@@ -1,11 +1,12 @@
 -- The event of sound requests fits the declarations.
 use Rattle.std.proofs.Common.{◌≡◌, ◌==◌, ℕ, ◌-◌, ◌&&◌, nat_lt, Bool, true, false, cond, List, length, All, IsTrue, Option, Some, None, refl, sym, ap, subst}
-use Rattle.std.proofs.Common.{slice_get}
+use Rattle.std.proofs.Common.{slice_get, map, IfSome}
+use Rattle.std.specs.List.{list_all}
 use Rattle.std.proofs.lemmas.Option.{none-some}
 use Rattle.race_records.specs.declared.event.Event.{Event}
 use Rattle.race_records.specs.declared.event.Op.{Op}
 use Rattle.race_records.specs.declared.event.Cause.TheVariants.{SendClosed, CloseClosed, UnlockFree, RUnlockFree}
-use Rattle.race_records.specs.declared.event.Op.TheVariants.{Send, Recv, Meet, RecvClosed, Close, Unlock, RUnlock}
+use Rattle.race_records.specs.declared.event.Op.TheVariants.{Send, Recv, Meet, RecvClosed, Close, Default, Unlock, RUnlock}
 use Rattle.race_records.specs.declared.event.Op.TheVariants.{OnceBegin, OnceDone, Fault}
 use Rattle.race_records.specs.declared.kind.Kind.{Kind}
 use Rattle.race_records.specs.Declarations.{DeclsState, counts_of}
@@ -14,13 +15,16 @@ use Rattle.race_records.specs.Events.{lock_fits, second_place_fits, fits}
 use Rattle.race_model.specs.State.{is_closed, front, is_held, is_read_held, is_begun}
 use Rattle.race_hub.specs.declared.choice.Choice.{Choice}
 use Rattle.race_hub.specs.declared.request.Ask.{Ask}
+use Rattle.race_hub.specs.declared.request.Offer.{Offer}
 use Rattle.race_hub.specs.declared.request.Waiter.{Waiter}
-use Rattle.race_hub.specs.Possible.{ask_is_in_range}
+use Rattle.race_hub.specs.Possible.{ask_is_in_range, offer_is_in_range}
 use Rattle.race_hub.specs.Waiting.{is_declared}
+use Rattle.race_hub.specs.Offers.{case_of}
 use Rattle.race_hub.specs.Table.{offers_of}
-use Rattle.race_hub.specs.Choices.{op_of, lone_event, meet_event, event_of}
+use Rattle.race_hub.specs.Choices.{lone_op, offer_at, op_of, lone_event, meet_event, event_of}
 use Rattle.race_hub.specs.Submits.{is_sound, lock_suits}
-use Rattle.race_hub.proofs.ChoiceLemmas.{some_is, all_at, meets_by, is_meet, is_sender}
+use Rattle.race_hub.proofs.ChoiceLemmas.{some_is, all_at, meets_by, is_meet}
+use Rattle.race_hub.proofs.OfferLemmas.{offers_in_range, offer_in_range, cases_in_range, sent_in_range}
 
 -- what a sound request says
 pub record IsSound (decls : DeclsState) (w : Waiter) : Type 0 where
@@ -60,6 +64,24 @@ module _ (decls : DeclsState) where
   by_front c (Some v) is = record { range = and_true _ is; lock = refl; one_place = refl }
   by_front c None is = record { range = and_true _ is; lock = refl; one_place = refl }
 
+  by_offer : (past : List Event) (o : Option Offer) (op : Op) → IfSome o (λ o. IsTrue (offer_is_in_range (counts_of decls.declarations Kind.Chan) o))
+      → elim o [ Some o ↦ lone_op past o | None ↦ None ] ≡ Some op → OpFits decls op
+  by_offer past None op is made = absurd (none-some op made)
+  by_offer past (Some (Offer.Send None v)) op is made = absurd (none-some op made)
+  by_offer past (Some (Offer.Send (Some c) v)) op is made =
+      subst (OpFits decls) (some_is made) (by_test (is_closed c past) (Fault (SendClosed c)) (Send c v)
+      (record { range = and_true _ is; lock = refl; one_place = refl }) (record { range = and_true _ is; lock = refl; one_place = refl }))
+  by_offer past (Some (Offer.Recv None)) op is made = absurd (none-some op made)
+  by_offer past (Some (Offer.Recv (Some c))) op is made = subst (OpFits decls) (some_is made) (by_front c (front c past) is)
+
+  by_select : (past : List Event) (offers : List Offer) (k : ℕ) (behind : Bool) (op : Op)
+      → list_all (offer_is_in_range (counts_of decls.declarations Kind.Chan)) offers ≡ true
+      → cond behind (Some (Default (map case_of offers))) (offer_at offers k (lone_op past)) ≡ Some op → OpFits decls op
+  by_select past offers k true op is made =
+      subst (OpFits decls) (some_is made)
+      (record { range = and_true _ (cases_in_range (counts_of decls.declarations Kind.Chan) offers is); lock = refl; one_place = refl })
+  by_select past offers k false op is made = by_offer past (slice_get offers k) op (offer_in_range (counts_of decls.declarations Kind.Chan) offers k is) made
+
   -- what a request in range does alone fits
   lone_fits : (past : List Event) (ask : Ask) (k : ℕ) (op : Op) → ask_is_in_range (counts_of decls.declarations) ask ≡ true → lock_suits decls ask ≡ true
       → op_of past ask k ≡ Some op → OpFits decls op
@@ -77,6 +99,8 @@ module _ (decls : DeclsState) where
   lone_fits past (Ask.Close (Some c)) k op is suits made =
       subst (OpFits decls) (some_is made) (by_test (is_closed c past) (Fault (CloseClosed c)) (Close c)
       (record { range = and_true _ is; lock = refl; one_place = refl }) (record { range = and_true _ is; lock = refl; one_place = refl }))
+  lone_fits past (Ask.Select offers has_default) k op is suits made =
+      by_select past offers k (k == length offers) op (offers_in_range (counts_of decls.declarations) offers has_default is) made
   lone_fits past (Ask.Lock l) k op is suits made = subst (OpFits decls) (some_is made) (record { range = and_true _ is; lock = refl; one_place = refl })
   lone_fits past (Ask.Unlock l) k op is suits made =
       subst (OpFits decls) (some_is made) (by_test (is_held l past) (Unlock l) (Fault (UnlockFree l))
@@ -125,9 +149,7 @@ module _ (decls : DeclsState) where
       let y = slice_get (offers_of r.asked.ask) q in
       made_fits w (Some r.asked.place) (meets_by r.who x y) e made (λ op did.
       let met = is_meet r.who x y op did in
-      let ask = is_sender w.asked.ask k met.chan met.value met.sends in
-      let chan : nat_lt met.chan (counts_of decls.declarations Kind.Chan) ≡ true =
-      subst (λ a. ask_is_in_range (counts_of decls.declarations) a ≡ true) ask.1 sound.range in
+      let chan = sent_in_range (counts_of decls.declarations) w.asked.ask k met.chan met.value sound.range met.sends in
       subst (λ op. IsTrue (fits decls (record { who = w.who; op = op; place = w.asked.place; place2 = Some r.asked.place }))) (sym met.op_is)
       (event_fits w.who w.asked.place (Some r.asked.place) (Meet r.who met.chan met.value) sound.who
       (two_hold _ _ other.who chan) sound.place other.place refl))

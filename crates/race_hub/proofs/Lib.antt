@@ -1,3 +1,4 @@
+pub mod OfferLemmas
 pub mod RowLemmas
 pub mod FoundLemmas
 pub mod PossibleLemmas
@@ -6,6 +7,7 @@ pub mod WaitingLemmas
 pub mod ReceiverLemmas
 pub mod EndLemmas
 pub mod ChoiceLemmas
+pub mod MoveLemmas
 pub mod FitLemmas
 pub mod FiringLemmas
 pub mod PerformLemmas

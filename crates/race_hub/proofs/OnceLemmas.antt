@@ -22,6 +22,7 @@ use Rattle.race_model.proofs.ChannelOrder.{rules_kept}
 use Rattle.race_hub.specs.declared.choice.Choice.{Choice}
 use Rattle.race_hub.specs.declared.request.Answer.{Answer}
 use Rattle.race_hub.specs.declared.request.Ask.{Ask}
+use Rattle.race_hub.specs.declared.request.Offer.{Offer}
 use Rattle.race_hub.specs.declared.request.Waiter.{Waiter}
 use Rattle.race_hub.specs.Choices.{op_of, meet_op, offer_at, lone_event, meet_event, event_of}
 use Rattle.race_hub.specs.Table.{IsRow, done_by, offers_of}
@@ -113,6 +114,12 @@ row_leaves (Ask.Recv c) k op told (z, got, (d, e, inr (o, n)), t) = by_row op _ 
 row_leaves (Ask.Close c) k op told (inl (d, e, inl (o, t))) = by_row op _ told _ o t refl
 row_leaves (Ask.Close c) k op told (inl (d, e, inr (o, t))) = by_row op _ told _ o t refl
 row_leaves (Ask.Close c) k op told (inr (n, o, t)) = by_row op _ told _ o t refl
+row_leaves (Ask.Select offers has_default) k op told (inl (Offer.Send c v, there, inl (got, (d, e, o, n), t))) = by_row op _ told _ o t refl
+row_leaves (Ask.Select offers has_default) k op told (inl (Offer.Send c v, there, inr ((d, e, o), t))) = by_row op _ told _ o t refl
+row_leaves (Ask.Select offers has_default) k op told (inl (Offer.Recv c, there, inl (got, (d, e, inl (v, o, n)), t))) = by_row op _ told _ o t refl
+row_leaves (Ask.Select offers has_default) k op told (inl (Offer.Recv c, there, inl (got, (d, e, inr (o, n)), t))) = by_row op _ told _ o t refl
+row_leaves (Ask.Select offers has_default) k op told (inl (Offer.Recv c, there, inr (never, t))) = absurd never
+row_leaves (Ask.Select offers has_default) k op told (inr (d, o, t)) = by_row op _ told _ o t refl
 row_leaves (Ask.Lock l) k op told (o, t) = by_row op _ told _ o t refl
 row_leaves (Ask.RLock l) k op told (o, t) = by_row op _ told _ o t refl
 row_leaves (Ask.Unlock l) k op told (inl (o, t)) = by_row op _ told _ o t refl

@@ -1,22 +1,26 @@
 -- For each row: its event breaks no rule just where the words of the run so far let it go on.
-use Rattle.std.proofs.Common.{◌≡◌, ℕ, ◌<◌, ◌≤◌, ◌==◌, ◌||◌, ◌&&◌, not, nat_lt, cond, Bool, true, false, List, [], ◌∷◌, length, filter_map, Option, Some, None}
+use Rattle.std.proofs.Common.{◌≡◌, ℕ, ◌<◌, ◌≤◌, ◌==◌, ◌||◌, ◌&&◌, not, nat_lt, cond, Bool, true, false, List, [], ◌∷◌, length, map, slice_get, filter_map, Option, Some, None}
 use Rattle.std.proofs.Common.{is_none, is_some, refl, sym, ap, ◌∙◌, arith}
+use Rattle.std.specs.List.{list_any}
 use Rattle.std.proofs.lemmas.Bool.Decides.{nat_tests, Decides-eqb}
+use Rattle.race_records.specs.declared.cases.Case.{Case}
 use Rattle.std.proofs.lemmas.Option.{slice_get_within}
 use Rattle.race_records.proofs.ListLemmas.{slice_get-within}
 use Rattle.race_records.specs.declared.event.Event.{Event}
 use Rattle.race_records.specs.declared.event.Cause.TheVariants.{SendClosed, CloseClosed, CloseNil, UnlockFree, RUnlockFree}
 use Rattle.race_records.specs.declared.event.Op.{Op}
-use Rattle.race_records.specs.declared.event.Op.TheVariants.{Go, Exit, Read, Lock, RLock, OnceEnd, Send, Recv, Meet, RecvClosed, Close, Unlock, RUnlock}
+use Rattle.race_records.specs.declared.event.Op.TheVariants.{Go, Exit, Read, Lock, RLock, OnceEnd, Send, Recv, Meet, RecvClosed, Close, Default, Unlock, RUnlock}
 use Rattle.race_records.specs.declared.event.Op.TheVariants.{OnceBegin, OnceDone, Fault}
 use Rattle.race_model.specs.Events.{gives, sends, receives, count}
 use Rattle.race_model.specs.State.{over, runs, is_closed, buffered, front, sent, is_held, is_read_held, is_begun, is_ended, innermost, started, last_value}
-use Rattle.race_model.specs.Legal.{least_broken, broken, op_rules}
+use Rattle.race_model.specs.Legal.{least_broken, broken, op_rules, is_ready}
 use Rattle.race_model.proofs.StateSteps.{sent_count}
 use Rattle.race_hub.specs.declared.request.Ask.{Ask}
+use Rattle.race_hub.specs.declared.request.Offer.{Offer}
 use Rattle.race_hub.specs.declared.request.Waiter.{Waiter}
-use Rattle.race_hub.specs.Choices.{is_legal_next, lone_event}
-use Rattle.race_hub.specs.Possible.{goes_on, meet_goes_on}
+use Rattle.race_hub.specs.Offers.{case_of}
+use Rattle.race_hub.specs.Choices.{is_legal_next, lone_event, lone_op, offer_at}
+use Rattle.race_hub.specs.Possible.{goes_on, offer_goes_on, meet_goes_on}
 
 -- no rule of the list is broken
 abbrev clean : List (ℕ × Bool) → Bool
@@ -146,14 +150,37 @@ module _ (caps : ℕ → ℕ) (past : List Event) (g place : ℕ) where
   do_row o true is = head (over past) (runs g past) _ (op_rules caps past g (OnceDone o)) (one 19 (not (is_ended o past)) ∙ twice (is_ended o past))
   do_row o false is = head (over past) (runs g past) true (op_rules caps past g (OnceBegin o)) (one 17 (is_begun o past) ∙ ap not is)
 
+  -- the event of what g does, if it does anything
+  abbrev made : Option Op → Option Event
+  made op = elim op [ None ↦ None | Some op ↦ Some (record { who = g; op = op; place = place; place2 = None }) ]
+
   -- an offer on nil makes no event
   nothing : (o r : Bool) → false ≡ (not o && (r && false))
   nothing true r = refl
   nothing false true = refl
   nothing false false = refl
 
+  -- so does a number behind the last offer
+  offer_row : (o : Option Offer) → is_legal_next caps past (made (elim o [ Some o ↦ lone_op past o | None ↦ None ]))
+      ≡ and_acts (offer_goes_on caps past o)
+  offer_row None = nothing (over past) (runs g past)
+  offer_row (Some (Offer.Send None v)) = nothing (over past) (runs g past)
+  offer_row (Some (Offer.Send (Some c) v)) = send_row c v (is_closed c past) refl
+  offer_row (Some (Offer.Recv None)) = nothing (over past) (runs g past)
+  offer_row (Some (Offer.Recv (Some c))) = recv_row c (front c past) refl
+
+  -- a default breaks no rule where no case is ready
+  default_row : (cases : List Case) → fits (Default cases) ≡ and_acts (not (list_any (is_ready caps past) cases))
+  default_row cases = head (over past) (runs g past) _ (op_rules caps past g (Default cases)) (one 22 (list_any (is_ready caps past) cases))
+
+  select_row : (offers : List Offer) (k : ℕ) (behind : Bool)
+      → is_legal_next caps past (made (cond behind (Some (Default (map case_of offers))) (offer_at offers k (lone_op past))))
+      ≡ and_acts (cond behind (not (list_any (is_ready caps past) (map case_of offers))) (offer_goes_on caps past (slice_get offers k)))
+  select_row offers k true = default_row (map case_of offers)
+  select_row offers k false = offer_row (slice_get offers k)
+
   row_goes_on : (ask : Ask) (k : ℕ)
-      → is_legal_next caps past (lone_event past (record { who = g; asked = record { ask = ask; place = place } }) k) ≡ and_acts (goes_on caps past g ask)
+      → is_legal_next caps past (lone_event past (record { who = g; asked = record { ask = ask; place = place } }) k) ≡ and_acts (goes_on caps past g ask k)
   row_goes_on (Ask.Go h) k =
       head (over past) (runs g past) _ (op_rules caps past g (Go h))
       (one 3 (h == 0 || started h past) ∙ neither_is (h == 0) (started h past))
@@ -169,6 +196,7 @@ module _ (caps : ℕ → ℕ) (past : List Event) (g place : ℕ) where
   row_goes_on (Ask.Recv (Some c)) k = recv_row c (front c past) refl
   row_goes_on (Ask.Close None) k = head (over past) (runs g past) true (op_rules caps past g (Fault CloseNil)) (one 23 false)
   row_goes_on (Ask.Close (Some c)) k = close_row c (is_closed c past) refl
+  row_goes_on (Ask.Select offers has_default) k = select_row offers k (k == length offers)
   row_goes_on (Ask.Lock l) k = head (over past) (runs g past) _ (op_rules caps past g (Lock l)) (two 13 14 (is_held l past) (is_read_held l past))
   row_goes_on (Ask.RLock l) k = head (over past) (runs g past) _ (op_rules caps past g (RLock l)) (one 13 (is_held l past))
   row_goes_on (Ask.Unlock l) k = unlock_row l (is_held l past) refl
@@ -179,7 +207,7 @@ module _ (caps : ℕ → ℕ) (past : List Event) (g place : ℕ) where
 
 -- each request goes on alone just where the words of the run so far say so
 pub each_row : (caps : ℕ → ℕ) (past : List Event) (w : Waiter) (k : ℕ)
-    → is_legal_next caps past (lone_event past w k) ≡ (not (over past) && (runs w.who past && goes_on caps past w.who w.asked.ask))
+    → is_legal_next caps past (lone_event past w k) ≡ (not (over past) && (runs w.who past && goes_on caps past w.who w.asked.ask k))
 each_row caps past w k = row_goes_on caps past w.who w.asked.place w.asked.ask k
 
 -- so does a sender with a receiver of the same channel

@@ -1,14 +1,20 @@
 -- The tests of Told give an answer exactly where a row of the table holds.
-use Rattle.std.proofs.Common.{◌≡◌, ℕ, ◌==◌, ◌↔◌, ◌&&◌, if◌then◌else◌, Bool, true, false, Option, Some, None, inl, inr, refl, sym, ap, ◌∙◌}
+use Rattle.std.proofs.Common.{◌≡◌, ℕ, ◌==◌, ◌↔◌, ◌&&◌, ◌⊎◌, ◌≤◌, if◌then◌else◌, Bool, true, false, List, length, map, slice_get, Option, Some, None, option_map, inl, inr, refl, sym, ap, ◌∙◌}
+use Rattle.std.proofs.Common.{arith}
+use Rattle.std.proofs.lemmas.Option.{slice_get_within}
+use Rattle.race_records.specs.Cases.{same_cases, same_cases-Decides}
+use Rattle.race_records.specs.declared.cases.Case.{Case}
 use Rattle.std.proofs.lemmas.Bool.Decides.{Decides-eqb}
 use Rattle.race_records.specs.declared.event.Cause.TheVariants.{SendClosed, CloseClosed, CloseNil, UnlockFree, RUnlockFree}
 use Rattle.race_records.specs.declared.event.Op.{Op}
-use Rattle.race_records.specs.declared.event.Op.TheVariants.{Go, Exit, Read, Write, Send, Recv, RecvClosed, Close, Lock, Unlock, RLock, RUnlock, OnceBegin}
+use Rattle.race_records.specs.declared.event.Op.TheVariants.{Go, Exit, Read, Write, Send, Recv, RecvClosed, Close, Default, Lock, Unlock, RLock, RUnlock, OnceBegin}
 use Rattle.race_records.specs.declared.event.Op.TheVariants.{OnceEnd, OnceDone, Fault}
 use Rattle.race_hub.specs.declared.request.Answer.{Answer}
 use Rattle.race_hub.specs.declared.request.Ask.{Ask}
-use Rattle.race_hub.specs.Table.{IsRow}
-use Rattle.race_hub.specs.Told.{told_if, told_sender, told_receiver, told_closer, told_by, is_way, told_at}
+use Rattle.race_hub.specs.declared.request.Offer.{Offer}
+use Rattle.race_hub.specs.Offers.{case_of}
+use Rattle.race_hub.specs.Table.{offers_of, plain_answer, IsOffered, IsOfferedFault, IsChosen, IsDefault, IsRow}
+use Rattle.race_hub.specs.Told.{told_if, told_sender, told_receiver, told_closer, told_by, chosen, told_plain, told_offer, told_selector, is_way, told_at}
 
 -- where the number is the one that is wanted
 told_same : (n : ℕ) (a : Option Answer) → told_if (n == n) a ≡ Some a
@@ -57,7 +63,7 @@ closer_row None (Fault CloseNil) told e = inr (refl, refl, cc)
 closer_row _ _ told e = absurd cc
 
 -- where the tests give an answer, it is that of a row
-pub row_of_told : (ask : Ask) (op : Op) (told : Option Answer) → told_by ask op ≡ Some told → IsRow ask 0 op told
+row_of_told : (ask : Ask) (op : Op) (told : Option Answer) → told_by ask op ≡ Some told → IsRow ask 0 op told
 row_of_told (Ask.Go h) (Go g) told e = let p = wanted g h (Some Answer.Unit) told e in (ap Go p.0, p.1)
 row_of_told Ask.Exit Exit told e = (refl, cc)
 row_of_told (Ask.Read x) (Read y v) told e = let p = wanted y x (Some (Answer.Value v)) told e in (v, ap (λ z. Read z v) p.0, p.1)
@@ -77,43 +83,50 @@ row_of_told (Ask.Do o) (OnceDone p) told e = let q = wanted p o (Some Answer.Alr
 row_of_told (Ask.EndDo o) (OnceEnd p) told e = let q = wanted p o (Some Answer.Unit) told e in (ap OnceEnd q.0, q.1)
 row_of_told _ _ told e = absurd cc
 
+-- it doesn't ask to select
+abbrev IsPlain : Ask → Type 0
+IsPlain (Ask.Select offers has_default) = ⊥
+IsPlain _ = Unit {0}
+
 -- where a row holds, the tests give its answer
-pub told_of_row : (ask : Ask) (k : ℕ) (op : Op) (told : Option Answer) → IsRow ask k op told → told_by ask op ≡ Some told
-told_of_row (Ask.Go h) k op told (o, t) = ap (told_by (Ask.Go h)) o ∙ told_same h (Some Answer.Unit) ∙ ap Some (sym t)
-told_of_row Ask.Exit k op told (o, t) = ap (told_by Ask.Exit) o ∙ ap Some (sym t)
-told_of_row (Ask.Read x) k op told (v, o, t) = ap (told_by (Ask.Read x)) o ∙ told_same x (Some (Answer.Value v)) ∙ ap Some (sym t)
-told_of_row (Ask.Write x v) k op told (o, t) = ap (told_by (Ask.Write x v)) o ∙ told_same_two x v (Some Answer.Unit) ∙ ap Some (sym t)
-told_of_row (Ask.Send c v) k op told (z, inl (got, (d, e, o, n), t)) =
+told_of_row : (ask : Ask) (k : ℕ) (op : Op) (told : Option Answer) → IsPlain ask → IsRow ask k op told → told_by ask op ≡ Some told
+told_of_row (Ask.Select offers has_default) k op told plain row = absurd plain
+told_of_row (Ask.Go h) k op told plain (o, t) = ap (told_by (Ask.Go h)) o ∙ told_same h (Some Answer.Unit) ∙ ap Some (sym t)
+told_of_row Ask.Exit k op told plain (o, t) = ap (told_by Ask.Exit) o ∙ ap Some (sym t)
+told_of_row (Ask.Read x) k op told plain (v, o, t) = ap (told_by (Ask.Read x)) o ∙ told_same x (Some (Answer.Value v)) ∙ ap Some (sym t)
+told_of_row (Ask.Write x v) k op told plain (o, t) = ap (told_by (Ask.Write x v)) o ∙ told_same_two x v (Some Answer.Unit) ∙ ap Some (sym t)
+told_of_row (Ask.Send c v) k op told plain (z, inl (got, (d, e, o, n), t)) =
     (λ i. told_sender (e i) v (o i)) ∙ told_same_two d v (Some Answer.Unit) ∙ ap Some (sym t)
-told_of_row (Ask.Send c v) k op told (z, inr ((d, e, o), t)) = (λ i. told_sender (e i) v (o i)) ∙ told_same d None ∙ ap Some (sym t)
-told_of_row (Ask.Recv c) k op told (z, got, (d, e, inl (v, o, n)), t) =
+told_of_row (Ask.Send c v) k op told plain (z, inr ((d, e, o), t)) = (λ i. told_sender (e i) v (o i)) ∙ told_same d None ∙ ap Some (sym t)
+told_of_row (Ask.Recv c) k op told plain (z, got, (d, e, inl (v, o, n)), t) =
     (λ i. told_receiver (e i) (o i)) ∙ told_same d (Some (Answer.Value v))
     ∙ ap Some (sym (t ∙ ap (λ g. Some (elim g [ Some x ↦ Answer.Value x | None ↦ Answer.Closed ])) n))
-told_of_row (Ask.Recv c) k op told (z, got, (d, e, inr (o, n)), t) =
+told_of_row (Ask.Recv c) k op told plain (z, got, (d, e, inr (o, n)), t) =
     (λ i. told_receiver (e i) (o i)) ∙ told_same d (Some Answer.Closed)
     ∙ ap Some (sym (t ∙ ap (λ g. Some (elim g [ Some x ↦ Answer.Value x | None ↦ Answer.Closed ])) n))
-told_of_row (Ask.Close c) k op told (inl (d, e, inl (o, t))) = (λ i. told_closer (e i) (o i)) ∙ told_same d (Some Answer.Unit) ∙ ap Some (sym t)
-told_of_row (Ask.Close c) k op told (inl (d, e, inr (o, t))) = (λ i. told_closer (e i) (o i)) ∙ told_same d None ∙ ap Some (sym t)
-told_of_row (Ask.Close c) k op told (inr (e, o, t)) = (λ i. told_closer (e i) (o i)) ∙ ap Some (sym t)
-told_of_row (Ask.Lock l) k op told (o, t) = ap (told_by (Ask.Lock l)) o ∙ told_same l (Some Answer.Unit) ∙ ap Some (sym t)
-told_of_row (Ask.Unlock l) k op told (inl (o, t)) = ap (told_by (Ask.Unlock l)) o ∙ told_same l (Some Answer.Unit) ∙ ap Some (sym t)
-told_of_row (Ask.Unlock l) k op told (inr (o, t)) = ap (told_by (Ask.Unlock l)) o ∙ told_same l None ∙ ap Some (sym t)
-told_of_row (Ask.RLock l) k op told (o, t) = ap (told_by (Ask.RLock l)) o ∙ told_same l (Some Answer.Unit) ∙ ap Some (sym t)
-told_of_row (Ask.RUnlock l) k op told (inl (o, t)) = ap (told_by (Ask.RUnlock l)) o ∙ told_same l (Some Answer.Unit) ∙ ap Some (sym t)
-told_of_row (Ask.RUnlock l) k op told (inr (o, t)) = ap (told_by (Ask.RUnlock l)) o ∙ told_same l None ∙ ap Some (sym t)
-told_of_row (Ask.Do o) k op told (inl (x, t)) = ap (told_by (Ask.Do o)) x ∙ told_same o (Some Answer.Run) ∙ ap Some (sym t)
-told_of_row (Ask.Do o) k op told (inr (x, t)) = ap (told_by (Ask.Do o)) x ∙ told_same o (Some Answer.AlreadyDone) ∙ ap Some (sym t)
-told_of_row (Ask.EndDo o) k op told (x, t) = ap (told_by (Ask.EndDo o)) x ∙ told_same o (Some Answer.Unit) ∙ ap Some (sym t)
+told_of_row (Ask.Close c) k op told plain (inl (d, e, inl (o, t))) = (λ i. told_closer (e i) (o i)) ∙ told_same d (Some Answer.Unit) ∙ ap Some (sym t)
+told_of_row (Ask.Close c) k op told plain (inl (d, e, inr (o, t))) = (λ i. told_closer (e i) (o i)) ∙ told_same d None ∙ ap Some (sym t)
+told_of_row (Ask.Close c) k op told plain (inr (e, o, t)) = (λ i. told_closer (e i) (o i)) ∙ ap Some (sym t)
+told_of_row (Ask.Lock l) k op told plain (o, t) = ap (told_by (Ask.Lock l)) o ∙ told_same l (Some Answer.Unit) ∙ ap Some (sym t)
+told_of_row (Ask.Unlock l) k op told plain (inl (o, t)) = ap (told_by (Ask.Unlock l)) o ∙ told_same l (Some Answer.Unit) ∙ ap Some (sym t)
+told_of_row (Ask.Unlock l) k op told plain (inr (o, t)) = ap (told_by (Ask.Unlock l)) o ∙ told_same l None ∙ ap Some (sym t)
+told_of_row (Ask.RLock l) k op told plain (o, t) = ap (told_by (Ask.RLock l)) o ∙ told_same l (Some Answer.Unit) ∙ ap Some (sym t)
+told_of_row (Ask.RUnlock l) k op told plain (inl (o, t)) = ap (told_by (Ask.RUnlock l)) o ∙ told_same l (Some Answer.Unit) ∙ ap Some (sym t)
+told_of_row (Ask.RUnlock l) k op told plain (inr (o, t)) = ap (told_by (Ask.RUnlock l)) o ∙ told_same l None ∙ ap Some (sym t)
+told_of_row (Ask.Do o) k op told plain (inl (x, t)) = ap (told_by (Ask.Do o)) x ∙ told_same o (Some Answer.Run) ∙ ap Some (sym t)
+told_of_row (Ask.Do o) k op told plain (inr (x, t)) = ap (told_by (Ask.Do o)) x ∙ told_same o (Some Answer.AlreadyDone) ∙ ap Some (sym t)
+told_of_row (Ask.EndDo o) k op told plain (x, t) = ap (told_by (Ask.EndDo o)) x ∙ told_same o (Some Answer.Unit) ∙ ap Some (sym t)
 
 guarded : (b : Bool) (row : Option (Option Answer)) (told : Option Answer) → (if b then row else None) ≡ Some told → (b ≡ true) × (row ≡ Some told)
 guarded true row told e = (refl, e)
 guarded false row told e = absurd cc
 
 -- a row holds by each way that its ask has
-row_by_way : (ask : Ask) (k : ℕ) (op : Op) (told : Option Answer) → is_way ask k ≡ true → IsRow ask 0 op told → IsRow ask k op told
-row_by_way (Ask.Send c v) k op told w row = ((Decides-eqb k 0).0 w, row.1)
-row_by_way (Ask.Recv c) k op told w row = ((Decides-eqb k 0).0 w, row.1, row.2, row.3)
-row_by_way _ k op told w row = row
+row_by_way : (ask : Ask) (k : ℕ) (op : Op) (told : Option Answer) → IsPlain ask → is_way ask k ≡ true → IsRow ask 0 op told → IsRow ask k op told
+row_by_way (Ask.Select offers has_default) k op told plain w row = absurd plain
+row_by_way (Ask.Send c v) k op told plain w row = ((Decides-eqb k 0).0 w, row.1)
+row_by_way (Ask.Recv c) k op told plain w row = ((Decides-eqb k 0).0 w, row.1, row.2, row.3)
+row_by_way _ k op told plain w row = row
 
 -- and by no other
 way_of_row : (ask : Ask) (k : ℕ) (op : Op) (told : Option Answer) → IsRow ask k op told → is_way ask k ≡ true
@@ -121,14 +134,127 @@ way_of_row (Ask.Send c v) k op told row = (Decides-eqb k 0).1 row.0
 way_of_row (Ask.Recv c) k op told row = (Decides-eqb k 0).1 row.0
 way_of_row _ k op told row = refl
 
--- what holds by some way holds by the first
-pub row_by_first : (ask : Ask) (k : ℕ) (op : Op) (told : Option Answer) → IsRow ask k op told → IsRow ask 0 op told
-row_by_first ask k op told row = row_of_told ask op told (told_of_row ask k op told row)
+-- Selects.
+
+-- the row of an offer that is asked alone
+abbrev IsPlainRow : Offer → Op → Option Answer → Type 0
+IsPlainRow o op told = ((got : Option ℕ) × IsOffered o op got × (told ≡ Some (plain_answer o got))) ⊎ (IsOfferedFault o op × (told ≡ None))
+
+plain_row : (o : Offer) (op : Op) (told : Option Answer) → told_plain o op ≡ Some told → IsPlainRow o op told
+plain_row (Offer.Send c v) op told e = let row = sender_row c v op told e in row.1
+plain_row (Offer.Recv c) op told e = let row = receiver_row c op told e in inl (row.1, row.2, row.3)
+
+plain_told : (o : Offer) (op : Op) (told : Option Answer) → IsPlainRow o op told → told_plain o op ≡ Some told
+plain_told (Offer.Send c v) op told row = told_of_row (Ask.Send c v) 0 op told tt (refl, row)
+plain_told (Offer.Recv c) op told (inl (got, offered, t)) = told_of_row (Ask.Recv c) 0 op told tt (refl, got, offered, t)
+plain_told (Offer.Recv c) op told (inr (never, t)) = absurd never
+
+-- the answer names the offer and what was received
+chosen_is : (o : Offer) (k : ℕ) (op : Op) (got : Option ℕ) → IsOffered o op got → chosen k (plain_answer o got) ≡ Answer.Chosen k got
+chosen_is (Offer.Send c v) k op got (d, e, o, none) = ap (Answer.Chosen k) (sym none)
+chosen_is (Offer.Recv c) k op (Some v) offered = refl
+chosen_is (Offer.Recv c) k op None offered = refl
+
+abbrev takes_default : Op → Bool
+takes_default (Default cases) = true
+takes_default _ = false
+
+offered_is_none : (o : Offer) (op : Op) (got : Option ℕ) → IsOffered o op got → takes_default op ≡ false
+offered_is_none (Offer.Send c v) op got (d, e, o, none) = ap takes_default o
+offered_is_none (Offer.Recv c) op got (d, e, inl (v, o, none)) = ap takes_default o
+offered_is_none (Offer.Recv c) op got (d, e, inr (o, none)) = ap takes_default o
+
+fault_is_none : (o : Offer) (op : Op) → IsOfferedFault o op → takes_default op ≡ false
+fault_is_none (Offer.Send c v) op (d, e, o) = ap takes_default o
+fault_is_none (Offer.Recv c) op never = absurd never
+
+module _ (offers : List Offer) (has_default : Bool) (k : ℕ) where
+  -- what is told by offer k
+  abbrev by_offer : Op → Option Offer → Option (Option Answer)
+  by_offer op o = elim o [ None ↦ None | Some o ↦ told_offer k o op ]
+
+  no_default : (op : Op) → takes_default op ≡ false → told_selector offers has_default k op ≡ by_offer op (slice_get offers k)
+  no_default (Default cases) is = absurd cc
+  no_default _ is = refl
+
+  chosen_row : (o : Offer) (op : Op) (told : Option Answer) → slice_get offers k ≡ Some o → told_offer k o op ≡ Some told → IsChosen offers k op told
+  chosen_row o op told there e = by (told_plain o op) refl e
+    where
+      by : (t : Option (Option Answer)) → told_plain o op ≡ t → option_map (option_map (chosen k)) t ≡ Some told → IsChosen offers k op told
+      by None is e = absurd cc
+      by (Some plain) is e = elim (plain_row o op plain is) [
+        | inl (got, offered, t) ↦ (
+          o,
+          there,
+          inl (
+            got,
+            offered,
+            let same : option_map (chosen k) plain ≡ told = cc in
+                sym same ∙ ap (option_map (chosen k)) t ∙ ap (λ a. Some a) (chosen_is o k op got offered),
+          ),
+        )
+        | inr (fault, t) ↦ (o, there, inr (fault, let same : option_map (chosen k) plain ≡ told = cc in sym same ∙ ap (option_map (chosen k)) t))
+      ]
+
+  offer_row : (o : Option Offer) (op : Op) (told : Option Answer) → slice_get offers k ≡ o → by_offer op o ≡ Some told → IsChosen offers k op told
+  offer_row None op told there e = absurd cc
+  offer_row (Some o) op told there e = chosen_row o op told there e
+
+  default_row : (cases : List Case) (told : Option Answer)
+      → told_if (has_default && same_cases cases (map case_of offers)) (Some Answer.DefaultTaken) ≡ Some told
+      → IsDefault offers has_default (Default cases) told
+  default_row cases told e =
+      let p = passed (has_default && same_cases cases (map case_of offers)) (Some Answer.DefaultTaken) told e in
+      let q = both_true has_default (same_cases cases (map case_of offers)) p.0 in
+      (q.0, ap Default ((same_cases-Decides cases (map case_of offers)).0 q.1), p.1)
+
+  selector_row : (op : Op) (told : Option Answer) → told_selector offers has_default k op ≡ Some told → IsRow (Ask.Select offers has_default) k op told
+  selector_row op told e = by op (takes_default op) refl e
+    where
+      by : (op : Op) (takes : Bool) → takes_default op ≡ takes → told_selector offers has_default k op ≡ Some told
+          → IsRow (Ask.Select offers has_default) k op told
+      by op false is e = inl (offer_row (slice_get offers k) op told refl (sym (no_default op is) ∙ e))
+      by (Default cases) true is e = inr (default_row cases told e)
+      by _ true is e = absurd cc
+
+  selector_told : (op : Op) (told : Option Answer) → IsRow (Ask.Select offers has_default) k op told → told_selector offers has_default k op ≡ Some told
+  selector_told op told (inl (o, there, inl (got, offered, t))) =
+      no_default op (offered_is_none o op got offered) ∙ ap (by_offer op) there
+      ∙ ap (option_map (option_map (chosen k))) (plain_told o op (Some (plain_answer o got)) (inl (got, offered, refl)))
+      ∙ ap (λ a. Some (Some a)) (chosen_is o k op got offered) ∙ ap Some (sym t)
+  selector_told op told (inl (o, there, inr (fault, t))) =
+      no_default op (fault_is_none o op fault) ∙ ap (by_offer op) there
+      ∙ ap (option_map (option_map (chosen k))) (plain_told o op None (inr (fault, refl))) ∙ ap Some (sym t)
+  selector_told op told (inr (d, o, t)) =
+      ap (told_selector offers has_default k) o
+      ∙ (λ i. told_if (d i && (same_cases-Decides (map case_of offers) (map case_of offers)).1 refl i) (Some Answer.DefaultTaken)) ∙ ap Some (sym t)
 
 -- the tests by a way give an answer exactly where a row by that way holds
+plain_at : (ask : Ask) (k : ℕ) (op : Op) (told : Option Answer) (r : Option (Option Answer)) → IsPlain ask
+    → r ≡ (if is_way ask k then told_by ask op else None) → (r ≡ Some told) ↔ IsRow ask k op told
+plain_at ask k op told r plain is = (
+  λ e. let g = guarded (is_way ask k) (told_by ask op) told (sym is ∙ e) in row_by_way ask k op told plain g.0 (row_of_told ask op told g.1),
+  λ row. is ∙ ap (λ b. if b then told_by ask op else None) (way_of_row ask k op told row) ∙ told_of_row ask k op told plain row,
+)
+
 pub row_at : (ask : Ask) (k : ℕ) (op : Op) (told : Option Answer) (r : Option (Option Answer)) → r ≡ told_at ask k op
     → (r ≡ Some told) ↔ IsRow ask k op told
-row_at ask k op told r is = (
-  λ e. let g = guarded (is_way ask k) (told_by ask op) told (sym is ∙ e) in row_by_way ask k op told g.0 (row_of_told ask op told g.1),
-  λ row. is ∙ ap (λ b. if b then told_by ask op else None) (way_of_row ask k op told row) ∙ told_of_row ask k op told row,
-)
+row_at (Ask.Select offers has_default) k op told r is =
+    (λ e. selector_row offers has_default k op told (sym is ∙ e), λ row. is ∙ selector_told offers has_default k op told row)
+row_at ask k op told r is = plain_at ask k op told r tt is
+
+-- what holds by some way holds by the way of an offer, or by the one behind them
+pub record HoldsBefore (ask : Ask) (op : Op) (told : Option Answer) : Type 0 where
+  pub way : ℕ
+  pub few : way ≤ length (offers_of ask)
+  pub row : IsRow ask way op told
+
+plain_before : (ask : Ask) (k : ℕ) (op : Op) (told : Option Answer) → IsPlain ask → IsRow ask k op told → HoldsBefore ask op told
+plain_before ask k op told plain row = record { way = 0; few = omega arith; row = row_of_told ask op told (told_of_row ask k op told plain row) }
+
+pub holds_before : (ask : Ask) (k : ℕ) (op : Op) (told : Option Answer) → IsRow ask k op told → HoldsBefore ask op told
+holds_before (Ask.Select offers has_default) k op told (inl (o, there, rest)) =
+    let within = slice_get_within offers k o there in
+    record { way = k; few = omega (arith, within); row = inl (o, there, rest) }
+holds_before (Ask.Select offers has_default) k op told (inr takes) = record { way = 0; few = omega arith; row = inr takes }
+holds_before ask k op told row = plain_before ask k op told tt row

@@ -1,11 +1,11 @@
 -- The choices of a waiting list: which of its requests can go on, each alone or with whom it meets. (The Go Programming Language Specification, "Send
--- statements", "Receive operator", "Channel types"; package sync)
-use Rattle.std.specs.Prelude.{ℕ, ◌+◌, ◌-◌, ◌==◌, cond, Bool, false, List, ◌∷◌, length, map, filter, slice_get, Option, Some, None, is_none}
-use Rattle.std.specs.List.{flat_map, range_with_len}
+-- statements", "Receive operator", "Channel types", "Select statements"; package sync)
+use Rattle.std.specs.Prelude.{ℕ, ◌+◌, ◌-◌, ◌==◌, ◌&&◌, ◌||◌, not, cond, Bool, false, List, ◌∷◌, length, map, filter, slice_get, Option, Some, None, is_none}
+use Rattle.std.specs.List.{flat_map, range_with_len, list_any}
 use Rattle.race_records.specs.declared.event.Cause.TheVariants.{SendClosed, CloseClosed, CloseNil, UnlockFree, RUnlockFree}
 use Rattle.race_records.specs.declared.event.Event.{Event}
 use Rattle.race_records.specs.declared.event.Op.{Op}
-use Rattle.race_records.specs.declared.event.Op.TheVariants.{Go, Exit, Read, Write, Send, Recv, Meet, RecvClosed, Close, Lock, Unlock, RLock, RUnlock}
+use Rattle.race_records.specs.declared.event.Op.TheVariants.{Go, Exit, Read, Write, Send, Recv, Meet, RecvClosed, Close, Default, Lock, Unlock, RLock, RUnlock}
 use Rattle.race_records.specs.declared.event.Op.TheVariants.{OnceBegin, OnceEnd, OnceDone, Fault}
 use Rattle.race_model.specs.State.{last_value, is_closed, front, is_held, is_read_held, is_begun}
 use Rattle.race_model.specs.Legal.{broken}
@@ -13,6 +13,7 @@ use Rattle.race_hub.specs.declared.choice.Choice.{Choice}
 use Rattle.race_hub.specs.declared.request.Ask.{Ask}
 use Rattle.race_hub.specs.declared.request.Offer.{Offer}
 use Rattle.race_hub.specs.declared.request.Waiter.{Waiter}
+use Rattle.race_hub.specs.Offers.{case_of}
 use Rattle.race_hub.specs.Table.{offers_of}
 
 -- request w of the list by its way k: p and q are 0, or one more than the partner's place and way
@@ -30,7 +31,7 @@ lone_op past (Offer.Recv (Some c)) = Some (elim (front c past) [ Some v ↦ Recv
 abbrev pub offer_at : List Offer → ℕ → (Offer → Option Op) → Option Op
 offer_at offers k f = elim (slice_get offers k) [ Some o ↦ f o | None ↦ None ]
 
--- the operation of a request by its way k without a partner, after the events past
+-- the operation of a request by its way k without a partner, after the events past; a select's default comes behind its offers
 abbrev pub op_of : List Event → Ask → ℕ → Option Op
 op_of past (Ask.Go h) k = Some (Go h)
 op_of past Ask.Exit k = Some Exit
@@ -40,6 +41,7 @@ op_of past (Ask.Send c v) k = lone_op past (Offer.Send c v)
 op_of past (Ask.Recv c) k = lone_op past (Offer.Recv c)
 op_of past (Ask.Close (Some c)) k = Some (cond (is_closed c past) (Fault (CloseClosed c)) (Close c))
 op_of past (Ask.Close None) k = Some (Fault CloseNil)
+op_of past (Ask.Select offers has_default) k = cond (k == length offers) (Some (Default (map case_of offers))) (offer_at offers k (lone_op past))
 op_of past (Ask.Lock l) k = Some (Lock l)
 op_of past (Ask.Unlock l) k = Some (cond (is_held l past) (Unlock l) (Fault (UnlockFree l)))
 op_of past (Ask.RLock l) k = Some (RLock l)
@@ -47,8 +49,9 @@ op_of past (Ask.RUnlock l) k = Some (cond (is_read_held l past) (RUnlock l) (Fau
 op_of past (Ask.Do o) k = Some (cond (is_begun o past) (OnceDone o) (OnceBegin o))
 op_of past (Ask.EndDo o) k = Some (OnceEnd o)
 
--- in how many ways a request can go on
+-- in how many ways a request can go on: a select by each offer, and by its default
 abbrev pub ways : Ask → ℕ
+ways (Ask.Select offers has_default) = length offers + cond has_default 1 0
 ways _ = 1
 
 -- the operation in which a sender's offer meets the offer of the receiver r
@@ -111,6 +114,31 @@ ways_at waiting i = elim (slice_get waiting i) [ Some w ↦ ways w.asked.ask | N
 abbrev pub tuples_of : List Waiter → List Choice
 tuples_of waiting = tuples (length waiting) (ways_at waiting)
 
+-- way k of the ask is its default
+abbrev pub is_default_of : Ask → ℕ → Bool
+is_default_of (Ask.Select offers has_default) k = k == length offers
+is_default_of _ k = false
+
+-- the tuple takes a default
+abbrev pub is_default : List Waiter → Choice → Bool
+is_default waiting t = elim (slice_get waiting t.place) [ None ↦ false | Some w ↦ is_default_of w.asked.ask t.offer ]
+
+-- the request at that place stands in the tuple, as who asks or as its partner
+abbrev pub stands_in : ℕ → Choice → Bool
+stands_in place t = (t.place == place) || (t.partner == place + 1)
+
+-- the tuple is possible and takes no default
+abbrev pub is_move : (ℕ → ℕ) → List Event → List Waiter → Choice → Bool
+is_move caps past waiting t = is_possible caps past waiting t && not (is_default waiting t)
+
+-- the request at that place has another choice than its default
+abbrev pub can_move : (ℕ → ℕ) → List Event → List Waiter → ℕ → Bool
+can_move caps past waiting place = list_any (stands_in place) (filter (is_move caps past waiting) (tuples_of waiting))
+
+-- the tuple is a choice: a default is none where its select has another
+abbrev pub is_choice : (ℕ → ℕ) → List Event → List Waiter → Choice → Bool
+is_choice caps past waiting t = is_possible caps past waiting t && not (is_default waiting t && can_move caps past waiting t.place)
+
 -- the choices after the events past, in lexicographic order
 abbrev pub choices : (ℕ → ℕ) → List Event → List Waiter → List Choice
-choices caps past waiting = filter (is_possible caps past waiting) (tuples_of waiting)
+choices caps past waiting = filter (is_choice caps past waiting) (tuples_of waiting)

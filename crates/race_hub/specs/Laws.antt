@@ -1,18 +1,20 @@
 -- The laws of the table and of the choices, which functions of src/laws.rt that do nothing have as their contracts.
-use Rattle.std.specs.Prelude.{ℕ, ◌≡◌, ◌&&◌, not, false, List, [], ◌∷◌, Some, None}
+use Rattle.std.specs.Prelude.{ℕ, ◌≡◌, ◌&&◌, not, true, false, List, [], ◌∷◌, Some, None}
 use Rattle.race_records.specs.declared.event.Cause.TheVariants.{SendClosed, CloseClosed, CloseNil, UnlockFree, RUnlockFree}
 use Rattle.race_records.specs.declared.event.Event.{Event}
-use Rattle.race_records.specs.declared.event.Op.TheVariants.{Go, Exit, Read, Write, Send, Recv, Meet, RecvClosed, Close, Lock, Unlock, RLock, RUnlock}
+use Rattle.race_records.specs.declared.event.Op.TheVariants.{Go, Exit, Read, Write, Send, Recv, Meet, RecvClosed, Close, Default, Lock, Unlock, RLock, RUnlock}
 use Rattle.race_records.specs.declared.event.Op.TheVariants.{OnceBegin, OnceEnd, OnceDone, Fault}
 use Rattle.race_model.specs.State.{over, runs}
 use Rattle.race_model.specs.Examples.{does}
 use Rattle.race_hub.specs.declared.request.Answer.{Answer}
 use Rattle.race_hub.specs.declared.request.Ask.{Ask}
+use Rattle.race_hub.specs.declared.request.Offer.{Offer}
 use Rattle.race_hub.specs.declared.request.Waiter.{Waiter}
 use Rattle.race_hub.specs.Table.{done_by, IsRow}
 use Rattle.race_hub.specs.Choices.{choice, choices, event_of, is_legal_next, lone_event, meet_event}
 use Rattle.race_hub.specs.Possible.{goes_on, meet_goes_on}
-use Rattle.race_hub.specs.Rows.{capacities, waits, HasRow, Stays, three_started, one_meets_main}
+use Rattle.race_hub.specs.Rows.{capacities, waits, alone, HasWay, HasRow, Stays, sends_on, receives_from, three_started, one_meets_main}
+use Rattle.race_hub.specs.Rows.{sends_or_receives, receives_or_sends}
 
 -- a start and an exit always go on
 pub record RowsOfGoroutines : Type 0 where
@@ -79,6 +81,39 @@ pub record RowsOfMeets : Type 0 where
   pub receiver : IsRow (Ask.Recv (Some 0)) 0 (done_by 0 one_meets_main.op) (Some (Answer.Value 7))
   pub other_channel : choices capacities three_started (waits 0 (Ask.Recv (Some 0)) ∷ waits 1 (Ask.Send (Some 2) 7) ∷ []) ≡ choice 1 0 0 0 ∷ []
 
+-- a select goes on by an offer as that does alone, and by its default, which comes behind the offers, where no offer can
+pub record RowsOfSelects : Type 0 where
+  pub sends : HasWay [] (Ask.Select (Offer.Recv (Some 2) ∷ Offer.Send (Some 1) 7 ∷ []) false) 1 (Send 1 7) (Some (Answer.Chosen 1 None))
+  pub receives :
+      HasWay (does 0 (Send 1 7) ∷ []) (Ask.Select (Offer.Send (Some 0) 5 ∷ Offer.Recv (Some 1) ∷ []) true) 1 (Recv 1 7) (Some (Answer.Chosen 1 (Some 7)))
+  pub finds_closed : HasWay (does 0 (Close 1) ∷ []) (Ask.Select (Offer.Recv (Some 1) ∷ []) true) 0 (RecvClosed 1) (Some (Answer.Chosen 0 None))
+  pub fails : HasWay (does 0 (Close 0) ∷ []) (Ask.Select (Offer.Send (Some 0) 5 ∷ []) true) 0 (Fault (SendClosed 0)) None
+  pub by_default :
+      HasWay [] (Ask.Select (Offer.Send (Some 0) 5 ∷ Offer.Recv (Some 1) ∷ []) true) 2 (Default (sends_on (Some 0) ∷ receives_from (Some 1) ∷ []))
+      (Some Answer.DefaultTaken)
+  pub waits_without : Stays [] (Ask.Select (Offer.Send (Some 0) 5 ∷ Offer.Recv (Some 1) ∷ []) false)
+  pub nil : HasWay [] (Ask.Select (Offer.Send None 5 ∷ Offer.Recv None ∷ []) true) 2 (Default (sends_on None ∷ receives_from None ∷ [])) (Some Answer.DefaultTaken)
+  pub nil_waits : Stays [] (Ask.Select (Offer.Send None 5 ∷ Offer.Recv None ∷ []) false)
+  pub nothing : HasWay [] (Ask.Select [] true) 0 (Default []) (Some Answer.DefaultTaken)
+  pub nothing_waits : Stays [] (Ask.Select [] false)
+  pub twice : choices capacities (does 0 (Send 1 7) ∷ []) (alone (Ask.Select (Offer.Recv (Some 1) ∷ Offer.Recv (Some 1) ∷ []) true))
+      ≡ choice 0 0 0 0 ∷ choice 0 1 0 0 ∷ []
+
+-- two selects meet by each pair of their offers that sends and receives; none meets itself, and no default is taken beside a meet
+pub record SelectsMeet : Type 0 where
+  pub either_way : choices capacities three_started (waits 0 sends_or_receives ∷ waits 1 receives_or_sends ∷ []) ≡ choice 0 0 2 1 ∷ choice 1 1 1 2 ∷ []
+  pub event : event_of three_started (waits 0 sends_or_receives ∷ waits 1 receives_or_sends ∷ []) (choice 1 1 1 2) ≡ Some one_meets_main
+  pub sender : IsRow receives_or_sends 1 (done_by 1 one_meets_main.op) (Some (Answer.Chosen 1 None))
+  pub receiver : IsRow sends_or_receives 1 (done_by 0 one_meets_main.op) (Some (Answer.Chosen 1 (Some 7)))
+  pub itself : Stays three_started sends_or_receives
+  pub sender_has_default : choices capacities three_started (waits 0 (Ask.Select (Offer.Send (Some 0) 5 ∷ []) true) ∷ waits 1 (Ask.Recv (Some 0)) ∷ [])
+      ≡ choice 0 0 2 1 ∷ []
+  pub receiver_has_default : choices capacities three_started (waits 0 (Ask.Select (Offer.Recv (Some 0) ∷ []) true) ∷ waits 1 (Ask.Send (Some 0) 7) ∷ [])
+      ≡ choice 1 0 1 1 ∷ []
+  pub others_meet : choices capacities three_started
+      (waits 0 (Ask.Select (Offer.Recv (Some 1) ∷ []) true) ∷ waits 1 (Ask.Send (Some 0) 7) ∷ waits 2 (Ask.Recv (Some 0)) ∷ [])
+      ≡ choice 0 1 0 0 ∷ choice 1 0 3 1 ∷ []
+
 -- several senders and receivers of one unbuffered channel: by the sender's place, and then by the receiver's
 abbrev pub MeetsAreListedBySender : Type 0
 MeetsAreListedBySender =
@@ -97,11 +132,11 @@ abbrev pub NobodyMeetsItself : Type 0
 NobodyMeetsItself =
     (caps : ℕ → ℕ) (past : List Event) (w r : Waiter) (k q : ℕ) → w.who ≡ r.who → is_legal_next caps past (meet_event w k r q) ≡ false
 
--- each request goes on alone just where the words of the run so far say so
+-- each request goes on alone, by each of its ways, just where the words of the run so far say so
 abbrev pub EachRowGoesOn : Type 0
 EachRowGoesOn =
     (caps : ℕ → ℕ) (past : List Event) (w : Waiter) (k : ℕ)
-    → is_legal_next caps past (lone_event past w k) ≡ (not (over past) && (runs w.who past && goes_on caps past w.who w.asked.ask))
+    → is_legal_next caps past (lone_event past w k) ≡ (not (over past) && (runs w.who past && goes_on caps past w.who w.asked.ask k))
 
 -- so does a sender with a receiver of the same channel
 abbrev pub EachMeetGoesOn : Type 0

@@ -15,6 +15,7 @@ pub mod Fires
 pub mod Submits
 pub mod Holds
 pub mod HubHolds
+pub mod Offers
 pub mod Opening
 pub mod Firing
 pub mod Kept

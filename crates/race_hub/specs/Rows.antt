@@ -1,12 +1,15 @@
 -- Small waiting lists whose choices, events and answers are computed. (The Go Programming Language Specification, "Send statements", "Receive operator",
--- "Close"; package sync)
-use Rattle.std.specs.Prelude.{ℕ, ◌≡◌, ◌+◌, List, [], ◌∷◌, Option, Some, None}
+-- "Close", "Select statements"; package sync)
+use Rattle.std.specs.Prelude.{ℕ, ◌≡◌, ◌+◌, false, List, [], ◌∷◌, Option, Some, None}
+use Rattle.race_records.specs.declared.cases.Case.{Case}
+use Rattle.race_records.specs.declared.cases.Dir.{Dir}
 use Rattle.race_records.specs.declared.event.Event.{Event}
 use Rattle.race_records.specs.declared.event.Op.{Op}
 use Rattle.race_records.specs.declared.event.Op.TheVariants.{Go, Meet}
 use Rattle.race_model.specs.Examples.{does}
 use Rattle.race_hub.specs.declared.request.Answer.{Answer}
 use Rattle.race_hub.specs.declared.request.Ask.{Ask}
+use Rattle.race_hub.specs.declared.request.Offer.{Offer}
 use Rattle.race_hub.specs.declared.request.Waiter.{Waiter}
 use Rattle.race_hub.specs.Table.{IsRow}
 use Rattle.race_hub.specs.Choices.{choice, choices, event_of}
@@ -23,11 +26,15 @@ waits g ask = record { who = g; asked = record { ask = ask; place = g + 5 } }
 abbrev pub alone : Ask → List Waiter
 alone ask = waits 0 ask ∷ []
 
--- after the events past the ask of main alone has the one choice; it makes the operation, and main is told that
-pub record HasRow (past : List Event) (ask : Ask) (op : Op) (told : Option Answer) : Type 0 where
-  pub only : choices capacities past (alone ask) ≡ choice 0 0 0 0 ∷ []
-  pub event : event_of past (alone ask) (choice 0 0 0 0) ≡ Some (record { who = 0; op = op; place = 5; place2 = None })
-  pub row : IsRow ask 0 op told
+-- after the events past the ask of main alone has the one choice, its way k; it makes the operation, and main is told that
+pub record HasWay (past : List Event) (ask : Ask) (k : ℕ) (op : Op) (told : Option Answer) : Type 0 where
+  pub only : choices capacities past (alone ask) ≡ choice 0 k 0 0 ∷ []
+  pub event : event_of past (alone ask) (choice 0 k 0 0) ≡ Some (record { who = 0; op = op; place = 5; place2 = None })
+  pub row : IsRow ask k op told
+
+-- so it has by the one way of an ask that is no select
+abbrev pub HasRow : List Event → Ask → Op → Option Answer → Type 0
+HasRow past ask op told = HasWay past ask 0 op told
 
 -- after the events past it has no choice
 abbrev pub Stays : List Event → Ask → Type 0
@@ -40,3 +47,17 @@ three_started = does 0 (Go 1) ∷ does 0 (Go 2) ∷ does 0 (Go 3) ∷ []
 -- goroutine 1 sends 7 to main
 abbrev pub one_meets_main : Event
 one_meets_main = record { who = 1; op = Meet 0 0 7; place = 6; place2 = Some 5 }
+
+-- main would send 5 or receive, and goroutine 1 would receive or send 7, all on channel 0
+abbrev pub sends_or_receives : Ask
+sends_or_receives = Ask.Select (Offer.Send (Some 0) 5 ∷ Offer.Recv (Some 0) ∷ []) false
+
+abbrev pub receives_or_sends : Ask
+receives_or_sends = Ask.Select (Offer.Recv (Some 0) ∷ Offer.Send (Some 0) 7 ∷ []) false
+
+-- the cases of a send and of a receive
+abbrev pub sends_on : Option ℕ → Case
+sends_on c = record { dir = Dir.Send; chan = c }
+
+abbrev pub receives_from : Option ℕ → Case
+receives_from c = record { dir = Dir.Recv; chan = c }

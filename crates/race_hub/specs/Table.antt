@@ -1,20 +1,22 @@
 -- The table of requests: what a goroutine that asks does in an event, and what it is told. (The Go Programming Language Specification, "Go statements",
--- "Send statements", "Receive operator", "Close", "Run-time panics"; package sync)
-use Rattle.std.specs.Prelude.{ℕ, ◌≡◌, ◌==◌, ◌⊎◌, cond, Option, Some, None, List, [], ◌∷◌}
+-- "Send statements", "Receive operator", "Close", "Select statements", "Run-time panics"; package sync)
+use Rattle.std.specs.Prelude.{ℕ, ◌≡◌, ◌==◌, ◌⊎◌, cond, Bool, true, Option, Some, None, List, [], ◌∷◌, map, slice_get}
 use Rattle.race_records.specs.declared.event.Cause.TheVariants.{SendClosed, CloseClosed, CloseNil, UnlockFree, RUnlockFree}
 use Rattle.race_records.specs.declared.event.Event.{Event}
 use Rattle.race_records.specs.declared.event.Op.{Op}
-use Rattle.race_records.specs.declared.event.Op.TheVariants.{Go, Exit, Read, Write, Send, Recv, Meet, RecvClosed, Close, Lock, Unlock, RLock, RUnlock}
+use Rattle.race_records.specs.declared.event.Op.TheVariants.{Go, Exit, Read, Write, Send, Recv, Meet, RecvClosed, Close, Default, Lock, Unlock, RLock, RUnlock}
 use Rattle.race_records.specs.declared.event.Op.TheVariants.{OnceBegin, OnceEnd, OnceDone, Fault}
 use Rattle.race_hub.specs.declared.request.Answer.{Answer}
 use Rattle.race_hub.specs.declared.request.Ask.{Ask}
 use Rattle.race_hub.specs.declared.request.Offer.{Offer}
 use Rattle.race_hub.specs.declared.request.Step.{Step}
+use Rattle.race_hub.specs.Offers.{case_of}
 
--- what a request offers to do with channels: a send or a receive is one offer
+-- what a request offers to do with channels: a send or a receive is one offer, and a select has all of its own
 abbrev pub offers_of : Ask → List Offer
 offers_of (Ask.Send c v) = Offer.Send c v ∷ []
 offers_of (Ask.Recv c) = Offer.Recv c ∷ []
+offers_of (Ask.Select offers has_default) = offers
 offers_of _ = []
 
 -- what g did in the event: in a Meet the sender sent, and the receiver received
@@ -42,6 +44,16 @@ abbrev pub plain_answer : Offer → Option ℕ → Answer
 plain_answer (Offer.Send c v) got = Answer.Unit
 plain_answer (Offer.Recv c) got = elim got [ Some v ↦ Answer.Value v | None ↦ Answer.Closed ]
 
+-- the select went on by its offer k, and is told which that is, with the value that it received, if any; nothing after a fault
+abbrev pub IsChosen : List Offer → ℕ → Op → Option Answer → Type 0
+IsChosen offers k op told =
+    (o : Offer) × (slice_get offers k ≡ Some o)
+    × (((got : Option ℕ) × IsOffered o op got × (told ≡ Some (Answer.Chosen k got))) ⊎ (IsOfferedFault o op × (told ≡ None)))
+
+-- the select took its default
+abbrev pub IsDefault : List Offer → Bool → Op → Option Answer → Type 0
+IsDefault offers has_default op told = (has_default ≡ true) × (op ≡ Default (map case_of offers)) × (told ≡ Some Answer.DefaultTaken)
+
 -- a row of the table: who asks does the operation, by its way k, and is told that; nothing after an exit and a fault
 abbrev pub IsRow : Ask → ℕ → Op → Option Answer → Type 0
 IsRow (Ask.Go h) k op told = (op ≡ Go h) × (told ≡ Some Answer.Unit)
@@ -56,6 +68,7 @@ IsRow (Ask.Recv c) k op told =
 IsRow (Ask.Close c) k op told =
     ((d : ℕ) × (c ≡ Some d) × (((op ≡ Close d) × (told ≡ Some Answer.Unit)) ⊎ ((op ≡ Fault (CloseClosed d)) × (told ≡ None))))
     ⊎ ((c ≡ None) × (op ≡ Fault CloseNil) × (told ≡ None))
+IsRow (Ask.Select offers has_default) k op told = IsChosen offers k op told ⊎ IsDefault offers has_default op told
 IsRow (Ask.Lock l) k op told = (op ≡ Lock l) × (told ≡ Some Answer.Unit)
 IsRow (Ask.RLock l) k op told = (op ≡ RLock l) × (told ≡ Some Answer.Unit)
 IsRow (Ask.Unlock l) k op told = ((op ≡ Unlock l) × (told ≡ Some Answer.Unit)) ⊎ ((op ≡ Fault (UnlockFree l)) × (told ≡ None))
@@ -66,3 +79,7 @@ IsRow (Ask.EndDo o) k op told = (op ≡ OnceEnd o) × (told ≡ Some Answer.Unit
 -- the step fits the event, in which g takes part: the places are the same, and some way's row has both
 abbrev pub Fits : ℕ → Step → Event → Type 0
 Fits g step e = (place_of g e ≡ Some step.asked.place) × ((k : ℕ) × IsRow step.asked.ask k (done_by g e.op) step.told)
+
+-- the table has a row for what is asked and what g does in an event with the operation, by some way and with some answer
+abbrev pub CanMake : ℕ → Ask → Op → Type 0
+CanMake g ask op = (k : ℕ) × (told : Option Answer) × IsRow ask k (done_by g op) told

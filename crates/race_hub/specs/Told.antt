@@ -1,11 +1,14 @@
 -- The rows of Table as tests: they give an answer exactly where IsRow holds, as proofs/RowLemmas shows.
-use Rattle.std.specs.Prelude.{ℕ, if◌then◌else◌, ◌==◌, ◌&&◌, Bool, true, Option, Some, None}
+use Rattle.std.specs.Prelude.{ℕ, if◌then◌else◌, ◌==◌, ◌&&◌, Bool, true, List, map, slice_get, Option, Some, None, option_map}
+use Rattle.race_records.specs.Cases.{same_cases}
 use Rattle.race_records.specs.declared.event.Cause.TheVariants.{SendClosed, CloseClosed, CloseNil, UnlockFree, RUnlockFree}
 use Rattle.race_records.specs.declared.event.Op.{Op}
-use Rattle.race_records.specs.declared.event.Op.TheVariants.{Go, Exit, Read, Write, Send, Recv, RecvClosed, Close, Lock, Unlock, RLock, RUnlock, OnceBegin}
+use Rattle.race_records.specs.declared.event.Op.TheVariants.{Go, Exit, Read, Write, Send, Recv, RecvClosed, Close, Default, Lock, Unlock, RLock, RUnlock, OnceBegin}
 use Rattle.race_records.specs.declared.event.Op.TheVariants.{OnceEnd, OnceDone, Fault}
 use Rattle.race_hub.specs.declared.request.Answer.{Answer}
 use Rattle.race_hub.specs.declared.request.Ask.{Ask}
+use Rattle.race_hub.specs.declared.request.Offer.{Offer}
+use Rattle.race_hub.specs.Offers.{case_of}
 
 -- there is a row where the test passes, and it tells that
 abbrev pub told_if : Bool → Option Answer → Option (Option Answer)
@@ -30,7 +33,7 @@ told_closer (Some c) (Fault (CloseClosed d)) = told_if (d == c) None
 told_closer None (Fault CloseNil) = Some None
 told_closer _ _ = None
 
--- what is told who asks and did the operation, by whatever way; None where no row has both
+-- what is told who asks, but to select, and did the operation, by whatever way; None where no row has both
 abbrev pub told_by : Ask → Op → Option (Option Answer)
 told_by (Ask.Go h) (Go g) = told_if (g == h) (Some Answer.Unit)
 told_by Ask.Exit Exit = Some None
@@ -50,6 +53,25 @@ told_by (Ask.Do o) (OnceDone p) = told_if (p == o) (Some Answer.AlreadyDone)
 told_by (Ask.EndDo o) (OnceEnd p) = told_if (p == o) (Some Answer.Unit)
 told_by _ _ = None
 
+-- what is told who asks by its offer k: which that is, with the value that was received, if any
+abbrev pub chosen : ℕ → Answer → Answer
+chosen k (Answer.Value v) = Answer.Chosen k (Some v)
+chosen k _ = Answer.Chosen k None
+
+-- what is told who asks that offer alone
+abbrev pub told_plain : Offer → Op → Option (Option Answer)
+told_plain (Offer.Send c v) op = told_sender c v op
+told_plain (Offer.Recv c) op = told_receiver c op
+
+-- what is told who asks to select and went on by that offer, which is its offer k
+abbrev pub told_offer : ℕ → Offer → Op → Option (Option Answer)
+told_offer k o op = option_map (option_map (chosen k)) (told_plain o op)
+
+-- what is told who asks to select and went on by its way k
+abbrev pub told_selector : List Offer → Bool → ℕ → Op → Option (Option Answer)
+told_selector offers has_default k (Default cases) = told_if (has_default && same_cases cases (map case_of offers)) (Some Answer.DefaultTaken)
+told_selector offers has_default k op = elim (slice_get offers k) [ None ↦ None | Some o ↦ told_offer k o op ]
+
 -- a send and a receive have the way 0 alone, and at the others the way says nothing
 abbrev pub is_way : Ask → ℕ → Bool
 is_way (Ask.Send c v) k = k == 0
@@ -58,4 +80,5 @@ is_way _ k = true
 
 -- the same by the way k
 abbrev pub told_at : Ask → ℕ → Op → Option (Option Answer)
+told_at (Ask.Select offers has_default) k op = told_selector offers has_default k op
 told_at ask k op = if is_way ask k then told_by ask op else None

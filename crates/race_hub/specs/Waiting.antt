@@ -1,6 +1,7 @@
 -- A list of waiting requests, and where the run stands. (The Go Programming Language Specification, "Channel types": without a buffer sender and
 -- receiver wait for one another)
 use Rattle.std.specs.Prelude.{ℕ, ◌==◌, ◌&&◌, not, nat_lt, Bool, false, List, slice_get, Option, Some, None}
+use Rattle.std.specs.List.{list_any}
 use Rattle.race_records.specs.declared.event.Event.{Event}
 use Rattle.race_records.specs.declared.kind.Kind.{Kind}
 use Rattle.race_records.specs.Declarations.{Declaration, capacity_of, counts_of}
@@ -11,6 +12,7 @@ use Rattle.race_hub.specs.declared.request.Offer.{Offer}
 use Rattle.race_hub.specs.declared.request.Waiter.{Waiter}
 use Rattle.race_hub.specs.Choices.{choices}
 use Rattle.race_hub.specs.Possible.{ask_is_in_range}
+use Rattle.race_hub.specs.Table.{offers_of}
 
 -- a `WaitingList` as its callers see it: the declarations, the events so far, and the requests in order
 pub record WaitingState : Type 0 where
@@ -35,10 +37,14 @@ sent_on _ = None
 abbrev pub hands_over : (ℕ → ℕ) → List Event → Option Offer → Bool
 hands_over caps past offer = elim (sent_on offer) [ Some c ↦ (caps c == 0) && not (is_closed c past) | None ↦ false ]
 
--- who asks receives from the channel
+-- the offer receives from the channel
+abbrev pub receives_from : ℕ → Offer → Bool
+receives_from c (Offer.Recv (Some d)) = d == c
+receives_from c _ = false
+
+-- who asks offers to
 abbrev pub receives : ℕ → Ask → Bool
-receives c (Ask.Recv (Some d)) = d == c
-receives c _ = false
+receives c ask = list_any (receives_from c) (offers_of ask)
 
 -- the request at that place does
 abbrev pub receives_at : List Waiter → ℕ → ℕ → Bool

@@ -1,5 +1,6 @@
 //! The requests that wait, where the run stands, and which of their choices is picked.
-ghost use Rattle.std.specs.Prelude.{ℕ, ◌≡◌, ◌≤◌, ◌<◌, ◌==◌, ◌&&◌, not, false, Some, IsTrue, IfSome, All, length, slice_get};
+ghost use Rattle.std.specs.Prelude.{ℕ, ◌≡◌, ◌≤◌, ◌<◌, ◌+◌, ◌==◌, ◌&&◌, not, false, Some, IsTrue, IfSome, All, length, slice_get};
+ghost use Rattle.std.specs.List.{list_any};
 ghost use Rattle.std.specs.Option.{option_copied};
 ghost use Rattle.race_records.specs.declared.kind.Kind.{Kind};
 ghost use Rattle.race_records.specs.declared.kind.TheConstants.{MAX_GOROUTINES};
@@ -13,7 +14,8 @@ ghost use Rattle.race_hub.specs.Waiting as list;
 use crate::meet::offer_at;
 use crate::receivers::Receivers;
 use crate::{
-    Ask, Board, Choice, Offer, Waiter, can_go_on, can_meet, lone_event, meet_event, pick_choice,
+    Ask, Board, Choice, Found, Offer, Offers, Waiter, can_go_on, can_meet, find, lone_event,
+    meet_event, pick_choice,
 };
 use race_legal::Replay;
 use race_records::{Decls, Event, Trace};
@@ -81,7 +83,7 @@ impl<'a, A: Allocator, B: Allocator> WaitingList<'a, A, B> {
             return None;
         };
         if choice.partner == 0 {
-            return self.event_alone(waiter);
+            return self.event_alone(waiter, choice.offer);
         }
         let Some(partner) = self.get(choice.partner as usize - 1) else {
             return None;
@@ -120,23 +122,23 @@ impl<'a, A: Allocator, B: Allocator> WaitingList<'a, A, B> {
         }
     }
 
-    // The event of the request alone.
-    fn event_alone(&self, waiter: &Waiter) -> Option<Event>
+    // The event of the request alone, by its way of this number.
+    fn event_alone(&self, waiter: &Waiter, way: u32) -> Option<Event>
         requires { IsTrue (list.is_declared self.now.declarations waiter.now) }
-        ensures { (way : ℕ) → result ≡ spec.lone_event self.now.past waiter.now way }
+        ensures { result ≡ spec.lone_event self.now.past waiter.now way }
     {
         let (replay, _) = self.run();
-        lone_event(replay, waiter)
+        lone_event(replay, waiter, way)
     }
 
-    // Whether the request can go on alone.
-    fn goes_on(&self, waiter: &Waiter) -> bool
+    // Whether the request can go on alone by its way of this number.
+    fn goes_on(&self, waiter: &Waiter, way: u32) -> bool
         requires { IsTrue (list.is_declared self.now.declarations waiter.now) }
-        ensures { (way : ℕ) → result ≡ spec.is_legal_next (capacity_of self.now.declarations) self.now.past
+        ensures { result ≡ spec.is_legal_next (capacity_of self.now.declarations) self.now.past
             (spec.lone_event self.now.past waiter.now way) }
     {
         let (replay, decls) = self.run();
-        can_go_on(replay, decls, waiter)
+        can_go_on(replay, decls, waiter, way)
     }
 
     // Whether the request by its way can meet the other by its way.
@@ -162,6 +164,92 @@ impl<'a, A: Allocator, B: Allocator> WaitingList<'a, A, B> {
         is_rendezvous(decls.capacity(chan), replay.is_closed(chan))
     }
 
+    // How many requests there are.
+    fn count(&self) -> u32
+        ensures len { result ≡ length self.now.waiting }
+        ensures few { result ≤ MAX_GOROUTINES }
+        ensures few_ways { (i : ℕ) → spec.ways_at self.now.waiting i ≤ 17 }
+    {
+        self.waiting.len() as u32
+    }
+
+    // In how many ways the request at this place can go on.
+    fn ways_of(&self, place: u32) -> u32
+        requires { place < length self.now.waiting }
+        ensures { result ≡ spec.ways_at self.now.waiting place }
+    {
+        ways(&self.at(place as usize).asked.ask)
+    }
+
+    // Whether the tuple makes an event, and the event breaks no rule.
+    fn is_possible(&self, choice: Choice) -> bool
+        ensures { result ≡ spec.is_possible (capacity_of self.now.declarations) self.now.past self.now.waiting choice }
+    {
+        let Some(waiter) = self.get(choice.place as usize) else {
+            return false;
+        };
+        if choice.partner == 0 {
+            return self.goes_on(waiter, choice.offer);
+        }
+        let Some(partner) = self.get(choice.partner as usize - 1) else {
+            return false;
+        };
+        let other_way = choice.partner_offer.saturating_sub(1);
+        self.goes_on_with(waiter, choice.offer, partner, other_way)
+    }
+
+    // Whether the tuple takes a default.
+    fn is_default(&self, choice: Choice) -> bool
+        ensures { result ≡ spec.is_default self.now.waiting choice }
+    {
+        match self.get(choice.place as usize) {
+            Some(waiter) => is_default_of(&waiter.asked.ask, choice.offer),
+            None => false,
+        }
+    }
+
+    // Whether the tuple is possible, and takes no default.
+    fn is_move(&self, choice: Choice) -> bool
+        ensures { result ≡ spec.is_move (capacity_of self.now.declarations) self.now.past self.now.waiting choice }
+    {
+        self.is_possible(choice) && !self.is_default(choice)
+    }
+
+    // Whether the request at this place has another choice than its default.
+    fn can_move(&self, place: u32) -> bool
+        ensures { result ≡ spec.can_move (capacity_of self.now.declarations) self.now.past self.now.waiting place }
+    {
+        match find(&Moves { list: self, place }, 0) {
+            Found::At(_) => true,
+            Found::Left(_) => false,
+        }
+    }
+
+    // Whether the tuple takes a default whose select has another choice.
+    fn stands_back(&self, choice: Choice) -> bool
+        ensures { result ≡ (spec.is_default self.now.waiting choice
+            && spec.can_move (capacity_of self.now.declarations) self.now.past self.now.waiting choice.place) }
+    {
+        self.is_default(choice) && self.can_move(choice.place)
+    }
+
+    // The first place from this one on where the request by this way may have a partner; behind the last where there is none.
+    fn next_partner_of(&self, place: u32, way: u32, from: u32) -> u32
+        requires { place < length self.now.waiting }
+        ensures onward { from ≤ result }
+        ensures passed { (p : ℕ) → from ≤ p → p < result → (q : ℕ)
+            → spec.is_possible (capacity_of self.now.declarations) self.now.past self.now.waiting (spec.choice place way (p + 1) (q + 1)) ≡ false }
+    {
+        let offer = offer_at(&self.at(place as usize).asked.ask, way);
+        if !self.hands_over(offer) {
+            return from.max(self.count());
+        }
+        match sent_on(offer) {
+            Some(chan) => self.next_receiver(chan, from),
+            None => from.max(self.count()),
+        }
+    }
+
     // The first place from this one on whose request receives from the channel. It asks nothing of the run.
     fn next_receiver(&self, chan: u32, from: u32) -> u32
         ensures onward { from ≤ result }
@@ -181,14 +269,37 @@ impl<'a, A: Allocator, B: Allocator> WaitingList<'a, A, B> {
     }
 }
 
-// Who asks receives from the channel.
+// Who asks offers to receive from the channel.
 fn receives(ask: &Ask, chan: u32) -> bool
     ensures { result ≡ list.receives chan ask.now }
 {
     match ask {
         Ask::Recv(Some(from)) => *from == chan,
+        Ask::Select(offers, _) => one_receives(offers, chan),
         _ => false,
     }
+}
+
+// The offer is to receive from the channel.
+fn receives_from(offer: Offer, chan: u32) -> bool
+    ensures { result ≡ list.receives_from chan offer }
+{
+    match offer {
+        Offer::Recv(Some(from)) => from == chan,
+        _ => false,
+    }
+}
+
+// One of the offers is.
+fn one_receives(offers: &Offers, chan: u32) -> bool
+    ensures { result ≡ list_any (list.receives_from chan) offers.now }
+{
+    for k in 0..offers.len() {
+        if receives_from(offers.get(k), chan) {
+            return true;
+        }
+    }
+    false
 }
 
 // The channel on which the offer sends.
@@ -209,10 +320,23 @@ fn is_rendezvous(capacity: u32, closed: bool) -> bool
 }
 
 // In how many ways who asks can go on.
-fn ways(_ask: &Ask) -> u32
-    ensures { result ≡ spec.ways _ask.now }
+fn ways(ask: &Ask) -> u32
+    ensures { result ≡ spec.ways ask.now }
 {
-    1
+    match ask {
+        Ask::Select(offers, has_default) => offers.len() as u32 + u32::from(*has_default),
+        _ => 1,
+    }
+}
+
+// The ask's way of this number is its default.
+fn is_default_of(ask: &Ask, way: u32) -> bool
+    ensures { result ≡ spec.is_default_of ask.now way }
+{
+    match ask {
+        Ask::Select(offers, _) => way as usize == offers.len(),
+        _ => false,
+    }
 }
 
 impl<'a, A: Allocator, B: Allocator> Board for WaitingList<'a, A, B> {
@@ -224,38 +348,70 @@ impl<'a, A: Allocator, B: Allocator> Board for WaitingList<'a, A, B> {
 
     ghost ways_at = { λ l. spec.ways_at l.waiting };
 
-    ghost admitted = { λ l. spec.is_possible (capacity_of l.declarations) l.past l.waiting };
+    ghost admitted = { λ l. spec.is_choice (capacity_of l.declarations) l.past l.waiting };
 
     fn len(&self) -> u32 {
-        self.waiting.len() as u32
+        self.count()
     }
 
     fn ways(&self, place: u32) -> u32 {
-        ways(&self.at(place as usize).asked.ask)
+        self.ways_of(place)
     }
 
     fn next_partner(&self, place: u32, way: u32, from: u32) -> u32 {
-        let offer = offer_at(&self.at(place as usize).asked.ask, way);
-        if !self.hands_over(offer) {
-            return from.max(self.len());
-        }
-        match sent_on(offer) {
-            Some(chan) => self.next_receiver(chan, from),
-            None => from.max(self.len()),
+        self.next_partner_of(place, way, from)
+    }
+
+    fn admits(&self, choice: Choice) -> bool {
+        self.is_possible(choice) && !self.stands_back(choice)
+    }
+}
+
+/// The choices of the request at one place but for its default, which is none where there is one of these.
+#[derive(Drop)]
+struct Moves<'b, 'a, A: Allocator, B: Allocator> {
+    list: &'b WaitingList<'a, A, B>,
+    place: u32,
+}
+
+impl<'b, 'a, A: Allocator, B: Allocator> Board for Moves<'b, 'a, A, B> {
+    ghost use Rattle.std.specs.Prelude.{length, ◌&&◌};
+    ghost use Rattle.race_records.specs.Declarations.{capacity_of};
+    ghost use Rattle.race_hub.specs.Choices as spec;
+
+    ghost size = { λ m. length m.list.now.waiting };
+
+    ghost ways_at = { λ m. spec.ways_at m.list.now.waiting };
+
+    ghost admitted = { λ m t. spec.is_move (capacity_of m.list.now.declarations) m.list.now.past m.list.now.waiting t && spec.stands_in m.place t };
+
+    fn len(&self) -> u32 {
+        self.list.count()
+    }
+
+    fn ways(&self, place: u32) -> u32 {
+        self.list.ways_of(place)
+    }
+
+    fn next_partner(&self, place: u32, way: u32, from: u32) -> u32 {
+        // Of the others' choices those alone count in which it is the partner.
+        if place == self.place {
+            self.list.next_partner_of(place, way, from)
+        } else if from <= self.place {
+            self.place
+        } else {
+            from.max(self.list.count())
         }
     }
 
     fn admits(&self, choice: Choice) -> bool {
-        let Some(waiter) = self.get(choice.place as usize) else {
-            return false;
-        };
-        if choice.partner == 0 {
-            return self.goes_on(waiter);
-        }
-        let Some(partner) = self.get(choice.partner as usize - 1) else {
-            return false;
-        };
-        let other_way = choice.partner_offer.saturating_sub(1);
-        self.goes_on_with(waiter, choice.offer, partner, other_way)
+        stands_in(self.place, choice) && self.list.is_move(choice)
     }
+}
+
+// The request at this place stands in the tuple.
+fn stands_in(place: u32, choice: Choice) -> bool
+    ensures { result ≡ spec.stands_in place choice }
+{
+    choice.place == place || (choice.partner > 0 && choice.partner - 1 == place)
 }

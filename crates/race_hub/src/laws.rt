@@ -13,8 +13,10 @@ ghost use Rattle.race_hub.specs.Laws.{
   RowsOfMeets,
   RowsOfOnces,
   RowsOfReceives,
+  RowsOfSelects,
   RowsOfSends,
   RowsOfVariables,
+  SelectsMeet,
 };
 
 /// A start and an exit always go on.
@@ -55,6 +57,16 @@ pub fn rows_of_onces()
 /// Who sends on an unbuffered channel meets who receives from it.
 pub fn rows_of_meets()
     ensures { RowsOfMeets }
+{}
+
+/// A select goes on by an offer as that does alone, and by its default where no offer can.
+pub fn rows_of_selects()
+    ensures { RowsOfSelects }
+{}
+
+/// Two selects meet by each pair of offers that sends and receives; none meets itself, and no default is taken beside a meet.
+pub fn selects_meet()
+    ensures { SelectsMeet }
 {}
 
 /// Of several senders and receivers of one unbuffered channel the meets are listed by sender, and then by receiver.

@@ -1,14 +1,15 @@
 //! Which event a waiting request makes alone, after the events so far.
-ghost use Rattle.std.specs.Prelude.{ℕ, ◌≡◌, cond, Option, Some, None, IsTrue};
+ghost use Rattle.std.specs.Prelude.{ℕ, ◌≡◌, cond, Bool, Option, Some, None, IsTrue};
+ghost use Rattle.std.specs.List.{list_all};
 ghost use Rattle.race_records.specs.declared.event.Cause.TheVariants.{SendClosed, CloseClosed, UnlockFree, RUnlockFree};
 ghost use Rattle.race_records.specs.declared.event.Op.TheVariants.{Send, Recv, RecvClosed, Close, Unlock, RUnlock, OnceBegin, OnceDone, Fault};
 ghost use Rattle.race_records.specs.Parts.{chan_is_in_range};
 ghost use Rattle.race_legal.specs.ReplayState.{counts_in};
 ghost use Rattle.race_legal.specs.StandsFor.{ForEachPast};
 ghost use Rattle.race_hub.specs.Choices as spec;
-ghost use Rattle.race_hub.specs.Possible.{ask_is_in_range};
+ghost use Rattle.race_hub.specs.Possible.{ask_is_in_range, offer_is_in_range};
 
-use crate::{Ask, Waiter};
+use crate::{Ask, Offer, Offers, Waiter};
 use race_legal::Replay;
 use race_records::{Cause, Event, Kind, Op};
 use std::alloc::Allocator;
@@ -111,10 +112,28 @@ fn lone_close<A: Allocator>(replay: &Replay<A>, chan: Option<u32>) -> Option<Op>
     Some(close_op(chan, replay.is_closed(chan)))
 }
 
-// What the ask does alone.
-fn lone_op<A: Allocator>(replay: &Replay<A>, ask: &Ask) -> Option<Op>
+// What a select does alone by its way of this number.
+fn lone_select<A: Allocator>(replay: &Replay<A>, offers: &Offers, way: u32) -> Option<Op>
+    requires { IsTrue (list_all (offer_is_in_range (counts_in replay.now Kind.Chan)) offers.now) }
+    ensures { ForEachPast replay.now (λ past. (has_default : Bool) → result ≡ spec.op_of past (Ask.Select offers.now has_default) way) }
+{
+    let at = way as usize;
+    if at == offers.len() {
+        return Some(Op::Default(offers.cases()));
+    }
+    if at > offers.len() {
+        return None;
+    }
+    match offers.get(at) {
+        Offer::Send(chan, value) => lone_send(replay, chan, value),
+        Offer::Recv(chan) => lone_recv(replay, chan),
+    }
+}
+
+// What the ask does alone by its way of this number.
+fn lone_op<A: Allocator>(replay: &Replay<A>, ask: &Ask, way: u32) -> Option<Op>
     requires { IsTrue (ask_is_in_range (counts_in replay.now) ask.now) }
-    ensures { ForEachPast replay.now (λ past. (way : ℕ) → result ≡ spec.op_of past ask.now way) }
+    ensures { ForEachPast replay.now (λ past. result ≡ spec.op_of past ask.now way) }
 {
     match ask {
         Ask::Go(goroutine) => Some(Op::Go(*goroutine)),
@@ -124,6 +143,7 @@ fn lone_op<A: Allocator>(replay: &Replay<A>, ask: &Ask) -> Option<Op>
         Ask::Send(chan, value) => lone_send(replay, *chan, *value),
         Ask::Recv(chan) => lone_recv(replay, *chan),
         Ask::Close(chan) => lone_close(replay, *chan),
+        Ask::Select(offers, _) => lone_select(replay, offers, way),
         Ask::Lock(lock) => Some(Op::Lock(*lock)),
         Ask::Unlock(lock) => Some(unlock_op(*lock, replay.is_held(*lock))),
         Ask::RLock(lock) => Some(Op::RLock(*lock)),
@@ -133,12 +153,12 @@ fn lone_op<A: Allocator>(replay: &Replay<A>, ask: &Ask) -> Option<Op>
     }
 }
 
-/// The event that the waiting request makes alone, if it can make one.
-pub fn lone_event<A: Allocator>(replay: &Replay<A>, waiter: &Waiter) -> Option<Event>
+/// The event that the waiting request makes alone by its way of this number, if it can make one.
+pub fn lone_event<A: Allocator>(replay: &Replay<A>, waiter: &Waiter, way: u32) -> Option<Event>
     requires { IsTrue (ask_is_in_range (counts_in replay.now) waiter.now.asked.ask) }
-    ensures { ForEachPast replay.now (λ past. (way : ℕ) → result ≡ spec.lone_event past waiter.now way) }
+    ensures { ForEachPast replay.now (λ past. result ≡ spec.lone_event past waiter.now way) }
 {
-    match lone_op(replay, &waiter.asked.ask) {
+    match lone_op(replay, &waiter.asked.ask, way) {
         Some(op) => Some(Event {
             op,
             who: waiter.who,

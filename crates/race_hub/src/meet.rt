@@ -32,6 +32,11 @@ pub(crate) fn offer_at(ask: &Ask, way: u32) -> Option<Offer>
         } else {
             None
         },
+        Ask::Select(offers, _) => if (way as usize) < offers.len() {
+            Some(offers.get(way as usize))
+        } else {
+            None
+        },
         _ => None,
     }
 }

@@ -1,9 +1,11 @@
 //! From which channels a waiting request may receive.
-ghost use Rattle.std.specs.Prelude.{ℕ, ◌≡◌, true, Some};
+ghost use Rattle.std.specs.Prelude.{ℕ, ◌≡◌, true};
 ghost use Rattle.race_hub.specs.Receivers as spec;
 ghost use Rattle.race_hub.specs.Waiting.{receives};
 
-use crate::{Ask, Waiter};
+use crate::meet::offer_at;
+use crate::table::offer_count;
+use crate::{Ask, Offer, Waiter};
 use std::marker::Model;
 
 // How many marks there are: that of a channel stands at the remainder of its number.
@@ -33,9 +35,7 @@ impl Receivers {
             marks: [false; MARKS],
         };
         for place in 0..waiting.len() {
-            if let Some(chan) = received_from(&waiting[place].asked.ask) {
-                receivers.mark(chan);
-            }
+            receivers.mark_offers(&waiting[place].asked.ask);
         }
         receivers
     }
@@ -47,20 +47,22 @@ impl Receivers {
         self.marks[chan as usize % MARKS]
     }
 
+    // Marks each channel from which who asks may receive.
+    fn mark_offers(&mut self, ask: &Ask)
+        ensures marked { (chan : ℕ) → receives chan ask.now ≡ true → spec.is_marked self.new chan ≡ true }
+        ensures kept { (other : ℕ) → spec.is_marked self.old other ≡ true → spec.is_marked self.new other ≡ true }
+    {
+        for way in 0..offer_count(ask) {
+            if let Some(Offer::Recv(Some(chan))) = offer_at(ask, way) {
+                self.mark(chan);
+            }
+        }
+    }
+
     fn mark(&mut self, chan: u32)
         ensures marked { spec.is_marked self.new chan ≡ true }
         ensures kept { (other : ℕ) → spec.is_marked self.old other ≡ true → spec.is_marked self.new other ≡ true }
     {
         self.marks[chan as usize % MARKS] = true;
-    }
-}
-
-// The channel from which who asks receives.
-fn received_from(ask: &Ask) -> Option<u32>
-    ensures { (chan : ℕ) → receives chan ask.now ≡ true → result ≡ Some chan }
-{
-    match ask {
-        Ask::Recv(from) => *from,
-        _ => None,
     }
 }

@@ -1,6 +1,8 @@
 //! What a goroutine asks, what it is told, and the step of its log that keeps both.
 ghost use Rattle.std.specs.Prelude.{◌≡◌};
 
+use crate::Offers;
+
 /// What a goroutine would do with a channel; `None` stands for a nil channel.
 #[derive(Clone, Copy, Debug, PartialEq, Eq)]
 pub enum Offer {
@@ -27,6 +29,8 @@ pub enum Ask {
     Recv(Option<u32>),
     /// Close the channel of this number, or nil.
     Close(Option<u32>),
+    /// Do one of these with its channel, or none of them where none can go on and it has a default.
+    Select(Offers, bool),
     /// Lock the mutex or the rwmutex of this number.
     Lock(u32),
     /// Unlock the mutex or the rwmutex of this number.
@@ -54,6 +58,7 @@ impl Ask {
             Ask::Send(chan, value) => Ask::Send(*chan, *value),
             Ask::Recv(chan) => Ask::Recv(*chan),
             Ask::Close(chan) => Ask::Close(*chan),
+            Ask::Select(offers, has_default) => Ask::Select(offers.copy(), *has_default),
             Ask::Lock(lock) => Ask::Lock(*lock),
             Ask::Unlock(lock) => Ask::Unlock(*lock),
             Ask::RLock(lock) => Ask::RLock(*lock),
@@ -96,6 +101,10 @@ pub enum Answer {
     Value(u64),
     /// The channel is closed and has no value left.
     Closed,
+    /// A select went on by its offer of this number, counted from 0, and received that value, if it received one.
+    Chosen(u32, Option<u64>),
+    /// A select took its default.
+    DefaultTaken,
     /// The function of the once is to be run.
     Run,
     /// The function of the once had run.

@@ -1,6 +1,7 @@
 //! Which requests are bad.
-ghost use Rattle.std.specs.Prelude.{◌≡◌, ◌<◌, ◌||◌, not, is_some, IsTrue};
-ghost use Rattle.std.specs.List.{list_any};
+ghost use Rattle.std.specs.Prelude.{◌≡◌, ◌<◌, ◌||◌, ◌&&◌, not, nat_le, length, is_some, IsTrue};
+ghost use Rattle.race_records.specs.declared.cases.TheConstants.{MAX_CASES};
+ghost use Rattle.std.specs.List.{list_any, list_all};
 ghost use Rattle.race_records.specs.declared.kind.Kind.{Kind};
 ghost use Rattle.race_records.specs.Declarations.{count_of, counts_of, is_rw};
 ghost use Rattle.race_records.specs.Parts.{chan_is_in_range};
@@ -12,7 +13,7 @@ ghost use Rattle.race_hub.specs.Possible as possible;
 ghost use Rattle.race_hub.specs.Submits as spec;
 
 use crate::possible::is_number;
-use crate::{Ask, Waiter};
+use crate::{Ask, Offer, Offers, Waiter};
 use race_legal::Replay;
 use race_records::{Decls, Kind};
 use std::alloc::Allocator;
@@ -27,6 +28,29 @@ fn is_channel<A: Allocator>(decls: &Decls<A>, chan: Option<u32>) -> bool
     }
 }
 
+// The channel of the offer is, or it is nil.
+fn is_offered<A: Allocator>(decls: &Decls<A>, offer: Offer) -> bool
+    ensures { result ≡ possible.offer_is_in_range (count_of Kind.Chan decls.now.declarations) offer }
+{
+    match offer {
+        Offer::Send(chan, _) => is_channel(decls, chan),
+        Offer::Recv(chan) => is_channel(decls, chan),
+    }
+}
+
+// The channels of all offers are, of which a list has no more than it can have.
+fn are_channels<A: Allocator>(decls: &Decls<A>, offers: &Offers) -> bool
+    ensures { result ≡ (nat_le (length offers.now) MAX_CASES
+        && list_all (possible.offer_is_in_range (count_of Kind.Chan decls.now.declarations)) offers.now) }
+{
+    for k in 0..offers.len() {
+        if !is_offered(decls, offers.get(k)) {
+            return false;
+        }
+    }
+    true
+}
+
 // All that the ask names is declared.
 fn names_declared<A: Allocator>(decls: &Decls<A>, ask: &Ask) -> bool
     ensures { result ≡ possible.ask_is_in_range (counts_of decls.now.declarations) ask.now }
@@ -39,6 +63,7 @@ fn names_declared<A: Allocator>(decls: &Decls<A>, ask: &Ask) -> bool
         Ask::Send(chan, _) => is_channel(decls, *chan),
         Ask::Recv(chan) => is_channel(decls, *chan),
         Ask::Close(chan) => is_channel(decls, *chan),
+        Ask::Select(offers, _) => are_channels(decls, offers),
         Ask::Lock(lock) => *lock < decls.count(Kind::Lock),
         Ask::Unlock(lock) => *lock < decls.count(Kind::Lock),
         Ask::RLock(lock) => *lock < decls.count(Kind::Lock),

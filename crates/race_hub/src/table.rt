@@ -1,11 +1,11 @@
 //! The rows of the table: what a goroutine is told, and which event a step of its log fits.
-ghost use Rattle.std.specs.Prelude.{◌≡◌, ◌↔◌, if◌then◌else◌, Option, Some, None, IsTrue};
+ghost use Rattle.std.specs.Prelude.{ℕ, ◌≡◌, ◌≤◌, ◌↔◌, if◌then◌else◌, length, Option, Some, None, IsTrue, option_map};
 ghost use Rattle.race_hub.specs.declared.request.Answer.{Answer};
 ghost use Rattle.race_hub.specs.Table as spec;
-ghost use Rattle.race_hub.specs.Table.{done_by, IsRow, Fits};
-ghost use Rattle.race_hub.specs.Told.{told_if, told_sender, told_receiver, told_closer, told_by, is_way, told_at};
+ghost use Rattle.race_hub.specs.Table.{offers_of, done_by, IsRow, Fits, CanMake};
+ghost use Rattle.race_hub.specs.Told.{told_if, told_sender, told_receiver, told_closer, told_by, chosen, told_offer, told_selector, is_way, told_at};
 
-use crate::{Answer, Ask, Step};
+use crate::{Answer, Ask, Offer, Offers, Step};
 use race_records::{Cause, Event, Op};
 
 // What is told, where the test passes.
@@ -93,7 +93,45 @@ fn tells_doer(once: u32, done: &Op) -> Option<Option<Answer>>
     }
 }
 
-// What is told who asks and did that, by whatever way.
+// What is told who asks by its offer of this number, where a plain one is told that.
+fn tells_chosen(way: u32, told: Option<Option<Answer>>) -> Option<Option<Answer>>
+    ensures { result ≡ option_map (option_map (chosen way)) told }
+{
+    match told {
+        Some(Some(Answer::Value(value))) => Some(Some(Answer::Chosen(way, Some(value)))),
+        Some(Some(_)) => Some(Some(Answer::Chosen(way, None))),
+        Some(None) => Some(None),
+        None => None,
+    }
+}
+
+// What is told who went on by that offer, which is its offer of this number.
+fn tells_offer(way: u32, offer: Offer, done: &Op) -> Option<Option<Answer>>
+    ensures { result ≡ told_offer way offer done.now }
+{
+    match offer {
+        Offer::Send(chan, value) => tells_chosen(way, tells_sender(chan, value, done)),
+        Offer::Recv(chan) => tells_chosen(way, tells_receiver(chan, done)),
+    }
+}
+
+// What is told who asks to select.
+fn tells_selector(offers: &Offers, has_default: bool, way: u32, done: &Op) -> Option<Option<Answer>>
+    ensures { result ≡ told_selector offers.now has_default way done.now }
+{
+    if let Op::Default(cases) = done {
+        return tells(
+            has_default && *cases == offers.cases(),
+            Some(Answer::DefaultTaken),
+        );
+    }
+    if way as usize >= offers.len() {
+        return None;
+    }
+    tells_offer(way, offers.get(way as usize), done)
+}
+
+// What is told who asks, but to select, and did that, by whatever way.
 fn tells_by(ask: &Ask, done: &Op) -> Option<Option<Answer>>
     ensures { result ≡ told_by ask.now done.now }
 {
@@ -132,6 +170,7 @@ fn tells_by(ask: &Ask, done: &Op) -> Option<Option<Answer>>
             Op::OnceEnd(ended) => tells(*ended == *once, Some(Answer::Unit)),
             _ => None,
         },
+        Ask::Select(_, _) => None,
     }
 }
 
@@ -140,6 +179,7 @@ fn tells_at(ask: &Ask, way: u32, done: &Op) -> Option<Option<Answer>>
     ensures { result ≡ told_at ask.now way done.now }
 {
     let has_way = match ask {
+        Ask::Select(offers, has_default) => return tells_selector(offers, *has_default, way, done),
         Ask::Send(_, _) => way == 0,
         Ask::Recv(_) => way == 0,
         _ => true,
@@ -194,6 +234,32 @@ fn is_told(row: Option<Option<Answer>>, told: Option<Answer>) -> bool
     }
 }
 
+/// How many offers the ask has.
+pub(crate) fn offer_count(ask: &Ask) -> u32
+    ensures count { result ≡ length (offers_of ask.now) }
+    ensures few { result ≤ 16 }
+{
+    match ask {
+        Ask::Send(_, _) => 1,
+        Ask::Recv(_) => 1,
+        Ask::Select(offers, _) => offers.len() as u32,
+        _ => 0,
+    }
+}
+
+// Whether by some way the table has a row that tells that.
+fn is_told_by_some_way(who: u32, step: &Step, op: &Op) -> bool
+    ensures { IsTrue result ↔ ((k : ℕ) × IsRow step.now.asked.ask k (done_by who op.now) step.now.told) }
+{
+    // By its default, as an ask without offers, it goes on by the way behind them.
+    for way in 0..offer_count(&step.asked.ask) + 1 {
+        if is_told(answer_of(who, &step.asked.ask, way, op), step.told) {
+            return true;
+        }
+    }
+    false
+}
+
 /// Whether the step of a goroutine's log fits the event.
 pub fn fits_step(who: u32, step: &Step, event: &Event) -> bool
     ensures { IsTrue result ↔ Fits who step.now event.now }
@@ -201,5 +267,17 @@ pub fn fits_step(who: u32, step: &Step, event: &Event) -> bool
     if place_of(who, event) != Some(step.asked.place) {
         return false;
     }
-    is_told(answer_of(who, &step.asked.ask, 0, &event.op), step.told)
+    is_told_by_some_way(who, step, &event.op)
+}
+
+/// Whether the table has a row for what the goroutine asks and what it does in an event with this operation.
+pub fn can_make(who: u32, ask: &Ask, op: &Op) -> bool
+    ensures { IsTrue result ↔ CanMake who ask.now op.now }
+{
+    for way in 0..offer_count(ask) + 1 {
+        if answer_of(who, ask, way, op).is_some() {
+            return true;
+        }
+    }
+    false
 }

@@ -7,10 +7,30 @@ use race_records::{Decls, Kind, Object};
 use std::alloc::{AllocError, Global};
 use std::test::Fail;
 
+// An ask but for a select, of which no table can be written down.
+#[derive(Clone, Copy, Debug)]
+enum Plain {
+    Go(u32),
+    Read(u32),
+    Write(u32, u64),
+    Recv(Option<u32>),
+    Close(Option<u32>),
+}
+
+fn ask_of(plain: Plain) -> Ask {
+    match plain {
+        Plain::Go(goroutine) => Ask::Go(goroutine),
+        Plain::Read(var) => Ask::Read(var),
+        Plain::Write(var, value) => Ask::Write(var, value),
+        Plain::Recv(chan) => Ask::Recv(chan),
+        Plain::Close(chan) => Ask::Close(chan),
+    }
+}
+
 // Asks these one after another, and exits.
 #[derive(Drop)]
 struct Asks {
-    asks: &'static [Ask],
+    asks: &'static [Plain],
     asked: usize,
 }
 
@@ -23,7 +43,7 @@ impl Routine for Asks {
         let at = self.asked;
         self.asked = at.saturating_add(1);
         let ask = if at < self.asks.len() {
-            self.asks[at].copy()
+            ask_of(self.asks[at])
         } else {
             Ask::Exit
         };
@@ -60,7 +80,7 @@ fn declared(alloc: Global) -> Result<Decls, Fail> {
     Ok(decls)
 }
 
-fn box_of(asks: &'static [Ask]) -> Asks {
+fn box_of(asks: &'static [Plain]) -> Asks {
     Asks { asks, asked: 0 }
 }
 
@@ -190,7 +210,7 @@ fn played<R: Routine>(hub: &mut Hub<R>, rows: &[Row]) -> Result<usize, AllocErro
 }
 
 // Plays the rows on a new hub of main, which asks these, and w, which exits at once.
-fn played_by(alloc: Global, main: &'static [Ask], rows: &[Row]) -> Result<usize, Fail> {
+fn played_by(alloc: Global, main: &'static [Plain], rows: &[Row]) -> Result<usize, Fail> {
     let boxes = vec![in alloc; box_of(main), box_of(&[])]?;
     let mut hub = Hub::new(alloc, declared(alloc)?, 8, boxes)?;
     Ok(played(&mut hub, rows)?)
@@ -241,11 +261,11 @@ static LIMIT: [Row; 10] = [
 #[test]
 fn a_hub_ends_by_what_is_asked(rt: HostRuntime) -> Result<(), Fail> {
     let alloc = rt.alloc();
-    let tables: [(&'static [Ask], &'static [Row]); 4] = [
+    let tables: [(&'static [Plain], &'static [Row]); 4] = [
         (&[], &NEW),
-        (&[Ask::Go(0)], &BAD),
-        (&[Ask::Close(None)], &FAULT),
-        (&[Ask::Recv(None)], &DEADLOCK),
+        (&[Plain::Go(0)], &BAD),
+        (&[Plain::Close(None)], &FAULT),
+        (&[Plain::Recv(None)], &DEADLOCK),
     ];
     for at in 0..4 {
         let (main, rows) = tables[at];
@@ -257,7 +277,7 @@ fn a_hub_ends_by_what_is_asked(rt: HostRuntime) -> Result<(), Fail> {
 #[test]
 fn a_hub_ends_at_its_limit(rt: HostRuntime) -> Result<(), Fail> {
     let alloc = rt.alloc();
-    let main: Box<dyn Routine + Send> = Box::new(alloc, box_of(&[Ask::Go(1), Ask::Read(0)]))?;
+    let main: Box<dyn Routine + Send> = Box::new(alloc, box_of(&[Plain::Go(1), Plain::Read(0)]))?;
     let other: Box<dyn Routine + Send> = Box::new(alloc, Writes { value: 5 })?;
     let boxes = vec![in alloc; Boxed(main), Boxed(other)]?;
     assert_eq!(rt; limited(alloc, boxes)?, (10, Some(0), None));
@@ -334,7 +354,7 @@ fn finished<R: Routine>(hub: Hub<R>) -> Finished {
 fn finished_by(
     alloc: Global,
     limit: u32,
-    asks: (&'static [Ask], &'static [Ask]),
+    asks: (&'static [Plain], &'static [Plain]),
     rows: &[Row],
 ) -> Result<(usize, Finished), Fail> {
     let boxes = vec![in alloc; box_of(asks.0), box_of(asks.1)]?;
@@ -346,36 +366,36 @@ fn finished_by(
 #[test]
 fn a_hub_is_recorded_once_it_has_ended(rt: HostRuntime) -> Result<(), Fail> {
     let alloc = rt.alloc();
-    let goes: &'static [Ask] = &[Ask::Go(1), Ask::Read(0)];
-    let tables: [(u32, (&'static [Ask], &'static [Ask]), &[Row], Finished); 6] = [
+    let goes: &'static [Plain] = &[Plain::Go(1), Plain::Read(0)];
+    let tables: [(u32, (&'static [Plain], &'static [Plain]), &[Row], Finished); 6] = [
         (8, (&[], &[]), &[], Err(Mismatch::NotEnded)),
         (
             2,
-            (goes, &[Ask::Write(0, 5)]),
+            (goes, &[Plain::Write(0, 5)]),
             &LIMIT[..9],
             Err(Mismatch::Out(0)),
         ),
         (
             2,
-            (goes, &[Ask::Write(0, 5)]),
+            (goes, &[Plain::Write(0, 5)]),
             &LIMIT,
             Ok((End::Limit, 1, 1, true, false)),
         ),
         (
             8,
-            (&[Ask::Recv(None)], &[]),
+            (&[Plain::Recv(None)], &[]),
             &DEADLOCK,
             Ok((End::Deadlock, 0, 0, true, false)),
         ),
         (
             8,
-            (&[Ask::Go(0)], &[]),
+            (&[Plain::Go(0)], &[]),
             &BAD,
             Ok((End::Bad(0), 0, 0, true, false)),
         ),
         (
             8,
-            (&[Ask::Close(None)], &[]),
+            (&[Plain::Close(None)], &[]),
             &FAULT,
             Ok((End::Fault, 1, 0, false, false)),
         ),
@@ -387,7 +407,7 @@ fn a_hub_is_recorded_once_it_has_ended(rt: HostRuntime) -> Result<(), Fail> {
     Ok(())
 }
 
-fn hub_of(alloc: Global, main: &'static [Ask]) -> Result<Hub<Asks>, Fail> {
+fn hub_of(alloc: Global, main: &'static [Plain]) -> Result<Hub<Asks>, Fail> {
     let boxes = vec![in alloc; box_of(main), box_of(&[])]?;
     Ok(Hub::new(alloc, declared(alloc)?, 8, boxes)?)
 }
@@ -418,7 +438,7 @@ fn go_on<R: Routine>(hub: &mut Hub<R>) -> Result<bool, Fail> {
 #[test]
 fn a_job_of_another_hub_is_no_part(rt: HostRuntime) -> Result<(), Fail> {
     let alloc = rt.alloc();
-    let mut writes = hub_of(alloc, &[Ask::Write(0, 5)])?;
+    let mut writes = hub_of(alloc, &[Plain::Write(0, 5)])?;
     let mut exits = hub_of(alloc, &[])?;
     assert!(rt; go_on(&mut writes)?);
     let own = writes.take();

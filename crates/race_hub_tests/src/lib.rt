@@ -3,3 +3,5 @@
 
 #[cfg(test)]
 mod hubs;
+#[cfg(test)]
+mod selects;

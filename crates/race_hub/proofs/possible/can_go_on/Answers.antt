@@ -5,8 +5,8 @@ use Rattle.race_hub.proofs.PossibleLemmas.{each_row}
 use Rattle.race_hub.proofs.possible.can_go_on.Goals as goal
 
 pub returns : goal.returns
-returns g c past way S =
+returns g c past S =
     let D = c.args.decls.now.declarations in
     c.acts.ensures
     ∙ (λ i. not (c.over.ensures D past S i) && (c.runs.ensures D past S i && c.ask_can-can.ensures past S i))
-    ∙ sym (each_row (capacity_of D) past c.args.waiter.now way)
+    ∙ sym (each_row (capacity_of D) past c.args.waiter.now c.args.way)

@@ -1,6 +1,5 @@
-use Rattle.std.proofs.Common.{◌≡◌, ◌∙◌, ◌∷◌, [], sym, ap, slice_set, slice_get, length, length-append, arith, get_or}
+use Rattle.std.proofs.Common.{◌≡◌, ◌∙◌, ◌∷◌, [], ◌++◌, sym, ap, slice_set, slice_get, length, length-append, arith, get_or}
 use Rattle.std.proofs.lemmas.Option.{slice_get-get_or}
-use Rattle.race_hub.specs.declared.request.Ask.{Ask}
 use Rattle.race_hub.specs.declared.request.Waiter.{Waiter}
 use Rattle.race_hub.specs.Finish.{placed, logs_behind}
 use Rattle.race_hub.specs.Tracks.{fresh}
@@ -19,17 +18,25 @@ loop-behind-preserved-then-at-waiting g c =
     let parked = c.loop-behind.yielded in
     let less = c.if-at-waiting.true in
     let at = c.loop-behind.invariant.at in
-    let same : c.loop-behind.at ≡ length parked = omega (arith, at, less) in
     let more = length-append parked (c.in-Some.behind ∷ []) in
-    let none : Waiter = record { who = 0; asked = record { ask = Ask.Go 0; place = 0 } } in
-    let w = get_or waiting c.loop-behind.at none in
-    let there = ap (slice_get waiting) (sym same) ∙ slice_get-get_or waiting c.loop-behind.at none less in
     record {
-      places = c.put.ensures ∙ (λ i. slice_set (c.loop-behind.invariant.places i) w.who (fresh (c.into_log.ensures i)))
-          ∙ sym (placed_one (logs_behind waiting parked) w.who c.in-Some.behind.log c.args.tracks.now.items)
-          ∙ ap (λ logs. placed logs c.args.tracks.now.items) (sym (behind_next waiting parked c.in-Some.behind w there));
+      places = by _ c.put.ensures;
       at = omega (arith, at, less, more);
     }
+  where
+    by : (d : Waiter) → c.put.new.tracks.items ≡ slice_set c.loop-behind.tracks.items (get_or c.args.waiting.now c.loop-behind.at d).who (fresh c.into_log.result.items)
+        → c.put.new.tracks.items ≡ placed (logs_behind c.args.waiting.now (c.loop-behind.yielded ++ c.in-Some.behind ∷ [])) c.args.tracks.now.items
+    by d put =
+        let waiting = c.args.waiting.now in
+        let parked = c.loop-behind.yielded in
+        let less = c.if-at-waiting.true in
+        let at = c.loop-behind.invariant.at in
+        let same : c.loop-behind.at ≡ length parked = omega (arith, at, less) in
+        let w = get_or waiting c.loop-behind.at d in
+        let there = ap (slice_get waiting) (sym same) ∙ slice_get-get_or waiting c.loop-behind.at d less in
+        put ∙ (λ i. slice_set (c.loop-behind.invariant.places i) w.who (fresh (c.into_log.ensures i)))
+        ∙ sym (placed_one (logs_behind waiting parked) w.who c.in-Some.behind.log c.args.tracks.now.items)
+        ∙ ap (λ logs. placed logs c.args.tracks.now.items) (sym (behind_next waiting parked c.in-Some.behind w there))
 
 pub loop-behind-preserved : goal.loop-behind-preserved
 loop-behind-preserved g c =

@@ -9,4 +9,4 @@ lone_event-requires g c =
     (rw c.run.ensures.declarations c.requires)
 
 pub returns : goal.returns
-returns g c way = c.lone_event.ensures c.run.result.1.now.declarations c.args.self.now.past c.run.ensures.stands way
+returns g c = c.lone_event.ensures c.run.result.1.now.declarations c.args.self.now.past c.run.ensures.stands

@@ -20,6 +20,6 @@ can_go_on-requires-clause-range g c =
     ask_is r.1.now.declarations r.0.now c.args.self.now.past c.run.ensures.stands c.args.waiter.now (rw c.run.ensures.declarations c.requires)
 
 pub returns : goal.returns
-returns g c way =
-    c.can_go_on.ensures c.args.self.now.past way c.run.ensures.stands
-    ∙ ap (λ ds. is_legal_next (capacity_of ds) c.args.self.now.past (lone_event c.args.self.now.past c.args.waiter.now way)) c.run.ensures.declarations
+returns g c =
+    c.can_go_on.ensures c.args.self.now.past c.run.ensures.stands
+    ∙ ap (λ ds. is_legal_next (capacity_of ds) c.args.self.now.past (lone_event c.args.self.now.past c.args.waiter.now c.args.way)) c.run.ensures.declarations

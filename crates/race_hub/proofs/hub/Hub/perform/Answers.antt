@@ -49,7 +49,7 @@ after_of g c = record {
   events = c.push.new.self.events;
   limit = c.self.inside.limit;
   ready = c.start.new.ready.items;
-  waiting = c.take_out-other.new.list.items;
+  waiting = c.take_out-waiter.new.list.items;
   parked = c.take_out-parked.new.list.items;
   out = c.reserve-2.new.self.items;
   unstarted = c.start.new.unstarted.items;
@@ -59,13 +59,13 @@ after_of g c = record {
 
 abbrev moved : (g : given.Over) (c : goal.After-start g) → Moves (hub_state c.self.inside) (after_of g c) c.args.firing
 moved g c = record {
-  w = c.take_out-other.result.0;
+  w = c.take_out-waiter.result.0;
   p = c.take_out-parked.result.0;
-  asks = c.take_out-other.ensures.first;
+  asks = c.take_out-waiter.ensures.first;
   decls = c.in-Ok-push.ensures.decls ∙ c.reserve-4.ensures.unchanged.decls;
   events = c.in-Ok-push.ensures.events ∙ ap (λ es. es ++ c.args.firing.event ∷ []) c.reserve-4.ensures.unchanged.events;
   limit = refl;
-  waiting = c.take_out-other.ensures.list;
+  waiting = c.take_out-waiter.ensures.list;
   parked = c.take_out-parked.ensures.list;
   out = c.reserve-2.ensures.items;
   ready = rw (
@@ -73,7 +73,7 @@ moved g c = record {
     c.partner_on.ensures.ready,
     c.go_on.ensures.ready,
     c.reserve.ensures.items,
-    c.take_out-other.ensures.second,
+    c.take_out-waiter.ensures.second,
     c.take_out-parked.ensures.second,
     c.started_in-started.ensures,
   ) refl;
@@ -106,14 +106,14 @@ fired g c =
     let old = hub_state c.self.inside in
     let firing = subst (λ h. IsFiring h c.args.firing) (sym c.self.view_is) c.requires.firing in
     let m = moved g c in
-    let same = some_is (sym firing.rows.asks ∙ c.take_out-other.ensures.first) in
+    let same = some_is (sym firing.rows.asks ∙ c.take_out-waiter.ensures.first) in
     record {
-      w = c.take_out-other.result.0;
+      w = c.take_out-waiter.result.0;
       p = c.take_out-parked.result.0;
       e = c.args.firing.event;
       told = c.args.firing.told;
       partner_told = c.args.firing.partner;
-      asks = c.take_out-other.ensures.first;
+      asks = c.take_out-waiter.ensures.first;
       behind = c.take_out-parked.ensures.first;
       makes = firing.makes;
       legal = firing.legal;

@@ -13,9 +13,9 @@ invariant_of-self-then-bad g c =
     let len = c.take_first.ensures.len in
     let cap = c.take_first.ensures.room in
     let old = hub_state c.self.inside in
-    let w = c.park-parked.result.0 in
+    let w = c.park-waiter.result.0 in
     let among = back_was_out old c.args.job c.is_back.result w.who (c.is_back.ensures ∙ ap (λ h. is_back h c.args.job) (sym c.self.view_is))
-    c.if-not-is_back.false c.park-parked.ensures.who in
+    c.if-not-is_back.false c.park-waiter.ensures.who in
     let new : HubState g.row.R.Denot = record {
       decls = old.decls;
       events = old.events;
@@ -29,14 +29,14 @@ invariant_of-self-then-bad g c =
       bad = Some w.who;
     } in
     let same = test_same old c.reserve.new.self.items c.reserve-else-is_err.new.self.items w c.reserve.ensures.items c.reserve-else-is_err.ensures.items in (
-      joined_badly c.self.inside.replay old new w c.park-parked.result.1
+      joined_badly c.self.inside.replay old new w c.park-waiter.result.1
           (record {
             decls = refl;
             events = refl;
             limit = refl;
             ready = refl;
             waiting = c.push_reserved.ensures.items ∙ ap (λ xs. xs ++ w ∷ []) c.reserve.ensures.items;
-            parked = c.push_reserved-2.ensures.items ∙ ap (λ xs. xs ++ c.park-parked.result.1 ∷ []) c.reserve-else-is_err.ensures.items;
+            parked = c.push_reserved-2.ensures.items ∙ ap (λ xs. xs ++ c.park-waiter.result.1 ∷ []) c.reserve-else-is_err.ensures.items;
             out = c.take_first.ensures.count;
             gone = λ k.
                 ap (λ xs. count_by (λ o. o == k) xs + cond (w.who == k) 1 0) c.take_first.ensures.numbers ∙ first_gone old.out w.who k among;
@@ -51,13 +51,13 @@ invariant_of-self-then-bad g c =
 pub returns-then-bad-clause-bad : goal.returns-then-bad-clause-bad
 returns-then-bad-clause-bad g c _ =
     let old = hub_state c.self.inside in
-    let w = c.park-parked.result.0 in
-    let who = c.park-parked.ensures.who in
+    let w = c.park-waiter.result.0 in
+    let who = c.park-waiter.ensures.who in
     let among = back_was_out old c.args.job c.is_back.result w.who (c.is_back.ensures ∙ ap (λ h. is_back h c.args.job) (sym c.self.view_is))
     c.if-not-is_back.false who in
     let same = test_same old c.reserve.new.self.items c.reserve-else-is_err.new.self.items w c.reserve.ensures.items c.reserve-else-is_err.ensures.items in
     let ends : ends_hub old c.args.job ≡ true =
-    ends_by old c.args.job w among who c.park-parked.ensures.asked (sym same ∙ sym c.is_bad-bad.ensures ∙ c.if-bad.true) in
+    ends_by old c.args.job w among who c.park-waiter.ensures.asked (sym same ∙ sym c.is_bad-bad.ensures ∙ c.if-bad.true) in
     let new : HubState g.row.R.Denot = record {
       decls = old.decls;
       events = old.events;
@@ -72,11 +72,11 @@ returns-then-bad-clause-bad g c _ =
     } in
     let submits : Submits old c.args.job new = record {
       asked = w.asked;
-      asks = c.park-parked.ensures.asked;
+      asks = c.park-waiter.ensures.asked;
       waiting = c.push_reserved.ensures.items ∙ ap (λ xs. xs ++ w ∷ []) c.reserve.ensures.items
           ∙ ap (λ n. old.waiting ++ record { who = n; asked = w.asked } ∷ []) who;
-      parked = c.push_reserved-2.ensures.items ∙ ap (λ xs. xs ++ c.park-parked.result.1 ∷ []) c.reserve-else-is_err.ensures.items
-          ∙ ap (λ p. old.parked ++ p ∷ []) c.park-parked.ensures.parked;
+      parked = c.push_reserved-2.ensures.items ∙ ap (λ xs. xs ++ c.park-waiter.result.1 ∷ []) c.reserve-else-is_err.ensures.items
+          ∙ ap (λ p. old.parked ++ p ∷ []) c.park-waiter.ensures.parked;
       out = c.take_first.ensures.numbers ∙ ap (λ n. without_first n old.out) who;
       bad = ap Some who ∙ sym (ap (λ b. if b then Some c.args.job.who else old.bad) ends);
       same = (refl, refl, refl, refl, refl, refl);
@@ -91,9 +91,9 @@ invariant_of-self-else-bad g c =
     let len = c.take_first.ensures.len in
     let cap = c.take_first.ensures.room in
     let old = hub_state c.self.inside in
-    let w = c.park-parked.result.0 in
+    let w = c.park-waiter.result.0 in
     let among = back_was_out old c.args.job c.is_back.result w.who (c.is_back.ensures ∙ ap (λ h. is_back h c.args.job) (sym c.self.view_is))
-    c.if-not-is_back.false c.park-parked.ensures.who in
+    c.if-not-is_back.false c.park-waiter.ensures.who in
     let new : HubState g.row.R.Denot = record {
       decls = old.decls;
       events = old.events;
@@ -107,14 +107,14 @@ invariant_of-self-else-bad g c =
       bad = old.bad;
     } in
     let same = test_same old c.reserve.new.self.items c.reserve-else-is_err.new.self.items w c.reserve.ensures.items c.reserve-else-is_err.ensures.items in (
-      joined_well c.self.inside.replay old new w c.park-parked.result.1
+      joined_well c.self.inside.replay old new w c.park-waiter.result.1
           (record {
             decls = refl;
             events = refl;
             limit = refl;
             ready = refl;
             waiting = c.push_reserved.ensures.items ∙ ap (λ xs. xs ++ w ∷ []) c.reserve.ensures.items;
-            parked = c.push_reserved-2.ensures.items ∙ ap (λ xs. xs ++ c.park-parked.result.1 ∷ []) c.reserve-else-is_err.ensures.items;
+            parked = c.push_reserved-2.ensures.items ∙ ap (λ xs. xs ++ c.park-waiter.result.1 ∷ []) c.reserve-else-is_err.ensures.items;
             out = c.take_first.ensures.count;
             gone = λ k.
                 ap (λ xs. count_by (λ o. o == k) xs + cond (w.who == k) 1 0) c.take_first.ensures.numbers ∙ first_gone old.out w.who k among;

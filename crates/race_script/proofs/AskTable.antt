@@ -1,5 +1,5 @@
 -- The table of what asks say, and its way back; and the table of the words of lines.
-use Rattle.std.proofs.Common.{◌≡◌, ℕ, ◌^◌, ◌&&◌, Bool, true, false, true≢false, nat_lt, if◌then◌else◌, List, [], ◌∷◌, ◌++◌, map, codes, Option, Some, None, option_map, refl, sym, ap, ◌∙◌}
+use Rattle.std.proofs.Common.{◌≡◌, ℕ, ◌^◌, ◌&&◌, Bool, true, false, true≢false, nat_lt, if◌then◌else◌, List, [], ◌∷◌, ◌++◌, map, codes, Option, Some, None, IfSome, option_map, refl, sym, ap, subst, ◌∙◌}
 use Rattle.std.proofs.lemmas.Option.{none-some, same_Some}
 use Rattle.std.proofs.lemmas.Slice.Eq.{bytes_eq-Decides}
 use Rattle.std.specs.List.{list_all}
@@ -12,6 +12,7 @@ use Rattle.race_records.specs.Declarations.{Declaration, counts_of, is_rw, is_na
 use Rattle.race_records.specs.Name.{is_place_byte}
 use Rattle.race_records.specs.Parts.{object_alone, object_value, suit, part_fits, part_is_limited}
 use Rattle.race_hub.specs.declared.request.Ask.{Ask}
+use Rattle.race_hub.specs.declared.request.Offer.{Offer}
 use Rattle.race_text.specs.declared.form.Word.{Word}
 use Rattle.race_text.specs.Fault.{declared_as}
 use Rattle.race_text.specs.Form.{word_named}
@@ -26,24 +27,44 @@ use Rattle.race_script.specs.Form.{lookup, noun_or, line_word, ask_kinds, value_
 use Rattle.race_script.specs.Program.{ask_fits}
 use Rattle.race_script.specs.Text.{ask_words}
 
--- what is asked, by its word and parts
-abbrev pub ask_says : Ask → AskWord × List Part
-ask_says (Ask.Go h) = (AskWord.Go, Part.Object (Named.Goroutine h) ∷ [])
-ask_says Ask.Exit = (AskWord.Exit, [])
-ask_says (Ask.Read x) = (AskWord.Read, Part.Object (Named.Var x) ∷ [])
-ask_says (Ask.Write x v) = (AskWord.Write, Part.Object (Named.Var x) ∷ Part.Value v ∷ [])
-ask_says (Ask.Send (Some c) v) = (AskWord.Send, Part.Object (Named.Chan c) ∷ Part.Value v ∷ [])
-ask_says (Ask.Send None v) = (AskWord.SendNil, Part.Value v ∷ [])
-ask_says (Ask.Recv (Some c)) = (AskWord.Recv, Part.Object (Named.Chan c) ∷ [])
-ask_says (Ask.Recv None) = (AskWord.RecvNil, [])
-ask_says (Ask.Close (Some c)) = (AskWord.Close, Part.Object (Named.Chan c) ∷ [])
-ask_says (Ask.Close None) = (AskWord.CloseNil, [])
-ask_says (Ask.Lock l) = (AskWord.Lock, Part.Object (Named.Lock l) ∷ [])
-ask_says (Ask.Unlock l) = (AskWord.Unlock, Part.Object (Named.Lock l) ∷ [])
-ask_says (Ask.RLock l) = (AskWord.RLock, Part.Object (Named.Lock l) ∷ [])
-ask_says (Ask.RUnlock l) = (AskWord.RUnlock, Part.Object (Named.Lock l) ∷ [])
-ask_says (Ask.Do o) = (AskWord.Do, Part.Object (Named.Once o) ∷ [])
-ask_says (Ask.EndDo o) = (AskWord.EndDo, Part.Object (Named.Once o) ∷ [])
+-- an ask's word and parts
+abbrev pub SaidAsk : Type 0
+SaidAsk = AskWord × List Part
+
+-- what is asked, by its word and parts; a select is in no table
+abbrev pub ask_says : Ask → Option SaidAsk
+ask_says (Ask.Go h) = Some (AskWord.Go, Part.Object (Named.Goroutine h) ∷ [])
+ask_says Ask.Exit = Some (AskWord.Exit, [])
+ask_says (Ask.Read x) = Some (AskWord.Read, Part.Object (Named.Var x) ∷ [])
+ask_says (Ask.Write x v) = Some (AskWord.Write, Part.Object (Named.Var x) ∷ Part.Value v ∷ [])
+ask_says (Ask.Send (Some c) v) = Some (AskWord.Send, Part.Object (Named.Chan c) ∷ Part.Value v ∷ [])
+ask_says (Ask.Send None v) = Some (AskWord.SendNil, Part.Value v ∷ [])
+ask_says (Ask.Recv (Some c)) = Some (AskWord.Recv, Part.Object (Named.Chan c) ∷ [])
+ask_says (Ask.Recv None) = Some (AskWord.RecvNil, [])
+ask_says (Ask.Close (Some c)) = Some (AskWord.Close, Part.Object (Named.Chan c) ∷ [])
+ask_says (Ask.Close None) = Some (AskWord.CloseNil, [])
+ask_says (Ask.Select offers has_default) = None
+ask_says (Ask.Lock l) = Some (AskWord.Lock, Part.Object (Named.Lock l) ∷ [])
+ask_says (Ask.Unlock l) = Some (AskWord.Unlock, Part.Object (Named.Lock l) ∷ [])
+ask_says (Ask.RLock l) = Some (AskWord.RLock, Part.Object (Named.Lock l) ∷ [])
+ask_says (Ask.RUnlock l) = Some (AskWord.RUnlock, Part.Object (Named.Lock l) ∷ [])
+ask_says (Ask.Do o) = Some (AskWord.Do, Part.Object (Named.Once o) ∷ [])
+ask_says (Ask.EndDo o) = Some (AskWord.EndDo, Part.Object (Named.Once o) ∷ [])
+
+-- what holds of all that is said holds of this
+pub so_it_says : (Holds : SaidAsk → Type 0) (said : Option SaidAsk) (it : SaidAsk) → said ≡ Some it → IfSome said Holds → Holds it
+so_it_says Holds said it is h = subst (λ o. IfSome o Holds) is h
+
+-- where nothing is, it is a select
+pub selects_alone : (ask : Ask) → ask_says ask ≡ None → (offers : List Offer) × (has_default : Bool) × (ask ≡ Ask.Select offers has_default)
+selects_alone (Ask.Select offers has_default) h = (offers, has_default, refl)
+selects_alone (Ask.Send None v) h = absurd (none-some _ (sym h))
+selects_alone (Ask.Send (Some c) v) h = absurd (none-some _ (sym h))
+selects_alone (Ask.Recv None) h = absurd (none-some _ (sym h))
+selects_alone (Ask.Recv (Some c)) h = absurd (none-some _ (sym h))
+selects_alone (Ask.Close None) h = absurd (none-some _ (sym h))
+selects_alone (Ask.Close (Some c)) h = absurd (none-some _ (sym h))
+selects_alone _ h = absurd (none-some _ (sym h))
 
 -- the words in front of the parts
 abbrev pub front_words : AskWord → List (List ℕ)
@@ -66,23 +87,25 @@ front_words AskWord.EndDo = codes "enddo" ∷ []
 
 -- the words of an ask are those that it says
 pub ask_words_are : (ds : List Declaration) (place : List ℕ) (ask : Ask)
-    → ask_words ds place ask ≡ front_words (ask_says ask).0 ++ (map (part_text ds) (ask_says ask).1 ++ place ∷ [])
+    → IfSome (ask_says ask) (λ said. ask_words ds place ask ≡ front_words said.0 ++ (map (part_text ds) said.1 ++ place ∷ []))
 ask_words_are ds place (Ask.Send None v) = refl
 ask_words_are ds place (Ask.Send (Some c) v) = refl
 ask_words_are ds place (Ask.Recv None) = refl
 ask_words_are ds place (Ask.Recv (Some c)) = refl
 ask_words_are ds place (Ask.Close None) = refl
 ask_words_are ds place (Ask.Close (Some c)) = refl
+ask_words_are ds place (Ask.Select offers has_default) = tt
 ask_words_are ds place _ = refl
 
 -- what an ask says leads back to it
-pub says_again : (ask : Ask) → ask_by (ask_says ask).0 (ask_says ask).1 ≡ Some ask
+pub says_again : (ask : Ask) → IfSome (ask_says ask) (λ said. ask_by said.0 said.1 ≡ Some ask)
 says_again (Ask.Send None v) = refl
 says_again (Ask.Send (Some c) v) = refl
 says_again (Ask.Recv None) = refl
 says_again (Ask.Recv (Some c)) = refl
 says_again (Ask.Close None) = refl
 says_again (Ask.Close (Some c)) = refl
+says_again (Ask.Select offers has_default) = tt
 says_again _ = refl
 
 -- what is named, by its kind and its number
@@ -123,31 +146,31 @@ value_again (Part.Value w ∷ []) v e = ap (λ n. Part.Value n ∷ []) (same_Som
 value_again _ v e = absurd (none-some v e)
 
 -- where parts of a form give an ask, it says these parts
-made_says : {X : Type 0} (make : X → Ask) (said : X → AskWord × List Part) → ((x : X) → ask_says (make x) ≡ said x)
+made_says : {X : Type 0} (make : X → Ask) (said : X → SaidAsk) → ((x : X) → ask_says (make x) ≡ Some (said x))
     → (found : Option X) (ask : Ask) (word : AskWord) (parts : List Part)
-    → ((x : X) → found ≡ Some x → said x ≡ (word, parts)) → option_map make found ≡ Some ask → ask_says ask ≡ (word, parts)
-made_says make said is (Some x) ask word parts again e = ap ask_says (sym (same_Some (make x) ask e)) ∙ is x ∙ again x refl
+    → ((x : X) → found ≡ Some x → said x ≡ (word, parts)) → option_map make found ≡ Some ask → ask_says ask ≡ Some (word, parts)
+made_says make said is (Some x) ask word parts again e = ap ask_says (sym (same_Some (make x) ask e)) ∙ is x ∙ ap Some (again x refl)
 made_says make said is None ask word parts again e = absurd (none-some ask e)
 
 -- what is asked by a word and parts says these
-pub ask_by_says : (word : AskWord) (parts : List Part) (ask : Ask) → ask_by word parts ≡ Some ask → ask_says ask ≡ (word, parts)
+pub ask_by_says : (word : AskWord) (parts : List Part) (ask : Ask) → ask_by word parts ≡ Some ask → ask_says ask ≡ Some (word, parts)
 ask_by_says word parts ask e = by word e
   where
-    alone : (make : ℕ → Ask) (word : AskWord) (kind : Kind) → ((n : ℕ) → ask_says (make n) ≡ (word, Part.Object (named_by kind n) ∷ []))
-        → option_map make (object_alone kind parts) ≡ Some ask → ask_says ask ≡ (word, parts)
+    alone : (make : ℕ → Ask) (word : AskWord) (kind : Kind) → ((n : ℕ) → ask_says (make n) ≡ Some (word, Part.Object (named_by kind n) ∷ []))
+        → option_map make (object_alone kind parts) ≡ Some ask → ask_says ask ≡ Some (word, parts)
     alone make word kind says_it e = made_says make (λ n. (word, Part.Object (named_by kind n) ∷ [])) says_it (object_alone kind parts) ask word parts
         (λ n found i. (word, sym (alone_again kind parts n found) i)) e
 
-    valued_by : (make : ℕ × ℕ → Ask) (word : AskWord) (kind : Kind) → ((p : ℕ × ℕ) → ask_says (make p) ≡ (word, Part.Object (named_by kind p.0) ∷ Part.Value p.1 ∷ []))
-        → option_map make (object_value kind parts) ≡ Some ask → ask_says ask ≡ (word, parts)
+    valued_by : (make : ℕ × ℕ → Ask) (word : AskWord) (kind : Kind) → ((p : ℕ × ℕ) → ask_says (make p) ≡ Some (word, Part.Object (named_by kind p.0) ∷ Part.Value p.1 ∷ []))
+        → option_map make (object_value kind parts) ≡ Some ask → ask_says ask ≡ Some (word, parts)
     valued_by make word kind says_it e = made_says make (λ p. (word, Part.Object (named_by kind p.0) ∷ Part.Value p.1 ∷ [])) says_it (object_value kind parts) ask word parts
         (λ p found i. (word, sym (valued_again kind parts p found) i)) e
 
-    nothing : (made : Ask) (word : AskWord) → ask_says made ≡ (word, []) → (parts : List Part) → if_none made parts ≡ Some ask → ask_says ask ≡ (word, parts)
+    nothing : (made : Ask) (word : AskWord) → ask_says made ≡ Some (word, []) → (parts : List Part) → if_none made parts ≡ Some ask → ask_says ask ≡ Some (word, parts)
     nothing made word says_it [] e = ap ask_says (sym (same_Some made ask e)) ∙ says_it
     nothing made word says_it _ e = absurd (none-some ask e)
 
-    by : (word : AskWord) → ask_by word parts ≡ Some ask → ask_says ask ≡ (word, parts)
+    by : (word : AskWord) → ask_by word parts ≡ Some ask → ask_says ask ≡ Some (word, parts)
     by AskWord.Go e = alone Ask.Go AskWord.Go Kind.Goroutine (λ n. refl) e
     by AskWord.Exit e = nothing Ask.Exit AskWord.Exit refl parts e
     by AskWord.Read e = alone Ask.Read AskWord.Read Kind.Var (λ n. refl) e
@@ -206,7 +229,7 @@ valued true false = refl
 valued false true = refl
 valued false false = refl
 
-pub fits_are : (ds : List Declaration) (ask : Ask) → ask_fits ds ask ≡ parts_fit ds (ask_kinds (ask_says ask).0) (ask_says ask).1
+pub fits_are : (ds : List Declaration) (ask : Ask) → IfSome (ask_says ask) (λ said. ask_fits ds ask ≡ parts_fit ds (ask_kinds said.0) said.1)
 fits_are ds (Ask.Go h) = one (nat_lt h (counts_of ds Kind.Goroutine))
 fits_are ds Ask.Exit = refl
 fits_are ds (Ask.Read x) = one (nat_lt x (counts_of ds Kind.Var))
@@ -217,6 +240,7 @@ fits_are ds (Ask.Recv (Some c)) = one (nat_lt c (counts_of ds Kind.Chan))
 fits_are ds (Ask.Recv None) = refl
 fits_are ds (Ask.Close (Some c)) = one (nat_lt c (counts_of ds Kind.Chan))
 fits_are ds (Ask.Close None) = refl
+fits_are ds (Ask.Select offers has_default) = tt
 fits_are ds (Ask.Lock l) = one (nat_lt l (counts_of ds Kind.Lock))
 fits_are ds (Ask.Unlock l) = one (nat_lt l (counts_of ds Kind.Lock))
 fits_are ds (Ask.RLock l) = locked (nat_lt l (counts_of ds Kind.Lock)) (is_rw ds l)
@@ -228,6 +252,7 @@ fits_are ds (Ask.EndDo o) = one (nat_lt o (counts_of ds Kind.Once))
 abbrev pub first_text : LineWord → List ℕ
 first_text (LineWord.Declares noun) = noun_text noun
 first_text LineWord.Begins = codes "body"
+first_text LineWord.Selects = codes "select"
 first_text (LineWord.Asks AskWord.Go) = codes "go"
 first_text (LineWord.Asks AskWord.Exit) = codes "exit"
 first_text (LineWord.Asks AskWord.Read) = codes "read"
@@ -308,6 +333,10 @@ noun_line_word w noun h = ap (λ o. noun_or o (lookup table w)) h
 pub begins_again : line_word (codes "body") ≡ Some LineWord.Begins
 unfolding line_word word_named
 begins_again = refl
+
+pub selects_again : line_word (codes "select") ≡ Some LineWord.Selects
+unfolding line_word word_named
+selects_again = refl
 
 -- the table has no word of nil
 abbrev pub has_front : LineWord → Bool

@@ -100,6 +100,7 @@ ends_within depth onces (Ask.Write x v ∷ asks) deep h = let rest = ends_within
 ends_within depth onces (Ask.Send c v ∷ asks) deep h = let rest = ends_within depth onces asks deep h in omega (arith, rest)
 ends_within depth onces (Ask.Recv c ∷ asks) deep h = let rest = ends_within depth onces asks deep h in omega (arith, rest)
 ends_within depth onces (Ask.Close c ∷ asks) deep h = let rest = ends_within depth onces asks deep h in omega (arith, rest)
+ends_within depth onces (Ask.Select offers has_default ∷ asks) deep h = let rest = ends_within depth onces asks deep h in omega (arith, rest)
 ends_within depth onces (Ask.Lock l ∷ asks) deep h = let rest = ends_within depth onces asks deep h in omega (arith, rest)
 ends_within depth onces (Ask.Unlock l ∷ asks) deep h = let rest = ends_within depth onces asks deep h in omega (arith, rest)
 ends_within depth onces (Ask.RLock l ∷ asks) deep h = let rest = ends_within depth onces asks deep h in omega (arith, rest)

@@ -2,6 +2,9 @@ pub mod BodyLemmas
 pub mod ScriptLemmas
 pub mod ParseLemmas
 pub mod FedLemmas
+pub mod OfferAgain
+pub mod OfferWords
+pub mod SelectLines
 pub mod AskTable
 pub mod SaidLines
 pub mod LineLemmas

@@ -25,12 +25,14 @@ use Rattle.race_script.specs.declared.form.LineWord.{LineWord}
 use Rattle.race_script.specs.Bodies.{is_exit}
 use Rattle.race_script.specs.Fault.{words_cause, asked_cause, said_cause, word_cause, line_cause, cause}
 use Rattle.race_script.specs.Form.{line_word, word_on_nil, AskedWords, on_nil, ask_fields, begin_fields}
+use Rattle.race_script.specs.Offers.{select_words, select_cause}
 use Rattle.race_script.specs.Program.{Instruction, Draft, ask_fits, bodies_of}
 use Rattle.race_script.specs.Reader.{HasWords}
-use Rattle.race_script.specs.Reading.{asked_in, begun_in, asks_by, said_by, said_in, with_instruction, with_said, nothing_said, all_said, seen}
-use Rattle.race_script.specs.Text.{header, Said, Begins, Asks, said_line, saids, lines}
-use Rattle.race_script.proofs.AskTable.{ask_words_are, front_words, body_word, first_text, has_front, found_has_front}
+use Rattle.race_script.specs.Reading.{asked_in, selected_in, begun_in, asks_by, said_by, said_in, with_instruction, with_said, nothing_said, all_said, seen}
+use Rattle.race_script.specs.Text.{header, Said, Begins, Asks, ask_words, said_line, saids, lines}
+use Rattle.race_script.proofs.AskTable.{ask_says, so_it_says, ask_words_are, front_words, body_word, first_text, has_front, found_has_front}
 use Rattle.race_script.proofs.SaidLines.{are_asked, is_begun}
+use Rattle.race_script.proofs.SelectLines.{are_selected}
 
 -- what is said fits the declarations
 abbrev pub SaidFits : List Declaration → Said → Type 0
@@ -124,13 +126,29 @@ module _ (decls : DeclsState) (holds : IsWellFormed decls) (line : List ℕ) whe
       let front = front_is word asked words refl first_is.text (found_has_front first (LineWord.Asks word) has.named) in
       record {
         line_is = joined words has.behind ∙ ap line_of front ∙ (λ k. line_of (front_words asked.0 ++ is.text k))
-            ∙ (λ k. line_of (front_words (sym is.says k).0 ++ (map (part_text ds) (sym is.says k).1 ++ i.place ∷ [])))
-            ∙ ap line_of (sym (ask_words_are ds i.place i.ask));
+            ∙ ap line_of (sym (so_it_says (λ said. ask_words ds i.place i.ask ≡ front_words said.0 ++ (map (part_text ds) said.1 ++ i.place ∷ [])) (ask_says i.ask)
+            (asked.0, is.parts) is.says (ask_words_are ds i.place i.ask)));
         says = (λ k. said_by ds (has.named k) (arguments (has.behind k))) ∙ ap (option_map Asks) says;
         declares = ap (λ ws. declared_as (word_named first) (arguments ws)) has.behind ∙ first_is.declares words;
         fits = (is.fits, is.form);
         cause_is = λ d same. clean_cause (LineWord.Asks word) words has d
             ∙ (λ k. or_else (words_cause (same k) (ask_fields asked.0) asked.1) (option_and_then (said_cause d) (asks_by (same k) asked)))
+            ∙ (λ k. or_else (is.fine k) (option_and_then (said_cause d) (option_map Asks (says k))));
+      }
+
+  -- a line that asks by a select
+  pub selects_line : (words : List (List ℕ)) (i : Instruction) → HasWords line LineWord.Selects words → selected_in ds (select_words words) ≡ Some i
+      → IsSaidLine ds line (Asks i)
+  selects_line words i has says =
+      let is = are_selected decls holds words i says in
+      let word = body_word first LineWord.Selects has.named refl in
+      record {
+        line_is = joined words has.behind ∙ (λ k. line_of (word.text k ∷ is.text k)) ∙ ap (λ ask. line_of (ask_words ds i.place ask)) (sym is.asks);
+        says = (λ k. said_by ds (has.named k) (arguments (has.behind k))) ∙ ap (option_map Asks) says;
+        declares = ap (λ ws. declared_as (word_named first) (arguments ws)) has.behind ∙ word.declares words;
+        fits = (is.fits, is.form);
+        cause_is = λ d same. clean_cause LineWord.Selects words has d
+            ∙ (λ k. or_else (select_cause (same k) (select_words words)) (option_and_then (said_cause d) (said_by (same k) (Some LineWord.Selects) words)))
             ∙ (λ k. or_else (is.fine k) (option_and_then (said_cause d) (option_map Asks (says k))));
       }
 

@@ -28,6 +28,7 @@ use Rattle.race_script.specs.declared.form.AskWord.{AskWord}
 use Rattle.race_script.specs.declared.form.LineWord.{LineWord}
 use Rattle.race_script.specs.Fault.{words_cause, said_cause, word_cause, line_cause, cause, end_cause, is_whole}
 use Rattle.race_script.specs.Form.{line_word, on_nil, ask_fields, begin_fields}
+use Rattle.race_script.specs.Offers.{select_words, select_cause}
 use Rattle.race_script.specs.Program.{Instruction, Draft, IsProgram, draft_of, is_body_of, spelled, bodies_of, places_of}
 use Rattle.race_script.specs.Reader.{UnendedState, ReadState, draft_read, spelled_unended, lines_by, lines_read, program_read, IsUnended, IsRead, IsEmpty, IsReadBy, GoesOn, HasWords, TakesSaid, TakesLine, TakesOrTells}
 use Rattle.race_script.specs.Reading.{said_by, asks_by, said_in, with_said, nothing_said, all_said, seen}
@@ -122,6 +123,12 @@ module _ (old : ReadState) (read : IsRead old) (line : List ℕ) where
   asks_told word words told has h =
       told_by_line told (clean_cause old.decls read.sound.well_formed line (LineWord.Asks word) words has d
       ∙ ap (λ c. or_else c (option_and_then (said_cause d) (asks_by ds (on_nil word words)))) h)
+
+  pub selects_told : (words : List (List ℕ)) (told : TextCause) → HasWords line LineWord.Selects words → select_cause ds (select_words words) ≡ Some told
+      → cause (lines d) line true ≡ Some told
+  selects_told words told has h =
+      told_by_line told (clean_cause old.decls read.sound.well_formed line LineWord.Selects words has d
+      ∙ ap (λ c. or_else c (option_and_then (said_cause d) (said_by ds (Some LineWord.Selects) words))) h)
 
   pub bad_byte_told : has_bad_byte line ≡ true → cause (lines d) line true ≡ Some TextCause.BadByte
   unfolding line_cause

@@ -1,5 +1,5 @@
 -- What is printed of a line of a body says it again.
-use Rattle.std.proofs.Common.{◌≡◌, ℕ, Bool, true, false, nat_lt, if◌then◌else◌, List, [], ◌∷◌, ◌++◌, map, codes, Some, None, refl, sym, ap, subst, ◌∙◌, ◌&&◌, ◌^◌, arith}
+use Rattle.std.proofs.Common.{◌≡◌, ℕ, Bool, true, false, nat_lt, if◌then◌else◌, List, [], ◌∷◌, ◌++◌, map, codes, Option, Some, None, IfSome, refl, sym, ap, subst, ◌∙◌, ◌&&◌, ◌^◌, arith}
 use Rattle.std.proofs.lemmas.Bool.Decides.{nat_tests}
 use Rattle.std.specs.Option.{option_map_or}
 use Rattle.std.specs.Str.{bytes_eq}
@@ -9,6 +9,7 @@ use Rattle.race_records.specs.declared.parts.PartKind.{PartKind}
 use Rattle.race_records.specs.Declarations.{Declaration, DeclsState, IsWellFormed, counts_of}
 use Rattle.race_records.specs.Name.{is_name}
 use Rattle.race_hub.specs.declared.request.Ask.{Ask}
+use Rattle.race_hub.specs.declared.request.Offer.{Offer}
 use Rattle.race_text.specs.Form.{word_named, first_word}
 use Rattle.race_text.specs.Select.{nil}
 use Rattle.race_text.specs.Text.{line_of, goroutine_name, chan_name}
@@ -21,13 +22,15 @@ use Rattle.race_text.proofs.WordsAgain.{AreVisible, words_again, visible_line_cl
 use Rattle.race_script.specs.declared.form.AskWord.{AskWord}
 use Rattle.race_script.specs.declared.form.LineWord.{LineWord}
 use Rattle.race_script.specs.Form.{line_word, word_on_nil, AskedWords, on_nil}
-use Rattle.race_script.specs.Program.{ask_fits}
+use Rattle.race_script.specs.Offers.{offers_text, mode_text}
+use Rattle.race_script.specs.Program.{Instruction, ask_fits}
 use Rattle.race_script.specs.Reader.{HasWords}
-use Rattle.race_script.specs.Reading.{asked_in}
-use Rattle.race_script.specs.Text.{Said, Begins, Asks, said_line}
-use Rattle.race_script.proofs.AskTable.{ask_says, ask_words_are, front_words, body_word, begins_again}
-use Rattle.race_script.proofs.LineLemmas.{SaidFits, IsSaidLine, begins_line, asks_line}
+use Rattle.race_script.specs.Reading.{asked_at, asked_in}
+use Rattle.race_script.specs.Text.{Said, Begins, Asks, ask_words, said_line}
+use Rattle.race_script.proofs.AskTable.{SaidAsk, ask_says, so_it_says, selects_alone, ask_words_are, front_words, body_word, begins_again, selects_again}
+use Rattle.race_script.proofs.LineLemmas.{SaidFits, IsSaidLine, begins_line, asks_line, selects_line}
 use Rattle.race_script.proofs.SaidLines.{asked_again, begun_again}
+use Rattle.race_script.proofs.SelectLines.{selected_again}
 
 -- a word of which nil can't be asked
 plain : (word : AskWord) (args : List (List ℕ)) → word_on_nil word ≡ None → on_nil word args ≡ (word, args)
@@ -59,7 +62,7 @@ module _ (decls : DeclsState) (holds : IsWellFormed decls) where
   chan_is_name : (c : ℕ) → nat_lt c (counts_of ds Kind.Chan) ≡ true → is_name (chan_name ds c) ≡ true
   chan_is_name c less = (used_again decls holds (PartKind.Object Kind.Chan) (Named.Chan c) refl (grind (arith, nat_tests, less))).1
 
-  front_again : (ask : Ask) (place : List ℕ) → ask_fits ds ask ≡ true → IsFront (ask_says ask).0 (map (part_text ds) (ask_says ask).1 ++ place ∷ [])
+  front_again : (ask : Ask) (place : List ℕ) → ask_fits ds ask ≡ true → IfSome (ask_says ask) (λ said. IsFront said.0 (map (part_text ds) said.1 ++ place ∷ []))
   unfolding line_word word_named
   front_again (Ask.Go h) place fits = record { table = AskWord.Go; first = codes "go"; rest = _; words = refl; known = refl; cut = plain AskWord.Go _ refl; visible = λ v. v }
   front_again Ask.Exit place fits = record { table = AskWord.Exit; first = codes "exit"; rest = _; words = refl; known = refl; cut = plain AskWord.Exit _ refl; visible = λ v. v }
@@ -77,6 +80,7 @@ module _ (decls : DeclsState) (holds : IsWellFormed decls) where
   front_again (Ask.Close (Some c)) place fits =
       let less = both (nat_lt c (counts_of ds Kind.Chan)) true (both (nat_lt c (counts_of ds Kind.Chan) && true) true fits).0 in
       record { table = AskWord.Close; first = codes "close"; rest = _; words = refl; known = refl; cut = named AskWord.Close (chan_name ds c) _ (chan_is_name c less.0); visible = λ v. v }
+  front_again (Ask.Select offers has_default) place fits = tt
   front_again (Ask.Lock l) place fits = record { table = AskWord.Lock; first = codes "lock"; rest = _; words = refl; known = refl; cut = plain AskWord.Lock _ refl; visible = λ v. v }
   front_again (Ask.Unlock l) place fits = record { table = AskWord.Unlock; first = codes "unlock"; rest = _; words = refl; known = refl; cut = plain AskWord.Unlock _ refl; visible = λ v. v }
   front_again (Ask.RLock l) place fits = record { table = AskWord.RLock; first = codes "rlock"; rest = _; words = refl; known = refl; cut = plain AskWord.RLock _ refl; visible = λ v. v }
@@ -94,6 +98,34 @@ module _ (decls : DeclsState) (holds : IsWellFormed decls) where
         behind = again ∙ ap (λ ws. first_word ws ∷ rest) (sym again);
       }
 
+  -- what is printed of an ask of the table says it
+  asked_line : (i : Instruction) (said : SaidAsk) → ask_says i.ask ≡ Some said → SaidFits ds (Asks i)
+      → (IsSaidLine ds (said_line ds (Asks i)) (Asks i)) × (has_bad_byte (said_line ds (Asks i)) ≡ false)
+  asked_line i said says fits =
+      let args = map (part_text ds) said.1 ++ i.place ∷ [] in
+      let again = asked_again decls holds i said says fits.0 fits.1 in
+      let is = so_it_says (λ said. IsFront said.0 (map (part_text ds) said.1 ++ i.place ∷ [])) (ask_says i.ask) said says (front_again i.ask i.place fits.0) in
+      let visible : AreVisible (is.first ∷ is.rest) = ((body_word is.first (LineWord.Asks is.table) is.known refl).seen, is.visible again.1) in
+      let words = so_it_says (λ said. ask_words ds i.place i.ask ≡ front_words said.0 ++ (map (part_text ds) said.1 ++ i.place ∷ [])) (ask_says i.ask) said says
+      (ask_words_are ds i.place i.ask) in
+      let line : said_line ds (Asks i) ≡ line_of (is.first ∷ is.rest) = ap line_of (words ∙ is.words) in
+      let reads : asked_in ds (on_nil is.table is.rest).0 (on_nil is.table is.rest).1 ≡ Some i = ap (λ (a : AskedWords). asked_in ds a.0 a.1) is.cut ∙ again.0 in
+      let whole = asks_line decls holds (line_of (is.first ∷ is.rest)) is.table is.rest i (has_words is.first is.rest (LineWord.Asks is.table) is.known visible) reads in
+      (subst (λ l. IsSaidLine ds l (Asks i)) (sym line) whole, ap has_bad_byte line ∙ visible_line_clean (is.first ∷ is.rest) visible)
+
+  -- and of a select
+  selected_line : (offers : List Offer) (has_default : Bool) (place : List ℕ) → SaidFits ds (Asks (asked_at (Ask.Select offers has_default) place))
+      → (IsSaidLine ds (said_line ds (Asks (asked_at (Ask.Select offers has_default) place))) (Asks (asked_at (Ask.Select offers has_default) place)))
+      × (has_bad_byte (said_line ds (Asks (asked_at (Ask.Select offers has_default) place))) ≡ false)
+  selected_line offers has_default place fits =
+      let i = asked_at (Ask.Select offers has_default) place in
+      let args = offers_text ds offers ∷ mode_text has_default ∷ place ∷ [] in
+      let again = selected_again decls holds offers has_default place fits.0 fits.1 in
+      let visible : AreVisible (codes "select" ∷ args) = (refl, again.1) in (
+        selects_line decls holds (said_line ds (Asks i)) args i (has_words (codes "select") args LineWord.Selects selects_again visible) again.0,
+        visible_line_clean (codes "select" ∷ args) visible,
+      )
+
   pub said_again : (said : Said) → SaidFits ds said → (IsSaidLine ds (said_line ds said) said) × (has_bad_byte (said_line ds said) ≡ false)
   said_again (Begins g) less =
       let again = begun_again decls holds g less in
@@ -101,13 +133,12 @@ module _ (decls : DeclsState) (holds : IsWellFormed decls) where
         begins_line decls holds (said_line ds (Begins g)) (goroutine_name ds g ∷ []) g (has_words (codes "body") (goroutine_name ds g ∷ []) LineWord.Begins begins_again visible) again.0,
         visible_line_clean (codes "body" ∷ goroutine_name ds g ∷ []) visible,
       )
-  said_again (Asks i) fits =
-      let word = (ask_says i.ask).0 in
-      let args = map (part_text ds) (ask_says i.ask).1 ++ i.place ∷ [] in
-      let again = asked_again decls holds i fits.0 fits.1 in
-      let is = front_again i.ask i.place fits.0 in
-      let visible : AreVisible (is.first ∷ is.rest) = ((body_word is.first (LineWord.Asks is.table) is.known refl).seen, is.visible again.1) in
-      let line : said_line ds (Asks i) ≡ line_of (is.first ∷ is.rest) = ap line_of (ask_words_are ds i.place i.ask ∙ is.words) in
-      let says : asked_in ds (on_nil is.table is.rest).0 (on_nil is.table is.rest).1 ≡ Some i = ap (λ (a : AskedWords). asked_in ds a.0 a.1) is.cut ∙ again.0 in
-      let whole = asks_line decls holds (line_of (is.first ∷ is.rest)) is.table is.rest i (has_words is.first is.rest (LineWord.Asks is.table) is.known visible) says in
-      (subst (λ l. IsSaidLine ds l (Asks i)) (sym line) whole, ap has_bad_byte line ∙ visible_line_clean (is.first ∷ is.rest) visible)
+  said_again (Asks i) fits = by (ask_says i.ask) refl
+    where
+      by : (o : Option SaidAsk) → ask_says i.ask ≡ o → (IsSaidLine ds (said_line ds (Asks i)) (Asks i)) × (has_bad_byte (said_line ds (Asks i)) ≡ false)
+      by (Some said) e = asked_line i said e fits
+      by None e =
+          let is = selects_alone i.ask e in
+          let same : i ≡ asked_at (Ask.Select is.0 is.1) i.place = ap (λ ask. asked_at ask i.place) is.2 in
+          subst (λ (x : Instruction). (IsSaidLine ds (said_line ds (Asks x)) (Asks x)) × (has_bad_byte (said_line ds (Asks x)) ≡ false)) (sym same)
+          (selected_line is.0 is.1 i.place (subst (λ (x : Instruction). SaidFits ds (Asks x)) same fits))

@@ -33,7 +33,7 @@ use Rattle.race_script.specs.Fault.{words_cause}
 use Rattle.race_script.specs.Form.{ask_kinds, ask_fields, begin_fields, ask_by}
 use Rattle.race_script.specs.Program.{Instruction, ask_fits}
 use Rattle.race_script.specs.Reading.{asked_at, before_place, asked_by_parts, asked_in, begun_in}
-use Rattle.race_script.proofs.AskTable.{ask_says, ask_by_says, ask_is_there, says_again, fits_are, parts_fit}
+use Rattle.race_script.proofs.AskTable.{SaidAsk, ask_says, so_it_says, ask_by_says, ask_is_there, says_again, fits_are, parts_fit}
 
 -- no cause holds of the words just where there are as many as there have to be, and none holds of each
 pub words_fine_by : (ds : List Declaration) (fields : List Field) (words : List (List ℕ)) → length words ≡ length fields → fields_cause ds fields words ≡ None
@@ -88,7 +88,7 @@ module _ (decls : DeclsState) (holds : IsWellFormed decls) where
   pub record AreAsked (word : AskWord) (words : List (List ℕ)) (i : Instruction) : Type 0 where
     pub parts : List Part
     pub text : words ≡ map (part_text ds') parts ++ i.place ∷ []
-    pub says : ask_says i.ask ≡ (word, parts)
+    pub says : ask_says i.ask ≡ Some (word, parts)
     pub fits : ask_fits ds' i.ask ≡ true
     pub form : is_place i.place ≡ true
     pub fine : words_cause ds' (ask_fields word) words ≡ None
@@ -101,8 +101,8 @@ module _ (decls : DeclsState) (holds : IsWellFormed decls) where
       let read = are_read decls holds [] (ask_kinds word) words a.0 a.1 in
       let places = are_places false a.0.1 (c.0, None) (ap (option_map alone) c.1) in
       let place : c.0 ≡ i.place = ap (λ (x : Instruction). x.place) c.2 in
-      let says : ask_says i.ask ≡ (word, read.parts) =
-      ap (λ (x : Instruction). ask_says x.ask) (sym c.2) ∙ ask_by_says word a.0.0 b.0 b.1 ∙ (λ k. (word, read.parts_are k)) in
+      let says : ask_says i.ask ≡ Some (word, read.parts) =
+      ap (λ (x : Instruction). ask_says x.ask) (sym c.2) ∙ ask_by_says word a.0.0 b.0 b.1 ∙ (λ k. Some (word, read.parts_are k)) in
       let fit : parts_fit ds' (ask_kinds word) read.parts ≡ true =
       λ k. all_parts_fit decls holds (ask_kinds word) read.ws read.parts read.are k && parts_are_limited decls holds (ask_kinds word) read.ws read.parts read.are k
       && parts_are_wanted decls holds (ask_kinds word) read.ws read.parts read.are k in
@@ -112,7 +112,7 @@ module _ (decls : DeclsState) (holds : IsWellFormed decls) where
         parts = read.parts;
         text = read.words_are ∙ (λ k. texts_are decls holds (ask_kinds word) read.ws read.parts read.are k ++ (places.1 ∙ ap (λ w. w ∷ []) place) k);
         says = says;
-        fits = fits_are ds' i.ask ∙ (λ k. parts_fit ds' (ask_kinds (says k).0) (says k).1) ∙ fit;
+        fits = so_it_says (λ said. ask_fits ds' i.ask ≡ parts_fit ds' (ask_kinds said.0) said.1) (ask_says i.ask) (word, read.parts) says (fits_are ds' i.ask) ∙ fit;
         form = ap is_place (sym place) ∙ places.0.first;
         fine = words_fine_by ds' (ask_fields word) words
             (ap length (read.words_are ∙ ap (λ r. read.ws ++ r) rest) ∙ words_count decls holds (Field.Place ∷ []) (c.0 ∷ []) refl (ask_kinds word) read.ws read.parts read.are)
@@ -121,17 +121,18 @@ module _ (decls : DeclsState) (holds : IsWellFormed decls) where
       }
 
   -- the words of what is asked ask it, and can be seen
-  pub asked_again : (i : Instruction) → ask_fits ds' i.ask ≡ true → is_place i.place ≡ true
-      → (asked_in ds' (ask_says i.ask).0 (map (part_text ds') (ask_says i.ask).1 ++ i.place ∷ []) ≡ Some i)
-      × AreVisible (map (part_text ds') (ask_says i.ask).1 ++ i.place ∷ [])
-  asked_again i fits form =
-      let word = (ask_says i.ask).0 in
-      let parts = (ask_says i.ask).1 in
-      let three = both (list_all (part_fits ds') parts && list_all part_is_limited parts) (are_wanted ds' (ask_kinds word) parts) (sym (fits_are ds' i.ask) ∙ fits) in
+  pub asked_again : (i : Instruction) (said : SaidAsk) → ask_says i.ask ≡ Some said → ask_fits ds' i.ask ≡ true → is_place i.place ≡ true
+      → (asked_in ds' said.0 (map (part_text ds') said.1 ++ i.place ∷ []) ≡ Some i) × AreVisible (map (part_text ds') said.1 ++ i.place ∷ [])
+  asked_again i said says fits form =
+      let word = said.0 in
+      let parts = said.1 in
+      let fit = so_it_says (λ said. ask_fits ds' i.ask ≡ parts_fit ds' (ask_kinds said.0) said.1) (ask_says i.ask) said says (fits_are ds' i.ask) in
+      let three = both (list_all (part_fits ds') parts && list_all part_is_limited parts) (are_wanted ds' (ask_kinds word) parts) (sym fit ∙ fits) in
       let two = both (list_all (part_fits ds') parts) (list_all part_is_limited parts) three.0 in
       let again = parts_again decls holds [] (ask_kinds word) parts (i.place ∷ []) three.1 two.0 two.1 (place_is_visible i.place form, tt) in (
         ap (option_and_then (asked_by_parts word)) again.0
-            ∙ ap (option_and_then (before_place (i.place ∷ []))) (says_again i.ask)
+            ∙ ap (option_and_then (before_place (i.place ∷ [])))
+            (so_it_says (λ said. ask_by said.0 said.1 ≡ Some i.ask) (ask_says i.ask) said says (says_again i.ask))
             ∙ ap (option_map (asked_at i.ask)) (last_by_form i.place form),
         again.1,
       )

@@ -31,13 +31,15 @@ use Rattle.race_script.specs.declared.program.TheConstants.{MAX_STEPS}
 use Rattle.race_script.specs.Bodies.{is_exit, after_ask}
 use Rattle.race_script.specs.Fault.{words_cause, has_no_room, may_follow, may_begin, said_cause, asked_cause, cause, end_cause, fault_after, text_fault, is_whole}
 use Rattle.race_script.specs.Form.{line_word, on_nil, ask_fields, begin_fields}
+use Rattle.race_script.specs.Offers.{select_words, select_cause}
 use Rattle.race_script.specs.Program.{Instruction, Draft, ask_fits, bodies_of}
 use Rattle.race_script.specs.Reader.{UnendedState, ReadState, draft_read, spelled_unended, program_read, IsRead, HasWords, TakesLine}
 use Rattle.race_script.specs.Text.{header, Said, Begins, Asks, lines, draft_text, IsProgramText}
-use Rattle.race_script.proofs.LineLemmas.{IsSaidLine, cause_behind, begins_line, asks_line}
+use Rattle.race_script.proofs.LineLemmas.{IsSaidLine, cause_behind, begins_line, asks_line, selects_line}
 use Rattle.race_script.proofs.ParseLemmas.{fault_step, fault_end, end_empty}
-use Rattle.race_script.proofs.ReadLemmas.{begin_told, asks_told, bad_byte_told, unknown_told, declares_cause, first_cause, declared_taken, said_taken, whole_program, nothing_read, nothing_is_read, nothing_lines_read}
+use Rattle.race_script.proofs.ReadLemmas.{begin_told, asks_told, selects_told, bad_byte_told, unknown_told, declares_cause, first_cause, declared_taken, said_taken, whole_program, nothing_read, nothing_is_read, nothing_lines_read}
 use Rattle.race_script.proofs.SaidLines.{begun_is_there, is_begun, asked_is_there}
+use Rattle.race_script.proofs.SelectLines.{selected_is_there}
 use Rattle.race_script.proofs.TakingLemmas.{begin_taken, asked_cause_is, ended_taken, more_taken}
 
 -- what was read with one more line
@@ -149,6 +151,16 @@ module _ (s : ReadState) (header_is : s.has_header ≡ true) (read : IsRead s) (
           let is = asks_line s.decls read.sound.well_formed line word words there.0 has there.1 in
           with_asked there.0 is is.fits.0 is.fits.1
 
+  with_selects : (words : List (List ℕ)) → HasWords line LineWord.Selects words → IsNext s line
+  with_selects words has = by (select_cause ds (select_words words)) refl
+    where
+      by : (o : Option TextCause) → select_cause ds (select_words words) ≡ o → IsNext s line
+      by (Some told) e = absurd (not_told told (selects_told s read line words told has e))
+      by None e =
+          let there = selected_is_there ds (select_words words) e in
+          let is = selects_line s.decls read.sound.well_formed line words there.0 has there.1 in
+          with_asked there.0 is is.fits.0 is.fits.1
+
   with_declared : (noun : Noun) (words : List (List ℕ)) → HasWords line (LineWord.Declares noun) words → IsNext s line
   with_declared noun words has = by (length (bodies_of d)) refl
     where
@@ -170,6 +182,8 @@ module _ (s : ReadState) (header_is : s.has_header ≡ true) (read : IsRead s) (
           with_begin args (record { clean = fine; named = ap (λ ws. line_word (first_word ws)) e ∙ h; behind = e ∙ ap (λ ws. first_word ws ∷ args) (sym e) })
       by_word fine first args e (Some (LineWord.Asks word)) h =
           with_asks word args (record { clean = fine; named = ap (λ ws. line_word (first_word ws)) e ∙ h; behind = e ∙ ap (λ ws. first_word ws ∷ args) (sym e) })
+      by_word fine first args e (Some LineWord.Selects) h =
+          with_selects args (record { clean = fine; named = ap (λ ws. line_word (first_word ws)) e ∙ h; behind = e ∙ ap (λ ws. first_word ws ∷ args) (sym e) })
 
       words : has_bad_byte line ≡ false → (ws : List (List ℕ)) → words_of line ≡ ws → IsNext s line
       words fine [] e = absurd (not_told TextCause.UnknownWord (unknown_told s read line fine (ap (λ ws. line_word (first_word ws)) e ∙ no_word)))

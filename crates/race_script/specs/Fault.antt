@@ -18,6 +18,7 @@ use Rattle.race_script.specs.declared.form.LineWord.{LineWord}
 use Rattle.race_script.specs.declared.program.TheConstants.{MAX_STEPS}
 use Rattle.race_script.specs.Bodies.{is_exit, after_ask, onces_after}
 use Rattle.race_script.specs.Form.{line_word, AskedWords, on_nil, ask_fields, begin_fields}
+use Rattle.race_script.specs.Offers.{select_words, select_cause}
 use Rattle.race_script.specs.Program.{Instruction, Draft, asked_by, bodies_of, places_of}
 use Rattle.race_script.specs.Reading.{said_by, asks_by, seen}
 use Rattle.race_script.specs.Text.{header, Said, Begins, Asks}
@@ -64,6 +65,8 @@ word_cause d (Some (LineWord.Declares noun)) words =
 word_cause d (Some LineWord.Begins) words =
     or_else (words_cause d.declarations begin_fields words) (option_and_then (said_cause d) (said_by d.declarations (Some LineWord.Begins) words))
 word_cause d (Some (LineWord.Asks word)) words = asks_cause d (on_nil word words)
+word_cause d (Some LineWord.Selects) words =
+    or_else (select_cause d.declarations (select_words words)) (option_and_then (said_cause d) (said_by d.declarations (Some LineWord.Selects) words))
 
 -- the least cause of a line behind the first
 unfoldable pub line_cause : Draft → List ℕ → Option TextCause

@@ -2,6 +2,7 @@ pub mod Bodies
 pub mod Program
 pub mod Run
 pub mod Form
+pub mod Offers
 pub mod Text
 pub mod Reading
 pub mod Fault

@@ -6,6 +6,7 @@ use Rattle.race_records.specs.declared.declarations.TheConstants.{MAX_PLACES}
 use Rattle.race_records.specs.declared.kind.Kind.{Kind}
 use Rattle.race_records.specs.Declarations.{Declaration, DeclsState, IsWellFormed, count_of, counts_of, is_known, is_rw}
 use Rattle.race_hub.specs.declared.request.Ask.{Ask}
+use Rattle.race_hub.specs.declared.request.Offer.{Offer}
 use Rattle.race_hub.specs.declared.request.Request.{Request}
 use Rattle.race_hub.specs.Possible.{ask_is_in_range}
 use Rattle.race_hub.specs.Submits.{rwmutex_asked}
@@ -37,13 +38,19 @@ asks_of body = map (λ r. r.ask) body
 abbrev pub asked_by : List Instruction → List Ask
 asked_by body = map (λ i. i.ask) body
 
--- the value of the ask is a u64
+-- the value of the offer is a u64
+abbrev pub offer_is_limited : Offer → Bool
+offer_is_limited (Offer.Send c v) = nat_lt v (2 ^ 64)
+offer_is_limited (Offer.Recv c) = true
+
+-- each value of the ask is a u64
 abbrev pub ask_is_limited : Ask → Bool
 ask_is_limited (Ask.Write x v) = nat_lt v (2 ^ 64)
 ask_is_limited (Ask.Send c v) = nat_lt v (2 ^ 64)
+ask_is_limited (Ask.Select offers has_default) = list_all offer_is_limited offers
 ask_is_limited _ = true
 
--- all that the ask names is declared, its lock is an rwmutex where it has to be one, and its value is a u64
+-- all that the ask names is declared, its lock is an rwmutex where it has to be one, and each value is a u64
 abbrev pub ask_fits : List Declaration → Ask → Bool
 ask_fits ds ask = ask_is_in_range (counts_of ds) ask && option_map_or (is_rw ds) (rwmutex_asked ask) true && ask_is_limited ask
 

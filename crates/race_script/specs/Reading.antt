@@ -6,6 +6,7 @@ use Rattle.std.specs.Option.{option_and_then, option_map}
 use Rattle.race_records.specs.declared.kind.Kind.{Kind}
 use Rattle.race_records.specs.declared.parts.PartKind.{PartKind}
 use Rattle.race_records.specs.Declarations.{Declaration}
+use Rattle.race_records.specs.Name.{is_place}
 use Rattle.race_hub.specs.declared.request.Ask.{Ask}
 use Rattle.race_text.specs.Fault.{declaration_in}
 use Rattle.race_text.specs.Form.{first_word, arguments}
@@ -15,6 +16,7 @@ use Rattle.race_script.specs.declared.form.AskWord.{AskWord}
 use Rattle.race_script.specs.declared.form.LineWord.{LineWord}
 use Rattle.race_script.specs.Bodies.{is_exit}
 use Rattle.race_script.specs.Form.{line_word, AskedWords, on_nil, ask_kinds, ask_by}
+use Rattle.race_script.specs.Offers.{SelectWords, select_words, select_in}
 use Rattle.race_script.specs.Program.{Instruction, Draft}
 use Rattle.race_script.specs.Text.{Said, Begins, Asks}
 
@@ -38,6 +40,11 @@ asked_by_parts word read = option_and_then (before_place read.1) (ask_by word re
 abbrev pub asked_in : List Declaration → AskWord → List (List ℕ) → Option Instruction
 asked_in ds word words = option_and_then (asked_by_parts word) (parts_on ds [] (ask_kinds word) words)
 
+-- what the words behind `select` ask
+abbrev pub selected_in : List Declaration → Option SelectWords → Option Instruction
+selected_in ds None = None
+selected_in ds (Some w) = if is_place w.place then option_map (λ ask. asked_at ask w.place) (select_in ds w) else None
+
 -- the goroutine that the one word names
 abbrev pub begun_in : List Declaration → List (List ℕ) → Option ℕ
 begun_in ds (w ∷ []) = option_and_then goroutine_of (part_in ds (PartKind.Object Kind.Goroutine) w)
@@ -51,6 +58,7 @@ asks_by ds asked = option_map Asks (asked_in ds asked.0 asked.1)
 abbrev pub said_by : List Declaration → Option LineWord → List (List ℕ) → Option Said
 said_by ds (Some LineWord.Begins) words = option_map Begins (begun_in ds words)
 said_by ds (Some (LineWord.Asks word)) words = asks_by ds (on_nil word words)
+said_by ds (Some LineWord.Selects) words = option_map Asks (selected_in ds (select_words words))
 said_by ds _ words = None
 
 -- what a line says of the bodies

@@ -5,6 +5,7 @@ use Rattle.std.specs.List.{flat_map}
 use Rattle.race_records.specs.Declarations.{Declaration}
 use Rattle.race_hub.specs.declared.request.Ask.{Ask}
 use Rattle.race_text.specs.Text.{line_of, declaration_line, goroutine_name, var_name, chan_text, lock_name, once_name, ended}
+use Rattle.race_script.specs.Offers.{offers_text, mode_text}
 use Rattle.race_script.specs.Program.{Instruction, Draft, ProgramState, IsProgram, bodies_of, draft_of}
 
 -- the first line
@@ -25,6 +26,7 @@ ask_words ds place (Ask.Write x v) = codes "write" ∷ var_name ds x ∷ decimal
 ask_words ds place (Ask.Send c v) = codes "send" ∷ chan_text ds c ∷ decimal v ∷ place ∷ []
 ask_words ds place (Ask.Recv c) = codes "recv" ∷ chan_text ds c ∷ place ∷ []
 ask_words ds place (Ask.Close c) = codes "close" ∷ chan_text ds c ∷ place ∷ []
+ask_words ds place (Ask.Select offers has_default) = codes "select" ∷ offers_text ds offers ∷ mode_text has_default ∷ place ∷ []
 ask_words ds place (Ask.Lock l) = codes "lock" ∷ lock_name ds l ∷ place ∷ []
 ask_words ds place (Ask.Unlock l) = codes "unlock" ∷ lock_name ds l ∷ place ∷ []
 ask_words ds place (Ask.RLock l) = codes "rlock" ∷ lock_name ds l ∷ place ∷ []

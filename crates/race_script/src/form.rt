@@ -53,10 +53,12 @@ pub enum LineWord {
     Begins,
     /// The goroutine asks.
     Asks(AskWord),
+    /// The goroutine asks by a select.
+    Selects,
 }
 
 /// The words that a line of a body may begin with.
-pub const BODY_WORDS: [(&[u8], LineWord); 14] = [
+pub const BODY_WORDS: [(&[u8], LineWord); 15] = [
     (b"body", LineWord::Begins),
     (b"go", LineWord::Asks(AskWord::Go)),
     (b"exit", LineWord::Asks(AskWord::Exit)),
@@ -65,6 +67,7 @@ pub const BODY_WORDS: [(&[u8], LineWord); 14] = [
     (b"send", LineWord::Asks(AskWord::Send)),
     (b"recv", LineWord::Asks(AskWord::Recv)),
     (b"close", LineWord::Asks(AskWord::Close)),
+    (b"select", LineWord::Selects),
     (b"lock", LineWord::Asks(AskWord::Lock)),
     (b"unlock", LineWord::Asks(AskWord::Unlock)),
     (b"rlock", LineWord::Asks(AskWord::RLock)),

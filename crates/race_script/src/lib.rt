@@ -4,6 +4,7 @@
 mod asks;
 mod form;
 pub mod laws;
+mod offers;
 mod parse;
 mod program;
 mod program_reader;
@@ -14,6 +15,8 @@ mod script;
 pub use asks::ask_by;
 #[doc(hidden)]
 pub use form::{AskWord, BODY_WORDS, LineWord, ask_kinds};
+#[doc(hidden)]
+pub use offers::SelectWords;
 pub use parse::parse_program;
 pub use program::{MAX_STEPS, Program};
 #[doc(hidden)]

@@ -13,6 +13,7 @@ ghost use Rattle.race_script.specs.Reader as spec;
 
 use crate::asks::{asked_in, begun_in, words_cause};
 use crate::form::{AskWord, LineWord, ask_fields, line_word, on_nil};
+use crate::offers::{select_cause, select_words, selected_in};
 use crate::program::{MAX_STEPS, Program};
 use crate::script::is_exit;
 use race_hub::{Ask, Request};
@@ -97,6 +98,7 @@ impl<A: Allocator + Copy> Reader<A> {
             Some(LineWord::Declares(noun)) => self.take_declaration(noun, line, rest),
             Some(LineWord::Begins) => self.take_begin(line, rest),
             Some(LineWord::Asks(word)) => self.take_asks(word, line, rest),
+            Some(LineWord::Selects) => self.take_select(line, rest),
         }
     }
 
@@ -252,6 +254,21 @@ impl<A: Allocator + Copy> Reader<A> {
             return Err(cause);
         }
         let (ask, place) = asked_in(&self.decls, word, rest).unwrap();
+        self.add(ask, place)
+    }
+
+    // Takes a line that asks by a select.
+    fn take_select(&mut self, line: &[u8], rest: Option<&[u8]>) -> Result<(), TextCause>
+        requires header { self.old.has_header ≡ true }
+        requires read { spec.IsRead self.old }
+        requires words { spec.HasWords line.now LineWord.Selects (parts_left 32 rest) }
+        ensures taken { spec.TakesOrTells self.old line.now result self.new }
+    {
+        let words = select_words(rest);
+        if let Some(cause) = select_cause(&self.decls, words) {
+            return Err(cause);
+        }
+        let (ask, place) = selected_in(&self.decls, words).unwrap();
         self.add(ask, place)
     }
 

@@ -12,7 +12,7 @@ use std::alloc::Global;
 type Row = (&'static [u8], Option<(u64, TextCause)>);
 
 // A row for each cause, and the disorders of bodies.
-static ROWS: [Row; 42] = [
+static ROWS: [Row; 41] = [
     (b"", Some((1, BadHeader))),
     (b"gotrace 1\n", Some((1, BadHeader))),
     (b"goprogram 2\n", Some((1, BadHeader))),
@@ -21,10 +21,6 @@ static ROWS: [Row; 42] = [
     (b"goprogram 1\nbody main\nexit p", Some((3, NoNewline))),
     (b"goprogram 1\nbody main\nexit p\n", None),
     (b"goprogram 1\nbody main\nexit\tp\n", Some((3, BadByte))),
-    (
-        b"goprogram 1\nbody main\nselect - block p\n",
-        Some((3, UnknownWord)),
-    ),
     (b"goprogram 1\nbody main\nmeet p\n", Some((3, UnknownWord))),
     (b"goprogram 1\nbody main\nexit p q\n", Some((3, WrongCount))),
     (

@@ -273,7 +273,8 @@ fn case_in<A: Allocator>(decls: &Decls<A>, piece: &[u8]) -> Option<Case>
     Some(Case { dir, chan })
 }
 
-fn chan_in<A: Allocator>(decls: &Decls<A>, word: &[u8]) -> Option<Option<u32>>
+// What a word says as a channel, or nil.
+pub fn chan_in<A: Allocator>(decls: &Decls<A>, word: &[u8]) -> Option<Option<u32>>
     requires { IsWellFormed decls.now }
     ensures chan { result ≡ spec.chan_in decls.now.declarations word.now }
     ensures low { IfSome result (λ chan. IfSome chan (λ c. c < 65_535)) }

@@ -49,7 +49,12 @@ pub(crate) fn is_wanted<A: Allocator>(decls: &Decls<A>, kind: PartKind, named: N
     }
 }
 
-fn used_name_cause<A: Allocator>(decls: &Decls<A>, kind: PartKind, word: &[u8]) -> Option<TextCause>
+// The least cause of a used name.
+pub fn used_name_cause<A: Allocator>(
+    decls: &Decls<A>,
+    kind: PartKind,
+    word: &[u8],
+) -> Option<TextCause>
     ensures { result ≡ spec.used_name_cause decls.now.declarations kind word.now }
 {
     if !is_name(word) {
@@ -108,7 +113,7 @@ fn pieces_cause<A: Allocator>(decls: &Decls<A>, word: &[u8]) -> Option<TextCause
 }
 
 // Whether there are more pieces than a select can have cases.
-fn has_too_many_pieces(word: &[u8]) -> bool
+pub fn has_too_many_pieces(word: &[u8]) -> bool
     ensures { result ≡ nat_lt MAX_CASES (length (pieces_of word.now)) }
 {
     let mut left = Some(word);
@@ -201,7 +206,7 @@ fn rank(cause: TextCause) -> u8
 }
 
 // Of two causes that may hold, the lesser.
-fn lesser(a: Option<TextCause>, b: Option<TextCause>) -> Option<TextCause>
+pub fn lesser(a: Option<TextCause>, b: Option<TextCause>) -> Option<TextCause>
     ensures { result ≡ spec.lesser a b }
 {
     match a {

@@ -30,9 +30,9 @@ pub use cut::{cut_at, has_bad_byte};
 pub use declaration::cause_of;
 pub use declaration::read_declaration;
 #[doc(hidden)]
-pub use event::{Draft, goroutine_of, last_place, next_part, next_parts};
+pub use event::{Draft, chan_in, goroutine_of, last_place, next_part, next_parts};
 #[doc(hidden)]
-pub use fields::fields_cause;
+pub use fields::{fields_cause, has_too_many_pieces, lesser, used_name_cause};
 #[doc(hidden)]
 pub use finder::{has_count, word_cause};
 #[doc(hidden)]

@@ -1,6 +1,7 @@
 -- One more step is counted, at the depth before it.
-use Rattle.std.proofs.Common.{◌≡◌, ◌+◌, ◌-◌, ◌==◌, true, false, drop, sym, ap, ◌∙◌, arith, if◌then◌else◌}
+use Rattle.std.proofs.Common.{◌≡◌, ◌∷◌, ◌+◌, ◌-◌, ◌==◌, true, false, drop, sym, ap, ◌∙◌, arith, if◌then◌else◌}
 use Rattle.std.proofs.lemmas.Bool.Decides.{nat_tests}
+use Rattle.race_hub.specs.declared.request.Request.{Request}
 use Rattle.race_script.specs.Bodies.{steps_to_end}
 use Rattle.race_script.specs.Program.{asks_of}
 use Rattle.race_script.proofs.BodyLemmas.{asks_from, steps_do, steps_end, steps_other}
@@ -12,7 +13,7 @@ returns-then-depth-eq0 c =
     let steps = c.args.steps.now in
     let i = c.loop-step.step-index in
     let rest = drop (i + 1) (asks_of steps) in
-    let from = asks_from steps i _ c.loop-step-test.true in
+    let from = asks_from steps i c.step-item.result c.loop-step-test.true ∙ ap (λ (r : Request). r.ask ∷ rest) (sym c.step-item.is) in
     let zero : (c.loop-step.depth == 0) ≡ true = let none = c.if-depth-eq0.true in grind (arith, nat_tests, none) in
     let one : steps_to_end c.loop-step.depth (drop i (asks_of steps)) ≡ 1 =
     ap (steps_to_end c.loop-step.depth) from ∙ steps_end c.loop-step.depth _ rest (sym c.is_end.ensures ∙ c.if-is_end.true)
@@ -25,7 +26,7 @@ loop-step-preserved c =
     let steps = c.args.steps.now in
     let i = c.loop-step.step-index in
     let rest = drop (i + 1) (asks_of steps) in
-    let from = asks_from steps i _ c.loop-step-test.true in
+    let from = asks_from steps i c.step-item.result c.loop-step-test.true ∙ ap (λ (r : Request). r.ask ∷ rest) (sym c.step-item.is) in
     let count = c.loop-step.invariant.count in
     let deep = c.loop-step.invariant.deep in
     let all = c.loop-step.invariant.all in

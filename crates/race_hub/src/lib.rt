@@ -2,8 +2,6 @@
 #![tactic(auto)]
 
 mod board;
-#[cfg(test)]
-mod board_tests;
 mod choice;
 mod ending;
 mod firing;
@@ -22,12 +20,8 @@ mod recording;
 mod request;
 mod routine;
 mod search;
-#[cfg(test)]
-mod search_tests;
 mod sound;
 mod table;
-#[cfg(test)]
-mod tests;
 mod track;
 mod waiters;
 

@@ -1,7 +1,7 @@
 -- Each so far is declared.
 use Rattle.std.proofs.Common.{All, IsTrue, length, ◌≡◌}
 use Rattle.race_hub.specs.Waiting.{is_declared}
-use Rattle.race_hub.proofs.board_tests.listed.Given as goal
+use Rattle.race_hub_tests.proofs.board.listed.Given as goal
 
 abbrev pub invariant-loop-i : goal.invariant-loop-i
 invariant-loop-i l = record {

@@ -1,6 +1,6 @@
 ghost use Rattle.std.specs.Prelude.{◌≤◌};
 
-use crate::{Board, Choice, pick_choice};
+use race_hub::{Board, Choice, pick_choice};
 
 // So many requests with one way each. Those at even places meet those at odd ones, or each goes on alone.
 #[derive(Drop)]

@@ -2,7 +2,7 @@ ghost use Rattle.std.specs.Prelude.{◌≡◌, ◌≤◌, ◌<◌, true, length,
 ghost use Rattle.race_legal.specs.StandsFor.{StandsFor};
 ghost use Rattle.race_hub.specs.Waiting.{is_declared};
 
-use crate::{Ask, Choice, Request, Waiter, WaitingList};
+use race_hub::{Ask, Choice, Request, Waiter, WaitingList};
 use race_legal::Replay;
 use race_records::{Cause, Decls, Event, Kind, Object, Op, Trace};
 use std::alloc::{AllocError, Global};

@@ -4,7 +4,7 @@ use Rattle.race_records.specs.declared.event.Event.{Event}
 use Rattle.race_legal.specs.StandsFor.{StandsFor}
 use Rattle.race_legal.proofs.Fronts.{take_next}
 use Rattle.race_legal.proofs.RangeLemmas.{in_range}
-use Rattle.race_hub.proofs.board_tests.replayed.Goals as goal
+use Rattle.race_hub_tests.proofs.board.replayed.Goals as goal
 
 pub accept-requires-clause-range : goal.accept-requires-clause-range
 accept-requires-clause-range c =

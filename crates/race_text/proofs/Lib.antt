@@ -17,6 +17,7 @@ pub mod CleanLemmas
 pub mod CauseLemmas
 pub mod DeclarationLemmas
 pub mod FoundLemmas
+pub mod GuessLemmas
 pub mod EventWords
 pub mod EventLines
 pub mod TraceLemmas

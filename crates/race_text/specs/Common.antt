@@ -3,6 +3,9 @@ use Rattle.std.specs.Prelude.{◌≡◌, ◌≢◌, ℕ, ◌≤◌, Bool, true, 
 use Rattle.std.specs.Borrow.{Bor}
 use Rattle.std.specs.List.{list_all}
 use Rattle.std.specs.Simd.Lanes.{chunk, mask_l}
+use Rattle.race_records.specs.declared.event.Event.{Event}
+use Rattle.race_records.specs.declared.event.Op.{Op}
+use Rattle.race_records.specs.declared.kind.Kind.{Kind}
 use Rattle.race_records.specs.declared.kind.Named.{Named}
 use Rattle.race_records.specs.declared.parts.Part.{Part}
 use Rattle.race_records.specs.declared.parts.PartKind.{PartKind}
@@ -11,10 +14,12 @@ use Rattle.race_records.specs.Name.{is_place_byte}
 use Rattle.race_records.specs.Declarations.{Declaration}
 use Rattle.race_text.specs.declared.cause.TextCause.{TextCause}
 use Rattle.race_text.specs.declared.cause.TextFault.{TextFault}
+use Rattle.race_text.specs.declared.common.Deed.{Deed}
+use Rattle.race_text.specs.declared.common.Said.{Said}
 use Rattle.race_text.specs.Words.{parts_of, words_of}
 use Rattle.race_text.specs.Form.{first_word, arguments}
 use Rattle.race_text.specs.Fault.{cause}
-use Rattle.race_text.specs.Reading.{Occurrence, first_part, parts_on, last_place, event_behind, event_in}
+use Rattle.race_text.specs.Reading.{Occurrence, occurrence, first_part, parts_on, last_place, event_behind, event_in}
 use Rattle.race_text.specs.Reader.{GoesOn}
 use Rattle.race_text.specs.Fed.{IsUnended, TellsOfLine}
 
@@ -53,6 +58,19 @@ names_object (PartKind.Object kind) = true
 names_object PartKind.RwMutex = true
 names_object _ = false
 
+-- of which kind the object is that stands behind the goroutine
+abbrev pub object_kind : Verb → PartKind
+object_kind Verb.Read = PartKind.Object Kind.Var
+object_kind Verb.Write = PartKind.Object Kind.Var
+object_kind Verb.Send = PartKind.Object Kind.Chan
+object_kind Verb.Recv = PartKind.Object Kind.Chan
+object_kind Verb.Lock = PartKind.Object Kind.Lock
+object_kind Verb.Unlock = PartKind.Object Kind.Lock
+object_kind Verb.RLock = PartKind.RwMutex
+object_kind Verb.RUnlock = PartKind.RwMutex
+object_kind Verb.OnceDone = PartKind.Object Kind.Once
+object_kind _ = PartKind.Value
+
 -- the first word names an object of this kind
 pub record SaysObject (ds : List Declaration) (kind : PartKind) (bytes : List ℕ) (named : Named) (rest : List ℕ) : Type 0 where
   pub says : first_part ds kind (words_in bytes) ≡ Some (Part.Object named, words_in rest)
@@ -76,6 +94,26 @@ pub record SaysValue (wanted : Bool) (bytes : List ℕ) (value : Option ℕ) (re
 pub record SaysPlace (bytes place rest : List ℕ) : Type 0 where
   pub says : last_place (words_in bytes) ≡ Some place
   pub behind : parts_behind bytes ≡ parts_of rest
+
+-- the operation
+abbrev pub op_of : Deed → Op
+op_of (Deed.Read x v) = Op.Read x v
+op_of (Deed.Write x v) = Op.Write x v
+op_of (Deed.Send c v) = Op.Send c v
+op_of (Deed.Recv c v) = Op.Recv c v
+op_of (Deed.Lock l) = Op.Lock l
+op_of (Deed.Unlock l) = Op.Unlock l
+op_of (Deed.RLock l) = Op.RLock l
+op_of (Deed.RUnlock l) = Op.RUnlock l
+op_of (Deed.OnceDone o) = Op.OnceDone o
+
+-- what a line says in the code stands for
+abbrev pub said_of : Said → Occurrence
+said_of said = occurrence said.who (op_of said.deed) (said.place.now, None)
+
+-- an event with one place
+abbrev pub event_at : ℕ → Op → ℕ → Event
+event_at who op place = record { who = who; op = op; place = place; place2 = None }
 
 -- a newline ends the line in front of the rest
 abbrev pub EndsLine : List ℕ → List ℕ → Type 0

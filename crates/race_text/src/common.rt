@@ -1,16 +1,16 @@
 //! Lines of common words. The bytes in front of what is left are looked at together, and a word is
 //! cut by the marks of those that can't be seen. What isn't read so is left to the reader of lines.
 ghost use Rattle.std.specs.Prelude.{◌≡◌, ◌∷◌, true, false, IfSome};
-ghost use Rattle.race_records.specs.Declarations.{IsWellFormed};
+ghost use Rattle.race_records.specs.Declarations.{IsWellFormed, IsDeclared};
 ghost use Rattle.race_records.specs.Parts as parts;
-ghost use Rattle.race_text.specs.Reading.{drafted};
+ghost use Rattle.race_text.specs.Form.{is_wanted};
 ghost use Rattle.race_text.specs.Common as spec;
 
-use crate::event::{Draft, goroutine_of, object_in};
+use crate::event::{goroutine_of, object_in};
 use crate::form::{Word, common_word};
 use crate::lanes::unseen_in_front;
 use crate::number::read_number;
-use race_records::{Decls, Kind, Named, Op, Part, PartKind, Verb};
+use race_records::{Decls, Kind, Named, Part, PartKind, Verb};
 use std::alloc::Allocator;
 
 /// The bytes from a word on, of which those in front are marked.
@@ -22,36 +22,64 @@ pub struct Front<'a> {
     pub marks: u64,
 }
 
+/// What a common operation does to its object, and with which value. It is small, while `Op` has
+/// room for a select and would go through memory.
+#[derive(Clone, Copy, Debug)]
+pub enum Deed {
+    /// Reads a value from a variable.
+    Read(u32, u64),
+    /// Writes a value to a variable.
+    Write(u32, u64),
+    /// Sends a value on a channel.
+    Send(u32, u64),
+    /// Receives a value from a channel.
+    Recv(u32, u64),
+    /// Locks a lock.
+    Lock(u32),
+    /// Unlocks a lock.
+    Unlock(u32),
+    /// Locks a lock for reading.
+    RLock(u32),
+    /// Unlocks a lock from reading.
+    RUnlock(u32),
+    /// Found that a once had run.
+    OnceDone(u32),
+}
+
+/// What a common line says.
+#[derive(Clone, Copy, Debug)]
+pub struct Said<'a> {
+    /// The goroutine whose event it is.
+    pub who: u32,
+    /// What it did.
+    pub deed: Deed,
+    /// Where in the source.
+    pub place: &'a [u8],
+}
+
 // The event that the line in front says, and the bytes behind its newline.
 #[inline(always)]
 pub(crate) fn read_common<'a, A: Allocator>(
     decls: &Decls<A>,
     bytes: &'a [u8],
-) -> Option<(Draft<'a>, &'a [u8])>
+) -> Option<(Said<'a>, &'a [u8])>
     requires { IsWellFormed decls.now }
     ensures { IfSome result (λ read. spec.SaysEvent decls.now.declarations bytes.now
-        (drafted read.0) read.1.now) }
+        (spec.said_of read.0) read.1.now) }
 {
     if bytes.len() < 64 {
         return None;
     }
     let marks = unseen_in_front(bytes);
     let (verb, front) = next_verb(Front { bytes, marks })?;
-    let (object_kind, has_value) = parts_wanted(verb)?;
+    let has_value = value_wanted(verb)?;
     let (goroutine, front) = next_object(decls, PartKind::Object(Kind::Goroutine), front)?;
     let who = goroutine_of(Part::Object(goroutine))?;
-    let (object, front) = next_object(decls, object_kind, front)?;
+    let (object, front) = next_named(decls, front)?;
     let (value, front) = next_value(has_value, front)?;
-    let op = op_said(verb, object, value)?;
+    let deed = deed_said(decls, verb, object, value)?;
     let (place, rest) = last_place(front)?;
-    let place2 = None;
-    let draft = Draft {
-        who,
-        op,
-        place,
-        place2,
-    };
-    Some((draft, rest))
+    Some((Said { who, deed, place }, rest))
 }
 
 // The word of an operation.
@@ -83,6 +111,21 @@ fn next_object<'a, A: Allocator>(
 {
     let (len, behind) = next_word(front)?;
     let named = object_in(decls, kind, front.bytes, len)?;
+    Some((named, behind))
+}
+
+// What the next word names. Whether that is wanted there, the operation tells.
+#[inline(always)]
+fn next_named<'a, A: Allocator>(decls: &Decls<A>, front: Front<'a>) -> Option<(Named, Front<'a>)>
+    requires { spec.IsMarked front.marks front.bytes.now }
+    ensures says { IfSome result (λ read. (kind : PartKind) → spec.names_object kind ≡ true
+        → is_wanted decls.now.declarations kind read.0 ≡ true
+        → spec.SaysObject decls.now.declarations kind front.entry.bytes.now read.0 read.1.bytes.now) }
+    ensures declared { IfSome result (λ read. IsDeclared decls.now.declarations read.0) }
+    ensures marked { IfSome result (λ read. spec.IsMarked read.1.marks read.1.bytes.now) }
+{
+    let (len, behind) = next_word(front)?;
+    let named = decls.find_at(front.bytes, len)?;
     Some((named, behind))
 }
 
@@ -141,38 +184,44 @@ fn next_word(front: Front<'_>) -> Option<(usize, Front<'_>)>
     ))
 }
 
-// What stands behind the goroutine: an object of this kind, and a value or none.
+// Whether a value stands behind the goroutine and the object.
 #[inline(always)]
-fn parts_wanted(verb: Verb) -> Option<(PartKind, bool)>
-    ensures kinds { IfSome result (λ wanted. parts.part_kinds verb ≡ wanted.0 ∷ spec.value_kinds wanted.1) }
-    ensures object { IfSome result (λ wanted. spec.names_object wanted.0 ≡ true) }
+fn value_wanted(verb: Verb) -> Option<bool>
+    ensures kinds { IfSome result (λ wanted. parts.part_kinds verb ≡ spec.object_kind verb ∷ spec.value_kinds wanted) }
+    ensures object { IfSome result (λ wanted. spec.names_object (spec.object_kind verb) ≡ true) }
     ensures one_place { IfSome result (λ wanted. parts.has_two_places verb ≡ false) }
 {
     match verb {
-        Verb::Read | Verb::Write => Some((PartKind::Object(Kind::Var), true)),
-        Verb::Send | Verb::Recv => Some((PartKind::Object(Kind::Chan), true)),
-        Verb::Lock | Verb::Unlock => Some((PartKind::Object(Kind::Lock), false)),
-        Verb::RLock | Verb::RUnlock => Some((PartKind::RwMutex, false)),
-        Verb::OnceDone => Some((PartKind::Object(Kind::Once), false)),
+        Verb::Read | Verb::Write | Verb::Send | Verb::Recv => Some(true),
+        Verb::Lock | Verb::Unlock | Verb::RLock | Verb::RUnlock | Verb::OnceDone => Some(false),
         _ => None,
     }
 }
 
-// The operation that the word, its object and its value say. In a call it would go through memory.
+// What the word, its object and its value say, where the object is one that the word wants.
 #[inline(always)]
-fn op_said(verb: Verb, object: Named, value: Option<u64>) -> Option<Op>
-    ensures { IfSome result (λ op. parts.op_by verb (Part.Object object ∷ spec.value_parts value) ≡ Some op) }
+fn deed_said<A: Allocator>(
+    decls: &Decls<A>,
+    verb: Verb,
+    object: Named,
+    value: Option<u64>,
+) -> Option<Deed>
+    requires { IsDeclared decls.now.declarations object }
+    ensures op { IfSome result (λ deed.
+        parts.op_by verb (Part.Object object ∷ spec.value_parts value) ≡ Some (spec.op_of deed)) }
+    ensures wanted { IfSome result (λ deed.
+        is_wanted decls.now.declarations (spec.object_kind verb) object ≡ true) }
 {
     match (verb, object, value) {
-        (Verb::Read, Named::Var(x), Some(v)) => Some(Op::Read(x, v)),
-        (Verb::Write, Named::Var(x), Some(v)) => Some(Op::Write(x, v)),
-        (Verb::Send, Named::Chan(c), Some(v)) => Some(Op::Send(c, v)),
-        (Verb::Recv, Named::Chan(c), Some(v)) => Some(Op::Recv(c, v)),
-        (Verb::Lock, Named::Lock(l), None) => Some(Op::Lock(l)),
-        (Verb::Unlock, Named::Lock(l), None) => Some(Op::Unlock(l)),
-        (Verb::RLock, Named::Lock(l), None) => Some(Op::RLock(l)),
-        (Verb::RUnlock, Named::Lock(l), None) => Some(Op::RUnlock(l)),
-        (Verb::OnceDone, Named::Once(o), None) => Some(Op::OnceDone(o)),
+        (Verb::Read, Named::Var(x), Some(v)) => Some(Deed::Read(x, v)),
+        (Verb::Write, Named::Var(x), Some(v)) => Some(Deed::Write(x, v)),
+        (Verb::Send, Named::Chan(c), Some(v)) => Some(Deed::Send(c, v)),
+        (Verb::Recv, Named::Chan(c), Some(v)) => Some(Deed::Recv(c, v)),
+        (Verb::Lock, Named::Lock(l), None) => Some(Deed::Lock(l)),
+        (Verb::Unlock, Named::Lock(l), None) => Some(Deed::Unlock(l)),
+        (Verb::RLock, Named::Lock(l), None) if decls.is_rw(l) => Some(Deed::RLock(l)),
+        (Verb::RUnlock, Named::Lock(l), None) if decls.is_rw(l) => Some(Deed::RUnlock(l)),
+        (Verb::OnceDone, Named::Once(o), None) => Some(Deed::OnceDone(o)),
         _ => None,
     }
 }

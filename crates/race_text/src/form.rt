@@ -74,6 +74,7 @@ pub fn word_named(word: &[u8]) -> Option<Word>
 }
 
 // A common word, told by its bytes without a look into the table.
+#[inline(always)]
 #[tactic(auto, unfolding(crate::specs::Form::word_named))]
 pub(crate) fn common_word(word: &[u8]) -> Option<Word>
     ensures { IfSome result (λ found. spec.word_named word.now ≡ Some found) }
@@ -100,6 +101,7 @@ pub(crate) fn common_word(word: &[u8]) -> Option<Word>
 }
 
 // The common word that begins with `r`, from the bytes behind it.
+#[inline(always)]
 #[tactic(auto, unfolding(crate::specs::Form::word_named))]
 fn word_behind_r(rest: &[u8]) -> Option<Word>
     ensures { IfSome result (λ found. spec.word_named (114 ∷ rest.now) ≡ Some found) }

@@ -10,6 +10,7 @@ pub mod examples;
 mod fields;
 mod finder;
 mod form;
+mod guesses;
 mod lanes;
 pub mod laws;
 mod line_reader;
@@ -23,7 +24,7 @@ mod writing;
 
 pub use cause::{TextCause, TextFault};
 #[doc(hidden)]
-pub use common::Front;
+pub use common::{Deed, Front, Said};
 #[doc(hidden)]
 pub use cut::{cut_at, has_bad_byte};
 #[doc(hidden)]
@@ -37,6 +38,8 @@ pub use fields::{fields_cause, has_too_many_pieces, lesser, used_name_cause};
 pub use finder::{has_count, word_cause};
 #[doc(hidden)]
 pub use form::{Field, Word, word_named};
+#[doc(hidden)]
+pub use guesses::{Guess, Guesses};
 pub use line_reader::LineReader;
 #[doc(hidden)]
 pub use line_reader::Lines;

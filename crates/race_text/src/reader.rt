@@ -9,6 +9,7 @@ ghost use Rattle.race_text.specs.Reader as spec;
 use crate::cause::TextCause;
 use crate::cut::has_bad_byte;
 use crate::declaration::read_declaration;
+use crate::guesses::Guesses;
 use crate::taking::{take_common, take_event};
 use race_records::{Decls, Trace};
 use std::alloc::Allocator;
@@ -25,6 +26,8 @@ pub struct Reader<A: Allocator> {
     pub decls: Decls<A>,
     /// The trace, from the first event on.
     pub trace: Option<Trace<A>>,
+    /// Where the places of common lines likely stand.
+    pub guesses: Guesses,
 }
 
 impl<A: Allocator + Copy> Reader<A> {
@@ -38,6 +41,7 @@ impl<A: Allocator + Copy> Reader<A> {
             has_header: false,
             decls: Decls::new(alloc),
             trace: None,
+            guesses: Guesses::new(),
         }
     }
 
@@ -75,7 +79,7 @@ impl<A: Allocator + Copy> Reader<A> {
             (spec.IsReading self.new.has_header self.new.decls self.new.trace) }
     {
         match &mut self.trace {
-            Some(trace) => take_common(trace, bytes),
+            Some(trace) => take_common(trace, &mut self.guesses, bytes),
             None => Ok(None),
         }
     }
@@ -124,6 +128,7 @@ impl<A: Allocator + Copy> Reader<A> {
             has_header: _,
             decls,
             trace,
+            guesses: _,
         } = self;
         match trace {
             Some(trace) => trace,

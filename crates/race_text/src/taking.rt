@@ -1,20 +1,22 @@
 //! Lines behind the first event.
-ghost use Rattle.std.specs.Prelude.{◌≡◌, ◌≢◌, ◌*◌, ◌<◌, ◌≤◌, [], true, false, length, IfSome, IfOk, IfErr, MatchResult, OnOk};
+ghost use Rattle.std.specs.Prelude.{◌≡◌, ◌≢◌, ◌*◌, ◌<◌, ◌≤◌, ◌++◌, [], ◌∷◌, true, false, length, None, IsTrue, IfSome, IfOk, IfErr, MatchResult, OnOk};
 ghost use Rattle.std.specs.Option.{option_map};
 ghost use Rattle.race_records.specs.Name.{is_place};
 ghost use Rattle.race_records.specs.Declarations.{place_number, with_place};
 ghost use Rattle.race_text.specs.Declaring.{is_declaration_line};
 ghost use Rattle.race_text.specs.Reading.{drafted};
 ghost use Rattle.race_text.specs.Text.{lines};
-ghost use Rattle.race_text.specs.Common.{GoesOnIfTold, TellsOfCommon};
+ghost use Rattle.race_records.specs.Events.{push_fault, op_is_limited};
+ghost use Rattle.race_text.specs.Common.{GoesOnIfTold, TellsOfCommon, op_of, said_of, event_at};
 ghost use Rattle.race_text.specs.Taking as spec;
 
 use crate::cause::TextCause;
-use crate::common::read_common;
+use crate::common::{Deed, Said, read_common};
 use crate::declaration::cause_of;
 use crate::event::{Draft, read_event};
 use crate::finder::line_cause;
-use race_records::{Event, MAX_EVENTS, MAX_PLACES, Trace, as_text};
+use crate::guesses::{Guesses, mark_of};
+use race_records::{Event, MAX_EVENTS, MAX_PLACES, Op, Trace, as_text};
 use std::alloc::Allocator;
 
 // Takes a line behind the declarations: an event that fits, or the least cause of what isn't one.
@@ -40,6 +42,7 @@ pub(crate) fn take_event<A: Allocator + Copy>(
 #[inline(always)]
 pub(crate) fn take_common<'a, A: Allocator + Copy>(
     trace: &mut Trace<A>,
+    guesses: &mut Guesses,
     bytes: &'a [u8],
 ) -> Result<Option<&'a [u8]>, TextCause>
     requires read { spec.IsRead trace.old }
@@ -52,10 +55,82 @@ pub(crate) fn take_common<'a, A: Allocator + Copy>(
 {
     match read_common(trace.decls(), bytes) {
         None => Ok(None),
-        Some((draft, rest)) => match append(trace, draft) {
+        Some((said, rest)) => match append_said(trace, guesses, said) {
             Ok(()) => Ok(Some(rest)),
             Err(cause) => Err(cause),
         },
+    }
+}
+
+// Appends what a common line says, as `append` appends a draft.
+#[inline(always)]
+fn append_said<A: Allocator + Copy>(
+    trace: &mut Trace<A>,
+    guesses: &mut Guesses,
+    said: Said<'_>,
+) -> Result<(), TextCause>
+    requires fits { spec.IsFitting trace.old.decls (said_of said) }
+    requires few { length trace.old.decls.places ≤ 2 * length trace.old.events }
+    ensures { MatchResult result
+        (λ _. spec.AppendsEvent trace.old trace.new (said_of said.entry))
+        (λ cause. cause ≢ TextCause.OutOfMemory → spec.IsFull trace.old cause) }
+{
+    if trace.len() >= MAX_EVENTS {
+        return Err(TextCause::TooMany);
+    }
+    let place = add_met(trace, guesses, said.place)?;
+    append_deed(trace, said.who, said.deed, place)
+}
+
+// Appends what was done. Each operation is written where it is to stand.
+#[inline(always)]
+fn append_deed<A: Allocator + Copy>(
+    trace: &mut Trace<A>,
+    who: u32,
+    deed: Deed,
+    place: u32,
+) -> Result<(), TextCause>
+    requires allowed { push_fault trace.old (event_at who (op_of deed) place) ≡ None }
+    ensures events { OnOk result (trace.new.events ≡ trace.old.events ++ event_at who (op_of deed) place ∷ []) }
+    ensures decls { OnOk result (trace.new.decls ≡ trace.old.decls) }
+    ensures err { IfErr result (λ cause. cause ≡ TextCause.OutOfMemory) }
+{
+    match deed {
+        Deed::Read(x, v) => append_op(trace, who, Op::Read(x, v), place),
+        Deed::Write(x, v) => append_op(trace, who, Op::Write(x, v), place),
+        Deed::Send(c, v) => append_op(trace, who, Op::Send(c, v), place),
+        Deed::Recv(c, v) => append_op(trace, who, Op::Recv(c, v), place),
+        Deed::Lock(l) => append_op(trace, who, Op::Lock(l), place),
+        Deed::Unlock(l) => append_op(trace, who, Op::Unlock(l), place),
+        Deed::RLock(l) => append_op(trace, who, Op::RLock(l), place),
+        Deed::RUnlock(l) => append_op(trace, who, Op::RUnlock(l), place),
+        Deed::OnceDone(o) => append_op(trace, who, Op::OnceDone(o), place),
+    }
+}
+
+// Appends an operation at one place.
+#[inline(always)]
+fn append_op<A: Allocator + Copy>(
+    trace: &mut Trace<A>,
+    who: u32,
+    op: Op,
+    place: u32,
+) -> Result<(), TextCause>
+    requires allowed { push_fault trace.old (event_at who op place) ≡ None }
+    requires value { IsTrue (op_is_limited op) }
+    ensures events { OnOk result (trace.new.events ≡ trace.old.events ++ event_at who op place ∷ []) }
+    ensures decls { OnOk result (trace.new.decls ≡ trace.old.decls) }
+    ensures err { IfErr result (λ cause. cause ≡ TextCause.OutOfMemory) }
+{
+    let event = Event {
+        who,
+        op,
+        place,
+        place2: None,
+    };
+    match trace.append(event) {
+        Err(_) => Err(TextCause::OutOfMemory),
+        Ok(()) => Ok(()),
     }
 }
 
@@ -98,6 +173,31 @@ fn add_place<A: Allocator + Copy>(trace: &mut Trace<A>, place: &[u8]) -> Result<
     match trace.add_place(as_text(place)) {
         Err(fault) => Err(cause_of(fault)),
         Ok(number) => Ok(number),
+    }
+}
+
+// The same of a place that may have been met before.
+#[inline(always)]
+fn add_met<A: Allocator + Copy>(
+    trace: &mut Trace<A>,
+    guesses: &mut Guesses,
+    place: &[u8],
+) -> Result<u32, TextCause>
+    requires form { is_place place.now ≡ true }
+    requires room { length trace.old.decls.places < MAX_PLACES }
+    ensures number { IfOk result (λ n. n ≡ place_number trace.old.decls.places place.now) }
+    ensures decls { OnOk result (trace.new.decls ≡ with_place trace.old.decls place.now) }
+    ensures events { trace.new.events ≡ trace.old.events }
+    ensures err { IfErr result (λ cause. cause ≡ TextCause.OutOfMemory) }
+{
+    let mark = mark_of(place);
+    match guesses.number(trace.decls(), as_text(place), mark) {
+        Some(number) => Ok(number),
+        None => {
+            let number = add_place(trace, place)?;
+            guesses.note(mark, number);
+            Ok(number)
+        }
     }
 }
 

@@ -1,0 +1,91 @@
+//! Where the places of common lines stand in the table, guessed by some of their bytes. A guess is
+//! compared with the table, so it may be wrong, and a place that isn't guessed is looked for there.
+ghost use Rattle.std.specs.Prelude.{◌≡◌, ◌<◌, ◌≤◌, length, Some, IfSome, slice_get};
+
+use race_records::Decls;
+use std::alloc::Allocator;
+
+// Most traces have at most some thousand places.
+const SLOTS: usize = 4_096;
+
+/// The number of a place, and a mark of its bytes, by which most others are told from it.
+#[derive(Clone, Copy, Debug)]
+pub struct Guess {
+    mark: u32,
+    place: u32,
+}
+
+/// Numbers of places that were met. A slot in which none was noted guesses the first place.
+#[derive(Debug, Drop)]
+pub struct Guesses {
+    slots: [Guess; SLOTS],
+}
+
+impl Guesses {
+    pub(crate) fn new() -> Guesses {
+        Guesses {
+            slots: [Guess { mark: 0, place: 0 }; SLOTS],
+        }
+    }
+
+    // The number of the place with this mark, where it was guessed.
+    #[inline(always)]
+    pub(crate) fn number<A: Allocator>(
+        &self,
+        decls: &Decls<A>,
+        place: &str,
+        mark: u32,
+    ) -> Option<u32>
+        ensures { IfSome result (λ n. slice_get decls.now.places n ≡ Some place.now) }
+    {
+        let guess = self.slots[slot_of(mark)];
+        if guess.mark == mark
+            && guess.place < decls.place_count()
+            && decls.place_text(guess.place) == place
+        {
+            Some(guess.place)
+        } else {
+            None
+        }
+    }
+
+    // The place with this mark has this number.
+    #[inline(always)]
+    pub(crate) fn note(&mut self, mark: u32, place: u32) {
+        self.slots[slot_of(mark)] = Guess { mark, place };
+    }
+}
+
+// The slot of a mark is told by its highest bits, in which every byte has a part.
+#[inline(always)]
+fn slot_of(mark: u32) -> usize
+    ensures { result < 4_096 }
+{
+    (mark >> 20) as usize
+}
+
+// A mark of the first bytes, of those in the middle, and of the last.
+#[inline(always)]
+pub(crate) fn mark_of(place: &[u8]) -> u32 {
+    if place.len() < 8 {
+        return place.len() as u32;
+    }
+    let last = place.len() - 8;
+    let front = eight_bytes(place);
+    let middle = eight_bytes(&place[last / 2..]).rotate_left(21);
+    let back = eight_bytes(&place[last..]);
+    let once = (front ^ middle).wrapping_mul(0x9e37_79b9_7f4a_7c15);
+    let twice = (once ^ (once >> 32) ^ back).wrapping_mul(0xa076_1d64_78bd_642f);
+    (twice >> 32) as u32
+}
+
+// The first eight bytes.
+#[inline(always)]
+fn eight_bytes(bytes: &[u8]) -> u64
+    requires { 8 ≤ length bytes.now }
+{
+    match bytes.first_chunk::<8>() {
+        Some(eight) => u64::from_le_bytes(*eight),
+        None => unreachable!(),
+    }
+}

@@ -1,4 +1,10 @@
 pub mod BodyLemmas
+pub mod CourseLemmas
+pub mod MadeLemmas
+pub mod PassedLemmas
+pub mod SameAsks
+pub mod StuckLemmas
+pub mod CertifyLemmas
 pub mod ScriptLemmas
 pub mod ParseLemmas
 pub mod FedLemmas

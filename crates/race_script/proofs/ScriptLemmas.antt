@@ -14,20 +14,23 @@ use Rattle.race_script.proofs.BodyLemmas.{behind_do_within}
 steps_behind : (body : List Request) (n : ℕ) → asks_of (take (length body - n) (drop n body)) ≡ drop n (asks_of body)
 steps_behind body n = ap asks_of (rest_is body n) ∙ sym (drop-map (λ (r : Request). r.ask) n body)
 
+-- so they are counted
+pub count_is : (body : List Request) (n steps : ℕ) → steps ≡ steps_to_end 0 (asks_of (take (length body - n) (drop n body)))
+    → steps ≡ steps_to_end 0 (drop n (asks_of body))
+count_is body n steps counted = counted ∙ ap (steps_to_end 0) (steps_behind body n)
+
 module _ (body : List Request) (n steps : ℕ) (answer : Answer) (behind : is_behind_do (asks_of body) n ≡ true)
     (counted : steps ≡ steps_to_end 0 (asks_of (take (length body - n) (drop n body)))) where
-  count_is : steps ≡ steps_to_end 0 (drop n (asks_of body))
-  count_is = counted ∙ ap (steps_to_end 0) (steps_behind body n)
-
   pub done_step : is_done answer ≡ true → n + steps ≡ next_step (record { whole = body; position = n }) answer
   done_step done =
-      ap (λ k. n + k) count_is ∙ sym (λ i. if behind i && done i then n + steps_to_end 0 (drop n (asks_of body)) else n)
+      ap (λ k. n + k) (count_is body n steps counted) ∙ sym (λ i. if behind i && done i then n + steps_to_end 0 (drop n (asks_of body)) else n)
 
   pub done_step_within : is_body (asks_of body) ≡ true → n + steps < length body
   done_step_within is =
       let less = behind_do_within (asks_of body) n is behind in
       let len = length-map body (λ (r : Request). r.ask) in
-      omega (arith, less, len, count_is)
+      let count = count_is body n steps counted in
+      omega (arith, less, len, count)
 
 -- the step that is asked, and the position behind it
 module _ (s : ScriptState) (answer : Answer) (step : ℕ) (asked : Request) (is : step ≡ next_step s answer) (less : step < length s.whole)

@@ -1,6 +1,8 @@
 pub mod Bodies
 pub mod Program
 pub mod Run
+pub mod Certificate
+pub mod Course
 pub mod Form
 pub mod Offers
 pub mod Text

@@ -1,7 +1,9 @@
-//! Programs: their texts, and scripts that ask what their bodies say.
+//! Programs: their texts, scripts that ask what their bodies say, and whether a recording is a run of one.
 #![tactic(auto)]
 
 mod asks;
+mod certificate;
+mod course;
 mod form;
 pub mod laws;
 mod offers;
@@ -13,6 +15,7 @@ mod script;
 
 #[doc(hidden)]
 pub use asks::ask_by;
+pub use certificate::{NotARun, certify};
 #[doc(hidden)]
 pub use form::{AskWord, BODY_WORDS, LineWord, ask_kinds};
 #[doc(hidden)]

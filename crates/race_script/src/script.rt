@@ -1,5 +1,5 @@
 //! A goroutine that asks what the body of a program says, step by step.
-ghost use Rattle.std.specs.Prelude.{◌≡◌, ◌<◌, ◌+◌, Some, slice_get, length, IfOk};
+ghost use Rattle.std.specs.Prelude.{◌≡◌, ◌<◌, ◌≤◌, ◌+◌, Some, slice_get, length, IfOk};
 ghost use Rattle.race_records.specs.Declarations.{count_of};
 ghost use Rattle.race_script.specs.Bodies as bodies;
 ghost use Rattle.race_script.specs.Program.{asks_of};
@@ -97,7 +97,7 @@ impl<A: Allocator + Send> Routine for Script<A> {
 }
 
 // Whether the function of the once had run.
-fn is_done(answer: Answer) -> bool
+pub(crate) fn is_done(answer: Answer) -> bool
     ensures { result ≡ run.is_done answer }
 {
     matches!(answer, Answer::AlreadyDone)
@@ -122,8 +122,9 @@ fn is_end(ask: &Ask) -> bool
 }
 
 // How many steps there are up to the end of the function in which the first stands, that end counted.
-fn steps_to_end(steps: &[Request]) -> usize
-    ensures { result ≡ bodies.steps_to_end 0 (asks_of steps.now) }
+pub(crate) fn steps_to_end(steps: &[Request]) -> usize
+    ensures count { result ≡ bodies.steps_to_end 0 (asks_of steps.now) }
+    ensures within { result ≤ length steps.now }
 {
     let mut depth = 0usize;
     let mut count = 0usize;

@@ -8,8 +8,8 @@ use Rattle.race_script.proofs.BodyLemmas.{asks_from, steps_do, steps_end, steps_
 use Rattle.race_script.proofs.script.steps_to_end.Goals as goal
 use Rattle.race_script.proofs.script.steps_to_end.Goals.{then-is_do, else-is_do+then-is_end+else-depth-eq0, else-is_do+else-is_end}
 
-pub returns-then-depth-eq0 : goal.returns-then-depth-eq0
-returns-then-depth-eq0 c =
+pub returns-then-depth-eq0-clause-count : goal.returns-then-depth-eq0-clause-count
+returns-then-depth-eq0-clause-count c =
     let steps = c.args.steps.now in
     let i = c.loop-step.step-index in
     let rest = drop (i + 1) (asks_of steps) in

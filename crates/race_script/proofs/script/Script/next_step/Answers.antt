@@ -12,7 +12,7 @@ module _ (g : _) (c : goal.After-steps_to_end g) where
 
   counted : c.steps_to_end.result ≡ steps_to_end 0 (asks_of (take (length c.self.inside.whole.items - c.self.inside.position) (drop c.self.inside.position c.self.inside.whole.items)))
   counted =
-      c.steps_to_end.ensures
+      c.steps_to_end.ensures.count
       ∙ ap (λ (xs : List Request). steps_to_end 0 (asks_of (take (length xs - c.self.inside.position) (drop c.self.inside.position xs)))) c.deref.ensures.value
 
   within : c.self.inside.position + c.steps_to_end.result < length c.self.inside.whole.items

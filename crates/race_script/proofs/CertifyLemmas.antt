@@ -1,0 +1,70 @@
+-- A recording is certified where each goroutine in turn runs its body.
+use Rattle.std.proofs.Common.{◌≡◌, ℕ, ◌+◌, ◌<◌, ◌≤◌, ◌==◌, not, Bool, true, false, List, length, slice_get, Option, Some, None, inl, inr, refl, sym, ap, subst, ◌∙◌, arith, true≢false, eq-eqb}
+use Rattle.std.proofs.lemmas.Bool.Decides.{nat_tests}
+use Rattle.std.proofs.lemmas.Option.{same_Some, slice_get_within}
+use Rattle.race_records.proofs.ListLemmas.{slice_get-within}
+use Rattle.race_records.specs.Declarations.{Declaration}
+use Rattle.race_records.specs.Equality.{same_declarations, same_declarations-Decides}
+use Rattle.race_hub.specs.declared.request.Request.{Request}
+use Rattle.race_hub.specs.Part.{part_of}
+use Rattle.race_hub.specs.Recording.{RecordingState}
+use Rattle.race_script.specs.declared.certificate.NotARun.{NotARun}
+use Rattle.race_script.specs.Certificate.{Runs, waiting_of, IsCertified, IsStuck}
+use Rattle.race_script.specs.Course.{IsStop}
+use Rattle.race_script.specs.Program.{ProgramState, spelled}
+use Rattle.race_script.proofs.CourseLemmas.{runs_or_stuck}
+
+-- the test says that something else is declared
+pub others_declared : (ds es : List Declaration) → true ≡ not (same_declarations ds es) → ds ≡ es → ⊥
+others_declared ds es told same = by (same_declarations ds es) told ((same_declarations-Decides ds es).1 same)
+  where
+    by : (b : Bool) → true ≡ not b → b ≡ true → ⊥
+    by true told is = true≢false told
+    by false told is = true≢false (sym is)
+
+-- or that the same is
+pub same_declared : (ds es : List Declaration) → false ≡ not (same_declarations ds es) → ds ≡ es
+same_declared ds es told = (same_declarations-Decides ds es).0 (by (same_declarations ds es) told)
+  where
+    by : (b : Bool) → false ≡ not b → b ≡ true
+    by true told = refl
+    by false told = absurd (true≢false (sym told))
+
+module _ (p : ProgramState) (r : RecordingState) where
+  -- so many goroutines run their bodies
+  abbrev pub RunBelow : ℕ → Type 0
+  RunBelow n = (h : ℕ) (body : List Request) → h < n → slice_get p.bodies h ≡ Some body → Runs p r h body
+
+  -- where the goroutine stops, if it does
+  abbrev pub Stops : ℕ → Option ℕ → Type 0
+  Stops g stop = (body : List Request) → slice_get p.bodies g ≡ Some body
+      → IsStop (spelled p.decls.places body) r.decls.places g (part_of g r.events) (waiting_of g r.waiting) stop
+
+  pub one_runs : (g : ℕ) → RunBelow g → Stops g None → RunBelow (g + 1)
+  one_runs g below own h body less at = by (h == g) refl
+    where
+      by : (b : Bool) → (h == g) ≡ b → Runs p r h body
+      by true test =
+          let same : h ≡ g = grind (arith, nat_tests, test) in
+          subst (λ k. Runs p r k body) (sym same) (own body (ap (slice_get p.bodies) (sym same) ∙ at))
+      by false test =
+          let other : h ≡ g → ⊥ = λ same. true≢false (sym (eq-eqb h g same) ∙ test) in
+          below h body (omega (arith, less, other)) at
+
+  pub all_run : (n : ℕ) → r.decls.declarations ≡ p.decls.declarations → length p.bodies ≤ n → RunBelow n → IsCertified p r
+  all_run n same few below = record {
+    declarations = same;
+    runs = λ g body at. let within = slice_get_within p.bodies g body at in below g body (omega (arith, within, few)) at;
+  }
+
+  pub one_is_stuck : (g step : ℕ) → r.decls.declarations ≡ p.decls.declarations → RunBelow g → g < length p.bodies → Stops g (Some step)
+      → IsStuck p r (record { g = g; step = step })
+  one_is_stuck g step same below within own =
+      let found = slice_get-within p.bodies g within in
+      record { declarations = same; lower = below; body = found.0; whose = found.1; stuck = own found.0 found.1 }
+
+  -- who is stuck runs nothing
+  pub stuck_is_uncertified : (at : NotARun) → IsStuck p r at → IsCertified p r → ⊥
+  stuck_is_uncertified at stuck certified =
+      runs_or_stuck (spelled p.decls.places stuck.body) r.decls.places at.g (part_of at.g r.events) (waiting_of at.g r.waiting) at.step
+      (certified.runs at.g stuck.body stuck.whose) stuck.stuck

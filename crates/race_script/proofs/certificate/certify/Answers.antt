@@ -1,0 +1,75 @@
+use Rattle.std.proofs.Common.{◌≡◌, ◌<◌, ◌≤◌, not, false, length, inl, inr, refl, sym, ap, subst, ◌∙◌, arith, true≢false}
+use Rattle.race_records.specs.declared.kind.Kind.{Kind}
+use Rattle.race_records.specs.Declarations.{DeclsState, count_of}
+use Rattle.race_records.specs.Equality.{same_declarations}
+use Rattle.race_records.specs.Events.{TraceState}
+use Rattle.race_hub.specs.Recording.{RecordingState}
+use Rattle.race_script.specs.Certificate.{IsStuck}
+use Rattle.race_script.specs.Program.{ProgramState}
+use Rattle.race_script.proofs.CertifyLemmas.{others_declared, same_declared, Stops, one_runs, all_run, one_is_stuck, stuck_is_uncertified}
+use Rattle.race_script.proofs.certificate.certify.Goals as goal
+
+module _ (g : _) (c : goal.Then-ne g) where
+  others : c.args.recording.now.decls.declarations ≡ c.args.program.now.decls.declarations → ⊥
+  others same =
+      others_declared c.decls.result.now.declarations c.decls-2.result.now.declarations c.if-ne.ensures
+      (ap (λ (d : DeclsState). d.declarations) (c.decls.ensures.decls ∙ c.trace.ensures.decls) ∙ same
+      ∙ ap (λ (d : DeclsState). d.declarations) (sym c.decls-2.ensures.decls))
+
+pub returns-then-ne-clause-run : goal.returns-then-ne-clause-run
+returns-then-ne-clause-run g c = (λ e. absurd (true≢false (sym e)), λ certified. absurd (others g c certified.declarations))
+
+pub returns-then-ne-clause-leaves : goal.returns-then-ne-clause-leaves
+returns-then-ne-clause-leaves g c = inl (record { declarations = others g c; main = refl; first = refl })
+
+-- what is known where the same is declared
+declared : (p : ProgramState) (r : RecordingState) (traced : TraceState) (own others : DeclsState) → own ≡ traced.decls → traced.decls ≡ r.decls → others ≡ p.decls
+    → false ≡ not (same_declarations own.declarations others.declarations) → r.decls.declarations ≡ p.decls.declarations
+declared p r traced own others is was are told =
+    ap (λ (d : DeclsState). d.declarations) (sym (is ∙ was)) ∙ same_declared own.declarations others.declarations told
+    ∙ ap (λ (d : DeclsState). d.declarations) are
+
+pub stuck_at-requires-clause-recorded : goal.stuck_at-requires-clause-recorded
+stuck_at-requires-clause-recorded g c =
+    let same = declared c.args.program.now c.args.recording.now c.trace.result.now c.decls.result.now c.decls-2.result.now c.decls.ensures.decls
+    c.trace.ensures.decls c.decls-2.ensures.decls c.if-ne.ensures in
+    let count = c.count-g-end.ensures.count ∙ ap (λ (d : DeclsState). count_of Kind.Goroutine d.declarations) c.decls-3.ensures.decls
+    ∙ ap (count_of Kind.Goroutine) (sym same) in
+    let less = c.loop-g-test.true in
+    omega (arith, less, count)
+
+module _ (g : _) (c : goal.In-Some g) where
+  stuck : IsStuck c.args.program.now c.args.recording.now (record { g = c.loop-g.g; step = c.in-Some.step })
+  stuck =
+      let same = declared c.args.program.now c.args.recording.now c.trace.result.now c.decls.result.now c.decls-2.result.now c.decls.ensures.decls
+      c.trace.ensures.decls c.decls-2.ensures.decls c.if-ne.ensures in
+      let count = c.count-g-end.ensures.count ∙ ap (λ (d : DeclsState). count_of Kind.Goroutine d.declarations) c.decls-3.ensures.decls in
+      let bodies = c.decls-3.ensures.program.count in
+      let less = c.loop-g-test.true in
+      one_is_stuck c.args.program.now c.args.recording.now c.loop-g.g c.in-Some.step same c.loop-g.invariant (omega (arith, less, count, bodies))
+      (subst (Stops c.args.program.now c.args.recording.now c.loop-g.g) c.in-Some.is c.stuck_at.ensures)
+
+pub returns-in-Some-clause-run : goal.returns-in-Some-clause-run
+returns-in-Some-clause-run g c = (
+  λ e. absurd (true≢false (sym e)),
+  λ certified. absurd (stuck_is_uncertified c.args.program.now c.args.recording.now (record { g = c.loop-g.g; step = c.in-Some.step }) (stuck g c) certified),
+)
+
+pub returns-in-Some-clause-leaves : goal.returns-in-Some-clause-leaves
+returns-in-Some-clause-leaves g c = inr (stuck g c)
+
+pub loop-g-preserved : goal.loop-g-preserved
+loop-g-preserved g c =
+    one_runs c.args.program.now c.args.recording.now c.loop-g.g c.loop-g.invariant
+    (subst (Stops c.args.program.now c.args.recording.now c.loop-g.g) c.in_default.is c.stuck_at.ensures)
+
+pub returns-clause-run : goal.returns-clause-run
+returns-clause-run g c =
+    let same = declared c.args.program.now c.args.recording.now c.trace.result.now c.decls.result.now c.decls-2.result.now c.decls.ensures.decls
+    c.trace.ensures.decls c.decls-2.ensures.decls c.if-ne.ensures in
+    let count = c.count-g-end.ensures.count ∙ ap (λ (d : DeclsState). count_of Kind.Goroutine d.declarations) c.decls-3.ensures.decls in
+    let bodies = c.decls-3.ensures.program.count in
+    let end = c.loop-g-test.false in (
+      λ _. all_run c.args.program.now c.args.recording.now c.loop-g.g same (omega (arith, end, count, bodies)) c.loop-g.invariant,
+      λ _. refl,
+    )

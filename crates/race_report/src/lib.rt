@@ -9,7 +9,7 @@ mod verdict;
 pub use edge_lines::write_edges;
 pub use fault::write_text_fault;
 pub use race_records::WriteFault;
-pub use verdict::write_report;
+pub use verdict::{print_report, write_report};
 
 #[cfg(test)]
 mod tests;

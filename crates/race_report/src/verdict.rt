@@ -37,13 +37,14 @@ pub fn write_report<W: Write, A: Allocator, B: Allocator>(
     ensures failed { OnErr result (sink_failures sink.new ≡ one_more (sink_failures sink.old)) }
 {
     let mut page = Page::new();
-    match print_verdict(&mut page, sink, trace, verdict) {
+    match print_report(&mut page, sink, trace, verdict) {
         Ok(()) => page.flush(sink),
         Err(fault) => Err(fault),
     }
 }
 
-fn print_verdict<W: Write, A: Allocator, B: Allocator>(
+/// Prints the report of the verdict on a page, behind whatever was printed on it before. Takes no memory.
+pub fn print_report<W: Write, A: Allocator, B: Allocator>(
     page: &mut Page,
     sink: &mut Sink<W>,
     trace: &Trace<A>,

@@ -7,3 +7,4 @@ pub mod OneReport
 pub mod EachIsJudged
 pub mod ListingLemmas
 pub mod RunLemmas
+pub mod RaceLemmas

@@ -1,5 +1,5 @@
 -- What a run is, by what is known of its parts.
-use Rattle.std.proofs.Common.{ℕ, ◌≡◌, ◌≢◌, ◌⊎◌, inl, inr, ◌+◌, ◌<◌, ◌++◌, List, [], ◌∷◌, length, map, take, Bool, true, false, IsTrue, Option, Some, Result, Ok, Err, refl, sym, ap, subst, ◌∙◌}
+use Rattle.std.proofs.Common.{ℕ, ◌≡◌, ◌≢◌, ◌⊎◌, inl, inr, ◌+◌, ◌<◌, ◌++◌, List, [], ◌∷◌, length, map, take, Bool, true, false, IsTrue, Option, Some, Result, Ok, Err, IfOk, IfErr, refl, sym, ap, subst, ◌∙◌}
 use Rattle.std.proofs.Common.{arith, length-append, slice_get}
 use Rattle.std.proofs.lemmas.List.{map-append, take_all, take-append-drop, length-take-le}
 use Rattle.std.specs.Prelude.{drop}
@@ -18,6 +18,7 @@ use Rattle.race_hub.specs.declared.request.Request.{Request}
 use Rattle.race_hub.specs.Hub.{HubState}
 use Rattle.race_hub.specs.Opening.{IsOpening}
 use Rattle.race_hub.specs.Recording.{RecordingState, AreParts, HasEnded}
+use Rattle.race_script.specs.Certificate.{IsCertified}
 use Rattle.race_script.specs.Program.{ProgramState}
 use Rattle.race_script.specs.Run.{ScriptState, Asks}
 use Rattle.race_script.specs.Text.{IsTextOf}
@@ -28,7 +29,7 @@ use Rattle.race_tool.specs.declared.status.TheConstants as status
 use Rattle.race_tool.specs.Input.{of_programs, Reads, ReadsBy, ReadsFine, ReadsMany}
 use Rattle.race_tool.specs.Outcome.{status_of_fault, FailsToRead, GivesUpReading}
 use Rattle.race_tool.specs.Outcome.{IsProgramWhere, ReadsProgramOf, WritesRun, WritesRunFront, WritesTrace, WritesTraceFront}
-use Rattle.race_tool.specs.Run.{scripts_of, IsRunOf, IsRefusedRun, IsTraceOf, NoProgram, Ran}
+use Rattle.race_tool.specs.Run.{scripts_of, IsRunOf, IsUncertified, IsRefusedRun, IsTraceOf, NoProgram, Ran}
 use Rattle.race_tool.proofs.InputLemmas.{itself}
 
 -- so many scripts are made
@@ -58,17 +59,37 @@ module _ (program : ProgramState) (limit : ℕ) (picks : List ℕ) (decls : Decl
   opens_program = subst (λ d. IsOpening d limit (scripts_of program) hub) decls_are (subst (λ s. IsOpening decls limit s hub) scripts_are opens)
 
   -- the recording is one of a run of the program
-  pub is_run_of : (r : RecordingState) → IsSerial Asks picks hub r → r.decls ≡ hub.decls → HasEnded hub.limit r → IsRunOf limit picks program r
-  is_run_of r serial same ended = record {
+  is_run_of : (r : RecordingState) → IsSerial Asks picks hub r → r.decls ≡ hub.decls → HasEnded hub.limit r → IsCertified program r
+      → IsRunOf limit picks program r
+  is_run_of r serial same ended certified = record {
     hub = hub;
     opens = opens_program;
     serial = serial;
     decls = same ∙ ap (λ (h : HubState ScriptState). h.decls) opens.hub_is ∙ decls_are;
+    certified = certified;
     ended = subst (λ n. HasEnded n r) (ap (λ (h : HubState ScriptState). h.limit) opens.hub_is) ended;
   }
 
-  pub is_refused : IsTurnedAway Asks picks hub → IsRefusedRun limit picks program
+  is_refused : IsTurnedAway Asks picks hub ⊎ IsUncertified picks program hub → IsRefusedRun limit picks program
   is_refused refused = record { hub = hub; opens = opens_program; refused = refused }
+
+  -- nothing was recorded
+  pub turned_away : IsTurnedAway Asks picks hub → IsRefusedRun limit picks program
+  turned_away away = is_refused (inl away)
+
+  -- what was recorded was held against the program
+  module _ (r : RecordingState) (serial : IsSerial Asks picks hub r) where
+    pub certified_run : {E : Type 0} (answer : Result RecordingState E) → r.decls ≡ hub.decls → HasEnded hub.limit r
+        → IfOk answer (λ s. s ≡ r) → IfOk answer (λ s. IsCertified program s) → IfOk answer (λ s. IsRunOf limit picks program s)
+    certified_run (Ok s) same ended is certified =
+        subst (λ (x : RecordingState). IsRunOf limit picks program x) (sym is)
+        (is_run_of r serial same ended (subst (λ (x : RecordingState). IsCertified program x) is certified))
+    certified_run (Err e) same ended is certified = tt
+
+    pub uncertified_run : {E : Type 0} (answer : Result RecordingState E) (e : E) → IfErr answer (λ _. IsCertified program r → ⊥) → answer ≡ Err e
+        → IsRefusedRun limit picks program
+    uncertified_run (Ok s) e none is = absurd (cc is)
+    uncertified_run (Err f) e none is = is_refused (inr (r, serial, none))
 
 -- from a new hub no job is out
 pub none_out : {R : Type 0} (decls : DeclsState) (limit : ℕ) (boxes : List R) (hub : HubState R) → IsOpening decls limit boxes hub → length hub.out ≡ 0

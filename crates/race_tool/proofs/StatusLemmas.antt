@@ -1,43 +1,42 @@
 -- What the status of a right finding says of the bytes.
 use Rattle.std.proofs.Common.{◌≡◌, ℕ, Bool, List, [], ◌∷◌, refl}
 use Rattle.race_model.specs.Reorder.{own_order}
-use Rattle.race_model.specs.Verdict.{Illegal, Clean, Races}
+use Rattle.race_model.specs.Verdict.{Race, Illegal, Clean, Races}
+use Rattle.race_records.specs.Events.{TraceState}
 use Rattle.race_model.proofs.OwnOrder.{own_is_reordering}
 use Rattle.race_model.proofs.ReorderLemmas.{same_finds}
 use Rattle.race_tool.specs.declared.status.TheConstants as status
-use Rattle.race_edges.specs.Traces.{capacities, IsClean, IsRacy, IsIllegal}
+use Rattle.race_edges.specs.Traces.{capacities, HasVerdict, IsClean, IsRacy, IsIllegal}
 use Rattle.race_tool.specs.Finding.{Finding, Faulty, TooLong, Judged, IsFinding, IsTextWhere, status_of}
 
 -- clean: no race, so each read finds the same write in every reordering
-pub clean_text : (plain : Bool) (finding : Finding) (bytes : List ℕ) → IsFinding plain bytes finding → status_of finding ≡ status.CLEAN → IsTextWhere IsClean bytes
-clean_text plain (Judged trace Clean) bytes right is = record {
-  trace = trace;
-  text = right.0;
-  holds = record {
-    legal = right.2.0;
-    race_free = right.2.1;
-    same_reads = λ order is. same_finds (capacities trace) trace.events right.2.1 order (own_order trace.events) is (own_is_reordering (capacities trace) trace.events);
-  };
+pub is_clean : (trace : TraceState) → HasVerdict trace Clean → IsClean trace
+is_clean trace right = record {
+  legal = right.0;
+  race_free = right.1;
+  same_reads = λ order is. same_finds (capacities trace) trace.events right.1 order (own_order trace.events) is (own_is_reordering (capacities trace) trace.events);
 }
+
+-- races: the first that is listed
+pub is_racy : (trace : TraceState) (races : List Race) → HasVerdict trace (Races races) → IsRacy trace
+is_racy trace [] right = absurd (right.1 refl)
+is_racy trace (race ∷ races) right = record {
+  legal = right.0;
+  var = race.var;
+  first = race.first;
+  second = race.second;
+  race = (right.2.each 0 race refl).race;
+}
+
+pub clean_text : (plain : Bool) (finding : Finding) (bytes : List ℕ) → IsFinding plain bytes finding → status_of finding ≡ status.CLEAN → IsTextWhere IsClean bytes
+clean_text plain (Judged trace Clean) bytes right is = record { trace = trace; text = right.0; holds = is_clean trace right.2 }
 clean_text plain (Judged trace (Illegal index rule)) bytes right is = cc
 clean_text plain (Judged trace (Races races)) bytes right is = cc
 clean_text plain (Faulty fault) bytes right is = cc
 clean_text plain (TooLong events) bytes right is = cc
 
--- races: the first that is listed
 pub racy_text : (plain : Bool) (finding : Finding) (bytes : List ℕ) → IsFinding plain bytes finding → status_of finding ≡ status.RACES → IsTextWhere IsRacy bytes
-racy_text plain (Judged trace (Races [])) bytes right is = absurd (right.2.1 refl)
-racy_text plain (Judged trace (Races (race ∷ races))) bytes right is = record {
-  trace = trace;
-  text = right.0;
-  holds = record {
-    legal = right.2.0;
-    var = race.var;
-    first = race.first;
-    second = race.second;
-    race = (right.2.2.each 0 race refl).race;
-  };
-}
+racy_text plain (Judged trace (Races races)) bytes right is = record { trace = trace; text = right.0; holds = is_racy trace races right.2 }
 racy_text plain (Judged trace (Illegal index rule)) bytes right is = cc
 racy_text plain (Judged trace Clean) bytes right is = cc
 racy_text plain (Faulty fault) bytes right is = cc

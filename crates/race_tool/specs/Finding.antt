@@ -1,5 +1,5 @@
 -- What a check finds of a list of bytes, what it prints of it, and with which status.
-use Rattle.std.specs.Prelude.{ℕ, ◌≡◌, ◌<◌, ◌≤◌, Bool, IsTrue, List, length, Some}
+use Rattle.std.specs.Prelude.{ℕ, ◌≡◌, ◌<◌, ◌≤◌, Bool, IsTrue, List, length, Option, Some, None}
 use Rattle.race_records.specs.Events.{TraceState}
 use Rattle.race_model.specs.Verdict.{Verdict, Illegal, Clean, Races}
 use Rattle.race_text.specs.declared.cause.TextFault.{TextFault}
@@ -20,7 +20,12 @@ pub data Finding : Type 0 where
   -- it is the text of this trace, with this verdict
   Judged : (trace : TraceState) (verdict : Verdict) → Finding
 
--- the finding is right for the bytes, where the plain judge is wanted or not; it alone takes no long trace
+-- the verdict is right for the trace, where the plain judge is wanted or not; it alone takes no long trace, and gives none
+abbrev pub IsVerdictOn : Bool → TraceState → Option Verdict → Type 0
+IsVerdictOn plain trace None = IsTrue plain × (MAX_PLAIN_EVENTS < length trace.events)
+IsVerdictOn plain trace (Some verdict) = (IsTrue plain → length trace.events ≤ MAX_PLAIN_EVENTS) × HasVerdict trace verdict
+
+-- the finding is right for the bytes, where the plain judge is wanted or not
 abbrev pub IsFinding : Bool → List ℕ → Finding → Type 0
 IsFinding plain bytes (Faulty fault) = text_fault bytes ≡ Some fault
 IsFinding plain bytes (TooLong events) =

@@ -7,6 +7,7 @@ pub mod Findings
 pub mod Listing
 pub mod Listings
 pub mod Run
+pub mod Race
 pub mod Picks
 pub mod Outcome
 pub mod Laws

@@ -1,5 +1,6 @@
 -- How an engine ends: what was read, what was written, and which device failed.
 use Rattle.std.specs.Prelude.{ℕ, ◌≡◌, ◌&&◌, nat_le, Bool, List, Option, Result, Ok, Err}
+use Rattle.race_model.specs.Verdict.{Verdict}
 use Rattle.std.specs.Io.KnownBytes.{Appends}
 use Rattle.race_records.specs.declared.source.Source.{Source}
 use Rattle.race_records.specs.declared.sink.Sink.{Sink}
@@ -13,9 +14,10 @@ use Rattle.race_tool.specs.declared.status.TheConstants.{DEVICE, REFUSED}
 use Rattle.race_text.specs.declared.cause.TextFault.{TextFault}
 use Rattle.race_text.specs.Text.{IsTextOf, text}
 use Rattle.race_tool.specs.Input.{Faults, of_traces, of_programs, Reads, ReadsAll, ReadsFine, ReadsMany, IsInput, IsReadBy, IsReadAs}
-use Rattle.race_tool.specs.Finding.{IsFinding, IsTextWhere, report_of, status_of}
+use Rattle.race_tool.specs.Finding.{IsFinding, IsTextWhere, IsVerdictOn, report_of, status_of}
 use Rattle.race_tool.specs.Listing.{IsListing, listing_text, listing_status}
 use Rattle.race_tool.specs.Run.{IsRun, IsTraceOf, run_text, run_status, status_of_end}
+use Rattle.race_tool.specs.Race.{IsJudgedRun, verdict_text, verdict_status, judged_text, judged_status}
 use Rattle.race_hub.specs.Recording.{RecordingState}
 use Rattle.race_script.specs.Program.{ProgramState}
 use Rattle.race_script.specs.Text as program
@@ -172,3 +174,41 @@ WritesRunFront limit picks read contents sink sink_now =
 abbrev pub FailsToWriteRun : {R W : Type 0} → ℕ → List ℕ → (R → Option (List ℕ)) → (W → Option (List ℕ)) → Source R → Source R → Sink W → Sink W → Type 0
 FailsToWriteRun limit picks remaining contents source source_now sink sink_now =
     FailsToWriteText of_programs (IsRun limit picks) run_text remaining contents source source_now sink sink_now
+
+-- of a judged run: the report of its trace and the line of its end were written, and the status is theirs
+pub record WritesVerdict (plain : Bool) (r : RecordingState) (output output_now : Option (List ℕ)) (status : ℕ) : Type 0 where
+  pub trace : TraceState
+  pub is_of : IsTraceOf r trace
+  pub verdict : Option Verdict
+  pub right : IsVerdictOn plain trace verdict
+  pub printed : Appends output output_now (verdict_text r trace verdict)
+  pub status_is : status ≡ verdict_status r verdict
+
+-- or only a front of it
+pub record WritesVerdictFront {W : Type 0} (plain : Bool) (r : RecordingState) (contents : W → Option (List ℕ)) (sink sink_now : Sink W) : Type 0 where
+  pub trace : TraceState
+  pub is_of : IsTraceOf r trace
+  pub verdict : Option Verdict
+  pub right : IsVerdictOn plain trace verdict
+  pub sent : ℕ
+  pub cut_off : IsCutOff (written contents sink) (written contents sink_now) sent (verdict_text r trace verdict)
+  pub failed : sink_failures sink_now ≡ one_more (sink_failures sink)
+
+-- the report of a run was written, or why there is none
+abbrev pub WritesJudgedRun : ℕ → List ℕ → Bool → Result ProgramState TextFault → Option (List ℕ) → Option (List ℕ) → ℕ → Type 0
+WritesJudgedRun limit picks plain read output output_now status =
+    WritesText (IsRightBy program.IsTextOf of_programs (IsJudgedRun limit picks plain) read) judged_text judged_status output output_now status
+
+-- the input was read, and the report of a run of its program was written
+abbrev pub ReadsAndJudges : ℕ → List ℕ → Bool → Option (List ℕ) → Option (List ℕ) → Option (List ℕ) → Option (List ℕ) → ℕ → Type 0
+ReadsAndJudges limit picks plain input input_left output output_now status =
+    ReadsAndWrites of_programs (IsJudgedRun limit picks plain) judged_text judged_status input input_left output output_now status
+
+-- only a front of it was written
+abbrev pub WritesJudgedFront : {W : Type 0} → ℕ → List ℕ → Bool → Result ProgramState TextFault → (W → Option (List ℕ)) → Sink W → Sink W → Type 0
+WritesJudgedFront limit picks plain read contents sink sink_now =
+    WritesFrontOf (IsRightBy program.IsTextOf of_programs (IsJudgedRun limit picks plain) read) judged_text contents sink sink_now
+
+abbrev pub FailsToWriteJudged : {R W : Type 0} → ℕ → List ℕ → Bool → (R → Option (List ℕ)) → (W → Option (List ℕ)) → Source R → Source R → Sink W → Sink W → Type 0
+FailsToWriteJudged limit picks plain remaining contents source source_now sink sink_now =
+    FailsToWriteText of_programs (IsJudgedRun limit picks plain) judged_text remaining contents source source_now sink sink_now

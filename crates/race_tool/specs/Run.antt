@@ -1,5 +1,5 @@
 -- What a run finds of a list of bytes, what it prints of it, and with which status.
-use Rattle.std.specs.Prelude.{ℕ, ◌≡◌, ◌&&◌, nat_le, Bool, List, map, Some}
+use Rattle.std.specs.Prelude.{ℕ, ◌≡◌, ◌&&◌, ◌⊎◌, nat_le, Bool, List, map, Some}
 use Rattle.race_records.specs.declared.trace.TheConstants.{MAX_EVENTS}
 use Rattle.race_records.specs.Declarations.{capacity_of}
 use Rattle.race_records.specs.Events.{TraceState}
@@ -10,6 +10,7 @@ use Rattle.race_hub.specs.declared.ending.End.{End}
 use Rattle.race_hub.specs.Hub.{HubState}
 use Rattle.race_hub.specs.Opening.{IsOpening}
 use Rattle.race_hub.specs.Recording.{RecordingState, AreParts, HasEnded}
+use Rattle.race_script.specs.Certificate.{IsCertified}
 use Rattle.race_script.specs.Fault.{text_fault}
 use Rattle.race_script.specs.Program.{ProgramState}
 use Rattle.race_script.specs.Run.{ScriptState, Asks}
@@ -33,19 +34,26 @@ pub data Run : Type 0 where
 abbrev pub scripts_of : ProgramState → List ScriptState
 scripts_of program = map (λ body. record { whole = body; position = 0 }) program.bodies
 
--- the recording of a run of the program by these picks: its trace is legal, each log is its goroutine's part of it, and it has ended as it says
+-- the recording of a run of the program by these picks: its trace is legal, each log is its goroutine's part of it, it follows the program,
+-- and it has ended as it says
 pub record IsRunOf (limit : ℕ) (picks : List ℕ) (program : ProgramState) (r : RecordingState) : Type 0 where
   pub hub : HubState ScriptState
   pub opens : IsOpening program.decls limit (scripts_of program) hub
   pub serial : IsSerial Asks picks hub r
   pub decls : r.decls ≡ program.decls
+  pub certified : IsCertified program r
   pub ended : HasEnded limit r
 
--- of a run of the program by these picks there is no recording, since a log isn't its goroutine's part of the trace
+-- what was recorded of the hub by these picks isn't a run of the program
+abbrev pub IsUncertified : List ℕ → ProgramState → HubState ScriptState → Type 0
+IsUncertified picks program hub = (r : RecordingState) × IsSerial Asks picks hub r × (IsCertified program r → ⊥)
+
+-- of a run of the program by these picks there is no recording, since a log isn't its goroutine's part of the trace, or none that follows
+-- the program
 pub record IsRefusedRun (limit : ℕ) (picks : List ℕ) (program : ProgramState) : Type 0 where
   pub hub : HubState ScriptState
   pub opens : IsOpening program.decls limit (scripts_of program) hub
-  pub refused : IsTurnedAway Asks picks hub
+  pub refused : IsTurnedAway Asks picks hub ⊎ IsUncertified picks program hub
 
 -- the trace is the recording's: it has a text, it is legal, and each log is its goroutine's part of it
 pub record IsTraceOf (r : RecordingState) (trace : TraceState) : Type 0 where

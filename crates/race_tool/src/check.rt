@@ -63,7 +63,7 @@ impl Default for CheckOptions {
 
 impl CheckOptions {
     // Whether each is in its limits.
-    fn are_in_limits(&self) -> bool
+    pub(crate) fn are_in_limits(&self) -> bool
         ensures { result ≡ are_in_limits self.now }
     {
         1 <= self.shards && self.shards <= MAX_SHARDS && 1 <= self.block && self.block <= MAX_BLOCK

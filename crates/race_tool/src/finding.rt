@@ -1,5 +1,6 @@
 //! What there is to say of a list of bytes.
-ghost use Rattle.std.specs.Prelude.{◌≡◌, IfOk};
+ghost use Rattle.std.specs.Prelude.{◌≡◌, IfOk, option_map};
+ghost use Rattle.race_edges.specs.Verdicts.{verdict_of};
 ghost use Rattle.race_tool.specs.Finding as spec;
 ghost use Rattle.race_tool.specs.Findings.{finding_of, IsFindingOn};
 ghost use Rattle.race_tool.specs.Outcome.{IsRightOn};
@@ -44,14 +45,27 @@ fn find_verdict<A: Allocator + Copy>(
 ) -> Result<Finding<A>, AllocError>
     ensures { IfOk result (λ finding. IsFindingOn plain trace (finding_of finding)) }
 {
-    if !plain {
-        let verdict = judge_by_clocks(alloc, &trace)?;
-        return Ok(Finding::Judged(trace, verdict));
+    match judge(alloc, &trace, plain)? {
+        Some(verdict) => Ok(Finding::Judged(trace, verdict)),
+        None => Ok(Finding::TooLong(trace.len())),
     }
-    let events = trace.len();
-    match plain_judge(alloc, &trace) {
-        Ok(verdict) => Ok(Finding::Judged(trace, verdict)),
-        Err(EdgeFault::TooLong) => Ok(Finding::TooLong(events)),
+}
+
+/// The verdict on a trace, by the plain judge or by clocks. None where there are more events than the
+/// plain judge takes.
+pub(crate) fn judge<A: Allocator + Copy, B: Allocator>(
+    alloc: A,
+    trace: &Trace<B>,
+    plain: bool,
+) -> Result<Option<Verdict<A>>, AllocError>
+    ensures { IfOk result (λ verdict. spec.IsVerdictOn plain trace.now (option_map verdict_of verdict)) }
+{
+    if !plain {
+        return Ok(Some(judge_by_clocks(alloc, trace)?));
+    }
+    match plain_judge(alloc, trace) {
+        Ok(verdict) => Ok(Some(verdict)),
+        Err(EdgeFault::TooLong) => Ok(None),
         Err(EdgeFault::OutOfMemory) => Err(AllocError),
         // An illegal trace has a verdict.
         Err(EdgeFault::Illegal) => unreachable!(),

@@ -10,6 +10,8 @@ mod input;
 pub mod laws;
 mod pieces;
 mod printing;
+mod race_engine;
+mod race_printing;
 mod recorded;
 mod run_engine;
 pub mod status;
@@ -19,4 +21,5 @@ pub use check::{CheckOptions, MAX_BLOCK, MAX_SHARDS, run_check};
 #[doc(hidden)]
 pub use clocked::judge_by_clocks;
 pub use edges_engine::run_edges;
+pub use race_engine::run_race;
 pub use run_engine::{RunOptions, run_run};

@@ -1,14 +1,15 @@
 //! A program's run on one thread.
-ghost use Rattle.std.specs.Prelude.{◌≡◌, true, Err, IfOk};
+ghost use Rattle.std.specs.Prelude.{◌≡◌, true, Err, IfOk, IfErr};
+ghost use Rattle.race_script.specs.Certificate.{IsCertified};
 ghost use Rattle.race_tool.specs.Run.{is_run_limit, scripts_of, IsRunOf, IsRefusedRun};
 
 use race_hub::{Hub, Recording};
 use race_record::{RecordFault, record_serial};
 use race_records::Kind;
-use race_script::{Program, Script};
+use race_script::{Program, Script, certify};
 use std::alloc::{AllocError, Allocator};
 
-/// Records a run of the program, of at most so many events, by these picks.
+/// Records a run of the program, of at most so many events, by these picks, and holds it against the program.
 pub(crate) fn record_program<A: Allocator + Copy + Send>(
     alloc: A,
     program: &Program<A>,
@@ -26,8 +27,24 @@ pub(crate) fn record_program<A: Allocator + Copy + Send>(
         return Err(RecordFault::OutOfMemory);
     };
     match Hub::new(alloc, decls, limit, scripts) {
-        Ok(hub) => record_serial(hub, picks),
+        Ok(hub) => certified(program, record_serial(hub, picks)?),
         Err(_) => Err(RecordFault::OutOfMemory),
+    }
+}
+
+// What was recorded, where it is a run of the program.
+fn certified<A: Allocator>(
+    program: &Program<A>,
+    recording: Recording<A>,
+) -> Result<Recording<A>, RecordFault>
+    ensures same { IfOk result (λ r. r ≡ recording) }
+    ensures run { IfOk result (λ r. IsCertified program.now r) }
+    ensures mismatch { IfErr result (λ fault. fault ≡ RecordFault.Mismatch) }
+    ensures none { IfErr result (λ _. IsCertified program.now recording → ⊥) }
+{
+    match certify(program, &recording) {
+        Ok(()) => Ok(recording),
+        Err(_) => Err(RecordFault::Mismatch),
     }
 }
 

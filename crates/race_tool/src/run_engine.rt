@@ -100,14 +100,14 @@ pub fn run_run<T, R: Read, W: Write, A: Allocator + Copy + Send>(
 }
 
 // Whether a run may have so many events.
-fn is_run_limit(limit: u32) -> bool
+pub(crate) fn is_run_limit(limit: u32) -> bool
     ensures { result ≡ spec.is_run_limit limit }
 {
     1 <= limit && limit as usize <= MAX_EVENTS
 }
 
 // The picks that are asked for.
-fn picks_asked<A: Allocator>(options: &RunOptions<A>) -> &[u64]
+pub(crate) fn picks_asked<A: Allocator>(options: &RunOptions<A>) -> &[u64]
     ensures { result.now ≡ picks.picks_asked options.now }
 {
     match &options.picks {
@@ -166,7 +166,7 @@ fn write_run<W: Write, A: Allocator>(recording: &Recording<A>, sink: &mut Sink<W
 }
 
 // The status of an end.
-fn status_of_end(end: End) -> u8
+pub(crate) fn status_of_end(end: End) -> u8
     ensures { result ≡ spec.status_of_end end }
 {
     match end {

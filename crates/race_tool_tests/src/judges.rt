@@ -1,7 +1,8 @@
 //! Both judges on many small traces.
-ghost use Rattle.std.specs.Prelude.{◌<◌, IfOk};
+ghost use Rattle.std.specs.Prelude.{IfOk};
 ghost use Rattle.race_legal.specs.StandsFor.{StandsFor};
 
+use crate::numbers::Numbers;
 use race_edges::{Verdict, plain_judge};
 use race_legal::Replay;
 use race_records::{Case, Cases, Cause, Decls, Dir, Event, Object, Op, Trace};
@@ -14,25 +15,6 @@ const KINDS: u32 = 18;
 
 // A trace has no more events than this.
 const MOST_EVENTS: usize = 200;
-
-// Numbers that look like chance: a linear congruence modulo 2^64, of which the upper half is taken.
-#[derive(Clone, Copy, Debug)]
-struct Numbers {
-    state: u64,
-}
-
-impl Numbers {
-    fn below(&mut self, limit: u32) -> u32
-        requires { 0 < limit }
-        ensures { result < limit }
-    {
-        self.state = self
-            .state
-            .wrapping_mul(6_364_136_223_846_793_005)
-            .wrapping_add(1_442_695_040_888_963_407);
-        (self.state >> 32) as u32 % limit
-    }
-}
 
 // A select without a case, or with one.
 fn cases(numbers: &mut Numbers) -> Cases {

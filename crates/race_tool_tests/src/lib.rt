@@ -10,6 +10,12 @@ mod limits;
 #[cfg(test)]
 mod locks;
 #[cfg(test)]
+mod numbers;
+#[cfg(test)]
+mod programs;
+#[cfg(test)]
+mod races;
+#[cfg(test)]
 mod reading;
 #[cfg(test)]
 mod rows;

@@ -11,7 +11,7 @@ use std::test::Fail;
 /// The lines of a program, its limit and picks, the lines that are written, and the status.
 type Row<'a> = (&'a str, u32, Option<&'a [u64]>, &'a str, u8);
 
-const MOST: u32 = 16_777_216;
+pub(crate) const MOST: u32 = 16_777_216;
 
 // Main waits for w's value over c, and reads what w wrote.
 const HANDOFF: &str =
@@ -23,8 +23,8 @@ const HANDOFF_TRACE: &str =
 const HANDOFF_OTHER_TRACE: &str =
     "gotrace 1 / goroutine w / chan c 0 / var x / go main w m:1 / write w x 8 w:1 / meet w main c 1 w:2 m:2 / read main x 8 m:3 / exit w w:3 / exit main m:4";
 
-// The lines of a row, each with its newline.
-fn text_of(alloc: Global, row: &str) -> Result<Vec<u8>, Fail> {
+/// The lines of a row, each with its newline.
+pub(crate) fn text_of(alloc: Global, row: &str) -> Result<Vec<u8>, Fail> {
     let mut text = Vec::new(alloc);
     for line in row.split(" / ") {
         text.extend_from_slice(line.as_bytes())?;
@@ -33,7 +33,11 @@ fn text_of(alloc: Global, row: &str) -> Result<Vec<u8>, Fail> {
     Ok(text)
 }
 
-fn options(alloc: Global, limit: u32, picks: Option<&[u64]>) -> Result<RunOptions, Fail> {
+pub(crate) fn options(
+    alloc: Global,
+    limit: u32,
+    picks: Option<&[u64]>,
+) -> Result<RunOptions, Fail> {
     let Some(picks) = picks else {
         return Ok(RunOptions { limit, picks: None });
     };
@@ -127,6 +131,56 @@ fn a_program_runs_to_its_end(rt: HostRuntime) -> Result<(), Fail> {
     )
 }
 
+// Each would send or receive over c.
+const TWO_SELECTS: &str =
+    "goprogram 1 / goroutine w / chan c 0 / body main / go w m:1 / select send:c:5,recv:c block m:2 / exit m:3 / body w / select recv:c,send:c:6 block w:1 / exit w:2";
+
+#[test]
+fn a_select_goes_on_by_its_pick(rt: HostRuntime) -> Result<(), Fail> {
+    check(
+        &rt,
+        &[
+            (
+                TWO_SELECTS,
+                MOST,
+                Some(&[0]),
+                "gotrace 1 / goroutine w / chan c 0 / go main w m:1 / meet main w c 5 m:2 w:1 / exit main m:3",
+                status::CLEAN,
+            ),
+            (
+                TWO_SELECTS,
+                MOST,
+                Some(&[0, 1]),
+                "gotrace 1 / goroutine w / chan c 0 / go main w m:1 / meet w main c 6 w:1 m:2 / exit w w:2 / exit main m:3",
+                status::CLEAN,
+            ),
+            // A default stands back where a receiver waits, and is taken where none does.
+            (
+                "goprogram 1 / goroutine w / chan c 0 / body main / go w m:1 / select send:c:5 default m:2 / exit m:3 / body w / recv c w:1 / exit w:2",
+                MOST,
+                Some(&[0]),
+                "gotrace 1 / goroutine w / chan c 0 / go main w m:1 / meet main w c 5 m:2 w:1 / exit main m:3",
+                status::CLEAN,
+            ),
+            (
+                "goprogram 1 / chan c 0 / body main / select send:c:5 default m:1 / exit m:2",
+                MOST,
+                Some(&[0]),
+                "gotrace 1 / chan c 0 / default main send:c m:1 / exit main m:2",
+                status::CLEAN,
+            ),
+            // No offer, and no default.
+            (
+                "goprogram 1 / body main / select - block m:1 / exit m:2",
+                MOST,
+                Some(&[0]),
+                "gotrace 1",
+                status::DEADLOCK,
+            ),
+        ],
+    )
+}
+
 #[test]
 fn a_text_that_is_no_program_isnt_run(rt: HostRuntime) -> Result<(), Fail> {
     check(
@@ -181,9 +235,9 @@ impl Read for FailingReader<'_> {
     }
 }
 
-// Takes so many bytes, and then fails.
+/// Takes so many bytes, and then fails.
 #[derive(Drop)]
-struct FullWriter(usize);
+pub(crate) struct FullWriter(pub(crate) usize);
 
 impl Write for FullWriter {
     fn write(&mut self, buf: &[u8]) -> io::Result<usize> {

@@ -3,7 +3,7 @@ ghost use Rattle.std.specs.Prelude.{◌<◌};
 
 use growth_tests::{Outcome, assert_refusals, judge};
 use race_records::{Sink, Source};
-use race_tool::{CheckOptions, RunOptions, run_check, run_edges, run_run, status};
+use race_tool::{CheckOptions, RunOptions, run_check, run_edges, run_race, run_run, status};
 use refusing_heap::RefusingHeap;
 use std::alloc::{Allocator, Global};
 
@@ -14,6 +14,8 @@ enum Engine {
     PlainCheck,
     Edges,
     Run,
+    Race,
+    PlainRace,
 }
 
 static TRACE: &[u8] =
@@ -27,26 +29,27 @@ static PROGRAM: &[u8] =
 // Gives the status, and how much is out.
 fn ended<A: Allocator + Copy + Send>(alloc: A, engine: Engine) -> (u8, usize) {
     let mut source = Source::new(match engine {
-        Engine::Run => PROGRAM,
+        Engine::Run | Engine::Race | Engine::PlainRace => PROGRAM,
         _ => TRACE,
     });
     let mut output = [0; 128];
     let mut sink = Sink::new(output.as_mut_slice());
-    let mut options = CheckOptions::default();
+    let run = RunOptions {
+        limit: 3,
+        picks: None,
+    };
+    let usual = CheckOptions::default();
+    let plain = CheckOptions {
+        plain: true,
+        ..usual
+    };
     let answer = match engine {
-        Engine::Check => run_check(&(), alloc, &mut source, &mut sink, &options),
-        Engine::PlainCheck => {
-            options.plain = true;
-            run_check(&(), alloc, &mut source, &mut sink, &options)
-        }
+        Engine::Check => run_check(&(), alloc, &mut source, &mut sink, &usual),
+        Engine::PlainCheck => run_check(&(), alloc, &mut source, &mut sink, &plain),
         Engine::Edges => run_edges(alloc, &mut source, &mut sink),
-        Engine::Run => {
-            let options = RunOptions {
-                limit: 3,
-                picks: None,
-            };
-            run_run(&(), alloc, &mut source, &mut sink, &options)
-        }
+        Engine::Run => run_run(&(), alloc, &mut source, &mut sink, &run),
+        Engine::Race => run_race(&(), alloc, &mut source, &mut sink, &run, &usual),
+        Engine::PlainRace => run_race(&(), alloc, &mut source, &mut sink, &run, &plain),
     };
     (
         answer,
@@ -64,6 +67,7 @@ fn report(alloc: Global, engine: Engine, nth: u64) -> Outcome
         Engine::Check | Engine::PlainCheck => (status::RACES, 75),
         Engine::Edges => (status::CLEAN, 25),
         Engine::Run => (status::LIMIT, TRACE.len()),
+        Engine::Race | Engine::PlainRace => (status::RACES, 86),
     };
     judge(
         heap.has_refused(),
@@ -78,7 +82,8 @@ fn engines(rt: HostRuntime) {
         rt,
         report,
         // The judge by clocks takes seven lists: four of the replay, for goroutines and variables, one
-        // for their clocks, one for what is kept of variables, and the races.
-        [(Engine::Check, 22), (Engine::PlainCheck, 26), (Engine::Edges, 21), (Engine::Run, 47)]
+        // for their clocks, one for what is kept of variables, and the races. A judged run takes what
+        // the run takes, and then what its judge does.
+        [(Engine::Check, 22), (Engine::PlainCheck, 26), (Engine::Edges, 21), (Engine::Run, 47), (Engine::Race, 54), (Engine::PlainRace, 58)]
     );
 }

@@ -1,5 +1,5 @@
 -- How the program ends, by what was asked for.
-use Rattle.std.proofs.Common.{◌≡◌, inl, inr, ℕ, List, Option, Result, Ok, Err, IfOk, IfErr, ap, ◌∙◌}
+use Rattle.std.proofs.Common.{◌≡◌, ◌&&◌, inl, inr, ℕ, true, List, Option, Result, Ok, Err, IfOk, IfErr, IsTrue, Global, ap, subst, sym, ◌∙◌}
 use Rattle.std.specs.declared.io.Error.{Error as IoError}
 use Rattle.std.specs.declared.io.ErrorKind.TheVariants as io
 use Rattle.std.specs.IoError.{error_kind}
@@ -9,7 +9,18 @@ use Rattle.clap.specs.Values.{kind_of}
 use Rattle.race_records.specs.declared.source.Source.{Source}
 use Rattle.race_records.specs.declared.sink.Sink.{Sink}
 use Rattle.race_command.specs.declared.command.Request.{Request}
-use Rattle.race_command.specs.Ending.{Does, Declines, Ends, answer_without_words}
+use Rattle.race_tool.specs.declared.check.CheckOptions.{CheckOptions}
+use Rattle.race_tool.specs.declared.run_engine.RunOptions.{RunOptions}
+use Rattle.race_tool.specs.Outcome.{are_in_limits}
+use Rattle.race_tool.specs.Run.{is_run_limit}
+use Rattle.race_tool.specs.Picks.{picks_asked}
+use Rattle.race_command.specs.Ending.{Does, Declines, Ends, Judges, answer_without_words}
+use Rattle.race_command.specs.Request.{is_in_limits}
+
+-- the options of a run that is to be judged are in their limits
+pub both_in_limits : {request : Result Request Error} {asked : Request} {run : RunOptions Global} {check : CheckOptions} → request ≡ Ok asked → asked ≡ Request.Race run check
+    → IfOk request (λ asked. IsTrue (is_in_limits asked)) → is_run_limit run.limit && are_in_limits check ≡ true
+both_in_limits is race limits = subst (λ r. IsTrue (is_in_limits r)) race (subst (λ r. IfOk r (λ asked. IsTrue (is_in_limits asked))) is limits)
 
 module _ {R W : Type 0} (remaining : R → Option (List ℕ)) (contents : W → Option (List ℕ)) (source source_now : Source R) (sink sink_now : Sink W) (answer : ℕ) where
   -- a request ends as it asks, and an error as an answer
@@ -26,3 +37,11 @@ module _ {R W : Type 0} (remaining : R → Option (List ℕ)) (contents : W → 
   ends_with_words (Ok a) (Ok w) memory ends none = ends
   ends_with_words (Ok a) (Err error) memory ends none = inr (kind.OutOfMemory, record { answered = none.0 ∙ ap answer_without_words memory; unread = none.1; unwritten = none.2 })
   ends_with_words (Err error) words memory ends none = tt
+
+  -- a run that is judged as was asked
+  pub judges_as_asked : {request : Result Request Error} {asked : Request} {run : RunOptions Global} {check : CheckOptions} → request ≡ Ok asked → asked ≡ Request.Race run check
+      → Judges run.limit (picks_asked run) check.plain remaining contents source source_now sink sink_now answer
+      → IfOk request (λ asked. Does asked remaining contents source source_now sink sink_now answer)
+  judges_as_asked is race judges =
+      subst (λ r. IfOk r (λ asked. Does asked remaining contents source source_now sink sink_now answer)) (sym is)
+      (subst (λ r. Does r remaining contents source source_now sink sink_now answer) (sym race) judges)

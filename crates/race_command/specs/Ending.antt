@@ -9,9 +9,10 @@ use Rattle.race_records.specs.declared.sink.Sink.{Sink}
 use Rattle.race_records.specs.Devices.{unread, written, source_failures, sink_failures}
 use Rattle.race_command.specs.declared.command.Request.{Request}
 use Rattle.race_tool.specs.Input.{of_traces, of_programs}
-use Rattle.race_tool.specs.Outcome.{ReadsAndReports, ReadsAndLists, ReadsAndRuns, ReadsTextWhere, ReadsProgramOf, FailsToRead, GivesUpReading}
-use Rattle.race_tool.specs.Outcome.{FailsToWrite, FailsToWriteListing, FailsToWriteRun}
+use Rattle.race_tool.specs.Outcome.{ReadsAndReports, ReadsAndLists, ReadsAndRuns, ReadsAndJudges, ReadsTextWhere, ReadsProgramOf, FailsToRead, GivesUpReading}
+use Rattle.race_tool.specs.Outcome.{FailsToWrite, FailsToWriteListing, FailsToWriteRun, FailsToWriteJudged}
 use Rattle.race_tool.specs.Run.{IsRefusedRun}
+use Rattle.race_tool.specs.Race.{HasRunWhere}
 use Rattle.race_tool.specs.Picks.{picks_asked}
 use Rattle.race_edges.specs.Traces.{IsClean, IsRacy, IsIllegal}
 use Rattle.race_tool.specs.declared.status.TheConstants as status
@@ -54,14 +55,32 @@ pub record Runs {R W : Type 0} (limit : ℕ) (picks : List ℕ) (remaining : R �
       ⊎ FailsToWriteRun limit picks remaining contents source source_now sink sink_now
   pub calm : answer ≢ status.DEVICE → (source_failures source_now ≡ source_failures source) × (sink_failures sink_now ≡ sink_failures sink)
 
+-- the program that was read was run, and the run was judged, by the plain judge or not: what run_race promises of options in their limits
+pub record Judges {R W : Type 0} (limit : ℕ) (picks : List ℕ) (plain : Bool) (remaining : R → Option (List ℕ)) (contents : W → Option (List ℕ)) (source source_now : Source R) (sink sink_now : Sink W) (answer : ℕ) : Type 0 where
+  pub judged : answer ≢ status.REFUSED → answer ≢ status.DEVICE → answer ≢ status.MISMATCH
+      → ReadsAndJudges limit picks plain (unread remaining source) (unread remaining source_now) (written contents sink) (written contents sink_now) answer
+  pub legal : answer ≢ status.ILLEGAL
+  pub clean : answer ≡ status.CLEAN → ReadsProgramOf (HasRunWhere limit picks IsClean) (unread remaining source) (unread remaining source_now)
+  pub races : answer ≡ status.RACES → ReadsProgramOf (HasRunWhere limit picks IsRacy) (unread remaining source) (unread remaining source_now)
+  pub refused : answer ≡ status.REFUSED → sink_now ≡ sink
+  pub mismatch : answer ≡ status.MISMATCH
+      → (sink_now ≡ sink) × ReadsProgramOf (IsRefusedRun limit picks) (unread remaining source) (unread remaining source_now)
+  pub device : answer ≡ status.DEVICE
+      → FailsToRead of_programs remaining source source_now sink sink_now
+      ⊎ GivesUpReading of_programs remaining source source_now sink sink_now
+      ⊎ FailsToWriteJudged limit picks plain remaining contents source source_now sink sink_now
+  pub calm : answer ≢ status.DEVICE → (source_failures source_now ≡ source_failures source) × (sink_failures sink_now ≡ sink_failures sink)
+
 -- what was asked for is done
 abbrev pub Does : {R W : Type 0} → Request → (R → Option (List ℕ)) → (W → Option (List ℕ)) → Source R → Source R → Sink W → Sink W → ℕ → Type 0
 Does (Request.Check options) remaining contents source source_now sink sink_now answer = Checks options.plain remaining contents source source_now sink sink_now answer
 Does Request.Edges remaining contents source source_now sink sink_now answer = Lists remaining contents source source_now sink sink_now answer
 Does (Request.Run options) remaining contents source source_now sink sink_now answer =
     Runs options.limit (picks_asked options) remaining contents source source_now sink sink_now answer
+Does (Request.Race run check) remaining contents source source_now sink sink_now answer =
+    Judges run.limit (picks_asked run) check.plain remaining contents source source_now sink sink_now answer
 
--- the status where the words ask for no work: help was printed or couldn't be, memory was refused, or else they are at fault
+-- the status where the words ask for no work: help or the version was printed or couldn't be, memory was refused, or else they are at fault
 abbrev pub IsAnswerTo : ErrorKind → ℕ → Type 0
 IsAnswerTo kind.OutOfMemory answer = answer ≡ status.REFUSED
 IsAnswerTo kind.DisplayHelp answer = (answer ≡ status.CLEAN) ⊎ (answer ≡ status.DEVICE)

@@ -2,6 +2,7 @@
 #![tactic(auto)]
 
 mod command;
+mod help;
 mod number;
 mod program;
 #[cfg(test)]

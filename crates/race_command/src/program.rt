@@ -11,7 +11,7 @@ use crate::command::{Request, parse};
 use clap::Error;
 use clap::error::ErrorKind;
 use race_records::{Sink, Source};
-use race_tool::{run_check, run_edges, run_run, status};
+use race_tool::{run_check, run_edges, run_race, run_run, status};
 use std::alloc::Global;
 use std::env::Args;
 use std::io;
@@ -21,17 +21,17 @@ use std::process::ExitCode;
 /// Does what the words ask for, and says on standard error what no report says.
 ///
 /// A check ends with the status that `run_check` answers, a listing of edges with that of
-/// `run_edges`, a run with that of `run_run`. Help ends with 0, or with 5 where it can't be printed.
-/// Words that are at fault or aren't text end with 3, of which a line on standard error tells, and
-/// want of memory for them with 4.
+/// `run_edges`, a run with that of `run_run`, a judged run with that of `run_race`. Help and the
+/// version end with 0, or with 5 where they can't be printed. Words that are at fault or aren't text
+/// end with 3, of which a line on standard error tells, and want of memory for them with 4.
 pub fn run<T: AllocGlobal + Print + Eprint, R: Read, W: Write>(
     rt: &T,
     args: io::Result<Args>,
     source: &mut Source<R>,
     sink: &mut Sink<W>,
 ) -> ExitCode
-    // The input is checked, its edges are listed or it is run, or the words ask for none of these, and
-    // nothing is read or written.
+    // The input is checked, its edges are listed, it is run, or it is run and judged, or the words ask
+    // for none of these, and nothing is read or written.
     ensures words { IfOk args (λ words.
         Ends R.remaining W.contents source.old source.new sink.old sink.new (exit_status result)) }
 
@@ -95,12 +95,13 @@ fn answer_request<T: AllocGlobal + Print + Eprint, R: Read, W: Write>(
             Request::Check(options) => run_check(rt, rt.alloc(), source, sink, &options),
             Request::Edges => run_edges(rt.alloc(), source, sink),
             Request::Run(options) => run_run(rt, rt.alloc(), source, sink, &options),
+            Request::Race(run, check) => run_race(rt, rt.alloc(), source, sink, &run, &check),
         },
         Err(error) => print(rt, &error),
     }
 }
 
-// Prints a help text, or why there is no request.
+// Prints a text of help, the version, or why there is no request.
 fn print<R: Print + Eprint>(rt: &R, error: &Error) -> u8
     ensures { IsAnswerTo (kind_of error.now) result }
 {

@@ -29,18 +29,48 @@ fn run_options_of(alloc: Global, given: &[&str; 2]) -> Result<RunOptions, ErrorK
     }
 }
 
+// The options of the words behind `gorace race`, or why there are none.
+fn race_options_of(
+    alloc: Global,
+    given: &[&str; 3],
+) -> Result<(RunOptions, CheckOptions), ErrorKind> {
+    let words = ["gorace", "race", given[0], given[1], given[2]];
+    match parse(alloc, words.as_slice()) {
+        Ok(Request::Race(run, check)) => Ok((run, check)),
+        Ok(_) => Err(ErrorKind::InvalidSubcommand),
+        Err(error) => Err(error.kind()),
+    }
+}
+
+// Whether the limit and the picks are these.
+fn has(options: &RunOptions, limit: u32, picks: Option<&[u64]>) -> bool {
+    let given = match &options.picks {
+        Some(picks) => Some(picks.as_slice()),
+        None => None,
+    };
+    options.limit == limit && given == picks
+}
+
 // The limit and the picks where they are as these.
 fn are_options(
     options: &Result<RunOptions, ErrorKind>,
     want: Result<(u32, Option<&[u64]>), ErrorKind>,
 ) -> bool {
     match (options, want) {
-        (Ok(options), Ok((limit, picks))) => {
-            let given = match &options.picks {
-                Some(picks) => Some(picks.as_slice()),
-                None => None,
-            };
-            options.limit == limit && given == picks
+        (Ok(options), Ok((limit, picks))) => has(options, limit, picks),
+        (Err(kind), Err(want)) => *kind == want,
+        _ => false,
+    }
+}
+
+// The limit, the picks and how the run is judged where they are as these.
+fn are_race_options(
+    options: &Result<(RunOptions, CheckOptions), ErrorKind>,
+    want: Result<(u32, Option<&[u64]>, CheckOptions), ErrorKind>,
+) -> bool {
+    match (options, want) {
+        (Ok((run, check)), Ok((limit, picks, judged))) => {
+            has(run, limit, picks) && *check == judged
         }
         (Err(kind), Err(want)) => *kind == want,
         _ => false,
@@ -69,6 +99,50 @@ fn a_run_has_a_limit_and_picks(rt: HostRuntime) {
     for (given, want) in rows {
         let options = run_options_of(rt.alloc(), &given);
         assert!(rt; are_options(&options, want), "{given:?}");
+    }
+}
+
+#[test]
+fn a_judged_run_has_the_options_of_both(rt: HostRuntime) {
+    let usual = CheckOptions::default();
+    let plain = CheckOptions {
+        plain: true,
+        ..usual
+    };
+    let refused = Err(ErrorKind::ValueValidation);
+    let most = 16_777_216;
+    let rows: [(
+        [&str; 3],
+        Result<(u32, Option<&[u64]>, CheckOptions), ErrorKind>,
+    ); 8] = [
+        (
+            ["--plain", "--limit=2", "--picks=3,0"],
+            Ok((2, Some(&[3, 0]), plain)),
+        ),
+        (
+            ["--picks=1", "--shards=64", "--block=65536"],
+            Ok((
+                most,
+                Some(&[1]),
+                CheckOptions {
+                    shards: 64,
+                    ..usual
+                },
+            )),
+        ),
+        (["--plain", "--limit", "16777216"], Ok((most, None, plain))),
+        (["--plain", "--limit", "0"], refused),
+        (["--plain", "--picks", "1,"], refused),
+        (["--limit=1", "--shards", "65"], refused),
+        (["--picks=0", "--block", "65537"], refused),
+        (
+            ["--limit=1", "--plain", "--workers"],
+            Err(ErrorKind::UnknownArgument),
+        ),
+    ];
+    for (given, want) in rows {
+        let options = race_options_of(rt.alloc(), &given);
+        assert!(rt; are_race_options(&options, want), "{given:?}");
     }
 }
 
@@ -113,8 +187,9 @@ fn options_are_numbers_in_their_limits(rt: HostRuntime) {
 #[test]
 fn a_command_is_wanted(rt: HostRuntime) {
     for (word, want) in [
-        ("race", ErrorKind::InvalidSubcommand),
+        ("walk", ErrorKind::InvalidSubcommand),
         ("--help", ErrorKind::DisplayHelp),
+        ("--version", ErrorKind::DisplayVersion),
     ] {
         let words = ["gorace", word];
         match parse(rt.alloc(), words.as_slice()) {
@@ -179,10 +254,35 @@ fn words_and_input_decide_the_status(rt: HostRuntime) -> Result<(), Fail> {
             status::FAILED,
             "gotrace 1\nfault main close:nil m:1\n",
         ),
+        (
+            "gorace race --picks 0",
+            "goprogram 1\ngoroutine w\nvar x\nbody main\ngo w m:1\nwrite x 1 m:2\nexit m:3\nbody w\nread x w:1\nexit w:2\n",
+            status::RACES,
+            "race on x: write by main at m:2 (event 2), read by w at w:1 (event 3)\nraces: 1\nend: main\n",
+        ),
+        (
+            "gorace race --plain --limit 1",
+            "goprogram 1\nvar x\nbody main\nread x m:1\nread x m:2\nexit m:3\n",
+            status::LIMIT,
+            "clean: 1 events, 1 accesses\nend: limit\n",
+        ),
+        (
+            "gorace race",
+            "goprogram 1\nchan c 0\nbody main\nrecv c m:1\nexit m:2\n",
+            status::DEADLOCK,
+            "clean: 0 events, 0 accesses\nend: deadlock\n",
+        ),
+        (
+            "gorace race --shards 65",
+            "goprogram 1\n",
+            status::USAGE,
+            "",
+        ),
         ("gorace run --picks x", "", status::USAGE, ""),
         ("gorace edges --plain", "gotrace 1\n", status::USAGE, ""),
         ("gorace edges --help", "gotrace 1\n", status::CLEAN, ""),
         ("gorace check --help", "gotrace 1\n", status::CLEAN, ""),
+        ("gorace --version", "gotrace 1\n", status::CLEAN, ""),
         ("gorace", "gotrace 1\n", status::USAGE, ""),
     ] {
         let (code, output) = ended(&rt, Ok(args_of(rt.alloc(), line)?), input);

@@ -1,0 +1,148 @@
+//! What help says.
+
+pub(crate) const ABOUT: &str = "Judges recorded runs of goroutines by The Go Memory Model";
+
+pub(crate) const VERSION: &str = "0.1.0";
+
+pub(crate) const AFTER_HELP: &str = "\
+'gorace check --help' says what a trace is, with an example, and what the statuses mean;
+'gorace run --help' says what a program is.";
+
+pub(crate) const CHECK_ABOUT: &str = "Reads a trace from standard input and writes its report";
+
+pub(crate) const CHECK_USAGE: &str = "gorace check [OPTIONS] < TRACE";
+
+pub(crate) const CHECK_HELP: &str = "\
+A trace is a text: a header, declarations, and the events of a run in order.
+Each event says what was done, then by which goroutine, and ends with its place
+in the source; a meet ends with two, the sender's and the receiver's.
+
+  gotrace 1
+  goroutine w
+  var x
+  go main w a.go:2
+  write main x 1 a.go:3
+  read w x 1 a.go:6
+
+Here the write and the read race, for nothing orders them:
+
+  race on x: write by main at a.go:3 (event 2), read by w at a.go:6 (event 3)
+  races: 1
+
+Statuses:
+  0   clean: legal, and no data race
+  66  data races, one line for each variable
+  1   an event that breaks a rule of traces; its number, and the rule
+  2   not a trace; the line at fault and why
+  3   usage, or more events than --plain takes (2,000)
+  4   memory was refused
+  5   reading or writing failed";
+
+pub(crate) const EDGES_ABOUT: &str =
+    "Reads a trace from standard input and lists what synchronizes in it";
+
+pub(crate) const EDGES_USAGE: &str = "gorace edges < TRACE";
+
+pub(crate) const EDGES_HELP: &str = "\
+A line for each synchronization edge, and their count:
+
+  edge 1 main 1 w
+  edges: 1
+
+says that the begin of main's part in event 1 is synchronized before the end of
+w's part in event 1. What one goroutine does in order isn't listed.
+
+Statuses:
+  0   the edges are listed
+  1   an event that breaks a rule of traces; its number, and the rule
+  2   not a trace; the line at fault and why
+  3   usage, or more events than are taken (2,000)
+  4   memory was refused
+  5   reading or writing failed";
+
+pub(crate) const RUN_ABOUT: &str =
+    "Reads a program from standard input, runs it, and writes the trace";
+
+pub(crate) const RUN_USAGE: &str = "gorace run [OPTIONS] < PROGRAM";
+
+pub(crate) const RUN_HELP: &str = "\
+A program is a text: a header, declarations, and for main and each goroutine a
+body of steps, of which the last is its exit. Each step ends with its place.
+
+  goprogram 1
+  goroutine w
+  chan c 0
+  var x
+  body main
+  go w m:1
+  recv c m:2
+  read x m:3
+  exit m:4
+  body w
+  write x 8 w:1
+  send c 1 w:2
+  exit w:3
+
+A goroutine goes on to its next step as soon as it has done one. Where several
+could do their steps next, a pick says which: they stand in the order in which
+they came to their steps, a meet where its sender stands, and a pick is a number
+modulo their count. Each event uses up a pick; behind the last one they are 0.
+With --picks 0,0,0,1 main reads before w exits; else w exits first.
+
+'gorace race' runs a program in the same way, and judges the run.
+
+Statuses:
+  0   main returned
+  10  a goroutine failed, as by a close of a closed channel
+  11  deadlock: each goroutine waits, and none can go on
+  12  the limit is reached
+  13  a goroutine asked what can't be, as to start another a second time
+  2   not a program; the line at fault and why
+  3   usage
+  4   memory was refused
+  5   reading or writing failed
+  15  the run could not be recorded";
+
+pub(crate) const RACE_ABOUT: &str =
+    "Reads a program from standard input, runs it, and writes the report of the run";
+
+pub(crate) const RACE_USAGE: &str = "gorace race [OPTIONS] < PROGRAM";
+
+pub(crate) const RACE_HELP: &str = "\
+Runs the program as 'gorace run' does, and judges the run as 'gorace check' does;
+'gorace run --help' says what a program is, and what picks are. Behind the report
+stands how the run ended.
+
+  goprogram 1
+  goroutine w
+  var x
+  body main
+  go w m:1
+  write x 1 m:2
+  exit m:3
+  body w
+  read x w:1
+  exit w:2
+
+Here the write and the read race, for nothing orders them:
+
+  race on x: write by main at m:2 (event 2), read by w at w:1 (event 3)
+  races: 1
+  end: main
+
+The last line is 'end: main', 'end: fault', 'end: deadlock', 'end: limit', or
+'end: bad NAME' of a goroutine that asked what can't be. One run is judged:
+another, by other picks, may have races that this one hasn't.
+
+Statuses:
+  66  data races, however the run ended
+  0   no data race, and main returned
+  10  none, and a goroutine failed, as by a close of a closed channel
+  11  none, and deadlock: each goroutine waits, and none can go on
+  12  none, and the limit is reached
+  13  none, and a goroutine asked what can't be, as to start another a second time
+  2   not a program; the line at fault and why
+  3   usage, or more events than --plain takes (2,000)
+  4   memory was refused
+  5   reading or writing failed
+  15  the run could not be recorded";

@@ -114,7 +114,7 @@ fn parts(alloc: Global, text: &[u8]) -> Result<(Decls, Vec<Script>), Fail> {
 }
 
 // The hub of the program before its first event.
-fn hub_of(alloc: Global, text: &[u8], limit: u32) -> Result<Hub<Script>, Fail> {
+pub(crate) fn hub_of(alloc: Global, text: &[u8], limit: u32) -> Result<Hub<Script>, Fail> {
     let (decls, scripts) = parts(alloc, text)?;
     Ok(Hub::new(alloc, decls, limit, scripts)?)
 }

@@ -25,8 +25,7 @@ const TWICE: &[u8] =
 // A send on a channel that is closed.
 const FAILS: &[u8] = b"goprogram 1\nchan c 0\nbody main\nclose c m:1\nsend c 1 m:2\nexit m:3\n";
 
-const DEFAULT: &[u8] =
-    b"goprogram 1\nchan c 0\nbody main\nselect send:c:5 default m:1\nexit m:2\n";
+const DEFAULT: &[u8] = b"goprogram 1\nchan c 0\nbody main\nselect send:c:5 default m:1\nexit m:2\n";
 
 const SELECTS: &[u8] =
     b"goprogram 1\ngoroutine w\nchan c 0\nbody main\ngo w m:1\nselect recv:c block m:2\nexit m:3\nbody w\nsend c 5 w:1\nexit w:2\n";

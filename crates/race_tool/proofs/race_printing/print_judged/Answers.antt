@@ -10,7 +10,7 @@ use Rattle.race_tool.proofs.race_printing.print_judged.Goals as goal
 pub returns-in-Ok : goal.returns-in-Ok
 returns-in-Ok g c =
     subst (λ (d : DeclsState). Printing g.W.Write.contents c.print_end.result c.args.sink.now c.print_end.new.sink c.args.page.now c.print_end.new.page
-        (report c.args.trace.now (verdict_of c.args.verdict.now) ++ end_line d.declarations c.args.end))
+    (report c.args.trace.now (verdict_of c.args.verdict.now) ++ end_line d.declarations c.args.end))
     c.decls.ensures.decls (prints_behind c.in-Ok.ensures c.print_end.ensures)
 
 pub returns-in-Err : goal.returns-in-Err

@@ -1,5 +1,7 @@
 -- What is kept of a list of accesses, and what is dropped.
-use Rattle.std.proofs.Common.{◌≡◌, ◌⊎◌, ℕ, zero, suc, ◌≤◌, max, not, Bool, true, false, List, [], ◌∷◌, ◌++◌, length, take, drop, Option, Some, None, refl, sym, ap, subst, inl, inr, arith, cond}
+use Rattle.std.proofs.Common.{◌≡◌, ◌⊎◌, ℕ, zero, suc, ◌≤◌, max, not, Bool, true, false, List, [], ◌∷◌, ◌++◌}
+use Rattle.std.proofs.Common.{length, take, drop, Option, Some, None, refl, sym, ap, subst, inl, inr, arith}
+use Rattle.std.proofs.Common.{cond}
 use Rattle.std.specs.Prelude.{T}
 use Rattle.std.proofs.Math.Facts.{leb_yes}
 use Rattle.std.specs.List.{Contains, filter, insert}
@@ -28,10 +30,20 @@ only_one x e is = elim (cons_cases x [] e is) [ inl same ↦ same | inr (k, less
 pub greatest_of_both : (clock : List ℕ) (xs ys : List Access) (a b : Option ℕ)
     → IsGreatestUnknown clock xs a → IsGreatestUnknown clock ys b → IsGreatestUnknown clock (xs ++ ys) (greater a b)
 greatest_of_both clock xs ys None None knownx knowny = λ e is. elim (Contains-append_cases xs ys e is) [ inl x ↦ knownx e x | inr y ↦ knowny e y ]
-greatest_of_both clock xs ys None (Some j) knownx (e, isy, at, unknown, most) =
-    (e, Contains-append_right xs ys e isy, at, unknown, λ f is un. elim (Contains-append_cases xs ys f is) [ inl x ↦ absurd (un (knownx f x)) | inr y ↦ most f y un ])
-greatest_of_both clock xs ys (Some i) None (e, isx, at, unknown, most) knowny =
-    (e, Contains-append_left xs ys e isx, at, unknown, λ f is un. elim (Contains-append_cases xs ys f is) [ inl x ↦ most f x un | inr y ↦ absurd (un (knowny f y)) ])
+greatest_of_both clock xs ys None (Some j) knownx (e, isy, at, unknown, most) = (
+  e,
+  Contains-append_right xs ys e isy,
+  at,
+  unknown,
+  λ f is un. elim (Contains-append_cases xs ys f is) [ inl x ↦ absurd (un (knownx f x)) | inr y ↦ most f y un ],
+)
+greatest_of_both clock xs ys (Some i) None (e, isx, at, unknown, most) knowny = (
+  e,
+  Contains-append_left xs ys e isx,
+  at,
+  unknown,
+  λ f is un. elim (Contains-append_cases xs ys f is) [ inl x ↦ most f x un | inr y ↦ absurd (un (knowny f y)) ],
+)
 greatest_of_both clock xs ys (Some i) (Some j) (e, isx, ati, unknowne, mosti) (f, isy, atj, unknownf, mostj) = elim (cases_lt i j) [
   | inl less ↦ (f, Contains-append_right xs ys f isy, omega (arith, atj, less), unknownf, bound)
   | inr more ↦ (e, Contains-append_left xs ys e isx, omega (arith, ati, more), unknowne, bound)
@@ -117,7 +129,8 @@ keeps_inserted xs ys i access clock drops = record {
 }
 
 -- with a Write that stays
-pub keeps_under : (write : Access) (xs ys : List Access) (access : Access) (clock : List ℕ) → KeepsRead xs ys access clock → KeepsRead (write ∷ xs) (write ∷ ys) access clock
+pub keeps_under : (write : Access) (xs ys : List Access) (access : Access) (clock : List ℕ)
+    → KeepsRead xs ys access clock → KeepsRead (write ∷ xs) (write ∷ ys) access clock
 keeps_under write xs ys access clock keeps = record {
   itself = cons_rest write ys access keeps.itself;
   nothing_else = λ e is counted. elim (cons_cases write ys e is) [

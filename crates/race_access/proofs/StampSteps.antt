@@ -1,5 +1,7 @@
 -- The touches of one variable are lawful, and their reported race is that of the events.
-use Rattle.std.proofs.Common.{◌≡◌, ◌≢◌, ◌⊎◌, ◌↔◌, ℕ, ◌+◌, ◌<◌, ◌==◌, ◌||◌, Bool, true, false, List, [], ◌∷◌, ◌++◌, length, take, Option, Some, None, slice_get, refl, sym, ap, ◌∙◌, subst, inl, inr, arith, IsTrue, length-append, eq-eqb, eqb-true}
+use Rattle.std.proofs.Common.{◌≡◌, ◌≢◌, ◌⊎◌, ◌↔◌, ℕ, ◌+◌, ◌<◌, ◌==◌, ◌||◌, Bool, true, false, List, [], ◌∷◌, ◌++◌, length, take}
+use Rattle.std.proofs.Common.{Option, Some, None, slice_get, refl, sym, ap, ◌∙◌, subst, inl, inr, arith, IsTrue, length-append}
+use Rattle.std.proofs.Common.{eq-eqb, eqb-true}
 use Rattle.std.specs.List.{Contains}
 use Rattle.std.proofs.lemmas.Bool.{cases_lt}
 use Rattle.std.proofs.lemmas.List.{take-append-le, take_all}
@@ -22,7 +24,8 @@ use Rattle.race_access.specs.Touches.{Touch, IsKnownTo, IsLawful, IsAt, Conflict
 use Rattle.race_access.specs.StampsOf.{AreStampsOf, IsReportedOn}
 
 -- what the stamp of an operation says of its variable
-pub accessed : (at who count : ℕ) (o : Op) (stamp : Stamp) → stamp_with at who count o ≡ Some stamp → IsTrue (accesses stamp.var o) × (writes stamp.var o ≡ stamp.write)
+pub accessed : (at who count : ℕ) (o : Op) (stamp : Stamp) → stamp_with at who count o ≡ Some stamp
+    → IsTrue (accesses stamp.var o) × (writes stamp.var o ≡ stamp.write)
 accessed at who count (Read y v) stamp is =
     let same : record { at = at; who = who; count = count; var = y; write = false } ≡ stamp = cc in
     let var : y ≡ stamp.var = ap (λ (s : Stamp). s.var) same in
@@ -54,7 +57,8 @@ accesses_none at who count (Write y v) none x access = cc
 accesses_none at who count _ none x access = cc
 
 -- an event behind the list changes no stamp
-stamp_stays : (caps : ℕ → ℕ) (past : List Event) (e : Event) (stamp : Stamp) (clock : List ℕ) → IsStampIn caps past stamp clock → IsStampIn caps (past ++ e ∷ []) stamp clock
+stamp_stays : (caps : ℕ → ℕ) (past : List Event) (e : Event) (stamp : Stamp) (clock : List ℕ)
+    → IsStampIn caps past stamp clock → IsStampIn caps (past ++ e ∷ []) stamp clock
 stamp_stays caps past e stamp clock is = record {
   event = is.event;
   stands = append_at_old past (e ∷ []) stamp.at is.event is.stands;
@@ -69,7 +73,8 @@ stamp_stays caps past e stamp clock is = record {
     same = sym (take-append-le stamp.at past (e ∷ []) (omega (arith, within)))
 
 -- the stamp of the event that comes next, with a clock that counts what reaches it
-stamp_comes : (caps : ℕ → ℕ) (past : List Event) (e : Event) (stamp : Stamp) (clock : List ℕ) → stamp_of past e ≡ Some stamp → CountsReaching caps past e e.who clock
+stamp_comes : (caps : ℕ → ℕ) (past : List Event) (e : Event) (stamp : Stamp) (clock : List ℕ)
+    → stamp_of past e ≡ Some stamp → CountsReaching caps past e e.who clock
     → IsStampIn caps (past ++ e ∷ []) stamp clock
 stamp_comes caps past e stamp clock is reaching = record {
   event = e;
@@ -83,7 +88,8 @@ stamp_comes caps past e stamp clock is reaching = record {
     said = says (length past) e.who (participations e.who past + 1) e.op stamp is
 
     front : past ≡ take stamp.at (past ++ e ∷ [])
-    front = sym (ap (λ n. take n (past ++ e ∷ [])) said.index ∙ take-append-le (length past) past (e ∷ []) (omega arith) ∙ take_all (length past) past (omega arith))
+    front = sym (ap (λ n. take n (past ++ e ∷ [])) said.index
+        ∙ take-append-le (length past) past (e ∷ []) (omega arith) ∙ take_all (length past) past (omega arith))
 
 -- what stands at an index is an element
 contains_at : {X : Type 0} (xs : List X) (k : ℕ) (x : X) → slice_get xs k ≡ Some x → Contains xs x
@@ -197,7 +203,8 @@ module _ (caps : ℕ → ℕ) (events : List Event) (x : ℕ) (touched : List To
   -- the reported race of the touches is that of the events
   pub reported_on : (p : Option (ℕ × ℕ)) → IsReported touched p → IsReportedOn caps events x p
   reported_on None free = free_same (Conflicting touched) (Conflict events x) (Known touched) (HappensBefore caps events) conflicts turned orders free
-  reported_on (Some (i, j)) reported = reported_same (Conflicting touched) (Conflict events x) (Known touched) (HappensBefore caps events) conflicts turned orders i j reported
+  reported_on (Some (i, j)) reported = reported_same (Conflicting touched) (Conflict events x)
+      (Known touched) (HappensBefore caps events) conflicts turned orders i j reported
 
   -- the touches are lawful
   pub touches_lawful : IsLawful touched
@@ -246,7 +253,8 @@ module _ (caps : ℕ → ℕ) (past : List Event) (e : Event) (x : ℕ) (touched
     rising = rising;
     each = λ a ina. elim (Contains-push_cases touched t a ina) [
       | inl old ↦ old_each a old
-      | inr new ↦ subst (λ (a : Touch). IsStampIn caps (past ++ e ∷ []) a.stamp a.clock × (a.stamp.var ≡ x)) new (stamp_comes caps past e t.stamp t.clock is reaching, var)
+      | inr new ↦ subst (λ (a : Touch). IsStampIn caps (past ++ e ∷ []) a.stamp a.clock × (a.stamp.var ≡ x)) new
+          (stamp_comes caps past e t.stamp t.clock is reaching, var)
     ];
     every = λ i acc. elim (access_cases i acc) [
       | inl old ↦ let s = stamps.every i old in (s.0, (Contains-append_left touched (t ∷ []) s.0 s.1.0, s.1.1))
@@ -260,11 +268,13 @@ module _ (caps : ℕ → ℕ) (past : List Event) (e : Event) (x : ℕ) (touched
       rising : (k m : ℕ) (a b : Touch) → k < m → slice_get (touched ++ t ∷ []) k ≡ Some a → slice_get (touched ++ t ∷ []) m ≡ Some b → a.stamp.at < b.stamp.at
       rising k m a b less atk atm = elim (cases_lt m (length touched)) [
         | inl early ↦
-            stamps.rising k m a b less (sym (slice_get-append touched (t ∷ []) k (omega (arith, less, early))) ∙ atk) (sym (slice_get-append touched (t ∷ []) m early) ∙ atm)
+            stamps.rising k m a b less (sym (slice_get-append touched (t ∷ []) k (omega (arith, less, early))) ∙ atk)
+            (sym (slice_get-append touched (t ∷ []) m early) ∙ atm)
         | inr late ↦
             let short : m < length (touched ++ t ∷ []) = slice_get_within (touched ++ t ∷ []) m b atm in
             let last : m ≡ length touched = omega (arith, late, short, length-append touched (t ∷ [])) in
-            let same : b ≡ t = at_same (touched ++ t ∷ []) (length touched) b t (ap (slice_get (touched ++ t ∷ [])) (sym last) ∙ atm) (slice_get-push touched t) in
+            let same : b ≡ t = at_same (touched ++ t ∷ []) (length touched) b t
+            (ap (slice_get (touched ++ t ∷ [])) (sym last) ∙ atm) (slice_get-push touched t) in
             let front : k < length touched = omega (arith, less, last) in
             let old : slice_get touched k ≡ Some a = sym (slice_get-append touched (t ∷ []) k front) ∙ atk in
             let below : a.stamp.at < length past = within a (contains_at touched k a old) in

@@ -64,7 +64,8 @@ module _ (touched : List Touch) (t : Touch) (lawful : IsLawful (touched ++ t ∷
     kept_by : (new : Kept) (b : Bool) → t.stamp.write ≡ b → IsGreatestUnknown t.clock (candidates_by b kept) None
         → KeepsBy b kept new t.stamp t.clock → CoversAll (touched ++ t ∷ []) new.write new.reads
     kept_by new true is known keeps = record {
-      free = still_free touched t lawful covers.free (λ a partner. partner.2 (all_known touched t lawful is_any (kept.write ∷ kept.reads) covers.all known a partner.0 refl));
+      free = still_free touched t lawful covers.free
+          (λ a partner. partner.2 (all_known touched t lawful is_any (kept.write ∷ kept.reads) covers.all known a partner.0 refl));
       writes = subst (λ w. Covers is_write (touched ++ t ∷ []) (w ∷ [])) (sym keeps.write)
           (covers_next touched t lawful is_write (kept.write ∷ []) covers.writes (access_of t.stamp ∷ []) is
           (keeps_alone (kept.write ∷ []) [] (access_of t.stamp) t.clock alone none));

@@ -1,5 +1,7 @@
 -- The races of a lawful list of touches, one touch on.
-use Rattle.std.proofs.Common.{◌≡◌, ◌≢◌, ◌⊎◌, ℕ, ◌<◌, ◌≤◌, List, [], ◌∷◌, ◌++◌, length, Option, Some, None, slice_get, refl, sym, ap, ◌∙◌, subst, inl, inr, arith, IsTrue}
+use Rattle.std.proofs.Common.{◌≡◌, ◌≢◌, ◌⊎◌, ℕ, ◌<◌, ◌≤◌, List, [], ◌∷◌, ◌++◌, length, Option}
+use Rattle.std.proofs.Common.{Some, None, slice_get, refl, sym, ap, ◌∙◌, subst, inl, inr, arith}
+use Rattle.std.proofs.Common.{IsTrue}
 use Rattle.std.specs.List.{Contains}
 use Rattle.std.proofs.lemmas.Bool.{cases_lt, cases_eq}
 use Rattle.std.proofs.lemmas.Option.{slice_get-get_or}
@@ -67,14 +69,20 @@ module _ (touched : List Touch) (t : Touch) (lawful : IsLawful (touched ++ t ∷
       }
 
   -- an earlier one that conflicts with the next and isn't known to it races with it
-  pub race_new : (a : Touch) → Contains touched a → IsTrue a.stamp.write ⊎ IsTrue t.stamp.write → ¬ IsKnownTo a t → Race (touched ++ t ∷ []) a.stamp.at t.stamp.at
+  pub race_new : (a : Touch) → Contains touched a → IsTrue a.stamp.write ⊎ IsTrue t.stamp.write
+      → ¬ IsKnownTo a t → Race (touched ++ t ∷ []) a.stamp.at t.stamp.at
   race_new a ina write unknown = record {
-    conflict = (λ same. let less : a.stamp.at < t.stamp.at = later a ina in absurd (omega (arith, less, same)), (a, t, (inside a ina, refl), (last, refl), write));
+    conflict = (
+      λ same. let less : a.stamp.at < t.stamp.at = later a ina in
+          absurd (omega (arith, less, same)),
+      (a, t, (inside a ina, refl), (last, refl), write),
+    );
     not_before = λ known. unknown (is_known a t (inside a ina) last known);
     not_after = λ known. lawful.onward a t (inside a ina) last (later a ina) (is_known t a last (inside a ina) known);
   }
     where
-      is_known : (a b : Touch) → Contains (touched ++ t ∷ []) a → Contains (touched ++ t ∷ []) b → Known (touched ++ t ∷ []) a.stamp.at b.stamp.at → IsKnownTo a b
+      is_known : (a b : Touch) → Contains (touched ++ t ∷ []) a → Contains (touched ++ t ∷ []) b
+          → Known (touched ++ t ∷ []) a.stamp.at b.stamp.at → IsKnownTo a b
       is_known a b ina inb (c, d, (inc, atc), (ind, atd), known) =
           let first : c ≡ a = same_at (touched ++ t ∷ []) lawful c a inc ina atc in
           let second : d ≡ b = same_at (touched ++ t ∷ []) lawful d b ind inb atd in
@@ -92,7 +100,8 @@ module _ (touched : List Touch) (t : Touch) (lawful : IsLawful (touched ++ t ∷
           → Race touched i j ⊎ ((j ≡ t.stamp.at) × ((a : Touch) × (a.stamp.at ≡ i) × IsPartner a))
       go (a, b, (ina, ati), (inb, atj), write) = cases (Contains-push_cases touched t a ina) (Contains-push_cases touched t b inb)
         where
-          cases : Contains touched a ⊎ (t ≡ a) → Contains touched b ⊎ (t ≡ b) → Race touched i j ⊎ ((j ≡ t.stamp.at) × ((a : Touch) × (a.stamp.at ≡ i) × IsPartner a))
+          cases : Contains touched a ⊎ (t ≡ a) → Contains touched b ⊎ (t ≡ b)
+              → Race touched i j ⊎ ((j ≡ t.stamp.at) × ((a : Touch) × (a.stamp.at ≡ i) × IsPartner a))
           cases (inl olda) (inl oldb) = inl (record {
             conflict = (race.conflict.0, (a, b, (olda, ati), (oldb, atj), write));
             not_before = λ known. race.not_before (known_grows i j known);
@@ -123,7 +132,8 @@ module _ (touched : List Touch) (t : Touch) (lawful : IsLawful (touched ++ t ∷
   turned : (i j : ℕ) → Race (touched ++ t ∷ []) i j → Race (touched ++ t ∷ []) j i
   turned i j race = go race.conflict.1
     where
-      go : ((a : Touch) × (b : Touch) × IsAt (touched ++ t ∷ []) i a × IsAt (touched ++ t ∷ []) j b × (IsTrue a.stamp.write ⊎ IsTrue b.stamp.write)) → Race (touched ++ t ∷ []) j i
+      go : ((a : Touch) × (b : Touch) × IsAt (touched ++ t ∷ []) i a × IsAt (touched ++ t ∷ []) j b × (IsTrue a.stamp.write ⊎ IsTrue b.stamp.write))
+          → Race (touched ++ t ∷ []) j i
       go (a, b, ati, atj, write) = record {
         conflict = (λ same. race.conflict.0 (sym same), (b, a, atj, ati, elim write [ inl w ↦ inr w | inr w ↦ inl w ]));
         not_before = race.not_after;
@@ -160,7 +170,8 @@ module _ (touched : List Touch) (t : Touch) (lawful : IsLawful (touched ++ t ∷
   }
 
   -- the reported race stays so
-  pub race_stays : (i j : ℕ) → IsReportedBy (Conflicting touched) (Known touched) i j → IsReportedBy (Conflicting (touched ++ t ∷ [])) (Known (touched ++ t ∷ [])) i j
+  pub race_stays : (i j : ℕ) → IsReportedBy (Conflicting touched) (Known touched) i j
+      → IsReportedBy (Conflicting (touched ++ t ∷ [])) (Known (touched ++ t ∷ [])) i j
   race_stays i j reported = record {
     race = race_grows i j reported.race;
     in_order = reported.in_order;

@@ -17,7 +17,8 @@ use Rattle.race_clock.proofs.ClockLists.{knows_joined}
 use Rattle.race_clock.proofs.QueueSteps.{queue_front, queue_pop, queue_same, queue_push}
 
 -- the same queue by another name of its first number
-queue_from : (caps : ℕ → ℕ) (past : List Event) (kind : Op → Bool) (n m : ℕ) (queue : List (List ℕ)) → n ≡ m → IsQueue caps past kind n queue → IsQueue caps past kind m queue
+queue_from : (caps : ℕ → ℕ) (past : List Event) (kind : Op → Bool) (n m : ℕ) (queue : List (List ℕ))
+    → n ≡ m → IsQueue caps past kind n queue → IsQueue caps past kind m queue
 queue_from caps past kind n m queue same q = subst (λ n. IsQueue caps past kind n queue) same q
 
 -- counts one event on
@@ -38,7 +39,8 @@ from_joined caps events Q c d k = counts_like events (λ h. max (knows c h) (kno
 module _ (caps : ℕ → ℕ) (past : List Event) (e : Event) (kind : Op → Bool) (c : List ℕ) (k : CountsFrom caps past (λ i s. IsTrue (kind s)) (knows c)) where
   pub all_same : kind e.op ≡ false → CountsFrom caps (past ++ e ∷ []) (λ i s. IsTrue (kind s)) (knows c)
   all_same other =
-      from_same caps past e (λ i s. IsTrue (kind s)) (λ i s. IsTrue (kind s)) (knows c) (λ i s at. (λ x. x, λ x. x)) (λ is. let of_kind : kind e.op ≡ true = is in cc) k
+      from_same caps past e (λ i s. IsTrue (kind s)) (λ i s. IsTrue (kind s)) (knows c)
+      (λ i s at. (λ x. x, λ x. x)) (λ is. let of_kind : kind e.op ≡ true = is in cc) k
 
   pub all_more : (b : List ℕ) → kind e.op ≡ true → CountsAt caps (past ++ e ∷ []) (length past) e.who (knows b)
       → CountsFrom caps (past ++ e ∷ []) (λ i s. IsTrue (kind s)) (knows (joined c b))
@@ -71,10 +73,12 @@ module _ (caps : ℕ → ℕ) (past : List Event) (c : ℕ) (ch : ChannelState) 
 
   -- a send has sources only where the capacity is used up
   waits_freed : caps c ≤ count (sends c) past → count (sends c) past < count (receives c) past + caps c → 0 < length ch.freed
-  waits_freed used less = let freed : count (sends c) past - caps c + length ch.freed ≡ count (receives c) past = S.freed.all in omega (arith, used, less, freed)
+  waits_freed used less = let freed : count (sends c) past - caps c + length ch.freed ≡ count (receives c) past = S.freed.all in
+      omega (arith, used, less, freed)
 
   -- what a channel hands to a receive
-  pub hands_receive : (v : ℕ) → count (receives c) past < count (sends c) past → CountsFrom caps past (λ k s. IsSource caps past k s (Recv c v)) (knows (front ch.sent))
+  pub hands_receive : (v : ℕ) → count (receives c) past < count (sends c) past
+      → CountsFrom caps past (λ k s. IsSource caps past k s (Recv c v)) (knows (front ch.sent))
   hands_receive v less =
       queue_front caps past (sends c) (count (receives c) past) ch.sent S.sent
       (let sent : count (receives c) past + length ch.sent ≡ count (sends c) past = S.sent.all in omega (arith, less, sent))
@@ -111,16 +115,19 @@ module _ (caps : ℕ → ℕ) (past : List Event) (c : ℕ) (ch : ChannelState) 
     channel_same no_send no_receive no_close = record {
       room = S.room;
       sent =
-          queue_from caps (past ++ e ∷ []) (sends c) (count (receives c) past) (count (receives c) (past ++ e ∷ [])) ch.sent (sym (count_same (receives c) past e no_receive))
+          queue_from caps (past ++ e ∷ []) (sends c) (count (receives c) past)
+          (count (receives c) (past ++ e ∷ [])) ch.sent (sym (count_same (receives c) past e no_receive))
           (queue_same caps past e (sends c) (count (receives c) past) ch.sent S.sent no_send);
       freed =
           queue_from caps (past ++ e ∷ []) (receives c) (count (sends c) past - caps c) (count (sends c) (past ++ e ∷ []) - caps c) ch.freed
-          (ap (λ n. n - caps c) (sym (count_same (sends c) past e no_send))) (queue_same caps past e (receives c) (count (sends c) past - caps c) ch.freed S.freed no_receive);
+          (ap (λ n. n - caps c) (sym (count_same (sends c) past e no_send)))
+          (queue_same caps past e (receives c) (count (sends c) past - caps c) ch.freed S.freed no_receive);
       closed = all_same caps past e (closes c) ch.closed S.closed no_close;
     }
 
     -- a send waits in the buffer, and takes the room of the first freed
-    pub channel_send : (b : List ℕ) → sends c e.op ≡ true → receives c e.op ≡ false → closes c e.op ≡ false → count (sends c) past < count (receives c) past + caps c
+    pub channel_send : (b : List ℕ) → sends c e.op ≡ true → receives c e.op ≡ false
+        → closes c e.op ≡ false → count (sends c) past < count (receives c) past + caps c
         → CountsAt caps (past ++ e ∷ []) (length past) e.who (knows b) → StandsForChannel caps (past ++ e ∷ []) c (channel_sent ch b)
     channel_send b is no_receive no_close less own = record {
       room = S.room;
@@ -144,7 +151,8 @@ module _ (caps : ℕ → ℕ) (past : List Event) (c : ℕ) (ch : ChannelState) 
             (queue_pop caps past (receives c) (count (sends c) past - caps c) ch.freed S.freed (waits_freed used less)) no_receive)
         go false short =
             let few : count (sends c) past < caps c = not_used_up short in
-            queue_from caps (past ++ e ∷ []) (receives c) (count (sends c) past - caps c) (count (sends c) (past ++ e ∷ []) - caps c) ch.freed (omega (arith, more, few))
+            queue_from caps (past ++ e ∷ []) (receives c) (count (sends c) past - caps c)
+            (count (sends c) (past ++ e ∷ []) - caps c) ch.freed (omega (arith, more, few))
             (queue_same caps past e (receives c) (count (sends c) past - caps c) ch.freed S.freed no_receive)
 
     -- a receive takes the first send, and frees its room
@@ -153,13 +161,15 @@ module _ (caps : ℕ → ℕ) (past : List Event) (c : ℕ) (ch : ChannelState) 
     channel_receive b is no_send no_close less own = record {
       room = S.room;
       sent =
-          queue_from caps (past ++ e ∷ []) (sends c) (count (receives c) past + 1) (count (receives c) (past ++ e ∷ [])) (drop 1 ch.sent) (sym (count_one (receives c) past e is))
+          queue_from caps (past ++ e ∷ []) (sends c) (count (receives c) past + 1)
+          (count (receives c) (past ++ e ∷ [])) (drop 1 ch.sent) (sym (count_one (receives c) past e is))
           (queue_same caps past e (sends c) (count (receives c) past + 1) (drop 1 ch.sent)
           (queue_pop caps past (sends c) (count (receives c) past) ch.sent S.sent
           (let sent : count (receives c) past + length ch.sent ≡ count (sends c) past = S.sent.all in omega (arith, less, sent))) no_send);
       freed =
           queue_from caps (past ++ e ∷ []) (receives c) (count (sends c) past - caps c) (count (sends c) (past ++ e ∷ []) - caps c) (ch.freed ++ b ∷ [])
-          (ap (λ n. n - caps c) (sym (count_same (sends c) past e no_send))) (queue_push caps past e (receives c) (count (sends c) past - caps c) ch.freed S.freed b is own);
+          (ap (λ n. n - caps c) (sym (count_same (sends c) past e no_send)))
+          (queue_push caps past e (receives c) (count (sends c) past - caps c) ch.freed S.freed b is own);
       closed = all_same caps past e (closes c) ch.closed S.closed no_close;
     }
 
@@ -169,10 +179,12 @@ module _ (caps : ℕ → ℕ) (past : List Event) (c : ℕ) (ch : ChannelState) 
     channel_close b is no_send no_receive own = record {
       room = S.room;
       sent =
-          queue_from caps (past ++ e ∷ []) (sends c) (count (receives c) past) (count (receives c) (past ++ e ∷ [])) ch.sent (sym (count_same (receives c) past e no_receive))
+          queue_from caps (past ++ e ∷ []) (sends c) (count (receives c) past)
+          (count (receives c) (past ++ e ∷ [])) ch.sent (sym (count_same (receives c) past e no_receive))
           (queue_same caps past e (sends c) (count (receives c) past) ch.sent S.sent no_send);
       freed =
           queue_from caps (past ++ e ∷ []) (receives c) (count (sends c) past - caps c) (count (sends c) (past ++ e ∷ []) - caps c) ch.freed
-          (ap (λ n. n - caps c) (sym (count_same (sends c) past e no_send))) (queue_same caps past e (receives c) (count (sends c) past - caps c) ch.freed S.freed no_receive);
+          (ap (λ n. n - caps c) (sym (count_same (sends c) past e no_send)))
+          (queue_same caps past e (receives c) (count (sends c) past - caps c) ch.freed S.freed no_receive);
       closed = all_more caps past e (closes c) ch.closed S.closed b is own;
     }

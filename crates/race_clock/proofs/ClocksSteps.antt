@@ -6,7 +6,10 @@ use Rattle.std.proofs.lemmas.Bool.{cases_eq, or_right}
 use Rattle.std.proofs.lemmas.List.{get_or-set_same, get_or-set_other, length-set}
 use Rattle.race_records.specs.declared.event.Event.{Event}
 use Rattle.race_records.specs.declared.event.Op.{Op}
-use Rattle.race_records.specs.declared.event.Op.TheVariants.{Go, Read, Write, Send, Recv, Meet, RecvClosed, Close, Lock, Unlock, RLock, RUnlock, OnceEnd, OnceDone}
+use Rattle.race_records.specs.declared.event.Op.TheVariants.{Go, Read, Write, Send, Recv}
+use Rattle.race_records.specs.declared.event.Op.TheVariants.{Meet, RecvClosed, Close, Lock}
+use Rattle.race_records.specs.declared.event.Op.TheVariants.{Unlock, RLock, RUnlock, OnceEnd}
+use Rattle.race_records.specs.declared.event.Op.TheVariants.{OnceDone}
 use Rattle.race_model.specs.Events.{is_access, partner, gives, takes_part, count, sends, receives, closes, locks, unlocks, runlocks, once_ends}
 use Rattle.race_model.specs.Order.{Begin, SynchronizedInside, IsSource, Reaches}
 use Rattle.race_model.specs.Clocks.{participations, CountsBegins, Handed, owning, CountsSeen, CountsAt, CountsFrom}
@@ -21,7 +24,9 @@ use Rattle.race_clock.specs.ClocksState.{paired, after, channel_sent, channel_re
 use Rattle.race_clock.specs.StandsFor.{StandsForChannel, StandsForLock, ClocksStandFor, CountsReaching}
 use Rattle.race_clock.specs.Needs.{FindsRoom, OpHasClocks, HasClocks}
 use Rattle.race_clock.proofs.ClockLists.{knows_joined, knows_with_count, joined_long, joined_long_right}
-use Rattle.race_clock.proofs.ChannelSteps.{all_same, all_more, hands_receive, hands_send, hands_closed, channel_same, channel_send, channel_receive, channel_close}
+use Rattle.race_clock.proofs.ChannelSteps.{all_same, all_more, hands_receive, hands_send}
+use Rattle.race_clock.proofs.ChannelSteps.{hands_closed, channel_same, channel_send}
+use Rattle.race_clock.proofs.ChannelSteps.{channel_receive, channel_close}
 use Rattle.race_clock.proofs.LockSteps.{hands_lock, hands_rlock, lock_same, lock_lock, lock_unlock, lock_runlock}
 
 -- the greater of two is the one that is no less
@@ -50,7 +55,8 @@ module _ (caps : ℕ → ℕ) (k : ClocksState) (past : List Event) (S : ClocksS
     -- of others it knows what the clock knew
     begin_knows : (g h : ℕ) → g < length k.slots → h ≢ g → knows (begin_of k g) h ≡ knows (clock_of k g) h
     begin_knows g h less differ =
-        knows_with_count (clock_of k g) g (parts_of k g + 1) h (S.wide g less) ∙ ap (λ b. if b then parts_of k g + 1 else knows (clock_of k g) h) (ne_eqb h g differ)
+        knows_with_count (clock_of k g) g (parts_of k g + 1) h (S.wide g less)
+        ∙ ap (λ b. if b then parts_of k g + 1 else knows (clock_of k g) h) (ne_eqb h g differ)
 
     -- and of g this begin
     begin_own : (g : ℕ) → g < length k.slots → knows (begin_of k g) g ≡ parts_of k g + 1
@@ -73,10 +79,12 @@ module _ (caps : ℕ → ℕ) (k : ClocksState) (past : List Event) (S : ClocksS
       | inr differ ↦ rw (ne_eqb x f differ, begin_knows g x within apart, begin_knows f x below differ) refl
     ]
       where
-        at_f : x ≡ f → owning f (parts_of k f + 1) (λ x. max (knows (clock_of k g) x) (knows (clock_of k f) x)) x ≡ max (knows (begin_of k g) x) (knows (begin_of k f) x)
+        at_f : x ≡ f → owning f (parts_of k f + 1) (λ x. max (knows (clock_of k g) x) (knows (clock_of k f) x)) x
+            ≡ max (knows (begin_of k g) x) (knows (begin_of k f) x)
         at_f same =
             let known : knows (clock_of k g) f ≤ parts_of k f = knows_within g f within below (λ is. apart (same ∙ is)) in
-            rw (eq-eqb x f same, begin_knows g x within apart, same, begin_own f below) (sym (max_above (knows (clock_of k g) f) (parts_of k f + 1) (omega (arith, known))))
+            rw (eq-eqb x f same, begin_knows g x within apart, same, begin_own f below)
+            (sym (max_above (knows (clock_of k g) f) (parts_of k f + 1) (omega (arith, known))))
 
     -- participations one event on
     parts_more : (g : ℕ) → g < length k.slots → IsTrue (takes_part g e) → parts_of k g + 1 ≡ participations g (past ++ e ∷ [])
@@ -94,38 +102,49 @@ module _ (caps : ℕ → ℕ) (k : ClocksState) (past : List Event) (S : ClocksS
         omega (arith, all, zero, old)
 
     -- the objects
-    channels_next : (c : ℕ) (b : List ℕ) (o : Op) → e.op ≡ o → c < length k.channels → FindsRoom caps past o → CountsAt caps (past ++ e ∷ []) (length past) e.who (knows b)
+    channels_next : (c : ℕ) (b : List ℕ) (o : Op) → e.op ≡ o → c < length k.channels
+        → FindsRoom caps past o → CountsAt caps (past ++ e ∷ []) (length past) e.who (knows b)
         → StandsForChannel caps (past ++ e ∷ []) c (channel_of (channels_after k.channels o b) c)
     channels_next c b (Send d v) is less room own = elim (cases_eq d c) [
       | inl same ↦
           subst (λ d. StandsForChannel caps (past ++ e ∷ []) c (channel_of (set k.channels d (channel_sent (channel_of k.channels d) b)) c)) (sym same)
           (subst (StandsForChannel caps (past ++ e ∷ []) c) (sym (get_or-set_same k.channels c (channel_sent (channel_of k.channels c) b) no_channel less))
-          (channel_send caps past c (channel_of k.channels c) (S.all_channels c less) e b (ap (sends c) is ∙ eq-eqb d c same) (ap (receives c) is) (ap (closes c) is)
+          (channel_send caps past c (channel_of k.channels c) (S.all_channels c less) e b
+          (ap (sends c) is ∙ eq-eqb d c same) (ap (receives c) is) (ap (closes c) is)
           (subst (λ d. count (sends d) past < count (receives d) past + caps d) same room) own))
       | inr differ ↦
-          subst (StandsForChannel caps (past ++ e ∷ []) c) (sym (get_or-set_other k.channels d c (channel_sent (channel_of k.channels d) b) no_channel (λ e. differ (sym e))))
-          (channel_same caps past c (channel_of k.channels c) (S.all_channels c less) e (ap (sends c) is ∙ ne_eqb d c differ) (ap (receives c) is) (ap (closes c) is))
+          subst (StandsForChannel caps (past ++ e ∷ []) c)
+          (sym (get_or-set_other k.channels d c (channel_sent (channel_of k.channels d) b) no_channel (λ e. differ (sym e))))
+          (channel_same caps past c (channel_of k.channels c) (S.all_channels c less) e
+          (ap (sends c) is ∙ ne_eqb d c differ) (ap (receives c) is) (ap (closes c) is))
     ]
     channels_next c b (Recv d v) is less room own = elim (cases_eq d c) [
       | inl same ↦
           subst (λ d. StandsForChannel caps (past ++ e ∷ []) c (channel_of (set k.channels d (channel_received (channel_of k.channels d) b)) c)) (sym same)
           (subst (StandsForChannel caps (past ++ e ∷ []) c) (sym (get_or-set_same k.channels c (channel_received (channel_of k.channels c) b) no_channel less))
-          (channel_receive caps past c (channel_of k.channels c) (S.all_channels c less) e b (ap (receives c) is ∙ eq-eqb d c same) (ap (sends c) is) (ap (closes c) is)
+          (channel_receive caps past c (channel_of k.channels c) (S.all_channels c less) e b
+          (ap (receives c) is ∙ eq-eqb d c same) (ap (sends c) is) (ap (closes c) is)
           (subst (λ d. count (receives d) past < count (sends d) past) same room) own))
       | inr differ ↦
-          subst (StandsForChannel caps (past ++ e ∷ []) c) (sym (get_or-set_other k.channels d c (channel_received (channel_of k.channels d) b) no_channel (λ e. differ (sym e))))
-          (channel_same caps past c (channel_of k.channels c) (S.all_channels c less) e (ap (sends c) is) (ap (receives c) is ∙ ne_eqb d c differ) (ap (closes c) is))
+          subst (StandsForChannel caps (past ++ e ∷ []) c)
+          (sym (get_or-set_other k.channels d c (channel_received (channel_of k.channels d) b) no_channel (λ e. differ (sym e))))
+          (channel_same caps past c (channel_of k.channels c) (S.all_channels c less) e
+          (ap (sends c) is) (ap (receives c) is ∙ ne_eqb d c differ) (ap (closes c) is))
     ]
     channels_next c b (Close d) is less room own = elim (cases_eq d c) [
       | inl same ↦
           subst (λ d. StandsForChannel caps (past ++ e ∷ []) c (channel_of (set k.channels d (channel_closed (channel_of k.channels d) b)) c)) (sym same)
           (subst (StandsForChannel caps (past ++ e ∷ []) c) (sym (get_or-set_same k.channels c (channel_closed (channel_of k.channels c) b) no_channel less))
-          (channel_close caps past c (channel_of k.channels c) (S.all_channels c less) e b (ap (closes c) is ∙ eq-eqb d c same) (ap (sends c) is) (ap (receives c) is) own))
+          (channel_close caps past c (channel_of k.channels c) (S.all_channels c less) e b
+          (ap (closes c) is ∙ eq-eqb d c same) (ap (sends c) is) (ap (receives c) is) own))
       | inr differ ↦
-          subst (StandsForChannel caps (past ++ e ∷ []) c) (sym (get_or-set_other k.channels d c (channel_closed (channel_of k.channels d) b) no_channel (λ e. differ (sym e))))
-          (channel_same caps past c (channel_of k.channels c) (S.all_channels c less) e (ap (sends c) is) (ap (receives c) is) (ap (closes c) is ∙ ne_eqb d c differ))
+          subst (StandsForChannel caps (past ++ e ∷ []) c)
+          (sym (get_or-set_other k.channels d c (channel_closed (channel_of k.channels d) b) no_channel (λ e. differ (sym e))))
+          (channel_same caps past c (channel_of k.channels c) (S.all_channels c less) e
+          (ap (sends c) is) (ap (receives c) is) (ap (closes c) is ∙ ne_eqb d c differ))
     ]
-    channels_next c b o is less room own = channel_same caps past c (channel_of k.channels c) (S.all_channels c less) e (ap (sends c) is) (ap (receives c) is) (ap (closes c) is)
+    channels_next c b o is less room own =
+        channel_same caps past c (channel_of k.channels c) (S.all_channels c less) e (ap (sends c) is) (ap (receives c) is) (ap (closes c) is)
 
     locks_next : (l : ℕ) (b : List ℕ) (o : Op) → e.op ≡ o → l < length k.locks → CountsAt caps (past ++ e ∷ []) (length past) e.who (knows b)
         → StandsForLock caps (past ++ e ∷ []) l (lock_of (locks_after k.locks o b) l)
@@ -142,7 +161,8 @@ module _ (caps : ℕ → ℕ) (k : ClocksState) (past : List Event) (S : ClocksS
       | inl same ↦
           subst (λ m. StandsForLock caps (past ++ e ∷ []) l (lock_of (set k.locks m (lock_unlocked (lock_of k.locks m) b)) l)) (sym same)
           (subst (StandsForLock caps (past ++ e ∷ []) l) (sym (get_or-set_same k.locks l (lock_unlocked (lock_of k.locks l) b) no_lock less))
-          (lock_unlock caps past l (lock_of k.locks l) (S.all_locks l less) e b (ap (unlocks l) is ∙ eq-eqb m l same) (ap (locks l) is) (ap (runlocks l) is) own))
+          (lock_unlock caps past l (lock_of k.locks l) (S.all_locks l less) e b
+          (ap (unlocks l) is ∙ eq-eqb m l same) (ap (locks l) is) (ap (runlocks l) is) own))
       | inr differ ↦
           subst (StandsForLock caps (past ++ e ∷ []) l) (sym (get_or-set_other k.locks m l (lock_unlocked (lock_of k.locks m) b) no_lock (λ e. differ (sym e))))
           (lock_same caps past l (lock_of k.locks l) (S.all_locks l less) e (ap (unlocks l) is ∙ ne_eqb m l differ) (ap (locks l) is) (ap (runlocks l) is))
@@ -151,9 +171,11 @@ module _ (caps : ℕ → ℕ) (k : ClocksState) (past : List Event) (S : ClocksS
       | inl same ↦
           subst (λ m. StandsForLock caps (past ++ e ∷ []) l (lock_of (set k.locks m (lock_read_unlocked (lock_of k.locks m) b)) l)) (sym same)
           (subst (StandsForLock caps (past ++ e ∷ []) l) (sym (get_or-set_same k.locks l (lock_read_unlocked (lock_of k.locks l) b) no_lock less))
-          (lock_runlock caps past l (lock_of k.locks l) (S.all_locks l less) e b (ap (unlocks l) is) (ap (locks l) is) (ap (runlocks l) is ∙ eq-eqb m l same) own))
+          (lock_runlock caps past l (lock_of k.locks l) (S.all_locks l less) e b
+          (ap (unlocks l) is) (ap (locks l) is) (ap (runlocks l) is ∙ eq-eqb m l same) own))
       | inr differ ↦
-          subst (StandsForLock caps (past ++ e ∷ []) l) (sym (get_or-set_other k.locks m l (lock_read_unlocked (lock_of k.locks m) b) no_lock (λ e. differ (sym e))))
+          subst (StandsForLock caps (past ++ e ∷ []) l)
+          (sym (get_or-set_other k.locks m l (lock_read_unlocked (lock_of k.locks m) b) no_lock (λ e. differ (sym e))))
           (lock_same caps past l (lock_of k.locks l) (S.all_locks l less) e (ap (unlocks l) is) (ap (locks l) is) (ap (runlocks l) is ∙ ne_eqb m l differ))
     ]
     locks_next l b o is less own = lock_same caps past l (lock_of k.locks l) (S.all_locks l less) e (ap (unlocks l) is) (ap (locks l) is) (ap (runlocks l) is)
@@ -162,8 +184,10 @@ module _ (caps : ℕ → ℕ) (k : ClocksState) (past : List Event) (S : ClocksS
         → CountsFrom caps (past ++ e ∷ []) (λ i s. IsTrue (once_ends p s)) (knows (end_of (ends_after k.ends o b) p))
     ends_next p b (OnceEnd q) is less own = elim (cases_eq q p) [
       | inl same ↦
-          subst (λ q. CountsFrom caps (past ++ e ∷ []) (λ i s. IsTrue (once_ends p s)) (knows (end_of (set k.ends q (joined (end_of k.ends q) b)) p))) (sym same)
-          (subst (λ c. CountsFrom caps (past ++ e ∷ []) (λ i s. IsTrue (once_ends p s)) (knows c)) (sym (get_or-set_same k.ends p (joined (end_of k.ends p) b) [] less))
+          subst (λ q. CountsFrom caps (past ++ e ∷ []) (λ i s. IsTrue (once_ends p s)) (knows (end_of (set k.ends q (joined (end_of k.ends q) b)) p)))
+          (sym same)
+          (subst (λ c. CountsFrom caps (past ++ e ∷ []) (λ i s. IsTrue (once_ends p s)) (knows c))
+          (sym (get_or-set_same k.ends p (joined (end_of k.ends p) b) [] less))
           (all_more caps past e (once_ends p) (end_of k.ends p) (S.all_ends p less) b (ap (once_ends p) is ∙ eq-eqb q p same) own))
       | inr differ ↦
           subst (λ c. CountsFrom caps (past ++ e ∷ []) (λ i s. IsTrue (once_ends p s)) (knows c))
@@ -193,7 +217,8 @@ module _ (caps : ℕ → ℕ) (k : ClocksState) (past : List Event) (S : ClocksS
     sole_part g none differ = ap (λ b. b || gives (partner e.op) g) (ne_eqb e.who g differ) ∙ ap (λ o. gives o g) none
 
     -- one goroutine acts
-    acted_stands : (c : List ℕ) → partner e.op ≡ None → e.who < length k.slots → FindsRoom caps past e.op → e.who < length c → CountsSeen caps (past ++ e ∷ []) e.who (knows c)
+    acted_stands : (c : List ℕ) → partner e.op ≡ None → e.who < length k.slots
+        → FindsRoom caps past e.op → e.who < length c → CountsSeen caps (past ++ e ∷ []) e.who (knows c)
         → ClocksStandFor caps (acted k e.who e.op c) (past ++ e ∷ [])
     acted_stands c none within room long new = record {
       wide = λ g less. elim (cases_eq e.who g) [
@@ -201,7 +226,8 @@ module _ (caps : ℕ → ℕ) (k : ClocksState) (past : List Event) (S : ClocksS
         | inr differ ↦ subst (λ (s : SlotState). g < length s.clock) (sym (apart g differ)) (S.wide g (old g less))
       ];
       all_parts = λ g less. elim (cases_eq e.who g) [
-        | inl same ↦ subst (λ g. (slot_at g).parts ≡ participations g (past ++ e ∷ [])) same (ap (λ (s : SlotState). s.parts) here ∙ parts_more e.who within (who_takes_part e))
+        | inl same ↦ subst (λ g. (slot_at g).parts ≡ participations g (past ++ e ∷ [])) same
+            (ap (λ (s : SlotState). s.parts) here ∙ parts_more e.who within (who_takes_part e))
         | inr differ ↦ ap (λ (s : SlotState). s.parts) (apart g differ) ∙ parts_same g (old g less) (sole_part g none differ)
       ];
       all_clocks = λ g less. elim (cases_eq e.who g) [
@@ -249,12 +275,14 @@ module _ (caps : ℕ → ℕ) (k : ClocksState) (past : List Event) (S : ClocksS
         | inl same ↦ subst (λ g. g < length (slot_at g).clock) same (subst (λ (s : SlotState). h < length s.clock) (sym there) wide_enough)
         | inr apart ↦ elim (cases_eq e.who g) [
           | inl same ↦ subst (λ (s : SlotState). g < length s.clock) (sym (off_second g apart))
-              (subst (λ g. g < length (get_or (set k.slots e.who (next_slot k e.who c)) g no_slot).clock) same (subst (λ (s : SlotState). e.who < length s.clock) (sym here) long))
+              (subst (λ g. g < length (get_or (set k.slots e.who (next_slot k e.who c)) g no_slot).clock) same
+              (subst (λ (s : SlotState). e.who < length s.clock) (sym here) long))
           | inr differ ↦ subst (λ (s : SlotState). g < length s.clock) (sym (off_both g apart differ)) (S.wide g (old g less))
         ]
       ];
       all_parts = λ g less. elim (cases_eq h g) [
-        | inl same ↦ subst (λ g. (slot_at g).parts ≡ participations g (past ++ e ∷ [])) same (ap (λ (s : SlotState). s.parts) there ∙ parts_more h beside (second_part h two))
+        | inl same ↦ subst (λ g. (slot_at g).parts ≡ participations g (past ++ e ∷ [])) same
+            (ap (λ (s : SlotState). s.parts) there ∙ parts_more h beside (second_part h two))
         | inr apart ↦ elim (cases_eq e.who g) [
           | inl same ↦ ap (λ (s : SlotState). s.parts) (off_second g apart)
               ∙ subst (λ g. (get_or (set k.slots e.who (next_slot k e.who c)) g no_slot).parts ≡ participations g (past ++ e ∷ [])) same
@@ -282,7 +310,8 @@ module _ (caps : ℕ → ℕ) (k : ClocksState) (past : List Event) (S : ClocksS
         slot_at g = get_or (set (set k.slots e.who (next_slot k e.who c)) h (next_slot k h d)) g no_slot
 
         there : get_or (set (set k.slots e.who (next_slot k e.who c)) h (next_slot k h d)) h no_slot ≡ next_slot k h d
-        there = get_or-set_same (set k.slots e.who (next_slot k e.who c)) h (next_slot k h d) no_slot (omega (arith, beside, length-set k.slots e.who (next_slot k e.who c)))
+        there = get_or-set_same (set k.slots e.who (next_slot k e.who c)) h (next_slot k h d)
+            no_slot (omega (arith, beside, length-set k.slots e.who (next_slot k e.who c)))
 
         here : get_or (set k.slots e.who (next_slot k e.who c)) e.who no_slot ≡ next_slot k e.who c
         here = get_or-set_same k.slots e.who (next_slot k e.who c) no_slot within
@@ -295,7 +324,12 @@ module _ (caps : ℕ → ℕ) (k : ClocksState) (past : List Event) (S : ClocksS
         off_both g apart differ = off_second g apart ∙ get_or-set_other k.slots e.who g (next_slot k e.who c) no_slot (λ e. differ (sym e))
 
         old : (g : ℕ) → g < length (set (set k.slots e.who (next_slot k e.who c)) h (next_slot k h d)) → g < length k.slots
-        old g less = omega (arith, less, length-set (set k.slots e.who (next_slot k e.who c)) h (next_slot k h d), length-set k.slots e.who (next_slot k e.who c))
+        old g less = omega (
+          arith,
+          less,
+          length-set (set k.slots e.who (next_slot k e.who c)) h (next_slot k h d),
+          length-set k.slots e.who (next_slot k e.who c),
+        )
 
     -- the clock of a goroutine that acts alone: right where it is, of all others, what the begin knew or the objects hand over
     alone_seen : (c : List ℕ) → e.who < length k.slots → OpHasClocks k e.op → FindsRoom caps past e.op → ((f : ℕ) → SynchronizedInside e.who e.op f e.who → ⊥)
@@ -306,14 +340,16 @@ module _ (caps : ℕ → ℕ) (k : ClocksState) (past : List Event) (S : ClocksS
         (handed_counts e.op range room)) same
 
     -- the clock of one of two
-    pair_seen : (f g : ℕ) (c : List ℕ) → f < length k.slots → g < length k.slots → IsTrue (takes_part f e) → IsTrue (takes_part g e) → SynchronizedInside e.who e.op f g
+    pair_seen : (f g : ℕ) (c : List ℕ) → f < length k.slots → g < length k.slots
+        → IsTrue (takes_part f e) → IsTrue (takes_part g e) → SynchronizedInside e.who e.op f g
         → ((x : ℕ) → SynchronizedInside e.who e.op x g → x ≡ f)
         → ((i h : ℕ) → Handed caps past e.op i h → ⊥)
         → ((x : ℕ) → x ≢ g → knows c x ≡ owning f (parts_of k f + 1) (λ x. max (knows (clock_of k g) x) (knows (clock_of k f) x)) x)
         → CountsSeen caps (past ++ e ∷ []) g (knows c)
     pair_seen f g c below within is_f is_g inside sole unhanded same =
         counts_seen_from caps (past ++ e ∷ []) g (knows c) (λ h. max (knows (begin_of k g) h) (knows (begin_of k f) h))
-        (counts_pair caps past e f g (knows (begin_of k g)) (knows (begin_of k f)) is_g inside sole unhanded (begin_counts g within is_g) (begin_counts f below is_f))
+        (counts_pair caps past e f g (knows (begin_of k g)) (knows (begin_of k f))
+        is_g inside sole unhanded (begin_counts g within is_g) (begin_counts f below is_f))
         (λ h differ. same h differ ∙ both_knows g f h within below differ)
 
     -- behind an access the clock has as many own begins as stood before it
@@ -321,17 +357,19 @@ module _ (caps : ℕ → ℕ) (k : ClocksState) (past : List Event) (S : ClocksS
         → CountsBegins (past ++ e ∷ []) (knows (with_count (clock_of k e.who) e.who (parts_of k e.who)))
         (λ i h. Reaches caps (past ++ e ∷ []) (Begin i h) (Begin (length past) e.who))
     access_counts within =
-        counts_like (past ++ e ∷ []) (owning e.who (participations e.who past) (knows (clock_of k e.who))) (knows (with_count (clock_of k e.who) e.who (parts_of k e.who))) _
+        counts_like (past ++ e ∷ []) (owning e.who (participations e.who past) (knows (clock_of k e.who)))
+        (knows (with_count (clock_of k e.who) e.who (parts_of k e.who))) _
         (λ h. knows_with_count (clock_of k e.who) e.who (parts_of k e.who) h (S.wide e.who within) ∙ ap (λ n. owning e.who n (knows (clock_of k e.who)) h)
         (S.all_parts e.who within))
         (counts_before caps past e e.who (owning e.who (participations e.who past) (knows (clock_of k e.who))) (who_takes_part e) (S.all_clocks e.who within))
 
     -- what the two clocks know behind their event
-    both_seen_knows : (g f x : ℕ) → f < length k.slots → knows (both_seen k g f) x ≡ owning f (parts_of k f + 1) (λ x. max (knows (clock_of k g) x) (knows (clock_of k f) x)) x
+    both_seen_knows : (g f x : ℕ) → f < length k.slots
+        → knows (both_seen k g f) x ≡ owning f (parts_of k f + 1) (λ x. max (knows (clock_of k g) x) (knows (clock_of k f) x)) x
     both_seen_knows g f x below =
         knows_with_count (joined (clock_of k g) (clock_of k f)) f (parts_of k f + 1) x
-        (let le : length (clock_of k f) ≤ length (joined (clock_of k g) (clock_of k f)) = joined_long_right (clock_of k g) (clock_of k f) in let long : f < length
-        (clock_of k f) = S.wide f below in omega (arith, le, long))
+        (let le : length (clock_of k f) ≤ length (joined (clock_of k g) (clock_of k f)) = joined_long_right (clock_of k g) (clock_of k f) in
+        let long : f < length (clock_of k f) = S.wide f below in omega (arith, le, long))
         ∙ ap (λ n. if x == f then parts_of k f + 1 else n) (knows_joined (clock_of k g) (clock_of k f) x)
 
     met_long : (s r g : ℕ) → s < length k.slots → g < length (clock_of k s) → g < length (met k s r)
@@ -368,7 +406,8 @@ module _ (caps : ℕ → ℕ) (k : ClocksState) (past : List Event) (S : ClocksS
         knows_with_count (with_count (joined (clock_of k s) (clock_of k r)) s (parts_of k s + 1)) r (parts_of k r + 1) x
         (omega (arith, right, far, length-set (joined (clock_of k s) (clock_of k r)) s (parts_of k s + 1)))
         ∙ ap (λ n. if x == r then parts_of k r + 1 else n)
-        (knows_with_count (joined (clock_of k s) (clock_of k r)) s (parts_of k s + 1) x (omega (arith, le, long)) ∙ ap (λ n. if x == s then parts_of k s + 1 else n)
+        (knows_with_count (joined (clock_of k s) (clock_of k r)) s (parts_of k s + 1) x (omega (arith, le, long))
+        ∙ ap (λ n. if x == s then parts_of k s + 1 else n)
         (knows_joined (clock_of k s) (clock_of k r) x))
 
     -- the next state stands for the longer list
@@ -384,9 +423,12 @@ module _ (caps : ℕ → ℕ) (k : ClocksState) (past : List Event) (S : ClocksS
         joins o is none no_partner =
             subst (λ o. ClocksStandFor caps (acted k e.who o (joined (clock_of k e.who) (handed k o))) (past ++ e ∷ [])) is
             (acted_stands (joined (clock_of k e.who) (handed k e.op)) (ap partner is ∙ none) within room
-            (let le : length (clock_of k e.who) ≤ length (joined (clock_of k e.who) (handed k e.op)) = joined_long (clock_of k e.who) (handed k e.op) in omega (arith, le, mine))
-            (alone_seen (joined (clock_of k e.who) (handed k e.op)) within range room (λ f inside. no_partner f (subst (λ o. SynchronizedInside e.who o f e.who) is inside))
-            (λ h differ. knows_joined (clock_of k e.who) (handed k e.op) h ∙ ap (λ n. max n (knows (handed k e.op) h)) (sym (begin_knows e.who h within differ)))))
+            (let le : length (clock_of k e.who) ≤ length (joined (clock_of k e.who) (handed k e.op)) =
+            joined_long (clock_of k e.who) (handed k e.op) in omega (arith, le, mine))
+            (alone_seen (joined (clock_of k e.who) (handed k e.op)) within range room
+            (λ f inside. no_partner f (subst (λ o. SynchronizedInside e.who o f e.who) is inside))
+            (λ h differ. knows_joined (clock_of k e.who) (handed k e.op) h
+            ∙ ap (λ n. max n (knows (handed k e.op) h)) (sym (begin_knows e.who h within differ)))))
 
         -- an access
         keeps : (o : Op) → e.op ≡ o → partner o ≡ None → ((f : ℕ) → SynchronizedInside e.who o f e.who → ⊥) → handed k o ≡ []
@@ -397,18 +439,21 @@ module _ (caps : ℕ → ℕ) (k : ClocksState) (past : List Event) (S : ClocksS
             (omega (arith, mine, length-set (clock_of k e.who) e.who (parts_of k e.who)))
             (alone_seen (with_count (clock_of k e.who) e.who (parts_of k e.who)) within range room
             (λ f inside. no_partner f (subst (λ o. SynchronizedInside e.who o f e.who) is inside))
-            (λ h differ. knows_with_count (clock_of k e.who) e.who (parts_of k e.who) h mine ∙ ap (λ b. if b then parts_of k e.who else knows (clock_of k e.who) h)
+            (λ h differ. knows_with_count (clock_of k e.who) e.who (parts_of k e.who) h mine
+            ∙ ap (λ b. if b then parts_of k e.who else knows (clock_of k e.who) h)
             (ne_eqb h e.who differ) ∙ sym (begin_knows e.who h within differ) ∙ sym (max-zero (knows (begin_of k e.who) h))
             ∙ ap (λ d. max (knows (begin_of k e.who) h) (knows d h)) (sym (ap (handed k) is ∙ nothing)))))
 
         starts : (h : ℕ) → e.op ≡ Go h → h < length k.slots → ClocksStandFor caps (paired k e.who h (clock_of k e.who) (both_seen k h e.who)) (past ++ e ∷ [])
         starts h is beside =
             paired_stands h (clock_of k e.who) (both_seen k h e.who) two within beside mine
-            (let le : length (clock_of k h) ≤ length (joined (clock_of k h) (clock_of k e.who)) = joined_long (clock_of k h) (clock_of k e.who) in let long : h < length
-            (clock_of k h) = S.wide h beside in omega (arith, le, long, length-set (joined (clock_of k h) (clock_of k e.who)) e.who (parts_of k e.who + 1)))
+            (let le : length (clock_of k h) ≤ length (joined (clock_of k h) (clock_of k e.who)) = joined_long (clock_of k h) (clock_of k e.who) in
+            let long : h < length (clock_of k h) = S.wide h beside in
+            omega (arith, le, long, length-set (joined (clock_of k h) (clock_of k e.who)) e.who (parts_of k e.who + 1)))
             (λ apart. alone_seen (clock_of k e.who) within range room
             (λ f inside. let ends : (e.who ≡ f) × (h ≡ e.who) = subst (λ o. SynchronizedInside e.who o f e.who) is inside in apart ends.1)
-            (λ x differ. sym (begin_knows e.who x within differ) ∙ sym (max-zero (knows (begin_of k e.who) x)) ∙ ap (λ d. max (knows (begin_of k e.who) x) (knows d x))
+            (λ x differ. sym (begin_knows e.who x within differ) ∙ sym (max-zero (knows (begin_of k e.who) x))
+            ∙ ap (λ d. max (knows (begin_of k e.who) x) (knows d x))
             (sym (ap (handed k) is))))
             (pair_seen e.who h (both_seen k h e.who) within beside (who_takes_part e) (second_part h two)
             (subst (λ o. SynchronizedInside e.who o e.who h) (sym is) (refl, refl))
@@ -430,7 +475,8 @@ module _ (caps : ℕ → ℕ) (k : ClocksState) (past : List Event) (S : ClocksS
 
         meets : (r c v : ℕ) → e.op ≡ Meet r c v → r < length k.slots → ClocksStandFor caps (paired k e.who r (met k e.who r) (met k e.who r)) (past ++ e ∷ [])
         meets r c v is beside =
-            paired_stands r (met k e.who r) (met k e.who r) two within beside (met_long e.who r e.who within mine) (met_long_right e.who r r beside (S.wide r beside))
+            paired_stands r (met k e.who r) (met k e.who r) two within beside
+            (met_long e.who r e.who within mine) (met_long_right e.who r r beside (S.wide r beside))
             (λ apart. pair_seen r e.who (met k e.who r) beside within (second_part r two) (who_takes_part e)
             (subst (λ o. SynchronizedInside e.who o r e.who) (sym is) (inr (refl, refl)))
             (λ x inside. from_receiver x (subst (λ o. SynchronizedInside e.who o x e.who) is inside))
@@ -442,7 +488,8 @@ module _ (caps : ℕ → ℕ) (k : ClocksState) (past : List Event) (S : ClocksS
             (λ x inside. from_sender x (subst (λ o. SynchronizedInside e.who o x r) is inside))
             (λ i g by. unhanded by.0 by.1 by.3)
             (λ x differ. met_knows e.who r x within beside ∙ ap
-            (λ b. if b then parts_of k r + 1 else owning e.who (parts_of k e.who + 1) (λ x. max (knows (clock_of k e.who) x) (knows (clock_of k r) x)) x) (ne_eqb x r differ)
+            (λ b. if b then parts_of k r + 1 else owning e.who (parts_of k e.who + 1)
+            (λ x. max (knows (clock_of k e.who) x) (knows (clock_of k r) x)) x) (ne_eqb x r differ)
             ∙ ap (λ n. if x == e.who then parts_of k e.who + 1 else n) (max_comm (knows (clock_of k e.who) x) (knows (clock_of k r) x))))
             (λ d less. channels_next d (begin_of k e.who) (Meet r c v) is less tt own)
             (λ l less. locks_next l (begin_of k e.who) (Meet r c v) is less own)
@@ -482,7 +529,8 @@ clock_after_access k who (Write x v) less is =
 clock_after_access k who _ less is = cc
 
 -- counts what reaches it
-pub reaching_after : (caps : ℕ → ℕ) (k : ClocksState) (past : List Event) (e : Event) → ClocksStandFor caps k past → e.who < length k.slots → IsTrue (is_access e.op)
+pub reaching_after : (caps : ℕ → ℕ) (k : ClocksState) (past : List Event) (e : Event)
+    → ClocksStandFor caps k past → e.who < length k.slots → IsTrue (is_access e.op)
     → CountsReaching caps past e e.who (clock_of (after k e.who e.op) e.who)
 reaching_after caps k past e S less is =
     subst (λ c. CountsReaching caps past e e.who c) (sym (clock_after_access k e.who e.op less is)) (access_counts caps k past S e less)
@@ -490,7 +538,8 @@ reaching_after caps k past e S less is =
 -- no goroutine comes or goes
 pub length_after : (k : ClocksState) (who : ℕ) (o : Op) → length (after k who o).slots ≡ length k.slots
 length_after k who (Go h) =
-    length-set (set k.slots who (next_slot k who (clock_of k who))) h (next_slot k h (both_seen k h who)) ∙ length-set k.slots who (next_slot k who (clock_of k who))
+    length-set (set k.slots who (next_slot k who (clock_of k who))) h (next_slot k h (both_seen k h who))
+    ∙ length-set k.slots who (next_slot k who (clock_of k who))
 length_after k who (Meet r c v) =
     length-set (set k.slots who (next_slot k who (met k who r))) r (next_slot k r (met k who r)) ∙ length-set k.slots who (next_slot k who (met k who r))
 length_after k who (Read x v) = length-set k.slots who _

@@ -48,8 +48,10 @@ max_assoc l m n =
     let f : max m n ≤ max l (max m n) = le-max_right l (max m n) in
     let g : m ≤ max m n = le-max_left m n in
     let h : n ≤ max m n = le-max_right m n in
-    let up : max (max l m) n ≤ max l (max m n) = max_within (max l m) n (max l (max m n)) (max_within l m (max l (max m n)) e (omega (arith, f, g))) (omega (arith, f, h)) in
-    let down : max l (max m n) ≤ max (max l m) n = max_within l (max m n) (max (max l m) n) (omega (arith, a, c)) (max_within m n (max (max l m) n) (omega (arith, b, c)) d) in
+    let up : max (max l m) n ≤ max l (max m n) =
+    max_within (max l m) n (max l (max m n)) (max_within l m (max l (max m n)) e (omega (arith, f, g))) (omega (arith, f, h)) in
+    let down : max l (max m n) ≤ max (max l m) n =
+    max_within l (max m n) (max (max l m) n) (omega (arith, a, c)) (max_within m n (max (max l m) n) (omega (arith, b, c)) d) in
     omega (arith, up, down)
 
 -- of three any two may come first
@@ -96,9 +98,11 @@ fill_opened (c ∷ queue) b = go (length queue) refl (fill_opened queue b)
     long : length (queue ++ [] ∷ []) ≡ length queue + 1
     long = length-append queue ([] ∷ [])
 
-    go : (n : ℕ) → length queue ≡ n → filled (queue ++ [] ∷ []) b ≡ queue ++ b ∷ [] → set (c ∷ queue ++ [] ∷ []) (length (c ∷ queue ++ [] ∷ []) - 1) b ≡ c ∷ queue ++ b ∷ []
+    go : (n : ℕ) → length queue ≡ n → filled (queue ++ [] ∷ []) b ≡ queue ++ b ∷ []
+        → set (c ∷ queue ++ [] ∷ []) (length (c ∷ queue ++ [] ∷ []) - 1) b ≡ c ∷ queue ++ b ∷ []
     go n is rest =
-        ap (λ i. set (c ∷ queue ++ [] ∷ []) i b) (let last : length (c ∷ queue ++ [] ∷ []) - 1 ≡ suc (length (queue ++ [] ∷ []) - 1) = omega (arith, long) in last)
+        ap (λ i. set (c ∷ queue ++ [] ∷ []) i b)
+        (let last : length (c ∷ queue ++ [] ∷ []) - 1 ≡ suc (length (queue ++ [] ∷ []) - 1) = omega (arith, long) in last)
         ∙ ap (λ q. c ∷ q) rest
 
 -- clocks in two parts, of which the first fills up first, are joined part by part
@@ -106,7 +110,8 @@ pub joined_parts : (f m g n : List ℕ) → length g ≤ length f → (length g 
 joined_parts [] m [] n le full = refl
 joined_parts [] m (y ∷ g) n le full = absurd (omega arith)
 joined_parts (x ∷ f) m [] n le (inl same) = absurd (omega (arith, same))
-joined_parts (x ∷ f) m [] n le (inr none) = ap (joined (x ∷ f ++ m)) none ∙ ap (λ t. x ∷ f ++ t) (sym (joined_nothing m)) ∙ ap (λ n. x ∷ f ++ joined m n) (sym none)
+joined_parts (x ∷ f) m [] n le (inr none) = ap (joined (x ∷ f ++ m)) none
+    ∙ ap (λ t. x ∷ f ++ t) (sym (joined_nothing m)) ∙ ap (λ n. x ∷ f ++ joined m n) (sym none)
 joined_parts (x ∷ f) m (y ∷ g) n le (inl same) = ap (λ t. max x y ∷ t) (joined_parts f m g n (omega arith) (inl (omega (arith, same))))
 joined_parts (x ∷ f) m (y ∷ g) n le (inr none) = ap (λ t. max x y ∷ t) (joined_parts f m g n (omega arith) (inr none))
 
@@ -162,7 +167,8 @@ padded_parts f m n most eight more =
         ∙ ap (λ k. replicate k 0) (let same : 8 - length f + (n - 8 - 0) ≡ n - length (f ++ []) = omega (arith, most, more, length-append {A = ℕ} f []) in same)
     rest (x ∷ m) eight =
         ap (λ k. replicate k 0 ++ padded (x ∷ m) (n - 8)) (let none : 8 - length f ≡ 0 = omega (arith, full) in none)
-        ∙ ap (λ k. x ∷ m ++ replicate k 0) (let same : n - 8 - length (x ∷ m) ≡ n - length (f ++ x ∷ m) = omega (arith, full, more, length-append f (x ∷ m)) in same)
+        ∙ ap (λ k. x ∷ m ++ replicate k 0) (let same : n - 8 - length (x ∷ m) ≡ n - length (f ++ x ∷ m) =
+        omega (arith, full, more, length-append f (x ∷ m)) in same)
       where
         full : length f ≡ 8
         full = eight (omega arith)

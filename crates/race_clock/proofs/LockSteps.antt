@@ -35,7 +35,8 @@ module _ (caps : ℕ → ℕ) (past : List Event) (e : Event) where
   -- the last of a kind, one event on
   pub last_same : (kind : Op → Bool) (c : List ℕ) → kind e.op ≡ false → CountsFrom caps past (IsLastOf kind past) (knows c)
       → CountsFrom caps (past ++ e ∷ []) (IsLastOf kind (past ++ e ∷ [])) (knows c)
-  last_same kind c other k = from_same caps past e (IsLastOf kind past) (IsLastOf kind (past ++ e ∷ [])) (knows c) agree (λ is. let of_kind : kind e.op ≡ true = is.1.0 in cc) k
+  last_same kind c other k = from_same caps past e (IsLastOf kind past) (IsLastOf kind (past ++ e ∷ []))
+      (knows c) agree (λ is. let of_kind : kind e.op ≡ true = is.1.0 in cc) k
     where
       agree : Agree caps past e (IsLastOf kind past) (IsLastOf kind (past ++ e ∷ []))
       agree k s at =
@@ -45,13 +46,15 @@ module _ (caps : ℕ → ℕ) (past : List Event) (e : Event) where
 
   pub last_new : (kind : Op → Bool) (b : List ℕ) → kind e.op ≡ true → CountsAt caps (past ++ e ∷ []) (length past) e.who (knows b)
       → CountsFrom caps (past ++ e ∷ []) (IsLastOf kind (past ++ e ∷ [])) (knows b)
-  last_new kind b is own = from_only caps past e (IsLastOf kind (past ++ e ∷ [])) (knows b) none (count kind past, (is, whole_count kind), sym (count_one kind past e is)) own
+  last_new kind b is own = from_only caps past e (IsLastOf kind (past ++ e ∷ []))
+      (knows b) none (count kind past, (is, whole_count kind), sym (count_one kind past e is)) own
     where
       none : (k : ℕ) (s : Event) → At past k s → IsLastOf kind (past ++ e ∷ []) k s.op → ⊥
       none k s at (n, (of_kind, number), end) =
           let same : count kind (take k (past ++ e ∷ [])) ≡ count kind (take k past) = front_count kind k s at in
           let all : count kind (past ++ e ∷ []) ≡ count kind past + 1 = count_one kind past e is in
-          let below : count kind (take k past) < count kind (take (length past) past) = count_below kind past k (length past) s at of_kind (slice_get_within past k s at) in
+          let below : count kind (take k past) < count kind (take (length past) past) =
+          count_below kind past k (length past) s at of_kind (slice_get_within past k s at) in
           let whole : count kind (take (length past) past) ≡ count kind past = ap (count kind) (take_all (length past) past (omega arith)) in
           omega (arith, number, end, same, all, below, whole)
 
@@ -69,7 +72,8 @@ module _ (caps : ℕ → ℕ) (past : List Event) (e : Event) where
       (λ is. let of_kind : kind e.op ≡ true = is.0 in cc) k
 
   pub since_more : (kind mark : Op → Bool) (c b : List ℕ) → mark e.op ≡ false → kind e.op ≡ true → CountsFrom caps past (IsSince kind mark past) (knows c)
-      → CountsAt caps (past ++ e ∷ []) (length past) e.who (knows b) → CountsFrom caps (past ++ e ∷ []) (IsSince kind mark (past ++ e ∷ [])) (knows (joined c b))
+      → CountsAt caps (past ++ e ∷ []) (length past) e.who (knows b)
+      → CountsFrom caps (past ++ e ∷ []) (IsSince kind mark (past ++ e ∷ [])) (knows (joined c b))
   since_more kind mark c b unmarked is k own =
       from_joined caps (past ++ e ∷ []) (IsSince kind mark (past ++ e ∷ [])) c b
       (from_more caps past e (IsSince kind mark past) (IsSince kind mark (past ++ e ∷ [])) (knows c) (knows b) (since_agrees kind mark unmarked)
@@ -93,7 +97,8 @@ module _ (caps : ℕ → ℕ) (past : List Event) (l : ℕ) (k : LockState) (S :
   pub hands_lock : CountsFrom caps past (λ i s. IsSource caps past i s (Lock l)) (knows (joined k.unlocks k.runlocks))
   hands_lock =
       from_joined caps past (λ i s. IsSource caps past i s (Lock l)) k.unlocks k.runlocks
-      (from_either caps past (λ i s. IsTrue (unlocks l s)) (IsSince (runlocks l) (locks l) past) (knows k.unlocks) (knows k.runlocks) S.all_unlocks S.new_runlocks)
+      (from_either caps past (λ i s. IsTrue (unlocks l s)) (IsSince (runlocks l) (locks l) past)
+      (knows k.unlocks) (knows k.runlocks) S.all_unlocks S.new_runlocks)
 
   -- and to an rlock
   pub hands_rlock : CountsFrom caps past (λ i s. IsSource caps past i s (RLock l)) (knows k.last)
@@ -114,7 +119,8 @@ module _ (caps : ℕ → ℕ) (past : List Event) (l : ℕ) (k : LockState) (S :
       new_runlocks = since_mark caps past e (runlocks l) (locks l) is;
     }
 
-    pub lock_unlock : (b : List ℕ) → unlocks l e.op ≡ true → locks l e.op ≡ false → runlocks l e.op ≡ false → CountsAt caps (past ++ e ∷ []) (length past) e.who (knows b)
+    pub lock_unlock : (b : List ℕ) → unlocks l e.op ≡ true → locks l e.op ≡ false
+        → runlocks l e.op ≡ false → CountsAt caps (past ++ e ∷ []) (length past) e.who (knows b)
         → StandsForLock caps (past ++ e ∷ []) l (lock_unlocked k b)
     lock_unlock b is no_lock no_runlock own = record {
       all_unlocks = all_more caps past e (unlocks l) k.unlocks S.all_unlocks b is own;
@@ -122,7 +128,8 @@ module _ (caps : ℕ → ℕ) (past : List Event) (l : ℕ) (k : LockState) (S :
       new_runlocks = since_same caps past e (runlocks l) (locks l) k.runlocks no_lock no_runlock S.new_runlocks;
     }
 
-    pub lock_runlock : (b : List ℕ) → unlocks l e.op ≡ false → locks l e.op ≡ false → runlocks l e.op ≡ true → CountsAt caps (past ++ e ∷ []) (length past) e.who (knows b)
+    pub lock_runlock : (b : List ℕ) → unlocks l e.op ≡ false → locks l e.op ≡ false
+        → runlocks l e.op ≡ true → CountsAt caps (past ++ e ∷ []) (length past) e.who (knows b)
         → StandsForLock caps (past ++ e ∷ []) l (lock_read_unlocked k b)
     lock_runlock b no_unlock no_lock is own = record {
       all_unlocks = all_same caps past e (unlocks l) k.unlocks S.all_unlocks no_unlock;

@@ -1,4 +1,5 @@
--- An event that fits the declarations, and that keeps a list legal, may come next: so a caller that replays the trace beside the stamper meets its condition.
+-- An event that fits the declarations, and that keeps a list legal, may come next: so a caller that replays the trace
+-- beside the stamper meets its condition.
 use Rattle.std.proofs.Common.{◌≡◌, ℕ, ◌<◌, ◌≤◌, List, [], ◌∷◌, ◌++◌, None, take, length, refl, subst, arith, IsTrue}
 use Rattle.std.proofs.lemmas.List.{length-take-le}
 use Rattle.std.proofs.lemmas.Option.{slice_get_within}
@@ -17,7 +18,8 @@ use Rattle.race_clock.specs.StandsFor.{StandsFor, IsNext}
 
 -- the last event of a legal list breaks no rule
 pub allowed_last : (caps : ℕ → ℕ) (past : List Event) (e : Event) → IsLegal caps (past ++ e ∷ []) → broken caps past e ≡ None
-allowed_last caps past e legal = subst (λ front. broken caps front e ≡ None) (front_new past e (length past) refl) (legal (length past) e (slice_get-push past e))
+allowed_last caps past e legal = subst (λ front. broken caps front e ≡ None)
+    (front_new past e (length past) refl) (legal (length past) e (slice_get-push past e))
 
 pub may_come : (decls : DeclsState) (k : StamperState) (past : List Event) (e : Event) → StandsFor decls.declarations k past → IsTrue (fits decls e)
     → IsLegal (capacity_of decls.declarations) (past ++ e ∷ []) → length past < MAX_EVENTS → IsNext k e

@@ -68,9 +68,11 @@ module _ (declarations : List Declaration) (past : List Event) (e : Event) (allo
     where
       go : (o : Op) → RulesKept (capacity_of declarations) past e o → OpHasClocks k o → FindsRoom (capacity_of declarations) past o
       go (Send c v) kept within =
-          send_room (capacity_of declarations) past c (channel_of k.channels c) (S.all_channels c within) (kept 2 (7, buffered c past == capacity_of declarations c) refl)
+          send_room (capacity_of declarations) past c (channel_of k.channels c)
+          (S.all_channels c within) (kept 2 (7, buffered c past == capacity_of declarations c) refl)
       go (Recv c v) kept within =
-          receive_room (capacity_of declarations) past c (channel_of k.channels c) (S.all_channels c within) (kept 1 (8, count (sends c) past == count (receives c) past) refl)
+          receive_room (capacity_of declarations) past c (channel_of k.channels c)
+          (S.all_channels c within) (kept 1 (8, count (sends c) past == count (receives c) past) refl)
       go _ kept within = tt
 
 module _ (declarations : List Declaration) (k : StamperState) (past : List Event) (S : StandsFor declarations k past) (e : Event)

@@ -30,7 +30,8 @@ slot_at (suc n) g less = elim (cases_lt g n) [
   | inl old ↦ get_or_append_left (first_slots n) (first_slot n ∷ []) no_slot g (omega (arith, old, length_slots n)) ∙ slot_at n g old
   | inr last ↦
       let same : g ≡ n = omega arith in
-      ap (λ g. get_or (first_slots n ++ first_slot n ∷ []) g no_slot) (same ∙ sym (length_slots n)) ∙ get_or-append_seam (first_slots n) (first_slot n) [] no_slot
+      ap (λ g. get_or (first_slots n ++ first_slot n ∷ []) g no_slot) (same ∙ sym (length_slots n))
+      ∙ get_or-append_seam (first_slots n) (first_slot n) [] no_slot
       ∙ ap first_slot (sym same)
 ]
 
@@ -44,7 +45,8 @@ blank (suc n) zero = refl
 blank (suc n) (suc o) = blank n o
 
 -- a channel more
-pub each_more : (channels : List ChannelState) (F : ℕ → ChannelState) (n : ℕ) (ch : ChannelState) → length channels ≡ n → ((c : ℕ) → c < n → channel_of channels c ≡ F c)
+pub each_more : (channels : List ChannelState) (F : ℕ → ChannelState) (n : ℕ) (ch : ChannelState)
+    → length channels ≡ n → ((c : ℕ) → c < n → channel_of channels c ≡ F c)
     → ch ≡ F n
     → (c : ℕ) → c < n + 1 → channel_of (channels ++ ch ∷ []) c ≡ F c
 each_more channels F n ch long each is c less = elim (cases_lt c n) [
@@ -57,7 +59,8 @@ each_more channels F n ch long each is c less = elim (cases_lt c n) [
 -- the first clocks stand for the empty list
 module _ (declarations : List Declaration) (k : ClocksState) where
   pub opening_stands : k.slots ≡ first_slots (count_of Kind.Goroutine declarations)
-      → length k.channels ≡ count_of Kind.Chan declarations → ((c : ℕ) → c < length k.channels → channel_of k.channels c ≡ first_channel (capacity_of declarations c))
+      → length k.channels ≡ count_of Kind.Chan declarations
+      → ((c : ℕ) → c < length k.channels → channel_of k.channels c ≡ first_channel (capacity_of declarations c))
       → k.locks ≡ replicate (count_of Kind.Lock declarations) no_lock → k.ends ≡ replicate (count_of Kind.Once declarations) []
       → StandsFor declarations (record { len = 0; clocks = k }) []
   opening_stands slots sized each locks ends = record {

@@ -27,6 +27,7 @@ module _ (caps : ℕ → ℕ) (past : List Event) (c : ℕ) (ch : ChannelState) 
       elim (cases_lt (count (receives c) past) (count (sends c) past)) [
         | inl less ↦ less
         | inr le ↦
-            let empty : (count (sends c) past == count (receives c) past) ≡ true = eq-eqb (count (sends c) past) (count (receives c) past) (omega (arith, sent, le)) in
+            let empty : (count (sends c) past == count (receives c) past) ≡ true =
+            eq-eqb (count (sends c) past) (count (receives c) past) (omega (arith, sent, le)) in
             absurd (let wrong : true ≡ false = sym empty ∙ some in cc)
       ]

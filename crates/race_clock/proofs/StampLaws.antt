@@ -51,7 +51,8 @@ module _ (caps : ℕ → ℕ) (events : List Event) where
     number = said.number ∙ ap (λ g. participations g (take s.at events) + 1) (sym said.actor);
     clock =
         subst (λ es. CountsBegins es (knows c) (λ i h. Reaches caps es (Begin i h) (Begin s.at s.who))) (sym (front_one caps events s.at k.event k.stands))
-        (subst (λ n. CountsBegins (take s.at events ++ k.event ∷ []) (knows c) (λ i h. Reaches caps (take s.at events ++ k.event ∷ []) (Begin i h) (Begin n s.who)))
+        (subst (λ n. CountsBegins (take s.at events ++ k.event ∷ []) (knows c)
+        (λ i h. Reaches caps (take s.at events ++ k.event ∷ []) (Begin i h) (Begin n s.who)))
         (long events s.at k.event k.stands) k.reaching);
   }
     where
@@ -76,6 +77,7 @@ stamps_are_lawful events = record {
   onward = λ caps a b c d A B less known.
       known_not_back caps events a.at a.who a.count (knows c) (stamped caps events a c A) b.at b.who b.count (knows d) (stamped caps events b d B) less known;
   transitive = λ caps a b s c d t A B S first second.
-      known_on caps events a.at a.who a.count (knows c) (stamped caps events a c A) b.at b.who b.count (knows d) (stamped caps events b d B) s.at s.who s.count (knows t)
+      known_on caps events a.at a.who a.count (knows c) (stamped caps events a c A)
+      b.at b.who b.count (knows d) (stamped caps events b d B) s.at s.who s.count (knows t)
       (stamped caps events s t S) first second;
 }

@@ -32,10 +32,12 @@ length_ends_after : (k : ClocksState) (who : ℕ) (o : Op) → length (after k w
 length_ends_after k who (OnceEnd p) = length-set k.ends p (joined (end_of k.ends p) (begin_of k who))
 length_ends_after k who _ = λ i. length k.ends
 
-module _ (declarations : List Declaration) (k : StamperState) (past : List Event) (S : StandsFor declarations k past) (e : Event) (within : HasClocks k.clocks e.who e.op)
+module _ (declarations : List Declaration) (k : StamperState) (past : List Event)
+    (S : StandsFor declarations k past) (e : Event) (within : HasClocks k.clocks e.who e.op)
     (clocks : ClocksState) (is : clocks ≡ after k.clocks e.who e.op) where
   -- the next state stands for the longer list
-  pub next_stands : IsAllowed declarations past e → (len : ℕ) → len ≡ k.len + 1 → StandsFor declarations (record { len = len; clocks = clocks }) (past ++ e ∷ [])
+  pub next_stands : IsAllowed declarations past e → (len : ℕ) → len ≡ k.len + 1
+      → StandsFor declarations (record { len = len; clocks = clocks }) (past ++ e ∷ [])
   next_stands allowed len more = record {
     len = length-append past (e ∷ []) ∙ ap (λ n. n + 1) S.len ∙ sym more;
     all_goroutines = ap (λ (c : ClocksState). length c.slots) is ∙ length_after k.clocks e.who e.op ∙ S.all_goroutines;

@@ -186,7 +186,12 @@ impl<A: Allocator> Channel<A> {
     pub(crate) fn open_send(&mut self, alloc: A) -> Result<(), AllocError>
     where
         A: Copy,
-        ensures ok { OnOk result (self.new ≡ record { capacity = self.old.capacity; sent = self.old.sent ++ [] ∷ []; freed = self.old.freed; closed = self.old.closed }) }
+        ensures ok { OnOk result (self.new ≡ record {
+          capacity = self.old.capacity;
+          sent = self.old.sent ++ [] ∷ [];
+          freed = self.old.freed;
+          closed = self.old.closed;
+        }) }
         ensures unchanged { OnErr result (self.new ≡ self.old) }
     {
         if let Some(queues) = &mut self.queues {
@@ -202,7 +207,12 @@ impl<A: Allocator> Channel<A> {
     pub(crate) fn open_receive(&mut self, alloc: A) -> Result<(), AllocError>
     where
         A: Copy,
-        ensures ok { OnOk result (self.new ≡ record { capacity = self.old.capacity; sent = self.old.sent; freed = self.old.freed ++ [] ∷ []; closed = self.old.closed }) }
+        ensures ok { OnOk result (self.new ≡ record {
+          capacity = self.old.capacity;
+          sent = self.old.sent;
+          freed = self.old.freed ++ [] ∷ [];
+          closed = self.old.closed;
+        }) }
         ensures unchanged { OnErr result (self.new ≡ self.old) }
     {
         if let Some(queues) = &mut self.queues {
@@ -223,7 +233,12 @@ impl<A: Allocator> Channel<A> {
 
     /// Puts a send's clock into its place, and takes out that of the room that it uses.
     pub(crate) fn fill_send(&mut self, begin: &mut Clock<A>, takes_freed: bool)
-        ensures { self.new ≡ record { capacity = self.old.capacity; sent = filled self.old.sent begin.old; freed = if takes_freed then drop 1 self.old.freed else self.old.freed; closed = self.old.closed } }
+        ensures { self.new ≡ record {
+          capacity = self.old.capacity;
+          sent = filled self.old.sent begin.old;
+          freed = if takes_freed then drop 1 self.old.freed else self.old.freed;
+          closed = self.old.closed;
+        } }
     {
         if let Some(queues) = &mut self.queues {
             queues.sent.fill(begin);
@@ -235,7 +250,12 @@ impl<A: Allocator> Channel<A> {
 
     /// Puts a receive's clock into its place, and takes out that of the value that it got.
     pub(crate) fn fill_receive(&mut self, begin: &mut Clock<A>)
-        ensures { self.new ≡ record { capacity = self.old.capacity; sent = drop 1 self.old.sent; freed = filled self.old.freed begin.old; closed = self.old.closed } }
+        ensures { self.new ≡ record {
+          capacity = self.old.capacity;
+          sent = drop 1 self.old.sent;
+          freed = filled self.old.freed begin.old;
+          closed = self.old.closed;
+        } }
     {
         if let Some(queues) = &mut self.queues {
             queues.freed.fill(begin);

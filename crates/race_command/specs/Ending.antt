@@ -18,7 +18,8 @@ use Rattle.race_edges.specs.Traces.{IsClean, IsRacy, IsIllegal}
 use Rattle.race_tool.specs.declared.status.TheConstants as status
 
 -- the input was checked, by the plain judge or not: what run_check promises of options in their limits
-pub record Checks {R W : Type 0} (plain : Bool) (remaining : R → Option (List ℕ)) (contents : W → Option (List ℕ)) (source source_now : Source R) (sink sink_now : Sink W) (answer : ℕ) : Type 0 where
+pub record Checks {R W : Type 0} (plain : Bool) (remaining : R → Option (List ℕ)) (contents : W → Option (List ℕ))
+    (source source_now : Source R) (sink sink_now : Sink W) (answer : ℕ) : Type 0 where
   pub reported : answer ≢ status.REFUSED → answer ≢ status.DEVICE
       → ReadsAndReports plain (unread remaining source) (unread remaining source_now) (written contents sink) (written contents sink_now) answer
   pub clean : answer ≡ status.CLEAN → ReadsTextWhere IsClean (unread remaining source) (unread remaining source_now)
@@ -32,7 +33,8 @@ pub record Checks {R W : Type 0} (plain : Bool) (remaining : R → Option (List 
   pub calm : answer ≢ status.DEVICE → (source_failures source_now ≡ source_failures source) × (sink_failures sink_now ≡ sink_failures sink)
 
 -- the edges of the input were listed: what run_edges promises
-pub record Lists {R W : Type 0} (remaining : R → Option (List ℕ)) (contents : W → Option (List ℕ)) (source source_now : Source R) (sink sink_now : Sink W) (answer : ℕ) : Type 0 where
+pub record Lists {R W : Type 0} (remaining : R → Option (List ℕ)) (contents : W → Option (List ℕ))
+    (source source_now : Source R) (sink sink_now : Sink W) (answer : ℕ) : Type 0 where
   pub listed : answer ≢ status.REFUSED → answer ≢ status.DEVICE
       → ReadsAndLists (unread remaining source) (unread remaining source_now) (written contents sink) (written contents sink_now) answer
   pub refused : answer ≡ status.REFUSED → sink_now ≡ sink
@@ -43,7 +45,8 @@ pub record Lists {R W : Type 0} (remaining : R → Option (List ℕ)) (contents 
   pub calm : answer ≢ status.DEVICE → (source_failures source_now ≡ source_failures source) × (sink_failures sink_now ≡ sink_failures sink)
 
 -- the program that was read was run: what run_run promises of a limit in its limits
-pub record Runs {R W : Type 0} (limit : ℕ) (picks : List ℕ) (remaining : R → Option (List ℕ)) (contents : W → Option (List ℕ)) (source source_now : Source R) (sink sink_now : Sink W) (answer : ℕ) : Type 0 where
+pub record Runs {R W : Type 0} (limit : ℕ) (picks : List ℕ) (remaining : R → Option (List ℕ))
+    (contents : W → Option (List ℕ)) (source source_now : Source R) (sink sink_now : Sink W) (answer : ℕ) : Type 0 where
   pub ran : answer ≢ status.REFUSED → answer ≢ status.DEVICE → answer ≢ status.MISMATCH
       → ReadsAndRuns limit picks (unread remaining source) (unread remaining source_now) (written contents sink) (written contents sink_now) answer
   pub refused : answer ≡ status.REFUSED → sink_now ≡ sink
@@ -56,7 +59,8 @@ pub record Runs {R W : Type 0} (limit : ℕ) (picks : List ℕ) (remaining : R �
   pub calm : answer ≢ status.DEVICE → (source_failures source_now ≡ source_failures source) × (sink_failures sink_now ≡ sink_failures sink)
 
 -- the program that was read was run, and the run was judged, by the plain judge or not: what run_race promises of options in their limits
-pub record Judges {R W : Type 0} (limit : ℕ) (picks : List ℕ) (plain : Bool) (remaining : R → Option (List ℕ)) (contents : W → Option (List ℕ)) (source source_now : Source R) (sink sink_now : Sink W) (answer : ℕ) : Type 0 where
+pub record Judges {R W : Type 0} (limit : ℕ) (picks : List ℕ) (plain : Bool) (remaining : R → Option (List ℕ))
+    (contents : W → Option (List ℕ)) (source source_now : Source R) (sink sink_now : Sink W) (answer : ℕ) : Type 0 where
   pub judged : answer ≢ status.REFUSED → answer ≢ status.DEVICE → answer ≢ status.MISMATCH
       → ReadsAndJudges limit picks plain (unread remaining source) (unread remaining source_now) (written contents sink) (written contents sink_now) answer
   pub legal : answer ≢ status.ILLEGAL
@@ -73,7 +77,8 @@ pub record Judges {R W : Type 0} (limit : ℕ) (picks : List ℕ) (plain : Bool)
 
 -- what was asked for is done
 abbrev pub Does : {R W : Type 0} → Request → (R → Option (List ℕ)) → (W → Option (List ℕ)) → Source R → Source R → Sink W → Sink W → ℕ → Type 0
-Does (Request.Check options) remaining contents source source_now sink sink_now answer = Checks options.plain remaining contents source source_now sink sink_now answer
+Does (Request.Check options) remaining contents source source_now sink sink_now answer =
+    Checks options.plain remaining contents source source_now sink sink_now answer
 Does Request.Edges remaining contents source source_now sink sink_now answer = Lists remaining contents source source_now sink sink_now answer
 Does (Request.Run options) remaining contents source source_now sink sink_now answer =
     Runs options.limit (picks_asked options) remaining contents source source_now sink sink_now answer
@@ -96,7 +101,8 @@ pub record Declines {R W : Type 0} (kind : ErrorKind) (source source_now : Sourc
 -- how the program ends where there are words
 abbrev pub Ends : {R W : Type 0} → (R → Option (List ℕ)) → (W → Option (List ℕ)) → Source R → Source R → Sink W → Sink W → ℕ → Type 0
 Ends remaining contents source source_now sink sink_now answer =
-    ((request : Request) × Does request remaining contents source source_now sink sink_now answer) ⊎ ((kind : ErrorKind) × Declines kind source source_now sink sink_now answer)
+    ((request : Request) × Does request remaining contents source source_now sink sink_now answer)
+    ⊎ ((kind : ErrorKind) × Declines kind source source_now sink sink_now answer)
 
 -- the status where there are no words: memory was refused for them, or they aren't text
 abbrev pub answer_without_words : IoErrorKind → ℕ

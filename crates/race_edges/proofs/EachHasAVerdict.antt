@@ -1,5 +1,7 @@
 -- Every trace has a verdict: an event breaks a rule, or tables read off the races.
-use Rattle.std.proofs.Common.{◌≡◌, ℕ, zero, suc, ◌+◌, ◌<◌, ◌≤◌, ◌==◌, Bool, true, false, List, [], ◌∷◌, length, map, take, replicate, slice_set, Option, Some, None, is_some, if◌then◌else◌, refl, ap, ◌∙◌, subst, inl, inr, ◌⊎◌, arith, take-take}
+use Rattle.std.proofs.Common.{◌≡◌, ℕ, zero, suc, ◌+◌, ◌<◌, ◌≤◌, ◌==◌, Bool, true, false, List, [], ◌∷◌, length, map, take, replicate}
+use Rattle.std.proofs.Common.{slice_set, Option, Some, None, is_some, if◌then◌else◌, refl, ap, ◌∙◌, subst, inl, inr, ◌⊎◌, arith}
+use Rattle.std.proofs.Common.{take-take}
 use Rattle.std.proofs.lemmas.Bool.Decides.{nat_tests}
 use Rattle.std.proofs.lemmas.List.{length-replicate, length-set, take_all}
 use Rattle.std.proofs.lemmas.Option.{slice_get_within}
@@ -120,7 +122,8 @@ module _ (trace : TraceState) (holds : IsTrace trace) where
         is_table = subst (λ m. IsTable (capacities trace) table (length trace.events) (take m trace.events)) next
             (table_next (capacities trace) trace.events n e here.1 so_far.table (length trace.events) so_far.is_table table refl (omega (arith, less)) rows);
         right = subst (λ m. AreFound (capacities trace) (take m trace.events) found) next
-            (found_next (capacities trace) trace.events n e here.1 so_far.table (length trace.events) so_far.is_table so_far.found found refl rows.0 (has_place trace n e so_far.found holds here.1 so_far.vars) so_far.right);
+            (found_next (capacities trace) trace.events n e here.1 so_far.table (length trace.events)
+            so_far.is_table so_far.found found refl rows.0 (has_place trace n e so_far.found holds here.1 so_far.vars) so_far.right);
       }
 
   -- the races of the trace
@@ -128,7 +131,8 @@ module _ (trace : TraceState) (holds : IsTrace trace) where
   listed =
       let all = tables (length trace.events) (omega arith) in (
         races_of all.found,
-        are_races (capacities trace) trace.events all.found (subst (λ es. AreFound (capacities trace) es all.found) (take_all (length trace.events) trace.events (omega arith)) all.right)
+        are_races (capacities trace) trace.events all.found
+            (subst (λ es. AreFound (capacities trace) es all.found) (take_all (length trace.events) trace.events (omega arith)) all.right)
             (λ x i j race. let below = race_declared (capacities trace) trace x i j holds race in let vars = all.vars in omega (arith, below, vars)),
       )
 

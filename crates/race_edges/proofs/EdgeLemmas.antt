@@ -1,5 +1,7 @@
 -- The list of edges, one edge on.
-use Rattle.std.proofs.Common.{◌≡◌, ◌⊎◌, ◌↔◌, ℕ, ◌+◌, ◌<◌, ◌≤◌, Bool, true, false, List, [], ◌∷◌, ◌++◌, length, take, Some, None, slice_get, refl, sym, ap, ◌∙◌, subst, inl, inr, arith, IsTrue}
+use Rattle.std.proofs.Common.{◌≡◌, ◌⊎◌, ◌↔◌, ℕ, ◌+◌, ◌<◌, ◌≤◌, Bool, true, false, List, [], ◌∷◌, ◌++◌}
+use Rattle.std.proofs.Common.{length, take, Some, None, slice_get, refl, sym, ap, ◌∙◌, subst, inl, inr}
+use Rattle.std.proofs.Common.{arith, IsTrue}
 use Rattle.std.proofs.lemmas.Option.{none-some, same_Some, slice_get_within}
 use Rattle.std.proofs.lemmas.Bool.{cases_eq}
 use Rattle.race_records.specs.declared.event.Event.{Event}
@@ -117,27 +119,40 @@ module _ (caps : ℕ → ℕ) (events : List Event) where
     edge_between = record { from = i; from_who = s.who; to = j; to_who = e.who }
 
     source_from : (g h : ℕ) → ((x : Event) × At events j x
-        × (((i ≡ j) × SynchronizedInside x.who x.op g h) ⊎ ((y : Event) × At (take j events) i y × IsSource caps (take j events) i y.op x.op × (y.who ≡ g) × (x.who ≡ h))))
+        × (((i ≡ j) × SynchronizedInside x.who x.op g h)
+        ⊎ ((y : Event) × At (take j events) i y × IsSource caps (take j events) i y.op x.op × (y.who ≡ g) × (x.who ≡ h))))
         → IsSource caps (take j events) i s.op e.op × (s.who ≡ g) × (e.who ≡ h)
     source_from g h (x, atx, inl (same, inside)) = absurd (omega (arith, same, less))
     source_from g h (x, atx, inr (y, aty, source, from, to)) =
         let to_e = at_same events j x e atx at in
         let from_s = at_same events i y s (take_at_old j events i y aty) ats in (
-          subst (λ (y : Event). IsSource caps (take j events) i y.op e.op) from_s (subst (λ (x : Event). IsSource caps (take j events) i y.op x.op) to_e source),
+          subst (λ (y : Event). IsSource caps (take j events) i y.op e.op) from_s
+              (subst (λ (x : Event). IsSource caps (take j events) i y.op x.op) to_e source),
           ap (λ (y : Event). y.who) (sym from_s) ∙ from,
           ap (λ (x : Event). x.who) (sym to_e) ∙ to,
         )
 
     between_is : IsTrue (source_at caps events i j) ↔ IsEdge caps events edge_between
     between_is = (
-      (λ is. (e, at, inr (s, slice_get-take j events i less ∙ ats, (source_is caps (take j events) i s.op e.op).0 (sym (source_at_is caps events i j s e ats at) ∙ is), refl, refl))),
+      (λ is. (
+        e,
+        at,
+        inr (
+          s,
+          slice_get-take j events i less ∙ ats,
+          (source_is caps (take j events) i s.op e.op).0 (sym (source_at_is caps events i j s e ats at) ∙ is),
+          refl,
+          refl,
+        ),
+      )),
       (λ edge. source_at_is caps events i j s e ats at ∙ (source_is caps (take j events) i s.op e.op).1 (source_from s.who e.who edge).0),
     )
 
     -- the list with this edge behind it, where it is one
     pub later_added : (edges : List Edge) → AreEdgesBefore i j caps events edges
         → AreEdgesBefore i (j + 1) caps events (with_edge (source_at caps events i j) edge_between edges)
-    later_added edges are = same_where (λ d. LeadsBefore i j d ⊎ (d ≡ edge_between)) (LeadsBefore i (j + 1)) (with_edge (source_at caps events i j) edge_between edges) there back
+    later_added edges are = same_where (λ d. LeadsBefore i j d ⊎ (d ≡ edge_between))
+        (LeadsBefore i (j + 1)) (with_edge (source_at caps events i j) edge_between edges) there back
         (added (LeadsBefore i j) edges edge_between are (source_at caps events i j) between_is last)
       where
         last : (d : Edge) → LeadsBefore i j d → ComesBefore d edge_between
@@ -153,7 +168,8 @@ module _ (caps : ℕ → ℕ) (events : List Event) where
         back d is (inl below) = inl (inl below)
         back d is (inr (same, below)) = elim (cases_eq d.to j) [
           | inl here ↦
-              let moved : IsEdge caps events (record { from = i; from_who = d.from_who; to = j; to_who = d.to_who }) = subst (IsEdge caps events) (same_edge d _ same here refl refl) is in
+              let moved : IsEdge caps events (record { from = i; from_who = d.from_who; to = j; to_who = d.to_who }) =
+              subst (IsEdge caps events) (same_edge d _ same here refl refl) is in
               let source = source_from d.from_who d.to_who moved in
               inr (same_edge d edge_between same here (sym source.1) (sym source.2))
           | inr other ↦ inl (inr (same, omega (arith, below, other)))
@@ -173,7 +189,8 @@ module _ (caps : ℕ → ℕ) (events : List Event) where
     -- an edge inside the event, by its goroutines
     pair_of : (d : Edge) → IsEdge caps events d → d.from ≡ i → d.to ≡ i
         → ((e.who ≡ d.from_who) × (partner e.op ≡ Some d.to_who)) ⊎ ((partner e.op ≡ Some d.from_who) × (e.who ≡ d.to_who))
-    pair_of d is from to = inside_pair e.who e.op d.from_who d.to_who (inside_from d.from_who d.to_who (subst (IsEdge caps events) (same_edge d (edge_inside i d.from_who d.to_who) from to refl refl) is))
+    pair_of d is from to = inside_pair e.who e.op d.from_who d.to_who
+        (inside_from d.from_who d.to_who (subst (IsEdge caps events) (same_edge d (edge_inside i d.from_who d.to_who) from to refl refl) is))
 
     -- an event with one participant has none inside
     pub none_inside : partner e.op ≡ None → (edges : List Edge) → AreEdgesBefore i i caps events edges → AreEdgesBefore i (i + 1) caps events edges
@@ -186,12 +203,16 @@ module _ (caps : ℕ → ℕ) (events : List Event) where
         back : (d : Edge) → IsEdge caps events d → LeadsBefore i (i + 1) d → LeadsBefore i i d
         back d is (inl below) = inl below
         back d is (inr (same, below)) = elim (cases_eq d.to i) [
-          | inl here ↦ elim (pair_of d is same here) [ inl pair ↦ absurd (none-some d.to_who (sym alone ∙ pair.1)) | inr pair ↦ absurd (none-some d.from_who (sym alone ∙ pair.0)) ]
+          | inl here ↦ elim (pair_of d is same here) [
+            | inl pair ↦ absurd (none-some d.to_who (sym alone ∙ pair.1))
+            | inr pair ↦ absurd (none-some d.from_who (sym alone ∙ pair.0))
+          ]
           | inr other ↦ inr (same, omega (arith, below, other))
         ]
 
     -- one with two has those between them, the lesser goroutine's first
-    module _ (p : ℕ) (second : partner e.op ≡ Some p) (low high : ℕ) (pair : ((low ≡ e.who) × (high ≡ p)) ⊎ ((low ≡ p) × (high ≡ e.who))) (edges : List Edge) (are : AreEdgesBefore i i caps events edges) where
+    module _ (p : ℕ) (second : partner e.op ≡ Some p) (low high : ℕ) (pair : ((low ≡ e.who) × (high ≡ p)) ⊎ ((low ≡ p) × (high ≡ e.who)))
+        (edges : List Edge) (are : AreEdgesBefore i i caps events edges) where
       -- an edge inside is one of the two
       one_of : (d : Edge) → IsEdge caps events d → d.from ≡ i → d.to ≡ i → (d ≡ edge_inside i low high) ⊎ (d ≡ edge_inside i high low)
       one_of d is from to = by pair (pair_of d is from to)
@@ -230,11 +251,14 @@ module _ (caps : ℕ → ℕ) (events : List Event) where
       sooner d (inr (same, below)) = inr (same, omega (arith, below))
 
       pub both_added : low < high
-          → AreEdgesBefore i (i + 1) caps events (with_edge (joins e.who e.op high low) (edge_inside i high low) (with_edge (joins e.who e.op low high) (edge_inside i low high) edges))
+          → AreEdgesBefore i (i + 1) caps events
+          (with_edge (joins e.who e.op high low) (edge_inside i high low) (with_edge (joins e.who e.op low high) (edge_inside i low high) edges))
       both_added less =
-          same_where (λ d. First d ⊎ (d ≡ edge_inside i high low)) (LeadsBefore i (i + 1)) (with_edge (joins e.who e.op high low) (edge_inside i high low) (with_edge (joins e.who e.op low high) (edge_inside i low high) edges))
+          same_where (λ d. First d ⊎ (d ≡ edge_inside i high low)) (LeadsBefore i (i + 1))
+          (with_edge (joins e.who e.op high low) (edge_inside i high low) (with_edge (joins e.who e.op low high) (edge_inside i low high) edges))
           (λ d is. there d) back
-          (added First (with_edge (joins e.who e.op low high) (edge_inside i low high) edges) (edge_inside i high low) after_first (joins e.who e.op high low) (inside_is high low) last)
+          (added First (with_edge (joins e.who e.op low high) (edge_inside i low high) edges)
+          (edge_inside i high low) after_first (joins e.who e.op high low) (inside_is high low) last)
         where
           last : (d : Edge) → First d → ComesBefore d (edge_inside i high low)
           last d (inl (inl below)) = inl below
@@ -249,10 +273,14 @@ module _ (caps : ℕ → ℕ) (events : List Event) where
           there d (inr same) = within d high low same
 
           back : (d : Edge) → IsEdge caps events d → LeadsBefore i (i + 1) d → First d ⊎ (d ≡ edge_inside i high low)
-          back d is leads = elim (in_front d is leads) [ inl before ↦ inl (inl before) | inr here ↦ elim here [ inl one ↦ inl (inr one) | inr other ↦ inr other ] ]
+          back d is leads = elim (in_front d is leads) [
+            | inl before ↦ inl (inl before)
+            | inr here ↦ elim here [ inl one ↦ inl (inr one) | inr other ↦ inr other ]
+          ]
 
       pub one_added : low ≤ high → high ≤ low → AreEdgesBefore i (i + 1) caps events (with_edge (joins e.who e.op low high) (edge_inside i low high) edges)
-      one_added up down = same_where First (LeadsBefore i (i + 1)) (with_edge (joins e.who e.op low high) (edge_inside i low high) edges) (λ d is. there d) back after_first
+      one_added up down = same_where First (LeadsBefore i (i + 1))
+          (with_edge (joins e.who e.op low high) (edge_inside i low high) edges) (λ d is. there d) back after_first
         where
           alike : low ≡ high
           alike = omega (arith, up, down)

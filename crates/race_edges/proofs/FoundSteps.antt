@@ -1,5 +1,7 @@
 -- What is noted of each variable is right, one event on.
-use Rattle.std.proofs.Common.{◌≡◌, ◌⊎◌, ℕ, ◌+◌, ◌<◌, ◌≤◌, Bool, true, false, List, [], ◌∷◌, ◌++◌, length, replicate, Option, Some, None, IfSome, is_some, get_or, set, if◌then◌else◌, refl, sym, ◌∙◌, subst, inl, inr, arith, IsTrue, eqb-true, eq-eqb, length-append}
+use Rattle.std.proofs.Common.{◌≡◌, ◌⊎◌, ℕ, ◌+◌, ◌<◌, ◌≤◌, Bool, true, false, List, [], ◌∷◌, ◌++◌, length, replicate, Option, Some, None}
+use Rattle.std.proofs.Common.{IfSome, is_some, get_or, set, if◌then◌else◌, refl, sym, ◌∙◌, subst, inl, inr, arith, IsTrue, eqb-true, eq-eqb}
+use Rattle.std.proofs.Common.{length-append}
 use Rattle.std.specs.Option.{option_map}
 use Rattle.std.proofs.lemmas.Bool.{cases_eq, cases_lt}
 use Rattle.std.proofs.lemmas.List.{get_or-set_same, get_or-set_other, get_or-replicate, length-set, length-replicate}
@@ -18,7 +20,8 @@ use Rattle.race_edges.proofs.PartnerLemmas.{IsGreatest, greatest_is, race_from_p
 
 -- before the first event there is no race
 pub found_none : (caps : ℕ → ℕ) (vars : ℕ) → AreFound caps [] (replicate vars None)
-found_none caps vars x less = subst (IsFound caps [] x) (sym (get_or-replicate vars x None None (omega (arith, less, length-replicate vars (let o : Option Race = None in o))))) (λ i j race. go i race.conflict.1)
+found_none caps vars x less = subst (IsFound caps [] x)
+    (sym (get_or-replicate vars x None None (omega (arith, less, length-replicate vars (let o : Option Race = None in o))))) (λ i j race. go i race.conflict.1)
   where
     go : (i : ℕ) → IsAccessOf [] x i → ⊥
     go i (e, at, is) = cc
@@ -34,10 +37,12 @@ module _ (caps : ℕ → ℕ) (past : List Event) (e : Event) (x : ℕ) where
   race_cases i j race = go (cases_lt i (length past)) (cases_lt j (length past))
     where
       within_i : i < length past + 1
-      within_i = let within : i < length (past ++ e ∷ []) = access_within caps (past ++ e ∷ []) [] x i race.conflict.1 in omega (arith, within, length-append past (e ∷ []))
+      within_i = let within : i < length (past ++ e ∷ []) = access_within caps (past ++ e ∷ []) [] x i race.conflict.1 in
+          omega (arith, within, length-append past (e ∷ []))
 
       within_j : j < length past + 1
-      within_j = let within : j < length (past ++ e ∷ []) = access_within caps (past ++ e ∷ []) [] x j race.conflict.2 in omega (arith, within, length-append past (e ∷ []))
+      within_j = let within : j < length (past ++ e ∷ []) = access_within caps (past ++ e ∷ []) [] x j race.conflict.2 in
+          omega (arith, within, length-append past (e ∷ []))
 
       go : (i < length past) ⊎ (length past ≤ i) → (j < length past) ⊎ (length past ≤ j)
           → IsRace caps past x i j ⊎ (IsTrue (accesses x e.op) × ((k : ℕ) × (k < length past) × IsRace caps (past ++ e ∷ []) x k (length past)))
@@ -47,7 +52,10 @@ module _ (caps : ℕ → ℕ) (past : List Event) (e : Event) (x : ℕ) where
           inr (last_access (subst (IsAccessOf (past ++ e ∷ []) x) last race.conflict.2), (i, a, subst (IsRace caps (past ++ e ∷ []) x i) last race))
       go (inr a) (inl b) =
           let last : i ≡ length past = omega (arith, within_i, a) in
-          inr (last_access (subst (IsAccessOf (past ++ e ∷ []) x) last race.conflict.1), (j, b, subst (IsRace caps (past ++ e ∷ []) x j) last (race_turned caps (past ++ e ∷ []) x i j race)))
+          inr (
+            last_access (subst (IsAccessOf (past ++ e ∷ []) x) last race.conflict.1),
+            (j, b, subst (IsRace caps (past ++ e ∷ []) x j) last (race_turned caps (past ++ e ∷ []) x i j race)),
+          )
       go (inr a) (inr b) = absurd (race.conflict.0 (omega (arith, within_i, within_j, a, b)))
 
   -- what is noted stays right where the next event is no access of x
@@ -64,7 +72,8 @@ module _ (caps : ℕ → ℕ) (past : List Event) (e : Event) (x : ℕ) where
   pub race_new : (table : TableState) (limit : ℕ) → IsTable caps table limit past → e.who < length table.rows → IsTrue (accesses x e.op)
       → ((i j : ℕ) → ¬ IsRace caps past x i j)
       → IsFound caps (past ++ e ∷ []) x (race_at table.rows past (length past) e x)
-  race_new table limit is_table row access none = go (greatest_below (is_partner table.rows past x e.who e.op) (length past)) (greatest_is (is_partner table.rows past x e.who e.op) (length past))
+  race_new table limit is_table row access none =
+      go (greatest_below (is_partner table.rows past x e.who e.op) (length past)) (greatest_is (is_partner table.rows past x e.who e.op) (length past))
     where
       go : (o : Option ℕ) → IsGreatest (is_partner table.rows past x e.who e.op) (length past) o
           → IsFound caps (past ++ e ∷ []) x (option_map (λ i. record { var = x; first = i; second = length past }) o)
@@ -85,7 +94,8 @@ module _ (caps : ℕ → ℕ) (past : List Event) (e : Event) (x : ℕ) where
         },
       )
 
-module _ (caps : ℕ → ℕ) (past : List Event) (e : Event) (table : TableState) (limit : ℕ) (is_table : IsTable caps table limit past) (row : e.who < length table.rows) (found : List (Option Race)) (right : AreFound caps past found) where
+module _ (caps : ℕ → ℕ) (past : List Event) (e : Event) (table : TableState) (limit : ℕ) (is_table : IsTable caps table limit past)
+    (row : e.who < length table.rows) (found : List (Option Race)) (right : AreFound caps past found) where
   -- what is noted of an access's variable is right behind it
   noted_right : (y : ℕ) → y < length found → ((x : ℕ) → IsTrue (accesses x e.op) → x ≡ y) → IsTrue (accesses y e.op)
       → AreFound caps (past ++ e ∷ []) (noted table.rows past (length past) e y found)
@@ -101,7 +111,8 @@ module _ (caps : ℕ → ℕ) (past : List Event) (e : Event) (table : TableStat
         | inl same ↦ subst (λ x. IsFound caps (past ++ e ∷ []) x (get_or (set found y (race_at table.rows past (length past) e y)) x None)) (sym same) here
         | inr differ ↦
             let old : x < length found = omega (arith, less, length-set found y (race_at table.rows past (length past) e y)) in
-            subst (IsFound caps (past ++ e ∷ []) x) (sym (get_or-set_other found y x (race_at table.rows past (length past) e y) None differ)) (found_kept caps past e x (λ is. differ (only x is)) (get_or found x None) (right x old))
+            subst (IsFound caps (past ++ e ∷ []) x) (sym (get_or-set_other found y x (race_at table.rows past (length past) e y) None differ))
+            (found_kept caps past e x (λ is. differ (only x is)) (get_or found x None) (right x old))
       ]
         where
           free : (o : Option Race) → is_some o ≡ false → IsFound caps past y o → (i j : ℕ) → ¬ IsRace caps past y i j

@@ -35,14 +35,18 @@ pub has_rows : (trace : TraceState) (i : ℕ) (e : Event) (rows : List (List Boo
     → length rows ≡ count_of Kind.Goroutine trace.decls.declarations → HasRows rows e
 has_rows trace i e rows holds at goroutines =
     let range = range_in_trace trace i e holds at in
-    let who = range.0 in
-    (omega (arith, who, goroutines), subst (λ n. IfSome (partner e.op) (λ g. g < n)) (sym goroutines) (partner_in_range (counts_of trace.decls.declarations) e.op range.1))
+    let who = range.0 in (
+      omega (arith, who, goroutines),
+      subst (λ n. IfSome (partner e.op) (λ g. g < n))
+          (sym goroutines) (partner_in_range (counts_of trace.decls.declarations) e.op range.1),
+    )
 
 -- a variable that it accesses has a place in a list with one for each variable
 pub has_place : (trace : TraceState) (i : ℕ) (e : Event) (found : List (Option Race)) → IsTrace trace → slice_get trace.events i ≡ Some e
     → length found ≡ count_of Kind.Var trace.decls.declarations → HasPlace found e.op
 has_place trace i e found holds at vars =
-    subst (λ n. IfSome (accessed e.op) (λ x. x < n)) (sym vars) (accessed_in_range (counts_of trace.decls.declarations) e.op (range_in_trace trace i e holds at).1)
+    subst (λ n. IfSome (accessed e.op) (λ x. x < n)) (sym vars)
+    (accessed_in_range (counts_of trace.decls.declarations) e.op (range_in_trace trace i e holds at).1)
 
 -- a race is on a declared variable
 pub race_declared : (caps : ℕ → ℕ) (trace : TraceState) (x i j : ℕ) → IsTrace trace → IsRace caps trace.events x i j
@@ -52,7 +56,8 @@ race_declared caps trace x i j holds race = go race.conflict.1
     go : IsAccessOf trace.events x i → x < count_of Kind.Var trace.decls.declarations
     go (e, at, is) = accessed_below e.op _ x (accessed_in_range (counts_of trace.decls.declarations) e.op (range_in_trace trace i e holds at).1) is
 
-module _ (caps : ℕ → ℕ) (events : List Event) (at : ℕ) (e : Event) (here : slice_get events at ≡ Some e) (table : TableState) (limit : ℕ) (is_table : IsTable caps table limit (take at events)) where
+module _ (caps : ℕ → ℕ) (events : List Event) (at : ℕ) (e : Event) (here : slice_get events at ≡ Some e)
+    (table : TableState) (limit : ℕ) (is_table : IsTable caps table limit (take at events)) where
   long : length (take at events) ≡ at
   long = let less : at < length events = slice_get_within events at e here in length-take-le at events (omega arith)
 

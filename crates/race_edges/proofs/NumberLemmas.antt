@@ -27,7 +27,8 @@ receive_counts c _ is = cc
 -- the number of the event at an index
 number_is : (events : List Event) (numbers : List ℕ) → AreNumbers events numbers → (i : ℕ) (e : Event) → At events i e
     → slice_index_or numbers i 0 ≡ count (counts e.op) (take i events)
-number_is events numbers are i e at = are.each i (slice_get_within events i e at) ∙ ap (λ o. elim o [ Some e ↦ count (counts e.op) (take i events) | None ↦ 0 ]) at
+number_is events numbers are i e at = are.each i (slice_get_within events i e at)
+    ∙ ap (λ o. elim o [ Some e ↦ count (counts e.op) (take i events) | None ↦ 0 ]) at
 
 module _ (caps : ℕ → ℕ) (events : List Event) (numbers : List ℕ) (are : AreNumbers events numbers) (from to : ℕ) (earlier : from < to)
     (s e : Event) (ats : At events from s) (ate : At events to e) where
@@ -42,7 +43,8 @@ module _ (caps : ℕ → ℕ) (events : List Event) (numbers : List ℕ) (are : 
   pub told_send : (c v : ℕ) → e.op ≡ Send c v → receives c s.op ≡ true
       → (slice_index_or numbers from 0 + caps c == slice_index_or numbers to 0) ≡ source_at caps events from to
   told_send c v is received =
-      (λ i. first i + caps c == second i) ∙ (λ i. sym received i && (count (receives c) (take from (take to events)) + caps c == count (sends c) (take to events))) ∙ sym (here (Send c v) is)
+      (λ i. first i + caps c == second i) ∙ (λ i. sym received i
+      && (count (receives c) (take from (take to events)) + caps c == count (sends c) (take to events))) ∙ sym (here (Send c v) is)
     where
       first : slice_index_or numbers from 0 ≡ count (receives c) (take from (take to events))
       first = number_is events numbers are from s ats ∙ (λ i. count (receive_counts c s.op received i) (sym front i))

@@ -1,5 +1,7 @@
 -- Which events an access races with, read off the table.
-use Rattle.std.proofs.Common.{◌≡◌, ◌⊎◌, ℕ, zero, suc, ◌<◌, ◌≤◌, ◌&&◌, ◌||◌, ◌↔◌, not, Bool, true, false, List, [], ◌∷◌, ◌++◌, length, take, Option, Some, None, if◌then◌else◌, refl, sym, ap, ◌∙◌, subst, inl, inr, arith, IsTrue, take_at}
+use Rattle.std.proofs.Common.{◌≡◌, ◌⊎◌, ℕ, zero, suc, ◌<◌, ◌≤◌, ◌&&◌, ◌||◌, ◌↔◌, not, Bool, true, false, List, [], ◌∷◌, ◌++◌}
+use Rattle.std.proofs.Common.{length, take, Option, Some, None, if◌then◌else◌, refl, sym, ap, ◌∙◌, subst, inl, inr, arith}
+use Rattle.std.proofs.Common.{IsTrue, take_at}
 use Rattle.std.proofs.lemmas.Bool.{cases_eq, or_cases, or_left, or_right}
 use Rattle.race_records.specs.declared.event.Event.{Event}
 use Rattle.race_model.specs.Events.{At, accesses, writes}
@@ -51,7 +53,8 @@ parts_to true true true a b c = cc
 parts_to true false d a b c = cc
 parts_to false d f a b c = cc
 
-module _ (caps : ℕ → ℕ) (table : TableState) (limit : ℕ) (past : List Event) (is_table : IsTable caps table limit past) (e : Event) (row : e.who < length table.rows) (x : ℕ) (access : IsTrue (accesses x e.op)) where
+module _ (caps : ℕ → ℕ) (table : TableState) (limit : ℕ) (past : List Event) (is_table : IsTable caps table limit past)
+    (e : Event) (row : e.who < length table.rows) (x : ℕ) (access : IsTrue (accesses x e.op)) where
   -- the events before the next one
   front : take (length past) (past ++ e ∷ []) ≡ past
   front = take_at past (e ∷ []) (length past) refl
@@ -101,15 +104,19 @@ module _ (caps : ℕ → ℕ) (table : TableState) (limit : ℕ) (past : List Ev
   partner_from_race i less race = go (at_below past i less)
     where
       go : ((a : Event) × At past i a) → IsTrue (is_partner table.rows past x e.who e.op i)
-      go (a, at) = partner_is i a at ∙ parts_to (accesses x a.op) (writes x a.op || writes x e.op) (sees table.rows e.who i) (first race.conflict.1) (write race.conflict.3) unseen
+      go (a, at) = partner_is i a at ∙ parts_to (accesses x a.op) (writes x a.op || writes x e.op)
+          (sees table.rows e.who i) (first race.conflict.1) (write race.conflict.3) unseen
         where
           first : IsAccessOf (past ++ e ∷ []) x i → IsTrue (accesses x a.op)
           first (s, ats, is) = subst (λ (s : Event). IsTrue (accesses x s.op)) (at_same (past ++ e ∷ []) i s a ats (there i a at)) is
 
           write : IsWriteOf (past ++ e ∷ []) x i ⊎ IsWriteOf (past ++ e ∷ []) x (length past) → IsTrue (writes x a.op || writes x e.op)
-          write (inl (s, ats, is)) = or_left (writes x a.op) (writes x e.op) (subst (λ (s : Event). IsTrue (writes x s.op)) (at_same (past ++ e ∷ []) i s a ats (there i a at)) is)
-          write (inr (s, ats, is)) = or_right (writes x a.op) (writes x e.op) (subst (λ (s : Event). IsTrue (writes x s.op)) (at_same (past ++ e ∷ []) (length past) s e ats here) is)
+          write (inl (s, ats, is)) = or_left (writes x a.op) (writes x e.op)
+              (subst (λ (s : Event). IsTrue (writes x s.op)) (at_same (past ++ e ∷ []) i s a ats (there i a at)) is)
+          write (inr (s, ats, is)) = or_right (writes x a.op) (writes x e.op)
+              (subst (λ (s : Event). IsTrue (writes x s.op)) (at_same (past ++ e ∷ []) (length past) s e ats here) is)
 
           unseen : sees table.rows e.who i ≡ false
           unseen = false_from (sees table.rows e.who i) (λ known.
-              unseen_from_race caps (past ++ e ∷ []) x i (length past) a e (there i a at) here race (subst (λ es. SeenBy caps es i a.who e.who) (sym front) ((told i a at).0 known)))
+              unseen_from_race caps (past ++ e ∷ []) x i (length past) a e (there i a at) here race
+              (subst (λ es. SeenBy caps es i a.who e.who) (sym front) ((told i a at).0 known)))

@@ -1,5 +1,7 @@
 -- The list of the races that are noted.
-use Rattle.std.proofs.Common.{◌≡◌, ◌≢◌, ℕ, zero, suc, ◌+◌, ◌<◌, List, [], ◌∷◌, length, map, Option, Some, None, slice_get, get_or, refl, sym, ap, ◌∙◌, subst, arith}
+use Rattle.std.proofs.Common.{◌≡◌, ◌≢◌, ℕ, zero, suc, ◌+◌, ◌<◌, List, [], ◌∷◌, length, map}
+use Rattle.std.proofs.Common.{Option, Some, None, slice_get, get_or, refl, sym, ap, ◌∙◌}
+use Rattle.std.proofs.Common.{subst, arith}
 use Rattle.std.specs.Option.{option_map}
 use Rattle.std.proofs.lemmas.Option.{slice_get-map, slice_get_within, slice_get-get_or, get_or_from_slice_get}
 use Rattle.race_records.specs.declared.event.Event.{Event}
@@ -42,7 +44,8 @@ races_rise n (Some t ∷ found) numbered zero (suc p) r s less atr ats =
     let rest : (k : ℕ) × (slice_get found k ≡ Some (Some s)) = was_noted found p s ats in
     let second : s.var ≡ n + 1 + rest.0 = numbered_behind n (Some t) found numbered rest.0 s rest.1 in
     omega (arith, first, second)
-races_rise n (Some t ∷ found) numbered (suc m) (suc p) r s less atr ats = races_rise (n + 1) found (numbered_behind n (Some t) found numbered) m p r s (omega arith) atr ats
+races_rise n (Some t ∷ found) numbered (suc m) (suc p) r s less atr ats =
+    races_rise (n + 1) found (numbered_behind n (Some t) found numbered) m p r s (omega arith) atr ats
 
 -- a race as the model has it comes from one of the list
 mapped : (races : List Race) (k : ℕ) (r : model.Race) → slice_get (map race_of races) k ≡ Some r → (q : Race) × (slice_get races k ≡ Some q) × (race_of q ≡ r)
@@ -71,7 +74,8 @@ module _ (caps : ℕ → ℕ) (events : List Event) (found : List (Option Race))
           go (q, atq, is) =
               let place : (x : ℕ) × (slice_get found x ≡ Some (Some q)) = was_noted found k q atq in
               let known = noted_is place.0 q place.1 in
-              subst (λ (r : model.Race). IsReportedRace caps events r.var r.first r.second) is (subst (λ x. IsReportedRace caps events x q.first q.second) (sym known.0) known.1)
+              subst (λ (r : model.Race). IsReportedRace caps events r.var r.first r.second) is
+              (subst (λ x. IsReportedRace caps events x q.first q.second) (sym known.0) known.1)
 
       rising : (k m : ℕ) (r s : model.Race) → k < m → slice_get (map race_of (races_of found)) k ≡ Some r → slice_get (map race_of (races_of found)) m ≡ Some s
           → r.var < s.var

@@ -19,7 +19,8 @@ use Rattle.race_edges.specs.Partners.{accessed}
 pub range_in_trace : (trace : TraceState) (i : ℕ) (e : Event) → IsTrace trace → slice_get trace.events i ≡ Some e
     → IsInRange (counts_of trace.decls.declarations) e
 range_in_trace trace i e holds at =
-    range_from_fits trace.decls e (subst (λ (e : Event). IsTrue (fits trace.decls e)) (get_or_from_slice_get trace.events i e e at) (holds.fit i e (slice_get_within trace.events i e at)))
+    range_from_fits trace.decls e (subst (λ (e : Event). IsTrue (fits trace.decls e))
+    (get_or_from_slice_get trace.events i e e at) (holds.fit i e (slice_get_within trace.events i e at)))
 
 -- a second participant is in range
 pub partner_in_range : (counts : Kind → ℕ) (o : Op) → IsTrue (op_is_in_range counts o) → IfSome (partner o) (λ g. g < counts Kind.Goroutine)

@@ -1,5 +1,7 @@
 -- What rows tell after a change.
-use Rattle.std.proofs.Common.{◌≡◌, ◌≢◌, ◌⊎◌, ◌↔◌, ℕ, zero, suc, ◌<◌, ◌≤◌, ◌&&◌, not, Bool, true, false, List, [], length, get_or, set, if◌then◌else◌, Option, Some, None, IfSome, refl, sym, ap, ◌∙◌, subst, inl, inr, arith, IsTrue}
+use Rattle.std.proofs.Common.{◌≡◌, ◌≢◌, ◌⊎◌, ◌↔◌, ℕ, zero, suc, ◌<◌, ◌≤◌, ◌&&◌, not, Bool, true, false, List, [], length}
+use Rattle.std.proofs.Common.{get_or, set, if◌then◌else◌, Option, Some, None, IfSome, refl, sym, ap, ◌∙◌, subst, inl, inr}
+use Rattle.std.proofs.Common.{arith, IsTrue}
 use Rattle.std.proofs.lemmas.Bool.{cases_eq}
 use Rattle.std.proofs.lemmas.List.{get_or-set_same, get_or-set_other, length-set}
 use Rattle.std.proofs.lemmas.Option.{none-some, same_Some}
@@ -46,7 +48,8 @@ tells_joined row other (suc n) i within = by (get_or other n false) refl (tells_
 
     by : (b : Bool) → get_or other n false ≡ b
         → (IsTrue (get_or (joined row other n) i false) ↔ (IsTrue (get_or row i false) ⊎ ((i < n) × IsTrue (get_or other i false))))
-        → IsTrue (get_or (if b then set (joined row other n) n true else joined row other n) i false) ↔ (IsTrue (get_or row i false) ⊎ ((i < suc n) × IsTrue (get_or other i false)))
+        → IsTrue (get_or (if b then set (joined row other n) n true else joined row other n) i false)
+        ↔ (IsTrue (get_or row i false) ⊎ ((i < suc n) × IsTrue (get_or other i false)))
     by true is before = (there, back)
       where
         one : IsTrue (get_or (set (joined row other n) n true) i false) ↔ (IsTrue (get_or (joined row other n) i false) ⊎ (n ≡ i))
@@ -57,7 +60,10 @@ tells_joined row other (suc n) i within = by (get_or other n false) refl (tells_
 
         back : IsTrue (get_or row i false) ⊎ ((i < suc n) × IsTrue (get_or other i false)) → IsTrue (get_or (set (joined row other n) n true) i false)
         back (inl old) = one.1 (inl (before.1 (inl old)))
-        back (inr (below, seen)) = elim (cases_eq n i) [ inl here ↦ one.1 (inr here) | inr differ ↦ one.1 (inl (before.1 (inr (omega (arith, below, differ), seen)))) ]
+        back (inr (below, seen)) = elim (cases_eq n i) [
+          | inl here ↦ one.1 (inr here)
+          | inr differ ↦ one.1 (inl (before.1 (inr (omega (arith, below, differ), seen))))
+        ]
     by false is before = (λ s. wider (before.0 s), back)
       where
         back : IsTrue (get_or row i false) ⊎ ((i < suc n) × IsTrue (get_or other i false)) → IsTrue (get_or (joined row other n) i false)
@@ -123,7 +129,8 @@ pub sees_with_seen : (rows : List (List Bool)) (p n g i : ℕ) → g < length ro
     → IsTrue (sees (with_seen rows p n) g i) ↔ (IsTrue (sees rows g i) ⊎ ((p ≡ g) × (n ≡ i)))
 sees_with_seen rows p n g i less within =
     sees_set rows p (set (row_of rows p) n true) (n ≡ i) g i less
-    (λ same. subst (λ q. IsTrue (get_or (set (row_of rows q) n true) i false) ↔ (IsTrue (sees rows g i) ⊎ (n ≡ i))) (sym same) (tells_set (row_of rows g) n i within))
+    (λ same. subst (λ q. IsTrue (get_or (set (row_of rows q) n true) i false)
+    ↔ (IsTrue (sees rows g i) ⊎ (n ≡ i))) (sym same) (tells_set (row_of rows g) n i within))
 
 shape_with_row : (rows : List (List Bool)) (p : ℕ) (row : List Bool) → AreShaped rows (with_row rows p row)
 shape_with_row rows p row = shape_set rows p (joined (row_of rows p) row (length (row_of rows p))) (length-joined (row_of rows p) row (length (row_of rows p)))
@@ -133,7 +140,8 @@ sees_with_row : (rows : List (List Bool)) (p : ℕ) (row : List Bool) (g i : ℕ
     → IsTrue (sees (with_row rows p row) g i) ↔ (IsTrue (sees rows g i) ⊎ ((p ≡ g) × IsTrue (get_or row i false)))
 sees_with_row rows p row g i less within =
     sees_set rows p (joined (row_of rows p) row (length (row_of rows p))) (IsTrue (get_or row i false)) g i less
-    (λ same. subst (λ q. IsTrue (get_or (joined (row_of rows q) row (length (row_of rows q))) i false) ↔ (IsTrue (sees rows g i) ⊎ IsTrue (get_or row i false))) (sym same) here)
+    (λ same. subst (λ q. IsTrue (get_or (joined (row_of rows q) row (length (row_of rows q))) i false)
+    ↔ (IsTrue (sees rows g i) ⊎ IsTrue (get_or row i false))) (sym same) here)
   where
     here : IsTrue (get_or (joined (row_of rows g) row (length (row_of rows g))) i false) ↔ (IsTrue (sees rows g i) ⊎ IsTrue (get_or row i false))
     here =
@@ -177,26 +185,31 @@ pub sees_inside : (rows : List (List Bool)) (limit who : ℕ) (o : Op) → ((g :
 sees_inside rows limit who o wide first second g i less within = by (partner o) refl second
   where
     by : (other : Option ℕ) → partner o ≡ other → IfSome other (λ p. p < length rows)
-        → IsTrue (sees (elim other [ Some p ↦ given (joins who o p who) (given (joins who o who p) rows who p) p who | None ↦ rows ]) g i) ↔ SeesInside rows who o g i
+        → IsTrue (sees (elim other [ Some p ↦ given (joins who o p who) (given (joins who o who p) rows who p) p who | None ↦ rows ]) g i)
+        ↔ SeesInside rows who o g i
     by None alone _ = (λ s. inl s, back)
       where
         back : SeesInside rows who o g i → IsTrue (sees rows g i)
         back (inl old) = old
-        back (inr (f, inside, seen)) = elim (inside_pair who o f g inside) [ inl pair ↦ absurd (none-some g (sym alone ∙ pair.1)) | inr pair ↦ absurd (none-some f (sym alone ∙ pair.0)) ]
+        back (inr (f, inside, seen)) = elim (inside_pair who o f g inside)
+            [ inl pair ↦ absurd (none-some g (sym alone ∙ pair.1)) | inr pair ↦ absurd (none-some f (sym alone ∙ pair.0)) ]
     by (Some p) is row = (there, back)
       where
         middle : List (List Bool)
         middle = given (joins who o who p) rows who p
 
         one : (h : ℕ) → h < length rows
-            → IsTrue (sees (given (joins who o who p) rows who p) h i) ↔ (IsTrue (sees rows h i) ⊎ (IsTrue (joins who o who p) × (p ≡ h) × IsTrue (sees rows who i)))
+            → IsTrue (sees (given (joins who o who p) rows who p) h i)
+            ↔ (IsTrue (sees rows h i) ⊎ (IsTrue (joins who o who p) × (p ≡ h) × IsTrue (sees rows who i)))
         one h below = sees_given (joins who o who p) rows who p h i below (omega (arith, within, wide h below))
 
         two : IsTrue (sees (given (joins who o p who) (given (joins who o who p) rows who p) p who) g i)
-            ↔ (IsTrue (sees (given (joins who o who p) rows who p) g i) ⊎ (IsTrue (joins who o p who) × (who ≡ g) × IsTrue (sees (given (joins who o who p) rows who p) p i)))
+            ↔ (IsTrue (sees (given (joins who o who p) rows who p) g i)
+            ⊎ (IsTrue (joins who o p who) × (who ≡ g) × IsTrue (sees (given (joins who o who p) rows who p) p i)))
         two =
             let shape = shape_given (joins who o who p) rows who p in
-            sees_given (joins who o p who) (given (joins who o who p) rows who p) p who g i (omega (arith, less, shape.count)) (omega (arith, within, wide g less, shape.wide g less))
+            sees_given (joins who o p who) (given (joins who o who p) rows who p) p who g i
+            (omega (arith, less, shape.count)) (omega (arith, within, wide g less, shape.wide g less))
 
         from_who : IsTrue (joins who o who p) → p ≡ g → IsTrue (sees rows who i) → SeesInside rows who o g i
         from_who joins to seen = inr (who, subst (SynchronizedInside who o who) to ((joins_is who o who p).0 joins), seen)
@@ -215,11 +228,13 @@ sees_inside rows limit who o wide first second g i less within = by (partner o) 
         back (inr (f, inside, seen)) = elim (inside_pair who o f g inside) [
           | inl (from, to) ↦
               let other : p ≡ g = same_Some p g (sym is ∙ to) in
-              let test : IsTrue (joins who o who p) = (joins_is who o who p).1 (subst (λ f. SynchronizedInside who o f p) (sym from) (subst (SynchronizedInside who o f) (sym other) inside)) in
+              let test : IsTrue (joins who o who p) = (joins_is who o who p).1
+              (subst (λ f. SynchronizedInside who o f p) (sym from) (subst (SynchronizedInside who o f) (sym other) inside)) in
               two.1 (inl ((one g less).1 (inr (test, other, subst (λ f. IsTrue (sees rows f i)) (sym from) seen))))
           | inr (from, to) ↦
               let other : p ≡ f = same_Some p f (sym is ∙ from) in
-              let test : IsTrue (joins who o p who) = (joins_is who o p who).1 (subst (λ f. SynchronizedInside who o f who) (sym other) (subst (SynchronizedInside who o f) (sym to) inside)) in
+              let test : IsTrue (joins who o p who) = (joins_is who o p who).1
+              (subst (λ f. SynchronizedInside who o f who) (sym other) (subst (SynchronizedInside who o f) (sym to) inside)) in
               two.1 (inr (test, to, (one p row).1 (inl (subst (λ f. IsTrue (sees rows f i)) (sym other) seen))))
         ]
 
@@ -235,10 +250,12 @@ shape_taken is heard rows who (suc n) = by (not (sees rows who n) && is n) (λ r
     by false below = below rows
 
 -- one source further down
-pub taken_down : (is : ℕ → Bool) (heard rows next : List (List Bool)) (who n above : ℕ) → above ≡ suc n → (has test : Bool) → has ≡ sees rows who n → test ≡ is n
+pub taken_down : (is : ℕ → Bool) (heard rows next : List (List Bool)) (who n above : ℕ)
+    → above ≡ suc n → (has test : Bool) → has ≡ sees rows who n → test ≡ is n
     → next ≡ (if not has && test then with_row rows who (row_of heard n) else rows) → taken is heard next who n ≡ taken is heard rows who above
 taken_down is heard rows next who n above over has test seen source step =
-    ap (λ rows. taken is heard rows who n) (step ∙ (λ i. if not (seen i) && source i then with_row rows who (row_of heard n) else rows)) ∙ ap (taken is heard rows who) (sym over)
+    ap (λ rows. taken is heard rows who n) (step ∙ (λ i. if not (seen i) && source i then with_row rows who (row_of heard n) else rows))
+    ∙ ap (taken is heard rows who) (sym over)
 
 -- g sees what it saw, and where it is who, what was seen at the begin of each source among the first n events
 abbrev pub SeesTaken : (ℕ → Bool) → List (List Bool) → List (List Bool) → ℕ → ℕ → ℕ → ℕ → Type 0
@@ -275,9 +292,11 @@ sees_taken_other is heard rows who (suc n) g i differ less within = by (not (see
 sees_taken_own : (is : ℕ → Bool) (heard rows : List (List Bool)) (who n i : ℕ) → who < length rows → n ≤ length (row_of rows who) → i < length (row_of rows who)
     → HoldsSeen is heard rows who n i → HeldSeen is heard n i
     → IsTrue (sees (taken is heard rows who n) who i) ↔ (IsTrue (sees rows who i) ⊎ ((k : ℕ) × (k < n) × IsTrue (is k) × IsTrue (sees heard k i)))
-sees_taken_own is heard rows who zero i row wide within holds held = (λ s. inl s, λ s. elim s [ inl old ↦ old | inr (k, below, source, had) ↦ absurd (omega (arith, below)) ])
+sees_taken_own is heard rows who zero i row wide within holds held =
+    (λ s. inl s, λ s. elim s [ inl old ↦ old | inr (k, below, source, had) ↦ absurd (omega (arith, below)) ])
 sees_taken_own is heard rows who (suc n) i row wide within holds held =
-    by (λ rows row wide within holds. sees_taken_own is heard rows who n i row wide within holds (λ m k first second. held m k (omega (arith, first)) (omega (arith, second))))
+    by (λ rows row wide within holds. sees_taken_own is heard rows who n i row wide within holds
+    (λ m k first second. held m k (omega (arith, first)) (omega (arith, second))))
     (sees rows who n) refl (is n) refl
   where
     Taken : List (List Bool) → ℕ → Type 0
@@ -360,7 +379,8 @@ sees_taken is heard rows who n g i wide less within holds held = elim (cases_eq 
   where
     own : who ≡ g → IsTrue (sees (taken is heard rows who n) who i) ↔ SeesTaken is heard rows who n who i
     own same =
-        let is_one = sees_taken_own is heard rows who n i (omega (arith, less, same)) (subst (λ g. n ≤ length (row_of rows g)) (sym same) wide) (subst (λ g. i < length (row_of rows g)) (sym same) within) holds held in (
+        let is_one = sees_taken_own is heard rows who n i (omega (arith, less, same))
+        (subst (λ g. n ≤ length (row_of rows g)) (sym same) wide) (subst (λ g. i < length (row_of rows g)) (sym same) within) holds held in (
           (λ s. elim (is_one.0 s) [ inl old ↦ inl old | inr new ↦ inr (refl, new) ]),
           (λ s. is_one.1 (elim s [ inl old ↦ inl old | inr new ↦ inr new.1 ])),
         )

@@ -1,5 +1,7 @@
 -- A table tells what each goroutine has seen, one event on.
-use Rattle.std.proofs.Common.{◌≡◌, ◌⊎◌, ◌↔◌, ℕ, ◌+◌, ◌<◌, ◌≤◌, Bool, true, false, List, [], ◌∷◌, ◌++◌, if◌then◌else◌, length, replicate, IfSome, get_or, refl, sym, ap, ◌∙◌, subst, inl, inr, arith, IsTrue, length-append}
+use Rattle.std.proofs.Common.{◌≡◌, ◌⊎◌, ◌↔◌, ℕ, ◌+◌, ◌<◌, ◌≤◌, Bool, true, false, List, [], ◌∷◌, ◌++◌, if◌then◌else◌}
+use Rattle.std.proofs.Common.{length, replicate, IfSome, get_or, refl, sym, ap, ◌∙◌, subst, inl, inr, arith, IsTrue}
+use Rattle.std.proofs.Common.{length-append}
 use Rattle.std.proofs.Math.Seq.{get_or-append_seam}
 use Rattle.std.proofs.lemmas.List.{get_or-replicate, get_or_append_left, length-replicate}
 use Rattle.std.proofs.lemmas.Option.{slice_get_within}
@@ -15,7 +17,9 @@ use Rattle.race_edges.specs.Synchronized.{can_be_source}
 use Rattle.race_edges.specs.TableState.{TableState, row_of, sees, with_seen, inside, kept, table_after, HasRows}
 use Rattle.race_edges.specs.IsTable.{HasSeen, HadSeen, IsTable}
 use Rattle.race_edges.proofs.SynchronizedLemmas.{source_can_be, inside_pair}
-use Rattle.race_edges.proofs.RowLemmas.{shape_with_seen, sees_with_seen, shape_inside, sees_inside, SeesInside, shape_taken, sees_taken, SeesTaken, HoldsSeen, HeldSeen}
+use Rattle.race_edges.proofs.RowLemmas.{shape_with_seen, sees_with_seen, shape_inside}
+use Rattle.race_edges.proofs.RowLemmas.{sees_inside, SeesInside, shape_taken, sees_taken}
+use Rattle.race_edges.proofs.RowLemmas.{SeesTaken, HoldsSeen, HeldSeen}
 
 -- only events of the list are seen
 pub seen_within : (caps : ℕ → ℕ) (past : List Event) (i h g : ℕ) → SeenBy caps past i h g → i < length past
@@ -53,7 +57,8 @@ seen_by_on caps past i h k f g (inr w) (j, part, v) = (j, part, reaches_on w v)
 pub table_none : (caps : ℕ → ℕ) (goroutines limit : ℕ) → IsTable caps (record { rows = replicate goroutines (replicate limit false); heard = [] }) limit []
 table_none caps goroutines limit = record {
   seen = λ g i less within. (
-    (λ s. let none : sees (replicate goroutines (replicate limit false)) g i ≡ false = ap (λ r. get_or r i false) (row g less) ∙ get_or-replicate limit i false false within in cc),
+    (λ s. let none : sees (replicate goroutines (replicate limit false)) g i ≡ false =
+        ap (λ r. get_or r i false) (row g less) ∙ get_or-replicate limit i false false within in cc),
     (λ (e, at, seen). cc),
   );
   heard = λ k i s at source within. cc;
@@ -65,7 +70,8 @@ table_none caps goroutines limit = record {
     row : (g : ℕ) → g < length (replicate goroutines (replicate limit false)) → row_of (replicate goroutines (replicate limit false)) g ≡ replicate limit false
     row g less = get_or-replicate goroutines g (replicate limit false) [] (omega (arith, less, length-replicate goroutines (replicate limit false)))
 
-module _ (caps : ℕ → ℕ) (table : TableState) (limit : ℕ) (past : List Event) (is_table : IsTable caps table limit past) (e : Event) (room : length past < limit) (has : HasRows table.rows e)
+module _ (caps : ℕ → ℕ) (table : TableState) (limit : ℕ) (past : List Event)
+    (is_table : IsTable caps table limit past) (e : Event) (room : length past < limit) (has : HasRows table.rows e)
     (is : ℕ → Bool) (sources : (k : ℕ) (s : Event) → At past k s → IsTrue (is k) ↔ IsSource caps past k s.op e.op) where
   -- g had seen the begin of event i before, or it is g's own begin in the next event
   abbrev Knows : ℕ → ℕ → Type 0
@@ -175,7 +181,12 @@ module _ (caps : ℕ → ℕ) (table : TableState) (limit : ℕ) (past : List Ev
       let s = at_below past k second in
       let (c, atc, had) = (heard_is m k t.0 t.1 test_m (omega (arith, second, room))).0 kept_m in
       let (d, atd, before) = (heard_is k i s.0 s.1 test_k within).0 kept_k in
-      (heard_is m i t.0 t.1 test_m within).1 (d, atd, seen_at_on caps past i d.who k s.0.who m t.0.who before (subst (λ (c : Event). SeenAt caps past k c.who m t.0.who) (at_same past k c s.0 atc s.1) had))
+      (heard_is m i t.0 t.1 test_m within).1 (
+        d,
+        atd,
+        seen_at_on caps past i d.who k s.0.who m t.0.who before
+            (subst (λ (c : Event). SeenAt caps past k c.who m t.0.who) (at_same past k c s.0 atc s.1) had),
+      )
 
   -- what g has seen behind the event: it knew, or an edge inside brings it, or a source does
   abbrev Sees : ℕ → ℕ → Type 0
@@ -188,7 +199,8 @@ module _ (caps : ℕ → ℕ) (table : TableState) (limit : ℕ) (past : List Ev
       heard : IsTrue (sees (table_after is table (length past) e.who e.op).rows g i) ↔ SeesTaken is table.heard rows_inside e.who (length past) g i
       heard =
           let wide = wide_inside g less in
-          sees_taken is table.heard rows_inside e.who (length past) g i (omega (arith, room, wide)) (omega (arith, less, count_inside)) (omega (arith, within, wide))
+          sees_taken is table.heard rows_inside e.who (length past) g i (omega (arith, room, wide))
+          (omega (arith, less, count_inside)) (omega (arith, within, wide))
           (holds_seen i within) (held_seen i within)
 
       there : IsTrue (sees (table_after is table (length past) e.who e.op).rows g i) → Sees g i
@@ -210,12 +222,19 @@ module _ (caps : ℕ → ℕ) (table : TableState) (limit : ℕ) (past : List Ev
   sees_is g i = (there, back)
     where
       there : Sees g i → HasSeen caps (past ++ e ∷ []) i g
-      there (inl (inl (s, at, inl (here, who)))) =
-          (s, at, seen_brings caps past e i s.who g (subst (λ h. IsTrue (takes_part h e)) (ap (λ (s : Event). s.who) (at_last i s at here) ∙ who) (who_takes_part e)) (inl (here, who)))
+      there (inl (inl (s, at, inl (here, who)))) = (
+        s,
+        at,
+        seen_brings caps past e i s.who g
+            (subst (λ h. IsTrue (takes_part h e)) (ap (λ (s : Event). s.who) (at_last i s at here) ∙ who) (who_takes_part e)) (inl (here, who)),
+      )
       there (inl (inl (s, at, inr seen))) = (s, at, seen_grow caps past e i s.who g seen)
       there (inl (inr (f, edge, (s, at, knows)))) = (s, at, seen_brings caps past e i s.who g (inside_to e f g edge) (inr (inl (f, edge, knows))))
-      there (inr (who, (k, s, at, source, (d, atd, had)))) =
-          (d, append_at_old past (e ∷ []) i d atd, seen_brings caps past e i d.who g (subst (λ h. IsTrue (takes_part h e)) who (who_takes_part e)) (inr (inr (k, s, at, source, who, had))))
+      there (inr (who, (k, s, at, source, (d, atd, had)))) = (
+        d,
+        append_at_old past (e ∷ []) i d atd,
+        seen_brings caps past e i d.who g (subst (λ h. IsTrue (takes_part h e)) who (who_takes_part e)) (inr (inr (k, s, at, source, who, had))),
+      )
 
       brought : (s : Event) → At (past ++ e ∷ []) i s → Brings caps past e i s.who g → Sees g i
       brought s at (inl here) = inl (inl (s, at, inl here))
@@ -272,14 +291,16 @@ module _ (caps : ℕ → ℕ) (table : TableState) (limit : ℕ) (past : List Ev
           c.wide g (omega (arith, old, a.count, b.count)) ∙ b.wide g (omega (arith, old, a.count)) ∙ a.wide g old ∙ is_table.wide g old
 
       long : length (table.heard ++ kept (with_seen table.rows e.who (length past)) e.who e.op ∷ []) ≡ length (past ++ e ∷ [])
-      long = length-append table.heard (kept (with_seen table.rows e.who (length past)) e.who e.op ∷ []) ∙ ap (λ m. m + 1) is_table.long ∙ sym (length-append past (e ∷ []))
+      long = length-append table.heard (kept (with_seen table.rows e.who (length past)) e.who e.op ∷ [])
+          ∙ ap (λ m. m + 1) is_table.long ∙ sym (length-append past (e ∷ []))
 
       heard : (k i : ℕ) (s : Event) → At (past ++ e ∷ []) k s → IsTrue (can_be_source s.op) → i < limit
           → IsTrue (sees (table.heard ++ kept (with_seen table.rows e.who (length past)) e.who e.op ∷ []) k i) ↔ HadSeen caps (past ++ e ∷ []) i k s.who
       heard k i s at source within = elim (push_at past e k s at) [
         | inl old ↦
             let below : k < length past = slice_get_within past k s old in
-            let same = get_or_append_left table.heard (kept (with_seen table.rows e.who (length past)) e.who e.op ∷ []) [] k (let long = is_table.long in omega (arith, below, long)) in
+            let same = get_or_append_left table.heard (kept (with_seen table.rows e.who (length past)) e.who e.op ∷ [])
+            [] k (let long = is_table.long in omega (arith, below, long)) in
             let told = is_table.heard k i s old source within in
             let stays = had_old i k s.who below in (
               (λ t. stays.0 (told.0 (sym (ap (λ r. get_or r i false) same) ∙ t))),
@@ -287,12 +308,15 @@ module _ (caps : ℕ → ℕ) (table : TableState) (limit : ℕ) (past : List Ev
             )
         | inr (here, new) ↦
             let row = kept (with_seen table.rows e.who (length past)) e.who e.op in
-            let last : row_of (table.heard ++ row ∷ []) k ≡ row = ap (row_of (table.heard ++ row ∷ [])) (here ∙ sym is_table.long) ∙ get_or-append_seam table.heard row [] [] in
+            let last : row_of (table.heard ++ row ∷ []) k ≡ row =
+            ap (row_of (table.heard ++ row ∷ [])) (here ∙ sym is_table.long) ∙ get_or-append_seam table.heard row [] [] in
             let test : can_be_source e.op ≡ true = subst (λ (s : Event). IsTrue (can_be_source s.op)) (sym new) source in
-            let is_row : row ≡ row_of (with_seen table.rows e.who (length past)) e.who = ap (λ b. if b then row_of (with_seen table.rows e.who (length past)) e.who else []) test in
+            let is_row : row ≡ row_of (with_seen table.rows e.who (length past)) e.who =
+            ap (λ b. if b then row_of (with_seen table.rows e.who (length past)) e.who else []) test in
             let told = sees_own e.who i has.0 within in
             let had = had_new i in
-            let moved : HadSeen caps (past ++ e ∷ []) i (length past) e.who ≡ HadSeen caps (past ++ e ∷ []) i k s.who = (λ j. HadSeen caps (past ++ e ∷ []) i (sym here j) (ap (λ (s : Event). s.who) new j)) in (
+            let moved : HadSeen caps (past ++ e ∷ []) i (length past) e.who ≡ HadSeen caps (past ++ e ∷ []) i k s.who =
+            (λ j. HadSeen caps (past ++ e ∷ []) i (sym here j) (ap (λ (s : Event). s.who) new j)) in (
               (λ t. subst (λ A. A) moved (had.0 (told.0 (sym (ap (λ r. get_or r i false) (last ∙ is_row)) ∙ t)))),
               (λ h. ap (λ r. get_or r i false) (last ∙ is_row) ∙ told.1 (had.1 (subst (λ A. A) (sym moved) h))),
             )

@@ -1,5 +1,7 @@
 -- The race that is noted for a variable: an event, and the greatest earlier access that it races with.
-use Rattle.std.specs.Prelude.{ℕ, zero, suc, ◌<◌, ◌||◌, ◌&&◌, not, if◌then◌else◌, Bool, false, List, length, Option, Some, None, IfSome, is_some, slice_get, slice_set}
+use Rattle.std.specs.Prelude.{ℕ, zero, suc, ◌<◌, ◌||◌, ◌&&◌, not, if◌then◌else◌, Bool, false}
+use Rattle.std.specs.Prelude.{List, length, Option, Some, None, IfSome, is_some, slice_get}
+use Rattle.std.specs.Prelude.{slice_set}
 use Rattle.std.specs.List.{slice_index_or}
 use Rattle.std.specs.Option.{option_map}
 use Rattle.race_records.specs.declared.event.Event.{Event}

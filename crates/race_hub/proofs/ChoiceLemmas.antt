@@ -1,5 +1,7 @@
 -- What a listed choice is: who takes part in its event, and what each is told.
-use Rattle.std.proofs.Common.{◌≡◌, ◌==◌, ℕ, zero, suc, ◌<◌, ◌≤◌, ◌+◌, ◌-◌, ◌%◌, ◌++◌, ◌&&◌, ◌⊎◌, Bool, true, false, cond, List, [], ◌∷◌, map, filter, flat_map, length}
+use Rattle.std.proofs.Common.{◌≡◌, ◌==◌, ℕ, zero, suc, ◌<◌, ◌≤◌, ◌+◌, ◌-◌, ◌%◌, ◌++◌, ◌&&◌}
+use Rattle.std.proofs.Common.{◌⊎◌, Bool, true, false, cond, List, [], ◌∷◌, map, filter}
+use Rattle.std.proofs.Common.{flat_map, length}
 use Rattle.std.proofs.Common.{All}
 use Rattle.std.proofs.Common.{Option, Some, None, is_none, refl, sym, ap, ◌∙◌, subst, inl, inr, arith, slice_get, eqb-true, eq-eqb, true≢false}
 use Rattle.std.specs.List.{range_with_len}
@@ -264,7 +266,8 @@ apart_by caps past e r c v legal is =
     (ap (λ op. broken caps past (record { who = e.who; op = op; place = e.place; place2 = e.place2 })) (sym is) ∙ legal) refl
 
 module _ (caps : ℕ → ℕ) (past : List Event) (ws : List Waiter) (t : Choice) (e : Event) (legal : broken caps past e ≡ None) where
-  with_rows : (w : Waiter) (r : Option Waiter) (alone : Bool) → t.offer < ways w.asked.ask → slice_get ws t.place ≡ Some w → slice_get ws (t.partner - 1) ≡ r → (t.partner == 0) ≡ alone
+  with_rows : (w : Waiter) (r : Option Waiter) (alone : Bool) → t.offer < ways w.asked.ask
+      → slice_get ws t.place ≡ Some w → slice_get ws (t.partner - 1) ≡ r → (t.partner == 0) ≡ alone
       → cond alone (lone_event past w t.offer) (elim r [ None ↦ None | Some r ↦ meet_event w t.offer r (t.partner_offer - 1) ]) ≡ Some e
       → HasSomeRows ws t e
   with_rows w r true less at other alone made =

@@ -294,7 +294,8 @@ module _ {R : Type 0} where
       let who = ap (λ n. n == g) (event_who old.events old.waiting f.choice m.w f.event m.asks makes) in
       let told = told_leaves m.w.asked.ask f.choice.offer m.w.who f.event.op f.told row in
       let through : through_of g (is_through m.w m.p f.told) ≡ as_number (leaves f.event.op && (f.event.who == g)) =
-      through_count g m.w m.p f.told ∙ (λ i. as_number (not (told i) && sym who i)) ∙ ap (λ b. as_number (b && (f.event.who == g))) (not_not (leaves f.event.op)) in
+      through_count g m.w m.p f.told ∙ (λ i. as_number (not (told i) && sym who i))
+      ∙ ap (λ b. as_number (b && (f.event.who == g))) (not_not (leaves f.event.op)) in
       let more = ap (through_of g) m.ended ∙ count_append (λ (l : ℕ × List Step). l.0 == g) old.ended (is_through m.w m.p f.told) in
       let waits = count_without (λ (w : Waiter). w.who == g) f.choice old.waiting m.w m.asks rows.partner rows.apart in
       left_push g old.events f.event (through_of g old.ended) (through_of g new.ended) (ends g) (omega (arith, more, through))

@@ -1,5 +1,7 @@
 -- For each row: its event breaks no rule just where the words of the run so far let it go on.
-use Rattle.std.proofs.Common.{◌≡◌, ℕ, ◌<◌, ◌≤◌, ◌==◌, ◌||◌, ◌&&◌, not, nat_lt, cond, Bool, true, false, List, [], ◌∷◌, length, map, slice_get, filter_map, Option, Some, None}
+use Rattle.std.proofs.Common.{◌≡◌, ℕ, ◌<◌, ◌≤◌, ◌==◌, ◌||◌, ◌&&◌, not, nat_lt, cond, Bool, true}
+use Rattle.std.proofs.Common.{false, List, [], ◌∷◌, length, map, slice_get, filter_map, Option}
+use Rattle.std.proofs.Common.{Some, None}
 use Rattle.std.proofs.Common.{is_none, is_some, refl, sym, ap, ◌∙◌, arith}
 use Rattle.std.specs.List.{list_any}
 use Rattle.std.proofs.lemmas.Bool.Decides.{nat_tests, Decides-eqb}
@@ -9,7 +11,10 @@ use Rattle.race_records.proofs.ListLemmas.{slice_get-within}
 use Rattle.race_records.specs.declared.event.Event.{Event}
 use Rattle.race_records.specs.declared.event.Cause.TheVariants.{SendClosed, CloseClosed, CloseNil, UnlockFree, RUnlockFree}
 use Rattle.race_records.specs.declared.event.Op.{Op}
-use Rattle.race_records.specs.declared.event.Op.TheVariants.{Go, Exit, Read, Lock, RLock, OnceEnd, Send, Recv, Meet, RecvClosed, Close, Default, Unlock, RUnlock}
+use Rattle.race_records.specs.declared.event.Op.TheVariants.{Go, Exit, Read, Lock, RLock}
+use Rattle.race_records.specs.declared.event.Op.TheVariants.{OnceEnd, Send, Recv, Meet}
+use Rattle.race_records.specs.declared.event.Op.TheVariants.{RecvClosed, Close, Default}
+use Rattle.race_records.specs.declared.event.Op.TheVariants.{Unlock, RUnlock}
 use Rattle.race_records.specs.declared.event.Op.TheVariants.{OnceBegin, OnceDone, Fault}
 use Rattle.race_model.specs.Events.{gives, sends, receives, count}
 use Rattle.race_model.specs.State.{over, runs, is_closed, buffered, front, sent, is_held, is_read_held, is_begun, is_ended, innermost, started, last_value}

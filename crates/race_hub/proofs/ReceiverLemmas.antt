@@ -1,5 +1,7 @@
 -- Who receives from a channel is a request of the list.
-use Rattle.std.proofs.Common.{◌≡◌, ℕ, suc, ◌<◌, ◌||◌, Bool, true, false, List, [], ◌∷◌, length, get_or, slice_get, Option, Some, None, refl, sym, ap, ◌∙◌, eqb-true}
+use Rattle.std.proofs.Common.{◌≡◌, ℕ, suc, ◌<◌, ◌||◌, Bool, true, false, List, [], ◌∷◌}
+use Rattle.std.proofs.Common.{length, get_or, slice_get, Option, Some, None, refl, sym, ap}
+use Rattle.std.proofs.Common.{◌∙◌, eqb-true}
 use Rattle.std.specs.List.{list_any}
 use Rattle.race_hub.specs.declared.request.Offer.{Offer}
 use Rattle.std.proofs.lemmas.Bool.{true≢false}

@@ -1,5 +1,7 @@
 -- The tests of Told give an answer exactly where a row of the table holds.
-use Rattle.std.proofs.Common.{◌≡◌, ℕ, ◌==◌, ◌↔◌, ◌&&◌, ◌⊎◌, ◌≤◌, if◌then◌else◌, Bool, true, false, List, length, map, slice_get, Option, Some, None, option_map, inl, inr, refl, sym, ap, ◌∙◌}
+use Rattle.std.proofs.Common.{◌≡◌, ℕ, ◌==◌, ◌↔◌, ◌&&◌, ◌⊎◌, ◌≤◌, if◌then◌else◌, Bool, true, false, List}
+use Rattle.std.proofs.Common.{length, map, slice_get, Option, Some, None, option_map, inl, inr, refl, sym}
+use Rattle.std.proofs.Common.{ap, ◌∙◌}
 use Rattle.std.proofs.Common.{arith}
 use Rattle.std.proofs.lemmas.Option.{slice_get_within}
 use Rattle.race_records.specs.Cases.{same_cases, same_cases-Decides}
@@ -7,7 +9,10 @@ use Rattle.race_records.specs.declared.cases.Case.{Case}
 use Rattle.std.proofs.lemmas.Bool.Decides.{Decides-eqb}
 use Rattle.race_records.specs.declared.event.Cause.TheVariants.{SendClosed, CloseClosed, CloseNil, UnlockFree, RUnlockFree}
 use Rattle.race_records.specs.declared.event.Op.{Op}
-use Rattle.race_records.specs.declared.event.Op.TheVariants.{Go, Exit, Read, Write, Send, Recv, RecvClosed, Close, Default, Lock, Unlock, RLock, RUnlock, OnceBegin}
+use Rattle.race_records.specs.declared.event.Op.TheVariants.{Go, Exit, Read, Write, Send}
+use Rattle.race_records.specs.declared.event.Op.TheVariants.{Recv, RecvClosed, Close, Default}
+use Rattle.race_records.specs.declared.event.Op.TheVariants.{Lock, Unlock, RLock, RUnlock}
+use Rattle.race_records.specs.declared.event.Op.TheVariants.{OnceBegin}
 use Rattle.race_records.specs.declared.event.Op.TheVariants.{OnceEnd, OnceDone, Fault}
 use Rattle.race_hub.specs.declared.request.Answer.{Answer}
 use Rattle.race_hub.specs.declared.request.Ask.{Ask}

@@ -1,6 +1,8 @@
 -- Logs in their places, and how a trace passes along them.
 use Rattle.std.proofs.Common.{◌≡◌, ◌≢◌, ◌==◌, ◌||◌, ◌&&◌, not, ℕ, zero, suc, ◌<◌, ◌≤◌, ◌+◌, ◌++◌, Bool, true, false, cond, if◌then◌else◌, List, [], ◌∷◌, length}
-use Rattle.std.proofs.Common.{slice_get, slice_set, Option, Some, None, refl, sym, ap, ◌∙◌, subst, arith, true≢false, length-append, append-nil, append_assoc, eq-eqb}
+use Rattle.std.proofs.Common.{slice_get, slice_set, Option, Some, None, refl, sym, ap, ◌∙◌}
+use Rattle.std.proofs.Common.{subst, arith, true≢false, length-append, append-nil}
+use Rattle.std.proofs.Common.{append_assoc, eq-eqb}
 use Rattle.std.proofs.lemmas.Bool.Decides.{nat_tests}
 use Rattle.std.proofs.lemmas.Option.{none-some, slice_get_within}
 use Rattle.std.proofs.lemmas.List.Elements.{filter-append}
@@ -329,7 +331,8 @@ all_pass e old mid new first second = record {
   where
     by : (g : ℕ) (t u v : TrackState) (past : List Event)
         → (gives (asker_of e) g ≡ true → (past : List Event) → IsTracked g past t → IsTracked g (past ++ e ∷ []) u) → (gives (asker_of e) g ≡ false → u ≡ t)
-        → (gives (receiver_of e) g ≡ true → (past : List Event) → IsTracked g past u → IsTracked g (past ++ e ∷ []) v) → (gives (receiver_of e) g ≡ false → v ≡ u)
+        → (gives (receiver_of e) g ≡ true → (past : List Event) → IsTracked g past u → IsTracked g (past ++ e ∷ []) v)
+        → (gives (receiver_of e) g ≡ false → v ≡ u)
         → IsTracked g past t → (a b : Bool) → gives (asker_of e) g ≡ a → gives (receiver_of e) g ≡ b → IsTracked g (past ++ e ∷ []) v
     by g t u v past on stays further rests tracked true true p q = absurd (true≢false (sym p ∙ not_both_ways g e q))
     by g t u v past on stays further rests tracked true false p q = subst (IsTracked g (past ++ e ∷ [])) (sym (rests q)) (on p past tracked)

@@ -1,5 +1,7 @@
 -- What a waiting list names has a row in the tables of a replay that stands for its events.
-use Rattle.std.proofs.Common.{ℕ, ◌≡◌, ◌<◌, ◌≤◌, All, slice_get, ◌&&◌, nat_lt, Bool, true, false, IfSome, List, Option, Some, None, IsTrue, refl, sym, ap, subst, arith}
+use Rattle.std.proofs.Common.{ℕ, ◌≡◌, ◌<◌, ◌≤◌, All, slice_get, ◌&&◌, nat_lt, Bool, true}
+use Rattle.std.proofs.Common.{false, IfSome, List, Option, Some, None, IsTrue, refl, sym, ap}
+use Rattle.std.proofs.Common.{subst, arith}
 use Rattle.std.proofs.lemmas.Bool.Decides.{nat_tests}
 use Rattle.race_records.specs.declared.event.Event.{Event}
 use Rattle.race_records.specs.declared.kind.Kind.{Kind}
@@ -58,5 +60,6 @@ few_at declarations waiting i all = by (slice_get waiting i) refl
     by : (w : Option Waiter) → slice_get waiting i ≡ w → elim w [ Some w ↦ ways w.asked.ask | None ↦ 0 ] ≤ 17
     by None there = omega arith
     by (Some w) there =
-        few_ways (counts_of declarations) w.asked.ask (second (nat_lt w.who (counts_of declarations Kind.Goroutine)) (ask_is_in_range (counts_of declarations) w.asked.ask)
+        few_ways (counts_of declarations) w.asked.ask
+        (second (nat_lt w.who (counts_of declarations Kind.Goroutine)) (ask_is_in_range (counts_of declarations) w.asked.ask)
         (all_at (λ w. IsTrue (is_declared declarations w)) waiting i w all there))

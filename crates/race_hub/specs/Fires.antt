@@ -1,4 +1,5 @@
--- What a firing does to the hub. (The Go Programming Language Specification, "Go statements", "Send statements", "Receive operator", "Run-time panics")
+-- What a firing does to the hub. (The Go Programming Language Specification, "Go statements", "Send statements",
+-- "Receive operator", "Run-time panics")
 use Rattle.std.specs.Prelude.{ℕ, ◌≡◌, ◌==◌, ◌-◌, nat_lt, if◌then◌else◌, List, [], ◌∷◌, ◌++◌, remove, slice_set, slice_get, Option, Some, None}
 use Rattle.race_records.specs.declared.event.Event.{Event}
 use Rattle.race_records.specs.declared.event.Op.{Op}

@@ -92,7 +92,8 @@ pub record RowsOfSelects : Type 0 where
       HasWay [] (Ask.Select (Offer.Send (Some 0) 5 ∷ Offer.Recv (Some 1) ∷ []) true) 2 (Default (sends_on (Some 0) ∷ receives_from (Some 1) ∷ []))
       (Some Answer.DefaultTaken)
   pub waits_without : Stays [] (Ask.Select (Offer.Send (Some 0) 5 ∷ Offer.Recv (Some 1) ∷ []) false)
-  pub nil : HasWay [] (Ask.Select (Offer.Send None 5 ∷ Offer.Recv None ∷ []) true) 2 (Default (sends_on None ∷ receives_from None ∷ [])) (Some Answer.DefaultTaken)
+  pub nil : HasWay [] (Ask.Select (Offer.Send None 5 ∷ Offer.Recv None ∷ []) true) 2
+      (Default (sends_on None ∷ receives_from None ∷ [])) (Some Answer.DefaultTaken)
   pub nil_waits : Stays [] (Ask.Select (Offer.Send None 5 ∷ Offer.Recv None ∷ []) false)
   pub nothing : HasWay [] (Ask.Select [] true) 0 (Default []) (Some Answer.DefaultTaken)
   pub nothing_waits : Stays [] (Ask.Select [] false)

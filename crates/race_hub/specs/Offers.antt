@@ -1,4 +1,5 @@
--- What offers say, what the parts of a list of them stand for, and which lists are equal. (The Go Programming Language Specification, "Select statements")
+-- What offers say, what the parts of a list of them stand for, and which lists are equal. (The Go Programming Language
+-- Specification, "Select statements")
 use Rattle.std.proofs.Common.{◌≡◌, ℕ, ◌==◌, ◌&&◌, Bool, true, false, List, [], ◌∷◌, Option, Some, None, Decides, refl, sym, ap, true≢false}
 use Rattle.std.proofs.lemmas.Bool.Decides.{Decides-eqb}
 use Rattle.std.proofs.lemmas.Slice.Eq.{slice_eq-Decides}

@@ -1,6 +1,8 @@
 -- Where a request can go on, in the words of the run so far. (The Go Programming Language Specification, "Go statements", "Send statements", "Receive
 -- operator", "Close", "Select statements"; package sync)
-use Rattle.std.specs.Prelude.{ℕ, if◌then◌else◌, ◌==◌, ◌||◌, ◌&&◌, not, nat_lt, nat_le, cond, Bool, true, false, List, length, map, slice_get, Option, Some, None, is_none}
+use Rattle.std.specs.Prelude.{ℕ, if◌then◌else◌, ◌==◌, ◌||◌, ◌&&◌, not, nat_lt, nat_le, cond}
+use Rattle.std.specs.Prelude.{Bool, true, false, List, length, map, slice_get, Option, Some}
+use Rattle.std.specs.Prelude.{None, is_none}
 use Rattle.std.specs.List.{list_any, list_all}
 use Rattle.race_records.specs.declared.cases.TheConstants.{MAX_CASES}
 use Rattle.race_records.specs.declared.event.Event.{Event}

@@ -1,4 +1,5 @@
--- Small waiting lists whose choices, events and answers are computed. (The Go Programming Language Specification, "Send statements", "Receive operator",
+-- Small waiting lists whose choices, events and answers are computed. (The Go Programming Language Specification, "Send
+-- statements", "Receive operator",
 -- "Close", "Select statements"; package sync)
 use Rattle.std.specs.Prelude.{ℕ, ◌≡◌, ◌+◌, false, List, [], ◌∷◌, Option, Some, None}
 use Rattle.race_records.specs.declared.cases.Case.{Case}

@@ -1,4 +1,5 @@
--- What a job that is put back does to the hub, and which requests are bad. (Our own; compare The Go Programming Language Specification, "Go statements";
+-- What a job that is put back does to the hub, and which requests are bad. (Our own; compare The Go Programming
+-- Language Specification, "Go statements";
 -- package sync)
 use Rattle.std.specs.Prelude.{ℕ, ◌≡◌, ◌==◌, ◌||◌, ◌&&◌, not, nat_lt, if◌then◌else◌, Bool, true, false, List, [], ◌∷◌, ◌++◌, length, remove, Option, Some}
 use Rattle.std.specs.Prelude.{None, is_none, is_some}

@@ -1,4 +1,5 @@
--- The table of requests: what a goroutine that asks does in an event, and what it is told. (The Go Programming Language Specification, "Go statements",
+-- The table of requests: what a goroutine that asks does in an event, and what it is told. (The Go Programming Language
+-- Specification, "Go statements",
 -- "Send statements", "Receive operator", "Close", "Select statements", "Run-time panics"; package sync)
 use Rattle.std.specs.Prelude.{ℕ, ◌≡◌, ◌==◌, ◌⊎◌, cond, Bool, true, Option, Some, None, List, [], ◌∷◌, map, slice_get}
 use Rattle.race_records.specs.declared.event.Cause.TheVariants.{SendClosed, CloseClosed, CloseNil, UnlockFree, RUnlockFree}

@@ -1,5 +1,7 @@
 //! The hub: the goroutines of a run, their requests, and the trace that they make.
-ghost use Rattle.std.specs.Prelude.{◌≡◌, ◌≢◌, ◌<◌, ◌⊎◌, ◌++◌, ◌∷◌, [], List, map, length, if◌then◌else◌, Some, None, Ok, Err, true, false, ◌≤◌, ◌==◌, ◌&&◌, ◌||◌, nat_lt, not, is_none, IsTrue, All, IfOk, IfErr, IfSome, IsNone, OnOk, OnErr};
+ghost use Rattle.std.specs.Prelude.{◌≡◌, ◌≢◌, ◌<◌, ◌⊎◌, ◌++◌, ◌∷◌, [], List, map, length, if◌then◌else◌, Some, None, Ok, Err, true};
+ghost use Rattle.std.specs.Prelude.{false, ◌≤◌, ◌==◌, ◌&&◌, ◌||◌, nat_lt, not, is_none, IsTrue, All, IfOk, IfErr, IfSome, IsNone};
+ghost use Rattle.std.specs.Prelude.{OnOk, OnErr};
 ghost use Rattle.std.specs.List.{find};
 ghost use Rattle.std.specs.Option.{option_copied, option_map};
 ghost use Rattle.race_records.specs.Refusal.{Refuses, AllowsUnless};

@@ -1,5 +1,7 @@
 -- What the table of channels says of a list for which the replay stands: the words of the rules.
-use Rattle.std.proofs.Common.{◌≡◌, ℕ, zero, suc, ◌-◌, ◌<◌, ◌≤◌, ◌==◌, nat_lt, List, [], ◌∷◌, length, drop, filter_map, slice_get, refl, sym, ap, ◌∙◌, arith, length-drop}
+use Rattle.std.proofs.Common.{◌≡◌, ℕ, zero, suc, ◌-◌, ◌<◌, ◌≤◌, ◌==◌, nat_lt, List, [], ◌∷◌}
+use Rattle.std.proofs.Common.{length, drop, filter_map, slice_get, refl, sym, ap, ◌∙◌, arith}
+use Rattle.std.proofs.Common.{length-drop}
 use Rattle.std.proofs.lemmas.Bool.Decides.{nat_tests}
 use Rattle.race_records.specs.declared.kind.Kind.{Kind}
 use Rattle.race_records.specs.declared.event.Event.{Event}
@@ -23,7 +25,8 @@ slice_get-drop xs zero = refl
 slice_get-drop [] (suc n) = refl
 slice_get-drop (x ∷ xs) (suc n) = slice_get-drop xs n
 
-module _ (declarations : List Declaration) (k : ReplayState) (past : List Event) (S : StandsFor declarations k past) (c : ℕ) (less : c < counts_in k Kind.Chan) where
+module _ (declarations : List Declaration) (k : ReplayState) (past : List Event)
+    (S : StandsFor declarations k past) (c : ℕ) (less : c < counts_in k Kind.Chan) where
   -- as many values wait as are in the queue
   pub buffered_is : buffered c past ≡ length (queue_in k.channels c)
   buffered_is =

@@ -31,7 +31,8 @@ module _ (declarations : List Declaration) (capacities : List ℕ) where
     onces = record { begun = replicate (count_of Kind.Once declarations) false; ended = replicate (count_of Kind.Once declarations) false };
   }
 
-  module _ (sized : length capacities ≡ count_of Kind.Chan declarations) (each : (c : ℕ) → c < length capacities → slice_index_or capacities c 0 ≡ capacity_of declarations c) where
+  module _ (sized : length capacities ≡ count_of Kind.Chan declarations) (each : (c : ℕ)
+      → c < length capacities → slice_index_or capacities c 0 ≡ capacity_of declarations c) where
     counts_first : (kind : Kind) → counts_in first kind ≡ counts_of declarations kind
     counts_first Kind.Goroutine = length-replicate (count_of Kind.Goroutine declarations) false
     counts_first Kind.Var = length-replicate {A = ℕ} (count_of Kind.Var declarations) 0

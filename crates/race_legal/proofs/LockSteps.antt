@@ -13,7 +13,8 @@ use Rattle.race_legal.proofs.TableSteps.{get_or-set}
 use Rattle.race_legal.proofs.ChannelSteps.{NoneBroken}
 
 -- a Lock that breaks no rule finds the lock free, an Unlock finds it locked, and nothing else changes which are locked
-pub held_step : (k : ReplayState) (who : ℕ) (o : Op) (l n m : ℕ) → l < length k.locks.held → NoneBroken (op_rules_in k who o) → n ≡ m + as_number (held_in k.locks l)
+pub held_step : (k : ReplayState) (who : ℕ) (o : Op) (l n m : ℕ) → l < length k.locks.held
+    → NoneBroken (op_rules_in k who o) → n ≡ m + as_number (held_in k.locks l)
     → n + as_number (locks l o) ≡ (m + as_number (unlocks l o)) + as_number (held_in (locks_after k.locks o) l)
 held_step k who (Lock p) l n m less kept is =
     rw (get_or-set k.locks.held p l true false less) (go (p == l) (λ same. ap (held_in k.locks) (sym (eqb-true p l same)) ∙ kept.0))
@@ -22,7 +23,8 @@ held_step k who (Lock p) l n m less kept is =
     go true free = let none : as_number (held_in k.locks l) ≡ 0 = ap as_number (free refl) in omega (arith, is, none)
     go false free = omega (arith, is)
 held_step k who (Unlock p) l n m less kept is =
-    rw (get_or-set k.locks.held p l false false less) (go (p == l) (λ same. ap (held_in k.locks) (sym (eqb-true p l same)) ∙ not-false (held_in k.locks p) kept.0))
+    rw (get_or-set k.locks.held p l false false less)
+    (go (p == l) (λ same. ap (held_in k.locks) (sym (eqb-true p l same)) ∙ not-false (held_in k.locks p) kept.0))
   where
     go : (b : Bool) → (b ≡ true → held_in k.locks l ≡ true) → n + 0 ≡ (m + as_number b) + as_number (if b then false else held_in k.locks l)
     go true locked = let one : as_number (held_in k.locks l) ≡ 1 = ap as_number (locked refl) in omega (arith, is, one)
@@ -32,12 +34,14 @@ held_step k who (RUnlock p) l n m less kept is = omega (arith, is)
 held_step k who _ l n m less kept is = omega (arith, is)
 
 -- with an RLock there is one reader more, with an RUnlock that breaks no rule one less, and nothing else changes how many there are
-pub readers_step : (k : ReplayState) (who : ℕ) (o : Op) (l n m : ℕ) → l < length k.locks.readers → NoneBroken (op_rules_in k who o) → n ≡ m + readers_in k.locks l
+pub readers_step : (k : ReplayState) (who : ℕ) (o : Op) (l n m : ℕ)
+    → l < length k.locks.readers → NoneBroken (op_rules_in k who o) → n ≡ m + readers_in k.locks l
     → n + as_number (rlocks l o) ≡ (m + as_number (runlocks l o)) + readers_in (locks_after k.locks o) l
 readers_step k who (RLock p) l n m less kept is =
     rw (get_or-set k.locks.readers p l (readers_in k.locks p + 1) 0 less) (go (p == l) (λ same. ap (readers_in k.locks) (eqb-true p l same)))
   where
-    go : (b : Bool) → (b ≡ true → readers_in k.locks p ≡ readers_in k.locks l) → n + as_number b ≡ (m + 0) + (if b then readers_in k.locks p + 1 else readers_in k.locks l)
+    go : (b : Bool) → (b ≡ true → readers_in k.locks p ≡ readers_in k.locks l)
+        → n + as_number b ≡ (m + 0) + (if b then readers_in k.locks p + 1 else readers_in k.locks l)
     go true same = let there : readers_in k.locks p ≡ readers_in k.locks l = same refl in omega (arith, is, there)
     go false same = omega (arith, is)
 readers_step k who (RUnlock p) l n m less kept is =
@@ -46,7 +50,8 @@ readers_step k who (RUnlock p) l n m less kept is =
     some : nat_lt 0 (readers_in k.locks p) ≡ true
     some = not-false (nat_lt 0 (readers_in k.locks p)) kept.0
 
-    go : (b : Bool) → (b ≡ true → readers_in k.locks p ≡ readers_in k.locks l) → n + 0 ≡ (m + as_number b) + (if b then readers_in k.locks p - 1 else readers_in k.locks l)
+    go : (b : Bool) → (b ≡ true → readers_in k.locks p ≡ readers_in k.locks l)
+        → n + 0 ≡ (m + as_number b) + (if b then readers_in k.locks p - 1 else readers_in k.locks l)
     go true same =
         let there : readers_in k.locks p ≡ readers_in k.locks l = same refl in
         let more : 0 < readers_in k.locks p = grind (arith, nat_tests) in

@@ -17,7 +17,8 @@ more_by_one : (m n : ℕ) (b : Bool) → n ≡ m + as_number b → nat_lt m n �
 more_by_one m n true is = grind (arith, nat_tests)
 more_by_one m n false is = grind (arith, nat_tests)
 
-module _ (declarations : List Declaration) (k : ReplayState) (past : List Event) (S : StandsFor declarations k past) (l : ℕ) (less : l < counts_in k Kind.Lock) where
+module _ (declarations : List Declaration) (k : ReplayState) (past : List Event)
+    (S : StandsFor declarations k past) (l : ℕ) (less : l < counts_in k Kind.Lock) where
   pub is_held_is : is_held l past ≡ held_in k.locks l
   is_held_is = more_by_one _ _ (held_in k.locks l) (S.held l less)
 

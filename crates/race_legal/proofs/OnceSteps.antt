@@ -13,7 +13,8 @@ use Rattle.race_legal.proofs.TableSteps.{get_or-set}
 use Rattle.race_legal.proofs.ChannelSteps.{NoneBroken}
 
 -- an OnceBegin that breaks no rule finds the once as it was declared, and nothing else changes which began
-pub begun_step : (k : ReplayState) (who : ℕ) (o : Op) (q n : ℕ) → q < length k.onces.begun → NoneBroken (op_rules_in k who o) → n ≡ as_number (begun_in k.onces q)
+pub begun_step : (k : ReplayState) (who : ℕ) (o : Op) (q n : ℕ) → q < length k.onces.begun
+    → NoneBroken (op_rules_in k who o) → n ≡ as_number (begun_in k.onces q)
     → n + as_number (once_begins q o) ≡ as_number (begun_in (onces_after k.onces o) q)
 begun_step k who (OnceBegin p) q n less kept is =
     rw (get_or-set k.onces.begun p q true false less) (go (p == q) (λ same. ap (begun_in k.onces) (sym (eqb-true p q same)) ∙ kept.0))

@@ -1,5 +1,7 @@
 -- What the stacks say of a list for which the replay stands, and what they say one event on.
-use Rattle.std.proofs.Common.{◌≡◌, ℕ, ◌+◌, ◌-◌, ◌<◌, ◌≤◌, ◌==◌, ◌||◌, ◌&&◌, not, nat_lt, if◌then◌else◌, Bool, true, false, List, [], ◌∷◌, ◌++◌, length, take, Option, Some, None, filter_map, refl, sym, ap, ◌∙◌, subst, arith, append-nil, IsTrue}
+use Rattle.std.proofs.Common.{◌≡◌, ℕ, ◌+◌, ◌-◌, ◌<◌, ◌≤◌, ◌==◌, ◌||◌, ◌&&◌, not, nat_lt, if◌then◌else◌, Bool, true, false, List, []}
+use Rattle.std.proofs.Common.{◌∷◌, ◌++◌, length, take, Option, Some, None, filter_map, refl, sym, ap, ◌∙◌, subst, arith, append-nil}
+use Rattle.std.proofs.Common.{IsTrue}
 use Rattle.std.specs.Option.{option_to_list}
 use Rattle.std.proofs.Math.Bool.{or-false}
 use Rattle.std.proofs.lemmas.Bool.{eqb-true, eqb-false, not-false, false_from_ne_true, false≢true}
@@ -19,7 +21,9 @@ use Rattle.race_legal.specs.RulesKept.{op_rules_in}
 use Rattle.race_legal.specs.StandsFor.{StandsFor}
 use Rattle.race_legal.proofs.TableSteps.{get_or-set}
 use Rattle.race_legal.proofs.ChannelSteps.{NoneBroken}
-use Rattle.race_legal.proofs.OpenOnces.{entered, open_onces, open_is, open_push, times, open_apart, open_begun, without, open_without, without_none, last, stands_in, without_last, last_of_is}
+use Rattle.race_legal.proofs.OpenOnces.{entered, open_onces, open_is, open_push, times, open_apart}
+use Rattle.race_legal.proofs.OpenOnces.{open_begun, without, open_without, without_none, last, stands_in}
+use Rattle.race_legal.proofs.OpenOnces.{without_last, last_of_is}
 
 -- it gives what it is
 gives_is : (o : Option ℕ) (n : ℕ) → gives o n ≡ true → o ≡ Some n
@@ -82,7 +86,8 @@ module _ (declarations : List Declaration) (k : ReplayState) (past : List Event)
         → open_onces g (λ p. ended p || false) past ++ option_to_list (if (who == g) && not (ended p || false) then Some p else None)
         ≡ stack_in (goroutines_after k.goroutines who (OnceBegin p)) g
     entered_step who p once kept =
-        (λ i. open_onces g (λ p. or-false (ended p) i) past ++ option_to_list (if (who == g) && not ((or-false (ended p) ∙ unended p once kept.0) i) then Some p else None))
+        (λ i. open_onces g (λ p. or-false (ended p) i) past
+        ++ option_to_list (if (who == g) && not ((or-false (ended p) ∙ unended p once kept.0) i) then Some p else None))
         ∙ rw (stack_is g less, get_or-set k.goroutines.stacks who g (stack_in k.goroutines who ++ p ∷ []) [] row) (go (who == g) (eqb-true who g))
       where
         go : (b : Bool) → (b ≡ true → who ≡ g) → stack_in k.goroutines g ++ option_to_list (if b && true then Some p else None)
@@ -108,14 +113,16 @@ module _ (declarations : List Declaration) (k : ReplayState) (past : List Event)
         stands = subst (λ ps. 1 ≤ times q ps) (sym (stack_is who runs)) (stands_in q (stack_in k.goroutines who) at)
 
         go : (b : Bool) → (b ≡ true → who ≡ g) → (b ≡ false → who ≡ g → ⊥)
-            → without q (open_onces g ended past) ≡ (if b then take (length (stack_in k.goroutines who) - 1) (stack_in k.goroutines who) else stack_in k.goroutines g)
+            → without q (open_onces g ended past)
+            ≡ (if b then take (length (stack_in k.goroutines who) - 1) (stack_in k.goroutines who) else stack_in k.goroutines g)
         go true same differ =
             let within : times q (open_onces who ended past) ≤ count (once_begins q) past = open_begun q who ended past in
             ap (λ h. without q (open_onces h ended past)) (sym (same refl))
             ∙ ap (without q) (stack_is who runs)
             ∙ without_last q (stack_in k.goroutines who) at (subst (λ ps. times q ps ≤ 1) (stack_is who runs) (omega (arith, within, once_at_most)))
         go false same differ =
-            let both : times q (open_onces who ended past) + times q (open_onces g ended past) ≤ count (once_begins q) past = open_apart q who g ended (differ refl) past in
+            let both : times q (open_onces who ended past) + times q (open_onces g ended past) ≤ count (once_begins q) past =
+            open_apart q who g ended (differ refl) past in
             without_none q (open_onces g ended past) (omega (arith, both, once_at_most, stands)) ∙ stack_is g less
 
     same_step : open_onces g (λ p. ended p || false) past ++ [] ≡ stack_in k.goroutines g

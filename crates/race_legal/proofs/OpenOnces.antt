@@ -1,5 +1,7 @@
 -- The onces that a goroutine began and that haven't ended, as a list of numbers.
-use Rattle.std.proofs.Common.{◌≡◌, ℕ, suc, ◌+◌, ◌-◌, ◌<◌, ◌≤◌, ◌==◌, ◌||◌, ◌&&◌, not, cond, if◌then◌else◌, Bool, true, false, List, [], ◌∷◌, ◌++◌, length, take, slice_get, Option, Some, None, filter_map, count_by, refl, sym, ap, ◌∙◌, arith, take_all, append-nil}
+use Rattle.std.proofs.Common.{◌≡◌, ℕ, suc, ◌+◌, ◌-◌, ◌<◌, ◌≤◌, ◌==◌, ◌||◌, ◌&&◌, not, cond, if◌then◌else◌, Bool, true, false, List, [], ◌∷◌}
+use Rattle.std.proofs.Common.{◌++◌, length, take, slice_get, Option, Some, None, filter_map, count_by, refl, sym, ap, ◌∙◌, arith, take_all}
+use Rattle.std.proofs.Common.{append-nil}
 use Rattle.std.specs.List.{cons_option, filter}
 use Rattle.std.specs.Option.{option_to_list}
 use Rattle.std.proofs.lemmas.Bool.{eqb-true, eq-eqb}
@@ -34,7 +36,8 @@ open_is g past events = λ i. filter_map (λ e. entered_is g e.who past e.op i) 
 -- one event more begins one once more at most
 pub open_push : (g : ℕ) (ended : ℕ → Bool) (past : List Event) (e : Event)
     → open_onces g ended (past ++ e ∷ []) ≡ open_onces g ended past ++ option_to_list (entered g ended e.who e.op)
-open_push g ended past e = filter_map-append (λ e. entered g ended e.who e.op) past (e ∷ []) ∙ ap (λ ps. open_onces g ended past ++ ps) (alone (entered g ended e.who e.op))
+open_push g ended past e = filter_map-append (λ e. entered g ended e.who e.op) past (e ∷ [])
+    ∙ ap (λ ps. open_onces g ended past ++ ps) (alone (entered g ended e.who e.op))
   where
     alone : (o : Option ℕ) → cons_option o [] ≡ option_to_list o
     alone None = refl

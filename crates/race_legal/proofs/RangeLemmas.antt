@@ -14,7 +14,8 @@ use Rattle.race_legal.specs.StandsFor.{StandsFor}
 pub range_from_fits : (decls : DeclsState) (e : Event) → IsTrue (fits decls e) → IsInRange (counts_of decls.declarations) e
 unfolding fits
 range_from_fits decls e fit = by (nat_lt e.who (count_of Kind.Goroutine decls.declarations)) refl (op_fits decls.declarations e.op) refl
-    (nat_lt e.place (length decls.places)) (second_place_fits (length decls.places) (has_two_places (says e.op).0) e.place2) (lock_fits decls.declarations e.op) fit
+    (nat_lt e.place (length decls.places)) (second_place_fits (length decls.places) (has_two_places (says e.op).0) e.place2)
+    (lock_fits decls.declarations e.op) fit
   where
     by : (b : Bool) → nat_lt e.who (count_of Kind.Goroutine decls.declarations) ≡ b → (c : Bool) → op_fits decls.declarations e.op ≡ c → (p q r : Bool)
         → IsTrue (b && c && p && q && r) → IsInRange (counts_of decls.declarations) e

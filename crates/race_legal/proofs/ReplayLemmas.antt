@@ -1,5 +1,7 @@
 -- The tables of a replay answer the state words, one event on.
-use Rattle.std.proofs.Common.{◌≡◌, ℕ, ◌+◌, ◌<◌, ◌==◌, ◌||◌, ◌&&◌, not, nat_lt, true, List, [], ◌∷◌, ◌++◌, drop, Option, Some, None, is_some, unwrap_or, refl, sym, ap, ◌∙◌, subst, arith, rules, IsTrue, length-append}
+use Rattle.std.proofs.Common.{◌≡◌, ℕ, ◌+◌, ◌<◌, ◌==◌, ◌||◌, ◌&&◌, not, nat_lt, true, List, [], ◌∷◌, ◌++◌, drop, Option}
+use Rattle.std.proofs.Common.{Some, None, is_some, unwrap_or, refl, sym, ap, ◌∙◌, subst, arith, rules, IsTrue}
+use Rattle.std.proofs.Common.{length-append}
 use Rattle.std.specs.List.{slice_index_or, list_all, list_any}
 use Rattle.std.specs.Option.{option_to_list, option_map_or}
 use Rattle.std.proofs.lemmas.Bool.{eqb-true, not-false}
@@ -11,7 +13,9 @@ use Rattle.race_records.specs.declared.cases.Dir.{Dir}
 use Rattle.race_records.specs.declared.event.Cause.{Cause}
 use Rattle.race_records.specs.declared.event.Cause.TheVariants.{SendClosed, CloseClosed, CloseNil, UnlockFree, RUnlockFree}
 use Rattle.race_records.specs.declared.event.Op.{Op}
-use Rattle.race_records.specs.declared.event.Op.TheVariants.{Go, Exit, Read, Write, Send, Recv, Meet, RecvClosed, Close, Default, Lock, Unlock, RLock, RUnlock, OnceBegin, OnceEnd, OnceDone, Fault}
+use Rattle.race_records.specs.declared.event.Op.TheVariants.{Go, Exit, Read, Write, Send, Recv, Meet}
+use Rattle.race_records.specs.declared.event.Op.TheVariants.{RecvClosed, Close, Default, Lock, Unlock, RLock}
+use Rattle.race_records.specs.declared.event.Op.TheVariants.{RUnlock, OnceBegin, OnceEnd, OnceDone, Fault}
 use Rattle.race_records.specs.Declarations.{Declaration, capacity_of}
 use Rattle.race_records.specs.Parts.{op_is_in_range, chan_is_in_range, case_is_in_range, named_is_in_range, failed_at}
 use Rattle.race_model.specs.Events.{starts, is_exit, is_fault, gives, receives, sends, closes, locks, unlocks, rlocks, runlocks, once_begins, once_ends}
@@ -22,7 +26,9 @@ use Rattle.race_model.proofs.CountSteps.{as_number, count_push, has_push, has_ex
 use Rattle.race_model.proofs.LegalSteps.{legal_push}
 use Rattle.race_legal.specs.ReplayState.{ReplayState, IsInRange, counts_in, runs_in, innermost_in, begun_in}
 use Rattle.race_legal.specs.After.{after}
-use Rattle.race_legal.specs.RulesKept.{send_rules, recv_rules, meet_rules, recv_closed_rules, lock_rules, can_proceed_in, is_ready_in, cause_holds_in, op_rules_in, receiver_runs_in, actors_run_in, rules_in, broken_in}
+use Rattle.race_legal.specs.RulesKept.{send_rules, recv_rules, meet_rules, recv_closed_rules, lock_rules}
+use Rattle.race_legal.specs.RulesKept.{can_proceed_in, is_ready_in, cause_holds_in, op_rules_in, receiver_runs_in}
+use Rattle.race_legal.specs.RulesKept.{actors_run_in, rules_in, broken_in}
 use Rattle.race_legal.specs.StandsFor.{StandsFor}
 use Rattle.race_legal.proofs.TableSteps.{started_step, exited_step, values_step}
 use Rattle.race_legal.proofs.ChannelSteps.{closed_step, queue_step, waiting_push, NoneBroken, none_broken, received_step}
@@ -50,10 +56,12 @@ module _ (declarations : List Declaration) (k : ReplayState) (past : List Event)
   -- the rules on a channel, from its row
   module _ (c : ℕ) (less : c < counts_in k Kind.Chan) where
     send_rules_is : (who v : ℕ) → op_rules (capacity_of declarations) past who (Send c v) ≡ send_rules k.channels c
-    send_rules_is who v = λ i. (5, S.capacity c less i == 0) ∷ (6, S.closed c less i) ∷ (7, buffered_is declarations k past S c less i == S.capacity c less i) ∷ []
+    send_rules_is who v = λ i. (5, S.capacity c less i == 0) ∷ (6, S.closed c less i)
+        ∷ (7, buffered_is declarations k past S c less i == S.capacity c less i) ∷ []
 
     recv_rules_is : (who v : ℕ) → op_rules (capacity_of declarations) past who (Recv c v) ≡ recv_rules k.channels c v
-    recv_rules_is who v = λ i. (5, S.capacity c less i == 0) ∷ (8, empty_is declarations k past S c less i) ∷ (9, not (gives (front_is declarations k past S c less i) v)) ∷ []
+    recv_rules_is who v = λ i. (5, S.capacity c less i == 0) ∷ (8, empty_is declarations k past S c less i)
+        ∷ (9, not (gives (front_is declarations k past S c less i) v)) ∷ []
 
     meet_rules_is : (who r v : ℕ) → op_rules (capacity_of declarations) past who (Meet r c v) ≡ (4, r == who) ∷ meet_rules k.channels c
     meet_rules_is who r v = λ i. (4, r == who) ∷ (5, nat_lt 0 (S.capacity c less i)) ∷ (6, S.closed c less i) ∷ []
@@ -62,7 +70,8 @@ module _ (declarations : List Declaration) (k : ReplayState) (past : List Event)
     recv_closed_rules_is who = λ i. (10, not (S.closed c less i)) ∷ (11, left_is declarations k past S c less i) ∷ []
 
     can_proceed_is : (dir : Dir) → can_proceed (capacity_of declarations) past c dir ≡ can_proceed_in k.channels c dir
-    can_proceed_is Dir.Send = λ i. S.closed c less i || (nat_lt 0 (S.capacity c less i) && nat_lt (buffered_is declarations k past S c less i) (S.capacity c less i))
+    can_proceed_is Dir.Send = λ i. S.closed c less i
+        || (nat_lt 0 (S.capacity c less i) && nat_lt (buffered_is declarations k past S c less i) (S.capacity c less i))
     can_proceed_is Dir.Recv = λ i. S.closed c less i || (nat_lt 0 (S.capacity c less i) && nat_lt 0 (buffered_is declarations k past S c less i))
 
   -- a case is ready where the tables say so, and so is some of them
@@ -77,7 +86,8 @@ module _ (declarations : List Declaration) (k : ReplayState) (past : List Event)
 
   some_ready_is : (cases : List Case) → IsTrue (list_all (case_is_in_range (counts_in k Kind.Chan)) cases)
       → list_any (is_ready (capacity_of declarations) past) cases ≡ list_any (is_ready_in k.channels) cases
-  some_ready_is cases is = finds_the_same (is_ready (capacity_of declarations) past) (is_ready_in k.channels) (case_is_in_range (counts_in k Kind.Chan)) cases is_ready_is is
+  some_ready_is cases is = finds_the_same (is_ready (capacity_of declarations) past)
+      (is_ready_in k.channels) (case_is_in_range (counts_in k Kind.Chan)) cases is_ready_is is
 
   -- the cause of a fault holds where they say so
   cause_holds_is : (cause : Cause) → IsTrue (option_map_or (named_is_in_range (counts_in k)) (failed_at cause) true)
@@ -106,11 +116,14 @@ module _ (declarations : List Declaration) (k : ReplayState) (past : List Event)
   op_rules_is who (Close c) runs is = let less : c < counts_in k Kind.Chan = grind (arith, nat_tests) in ap (λ b. (12, b) ∷ []) (S.closed c less)
   op_rules_is who (Default cases) runs is = ap (λ b. (22, b) ∷ []) (some_ready_is cases (search rules))
   op_rules_is who (Lock l) runs is = let less : l < counts_in k Kind.Lock = grind (arith, nat_tests) in lock_rules_is who l less
-  op_rules_is who (Unlock l) runs is = let less : l < counts_in k Kind.Lock = grind (arith, nat_tests) in ap (λ b. (15, not b) ∷ []) (is_held_is declarations k past S l less)
-  op_rules_is who (RLock l) runs is = let less : l < counts_in k Kind.Lock = grind (arith, nat_tests) in ap (λ b. (13, b) ∷ []) (is_held_is declarations k past S l less)
+  op_rules_is who (Unlock l) runs is = let less : l < counts_in k Kind.Lock = grind (arith, nat_tests) in
+      ap (λ b. (15, not b) ∷ []) (is_held_is declarations k past S l less)
+  op_rules_is who (RLock l) runs is = let less : l < counts_in k Kind.Lock = grind (arith, nat_tests) in
+      ap (λ b. (13, b) ∷ []) (is_held_is declarations k past S l less)
   op_rules_is who (RUnlock l) runs is =
       let less : l < counts_in k Kind.Lock = grind (arith, nat_tests) in ap (λ b. (16, not b) ∷ []) (is_read_held_is declarations k past S l less)
-  op_rules_is who (OnceBegin p) runs is = let less : p < counts_in k Kind.Once = grind (arith, nat_tests) in ap (λ b. (17, b) ∷ []) (is_begun_is declarations k past S p less)
+  op_rules_is who (OnceBegin p) runs is = let less : p < counts_in k Kind.Once = grind (arith, nat_tests) in
+      ap (λ b. (17, b) ∷ []) (is_begun_is declarations k past S p less)
   op_rules_is who (OnceEnd p) runs is = ap (λ o. (18, not (gives o p)) ∷ []) (innermost_is declarations k past S who runs)
   op_rules_is who (OnceDone p) runs is = let less : p < counts_in k Kind.Once = grind (arith, nat_tests) in ap (λ b. (19, not b) ∷ []) (S.ended p less)
   op_rules_is who (Fault cause) runs is = ap (λ b. (23, not b) ∷ []) (cause_holds_is cause (search rules))
@@ -132,7 +145,8 @@ module _ (declarations : List Declaration) (k : ReplayState) (past : List Event)
         started_push g past e ∙ ap (λ b. b || starts g e.op) (S.started g old) ∙ started_step k.goroutines e.who e.op g old;
     exited = λ g less.
         let old = before Kind.Goroutine g less in
-        has_exited_push g past e ∙ ap (λ b. b || ((e.who == g) && is_exit e.op)) (S.exited g old) ∙ exited_step k.goroutines e.who e.op g (row g S.square.exited old);
+        has_exited_push g past e ∙ ap (λ b. b || ((e.who == g) && is_exit e.op)) (S.exited g old)
+        ∙ exited_step k.goroutines e.who e.op g (row g S.square.exited old);
     values = λ x less.
         let old = before Kind.Var x less in
         last_value_push x past e ∙ ap (unwrap_or (written x e.op)) (S.values x old) ∙ values_step k.values e.op x old;
@@ -146,7 +160,8 @@ module _ (declarations : List Declaration) (k : ReplayState) (past : List Event)
         ∙ queue_step k.channels e.op c (row c S.square.queues old);
     received = λ c less.
         let old = before Kind.Chan c less in
-        rw (count_push (receives c) past e, count_push (sends c) past e) (received_step k e.who e.op c _ _ kept (S.received c old) (buffered_is declarations k past S c old));
+        rw (count_push (receives c) past e, count_push (sends c) past e)
+        (received_step k e.who e.op c _ _ kept (S.received c old) (buffered_is declarations k past S c old));
     held = λ l less.
         let old = before Kind.Lock l less in
         rw (count_push (locks l) past e, count_push (unlocks l) past e) (held_step k e.who e.op l _ _ old kept (S.held l old));

@@ -5,7 +5,9 @@ use Rattle.race_records.specs.declared.event.Event.{Event}
 use Rattle.race_records.specs.declared.event.Op.{Op}
 use Rattle.race_records.specs.declared.event.Op.TheVariants.{Go, Exit, Write, Send, Recv, Close, Lock, Unlock, RLock, RUnlock, OnceBegin, OnceEnd}
 use Rattle.race_records.specs.declared.kind.Kind.{Kind}
-use Rattle.race_legal.specs.ReplayState.{GoroutinesState, ChannelsState, LocksState, OncesState, ReplayState, counts_in, stack_in, queue_in, readers_in, IsSquare}
+use Rattle.race_legal.specs.ReplayState.{GoroutinesState, ChannelsState, LocksState}
+use Rattle.race_legal.specs.ReplayState.{OncesState, ReplayState, counts_in, stack_in}
+use Rattle.race_legal.specs.ReplayState.{queue_in, readers_in, IsSquare}
 use Rattle.race_legal.specs.After.{goroutines_after, values_after, channels_after, locks_after, onces_after, after}
 
 length-started : (t : GoroutinesState) (who : ℕ) (o : Op) → length (goroutines_after t who o).started ≡ length t.started

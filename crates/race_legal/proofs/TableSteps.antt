@@ -1,5 +1,7 @@
 -- The tables of goroutines and of values, one event on: each changes where its word does.
-use Rattle.std.proofs.Common.{◌≡◌, ℕ, ◌<◌, ◌==◌, ◌||◌, ◌&&◌, Bool, true, false, List, length, Some, None, unwrap_or, get_or, set, if◌then◌else◌, refl, sym, inl, inr, ne_eqb, eq-eqb}
+use Rattle.std.proofs.Common.{◌≡◌, ℕ, ◌<◌, ◌==◌, ◌||◌, ◌&&◌, Bool, true, false, List, length, Some}
+use Rattle.std.proofs.Common.{None, unwrap_or, get_or, set, if◌then◌else◌, refl, sym, inl, inr}
+use Rattle.std.proofs.Common.{ne_eqb, eq-eqb}
 use Rattle.std.proofs.lemmas.Bool.{cases_eq}
 use Rattle.std.proofs.Math.Bool.{or-true, or-false}
 use Rattle.std.proofs.lemmas.List.{get_or-set_same, get_or-set_other}

@@ -7,10 +7,14 @@ use Rattle.race_records.specs.declared.event.Cause.{Cause}
 use Rattle.race_records.specs.declared.event.Cause.TheVariants.{SendClosed, CloseClosed, CloseNil, UnlockFree, RUnlockFree}
 use Rattle.race_records.specs.declared.event.Event.{Event}
 use Rattle.race_records.specs.declared.event.Op.{Op}
-use Rattle.race_records.specs.declared.event.Op.TheVariants.{Go, Exit, Read, Write, Send, Recv, Meet, RecvClosed, Close, Default, Lock, Unlock, RLock, RUnlock, OnceBegin, OnceEnd, OnceDone, Fault}
+use Rattle.race_records.specs.declared.event.Op.TheVariants.{Go, Exit, Read, Write, Send, Recv, Meet}
+use Rattle.race_records.specs.declared.event.Op.TheVariants.{RecvClosed, Close, Default, Lock, Unlock, RLock}
+use Rattle.race_records.specs.declared.event.Op.TheVariants.{RUnlock, OnceBegin, OnceEnd, OnceDone, Fault}
 use Rattle.race_model.specs.Events.{gives}
 use Rattle.race_model.specs.Legal.{least_broken}
-use Rattle.race_legal.specs.ReplayState.{GoroutinesState, ChannelsState, LocksState, ReplayState, started_in, runs_in, innermost_in, value_in, capacity_in, closed_in, queue_in, held_in, read_held_in, begun_in, ended_in}
+use Rattle.race_legal.specs.ReplayState.{GoroutinesState, ChannelsState, LocksState, ReplayState, started_in, runs_in}
+use Rattle.race_legal.specs.ReplayState.{innermost_in, value_in, capacity_in, closed_in, queue_in, held_in, read_held_in}
+use Rattle.race_legal.specs.ReplayState.{begun_in, ended_in}
 
 -- the rules on a send
 abbrev pub send_rules : ChannelsState → ℕ → List (ℕ × Bool)

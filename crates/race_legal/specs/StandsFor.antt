@@ -6,7 +6,9 @@ use Rattle.race_records.specs.Declarations.{Declaration, counts_of, capacity_of}
 use Rattle.race_model.specs.Events.{has_exited, sends, receives, locks, unlocks, rlocks, runlocks, once_begins, count}
 use Rattle.race_model.specs.State.{over, started, last_value, is_closed, sent, is_ended, unended_once}
 use Rattle.race_model.specs.Legal.{broken, IsLegal}
-use Rattle.race_legal.specs.ReplayState.{ReplayState, counts_in, started_in, exited_in, value_in, capacity_in, closed_in, queue_in, stack_in, held_in, readers_in, begun_in, ended_in, IsSquare}
+use Rattle.race_legal.specs.ReplayState.{ReplayState, counts_in, started_in, exited_in, value_in}
+use Rattle.race_legal.specs.ReplayState.{capacity_in, closed_in, queue_in, stack_in, held_in, readers_in}
+use Rattle.race_legal.specs.ReplayState.{begun_in, ended_in, IsSquare}
 
 -- under the declarations, the replay stands for a legal list of events: its tables answer each state word
 pub record StandsFor (declarations : List Declaration) (k : ReplayState) (past : List Event) : Type 0 where

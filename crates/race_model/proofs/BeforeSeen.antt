@@ -79,7 +79,8 @@ module _ (caps : ℕ → ℕ) (events : List Event) where
 
   -- what happens before event j is seen by its goroutine among the events before j
   pub seen_from_before : (i j : ℕ) (a b : Event) → At events i a → At events j b → HappensBefore caps events i j → SeenBy caps (take j events) i a.who b.who
-  seen_from_before i j a b ata atb (x, y, atx, aty, w) = go (into_begin i a.who j b.who (reaches_on (one_step (inl (refl, refl, (a, ata, who_takes_part a)))) from_a))
+  seen_from_before i j a b ata atb (x, y, atx, aty, w) =
+      go (into_begin i a.who j b.who (reaches_on (one_step (inl (refl, refl, (a, ata, who_takes_part a)))) from_a))
     where
       from_a : Reaches caps events (End i a.who) (Begin j b.who)
       from_a =
@@ -105,7 +106,8 @@ module _ (caps : ℕ → ℕ) (events : List Event) where
 
   -- happens before is transitive
   pub happens_before_on : (i j k : ℕ) → HappensBefore caps events i j → HappensBefore caps events j k → HappensBefore caps events i k
-  happens_before_on i j k (a, b, ata, atb, v) (x, c, atx, atc, w) = (a, c, ata, atc, reaches_on (then_step v (inl (refl, refl, (b, atb, who_takes_part b)))) from_b)
+  happens_before_on i j k (a, b, ata, atb, v) (x, c, atx, atc, w) =
+      (a, c, ata, atc, reaches_on (then_step v (inl (refl, refl, (b, atb, who_takes_part b)))) from_b)
     where
       from_b : Reaches caps events (End j b.who) (Begin k c.who)
       from_b = subst (λ (b : Event). Reaches caps events (End j b.who) (Begin k c.who)) (at_same events j x b atx atb) w

@@ -1,5 +1,7 @@
 -- In a legal list no channel's buffer is below empty or over full, so what a channel's edges lead from stands before what they lead to.
-use Rattle.std.proofs.Common.{◌≡◌, ◌≢◌, if◌then◌else◌, ℕ, zero, suc, ◌+◌, ◌-◌, ◌<◌, ◌≤◌, ◌==◌, Bool, true, false, List, [], ◌∷◌, ◌++◌, Some, None, take, length, slice_get, refl, sym, ap, ◌∙◌, subst, inl, inr, arith, eqb-true, not, lt-ltb, ltb-true, IsTrue}
+use Rattle.std.proofs.Common.{◌≡◌, ◌≢◌, if◌then◌else◌, ℕ, zero, suc, ◌+◌, ◌-◌, ◌<◌, ◌≤◌, ◌==◌, Bool, true, false, List, [], ◌∷◌, ◌++◌, Some}
+use Rattle.std.proofs.Common.{None, take, length, slice_get, refl, sym, ap, ◌∙◌, subst, inl, inr, arith, eqb-true, not, lt-ltb, ltb-true}
+use Rattle.std.proofs.Common.{IsTrue}
 use Rattle.std.proofs.lemmas.Bool.{cases_lt, cases_order, both_ways, not-false}
 use Rattle.std.proofs.lemmas.Bool.Decides.{Decides-eqb, not_from_Decides}
 use Rattle.std.proofs.lemmas.Option.{slice_get_within}
@@ -62,7 +64,8 @@ bounded_by caps c past g (Recv d v) kept (low, high) = go (d == c) refl
     go : (b : Bool) → (d == c) ≡ b
         → (count (receives c) past + as_number b ≤ count (sends c) past + 0) × (count (sends c) past + 0 ≤ count (receives c) past + as_number b + caps c)
     go false other = (omega (arith, low), omega (arith, high))
-    go true same = let some : count (sends c) past ≢ count (receives c) past = not_empty caps c past g (Recv d v) same kept in (omega (arith, low, some), omega (arith, high))
+    go true same = let some : count (sends c) past ≢ count (receives c) past = not_empty caps c past g (Recv d v) same kept in
+        (omega (arith, low, some), omega (arith, high))
 bounded_by caps c past g _ kept (low, high) = (omega (arith, low), omega (arith, high))
 
 module _ (caps : ℕ → ℕ) (events : List Event) (legal : IsLegal caps events) where
@@ -73,8 +76,10 @@ module _ (caps : ℕ → ℕ) (events : List Event) (legal : IsLegal caps events
   bounded_push : (c n : ℕ) (e : Event) → At events n e → IsBounded caps c (take n events) → IsBounded caps c (take n events ++ e ∷ [])
   bounded_push c n e at is =
       let both = bounded_by caps c (take n events) e.who e.op (kept_at n e at) is in
-      let sent : count (sends c) (take n events ++ e ∷ []) ≡ count (sends c) (take n events) + as_number (sends c e.op) = count_push (sends c) (take n events) e in
-      let received : count (receives c) (take n events ++ e ∷ []) ≡ count (receives c) (take n events) + as_number (receives c e.op) = count_push (receives c) (take n events) e in
+      let sent : count (sends c) (take n events ++ e ∷ []) ≡ count (sends c) (take n events) + as_number (sends c e.op) =
+      count_push (sends c) (take n events) e in
+      let received : count (receives c) (take n events ++ e ∷ []) ≡ count (receives c) (take n events) + as_number (receives c e.op) =
+      count_push (receives c) (take n events) e in
       (omega (arith, both.0, sent, received), omega (arith, both.1, sent, received))
 
   -- each front is bounded
@@ -113,7 +118,8 @@ module _ (caps : ℕ → ℕ) (events : List Event) (legal : IsLegal caps events
   -- a close stands before what finds the channel closed
   pub close_first : (c i j : ℕ) (s r : Event) → At events i s → At events j r → IsTrue (closes c s.op) → r.op ≡ RecvClosed c → i < j
   close_first c i j s r ats atr is_s is_r = elim (cases_order i j) [
-    | inl same ↦ let one : s ≡ r = at_same events i s r ats (ap (slice_get events) same ∙ atr) in absurd (no_close (sym (ap (λ e. closes c e.op) one ∙ ap (closes c) is_r) ∙ is_s))
+    | inl same ↦ let one : s ≡ r = at_same events i s r ats (ap (slice_get events) same ∙ atr) in
+        absurd (no_close (sym (ap (λ e. closes c e.op) one ∙ ap (closes c) is_r) ∙ is_s))
     | inr (inl up) ↦ up
     | inr (inr down) ↦ absurd (both_ways (is_closed c (take i events)) (unclosed s.op is_s (kept_at i s ats)) (still down))
   ]

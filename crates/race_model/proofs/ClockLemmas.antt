@@ -1,5 +1,7 @@
 -- Counting begins: what clocks with the same begins, more of them, or the begins of two clocks count.
-use Rattle.std.proofs.Common.{◌≡◌, ◌⊎◌, ◌↔◌, ℕ, zero, suc, ◌+◌, ◌<◌, ◌≤◌, max, Bool, true, false, cond, List, [], ◌∷◌, ◌++◌, take, length, refl, sym, ap, ◌∙◌, subst, inl, inr, arith, IsTrue, take_at}
+use Rattle.std.proofs.Common.{◌≡◌, ◌⊎◌, ◌↔◌, ℕ, zero, suc, ◌+◌, ◌<◌, ◌≤◌, max, Bool, true, false, cond, List}
+use Rattle.std.proofs.Common.{[], ◌∷◌, ◌++◌, take, length, refl, sym, ap, ◌∙◌, subst, inl, inr, arith, IsTrue}
+use Rattle.std.proofs.Common.{take_at}
 use Rattle.std.proofs.Math.Nat.{le-max_left, le-max_right}
 use Rattle.std.proofs.lemmas.Bool.{cases_lt}
 use Rattle.std.proofs.lemmas.List.{take-append-le}
@@ -33,7 +35,8 @@ pub participations_push : (h : ℕ) (past : List Event) (e : Event) → particip
 participations_push h past e = sum_by_push (λ e. cond (takes_part h e) 1 0) past e
 
 pub participations_grow : (h : ℕ) (past : List Event) (e : Event) → participations h past ≤ participations h (past ++ e ∷ [])
-participations_grow h past e = let all : participations h (past ++ e ∷ []) ≡ participations h past + one_if (takes_part h e) = participations_push h past e in omega (arith, all)
+participations_grow h past e = let all : participations h (past ++ e ∷ []) ≡ participations h past + one_if (takes_part h e) =
+    participations_push h past e in omega (arith, all)
 
 -- a participation has fewer before it than the list has
 pub participations_below : (h : ℕ) (events : List Event) (i : ℕ) → TakesPart events i h → participations h (take i events) < participations h events
@@ -53,7 +56,8 @@ nth_participation h n (e ∷ events) less = go (takes_part h e) refl (λ m. nth_
 
     behind : (m : ℕ) → one_if (takes_part h e) + m ≡ n → ((i : ℕ) × TakesPart events i h × (participations h (take i events) ≡ m))
         → (i : ℕ) × TakesPart (e ∷ events) i h × (participations h (take i (e ∷ events)) ≡ n)
-    behind m sum (i, (s, at, is), n) = (suc i, (s, at, is), sum_by-cons (λ e. cond (takes_part h e) 1 0) e (take i events) ∙ ap (λ n. one_if (takes_part h e) + n) n ∙ sum)
+    behind m sum (i, (s, at, is), n) =
+        (suc i, (s, at, is), sum_by-cons (λ e. cond (takes_part h e) 1 0) e (take i events) ∙ ap (λ n. one_if (takes_part h e) + n) n ∙ sum)
 
     go : (b : Bool) → takes_part h e ≡ b → ((m : ℕ) → m < participations h events → (i : ℕ) × TakesPart events i h × (participations h (take i events) ≡ m))
         → (i : ℕ) × TakesPart (e ∷ events) i h × (participations h (take i (e ∷ events)) ≡ n)
@@ -71,7 +75,8 @@ nth_participation h n (e ∷ events) less = go (takes_part h e) refl (λ m. nth_
         from_pred (suc m) less to = to m (omega arith) (omega arith)
 
 -- a clock that counts S counts what has the same begins in it
-pub counts_as : (events : List Event) (c : ℕ → ℕ) (S T : ℕ → ℕ → Type 0) → ((i h : ℕ) → TakesPart events i h → S i h ↔ T i h) → CountsBegins events c S → CountsBegins events c T
+pub counts_as : (events : List Event) (c : ℕ → ℕ) (S T : ℕ → ℕ → Type 0)
+    → ((i h : ℕ) → TakesPart events i h → S i h ↔ T i h) → CountsBegins events c S → CountsBegins events c T
 counts_as events c S T same k = record {
   bound = k.bound;
   counted = λ i h part in_t. k.counted i h part ((same i h part).1 in_t);
@@ -82,7 +87,8 @@ counts_as events c S T same k = record {
 pub counts_like : (events : List Event) (c d : ℕ → ℕ) (S : ℕ → ℕ → Type 0) → ((h : ℕ) → d h ≡ c h) → CountsBegins events c S → CountsBegins events d S
 counts_like events c d S same k = record {
   bound = λ h. let is : d h ≡ c h = same h in let le : c h ≤ participations h events = k.bound h in omega (arith, is, le);
-  counted = λ i h part in_s. let is : d h ≡ c h = same h in let less : participations h (take i events) < c h = k.counted i h part in_s in omega (arith, is, less);
+  counted = λ i h part in_s. let is : d h ≡ c h = same h in
+      let less : participations h (take i events) < c h = k.counted i h part in_s in omega (arith, is, less);
   only = λ i h part less. let is : d h ≡ c h = same h in k.only i h part (omega (arith, is, less));
 }
 
@@ -100,9 +106,11 @@ pub counts_join : (events : List Event) (a b : ℕ → ℕ) (S T : ℕ → ℕ �
 counts_join events a b S T k l = record {
   bound = λ h. max_within (a h) (b h) (participations h events) (k.bound h) (l.bound h);
   counted = λ i h part either. elim either [
-    | inl in_s ↦ let less : participations h (take i events) < a h = k.counted i h part in_s in let le : a h ≤ max (a h) (b h) = le-max_left (a h) (b h) in omega
+    | inl in_s ↦ let less : participations h (take i events) < a h = k.counted i h part in_s in
+        let le : a h ≤ max (a h) (b h) = le-max_left (a h) (b h) in omega
         (arith, less, le)
-    | inr in_t ↦ let less : participations h (take i events) < b h = l.counted i h part in_t in let le : b h ≤ max (a h) (b h) = le-max_right (a h) (b h) in omega
+    | inr in_t ↦ let less : participations h (take i events) < b h = l.counted i h part in_t in
+        let le : b h ≤ max (a h) (b h) = le-max_right (a h) (b h) in omega
         (arith, less, le)
   ];
   only = λ i h part less. elim (below_max (participations h (take i events)) (a h) (b h) less) [
@@ -112,7 +120,8 @@ counts_join events a b S T k l = record {
 }
 
 -- a count of a set within another is at most the other's
-pub counts_up : (events : List Event) (a b : ℕ → ℕ) (S T : ℕ → ℕ → Type 0) → CountsBegins events a S → CountsBegins events b T → ((i h : ℕ) → S i h → T i h) → (h : ℕ) → a h ≤ b h
+pub counts_up : (events : List Event) (a b : ℕ → ℕ) (S T : ℕ → ℕ → Type 0) → CountsBegins events a S
+    → CountsBegins events b T → ((i h : ℕ) → S i h → T i h) → (h : ℕ) → a h ≤ b h
 counts_up events a b S T k l within h = elim (cases_lt (b h) (a h)) [
   | inr le ↦ le
   | inl less ↦
@@ -131,7 +140,8 @@ counts_up events a b S T k l within h = elim (cases_lt (b h) (a h)) [
 -- joining a clock of what is seen already changes no count: so such a join may be left out
 pub counts_skip : (events : List Event) (a b : ℕ → ℕ) (S T : ℕ → ℕ → Type 0) → CountsBegins events a S → CountsBegins events b T → ((i h : ℕ) → S i h → T i h)
     → CountsBegins events b (λ i h. T i h ⊎ S i h)
-counts_skip events a b S T k l within = counts_as events b T (λ i h. T i h ⊎ S i h) (λ i h part. (inl, λ either. elim either [ inl in_t ↦ in_t | inr in_s ↦ within i h in_s ])) l
+counts_skip events a b S T k l within =
+    counts_as events b T (λ i h. T i h ⊎ S i h) (λ i h part. (inl, λ either. elim either [ inl in_t ↦ in_t | inr in_s ↦ within i h in_s ])) l
 
 -- the list with e behind it
 module _ (past : List Event) (e : Event) where
@@ -153,11 +163,13 @@ module _ (past : List Event) (e : Event) where
   part_within i h (s, at, is) = slice_get_within past i s at
 
   -- a clock stays where nothing of e comes into its set
-  pub counts_grow : (c : ℕ → ℕ) (S T : ℕ → ℕ → Type 0) → ((i h : ℕ) → TakesPart past i h → S i h ↔ T i h) → ((h : ℕ) → T (length past) h → ⊥) → CountsBegins past c S
+  pub counts_grow : (c : ℕ → ℕ) (S T : ℕ → ℕ → Type 0) → ((i h : ℕ) → TakesPart past i h → S i h ↔ T i h)
+      → ((h : ℕ) → T (length past) h → ⊥) → CountsBegins past c S
       → CountsBegins (past ++ e ∷ []) c T
   counts_grow c S T same none k = record {
     bound =
-        λ h. let le : c h ≤ participations h past = k.bound h in let up : participations h past ≤ participations h (past ++ e ∷ []) = participations_grow h past e in omega
+        λ h. let le : c h ≤ participations h past = k.bound h in
+        let up : participations h past ≤ participations h (past ++ e ∷ []) = participations_grow h past e in omega
         (arith, le, up);
     counted = λ i h part in_t. elim (part_push i h part) [
       | inl old ↦ subst (λ es. participations h es < c h) (sym (front_old i (let less : i < length past = part_within i h old in omega arith)))
@@ -165,7 +177,8 @@ module _ (past : List Event) (e : Event) where
       | inr new ↦ absurd (none h (subst (λ i. T i h) new.0 in_t))
     ];
     only = λ i h part less. elim (part_push i h part) [
-      | inl old ↦ (same i h old).0 (k.only i h old (subst (λ es. participations h es < c h) (front_old i (let under : i < length past = part_within i h old in omega arith)) less))
+      | inl old ↦ (same i h old).0 (k.only i h old
+          (subst (λ es. participations h es < c h) (front_old i (let under : i < length past = part_within i h old in omega arith)) less))
       | inr new ↦
           let all : participations h past < c h = subst (λ es. participations h es < c h) (front_new i new.0) less in
           let le : c h ≤ participations h past = k.bound h in

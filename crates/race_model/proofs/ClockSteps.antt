@@ -1,5 +1,7 @@
 -- The clock of a goroutine, one event on.
-use Rattle.std.proofs.Common.{◌≡◌, ◌≢◌, ◌⊎◌, ◌↔◌, ℕ, ◌+◌, ◌<◌, ◌≤◌, max, true, false, List, [], ◌∷◌, ◌++◌, take, length, refl, sym, ap, ◌∙◌, subst, inl, inr, arith, IsTrue, eq-eqb, ne_eqb}
+use Rattle.std.proofs.Common.{◌≡◌, ◌≢◌, ◌⊎◌, ◌↔◌, ℕ, ◌+◌, ◌<◌, ◌≤◌, max, true, false, List, [], ◌∷◌, ◌++◌}
+use Rattle.std.proofs.Common.{take, length, refl, sym, ap, ◌∙◌, subst, inl, inr, arith, IsTrue, eq-eqb}
+use Rattle.std.proofs.Common.{ne_eqb}
 use Rattle.std.proofs.lemmas.Bool.{cases_eq, cases_lt}
 use Rattle.std.proofs.lemmas.Option.{slice_get_within}
 use Rattle.race_records.specs.declared.event.Event.{Event}
@@ -12,10 +14,13 @@ use Rattle.race_model.proofs.Ranks.{reaches_up}
 use Rattle.race_model.proofs.Grow.{takes_part_grow, takes_part_old, reaches_grow, reaches_old}
 use Rattle.race_model.proofs.Reaching.{inside_from, ReachesEarlier, into_begin, out_of_seen, who_takes_part}
 use Rattle.race_model.proofs.SeenSteps.{own_seen, new_part, seen_at_from, seen_grow, seen_step, seen_brings}
-use Rattle.race_model.proofs.ClockLemmas.{one_if, participations_push, nth_participation, counts_as, counts_like, counts_join, counts_grow, part_push, front_new}
+use Rattle.race_model.proofs.ClockLemmas.{one_if, participations_push, nth_participation}
+use Rattle.race_model.proofs.ClockLemmas.{counts_as, counts_like, counts_join, counts_grow}
+use Rattle.race_model.proofs.ClockLemmas.{part_push, front_new}
 
 -- a goroutine has seen its own begins, and so counts them all
-pub own_count : (caps : ℕ → ℕ) (events : List Event) (g : ℕ) (d : ℕ → ℕ) → CountsBegins events d (λ i h. SeenBy caps events i h g) → d g ≡ participations g events
+pub own_count : (caps : ℕ → ℕ) (events : List Event) (g : ℕ) (d : ℕ → ℕ)
+    → CountsBegins events d (λ i h. SeenBy caps events i h g) → d g ≡ participations g events
 own_count caps events g d k = elim (cases_lt (d g) (participations g events)) [
   | inr le ↦ let bound : d g ≤ participations g events = k.bound g in omega (arith, le, bound)
   | inl less ↦ go (nth_participation g (d g) events less)
@@ -27,7 +32,8 @@ own_count caps events g d k = elim (cases_lt (d g) (participations g events)) [
         absurd (omega (arith, n, counted))
 
 -- so a clock that is right of the others is right
-pub counts_seen_from : (caps : ℕ → ℕ) (events : List Event) (g : ℕ) (c d : ℕ → ℕ) → CountsBegins events d (λ i h. SeenBy caps events i h g) → ((h : ℕ) → h ≢ g → c h ≡ d h)
+pub counts_seen_from : (caps : ℕ → ℕ) (events : List Event) (g : ℕ) (c d : ℕ → ℕ)
+    → CountsBegins events d (λ i h. SeenBy caps events i h g) → ((h : ℕ) → h ≢ g → c h ≡ d h)
     → CountsSeen caps events g c
 counts_seen_from caps events g c d k same = counts_like events d (owning g (participations g events) c) (λ i h. SeenBy caps events i h g) equal k
   where
@@ -49,7 +55,8 @@ module _ (caps : ℕ → ℕ) (past : List Event) (e : Event) where
   -- and the other way
   pub reaches_from : (i h g : ℕ) → IsTrue (takes_part g e) → SeenBy caps past i h g → Reaches caps (past ++ e ∷ []) (Begin i h) (Begin (length past) g)
   reaches_from i h g is (m, (s, at, part), w) =
-      then_step (reaches_grow caps past (e ∷ []) w) (inl (slice_get_within past m s at, refl, takes_part_grow caps past (e ∷ []) m g (s, at, part), new_part caps past e g is))
+      then_step (reaches_grow caps past (e ∷ []) w)
+      (inl (slice_get_within past m s at, refl, takes_part_grow caps past (e ∷ []) m g (s, at, part), new_part caps past e g is))
 
   -- no begin in e reaches one
   new_reaches_none : (h g : ℕ) → Reaches caps (past ++ e ∷ []) (Begin (length past) h) (Begin (length past) g) → ⊥
@@ -74,7 +81,8 @@ module _ (caps : ℕ → ℕ) (past : List Event) (e : Event) where
           omega (arith, all, ap (λ h. participations h past) same)
           )
       | inr differ ↦ rw (ne_eqb h g differ)
-          (let le : c h ≤ participations h (past ++ e ∷ []) = subst (λ n. n ≤ participations h (past ++ e ∷ [])) (other h differ (participations g past)) (before.bound h) in le)
+          (let le : c h ≤ participations h (past ++ e ∷ []) =
+          subst (λ n. n ≤ participations h (past ++ e ∷ [])) (other h differ (participations g past)) (before.bound h) in le)
     ];
     counted = λ i h part seen. elim seen [
       | inl own ↦ subst (λ es. participations h es < owning g (participations g past + 1) c h) (sym (front_new past e i own.0))
@@ -86,13 +94,15 @@ module _ (caps : ℕ → ℕ) (past : List Event) (e : Event) where
       | inl old ↦ inr (elim (cases_eq h g) [
         | inl same ↦ reaches_from i h g is (subst (λ h. SeenBy caps past i h g) (sym same) (own_seen caps past i g (subst (TakesPart past i) same old)))
         | inr differ ↦ before.only i h part
-            (subst (λ n. participations h (take i (past ++ e ∷ [])) < n) (other h differ (participations g past + 1) ∙ sym (other h differ (participations g past))) less)
+            (subst (λ n. participations h (take i (past ++ e ∷ [])) < n)
+            (other h differ (participations g past + 1) ∙ sym (other h differ (participations g past))) less)
       ])
       | inr new ↦ elim (cases_eq h g) [
         | inl same ↦ inl (new.0, same)
         | inr differ ↦
             inr (before.only i h part
-            (subst (λ n. participations h (take i (past ++ e ∷ [])) < n) (other h differ (participations g past + 1) ∙ sym (other h differ (participations g past))) less))
+            (subst (λ n. participations h (take i (past ++ e ∷ [])) < n)
+            (other h differ (participations g past + 1) ∙ sym (other h differ (participations g past))) less))
       ]
     ];
   }
@@ -141,7 +151,11 @@ module _ (caps : ℕ → ℕ) (past : List Event) (e : Event) where
       ]
 
       back : Gathered g i h → SeenBy caps (past ++ e ∷ []) i h g
-      back (inl seen) = (length past, new_part caps past e g is, out_of_seen i h (length past) g (length past) g seen (inl (refl, refl, new_part caps past e g is)))
+      back (inl seen) = (
+        length past,
+        new_part caps past e g is,
+        out_of_seen i h (length past) g (length past) g seen (inl (refl, refl, new_part caps past e g is)),
+      )
       back (inr (inl (f, inside, seen))) =
           (length past, new_part caps past e g is, out_of_seen i h (length past) f (length past) g seen (inr (e, slice_get-push past e, inl (refl, inside))))
       back (inr (inr (to, (k, s, at, source, seen)))) = seen_brings caps past e i h g is (inr (inr (k, s, at, source, to, seen)))
@@ -167,16 +181,21 @@ module _ (caps : ℕ → ℕ) (past : List Event) (e : Event) where
       back i h (inr (inr (to, by))) = inr by
 
       same : (i h : ℕ) → TakesPart (past ++ e ∷ []) i h → Both i h ↔ SeenBy caps (past ++ e ∷ []) i h e.who
-      same i h part = (λ both. (seen_gathered e.who (who_takes_part e) i h).1 (there i h both), λ seen. back i h ((seen_gathered e.who (who_takes_part e) i h).0 seen))
+      same i h part = (
+        λ both. (seen_gathered e.who (who_takes_part e) i h).1 (there i h both),
+        λ seen. back i h ((seen_gathered e.who (who_takes_part e) i h).0 seen),
+      )
 
   -- a participant with one partner inside e, where e is handed nothing: the clocks of the two begins
-  pub counts_pair : (f g : ℕ) (a b : ℕ → ℕ) → IsTrue (takes_part g e) → SynchronizedInside e.who e.op f g → ((x : ℕ) → SynchronizedInside e.who e.op x g → x ≡ f)
+  pub counts_pair : (f g : ℕ) (a b : ℕ → ℕ) → IsTrue (takes_part g e)
+      → SynchronizedInside e.who e.op f g → ((x : ℕ) → SynchronizedInside e.who e.op x g → x ≡ f)
       → ((i h : ℕ) → Handed caps past e.op i h → ⊥)
       → CountsAt caps (past ++ e ∷ []) (length past) g a → CountsAt caps (past ++ e ∷ []) (length past) f b
       → CountsBegins (past ++ e ∷ []) (λ h. max (a h) (b h)) (λ i h. SeenBy caps (past ++ e ∷ []) i h g)
   counts_pair f g a b is inside sole unhanded own other =
       counts_as (past ++ e ∷ []) (λ h. max (a h) (b h)) Both (λ i h. SeenBy caps (past ++ e ∷ []) i h g) same
-      (counts_join (past ++ e ∷ []) a b (λ i h. SeenAt caps (past ++ e ∷ []) i h (length past) g) (λ i h. SeenAt caps (past ++ e ∷ []) i h (length past) f) own other)
+      (counts_join (past ++ e ∷ []) a b (λ i h. SeenAt caps (past ++ e ∷ []) i h (length past) g)
+      (λ i h. SeenAt caps (past ++ e ∷ []) i h (length past) f) own other)
     where
       Both : ℕ → ℕ → Type 0
       Both i h = SeenAt caps (past ++ e ∷ []) i h (length past) g ⊎ SeenAt caps (past ++ e ∷ []) i h (length past) f
@@ -212,4 +231,5 @@ module _ (caps : ℕ → ℕ) (past : List Event) (e : Event) where
         where
           go : SeenBy caps past (length past) h g → ⊥
           go (j, (s, at, part), w) =
-              let less : j < length past = slice_get_within past j s at in let up : length past + length past < j + j + 1 = reaches_up w in omega (arith, less, up)
+              let less : j < length past = slice_get_within past j s at in
+              let up : length past + length past < j + j + 1 = reaches_up w in omega (arith, less, up)

@@ -1,5 +1,7 @@
 -- Verdicts on small lists, by tests that compute: on a list that is written out, refl answers.
-use Rattle.std.proofs.Common.{◌≡◌, ◌⊎◌, ℕ, zero, suc, ◌<◌, ◌||◌, ◌&&◌, not, Bool, true, false, Option, List, [], ◌∷◌, ◌++◌, length, append-nil, Some, slice_get, refl, sym, ap, ◌∙◌, subst, inl, inr, arith, eqb-true, IsTrue}
+use Rattle.std.proofs.Common.{◌≡◌, ◌⊎◌, ℕ, zero, suc, ◌<◌, ◌||◌, ◌&&◌, not, Bool, true, false, Option, List, [], ◌∷◌, ◌++◌}
+use Rattle.std.proofs.Common.{length, append-nil, Some, slice_get, refl, sym, ap, ◌∙◌, subst, inl, inr, arith, eqb-true}
+use Rattle.std.proofs.Common.{IsTrue}
 use Rattle.std.proofs.lemmas.Bool.{cases_order, or_left, or_right, or_cases, and_parts}
 use Rattle.std.proofs.lemmas.Bool.Decides.{not_from_Decides}
 use Rattle.std.proofs.lemmas.Option.{slice_get_within}
@@ -64,7 +66,8 @@ all_ordered caps events (p ∷ rest) = keeps_behind caps events p rest && all_or
 pub illegal_by : (caps : ℕ → ℕ) (past : List Event) (e : Event) (n : ℕ) → AllKept caps [] past → broken caps past e ≡ Some n
     → IsVerdict caps (past ++ e ∷ []) (Illegal (length past) n)
 illegal_by caps past e n kept is =
-    subst (λ es. IsIllegalAt caps es (length past) n) (append-nil (past ++ e ∷ [])) (illegal_push caps past [] e n (legal_by caps [] past (legal_none caps) kept) is)
+    subst (λ es. IsIllegalAt caps es (length past) n) (append-nil (past ++ e ∷ []))
+    (illegal_push caps past [] e n (legal_by caps [] past (legal_none caps) kept) is)
 
 module _ (caps : ℕ → ℕ) (events : List Event) where
   behind_at : (p : ℕ) (order : List ℕ) (n j : ℕ) → IsTrue (keeps_behind caps events p order) → slice_get order n ≡ Some j → IsTrue (keeps_order caps events p j)
@@ -111,7 +114,8 @@ module _ (caps : ℕ → ℕ) (events : List Event) where
 
               some_write : IsWriteOf events y i ⊎ IsWriteOf events y j → IsTrue (is_write a.op || is_write b.op)
               some_write (inl (e, at, is)) = or_left _ _ (subst (λ (e : Event). IsTrue (is_write e.op)) (at_same events i e a at ata) (is_write_from y e.op is))
-              some_write (inr (e, at, is)) = or_right _ _ (subst (λ (e : Event). IsTrue (is_write e.op)) (at_same events j e b at atb) (is_write_from y e.op is))
+              some_write (inr (e, at, is)) = or_right _ _
+                  (subst (λ (e : Event). IsTrue (is_write e.op)) (at_same events j e b at atb) (is_write_from y e.op is))
 
               told : IsTrue (not (is_write a.op || is_write b.op) || sees caps events i j a b)
               told = sym (ap (λ o. keeps caps events i j (Some a) o) atb) ∙ sym (ap (λ o. keeps caps events i j o (slice_get events j)) ata) ∙ passes
@@ -163,7 +167,8 @@ module _ (caps : ℕ → ℕ) (events : List Event) where
   -- the two accesses of the list race
   pub races_by : (x : ℕ) {p q : ℕ} {a b : Event} → AllKept caps [] events → own_order events ≡ p ∷ q ∷ [] → At events p a → At events q b → p < q
       → IsTrue (accesses x a.op) → IsTrue (accesses x b.op)
-      → IsTrue (writes x a.op || writes x b.op) → sees caps events p q a b ≡ false → IsVerdict caps events (Races (record { var = x; first = p; second = q } ∷ []))
+      → IsTrue (writes x a.op || writes x b.op) → sees caps events p q a b ≡ false
+      → IsVerdict caps events (Races (record { var = x; first = p; second = q } ∷ []))
   races_by x {p} {q} {a} {b} kept own atp atq up is_a is_b write unseen =
       (legal_by caps [] events (legal_none caps) kept, (λ none. cc), two_race x p q only up (race_by x atp atq up is_a is_b write unseen))
     where
@@ -180,6 +185,7 @@ module _ (caps : ℕ → ℕ) (events : List Event) where
 
       only : (y i : ℕ) → IsAccessOf events y i → ((i ≡ p) ⊎ (i ≡ q)) × (x ≡ y)
       only y i (e, at, is) =
-          let found : (k : ℕ) × (slice_get (own_order events) k ≡ Some i) = own_each events i (passes_from is_access events i e at (is_access_from y e.op is)) in
+          let found : (k : ℕ) × (slice_get (own_order events) k ≡ Some i) =
+          own_each events i (passes_from is_access events i e at (is_access_from y e.op is)) in
           let one : (i ≡ p) ⊎ (i ≡ q) = at_two i found.0 (ap (λ o. slice_get o found.0) (sym own) ∙ found.1) in
           (one, variable y i e at is one)

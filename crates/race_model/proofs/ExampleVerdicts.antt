@@ -6,7 +6,9 @@ use Rattle.race_model.specs.Order.{HappensBefore}
 use Rattle.race_model.specs.Race.{IsRace}
 use Rattle.race_model.specs.Reorder.{op_passes, IsReordering}
 use Rattle.race_model.specs.Verdict.{IsVerdict, Clean, Races, Illegal}
-use Rattle.race_model.specs.Examples.{main, w, x, does, race_on_x, write_then_go, go_then_write, exit_then_read, exit_then_go, two_reads, exit_twice, write_unstarted, go_main, read_unwritten, go_twice, write_exited, read_overwritten, read_the_first}
+use Rattle.race_model.specs.Examples.{main, w, x, does, race_on_x, write_then_go, go_then_write, exit_then_read, exit_then_go}
+use Rattle.race_model.specs.Examples.{two_reads, exit_twice, write_unstarted, go_main, read_unwritten, go_twice, write_exited}
+use Rattle.race_model.specs.Examples.{read_overwritten, read_the_first}
 use Rattle.race_model.proofs.Ranks.{happens_before_up}
 use Rattle.race_model.proofs.ExampleLemmas.{before_by, clean_by, race_by, races_by, illegal_by}
 

@@ -1,5 +1,7 @@
 -- Legality, one event on.
-use Rattle.std.proofs.Common.{◌≡◌, ℕ, ◌<◌, List, [], ◌∷◌, ◌++◌, Some, None, take, length, refl, sym, ap, ◌∙◌, subst, inl, inr, arith, take_at, take-take, append_assoc, append-nil}
+use Rattle.std.proofs.Common.{◌≡◌, ℕ, ◌<◌, List, [], ◌∷◌, ◌++◌, Some, None, take, length, refl, sym}
+use Rattle.std.proofs.Common.{ap, ◌∙◌, subst, inl, inr, arith, take_at, take-take, append_assoc}
+use Rattle.std.proofs.Common.{append-nil}
 use Rattle.std.proofs.lemmas.Option.{slice_get_within}
 use Rattle.std.proofs.lemmas.List.{take-append-le}
 use Rattle.race_records.specs.declared.event.Event.{Event}
@@ -48,4 +50,5 @@ AllKept caps past (e ∷ rest) = (broken caps past e ≡ None) × AllKept caps (
 -- a list is legal where each event in turn breaks no rule: on a list that is written out, by refl
 pub legal_by : (caps : ℕ → ℕ) (past rest : List Event) → IsLegal caps past → AllKept caps past rest → IsLegal caps (past ++ rest)
 legal_by caps past [] legal kept = subst (IsLegal caps) (sym (append-nil past)) legal
-legal_by caps past (e ∷ rest) legal kept = subst (IsLegal caps) (append_assoc past (e ∷ []) rest) (legal_by caps (past ++ e ∷ []) rest (legal_push caps past e legal kept.0) kept.1)
+legal_by caps past (e ∷ rest) legal kept =
+    subst (IsLegal caps) (append_assoc past (e ∷ []) rest) (legal_by caps (past ++ e ∷ []) rest (legal_push caps past e legal kept.0) kept.1)

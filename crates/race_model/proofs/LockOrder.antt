@@ -1,5 +1,7 @@
 -- In a legal list the locks and unlocks of a lock take turns, and the function of a once ends before it is found to have run.
-use Rattle.std.proofs.Common.{◌≡◌, ◌<◌, ◌≤◌, ◌↔◌, if◌then◌else◌, ℕ, zero, suc, ◌+◌, ◌==◌, ◌&&◌, Bool, true, false, not, nat_lt, List, [], ◌∷◌, ◌++◌, Option, Some, None, take, length, slice_get, refl, sym, ap, ◌∙◌, subst, inl, inr, arith, eqb-true, lt-ltb, ltb-true, IsTrue}
+use Rattle.std.proofs.Common.{◌≡◌, ◌<◌, ◌≤◌, ◌↔◌, if◌then◌else◌, ℕ, zero, suc, ◌+◌, ◌==◌, ◌&&◌, Bool, true, false, not, nat_lt, List, [], ◌∷◌, ◌++◌}
+use Rattle.std.proofs.Common.{Option, Some, None, take, length, slice_get, refl, sym, ap, ◌∙◌, subst, inl, inr, arith, eqb-true, lt-ltb, ltb-true}
+use Rattle.std.proofs.Common.{IsTrue}
 use Rattle.std.proofs.lemmas.Bool.{cases_lt, cases_order, both_ways, not-false}
 use Rattle.std.proofs.lemmas.Bool.Decides.{nat_tests}
 use Rattle.std.proofs.lemmas.Option.{none-some, same_Some, slice_get_within}
@@ -25,16 +27,20 @@ free_most : (l : ℕ) (past : List Event) → is_held l past ≡ false → count
 free_most l past is = grind (arith, nat_tests)
 
 -- what is locked was free, also for reading, and what is unlocked was locked
-was_free : (caps : ℕ → ℕ) (l : ℕ) (past : List Event) (g : ℕ) (o : Op) → IsTrue (locks l o) → RulesKept caps past g o → count (locks l) past ≤ count (unlocks l) past
-was_free caps l past g (Lock m) same kept = subst (λ m. count (locks m) past ≤ count (unlocks m) past) (eqb-true m l same) (free_most m past (kept 0 (13, is_held m past) refl))
+was_free : (caps : ℕ → ℕ) (l : ℕ) (past : List Event) (g : ℕ) (o : Op) → IsTrue (locks l o)
+    → RulesKept caps past g o → count (locks l) past ≤ count (unlocks l) past
+was_free caps l past g (Lock m) same kept =
+    subst (λ m. count (locks m) past ≤ count (unlocks m) past) (eqb-true m l same) (free_most m past (kept 0 (13, is_held m past) refl))
 was_free caps l past g _ same kept = cc
 
 was_free_to_read : (caps : ℕ → ℕ) (l : ℕ) (past : List Event) (g : ℕ) (o : Op) → IsTrue (rlocks l o) → RulesKept caps past g o
     → count (locks l) past ≤ count (unlocks l) past
-was_free_to_read caps l past g (RLock m) same kept = subst (λ m. count (locks m) past ≤ count (unlocks m) past) (eqb-true m l same) (free_most m past (kept 0 (13, is_held m past) refl))
+was_free_to_read caps l past g (RLock m) same kept =
+    subst (λ m. count (locks m) past ≤ count (unlocks m) past) (eqb-true m l same) (free_most m past (kept 0 (13, is_held m past) refl))
 was_free_to_read caps l past g _ same kept = cc
 
-was_held : (caps : ℕ → ℕ) (l : ℕ) (past : List Event) (g : ℕ) (o : Op) → IsTrue (unlocks l o) → RulesKept caps past g o → count (unlocks l) past < count (locks l) past
+was_held : (caps : ℕ → ℕ) (l : ℕ) (past : List Event) (g : ℕ) (o : Op) → IsTrue (unlocks l o)
+    → RulesKept caps past g o → count (unlocks l) past < count (locks l) past
 was_held caps l past g (Unlock m) same kept =
     subst (λ m. count (unlocks m) past < count (locks m) past) (eqb-true m l same) (held_less m past (not-false _ (kept 0 (15, not (is_held m past)) refl)))
 was_held caps l past g _ same kept = cc
@@ -48,13 +54,15 @@ turns_by caps l past g (Lock m) kept (low, high) = go (m == l) refl
     go : (b : Bool) → (m == l) ≡ b
         → (count (unlocks l) past + 0 ≤ count (locks l) past + as_number b) × (count (locks l) past + as_number b ≤ count (unlocks l) past + 0 + 1)
     go false other = (omega (arith, low), omega (arith, high))
-    go true same = let free : count (locks l) past ≤ count (unlocks l) past = was_free caps l past g (Lock m) same kept in (omega (arith, low), omega (arith, free))
+    go true same = let free : count (locks l) past ≤ count (unlocks l) past = was_free caps l past g (Lock m) same kept in
+        (omega (arith, low), omega (arith, free))
 turns_by caps l past g (Unlock m) kept (low, high) = go (m == l) refl
   where
     go : (b : Bool) → (m == l) ≡ b
         → (count (unlocks l) past + as_number b ≤ count (locks l) past + 0) × (count (locks l) past + 0 ≤ count (unlocks l) past + as_number b + 1)
     go false other = (omega (arith, low), omega (arith, high))
-    go true same = let held : count (unlocks l) past < count (locks l) past = was_held caps l past g (Unlock m) same kept in (omega (arith, held), omega (arith, high))
+    go true same = let held : count (unlocks l) past < count (locks l) past = was_held caps l past g (Unlock m) same kept in
+        (omega (arith, held), omega (arith, high))
 turns_by caps l past g _ kept (low, high) = (omega (arith, low), omega (arith, high))
 
 -- a once whose function g is in hasn't ended
@@ -88,8 +96,10 @@ module _ (caps : ℕ → ℕ) (events : List Event) (legal : IsLegal caps events
   turns_push : (l n : ℕ) (e : Event) → At events n e → TakeTurns l (take n events) → TakeTurns l (take n events ++ e ∷ [])
   turns_push l n e at is =
       let both = turns_by caps l (take n events) e.who e.op (kept_at caps events legal n e at) is in
-      let locked : count (locks l) (take n events ++ e ∷ []) ≡ count (locks l) (take n events) + as_number (locks l e.op) = count_push (locks l) (take n events) e in
-      let unlocked : count (unlocks l) (take n events ++ e ∷ []) ≡ count (unlocks l) (take n events) + as_number (unlocks l e.op) = count_push (unlocks l) (take n events) e in
+      let locked : count (locks l) (take n events ++ e ∷ []) ≡ count (locks l) (take n events) + as_number (locks l e.op) =
+      count_push (locks l) (take n events) e in
+      let unlocked : count (unlocks l) (take n events ++ e ∷ []) ≡ count (unlocks l) (take n events) + as_number (unlocks l e.op) =
+      count_push (unlocks l) (take n events) e in
       (omega (arith, both.0, locked, unlocked), omega (arith, both.1, locked, unlocked))
 
   turns : (l n : ℕ) → n ≤ length events → TakeTurns l (take n events)
@@ -103,7 +113,8 @@ module _ (caps : ℕ → ℕ) (events : List Event) (legal : IsLegal caps events
   turns_at l i e at = turns l i (let within : i < length events = slice_get_within events i e at in omega arith)
 
   -- the Unlocks of a lower number than a Lock's are those that stand before it
-  pub unlock_order : (l n m i j : ℕ) (u k : Event) → At events i u → At events j k → IsKth (unlocks l) n events i u.op → IsKth (locks l) m events j k.op → n < m ↔ i < j
+  pub unlock_order : (l n m i j : ℕ) (u k : Event) → At events i u → At events j k
+      → IsKth (unlocks l) n events i u.op → IsKth (locks l) m events j k.op → n < m ↔ i < j
   unlock_order l n m i j u k atu atk (is_u, nu) (is_k, nk) = (there, back)
     where
       there : n < m → i < j
@@ -111,7 +122,8 @@ module _ (caps : ℕ → ℕ) (events : List Event) (legal : IsLegal caps events
         | inl up ↦ up
         | inr down ↦
             let fewer : count (unlocks l) (take j events) ≤ count (unlocks l) (take i events) = count_up (unlocks l) events j i down in
-            let free : count (locks l) (take j events) ≤ count (unlocks l) (take j events) = was_free caps l (take j events) k.who k.op is_k (kept_at caps events legal j k atk) in
+            let free : count (locks l) (take j events) ≤ count (unlocks l) (take j events) =
+            was_free caps l (take j events) k.who k.op is_k (kept_at caps events legal j k atk) in
             absurd (omega (arith, less, fewer, free, nu, nk))
       ]
 
@@ -124,23 +136,27 @@ module _ (caps : ℕ → ℕ) (events : List Event) (legal : IsLegal caps events
   -- as many Locks as Unlocks stand before an RLock
   pub rlock_between : (l i : ℕ) (e : Event) → At events i e → IsTrue (rlocks l e.op) → count (locks l) (take i events) ≡ count (unlocks l) (take i events)
   rlock_between l i e at is =
-      let free : count (locks l) (take i events) ≤ count (unlocks l) (take i events) = was_free_to_read caps l (take i events) e.who e.op is (kept_at caps events legal i e at) in
+      let free : count (locks l) (take i events) ≤ count (unlocks l) (take i events) =
+      was_free_to_read caps l (take i events) e.who e.op is (kept_at caps events legal i e at) in
       let low : count (unlocks l) (take i events) ≤ count (locks l) (take i events) = (turns_at l i e at).0 in
       omega (arith, free, low)
 
   -- the end of a once's function stands before each event that finds it ended
   pub end_first : (o i j : ℕ) (s r : Event) → At events i s → At events j r → IsTrue (once_ends o s.op) → r.op ≡ OnceDone o → i < j
   end_first o i j s r ats atr is_s is_r = elim (cases_order i j) [
-    | inl same ↦ let one : s ≡ r = at_same events i s r ats (ap (slice_get events) same ∙ atr) in absurd (no_end (sym (ap (λ e. once_ends o e.op) one ∙ ap (once_ends o) is_r) ∙ is_s))
+    | inl same ↦ let one : s ≡ r = at_same events i s r ats (ap (slice_get events) same ∙ atr) in
+        absurd (no_end (sym (ap (λ e. once_ends o e.op) one ∙ ap (once_ends o) is_r) ∙ is_s))
     | inr (inl up) ↦ up
-    | inr (inr down) ↦ absurd (both_ways (is_ended o (take i events)) (was_unended caps o (take i events) s.who s.op is_s (kept_at caps events legal i s ats)) (still down))
+    | inr (inr down) ↦ absurd (both_ways (is_ended o (take i events))
+        (was_unended caps o (take i events) s.who s.op is_s (kept_at caps events legal i s ats)) (still down))
   ]
     where
       no_end : once_ends o (OnceDone o) ≡ true → ⊥
       no_end is = cc
 
       ended : is_ended o (take j events) ≡ true
-      ended = not-false _ (subst (λ op. RulesKept caps (take j events) r.who op) is_r (kept_at caps events legal j r atr) 0 (19, not (is_ended o (take j events))) refl)
+      ended = not-false _ (subst (λ op. RulesKept caps (take j events) r.who op) is_r
+          (kept_at caps events legal j r atr) 0 (19, not (is_ended o (take j events))) refl)
 
       still : j < i → is_ended o (take i events) ≡ true
       still down =

@@ -1,5 +1,7 @@
 -- The trace's own order of its accesses.
-use Rattle.std.proofs.Common.{◌≡◌, ℕ, zero, suc, ◌+◌, ◌<◌, Bool, true, false, cond, List, [], ◌∷◌, Some, slice_get, refl, sym, ap, ◌∙◌, subst, inl, inr, arith, IsTrue, zero-add, add-zero, cond}
+use Rattle.std.proofs.Common.{◌≡◌, ℕ, zero, suc, ◌+◌, ◌<◌, Bool, true, false, cond, List, [], ◌∷◌, Some}
+use Rattle.std.proofs.Common.{slice_get, refl, sym, ap, ◌∙◌, subst, inl, inr, arith, IsTrue, zero-add}
+use Rattle.std.proofs.Common.{add-zero, cond}
 use Rattle.std.proofs.lemmas.Bool.{cases_order}
 use Rattle.race_records.specs.declared.event.Event.{Event}
 use Rattle.race_model.specs.Events.{is_access}
@@ -58,7 +60,8 @@ accesses_rise n (x ∷ events) i j a b less ati atj = go (is_access x.op) i j le
 
 -- each access stands in the trace's own order
 pub own_each : (events : List Event) (a : ℕ) → IsTrue (op_passes is_access events a) → (i : ℕ) × (slice_get (own_order events) i ≡ Some a)
-own_each events a is = let found : (i : ℕ) × (slice_get (own_order events) i ≡ Some (0 + a)) = accesses_each 0 events a is in (found.0, found.1 ∙ ap Some (zero-add a))
+own_each events a is = let found : (i : ℕ) × (slice_get (own_order events) i ≡ Some (0 + a)) = accesses_each 0 events a is in
+    (found.0, found.1 ∙ ap Some (zero-add a))
 
 -- an earlier access stands before a later one
 pub own_stands_before : (events : List Event) (a b : ℕ) → a < b → IsTrue (op_passes is_access events a) → IsTrue (op_passes is_access events b)

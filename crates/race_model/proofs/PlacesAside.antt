@@ -1,5 +1,7 @@
 -- Lists of events that differ in places alone are judged alike.
-use Rattle.std.proofs.Common.{◌≡◌, ℕ, ◌+◌, ◌-◌, cond, ◌==◌, ◌||◌, ◌&&◌, not, Bool, false, IsTrue, nat_lt, List, [], ◌∷◌, Option, Some, None, is_some, if◌then◌else◌, option_map, count_by, filter_map, take, slice_get, unwrap_or, refl, sym, ap, ◌∙◌, subst, inl, inr}
+use Rattle.std.proofs.Common.{◌≡◌, ℕ, ◌+◌, ◌-◌, cond, ◌==◌, ◌||◌, ◌&&◌, not, Bool, false, IsTrue, nat_lt, List, [], ◌∷◌, Option, Some, None}
+use Rattle.std.proofs.Common.{is_some, if◌then◌else◌, option_map, count_by, filter_map, take, slice_get, unwrap_or, refl, sym, ap, ◌∙◌, subst}
+use Rattle.std.proofs.Common.{inl, inr}
 use Rattle.std.specs.List.{cons_option, list_any}
 use Rattle.std.proofs.lemmas.List.{take-map}
 use Rattle.std.proofs.lemmas.List.Folds.{fold-map}
@@ -10,11 +12,17 @@ use Rattle.race_records.specs.declared.cases.Dir.{Dir}
 use Rattle.race_records.specs.declared.event.Cause.{Cause}
 use Rattle.race_records.specs.declared.event.Cause.TheVariants.{SendClosed, CloseClosed, CloseNil, UnlockFree, RUnlockFree}
 use Rattle.race_records.specs.declared.event.Op.{Op}
-use Rattle.race_records.specs.declared.event.Op.TheVariants.{Go, Exit, Read, Write, Send, Recv, Meet, RecvClosed, Close, Default, Lock, Unlock, RLock, RUnlock, OnceBegin, OnceEnd, OnceDone, Fault}
-use Rattle.race_model.specs.Events.{At, operations, TakesPart, partner, gives, starts, is_exit, writes, accesses, count, sends, receives, closes, locks, unlocks, rlocks, runlocks, once_begins, once_ends, is_fault, has, has_exited, last_of}
+use Rattle.race_records.specs.declared.event.Op.TheVariants.{Go, Exit, Read, Write, Send, Recv, Meet}
+use Rattle.race_records.specs.declared.event.Op.TheVariants.{RecvClosed, Close, Default, Lock, Unlock, RLock}
+use Rattle.race_records.specs.declared.event.Op.TheVariants.{RUnlock, OnceBegin, OnceEnd, OnceDone, Fault}
+use Rattle.race_model.specs.Events.{At, operations, TakesPart, partner, gives, starts, is_exit, writes, accesses, count, sends}
+use Rattle.race_model.specs.Events.{receives, closes, locks, unlocks, rlocks, runlocks, once_begins, once_ends, is_fault, has}
+use Rattle.race_model.specs.Events.{has_exited, last_of}
 use Rattle.race_model.specs.State.{over, started, runs, written, last_value, is_closed, buffered, sent, front, is_held, is_read_held, unended_once, innermost}
 use Rattle.race_model.specs.Legal.{op_rules, can_proceed, is_ready, cause_holds, receiver_runs, least_broken, broken, IsLegal, IsIllegalAt}
-use Rattle.race_model.specs.Order.{Point, Begin, End, SequencedBefore, SynchronizedInside, IsSource, SynchronizedBefore, Step, Reaches, one_step, then_step, HappensBefore}
+use Rattle.race_model.specs.Order.{Point, Begin, End, SequencedBefore, SynchronizedInside}
+use Rattle.race_model.specs.Order.{IsSource, SynchronizedBefore, Step, Reaches, one_step}
+use Rattle.race_model.specs.Order.{then_step, HappensBefore}
 use Rattle.race_model.specs.Race.{IsAccessOf, IsWriteOf, Conflict, IsRace, IsReportedRace}
 use Rattle.race_model.specs.Verdict.{Verdict, Illegal, Clean, Races, IsVerdict}
 
@@ -46,7 +54,8 @@ record IsMatched (fs : List Event) (i : ℕ) (e : Event) : Type 0 where
 
 -- lists of the same operations have as many of each kind
 kinds_alike : (es fs : List Event) → operations es ≡ operations fs → (kind : Op → Bool) → count kind es ≡ count kind fs
-kinds_alike es fs same kind = count_of_operations (λ c. kind c.1) es ∙ ap (count_by (λ (c : ℕ × Op). kind c.1)) same ∙ sym (count_of_operations (λ c. kind c.1) fs)
+kinds_alike es fs same kind = count_of_operations (λ c. kind c.1) es
+    ∙ ap (count_by (λ (c : ℕ × Op). kind c.1)) same ∙ sym (count_of_operations (λ c. kind c.1) fs)
 
 fronts_alike : (es fs : List Event) → operations es ≡ operations fs → (i : ℕ) (kind : Op → Bool) → count kind (take i es) ≡ count kind (take i fs)
 fronts_alike es fs same i kind = kinds_alike (take i es) (take i fs) (sym (take-map doing i es) ∙ ap (take i) same ∙ take-map doing i fs) kind
@@ -54,16 +63,19 @@ fronts_alike es fs same i kind = kinds_alike (take i es) (take i fs) (sym (take-
 -- and the same sources
 source_alike : (es fs : List Event) → operations es ≡ operations fs → (caps : ℕ → ℕ) (i : ℕ) (s o : Op) → IsSource caps es i s o → IsSource caps fs i s o
 source_alike es fs same caps i s (Recv c v) (is, n) = (is, sym (fronts_alike es fs same i (sends c)) ∙ n ∙ kinds_alike es fs same (receives c))
-source_alike es fs same caps i s (Send c v) (k, (is, n), sum) = (k, (is, sym (fronts_alike es fs same i (receives c)) ∙ n), sum ∙ kinds_alike es fs same (sends c))
+source_alike es fs same caps i s (Send c v) (k, (is, n), sum) =
+    (k, (is, sym (fronts_alike es fs same i (receives c)) ∙ n), sum ∙ kinds_alike es fs same (sends c))
 source_alike es fs same caps i s (RecvClosed c) is = is
 source_alike es fs same caps i s (Lock l) (inl is) = inl is
 source_alike es fs same caps i s (Lock l) (inr (is, n)) = inr (is, sym (fronts_alike es fs same i (locks l)) ∙ n ∙ kinds_alike es fs same (locks l))
-source_alike es fs same caps i s (RLock l) (k, (is, n), sum) = (k, (is, sym (fronts_alike es fs same i (unlocks l)) ∙ n), sum ∙ kinds_alike es fs same (unlocks l))
+source_alike es fs same caps i s (RLock l) (k, (is, n), sum) =
+    (k, (is, sym (fronts_alike es fs same i (unlocks l)) ∙ n), sum ∙ kinds_alike es fs same (unlocks l))
 source_alike es fs same caps i s (OnceDone o) is = is
 source_alike es fs same caps i s _ never = absurd never
 
 matched : (es fs : List Event) → operations es ≡ operations fs → (i : ℕ) (e : Event) → At es i e → IsMatched fs i e
-matched es fs same i e at = by (slice_get fs i) refl (sym (slice_get-map doing fs i) ∙ ap (λ l. slice_get l i) (sym same) ∙ slice_get-map doing es i ∙ ap (option_map doing) at)
+matched es fs same i e at = by (slice_get fs i) refl (sym (slice_get-map doing fs i)
+    ∙ ap (λ l. slice_get l i) (sym same) ∙ slice_get-map doing es i ∙ ap (option_map doing) at)
   where
     by : (o : Option Event) → slice_get fs i ≡ o → option_map doing o ≡ Some (e.who, e.op) → IsMatched fs i e
     by None is h = absurd (none-some (e.who, e.op) h)
@@ -86,7 +98,8 @@ module _ (es fs : List Event) (same : operations es ≡ operations fs) where
   started_alike g = ap (nat_lt 0) (counted_alike (λ c. starts g c.1))
 
   last_alike : (x : ℕ) → last_value x es ≡ last_value x fs
-  last_alike x = ap (λ o. unwrap_or o 0) (last_of_operations (written x) es ∙ ap (last_of (λ (c : ℕ × Op). written x c.1)) same ∙ sym (last_of_operations (written x) fs))
+  last_alike x = ap (λ o. unwrap_or o 0) (last_of_operations (written x) es
+      ∙ ap (last_of (λ (c : ℕ × Op). written x c.1)) same ∙ sym (last_of_operations (written x) fs))
 
   kind_alike : (kind : Op → Bool) → count kind es ≡ count kind fs
   kind_alike kind = counted_alike (λ c. kind c.1)
@@ -135,7 +148,8 @@ module _ (es fs : List Event) (same : operations es ≡ operations fs) where
   ready_alike caps case = by case.chan
     where
       by : (chan : Option ℕ)
-          → ◌≡◌ {A = Bool} (elim chan [ None ↦ false | Some c ↦ can_proceed caps es c case.dir ]) (elim chan [ None ↦ false | Some c ↦ can_proceed caps fs c case.dir ])
+          → ◌≡◌ {A = Bool} (elim chan [ None ↦ false | Some c ↦ can_proceed caps es c case.dir ])
+          (elim chan [ None ↦ false | Some c ↦ can_proceed caps fs c case.dir ])
       by None = refl
       by (Some c) = can_alike caps c case.dir
 
@@ -198,7 +212,8 @@ module _ (es fs : List Event) (same : operations es ≡ operations fs) where
               inr (
                 x.f,
                 x.at,
-                subst (λ (c : Op × Op). IsSource caps (take j fs) i c.0 c.1) (λ k. (x.op k, m.op k)) (source_alike (take j es) (take j fs) (front_alike j) caps i s.op e.op source),
+                subst (λ (c : Op × Op). IsSource caps (take j fs) i c.0 c.1) (λ k. (x.op k, m.op k))
+                    (source_alike (take j es) (take j fs) (front_alike j) caps i s.op e.op source),
                 sym x.who ∙ from,
                 sym m.who ∙ to,
               )
@@ -220,8 +235,14 @@ module _ (es fs : List Event) (same : operations es ≡ operations fs) where
   happens_alike : (caps : ℕ → ℕ) (i j : ℕ) → HappensBefore caps es i j → HappensBefore caps fs i j
   happens_alike caps i j (a, b, at, there, reached) =
       let m = matched es fs same i a at in
-      let n = matched es fs same j b there in
-      (m.f, n.f, m.at, n.at, subst (λ (g : ℕ × ℕ). Reaches caps fs (End i g.0) (Begin j g.1)) (λ k. (m.who k, n.who k)) (reaches_alike caps (End i a.who) (Begin j b.who) reached))
+      let n = matched es fs same j b there in (
+        m.f,
+        n.f,
+        m.at,
+        n.at,
+        subst (λ (g : ℕ × ℕ). Reaches caps fs (End i g.0) (Begin j g.1))
+            (λ k. (m.who k, n.who k)) (reaches_alike caps (End i a.who) (Begin j b.who) reached),
+      )
 
   access_alike : (x i : ℕ) → IsAccessOf es x i → IsAccessOf fs x i
   access_alike x i (e, at, is) = let m = matched es fs same i e at in (m.f, m.at, subst IsTrue (ap (accesses x) m.op) is)

@@ -56,7 +56,8 @@ module _ (caps : ℕ → ℕ) (events more : List Event) where
 
   -- a conflict stays
   pub conflict_grow : (x i j : ℕ) → Conflict events x i j → Conflict (events ++ more) x i j
-  conflict_grow x i j (differ, a, b, w) = (differ, access_grow x i a, access_grow x j b, elim w [ inl a ↦ inl (write_grow x i a) | inr b ↦ inr (write_grow x j b) ])
+  conflict_grow x i j (differ, a, b, w) =
+      (differ, access_grow x i a, access_grow x j b, elim w [ inl a ↦ inl (write_grow x i a) | inr b ↦ inr (write_grow x j b) ])
 
   -- no conflict comes between events of the list
   pub conflict_old : (x i j : ℕ) → i < length events → j < length events → Conflict (events ++ more) x i j → Conflict events x i j

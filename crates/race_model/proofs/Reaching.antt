@@ -51,7 +51,8 @@ into_begin {caps} {events} i h j f (then_step {q} w s) = go q w s
     go (Begin m g) w (inl s) = absurd s
     go (Begin m g) w (inr s) = absurd s
     go (End m g) w (inr s) = absurd s
-    go (End m g) w (inl (less, who, from, to)) = (m, less, subst (TakesPart events m) who from, to, subst (λ g. Reaches caps events (Begin i h) (End m g)) who w)
+    go (End m g) w (inl (less, who, from, to)) =
+        (m, less, subst (TakesPart events m) who from, to, subst (λ g. Reaches caps events (Begin i h) (End m g)) who w)
 
 -- a way to an end comes from a begin, by one step
 pub into_end : {caps : ℕ → ℕ} {events : List Event} (i h j g : ℕ) → Reaches caps events (Begin i h) (End j g)

@@ -1,5 +1,7 @@
 -- Without a data race two reorderings let every read find the same write.
-use Rattle.std.proofs.Common.{◌≡◌, ◌≢◌, ℕ, ◌<◌, Bool, true, false, List, Option, Some, None, take, slice_get, refl, sym, ap, ◌∙◌, subst, inl, inr, arith, IsTrue}
+use Rattle.std.proofs.Common.{◌≡◌, ◌≢◌, ℕ, ◌<◌, Bool, true, false, List, Option, Some, None}
+use Rattle.std.proofs.Common.{take, slice_get, refl, sym, ap, ◌∙◌, subst, inl, inr, arith}
+use Rattle.std.proofs.Common.{IsTrue}
 use Rattle.std.proofs.lemmas.Bool.{cases_order, cases_eq, or_left, or_right, cond-true}
 use Rattle.std.proofs.lemmas.Option.{cond_some}
 use Rattle.race_records.specs.declared.event.Event.{Event}
@@ -71,7 +73,8 @@ module _ (caps : ℕ → ℕ) (events : List Event) where
 -- what it says that a read r of x finds this in the order
 abbrev pub IsFound : List Event → List ℕ → ℕ → ℕ → Option ℕ → Type 0
 IsFound events order x r None = (b : ℕ) → IsWriteOf events x b → StandsBefore order b r → ⊥
-IsFound events order x r (Some a) = IsWriteOf events x a × StandsBefore order a r × ((b : ℕ) → IsWriteOf events x b → b ≢ a → StandsBefore order b r → StandsBefore order b a)
+IsFound events order x r (Some a) = IsWriteOf events x a × StandsBefore order a r
+    × ((b : ℕ) → IsWriteOf events x b → b ≢ a → StandsBefore order b r → StandsBefore order b a)
 
 -- write_at answers the index of a write
 pub write_at_some : (events : List Event) (x a b : ℕ) → write_at events x a ≡ Some b → IsWriteOf events x a × (a ≡ b)

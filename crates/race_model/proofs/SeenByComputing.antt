@@ -1,5 +1,7 @@
 -- What a goroutine has seen, as a test that computes: on a list that is written out, refl answers.
-use Rattle.std.proofs.Common.{◌≡◌, ◌⊎◌, ℕ, zero, suc, ◌<◌, ◌≤◌, ◌==◌, ◌||◌, ◌&&◌, Bool, false, List, [], ◌∷◌, ◌++◌, Option, Some, None, take, length, slice_get, refl, sym, ◌∙◌, subst, inl, inr, arith, take-take}
+use Rattle.std.proofs.Common.{◌≡◌, ◌⊎◌, ℕ, zero, suc, ◌<◌, ◌≤◌, ◌==◌, ◌||◌, ◌&&◌, Bool, false, List, [], ◌∷◌, ◌++◌}
+use Rattle.std.proofs.Common.{Option, Some, None, take, length, slice_get, refl, sym, ◌∙◌, subst, inl, inr, arith}
+use Rattle.std.proofs.Common.{take-take}
 use Rattle.std.specs.Bool.{Decides}
 use Rattle.std.proofs.lemmas.Bool.Decides.{Decides-eqb, Decides-and, Decides-or, Decides-like, Decides-below_or}
 use Rattle.std.proofs.lemmas.Option.{slice_get_within}
@@ -25,7 +27,8 @@ brought_inside passes who _ g = false
 
 Decides-inside : (passes : ℕ → Bool) (P : ℕ → Type 0) → ((f : ℕ) → Decides (passes f) (P f)) → (who : ℕ) (o : Op) (g : ℕ)
     → Decides (brought_inside passes who o g) ((f : ℕ) × SynchronizedInside who o f g × P f)
-Decides-inside passes P each who (Go k) g = Decides-like _ (λ p. (who, (refl, p.0), p.1)) (λ q. (q.1.1, subst P (sym q.1.0) q.2)) (Decides-and _ _ (Decides-eqb k g) (each who))
+Decides-inside passes P each who (Go k) g =
+    Decides-like _ (λ p. (who, (refl, p.0), p.1)) (λ q. (q.1.1, subst P (sym q.1.0) q.2)) (Decides-and _ _ (Decides-eqb k g) (each who))
 Decides-inside passes P each who (Meet r c v) g =
     Decides-like _ to from (Decides-or _ _ (Decides-and _ _ (Decides-eqb r g) (each who)) (Decides-and _ _ (Decides-eqb who g) (each r)))
   where
@@ -124,7 +127,8 @@ module _ (caps : ℕ → ℕ) (past : List Event) (e : Event) (i h g : ℕ) (had
       own = Decides-and _ _ (Decides-eqb i _) (Decides-eqb h g)
 
       had_all : (f : ℕ) → Decides (had (length past) f) (SeenBy caps past i h f)
-      had_all f = subst (λ es. Decides (had (length past) f) (SeenBy caps es i h f)) (take_all (length past) past (omega arith)) (had_is (length past) f (omega arith))
+      had_all f = subst (λ es. Decides (had (length past) f) (SeenBy caps es i h f))
+          (take_all (length past) past (omega arith)) (had_is (length past) f (omega arith))
 
       by_source : Decides ((e.who == g) && some_source caps past e (λ k f. is_begin i h k f || had k f) (length past))
           ((k : ℕ) × (s : Event) × At past k s × IsSource caps past k s.op e.op × (e.who ≡ g) × SeenAt caps past i h k s.who)
@@ -147,7 +151,8 @@ Decides-after caps events i h n g had within had_is = go (at_below events n with
     long = length-take-le n events (omega arith)
 
     had_front : (k f : ℕ) → k ≤ length past → Decides (had k f) (SeenBy caps (take k past) i h f)
-    had_front k f low = subst (λ es. Decides (had k f) (SeenBy caps es i h f)) (sym (take-take k n events (omega (arith, long)))) (had_is k f (omega (arith, long)))
+    had_front k f low = subst (λ es. Decides (had k f) (SeenBy caps es i h f))
+        (sym (take-take k n events (omega (arith, long)))) (had_is k f (omega (arith, long)))
 
     go : (e : Event) × (slice_get events n ≡ Some e) → Decides (seen_after caps past (slice_get events n) i h n g had) (SeenBy caps (take (suc n) events) i h g)
     go (e, at) =
@@ -157,7 +162,8 @@ Decides-after caps events i h n g had within had_is = go (at_below events n with
         here : Decides (seen_after caps past (Some e) i h n g had) (SeenBy caps (past ++ e ∷ []) i h g)
         here =
             let step = seen_one_on caps past e i h g in
-            Decides-like _ step.1 step.0 (Decides-or _ _ (had_is n g (omega arith)) (Decides-and _ _ ((λ is. is), (λ is. is)) (Decides-brings caps past e i h g had had_front)))
+            Decides-like _ step.1 step.0 (Decides-or _ _ (had_is n g (omega arith))
+            (Decides-and _ _ ((λ is. is), (λ is. is)) (Decides-brings caps past e i h g had had_front)))
 
 -- the test passes exactly where it was seen
 pub Decides-seen : (caps : ℕ → ℕ) (events : List Event) (i h fuel n g : ℕ) → n ≤ fuel → n ≤ length events

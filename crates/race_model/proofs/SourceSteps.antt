@@ -12,7 +12,8 @@ use Rattle.race_model.proofs.SeenSteps.{seen_at_grow, seen_at_old}
 use Rattle.race_model.proofs.ClockLemmas.{counts_as, counts_none, counts_join, counts_grow}
 
 -- no event passes the test
-pub from_none : (caps : ℕ → ℕ) (events : List Event) (Q : ℕ → Op → Type 0) (c : ℕ → ℕ) → ((k : ℕ) (s : Event) → At events k s → Q k s.op → ⊥) → ((h : ℕ) → c h ≡ 0)
+pub from_none : (caps : ℕ → ℕ) (events : List Event) (Q : ℕ → Op → Type 0) (c : ℕ → ℕ)
+    → ((k : ℕ) (s : Event) → At events k s → Q k s.op → ⊥) → ((h : ℕ) → c h ≡ 0)
     → CountsFrom caps events Q c
 from_none caps events Q c none zero = counts_none events c (SeenFrom caps events Q) zero go
   where
@@ -20,7 +21,8 @@ from_none caps events Q c none zero = counts_none events c (SeenFrom caps events
     go i h (k, s, at, is, seen) = none k s at is
 
 -- the same events pass two tests
-pub from_as : (caps : ℕ → ℕ) (events : List Event) (Q T : ℕ → Op → Type 0) (c : ℕ → ℕ) → ((k : ℕ) (s : Event) → At events k s → Q k s.op ↔ T k s.op) → CountsFrom caps events Q c
+pub from_as : (caps : ℕ → ℕ) (events : List Event) (Q T : ℕ → Op → Type 0) (c : ℕ → ℕ)
+    → ((k : ℕ) (s : Event) → At events k s → Q k s.op ↔ T k s.op) → CountsFrom caps events Q c
     → CountsFrom caps events T c
 from_as caps events Q T c same k = counts_as events c (SeenFrom caps events Q) (SeenFrom caps events T) (λ i h part. (there i h, back i h)) k
   where
@@ -55,7 +57,8 @@ module _ (caps : ℕ → ℕ) (past : List Event) (e : Event) where
   from_old : (Q T : ℕ → Op → Type 0) → Agree Q T → (i h : ℕ) → SeenFrom caps past Q i h → SeenFrom caps (past ++ e ∷ []) T i h
   from_old Q T agree i h (k, s, at, is, seen) = (k, s, append_at_old past (e ∷ []) k s at, (agree k s at).0 is, seen_at_grow caps past e i h k s.who seen)
 
-  from_new : (T : ℕ → Op → Type 0) → T (length past) e.op → (i h : ℕ) → SeenAt caps (past ++ e ∷ []) i h (length past) e.who → SeenFrom caps (past ++ e ∷ []) T i h
+  from_new : (T : ℕ → Op → Type 0) → T (length past) e.op → (i h : ℕ)
+      → SeenAt caps (past ++ e ∷ []) i h (length past) e.who → SeenFrom caps (past ++ e ∷ []) T i h
   from_new T is i h seen = (length past, e, slice_get-push past e, is, seen)
 
   from_push : (Q T : ℕ → Op → Type 0) → Agree Q T → (i h : ℕ) → SeenFrom caps (past ++ e ∷ []) T i h
@@ -64,7 +67,8 @@ module _ (caps : ℕ → ℕ) (past : List Event) (e : Event) where
     | inl old ↦ inl (k, s, old, (agree k s old).1 is, seen_at_old caps past e i h k s.who (slice_get_within past k s old) seen)
     | inr new ↦ inr (
       subst (λ (s : Event). T (length past) s.op) (sym new.1) (subst (λ k. T k s.op) new.0 is),
-      subst (λ (s : Event). SeenAt caps (past ++ e ∷ []) i h (length past) s.who) (sym new.1) (subst (λ k. SeenAt caps (past ++ e ∷ []) i h k s.who) new.0 seen),
+      subst (λ (s : Event). SeenAt caps (past ++ e ∷ []) i h (length past) s.who)
+          (sym new.1) (subst (λ k. SeenAt caps (past ++ e ∷ []) i h k s.who) new.0 seen),
     )
   ]
 
@@ -84,7 +88,8 @@ module _ (caps : ℕ → ℕ) (past : List Event) (e : Event) where
       old i h seen = elim (from_push Q T agree i h seen) [ inl before ↦ before | inr new ↦ absurd (none new.0) ]
 
   -- e passes too: join with the clock of its begin
-  pub from_more : (Q T : ℕ → Op → Type 0) (c b : ℕ → ℕ) → Agree Q T → T (length past) e.op → CountsFrom caps past Q c → CountsAt caps (past ++ e ∷ []) (length past) e.who b
+  pub from_more : (Q T : ℕ → Op → Type 0) (c b : ℕ → ℕ) → Agree Q T → T (length past) e.op
+      → CountsFrom caps past Q c → CountsAt caps (past ++ e ∷ []) (length past) e.who b
       → CountsFrom caps (past ++ e ∷ []) T (λ h. max (c h) (b h))
   from_more Q T c b agree is k own =
       counts_as (past ++ e ∷ []) (λ h. max (c h) (b h)) Both (SeenFrom caps (past ++ e ∷ []) T) (λ i h part. (there i h, back i h))

@@ -20,7 +20,8 @@ module _ (caps : ℕ → ℕ) (past : List Event) (e : Event) (c : ℕ → ℕ)
   part_of i a at = (a, append_at_old past (e ∷ []) i a at, who_takes_part a)
 
   -- what happens before it is known
-  pub known_from_before : (i : ℕ) (a : Event) → At past i a → HappensBefore caps (past ++ e ∷ []) i (length past) → participations a.who (take i past) + 1 ≤ c a.who
+  pub known_from_before : (i : ℕ) (a : Event) → At past i a
+      → HappensBefore caps (past ++ e ∷ []) i (length past) → participations a.who (take i past) + 1 ≤ c a.who
   known_from_before i a at (x, y, atx, aty, w) =
       let same : participations a.who (take i (past ++ e ∷ [])) ≡ participations a.who (take i past) = same_front i a at in
       let less : participations a.who (take i (past ++ e ∷ [])) < c a.who = k.counted i a.who (part_of i a at) reach in
@@ -28,7 +29,8 @@ module _ (caps : ℕ → ℕ) (past : List Event) (e : Event) (c : ℕ → ℕ)
     where
       from_a : Reaches caps (past ++ e ∷ []) (End i a.who) (Begin (length past) e.who)
       from_a =
-          subst (λ (y : Event). Reaches caps (past ++ e ∷ []) (End i a.who) (Begin (length past) y.who)) (at_same (past ++ e ∷ []) (length past) y e aty (slice_get-push past e))
+          subst (λ (y : Event). Reaches caps (past ++ e ∷ []) (End i a.who) (Begin (length past) y.who))
+          (at_same (past ++ e ∷ []) (length past) y e aty (slice_get-push past e))
           (subst (λ (x : Event). Reaches caps (past ++ e ∷ []) (End i x.who) (Begin (length past) y.who))
           (at_same (past ++ e ∷ []) i x a atx (append_at_old past (e ∷ []) i a at)) w)
 

@@ -25,16 +25,20 @@ module _ (caps : ℕ → ℕ) (events : List Event) where
 
   module _ (i g n : ℕ) (a : ℕ → ℕ) (A : IsStamped caps events i g n a) (j h m : ℕ) (b : ℕ → ℕ) (B : IsStamped caps events j h m b) where
     -- the later one's clock, over the events before it and itself
-    later_clock : CountsBegins (take j events ++ B.event ∷ []) b (λ k x. Reaches caps (take j events ++ B.event ∷ []) (Begin k x) (Begin (length (take j events)) B.event.who))
+    later_clock : CountsBegins (take j events ++ B.event ∷ []) b
+        (λ k x. Reaches caps (take j events ++ B.event ∷ []) (Begin k x) (Begin (length (take j events)) B.event.who))
     later_clock =
-        let long : length (take j events) ≡ j = length-take-le j events (let less : j < length events = slice_get_within events j B.event B.stands in omega arith) in
-        subst (λ l. CountsBegins (take j events ++ B.event ∷ []) b (λ k x. Reaches caps (take j events ++ B.event ∷ []) (Begin k x) (Begin l B.event.who))) (sym long)
+        let long : length (take j events) ≡ j =
+        length-take-le j events (let less : j < length events = slice_get_within events j B.event B.stands in omega arith) in
+        subst (λ l. CountsBegins (take j events ++ B.event ∷ []) b
+        (λ k x. Reaches caps (take j events ++ B.event ∷ []) (Begin k x) (Begin l B.event.who))) (sym long)
         (subst (λ h. CountsBegins (take j events ++ B.event ∷ []) b (λ k x. Reaches caps (take j events ++ B.event ∷ []) (Begin k x) (Begin j h))) (sym B.actor)
         (subst (λ es. CountsBegins es b (λ k x. Reaches caps es (Begin k x) (Begin j h))) (front_one j B.event B.stands) B.clock))
 
     -- as many participations stand before the earlier one in the front as in the list
     same_number : i < j → participations A.event.who (take i (take j events)) + 1 ≡ n
-    same_number less = ap (λ es. participations A.event.who es + 1) (take-take i j events (omega arith)) ∙ ap (λ g. participations g (take i events) + 1) A.actor ∙ sym A.number
+    same_number less = ap (λ es. participations A.event.who es + 1) (take-take i j events (omega arith))
+        ∙ ap (λ g. participations g (take i events) + 1) A.actor ∙ sym A.number
 
     -- happens before is the same in the front up to the later one
     front_of_before : HappensBefore caps events i j → HappensBefore caps (take (j + 1) events) i j
@@ -51,7 +55,8 @@ module _ (caps : ℕ → ℕ) (events : List Event) where
     -- the two ways to write that front
     front_is : HappensBefore caps (take (j + 1) events) i j ≡ HappensBefore caps (take j events ++ B.event ∷ []) i (length (take j events))
     front_is =
-        let long : length (take j events) ≡ j = length-take-le j events (let less : j < length events = slice_get_within events j B.event B.stands in omega arith) in
+        let long : length (take j events) ≡ j =
+        length-take-le j events (let less : j < length events = slice_get_within events j B.event B.stands in omega arith) in
         ap (λ es. HappensBefore caps es i j) (front_one j B.event B.stands) ∙ ap (λ l. HappensBefore caps (take j events ++ B.event ∷ []) i l) (sym long)
 
     -- the later of two knows the earlier exactly where that happens before
@@ -100,9 +105,15 @@ module _ (caps : ℕ → ℕ) (events : List Event) where
 
     pub known_is_before : (n ≤ b g) ↔ HappensBefore caps events i j
     known_is_before = elim (cases_order i j) [
-      | inl same ↦ (λ known. absurd (known_later (omega arith) known), λ before. let up : i < j = happens_before_up caps events i j before in absurd (omega arith))
+      | inl same ↦ (
+        λ known. absurd (known_later (omega arith) known),
+        λ before. let up : i < j = happens_before_up caps events i j before in absurd (omega arith),
+      )
       | inr (inl less) ↦ known_earlier less
-      | inr (inr more) ↦ (λ known. absurd (known_later (omega arith) known), λ before. let up : i < j = happens_before_up caps events i j before in absurd (omega arith))
+      | inr (inr more) ↦ (
+        λ known. absurd (known_later (omega arith) known),
+        λ before. let up : i < j = happens_before_up caps events i j before in absurd (omega arith),
+      )
     ]
 
   -- an earlier stamp of the same goroutine is known to a later one

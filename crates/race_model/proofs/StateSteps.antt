@@ -1,5 +1,7 @@
 -- The state words one event on.
-use Rattle.std.proofs.Common.{◌≡◌, ℕ, ◌+◌, ◌==◌, ◌||◌, ◌&&◌, not, Bool, true, false, length, List, [], ◌∷◌, ◌++◌, Option, Some, None, unwrap_or, filter_map, if◌then◌else◌, refl, sym, ap, ◌∙◌, arith}
+use Rattle.std.proofs.Common.{◌≡◌, ℕ, ◌+◌, ◌==◌, ◌||◌, ◌&&◌, not, Bool, true, false, length, List, [], ◌∷◌}
+use Rattle.std.proofs.Common.{◌++◌, Option, Some, None, unwrap_or, filter_map, if◌then◌else◌, refl, sym, ap}
+use Rattle.std.proofs.Common.{◌∙◌, arith}
 use Rattle.std.specs.List.{cons_option}
 use Rattle.std.specs.Option.{option_to_list}
 use Rattle.std.proofs.lemmas.List.Elements.{filter_map-append}
@@ -13,7 +15,8 @@ use Rattle.race_model.proofs.CountSteps.{as_number, count_cons, has_push, has_ex
 
 -- the run is over with main's exit, and with a fault
 pub over_push : (past : List Event) (e : Event) → over (past ++ e ∷ []) ≡ (over past || (((e.who == 0) && is_exit e.op) || is_fault e.op))
-over_push past e = (λ i. has_exited_push 0 past e i || has_push is_fault past e i) ∙ both (has_exited 0 past) ((e.who == 0) && is_exit e.op) (has is_fault past) (is_fault e.op)
+over_push past e = (λ i. has_exited_push 0 past e i || has_push is_fault past e i)
+    ∙ both (has_exited 0 past) ((e.who == 0) && is_exit e.op) (has is_fault past) (is_fault e.op)
   where
     both : (a b c d : Bool) → ((a || b) || (c || d)) ≡ ((a || c) || (b || d))
     both true b c d = refl

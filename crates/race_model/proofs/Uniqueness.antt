@@ -1,5 +1,7 @@
 -- A variable has one reported race, and a list of events one verdict.
-use Rattle.std.proofs.Common.{◌≡◌, ◌≢◌, ℕ, zero, suc, ◌<◌, ◌≤◌, List, [], ◌∷◌, Some, None, take, slice_get, refl, sym, ap, ◌∙◌, subst, inl, inr, arith, le_antisymm, take-take}
+use Rattle.std.proofs.Common.{◌≡◌, ◌≢◌, ℕ, zero, suc, ◌<◌, ◌≤◌, List, [], ◌∷◌, Some, None, take}
+use Rattle.std.proofs.Common.{slice_get, refl, sym, ap, ◌∙◌, subst, inl, inr, arith, le_antisymm}
+use Rattle.std.proofs.Common.{take-take}
 use Rattle.std.proofs.lemmas.Bool.{cases_order}
 use Rattle.race_records.specs.declared.event.Event.{Event}
 use Rattle.race_model.specs.Events.{At}
@@ -109,7 +111,8 @@ races_part caps events races others p q k r at = go (q.every r.var r.first r.sec
     go (m, s, atm, var) = (m, atm ∙ ap Some (same_race s r var (sym same.0) (sym same.1)))
       where
         same : (r.first ≡ s.first) × (r.second ≡ s.second)
-        same = reported_unique r.first r.second s.first s.second (p.each k r at) (subst (λ x. IsReportedRace caps events x s.first s.second) var (q.each m s atm))
+        same = reported_unique r.first r.second s.first s.second (p.each k r at)
+            (subst (λ x. IsReportedRace caps events x s.first s.second) var (q.each m s atm))
 
 -- where races are listed, one is there
 pub not_free : (caps : ℕ → ℕ) (events : List Event) (races : List Race) → races ≢ [] → AreReportedRaces caps events races → IsDataRaceFree caps events → ⊥

@@ -1,4 +1,5 @@
--- Small lists of events, whose verdicts are proved in src/examples.rt. (The Go Memory Model, "Goroutine creation", "Goroutine destruction", "Channel communication"; the Specification, "Select statements", "Run-time panics")
+-- Small lists of events, whose verdicts are proved in src/examples.rt. (The Go Memory Model, "Goroutine creation",
+-- "Goroutine destruction", "Channel communication"; the Specification, "Select statements", "Run-time panics")
 use Rattle.std.specs.Prelude.{ℕ, if◌then◌else◌, ◌==◌, List, [], ◌∷◌, ◌++◌, Some, None, length}
 use Rattle.race_records.specs.declared.event.Event.{Event}
 use Rattle.race_records.specs.declared.cases.Case.{Case}

@@ -1,4 +1,5 @@
--- The laws of the definitions. Each is the contract of a function in src/laws.rt that does nothing. (The Go Memory Model, "Memory Model": DRF-SC; "Channel communication", "Locks", "Once")
+-- The laws of the definitions. Each is the contract of a function in src/laws.rt that does nothing. (The Go Memory
+-- Model, "Memory Model": DRF-SC; "Channel communication", "Locks", "Once")
 use Rattle.std.specs.Prelude.{ℕ, ◌≡◌, ◌<◌, ◌↔◌, ◌+◌, IsTrue, List, take}
 use Rattle.race_records.specs.declared.event.Event.{Event}
 use Rattle.race_records.specs.declared.event.Op.TheVariants.{RecvClosed, OnceDone}

@@ -1,4 +1,6 @@
--- Which rules an event breaks after the events before it, and which lists of events are legal. (The Go Programming Language Specification, "Program execution", "Go statements", "Send statements", "Receive operator", "Close", "Select statements", "Run-time panics"; package sync)
+-- Which rules an event breaks after the events before it, and which lists of events are legal. (The Go Programming
+-- Language Specification, "Program execution", "Go statements", "Send statements", "Receive operator", "Close", "Select
+-- statements", "Run-time panics"; package sync)
 use Rattle.std.specs.Prelude.{ℕ, if◌then◌else◌, ◌≡◌, ◌==◌, ◌||◌, ◌&&◌, not, nat_lt, Bool, true, false, List, [], ◌∷◌, Option, Some, None, is_some, take}
 use Rattle.std.specs.List.{list_any}
 use Rattle.race_records.specs.declared.event.Event.{Event}
@@ -7,7 +9,9 @@ use Rattle.race_records.specs.declared.cases.Dir.{Dir}
 use Rattle.race_records.specs.declared.event.Cause.{Cause}
 use Rattle.race_records.specs.declared.event.Cause.TheVariants.{SendClosed, CloseClosed, CloseNil, UnlockFree, RUnlockFree}
 use Rattle.race_records.specs.declared.event.Op.{Op}
-use Rattle.race_records.specs.declared.event.Op.TheVariants.{Go, Exit, Read, Write, Send, Recv, Meet, RecvClosed, Close, Default, Lock, Unlock, RLock, RUnlock, OnceBegin, OnceEnd, OnceDone, Fault}
+use Rattle.race_records.specs.declared.event.Op.TheVariants.{Go, Exit, Read, Write, Send, Recv, Meet}
+use Rattle.race_records.specs.declared.event.Op.TheVariants.{RecvClosed, Close, Default, Lock, Unlock, RLock}
+use Rattle.race_records.specs.declared.event.Op.TheVariants.{RUnlock, OnceBegin, OnceEnd, OnceDone, Fault}
 use Rattle.race_model.specs.Events.{At, gives, sends, receives, count}
 use Rattle.race_model.specs.State.{over, started, runs, last_value, is_closed, buffered, front, is_held, is_read_held, is_begun, is_ended, innermost}
 

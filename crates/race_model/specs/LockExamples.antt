@@ -1,4 +1,5 @@
--- Small lists of events on mutexes and rwmutexes, whose verdicts are proved in src/lock_examples.rt. (The Go Memory Model, "Locks"; package sync, Mutex, RWMutex)
+-- Small lists of events on mutexes and rwmutexes, whose verdicts are proved in src/lock_examples.rt. (The Go Memory
+-- Model, "Locks"; package sync, Mutex, RWMutex)
 use Rattle.std.specs.Prelude.{ℕ, List, [], ◌∷◌}
 use Rattle.race_records.specs.declared.event.Event.{Event}
 use Rattle.race_records.specs.declared.event.Op.TheVariants.{Go, Exit, Read, Write, Lock, Unlock, RLock, RUnlock}

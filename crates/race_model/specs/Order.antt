@@ -1,4 +1,5 @@
--- Which event happens before which. (The Go Memory Model, "Memory Model": sequenced before, synchronized before, happens before; "Goroutine creation", "Goroutine destruction", "Channel communication", "Locks", "Once")
+-- Which event happens before which. (The Go Memory Model, "Memory Model": sequenced before, synchronized before,
+-- happens before; "Goroutine creation", "Goroutine destruction", "Channel communication", "Locks", "Once")
 use Rattle.std.specs.Prelude.{ℕ, ◌≡◌, ◌<◌, ◌+◌, ◌⊎◌, IsTrue, List, take}
 use Rattle.race_records.specs.declared.event.Event.{Event}
 use Rattle.race_records.specs.declared.event.Op.{Op}

@@ -1,4 +1,5 @@
--- All orders of the accesses that keep happens before, and what a read finds in each. (Our own; compare The Go Memory Model, "Memory Model": the mapping from reads to writes)
+-- All orders of the accesses that keep happens before, and what a read finds in each. (Our own; compare The Go Memory
+-- Model, "Memory Model": the mapping from reads to writes)
 use Rattle.std.specs.Prelude.{ℕ, if◌then◌else◌, ◌≡◌, ◌<◌, ◌+◌, ◌==◌, Bool, false, IsTrue, List, [], ◌∷◌, Option, Some, None, slice_get}
 use Rattle.std.specs.List.{before_first}
 use Rattle.race_records.specs.declared.event.Event.{Event}

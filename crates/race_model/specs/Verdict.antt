@@ -1,4 +1,5 @@
--- The verdict on a list of events: illegal, clean, or its races. (The Go Memory Model, "Implementation Restrictions for Programs Containing Data Races": report the race)
+-- The verdict on a list of events: illegal, clean, or its races. (The Go Memory Model, "Implementation Restrictions for
+-- Programs Containing Data Races": report the race)
 use Rattle.std.specs.Prelude.{ℕ, ◌≡◌, ◌≢◌, ◌<◌, List, [], Some, slice_get}
 use Rattle.race_records.specs.declared.event.Event.{Event}
 use Rattle.race_model.specs.Legal.{IsLegal, IsIllegalAt}

@@ -1,5 +1,7 @@
 -- What turns and firings leave of a hub, and when its run is out.
-use Rattle.std.proofs.Common.{ℕ, ◌≡◌, ◌≢◌, ◌==◌, ◌⊎◌, ◌<◌, ◌≤◌, ◌+◌, ◌-◌, ◌++◌, List, [], ◌∷◌, length, Bool, true, false, Option, Some, None, IsSome, refl, sym, ap, ◌∙◌}
+use Rattle.std.proofs.Common.{ℕ, ◌≡◌, ◌≢◌, ◌==◌, ◌⊎◌, ◌<◌, ◌≤◌, ◌+◌, ◌-◌, ◌++◌, List, [], ◌∷◌}
+use Rattle.std.proofs.Common.{length, Bool, true, false, Option, Some, None, IsSome, refl, sym}
+use Rattle.std.proofs.Common.{ap, ◌∙◌}
 use Rattle.std.proofs.lemmas.List.{append_assoc}
 use Rattle.std.proofs.lemmas.Bool.Decides.{nat_tests}
 use Rattle.std.proofs.lemmas.Option.{none-some}
@@ -70,7 +72,8 @@ module _ {R : Type 0} where
   pub fired_nearer : (pick : ℕ) (first old new : HubState R) → old.events ≡ first.events → old.limit ≡ first.limit → length old.events ≤ old.limit
       → IsFired pick old new → new.limit - length new.events < first.limit - length first.events
   fired_nearer pick first old new same same_limit within f =
-      let below : length old.events < old.limit = less (length old.events) old.limit (not_full old (end_none (stop_of old) (is_deadlock old) f.running)) within in
+      let below : length old.events < old.limit =
+      less (length old.events) old.limit (not_full old (end_none (stop_of old) (is_deadlock old) f.running)) within in
       let (decls, limit, out, bad) = f.fires.same in
       let longer : length new.events ≡ length old.events + 1 = ap length f.fires.events ∙ length-append old.events (f.fires.e ∷ []) in
       let count : length old.events ≡ length first.events = ap length same in

@@ -14,7 +14,8 @@ placed_at trace i e at = slice_get-map (placed trace.decls.places) trace.events 
 module _ (trace other : TraceState) (i : ℕ) (e f : Event) (here : slice_get trace.events i ≡ Some e) (there : slice_get other.events i ≡ Some f) where
   -- what tells whether the two are equal
   pub alike_by : (b : Bool) → b ≡ same_placed (placed trace.decls.places e) (placed other.decls.places f)
-      → (IsTrue b → slice_get (placed_events trace) i ≡ slice_get (placed_events other) i) × (slice_get (placed_events trace) i ≡ slice_get (placed_events other) i → IsTrue b)
+      → (IsTrue b → slice_get (placed_events trace) i ≡ slice_get (placed_events other) i)
+      × (slice_get (placed_events trace) i ≡ slice_get (placed_events other) i → IsTrue b)
   alike_by b is =
       let tests = same_placed-Decides (placed trace.decls.places e) (placed other.decls.places f) in (
         λ h. placed_at trace i e here ∙ ap Some (tests.0 (sym is ∙ h)) ∙ sym (placed_at other i f there),
@@ -22,21 +23,26 @@ module _ (trace other : TraceState) (i : ℕ) (e f : Event) (here : slice_get tr
       )
 
   pub by_who : (e.who == f.who) ≡ false → false ≡ same_placed (placed trace.decls.places e) (placed other.decls.places f)
-  by_who differ = λ j. ((sym differ j && same_op e.op f.op) && same_text (placed trace.decls.places e).place (placed other.decls.places f).place) && same_text (placed trace.decls.places e).place2 (placed other.decls.places f).place2
+  by_who differ = λ j. ((sym differ j && same_op e.op f.op) && same_text (placed trace.decls.places e).place (placed other.decls.places f).place)
+      && same_text (placed trace.decls.places e).place2 (placed other.decls.places f).place2
 
   pub by_op : (e.who == f.who) ≡ true → same_op e.op f.op ≡ false → false ≡ same_placed (placed trace.decls.places e) (placed other.decls.places f)
-  by_op same differ = λ j. ((sym same j && sym differ j) && same_text (placed trace.decls.places e).place (placed other.decls.places f).place) && same_text (placed trace.decls.places e).place2 (placed other.decls.places f).place2
+  by_op same differ = λ j. ((sym same j && sym differ j) && same_text (placed trace.decls.places e).place (placed other.decls.places f).place)
+      && same_text (placed trace.decls.places e).place2 (placed other.decls.places f).place2
 
   pub by_place : (e.who == f.who) ≡ true → same_op e.op f.op ≡ true → (text another : List ℕ) → slice_get trace.decls.places e.place ≡ Some text
       → slice_get other.decls.places f.place ≡ Some another
       → bytes_eq text another ≡ false → false ≡ same_placed (placed trace.decls.places e) (placed other.decls.places f)
   by_place who op text another at at2 differ =
       (λ j. sym differ j && same_text (placed trace.decls.places e).place2 (placed other.decls.places f).place2)
-      ∙ (λ j. ((sym who j && sym op j) && same_text (sym at j) (sym at2 j)) && same_text (placed trace.decls.places e).place2 (placed other.decls.places f).place2)
+      ∙ (λ j. ((sym who j && sym op j) && same_text (sym at j) (sym at2 j))
+      && same_text (placed trace.decls.places e).place2 (placed other.decls.places f).place2)
 
   pub by_texts : (e.who == f.who) ≡ true → same_op e.op f.op ≡ true → (text another : List ℕ) → slice_get trace.decls.places e.place ≡ Some text
       → slice_get other.decls.places f.place ≡ Some another
-      → bytes_eq text another ≡ true → same_text (placed trace.decls.places e).place2 (placed other.decls.places f).place2 ≡ same_placed (placed trace.decls.places e) (placed other.decls.places f)
+      → bytes_eq text another ≡ true → same_text (placed trace.decls.places e).place2 (placed other.decls.places f).place2
+      ≡ same_placed (placed trace.decls.places e) (placed other.decls.places f)
   by_texts who op text another at at2 same =
       (λ j. sym same j && same_text (placed trace.decls.places e).place2 (placed other.decls.places f).place2)
-      ∙ (λ j. ((sym who j && sym op j) && same_text (sym at j) (sym at2 j)) && same_text (placed trace.decls.places e).place2 (placed other.decls.places f).place2)
+      ∙ (λ j. ((sym who j && sym op j) && same_text (sym at j) (sym at2 j))
+      && same_text (placed trace.decls.places e).place2 (placed other.decls.places f).place2)

@@ -1,5 +1,7 @@
 -- What it means that nothing refuses a declaration or a place.
-use Rattle.std.proofs.Common.{◌≡◌, ◌≢◌, ℕ, ◌<◌, Bool, true, false, not, nat_le, List, [], length, position, get_or, Option, Some, None, IsNone, IsTrue, is_some, option_map, if◌then◌else◌, take, refl, sym, ap, ◌∙◌, true≢false, arith}
+use Rattle.std.proofs.Common.{◌≡◌, ◌≢◌, ℕ, ◌<◌, Bool, true, false, not, nat_le, List, [], length, position, get_or, Option}
+use Rattle.std.proofs.Common.{Some, None, IsNone, IsTrue, is_some, option_map, if◌then◌else◌, take, refl, sym, ap, ◌∙◌}
+use Rattle.std.proofs.Common.{true≢false, arith}
 use Rattle.std.proofs.lemmas.Bool.Decides.{nat_tests}
 use Rattle.std.proofs.lemmas.List.Folds.{list_any_at}
 use Rattle.std.proofs.lemmas.List.Quantifiers.{position-Some}
@@ -51,7 +53,8 @@ pub free_from_find : (ds : List Declaration) (word : List ℕ) → is_some (find
 free_from_find ds word h = by (bytes_eq word main) refl h
   where
     by : (b : Bool) → bytes_eq word main ≡ b
-        → is_some (if b then Some (Named.Goroutine 0) else option_and_then (declared_at ds) (position (λ (d : Declaration). bytes_eq word d.name) ds)) ≡ false → IsFree ds word
+        → is_some (if b then Some (Named.Goroutine 0) else option_and_then (declared_at ds) (position (λ (d : Declaration). bytes_eq word d.name) ds))
+        ≡ false → IsFree ds word
     by true e h = absurd (true≢false h)
     by false e h = record { not_main = bytes_differ word main e; absent = no_index ds word (position (λ (d : Declaration). bytes_eq word d.name) ds) refl h }
 
@@ -59,12 +62,14 @@ free_from_find ds word h = by (bytes_eq word main) refl h
 pub allowed_from_no_fault : (ds : List Declaration) (object : Object) (word : List ℕ) → decl_fault ds object word ≡ None → IsAllowed ds object word
 unfolding decl_fault
 allowed_from_no_fault ds object word h =
-    by (is_name word) refl (is_some (find_name ds word)) refl (nat_le (limit_of (kind_of object)) (count_of (kind_of object) ds)) refl (is_too_wide object) refl h
+    by (is_name word) refl (is_some (find_name ds word)) refl
+    (nat_le (limit_of (kind_of object)) (count_of (kind_of object) ds)) refl (is_too_wide object) refl h
   where
     by : (b : Bool) → is_name word ≡ b → (c : Bool) → is_some (find_name ds word) ≡ c → (full : Bool)
         → nat_le (limit_of (kind_of object)) (count_of (kind_of object) ds) ≡ full
         → (wide : Bool) → is_too_wide object ≡ wide
-        → ◌≡◌ {A = Option DeclFault} (if not b then Some BadName else (if c then Some Taken else (if full then Some TooMany else (if wide then Some BadCapacity else None)))) None
+        → ◌≡◌ {A = Option DeclFault} (if not b then Some BadName else
+        (if c then Some Taken else (if full then Some TooMany else (if wide then Some BadCapacity else None)))) None
         → IsAllowed ds object word
     by false _ _ _ _ _ _ _ h = absurd (none-some _ (sym h))
     by true _ true _ _ _ _ _ h = absurd (none-some _ (sym h))

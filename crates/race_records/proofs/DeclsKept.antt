@@ -1,5 +1,7 @@
 -- The invariant of a `Decls`: with nothing declared, and after one more declaration.
-use Rattle.std.proofs.Common.{◌≡◌, ◌≢◌, ℕ, ◌+◌, ◌<◌, ◌≤◌, Bool, true, false, cond, List, [], ◌∷◌, ◌++◌, length, take, slice_get, Some, IsTrue, if◌then◌else◌, refl, sym, ap, subst, ◌∙◌, append-nil, inl, inr, arith, true≢false}
+use Rattle.std.proofs.Common.{◌≡◌, ◌≢◌, ℕ, ◌+◌, ◌<◌, ◌≤◌, Bool, true, false, cond, List, [], ◌∷◌, ◌++◌, length, take}
+use Rattle.std.proofs.Common.{slice_get, Some, IsTrue, if◌then◌else◌, refl, sym, ap, subst, ◌∙◌, append-nil, inl, inr}
+use Rattle.std.proofs.Common.{arith, true≢false}
 use Rattle.std.proofs.lemmas.List.{length-append, length-map, map-append, take-append-le}
 use Rattle.std.proofs.lemmas.List.Elements.{All-push, filter-append}
 use Rattle.std.proofs.lemmas.List.Quantifiers.{all_pairs_push}
@@ -8,7 +10,9 @@ use Rattle.std.proofs.Math.Seq.{take-append_seam}
 use Rattle.race_records.specs.declared.kind.Kind.{Kind}
 use Rattle.race_records.specs.declared.kind.Object.{Object}
 use Rattle.race_records.specs.Name.{main, is_name}
-use Rattle.race_records.specs.Declarations.{Declaration, DeclsState, IsWellFormed, with_declaration, is_of_kind, kind_of, of_kind, count_of, limit_of, first_number, is_too_wide}
+use Rattle.race_records.specs.Declarations.{Declaration, DeclsState, IsWellFormed, with_declaration}
+use Rattle.race_records.specs.Declarations.{is_of_kind, kind_of, of_kind, count_of, limit_of}
+use Rattle.race_records.specs.Declarations.{first_number, is_too_wide}
 use Rattle.race_records.specs.declared.declarations.Decls.TheInside.{Inside}
 use Rattle.race_records.specs.DeclsHold.{decls_state, Leads, AreNumbered, DeclsHold}
 use Rattle.race_records.specs.Rows.{declaration_of, declarations_of}
@@ -27,7 +31,8 @@ kind_is _ _ h = absurd (true≢false (sym h))
 
 -- one more index of a kind
 indexes_of-with_index : (kind : Kind) (object : Object) (last : ℕ) (indexes : IndexesState)
-    → indexes_of kind (with_index (kind_of object) last indexes) ≡ (if is_of_kind kind object then indexes_of kind indexes ++ last ∷ [] else indexes_of kind indexes)
+    → indexes_of kind (with_index (kind_of object) last indexes)
+    ≡ (if is_of_kind kind object then indexes_of kind indexes ++ last ∷ [] else indexes_of kind indexes)
 indexes_of-with_index Kind.Goroutine Object.Goroutine last indexes = refl
 indexes_of-with_index Kind.Var Object.Var last indexes = refl
 indexes_of-with_index Kind.Chan (Object.Chan capacity) last indexes = refl
@@ -83,17 +88,20 @@ module _ (rows : List Row) (indexes : IndexesState) (numbered : AreNumbered rows
         numbered.numbers i r old ∙ ap (count_of (kind_of r.slot.object)) (sym (take-append-le i ds (d ∷ []) within))
     | inr last ↦
         let all : take i (ds ++ d ∷ []) ≡ ds = ap (λ n. take n (ds ++ d ∷ [])) (last.0 ∙ sym (length-map rows declaration_of)) ∙ take-append_seam ds (d ∷ []) in
-        ap (λ (x : Row). x.slot.number) last.1 ∙ is ∙ (λ j. count_of (kind_of object) (sym all j)) ∙ (λ j. count_of (kind_of (sym last.1 j).slot.object) (take i (ds ++ d ∷ [])))
+        ap (λ (x : Row). x.slot.number) last.1 ∙ is ∙ (λ j. count_of (kind_of object) (sym all j))
+        ∙ (λ j. count_of (kind_of (sym last.1 j).slot.object) (take i (ds ++ d ∷ [])))
   ]
 
   indexed_pushed : (kind : Kind) → Leads (ds ++ d ∷ []) (of_kind kind (ds ++ d ∷ [])) (indexes_of kind (with_index (kind_of object) (length rows) indexes))
   indexed_pushed kind =
       subst (λ p. Leads (ds ++ d ∷ []) p (indexes_of kind (with_index (kind_of object) (length rows) indexes))) (sym (of_kind-push kind ds d))
-      (subst (λ is. Leads (ds ++ d ∷ []) (if is_of_kind kind object then of_kind kind ds ++ d ∷ [] else of_kind kind ds) is) (sym (indexes_of-with_index kind object (length rows) indexes))
+      (subst (λ is. Leads (ds ++ d ∷ []) (if is_of_kind kind object then of_kind kind ds ++ d ∷ [] else of_kind kind ds) is)
+      (sym (indexes_of-with_index kind object (length rows) indexes))
       (by (is_of_kind kind object)))
     where
       by : (b : Bool)
-          → Leads (ds ++ d ∷ []) (if b then of_kind kind ds ++ d ∷ [] else of_kind kind ds) (if b then indexes_of kind indexes ++ length rows ∷ [] else indexes_of kind indexes)
+          → Leads (ds ++ d ∷ []) (if b then of_kind kind ds ++ d ∷ [] else of_kind kind ds)
+          (if b then indexes_of kind indexes ++ length rows ∷ [] else indexes_of kind indexes)
       by true = Leads-same ds (of_kind kind ds) (indexes_of kind indexes) (numbered.indexed kind) d (length rows) (sym (length-map rows declaration_of))
       by false = Leads-other ds (of_kind kind ds) (indexes_of kind indexes) (numbered.indexed kind) d
 
@@ -101,8 +109,10 @@ module _ (rows : List Row) (indexes : IndexesState) (numbered : AreNumbered rows
   push_numbered =
       let e = map-append declaration_of rows (new ∷ []) in
       record {
-        numbers = subst (λ (xs : List Declaration). (i : ℕ) (r : Row) → slice_get (rows ++ new ∷ []) i ≡ Some r → r.slot.number ≡ count_of (kind_of r.slot.object) (take i xs)) (sym e) numbers_pushed;
-        indexed = subst (λ (xs : List Declaration). (kind : Kind) → Leads xs (of_kind kind xs) (indexes_of kind (with_index (kind_of object) (length rows) indexes))) (sym e) indexed_pushed;
+        numbers = subst (λ (xs : List Declaration). (i : ℕ) (r : Row) → slice_get (rows ++ new ∷ []) i ≡ Some r
+            → r.slot.number ≡ count_of (kind_of r.slot.object) (take i xs)) (sym e) numbers_pushed;
+        indexed = subst (λ (xs : List Declaration). (kind : Kind)
+            → Leads xs (of_kind kind xs) (indexes_of kind (with_index (kind_of object) (length rows) indexes))) (sym e) indexed_pushed;
       }
 
 module _ (decls : DeclsState) (holds : IsWellFormed decls) (name : List ℕ) (object : Object) (allowed : IsAllowed decls.declarations object name) where
@@ -110,12 +120,14 @@ module _ (decls : DeclsState) (holds : IsWellFormed decls) (name : List ℕ) (ob
   added = record { name = name; object = object }
 
   limited_pushed : (kind : Kind) → count_of kind (decls.declarations ++ added ∷ []) ≤ limit_of kind
-  limited_pushed kind = subst (λ (xs : List Declaration). first_number kind + length xs ≤ limit_of kind) (sym (of_kind-push kind decls.declarations added)) (by (is_of_kind kind object) refl)
+  limited_pushed kind = subst (λ (xs : List Declaration). first_number kind + length xs ≤ limit_of kind)
+      (sym (of_kind-push kind decls.declarations added)) (by (is_of_kind kind object) refl)
     where
       by : (b : Bool) → is_of_kind kind object ≡ b
           → first_number kind + length (if b then of_kind kind decls.declarations ++ added ∷ [] else of_kind kind decls.declarations) ≤ limit_of kind
       by true e =
-          let room : count_of kind decls.declarations < limit_of kind = subst (λ k. count_of k decls.declarations < limit_of k) (sym (kind_is kind object e)) allowed.room in
+          let room : count_of kind decls.declarations < limit_of kind =
+          subst (λ k. count_of k decls.declarations < limit_of k) (sym (kind_is kind object e)) allowed.room in
           omega (arith, room, length-append (of_kind kind decls.declarations) (added ∷ []))
       by false e = holds.limited kind
 
@@ -123,7 +135,8 @@ module _ (decls : DeclsState) (holds : IsWellFormed decls) (name : List ℕ) (ob
   push_well_formed = record {
     names = All-push (λ (x : Declaration). IsTrue (is_name x.name)) decls.declarations added holds.names allowed.name;
     not_main = All-push (λ (x : Declaration). x.name ≢ main) decls.declarations added holds.not_main allowed.free.not_main;
-    distinct = all_pairs_push (λ (x y : Declaration). x.name ≢ y.name) decls.declarations added holds.distinct (λ k e within same. differs_from_absent decls.declarations name allowed.free.absent k e within (sym same));
+    distinct = all_pairs_push (λ (x y : Declaration). x.name ≢ y.name) decls.declarations added holds.distinct
+        (λ k e within same. differs_from_absent decls.declarations name allowed.free.absent k e within (sym same));
     limited = limited_pushed;
     capacities = All-push (λ (x : Declaration). is_too_wide x.object ≡ false) decls.declarations added holds.capacities allowed.narrow;
     places = holds.places;
@@ -132,13 +145,19 @@ module _ (decls : DeclsState) (holds : IsWellFormed decls) (name : List ℕ) (ob
   }
 
 -- the invariant after one more declaration, from what the tables became
-module _ {A : Type 0} (decls : Inside A) (holds : DeclsHold decls) (name : List ℕ) (object : Object) (allowed : IsAllowed (declarations_of decls.names) object name)
+module _ {A : Type 0} (decls : Inside A) (holds : DeclsHold decls) (name : List ℕ)
+    (object : Object) (allowed : IsAllowed (declarations_of decls.names) object name)
     (number : ℕ) (is : number ≡ count_of (kind_of object) (declarations_of decls.names)) where
   pub push_holds : (next : Inside A) → next.names ≡ decls.names ++ row name (record { object = object; number = number }) ∷ []
       → next.indexes ≡ with_index (kind_of object) (length decls.names) decls.indexes → next.places ≡ decls.places → DeclsHold next
   push_holds next names indexes places = record {
-    numbered = subst (λ (p : List Row × IndexesState). AreNumbered p.0 p.1) (λ i. (sym names i, sym indexes i)) (push_numbered decls.names decls.indexes holds.numbered name object number is);
+    numbered = subst (λ (p : List Row × IndexesState). AreNumbered p.0 p.1) (λ i. (sym names i, sym indexes i))
+        (push_numbered decls.names decls.indexes holds.numbered name object number is);
     well_formed = subst IsWellFormed
-        (λ i. record { declarations = (sym (map-append declaration_of decls.names (row name (record { object = object; number = number }) ∷ [])) ∙ ap declarations_of (sym names)) i; places = sym places i })
+        (λ i. record {
+          declarations = (sym (map-append declaration_of decls.names (row name (record { object = object; number = number }) ∷ []))
+              ∙ ap declarations_of (sym names)) i;
+          places = sym places i;
+        })
         (push_well_formed (decls_state decls) holds.well_formed name object allowed);
   }

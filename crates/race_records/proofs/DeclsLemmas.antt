@@ -1,5 +1,7 @@
 -- What the tables of a `Decls` say of its declarations.
-use Rattle.std.proofs.Common.{◌≡◌, subst, ◌≢◌, All, Bool, true, get_or, ℕ, zero, suc, ◌<◌, false, if◌then◌else◌, List, [], ◌∷◌, length, take, position, slice_get, Option, Some, None, option_map, refl, sym, ap, ◌∙◌, arith}
+use Rattle.std.proofs.Common.{◌≡◌, subst, ◌≢◌, All, Bool, true, get_or, ℕ, zero, suc, ◌<◌, false, if◌then◌else◌, List, []}
+use Rattle.std.proofs.Common.{◌∷◌, length, take, position, slice_get, Option, Some, None, option_map, refl, sym, ap, ◌∙◌}
+use Rattle.std.proofs.Common.{arith}
 use Rattle.std.proofs.lemmas.List.{get_or-map, length-map}
 use Rattle.std.proofs.lemmas.List.Elements.{All-get_or}
 use Rattle.std.proofs.lemmas.List.Quantifiers.{position-Some}
@@ -48,7 +50,8 @@ module _ (rows : List Row) (indexes : IndexesState) (numbered : AreNumbered rows
   stands_at i (Some r) at = λ j. Some (named r.slot.object (sym (numbered.numbers i r at) j))
 
   stands : (o : Option ℕ)
-      → option_and_then (declared_at (declarations_of rows)) o ≡ option_map slot_stands (option_and_then (λ i. option_map (λ (r : Row). r.slot) (slice_get rows i)) o)
+      → option_and_then (declared_at (declarations_of rows)) o
+      ≡ option_map slot_stands (option_and_then (λ i. option_map (λ (r : Row). r.slot) (slice_get rows i)) o)
   stands None = refl
   stands (Some i) = ap (option_map (declared i)) (slice_get-map declaration_of rows i) ∙ stands_at i (slice_get rows i) refl
 
@@ -92,7 +95,8 @@ module _ (rows : List Row) (indexes : IndexesState) (numbered : AreNumbered rows
   declaration-indexed = sym (slice_get-map declaration_of rows i) ∙ (numbered.indexed kind).to n i at
 
   -- so it has its name
-  pub name-indexed : option_map (λ (r : Row). r.name) (slice_get rows i) ≡ option_map (λ (d : Declaration). d.name) (slice_get (of_kind kind (declarations_of rows)) n)
+  pub name-indexed : option_map (λ (r : Row). r.name) (slice_get rows i)
+      ≡ option_map (λ (d : Declaration). d.name) (slice_get (of_kind kind (declarations_of rows)) n)
   name-indexed =
       sym (option_map-option_map declaration_of (λ (d : Declaration). d.name) (slice_get rows i))
       ∙ ap (option_map (λ (d : Declaration). d.name)) declaration-indexed
@@ -100,7 +104,8 @@ module _ (rows : List Row) (indexes : IndexesState) (numbered : AreNumbered rows
   -- and what is told of its object holds of that declaration's
   pub object-indexed : {X : Type 0} (of : Object → X) (none : X) (slot : Slot) → option_map (λ (r : Row). r.slot) (slice_get rows i) ≡ Some slot
       → of slot.object ≡ option_map_or (λ (d : Declaration). of d.object) (slice_get (of_kind kind (declarations_of rows)) n) none
-  object-indexed {X} of none slot is = by (slice_get rows i) is ∙ ap (λ (o : Option Declaration). option_map_or (λ (d : Declaration). of d.object) o none) declaration-indexed
+  object-indexed {X} of none slot is = by (slice_get rows i) is
+      ∙ ap (λ (o : Option Declaration). option_map_or (λ (d : Declaration). of d.object) o none) declaration-indexed
     where
       by : (r : Option Row) → option_map (λ (r : Row). r.slot) r ≡ Some slot
           → of slot.object ≡ option_map_or (λ (d : Declaration). of d.object) (option_map declaration_of r) none

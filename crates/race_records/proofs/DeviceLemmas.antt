@@ -13,7 +13,8 @@ Appends-sent before middle after bytes sent taken first next =
     let rest : take (length bytes - sent) (drop sent bytes) ≡ drop sent bytes =
     ap (λ n. take n (drop sent bytes)) (sym (length-drop sent bytes)) ∙ take-length (drop sent bytes) in
     subst (λ (l : List ℕ). Appends before after l) (sym (take-add sent taken bytes))
-    (Appends-trans before middle after (take sent bytes) (take taken (drop sent bytes)) first (subst (λ (l : List ℕ). Appends middle after (take taken l)) rest next))
+    (Appends-trans before middle after (take sent bytes) (take taken (drop sent bytes)) first
+    (subst (λ (l : List ℕ). Appends middle after (take taken l)) rest next))
 
 -- a write that took a byte isn't counted
 pub counted-taken : (taken count : ℕ) (some : Bool) → (taken ≡ 0 → ⊥) → counted ((taken == 0) && some) count ≡ count

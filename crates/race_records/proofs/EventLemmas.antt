@@ -1,5 +1,7 @@
 -- What keeps a trace a trace.
-use Rattle.std.proofs.Common.{◌≡◌, ℕ, ◌<◌, ◌≤◌, ◌&&◌, Bool, true, false, not, nat_le, List, [], ◌∷◌, ◌++◌, length, Option, Some, None, IsTrue, IfSome, if◌then◌else◌, refl, sym, subst, get_or, arith, All}
+use Rattle.std.proofs.Common.{◌≡◌, ℕ, ◌<◌, ◌≤◌, ◌&&◌, Bool, true, false, not, nat_le, List, [], ◌∷◌, ◌++◌}
+use Rattle.std.proofs.Common.{length, Option, Some, None, IsTrue, IfSome, if◌then◌else◌, refl, sym, subst}
+use Rattle.std.proofs.Common.{get_or, arith, All}
 use Rattle.std.proofs.lemmas.Bool.Decides.{nat_tests}
 use Rattle.std.proofs.lemmas.List.{length-append}
 use Rattle.std.proofs.lemmas.List.Elements.{All-push}
@@ -38,8 +40,10 @@ push_is_trace trace e events spare holds value none is =
     let allowed = allowed_from_no_push_fault trace e none in
     let room = allowed.room in
     record {
-      fit = subst (λ (es : List Event). All (λ (x : Event). IsTrue (fits trace.decls x)) es) (sym is) (All-push (λ (x : Event). IsTrue (fits trace.decls x)) trace.events e holds.fit allowed.fit);
-      values = subst (λ (es : List Event). All (λ (x : Event). IsTrue (op_is_limited x.op)) es) (sym is) (All-push (λ (x : Event). IsTrue (op_is_limited x.op)) trace.events e holds.values value);
+      fit = subst (λ (es : List Event). All (λ (x : Event). IsTrue (fits trace.decls x)) es) (sym is)
+          (All-push (λ (x : Event). IsTrue (fits trace.decls x)) trace.events e holds.fit allowed.fit);
+      values = subst (λ (es : List Event). All (λ (x : Event). IsTrue (op_is_limited x.op)) es) (sym is)
+          (All-push (λ (x : Event). IsTrue (op_is_limited x.op)) trace.events e holds.values value);
       limited = subst (λ (es : List Event). length es ≤ MAX_EVENTS) (sym is) (omega (arith, room, length-append trace.events (e ∷ [])));
     }
 
@@ -57,7 +61,8 @@ second_in_range decls e h = grind (arith, nat_tests)
 pub with_place_is_trace : (trace : TraceState) (word : List ℕ) (decls : DeclsState) → IsTrace trace → decls ≡ with_place trace.decls word
     → IsTrace (record { decls = decls; events = trace.events; spare = trace.spare })
 with_place_is_trace trace word decls holds is = record {
-  fit = λ k d within. subst (λ (x : DeclsState). IsTrue (fits x (get_or trace.events k d))) (sym is) (fits-more_places trace.decls.declarations trace.decls.places _ (get_or trace.events k d) (grown (is_known trace.decls.places word)) (holds.fit k d within));
+  fit = λ k d within. subst (λ (x : DeclsState). IsTrue (fits x (get_or trace.events k d))) (sym is) (fits-more_places
+      trace.decls.declarations trace.decls.places _ (get_or trace.events k d) (grown (is_known trace.decls.places word)) (holds.fit k d within));
   values = holds.values;
   limited = holds.limited;
 }

@@ -1,5 +1,7 @@
 -- What one more write makes of a text that is printed piece by piece.
-use Rattle.std.proofs.Common.{◌≡◌, ℕ, suc, ◌+◌, ◌-◌, ◌^◌, ◌<◌, ◌≤◌, min, List, [], ◌∷◌, ◌++◌, get_or, subst, length, take, drop, Option, Result, Ok, Err, OnOk, OnErr, IfErr, refl, sym, ap, ◌∙◌, arith, append-nil, append_assoc, length-append, length-drop}
+use Rattle.std.proofs.Common.{◌≡◌, ℕ, suc, ◌+◌, ◌-◌, ◌^◌, ◌<◌, ◌≤◌, min, List, [], ◌∷◌, ◌++◌, get_or, subst, length, take, drop, Option}
+use Rattle.std.proofs.Common.{Result, Ok, Err, OnOk, OnErr, IfErr, refl, sym, ap, ◌∙◌, arith, append-nil, append_assoc, length-append}
+use Rattle.std.proofs.Common.{length-drop}
 use Rattle.std.proofs.KnownBytes.{Appends-trans, Appends-nil}
 use Rattle.std.specs.Bool.{⊤}
 use Rattle.std.proofs.Math.Seq.{drop-cons}
@@ -35,7 +37,8 @@ module _ (start before after : Option (List ℕ)) (page : PageState) (text : Lis
   part_out n sent short went is = record {
     out = printed.out ++ take n page.waiting;
     rest = drop n page.waiting;
-    split = printed.split ∙ ap (λ l. printed.out ++ l) (sym (take-append-drop n page.waiting)) ∙ sym (append_assoc printed.out (take n page.waiting) (drop n page.waiting));
+    split = printed.split ∙ ap (λ l. printed.out ++ l) (sym (take-append-drop n page.waiting))
+        ∙ sym (append_assoc printed.out (take n page.waiting) (drop n page.waiting));
     short = omega (arith, short, length-drop n page.waiting);
     appended = Appends-trans start before after printed.out (take n page.waiting) printed.appended went;
     counted = is ∙ counted_more page.sent printed.out (take n page.waiting) n printed.counted (sym (length-take-le n page.waiting (omega (arith, short))));
@@ -78,13 +81,15 @@ cut_off_more start now sent text bytes cut = record {
 pub pieces_more : {X : Type 0} (piece : X → List ℕ) (xs : List X) (i : ℕ) (d : X) → i < length xs
     → flat_map piece (take (i + 1) xs) ≡ flat_map piece (take i xs) ++ piece (get_or xs i d)
 pieces_more piece xs i d within =
-    ap (flat_map piece) (take_more xs i d within) ∙ flat_map-append piece (take i xs) (get_or xs i d ∷ []) ∙ ap (λ l. flat_map piece (take i xs) ++ l) (append-nil (piece (get_or xs i d)))
+    ap (flat_map piece) (take_more xs i d within) ∙ flat_map-append piece (take i xs) (get_or xs i d ∷ [])
+    ∙ ap (λ l. flat_map piece (take i xs) ++ l) (append-nil (piece (get_or xs i d)))
 
 -- all pieces are those before one, that one, and those behind it
 pub pieces_split : {X : Type 0} (piece : X → List ℕ) (xs : List X) (i : ℕ) (d : X) → i < length xs
     → flat_map piece xs ≡ (flat_map piece (take i xs) ++ piece (get_or xs i d)) ++ flat_map piece (drop (i + 1) xs)
 pieces_split piece xs i d within =
-    ap (flat_map piece) (sym (take-append-drop (i + 1) xs)) ∙ flat_map-append piece (take (i + 1) xs) (drop (i + 1) xs) ∙ ap (λ l. l ++ flat_map piece (drop (i + 1) xs)) (pieces_more piece xs i d within)
+    ap (flat_map piece) (sym (take-append-drop (i + 1) xs)) ∙ flat_map-append piece (take (i + 1) xs) (drop (i + 1) xs)
+    ∙ ap (λ l. l ++ flat_map piece (drop (i + 1) xs)) (pieces_more piece xs i d within)
 
 -- pieces that are cut off within piece i
 pub cut_off_in_pieces : {X : Type 0} (piece : X → List ℕ) (start now : Option (List ℕ)) (sent : ℕ) (text : List ℕ) (xs : List X) (i : ℕ) (d : X) → i < length xs
@@ -92,9 +97,11 @@ pub cut_off_in_pieces : {X : Type 0} (piece : X → List ℕ) (start now : Optio
 cut_off_in_pieces piece start now sent text xs i d within cut =
     let rest = flat_map piece (drop (suc i) xs) in
     let split : flat_map piece xs ≡ flat_map piece (take i xs) ++ (piece (get_or xs i d) ++ rest) =
-    ap (flat_map piece) (sym (take-append-drop i xs) ∙ ap (λ l. take i xs ++ l) (drop-cons xs i d within)) ∙ flat_map-append piece (take i xs) (get_or xs i d ∷ drop (suc i) xs) in
+    ap (flat_map piece) (sym (take-append-drop i xs) ∙ ap (λ l. take i xs ++ l) (drop-cons xs i d within))
+    ∙ flat_map-append piece (take i xs) (get_or xs i d ∷ drop (suc i) xs) in
     subst (λ (l : List ℕ). IsCutOff start now sent l)
-    (append_assoc (text ++ flat_map piece (take i xs)) (piece (get_or xs i d)) rest ∙ append_assoc text (flat_map piece (take i xs)) (piece (get_or xs i d) ++ rest) ∙ ap (λ l. text ++ l) (sym split))
+    (append_assoc (text ++ flat_map piece (take i xs)) (piece (get_or xs i d)) rest
+    ∙ append_assoc text (flat_map piece (take i xs)) (piece (get_or xs i d) ++ rest) ∙ ap (λ l. text ++ l) (sym split))
     (cut_off_more start now sent ((text ++ flat_map piece (take i xs)) ++ piece (get_or xs i d)) rest cut)
 
 -- bytes that go on behind what was put
@@ -124,7 +131,8 @@ module _ (start middle : Option (List ℕ)) (page next : PageState) (text : List
 
   -- and was sent to its end
   pub flushed : {E : Type 0} (r : Result ⊤ E) (now : Option (List ℕ)) (last : PageState) → Prints start middle page next text
-      → OnOk r (last.waiting ≡ []) → OnOk r ((s : Option (List ℕ)) (t : List ℕ) → IsPrinted s middle next t → IsPrinted s now last t) → OnOk r (Appends start now text)
+      → OnOk r (last.waiting ≡ []) → OnOk r ((s : Option (List ℕ)) (t : List ℕ) → IsPrinted s middle next t → IsPrinted s now last t)
+      → OnOk r (Appends start now text)
   flushed (Ok x) now last prints empty sends = all_is_out start now last text empty (sends start text (put_on prints))
   flushed (Err e) now last prints empty sends = tt
 
@@ -167,7 +175,8 @@ pub prints_behind : {W : Type 0} {contents : W → Option (List ℕ)} {r : Resul
     → Printing contents r b c q s ys → Printing contents r a c p s (xs ++ ys)
 prints_behind {W} {contents} {r} {a} {b} {c} {p} {q} {s} {xs} {ys} first next = record {
   ok = OnOk-map r _ _ (prints_on (written contents a) (written contents b) (written contents c) p q s xs ys first.ok) next.ok;
-  sent = IfErr-map r _ _ (λ (fault : WriteFault) breaks. breaks_off_on (written contents a) (written contents b) (written contents c) p q fault.sent xs ys first.ok breaks) next.sent;
+  sent = IfErr-map r _ _ (λ (fault : WriteFault) breaks. breaks_off_on (written contents a)
+      (written contents b) (written contents c) p q fault.sent xs ys first.ok breaks) next.sent;
   calm = OnOk-map r _ _ (λ (same : sink_failures c ≡ sink_failures b). same ∙ first.calm) next.calm;
   failed = OnErr-map r _ _ (λ (more : sink_failures c ≡ one_more (sink_failures b)). more ∙ ap one_more first.calm) next.failed;
   waits = waits_on r a b c p q s xs ys (λ room. let before = first.waits room in (before.1, before.2)) next.waits;
@@ -179,13 +188,15 @@ pub breaks_off_before : {W : Type 0} {contents : W → Option (List ℕ)} {fault
     → Printing contents (Err fault) a b p q (xs ++ ys)
 breaks_off_before {W} {contents} {fault} {a} {b} {p} {q} {xs} ys broke = record {
   ok = tt;
-  sent = λ start text printed. subst (λ (l : List ℕ). IsCutOff start (written contents b) fault.sent l) (append_assoc text xs ys) (cut_off_more start (written contents b) fault.sent (text ++ xs) ys (broke.sent start text printed));
+  sent = λ start text printed. subst (λ (l : List ℕ). IsCutOff start (written contents b) fault.sent l)
+      (append_assoc text xs ys) (cut_off_more start (written contents b) fault.sent (text ++ xs) ys (broke.sent start text printed));
   calm = tt;
   failed = broke.failed;
   waits = λ room. let none = (broke.waits (omega (arith, room, length-append xs ys))).0 in absurd (cc none);
 }
 
-module _ {W : Type 0} {contents : W → Option (List ℕ)} {a b c : Sink W} {p q s : PageState} {X : Type 0} (piece : X → List ℕ) (xs : List X) (i : ℕ) (d : X) (within : i < length xs) where
+module _ {W : Type 0} {contents : W → Option (List ℕ)} {a b c : Sink W} {p q s : PageState} {X : Type 0}
+    (piece : X → List ℕ) (xs : List X) (i : ℕ) (d : X) (within : i < length xs) where
   -- one piece more
   pub piece_behind : Printing contents (Ok tt) a b p q (flat_map piece (take i xs)) → Printing contents (Ok tt) b c q s (piece (get_or xs i d))
       → Printing contents (Ok tt) a c p s (flat_map piece (take (i + 1) xs))
@@ -195,4 +206,5 @@ module _ {W : Type 0} {contents : W → Option (List ℕ)} {a b c : Sink W} {p q
   pub piece_breaks_off : {fault : WriteFault} → Printing contents (Ok tt) a b p q (flat_map piece (take i xs))
       → Printing contents (Err fault) b c q s (piece (get_or xs i d)) → Printing contents (Err fault) a c p s (flat_map piece xs)
   piece_breaks_off {fault} first next =
-      subst (λ (l : List ℕ). Printing contents (Err fault) a c p s l) (sym (pieces_split piece xs i d within)) (breaks_off_before (flat_map piece (drop (i + 1) xs)) (prints_behind first next))
+      subst (λ (l : List ℕ). Printing contents (Err fault) a c p s l) (sym (pieces_split piece xs i d within))
+      (breaks_off_before (flat_map piece (drop (i + 1) xs)) (prints_behind first next))

@@ -2,7 +2,9 @@
 use Rattle.std.proofs.Common.{◌≡◌, ◌∙◌, ℕ, Bool, false, if◌then◌else◌, option_map, List, [], ◌∷◌, Option, Some, None, true, true≢false, refl, sym, ap}
 use Rattle.std.proofs.lemmas.Option.{none-some, same_Some}
 use Rattle.race_records.specs.declared.event.Op.{Op}
-use Rattle.race_records.specs.declared.event.Op.TheVariants.{Go, Exit, Read, Write, Send, Recv, Meet, RecvClosed, Close, Default, Lock, Unlock, RLock, RUnlock, OnceBegin, OnceEnd, OnceDone, Fault}
+use Rattle.race_records.specs.declared.event.Op.TheVariants.{Go, Exit, Read, Write, Send, Recv, Meet}
+use Rattle.race_records.specs.declared.event.Op.TheVariants.{RecvClosed, Close, Default, Lock, Unlock, RLock}
+use Rattle.race_records.specs.declared.event.Op.TheVariants.{RUnlock, OnceBegin, OnceEnd, OnceDone, Fault}
 use Rattle.race_records.specs.declared.kind.Kind.{Kind}
 use Rattle.race_records.specs.declared.kind.Named.{Named}
 use Rattle.race_records.specs.Declarations.{is_named, number_of}
@@ -69,12 +71,14 @@ op_by_says verb parts op e = by verb e
 
     alone : (make : ℕ → Op) (verb : Verb) (kind : Kind) → ((n : ℕ) → says (make n) ≡ (verb, Part.Object (named_by kind n) ∷ []))
         → option_map make (object_alone kind parts) ≡ Some op → says op ≡ (verb, parts)
-    alone make verb kind says_it e = made_says make (λ n. (verb, Part.Object (named_by kind n) ∷ [])) says_it (object_alone kind parts) op verb parts (λ n found i. (verb, sym (alone_again kind parts n found) i)) e
+    alone make verb kind says_it e = made_says make (λ n. (verb, Part.Object (named_by kind n) ∷ [])) says_it
+        (object_alone kind parts) op verb parts (λ n found i. (verb, sym (alone_again kind parts n found) i)) e
 
     valued : (make : ℕ × ℕ → Op) (verb : Verb) (kind : Kind) → ((p : ℕ × ℕ) → says (make p) ≡ (verb, Part.Object (named_by kind p.0) ∷ Part.Value p.1 ∷ []))
         → option_map make (object_value kind parts) ≡ Some op → says op ≡ (verb, parts)
     valued make verb kind says_it e =
-        made_says make (λ p. (verb, Part.Object (named_by kind p.0) ∷ Part.Value p.1 ∷ [])) says_it (object_value kind parts) op verb parts (λ p found i. (verb, sym (value_again kind parts p found) i)) e
+        made_says make (λ p. (verb, Part.Object (named_by kind p.0) ∷ Part.Value p.1 ∷ [])) says_it
+        (object_value kind parts) op verb parts (λ p found i. (verb, sym (value_again kind parts p found) i)) e
 
     exits : (parts : List Part) → exit_of parts ≡ Some op → says op ≡ (Verb.Exit, parts)
     exits [] e = is _ e

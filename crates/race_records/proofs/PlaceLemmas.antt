@@ -1,5 +1,7 @@
 -- The table of places: a known place is never refused, and a new one keeps the table well formed.
-use Rattle.std.proofs.Common.{◌≡◌, ◌≢◌, ℕ, ◌<◌, Bool, true, false, not, nat_le, List, [], ◌∷◌, ◌++◌, length, get_or, Option, Some, None, IsTrue, if◌then◌else◌, refl, sym, subst, ◌∙◌, arith, All, true≢false}
+use Rattle.std.proofs.Common.{◌≡◌, ◌≢◌, ℕ, ◌<◌, Bool, true, false, not, nat_le, List, [], ◌∷◌, ◌++◌, length}
+use Rattle.std.proofs.Common.{get_or, Option, Some, None, IsTrue, if◌then◌else◌, refl, sym, subst, ◌∙◌, arith, All}
+use Rattle.std.proofs.Common.{true≢false}
 use Rattle.std.proofs.lemmas.Bool.Decides.{nat_tests}
 use Rattle.std.proofs.lemmas.List.{length-append}
 use Rattle.std.proofs.lemmas.List.Elements.{All-push}
@@ -29,7 +31,8 @@ known_is_allowed decls word holds known =
     by (is_place word) (is_known decls.places word) (known_is_place decls.places word holds.places known) known
   where
     by : (b c : Bool) → b ≡ true → c ≡ true
-        → ◌≡◌ {A = Option DeclFault} (if not b then Some BadName else (if c then None else (if nat_le MAX_PLACES (length decls.places) then Some TooMany else None))) None
+        → ◌≡◌ {A = Option DeclFault} (if not b then Some BadName else
+        (if c then None else (if nat_le MAX_PLACES (length decls.places) then Some TooMany else None))) None
     by true true e f = refl
     by false _ e f = absurd (true≢false (sym e))
     by true false e f = absurd (true≢false (sym f))
@@ -45,7 +48,8 @@ unfolding place_fault
 allowed_from_no_place_fault places word new h = by (is_place word) refl (is_known places word) new (nat_le MAX_PLACES (length places)) refl h
   where
     by : (b : Bool) → is_place word ≡ b → (c : Bool) → c ≡ false → (full : Bool) → nat_le MAX_PLACES (length places) ≡ full
-        → ◌≡◌ {A = Option DeclFault} (if not b then Some BadName else (if c then None else (if full then Some TooMany else None))) None → IsAllowedPlace places word
+        → ◌≡◌ {A = Option DeclFault} (if not b then Some BadName else (if c then None else (if full then Some TooMany else None))) None
+        → IsAllowedPlace places word
     by false _ _ _ _ _ h = absurd (none-some _ (sym h))
     by true _ true e _ _ h = absurd (true≢false e)
     by true _ false _ true _ h = absurd (none-some _ (sym h))
@@ -62,7 +66,8 @@ place_well_formed decls word holds new allowed = record {
   capacities = holds.capacities;
   places = All-push (λ (p : List ℕ). IsTrue (is_place p)) decls.places word holds.places allowed.form;
   places_distinct = all_pairs_push (λ (p q : List ℕ). p ≢ q) decls.places word holds.places_distinct
-      (λ k d within same. true≢false (sym (list_any_at (bytes_eq word) decls.places k d within ((bytes_eq-Decides word (get_or decls.places k d)).1 (sym same))) ∙ new));
+      (λ k d within same. true≢false
+      (sym (list_any_at (bytes_eq word) decls.places k d within ((bytes_eq-Decides word (get_or decls.places k d)).1 (sym same))) ∙ new));
   places_limited = let room = allowed.room in omega (arith, room, length-append decls.places (word ∷ []));
 }
 

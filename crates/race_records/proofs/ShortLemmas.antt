@@ -1,5 +1,8 @@
 -- Short names by their keys: two names with one key are the same.
-use Rattle.std.proofs.Common.{◌≡◌, ℕ, zero, suc, ◌+◌, ◌-◌, ◌*◌, ◌^◌, ◌%◌, min, get_or, bit_and, ◌<◌, ◌≤◌, nat_lt, nat_le, eqb, cond, not, Bool, true, false, true≢false, if◌then◌else◌, List, [], ◌∷◌, ◌++◌, length, take, drop, position, slice_get, option_map, Option, Some, None, IsNone, refl, sym, ap, subst, ◌∙◌, arith, w64}
+use Rattle.std.proofs.Common.{◌≡◌, ℕ, zero, suc, ◌+◌, ◌-◌, ◌*◌, ◌^◌, ◌%◌, min, get_or, bit_and, ◌<◌, ◌≤◌, nat_lt}
+use Rattle.std.proofs.Common.{nat_le, eqb, cond, not, Bool, true, false, true≢false, if◌then◌else◌, List, [], ◌∷◌, ◌++◌}
+use Rattle.std.proofs.Common.{length, take, drop, position, slice_get, option_map, Option, Some, None, IsNone, refl}
+use Rattle.std.proofs.Common.{sym, ap, subst, ◌∙◌, arith, w64}
 use Rattle.std.specs.Int.{from_le_bytes, to_le_bytes, sum_through, byte_worth}
 use Rattle.std.proofs.lemmas.Nat.{le_bytes_8, and_mask}
 use Rattle.std.proofs.lemmas.List.{length-take-le, length-drop, get_or-take, get_or_past, drop-take, drop_all, get_or-drop, ext_get_or}
@@ -59,7 +62,8 @@ module _ (xs ys : List ℕ) (bx : AreBytes xs) (by : AreBytes ys) (same : from_l
 
   same_byte : (i : ℕ) → i < 8 → get_or xs i 0 ≡ get_or ys i 0
   unfolding first_eight
-  same_byte i h = up_to_eight (λ i. i < 8 → get_or xs i 0 ≡ get_or ys i 0) (at 0) (at 1) (at 2) (at 3) (at 4) (at 5) (at 6) (at 7) (λ h. absurd (omega (arith, h))) i (omega (arith, h)) h
+  same_byte i h = up_to_eight (λ i. i < 8 → get_or xs i 0 ≡ get_or ys i 0) (at 0) (at 1) (at 2)
+      (at 3) (at 4) (at 5) (at 6) (at 7) (λ h. absurd (omega (arith, h))) i (omega (arith, h)) h
     where
       at : (i : ℕ) → i < 8 → get_or (first_eight xs) i 0 ≡ get_or (first_eight ys) i 0
       at i h = ap (λ l. get_or l i 0) same_eight
@@ -345,7 +349,8 @@ module _ (name : List ℕ) (rows : List Row) where
       let end : eqb n (length rows) ≡ true = grind (arith, nat_tests, past, most) in
       let same : position_or_len test (rows ++ row name slot ∷ []) ≡ length rows =
       position_or_len_push test rows (row name slot) ∙ (λ j. cond (end j) (length rows + cond ((bytes_eq-Decides name name).1 refl j) 0 1) n) ∙ grind (arith) in
-      let longer : nat_lt (length rows) (length (rows ++ row name slot ∷ [])) ≡ true = let l = length-append rows (row name slot ∷ []) in grind (arith, nat_tests, l) in
+      let longer : nat_lt (length rows) (length (rows ++ row name slot ∷ [])) ≡ true =
+      let l = length-append rows (row name slot ∷ []) in grind (arith, nat_tests, l) in
       (λ j. cond (nat_lt (same j) (length (rows ++ row name slot ∷ []))) (Some (same j)) None) ∙ (λ j. cond (longer j) (Some (length rows)) None)
     where
       cond_none : (b : Bool) (i : ℕ) → IsNone (cond b (Some i) None) → b ≡ false
@@ -359,4 +364,5 @@ module _ (name : List ℕ) (rows : List Row) where
 
 pub noted_before : (rows : List Row) (last : Row) (shorts : List Short) → AreNoted rows shorts → AreNoted (rows ++ last ∷ []) shorts
 noted_before rows last shorts are =
-    All-weaker (IsNoted rows) (IsNoted (rows ++ last ∷ [])) (λ short noted name bytes is. slot_before name rows last short.slot (noted name bytes is)) shorts are
+    All-weaker (IsNoted rows) (IsNoted (rows ++ last ∷ []))
+    (λ short noted name bytes is. slot_before name rows last short.slot (noted name bytes is)) shorts are

@@ -32,7 +32,8 @@ same_object-Decides Object.Once Object.Once = (λ _. refl, λ _. refl)
 same_object-Decides _ _ = (λ e. absurd (true≢false (sym e)), λ e. cc)
 
 same_declaration-Decides : (d e : Declaration) → Decides (bytes_eq d.name e.name && same_object d.object e.object) (d ≡ e)
-same_declaration-Decides d e = by (bytes_eq d.name e.name) (same_object d.object e.object) (bytes_eq-Decides d.name e.name) (same_object-Decides d.object e.object)
+same_declaration-Decides d e = by (bytes_eq d.name e.name) (same_object d.object e.object)
+    (bytes_eq-Decides d.name e.name) (same_object-Decides d.object e.object)
   where
     by : (b c : Bool) → Decides b (d.name ≡ e.name) → Decides c (d.object ≡ e.object) → Decides (b && c) (d ≡ e)
     by true true p q = (λ _ i. record { name = p.0 refl i; object = q.0 refl i }, λ _. refl)
@@ -40,7 +41,8 @@ same_declaration-Decides d e = by (bytes_eq d.name e.name) (same_object d.object
     by true false p q = (λ h. absurd (true≢false (sym h)), λ h. absurd (true≢false (sym (q.1 (ap (λ (x : Declaration). x.object) h)))))
 
 pub same_declarations-Decides : (ds es : List Declaration) → Decides (same_declarations ds es) (ds ≡ es)
-same_declarations-Decides ds es = slice_eq-Decides {E = λ (d e : Declaration). bytes_eq d.name e.name && same_object d.object e.object} same_declaration-Decides ds es (same_declarations ds es) refl
+same_declarations-Decides ds es = slice_eq-Decides {E = λ (d e : Declaration). bytes_eq d.name e.name
+    && same_object d.object e.object} same_declaration-Decides ds es (same_declarations ds es) refl
 
 pub same_declarations_laws : IsPartialEquivalence (λ (d e : DeclsState). same_declarations d.declarations e.declarations)
 same_declarations_laws = on_per (λ (d : DeclsState). d.declarations) (partial_equiv_from_equiv (decided same_declarations same_declarations-Decides))

@@ -49,8 +49,10 @@ abbrev pub WaitsIfRoom : {W E : Type 0} → Result ⊤ E → Sink W → Sink W �
 WaitsIfRoom result sink sink_now page page_now bytes =
     length page.waiting + length bytes ≤ BLOCK → IsOk result × (sink_now ≡ sink) × (page_now.waiting ≡ page.waiting ++ bytes)
 
--- how a call ended that was to print the bytes: it put them behind the text and no write failed, or a write failed and only a front is out; what finds room in the block waits
-pub record Printing {W : Type 0} (contents : W → Option (List ℕ)) (result : Result ⊤ WriteFault) (sink sink_now : Sink W) (page page_now : PageState) (bytes : List ℕ) : Type 0 where
+-- how a call ended that was to print the bytes: it put them behind the text and no write failed, or a write failed and
+-- only a front is out; what finds room in the block waits
+pub record Printing {W : Type 0} (contents : W → Option (List ℕ)) (result : Result ⊤ WriteFault)
+    (sink sink_now : Sink W) (page page_now : PageState) (bytes : List ℕ) : Type 0 where
   pub ok : OnOk result (Prints (written contents sink) (written contents sink_now) page page_now bytes)
   pub sent : IfErr result (λ fault. BreaksOff (written contents sink) (written contents sink_now) page fault.sent bytes)
   pub calm : OnOk result (sink_failures sink_now ≡ sink_failures sink)

@@ -8,7 +8,9 @@ use Rattle.std.specs.Cmp.{IsPartialEquivalence, partial_equiv_from_equiv, decide
 use Rattle.std.specs.Str.{bytes_eq}
 use Rattle.race_records.specs.declared.event.Event.{Event}
 use Rattle.race_records.specs.declared.event.Op.{Op}
-use Rattle.race_records.specs.declared.event.Op.TheVariants.{Go, Exit, Read, Write, Send, Recv, Meet, RecvClosed, Close, Default, Lock, Unlock, RLock, RUnlock, OnceBegin, OnceEnd, OnceDone, Fault}
+use Rattle.race_records.specs.declared.event.Op.TheVariants.{Go, Exit, Read, Write, Send, Recv, Meet}
+use Rattle.race_records.specs.declared.event.Op.TheVariants.{RecvClosed, Close, Default, Lock, Unlock, RLock}
+use Rattle.race_records.specs.declared.event.Op.TheVariants.{RUnlock, OnceBegin, OnceEnd, OnceDone, Fault}
 use Rattle.race_records.specs.declared.event.Cause.{Cause}
 use Rattle.race_records.specs.declared.event.Cause.TheVariants.{SendClosed, CloseClosed, CloseNil, UnlockFree, RUnlockFree}
 use Rattle.race_records.specs.Cases.{same_cases, same_cases-Decides}
@@ -114,7 +116,8 @@ same_op-Decides (Send c v) (Send d w) =
 same_op-Decides (Recv c v) (Recv d w) =
     decides_by ((c == d) && (v == w)) (both (Decides-eqb c d) (Decides-eqb v w)) (λ e i. Recv (e.0 i) (e.1 i)) (λ e. (cc, cc))
 same_op-Decides (Meet r c v) (Meet s d w) =
-    decides_by ((r == s) && (c == d) && (v == w)) (both (both (Decides-eqb r s) (Decides-eqb c d)) (Decides-eqb v w)) (λ e i. Meet (e.0.0 i) (e.0.1 i) (e.1 i)) (λ e. ((cc, cc), cc))
+    decides_by ((r == s) && (c == d) && (v == w)) (both (both (Decides-eqb r s) (Decides-eqb c d)) (Decides-eqb v w))
+    (λ e i. Meet (e.0.0 i) (e.0.1 i) (e.1 i)) (λ e. ((cc, cc), cc))
 same_op-Decides (RecvClosed c) (RecvClosed d) = (λ e. ap RecvClosed ((Decides-eqb c d).0 e), λ e. (Decides-eqb c d).1 cc)
 same_op-Decides (Close c) (Close d) = (λ e. ap Close ((Decides-eqb c d).0 e), λ e. (Decides-eqb c d).1 cc)
 same_op-Decides (Default cases) (Default others) = (λ e. ap Default ((same_cases-Decides cases others).0 e), λ e. (same_cases-Decides cases others).1 cc)
@@ -143,7 +146,8 @@ same_placed-Decides d e =
 pub same_recorded-Decides : (a b : Recorded) → Decides (same_recorded a b) (a ≡ b)
 same_recorded-Decides a b =
     decides_by (same_recorded a b)
-    (both (same_declarations-Decides a.declarations b.declarations) (slice_eq-Decides {E = same_placed} same_placed-Decides a.events b.events (pointwise same_placed a.events b.events) refl))
+    (both (same_declarations-Decides a.declarations b.declarations)
+    (slice_eq-Decides {E = same_placed} same_placed-Decides a.events b.events (pointwise same_placed a.events b.events) refl))
     (λ h i. record { declarations = h.0 i; events = h.1 i })
     (λ h. (ap (λ (x : Recorded). x.declarations) h, ap (λ (x : Recorded). x.events) h))
 

@@ -1,5 +1,7 @@
 //! The declarations of a trace, and its table of places.
-ghost use Rattle.std.specs.Prelude.{◌≡◌, ◌<◌, ◌≤◌, ◌↔◌, ℕ, [], length, take, IsTrue, true, false, Some, None, slice_get, IsOk, IfSome, IfNone, OnSome, IfOk, OnOk, OnErr};
+ghost use Rattle.std.specs.Prelude.{◌≡◌, ◌<◌, ◌≤◌, ◌↔◌, ℕ, [], length, take, IsTrue, true, false};
+ghost use Rattle.std.specs.Prelude.{Some, None, slice_get, IsOk, IfSome, IfNone, OnSome, IfOk};
+ghost use Rattle.std.specs.Prelude.{OnOk, OnErr};
 ghost use Rattle.std.specs.List.{list_all};
 ghost use Rattle.std.specs.Str.{bytes_eq};
 ghost use Rattle.race_records.specs.Name.{is_place_byte};

@@ -1,5 +1,7 @@
 //! The table of names: what each was declared as, in the order of the declarations.
-ghost use Rattle.std.specs.Prelude.{◌≡◌, ◌<◌, ◌≤◌, take, IfSome, [], ◌∷◌, ◌++◌, length, ◌↔◌, Some, slice_get, position, option_map, IsTrue, IfOk, OnOk, OnErr, IsNone};
+ghost use Rattle.std.specs.Prelude.{◌≡◌, ◌<◌, ◌≤◌, take, IfSome, [], ◌∷◌, ◌++◌, length, ◌↔◌};
+ghost use Rattle.std.specs.Prelude.{Some, slice_get, position, option_map, IsTrue, IfOk, OnOk};
+ghost use Rattle.std.specs.Prelude.{OnErr, IsNone};
 ghost use Rattle.std.specs.Str.{bytes_eq};
 ghost use Rattle.race_records.specs.Rows.{declarations_of};
 ghost use Rattle.race_records.specs.Tables.{Row, row, slot_named};

@@ -44,7 +44,8 @@ all_races P races each =
 pub races_are_of : {A : Type 0} (trace : TraceState) (verdict : Verdict A) → IsTrace trace → HasVerdict trace (verdict_of verdict) → RacesAreOf trace verdict
 races_are_of trace (Verdict.Illegal illegal) is_trace right = tt
 races_are_of trace Verdict.Clean is_trace right = tt
-races_are_of trace (Verdict.Races races) is_trace right = all_races (IsOf trace) races (λ k r at. race_is_of trace is_trace (capacities trace) r (right.2.each k r at))
+races_are_of trace (Verdict.Races races) is_trace right =
+    all_races (IsOf trace) races (λ k r at. race_is_of trace is_trace (capacities trace) r (right.2.each k r at))
 
 -- so do edges of the trace: their goroutines take part in its events
 module _ (trace : TraceState) (is_trace : IsTrace trace) where
@@ -54,16 +55,24 @@ module _ (trace : TraceState) (is_trace : IsTrace trace) where
   partner_is_in_range : (i : ℕ) (e : Event) (g : ℕ) → slice_get trace.events i ≡ Some e → partner e.op ≡ Some g
       → g < count_of Kind.Goroutine trace.decls.declarations
   partner_is_in_range i e g at is =
-      subst (λ (o : Option ℕ). IfSome o (λ n. n < count_of Kind.Goroutine trace.decls.declarations)) is (partner_in_range (counts_of trace.decls.declarations) e.op (range_in_trace trace i e is_trace at).1)
+      subst (λ (o : Option ℕ). IfSome o (λ n. n < count_of Kind.Goroutine trace.decls.declarations)) is
+      (partner_in_range (counts_of trace.decls.declarations) e.op (range_in_trace trace i e is_trace at).1)
 
   edge_is_of : (caps : ℕ → ℕ) (edge : Edge) → IsEdge caps trace.events edge → IsEdgeOf trace edge
   edge_is_of caps edge (e, at, how) = elim how [
     | inl inside ↦ elim (inside_pair e.who e.op edge.from_who edge.to_who inside.1) [
-      | inl pair ↦ record { from_who = subst (λ n. n < count_of Kind.Goroutine trace.decls.declarations) pair.0 (who_in_range edge.to e at); to_who = partner_is_in_range edge.to e edge.to_who at pair.1 }
-      | inr pair ↦ record { from_who = partner_is_in_range edge.to e edge.from_who at pair.0; to_who = subst (λ n. n < count_of Kind.Goroutine trace.decls.declarations) pair.1 (who_in_range edge.to e at) }
+      | inl pair ↦ record {
+        from_who = subst (λ n. n < count_of Kind.Goroutine trace.decls.declarations) pair.0 (who_in_range edge.to e at);
+        to_who = partner_is_in_range edge.to e edge.to_who at pair.1;
+      }
+      | inr pair ↦ record {
+        from_who = partner_is_in_range edge.to e edge.from_who at pair.0;
+        to_who = subst (λ n. n < count_of Kind.Goroutine trace.decls.declarations) pair.1 (who_in_range edge.to e at);
+      }
     ]
     | inr source ↦ record {
-      from_who = subst (λ n. n < count_of Kind.Goroutine trace.decls.declarations) source.3 (who_in_range edge.from source.0 (take_at_old edge.to trace.events edge.from source.0 source.1));
+      from_who = subst (λ n. n < count_of Kind.Goroutine trace.decls.declarations) source.3
+          (who_in_range edge.from source.0 (take_at_old edge.to trace.events edge.from source.0 source.1));
       to_who = subst (λ n. n < count_of Kind.Goroutine trace.decls.declarations) source.4 (who_in_range edge.to e at);
     }
   ]

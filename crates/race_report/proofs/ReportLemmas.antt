@@ -15,7 +15,8 @@ use Rattle.race_report.specs.Report.{races_line, races_text, access_text, access
 -- the words are those of the access at the index
 abbrev pub AreWordsOf : TraceState → ℕ → List ℕ → List ℕ → List ℕ → Type 0
 AreWordsOf trace index what who place =
-    IfSome (slice_get trace.events index) (λ (e : Event). (what ≡ access_word e.op) × (who ≡ goroutine_name trace.decls.declarations e.who) × (place ≡ place_text trace.decls.places e.place))
+    IfSome (slice_get trace.events index) (λ (e : Event). (what ≡ access_word e.op)
+    × (who ≡ goroutine_name trace.decls.declarations e.who) × (place ≡ place_text trace.decls.places e.place))
 
 access_text_is : (trace : TraceState) (index : ℕ) (what who place number : List ℕ) → index < length trace.events → AreWordsOf trace index what who place
     → number ≡ decimal (index + 1)
@@ -24,8 +25,13 @@ unfolding access_text
 access_text_is trace index what who place number within words numbered = by (slice_get trace.events index) (slice_get-within trace.events index within) words
   where
     by : (o : Option Event) → (x : Event) × (o ≡ Some x)
-        → IfSome o (λ (e : Event). (what ≡ access_word e.op) × (who ≡ goroutine_name trace.decls.declarations e.who) × (place ≡ place_text trace.decls.places e.place))
-        → elim o as (λ _. List (List ℕ)) [ None ↦ [] | Some e ↦ access_word e.op ∷ codes " by " ∷ goroutine_name trace.decls.declarations e.who ∷ codes " at " ∷ place_text trace.decls.places e.place ∷ codes " (event " ∷ decimal (index + 1) ∷ codes ")" ∷ [] ]
+        → IfSome o (λ (e : Event). (what ≡ access_word e.op)
+        × (who ≡ goroutine_name trace.decls.declarations e.who) × (place ≡ place_text trace.decls.places e.place))
+        → elim o as (λ _. List (List ℕ)) [
+          | None ↦ []
+          | Some e ↦ access_word e.op ∷ codes " by " ∷ goroutine_name trace.decls.declarations e.who
+              ∷ codes " at " ∷ place_text trace.decls.places e.place ∷ codes " (event " ∷ decimal (index + 1) ∷ codes ")" ∷ []
+        ]
         ≡ what ∷ codes " by " ∷ who ∷ codes " at " ∷ place ∷ codes " (event " ∷ number ∷ codes ")" ∷ []
     by None (x, e) w = cc
     by (Some e) x w = λ i. sym w.0 i ∷ codes " by " ∷ sym w.1 i ∷ codes " at " ∷ sym w.2 i ∷ codes " (event " ∷ sym numbered i ∷ codes ")" ∷ []
@@ -34,11 +40,14 @@ pub race_line_is : (trace : TraceState) (race : Race) (var what who place number
     → var ≡ var_name trace.decls.declarations race.var
     → race.first < length trace.events → AreWordsOf trace race.first what who place → number ≡ decimal (race.first + 1)
     → race.second < length trace.events → AreWordsOf trace race.second what2 who2 place2 → number2 ≡ decimal (race.second + 1)
-    → race_line trace race ≡ codes "race on " ++ (var ++ (codes ": " ++ (what ++ (codes " by " ++ (who ++ (codes " at " ++ (place ++ (codes " (event " ++ (number
-    ++ (codes "), " ++ (what2 ++ (codes " by " ++ (who2 ++ (codes " at " ++ (place2 ++ (codes " (event " ++ (number2 ++ (codes ")" ++ (newline ++ [])))))))))))))))))))
+    → race_line trace race ≡ codes "race on "
+    ++ (var ++ (codes ": " ++ (what ++ (codes " by " ++ (who ++ (codes " at " ++ (place ++ (codes " (event " ++ (number
+    ++ (codes "), " ++ (what2 ++ (codes " by "
+    ++ (who2 ++ (codes " at " ++ (place2 ++ (codes " (event " ++ (number2 ++ (codes ")" ++ (newline ++ [])))))))))))))))))))
 unfolding race_line
 race_line_is trace race var what who place number what2 who2 place2 number2 named in_first first numbered in_second second numbered2 =
-    λ i. concat (codes "race on " ∷ sym named i ∷ codes ": " ∷ (access_text_is trace race.first what who place number in_first first numbered i ++ codes ", " ∷ (access_text_is trace race.second what2 who2 place2 number2 in_second second numbered2 i ++ newline ∷ [])))
+    λ i. concat (codes "race on " ∷ sym named i ∷ codes ": " ∷ (access_text_is trace race.first what who place number in_first first numbered i
+    ++ codes ", " ∷ (access_text_is trace race.second what2 who2 place2 number2 in_second second numbered2 i ++ newline ∷ [])))
 
 -- the text of races, as lines and their count
 pub races_text_is : (trace : TraceState) (races : List tool.Race)

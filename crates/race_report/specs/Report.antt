@@ -46,7 +46,8 @@ access_text trace index =
 
 unfoldable pub race_line : TraceState → Race → List ℕ
 race_line trace race =
-    concat (codes "race on " ∷ var_name trace.decls.declarations race.var ∷ codes ": " ∷ (access_text trace race.first ++ codes ", " ∷ (access_text trace race.second ++ newline ∷ [])))
+    concat (codes "race on " ∷ var_name trace.decls.declarations race.var ∷ codes ": "
+    ∷ (access_text trace race.first ++ codes ", " ∷ (access_text trace race.second ++ newline ∷ [])))
 
 unfoldable pub races_line : ℕ → List ℕ
 races_line n = concat (codes "races: " ∷ decimal n ∷ newline ∷ [])

@@ -1,5 +1,7 @@
 -- The table of what asks say, and its way back; and the table of the words of lines.
-use Rattle.std.proofs.Common.{◌≡◌, ℕ, ◌^◌, ◌&&◌, Bool, true, false, true≢false, nat_lt, if◌then◌else◌, List, [], ◌∷◌, ◌++◌, map, codes, Option, Some, None, IfSome, option_map, refl, sym, ap, subst, ◌∙◌}
+use Rattle.std.proofs.Common.{◌≡◌, ℕ, ◌^◌, ◌&&◌, Bool, true, false, true≢false, nat_lt, if◌then◌else◌, List, []}
+use Rattle.std.proofs.Common.{◌∷◌, ◌++◌, map, codes, Option, Some, None, IfSome, option_map, refl, sym, ap}
+use Rattle.std.proofs.Common.{subst, ◌∙◌}
 use Rattle.std.proofs.lemmas.Option.{none-some, same_Some}
 use Rattle.std.proofs.lemmas.Slice.Eq.{bytes_eq-Decides}
 use Rattle.std.specs.List.{list_all}
@@ -161,12 +163,15 @@ ask_by_says word parts ask e = by word e
     alone make word kind says_it e = made_says make (λ n. (word, Part.Object (named_by kind n) ∷ [])) says_it (object_alone kind parts) ask word parts
         (λ n found i. (word, sym (alone_again kind parts n found) i)) e
 
-    valued_by : (make : ℕ × ℕ → Ask) (word : AskWord) (kind : Kind) → ((p : ℕ × ℕ) → ask_says (make p) ≡ Some (word, Part.Object (named_by kind p.0) ∷ Part.Value p.1 ∷ []))
+    valued_by : (make : ℕ × ℕ → Ask) (word : AskWord) (kind : Kind)
+        → ((p : ℕ × ℕ) → ask_says (make p) ≡ Some (word, Part.Object (named_by kind p.0) ∷ Part.Value p.1 ∷ []))
         → option_map make (object_value kind parts) ≡ Some ask → ask_says ask ≡ Some (word, parts)
-    valued_by make word kind says_it e = made_says make (λ p. (word, Part.Object (named_by kind p.0) ∷ Part.Value p.1 ∷ [])) says_it (object_value kind parts) ask word parts
+    valued_by make word kind says_it e =
+        made_says make (λ p. (word, Part.Object (named_by kind p.0) ∷ Part.Value p.1 ∷ [])) says_it (object_value kind parts) ask word parts
         (λ p found i. (word, sym (valued_again kind parts p found) i)) e
 
-    nothing : (made : Ask) (word : AskWord) → ask_says made ≡ Some (word, []) → (parts : List Part) → if_none made parts ≡ Some ask → ask_says ask ≡ Some (word, parts)
+    nothing : (made : Ask) (word : AskWord) → ask_says made ≡ Some (word, [])
+        → (parts : List Part) → if_none made parts ≡ Some ask → ask_says ask ≡ Some (word, parts)
     nothing made word says_it [] e = ap ask_says (sym (same_Some made ask e)) ∙ says_it
     nothing made word says_it _ e = absurd (none-some ask e)
 
@@ -176,7 +181,8 @@ ask_by_says word parts ask e = by word e
     by AskWord.Read e = alone Ask.Read AskWord.Read Kind.Var (λ n. refl) e
     by AskWord.Write e = valued_by (λ p. Ask.Write p.0 p.1) AskWord.Write Kind.Var (λ p. refl) e
     by AskWord.Send e = valued_by (λ p. Ask.Send (Some p.0) p.1) AskWord.Send Kind.Chan (λ p. refl) e
-    by AskWord.SendNil e = made_says (λ v. Ask.Send None v) (λ v. (AskWord.SendNil, Part.Value v ∷ [])) (λ v. refl) (value_alone parts) ask AskWord.SendNil parts
+    by AskWord.SendNil e = made_says (λ v. Ask.Send None v) (λ v. (AskWord.SendNil, Part.Value v ∷ []))
+        (λ v. refl) (value_alone parts) ask AskWord.SendNil parts
         (λ v found i. (AskWord.SendNil, sym (value_again parts v found) i)) e
     by AskWord.Recv e = alone (λ c. Ask.Recv (Some c)) AskWord.Recv Kind.Chan (λ n. refl) e
     by AskWord.RecvNil e = nothing (Ask.Recv None) AskWord.RecvNil refl parts e

@@ -1,5 +1,7 @@
 -- Where a body ends, and where the functions of its onces do.
-use Rattle.std.proofs.Common.{◌≡◌, ℕ, zero, suc, ◌+◌, ◌-◌, ◌<◌, ◌==◌, ◌&&◌, Bool, true, false, true≢false, nat_lt, nat_le, if◌then◌else◌, List, [], ◌∷◌, length, drop, get_or, slice_get, Option, Some, None, refl, sym, ap, ◌∙◌, arith}
+use Rattle.std.proofs.Common.{◌≡◌, ℕ, zero, suc, ◌+◌, ◌-◌, ◌<◌, ◌==◌, ◌&&◌, Bool, true, false, true≢false, nat_lt, nat_le}
+use Rattle.std.proofs.Common.{if◌then◌else◌, List, [], ◌∷◌, length, drop, get_or, slice_get, Option, Some, None, refl, sym, ap}
+use Rattle.std.proofs.Common.{◌∙◌, arith}
 use Rattle.std.proofs.lemmas.Bool.Decides.{nat_tests}
 use Rattle.std.proofs.lemmas.Option.{none-some, same_Some, slice_get_within, get_or_from_slice_get}
 use Rattle.std.proofs.lemmas.List.{length-map, get_or-map}
@@ -43,7 +45,8 @@ ends_some onces [] h = absurd (true≢false (sym h))
 ends_some onces (ask ∷ asks) h = omega arith
 
 -- where the ask at an index is no exit, the body goes on behind it
-pub goes_on_at : (onces : List ℕ) (asks : List Ask) (i : ℕ) (d : Ask) → ends onces asks ≡ true → i < length asks → is_exit (get_or asks i d) ≡ false → i + 1 < length asks
+pub goes_on_at : (onces : List ℕ) (asks : List Ask) (i : ℕ) (d : Ask) → ends onces asks ≡ true
+    → i < length asks → is_exit (get_or asks i d) ≡ false → i + 1 < length asks
 goes_on_at onces [] i d h less other = absurd (omega (arith, less))
 goes_on_at onces (ask ∷ asks) zero d h less other =
     let on = exit_is_last onces ask asks h other in
@@ -54,7 +57,8 @@ goes_on_at onces (ask ∷ asks) (suc i) d h less other = by (is_exit ask) refl (
     by : (b : Bool) → is_exit ask ≡ b → ((inside : List ℕ) → ends inside asks ≡ true → i + 1 < length asks) → suc i + 1 < length (ask ∷ asks)
     by true exit rest =
         let last = both (length onces == 0) (length asks == 0)
-        (sym (ap (λ b. if b then (length onces == 0) && (length asks == 0) else option_map_or (λ inside. ends inside asks) (after_ask onces ask) false) exit) ∙ h) in
+        (sym (ap (λ b. if b then (length onces == 0) && (length asks == 0) else option_map_or (λ inside. ends inside asks) (after_ask onces ask) false) exit)
+        ∙ h) in
         let none = ap length (no_asks asks last.1) in
         absurd (omega (arith, less, none))
     by false more rest =
@@ -136,7 +140,8 @@ done_within onces (ask ∷ asks) (suc k) h does = by (is_exit ask) refl (λ insi
         → suc (suc k) + steps_to_end 0 (drop (suc k) asks) < length (ask ∷ asks)
     by true exit rest =
         let last = both (length onces == 0) (length asks == 0)
-        (sym (ap (λ b. if b then (length onces == 0) && (length asks == 0) else option_map_or (λ inside. ends inside asks) (after_ask onces ask) false) exit) ∙ h) in
+        (sym (ap (λ b. if b then (length onces == 0) && (length asks == 0) else option_map_or (λ inside. ends inside asks) (after_ask onces ask) false) exit)
+        ∙ h) in
         absurd (true≢false (sym does ∙ ap (λ l. begins (slice_get l k)) (no_asks asks last.1)))
     by false more rest =
         let on = exit_is_last onces ask asks h more in
@@ -156,11 +161,13 @@ pub steps_do : (depth : ℕ) (ask : Ask) (asks : List Ask) → is_do ask ≡ tru
 steps_do depth (Ask.Do o) asks h = refl
 steps_do depth _ asks h = absurd (true≢false (sym h))
 
-pub steps_end : (depth : ℕ) (ask : Ask) (asks : List Ask) → is_end ask ≡ true → steps_to_end depth (ask ∷ asks) ≡ (if depth == 0 then 1 else 1 + steps_to_end (depth - 1) asks)
+pub steps_end : (depth : ℕ) (ask : Ask) (asks : List Ask) → is_end ask ≡ true
+    → steps_to_end depth (ask ∷ asks) ≡ (if depth == 0 then 1 else 1 + steps_to_end (depth - 1) asks)
 steps_end depth (Ask.EndDo o) asks h = refl
 steps_end depth _ asks h = absurd (true≢false (sym h))
 
-pub steps_other : (depth : ℕ) (ask : Ask) (asks : List Ask) → is_do ask ≡ false → is_end ask ≡ false → steps_to_end depth (ask ∷ asks) ≡ 1 + steps_to_end depth asks
+pub steps_other : (depth : ℕ) (ask : Ask) (asks : List Ask) → is_do ask ≡ false
+    → is_end ask ≡ false → steps_to_end depth (ask ∷ asks) ≡ 1 + steps_to_end depth asks
 steps_other depth (Ask.Do o) asks h k = absurd (true≢false h)
 steps_other depth (Ask.EndDo o) asks h k = absurd (true≢false k)
 steps_other depth Ask.Exit asks h k = refl

@@ -1,5 +1,7 @@
 -- A goroutine's part of a trace goes along its body event by event, and where a run fails it ends.
-use Rattle.std.proofs.Common.{◌≡◌, ℕ, ◌+◌, ◌-◌, ◌<◌, ◌≤◌, ◌==◌, ◌&&◌, ◌||◌, ◌⊎◌, ◌↔◌, not, Bool, true, false, if◌then◌else◌, List, [], ◌∷◌, ◌++◌, length, map, fold, take, slice_get, Option, Some, None, option_map, inl, inr, refl, sym, ap, subst, ◌∙◌, arith}
+use Rattle.std.proofs.Common.{◌≡◌, ℕ, ◌+◌, ◌-◌, ◌<◌, ◌≤◌, ◌==◌, ◌&&◌, ◌||◌, ◌⊎◌, ◌↔◌, not, Bool, true, false, if◌then◌else◌, List, [], ◌∷◌}
+use Rattle.std.proofs.Common.{◌++◌, length, map, fold, take, slice_get, Option, Some, None, option_map, inl, inr, refl, sym, ap, subst, ◌∙◌}
+use Rattle.std.proofs.Common.{arith}
 use Rattle.std.proofs.lemmas.Bool.Decides.{nat_tests}
 use Rattle.std.proofs.lemmas.List.{take-append-le}
 use Rattle.std.proofs.lemmas.List.Sums.{fold-append}
@@ -34,9 +36,11 @@ module _ (body : List Instruction) (places : List (List ℕ)) (g : ℕ) where
       elim (slice_get-push_cases events e n f at) [
         | inl before ↦
             let within = slice_get_within events n f before in
-            subst (λ past. FitsAt body places g (behind (asked_by body) past) f) (sym (take-append-le n events (e ∷ []) (omega (arith, within)))) (follows n f before)
+            subst (λ past. FitsAt body places g (behind (asked_by body) past) f)
+            (sym (take-append-le n events (e ∷ []) (omega (arith, within)))) (follows n f before)
         | inr last ↦
-            subst (λ past. FitsAt body places g (behind (asked_by body) past) f) (sym (ap (λ k. take k (events ++ e ∷ [])) last.0 ∙ take-append_seam events (e ∷ [])))
+            subst (λ past. FitsAt body places g (behind (asked_by body) past) f)
+            (sym (ap (λ k. take k (events ++ e ∷ [])) last.0 ∙ take-append_seam events (e ∷ [])))
             (subst (FitsAt body places g (behind (asked_by body) events)) (sym last.1) fits)
       ]
 

@@ -1,5 +1,7 @@
 -- A program's text that is cut into pieces: its first fault behind the lines that were taken.
-use Rattle.std.proofs.Common.{◌≡◌, ℕ, ◌+◌, ◌<◌, ◌≤◌, ◌==◌, true, List, [], ◌∷◌, ◌++◌, length, Option, Some, None, refl, sym, ap, subst, ◌∙◌, arith, append-nil, append_assoc}
+use Rattle.std.proofs.Common.{◌≡◌, ℕ, ◌+◌, ◌<◌, ◌≤◌, ◌==◌, true, List, [], ◌∷◌, ◌++◌, length}
+use Rattle.std.proofs.Common.{Option, Some, None, refl, sym, ap, subst, ◌∙◌, arith, append-nil}
+use Rattle.std.proofs.Common.{append_assoc}
 use Rattle.std.proofs.lemmas.List.{length-append}
 use Rattle.std.proofs.lemmas.List.Splits.{length-slice_split}
 use Rattle.std.proofs.lemmas.Grind.{flat_map-append}
@@ -110,7 +112,8 @@ module _ (bytes : List ℕ) (lines : List (List ℕ)) (left : List ℕ) (t : IsT
     pub line_taken : (after : List (List ℕ)) → GoesOn lines line after → IsTaken bytes after others
     line_taken after goes = record {
       bytes_are = ap (λ (ls : List (List ℕ)). flat_map ended ls ++ others) goes.lines
-          ∙ ap (λ (b : List ℕ). b ++ others) (flat_map-append ended lines (line ∷ []) ∙ ap (λ (l : List ℕ). flat_map ended lines ++ l) (append-nil (ended line)))
+          ∙ ap (λ (b : List ℕ). b ++ others) (flat_map-append ended lines (line ∷ [])
+          ∙ ap (λ (l : List ℕ). flat_map ended lines ++ l) (append-nil (ended line)))
           ∙ append_assoc (flat_map ended lines) (ended line) others
           ∙ ap (λ (l : List ℕ). flat_map ended lines ++ l) (append_assoc line (10 ∷ []) others ∙ sym (cut_joined left line others parts))
           ∙ t.bytes_are;
@@ -161,11 +164,13 @@ fed_takes old new piece fed none still takes S = record {
   told = λ f is. absurd (none-some f (sym still ∙ is));
 }
 
-pub fed_tells : (old new : LinesState) (piece fed : List ℕ) (f : TextFault) → old.fault ≡ None → new.fault ≡ Some f → TellsOfBytes old.lines (old.part ++ piece) f
+pub fed_tells : (old new : LinesState) (piece fed : List ℕ) (f : TextFault)
+    → old.fault ≡ None → new.fault ≡ Some f → TellsOfBytes old.lines (old.part ++ piece) f
     → StandsFor old fed → StandsFor new (fed ++ piece)
 fed_tells old new piece fed f none is tells S = record {
   taken = λ other. absurd (none-some f (sym other ∙ is));
-  told = λ g also more. subst (IsTold ((fed ++ piece) ++ more)) (same_Some f g (sym is ∙ also)) (tells ((fed ++ piece) ++ more) more (behind old fed piece more none S));
+  told = λ g also more. subst (IsTold ((fed ++ piece) ++ more)) (same_Some f g (sym is ∙ also))
+      (tells ((fed ++ piece) ++ more) more (behind old fed piece more none S));
 }
 
 -- a fault that was told stays

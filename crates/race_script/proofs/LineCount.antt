@@ -1,5 +1,7 @@
 -- How many lines were read.
-use Rattle.std.proofs.Common.{◌≡◌, ℕ, ◌+◌, ◌*◌, ◌<◌, ◌≤◌, ◌^◌, ◌&&◌, true, nat_le, List, [], ◌∷◌, ◌++◌, length, map, sum_by, Option, Some, None, refl, sym, ap, ◌∙◌, arith}
+use Rattle.std.proofs.Common.{◌≡◌, ℕ, ◌+◌, ◌*◌, ◌<◌, ◌≤◌, ◌^◌, ◌&&◌, true, nat_le, List, [], ◌∷◌}
+use Rattle.std.proofs.Common.{◌++◌, length, map, sum_by, Option, Some, None, refl, sym, ap, ◌∙◌}
+use Rattle.std.proofs.Common.{arith}
 use Rattle.std.proofs.lemmas.Bool.Decides.{nat_tests}
 use Rattle.std.proofs.lemmas.List.{length-append, length-map}
 use Rattle.std.proofs.lemmas.List.Sums.{sum_by-append}
@@ -50,7 +52,8 @@ sum_viewed items (x ∷ xs) =
     ∙ ap (λ n. (0 + (1 + length (items x))) + n) (sum_viewed items xs)
     ∙ sym (sum_by-append body_lines (items x ∷ []) (map items xs))
 
-pub total_viewed : {X : Type 0} (items : X → List Request) (xs ys : List X) (all : List (List Request)) (n : ℕ) → n ≡ sum_by (λ x. 1 + length (items x)) xs → xs ≡ ys
+pub total_viewed : {X : Type 0} (items : X → List Request) (xs ys : List X) (all : List (List Request)) (n : ℕ)
+    → n ≡ sum_by (λ x. 1 + length (items x)) xs → xs ≡ ys
     → map items ys ≡ all → n ≡ sum_by body_lines all
 total_viewed items xs ys all n is same viewed = is ∙ ap (sum_by (λ x. 1 + length (items x))) same ∙ sum_viewed items ys ∙ ap (sum_by body_lines) viewed
 
@@ -78,7 +81,8 @@ module _ (s : ReadState) (sound : IsSound s) where
       let ended = at_least s.unended in
       (few, omega (arith, all, most, low, ended))
     where
-      at_least : (o : Option UnendedState) → length s.ended ≤ length (option_map_or (λ (x : List Instruction). map (spelled s.decls.places) s.ended ++ x ∷ []) (spelled_unended s.decls.places o) (map (spelled s.decls.places) s.ended))
+      at_least : (o : Option UnendedState) → length s.ended ≤ length (option_map_or (λ (x : List Instruction). map (spelled s.decls.places) s.ended
+          ++ x ∷ []) (spelled_unended s.decls.places o) (map (spelled s.decls.places) s.ended))
       at_least None = let n = length-map s.ended (spelled s.decls.places) in omega (arith, n)
       at_least (Some u) =
           let n = length-map s.ended (spelled s.decls.places) in
@@ -88,16 +92,19 @@ module _ (s : ReadState) (sound : IsSound s) where
   pub len_ended : s.unended ≡ None → length (lines (draft_read s)) ≡ 1 + length s.decls.declarations + sum_by body_lines s.ended
   len_ended none =
       let all = lines_len (draft_read s) in
-      let is = ap (λ (o : Option UnendedState). length (saids 0 (option_map_or (λ (x : List Instruction). map (spelled s.decls.places) s.ended ++ x ∷ []) (spelled_unended s.decls.places o) (map (spelled s.decls.places) s.ended)))) none in
+      let is = ap (λ (o : Option UnendedState). length (saids 0 (option_map_or (λ (x : List Instruction). map (spelled s.decls.places) s.ended ++ x ∷ [])
+      (spelled_unended s.decls.places o) (map (spelled s.decls.places) s.ended)))) none in
       let len = saids_len s.decls.places s.ended 0 in
       omega (arith, all, is, len)
 
-  pub len_unended : (u : UnendedState) → s.unended ≡ Some u → length (lines (draft_read s)) ≡ 1 + length s.decls.declarations + sum_by body_lines s.ended + 1 + length u.requests
+  pub len_unended : (u : UnendedState) → s.unended ≡ Some u
+      → length (lines (draft_read s)) ≡ 1 + length s.decls.declarations + sum_by body_lines s.ended + 1 + length u.requests
   len_unended u some =
       let all = lines_len (draft_read s) in
       let ended = map (spelled s.decls.places) s.ended in
       let body = spelled s.decls.places u.requests in
-      let is = ap (λ (o : Option UnendedState). length (saids 0 (option_map_or (λ (x : List Instruction). map (spelled s.decls.places) s.ended ++ x ∷ []) (spelled_unended s.decls.places o) (map (spelled s.decls.places) s.ended)))) some in
+      let is = ap (λ (o : Option UnendedState). length (saids 0 (option_map_or (λ (x : List Instruction). map (spelled s.decls.places) s.ended ++ x ∷ [])
+      (spelled_unended s.decls.places o) (map (spelled s.decls.places) s.ended)))) some in
       let more = ap length (saids_body 0 ended body) ∙ length-append (saids 0 ended) (Begins (0 + length ended) ∷ map Asks body) in
       let asked = length-map body Asks in
       let one = length-map u.requests (instruction s.decls.places) in

@@ -1,5 +1,7 @@
 -- A line of a body as a whole, and what lines say together.
-use Rattle.std.proofs.Common.{◌≡◌, ℕ, ◌+◌, ◌<◌, ◌==◌, ◌&&◌, ◌⊎◌, inl, inr, Bool, true, false, true≢false, if◌then◌else◌, is_none, List, [], ◌∷◌, ◌++◌, length, map, fold, Option, Some, None, refl, sym, ap, ◌∙◌, arith, append-nil, append_assoc}
+use Rattle.std.proofs.Common.{◌≡◌, ℕ, ◌+◌, ◌<◌, ◌==◌, ◌&&◌, ◌⊎◌, inl, inr, Bool, true, false, true≢false, if◌then◌else◌, is_none}
+use Rattle.std.proofs.Common.{List, [], ◌∷◌, ◌++◌, length, map, fold, Option, Some, None, refl, sym, ap, ◌∙◌, arith, append-nil}
+use Rattle.std.proofs.Common.{append_assoc}
 use Rattle.std.proofs.lemmas.Bool.Decides.{nat_tests}
 use Rattle.std.proofs.lemmas.List.{map-append}
 use Rattle.std.proofs.lemmas.List.Elements.{filter_map-append}
@@ -126,7 +128,8 @@ module _ (decls : DeclsState) (holds : IsWellFormed decls) (line : List ℕ) whe
       let front = front_is word asked words refl first_is.text (found_has_front first (LineWord.Asks word) has.named) in
       record {
         line_is = joined words has.behind ∙ ap line_of front ∙ (λ k. line_of (front_words asked.0 ++ is.text k))
-            ∙ ap line_of (sym (so_it_says (λ said. ask_words ds i.place i.ask ≡ front_words said.0 ++ (map (part_text ds) said.1 ++ i.place ∷ [])) (ask_says i.ask)
+            ∙ ap line_of (sym (so_it_says (λ said. ask_words ds i.place i.ask ≡ front_words said.0
+            ++ (map (part_text ds) said.1 ++ i.place ∷ [])) (ask_says i.ask)
             (asked.0, is.parts) is.says (ask_words_are ds i.place i.ask)));
         says = (λ k. said_by ds (has.named k) (arguments (has.behind k))) ∙ ap (option_map Asks) says;
         declares = ap (λ ws. declared_as (word_named first) (arguments ws)) has.behind ∙ first_is.declares words;

@@ -1,5 +1,7 @@
 -- What was done in a step of a log, by its ask and its answer.
-use Rattle.std.proofs.Common.{◌≡◌, ℕ, ◌==◌, cond, Bool, true, false, List, Option, Some, None, slice_get, map, option_map, ◌⊎◌, ◌+◌, inl, inr, refl, sym, ap, subst, ◌∙◌}
+use Rattle.std.proofs.Common.{◌≡◌, ℕ, ◌==◌, cond, Bool, true, false, List, Option, Some, None}
+use Rattle.std.proofs.Common.{slice_get, map, option_map, ◌⊎◌, ◌+◌, inl, inr, refl, sym, ap}
+use Rattle.std.proofs.Common.{subst, ◌∙◌}
 use Rattle.std.specs.Option.{option_and_then}
 use Rattle.race_records.specs.declared.event.Cause.{Cause}
 use Rattle.race_records.specs.declared.event.Cause.TheVariants.{SendClosed, CloseClosed, CloseNil, UnlockFree, RUnlockFree}
@@ -40,7 +42,8 @@ told_made (Ask.Send c v) k op a (way, inl (got, is, told)) =
       sent_got c v op got (d, is, did, none) = none
 told_made (Ask.Send c v) k op a (way, inr (fault, told)) = absurd cc
 told_made (Ask.Recv c) k op a (way, got, is, told) =
-    same_told (Ask.Recv c) a (plain_answer (Offer.Recv c) got) op told (ap (made_by_offer (Offer.Recv c)) (value_got c got) ∙ offer_made (Offer.Recv c) op got is)
+    same_told (Ask.Recv c) a (plain_answer (Offer.Recv c) got) op told
+    (ap (made_by_offer (Offer.Recv c)) (value_got c got) ∙ offer_made (Offer.Recv c) op got is)
 told_made (Ask.Close c) k op a (inl (d, is, inl (did, told))) = ap (option_map Close) is ∙ ap Some (sym did)
 told_made (Ask.Close c) k op a (inl (d, is, inr (did, told))) = absurd cc
 told_made (Ask.Close c) k op a (inr (nil, did, told)) = absurd cc
@@ -118,21 +121,30 @@ done_or_meet g (Fault cause) = inl refl
 
 -- who did that did it by itself
 pub done_again : (g : ℕ) (op : Op) → done_by g (done_by g op) ≡ done_by g op
-done_again g op = elim (done_or_meet g op) [ inl is ↦ ap (done_by g) is | inr (r, c, v, is) ↦ subst (λ op. done_by g (done_by g op) ≡ done_by g op) (sym is) (by r c v (r == g)) ] where
+done_again g op = elim (done_or_meet g op) [
+  | inl is ↦ ap (done_by g) is
+  | inr (r, c, v, is) ↦ subst (λ op. done_by g (done_by g op) ≡ done_by g op) (sym is) (by r c v (r == g))
+] where
   by : (r c v : ℕ) (b : Bool) → done_by g (cond b (Recv c v) (Send c v)) ≡ cond b (Recv c v) (Send c v)
   by r c v true = refl
   by r c v false = refl
 
 -- and it goes as far along a body
 pub after_done : (asks : List Ask) (p g : ℕ) (op : Op) → after_event asks p (done_by g op) ≡ after_event asks p op
-after_done asks p g op = elim (done_or_meet g op) [ inl is ↦ ap (after_event asks p) is | inr (r, c, v, is) ↦ subst (λ op. after_event asks p (done_by g op) ≡ after_event asks p op) (sym is) (by r c v (r == g)) ] where
+after_done asks p g op = elim (done_or_meet g op) [
+  | inl is ↦ ap (after_event asks p) is
+  | inr (r, c, v, is) ↦ subst (λ op. after_event asks p (done_by g op) ≡ after_event asks p op) (sym is) (by r c v (r == g))
+] where
   by : (r c v : ℕ) (b : Bool) → after_event asks p (cond b (Recv c v) (Send c v)) ≡ p + 1
   by r c v true = refl
   by r c v false = refl
 
 -- and fails by the same
 pub fails_done : (fault : Option Cause) (g : ℕ) (op : Op) → FailsBy fault op → FailsBy fault (done_by g op)
-fails_done fault g op fails = elim (done_or_meet g op) [ inl is ↦ (λ cause fault_is. fails cause (sym is ∙ fault_is)) | inr (r, c, v, is) ↦ (λ cause fault_is. absurd (by r c v (r == g) cause (ap (done_by g) (sym is) ∙ fault_is))) ] where
+fails_done fault g op fails = elim (done_or_meet g op) [
+  | inl is ↦ (λ cause fault_is. fails cause (sym is ∙ fault_is))
+  | inr (r, c, v, is) ↦ (λ cause fault_is. absurd (by r c v (r == g) cause (ap (done_by g) (sym is) ∙ fault_is)))
+] where
   by : (r c v : ℕ) (b : Bool) (cause : Cause) → cond b (Recv c v) (Send c v) ≡ Fault cause → ⊥
   by r c v true cause is = cc
   by r c v false cause is = cc

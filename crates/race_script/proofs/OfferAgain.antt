@@ -1,5 +1,7 @@
 -- What is printed of a select's offers says them again.
-use Rattle.std.proofs.Common.{◌≡◌, ℕ, ◌+◌, ◌-◌, ◌<◌, ◌≤◌, ◌==◌, ◌&&◌, ◌^◌, Bool, true, false, not, if◌then◌else◌, nat_lt, nat_le, List, [], ◌∷◌, ◌++◌, length, map, codes, Option, Some, None, refl, sym, ap, ◌∙◌, arith, append-nil, append_assoc}
+use Rattle.std.proofs.Common.{◌≡◌, ℕ, ◌+◌, ◌-◌, ◌<◌, ◌≤◌, ◌==◌, ◌&&◌, ◌^◌, Bool, true, false, not, if◌then◌else◌, nat_lt, nat_le}
+use Rattle.std.proofs.Common.{List, [], ◌∷◌, ◌++◌, length, map, codes, Option, Some, None, refl, sym, ap, ◌∙◌, arith, append-nil}
+use Rattle.std.proofs.Common.{append_assoc}
 use Rattle.std.proofs.lemmas.Bool.Decides.{nat_tests}
 use Rattle.std.proofs.lemmas.Fmt.{decimal_is_IsNumeral}
 use Rattle.std.proofs.lemmas.List.{length-append}
@@ -53,7 +55,8 @@ case_byte_is_seen b h = (both (is_place_byte b) (not (b == 44)) h).0
 
 digits_are_fine : (word : List ℕ) → AllDigits 10 word → list_all is_part_byte word ≡ true
 digits_are_fine [] h = refl
-digits_are_fine (b ∷ bs) h = let d = digit_from_value b h.0 in let v : is_part_byte b ≡ true = grind (arith, nat_tests, d.0, d.1) in λ i. v i && digits_are_fine bs h.1 i
+digits_are_fine (b ∷ bs) h = let d = digit_from_value b h.0 in
+    let v : is_part_byte b ≡ true = grind (arith, nat_tests, d.0, d.1) in λ i. v i && digits_are_fine bs h.1 i
 
 -- words of which a test holds, joined by a byte of which it does
 joined_all : (p : ℕ → Bool) (byte : ℕ) → p byte ≡ true → (ws : List (List ℕ)) → AllByRecursion (λ w. list_all p w ≡ true) ws
@@ -115,10 +118,12 @@ module _ (decls : DeclsState) (holds : IsWellFormed decls) where
       record {
         again =
             ap (λ parts. option_and_then (spelled_offer_in ds) (offer_by parts))
-            (split_again 58 refl (codes "send") (chan_text ds c ∷ decimal v ∷ []) (each_without is_part_byte 58 no_colon (offer_parts ds (Offer.Send c v)) fine))
+            (split_again 58 refl (codes "send") (chan_text ds c ∷ decimal v ∷ [])
+            (each_without is_part_byte 58 no_colon (offer_parts ds (Offer.Send c v)) fine))
             ∙ ap (option_and_then (offer_on (Some (decimal v)))) chan.0
             ∙ ap (option_map (Offer.Send c)) value.0;
-        bytes = joined_all is_case_byte 58 refl (offer_parts ds (Offer.Send c v)) (each_weaken is_part_byte is_case_byte part_byte_is_fine (offer_parts ds (Offer.Send c v)) fine);
+        bytes = joined_all is_case_byte 58 refl (offer_parts ds (Offer.Send c v))
+            (each_weaken is_part_byte is_case_byte part_byte_is_fine (offer_parts ds (Offer.Send c v)) fine);
       }
   offer_again (Offer.Recv c) range limited =
       let chan = chan_again c range in
@@ -128,7 +133,8 @@ module _ (decls : DeclsState) (holds : IsWellFormed decls) where
             ap (λ parts. option_and_then (spelled_offer_in ds) (offer_by parts))
             (split_again 58 refl (codes "recv") (chan_text ds c ∷ []) (each_without is_part_byte 58 no_colon (offer_parts ds (Offer.Recv c)) fine))
             ∙ ap (option_and_then (offer_on None)) chan.0;
-        bytes = joined_all is_case_byte 58 refl (offer_parts ds (Offer.Recv c)) (each_weaken is_part_byte is_case_byte part_byte_is_fine (offer_parts ds (Offer.Recv c)) fine);
+        bytes = joined_all is_case_byte 58 refl (offer_parts ds (Offer.Recv c))
+            (each_weaken is_part_byte is_case_byte part_byte_is_fine (offer_parts ds (Offer.Recv c)) fine);
       }
 
   -- and of all offers
@@ -161,7 +167,8 @@ module _ (decls : DeclsState) (holds : IsWellFormed decls) where
       let a = both (in_range offer) (list_all in_range offers) range in
       let b = both (offer_is_limited offer) (list_all offer_is_limited offers) limited in
       let room : nat_le MAX_CASES (length got) ≡ false = grind (arith, nat_tests, few) in
-      ap (option_and_then (λ (o : Offer). if nat_le MAX_CASES (length got) then None else offers_on ds (got ++ o ∷ []) (map (offer_text ds) offers))) (offer_again offer a.0 b.0).again
+      ap (option_and_then (λ (o : Offer). if nat_le MAX_CASES (length got) then None else offers_on ds (got ++ o ∷ []) (map (offer_text ds) offers)))
+      (offer_again offer a.0 b.0).again
       ∙ ap (λ b. if b then None else offers_on ds (got ++ offer ∷ []) (map (offer_text ds) offers)) room
       ∙ on_again (got ++ offer ∷ []) offers a.1 b.1 (omega (arith, few, length-append got (offer ∷ []))) ∙ ap Some (append_assoc got (offer ∷ []) offers)
 

@@ -1,5 +1,7 @@
 -- What the word of a select's offers says, offer by offer.
-use Rattle.std.proofs.Common.{◌≡◌, ℕ, suc, ◌+◌, ◌-◌, ◌<◌, ◌≤◌, ◌==◌, ◌&&◌, ◌^◌, Bool, true, false, true≢false, if◌then◌else◌, nat_lt, nat_le, is_none, List, [], ◌∷◌, ◌++◌, length, map, codes, Option, Some, None, refl, sym, ap, subst, ◌∙◌, arith, append-nil, append_assoc}
+use Rattle.std.proofs.Common.{◌≡◌, ℕ, suc, ◌+◌, ◌-◌, ◌<◌, ◌≤◌, ◌==◌, ◌&&◌, ◌^◌, Bool, true, false, true≢false, if◌then◌else◌, nat_lt, nat_le}
+use Rattle.std.proofs.Common.{is_none, List, [], ◌∷◌, ◌++◌, length, map, codes, Option, Some, None, refl, sym, ap, subst, ◌∙◌, arith, append-nil}
+use Rattle.std.proofs.Common.{append_assoc}
 use Rattle.std.proofs.lemmas.Bool.Decides.{nat_tests}
 use Rattle.std.proofs.lemmas.List.{length-append}
 use Rattle.std.proofs.lemmas.List.Splits.{join_with_byte-slice_split, length-slice_split}
@@ -26,7 +28,9 @@ use Rattle.race_text.specs.Words.{number}
 use Rattle.race_text.proofs.CauseLemmas.{and_then_some, map_some, lesser_none}
 use Rattle.race_text.proofs.PartWords.{is_part}
 use Rattle.race_text.proofs.UsedNames.{IsUsed, is_used, used_is_there}
-use Rattle.race_script.specs.Offers.{SpelledOffer, offer_by, parts_of_offer, offer_spelled, chan_cause, value_cause, offer_cause, each_cause, count_cause, offers_cause, offer_on, spelled_offer_in, offer_in, offers_on, offers_in, offer_parts, offer_text, offers_text}
+use Rattle.race_script.specs.Offers.{SpelledOffer, offer_by, parts_of_offer, offer_spelled, chan_cause, value_cause, offer_cause, each_cause}
+use Rattle.race_script.specs.Offers.{count_cause, offers_cause, offer_on, spelled_offer_in, offer_in, offers_on, offers_in, offer_parts}
+use Rattle.race_script.specs.Offers.{offer_text, offers_text}
 use Rattle.race_script.specs.Program.{offer_is_limited}
 use Rattle.race_script.proofs.OfferAgain.{a_chan}
 
@@ -212,7 +216,8 @@ module _ (decls : DeclsState) (holds : IsWellFormed decls) where
           let len : length (pieces_of w) ≡ length offers = ap length are.texts ∙ map_len are.offers ∙ ap length (sym are.all_are) in
           let low : nat_lt MAX_CASES (length (pieces_of w)) ≡ false = grind (arith, nat_tests, few, len) in
           record {
-            text = sym (join_with_byte-slice_split 44 w) ∙ whole (pieces_of w) are.offers (omega (arith, some)) are.texts ∙ ap (offers_text ds) (sym are.all_are);
+            text = sym (join_with_byte-slice_split 44 w)
+                ∙ whole (pieces_of w) are.offers (omega (arith, some)) are.texts ∙ ap (offers_text ds) (sym are.all_are);
             range = ap (list_all in_range) are.all_are ∙ are.range;
             limited = ap (list_all offer_is_limited) are.all_are ∙ are.limited;
             few = grind (arith, nat_tests, few);
@@ -252,7 +257,8 @@ module _ (ds : List Declaration) where
   -- a cause that holds before the pieces is not lost
   none_before : (ws : List (List ℕ)) (least : Option TextCause) → each_cause ds least ws ≡ None → least ≡ None
   none_before [] least none = none
-  none_before (w ∷ ws) least none = (lesser_none least (offer_cause ds (offer_spelled w)) (none_before ws (lesser least (offer_cause ds (offer_spelled w))) none)).0
+  none_before (w ∷ ws) least none =
+      (lesser_none least (offer_cause ds (offer_spelled w)) (none_before ws (lesser least (offer_cause ds (offer_spelled w))) none)).0
 
   on_is_there : (got : List Offer) (ws : List (List ℕ)) (least : Option TextCause) → each_cause ds least ws ≡ None → length got + length ws ≤ MAX_CASES
       → (offers : List Offer) × (offers_on ds got ws ≡ Some offers)

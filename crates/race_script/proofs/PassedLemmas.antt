@@ -67,7 +67,8 @@ module _ (places recorded : List (List ℕ)) (body : List Request) (p : ℕ) (re
         (λ is. let one : instruction places r ≡ instruction recorded request = cc in tells.1 (sym (ap (λ (i : Instruction). i.place) one))),
       )
 
-  pub waits_not : (r : Request) → slice_get body p ≡ Some r → (r.ask ≡ request.ask → ⊥) → slice_get (spelled places body) p ≡ Some (instruction recorded request) → ⊥
+  pub waits_not : (r : Request) → slice_get body p ≡ Some r → (r.ask ≡ request.ask → ⊥)
+      → slice_get (spelled places body) p ≡ Some (instruction recorded request) → ⊥
   waits_not r at other is =
       let there = spelled_at places body p r at in
       let one : instruction places r ≡ instruction recorded request = cc in

@@ -1,5 +1,8 @@
 -- One more line that is read: of a body, or a declaration, or the header.
-use Rattle.std.proofs.Common.{◌≡◌, ◌≢◌, ℕ, suc, ◌<◌, ◌==◌, ◌&&◌, Bool, true, false, true≢false, not, nat_lt, if◌then◌else◌, is_none, List, [], ◌∷◌, ◌++◌, length, map, get_or, Option, Some, None, Result, Ok, Err, IfOk, IfSome, MatchResult, fold, refl, sym, ap, subst, ◌∙◌, arith, append-nil}
+use Rattle.std.proofs.Common.{◌≡◌, ◌≢◌, ℕ, suc, ◌<◌, ◌==◌, ◌&&◌, Bool, true, false, true≢false, not, nat_lt}
+use Rattle.std.proofs.Common.{if◌then◌else◌, is_none, List, [], ◌∷◌, ◌++◌, length, map, get_or, Option}
+use Rattle.std.proofs.Common.{Some, None, Result, Ok, Err, IfOk, IfSome, MatchResult, fold, refl, sym, ap}
+use Rattle.std.proofs.Common.{subst, ◌∙◌, arith, append-nil}
 use Rattle.std.proofs.lemmas.Bool.Decides.{nat_tests}
 use Rattle.std.proofs.lemmas.List.{length-append, length-map, map-append}
 use Rattle.std.proofs.lemmas.Slice.Eq.{bytes_eq-Decides}
@@ -30,7 +33,9 @@ use Rattle.race_script.specs.Fault.{words_cause, said_cause, word_cause, line_ca
 use Rattle.race_script.specs.Form.{line_word, on_nil, ask_fields, begin_fields}
 use Rattle.race_script.specs.Offers.{select_words, select_cause}
 use Rattle.race_script.specs.Program.{Instruction, Draft, IsProgram, draft_of, is_body_of, spelled, bodies_of, places_of}
-use Rattle.race_script.specs.Reader.{UnendedState, ReadState, draft_read, spelled_unended, lines_by, lines_read, program_read, IsUnended, IsRead, IsEmpty, IsReadBy, GoesOn, HasWords, TakesSaid, TakesLine, TakesOrTells}
+use Rattle.race_script.specs.Reader.{UnendedState, ReadState, draft_read, spelled_unended, lines_by, lines_read}
+use Rattle.race_script.specs.Reader.{program_read, IsUnended, IsRead, IsEmpty, IsReadBy, GoesOn, HasWords, TakesSaid}
+use Rattle.race_script.specs.Reader.{TakesLine, TakesOrTells}
 use Rattle.race_script.specs.Reading.{said_by, asks_by, said_in, with_said, nothing_said, all_said, seen}
 use Rattle.std.specs.List.{flat_map}
 use Rattle.race_text.specs.Text.{ended}
@@ -47,11 +52,13 @@ all_declared (d ∷ ds) each =
     let is = each 0 d (omega arith) in
     let rest = all_declared ds (λ i e less. each (suc i) e (omega (arith, less))) in (
       (λ k. cons_option (is.declares k) (rest.0 k)),
-      λ es k. cons_option (ap (λ w. said_by es w (arguments (words_of (declaration_line d)))) (noun_line_word (first_word (words_of (declaration_line d))) _ is.named) k) (rest.1 es k),
+      λ es k. cons_option (ap (λ w. said_by es w (arguments (words_of (declaration_line d))))
+          (noun_line_word (first_word (words_of (declaration_line d))) _ is.named) k) (rest.1 es k),
     )
 
 pub declaration_lines : (decls : DeclsState) → IsWellFormed decls
-    → (i : ℕ) (d : Declaration) → i < length decls.declarations → IsDeclarationLine (get_or decls.declarations i d) (declaration_line (get_or decls.declarations i d))
+    → (i : ℕ) (d : Declaration) → i < length decls.declarations
+    → IsDeclarationLine (get_or decls.declarations i d) (declaration_line (get_or decls.declarations i d))
 declaration_lines decls holds i d less = declaration_again (get_or decls.declarations i d) (holds.names i d less) (holds.capacities i d less)
 
 header_scanned : (ds : List Declaration) → (declaration_in header ≡ None) × (said_in ds header ≡ None)
@@ -66,8 +73,10 @@ seen_by_lines ds are =
     let each = all_declared ds are in
     let none : header ∷ map declaration_line ds ++ [] ≡ header ∷ map declaration_line ds = append-nil (header ∷ map declaration_line ds) in
     ap (λ ls. all_said (filter_map declaration_in ls) ls) none
-    ∙ ap (λ es. all_said es (header ∷ map declaration_line ds)) ((λ k. cons_option ((header_scanned ds).0 k) (filter_map declaration_in (map declaration_line ds))) ∙ each.0)
-    ∙ ap (λ ss. fold with_said (nothing_said ds) ss) ((λ k. cons_option ((header_scanned ds).1 k) (filter_map (said_in ds) (map declaration_line ds))) ∙ each.1 ds)
+    ∙ ap (λ es. all_said es (header ∷ map declaration_line ds))
+    ((λ k. cons_option ((header_scanned ds).0 k) (filter_map declaration_in (map declaration_line ds))) ∙ each.0)
+    ∙ ap (λ ss. fold with_said (nothing_said ds) ss)
+    ((λ k. cons_option ((header_scanned ds).1 k) (filter_map (said_in ds) (map declaration_line ds))) ∙ each.1 ds)
 
 pub seen_declared : (decls : DeclsState) → IsWellFormed decls → seen (lines (nothing_said decls.declarations)) ≡ nothing_said decls.declarations
 seen_declared decls holds = seen_by_lines decls.declarations (declaration_lines decls holds)
@@ -159,7 +168,8 @@ module _ (old : ReadState) (read : IsRead old) (line : List ℕ) where
       pub first_cause : cause (lines d) line true ≡ declaration_cause ds line
       first_cause = declares_cause ∙ (λ k. text_cause (seen_so_far ds (none k)) (Some (Word.Declares noun)) words) ∙ sym by_itself
 
-      no_bodies : (o : Option UnendedState) → length (option_map_or (λ (x : List Instruction). d.ended ++ x ∷ []) (spelled_unended old.decls.places o) d.ended) ≡ 0
+      no_bodies : (o : Option UnendedState)
+          → length (option_map_or (λ (x : List Instruction). d.ended ++ x ∷ []) (spelled_unended old.decls.places o) d.ended) ≡ 0
           → (old.ended ≡ []) × (o ≡ None)
       no_bodies None h = (by old.ended (let len = length-map old.ended (spelled old.decls.places) in omega (arith, len, h)), refl)
         where
@@ -175,7 +185,8 @@ module _ (old : ReadState) (read : IsRead old) (line : List ℕ) where
           let nothing = no_bodies old.unended none in
           let more = with_declaration old.decls is.d.name is.d.object in
           let decls_is : new.decls ≡ more = decls_are ∙ ap (with_declared old.decls) is.is in
-          let holds : IsWellFormed more = push_well_formed old.decls read.sound.well_formed is.d.name is.d.object (allowed_from_no_fault ds is.d.object is.d.name is.fine) in
+          let holds : IsWellFormed more = push_well_formed old.decls read.sound.well_formed is.d.name is.d.object
+          (allowed_from_no_fault ds is.d.object is.d.name is.fine) in
           let before : d ≡ nothing_said ds =
           λ k. record { declarations = ds; ended = map (spelled old.decls.places) (nothing.0 k); unended = spelled_unended old.decls.places (nothing.1 k) } in
           let after : draft_read new ≡ nothing_said more.declarations =
@@ -192,7 +203,8 @@ module _ (old : ReadState) (read : IsRead old) (line : List ℕ) where
             read = record {
               sound = record {
                 well_formed = subst IsWellFormed (sym decls_is) holds;
-                ended = subst (λ (p : DeclsState × List (List Request)). list_all (is_body_of p.0) p.1 ≡ true) (λ k. (new.decls, sym (ended ∙ nothing.0) k)) refl;
+                ended = subst (λ (p : DeclsState × List (List Request)). list_all (is_body_of p.0) p.1 ≡ true)
+                    (λ k. (new.decls, sym (ended ∙ nothing.0) k)) refl;
                 unended = subst (λ (o : Option UnendedState). IfSome o (IsUnended new.decls)) (sym (unended ∙ nothing.1)) tt;
                 places = ap places_of after ∙ sym (ap places_of before) ∙ read.sound.places ∙ ap (λ (x : DeclsState). x.places) (sym decls_is);
                 few = let zero = ap (λ (x : Draft). length (bodies_of x)) after in omega (arith, zero);
@@ -261,7 +273,8 @@ pub end_header : (last : List ℕ) → bytes_eq last header ≡ true → end_cau
 unfolding cause end_cause
 end_header last h = by (length last == 0)
   where
-    by : (b : Bool) → (if b && nat_lt 0 0 then (if is_whole (seen []) then None else Some TextCause.BadBlock) else cause [] last false) ≡ Some TextCause.NoNewline
+    by : (b : Bool) → (if b && nat_lt 0 0 then (if is_whole (seen []) then None else Some TextCause.BadBlock) else cause [] last false)
+        ≡ Some TextCause.NoNewline
     by true = ap (λ b. if not b then Some TextCause.BadHeader else Some TextCause.NoNewline) h
     by false = ap (λ b. if not b then Some TextCause.BadHeader else Some TextCause.NoNewline) h
 
@@ -269,7 +282,8 @@ pub end_other : (last : List ℕ) → bytes_eq last header ≡ false → end_cau
 unfolding cause end_cause
 end_other last h = by (length last == 0)
   where
-    by : (b : Bool) → (if b && nat_lt 0 0 then (if is_whole (seen []) then None else Some TextCause.BadBlock) else cause [] last false) ≡ Some TextCause.BadHeader
+    by : (b : Bool) → (if b && nat_lt 0 0 then (if is_whole (seen []) then None else Some TextCause.BadBlock) else cause [] last false)
+        ≡ Some TextCause.BadHeader
     by true = ap (λ b. if not b then Some TextCause.BadHeader else Some TextCause.NoNewline) h
     by false = ap (λ b. if not b then Some TextCause.BadHeader else Some TextCause.NoNewline) h
 
@@ -294,7 +308,8 @@ end_behind d last b w is e whole =
 
 -- the program that was read
 pub whole_program : (s : ReadState) → IsRead s → is_whole (draft_read s) ≡ true → (IsProgram (program_read s)) × (draft_read s ≡ draft_of (program_read s))
-whole_program s read whole = by s.unended refl (both (is_none (draft_read s).unended) (length (draft_read s).ended == count_of Kind.Goroutine s.decls.declarations) whole)
+whole_program s read whole = by s.unended refl
+    (both (is_none (draft_read s).unended) (length (draft_read s).ended == count_of Kind.Goroutine s.decls.declarations) whole)
   where
     by : (o : Option UnendedState) → s.unended ≡ o
         → (is_none (draft_read s).unended ≡ true) × ((length (draft_read s).ended == count_of Kind.Goroutine s.decls.declarations) ≡ true)

@@ -1,5 +1,7 @@
 -- What is printed of a line of a body says it again.
-use Rattle.std.proofs.Common.{◌≡◌, ℕ, Bool, true, false, nat_lt, if◌then◌else◌, List, [], ◌∷◌, ◌++◌, map, codes, Option, Some, None, IfSome, refl, sym, ap, subst, ◌∙◌, ◌&&◌, ◌^◌, arith}
+use Rattle.std.proofs.Common.{◌≡◌, ℕ, Bool, true, false, nat_lt, if◌then◌else◌, List, [], ◌∷◌, ◌++◌}
+use Rattle.std.proofs.Common.{map, codes, Option, Some, None, IfSome, refl, sym, ap, subst, ◌∙◌, ◌&&◌}
+use Rattle.std.proofs.Common.{◌^◌, arith}
 use Rattle.std.proofs.lemmas.Bool.Decides.{nat_tests}
 use Rattle.std.specs.Option.{option_map_or}
 use Rattle.std.specs.Str.{bytes_eq}
@@ -64,32 +66,133 @@ module _ (decls : DeclsState) (holds : IsWellFormed decls) where
 
   front_again : (ask : Ask) (place : List ℕ) → ask_fits ds ask ≡ true → IfSome (ask_says ask) (λ said. IsFront said.0 (map (part_text ds) said.1 ++ place ∷ []))
   unfolding line_word word_named
-  front_again (Ask.Go h) place fits = record { table = AskWord.Go; first = codes "go"; rest = _; words = refl; known = refl; cut = plain AskWord.Go _ refl; visible = λ v. v }
-  front_again Ask.Exit place fits = record { table = AskWord.Exit; first = codes "exit"; rest = _; words = refl; known = refl; cut = plain AskWord.Exit _ refl; visible = λ v. v }
-  front_again (Ask.Read x) place fits = record { table = AskWord.Read; first = codes "read"; rest = _; words = refl; known = refl; cut = plain AskWord.Read _ refl; visible = λ v. v }
-  front_again (Ask.Write x w) place fits = record { table = AskWord.Write; first = codes "write"; rest = _; words = refl; known = refl; cut = plain AskWord.Write _ refl; visible = λ v. v }
-  front_again (Ask.Send None w) place fits = record { table = AskWord.Send; first = codes "send"; rest = _; words = refl; known = refl; cut = refl; visible = λ v. (refl, v) }
+  front_again (Ask.Go h) place fits = record {
+    table = AskWord.Go;
+    first = codes "go";
+    rest = _;
+    words = refl;
+    known = refl;
+    cut = plain AskWord.Go _ refl;
+    visible = λ v. v;
+  }
+  front_again Ask.Exit place fits = record {
+    table = AskWord.Exit;
+    first = codes "exit";
+    rest = _;
+    words = refl;
+    known = refl;
+    cut = plain AskWord.Exit _ refl;
+    visible = λ v. v;
+  }
+  front_again (Ask.Read x) place fits = record {
+    table = AskWord.Read;
+    first = codes "read";
+    rest = _;
+    words = refl;
+    known = refl;
+    cut = plain AskWord.Read _ refl;
+    visible = λ v. v;
+  }
+  front_again (Ask.Write x w) place fits =
+      record { table = AskWord.Write; first = codes "write"; rest = _; words = refl; known = refl; cut = plain AskWord.Write _ refl; visible = λ v. v }
+  front_again (Ask.Send None w) place fits =
+      record { table = AskWord.Send; first = codes "send"; rest = _; words = refl; known = refl; cut = refl; visible = λ v. (refl, v) }
   front_again (Ask.Send (Some c) w) place fits =
       let less = both (nat_lt c (counts_of ds Kind.Chan)) true (both (nat_lt c (counts_of ds Kind.Chan) && true) (nat_lt w (2 ^ 64)) fits).0 in
-      record { table = AskWord.Send; first = codes "send"; rest = _; words = refl; known = refl; cut = named AskWord.Send (chan_name ds c) _ (chan_is_name c less.0); visible = λ v. v }
-  front_again (Ask.Recv None) place fits = record { table = AskWord.Recv; first = codes "recv"; rest = _; words = refl; known = refl; cut = refl; visible = λ v. (refl, v) }
+      record {
+        table = AskWord.Send;
+        first = codes "send";
+        rest = _;
+        words = refl;
+        known = refl;
+        cut = named AskWord.Send (chan_name ds c) _ (chan_is_name c less.0);
+        visible = λ v. v;
+      }
+  front_again (Ask.Recv None) place fits =
+      record { table = AskWord.Recv; first = codes "recv"; rest = _; words = refl; known = refl; cut = refl; visible = λ v. (refl, v) }
   front_again (Ask.Recv (Some c)) place fits =
       let less = both (nat_lt c (counts_of ds Kind.Chan)) true (both (nat_lt c (counts_of ds Kind.Chan) && true) true fits).0 in
-      record { table = AskWord.Recv; first = codes "recv"; rest = _; words = refl; known = refl; cut = named AskWord.Recv (chan_name ds c) _ (chan_is_name c less.0); visible = λ v. v }
-  front_again (Ask.Close None) place fits = record { table = AskWord.Close; first = codes "close"; rest = _; words = refl; known = refl; cut = refl; visible = λ v. (refl, v) }
+      record {
+        table = AskWord.Recv;
+        first = codes "recv";
+        rest = _;
+        words = refl;
+        known = refl;
+        cut = named AskWord.Recv (chan_name ds c) _ (chan_is_name c less.0);
+        visible = λ v. v;
+      }
+  front_again (Ask.Close None) place fits =
+      record { table = AskWord.Close; first = codes "close"; rest = _; words = refl; known = refl; cut = refl; visible = λ v. (refl, v) }
   front_again (Ask.Close (Some c)) place fits =
       let less = both (nat_lt c (counts_of ds Kind.Chan)) true (both (nat_lt c (counts_of ds Kind.Chan) && true) true fits).0 in
-      record { table = AskWord.Close; first = codes "close"; rest = _; words = refl; known = refl; cut = named AskWord.Close (chan_name ds c) _ (chan_is_name c less.0); visible = λ v. v }
+      record {
+        table = AskWord.Close;
+        first = codes "close";
+        rest = _;
+        words = refl;
+        known = refl;
+        cut = named AskWord.Close (chan_name ds c) _ (chan_is_name c less.0);
+        visible = λ v. v;
+      }
   front_again (Ask.Select offers has_default) place fits = tt
-  front_again (Ask.Lock l) place fits = record { table = AskWord.Lock; first = codes "lock"; rest = _; words = refl; known = refl; cut = plain AskWord.Lock _ refl; visible = λ v. v }
-  front_again (Ask.Unlock l) place fits = record { table = AskWord.Unlock; first = codes "unlock"; rest = _; words = refl; known = refl; cut = plain AskWord.Unlock _ refl; visible = λ v. v }
-  front_again (Ask.RLock l) place fits = record { table = AskWord.RLock; first = codes "rlock"; rest = _; words = refl; known = refl; cut = plain AskWord.RLock _ refl; visible = λ v. v }
-  front_again (Ask.RUnlock l) place fits = record { table = AskWord.RUnlock; first = codes "runlock"; rest = _; words = refl; known = refl; cut = plain AskWord.RUnlock _ refl; visible = λ v. v }
-  front_again (Ask.Do o) place fits = record { table = AskWord.Do; first = codes "do"; rest = _; words = refl; known = refl; cut = plain AskWord.Do _ refl; visible = λ v. v }
-  front_again (Ask.EndDo o) place fits = record { table = AskWord.EndDo; first = codes "enddo"; rest = _; words = refl; known = refl; cut = plain AskWord.EndDo _ refl; visible = λ v. v }
+  front_again (Ask.Lock l) place fits = record {
+    table = AskWord.Lock;
+    first = codes "lock";
+    rest = _;
+    words = refl;
+    known = refl;
+    cut = plain AskWord.Lock _ refl;
+    visible = λ v. v;
+  }
+  front_again (Ask.Unlock l) place fits = record {
+    table = AskWord.Unlock;
+    first = codes "unlock";
+    rest = _;
+    words = refl;
+    known = refl;
+    cut = plain AskWord.Unlock _ refl;
+    visible = λ v. v;
+  }
+  front_again (Ask.RLock l) place fits = record {
+    table = AskWord.RLock;
+    first = codes "rlock";
+    rest = _;
+    words = refl;
+    known = refl;
+    cut = plain AskWord.RLock _ refl;
+    visible = λ v. v;
+  }
+  front_again (Ask.RUnlock l) place fits = record {
+    table = AskWord.RUnlock;
+    first = codes "runlock";
+    rest = _;
+    words = refl;
+    known = refl;
+    cut = plain AskWord.RUnlock _ refl;
+    visible = λ v. v;
+  }
+  front_again (Ask.Do o) place fits = record {
+    table = AskWord.Do;
+    first = codes "do";
+    rest = _;
+    words = refl;
+    known = refl;
+    cut = plain AskWord.Do _ refl;
+    visible = λ v. v;
+  }
+  front_again (Ask.EndDo o) place fits = record {
+    table = AskWord.EndDo;
+    first = codes "enddo";
+    rest = _;
+    words = refl;
+    known = refl;
+    cut = plain AskWord.EndDo _ refl;
+    visible = λ v. v;
+  }
 
   -- words that can be seen are those of their line
-  has_words : (first : List ℕ) (rest : List (List ℕ)) (word : LineWord) → line_word first ≡ Some word → AreVisible (first ∷ rest) → HasWords (line_of (first ∷ rest)) word rest
+  has_words : (first : List ℕ) (rest : List (List ℕ)) (word : LineWord) → line_word first ≡ Some word
+      → AreVisible (first ∷ rest) → HasWords (line_of (first ∷ rest)) word rest
   has_words first rest word known visible =
       let again = words_again first rest visible in
       record {
@@ -109,8 +212,10 @@ module _ (decls : DeclsState) (holds : IsWellFormed decls) where
       let words = so_it_says (λ said. ask_words ds i.place i.ask ≡ front_words said.0 ++ (map (part_text ds) said.1 ++ i.place ∷ [])) (ask_says i.ask) said says
       (ask_words_are ds i.place i.ask) in
       let line : said_line ds (Asks i) ≡ line_of (is.first ∷ is.rest) = ap line_of (words ∙ is.words) in
-      let reads : asked_in ds (on_nil is.table is.rest).0 (on_nil is.table is.rest).1 ≡ Some i = ap (λ (a : AskedWords). asked_in ds a.0 a.1) is.cut ∙ again.0 in
-      let whole = asks_line decls holds (line_of (is.first ∷ is.rest)) is.table is.rest i (has_words is.first is.rest (LineWord.Asks is.table) is.known visible) reads in
+      let reads : asked_in ds (on_nil is.table is.rest).0 (on_nil is.table is.rest).1 ≡ Some i =
+      ap (λ (a : AskedWords). asked_in ds a.0 a.1) is.cut ∙ again.0 in
+      let whole = asks_line decls holds (line_of (is.first ∷ is.rest)) is.table is.rest i
+      (has_words is.first is.rest (LineWord.Asks is.table) is.known visible) reads in
       (subst (λ l. IsSaidLine ds l (Asks i)) (sym line) whole, ap has_bad_byte line ∙ visible_line_clean (is.first ∷ is.rest) visible)
 
   -- and of a select
@@ -130,7 +235,8 @@ module _ (decls : DeclsState) (holds : IsWellFormed decls) where
   said_again (Begins g) less =
       let again = begun_again decls holds g less in
       let visible : AreVisible (codes "body" ∷ goroutine_name ds g ∷ []) = (refl, again.1) in (
-        begins_line decls holds (said_line ds (Begins g)) (goroutine_name ds g ∷ []) g (has_words (codes "body") (goroutine_name ds g ∷ []) LineWord.Begins begins_again visible) again.0,
+        begins_line decls holds (said_line ds (Begins g)) (goroutine_name ds g ∷ []) g
+            (has_words (codes "body") (goroutine_name ds g ∷ []) LineWord.Begins begins_again visible) again.0,
         visible_line_clean (codes "body" ∷ goroutine_name ds g ∷ []) visible,
       )
   said_again (Asks i) fits = by (ask_says i.ask) refl

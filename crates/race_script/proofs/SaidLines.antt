@@ -1,5 +1,7 @@
 -- A line of a body: what it says, and that no cause holds of its words.
-use Rattle.std.proofs.Common.{◌≡◌, ℕ, ◌<◌, ◌==◌, ◌&&◌, Bool, true, false, true≢false, not, if◌then◌else◌, List, [], ◌∷◌, ◌++◌, length, map, Option, Some, None, refl, sym, ap, ◌∙◌, arith}
+use Rattle.std.proofs.Common.{◌≡◌, ℕ, ◌<◌, ◌==◌, ◌&&◌, Bool, true, false, true≢false, not, if◌then◌else◌}
+use Rattle.std.proofs.Common.{List, [], ◌∷◌, ◌++◌, length, map, Option, Some, None, refl, sym, ap, ◌∙◌}
+use Rattle.std.proofs.Common.{arith}
 use Rattle.std.proofs.lemmas.Bool.Decides.{nat_tests, Decides-eqb}
 use Rattle.std.proofs.lemmas.Option.{none-some}
 use Rattle.std.specs.List.{list_all}
@@ -22,7 +24,9 @@ use Rattle.race_text.proofs.CauseLemmas.{and_then_some, map_some}
 use Rattle.race_text.proofs.CleanLemmas.{place_is_visible}
 use Rattle.race_text.proofs.EventsAgain.{part_again, parts_again}
 use Rattle.race_text.proofs.EventWords.{goroutine_is, goroutine_is_there}
-use Rattle.race_text.proofs.PartWords.{is_part, are_read, texts_are, parts_are_limited, parts_are_wanted, words_count, words_fine, part_is_there, are_there, read_suits}
+use Rattle.race_text.proofs.PartWords.{is_part, are_read, texts_are, parts_are_limited}
+use Rattle.race_text.proofs.PartWords.{parts_are_wanted, words_count, words_fine, part_is_there}
+use Rattle.race_text.proofs.PartWords.{are_there, read_suits}
 use Rattle.race_text.proofs.PartWords.{parts_fit as all_parts_fit}
 use Rattle.race_text.proofs.PlaceWords.{ArePlaces, last_by_form, are_places, places_fine, places_are_there}
 use Rattle.race_text.proofs.WantedParts.{are_wanted}
@@ -104,7 +108,8 @@ module _ (decls : DeclsState) (holds : IsWellFormed decls) where
       let says : ask_says i.ask ≡ Some (word, read.parts) =
       ap (λ (x : Instruction). ask_says x.ask) (sym c.2) ∙ ask_by_says word a.0.0 b.0 b.1 ∙ (λ k. Some (word, read.parts_are k)) in
       let fit : parts_fit ds' (ask_kinds word) read.parts ≡ true =
-      λ k. all_parts_fit decls holds (ask_kinds word) read.ws read.parts read.are k && parts_are_limited decls holds (ask_kinds word) read.ws read.parts read.are k
+      λ k. all_parts_fit decls holds (ask_kinds word) read.ws read.parts read.are k
+      && parts_are_limited decls holds (ask_kinds word) read.ws read.parts read.are k
       && parts_are_wanted decls holds (ask_kinds word) read.ws read.parts read.are k in
       let rest : a.0.1 ≡ c.0 ∷ [] = places.1 in
       let none = places_fine ds' false (c.0, None) places.0 in
@@ -112,10 +117,12 @@ module _ (decls : DeclsState) (holds : IsWellFormed decls) where
         parts = read.parts;
         text = read.words_are ∙ (λ k. texts_are decls holds (ask_kinds word) read.ws read.parts read.are k ++ (places.1 ∙ ap (λ w. w ∷ []) place) k);
         says = says;
-        fits = so_it_says (λ said. ask_fits ds' i.ask ≡ parts_fit ds' (ask_kinds said.0) said.1) (ask_says i.ask) (word, read.parts) says (fits_are ds' i.ask) ∙ fit;
+        fits = so_it_says (λ said. ask_fits ds' i.ask ≡ parts_fit ds' (ask_kinds said.0) said.1)
+            (ask_says i.ask) (word, read.parts) says (fits_are ds' i.ask) ∙ fit;
         form = ap is_place (sym place) ∙ places.0.first;
         fine = words_fine_by ds' (ask_fields word) words
-            (ap length (read.words_are ∙ ap (λ r. read.ws ++ r) rest) ∙ words_count decls holds (Field.Place ∷ []) (c.0 ∷ []) refl (ask_kinds word) read.ws read.parts read.are)
+            (ap length (read.words_are ∙ ap (λ r. read.ws ++ r) rest)
+            ∙ words_count decls holds (Field.Place ∷ []) (c.0 ∷ []) refl (ask_kinds word) read.ws read.parts read.are)
             (ap (fields_cause ds' (ask_fields word)) (read.words_are ∙ ap (λ r. read.ws ++ r) rest)
             ∙ words_fine decls holds (Field.Place ∷ []) (c.0 ∷ []) none (ask_kinds word) read.ws read.parts read.are);
       }

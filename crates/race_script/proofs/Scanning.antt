@@ -1,5 +1,7 @@
 -- Bytes without a fault are some program's text: line by line, each is taken into a program.
-use Rattle.std.proofs.Common.{◌≡◌, ℕ, zero, suc, ◌+◌, ◌<◌, ◌==◌, ◌&&◌, ◌||◌, Bool, true, false, true≢false, not, nat_le, if◌then◌else◌, is_some, List, [], ◌∷◌, ◌++◌, length, Option, Some, None, refl, sym, ap, ◌∙◌, arith, append-nil, append_assoc}
+use Rattle.std.proofs.Common.{◌≡◌, ℕ, zero, suc, ◌+◌, ◌<◌, ◌==◌, ◌&&◌, ◌||◌, Bool, true, false, true≢false, not, nat_le, if◌then◌else◌}
+use Rattle.std.proofs.Common.{is_some, List, [], ◌∷◌, ◌++◌, length, Option, Some, None, refl, sym, ap, ◌∙◌, arith, append-nil}
+use Rattle.std.proofs.Common.{append_assoc}
 use Rattle.std.proofs.lemmas.Bool.Decides.{nat_tests}
 use Rattle.std.proofs.lemmas.Grind.{flat_map-append}
 use Rattle.std.proofs.lemmas.List.{reverse-reverse}
@@ -29,7 +31,9 @@ use Rattle.race_script.specs.declared.form.AskWord.{AskWord}
 use Rattle.race_script.specs.declared.form.LineWord.{LineWord}
 use Rattle.race_script.specs.declared.program.TheConstants.{MAX_STEPS}
 use Rattle.race_script.specs.Bodies.{is_exit, after_ask}
-use Rattle.race_script.specs.Fault.{words_cause, has_no_room, may_follow, may_begin, said_cause, asked_cause, cause, end_cause, fault_after, text_fault, is_whole}
+use Rattle.race_script.specs.Fault.{words_cause, has_no_room, may_follow, may_begin}
+use Rattle.race_script.specs.Fault.{said_cause, asked_cause, cause, end_cause, fault_after}
+use Rattle.race_script.specs.Fault.{text_fault, is_whole}
 use Rattle.race_script.specs.Form.{line_word, on_nil, ask_fields, begin_fields}
 use Rattle.race_script.specs.Offers.{select_words, select_cause}
 use Rattle.race_script.specs.Program.{Instruction, Draft, ask_fits, bodies_of}
@@ -37,7 +41,9 @@ use Rattle.race_script.specs.Reader.{UnendedState, ReadState, draft_read, spelle
 use Rattle.race_script.specs.Text.{header, Said, Begins, Asks, lines, draft_text, IsProgramText}
 use Rattle.race_script.proofs.LineLemmas.{IsSaidLine, cause_behind, begins_line, asks_line, selects_line}
 use Rattle.race_script.proofs.ParseLemmas.{fault_step, fault_end, end_empty}
-use Rattle.race_script.proofs.ReadLemmas.{begin_told, asks_told, selects_told, bad_byte_told, unknown_told, declares_cause, first_cause, declared_taken, said_taken, whole_program, nothing_read, nothing_is_read, nothing_lines_read}
+use Rattle.race_script.proofs.ReadLemmas.{begin_told, asks_told, selects_told, bad_byte_told, unknown_told, declares_cause}
+use Rattle.race_script.proofs.ReadLemmas.{first_cause, declared_taken, said_taken, whole_program, nothing_read}
+use Rattle.race_script.proofs.ReadLemmas.{nothing_is_read, nothing_lines_read}
 use Rattle.race_script.proofs.SaidLines.{begun_is_there, is_begun, asked_is_there}
 use Rattle.race_script.proofs.SelectLines.{selected_is_there}
 use Rattle.race_script.proofs.TakingLemmas.{begin_taken, asked_cause_is, ended_taken, more_taken}
@@ -79,7 +85,8 @@ module _ (s : ReadState) (header_is : s.has_header ≡ true) (read : IsRead s) (
   with_begin : (words : List (List ℕ)) → HasWords line LineWord.Begins words → IsNext s line
   with_begin words has = by (words_cause ds begin_fields words) refl
     where
-      begun : (g : ℕ) → IsSaidLine ds line (Begins g) → (b : Bool) → may_begin d g ≡ b → (if b then None else Some TextCause.BadBlock) ≡ None → may_begin d g ≡ true
+      begun : (g : ℕ) → IsSaidLine ds line (Begins g) → (b : Bool) → may_begin d g ≡ b
+          → (if b then None else Some TextCause.BadBlock) ≡ None → may_begin d g ≡ true
       begun g is true e h = e
       begun g is false e h = absurd (none-some TextCause.BadBlock (sym h))
 
@@ -120,26 +127,35 @@ module _ (s : ReadState) (header_is : s.has_header ≡ true) (read : IsRead s) (
             ended = s.ended ++ (u.requests ++ record { ask = i.ask; place = place_number s.decls.places i.place } ∷ []) ∷ [];
             unended = None;
           } in
-          record { next = new; takes = said_taken s read line (Asks i) new is (ended_taken s read.sound u is_left i fits form few room follows new refl refl exit refl refl) }
+          record {
+            next = new;
+            takes = said_taken s read line (Asks i) new is
+                (ended_taken s read.sound u is_left i fits form few room follows new refl refl exit refl refl);
+          }
       goes u is_left few room follows false other None e h = absurd (true≢false (sym h))
       goes u is_left few room follows false other (Some inside) e h =
           let new : ReadState = record {
             has_header = true;
             decls = with_place s.decls i.place;
             ended = s.ended;
-            unended = Some (record { requests = u.requests ++ record { ask = i.ask; place = place_number s.decls.places i.place } ∷ []; onces = reverse inside });
+            unended = Some (record {
+              requests = u.requests ++ record { ask = i.ask; place = place_number s.decls.places i.place } ∷ [];
+              onces = reverse inside;
+            });
           } in
           record {
             next = new;
             takes = said_taken s read line (Asks i) new is
-                (more_taken s read.sound u is_left i fits form few room follows new refl refl (reverse inside) other (e ∙ ap Some (sym (reverse-reverse inside))) refl refl);
+                (more_taken s read.sound u is_left i fits form few room follows new refl refl
+                (reverse inside) other (e ∙ ap Some (sym (reverse-reverse inside))) refl refl);
           }
 
       by : (o : Option UnendedState) → s.unended ≡ o → IsNext s line
       by None e = absurd (none-some TextCause.BadBlock (sym fine ∙ ap (λ o. asked_cause d i (spelled_unended s.decls.places o)) e))
       by (Some u) e =
           let three = tests u e _ _ _ refl refl refl (sym (asked_cause_is s read.sound u e i fits form _ _ _ refl refl refl) ∙ fine) in
-          goes u e (grind (arith, nat_tests, three.0)) (not_full s.decls.places i.place form three.1) three.2 (is_exit i.ask) refl (after_ask (reverse u.onces) i.ask) refl three.2
+          goes u e (grind (arith, nat_tests, three.0)) (not_full s.decls.places i.place form three.1)
+          three.2 (is_exit i.ask) refl (after_ask (reverse u.onces) i.ask) refl three.2
 
   with_asks : (word : AskWord) (words : List (List ℕ)) → HasWords line (LineWord.Asks word) words → IsNext s line
   with_asks word words has = by (words_cause ds (ask_fields (on_nil word words).0) (on_nil word words).1) refl
@@ -167,21 +183,34 @@ module _ (s : ReadState) (header_is : s.has_header ≡ true) (read : IsRead s) (
       by : (n : ℕ) → length (bodies_of d) ≡ n → IsNext s line
       by zero e =
           let new : ReadState = record { has_header = true; decls = with_declaration_in s.decls line; ended = s.ended; unended = s.unended } in
-          record { next = new; takes = declared_taken s read line noun words has e new (sym (first_cause s read line noun words has e) ∙ none) refl refl refl refl }
+          record {
+            next = new;
+            takes = declared_taken s read line noun words has e new
+                (sym (first_cause s read line noun words has e) ∙ none) refl refl refl refl;
+          }
       by (suc n) e = absurd (late_declaration ds (length (bodies_of d)) (Word.Declares noun) (kind_of_noun noun) words refl (omega (arith, e))
           (sym (declares_cause s read line noun words has) ∙ none))
 
   with_line : IsNext s line
   with_line = clean (has_bad_byte line) refl
     where
-      by_word : has_bad_byte line ≡ false → (first : List ℕ) (args : List (List ℕ)) → words_of line ≡ first ∷ args → (o : Option LineWord) → line_word first ≡ o → IsNext s line
+      by_word : has_bad_byte line ≡ false → (first : List ℕ) (args : List (List ℕ))
+          → words_of line ≡ first ∷ args → (o : Option LineWord) → line_word first ≡ o → IsNext s line
       by_word fine first args e None h = absurd (not_told TextCause.UnknownWord (unknown_told s read line fine (ap (λ ws. line_word (first_word ws)) e ∙ h)))
       by_word fine first args e (Some (LineWord.Declares noun)) h =
-          with_declared noun args (record { clean = fine; named = ap (λ ws. line_word (first_word ws)) e ∙ h; behind = e ∙ ap (λ ws. first_word ws ∷ args) (sym e) })
+          with_declared noun args (record {
+            clean = fine;
+            named = ap (λ ws. line_word (first_word ws)) e ∙ h;
+            behind = e ∙ ap (λ ws. first_word ws ∷ args) (sym e);
+          })
       by_word fine first args e (Some LineWord.Begins) h =
           with_begin args (record { clean = fine; named = ap (λ ws. line_word (first_word ws)) e ∙ h; behind = e ∙ ap (λ ws. first_word ws ∷ args) (sym e) })
       by_word fine first args e (Some (LineWord.Asks word)) h =
-          with_asks word args (record { clean = fine; named = ap (λ ws. line_word (first_word ws)) e ∙ h; behind = e ∙ ap (λ ws. first_word ws ∷ args) (sym e) })
+          with_asks word args (record {
+            clean = fine;
+            named = ap (λ ws. line_word (first_word ws)) e ∙ h;
+            behind = e ∙ ap (λ ws. first_word ws ∷ args) (sym e);
+          })
       by_word fine first args e (Some LineWord.Selects) h =
           with_selects args (record { clean = fine; named = ap (λ ws. line_word (first_word ws)) e ∙ h; behind = e ∙ ap (λ ws. first_word ws ∷ args) (sym e) })
 
@@ -214,9 +243,11 @@ scanned (last ∷ []) s header read some none =
 scanned (line ∷ part ∷ others) s header read some none =
     let before = lines (draft_read s) in
     let parts = part ∷ others in
-    let split = or_later_none (length before + 1) (cause before line true) (fault_after (before ++ line ∷ []) parts) (sym (fault_step before line parts (omega arith)) ∙ none) in
+    let split = or_later_none (length before + 1) (cause before line true)
+    (fault_after (before ++ line ∷ []) parts) (sym (fault_step before line parts (omega arith)) ∙ none) in
     let next = with_line s header read line split.0 in
-    let rest = scanned (part ∷ others) next.next next.takes.header next.takes.read (omega arith) (ap (λ ls. fault_after ls parts) next.takes.goes.lines ∙ split.1) in
+    let rest = scanned (part ∷ others) next.next next.takes.header next.takes.read
+    (omega arith) (ap (λ ls. fault_after ls parts) next.takes.goes.lines ∙ split.1) in
     let front = flat_map ended before in (
       rest.0,
       rest.1,
@@ -250,7 +281,8 @@ faultless_is_text bytes none = by (parts_of bytes) refl none
         let parts = part ∷ others in
         let split = or_later_none 1 (cause [] line true) (fault_after (line ∷ []) parts) (sym (fault_step [] line parts (omega arith)) ∙ h) in
         let first = is_header line split.0 in
-        let rest = scanned parts nothing_read refl nothing_is_read (omega arith) (ap (λ ls. fault_after ls parts) (nothing_lines_read ∙ (λ i. sym first i ∷ [])) ∙ split.1) in
+        let rest = scanned parts nothing_read refl nothing_is_read (omega arith)
+        (ap (λ ls. fault_after ls parts) (nothing_lines_read ∙ (λ i. sym first i ∷ [])) ∙ split.1) in
         let program = whole_program rest.0 rest.1 rest.2 in
         let printed = sym (join_with_byte-slice_split 10 bytes) ∙ ap (join_with_byte 10) e ∙ (λ i. first i ++ 10 ∷ join_with_byte 10 parts)
         ∙ sym (rest.3 ∙ ap (λ ls. flat_map ended ls ++ join_with_byte 10 parts) nothing_lines_read)

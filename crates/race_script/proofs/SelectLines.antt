@@ -1,5 +1,7 @@
 -- The words of a select: what they ask, and that no cause holds of them.
-use Rattle.std.proofs.Common.{◌≡◌, ℕ, ◌<◌, ◌&&◌, Bool, true, false, true≢false, if◌then◌else◌, is_some, nat_le, List, [], ◌∷◌, length, codes, Option, Some, None, refl, sym, ap, subst, ◌∙◌, arith}
+use Rattle.std.proofs.Common.{◌≡◌, ℕ, ◌<◌, ◌&&◌, Bool, true, false, true≢false, if◌then◌else◌, is_some}
+use Rattle.std.proofs.Common.{nat_le, List, [], ◌∷◌, length, codes, Option, Some, None, refl, sym, ap, subst}
+use Rattle.std.proofs.Common.{◌∙◌, arith}
 use Rattle.std.proofs.lemmas.Option.{none-some, same_Some}
 use Rattle.std.proofs.lemmas.Slice.Eq.{bytes_eq-Decides}
 use Rattle.std.specs.List.{list_all}
@@ -95,7 +97,8 @@ module _ (decls : DeclsState) (holds : IsWellFormed decls) where
   pub are_selected : (words : List (List ℕ)) (i : Instruction) → selected_in ds' (select_words words) ≡ Some i → AreSelected words i
   are_selected words i h = by (select_words words) refl h
     where
-      found : (w : SelectWords) → select_words words ≡ Some w → is_place w.place ≡ true → (ask : Ask) → select_in ds' w ≡ Some ask → AreSelected words (asked_at ask w.place)
+      found : (w : SelectWords) → select_words words ≡ Some w → is_place w.place ≡ true
+          → (ask : Ask) → select_in ds' w ≡ Some ask → AreSelected words (asked_at ask w.place)
       found w e form ask h =
           let a = and_then_some (λ offers. option_map (Ask.Select offers) (mode_in w.mode)) (offers_in ds' w.offers) ask h in
           let b = map_some (Ask.Select a.0) (mode_in w.mode) ask a.2 in
@@ -132,7 +135,8 @@ module _ (decls : DeclsState) (holds : IsWellFormed decls) where
       let three = both ((few && range_of offers) && true) limited fits in
       let two = both few (range_of offers) (both (few && range_of offers) true three.0).0 in
       let mode = mode_again has_default in (
-        ap (λ b. if b then option_map (λ ask. asked_at ask place) (select_in ds' (record { offers = offers_text ds' offers; mode = mode_text has_default; place = place })) else None) form
+        ap (λ b. if b then option_map (λ ask. asked_at ask place)
+            (select_in ds' (record { offers = offers_text ds' offers; mode = mode_text has_default; place = place })) else None) form
             ∙ ap (λ o. option_map (λ ask. asked_at ask place) (option_and_then (λ found. option_map (Ask.Select found) (mode_in (mode_text has_default))) o))
             (offers_again decls holds offers two.1 three.1 two.0)
             ∙ ap (λ o. option_map (λ ask. asked_at ask place) (option_map (Ask.Select offers) o)) mode.0,

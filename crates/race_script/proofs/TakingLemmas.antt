@@ -1,5 +1,8 @@
 -- One more request of the body that has not ended.
-use Rattle.std.proofs.Common.{◌≡◌, ℕ, ◌+◌, ◌<◌, ◌≤◌, ◌==◌, ◌&&◌, ◌||◌, Bool, true, false, true≢false, not, nat_lt, nat_le, if◌then◌else◌, List, [], ◌∷◌, ◌++◌, length, map, fold, unwrap_or, Option, Some, None, IfSome, refl, sym, ap, subst, ◌∙◌, arith, append-nil, append_assoc, is_some, is_none, ◌≢◌, Ok, Err}
+use Rattle.std.proofs.Common.{◌≡◌, ℕ, ◌+◌, ◌<◌, ◌≤◌, ◌==◌, ◌&&◌, ◌||◌, Bool, true, false, true≢false, not, nat_lt}
+use Rattle.std.proofs.Common.{nat_le, if◌then◌else◌, List, [], ◌∷◌, ◌++◌, length, map, fold, unwrap_or, Option}
+use Rattle.std.proofs.Common.{Some, None, IfSome, refl, sym, ap, subst, ◌∙◌, arith, append-nil, append_assoc}
+use Rattle.std.proofs.Common.{is_some, is_none, ◌≢◌, Ok, Err}
 use Rattle.std.proofs.lemmas.Bool.Decides.{nat_tests}
 use Rattle.std.proofs.lemmas.List.{length-append, length-map, map-append}
 use Rattle.std.proofs.lemmas.List.Folds.{list_all-append}
@@ -27,14 +30,17 @@ use Rattle.race_text.proofs.WordLemmas.{both}
 use Rattle.race_script.specs.declared.program.TheConstants.{MAX_STEPS}
 use Rattle.race_script.specs.Bodies.{is_exit, after_ask, onces_after, ends, is_body}
 use Rattle.race_script.specs.Fault.{has_no_room, may_follow, may_begin, asked_cause, said_cause}
-use Rattle.race_script.specs.Program.{Instruction, Draft, asks_of, asked_by, ask_fits, request_fits, is_body_of, instruction, spelled, bodies_of, with_place, places_of}
+use Rattle.race_script.specs.Program.{Instruction, Draft, asks_of, asked_by, ask_fits}
+use Rattle.race_script.specs.Program.{request_fits, is_body_of, instruction, spelled, bodies_of}
+use Rattle.race_script.specs.Program.{with_place, places_of}
 use Rattle.race_script.specs.Reader.{UnendedState, ReadState, spelled_unended, draft_read, IsUnended, IsSound, TakesSaid}
 use Rattle.race_script.specs.Reading.{with_instruction, with_said}
 use Rattle.race_script.specs.Text.{Begins, Asks}
 use Rattle.race_script.proofs.LineLemmas.{grown}
 
 -- the asks go on where others left
-pub onces_more : (onces : List ℕ) (asks : List Ask) (ask : Ask) → onces_after onces (asks ++ ask ∷ []) ≡ option_and_then (λ inside. after_ask inside ask) (onces_after onces asks)
+pub onces_more : (onces : List ℕ) (asks : List Ask) (ask : Ask)
+    → onces_after onces (asks ++ ask ∷ []) ≡ option_and_then (λ inside. after_ask inside ask) (onces_after onces asks)
 onces_more onces [] ask = by (after_ask onces ask)
   where
     by : (o : Option (List ℕ)) → option_and_then (λ inside. Some inside) o ≡ o
@@ -42,7 +48,8 @@ onces_more onces [] ask = by (after_ask onces ask)
     by (Some inside) = refl
 onces_more onces (a ∷ more) ask = by (after_ask onces a) (λ inside. onces_more inside more ask)
   where
-    by : (o : Option (List ℕ)) → ((inside : List ℕ) → onces_after inside (more ++ ask ∷ []) ≡ option_and_then (λ inside. after_ask inside ask) (onces_after inside more))
+    by : (o : Option (List ℕ)) → ((inside : List ℕ)
+        → onces_after inside (more ++ ask ∷ []) ≡ option_and_then (λ inside. after_ask inside ask) (onces_after inside more))
         → option_and_then (λ inside. onces_after inside (more ++ ask ∷ [])) o
         ≡ option_and_then (λ inside. after_ask inside ask) (option_and_then (λ inside. onces_after inside more) o)
     by None rest = refl
@@ -119,7 +126,8 @@ module _ (decls : DeclsState) (word : List ℕ) where
       (λ k. first.0 k && rest.0 k, λ k. first.1 k ∷ rest.1 k)
 
 -- the places with those of one more instruction
-pub places_grown : (d : Draft) (i : Instruction) (body : List Instruction) (b : Bool) → d.unended ≡ Some body → places_of (grown d i body b) ≡ with_place (places_of d) i.place
+pub places_grown : (d : Draft) (i : Instruction) (body : List Instruction) (b : Bool)
+    → d.unended ≡ Some body → places_of (grown d i body b) ≡ with_place (places_of d) i.place
 places_grown d i body b is =
     ap (fold step []) (all b)
     ∙ fold-append step [] (flat_map (λ x. x) (d.ended ++ body ∷ [])) (i ∷ [])
@@ -179,7 +187,8 @@ module _ (s : ReadState) (sound : IsSound s) (u : UnendedState) (is : s.unended 
   asked_open = ap (onces_after []) (asks_spelled s.decls.places u.requests) ∙ unended.nest
 
   -- the cause, by the tests of the code
-  pub asked_cause_is : (a b c : Bool) → nat_le MAX_STEPS (length u.requests) ≡ a → has_no_room s.decls.places i.place ≡ b → may_follow (Some (reverse u.onces)) i.ask ≡ c
+  pub asked_cause_is : (a b c : Bool) → nat_le MAX_STEPS (length u.requests) ≡ a
+      → has_no_room s.decls.places i.place ≡ b → may_follow (Some (reverse u.onces)) i.ask ≡ c
       → said_cause d (Asks i) ≡ (if a || b then Some TextCause.TooMany else (if c then None else Some TextCause.BadBlock))
   asked_cause_is a b c full no_room follows =
       let len : length body ≡ length u.requests = length-map u.requests (instruction s.decls.places) in
@@ -187,7 +196,8 @@ module _ (s : ReadState) (sound : IsSound s) (u : UnendedState) (is : s.unended 
       ∙ (λ k. if (ap (nat_le MAX_STEPS) len ∙ full) k || (ap (λ places. has_no_room places i.place) sound.places ∙ no_room) k then Some TextCause.TooMany
       else (if (ap (λ o. may_follow o i.ask) asked_open ∙ follows) k then None else Some TextCause.BadBlock))
 
-  module _ (few : length u.requests < MAX_STEPS) (room : place_fault s.decls.places i.place ≡ None) (follows : may_follow (Some (reverse u.onces)) i.ask ≡ true) where
+  module _ (few : length u.requests < MAX_STEPS) (room : place_fault s.decls.places i.place ≡ None)
+      (follows : may_follow (Some (reverse u.onces)) i.ask ≡ true) where
     no_cause : said_cause d (Asks i) ≡ None
     no_cause = asked_cause_is false false true (grind (arith, nat_tests, few)) (room_is s.decls.places i.place form room) follows
 
@@ -225,7 +235,8 @@ module _ (s : ReadState) (sound : IsSound s) (u : UnendedState) (is : s.unended 
         let one = length-append d.ended (body ∷ []) in
         by b (omega (arith, before, few, one))
       where
-        by : (b : Bool) → length d.ended + 1 ≤ count_of Kind.Goroutine s.decls.declarations → length (bodies_of (grown d i body b)) ≤ count_of Kind.Goroutine s.decls.declarations
+        by : (b : Bool) → length d.ended + 1 ≤ count_of Kind.Goroutine s.decls.declarations
+            → length (bodies_of (grown d i body b)) ≤ count_of Kind.Goroutine s.decls.declarations
         by true low = let n = length-append d.ended ((body ++ i ∷ []) ∷ []) in omega (arith, n, low)
         by false low = let n = length-append d.ended ((body ++ i ∷ []) ∷ []) in omega (arith, n, low)
 
@@ -244,7 +255,8 @@ module _ (s : ReadState) (sound : IsSound s) (u : UnendedState) (is : s.unended 
               well_formed = subst IsWellFormed (sym decls_are) (with_place_well_formed s.decls i.place sound.well_formed room);
               ended = bodies;
               unended = left;
-              places = ap places_of draft ∙ places_grown d i body b body_is ∙ ap (λ places. with_place places i.place) sound.places ∙ ap (λ (x : DeclsState). x.places) (sym decls_are);
+              places = ap places_of draft ∙ places_grown d i body b body_is
+                  ∙ ap (λ places. with_place places i.place) sound.places ∙ ap (λ (x : DeclsState). x.places) (sym decls_are);
               few = let low = few_bodies b in
                   let same = ap (λ (x : Draft). length (bodies_of x)) draft in
                   let count = ap (λ (x : DeclsState). count_of Kind.Goroutine x.declarations) decls_are in
@@ -273,7 +285,8 @@ module _ (s : ReadState) (sound : IsSound s) (u : UnendedState) (is : s.unended 
         where
           whole : is_body_of grown_decls requests ≡ true
           whole =
-              let body_ok : is_body (asks_of requests) ≡ true = ap is_body asks_more ∙ body_ends (asks_of u.requests) (reverse u.onces) i.ask unended.nest exit follows in
+              let body_ok : is_body (asks_of requests) ≡ true = ap is_body asks_more
+              ∙ body_ends (asks_of u.requests) (reverse u.onces) i.ask unended.nest exit follows in
               let few_ok : nat_le (length requests) MAX_STEPS ≡ true = grind (arith, nat_tests, few, len_more) in
               λ k. all_fit k && body_ok k && few_ok k
 
@@ -291,19 +304,25 @@ module _ (s : ReadState) (sound : IsSound s) (u : UnendedState) (is : s.unended 
           ((λ k. list_all (is_body_of (decls_are k)) (ended k)) ∙ ended_stay.0)
           (subst (λ (p : DeclsState × Option UnendedState). IfSome p.1 (IsUnended p.0)) (λ k. (sym decls_are k, sym left k)) (record {
             fit = all_fit;
-            nest = ap (onces_after []) asks_more ∙ onces_more [] (asks_of u.requests) i.ask ∙ ap (option_and_then (λ inside. after_ask inside i.ask)) unended.nest ∙ entered;
+            nest = ap (onces_after []) asks_more ∙ onces_more [] (asks_of u.requests) i.ask
+                ∙ ap (option_and_then (λ inside. after_ask inside i.ask)) unended.nest ∙ entered;
             few = omega (arith, few, len_more);
           }))
 
 -- a body that begins
-pub begin_taken : (s : ReadState) (sound : IsSound s) (g : ℕ) → g < count_of Kind.Goroutine s.decls.declarations → may_begin (draft_read s) g ≡ true → (new : ReadState)
+pub begin_taken : (s : ReadState) (sound : IsSound s) (g : ℕ)
+    → g < count_of Kind.Goroutine s.decls.declarations → may_begin (draft_read s) g ≡ true → (new : ReadState)
     → new.has_header ≡ true → new.decls ≡ s.decls → new.ended ≡ s.ended → new.unended ≡ Some (record { requests = []; onces = [] }) → TakesSaid s (Begins g) new
 begin_taken s sound g less may new header decls ended left =
     let d = draft_read s in
     let two = both (is_none d.unended) (length d.ended == g) may in
     let same : length d.ended ≡ g = grind (arith, nat_tests, two.1) in
     let after : draft_read new ≡ record { declarations = d.declarations; ended = d.ended; unended = Some [] } =
-    λ k. record { declarations = (decls k).declarations; ended = map (spelled (decls k).places) (ended k); unended = spelled_unended (decls k).places (left k) } in
+    λ k. record {
+      declarations = (decls k).declarations;
+      ended = map (spelled (decls k).places) (ended k);
+      unended = spelled_unended (decls k).places (left k);
+    } in
     let none : bodies_of d ≡ d.ended = not_begun d.unended two.0 d in
     let all : flat_map (λ x. x) (d.ended ++ [] ∷ []) ≡ flat_map (λ x. x) (bodies_of d) =
     flat_map-append (λ x. x) d.ended ([] ∷ []) ∙ append-nil (flat_map (λ x. x) d.ended) ∙ ap (flat_map (λ x. x)) (sym none) in
@@ -326,7 +345,8 @@ begin_taken s sound g less may new header decls ended left =
       };
     }
   where
-    not_begun : (o : Option (List Instruction)) → is_none o ≡ true → (d : Draft) → option_map_or (λ (body : List Instruction). d.ended ++ body ∷ []) o d.ended ≡ d.ended
+    not_begun : (o : Option (List Instruction)) → is_none o ≡ true → (d : Draft)
+        → option_map_or (λ (body : List Instruction). d.ended ++ body ∷ []) o d.ended ≡ d.ended
     not_begun None h d = refl
     not_begun (Some body) h d = absurd (true≢false (sym h))
 
@@ -335,13 +355,15 @@ abbrev place_fault_by : Bool → Bool → Bool → Option DeclFault
 place_fault_by a b c = if not a then Some DeclFault.BadName else (if b then None else (if c then Some DeclFault.TooMany else None))
 
 -- a place that is refused for more than memory finds no room
-pub place_told : (places : List (List ℕ)) (word : List ℕ) → is_place word ≡ true → (refused : DeclFault) → Refuses {T = ℕ} (place_fault places word) (Err refused)
+pub place_told : (places : List (List ℕ)) (word : List ℕ) → is_place word ≡ true
+    → (refused : DeclFault) → Refuses {T = ℕ} (place_fault places word) (Err refused)
     → AllowsUnless {T = ℕ} (place_fault places word) (Err refused) DeclFault.OutOfMemory → cause_of refused ≢ TextCause.OutOfMemory
     → (cause_of refused ≡ TextCause.TooMany) × (has_no_room places word ≡ true)
 unfolding place_fault
 place_told places word form refused refuses allows other = by (is_place word) form (is_known places word) (nat_le MAX_PLACES (length places)) refuses allows
   where
-    by : (a : Bool) → a ≡ true → (b c : Bool) → Refuses {T = ℕ} (place_fault_by a b c) (Err refused) → AllowsUnless {T = ℕ} (place_fault_by a b c) (Err refused) DeclFault.OutOfMemory
+    by : (a : Bool) → a ≡ true → (b c : Bool) → Refuses {T = ℕ} (place_fault_by a b c) (Err refused)
+        → AllowsUnless {T = ℕ} (place_fault_by a b c) (Err refused) DeclFault.OutOfMemory
         → (cause_of refused ≡ TextCause.TooMany) × ((not b && c) ≡ true)
     by true e true c refuses allows = absurd (other (ap cause_of (allows refl)))
     by true e false false refuses allows = absurd (other (ap cause_of (allows refl)))

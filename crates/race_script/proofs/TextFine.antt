@@ -1,5 +1,8 @@
 -- The text of a program has no fault, and says the program.
-use Rattle.std.proofs.Common.{◌≡◌, ◌≢◌, inl, inr, ℕ, suc, ◌+◌, ◌<◌, ◌≤◌, ◌==◌, ◌&&◌, ◌||◌, Bool, true, false, true≢false, not, nat_lt, nat_le, if◌then◌else◌, is_some, List, [], ◌∷◌, ◌++◌, length, map, fold, get_or, Some, None, refl, sym, ap, subst, ◌∙◌, arith, append-nil, append_assoc}
+use Rattle.std.proofs.Common.{◌≡◌, ◌≢◌, inl, inr, ℕ, suc, ◌+◌, ◌<◌, ◌≤◌, ◌==◌, ◌&&◌, ◌||◌, Bool, true}
+use Rattle.std.proofs.Common.{false, true≢false, not, nat_lt, nat_le, if◌then◌else◌, is_some, List, []}
+use Rattle.std.proofs.Common.{◌∷◌, ◌++◌, length, map, fold, get_or, Some, None, refl, sym, ap, subst, ◌∙◌}
+use Rattle.std.proofs.Common.{arith, append-nil, append_assoc}
 use Rattle.std.proofs.lemmas.Bool.Decides.{nat_tests}
 use Rattle.std.proofs.lemmas.List.{length-append, length-map, map-append}
 use Rattle.std.proofs.lemmas.List.{append_cancel_right}
@@ -63,7 +66,8 @@ fine_lines : (before ls : List (List ℕ)) → end_cause (before ++ ls) [] ≡ N
 fine_lines before [] last fine = fault_end before [] ∙ ap (λ o. or_later (length before + 1) o None) (ap (λ b. end_cause b []) (sym (append-nil before)) ∙ last)
 fine_lines before (l ∷ ls) last fine =
     fault_step before l (ls ++ [] ∷ []) (omega (arith, length-append ls ([] ∷ [])))
-    ∙ (λ j. or_later (length before + 1) (fine.0 j) (fine_lines (before ++ l ∷ []) ls (ap (λ b. end_cause b []) (append_assoc before (l ∷ []) ls) ∙ last) fine.1 j))
+    ∙ (λ j. or_later (length before + 1) (fine.0 j)
+    (fine_lines (before ++ l ∷ []) ls (ap (λ b. end_cause b []) (append_assoc before (l ∷ []) ls) ∙ last) fine.1 j))
 
 fine_both : (before xs ys : List (List ℕ)) → AreFine before xs → AreFine (before ++ xs) ys → AreFine before (xs ++ ys)
 fine_both before [] ys h k = subst (λ b. AreFine b ys) (append-nil before) k
@@ -81,11 +85,13 @@ record IsWalked (d : Draft) (ss : List Said) : Type 0 where
   seen_is : seen (lines (fold with_said d ss)) ≡ fold with_said d ss
   clean : AllByRecursion (λ l. has_bad_byte l ≡ false) (map (said_line d.declarations) ss)
 
-walked : (decls : DeclsState) → IsWellFormed decls → (d : Draft) → decls.declarations ≡ d.declarations → seen (lines d) ≡ d → (ss : List Said) → Stand d ss → IsWalked d ss
+walked : (decls : DeclsState) → IsWellFormed decls → (d : Draft) → decls.declarations ≡ d.declarations
+    → seen (lines d) ≡ d → (ss : List Said) → Stand d ss → IsWalked d ss
 walked decls holds d same is [] stand = record { fine = tt; lines_are = sym (append-nil (lines d)); seen_is = is; clean = tt }
 walked decls holds d same is (s ∷ ss) stand =
     let both_are : (IsSaidLine d.declarations (said_line d.declarations s) s) × (has_bad_byte (said_line d.declarations s) ≡ false) =
-    subst (λ ds. (IsSaidLine ds (said_line ds s) s) × (has_bad_byte (said_line ds s) ≡ false)) same (said_again decls holds s (subst (λ ds. SaidFits ds s) (sym same) stand.0)) in
+    subst (λ ds. (IsSaidLine ds (said_line ds s) s) × (has_bad_byte (said_line ds s) ≡ false)) same
+    (said_again decls holds s (subst (λ ds. SaidFits ds s) (sym same) stand.0)) in
     let line = both_are.0 in
     let next = with_said d s in
     let keeps : next.declarations ≡ d.declarations = said_keeps d s in
@@ -142,7 +148,8 @@ module _ (ds : List Declaration) where
     stand : Stand d ss
     ends_as : fold with_said d ss ≡ last
 
-  said_stays : (done : List (List Instruction)) (body : List Instruction) (i : Instruction) (b : Bool) → is_exit i.ask ≡ b → with_said (within done body) (Asks i) ≡ grown (within done body) i body b
+  said_stays : (done : List (List Instruction)) (body : List Instruction) (i : Instruction) (b : Bool)
+      → is_exit i.ask ≡ b → with_said (within done body) (Asks i) ≡ grown (within done body) i body b
   said_stays done body i b e = ap (grown (within done body) i body) e
 
   body_stands : (done : List (List Instruction)) (more : List Said) (left : List Instruction) (last : Draft) (rest body : List Instruction) (onces : List ℕ)
@@ -158,7 +165,8 @@ module _ (ds : List Declaration) where
     where
       room : has_no_room (places_of (within done body)) i.place ≡ false
       room = room_left (places_of (within done body)) i
-          (let a = steps_grow (step (places_of (within done body)) i) is in let b = steps_grow (fold step (places_of (within done body)) (i ∷ is)) left in omega (arith, a, b, places))
+          (let a = steps_grow (step (places_of (within done body)) i) is in
+          let b = steps_grow (fold step (places_of (within done body)) (i ∷ is)) left in omega (arith, a, b, places))
 
       fine : may_follow (Some onces) i.ask ≡ true → said_cause (within done body) (Asks i) ≡ None
       fine may =
@@ -171,7 +179,8 @@ module _ (ds : List Declaration) where
           → Follows (within done body) (Asks i ∷ (map Asks is ++ more)) last
       by true exit rest =
           let two = both (length onces == 0) (length (asked_by is) == 0)
-          (sym (ap (λ b. if b then (length onces == 0) && (length (asked_by is) == 0) else option_map_or (λ inside. ends inside (asked_by is)) (after_ask onces i.ask) false) exit) ∙ e) in
+          (sym (ap (λ b. if b then (length onces == 0) && (length (asked_by is) == 0) else option_map_or
+          (λ inside. ends inside (asked_by is)) (after_ask onces i.ask) false) exit) ∙ e) in
           let none : is ≡ [] = nothing is two.1 in
           let next : with_said (within done body) (Asks i) ≡ behind (done ++ (body ++ i ∷ []) ∷ []) = said_stays done body i true exit in
           let rest_is : Follows (behind (done ++ (body ++ i ∷ []) ∷ [])) (map Asks is ++ more) last =
@@ -237,7 +246,8 @@ module _ (ds : List Declaration) where
       let inner = body_stands done (saids (length done + 1) bs) (flat_map (λ x. x) bs) (behind (done ++ b ∷ bs)) b [] [] refl good.0.nest good.0.fit
       (let n = good.0.few in omega (arith, n))
       (subst (λ n. n ≤ MAX_PLACES) (ap length (cut ∙ ap (λ p. fold step (fold step p b) (flat_map (λ x. x) bs)) (sym (open_places done)))) places)
-      (subst (λ (p : ℕ × List (List Instruction)). Follows (behind (done ++ b ∷ [])) (saids p.0 bs) (behind p.1)) (λ k. (e k, append_assoc done (b ∷ []) bs k)) rest) in
+      (subst (λ (p : ℕ × List (List Instruction)). Follows (behind (done ++ b ∷ [])) (saids p.0 bs) (behind p.1))
+      (λ k. (e k, append_assoc done (b ∷ []) bs k)) rest) in
       let may : may_begin (behind done) (length done) ≡ true = let same : (length done == length done) ≡ true = grind (arith, nat_tests) in same in
       record {
         stand = (omega (arith, few), ap (λ t. if t then None else Some TextCause.BadBlock) may, inner.stand);
@@ -253,7 +263,8 @@ module _ (decls : DeclsState) (holds : IsWellFormed decls) where
       let same : get_or decls.declarations i d ≡ get_or before i d = ap (λ l. get_or l i d) (sym is) ∙ get_or-append before after d i less in
       subst (λ x. IsDeclarationLine x (declaration_line x)) same (declaration_lines decls holds i d (omega (arith, len, less)))
 
-  one_fine : (before after : List Declaration) (d : Declaration) → before ++ d ∷ after ≡ decls.declarations → cause (lines (nothing_said before)) (declaration_line d) true ≡ None
+  one_fine : (before after : List Declaration) (d : Declaration) → before ++ d ∷ after ≡ decls.declarations
+      → cause (lines (nothing_said before)) (declaration_line d) true ≡ None
   unfolding line_cause
   one_fine before after d is =
       let at = here decls holds before after d is in
@@ -272,7 +283,8 @@ module _ (decls : DeclsState) (holds : IsWellFormed decls) where
   declared_fine before [] is = tt
   declared_fine before (d ∷ after) is = (
     one_fine before after d is,
-    subst (λ ls. AreFine ls (map declaration_line after)) (lines_declared before d) (declared_fine (before ++ d ∷ []) after (append_assoc before (d ∷ []) after ∙ is)),
+    subst (λ ls. AreFine ls (map declaration_line after)) (lines_declared before d)
+        (declared_fine (before ++ d ∷ []) after (append_assoc before (d ∷ []) after ∙ is)),
   )
 
   declared_clean : (ds : List Declaration) → ((i : ℕ) (d : Declaration) → i < length ds → IsDeclarationLine (get_or ds i d) (declaration_line (get_or ds i d)))
@@ -358,7 +370,8 @@ module _ (p : ProgramState) (is : IsProgram p) where
   pub text_has_no_fault : text_fault (program_text p) ≡ None
   unfolding text_fault
   text_has_no_fault =
-      let whole : is_whole (draft_of p) ≡ true = let n = len_bodies in let same : (length bodies == count_of Kind.Goroutine declared) ≡ true = grind (arith, nat_tests, n) in same in
+      let whole : is_whole (draft_of p) ≡ true = let n = len_bodies in
+      let same : (length bodies == count_of Kind.Goroutine declared) ≡ true = grind (arith, nat_tests, n) in same in
       ap (fault_after []) lines_again
       ∙ fine_lines [] (lines (draft_of p)) (end_behind (draft_of p) [] true true seen_is_draft refl whole) all_fine
 

@@ -1,5 +1,7 @@
 -- The line of a select: its offers, its mode and its place. How they are spelled, what is wrong with them, what they say, and how they are printed.
-use Rattle.std.specs.Prelude.{ℕ, ◌-◌, ◌==◌, ◌^◌, Bool, true, false, if◌then◌else◌, is_some, nat_le, nat_lt, List, [], ◌∷◌, ◌++◌, length, map, fold, codes, Option, Some, None}
+use Rattle.std.specs.Prelude.{ℕ, ◌-◌, ◌==◌, ◌^◌, Bool, true, false, if◌then◌else◌, is_some, nat_le}
+use Rattle.std.specs.Prelude.{nat_lt, List, [], ◌∷◌, ◌++◌, length, map, fold, codes, Option, Some}
+use Rattle.std.specs.Prelude.{None}
 use Rattle.std.specs.Fmt.{decimal}
 use Rattle.std.specs.List.{slice_split, join_with_byte}
 use Rattle.std.specs.Option.{option_and_then, option_map}

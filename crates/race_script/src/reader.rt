@@ -1,5 +1,7 @@
 //! A program that is read line by line.
-ghost use Rattle.std.specs.Prelude.{◌≡◌, ◌≢◌, ◌+◌, ◌^◌, ◌<◌, [], length, sum_by, reverse, true, false, Some, None, Ok, is_some, IfOk, IfSome, MatchResult, OnOk};
+ghost use Rattle.std.specs.Prelude.{◌≡◌, ◌≢◌, ◌+◌, ◌^◌, ◌<◌, [], length, sum_by, reverse};
+ghost use Rattle.std.specs.Prelude.{true, false, Some, None, Ok, is_some, IfOk, IfSome};
+ghost use Rattle.std.specs.Prelude.{MatchResult, OnOk};
 ghost use Rattle.race_records.specs.Declarations.{IsWellFormed};
 ghost use Rattle.race_records.specs.Name.{is_place};
 ghost use Rattle.race_text.specs.Words.{parts_left};

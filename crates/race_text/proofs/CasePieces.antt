@@ -37,7 +37,8 @@ pub pieces_whole : (ds : List Declaration) (byte : ℕ) (case : Case) (cases : L
     → flat_map (λ w. w) (pieces_behind ds byte (case ∷ cases)) ≡ byte ∷ join_with_byte 44 (map (case_text ds) (case ∷ cases))
 pieces_whole ds byte case [] = flat_map-cons (λ w. w) (byte ∷ case_text ds case) [] ∙ append-nil (byte ∷ case_text ds case)
 pieces_whole ds byte case (next ∷ cases) =
-    flat_map-cons (λ w. w) (byte ∷ case_text ds case) (pieces_behind ds 44 (next ∷ cases)) ∙ ap (λ l. (byte ∷ case_text ds case) ++ l) (pieces_whole ds 44 next cases)
+    flat_map-cons (λ w. w) (byte ∷ case_text ds case) (pieces_behind ds 44 (next ∷ cases))
+    ∙ ap (λ l. (byte ∷ case_text ds case) ++ l) (pieces_whole ds 44 next cases)
 
 -- so all of them are the word of the cases behind a space
 pub pieces_printed : (ds : List Declaration) (cases : List Case) → 0 < length cases → flat_map (λ w. w) (all_pieces ds cases) ≡ 32 ∷ cases_text ds cases

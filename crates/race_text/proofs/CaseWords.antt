@@ -1,5 +1,7 @@
 -- What the word of a select's cases says, piece by piece.
-use Rattle.std.proofs.Common.{◌≡◌, ℕ, suc, ◌+◌, ◌<◌, ◌≤◌, ◌==◌, ◌&&◌, Bool, true, false, true≢false, not, if◌then◌else◌, nat_lt, nat_le, List, [], ◌∷◌, ◌++◌, length, map, take, drop, codes, Option, Some, None, refl, sym, ap, subst, ◌∙◌, arith, append-nil, append_assoc}
+use Rattle.std.proofs.Common.{◌≡◌, ℕ, suc, ◌+◌, ◌<◌, ◌≤◌, ◌==◌, ◌&&◌, Bool, true, false, true≢false, not, if◌then◌else◌, nat_lt, nat_le, List, []}
+use Rattle.std.proofs.Common.{◌∷◌, ◌++◌, length, map, take, drop, codes, Option, Some, None, refl, sym, ap, subst, ◌∙◌, arith, append-nil}
+use Rattle.std.proofs.Common.{append_assoc}
 use Rattle.std.proofs.lemmas.Bool.Decides.{nat_tests}
 use Rattle.std.proofs.lemmas.List.{length-append, take-append-drop}
 use Rattle.std.proofs.lemmas.List.Folds.{list_all-append}
@@ -34,7 +36,8 @@ pub behind_is : (front word rest : List ℕ) → behind front word ≡ Some rest
 behind_is front word rest h = by (bytes_eq (take (length front) word) front) refl h
   where
     by : (b : Bool) → bytes_eq (take (length front) word) front ≡ b → (if b then Some (drop (length front) word) else None) ≡ Some rest → word ≡ front ++ rest
-    by true e h = sym (take-append-drop (length front) word) ∙ (λ i. (bytes_eq-Decides (take (length front) word) front).0 e i ++ same_Some (drop (length front) word) rest h i)
+    by true e h = sym (take-append-drop (length front) word)
+        ∙ (λ i. (bytes_eq-Decides (take (length front) word) front).0 e i ++ same_Some (drop (length front) word) rest h i)
     by false e h = absurd (none-some rest h)
 
 case_spelled_is : (w : List ℕ) (case : SpelledCase) → case_spelled w ≡ Some case → w ≡ dir_text case.0 ++ case.1
@@ -117,7 +120,8 @@ module _ (decls : DeclsState) (holds : IsWellFormed decls) where
 
   case_again : (case : Case) → in_range case ≡ true → case_in ds (case_text ds case) ≡ Some case
   case_again case fit =
-      ap (option_and_then (spelled_case_in ds)) (case_spelled_again case.dir (chan_text ds case.chan)) ∙ ap (option_map (case_with case.dir)) (chan_again case.chan fit).0
+      ap (option_and_then (spelled_case_in ds)) (case_spelled_again case.dir (chan_text ds case.chan))
+      ∙ ap (option_map (case_with case.dir)) (chan_again case.chan fit).0
 
   -- and of all cases
   cases_bytes : (cases : List Case) → list_all in_range cases ≡ true → AllByRecursion (λ w. list_all is_case_byte w ≡ true) (map (case_text ds) cases)
@@ -135,7 +139,8 @@ module _ (decls : DeclsState) (holds : IsWellFormed decls) where
 
   pieces_again : (case : Case) (cases : List Case) → list_all in_range (case ∷ cases) ≡ true
       → pieces_of (cases_text ds (case ∷ cases)) ≡ map (case_text ds) (case ∷ cases)
-  pieces_again case cases fit = split_again 44 refl (case_text ds case) (map (case_text ds) cases) (each (map (case_text ds) (case ∷ cases)) (cases_bytes (case ∷ cases) fit))
+  pieces_again case cases fit = split_again 44 refl (case_text ds case) (map (case_text ds) cases)
+      (each (map (case_text ds) (case ∷ cases)) (cases_bytes (case ∷ cases) fit))
     where
       each : (ws : List (List ℕ)) → AllByRecursion (λ w. list_all is_case_byte w ≡ true) ws → AllByRecursion (IsWithout 44) ws
       each [] h = tt
@@ -148,7 +153,8 @@ module _ (decls : DeclsState) (holds : IsWellFormed decls) where
   on_again got (case ∷ cases) fit few =
       let fits = both (in_range case) (list_all in_range cases) fit in
       let room : nat_le MAX_CASES (length got) ≡ false = grind (arith, nat_tests, few) in
-      ap (option_and_then (λ (c : Case). if nat_le MAX_CASES (length got) then None else cases_on ds (got ++ c ∷ []) (map (case_text ds) cases))) (case_again case fits.0)
+      ap (option_and_then (λ (c : Case). if nat_le MAX_CASES (length got) then None else cases_on ds (got ++ c ∷ []) (map (case_text ds) cases)))
+      (case_again case fits.0)
       ∙ ap (λ b. if b then None else cases_on ds (got ++ case ∷ []) (map (case_text ds) cases)) room
       ∙ on_again (got ++ case ∷ []) cases fits.1 (omega (arith, few, length-append got (case ∷ []))) ∙ ap Some (append_assoc got (case ∷ []) cases)
 
@@ -276,7 +282,8 @@ module _ (decls : DeclsState) (holds : IsWellFormed decls) where
         text = (bytes_eq-Decides w no_cases).0 e;
         fits = refl;
         few = refl;
-        no_cause = ap (λ t. if t then None else lesser (pieces_cause ds None (pieces_of w)) (if nat_lt MAX_CASES (length (pieces_of w)) then Some TextCause.TooMany else None)) e;
+        no_cause = ap (λ t. if t then None else lesser (pieces_cause ds None (pieces_of w))
+            (if nat_lt MAX_CASES (length (pieces_of w)) then Some TextCause.TooMany else None)) e;
       })
       by false e h =
           let are = are_cases [] (pieces_of w) cases h in

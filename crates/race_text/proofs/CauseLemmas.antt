@@ -1,5 +1,7 @@
 -- The least cause of the words behind the first, one word after another.
-use Rattle.std.proofs.Common.{◌≡◌, ℕ, ◌==◌, is_none, Bor, ◌+◌, ◌<◌, ◌≤◌, List, [], ◌∷◌, length, get_or, drop, fold, Option, Some, None, refl, sym, ◌∙◌, arith, add-one, Bool, true, false, if◌then◌else◌, nat_le, is_some, nat_lt}
+use Rattle.std.proofs.Common.{◌≡◌, ℕ, ◌==◌, is_none, Bor, ◌+◌, ◌<◌, ◌≤◌, List, [], ◌∷◌, length, get_or, drop, fold, Option}
+use Rattle.std.proofs.Common.{Some, None, refl, sym, ◌∙◌, arith, add-one, Bool, true, false, if◌then◌else◌, nat_le, is_some}
+use Rattle.std.proofs.Common.{nat_lt}
 use Rattle.std.proofs.Math.Seq.{drop-cons}
 use Rattle.std.proofs.lemmas.Bool.Decides.{nat_tests}
 use Rattle.std.proofs.lemmas.List.Splits.{length-slice_split}

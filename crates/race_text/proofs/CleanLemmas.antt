@@ -37,7 +37,8 @@ place_is_visible word h = (both _ (list_all is_place_byte word) h).1
 
 digits_are_visible : (word : List ℕ) → AllDigits 10 word → list_all is_place_byte word ≡ true
 digits_are_visible [] h = refl
-digits_are_visible (b ∷ bs) h = let d = digit_from_value b h.0 in let v : is_place_byte b ≡ true = grind (arith, nat_tests, d.0, d.1) in λ i. v i && digits_are_visible bs h.1 i
+digits_are_visible (b ∷ bs) h = let d = digit_from_value b h.0 in
+    let v : is_place_byte b ≡ true = grind (arith, nat_tests, d.0, d.1) in λ i. v i && digits_are_visible bs h.1 i
 
 pub number_is_visible : (limit : ℕ) (word : List ℕ) (n : ℕ) → limit < 2 ^ 64 → number limit word ≡ Some n → list_all is_place_byte word ≡ true
 unfolding number

@@ -1,5 +1,7 @@
 -- A line of a common word says its event.
-use Rattle.std.proofs.Common.{◌≡◌, ◌≢◌, ℕ, ◌+◌, ◌<◌, ◌≤◌, ◌-◌, ◌==◌, ◌&&◌, nat_le, not, if◌then◌else◌, length, take, drop, get_or, arith, Bool, true, false, List, [], ◌∷◌, ◌++◌, Some, None, ap, ◌∙◌}
+use Rattle.std.proofs.Common.{◌≡◌, ◌≢◌, ℕ, ◌+◌, ◌<◌, ◌≤◌, ◌-◌, ◌==◌, ◌&&◌, nat_le, not, if◌then◌else◌, length}
+use Rattle.std.proofs.Common.{take, drop, get_or, arith, Bool, true, false, List, [], ◌∷◌, ◌++◌, Some, None}
+use Rattle.std.proofs.Common.{ap, ◌∙◌}
 use Rattle.std.proofs.Common.{Option}
 use Rattle.std.proofs.lemmas.Bool.Decides.{nat_tests}
 use Rattle.std.proofs.lemmas.List.{length-take-le}
@@ -19,7 +21,9 @@ use lib.Count.{count_trailing_zeros}
 use Rattle.race_records.specs.Parts.{op_by, part_kinds, has_two_places}
 use Rattle.race_text.specs.Words.{parts_of}
 use Rattle.race_text.specs.Form.{first_word}
-use Rattle.race_text.specs.Reading.{ReadPart, ReadParts, ReadOp, occurrence, parts_on, goroutine_of, with_no_rest, last_place, op_before, op_in, last_places, event_of}
+use Rattle.race_text.specs.Reading.{ReadPart, ReadParts, ReadOp, occurrence, parts_on}
+use Rattle.race_text.specs.Reading.{goroutine_of, with_no_rest, last_place, op_before, op_in}
+use Rattle.race_text.specs.Reading.{last_places, event_of}
 use Rattle.race_text.specs.Common.{IsMarked, words_in, SaysVerb, SaysObject, SaysValue, SaysPlace, SaysEvent, value_kinds, value_parts}
 use Rattle.race_text.proofs.MarkLemmas.{first_part_is, within_line, word_is_seen, cuts_last}
 
@@ -39,22 +43,27 @@ says_place marks bytes m some is =
     let most = trailing_le 64 marks in
     let nonzero = is.0 in
     let len : length (take end bytes) ≡ end = length-take-le end bytes (omega (arith, within)) in
-    let form : is_place (take end bytes) ≡ true = is_a_place (take end bytes) (omega (arith, len, nonzero)) (omega (arith, len, most)) (word_is_seen marks bytes m some) in
+    let form : is_place (take end bytes) ≡ true =
+    is_a_place (take end bytes) (omega (arith, len, nonzero)) (omega (arith, len, most)) (word_is_seen marks bytes m some) in
     record {
       says = ap last_place cut.0 ∙ ap (λ b. option_and_then with_no_rest (if b then Some (take end bytes, []) else None)) form;
       behind = cut.1;
     }
 
-module _ (ds : List Declaration) (bytes verbs whos objects values rest : List ℕ) (verb : Verb) (kind : PartKind) (has_value : Bool) (goroutine object : Named) (who : ℕ) where
-  says_op : (op : Op) (value : Option ℕ) → part_kinds verb ≡ kind ∷ value_kinds has_value → SaysObject ds kind whos object objects → SaysValue has_value objects value values
+module _ (ds : List Declaration) (bytes verbs whos objects values rest : List ℕ)
+    (verb : Verb) (kind : PartKind) (has_value : Bool) (goroutine object : Named) (who : ℕ) where
+  says_op : (op : Op) (value : Option ℕ) → part_kinds verb ≡ kind ∷ value_kinds has_value
+      → SaysObject ds kind whos object objects → SaysValue has_value objects value values
       → op_by verb (Part.Object object ∷ value_parts value) ≡ Some op → op_in ds verb (part_kinds verb) (words_in whos) ≡ Some (op, words_in values)
   says_op op value kinds first second is =
       ap (λ ks. op_in ds verb ks (words_in whos)) kinds
-      ∙ ap (λ o. option_and_then (λ (parts : ReadParts). option_map (op_before parts.1) (op_by verb parts.0)) (option_and_then (λ (f : ReadPart). parts_on ds ([] ++ f.0 ∷ []) (value_kinds has_value) f.1) o)) first.says
+      ∙ ap (λ o. option_and_then (λ (parts : ReadParts). option_map (op_before parts.1) (op_by verb parts.0))
+      (option_and_then (λ (f : ReadPart). parts_on ds ([] ++ f.0 ∷ []) (value_kinds has_value) f.1) o)) first.says
       ∙ ap (option_and_then (λ (parts : ReadParts). option_map (op_before parts.1) (op_by verb parts.0))) (second.says ds (Part.Object object ∷ []))
       ∙ ap (option_map (op_before (words_in values))) is
 
-  pub says_event : (op : Op) (value : Option ℕ) (place : List ℕ) → SaysVerb bytes verb verbs → has_two_places verb ≡ false → part_kinds verb ≡ kind ∷ value_kinds has_value
+  pub says_event : (op : Op) (value : Option ℕ) (place : List ℕ) → SaysVerb bytes verb verbs
+      → has_two_places verb ≡ false → part_kinds verb ≡ kind ∷ value_kinds has_value
       → SaysObject ds (PartKind.Object Kind.Goroutine) verbs goroutine whos → goroutine_of (Part.Object goroutine) ≡ Some who
       → SaysObject ds kind whos object objects → SaysValue has_value objects value values
       → op_by verb (Part.Object object ∷ value_parts value) ≡ Some op → SaysPlace values place rest
@@ -64,7 +73,8 @@ module _ (ds : List Declaration) (bytes verbs whos objects values rest : List �
         v.says ds
         ∙ ap (option_and_then (λ (first : ReadPart). option_and_then (λ who. event_of ds verb who first.1) (goroutine_of first.0))) g.says
         ∙ ap (option_and_then (λ who. event_of ds verb who (words_in whos))) is_who
-        ∙ ap (option_and_then (λ (read : ReadOp). option_map (occurrence who read.0) (last_places (has_two_places verb) read.1))) (says_op op value kinds o val is_op)
+        ∙ ap (option_and_then (λ (read : ReadOp). option_map (occurrence who read.0) (last_places (has_two_places verb) read.1)))
+        (says_op op value kinds o val is_op)
         ∙ ap (λ two. option_map (occurrence who op) (last_places two (words_in values))) one
         ∙ ap (λ l. option_map (occurrence who op) (option_map (λ w. (w, None)) l)) p.says;
     ends = first_part_is bytes ∙ ap (λ ps. first_word (parts_of bytes) ∷ ps) (v.behind ∙ g.behind ∙ o.behind ∙ val.behind ∙ p.behind);

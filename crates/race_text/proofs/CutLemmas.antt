@@ -1,5 +1,7 @@
 -- A list that is cut at the first element that passes a test.
-use Rattle.std.proofs.Common.{◌≡◌, ℕ, ◌==◌, Bor, ◌+◌, ◌-◌, ◌<◌, Bool, true, false, cond, nat_lt, List, [], ◌∷◌, length, take, drop, position, Option, Some, None, refl, sym, ap, ◌∙◌, arith, length-drop}
+use Rattle.std.proofs.Common.{◌≡◌, ℕ, ◌==◌, Bor, ◌+◌, ◌-◌, ◌<◌, Bool, true, false, cond, nat_lt, List, [], ◌∷◌}
+use Rattle.std.proofs.Common.{length, take, drop, position, Option, Some, None, refl, sym, ap, ◌∙◌, arith}
+use Rattle.std.proofs.Common.{length-drop}
 use Rattle.std.proofs.Math.Seq.{take-length}
 use Rattle.std.proofs.lemmas.Bool.Decides.{nat_tests}
 use Rattle.std.proofs.lemmas.List.Splits.{slice_split_first, slice_split_none, length-slice_split}
@@ -23,7 +25,8 @@ slice_split-found p xs d end found =
 
 -- where there is none, the list is the one part
 pub slice_split-absent : {X : Type 0} (p : X → Bool) (xs : List X) → position p xs ≡ None → slice_split p xs ≡ xs ∷ []
-slice_split-absent p xs absent = slice_split_none p xs (λ k d within. fails_before_first p xs k d (below k within (nat_lt (position_or_len p xs) (length xs)) refl absent))
+slice_split-absent p xs absent = slice_split_none p xs
+    (λ k d within. fails_before_first p xs k d (below k within (nat_lt (position_or_len p xs) (length xs)) refl absent))
   where
     below : (k : ℕ) → k < length xs → (b : Bool) → nat_lt (position_or_len p xs) (length xs) ≡ b → cond b (Some (position_or_len p xs)) None ≡ None
         → k < position_or_len p xs

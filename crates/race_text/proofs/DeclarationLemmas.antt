@@ -1,5 +1,7 @@
 -- What the words of a line say of the declaration that it is.
-use Rattle.std.proofs.Common.{◌≡◌, ℕ, ◌^◌, ◌==◌, ◌<◌, ◌≤◌, ◌&&◌, Bool, true, false, not, if◌then◌else◌, nat_le, List, [], ◌∷◌, length, Option, Some, None, is_some, is_none, option_map, Err, refl, sym, ap, subst, ◌∙◌, arith, true≢false}
+use Rattle.std.proofs.Common.{◌≡◌, ℕ, ◌^◌, ◌==◌, ◌<◌, ◌≤◌, ◌&&◌, Bool, true, false, not, if◌then◌else◌, nat_le, List, [], ◌∷◌}
+use Rattle.std.proofs.Common.{length, Option, Some, None, is_some, is_none, option_map, Err, refl, sym, ap, subst, ◌∙◌, arith}
+use Rattle.std.proofs.Common.{true≢false}
 use Rattle.std.proofs.lemmas.Bool.Decides.{nat_tests}
 use Rattle.std.proofs.lemmas.List.Splits.{join_with_byte-slice_split}
 use Rattle.std.proofs.lemmas.Option.{none-some, same_Some}
@@ -25,7 +27,9 @@ use Rattle.race_text.specs.declared.form.Field.{Field}
 use Rattle.race_text.specs.declared.form.Word.{Word}
 use Rattle.race_text.specs.Words.{words_of, number, parts_left}
 use Rattle.race_text.specs.Form.{word_named, first_word, arguments, number_fields}
-use Rattle.race_text.specs.Fault.{or_else, lesser, field_cause, fields_cause, new_name_cause, number_cause, number_behind, room_cause, word_cause, seen_so_far, declaration, declaration_in, declared_as}
+use Rattle.race_text.specs.Fault.{or_else, lesser, field_cause, fields_cause, new_name_cause, number_cause}
+use Rattle.race_text.specs.Fault.{number_behind, room_cause, word_cause, seen_so_far, declaration}
+use Rattle.race_text.specs.Fault.{declaration_in, declared_as}
 use Rattle.race_text.specs.Declaring.{is_declaration_word, is_declaration_line, declaration_cause, noun_cause, object_read}
 use Rattle.race_text.specs.Writing.{number_words}
 use Rattle.race_text.proofs.WordLemmas.{name_is_visible}
@@ -62,7 +66,8 @@ number_parts limit w n h = by (bytes_eq w (decimal (digits_value 10 w))) (nat_le
   where
     by : (b c : Bool) → nat_le (digits_value 10 w) limit ≡ c → (if b && c then Some (digits_value 10 w) else None) ≡ Some n
         → (n ≤ limit) × (digits_value 10 w ≡ n)
-    by true true e h = let same = same_Some (digits_value 10 w) n h in (let low : digits_value 10 w ≤ limit = grind (arith, nat_tests) in omega (arith, low, same), same)
+    by true true e h = let same = same_Some (digits_value 10 w) n h in
+        (let low : digits_value 10 w ≤ limit = grind (arith, nat_tests) in omega (arith, low, same), same)
     by true false e h = absurd (none-some n h)
     by false c e h = absurd (none-some n h)
 
@@ -239,8 +244,11 @@ made_in_hand ds noun args first behind hand object read =
 pub spelled_there : (ds : List Declaration) (noun : Noun) (args : List (List ℕ)) (there : IsThere ds noun args)
     → (noun ≡ (object_says there.object).0) × (args ≡ there.name ∷ number_words (object_says there.object).1)
 spelled_there ds noun args there =
-    let says = object_by_says noun (number_behind there.others) there.object there.by in
-    (ap (λ (s : Noun × Option ℕ). s.0) (sym says), there.words ∙ (λ i. there.name ∷ there.spelled i) ∙ ap (λ (s : Noun × Option ℕ). there.name ∷ number_words s.1) (sym says))
+    let says = object_by_says noun (number_behind there.others) there.object there.by in (
+      ap (λ (s : Noun × Option ℕ). s.0) (sym says),
+      there.words ∙ (λ i. there.name ∷ there.spelled i)
+          ∙ ap (λ (s : Noun × Option ℕ). there.name ∷ number_words s.1) (sym says),
+    )
 
 -- the way back: what an object says is declared again, and no cause holds of it
 pub narrow_limit : (noun : Noun) (limit : ℕ) → number_limit noun ≡ Some limit → limit < 2 ^ 32
@@ -262,14 +270,16 @@ fine_words : (ds : List Declaration) (kind : Kind) (limit number : Option ℕ) (
 unfolding field_cause
 fine_words ds kind None None name wanted small free room = λ i. or_else (free i) (room i)
 fine_words ds kind (Some l) (Some n) name wanted small free room =
-    let number_fine : number_cause l (decimal n) ≡ None = ap (λ o. if is_none o then Some TextCause.BadNumber else None) (number-some l n (decimal n) (small l refl) wanted refl) in
+    let number_fine : number_cause l (decimal n) ≡ None =
+    ap (λ o. if is_none o then Some TextCause.BadNumber else None) (number-some l n (decimal n) (small l refl) wanted refl) in
     λ i. or_else (lesser (free i) (number_fine i)) (room i)
 fine_words ds kind None (Some n) name wanted small free room = absurd wanted
 fine_words ds kind (Some l) None name wanted small free room = absurd wanted
 
 allowed_parts : (a b c e : Bool)
     → fault_by a b c e ≡ None
-    → ((if not a then Some TextCause.BadName else (if b then Some TextCause.Taken else None)) ≡ None) × ((if c then Some TextCause.TooMany else None) ≡ None) × (e ≡ false)
+    → ((if not a then Some TextCause.BadName else (if b then Some TextCause.Taken else None)) ≡ None)
+    × ((if c then Some TextCause.TooMany else None) ≡ None) × (e ≡ false)
 allowed_parts false b c e h = absurd (none-some DeclFault.BadName (sym h))
 allowed_parts true true c e h = absurd (none-some DeclFault.Taken (sym h))
 allowed_parts true false true e h = absurd (none-some DeclFault.TooMany (sym h))
@@ -281,7 +291,8 @@ pub said_fine : (ds : List Declaration) (name : List ℕ) (object : Object) → 
 unfolding decl_fault
 said_fine ds name object h =
     let noun = (object_says object).0 in
-    let parts = allowed_parts (is_name name) (is_some (find_name ds name)) (nat_le (limit_of (kind_of object)) (count_of (kind_of object) ds)) (is_too_wide object) h in
+    let parts = allowed_parts (is_name name) (is_some (find_name ds name))
+    (nat_le (limit_of (kind_of object)) (count_of (kind_of object) ds)) (is_too_wide object) h in
     let room = subst (λ (kind : Kind). room_cause (seen_so_far ds 0) (Some kind) ≡ None) (sym (kind_of_says object)) parts.1 in
     fine_words ds (kind_of_noun noun) (number_limit noun) (object_says object).1 name (says_wanted object parts.2) (small_limit noun) parts.0 room
 
@@ -289,7 +300,8 @@ pub said_again : (name : List ℕ) (object : Object) → is_too_wide object ≡ 
     → declared_as (Some (Word.Declares (object_says object).0)) (name ∷ number_words (object_says object).1) ≡ Some (declaration name object)
 said_again name object narrow =
     let noun = (object_says object).0 in
-    ap (λ o. option_map (declaration name) (object_by noun o)) (number_again (number_limit noun) (object_says object).1 (says_wanted object narrow) (small_limit noun))
+    ap (λ o. option_map (declaration name) (object_by noun o))
+    (number_again (number_limit noun) (object_says object).1 (says_wanted object narrow) (small_limit noun))
     ∙ ap (option_map (declaration name)) (object_says_again object)
 
 -- a cause that is there is told

@@ -46,7 +46,8 @@ pub record IsEventLine (ds : List Declaration) (line : List ℕ) (o : Occurrence
   pub value : op_is_limited o.op ≡ true
   pub clean : has_bad_byte line ≡ false
 
-module _ (decls : DeclsState) (holds : IsWellFormed decls) (line first : List ℕ) (args : List (List ℕ)) (words : words_of line ≡ first ∷ args) (o : Occurrence) where
+module _ (decls : DeclsState) (holds : IsWellFormed decls) (line first : List ℕ)
+    (args : List (List ℕ)) (words : words_of line ≡ first ∷ args) (o : Occurrence) where
   abbrev ds : List Declaration
   ds = decls.declarations
 

@@ -1,5 +1,7 @@
 -- What the words of an event line say: a goroutine, the parts of an operation, and its places.
-use Rattle.std.proofs.Common.{◌≡◌, ℕ, ◌==◌, Bool, true, false, not, if◌then◌else◌, List, [], ◌∷◌, ◌++◌, length, map, suc, Option, Some, None, refl, sym, ap, subst, ◌∙◌, arith, true≢false}
+use Rattle.std.proofs.Common.{◌≡◌, ℕ, ◌==◌, Bool, true, false, not, if◌then◌else◌, List, [], ◌∷◌, ◌++◌}
+use Rattle.std.proofs.Common.{length, map, suc, Option, Some, None, refl, sym, ap, subst, ◌∙◌, arith}
+use Rattle.std.proofs.Common.{true≢false}
 use Rattle.std.proofs.lemmas.Bool.Decides.{nat_tests, Decides-eqb}
 use Rattle.std.proofs.lemmas.Option.{none-some, same_Some}
 use Rattle.std.specs.Option.{option_and_then, option_map}
@@ -18,7 +20,9 @@ use Rattle.race_text.specs.declared.form.Word.{Word}
 use Rattle.race_text.specs.Text.{place_words}
 use Rattle.race_text.specs.Form.{place_fields, fields_of, kind_declared}
 use Rattle.race_text.specs.Fault.{or_else, seen_so_far, part_cause, field_cause, fields_cause, room_cause, word_cause}
-use Rattle.race_text.specs.Reading.{Occurrence, Places, occurrence, ReadPart, ReadParts, with_rest, part_in, first_part, parts_on, last_places, goroutine_of, ReadOp, op_before, event_of, event_behind}
+use Rattle.race_text.specs.Reading.{Occurrence, Places, occurrence, ReadPart, ReadParts, with_rest, part_in}
+use Rattle.race_text.specs.Reading.{first_part, parts_on, last_places, goroutine_of, ReadOp, op_before}
+use Rattle.race_text.specs.Reading.{event_of, event_behind}
 use Rattle.race_text.proofs.CauseLemmas.{and_then_some, map_some, cause_on}
 use Rattle.race_text.proofs.PartWords.{first_part_is, read_suits, IsPart, is_part, AreParts, are_read, words_count, words_fine, part_is_there, are_there}
 use Rattle.race_text.proofs.PlaceWords.{ArePlaces, places_read, are_places, places_count, places_fine, places_are_there}
@@ -48,7 +52,8 @@ unfolding behind_parts behind_op
 event_by_parts ds verb who words = by (parts_on ds [] (part_kinds verb) words)
   where
     inner : (rest : List (List ℕ)) (made : Option Op)
-        → option_and_then (λ (read : ReadOp). behind_op verb who read.1 read.0) (option_map (op_before rest) made) ≡ option_and_then (behind_op verb who rest) made
+        → option_and_then (λ (read : ReadOp). behind_op verb who read.1 read.0) (option_map (op_before rest) made)
+        ≡ option_and_then (behind_op verb who rest) made
     inner rest None = refl
     inner rest (Some op) = refl
 
@@ -77,7 +82,8 @@ module _ (decls : DeclsState) (holds : IsWellFormed decls) (verb : Verb) (words 
   pub is_said : event_behind ds verb words ≡ Some o → IsSaid
   unfolding behind_parts behind_op
   is_said h =
-      let a = and_then_some (λ (first : ReadPart). option_and_then (λ who. event_of ds verb who first.1) (goroutine_of first.0)) (first_part ds a_goroutine words) o h in
+      let a = and_then_some (λ (first : ReadPart). option_and_then (λ who. event_of ds verb who first.1) (goroutine_of first.0))
+      (first_part ds a_goroutine words) o h in
       let b = and_then_some (λ who. event_of ds verb who a.0.1) (goroutine_of a.0.0) o a.2 in
       let c = and_then_some (behind_parts verb b.0) (parts_on ds [] (part_kinds verb) a.0.1) o (sym (event_by_parts ds verb b.0 a.0.1) ∙ b.2) in
       let d = and_then_some (behind_op verb b.0 c.0.1) (op_by verb c.0.0) o c.2 in
@@ -90,7 +96,8 @@ module _ (decls : DeclsState) (holds : IsWellFormed decls) (verb : Verb) (words 
         who = first.0;
         ws = read.ws;
         parts = read.parts;
-        words_are = first.1 ∙ (λ i. first.0 ∷ read.words_are i) ∙ (λ i. first.0 ∷ read.ws ++ places.1 i) ∙ (λ i. first.0 ∷ read.ws ++ place_words (e.2 i).place (e.2 i).place2);
+        words_are = first.1 ∙ (λ i. first.0 ∷ read.words_are i) ∙ (λ i. first.0 ∷ read.ws ++ places.1 i)
+            ∙ (λ i. first.0 ∷ read.ws ++ place_words (e.2 i).place (e.2 i).place2);
         who_is = subst (IsPart decls holds a_goroutine first.0) who (is_part decls holds a_goroutine first.0 a.0.0 first.2);
         are = read.are;
         says_is = ap (λ (x : Occurrence). says x.op) (sym e.2) ∙ op_by_says verb c.0.0 d.0 d.1 ∙ (λ i. (verb, read.parts_are i));
@@ -106,7 +113,8 @@ module _ (decls : DeclsState) (holds : IsWellFormed decls) (verb : Verb) (words 
       let fields = map Field.Part (part_kinds verb) ++ place_fields two in
       let args = is.ws ++ places in
       let count = (Decides-eqb (length (is.who ∷ args)) (length (fields_of (Word.Does verb)))).1
-      (ap suc (words_count decls holds (place_fields two) places (places_count two (o.place, o.place2) is.places_are) (part_kinds verb) is.ws is.parts is.are)) in
+      (ap suc (words_count decls holds (place_fields two) places (places_count two (o.place, o.place2) is.places_are) (part_kinds verb) is.ws is.parts is.are))
+      in
       let none : cause_on ds (part_cause ds a_goroutine is.who) fields args ≡ None =
       ap (λ c. cause_on ds c fields args) is.who_is.no_cause
       ∙ words_fine decls holds (place_fields two) places (places_fine ds two (o.place, o.place2) is.places_are) (part_kinds verb) is.ws is.parts is.are in
@@ -120,7 +128,8 @@ pub said_by : (ds : List Declaration) (verb : Verb) (g : List ℕ) (ws : List (L
     → ArePlaces (has_two_places verb) places → event_behind ds verb (g ∷ ws) ≡ Some (occurrence who op places)
 unfolding behind_parts behind_op
 said_by ds verb g ws who parts op places first read is are =
-    ap (λ o. option_and_then (λ (first : ReadPart). option_and_then (λ who. event_of ds verb who first.1) (goroutine_of first.0)) (option_map (with_rest ws) o)) first
+    ap (λ o. option_and_then (λ (first : ReadPart). option_and_then (λ who. event_of ds verb who first.1) (goroutine_of first.0))
+    (option_map (with_rest ws) o)) first
     ∙ event_by_parts ds verb who ws
     ∙ ap (option_and_then (behind_parts verb who)) read
     ∙ ap (option_and_then (behind_op verb who (place_words places.0 places.1))) is
@@ -137,7 +146,8 @@ count_is : (ds : List Declaration) (events : ℕ) (word : Word) (words : List (L
 count_is ds events word words h = by (length words == length (fields_of word)) refl h
   where
     by : (b : Bool) → (length words == length (fields_of word)) ≡ b
-        → (if not b then Some TextCause.WrongCount else or_else (fields_cause ds (fields_of word) words) (room_cause (seen_so_far ds events) (kind_declared word))) ≡ None
+        → (if not b then Some TextCause.WrongCount else or_else (fields_cause ds (fields_of word) words)
+        (room_cause (seen_so_far ds events) (kind_declared word))) ≡ None
         → (length words ≡ length (fields_of word)) × (fields_cause ds (fields_of word) words ≡ None)
     by true e h = (grind (arith, nat_tests), or_else_none (fields_cause ds (fields_of word) words) (room_cause (seen_so_far ds events) (kind_declared word)) h)
     by false e h = absurd (none-some TextCause.WrongCount (sym h))

@@ -1,5 +1,7 @@
 -- The line of an event says the event.
-use Rattle.std.proofs.Common.{◌≡◌, ℕ, ◌-◌, ◌^◌, ◌<◌, Bool, true, false, true≢false, List, [], ◌∷◌, ◌++◌, length, map, unwrap_or, Option, Some, None, option_map, refl, sym, ap, ◌∙◌, arith, append-nil, append_assoc}
+use Rattle.std.proofs.Common.{◌≡◌, ℕ, ◌-◌, ◌^◌, ◌<◌, Bool, true, false, true≢false, List, [], ◌∷◌, ◌++◌, length, map}
+use Rattle.std.proofs.Common.{unwrap_or, Option, Some, None, option_map, refl, sym, ap, ◌∙◌, arith, append-nil}
+use Rattle.std.proofs.Common.{append_assoc}
 use Rattle.std.proofs.lemmas.Bool.Decides.{nat_tests}
 use Rattle.std.proofs.lemmas.Option.{slice_get-get_or}
 use Rattle.std.specs.Fmt.{decimal}
@@ -60,7 +62,8 @@ module _ (decls : DeclsState) (holds : IsWellFormed decls) where
   part_again PartKind.Value (Part.Value v) wanted fit low =
       let read = number-some (2 ^ 64 - 1) v (decimal v) (omega arith) (grind (arith, nat_tests, low)) refl in
       (ap (option_map Part.Value) read, number_is_visible (2 ^ 64 - 1) (decimal v) v (omega arith) read)
-  part_again PartKind.Cases (Part.Cases cases) wanted fit low = (ap (option_map Part.Cases) (cases_again decls holds cases fit low), cases_visible decls holds cases fit)
+  part_again PartKind.Cases (Part.Cases cases) wanted fit low =
+      (ap (option_map Part.Cases) (cases_again decls holds cases fit low), cases_visible decls holds cases fit)
   part_again PartKind.Cause (Part.Cause cause) wanted fit low =
       let again = failure_again decls holds cause fit wanted in (ap (option_map Part.Cause) again.0, again.1)
   part_again _ _ wanted fit low = absurd (true≢false (sym wanted))
@@ -75,7 +78,8 @@ module _ (decls : DeclsState) (holds : IsWellFormed decls) where
       let lows = both (part_is_limited part) (list_all part_is_limited parts) low in
       let first = part_again kind part wants.0 fits.0 lows.0 in
       let others = parts_again (got ++ part ∷ []) kinds parts rest wants.1 fits.1 lows.1 visible in (
-        ap (λ o. option_and_then (λ (r : ReadPart). parts_on ds (got ++ r.0 ∷ []) kinds r.1) (option_map (with_rest (map (part_text ds) parts ++ rest)) o)) first.0
+        ap (λ o. option_and_then (λ (r : ReadPart). parts_on ds (got ++ r.0 ∷ []) kinds r.1)
+            (option_map (with_rest (map (part_text ds) parts ++ rest)) o)) first.0
             ∙ others.0 ∙ (λ i. Some (append_assoc got (part ∷ []) parts i, rest)),
         (first.1, others.1),
       )

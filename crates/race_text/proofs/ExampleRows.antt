@@ -5,7 +5,9 @@ use Rattle.race_text.specs.declared.cause.TextCause.{TextCause}
 use Rattle.race_text.specs.Words.{number}
 use Rattle.race_text.specs.Form.{word_named}
 use Rattle.race_text.specs.Fault.{seen, field_cause, line_cause, cause, fault_after, text_fault}
-use Rattle.race_text.specs.Examples.{fault_at, fine, no_newline, leading_zero, two_spaces, late_declaration, long_name, unknown_word, unknown_name, wrong_kind, mutex_for_rwmutex}
+use Rattle.race_text.specs.Examples.{fault_at, fine, no_newline, leading_zero, two_spaces}
+use Rattle.race_text.specs.Examples.{late_declaration, long_name, unknown_word, unknown_name}
+use Rattle.race_text.specs.Examples.{wrong_kind, mutex_for_rwmutex}
 
 pub fine_row : text_fault fine ≡ None
 unfolding text_fault fault_after cause line_cause seen word_named field_cause number digits

@@ -1,5 +1,7 @@
 -- A text that is cut into pieces: its parts, and its first fault behind the lines that were taken.
-use Rattle.std.proofs.Common.{◌≡◌, ℕ, ◌+◌, ◌<◌, ◌≤◌, ◌==◌, Bool, true, false, List, [], ◌∷◌, ◌++◌, ◌^◌, length, map, Option, Some, None, Result, Ok, Err, IsErrAnd, MatchResult, refl, sym, ap, subst, ◌∙◌, arith, append-nil, append_assoc}
+use Rattle.std.proofs.Common.{◌≡◌, ℕ, ◌+◌, ◌<◌, ◌≤◌, ◌==◌, Bool, true, false, List, [], ◌∷◌, ◌++◌, ◌^◌, length, map, Option, Some}
+use Rattle.std.proofs.Common.{None, Result, Ok, Err, IsErrAnd, MatchResult, refl, sym, ap, subst, ◌∙◌, arith, append-nil}
+use Rattle.std.proofs.Common.{append_assoc}
 use Rattle.std.proofs.lemmas.List.{length-append, length-map}
 use Rattle.std.proofs.lemmas.List.Splits.{join_with_byte-slice_split, length-slice_split, slice_split-cons_yes, slice_split-cons_no}
 use Rattle.std.proofs.lemmas.Grind.{flat_map-append}
@@ -16,7 +18,9 @@ use Rattle.race_text.specs.Text.{ended, lines, declaration_line, event_line}
 use Rattle.race_text.specs.Fault.{cause, or_later, fault_after, text_fault}
 use Rattle.race_text.specs.Taking.{begun}
 use Rattle.race_text.specs.Reader.{lines_read, end_cause, IsLineOf, IsNoneBefore, GoesOn}
-use Rattle.race_text.specs.Fed.{ended_after, ended_fault, IsTaken, IsUnended, IsTold, TellsOfLine, TellsOfMemory, TakesBytes, TellsOfBytes, LinesState, StandsFor, GoesOnBy}
+use Rattle.race_text.specs.Fed.{ended_after, ended_fault, IsTaken, IsUnended, IsTold, TellsOfLine}
+use Rattle.race_text.specs.Fed.{TellsOfMemory, TakesBytes, TellsOfBytes, LinesState, StandsFor}
+use Rattle.race_text.specs.Fed.{GoesOnBy}
 use Rattle.race_text.proofs.ParseLemmas.{or_later_from, fault_step, fault_end, fault_from, end_empty, no_bytes, cut_joined}
 
 -- two lists of parts, of which the last one of the first list goes on in the first one of the second
@@ -54,7 +58,8 @@ unfolding glue
 seam [] ys = sym (onto_none (parts_of ys) (some_part ys))
 seam (x ∷ xs) ys = by (x == 10) refl (seam xs ys)
   where
-    by : (b : Bool) → (x == 10) ≡ b → parts_of (xs ++ ys) ≡ glue (parts_of xs) (parts_of ys) → parts_of ((x ∷ xs) ++ ys) ≡ glue (parts_of (x ∷ xs)) (parts_of ys)
+    by : (b : Bool) → (x == 10) ≡ b → parts_of (xs ++ ys) ≡ glue (parts_of xs) (parts_of ys)
+        → parts_of ((x ∷ xs) ++ ys) ≡ glue (parts_of (x ∷ xs)) (parts_of ys)
     by true is rest =
         slice_split-cons_yes (λ b. b == 10) x (xs ++ ys) is
         ∙ ap (λ (ps : List (List ℕ)). [] ∷ ps) rest
@@ -177,7 +182,8 @@ module _ (bytes : List ℕ) (lines : List (List ℕ)) (left : List ℕ) (t : IsT
     pub line_taken : (after : List (List ℕ)) → GoesOn lines line after → IsTaken bytes after others
     line_taken after goes = record {
       bytes_are = ap (λ (ls : List (List ℕ)). flat_map ended ls ++ others) goes.lines
-          ∙ ap (λ (b : List ℕ). b ++ others) (flat_map-append ended lines (line ∷ []) ∙ ap (λ (l : List ℕ). flat_map ended lines ++ l) (append-nil (ended line)))
+          ∙ ap (λ (b : List ℕ). b ++ others) (flat_map-append ended lines (line ∷ [])
+          ∙ ap (λ (l : List ℕ). flat_map ended lines ++ l) (append-nil (ended line)))
           ∙ append_assoc (flat_map ended lines) (ended line) others
           ∙ ap (λ (l : List ℕ). flat_map ended lines ++ l) (append_assoc line (10 ∷ []) others ∙ sym (cut_joined left line others parts))
           ∙ t.bytes_are;
@@ -212,7 +218,8 @@ module _ (bytes : List ℕ) (lines : List (List ℕ)) (left : List ℕ) (t : IsT
 -- how many declarations there are, kind by kind
 abbrev by_kind : List Declaration → ℕ
 by_kind ds =
-    length (of_kind Kind.Goroutine ds) + length (of_kind Kind.Var ds) + length (of_kind Kind.Chan ds) + length (of_kind Kind.Lock ds) + length (of_kind Kind.Once ds)
+    length (of_kind Kind.Goroutine ds) + length (of_kind Kind.Var ds) + length
+    (of_kind Kind.Chan ds) + length (of_kind Kind.Lock ds) + length (of_kind Kind.Once ds)
 
 -- how many lines there are
 counted : (ds : List Declaration) → length ds ≡ by_kind ds
@@ -283,11 +290,13 @@ fed_takes old new piece fed none still takes S = record {
   told = λ f is. absurd (none-some f (sym still ∙ is));
 }
 
-pub fed_tells : (old new : LinesState) (piece fed : List ℕ) (f : TextFault) → old.fault ≡ None → new.fault ≡ Some f → TellsOfBytes old.lines (old.part ++ piece) f
+pub fed_tells : (old new : LinesState) (piece fed : List ℕ) (f : TextFault)
+    → old.fault ≡ None → new.fault ≡ Some f → TellsOfBytes old.lines (old.part ++ piece) f
     → StandsFor old fed → StandsFor new (fed ++ piece)
 fed_tells old new piece fed f none is tells S = record {
   taken = λ other. absurd (none-some f (sym other ∙ is));
-  told = λ g also more. subst (IsTold ((fed ++ piece) ++ more)) (same_Some f g (sym is ∙ also)) (tells ((fed ++ piece) ++ more) more (behind old fed piece more none S));
+  told = λ g also more. subst (IsTold ((fed ++ piece) ++ more)) (same_Some f g (sym is ∙ also))
+      (tells ((fed ++ piece) ++ more) more (behind old fed piece more none S));
 }
 
 -- a fault that was told stays

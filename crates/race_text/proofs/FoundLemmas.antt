@@ -1,5 +1,7 @@
 -- What a name that is found stands for: its form, its number, and that the number leads back to it.
-use Rattle.std.proofs.Common.{◌≡◌, ℕ, zero, suc, ◌-◌, ◌<◌, ◌==◌, ◌⊎◌, inl, inr, Bool, true, false, cond, if◌then◌else◌, List, [], ◌∷◌, length, filter, take, position, get_or, slice_get, Option, Some, None, refl, sym, ap, subst, ◌∙◌, arith, true≢false}
+use Rattle.std.proofs.Common.{◌≡◌, ℕ, zero, suc, ◌-◌, ◌<◌, ◌==◌, ◌⊎◌, inl, inr, Bool, true, false, cond, if◌then◌else◌, List, [], ◌∷◌}
+use Rattle.std.proofs.Common.{length, filter, take, position, get_or, slice_get, Option, Some, None, refl, sym, ap, subst, ◌∙◌, arith}
+use Rattle.std.proofs.Common.{true≢false}
 use Rattle.std.proofs.lemmas.Bool.Decides.{nat_tests}
 use Rattle.std.proofs.lemmas.List.Quantifiers.{position-Some}
 use Rattle.std.proofs.lemmas.Option.{none-some, same_Some, slice_get-get_or, slice_get_within}
@@ -10,7 +12,9 @@ use Rattle.race_records.specs.declared.kind.Kind.{Kind}
 use Rattle.race_records.specs.declared.kind.Named.{Named}
 use Rattle.race_records.specs.declared.kind.Object.{Object}
 use Rattle.race_records.specs.Name.{main, is_name}
-use Rattle.race_records.specs.Declarations.{Declaration, DeclsState, IsWellFormed, find_name, declared_at, named, kind_of, is_of_kind, of_kind, count_of, name_of, nth_name, IsDeclared}
+use Rattle.race_records.specs.Declarations.{Declaration, DeclsState, IsWellFormed, find_name}
+use Rattle.race_records.specs.Declarations.{declared_at, named, kind_of, is_of_kind, of_kind, count_of}
+use Rattle.race_records.specs.Declarations.{name_of, nth_name, IsDeclared}
 
 -- declaration i has the name, and declares what it stands for
 pub record IsFoundAt (ds : List Declaration) (word : List ℕ) (what : Named) : Type 0 where
@@ -28,7 +32,8 @@ pub found_cases : (ds : List Declaration) (word : List ℕ) (what : Named) → f
 found_cases ds word what h = by (bytes_eq word main) refl (position (λ (d : Declaration). bytes_eq word d.name) ds) refl h
   where
     by : (b : Bool) → bytes_eq word main ≡ b → (p : Option ℕ) → position (λ (d : Declaration). bytes_eq word d.name) ds ≡ p
-        → (if b then Some (Named.Goroutine 0) else option_and_then (declared_at ds) p) ≡ Some what → ((word ≡ main) × (what ≡ Named.Goroutine 0)) ⊎ IsFoundAt ds word what
+        → (if b then Some (Named.Goroutine 0) else option_and_then (declared_at ds) p) ≡ Some what
+        → ((word ≡ main) × (what ≡ Named.Goroutine 0)) ⊎ IsFoundAt ds word what
     by true e p f h = inl ((bytes_eq-Decides word main).0 e, sym (same_Some (Named.Goroutine 0) what h))
     by false e None f h = absurd (none-some what h)
     by false e (Some i) f h =
@@ -85,7 +90,8 @@ module _ (ds : List Declaration) (i : ℕ) (d : Declaration) (at : slice_get ds 
   in_kind kind is = slice_get-filter (λ (e : Declaration). is_of_kind kind e.object) ds i d at is
 
   nth_is : (kind : Kind) (n : ℕ) → is_of_kind kind d.object ≡ true → n ≡ length (of_kind kind (take i ds)) → nth_name kind ds n ≡ Some d.name
-  nth_is kind n is e = ap (λ k. option_map (λ (x : Declaration). x.name) (slice_get (of_kind kind ds) k)) e ∙ ap (option_map (λ (x : Declaration). x.name)) (in_kind kind is)
+  nth_is kind n is e = ap (λ k. option_map (λ (x : Declaration). x.name) (slice_get (of_kind kind ds) k)) e
+      ∙ ap (option_map (λ (x : Declaration). x.name)) (in_kind kind is)
 
   pub name_of_named : (object : Object) → object ≡ d.object → name_of ds (named object (count_of (kind_of object) (take i ds))) ≡ Some d.name
   name_of_named Object.Goroutine e =

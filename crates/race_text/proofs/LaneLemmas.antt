@@ -1,12 +1,16 @@
 -- From the bits of a vector to the first element of a list that passes a test.
-use Rattle.std.proofs.Common.{◌≡◌, ℕ, ◌+◌, ◌-◌, ◌*◌, ◌<◌, ◌≤◌, ◌^◌, ◌%◌, Bool, true, false, not, cond, nat_lt, List, [], ◌∷◌, inl, inr, length, drop, get_or, map, position, Some, None, refl, sym, ap, ap₂, ◌∙◌, arith, Fits, w8, length-drop}
+use Rattle.std.proofs.Common.{◌≡◌, ℕ, ◌+◌, ◌-◌, ◌*◌, ◌<◌, ◌≤◌, ◌^◌, ◌%◌, Bool, true, false, not, cond, nat_lt, List, [], ◌∷◌, inl}
+use Rattle.std.proofs.Common.{inr, length, drop, get_or, map, position, Some, None, refl, sym, ap, ap₂, ◌∙◌, arith, Fits, w8}
+use Rattle.std.proofs.Common.{length-drop}
 use Rattle.std.proofs.lemmas.Bool.{agree_below, agree_below_at, cases_lt}
 use Rattle.std.proofs.lemmas.Bool.Decides.{nat_tests}
 use Rattle.std.proofs.lemmas.List.{get_or-drop, length-map}
 use Rattle.std.proofs.lemmas.List.Quantifiers.{position-Some}
 use Rattle.std.proofs.lemmas.List.Sums.{position_or_len_is, fails_before_first, prefix_len-le-length}
 use Rattle.std.proofs.lemmas.Option.{none-some}
-use Rattle.std.proofs.lemmas.Simd.{trailing_mask_l, length-chunk, map-map, mask_l-mod, run_in_chunk_le, run_in_chunk_fails, run_in_chunk_stops, none_from_empty_mask}
+use Rattle.std.proofs.lemmas.Simd.{trailing_mask_l, length-chunk, map-map, mask_l-mod}
+use Rattle.std.proofs.lemmas.Simd.{run_in_chunk_le, run_in_chunk_fails, run_in_chunk_stops}
+use Rattle.std.proofs.lemmas.Simd.{none_from_empty_mask}
 use Rattle.std.specs.List.{position_or_len, prefix_len}
 use lib.Count.{count_trailing_zeros}
 use lib.Lanes.{chunk, mask_l, top, Each1}
@@ -22,7 +26,8 @@ none_fails false n l m le e none = let z = none (omega arith) in omega arith
 -- where each element fails, no bit is set
 all_fail : {X : Type 0} (p : X → Bool) (xs : List X) → prefix_len (λ x. not (p x)) xs ≡ length xs → mask_l (map p xs) ≡ 0
 all_fail p [] e = refl
-all_fail p (x ∷ xs) e = none_fails (p x) (prefix_len (λ y. not (p y)) xs) (length xs) (mask_l (map p xs)) (prefix_len-le-length (λ y. not (p y)) xs) (omega (arith, e)) (all_fail p xs)
+all_fail p (x ∷ xs) e = none_fails (p x) (prefix_len (λ y. not (p y)) xs) (length xs)
+    (mask_l (map p xs)) (prefix_len-le-length (λ y. not (p y)) xs) (omega (arith, e)) (all_fail p xs)
 
 absent_fails : {X : Type 0} (p : X → Bool) (xs : List X) (k : ℕ) (d : X) → k < length xs → position p xs ≡ None → p (get_or xs k d) ≡ false
 absent_fails p xs k d within absent = fails_before_first p xs k d (by (nat_lt (position_or_len p xs) (length xs)) refl absent)

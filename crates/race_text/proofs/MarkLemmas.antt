@@ -1,5 +1,7 @@
 -- Marks of the bytes in front that can't be seen, and the word that ends at the first of them.
-use Rattle.std.proofs.Common.{◌≡◌, ◌≢◌, ℕ, zero, suc, ◌+◌, ◌-◌, ◌*◌, ◌/◌, ◌^◌, ◌<◌, ◌==◌, Bool, true, false, not, cond, List, [], ◌∷◌, length, map, take, drop, get_or, position, Some, refl, sym, ap, ◌∙◌, arith}
+use Rattle.std.proofs.Common.{◌≡◌, ◌≢◌, ℕ, zero, suc, ◌+◌, ◌-◌, ◌*◌, ◌/◌, ◌^◌, ◌<◌, ◌==◌, Bool, true, false, not}
+use Rattle.std.proofs.Common.{cond, List, [], ◌∷◌, length, map, take, drop, get_or, position, Some, refl, sym, ap}
+use Rattle.std.proofs.Common.{◌∙◌, arith}
 use Rattle.std.proofs.Math.Nat.{div-div-eq-div-mul, two-pow-succ}
 use Rattle.std.proofs.Math.Numerals.{add-one}
 use Rattle.std.proofs.lemmas.Bool.Decides.{nat_tests}
@@ -27,7 +29,8 @@ mask_behind : (k : ℕ) (bits : List Bool) → mask_l bits / 2 ^ k ≡ mask_l (d
 mask_behind zero bits = omega arith
 mask_behind (suc k) [] = omega arith
 mask_behind (suc k) (b ∷ bits) =
-    (λ i. mask_l (b ∷ bits) / two k i) ∙ sym (div-div-eq-div-mul (mask_l (b ∷ bits)) 2 (2 ^ k)) ∙ ap (λ m. m / 2 ^ k) (halved b (mask_l bits)) ∙ mask_behind k bits
+    (λ i. mask_l (b ∷ bits) / two k i) ∙ sym (div-div-eq-div-mul (mask_l (b ∷ bits)) 2 (2 ^ k))
+    ∙ ap (λ m. m / 2 ^ k) (halved b (mask_l bits)) ∙ mask_behind k bits
   where
     two : (k : ℕ) → 2 ^ suc k ≡ 2 * 2 ^ k
     two k = let e = two-pow-succ k in omega (arith, e)
@@ -108,7 +111,8 @@ module _ (marks : ℕ) (bytes : List ℕ) (m : IsMarked marks bytes) (some : mar
   -- the lowest mark is that of the first byte that can't be seen
   pub first_mark : position (λ b. not (is_place_byte b)) bytes ≡ Some end
   first_mark =
-      first_in_lanes (λ b. not (is_place_byte b)) bytes 0 0 m.count (let w = m.within in omega (arith, w)) m.few (λ k below. absurd (omega (arith, below))) some_bit
+      first_in_lanes (λ b. not (is_place_byte b)) bytes 0 0 m.count (let w = m.within in
+      omega (arith, w)) m.few (λ k below. absurd (omega (arith, below))) some_bit
       ∙ (λ i. Some (from_none (count_trailing_zeros 64 (mask_l (map (λ b. not (is_place_byte b)) (chunk 0 m.count bytes)))) i))
       ∙ ap (λ mask. Some (count_trailing_zeros 64 mask)) (sym m.marks_are)
     where

@@ -1,5 +1,7 @@
 -- The name by which a number is printed leads back to the number.
-use Rattle.std.proofs.Common.{◌≡◌, ◌≢◌, ℕ, zero, suc, ◌+◌, ◌-◌, ◌<◌, ◌==◌, Bool, true, false, nat_lt, cond, if◌then◌else◌, List, [], ◌∷◌, length, position, take, get_or, slice_get, unwrap_or, Some, None, option_map, refl, sym, ap, ◌∙◌, arith, true≢false}
+use Rattle.std.proofs.Common.{◌≡◌, ◌≢◌, ℕ, zero, suc, ◌+◌, ◌-◌, ◌<◌, ◌==◌, Bool, true, false, nat_lt, cond, if◌then◌else◌, List, [], ◌∷◌}
+use Rattle.std.proofs.Common.{length, position, take, get_or, slice_get, unwrap_or, Some, None, option_map, refl, sym, ap, ◌∙◌, arith}
+use Rattle.std.proofs.Common.{true≢false}
 use Rattle.std.proofs.lemmas.Bool.Decides.{nat_tests}
 use Rattle.std.proofs.lemmas.List.Sums.{position_or_len_is}
 use Rattle.std.proofs.lemmas.Option.{none-some, same_Some, slice_get_within, get_or_from_slice_get}
@@ -10,7 +12,9 @@ use Rattle.race_records.specs.declared.kind.Kind.{Kind}
 use Rattle.race_records.specs.declared.kind.Named.{Named}
 use Rattle.race_records.specs.declared.kind.Object.{Object}
 use Rattle.race_records.specs.Name.{main}
-use Rattle.race_records.specs.Declarations.{Declaration, DeclsState, IsWellFormed, is_of_kind, of_kind, kind_of, count_of, named, declared_at, find_name, name_of, nth_name, first_number, IsDeclared}
+use Rattle.race_records.specs.Declarations.{Declaration, DeclsState, IsWellFormed, is_of_kind, of_kind}
+use Rattle.race_records.specs.Declarations.{kind_of, count_of, named, declared_at, find_name, name_of}
+use Rattle.race_records.specs.Declarations.{nth_name, first_number, IsDeclared}
 use Rattle.race_records.proofs.ListLemmas.{slice_get-within}
 
 pub differ : (a b : List ℕ) → a ≢ b → bytes_eq a b ≡ false
@@ -36,10 +40,20 @@ stands_at kind (e ∷ ds) n d at = by (is_of_kind kind e.object) refl n at (λ n
     by true is zero at rest = record { i = 0; at = at; of = ap (λ (x : Declaration). is_of_kind kind x.object) (sym (same_Some e d at)) ∙ is; number = refl }
     by true is (suc n) at rest =
         let s = rest n at in
-        record { i = suc s.i; at = s.at; of = s.of; number = ap (λ b. length (if b then e ∷ of_kind kind (take s.i ds) else of_kind kind (take s.i ds))) is ∙ ap suc s.number }
+        record {
+          i = suc s.i;
+          at = s.at;
+          of = s.of;
+          number = ap (λ b. length (if b then e ∷ of_kind kind (take s.i ds) else of_kind kind (take s.i ds))) is ∙ ap suc s.number;
+        }
     by false is n at rest =
         let s = rest n at in
-        record { i = suc s.i; at = s.at; of = s.of; number = ap (λ b. length (if b then e ∷ of_kind kind (take s.i ds) else of_kind kind (take s.i ds))) is ∙ s.number }
+        record {
+          i = suc s.i;
+          at = s.at;
+          of = s.of;
+          number = ap (λ b. length (if b then e ∷ of_kind kind (take s.i ds) else of_kind kind (take s.i ds))) is ∙ s.number;
+        }
 
 module _ (decls : DeclsState) (holds : IsWellFormed decls) where
   abbrev ds : List Declaration
@@ -54,7 +68,8 @@ module _ (decls : DeclsState) (holds : IsWellFormed decls) where
 
     -- it is the first that has its name
     differs_before : (k : ℕ) → k < i → bytes_eq d.name (get_or ds k d).name ≡ false
-    differs_before k less = differ d.name (get_or ds k d).name (λ same. holds.distinct k i d less within (sym same ∙ ap (λ (x : Declaration). x.name) (sym here)))
+    differs_before k less = differ d.name (get_or ds k d).name
+        (λ same. holds.distinct k i d less within (sym same ∙ ap (λ (x : Declaration). x.name) (sym here)))
 
     first_is : position (λ (e : Declaration). bytes_eq d.name e.name) ds ≡ Some i
     first_is =

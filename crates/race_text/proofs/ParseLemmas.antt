@@ -1,5 +1,7 @@
 -- A text that is read part by part: what is left of it, and its first fault.
-use Rattle.std.proofs.Common.{◌≡◌, ℕ, ◌+◌, ◌<◌, ◌≤◌, ◌==◌, ◌&&◌, nat_lt, Bool, true, false, not, if◌then◌else◌, List, [], ◌∷◌, ◌++◌, length, Option, Some, None, refl, sym, ap, ◌∙◌, arith}
+use Rattle.std.proofs.Common.{◌≡◌, ℕ, ◌+◌, ◌<◌, ◌≤◌, ◌==◌, ◌&&◌, nat_lt, Bool, true, false, not}
+use Rattle.std.proofs.Common.{if◌then◌else◌, List, [], ◌∷◌, ◌++◌, length, Option, Some, None, refl, sym}
+use Rattle.std.proofs.Common.{ap, ◌∙◌, arith}
 use Rattle.std.proofs.lemmas.Bool.Decides.{nat_tests}
 use Rattle.std.proofs.lemmas.List.{length-append}
 use Rattle.std.proofs.lemmas.List.Splits.{join_with_byte-slice_split, length-slice_split}
@@ -32,7 +34,8 @@ unfolding fault_after
 fault_end before last = by ((length last == 0) && nat_lt 0 (length before))
   where
     by : (b : Bool)
-        → (if b then None else or_later (length before + 1) (cause before last false) None) ≡ or_later (length before + 1) (if b then None else cause before last false) None
+        → (if b then None else or_later (length before + 1) (cause before last false) None)
+        ≡ or_later (length before + 1) (if b then None else cause before last false) None
     by true = refl
     by false = refl
 
@@ -45,7 +48,8 @@ or_later_from n (Some c) later f h rest = let same : n ≡ f.line = ap (λ (x : 
 pub fault_from : (parts before : List (List ℕ)) (f : TextFault) → fault_after before parts ≡ Some f → length before + 1 ≤ f.line
 unfolding fault_after
 fault_from [] before f h = absurd (none-some f h)
-fault_from (last ∷ []) before f h = or_later_from (length before + 1) (end_cause before last) None f (sym (fault_end before last) ∙ h) (λ g e. absurd (none-some g e))
+fault_from (last ∷ []) before f h = or_later_from (length before + 1)
+    (end_cause before last) None f (sym (fault_end before last) ∙ h) (λ g e. absurd (none-some g e))
 fault_from (line ∷ next ∷ others) before f h =
     or_later_from (length before + 1) (cause before line true) (fault_after (before ++ line ∷ []) (next ∷ others)) f h
     (λ g e. let later = fault_from (next ∷ others) (before ++ line ∷ []) g e in omega (arith, later, length-append before (line ∷ [])))
@@ -65,7 +69,8 @@ end_empty before last h = by ((length last == 0) && nat_lt 0 (length before)) re
   where
     by : (b : Bool) → ((length last == 0) && nat_lt 0 (length before)) ≡ b → (if b then None else cause before last false) ≡ None
         → (length last ≡ 0) × (0 < length before)
-    by true e h = let p = both (length last == 0) (nat_lt 0 (length before)) e in let a = p.0 in let b = p.1 in (grind (arith, nat_tests, a), grind (arith, nat_tests, b))
+    by true e h = let p = both (length last == 0) (nat_lt 0 (length before)) e in
+        let a = p.0 in let b = p.1 in (grind (arith, nat_tests, a), grind (arith, nat_tests, b))
     by false e h = absurd (unended before last h)
 
 pub no_bytes : (last : List ℕ) → length last ≡ 0 → last ≡ []
@@ -107,7 +112,8 @@ header_before_end false decls trace last h = let e = end_empty [] last h in let 
 
 -- a part that a newline ends
 pub cut_joined : (left part others : List ℕ) → parts_of left ≡ part ∷ parts_of others → left ≡ part ++ 10 ∷ others
-cut_joined left part others e = sym (join_with_byte-slice_split 10 left) ∙ ap (join_with_byte 10) e ∙ by (parts_of others) some (join_with_byte-slice_split 10 others)
+cut_joined left part others e = sym (join_with_byte-slice_split 10 left)
+    ∙ ap (join_with_byte 10) e ∙ by (parts_of others) some (join_with_byte-slice_split 10 others)
   where
     some : 0 < length (parts_of others)
     some = let l = length-slice_split (λ b. b == 10) others in omega (arith, l)

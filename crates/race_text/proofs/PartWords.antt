@@ -1,5 +1,7 @@
 -- What the words of an operation's parts say, word by word.
-use Rattle.std.proofs.Common.{◌≡◌, ℕ, suc, ◌<◌, ◌-◌, ◌^◌, ◌&&◌, Bool, true, false, if◌then◌else◌, nat_lt, nat_le, List, [], ◌∷◌, ◌++◌, length, map, Option, Some, None, is_none, refl, sym, ap, subst, ◌∙◌, arith, append-nil, append_assoc}
+use Rattle.std.proofs.Common.{◌≡◌, ℕ, suc, ◌<◌, ◌-◌, ◌^◌, ◌&&◌, Bool, true, false, if◌then◌else◌, nat_lt, nat_le, List, [], ◌∷◌}
+use Rattle.std.proofs.Common.{◌++◌, length, map, Option, Some, None, is_none, refl, sym, ap, subst, ◌∙◌, arith, append-nil}
+use Rattle.std.proofs.Common.{append_assoc}
 use Rattle.std.proofs.lemmas.Bool.Decides.{nat_tests}
 use Rattle.std.proofs.lemmas.Option.{none-some, same_Some}
 use Rattle.std.proofs.lemmas.Slice.Eq.{bytes_eq-Decides}
@@ -151,10 +153,17 @@ module _ (decls : DeclsState) (holds : IsWellFormed decls) where
       → AreRead got kinds words read
   are_read got [] words read h =
       let same = same_Some (got, words) read h in
-      record { ws = []; parts = []; words_are = ap (λ (r : ReadParts). r.1) same; parts_are = ap (λ (r : ReadParts). r.0) (sym same) ∙ sym (append-nil got); are = tt }
+      record {
+        ws = [];
+        parts = [];
+        words_are = ap (λ (r : ReadParts). r.1) same;
+        parts_are = ap (λ (r : ReadParts). r.0) (sym same) ∙ sym (append-nil got);
+        are = tt;
+      }
   are_read got (kind ∷ kinds) [] read h = absurd (none-some read h)
   are_read got (kind ∷ kinds) (w ∷ ws) read h =
-      let first = and_then_some (λ (first : ReadPart). parts_on ds (got ++ first.0 ∷ []) kinds first.1) (option_map (with_rest ws) (part_in ds kind w)) read h in
+      let first = and_then_some (λ (first : ReadPart). parts_on ds (got ++ first.0 ∷ []) kinds first.1)
+      (option_map (with_rest ws) (part_in ds kind w)) read h in
       let one = map_some (with_rest ws) (part_in ds kind w) first.0 first.1 in
       let others = are_read (got ++ first.0.0 ∷ []) kinds first.0.1 read first.2 in
       let part_is : part_in ds kind w ≡ Some first.0.0 = one.1 ∙ ap (λ (r : ReadPart). Some r.0) one.2 in

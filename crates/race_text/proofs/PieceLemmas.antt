@@ -12,6 +12,7 @@ cut_is_exact start now sent text bounded cut =
     let counted = cut.counted in
     let len : length text ≡ length cut.out + length cut.rest = ap length cut.split ∙ length-append cut.out cut.rest in
     let is : sent ≡ length cut.out = omega (arith, counted, len, bounded, short) in (
-      subst (λ (l : List ℕ). Appends start now l) (sym (ap (λ n. take n text) is ∙ ap (take (length cut.out)) cut.split ∙ take-append_seam cut.out cut.rest)) cut.appended,
+      subst (λ (l : List ℕ). Appends start now l)
+          (sym (ap (λ n. take n text) is ∙ ap (take (length cut.out)) cut.split ∙ take-append_seam cut.out cut.rest)) cut.appended,
       omega (arith, is, len, short),
     )

@@ -1,5 +1,7 @@
 -- What the words of an event's places say: one place, or a first and a second.
-use Rattle.std.proofs.Common.{◌≡◌, ℕ, ◌<◌, Bool, true, false, true≢false, not, if◌then◌else◌, List, [], ◌∷◌, length, Option, Some, None, is_some, IfSome, refl, sym, ap, subst, ◌∙◌, arith}
+use Rattle.std.proofs.Common.{◌≡◌, ℕ, ◌<◌, Bool, true, false, true≢false, not, if◌then◌else◌, List, []}
+use Rattle.std.proofs.Common.{◌∷◌, length, Option, Some, None, is_some, IfSome, refl, sym, ap, subst}
+use Rattle.std.proofs.Common.{◌∙◌, arith}
 use Rattle.std.proofs.lemmas.Option.{none-some, same_Some}
 use Rattle.std.specs.List.{AllByRecursion}
 use Rattle.std.specs.Option.{option_and_then, option_map}

@@ -1,5 +1,7 @@
 -- The table of places with an event's places: the old ones stay, and the new ones are there.
-use Rattle.std.proofs.Common.{◌≡◌, ℕ, suc, ◌+◌, ◌<◌, ◌≤◌, ◌&&◌, ◌||◌, Bool, true, false, not, if◌then◌else◌, nat_lt, nat_le, cond, List, [], ◌∷◌, ◌++◌, length, slice_get, unwrap_or, Option, Some, None, option_map, IfSome, is_some, refl, sym, ap, ◌∙◌, arith, true≢false}
+use Rattle.std.proofs.Common.{◌≡◌, ℕ, suc, ◌+◌, ◌<◌, ◌≤◌, ◌&&◌, ◌||◌, Bool, true, false, not, if◌then◌else◌, nat_lt, nat_le, cond, List, [], ◌∷◌}
+use Rattle.std.proofs.Common.{◌++◌, length, slice_get, unwrap_or, Option, Some, None, option_map, IfSome, is_some, refl, sym, ap, ◌∙◌, arith}
+use Rattle.std.proofs.Common.{true≢false}
 use Rattle.std.proofs.lemmas.Bool.Decides.{nat_tests}
 use Rattle.std.proofs.lemmas.List.{length-append}
 use Rattle.std.proofs.lemmas.Option.{slice_get_within}
@@ -156,7 +158,8 @@ pub words_stay : (decls : DeclsState) (o : Occurrence) (e : Event) → fits decl
     → place_words (place_text (with_places decls o).places e.place) (second_text (with_places decls o).places e.place2)
     ≡ place_words (place_text decls.places e.place) (second_text decls.places e.place2)
 words_stay decls o e fit =
-    λ i. place_words (unwrap_or (places_stay decls o e.place (is_fit decls e fit).place i) []) (second (has_two_places (says e.op).0) e.place2 (is_fit decls e fit).second i)
+    λ i. place_words (unwrap_or (places_stay decls o e.place (is_fit decls e fit).place i) [])
+    (second (has_two_places (says e.op).0) e.place2 (is_fit decls e fit).second i)
   where
     second : (two : Bool) (place2 : Option ℕ) → second_place_fits (length decls.places) two place2 ≡ true
         → second_text (with_places decls o).places place2 ≡ second_text decls.places place2
@@ -171,7 +174,8 @@ pub places_well_formed : (decls : DeclsState) (o : Occurrence) → is_place o.pl
 places_well_formed decls o form form2 room holds =
     let mid = with_place decls o.place in
     let grown = (place_grows decls o.place).1 in
-    second_well_formed mid o.place2 form2 (omega (arith, room, grown)) (with_place_well_formed decls o.place holds (place_has_room decls o.place form (omega (arith, room))))
+    second_well_formed mid o.place2 form2 (omega (arith, room, grown))
+    (with_place_well_formed decls o.place holds (place_has_room decls o.place form (omega (arith, room))))
 
 pub places_are_trace : (trace : TraceState) (o : Occurrence) → IsTrace trace
     → IsTrace (record { decls = with_places trace.decls o; events = trace.events; spare = trace.spare })
@@ -181,7 +185,8 @@ places_are_trace trace o holds =
 
 -- what is in range of the places with an event's
 pub both_fit : (decls : DeclsState) (o : Occurrence) (two : Bool) → two ≡ is_some o.place2
-    → (place_number decls.places o.place < length (with_places decls o).places) × (second_place_fits (length (with_places decls o).places) two (event_of decls o).place2 ≡ true)
+    → (place_number decls.places o.place < length (with_places decls o).places)
+    × (second_place_fits (length (with_places decls o).places) two (event_of decls o).place2 ≡ true)
 both_fit decls o two count = (
   slice_get_within (with_places decls o).places (place_number decls.places o.place) o.place
       (second_stays (with_place decls o.place) o.place2 (place_number decls.places o.place) (first_within decls o) ∙ place_is_there decls o.place),

@@ -1,5 +1,7 @@
 -- The header, and lines that declare.
-use Rattle.std.proofs.Common.{◌≡◌, ◌≢◌, ℕ, ◌≤◌, length, Bool, true, false, not, if◌then◌else◌, List, [], ◌∷◌, ◌++◌, Option, Some, None, Result, Ok, Err, IfOk, refl, sym, ap, subst, ◌∙◌, arith, true≢false}
+use Rattle.std.proofs.Common.{◌≡◌, ◌≢◌, ℕ, ◌≤◌, length, Bool, true, false, not, if◌then◌else◌, List, [], ◌∷◌}
+use Rattle.std.proofs.Common.{◌++◌, Option, Some, None, Result, Ok, Err, IfOk, refl, sym, ap, subst, ◌∙◌, arith}
+use Rattle.std.proofs.Common.{true≢false}
 use Rattle.std.proofs.lemmas.List.Splits.{join_with_byte-slice_split}
 use Rattle.std.proofs.lemmas.Option.{none-some}
 use Rattle.std.proofs.lemmas.Slice.Eq.{bytes_eq-Decides}
@@ -116,13 +118,15 @@ module _ (old new : DeclsState) (line : List ℕ) (read : IsRead (begun old)) (c
   taken_declaration h none added =
       let is = declaration_of_line old.declarations line h none in
       let new_is : new ≡ with_declaration old is.d.name is.d.object = added ∙ ap (with_declared old) is.is in
-      let after : lines (begun new) ≡ lines (begun old) ++ line ∷ [] = ap (λ (d : DeclsState). lines (begun d)) new_is ∙ lines_declaration old line is.d is.text in
+      let after : lines (begun new) ≡ lines (begun old) ++ line ∷ [] =
+      ap (λ (d : DeclsState). lines (begun d)) new_is ∙ lines_declaration old line is.d is.text in
       record {
         no_cause = cause_of_line h ∙ none;
         lines = after;
         is_read = record {
           has_text = subst (λ (d : DeclsState). HasText (begun d)) (sym new_is) (record {
-            well_formed = push_well_formed old read.has_text.well_formed is.d.name is.d.object (allowed_from_no_fault old.declarations is.d.object is.d.name is.fine);
+            well_formed = push_well_formed old read.has_text.well_formed is.d.name is.d.object
+                (allowed_from_no_fault old.declarations is.d.object is.d.name is.fine);
             is_trace = no_events (with_declaration old is.d.name is.d.object);
           });
           seen_is = ap seen after ∙ seen_declaration (lines (begun old)) line old.declarations is.d read.seen_is is.is is.event
@@ -142,7 +146,8 @@ module _ (old new : DeclsState) (line : List ℕ) (read : IsRead (begun old)) (c
 
   pub declaration_answered : (r : Result Bool TextCause) → Refuses (declaration_cause old.declarations line) r
       → AllowsUnless (declaration_cause old.declarations line) r TextCause.OutOfMemory
-      → IfOk r (λ added. added ≡ is_declaration_line line) → (r ≡ Ok true → new ≡ with_declaration_in old line) → (r ≡ Ok false → new ≡ old) → TakesDeclaration old line r new
+      → IfOk r (λ added. added ≡ is_declaration_line line) → (r ≡ Ok true → new ≡ with_declaration_in old line)
+      → (r ≡ Ok false → new ≡ old) → TakesDeclaration old line r new
   declaration_answered (Ok true) refused allowed ok added same = taken_declaration (sym ok) (by (declaration_cause old.declarations line) refused) (added refl)
     where
       by : (o : Option TextCause) → Refuses {T = Bool} o (Ok true) → o ≡ None

@@ -1,5 +1,7 @@
 -- Bytes without a fault are some trace's text: line by line, each is taken into a trace.
-use Rattle.std.proofs.Common.{◌≡◌, ℕ, ◌+◌, ◌*◌, ◌<◌, ◌≤◌, Bool, true, false, not, nat_le, ◌==◌, if◌then◌else◌, List, [], ◌∷◌, ◌++◌, length, Option, Some, None, refl, sym, ap, subst, ◌∙◌, arith, true≢false, append-nil, append_assoc}
+use Rattle.std.proofs.Common.{◌≡◌, ℕ, ◌+◌, ◌*◌, ◌<◌, ◌≤◌, Bool, true, false, not, nat_le, ◌==◌, if◌then◌else◌, List, [], ◌∷◌}
+use Rattle.std.proofs.Common.{◌++◌, length, Option, Some, None, refl, sym, ap, subst, ◌∙◌, arith, true≢false, append-nil}
+use Rattle.std.proofs.Common.{append_assoc}
 use Rattle.std.proofs.lemmas.Bool.Decides.{nat_tests}
 use Rattle.std.proofs.lemmas.Grind.{flat_map-append}
 use Rattle.std.proofs.lemmas.List.Splits.{join_with_byte-slice_split, length-slice_split}
@@ -84,7 +86,8 @@ module _ (t : TraceState) (read : IsRead t) (line : List ℕ) (none : cause (lin
       by (Some o) says b declares es are = with_event o says
       by None says false declares es are = absurd (no_event_is_told ds (length t.events) line says (λ h. absurd (true≢false (sym h ∙ declares))) told_none)
       by None says true declares [] are = with_declared_line are declares
-      by None says true declares (e ∷ es) are = absurd (no_event_is_told ds (length t.events) line says (λ _. let l = ap length are in omega (arith, l)) told_none)
+      by None says true declares (e ∷ es) are =
+          absurd (no_event_is_told ds (length t.events) line says (λ _. let l = ap length are in omega (arith, l)) told_none)
 
 -- where a fault is none, neither the first cause is one, nor a later fault
 or_later_none : (n : ℕ) (o : Option TextCause) (later : Option TextFault) → or_later n o later ≡ None → (o ≡ None) × (later ≡ None)

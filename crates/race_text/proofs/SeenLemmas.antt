@@ -1,5 +1,7 @@
 -- A word that is cut at the first byte that can't be seen.
-use Rattle.std.proofs.Common.{◌≡◌, ℕ, zero, suc, ◌+◌, ◌<◌, ◌≤◌, ◌==◌, ◌-◌, ◌≢◌, nat_lt, drop, ◌&&◌, ◌||◌, Bool, true, false, not, cond, List, [], ◌∷◌, length, take, get_or, position, Some, None, is_some, refl, sym, ap, ◌∙◌, arith, true≢false}
+use Rattle.std.proofs.Common.{◌≡◌, ℕ, zero, suc, ◌+◌, ◌<◌, ◌≤◌, ◌==◌, ◌-◌, ◌≢◌, nat_lt, drop, ◌&&◌, ◌||◌, Bool, true, false, not}
+use Rattle.std.proofs.Common.{cond, List, [], ◌∷◌, length, take, get_or, position, Some, None, is_some, refl, sym, ap, ◌∙◌, arith}
+use Rattle.std.proofs.Common.{true≢false}
 use Rattle.std.proofs.lemmas.Bool.Decides.{nat_tests}
 use Rattle.std.proofs.lemmas.List.Quantifiers.{position-Some}
 use Rattle.std.proofs.lemmas.List.Splits.{slice_split-cons_no}
@@ -58,7 +60,8 @@ word_before_space bytes end found space =
     let within = at.0 in
     let first : position_or_len (λ b. b == 32) bytes ≡ end =
     position_or_len_is (λ b. b == 32) bytes end 0 (omega (arith, within)) (λ k l. not_space (get_or bytes k 0) (seen k l)) (λ _. ap (λ b. b == 32) space) in
-    let cut : position (λ b. b == 32) bytes ≡ Some end = (λ i. cond (nat_lt (first i) (length bytes)) (Some (first i)) None) ∙ ap (λ t. cond t (Some end) None) (below within) in
+    let cut : position (λ b. b == 32) bytes ≡ Some end =
+    (λ i. cond (nat_lt (first i) (length bytes)) (Some (first i)) None) ∙ ap (λ t. cond t (Some end) None) (below within) in
     (seen_front bytes end (omega (arith, within)) seen, slice_split-found (λ b. b == 32) bytes 0 end cut)
   where
     below : end < length bytes → nat_lt end (length bytes) ≡ true

@@ -1,5 +1,8 @@
 -- How long a trace's text can be.
-use Rattle.std.proofs.Common.{◌≡◌, ℕ, suc, ◌+◌, ◌-◌, ◌*◌, ◌^◌, ◌<◌, ◌≤◌, ◌==◌, ◌&&◌, not, Bool, true, false, IsTrue, nat_le, nat_lt, if◌then◌else◌, List, [], ◌∷◌, ◌++◌, length, slice_get, unwrap_or, Option, Some, None, option_map, All, map, codes, decimal, refl, sym, ap, subst, ◌∙◌, arith, length-append}
+use Rattle.std.proofs.Common.{◌≡◌, ℕ, suc, ◌+◌, ◌-◌, ◌*◌, ◌^◌, ◌<◌, ◌≤◌, ◌==◌, ◌&&◌, not, Bool, true, false}
+use Rattle.std.proofs.Common.{IsTrue, nat_le, nat_lt, if◌then◌else◌, List, [], ◌∷◌, ◌++◌, length, slice_get}
+use Rattle.std.proofs.Common.{unwrap_or, Option, Some, None, option_map, All, map, codes, decimal, refl, sym, ap}
+use Rattle.std.proofs.Common.{subst, ◌∙◌, arith, length-append}
 use Rattle.std.proofs.lemmas.Bool.Decides.{nat_tests}
 use Rattle.std.proofs.lemmas.Fmt.{length-decimal-le}
 use Rattle.std.proofs.lemmas.List.Concat.{flat_map-cons}
@@ -30,7 +33,9 @@ use Rattle.race_records.proofs.NounLaws.{IsWanted, says_wanted}
 use Rattle.race_text.proofs.DeclarationLemmas.{small_limit}
 use Rattle.race_text.proofs.WordTable.{object_words_are}
 use Rattle.race_records.specs.Events.{TraceState, IsTrace, op_is_limited}
-use Rattle.race_text.specs.Text.{text, header, ended, line_of, declaration_line, goroutine_name, chan_text, dir_text, case_text, cases_text, place_text, second_text, place_words, event_line}
+use Rattle.race_text.specs.Text.{text, header, ended, line_of, declaration_line, goroutine_name, chan_text}
+use Rattle.race_text.specs.Text.{dir_text, case_text, cases_text, place_text, second_text, place_words}
+use Rattle.race_text.specs.Text.{event_line}
 use Rattle.race_text.specs.Writing.{declarations_text, events_text, body}
 use Rattle.race_text.proofs.NamesAgain.{stands_at}
 use Rattle.race_text.proofs.WritingLemmas.{ended_more, line_of_2, text_is}
@@ -114,7 +119,8 @@ module _ (decls : DeclsState) (holds : IsWellFormed decls) where
       let digits = value_short n (grind (arith, nat_tests, low, wanted)) in
       let behind = more name (decimal n ++ 10 ∷ []) 64 21 short (last (decimal n) 20 digits) in
       let len = more (noun_text noun) (name ++ 32 ∷ (decimal n ++ 10 ∷ [])) 64 86 (noun_short noun) behind in
-      subst (λ l. length l ≤ 5000) (sym (ended_more (noun_text noun) name (decimal n ∷ []) ∙ ap (λ l. noun_text noun ++ 32 ∷ l) (line_of_2 name (decimal n)))) (omega (arith, len))
+      subst (λ l. length l ≤ 5000) (sym (ended_more (noun_text noun) name (decimal n ∷ [])
+      ∙ ap (λ l. noun_text noun ++ 32 ∷ l) (line_of_2 name (decimal n)))) (omega (arith, len))
   declared_short noun name None (Some n) short wanted small = absurd wanted
   declared_short noun name (Some l) None short wanted small = absurd wanted
 
@@ -189,7 +195,8 @@ module _ (decls : DeclsState) (holds : IsWellFormed decls) where
       let places = place_words (place_text decls.places n) (second_text decls.places place2) in
       let rest = parts_short text parts n place2 (part_short part lows.0) lows.1 in
       let len = more a _ 1120 (1121 * length parts + 1380) short rest in
-      subst (λ l. length l ≤ 1121 * length (part ∷ parts) + 1380) (sym (ended_more a text (map (part_text decls.declarations) parts ++ places))) (omega (arith, len))
+      subst (λ l. length l ≤ 1121 * length (part ∷ parts) + 1380)
+      (sym (ended_more a text (map (part_text decls.declarations) parts ++ places))) (omega (arith, len))
 
   verb_short : (verb : Verb) → length (verb_text verb) ≤ 64
   verb_short Verb.Go = omega arith
@@ -208,7 +215,8 @@ module _ (decls : DeclsState) (holds : IsWellFormed decls) where
       let rest = parts_short who parts e.place e.place2 (let short = goroutine_short e.who in omega (arith, short)) value in
       let len = more (verb_text verb) _ 64 (1121 * length parts + 1380) (verb_short verb) rest in
       subst (λ ws. length (ended (line_of ws)) ≤ 5000) (sym (op_words_are decls.declarations who places e.op))
-      (subst (λ l. length l ≤ 5000) (sym (ended_more (verb_text verb) who (map (part_text decls.declarations) parts ++ places))) (omega (arith, len, few_parts e.op)))
+      (subst (λ l. length l ≤ 5000) (sym (ended_more (verb_text verb) who (map (part_text decls.declarations) parts ++ places)))
+      (omega (arith, len, few_parts e.op)))
 
 -- so many pieces, none of them long
 pieces_short : {X : Type 0} (piece : X → List ℕ) (xs : List X) → ((i : ℕ) (x : X) → slice_get xs i ≡ Some x → length (piece x) ≤ 5000)
@@ -256,5 +264,6 @@ text_short t is_trace holds =
     let sum = kinds_sum ds in
     let few = is_trace.limited in
     let len : length (text t) ≡ 10 + (length (declarations_text ds) + length (events_text t.decls t.events)) =
-    ap length (text_is t) ∙ length-append (ended header) (body t.decls t.events) ∙ ap (λ n. 10 + n) (length-append (declarations_text ds) (events_text t.decls t.events)) in
+    ap length (text_is t) ∙ length-append (ended header) (body t.decls t.events)
+    ∙ ap (λ n. 10 + n) (length-append (declarations_text ds) (events_text t.decls t.events)) in
     omega (arith, declared, happened, a, b, c, d, e, sum, few, len)

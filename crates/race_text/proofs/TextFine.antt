@@ -1,5 +1,7 @@
 -- The text of a trace has no fault.
-use Rattle.std.proofs.Common.{◌≡◌, ◌≢◌, ℕ, suc, ◌+◌, ◌<◌, Bool, true, false, nat_le, nat_lt, cond, if◌then◌else◌, List, [], ◌∷◌, ◌++◌, length, map, get_or, Some, None, ◌⊎◌, inl, inr, is_some, refl, sym, ap, subst, ◌∙◌, arith, true≢false, append-nil, append_assoc}
+use Rattle.std.proofs.Common.{◌≡◌, ◌≢◌, ℕ, suc, ◌+◌, ◌<◌, Bool, true, false, nat_le, nat_lt, cond, if◌then◌else◌, List, [], ◌∷◌, ◌++◌, length}
+use Rattle.std.proofs.Common.{map, get_or, Some, None, ◌⊎◌, inl, inr, is_some, refl, sym, ap, subst, ◌∙◌, arith, true≢false, append-nil}
+use Rattle.std.proofs.Common.{append_assoc}
 use Rattle.std.proofs.lemmas.Bool.Decides.{nat_tests}
 use Rattle.std.proofs.lemmas.List.{length-append, map-append}
 use Rattle.std.proofs.lemmas.List.Elements.{filter-append}
@@ -14,7 +16,9 @@ use Rattle.race_records.specs.declared.kind.Named.{Named}
 use Rattle.race_records.specs.declared.kind.Object.{Object}
 use Rattle.race_records.specs.declared.trace.TheConstants.{MAX_EVENTS}
 use Rattle.race_records.specs.Name.{main, is_name}
-use Rattle.race_records.specs.Declarations.{Declaration, DeclsState, IsWellFormed, kind_of, is_of_kind, of_kind, count_of, limit_of, is_too_wide, declared_at, find_name, decl_fault}
+use Rattle.race_records.specs.Declarations.{Declaration, DeclsState, IsWellFormed, kind_of}
+use Rattle.race_records.specs.Declarations.{is_of_kind, of_kind, count_of, limit_of, is_too_wide}
+use Rattle.race_records.specs.Declarations.{declared_at, find_name, decl_fault}
 use Rattle.race_records.specs.Events.{TraceState}
 use Rattle.race_text.specs.declared.cause.TextCause.{TextCause}
 use Rattle.race_text.specs.declared.cause.TextFault.{TextFault}
@@ -61,7 +65,8 @@ of_own_kind (Object.Lock rw) = refl
 of_own_kind Object.Once = refl
 
 -- a declaration among others: nothing refuses it behind those before it
-module _ (decls : DeclsState) (holds : IsWellFormed decls) (before after : List Declaration) (d : Declaration) (is : before ++ d ∷ after ≡ decls.declarations) where
+module _ (decls : DeclsState) (holds : IsWellFormed decls) (before after : List Declaration)
+    (d : Declaration) (is : before ++ d ∷ after ≡ decls.declarations) where
   abbrev ds : List Declaration
   ds = decls.declarations
 
@@ -85,7 +90,8 @@ module _ (decls : DeclsState) (holds : IsWellFormed decls) (before after : List 
 
   is_new : find_name before d.name ≡ None
   is_new =
-      let last = position_or_len_is (λ (e : Declaration). bytes_eq d.name e.name) before (length before) d (omega arith) differs_before (λ less. absurd (omega (arith, less))) in
+      let last = position_or_len_is (λ (e : Declaration). bytes_eq d.name e.name) before
+      (length before) d (omega arith) differs_before (λ less. absurd (omega (arith, less))) in
       let over : nat_lt (length before) (length before) ≡ false = grind (arith, nat_tests) in
       (λ j. if not_main j then Some (Named.Goroutine 0) else option_and_then (declared_at before) (cond (nat_lt (last j) (length before)) (Some (last j)) None))
       ∙ ap (λ t. option_and_then (declared_at before) (cond t (Some (length before)) None)) over
@@ -140,7 +146,8 @@ module _ (t : TraceState) (has : HasText t) where
 
   declarations_fine : (before after : List Declaration) → before ++ after ≡ declared → seen (header ∷ map declaration_line before) ≡ seen_so_far before 0
       → AreFine (header ∷ map declaration_line before) (map declaration_line after) × (seen (header ∷ map declaration_line declared) ≡ seen_so_far declared 0)
-  declarations_fine before [] is says = (tt, subst (λ (ds : List Declaration). seen (header ∷ map declaration_line ds) ≡ seen_so_far ds 0) (sym (append-nil before) ∙ is) says)
+  declarations_fine before [] is says =
+      (tt, subst (λ (ds : List Declaration). seen (header ∷ map declaration_line ds) ≡ seen_so_far ds 0) (sym (append-nil before) ∙ is) says)
   declarations_fine before (d ∷ after) is says =
       let at = here t.decls has.well_formed before after d is in
       let less = within t.decls has.well_formed before after d is in
@@ -175,13 +182,15 @@ module _ (t : TraceState) (has : HasText t) where
       clean_line (seen_so_far declared (length done)) (print (get_or t.events (length done) e)) line.clean
       ∙ line.cause_is (length done) ∙ ap (λ b. if b then Some TextCause.TooMany else None) room in
       let more : map declaration_line declared ++ map print (done ++ e ∷ []) ≡ head ++ print e ∷ [] =
-      ap (λ l. map declaration_line declared ++ l) (map-append print done (e ∷ [])) ∙ sym (append_assoc (map declaration_line declared) (map print done) (print e ∷ [])) in
+      ap (λ l. map declaration_line declared ++ l) (map-append print done (e ∷ []))
+      ∙ sym (append_assoc (map declaration_line declared) (map print done) (print e ∷ [])) in
       let told : seen (header ∷ head ++ print e ∷ []) ≡ seen_so_far declared (length done + 1) =
       ap (λ l. seen (header ∷ head ++ l ∷ [])) (sym same)
       ∙ seen_event (header ∷ head) (print (get_or t.events (length done) e)) declared (length done) says line.declares line.is_event in
       let next = events_fine (done ++ e ∷ []) rest (append_assoc done (e ∷ []) rest ∙ is)
       (ap (λ ls. seen (header ∷ ls)) more ∙ told ∙ ap (seen_so_far declared) (sym (length-append done (e ∷ [])))) in (
-        ap (λ l. cause (header ∷ head) l true) (sym same) ∙ cause_by_seen head (print (get_or t.events (length done) e)) (seen_so_far declared (length done)) says ∙ fine,
+        ap (λ l. cause (header ∷ head) l true) (sym same)
+            ∙ cause_by_seen head (print (get_or t.events (length done) e)) (seen_so_far declared (length done)) says ∙ fine,
         subst (λ ls. AreFine (header ∷ ls) (map print rest)) more next,
       )
 
@@ -193,7 +202,8 @@ module _ (t : TraceState) (has : HasText t) where
   unfolding lines
   lines_fine =
       let first = declarations_fine [] declared refl header_says in
-      let none_done : header ∷ map declaration_line declared ++ [] ≡ header ∷ map declaration_line declared = append-nil (header ∷ map declaration_line declared) in (
+      let none_done : header ∷ map declaration_line declared ++ [] ≡ header ∷ map declaration_line declared =
+      append-nil (header ∷ map declaration_line declared) in (
         header_fine,
         fine_both (header ∷ []) (map declaration_line declared) (map print t.events) first.0
             (subst (λ ls. AreFine ls (map print t.events)) none_done (events_fine [] t.events refl (ap seen none_done ∙ first.1))),

@@ -1,5 +1,7 @@
 -- What the lines of a trace say: its declarations, and its events.
-use Rattle.std.proofs.Common.{◌≡◌, ℕ, suc, ◌<◌, ◌^◌, Bool, true, false, true≢false, List, [], ◌∷◌, ◌++◌, length, map, get_or, slice_get, unwrap_or, Option, Some, None, refl, sym, ap, ◌∙◌, arith, append-nil}
+use Rattle.std.proofs.Common.{◌≡◌, ℕ, suc, ◌<◌, ◌^◌, Bool, true, false, true≢false, List, [], ◌∷◌, ◌++◌, length}
+use Rattle.std.proofs.Common.{map, get_or, slice_get, unwrap_or, Option, Some, None, refl, sym, ap, ◌∙◌, arith}
+use Rattle.std.proofs.Common.{append-nil}
 use Rattle.std.proofs.lemmas.List.{append_cancel_right}
 use Rattle.std.proofs.lemmas.List.Elements.{filter_map-append}
 use Rattle.std.proofs.lemmas.Option.{slice_get-get_or}
@@ -42,7 +44,8 @@ pub record IsDeclarationLine (d : Declaration) (line : List ℕ) : Type 0 where
 
 numbers_visible : (limit number : Option ℕ) → IsWanted limit number → ((l : ℕ) → limit ≡ Some l → l < 2 ^ 64) → AreVisible (number_words number)
 numbers_visible None None wanted small = tt
-numbers_visible (Some l) (Some n) wanted small = let low = small l refl in (number_is_visible l (decimal n) n low (number-some l n (decimal n) low wanted refl), tt)
+numbers_visible (Some l) (Some n) wanted small = let low = small l refl in
+    (number_is_visible l (decimal n) n low (number-some l n (decimal n) low wanted refl), tt)
 numbers_visible None (Some n) wanted small = absurd wanted
 numbers_visible (Some l) None wanted small = absurd wanted
 
@@ -68,7 +71,8 @@ declaration_again d form narrow =
 -- it says no event
 pub says_no_event : (ds : List Declaration) (d : Declaration) (line : List ℕ) → IsDeclarationLine d line → event_in ds (words_of line) ≡ None
 says_no_event ds d line is =
-    ap (event_in ds) is.words ∙ ap (λ w. event_by ds w (d.name ∷ number_words (object_says d.object).1)) (sym (ap (λ ws. word_named (first_word ws)) is.words) ∙ is.named)
+    ap (event_in ds) is.words ∙ ap (λ w. event_by ds w (d.name ∷ number_words (object_says d.object).1))
+    (sym (ap (λ ws. word_named (first_word ws)) is.words) ∙ is.named)
 
 pub is_no_event : (d : Declaration) (line : List ℕ) → IsDeclarationLine d line → is_event_line line ≡ false
 is_no_event d line is = ap is_event_word is.named
@@ -87,7 +91,8 @@ joined_each P (x ∷ xs) ys h k = (h.0, joined_each P xs ys h.1 k)
 scan_none : {X Y : Type 0} (f : List ℕ → Option Y) (line : X → List ℕ) (xs : List X) → ((i : ℕ) (d : X) → i < length xs → f (line (get_or xs i d)) ≡ None)
     → filter_map f (map line xs) ≡ []
 scan_none f line [] each = refl
-scan_none f line (x ∷ xs) each = (λ j. cons_option (each 0 x (omega arith) j) (filter_map f (map line xs))) ∙ scan_none f line xs (λ i d less. each (suc i) d (omega (arith, less)))
+scan_none f line (x ∷ xs) each = (λ j. cons_option (each 0 x (omega arith) j) (filter_map f (map line xs)))
+    ∙ scan_none f line xs (λ i d less. each (suc i) d (omega (arith, less)))
 
 scan_some : {X Y : Type 0} (f : List ℕ → Option Y) (line : X → List ℕ) (g : X → Y) (xs : List X)
     → ((i : ℕ) (d : X) → i < length xs → f (line (get_or xs i d)) ≡ Some (g (get_or xs i d))) → filter_map f (map line xs) ≡ map g xs
@@ -183,7 +188,8 @@ module _ (t : TraceState) (has : HasText t) where
 pub equal_texts : (t u : TraceState) → HasText t → HasText u → text t ≡ text u → recorded t ≡ recorded u
 equal_texts t u has other same =
     let cut : lines t ≡ lines u = append_cancel_right (lines t) (lines u) ([] ∷ []) (sym (lines_again t has) ∙ ap parts_of same ∙ lines_again u other) in
-    let declared : t.decls.declarations ≡ u.decls.declarations = sym (declarations_again t has) ∙ ap (filter_map declaration_in) cut ∙ declarations_again u other in
+    let declared : t.decls.declarations ≡ u.decls.declarations = sym (declarations_again t has)
+    ∙ ap (filter_map declaration_in) cut ∙ declarations_again u other in
     λ j. record {
       declarations = declared j;
       events = (sym (placed_again t has) ∙ (λ k. map recorded_as (filter_map (λ l. event_in (declared k) (words_of l)) (cut k))) ∙ placed_again u other) j;

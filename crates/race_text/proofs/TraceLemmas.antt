@@ -1,5 +1,8 @@
 -- One more event, or one more declaration: the lines of a trace, and what they say to the next one.
-use Rattle.std.proofs.Common.{◌≡◌, ℕ, suc, ◌+◌, ◌<◌, ◌==◌, ◌&&◌, Bool, true, false, not, if◌then◌else◌, nat_lt, nat_le, cond, List, [], ◌∷◌, ◌++◌, length, map, get_or, Option, Some, None, ◌≢◌, Result, Ok, Err, MatchResult, IsOkUnless, IsSome, OnOk, refl, sym, ap, subst, ◌∙◌, arith, true≢false, append-nil, append_assoc}
+use Rattle.std.proofs.Common.{◌≡◌, ℕ, suc, ◌+◌, ◌<◌, ◌==◌, ◌&&◌, Bool, true, false, not, if◌then◌else◌, nat_lt}
+use Rattle.std.proofs.Common.{nat_le, cond, List, [], ◌∷◌, ◌++◌, length, map, get_or, Option, Some, None, ◌≢◌, Result}
+use Rattle.std.proofs.Common.{Ok, Err, MatchResult, IsOkUnless, IsSome, OnOk, refl, sym, ap, subst, ◌∙◌, arith}
+use Rattle.std.proofs.Common.{true≢false, append-nil, append_assoc}
 use Rattle.std.proofs.lemmas.Bool.Decides.{nat_tests}
 use Rattle.std.proofs.lemmas.List.{length-append, map-append}
 use Rattle.std.proofs.lemmas.List.Elements.{filter_map-append}
@@ -36,7 +39,8 @@ map_same f g (x ∷ xs) h = λ i. h 0 x (omega arith) i ∷ map_same f g xs (λ 
 events_stay : (t : TraceState) (o : Occurrence) → IsTrace t → map (event_line (with_places t.decls o)) t.events ≡ map (event_line t.decls) t.events
 events_stay t o holds = map_same (event_line (with_places t.decls o)) (event_line t.decls) t.events
     (λ k d within. let e = get_or t.events k d in
-    ap (λ places. line_of (op_words t.decls.declarations (goroutine_name t.decls.declarations e.who) places e.op)) (words_stay t.decls o e (holds.fit k d within)))
+    ap (λ places. line_of (op_words t.decls.declarations (goroutine_name t.decls.declarations e.who) places e.op))
+    (words_stay t.decls o e (holds.fit k d within)))
 
 -- the line of the event that is appended
 event_line_is : (decls : DeclsState) (line : List ℕ) (o : Occurrence) → IsEventLine decls.declarations line o
@@ -111,7 +115,8 @@ event_has_room t e fit room =
     by (is_in_range t.decls e) (lock_fits t.decls.declarations e.op) fit (nat_le MAX_EVENTS (length t.events)) full
   where
     by : (a b : Bool) → (a && b) ≡ true → (c : Bool) → c ≡ false
-        → ◌≡◌ {A = Option PushFault} (if not a then Some PushFault.BadNumber else (if not b then Some PushFault.WrongKind else (if c then Some PushFault.Full else None))) None
+        → ◌≡◌ {A = Option PushFault} (if not a then Some PushFault.BadNumber else
+        (if not b then Some PushFault.WrongKind else (if c then Some PushFault.Full else None))) None
     by true true e true f = absurd (true≢false f)
     by true true e false f = refl
     by true false e c f = absurd (true≢false (sym e))
@@ -136,16 +141,26 @@ cause_behind t line read = ap (λ s. line_cause s line) read.seen_is
 
 pub bad_byte_is_told : (s : Seen) (line : List ℕ) → has_bad_byte line ≡ true → line_cause s line ≡ Some TextCause.BadByte
 unfolding line_cause
-bad_byte_is_told s line bad = ap (λ b. if b then Some TextCause.BadByte else word_cause s (word_named (first_word (words_of line))) (arguments (words_of line))) bad
+bad_byte_is_told s line bad =
+    ap (λ b. if b then Some TextCause.BadByte else word_cause s (word_named (first_word (words_of line))) (arguments (words_of line))) bad
 
 pub clean_line : (s : Seen) (line : List ℕ) → has_bad_byte line ≡ false
     → line_cause s line ≡ word_cause s (word_named (first_word (words_of line))) (arguments (words_of line))
 unfolding line_cause
-clean_line s line clean = ap (λ b. if b then Some TextCause.BadByte else word_cause s (word_named (first_word (words_of line))) (arguments (words_of line))) clean
+clean_line s line clean = ap (λ b. if b then Some TextCause.BadByte else word_cause s
+    (word_named (first_word (words_of line))) (arguments (words_of line))) clean
 
 -- an event that a line says fits
 pub fitting : (decls : DeclsState) (line : List ℕ) (o : Occurrence) → IsEventLine decls.declarations line o → IsFitting decls o
-fitting decls line o is = record { place = is.places.first; second = is.places.second; two = is.places.count; who = is.who; op = is.op; lock = is.lock; value = is.value }
+fitting decls line o is = record {
+  place = is.places.first;
+  second = is.places.second;
+  two = is.places.count;
+  who = is.who;
+  op = is.op;
+  lock = is.lock;
+  value = is.value;
+}
 
 -- an event that was appended, or refused
 module _ (old new : TraceState) (line : List ℕ) (o : Occurrence) (read : IsRead old) (is : IsEventLine old.decls.declarations line o) where
@@ -165,7 +180,8 @@ module _ (old new : TraceState) (line : List ℕ) (o : Occurrence) (read : IsRea
       let room = added.room in
       let before = read.has_text in
       record {
-        well_formed = subst IsWellFormed (sym added.decls) (places_well_formed old.decls o is.places.first is.places.second (omega (arith, few, room)) before.well_formed);
+        well_formed = subst IsWellFormed (sym added.decls)
+            (places_well_formed old.decls o is.places.first is.places.second (omega (arith, few, room)) before.well_formed);
         is_trace = subst (λ (d : DeclsState). IsTrace (record { decls = d; events = new.events; spare = new.spare })) (sym added.decls)
             (push_is_trace mid e new.events new.spare (places_are_trace old o before.is_trace) is.value (event_has_room mid e fit added.room) added.events);
       }
@@ -219,7 +235,8 @@ pub late_declaration : (ds : List Declaration) (events : ℕ) (word : Word) (kin
 late_declaration ds events word kind words is some h = by (length words == length (fields_of word)) h
   where
     by : (b : Bool)
-        → (if not b then Some TextCause.WrongCount else or_else (fields_cause ds (fields_of word) words) (room_cause (seen_so_far ds events) (kind_declared word))) ≡ None
+        → (if not b then Some TextCause.WrongCount else or_else (fields_cause ds (fields_of word) words)
+        (room_cause (seen_so_far ds events) (kind_declared word))) ≡ None
         → ⊥
     by false h = none-some TextCause.WrongCount (sym h)
     by true h =
@@ -231,7 +248,8 @@ no_event : (ds : List Declaration) (events : ℕ) (word : Option Word) (args : L
     → (is_declaration_word word ≡ true → 0 < events)
     → word_cause (seen_so_far ds events) word args ≡ None → ⊥
 no_event ds events None args none behind h = none-some TextCause.UnknownWord (sym h)
-no_event ds events (Some (Word.Declares noun)) args none behind h = late_declaration ds events (Word.Declares noun) (kind_of_noun noun) args refl (behind refl) h
+no_event ds events (Some (Word.Declares noun)) args none behind h =
+    late_declaration ds events (Word.Declares noun) (kind_of_noun noun) args refl (behind refl) h
 no_event ds events (Some (Word.Does verb)) args none behind h = event_is_there ds events verb args h none
 
 pub no_word : word_named [] ≡ None
@@ -241,7 +259,8 @@ no_word = refl
 pub no_event_is_told : (ds : List Declaration) (events : ℕ) (line : List ℕ) → event_in ds (words_of line) ≡ None
     → (is_declaration_line line ≡ true → 0 < events)
     → line_cause (seen_so_far ds events) line ≡ None → ⊥
-no_event_is_told ds events line none behind h = cases (has_bad_byte line) refl (λ clean. by (words_of line) none behind (sym (clean_line (seen_so_far ds events) line clean) ∙ h))
+no_event_is_told ds events line none behind h =
+    cases (has_bad_byte line) refl (λ clean. by (words_of line) none behind (sym (clean_line (seen_so_far ds events) line clean) ∙ h))
   where
     cases : (b : Bool) → has_bad_byte line ≡ b → (has_bad_byte line ≡ false → ⊥) → ⊥
     cases true bad rest = none-some TextCause.BadByte (sym h ∙ bad_byte_is_told (seen_so_far ds events) line bad)

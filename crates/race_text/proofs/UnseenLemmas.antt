@@ -33,8 +33,10 @@ unseen_name decls kind w holds h = no_name decls kind w holds (is_false (is_name
 pub unseen_part : (decls : DeclsState) (kind : PartKind) (ws : List (List ℕ)) → IsWellFormed decls → list_all is_place_byte (first_word ws) ≡ false
     → first_part decls.declarations kind ws ≡ None
 unseen_part decls kind [] holds h = refl
-unseen_part decls (PartKind.Object kind) (w ∷ ws) holds h = ap (λ o. option_map (with_rest ws) (option_map Part.Object o)) (unseen_name decls (PartKind.Object kind) w holds h)
-unseen_part decls PartKind.RwMutex (w ∷ ws) holds h = ap (λ o. option_map (with_rest ws) (option_map Part.Object o)) (unseen_name decls PartKind.RwMutex w holds h)
+unseen_part decls (PartKind.Object kind) (w ∷ ws) holds h =
+    ap (λ o. option_map (with_rest ws) (option_map Part.Object o)) (unseen_name decls (PartKind.Object kind) w holds h)
+unseen_part decls PartKind.RwMutex (w ∷ ws) holds h =
+    ap (λ o. option_map (with_rest ws) (option_map Part.Object o)) (unseen_name decls PartKind.RwMutex w holds h)
 unseen_part decls PartKind.Value (w ∷ ws) holds h = by (number (2 ^ 64 - 1) w) refl
   where
     by : (o : Option ℕ) → number (2 ^ 64 - 1) w ≡ o → option_map (with_rest ws) (option_map Part.Value o) ≡ None

@@ -17,7 +17,8 @@ use Rattle.race_text.proofs.NamesAgain.{name_again}
 
 module _ (ds : List Declaration) where
   -- it is found, and is what is wanted
-  pub named_is : (kind : PartKind) (w : List ℕ) (named : Named) → named_in ds kind w ≡ Some named → (find_name ds w ≡ Some named) × (is_wanted ds kind named ≡ true)
+  pub named_is : (kind : PartKind) (w : List ℕ) (named : Named) → named_in ds kind w ≡ Some named
+      → (find_name ds w ≡ Some named) × (is_wanted ds kind named ≡ true)
   named_is kind w named h =
       let found = and_then_some (as_wanted ds kind) (find_name ds w) named h in
       by found.0 found.1 (is_wanted ds kind found.0) refl found.2

@@ -12,7 +12,9 @@ use Rattle.race_records.specs.Parts.{says}
 use Rattle.race_records.specs.Declarations.{Declaration, DeclsState, name_of}
 use Rattle.race_records.proofs.ListLemmas.{flat_map-map}
 use Rattle.race_text.specs.Text.{goroutine_name, place_text, second_text, place_words, text, lines, header, ended, line_of, declaration_line, event_line}
-use Rattle.race_text.specs.Writing.{body, text_of, declaration_text, noun_text, number_words, number_end, verb_text, part_text, said_words, behind_space, parts_text, place_end}
+use Rattle.race_text.specs.Writing.{body, text_of, declaration_text, noun_text, number_words}
+use Rattle.race_text.specs.Writing.{number_end, verb_text, part_text, said_words, behind_space}
+use Rattle.race_text.specs.Writing.{parts_text, place_end}
 use Rattle.race_text.proofs.EventLines.{op_words_are}
 use Rattle.race_text.proofs.WordTable.{object_words_are}
 use Rattle.race_records.specs.declared.nouns.Noun.{Noun}
@@ -30,7 +32,8 @@ line_of_2 a b = ended_more a b []
 numbered_line : (word name : List ℕ) (number : Option ℕ) → ended (line_of (word ∷ name ∷ number_words number)) ≡ (word ++ 32 ∷ name) ++ number_end number
 numbered_line word name None = line_of_2 word name ∙ sym (append_assoc word (32 ∷ name) (10 ∷ []))
 numbered_line word name (Some n) =
-    ended_more word name (decimal n ∷ []) ∙ ap (λ l. word ++ 32 ∷ l) (line_of_2 name (decimal n)) ∙ sym (append_assoc word (32 ∷ name) (32 ∷ decimal n ++ 10 ∷ []))
+    ended_more word name (decimal n ∷ []) ∙ ap (λ l. word ++ 32 ∷ l) (line_of_2 name (decimal n))
+    ∙ sym (append_assoc word (32 ∷ name) (32 ∷ decimal n ++ 10 ∷ []))
 
 pub declaration_printed : (ds : List Declaration) (index : ℕ) (word name : List ℕ) (object : Object) (says : Noun × Option ℕ)
     → slice_get ds index ≡ Some (record { name = name; object = object })
@@ -55,10 +58,12 @@ line_behind ds a (part ∷ parts) place place2 =
 pub event_text : (decls : DeclsState) (e : Event) (word who place : List ℕ) (place2 : Option (List ℕ)) (verb : Verb) (parts : List Part) → word ≡ verb_text verb
     → verb ≡ (says e.op).0 → parts ≡ (says e.op).1
     → name_of decls.declarations (Named.Goroutine e.who) ≡ Some who → slice_get decls.places e.place ≡ Some place
-    → place2 ≡ second_text decls.places e.place2 → (word ++ 32 ∷ who) ++ (parts_text decls.declarations parts ++ place_end place place2) ≡ ended (event_line decls e)
+    → place2 ≡ second_text decls.places e.place2
+    → (word ++ 32 ∷ who) ++ (parts_text decls.declarations parts ++ place_end place place2) ≡ ended (event_line decls e)
 event_text decls e word who place place2 verb parts spelled verb_is parts_are named at second =
     let ds = decls.declarations in
-    sym (ap (λ ws. ended (line_of ws)) (op_words_are ds (goroutine_name ds e.who) (place_words (place_text decls.places e.place) (second_text decls.places e.place2)) e.op
+    sym (ap (λ ws. ended (line_of ws)) (op_words_are ds (goroutine_name ds e.who)
+    (place_words (place_text decls.places e.place) (second_text decls.places e.place2)) e.op
     ∙ (λ i. said_words ds (unwrap_or (named i) []) (place_words (unwrap_or (at i) []) (sym second i)) (sym verb_is i) (sym parts_are i)))
     ∙ ended_more (verb_text verb) who (map (part_text ds) parts ++ place_words place place2)
     ∙ ap (λ l. verb_text verb ++ 32 ∷ l) (line_behind ds who parts place place2)

@@ -5,7 +5,9 @@ use Rattle.std.specs.Fmt.{decimal}
 use Rattle.std.specs.Option.{option_map}
 use Rattle.race_records.specs.declared.event.Event.{Event}
 use Rattle.race_records.specs.declared.event.Op.{Op}
-use Rattle.race_records.specs.declared.event.Op.TheVariants.{Go, Exit, Read, Write, Send, Recv, Meet, RecvClosed, Close, Default, Lock, Unlock, RLock, RUnlock, OnceBegin, OnceEnd, OnceDone, Fault}
+use Rattle.race_records.specs.declared.event.Op.TheVariants.{Go, Exit, Read, Write, Send, Recv, Meet}
+use Rattle.race_records.specs.declared.event.Op.TheVariants.{RecvClosed, Close, Default, Lock, Unlock, RLock}
+use Rattle.race_records.specs.declared.event.Op.TheVariants.{RUnlock, OnceBegin, OnceEnd, OnceDone, Fault}
 use Rattle.race_records.specs.declared.event.Cause.{Cause}
 use Rattle.race_records.specs.declared.event.Cause.TheVariants.{SendClosed, CloseClosed, CloseNil, UnlockFree, RUnlockFree}
 use Rattle.race_records.specs.declared.cases.Case.{Case}
@@ -119,7 +121,8 @@ op_words ds who places (Fault cause) = codes "fault" ∷ who ∷ failure_text ds
 -- the line of an event
 abbrev pub event_line : DeclsState → Event → List ℕ
 event_line decls e =
-    line_of (op_words decls.declarations (goroutine_name decls.declarations e.who) (place_words (place_text decls.places e.place) (second_text decls.places e.place2)) e.op)
+    line_of (op_words decls.declarations (goroutine_name decls.declarations e.who)
+    (place_words (place_text decls.places e.place) (second_text decls.places e.place2)) e.op)
 
 -- the header, a line for each declaration and a line for each event
 unfoldable pub lines : TraceState → List (List ℕ)

@@ -64,19 +64,36 @@ fn slot_of(mark: u32) -> usize
     (mark >> 20) as usize
 }
 
-// A mark of the first bytes, of those in the middle, and of the last.
+// A mark of the first bytes, of those in the middle, and of the last. A place of fewer than eight
+// bytes is marked by all of them.
 #[inline(always)]
 pub(crate) fn mark_of(place: &[u8]) -> u32 {
     if place.len() < 8 {
-        return place.len() as u32;
+        return mixed(few_bytes(place), 0);
     }
     let last = place.len() - 8;
     let front = eight_bytes(place);
     let middle = eight_bytes(&place[last / 2..]).rotate_left(21);
     let back = eight_bytes(&place[last..]);
-    let once = (front ^ middle).wrapping_mul(0x9e37_79b9_7f4a_7c15);
+    mixed(front ^ middle, back)
+}
+
+// Bits in which every byte of both words has a part.
+#[inline(always)]
+fn mixed(word: u64, back: u64) -> u32 {
+    let once = word.wrapping_mul(0x9e37_79b9_7f4a_7c15);
     let twice = (once ^ (once >> 32) ^ back).wrapping_mul(0xa076_1d64_78bd_642f);
     (twice >> 32) as u32
+}
+
+// Fewer than eight bytes, each in its own part of the word.
+#[inline(always)]
+fn few_bytes(bytes: &[u8]) -> u64 {
+    let mut word = bytes.len() as u64;
+    for byte in bytes {
+        word = word.rotate_left(8) ^ u64::from(*byte);
+    }
+    word
 }
 
 // The first eight bytes.

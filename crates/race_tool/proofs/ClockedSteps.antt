@@ -28,10 +28,12 @@ use Rattle.race_edges.proofs.RangeLemmas.{accessed_in_range, accessed_below, ran
 
 module _ (trace : TraceState) (holds : IsTrace trace) (at : ℕ) (e : Event) (here : slice_get trace.events at ≡ Some e) where
   pub fit : IsTrue (fits trace.decls e)
-  fit = subst (λ (e : Event). IsTrue (fits trace.decls e)) (get_or_from_slice_get trace.events at e e here) (holds.fit at e (slice_get_within trace.events at e here))
+  fit = subst (λ (e : Event). IsTrue (fits trace.decls e)) (get_or_from_slice_get trace.events at e e here)
+      (holds.fit at e (slice_get_within trace.events at e here))
 
   -- an event that keeps the list legal may come next
-  pub is_next : (k : StamperState) → StandsFor trace.decls.declarations k (take at trace.events) → IsLegal (capacities trace) (take at trace.events ++ e ∷ []) → IsNext k e
+  pub is_next : (k : StamperState) → StandsFor trace.decls.declarations k (take at trace.events)
+      → IsLegal (capacities trace) (take at trace.events ++ e ∷ []) → IsNext k e
   is_next k S legal = may_come trace.decls k (take at trace.events) e S fit legal (room_at trace.events at e here holds.limited)
 
   -- the variable of its stamp is declared

@@ -16,7 +16,8 @@ a_finding plain bytes = by (text_fault bytes) refl
     judging : (t : TraceState) → IsTextOf t bytes → (IsTrue plain → length t.events ≤ MAX_PLAIN_EVENTS) → (f : Finding) × IsFinding plain bytes f
     judging t is short = let verdict = judged t is.has_text.is_trace in (Judged t verdict.0, (is, short, verdict.1))
 
-    on : (t : TraceState) → IsTextOf t bytes → (p b : Bool) → plain ≡ p → nat_lt MAX_PLAIN_EVENTS (length t.events) ≡ b → (f : Finding) × IsFinding plain bytes f
+    on : (t : TraceState) → IsTextOf t bytes → (p b : Bool) → plain ≡ p
+        → nat_lt MAX_PLAIN_EVENTS (length t.events) ≡ b → (f : Finding) × IsFinding plain bytes f
     on t is true true plainly over = (TooLong (length t.events), (plainly, (t, is, refl, grind (arith, nat_tests))))
     on t is true false plainly short = judging t is (λ wanted. grind (arith, nat_tests))
     on t is false b plainly any = judging t is (λ wanted. let both : false ≡ true = sym plainly ∙ wanted in cc)

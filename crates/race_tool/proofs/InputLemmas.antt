@@ -1,5 +1,7 @@
 -- One more block of an input.
-use Rattle.std.proofs.Common.{◌≡◌, ◌≢◌, ℕ, zero, suc, ◌+◌, ◌<◌, ◌≤◌, Bool, true, false, IsTrue, List, [], ◌++◌, length, Option, Some, None, Result, Ok, Err, IfOk, IfErr, IsErrAnd, OnOk, refl, sym, ap, subst, ◌∙◌, arith, append-nil, length-append}
+use Rattle.std.proofs.Common.{◌≡◌, ◌≢◌, ℕ, zero, suc, ◌+◌, ◌<◌, ◌≤◌, Bool, true, false, IsTrue, List, [], ◌++◌, length, Option, Some}
+use Rattle.std.proofs.Common.{None, Result, Ok, Err, IfOk, IfErr, IsErrAnd, OnOk, refl, sym, ap, subst, ◌∙◌, arith, append-nil}
+use Rattle.std.proofs.Common.{length-append}
 use Rattle.std.proofs.KnownBytes.{Consumes-nil, Consumes-trans, Consumes-kept}
 use Rattle.std.proofs.lemmas.Option.{none-some}
 use Rattle.std.specs.Io.KnownBytes.{Consumes, Keeps}
@@ -116,7 +118,8 @@ pub is_readable : (before after : Option (List ℕ)) (text : Result TraceState T
 is_readable before after text r = (r.bytes, r.is_so r.bytes (itself r.bytes r.to_end))
 
 -- a trace was read to its end
-pub reads_text : (Holds : TraceState → Type 0) (before after : Option (List ℕ)) (text : Result TraceState TextFault) → ReadsAs before after text → AreTextWhere Holds text
+pub reads_text : (Holds : TraceState → Type 0) (before after : Option (List ℕ)) (text : Result TraceState TextFault)
+    → ReadsAs before after text → AreTextWhere Holds text
     → ReadsTextWhere Holds before after
 reads_text Holds before after (Ok trace) r holds = by r.to_end r.all r.read (holds r.bytes (r.is_so r.bytes (itself r.bytes r.to_end)))
   where

@@ -1,5 +1,7 @@
 -- Whichever finding is right for a list of bytes, the report is the same.
-use Rattle.std.proofs.Common.{◌≡◌, ℕ, ◌+◌, Bool, IsTrue, List, [], ◌∷◌, ◌++◌, length, map, slice_get, unwrap_or, codes, decimal, Option, Some, None, option_map, refl, sym, ap, ◌∙◌, subst, arith}
+use Rattle.std.proofs.Common.{◌≡◌, ℕ, ◌+◌, Bool, IsTrue, List, [], ◌∷◌, ◌++◌, length, map, slice_get}
+use Rattle.std.proofs.Common.{unwrap_or, codes, decimal, Option, Some, None, option_map, refl, sym, ap, ◌∙◌}
+use Rattle.std.proofs.Common.{subst, arith}
 use Rattle.std.proofs.lemmas.List.{length-map}
 use Rattle.std.proofs.lemmas.Option.{none-some, same_Some, slice_get-map}
 use Rattle.std.proofs.lemmas.Simd.{map-map}
@@ -74,7 +76,8 @@ module _ (t u : TraceState) (same : recorded t ≡ recorded u) where
 
   race_same : (race : Race) → race_line t race ≡ race_line u race
   unfolding race_line
-  race_same race = λ j. concat (codes "race on " ∷ var_name (declarations_same j) race.var ∷ codes ": " ∷ (access_same race.first j ++ codes ", " ∷ (access_same race.second j ++ newline ∷ [])))
+  race_same race = λ j. concat (codes "race on " ∷ var_name (declarations_same j) race.var ∷ codes ": "
+      ∷ (access_same race.first j ++ codes ", " ∷ (access_same race.second j ++ newline ∷ [])))
 
   report_same : (verdict : Verdict) → report t verdict ≡ report u verdict
   unfolding clean_line
@@ -95,7 +98,8 @@ module _ (bytes : List ℕ) where
   one_verdict : (t u : TraceState) (v w : Verdict) → IsTextOf t bytes → IsTextOf u bytes → HasVerdict t v → HasVerdict u w → v ≡ w
   one_verdict t u v w is are judged other =
       let same = one_trace t u is are in
-      let verdict : HasVerdict u v = subst (λ ds. IsVerdict (capacity_of ds) u.events v) (declarations_same t u same) (verdict_alike t.events u.events (operations_same t u same) (capacities t) v judged) in
+      let verdict : HasVerdict u v = subst (λ ds. IsVerdict (capacity_of ds) u.events v) (declarations_same t u same)
+      (verdict_alike t.events u.events (operations_same t u same) (capacities t) v judged) in
       verdict_unique (capacities u) u.events v w verdict other
 
   -- two right findings print the same, unless one judge takes what is too long for the other

@@ -1,5 +1,7 @@
 -- What a run is, by what is known of its parts.
-use Rattle.std.proofs.Common.{ℕ, ◌≡◌, ◌≢◌, ◌⊎◌, inl, inr, ◌+◌, ◌<◌, ◌++◌, List, [], ◌∷◌, length, map, take, Bool, true, false, IsTrue, Option, Some, Result, Ok, Err, IfOk, IfErr, refl, sym, ap, subst, ◌∙◌}
+use Rattle.std.proofs.Common.{ℕ, ◌≡◌, ◌≢◌, ◌⊎◌, inl, inr, ◌+◌, ◌<◌, ◌++◌, List, [], ◌∷◌, length, map, take, Bool}
+use Rattle.std.proofs.Common.{true, false, IsTrue, Option, Some, Result, Ok, Err, IfOk, IfErr, refl, sym, ap}
+use Rattle.std.proofs.Common.{subst, ◌∙◌}
 use Rattle.std.proofs.Common.{arith, length-append, slice_get}
 use Rattle.std.proofs.lemmas.List.{map-append, take_all, take-append-drop, length-take-le}
 use Rattle.std.specs.Prelude.{drop}
@@ -137,7 +139,8 @@ cut_short start now n bytes appended less =
 
 module _ (limit : ℕ) (picks : List ℕ) (program : ProgramState) (r : RecordingState) (run : IsRunOf limit picks program r) where
   -- its trace was written
-  pub writes_run : (output output_now : Option (List ℕ)) (status : ℕ) → WritesTrace r output output_now status → WritesRun limit picks (Ok program) output output_now status
+  pub writes_run : (output output_now : Option (List ℕ)) (status : ℕ)
+      → WritesTrace r output output_now status → WritesRun limit picks (Ok program) output output_now status
   writes_run output output_now status w = record {
     finding = Ran program r w.trace;
     right = λ bytes is. (is, run, w.is_of);

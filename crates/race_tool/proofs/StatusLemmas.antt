@@ -14,7 +14,8 @@ pub is_clean : (trace : TraceState) → HasVerdict trace Clean → IsClean trace
 is_clean trace right = record {
   legal = right.0;
   race_free = right.1;
-  same_reads = λ order is. same_finds (capacities trace) trace.events right.1 order (own_order trace.events) is (own_is_reordering (capacities trace) trace.events);
+  same_reads = λ order is. same_finds (capacities trace) trace.events right.1 order
+      (own_order trace.events) is (own_is_reordering (capacities trace) trace.events);
 }
 
 -- races: the first that is listed
@@ -28,14 +29,16 @@ is_racy trace (race ∷ races) right = record {
   race = (right.2.each 0 race refl).race;
 }
 
-pub clean_text : (plain : Bool) (finding : Finding) (bytes : List ℕ) → IsFinding plain bytes finding → status_of finding ≡ status.CLEAN → IsTextWhere IsClean bytes
+pub clean_text : (plain : Bool) (finding : Finding) (bytes : List ℕ)
+    → IsFinding plain bytes finding → status_of finding ≡ status.CLEAN → IsTextWhere IsClean bytes
 clean_text plain (Judged trace Clean) bytes right is = record { trace = trace; text = right.0; holds = is_clean trace right.2 }
 clean_text plain (Judged trace (Illegal index rule)) bytes right is = cc
 clean_text plain (Judged trace (Races races)) bytes right is = cc
 clean_text plain (Faulty fault) bytes right is = cc
 clean_text plain (TooLong events) bytes right is = cc
 
-pub racy_text : (plain : Bool) (finding : Finding) (bytes : List ℕ) → IsFinding plain bytes finding → status_of finding ≡ status.RACES → IsTextWhere IsRacy bytes
+pub racy_text : (plain : Bool) (finding : Finding) (bytes : List ℕ)
+    → IsFinding plain bytes finding → status_of finding ≡ status.RACES → IsTextWhere IsRacy bytes
 racy_text plain (Judged trace (Races races)) bytes right is = record { trace = trace; text = right.0; holds = is_racy trace races right.2 }
 racy_text plain (Judged trace (Illegal index rule)) bytes right is = cc
 racy_text plain (Judged trace Clean) bytes right is = cc
@@ -43,7 +46,8 @@ racy_text plain (Faulty fault) bytes right is = cc
 racy_text plain (TooLong events) bytes right is = cc
 
 -- illegal: the event and the rule that are told
-pub illegal_text : (plain : Bool) (finding : Finding) (bytes : List ℕ) → IsFinding plain bytes finding → status_of finding ≡ status.ILLEGAL → IsTextWhere IsIllegal bytes
+pub illegal_text : (plain : Bool) (finding : Finding) (bytes : List ℕ)
+    → IsFinding plain bytes finding → status_of finding ≡ status.ILLEGAL → IsTextWhere IsIllegal bytes
 illegal_text plain (Judged trace (Illegal index rule)) bytes right is =
     record { trace = trace; text = right.0; holds = record { index = index; rule = rule; broken = right.2 } }
 illegal_text plain (Judged trace Clean) bytes right is = cc

@@ -1,5 +1,7 @@
 -- What is kept of the variables stands for the events, one event on, and tells their races.
-use Rattle.std.proofs.Common.{◌≡◌, ℕ, zero, suc, ◌+◌, ◌<◌, List, [], ◌∷◌, ◌++◌, length, Option, Some, None, slice_set, get_or, take, refl, sym, ap, ◌∙◌, subst, inl, inr, arith, IsTrue, length-append}
+use Rattle.std.proofs.Common.{◌≡◌, ℕ, zero, suc, ◌+◌, ◌<◌, List, [], ◌∷◌, ◌++◌, length, Option, Some, None}
+use Rattle.std.proofs.Common.{slice_set, get_or, take, refl, sym, ap, ◌∙◌, subst, inl, inr, arith, IsTrue}
+use Rattle.std.proofs.Common.{length-append}
 use Rattle.std.specs.Option.{option_map}
 use Rattle.std.proofs.Math.Seq.{get_or-append_seam}
 use Rattle.std.proofs.lemmas.Bool.{cases_eq, cases_lt}
@@ -37,13 +39,15 @@ kept_first caps x kept stands = record {
     go i (e, at, is) = cc
 
 -- the last of some
-pub kept_push : (caps : ℕ → ℕ) (events : List Event) (variables : List Kept) (kept : Kept) → AreKept caps events variables → IsKeptOf caps events (length variables) kept
+pub kept_push : (caps : ℕ → ℕ) (events : List Event) (variables : List Kept) (kept : Kept)
+    → AreKept caps events variables → IsKeptOf caps events (length variables) kept
     → AreKept caps events (variables ++ kept ∷ [])
 kept_push caps events variables kept are is x less = elim (cases_lt x (length variables)) [
   | inl front ↦ subst (IsKeptOf caps events x) (sym (get_or_append_left variables (kept ∷ []) nothing_kept x front)) (are x front)
   | inr back ↦
       let last : x ≡ length variables = omega (arith, back, less, length-append variables (kept ∷ [])) in
-      subst (λ y. IsKeptOf caps events y (kept_of (variables ++ kept ∷ []) y)) (sym last) (subst (IsKeptOf caps events (length variables)) (sym (get_or-append_seam variables kept [] nothing_kept)) is)
+      subst (λ y. IsKeptOf caps events y (kept_of (variables ++ kept ∷ []) y)) (sym last)
+      (subst (IsKeptOf caps events (length variables)) (sym (get_or-append_seam variables kept [] nothing_kept)) is)
 ]
 
 module _ (caps : ℕ → ℕ) (past : List Event) (e : Event) where
@@ -77,12 +81,14 @@ module _ (caps : ℕ → ℕ) (past : List Event) (e : Event) where
         (next_access t.stamp.var (kept_of variables t.stamp.var) new t is refl goes (are t.stamp.var within)))
     | inr differ ↦
         subst (IsKeptOf caps (past ++ e ∷ []) x) (sym (get_or-set_other variables t.stamp.var x new nothing_kept differ))
-        (other_event x (kept_of variables x) (λ access. differ (sym (accesses_one (length past) e.who (participations e.who past + 1) e.op t.stamp is.stamped x access)))
+        (other_event x (kept_of variables x)
+        (λ access. differ (sym (accesses_one (length past) e.who (participations e.who past + 1) e.op t.stamp is.stamped x access)))
         (are x (omega (arith, less, length-set variables t.stamp.var new))))
   ]
 
 -- the races, with one variable more
-pub races_push : (n : ℕ) (variables : List Kept) (kept : Kept) → races_from n (variables ++ kept ∷ []) ≡ races_from n variables ++ race_of (n + length variables) kept ∷ []
+pub races_push : (n : ℕ) (variables : List Kept) (kept : Kept)
+    → races_from n (variables ++ kept ∷ []) ≡ races_from n variables ++ race_of (n + length variables) kept ∷ []
 races_push n [] kept = ap (λ m. race_of m kept ∷ []) (omega arith)
 races_push n (k ∷ variables) kept =
     ap (λ rest. race_of n k ∷ rest) (races_push (n + 1) variables kept ∙ ap (λ m. races_from (n + 1) variables ++ race_of m kept ∷ []) (omega arith))
@@ -100,7 +106,8 @@ race_at n (k ∷ variables) (suc x) less = race_at (n + 1) variables x (omega (a
 found_is : (caps : ℕ → ℕ) (events : List Event) (x : ℕ) (kept : Kept) → IsKeptOf caps events x kept → IsFound caps events x (race_of x kept)
 found_is caps events x kept is = go kept.pair (reported_on caps events x is.touched is.stamps kept.pair (stands_reports kept is.touched is.stands))
   where
-    go : (pair : Option (ℕ × ℕ)) → IsReportedOn caps events x pair → IsFound caps events x (option_map (λ (p : ℕ × ℕ). record { var = x; first = p.0; second = p.1 }) pair)
+    go : (pair : Option (ℕ × ℕ)) → IsReportedOn caps events x pair
+        → IsFound caps events x (option_map (λ (p : ℕ × ℕ). record { var = x; first = p.0; second = p.1 }) pair)
     go None none = none
     go (Some (i, j)) reported = (refl, reported)
 
@@ -108,7 +115,8 @@ found_is caps events x kept is = go kept.pair (reported_on caps events x is.touc
 pub found_are : (caps : ℕ → ℕ) (events : List Event) (variables : List Kept) → AreKept caps events variables → AreFound caps events (races_from 0 variables)
 found_are caps events variables are x less =
     let within : x < length variables = omega (arith, less, length_races 0 variables) in
-    let here : get_or (races_from 0 variables) x None ≡ race_of x (kept_of variables x) = race_at 0 variables x within ∙ ap (λ m. race_of m (kept_of variables x)) (omega arith) in
+    let here : get_or (races_from 0 variables) x None ≡ race_of x (kept_of variables x) =
+    race_at 0 variables x within ∙ ap (λ m. race_of m (kept_of variables x)) (omega arith) in
     subst (IsFound caps events x) (sym here) (found_is caps events x (kept_of variables x) (are x within))
 
 pub found_len : (variables : List Kept) → length (races_from 0 variables) ≡ length variables
@@ -125,7 +133,8 @@ races_next variables i kept less is =
     ∙ filter_map-append (λ (o : Option Race). o) (races_from 0 (take i variables)) (race_of i kept ∷ [])
 
 -- a variable with a race, and one without
-pub races_some : (i first second : ℕ) (kept : Kept) → kept.pair ≡ Some (first, second) → races_of (race_of i kept ∷ []) ≡ record { var = i; first = first; second = second } ∷ []
+pub races_some : (i first second : ℕ) (kept : Kept) → kept.pair ≡ Some (first, second)
+    → races_of (race_of i kept ∷ []) ≡ record { var = i; first = first; second = second } ∷ []
 races_some i first second kept is = ap (λ pair. races_of (option_map (λ (p : ℕ × ℕ). record { var = i; first = p.0; second = p.1 }) pair ∷ [])) is
 
 pub races_none : (i : ℕ) (kept : Kept) → kept.pair ≡ None → races_of (race_of i kept ∷ []) ≡ []

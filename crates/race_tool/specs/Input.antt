@@ -1,5 +1,7 @@
 -- How an input was read: block by block, to its end or to its first faulty line.
-use Rattle.std.specs.Prelude.{◌≡◌, ℕ, ◌<◌, ◌≤◌, Bool, true, false, IsTrue, List, ◌++◌, length, Option, Some, None, Result, Ok, Err, OnOk, MatchBool, MatchResult}
+use Rattle.std.specs.Prelude.{◌≡◌, ℕ, ◌<◌, ◌≤◌, Bool, true, false, IsTrue, List, ◌++◌}
+use Rattle.std.specs.Prelude.{length, Option, Some, None, Result, Ok, Err, OnOk, MatchBool}
+use Rattle.std.specs.Prelude.{MatchResult}
 use Rattle.std.specs.Io.KnownBytes.{Consumes, IsAtEnd}
 use Rattle.race_records.specs.declared.source.Source.{Source}
 use Rattle.race_records.specs.Devices.{unread, source_reads, more_by}
@@ -35,7 +37,8 @@ pub record StopsAtFault (faults : Faults) (bytes : List ℕ) : Type 0 where
   pub fault : TextFault
   pub faulty : faults.ended bytes ≡ Some fault
 
--- these bytes were read: to the end of the input, and no line that a newline ends is at fault, or to the end of the block that ends the first faulty line
+-- these bytes were read: to the end of the input, and no line that a newline ends is at fault, or to the end of the
+-- block that ends the first faulty line
 pub record Reads (faults : Faults) (before after : Option (List ℕ)) (bytes : List ℕ) (to_end : Bool) : Type 0 where
   pub consumed : Consumes before after bytes
   pub stops : MatchBool to_end (IsAtEnd after × (faults.ended bytes ≡ None)) (StopsAtFault faults bytes)

@@ -51,14 +51,17 @@ abbrev pub AreTextWhere : (TraceState → Type 0) → Result TraceState TextFaul
 AreTextWhere Holds text = (bytes : List ℕ) → IsReadAs bytes text → IsTextWhere Holds bytes
 
 -- the text of a right finding was written, and the status is the finding's
-pub record WritesText {F : Type 0} (IsRight : F → Type 0) (text : F → List ℕ) (status_for : F → ℕ) (output output_now : Option (List ℕ)) (status : ℕ) : Type 0 where
+pub record WritesText {F : Type 0} (IsRight : F → Type 0) (text : F → List ℕ)
+    (status_for : F → ℕ) (output output_now : Option (List ℕ)) (status : ℕ) : Type 0 where
   pub finding : F
   pub right : IsRight finding
   pub printed : Appends output output_now (text finding)
   pub status_is : status ≡ status_for finding
 
--- the input was read to its end, or to the end of the block that ends its first faulty line, and the text of a finding was written that is right for it
-pub record ReadsAndWrites {F : Type 0} (faults : Faults) (IsRight : List ℕ → F → Type 0) (text : F → List ℕ) (status_for : F → ℕ) (input input_left output output_now : Option (List ℕ)) (status : ℕ) : Type 0 where
+-- the input was read to its end, or to the end of the block that ends its first faulty line, and the text of a finding
+-- was written that is right for it
+pub record ReadsAndWrites {F : Type 0} (faults : Faults) (IsRight : List ℕ → F → Type 0) (text : F → List ℕ)
+    (status_for : F → ℕ) (input input_left output output_now : Option (List ℕ)) (status : ℕ) : Type 0 where
   pub bytes : List ℕ
   pub to_end : Bool
   pub read : Reads faults input input_left bytes to_end
@@ -70,7 +73,8 @@ WritesReport plain read output output_now status = WritesText (IsRightOn (IsFind
 
 -- the input was read, and its report was written
 abbrev pub ReadsAndReports : Bool → Option (List ℕ) → Option (List ℕ) → Option (List ℕ) → Option (List ℕ) → ℕ → Type 0
-ReadsAndReports plain input input_left output output_now status = ReadsAndWrites of_traces (IsFinding plain) report_of status_of input input_left output output_now status
+ReadsAndReports plain input input_left output output_now status =
+    ReadsAndWrites of_traces (IsFinding plain) report_of status_of input input_left output output_now status
 
 -- of a listing of edges: the edges were written, or why there are none
 abbrev pub WritesListing : Result TraceState TextFault → Option (List ℕ) → Option (List ℕ) → ℕ → Type 0
@@ -78,7 +82,8 @@ WritesListing read output output_now status = WritesText (IsRightOn IsListing re
 
 -- the input was read, and its listing was written
 abbrev pub ReadsAndLists : Option (List ℕ) → Option (List ℕ) → Option (List ℕ) → Option (List ℕ) → ℕ → Type 0
-ReadsAndLists input input_left output output_now status = ReadsAndWrites of_traces IsListing listing_text listing_status input input_left output output_now status
+ReadsAndLists input input_left output output_now status =
+    ReadsAndWrites of_traces IsListing listing_text listing_status input input_left output output_now status
 
 -- the input was read to its end, and it is the text of a trace of which this holds
 pub record ReadsTextWhere (Holds : TraceState → Type 0) (input input_left : Option (List ℕ)) : Type 0 where
@@ -95,7 +100,8 @@ pub record WritesFrontOf {F W : Type 0} (IsRight : F → Type 0) (text : F → L
   pub failed : sink_failures sink_now ≡ one_more (sink_failures sink)
 
 -- the input was read, no read failed, and a write did
-pub record FailsToWriteText {F R W : Type 0} (faults : Faults) (IsRight : List ℕ → F → Type 0) (text : F → List ℕ) (remaining : R → Option (List ℕ)) (contents : W → Option (List ℕ)) (source source_now : Source R) (sink sink_now : Sink W) : Type 0 where
+pub record FailsToWriteText {F R W : Type 0} (faults : Faults) (IsRight : List ℕ → F → Type 0) (text : F → List ℕ)
+    (remaining : R → Option (List ℕ)) (contents : W → Option (List ℕ)) (source source_now : Source R) (sink sink_now : Sink W) : Type 0 where
   pub bytes : List ℕ
   pub to_end : Bool
   pub read : Reads faults (unread remaining source) (unread remaining source_now) bytes to_end
@@ -107,14 +113,16 @@ abbrev pub WritesFront : {W : Type 0} → Bool → Result TraceState TextFault �
 WritesFront plain read contents sink sink_now = WritesFrontOf (IsRightOn (IsFinding plain) read) report_of contents sink sink_now
 
 abbrev pub FailsToWrite : {R W : Type 0} → Bool → (R → Option (List ℕ)) → (W → Option (List ℕ)) → Source R → Source R → Sink W → Sink W → Type 0
-FailsToWrite plain remaining contents source source_now sink sink_now = FailsToWriteText of_traces (IsFinding plain) report_of remaining contents source source_now sink sink_now
+FailsToWrite plain remaining contents source source_now sink sink_now =
+    FailsToWriteText of_traces (IsFinding plain) report_of remaining contents source source_now sink sink_now
 
 -- of a listing of edges: only a front of it was written
 abbrev pub WritesListingFront : {W : Type 0} → Result TraceState TextFault → (W → Option (List ℕ)) → Sink W → Sink W → Type 0
 WritesListingFront read contents sink sink_now = WritesFrontOf (IsRightOn IsListing read) listing_text contents sink sink_now
 
 abbrev pub FailsToWriteListing : {R W : Type 0} → (R → Option (List ℕ)) → (W → Option (List ℕ)) → Source R → Source R → Sink W → Sink W → Type 0
-FailsToWriteListing remaining contents source source_now sink sink_now = FailsToWriteText of_traces IsListing listing_text remaining contents source source_now sink sink_now
+FailsToWriteListing remaining contents source source_now sink sink_now =
+    FailsToWriteText of_traces IsListing listing_text remaining contents source source_now sink sink_now
 
 -- a read failed, before which no faulty line had ended, and nothing was written
 pub record FailsToRead {R W : Type 0} (faults : Faults) (remaining : R → Option (List ℕ)) (source source_now : Source R) (sink sink_now : Sink W) : Type 0 where
@@ -123,7 +131,8 @@ pub record FailsToRead {R W : Type 0} (faults : Faults) (remaining : R → Optio
   pub unwritten : sink_now ≡ sink
 
 -- no read failed, reading was given up after many reads, and nothing was written. Whether bytes were left isn't said
-pub record GivesUpReading {R W : Type 0} (faults : Faults) (remaining : R → Option (List ℕ)) (source source_now : Source R) (sink sink_now : Sink W) : Type 0 where
+pub record GivesUpReading {R W : Type 0} (faults : Faults) (remaining : R → Option (List ℕ))
+    (source source_now : Source R) (sink sink_now : Sink W) : Type 0 where
   pub many : ReadsMany faults remaining source source_now
   pub calm : source_failures source_now ≡ source_failures source
   pub unwritten : sink_now ≡ sink
@@ -209,6 +218,7 @@ abbrev pub WritesJudgedFront : {W : Type 0} → ℕ → List ℕ → Bool → Re
 WritesJudgedFront limit picks plain read contents sink sink_now =
     WritesFrontOf (IsRightBy program.IsTextOf of_programs (IsJudgedRun limit picks plain) read) judged_text contents sink sink_now
 
-abbrev pub FailsToWriteJudged : {R W : Type 0} → ℕ → List ℕ → Bool → (R → Option (List ℕ)) → (W → Option (List ℕ)) → Source R → Source R → Sink W → Sink W → Type 0
+abbrev pub FailsToWriteJudged : {R W : Type 0} → ℕ → List ℕ → Bool → (R → Option (List ℕ))
+    → (W → Option (List ℕ)) → Source R → Source R → Sink W → Sink W → Type 0
 FailsToWriteJudged limit picks plain remaining contents source source_now sink sink_now =
     FailsToWriteText of_programs (IsJudgedRun limit picks plain) judged_text remaining contents source source_now sink sink_now

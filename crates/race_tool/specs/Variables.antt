@@ -37,7 +37,8 @@ pub record IsTouch (caps : ℕ → ℕ) (past : List Event) (e : Event) (stamp :
 
 -- for whichever list they were kept, they are for that list with the access behind it
 abbrev pub GoesOn : List Kept → List Kept → Stamp → List ℕ → Type 0
-GoesOn old new stamp clock = (caps : ℕ → ℕ) (past : List Event) (e : Event) → AreKept caps past old → IsTouch caps past e stamp clock → AreKept caps (past ++ e ∷ []) new
+GoesOn old new stamp clock = (caps : ℕ → ℕ) (past : List Event) (e : Event)
+    → AreKept caps past old → IsTouch caps past e stamp clock → AreKept caps (past ++ e ∷ []) new
 
 -- the race of variable x, where it has one
 abbrev pub race_of : ℕ → Kept → Option Race

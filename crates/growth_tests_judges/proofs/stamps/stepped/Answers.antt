@@ -11,19 +11,22 @@ use Rattle.growth_tests_judges.proofs.stamps.stepped.Goals as goal
 
 pub accept-requires-clause-range : goal.accept-requires-clause-range
 accept-requires-clause-range c =
-    in_range c.args.trace.now.decls c.loop-at.replay (take c.loop-at.at c.args.trace.now.events) c.event-event.result.now c.loop-at.invariant.legal c.event-event.ensures.fits
+    in_range c.args.trace.now.decls c.loop-at.replay (take c.loop-at.at c.args.trace.now.events)
+    c.event-event.result.now c.loop-at.invariant.legal c.event-event.ensures.fits
 
 pub last_step-requires-clause-next : goal.last_step-requires-clause-next
 last_step-requires-clause-next c =
     let grown = c.in-Ok-accept.ensures.goes_on c.args.trace.now.decls.declarations (take c.loop-at.at c.args.trace.now.events) c.loop-at.invariant.legal in
     may_come c.args.trace.now.decls c.loop-at.stamper (take c.loop-at.at c.args.trace.now.events) c.event-event.result.now c.loop-at.invariant.stands
-    c.event-event.ensures.fits grown.legal (room_at c.args.trace.now.events c.loop-at.at c.event-event.result.now c.event-event.ensures.event c.len-at-end.ensures.is_trace.limited)
+    c.event-event.ensures.fits grown.legal
+    (room_at c.args.trace.now.events c.loop-at.at c.event-event.result.now c.event-event.ensures.event c.len-at-end.ensures.is_trace.limited)
 
 pub step-requires : goal.step-requires
 step-requires c =
     let grown = c.in-Ok-accept.ensures.goes_on c.args.trace.now.decls.declarations (take c.loop-at.at c.args.trace.now.events) c.loop-at.invariant.legal in
     may_come c.args.trace.now.decls c.loop-at.stamper (take c.loop-at.at c.args.trace.now.events) c.event-event.result.now c.loop-at.invariant.stands
-    c.event-event.ensures.fits grown.legal (room_at c.args.trace.now.events c.loop-at.at c.event-event.result.now c.event-event.ensures.event c.len-at-end.ensures.is_trace.limited)
+    c.event-event.ensures.fits grown.legal
+    (room_at c.args.trace.now.events c.loop-at.at c.event-event.result.now c.event-event.ensures.event c.len-at-end.ensures.is_trace.limited)
 
 pub loop-at-preserved : goal.loop-at-preserved
 loop-at-preserved c =

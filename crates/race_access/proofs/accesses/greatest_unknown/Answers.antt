@@ -8,11 +8,13 @@ pub loop-access-preserved : goal.loop-access-preserved
 loop-access-preserved g c =
     let less : c.loop-access.access-index < length c.args.accesses.now = omega arith in
     let both =
-    greatest_of_both c.args.clock.now (take c.loop-access.access-index c.args.accesses.now) (get_or c.args.accesses.now c.loop-access.access-index no_access ∷ [])
+    greatest_of_both c.args.clock.now (take c.loop-access.access-index c.args.accesses.now)
+    (get_or c.args.accesses.now c.loop-access.access-index no_access ∷ [])
     c.loop-access.greatest c.unknown.result c.loop-access.invariant c.unknown.ensures in
     rw (take_more c.args.accesses.now c.loop-access.access-index no_access less, c.greater-greatest.ensures) both
 
 pub returns : goal.returns
 returns g c =
     let all : length c.args.accesses.now ≤ c.loop-access.access-index = omega arith in
-    subst (λ xs. IsGreatestUnknown c.args.clock.now xs c.loop-access.greatest) (take_all c.loop-access.access-index c.args.accesses.now all) c.loop-access.invariant
+    subst (λ xs. IsGreatestUnknown c.args.clock.now xs c.loop-access.greatest)
+    (take_all c.loop-access.access-index c.args.accesses.now all) c.loop-access.invariant

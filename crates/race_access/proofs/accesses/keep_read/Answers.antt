@@ -16,4 +16,5 @@ returns-in_err-insert-clause-unchanged g c =
 
 pub returns-clause-ok : goal.returns-clause-ok
 returns-clause-ok g c =
-    rw c.in_ok-insert.ensures.items (keeps_inserted c.args.reads.now.items c.drop_known.new.reads.items _ c.args.access c.args.clock.now c.drop_known.ensures.kept)
+    rw c.in_ok-insert.ensures.items
+    (keeps_inserted c.args.reads.now.items c.drop_known.new.reads.items _ c.args.access c.args.clock.now c.drop_known.ensures.kept)

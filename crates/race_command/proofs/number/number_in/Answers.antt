@@ -4,5 +4,8 @@ use Rattle.race_command.proofs.number.number_in.Goals as goal
 
 pub returns-else-number-least-clause-in_limits : goal.returns-else-number-least-clause-in_limits
 returns-else-number-least-clause-in_limits c =
-    let above = c.if-number-least.false in
-    (omega (arith, above), subst (λ (o : Option ℕ). IfSome o (λ n. n ≤ c.args.most)) (sym c.read_number.ensures ∙ c.in_ok-number.was) (number_most c.args.most c.as_bytes.result.now))
+    let above = c.if-number-least.false in (
+      omega (arith, above),
+      subst (λ (o : Option ℕ). IfSome o (λ n. n ≤ c.args.most))
+          (sym c.read_number.ensures ∙ c.in_ok-number.was) (number_most c.args.most c.as_bytes.result.now),
+    )

@@ -37,7 +37,8 @@ loop-at-preserved g c =
     let table = c.loop-at.table in
     let rows = has_rows trace at e table.rows c.len.ensures.is_trace here c.loop-at.invariant.rows in
     let after : c.step.new.self ≡ table_after (λ k. source_at caps trace.events k at) table at e.who e.op =
-    said_of trace.events at e (λ e. c.step.new.self ≡ table_after (λ k. source_at caps trace.events k at) table at e.who e.op) here c.in_ok-step.ensures.after in
+    said_of trace.events at e (λ e. c.step.new.self ≡ table_after (λ k. source_at caps trace.events k at) table at e.who e.op)
+    here c.in_ok-step.ensures.after in
     record {
       rows = c.step.ensures.len ∙ c.loop-at.invariant.rows;
       vars = c.look.ensures.len ∙ c.loop-at.invariant.vars;
@@ -54,6 +55,8 @@ returns g c =
     (λ races is.
     subst (AreRaces (capacities c.args.trace.now) c.args.trace.now.events) (sym is)
     (are_races (capacities c.args.trace.now) c.args.trace.now.events c.loop-at.found
-    (subst (λ (es : List Event). AreFound (capacities c.args.trace.now) es c.loop-at.found) (take_all c.loop-at.at c.args.trace.now.events (omega arith)) c.loop-at.invariant.found)
-    (λ x i j race. let below = race_declared (capacities c.args.trace.now) c.args.trace.now x i j c.len.ensures.is_trace race in omega (arith, below, c.loop-at.invariant.vars))))
+    (subst (λ (es : List Event). AreFound (capacities c.args.trace.now) es c.loop-at.found)
+    (take_all c.loop-at.at c.args.trace.now.events (omega arith)) c.loop-at.invariant.found)
+    (λ x i j race. let below = race_declared (capacities c.args.trace.now) c.args.trace.now x i j c.len.ensures.is_trace race in
+    omega (arith, below, c.loop-at.invariant.vars))))
     c.list.ensures

@@ -11,7 +11,8 @@ returns-in-Some g c = subst (IsJudged (capacities c.args.trace.now) c.args.trace
 pub returns-then-is_empty : goal.returns-then-is_empty
 returns-then-is_empty g c = (
   subst (IsJudged (capacities c.args.trace.now) c.args.trace.now.events) c.in-None.is c.in_ok-illegal.ensures,
-  free_from_none (capacities c.args.trace.now) c.args.trace.now.events c.in_ok-races-in-None.races c.in_ok-races-in-None.ensures (c.is_empty.ensures.0 c.if-is_empty.true),
+  free_from_none (capacities c.args.trace.now) c.args.trace.now.events c.in_ok-races-in-None.races c.in_ok-races-in-None.ensures
+      (c.is_empty.ensures.0 c.if-is_empty.true),
 )
 
 pub returns-else-is_empty : goal.returns-else-is_empty

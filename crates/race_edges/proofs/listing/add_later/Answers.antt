@@ -14,8 +14,10 @@ loop-to-preserved g c =
     let e = c.event-in-loop-to.result.now in
     let edge : Edge = record { from = c.args.from; from_who = s.who; to = c.loop-to.to; to_who = e.who } in
     subst (λ (edges : List Edge). AreEdgesBefore c.args.from (c.loop-to.to + 1) caps events edges)
-    (sym (as_told (source_at caps events c.args.from c.loop-to.to) c.is_source.result edge edge c.loop-to.edges.items c.add_edge.new.edges.items c.in_ok-add_edge.ensures c.is_source.ensures refl))
-    (later_added caps events c.args.from c.loop-to.to s e (omega (arith, c.loop-to.auto.to)) c.event.ensures.event c.event-in-loop-to.ensures.event c.loop-to.edges.items c.loop-to.invariant)
+    (sym (as_told (source_at caps events c.args.from c.loop-to.to)
+    c.is_source.result edge edge c.loop-to.edges.items c.add_edge.new.edges.items c.in_ok-add_edge.ensures c.is_source.ensures refl))
+    (later_added caps events c.args.from c.loop-to.to s e (omega (arith, c.loop-to.auto.to))
+    c.event.ensures.event c.event-in-loop-to.ensures.event c.loop-to.edges.items c.loop-to.invariant)
 
 pub returns : goal.returns
 returns g c =

@@ -13,12 +13,14 @@ capacity-requires g c =
     let trace = c.args.trace.now in
     let range = (range_from_fits trace.decls c.event-target.result.now c.event-target.ensures.fits).1 in
     subst (λ (decls : DeclsState). c.in-Send.chan < count_of Kind.Chan decls.declarations) (sym c.decls.ensures.decls)
-    (chan_in_range (counts_of trace.decls.declarations) c.in-Send.chan c.in-Send.field-1 (subst (λ (o : Op). IsTrue (op_is_in_range (counts_of trace.decls.declarations) o)) c.in-Send.is range))
+    (chan_in_range (counts_of trace.decls.declarations) c.in-Send.chan c.in-Send.field-1
+    (subst (λ (o : Op). IsTrue (op_is_in_range (counts_of trace.decls.declarations) o)) c.in-Send.is range))
 
 pub returns-then-is_receive : goal.returns-then-is_receive
 returns-then-is_receive g c =
     let trace = c.args.trace.now in
-    (λ i. (c.get.ensures i + (c.capacity.ensures ∙ ap (λ (decls : DeclsState). capacity_of decls.declarations c.in-Send.chan) c.decls.ensures.decls) i) == c.get-then-is_receive.ensures i)
+    (λ i. (c.get.ensures i + (c.capacity.ensures ∙ ap (λ (decls : DeclsState). capacity_of decls.declarations c.in-Send.chan) c.decls.ensures.decls) i)
+    == c.get-then-is_receive.ensures i)
     ∙ told_send (capacities trace) trace.events c.args.numbers.now c.requires.numbers c.args.from c.args.to c.requires.earlier
     c.event-source.result.now c.event-target.result.now c.event-source.ensures.event c.event-target.ensures.event
     c.in-Send.chan c.in-Send.field-1 c.in-Send.is (sym c.if-is_receive.ensures)

@@ -25,7 +25,8 @@ loop-way-preserved c k told less row = elim (cases_lt k c.loop-way.way) [
 
 pub returns-then-is_some : goal.returns-then-is_some
 returns-then-is_some c = (
-  λ _. some_row c.args.ask.now c.loop-way.way (done_by c.args.who c.args.op.now) c.answer_of.result c.answer_of.ensures (sym c.is_some.ensures ∙ c.if-is_some.true),
+  λ _. some_row c.args.ask.now c.loop-way.way (done_by c.args.who c.args.op.now)
+      c.answer_of.result c.answer_of.ensures (sym c.is_some.ensures ∙ c.if-is_some.true),
   λ _. refl,
 )
 

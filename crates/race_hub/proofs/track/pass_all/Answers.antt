@@ -13,4 +13,5 @@ loop-event-preserved g c =
     let one : i + 1 ≡ suc i = omega arith in
     let more = ap (λ n. take n events) one ∙ take_suc i events c.event-item.result at in
     subst (λ es. HavePassed es c.args.tracks.now.items c.pass.new.tracks.items) (sym more)
-    (passed_more c.args.tracks.now.items c.loop-event.tracks.items c.pass.new.tracks.items (take i events) (c.event-item.result ∷ []) c.loop-event.invariant c.pass.ensures)
+    (passed_more c.args.tracks.now.items c.loop-event.tracks.items c.pass.new.tracks.items
+    (take i events) (c.event-item.result ∷ []) c.loop-event.invariant c.pass.ensures)

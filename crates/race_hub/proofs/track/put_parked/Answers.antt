@@ -24,7 +24,8 @@ loop-behind-preserved-then-at-waiting g c =
       at = omega (arith, at, less, more);
     }
   where
-    by : (d : Waiter) → c.put.new.tracks.items ≡ slice_set c.loop-behind.tracks.items (get_or c.args.waiting.now c.loop-behind.at d).who (fresh c.into_log.result.items)
+    by : (d : Waiter) → c.put.new.tracks.items ≡ slice_set c.loop-behind.tracks.items
+        (get_or c.args.waiting.now c.loop-behind.at d).who (fresh c.into_log.result.items)
         → c.put.new.tracks.items ≡ placed (logs_behind c.args.waiting.now (c.loop-behind.yielded ++ c.in-Some.behind ∷ [])) c.args.tracks.now.items
     by d put =
         let waiting = c.args.waiting.now in

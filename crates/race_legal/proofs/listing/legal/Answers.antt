@@ -10,13 +10,15 @@ use Rattle.race_legal.proofs.listing.legal.Goals as goal
 
 pub accept-requires-clause-range : goal.accept-requires-clause-range
 accept-requires-clause-range g c =
-    in_range c.args.trace.now.decls c.loop-at.replay (take c.loop-at.at c.args.trace.now.events) c.event.result.now c.loop-at.invariant.stands c.event.ensures.fits
+    in_range c.args.trace.now.decls c.loop-at.replay (take c.loop-at.at c.args.trace.now.events)
+    c.event.result.now c.loop-at.invariant.stands c.event.ensures.fits
 
 pub returns-in-Rule : goal.returns-in-Rule
 returns-in-Rule g c = (
   c.event.result.now,
   c.event.ensures.event,
-  c.in-Err.ensures.least c.in-Rule.rule (ap Err c.in-Rule.is) c.args.trace.now.decls.declarations (take c.loop-at.at c.args.trace.now.events) c.loop-at.invariant.stands,
+  c.in-Err.ensures.least c.in-Rule.rule (ap Err c.in-Rule.is) c.args.trace.now.decls.declarations
+      (take c.loop-at.at c.args.trace.now.events) c.loop-at.invariant.stands,
   c.loop-at.invariant.stands.legal,
 )
 

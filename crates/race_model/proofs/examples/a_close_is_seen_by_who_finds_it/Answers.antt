@@ -16,10 +16,14 @@ pub returns-clause-behind : goal.returns-clause-behind
 returns-clause-behind c = races_by capacities close_then_write x (refl, (refl, (refl, (refl, (refl, tt))))) refl refl refl (omega arith) refl refl refl refl
 
 pub returns-clause-value : goal.returns-clause-value
-returns-clause-value c = races_by capacities value_behind_close x (refl, (refl, (refl, (refl, (refl, (refl, tt)))))) refl refl refl (omega arith) refl refl refl refl
+returns-clause-value c = races_by capacities value_behind_close x (
+  refl,
+  (refl, (refl, (refl, (refl, (refl, tt))))),
+) refl refl refl (omega arith) refl refl refl refl
 
 pub returns-clause-found_closed : goal.returns-clause-found_closed
 returns-clause-found_closed c = clean_by capacities close_behind_value (refl, (refl, (refl, (refl, (refl, (refl, (refl, tt))))))) refl
 
 pub returns-clause-another_channel : goal.returns-clause-another_channel
-returns-clause-another_channel c = races_by capacities another_channel_closed x (refl, (refl, (refl, (refl, (refl, (refl, tt)))))) refl refl refl (omega arith) refl refl refl refl
+returns-clause-another_channel c = races_by capacities another_channel_closed x
+    (refl, (refl, (refl, (refl, (refl, (refl, tt)))))) refl refl refl (omega arith) refl refl refl refl

@@ -10,7 +10,10 @@ pub returns-clause-full : goal.returns-clause-full
 returns-clause-full c = races_by capacities finds_it_full x (refl, (refl, (refl, (refl, (refl, tt))))) refl refl refl (omega arith) refl refl refl refl
 
 pub returns-clause-empty : goal.returns-clause-empty
-returns-clause-empty c = races_by capacities finds_it_empty x (refl, (refl, (refl, (refl, (refl, (refl, tt)))))) refl refl refl (omega arith) refl refl refl refl
+returns-clause-empty c = races_by capacities finds_it_empty x (
+  refl,
+  (refl, (refl, (refl, (refl, (refl, tt))))),
+) refl refl refl (omega arith) refl refl refl refl
 
 pub returns-clause-between : goal.returns-clause-between
 returns-clause-between c = clean_by capacities defaults_between (refl, (refl, (refl, (refl, (refl, (refl, (refl, tt))))))) refl

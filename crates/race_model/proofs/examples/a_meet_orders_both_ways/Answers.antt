@@ -13,7 +13,8 @@ pub returns-clause-sender_behind : goal.returns-clause-sender_behind
 returns-clause-sender_behind c = races_by capacities sender_writes_behind x (refl, (refl, (refl, (refl, tt)))) refl refl refl (omega arith) refl refl refl refl
 
 pub returns-clause-receiver_behind : goal.returns-clause-receiver_behind
-returns-clause-receiver_behind c = races_by capacities receiver_writes_behind x (refl, (refl, (refl, (refl, tt)))) refl refl refl (omega arith) refl refl refl refl
+returns-clause-receiver_behind c = races_by capacities receiver_writes_behind x
+    (refl, (refl, (refl, (refl, tt)))) refl refl refl (omega arith) refl refl refl refl
 
 pub returns-clause-another : goal.returns-clause-another
 returns-clause-another c = races_by capacities another_reads x (refl, (refl, (refl, (refl, (refl, tt))))) refl refl refl (omega arith) refl refl refl refl

@@ -13,10 +13,14 @@ pub returns-clause-behind : goal.returns-clause-behind
 returns-clause-behind c = races_by capacities send_then_write x (refl, (refl, (refl, (refl, (refl, tt))))) refl refl refl (omega arith) refl refl refl refl
 
 pub returns-clause-first_value : goal.returns-clause-first_value
-returns-clause-first_value c = races_by capacities first_received x (refl, (refl, (refl, (refl, (refl, (refl, tt)))))) refl refl refl (omega arith) refl refl refl refl
+returns-clause-first_value c = races_by capacities first_received x (
+  refl,
+  (refl, (refl, (refl, (refl, (refl, tt))))),
+) refl refl refl (omega arith) refl refl refl refl
 
 pub returns-clause-second_value : goal.returns-clause-second_value
 returns-clause-second_value c = clean_by capacities second_received (refl, (refl, (refl, (refl, (refl, (refl, (refl, tt))))))) refl
 
 pub returns-clause-another_channel : goal.returns-clause-another_channel
-returns-clause-another_channel c = races_by capacities another_channel_sent x (refl, (refl, (refl, (refl, (refl, (refl, tt)))))) refl refl refl (omega arith) refl refl refl refl
+returns-clause-another_channel c = races_by capacities another_channel_sent x
+    (refl, (refl, (refl, (refl, (refl, (refl, tt)))))) refl refl refl (omega arith) refl refl refl refl

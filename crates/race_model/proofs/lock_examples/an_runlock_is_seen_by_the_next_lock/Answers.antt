@@ -1,7 +1,9 @@
 use Rattle.race_model.proofs.lock_examples.an_runlock_is_seen_by_the_next_lock.Goals as goal
 use Rattle.std.proofs.Common.{arith, refl}
 use Rattle.race_model.specs.Examples.{capacities, x}
-use Rattle.race_model.specs.LockExamples.{another_runlocked, others_between, read_then_runlock, runlock_then_read, two_locks_on_from_read, two_read_then_runlock}
+use Rattle.race_model.specs.LockExamples.{another_runlocked, others_between}
+use Rattle.race_model.specs.LockExamples.{read_then_runlock, runlock_then_read}
+use Rattle.race_model.specs.LockExamples.{two_locks_on_from_read, two_read_then_runlock}
 use Rattle.race_model.proofs.ExampleLemmas.{before_by, clean_by, races_by}
 
 pub returns-clause-ordered : goal.returns-clause-ordered

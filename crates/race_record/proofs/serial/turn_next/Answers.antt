@@ -9,7 +9,8 @@ returns-in-Ok-clause-turned g c = λ _. record {
   between = c.take.new.self;
   running = c.in-Some.ensures.some.0;
   takes = c.in-Some.ensures.some.1;
-  turns = is_turned g.R.Routine.asks c.in-Some.job c.turn.new.self c.in_ok-turn.field-0 (λ kept is. (c.in_ok-turn.ensures.kept kept is).1) c.in_ok-turn.ensures.called;
+  turns = is_turned g.R.Routine.asks c.in-Some.job c.turn.new.self c.in_ok-turn.field-0
+      (λ kept is. (c.in_ok-turn.ensures.kept kept is).1) c.in_ok-turn.ensures.called;
   submits = c.in-Ok.ensures.ok.1;
 }
 
@@ -20,6 +21,7 @@ returns-in-Err-BadRequest-clause-turned g c = λ _. record {
   between = c.take.new.self;
   running = c.in-Some.ensures.some.0;
   takes = c.in-Some.ensures.some.1;
-  turns = is_turned g.R.Routine.asks c.in-Some.job c.turn.new.self c.in_ok-turn.field-0 (λ kept is. (c.in_ok-turn.ensures.kept kept is).1) c.in_ok-turn.ensures.called;
+  turns = is_turned g.R.Routine.asks c.in-Some.job c.turn.new.self c.in_ok-turn.field-0
+      (λ kept is. (c.in_ok-turn.ensures.kept kept is).1) c.in_ok-turn.ensures.called;
   submits = (c.submit.ensures.bad (c.in-Err-BadRequest.is ∙ ap (λ fault. Err fault) c.in-Err-BadRequest.field-0-is)).1;
 }

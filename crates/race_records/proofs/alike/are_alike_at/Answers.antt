@@ -17,7 +17,8 @@ returns g c =
     let there = c.event-there.result.now in
     alike_by trace other c.args.index here there c.event-here.ensures.event c.event-there.ensures.event c.are_second_places_alike.result
     (c.are_second_places_alike.ensures
-    ∙ by_texts trace other c.args.index here there c.event-here.ensures.event c.event-there.ensures.event (search rules) (sym c.is_same_op.ensures ∙ search rules)
+    ∙ by_texts trace other c.args.index here there c.event-here.ensures.event c.event-there.ensures.event
+    (search rules) (sym c.is_same_op.ensures ∙ search rules)
     c.place_text.result.now c.place_text-2.result.now c.place_text.ensures c.place_text-2.ensures (search rules))
 
 pub returns-then-not-is_same_op : goal.returns-then-not-is_same_op
@@ -36,5 +37,6 @@ returns-then-ne g c =
     let here = c.event-here.result.now in
     let there = c.event-there.result.now in
     alike_by trace other c.args.index here there c.event-here.ensures.event c.event-there.ensures.event false
-    (by_place trace other c.args.index here there c.event-here.ensures.event c.event-there.ensures.event (search rules) (sym c.is_same_op.ensures ∙ search rules)
+    (by_place trace other c.args.index here there c.event-here.ensures.event c.event-there.ensures.event
+    (search rules) (sym c.is_same_op.ensures ∙ search rules)
     c.place_text.result.now c.place_text-2.result.now c.place_text.ensures c.place_text-2.ensures (search rules))

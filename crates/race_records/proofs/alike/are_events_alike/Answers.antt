@@ -11,6 +11,7 @@ returns g c =
     let here = length-map trace.events (placed trace.decls.places) in
     let there = length-map other.events (placed other.decls.places) in
     let same : length trace.events ≡ length other.events = omega (arith, c.len.ensures.len, c.len-2.ensures.len, c.if-len.false) in (
-      λ _. same_elements (placed_events trace) (placed_events other) (here ∙ same ∙ sym there) (λ k within. c.loop-index.invariant k (omega (arith, within, here, c.len-index-end.ensures.len, c.loop-index-test.false))),
+      λ _. same_elements (placed_events trace) (placed_events other) (here ∙ same ∙ sym there)
+          (λ k within. c.loop-index.invariant k (omega (arith, within, here, c.len-index-end.ensures.len, c.loop-index-test.false))),
       λ _. refl,
     )

@@ -6,4 +6,5 @@ use Rattle.race_report.proofs.edge_lines.print_edges.Given as goal
 
 -- the edges before the index are printed
 abbrev pub invariant-loop-edge : goal.invariant-loop-edge
-invariant-loop-edge g l = Printing g.W.Write.contents (Ok tt) l.initial.sink l.sink l.initial.page l.page (flat_map (edge_line l.trace) (take l.edge-index l.edges))
+invariant-loop-edge g l = Printing g.W.Write.contents (Ok tt) l.initial.sink l.sink l.initial.page l.page
+    (flat_map (edge_line l.trace) (take l.edge-index l.edges))

@@ -7,4 +7,5 @@ use Rattle.race_report.proofs.verdict.print_races.Given as goal
 
 -- the races before the index are printed
 abbrev pub invariant-loop-race : goal.invariant-loop-race
-invariant-loop-race g l = Printing g.W.Write.contents (Ok tt) l.initial.sink l.sink l.initial.page l.page (flat_map (λ r. race_line l.trace (race_of r)) (take l.race-index l.races))
+invariant-loop-race g l = Printing g.W.Write.contents (Ok tt) l.initial.sink l.sink l.initial.page l.page
+    (flat_map (λ r. race_line l.trace (race_of r)) (take l.race-index l.races))

@@ -23,7 +23,8 @@ pub returns-then-ne-clause-leaves : goal.returns-then-ne-clause-leaves
 returns-then-ne-clause-leaves g c = inl (record { declarations = others g c; main = refl; first = refl })
 
 -- what is known where the same is declared
-declared : (p : ProgramState) (r : RecordingState) (traced : TraceState) (own others : DeclsState) → own ≡ traced.decls → traced.decls ≡ r.decls → others ≡ p.decls
+declared : (p : ProgramState) (r : RecordingState) (traced : TraceState) (own others : DeclsState)
+    → own ≡ traced.decls → traced.decls ≡ r.decls → others ≡ p.decls
     → false ≡ not (same_declarations own.declarations others.declarations) → r.decls.declarations ≡ p.decls.declarations
 declared p r traced own others is was are told =
     ap (λ (d : DeclsState). d.declarations) (sym (is ∙ was)) ∙ same_declared own.declarations others.declarations told

@@ -23,5 +23,6 @@ returns-in_default g c = λ n e at cause is.
     let some = c.in_ok-last.ensures.0 in
     let last = c.in_ok-last.ensures.1 in
     let ends : c.in_ok-last.last + 1 ≡ length trace.events = omega (arith, len, some, last) in
-    absurd (c.in_default.not-Fault cause (last_event (capacity_of trace.decls.declarations) trace.events n c.in_ok-last.last e c.event.result.now cause c.requires
+    absurd (c.in_default.not-Fault cause
+    (last_event (capacity_of trace.decls.declarations) trace.events n c.in_ok-last.last e c.event.result.now cause c.requires
     at is c.event.ensures.event ends))

@@ -44,11 +44,13 @@ returns-clause-text g c =
 
 pub returns-clause-only : goal.returns-clause-only
 returns-clause-only g c =
-    IfOk-weaker c.finish.result _ (λ program. IsOnlyProgramOf c.args.bytes.now program) (λ program each. each c.args.bytes.now (stands g c)) c.finish.ensures.only
+    IfOk-weaker c.finish.result _ (λ program. IsOnlyProgramOf c.args.bytes.now program)
+    (λ program each. each c.args.bytes.now (stands g c)) c.finish.ensures.only
 
 pub returns-clause-accepted : goal.returns-clause-accepted
 returns-clause-accepted g c = λ is.
-    IfErr-weaker c.finish.result _ (λ (f : TextFault). f.cause ≡ TextCause.OutOfMemory) (λ f each. each c.args.bytes.now (stands g c) is) c.finish.ensures.accepted
+    IfErr-weaker c.finish.result _ (λ (f : TextFault). f.cause ≡ TextCause.OutOfMemory)
+    (λ f each. each c.args.bytes.now (stands g c) is) c.finish.ensures.accepted
 
 pub returns-clause-fault : goal.returns-clause-fault
 returns-clause-fault g c =

@@ -24,7 +24,8 @@ returns-in-Ok-clause-added g c =
     (ap (parts_left 32) c.unwrap.ensures ∙ c.cut_at.ensures) (sym c.word_cause.ensures ∙ c.in_default.is) in
     let made = made_in_hand c.args.decls.now.declarations c.args.noun args c.cut_at.result.0.now
     c.cut_at.result.1 hand c.unwrap-object.result (sym c.object_read.ensures ∙ c.unwrap-object.ensures) in
-    c.in-Ok.ensures.added ∙ ap (λ w. with_declaration c.args.decls.now w c.unwrap-object.result) c.as_text.ensures ∙ ap (with_declared c.args.decls.now) (sym made.0)
+    c.in-Ok.ensures.added ∙ ap (λ w. with_declaration c.args.decls.now w c.unwrap-object.result) c.as_text.ensures
+    ∙ ap (with_declared c.args.decls.now) (sym made.0)
 
 pub returns-in-Err-clause-allowed : goal.returns-in-Err-clause-allowed
 returns-in-Err-clause-allowed g c =
@@ -33,4 +34,5 @@ returns-in-Err-clause-allowed g c =
     (ap (parts_left 32) c.unwrap.ensures ∙ c.cut_at.ensures) (sym c.word_cause.ensures ∙ c.in_default.is) in
     let made = made_in_hand c.args.decls.now.declarations c.args.noun args c.cut_at.result.0.now
     c.cut_at.result.1 hand c.unwrap-object.result (sym c.object_read.ensures ∙ c.unwrap-object.ensures) in
-    λ none. c.cause_of.ensures ∙ ap cause_of (c.in-Err.ensures.allowed (ap (decl_fault c.args.decls.now.declarations c.unwrap-object.result) c.as_text.ensures ∙ made.1))
+    λ none. c.cause_of.ensures ∙ ap cause_of
+    (c.in-Err.ensures.allowed (ap (decl_fault c.args.decls.now.declarations c.unwrap-object.result) c.as_text.ensures ∙ made.1))

@@ -9,7 +9,8 @@ pub loop-field-preserved : goal.loop-field-preserved
 loop-field-preserved g c =
     let i = c.loop-field.field-index in
     let ds = c.args.decls.now.declarations in
-    ap (λ o. cause_on ds o (drop (i + 1) c.args.fields.now) (parts_left 32 c.cut_at.result.1)) (c.lesser-least.ensures ∙ ap (lesser c.loop-field.least) c.field_cause.ensures)
+    ap (λ o. cause_on ds o (drop (i + 1) c.args.fields.now) (parts_left 32 c.cut_at.result.1))
+    (c.lesser-least.ensures ∙ ap (lesser c.loop-field.least) c.field_cause.ensures)
     ∙ sym (cause_on-more ds c.loop-field.least c.args.fields.now i NewName (parts_left 32 c.loop-field.left)
     c.cut_at.result.0.now (parts_left 32 c.cut_at.result.1) c.loop-field-test.true
     (ap (parts_left 32) c.in-Some.is ∙ c.cut_at.ensures))

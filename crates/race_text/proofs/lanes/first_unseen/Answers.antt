@@ -21,12 +21,14 @@ pub returns-then-behind-ne0 : goal.returns-then-behind-ne0
 returns-then-behind-ne0 c =
     let last = length c.args.bytes.now - 16 in
     let behind = c.unseen_in-behind.ensures in
-    sym (first_in_lanes (λ b. not (is_place_byte b)) c.args.bytes.now 0 last 16 (omega arith) (omega arith) (λ k below. c.loop-at.invariant.1 k (omega (arith, below))) (omega (arith, behind))
+    sym (first_in_lanes (λ b. not (is_place_byte b)) c.args.bytes.now 0 last 16 (omega arith)
+    (omega arith) (λ k below. c.loop-at.invariant.1 k (omega (arith, below))) (omega (arith, behind))
     ∙ ap (λ mask. Some (last + count_trailing_zeros 64 mask)) (sym behind))
 
 pub returns : goal.returns
 returns c =
     let p = λ (b : ℕ). not (is_place_byte b) in
     let last = length c.args.bytes.now - 16 in
-    let behind = none_in_lanes p c.args.bytes.now 0 last 16 (omega arith) (λ k below. c.loop-at.invariant.1 k (omega (arith, below))) (omega (arith, c.unseen_in-behind.ensures)) in
+    let behind = none_in_lanes p c.args.bytes.now 0 last 16 (omega arith)
+    (λ k below. c.loop-at.invariant.1 k (omega (arith, below))) (omega (arith, c.unseen_in-behind.ensures)) in
     sym (position_is_none p c.args.bytes.now 0 (λ k below. behind k (omega (arith, below))))

@@ -10,7 +10,8 @@ from_zero n = omega arith
 pub returns-then-found-ne0 : goal.returns-then-found-ne0
 returns-then-found-ne0 c =
     let found = c.unseen_in_eight-found.ensures in
-    sym (first_in_lanes (λ b. not (is_place_byte b)) c.args.bytes.now 0 0 8 (omega arith) (omega arith) (λ k below. absurd (omega (arith, below))) (omega (arith, found))
+    sym (first_in_lanes (λ b. not (is_place_byte b)) c.args.bytes.now 0 0 8 (omega arith)
+    (omega arith) (λ k below. absurd (omega (arith, below))) (omega (arith, found))
     ∙ ap (λ n. Some n) (from_zero _)
     ∙ ap (λ mask. Some (count_trailing_zeros 64 mask)) (sym found))
 
@@ -19,7 +20,8 @@ returns-then-behind-ne0 c =
     let p = λ (b : ℕ). not (is_place_byte b) in
     let last = length c.args.bytes.now - 8 in
     let behind = c.unseen_in_eight-behind.ensures in
-    let first = none_in_lanes p c.args.bytes.now 0 0 8 (omega arith) (λ i early. absurd (omega (arith, early))) (omega (arith, c.unseen_in_eight-found.ensures)) in
+    let first = none_in_lanes p c.args.bytes.now 0 0 8 (omega arith)
+    (λ i early. absurd (omega (arith, early))) (omega (arith, c.unseen_in_eight-found.ensures)) in
     sym (first_in_lanes p c.args.bytes.now 0 last 8 (omega arith) (omega arith) (λ k below. first k (omega (arith, below, c.requires))) (omega (arith, behind))
     ∙ ap (λ mask. Some (last + count_trailing_zeros 64 mask)) (sym behind))
 
@@ -27,6 +29,8 @@ pub returns : goal.returns
 returns c =
     let p = λ (b : ℕ). not (is_place_byte b) in
     let last = length c.args.bytes.now - 8 in
-    let first = none_in_lanes p c.args.bytes.now 0 0 8 (omega arith) (λ i early. absurd (omega (arith, early))) (omega (arith, c.unseen_in_eight-found.ensures)) in
-    let behind = none_in_lanes p c.args.bytes.now 0 last 8 (omega arith) (λ k below. first k (omega (arith, below, c.requires))) (omega (arith, c.unseen_in_eight-behind.ensures)) in
+    let first = none_in_lanes p c.args.bytes.now 0 0 8 (omega arith)
+    (λ i early. absurd (omega (arith, early))) (omega (arith, c.unseen_in_eight-found.ensures)) in
+    let behind = none_in_lanes p c.args.bytes.now 0 last 8 (omega arith)
+    (λ k below. first k (omega (arith, below, c.requires))) (omega (arith, c.unseen_in_eight-behind.ensures)) in
     sym (position_is_none p c.args.bytes.now 0 (λ k below. behind k (omega (arith, below))))

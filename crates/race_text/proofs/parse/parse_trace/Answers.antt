@@ -47,7 +47,8 @@ returns-clause-only g c =
 
 pub returns-clause-accepted : goal.returns-clause-accepted
 returns-clause-accepted g c = λ is.
-    IfErr-weaker c.finish.result _ (λ (f : TextFault). f.cause ≡ TextCause.OutOfMemory) (λ f each. each c.args.bytes.now (stands g c) is) c.finish.ensures.accepted
+    IfErr-weaker c.finish.result _ (λ (f : TextFault). f.cause ≡ TextCause.OutOfMemory)
+    (λ f each. each c.args.bytes.now (stands g c) is) c.finish.ensures.accepted
 
 pub returns-clause-fault : goal.returns-clause-fault
 returns-clause-fault g c =

@@ -34,7 +34,8 @@ returns-in-Err g c =
     subst (λ (l : List ℕ). Printing g.W.Write.contents (Err c.in-Err.fault) c.args.sink.now c.print_case.new.sink c.args.page.now c.print_case.new.page l)
     (pieces_printed ds cases (omega (arith, within)))
     (piece_breaks_off (λ w. w) (all_pieces ds cases) k [] (omega (arith, within, pieces_len ds 32 cases)) c.loop-k.invariant
-    (subst (λ (l : List ℕ). Printing g.W.Write.contents (Err c.in-Err.fault) c.loop-k.sink c.print_case.new.sink c.loop-k.page c.print_case.new.page l) piece c.in-Err.ensures))
+    (subst (λ (l : List ℕ). Printing g.W.Write.contents (Err c.in-Err.fault) c.loop-k.sink c.print_case.new.sink c.loop-k.page c.print_case.new.page l)
+    piece c.in-Err.ensures))
 
 pub loop-k-preserved : goal.loop-k-preserved
 loop-k-preserved g c =
@@ -46,7 +47,8 @@ loop-k-preserved g c =
     let piece : separator k ∷ case_text ds case ≡ get_or (all_pieces ds cases) k [] =
     ap (λ (x : Case). separator k ∷ case_text ds x) (sym (get_or_from_slice_get cases k case case c.get.ensures)) ∙ sym (piece_at ds cases k case [] within) in
     piece_behind (λ w. w) (all_pieces ds cases) k [] (omega (arith, within, pieces_len ds 32 cases)) c.loop-k.invariant
-    (subst (λ (l : List ℕ). Printing g.W.Write.contents (Ok tt) c.loop-k.sink c.print_case.new.sink c.loop-k.page c.print_case.new.page l) piece c.in_default.ensures)
+    (subst (λ (l : List ℕ). Printing g.W.Write.contents (Ok tt) c.loop-k.sink c.print_case.new.sink c.loop-k.page c.print_case.new.page l)
+    piece c.in_default.ensures)
 
 pub returns : goal.returns
 returns g c =
@@ -54,4 +56,5 @@ returns g c =
     let cases = c.args.cases.now in
     let over : length (all_pieces ds cases) ≤ c.loop-k.k = omega (arith, c.len-k-end.ensures.len, c.loop-k-test.false, pieces_len ds 32 cases) in
     subst (λ (l : List ℕ). Printing g.W.Write.contents (Ok tt) c.args.sink.now c.loop-k.sink c.args.page.now c.loop-k.page l)
-    (ap (flat_map (λ w. w)) (take_all c.loop-k.k (all_pieces ds cases) over) ∙ pieces_printed ds cases (some_case cases c.if-is_empty.ensures.1)) c.loop-k.invariant
+    (ap (flat_map (λ w. w)) (take_all c.loop-k.k (all_pieces ds cases) over)
+    ∙ pieces_printed ds cases (some_case cases c.if-is_empty.ensures.1)) c.loop-k.invariant

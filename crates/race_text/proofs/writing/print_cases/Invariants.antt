@@ -6,4 +6,5 @@ use Rattle.race_text.proofs.writing.print_cases.Given as goal
 
 -- the cases before number k are printed
 abbrev pub invariant-loop-k : goal.invariant-loop-k
-invariant-loop-k g l = Printing g.W.Write.contents (Ok tt) l.initial.sink l.sink l.initial.page l.page (flat_map (λ w. w) (take l.k (all_pieces l.decls.declarations l.cases)))
+invariant-loop-k g l = Printing g.W.Write.contents (Ok tt) l.initial.sink l.sink l.initial.page l.page
+    (flat_map (λ w. w) (take l.k (all_pieces l.decls.declarations l.cases)))

@@ -16,7 +16,8 @@ returns-in-Err g c =
     let found = slice_get-within ds i within in
     let is = ap text_of found.1 ∙ ap (λ (d : Declaration). ended (declaration_line d)) (sym (get_or_from_slice_get ds i found.0 found.0 found.1)) in
     piece_breaks_off (λ (d : Declaration). ended (declaration_line d)) ds i found.0 within c.loop-index.invariant
-    (subst (λ (l : List ℕ). Printing g.W.Write.contents (Err c.in-Err.fault) c.loop-index.sink c.print_declaration.new.sink c.loop-index.page c.print_declaration.new.page l)
+    (subst (λ (l : List ℕ). Printing g.W.Write.contents (Err c.in-Err.fault)
+    c.loop-index.sink c.print_declaration.new.sink c.loop-index.page c.print_declaration.new.page l)
     is c.in-Err.ensures)
 
 pub loop-index-preserved : goal.loop-index-preserved

@@ -23,5 +23,7 @@ returns-in-Err g c =
     let whole = event_text c.args.decls.now c.args.event.now c.verb_text.result.now c.name-who.result.now
     c.place_text-place.result.now (option_map (λ place. place.now) c.second_text-place2.result) c.says-verb.result.0 parts
     c.verb_text.ensures c.says-verb.ensures.verb (c.says-verb.ensures.parts) c.name-who.ensures c.place_text-place.ensures c.second_text-place2.ensures in
-    subst (λ (l : List ℕ). Printing g.W.Write.contents (Err c.in-Err.fault) c.args.sink.now c.print_first.new.sink c.args.page.now c.print_first.new.page l) whole
-    (breaks_off_before (parts_text ds parts ++ place_end c.place_text-place.result.now (option_map (λ place. place.now) c.second_text-place2.result)) c.in-Err.ensures)
+    subst (λ (l : List ℕ). Printing g.W.Write.contents (Err c.in-Err.fault)
+    c.args.sink.now c.print_first.new.sink c.args.page.now c.print_first.new.page l) whole
+    (breaks_off_before (parts_text ds parts ++ place_end c.place_text-place.result.now (option_map (λ place. place.now) c.second_text-place2.result))
+    c.in-Err.ensures)

@@ -31,7 +31,8 @@ returns-in-Ok-clause-sent g c =
     let printed = subst (λ (l : List ℕ). Prints start middle c.new-page.result c.print_trace.new.page l) is c.in-Ok.ensures.ok in
     IfErr-map c.flush.result _ (λ (fault : WriteFault). Appends start now (take fault.sent (text trace)))
     (λ (fault : WriteFault) cuts. (cut_is_exact start now fault.sent (text trace) bounded
-    (cut_off start middle c.new-page.result c.print_trace.new.page (text trace) c.new-page.ensures.waiting c.new-page.ensures.sent now fault.sent printed cuts)).0)
+    (cut_off start middle c.new-page.result c.print_trace.new.page (text trace)
+    c.new-page.ensures.waiting c.new-page.ensures.sent now fault.sent printed cuts)).0)
     c.flush.ensures.sent
 
 pub returns-in-Ok-clause-short : goal.returns-in-Ok-clause-short
@@ -45,7 +46,8 @@ returns-in-Ok-clause-short g c =
     let printed = subst (λ (l : List ℕ). Prints start middle c.new-page.result c.print_trace.new.page l) is c.in-Ok.ensures.ok in
     IfErr-map c.flush.result _ (λ (fault : WriteFault). fault.sent < length (text trace))
     (λ (fault : WriteFault) cuts. (cut_is_exact start now fault.sent (text trace) bounded
-    (cut_off start middle c.new-page.result c.print_trace.new.page (text trace) c.new-page.ensures.waiting c.new-page.ensures.sent now fault.sent printed cuts)).1)
+    (cut_off start middle c.new-page.result c.print_trace.new.page (text trace)
+    c.new-page.ensures.waiting c.new-page.ensures.sent now fault.sent printed cuts)).1)
     c.flush.ensures.sent
 
 pub returns-in-Err-clause-sent : goal.returns-in-Err-clause-sent

@@ -9,11 +9,13 @@ use Rattle.race_tool.proofs.InputLemmas.{is_readable, reads_and_writes, reads_te
 use Rattle.race_tool.proofs.check.run_check.Goals as goal
 
 pub report-requires : goal.report-requires
-report-requires g c = is_readable (unread g.R.Read.remaining c.args.source.now) (unread g.R.Read.remaining c.read_trace.new.source) c.in-Ok.text c.in-Ok.ensures.ok
+report-requires g c = is_readable (unread g.R.Read.remaining c.args.source.now)
+    (unread g.R.Read.remaining c.read_trace.new.source) c.in-Ok.text c.in-Ok.ensures.ok
 
 pub returns-in-Ok-clause-reported : goal.returns-in-Ok-clause-reported
 returns-in-Ok-clause-reported g c = λ _ granted served.
-    reads_and_writes IsTextOf of_traces (IsFinding c.args.options.now.plain) report_of (unread g.R.Read.remaining c.args.source.now) (unread g.R.Read.remaining c.read_trace.new.source)
+    reads_and_writes IsTextOf of_traces (IsFinding c.args.options.now.plain) report_of
+    (unread g.R.Read.remaining c.args.source.now) (unread g.R.Read.remaining c.read_trace.new.source)
     c.in-Ok.text c.in-Ok.ensures.ok status_of (written g.W.Write.contents c.args.sink.now) (written g.W.Write.contents c.report.new.sink) c.report.result
     (c.report.ensures.reported granted served)
 
@@ -34,5 +36,6 @@ returns-in-Ok-clause-illegal g c = λ is.
 
 pub returns-in-Ok-clause-device : goal.returns-in-Ok-clause-device
 returns-in-Ok-clause-device g c = λ is.
-    inr (inr (fails_to_write IsTextOf of_traces (IsFinding c.args.options.now.plain) report_of g.R.Read.remaining g.W.Write.contents c.args.source.now c.read_trace.new.source
+    inr (inr (fails_to_write IsTextOf of_traces (IsFinding c.args.options.now.plain)
+    report_of g.R.Read.remaining g.W.Write.contents c.args.source.now c.read_trace.new.source
     c.args.sink.now c.report.new.sink c.in-Ok.text c.in-Ok.ensures.ok (c.in-Ok.ensures.calm (λ e. cc)) (c.report.ensures.device is)))

@@ -26,20 +26,23 @@ loop-at-init g c = record {
 
 pub accept-requires-clause-range : goal.accept-requires-clause-range
 accept-requires-clause-range g c =
-    in_range c.args.trace.now.decls c.loop-at.replay (take c.loop-at.at c.args.trace.now.events) c.event-event.result.now c.loop-at.invariant.legal c.event-event.ensures.fits
+    in_range c.args.trace.now.decls c.loop-at.replay (take c.loop-at.at c.args.trace.now.events)
+    c.event-event.result.now c.loop-at.invariant.legal c.event-event.ensures.fits
 
 pub returns-in-Rule : goal.returns-in-Rule
 returns-in-Rule g c = (
   c.event-event.result.now,
   c.event-event.ensures.event,
-  c.in-Err.ensures.least c.in-Rule.rule (ap Err c.in-Rule.is) c.args.trace.now.decls.declarations (take c.loop-at.at c.args.trace.now.events) c.loop-at.invariant.legal,
+  c.in-Err.ensures.least c.in-Rule.rule (ap Err c.in-Rule.is) c.args.trace.now.decls.declarations
+      (take c.loop-at.at c.args.trace.now.events) c.loop-at.invariant.legal,
   c.loop-at.invariant.legal.legal,
 )
 
 pub step-requires : goal.step-requires
 step-requires g c =
     let grown = c.in-Ok.ensures.goes_on c.args.trace.now.decls.declarations (take c.loop-at.at c.args.trace.now.events) c.loop-at.invariant.legal in
-    is_next c.args.trace.now c.len-at-end.ensures.is_trace c.loop-at.at c.event-event.result.now c.event-event.ensures.event c.loop-at.stamper c.loop-at.invariant.stands grown.legal
+    is_next c.args.trace.now c.len-at-end.ensures.is_trace c.loop-at.at c.event-event.result.now
+    c.event-event.ensures.event c.loop-at.stamper c.loop-at.invariant.stands grown.legal
 
 pub clock-requires : goal.clock-requires
 clock-requires g c =
@@ -53,7 +56,8 @@ clock-requires g c =
 
 pub touch-requires : goal.touch-requires
 touch-requires g c =
-    let is = sym (c.in_ok-stamp.ensures.stamp c.args.trace.now.decls.declarations (take c.loop-at.at c.args.trace.now.events) c.loop-at.invariant.stands) ∙ c.in-Some.is in
+    let is = sym (c.in_ok-stamp.ensures.stamp c.args.trace.now.decls.declarations (take c.loop-at.at c.args.trace.now.events) c.loop-at.invariant.stands)
+    ∙ c.in-Some.is in
     let declared =
     var_declared c.args.trace.now c.len-at-end.ensures.is_trace c.loop-at.at c.event-event.result.now c.event-event.ensures.event c.in-Some.stamp is in
     omega (arith, declared, c.loop-at.invariant.vars)
@@ -74,11 +78,13 @@ loop-at-preserved g c =
       kept = subst (λ (front : List Event). AreKept caps front c.match-branch-5.variables) next (elim c.match-branch-5.branch [
         | in-Some+in_ok-touch w ↦
             let touch =
-            is_touch trace c.len-at-end.ensures.is_trace c.loop-at.at e c.event-event.ensures.event c.loop-at.stamper c.step.new.self w.in-Some.stamp w.clock.result.now
+            is_touch trace c.len-at-end.ensures.is_trace c.loop-at.at e c.event-event.ensures.event
+            c.loop-at.stamper c.step.new.self w.in-Some.stamp w.clock.result.now
             (stamp ∙ w.in-Some.is) c.loop-at.invariant.stands c.in_ok-stamp.ensures.clock w.clock.ensures in
             subst (AreKept caps (past ++ e ∷ [])) (sym w.variables-is) (w.in_ok-touch.ensures.goes_on caps past e c.loop-at.invariant.kept touch)
         | in_default w ↦
-            subst (AreKept caps (past ++ e ∷ [])) (sym w.variables-is) (kept_other caps past e c.loop-at.variables (stamp ∙ w.in_default.is) c.loop-at.invariant.kept)
+            subst (AreKept caps (past ++ e ∷ [])) (sym w.variables-is)
+            (kept_other caps past e c.loop-at.variables (stamp ∙ w.in_default.is) c.loop-at.invariant.kept)
       ]);
       vars = elim c.match-branch-5.branch [
         | in-Some+in_ok-touch w ↦ ap length w.variables-is ∙ w.touch.ensures.len ∙ c.loop-at.invariant.vars
@@ -89,13 +95,15 @@ loop-at-preserved g c =
 pub returns-then-is_empty : goal.returns-then-is_empty
 returns-then-is_empty g c =
     let told =
-    told_at_end c.args.trace.now c.len-at-end.ensures.is_trace c.loop-at.at (omega arith) c.loop-at.variables c.in_ok-races.races c.loop-at.invariant.legal.legal
+    told_at_end c.args.trace.now c.len-at-end.ensures.is_trace c.loop-at.at
+    (omega arith) c.loop-at.variables c.in_ok-races.races c.loop-at.invariant.legal.legal
     c.loop-at.invariant.kept c.loop-at.invariant.vars c.in_ok-races.ensures in
     (told.0, free_from_none (capacities c.args.trace.now) c.args.trace.now.events c.in_ok-races.races told.1 (c.is_empty.ensures.0 c.if-is_empty.true))
 
 pub returns : goal.returns
 returns g c =
     let told =
-    told_at_end c.args.trace.now c.len-at-end.ensures.is_trace c.loop-at.at (omega arith) c.loop-at.variables c.in_ok-races.races c.loop-at.invariant.legal.legal
+    told_at_end c.args.trace.now c.len-at-end.ensures.is_trace c.loop-at.at
+    (omega arith) c.loop-at.variables c.in_ok-races.races c.loop-at.invariant.legal.legal
     c.loop-at.invariant.kept c.loop-at.invariant.vars c.in_ok-races.ensures in
     (told.0, listed_some c.in_ok-races.races (λ none. let empty : c.is_empty.result ≡ true = c.is_empty.ensures.1 none in cc), told.1)

@@ -8,7 +8,8 @@ use Rattle.race_tool.proofs.InputLemmas.{is_readable, reads_and_writes, fails_to
 use Rattle.race_tool.proofs.edges_engine.run_edges.Goals as goal
 
 pub list-requires : goal.list-requires
-list-requires g c = is_readable (unread g.R.Read.remaining c.args.source.now) (unread g.R.Read.remaining c.read_trace.new.source) c.in-Ok.text c.in-Ok.ensures.ok
+list-requires g c = is_readable (unread g.R.Read.remaining c.args.source.now)
+    (unread g.R.Read.remaining c.read_trace.new.source) c.in-Ok.text c.in-Ok.ensures.ok
 
 pub returns-in-Ok-clause-listed : goal.returns-in-Ok-clause-listed
 returns-in-Ok-clause-listed g c = λ granted served.

@@ -28,7 +28,8 @@ returns-in-Ok-write_judged-clause-judged g c = λ granted served.
           c.trace-trace.ensures.parts c.decls-decls.ensures.decls c.decls-decls.ensures.well_formed c.events-events.ensures.is_trace;
       verdict = Some verdict;
       right = right_verdict c.args.plain c.trace-trace.result.now c.in-Ok.judged c.in-Ok.ensures c.in-Some.verdict c.in-Some.is;
-      printed = subst (λ (e : End). Appends before after (report trace verdict ++ end_line trace.decls.declarations e)) c.end-end.ensures c.in-Ok-write_judged.ensures.ok;
+      printed = subst (λ (e : End). Appends before after (report trace verdict ++ end_line trace.decls.declarations e))
+          c.end-end.ensures c.in-Ok-write_judged.ensures.ok;
       status_is = c.status_of_verdict.ensures ∙ ap (λ (e : End). status_of_verdict e verdict) c.end-end.ensures;
     }
 
@@ -78,6 +79,7 @@ returns-clause-device g c = λ _.
       verdict = None;
       right = no_verdict c.args.plain c.trace-trace.result.now c.in-Ok.judged c.in-Ok.ensures c.in-None.is;
       sent = c.in-Err-write_too_long.field-0.sent;
-      cut_off = subst (λ (n : ℕ). IsCutOff before after c.in-Err-write_too_long.field-0.sent (too_long_line n)) c.len.ensures.len c.in-Err-write_too_long.ensures.sent;
+      cut_off = subst (λ (n : ℕ). IsCutOff before after c.in-Err-write_too_long.field-0.sent (too_long_line n))
+          c.len.ensures.len c.in-Err-write_too_long.ensures.sent;
       failed = c.in-Err-write_too_long.ensures.failed;
     }

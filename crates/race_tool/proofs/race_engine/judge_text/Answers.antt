@@ -69,7 +69,8 @@ pub returns-clause-device : goal.returns-clause-device
 returns-clause-device g c = λ _.
     let limit = c.args.run.now.limit in
     let picks = picks_asked c.args.run.now in
-    subst (λ (text : Result ProgramState TextFault). WritesJudgedFront limit picks c.args.plain text g.W.Write.contents c.args.sink.now c.write_text_fault.new.sink)
+    subst (λ (text : Result ProgramState TextFault). WritesJudgedFront limit picks
+    c.args.plain text g.W.Write.contents c.args.sink.now c.write_text_fault.new.sink)
     (sym c.in-Err.is)
     (writes_judged_fault_front limit picks c.args.plain c.in-Err.fault g.W.Write.contents c.args.sink.now c.write_text_fault.new.sink
     c.in-Err-write_text_fault.field-0.sent c.in-Err-write_text_fault.ensures.sent c.in-Err-write_text_fault.ensures.failed)

@@ -22,7 +22,8 @@ returns-in-Ok-clause-sent g c =
     let text = report c.args.trace.now (verdict_of c.args.verdict.now) ++ end_line c.args.trace.now.decls.declarations c.args.end in
     IfErr-map c.flush.result _ (λ (fault : WriteFault). IsCutOff start now fault.sent text)
     (λ (fault : WriteFault) cuts.
-    cut_off start middle c.new-page.result c.print_judged.new.page text c.new-page.ensures.waiting c.new-page.ensures.sent now fault.sent c.in-Ok.ensures.ok cuts)
+    cut_off start middle c.new-page.result c.print_judged.new.page text
+    c.new-page.ensures.waiting c.new-page.ensures.sent now fault.sent c.in-Ok.ensures.ok cuts)
     c.flush.ensures.sent
 
 pub returns-in-Err-clause-sent : goal.returns-in-Err-clause-sent

@@ -11,7 +11,8 @@ use Rattle.race_tool.proofs.run_engine.run_run.Goals as goal
 
 pub returns-in-Ok-clause-ran : goal.returns-in-Ok-clause-ran
 returns-in-Ok-clause-ran g c = λ _ granted served matched.
-    reads_and_writes IsTextOf of_programs (IsRun c.args.options.now.limit (picks_asked c.args.options.now)) run_text (unread g.R.Read.remaining c.args.source.now)
+    reads_and_writes IsTextOf of_programs (IsRun c.args.options.now.limit (picks_asked c.args.options.now))
+    run_text (unread g.R.Read.remaining c.args.source.now)
     (unread g.R.Read.remaining c.read_text.new.source) c.in-Ok.text c.in-Ok.ensures.ok run_status (written g.W.Write.contents c.args.sink.now)
     (written g.W.Write.contents c.run_text.new.sink) c.run_text.result (c.run_text.ensures.ran granted served matched)
 

@@ -41,6 +41,7 @@ pub returns-clause-device : goal.returns-clause-device
 returns-clause-device g c = λ _.
     let limit = c.args.options.now.limit in
     let picks = picks_asked c.args.options.now in
-    subst (λ (text : Result ProgramState TextFault). WritesRunFront limit picks text g.W.Write.contents c.args.sink.now c.write_text_fault.new.sink) (sym c.in-Err.is)
+    subst (λ (text : Result ProgramState TextFault). WritesRunFront limit picks text g.W.Write.contents c.args.sink.now c.write_text_fault.new.sink)
+    (sym c.in-Err.is)
     (writes_fault_front limit picks c.in-Err.fault g.W.Write.contents c.args.sink.now c.write_text_fault.new.sink c.in-Err-write_text_fault.field-0.sent
     c.in-Err-write_text_fault.ensures.sent c.in-Err-write_text_fault.ensures.failed)

@@ -16,7 +16,8 @@ returns g c =
     let le : length (c.by.inside.few.items ++ c.by.inside.many.items) ≤ length (c.self.inside.few.items ++ c.self.inside.many.items) =
     omega (arith, c.requires, ap length c.by.view_is, ap length c.self.view_is) in
     let most : length c.self.inside.few.items ≤ 8 = c.raise_few.ensures.few in
-    let full = parts_full c.self.inside.few.items c.self.inside.many.items c.by.inside.few.items c.by.inside.many.items most c.self.invariant c.by.invariant le in
+    let full = parts_full c.self.inside.few.items c.self.inside.many.items
+    c.by.inside.few.items c.by.inside.many.items most c.self.invariant c.by.invariant le in
     let few : c.raise_few.new.counts.items ≡ joined c.self.inside.few.items c.by.inside.few.items =
     c.raise_few.ensures.joined ∙ ap (joined c.self.inside.few.items) c.as_slice.ensures.value in
     let many : c.raise_many.new.counts.items ≡ joined c.self.inside.many.items c.by.inside.many.items =

@@ -14,15 +14,18 @@ returns-clause-taken g c =
     let old = c.args.self.now in
     let is_source : ℕ → _ = λ k. source_at (capacities trace) trace.events k c.args.at in
     let end : c.loop-from.from ≡ zero = omega (arith, c.loop-from-test.false) in
-    said_from trace.events c.args.at c.event.result.now (λ (e : Event). c.loop-from.self.rows ≡ taken is_source old.heard old.rows e.who c.args.at) c.event.ensures.event
-    (subst (λ n. taken is_source old.heard c.loop-from.self.rows c.event.result.now.who n ≡ taken is_source old.heard old.rows c.event.result.now.who c.args.at) end c.loop-from.invariant.rows)
+    said_from trace.events c.args.at c.event.result.now
+    (λ (e : Event). c.loop-from.self.rows ≡ taken is_source old.heard old.rows e.who c.args.at) c.event.ensures.event
+    (subst (λ n. taken is_source old.heard c.loop-from.self.rows c.event.result.now.who n
+    ≡ taken is_source old.heard old.rows c.event.result.now.who c.args.at) end c.loop-from.invariant.rows)
 
 pub loop-from-preserved-then-is_source : goal.loop-from-preserved-then-is_source
 loop-from-preserved-then-is_source g c =
     let trace = c.args.trace.now in
     let old = c.args.self.now in
     record {
-      rows = taken_down (λ k. source_at (capacities trace) trace.events k c.args.at) old.heard c.loop-from.self.rows c.take.new.self.rows c.event.result.now.who (c.loop-from.from - 1) c.loop-from.from
+      rows = taken_down (λ k. source_at (capacities trace) trace.events k c.args.at)
+          old.heard c.loop-from.self.rows c.take.new.self.rows c.event.result.now.who (c.loop-from.from - 1) c.loop-from.from
           (omega (arith, c.loop-from-test.true))
           false true (sym c.if-not-sees.true ∙ c.sees.ensures) (sym c.if-is_source.true ∙ c.is_source.ensures)
           (c.take.ensures.taken ∙ (λ i. with_row c.loop-from.self.rows c.event.result.now.who (row_of (c.loop-from.invariant.heard i) (c.loop-from.from - 1))))

@@ -6,5 +6,6 @@ use Rattle.race_hub.proofs.board.WaitingList.next_partner_of.Goals as goal
 
 pub returns-in-Some-clause-passed : goal.returns-in-Some-clause-passed
 returns-in-Some-clause-passed g c p least less q =
-    passed_over (capacity_of c.args.self.now.declarations) c.args.self.now.past c.args.self.now.waiting c.at.result.now c.args.place c.args.way p q c.in-Some.chan
+    passed_over (capacity_of c.args.self.now.declarations)
+    c.args.self.now.past c.args.self.now.waiting c.at.result.now c.args.place c.args.way p q c.in-Some.chan
     c.at.ensures.found (c.in-Some.ensures ∙ ap sent_on c.offer_at-offer.ensures.offer) (c.next_receiver.ensures.passed p least less)

@@ -13,7 +13,8 @@ first_other-requires g c =
     let h = hub_state c.self.inside in
     let holds = c.self.invariant.0 in
     let right = right_of h c.self.inside.tracks.items c.put_ready.new.tracks.items c.put_parked.new.tracks.items c.put_ended.new.tracks.items
-    c.pass_all.new.tracks.items c.as_slice-2.result.now c.events.result.now c.self.invariant.2 holds.once holds.ends c.put_ready.ensures c.as_slice-2.ensures.value
+    c.pass_all.new.tracks.items c.as_slice-2.result.now c.events.result.now
+    c.self.invariant.2 holds.once holds.ends c.put_ready.ensures c.as_slice-2.ensures.value
     c.put_parked.ensures c.put_ended.ensures c.events.ensures.events c.pass_all.ensures in
     let len = ap length c.as_slice-3.ensures.value in
     let count = right.count in
@@ -26,21 +27,30 @@ returns-in-Some-first_other-clause-err g c =
     let holds = c.self.invariant.0 in
     let k = c.in-Some-first_other.goroutine in
     let right = right_of h c.self.inside.tracks.items c.put_ready.new.tracks.items c.put_parked.new.tracks.items c.put_ended.new.tracks.items
-    c.pass_all.new.tracks.items c.as_slice-2.result.now c.events.result.now c.self.invariant.2 holds.once holds.ends c.put_ready.ensures c.as_slice-2.ensures.value
+    c.pass_all.new.tracks.items c.as_slice-2.result.now c.events.result.now
+    c.self.invariant.2 holds.once holds.ends c.put_ready.ensures c.as_slice-2.ensures.value
     c.put_parked.ensures c.put_ended.ensures c.events.ensures.events c.pass_all.ensures in
-    let other = told_of h c.pass_all.new.tracks.items c.as_slice-3.result.now c.first_other.result (Some k) right c.as_slice-3.ensures.value c.first_other.ensures
+    let other = told_of h c.pass_all.new.tracks.items c.as_slice-3.result.now c.first_other.result
+    (Some k) right c.as_slice-3.ensures.value c.first_other.ensures
     c.in-Some-first_other.is in
     let (within, refuted, least) = other_is h h.events c.pass_all.new.tracks.items k right other in
     let ended : end_of h ≡ Some c.in-Some.end = ap end_of c.self.view_is ∙ sym c.end.ensures ∙ c.in-Some.is in
     let out = c.in_default-least.ensures.none refl in
-    subst (λ h. IsMismatch h (Mismatch.Log k)) c.self.view_is (ap is_some ended, sym c.as_slice.ensures.value ∙ out, subst (λ n. k < n) holds.boxes within, refuted, least)
+    subst (λ h. IsMismatch h (Mismatch.Log k)) c.self.view_is (
+      ap is_some ended,
+      sym c.as_slice.ensures.value ∙ out,
+      subst (λ n. k < n) holds.boxes within,
+      refuted,
+      least,
+    )
 
 pub new-requires-clause-parts : goal.new-requires-clause-parts
 new-requires-clause-parts g c =
     let h = hub_state c.self.inside in
     let holds = c.self.invariant.0 in
     let right = right_of h c.self.inside.tracks.items c.put_ready.new.tracks.items c.put_parked.new.tracks.items c.put_ended.new.tracks.items
-    c.pass_all.new.tracks.items c.as_slice-2.result.now c.events.result.now c.self.invariant.2 holds.once holds.ends c.put_ready.ensures c.as_slice-2.ensures.value
+    c.pass_all.new.tracks.items c.as_slice-2.result.now c.events.result.now
+    c.self.invariant.2 holds.once holds.ends c.put_ready.ensures c.as_slice-2.ensures.value
     c.put_parked.ensures c.put_ended.ensures c.events.ensures.events c.pass_all.ensures in
     parts_are h h.events c.pass_all.new.tracks.items
     (told_of h c.pass_all.new.tracks.items c.as_slice-3.result.now c.first_other.result None right c.as_slice-3.ensures.value c.first_other.ensures
@@ -51,7 +61,8 @@ new-requires-clause-count g c =
     let h = hub_state c.self.inside in
     let holds = c.self.invariant.0 in
     let right = right_of h c.self.inside.tracks.items c.put_ready.new.tracks.items c.put_parked.new.tracks.items c.put_ended.new.tracks.items
-    c.pass_all.new.tracks.items c.as_slice-2.result.now c.events.result.now c.self.invariant.2 holds.once holds.ends c.put_ready.ensures c.as_slice-2.ensures.value
+    c.pass_all.new.tracks.items c.as_slice-2.result.now c.events.result.now
+    c.self.invariant.2 holds.once holds.ends c.put_ready.ensures c.as_slice-2.ensures.value
     c.put_parked.ensures c.put_ended.ensures c.events.ensures.events c.pass_all.ensures in
     right.count ∙ holds.boxes
 
@@ -60,7 +71,8 @@ returns-clause-ok g c =
     let h = hub_state c.self.inside in
     let holds = c.self.invariant.0 in
     let right = right_of h c.self.inside.tracks.items c.put_ready.new.tracks.items c.put_parked.new.tracks.items c.put_ended.new.tracks.items
-    c.pass_all.new.tracks.items c.as_slice-2.result.now c.events.result.now c.self.invariant.2 holds.once holds.ends c.put_ready.ensures c.as_slice-2.ensures.value
+    c.pass_all.new.tracks.items c.as_slice-2.result.now c.events.result.now
+    c.self.invariant.2 holds.once holds.ends c.put_ready.ensures c.as_slice-2.ensures.value
     c.put_parked.ensures c.put_ended.ensures c.events.ensures.events c.pass_all.ensures in
     let logs = logs_are h h.events c.pass_all.new.tracks.items right in
     let recorded = c.new.ensures in

@@ -57,7 +57,8 @@ invariant_of-result g c =
           (holds_opening c.in_ok-replay.replay c.args.decls c.args.limit c.remove-main.result (remove c.args.routines.items 0) c.in_ok-replay.ensures.stands
           c.requires.few (many ∙ all) (omega (arith, many, all, few, counted))),
       omega (arith, room, pushed, fresh, none, same),
-      subst (λ n. AreBlank n c.in_ok-tracks.tracks.items) c.in_ok-unstarted.unstarted.ok.0 (subst (λ n. AreBlank n c.in_ok-tracks.tracks.items) c.len.ensures c.in_ok-tracks.ensures),
+      subst (λ n. AreBlank n c.in_ok-tracks.tracks.items) c.in_ok-unstarted.unstarted.ok.0
+          (subst (λ n. AreBlank n c.in_ok-tracks.tracks.items) c.len.ensures c.in_ok-tracks.ensures),
     )
 
 pub returns : goal.returns

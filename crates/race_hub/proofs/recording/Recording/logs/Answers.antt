@@ -9,7 +9,8 @@ use Rattle.race_hub.specs.Recording.{RecordingState}
 use Rattle.race_hub.specs.Tracks.{TrackState}
 use Rattle.race_hub.proofs.recording.Recording.logs.Goals as goal
 
-within_tracks : (n g : ℕ) (r s : RecordingState) → r ≡ s → n ≡ count_of Kind.Goroutine r.decls.declarations → g < count_of Kind.Goroutine s.decls.declarations → g < n
+within_tracks : (n g : ℕ) (r s : RecordingState) → r ≡ s → n ≡ count_of Kind.Goroutine r.decls.declarations
+    → g < count_of Kind.Goroutine s.decls.declarations → g < n
 within_tracks n g r s same is less =
     let count = ap (λ (r : RecordingState). count_of Kind.Goroutine r.decls.declarations) same in
     omega (arith, is, less, count)
@@ -19,6 +20,7 @@ returns-clause-part g c =
     let within = within_tracks (length c.self.inside.tracks.items) c.args.goroutine (recording_state c.self.inside) c.args.self.now c.self.view_is
     c.self.invariant.count c.requires in
     let at = slice_get-map (λ (t : TrackState). t.log) c.self.inside.tracks.items c.args.goroutine
-    ∙ ap (option_map (λ (t : TrackState). t.log)) (slice_get-get_or c.self.inside.tracks.items c.args.goroutine c.index.result.now within ∙ ap Some (sym c.index.ensures)) in
+    ∙ ap (option_map (λ (t : TrackState). t.log))
+    (slice_get-get_or c.self.inside.tracks.items c.args.goroutine c.index.result.now within ∙ ap Some (sym c.index.ensures)) in
     subst (IsPart c.args.goroutine c.log.result.now) (ap (λ (r : RecordingState). r.events) c.self.view_is)
     (c.self.invariant.parts c.args.goroutine c.log.result.now (at ∙ ap Some (sym c.log.ensures)))

@@ -9,7 +9,8 @@ pub returns-in_err-at : goal.returns-in_err-at
 returns-in_err-at g c past tracked =
     let was : c.args.self.now.passed ≡ None = ap (λ (t : TrackState). t.passed) (sym c.self.view_is) ∙ c.in_err-at.was in
     subst (IsPassed c.args.goroutine c.args.self.now.log (past ++ c.args.event.now ∷ [])) (sym c.from_residual.ensures)
-    (passes_never c.args.goroutine c.args.self.now.log past c.args.event.now c.requires (subst (IsPassed c.args.goroutine c.args.self.now.log past) was tracked))
+    (passes_never c.args.goroutine c.args.self.now.log past c.args.event.now c.requires
+    (subst (IsPassed c.args.goroutine c.args.self.now.log past) was tracked))
 
 pub returns-then-fits_step : goal.returns-then-fits_step
 returns-then-fits_step g c past tracked =

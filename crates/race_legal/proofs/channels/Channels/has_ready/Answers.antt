@@ -13,7 +13,8 @@ pub returns-then-is_ready : goal.returns-then-is_ready
 returns-then-is_ready g c =
     let within : c.loop-k.k < length c.args.cases.now = omega (arith, c.len-k-end.ensures.len, c.loop-k-test.true) in
     sym (list_any_at (is_ready_in c.args.self.now) c.args.cases.now c.loop-k.k c.get.result within
-    (passes_at (is_ready_in c.args.self.now) c.args.cases.now c.loop-k.k c.get.result c.is_ready.result true c.get.ensures c.is_ready.ensures c.if-is_ready.true))
+    (passes_at (is_ready_in c.args.self.now) c.args.cases.now c.loop-k.k c.get.result
+    c.is_ready.result true c.get.ensures c.is_ready.ensures c.if-is_ready.true))
 
 pub loop-k-preserved : goal.loop-k-preserved
 loop-k-preserved g c =
@@ -21,4 +22,5 @@ loop-k-preserved g c =
     list_any_more (is_ready_in c.args.self.now) c.args.cases.now c.loop-k.k c.get.result within
     ∙ (λ i.
     c.loop-k.invariant i
-    || passes_at (is_ready_in c.args.self.now) c.args.cases.now c.loop-k.k c.get.result c.is_ready.result false c.get.ensures c.is_ready.ensures c.if-is_ready.false i)
+    || passes_at (is_ready_in c.args.self.now) c.args.cases.now c.loop-k.k c.get.result
+    c.is_ready.result false c.get.ensures c.is_ready.ensures c.if-is_ready.false i)

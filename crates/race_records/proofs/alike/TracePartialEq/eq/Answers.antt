@@ -9,7 +9,8 @@ pub returns-then-eq-clause-same : goal.returns-then-eq-clause-same
 returns-then-eq-clause-same g c =
     let here = ap (λ (d : DeclsState). d.declarations) c.decls.ensures.decls in
     let there = ap (λ (d : DeclsState). d.declarations) c.decls-2.ensures.decls in
-    let same : c.args.self.now.decls.declarations ≡ c.args.other.now.decls.declarations = sym here ∙ (same_declarations-Decides _ _).0 (sym c.eq.ensures ∙ c.if-eq.true) ∙ there in (
+    let same : c.args.self.now.decls.declarations ≡ c.args.other.now.decls.declarations =
+    sym here ∙ (same_declarations-Decides _ _).0 (sym c.eq.ensures ∙ c.if-eq.true) ∙ there in (
       λ h i. record { declarations = same i; events = c.are_events_alike.ensures.0 h i },
       λ e. c.are_events_alike.ensures.1 (ap (λ (r : Recorded). r.events) e),
     )
@@ -18,7 +19,8 @@ pub returns-then-eq-clause-eq : goal.returns-then-eq-clause-eq
 returns-then-eq-clause-eq g c =
     let a = recorded c.args.self.now in
     let b = recorded c.args.other.now in
-    same_from_decides {P = a ≡ b} c.are_events_alike.result (same_traces c.args.self.now c.args.other.now) (returns-then-eq-clause-same g c) (same_recorded-Decides a b)
+    same_from_decides {P = a ≡ b} c.are_events_alike.result (same_traces c.args.self.now c.args.other.now)
+    (returns-then-eq-clause-same g c) (same_recorded-Decides a b)
 
 pub returns-else-eq-clause-same : goal.returns-else-eq-clause-same
 returns-else-eq-clause-same g c =

@@ -12,7 +12,8 @@ pub push-requires-2 : goal.push-requires-2
 push-requires-2 g c =
     let name = c.args.name.now in
     let free = (allowed_from_no_fault c.args.self.now.declarations c.args.object name c.requires).free in
-    subst IsNone (sym (position-names c.self.inside.names name ∙ (λ i. position (λ (d : Declaration). bytes_eq name d.name) (c.self.view_is i).declarations))) free.absent
+    subst IsNone (sym (position-names c.self.inside.names name
+    ∙ (λ i. position (λ (d : Declaration). bytes_eq name d.name) (c.self.view_is i).declarations))) free.absent
 
 pub invariant_of-self-in-Ok : goal.invariant_of-self-in-Ok
 invariant_of-self-in-Ok g c =

@@ -25,5 +25,6 @@ invariant_of-self-2 g c =
     record {
       numbered = c.self.invariant.numbered;
       well_formed = subst (λ (places : List (List ℕ)). IsWellFormed (record { declarations = declarations_of c.self.inside.names; places = places }))
-          (sym c.in_ok-push.ensures.ok) (place_well_formed decls text c.self.invariant.well_formed new (allowed_from_no_place_fault decls.places text new allowed));
+          (sym c.in_ok-push.ensures.ok) (place_well_formed decls text c.self.invariant.well_formed new
+          (allowed_from_no_place_fault decls.places text new allowed));
     }

@@ -12,7 +12,8 @@ returns-then-not-chan_fits g c =
     let case = c.get.result in
     let fits = case_is_in_range (count_of Kind.Chan c.args.self.now.declarations) in
     let within : c.loop-k.k < length cases = omega (arith, c.len-k-end.ensures.len, c.loop-k-test.true) in
-    sym (list_all_at fits cases c.loop-k.k case within (ap fits (get_or_from_slice_get cases c.loop-k.k case case c.get.ensures) ∙ sym c.if-not-chan_fits.ensures))
+    sym (list_all_at fits cases c.loop-k.k case within
+    (ap fits (get_or_from_slice_get cases c.loop-k.k case case c.get.ensures) ∙ sym c.if-not-chan_fits.ensures))
 
 pub loop-k-preserved : goal.loop-k-preserved
 loop-k-preserved g c =

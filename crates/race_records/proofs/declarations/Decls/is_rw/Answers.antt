@@ -8,10 +8,12 @@ pub slot-requires : goal.slot-requires
 slot-requires g c =
     let s = c.self.inside in
     index_within s.names s.indexes c.self.invariant.numbered Kind.Lock c.args.lock c.get-index.result c.get-index.ensures
-    (subst (λ (d : spec.DeclsState). c.args.lock < length (spec.of_kind Kind.Lock d.declarations)) (sym c.self.view_is) (let less = c.requires in omega (arith, less)))
+    (subst (λ (d : spec.DeclsState). c.args.lock < length (spec.of_kind Kind.Lock d.declarations))
+    (sym c.self.view_is) (let less = c.requires in omega (arith, less)))
 
 pub returns : goal.returns
 returns g c =
     let s = c.self.inside in
-    c.is_rwmutex.ensures ∙ object-indexed s.names s.indexes c.self.invariant.numbered Kind.Lock c.args.lock c.get-index.result c.get-index.ensures spec.is_rwmutex false c.slot.result c.slot.ensures
+    c.is_rwmutex.ensures ∙ object-indexed s.names s.indexes c.self.invariant.numbered Kind.Lock
+    c.args.lock c.get-index.result c.get-index.ensures spec.is_rwmutex false c.slot.result c.slot.ensures
     ∙ (λ i. spec.is_rw (c.self.view_is i).declarations c.args.lock)

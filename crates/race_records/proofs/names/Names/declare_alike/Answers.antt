@@ -9,6 +9,7 @@ returns g c =
     let here = length-map c.args.self.now declaration_of in
     let there = length-map c.args.other.now declaration_of in
     let same : length c.args.self.now ≡ length c.args.other.now = omega (arith, c.len.ensures, c.len-2.ensures, c.if-len.false) in (
-      λ _. same_elements (declarations_of c.args.self.now) (declarations_of c.args.other.now) (here ∙ same ∙ sym there) (λ k within. c.loop-index.invariant k (omega (arith, within, here, c.len-index-end.ensures))),
+      λ _. same_elements (declarations_of c.args.self.now) (declarations_of c.args.other.now) (here ∙ same ∙ sym there)
+          (λ k within. c.loop-index.invariant k (omega (arith, within, here, c.len-index-end.ensures))),
       λ _. refl,
     )

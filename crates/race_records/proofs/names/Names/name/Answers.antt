@@ -8,4 +8,5 @@ returns g c =
     let k = c.unwrap.result.0.now in
     let s = c.unwrap.result.1.now in
     let at = sym c.get_index.ensures.entry ∙ ap (option_map _) c.unwrap.ensures in
-    ap (option_map (λ (r : Row). r.name)) (slice_get-rows c.self.inside.slots.entries c.args.self.now c.self.view_is c.args.index k s at) ∙ ap Some (sym c.as_str.ensures.value)
+    ap (option_map (λ (r : Row). r.name)) (slice_get-rows c.self.inside.slots.entries c.args.self.now c.self.view_is c.args.index k s at)
+    ∙ ap Some (sym c.as_str.ensures.value)

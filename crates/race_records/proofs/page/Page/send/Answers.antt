@@ -28,7 +28,8 @@ returns-in-Err g c =
     let after = g.W.Write.contents c.send.new.self.writer in
     record {
       ok = tt;
-      sent = λ start text printed. part_sent start before after c.args.self.now text printed c.args.bytes.now c.in-Err.fault.sent c.fault.result.sent c.requires.empty c.in-Err.ensures.short c.in-Err.ensures.sent c.fault.ensures;
+      sent = λ start text printed. part_sent start before after c.args.self.now text printed c.args.bytes.now
+          c.in-Err.fault.sent c.fault.result.sent c.requires.empty c.in-Err.ensures.short c.in-Err.ensures.sent c.fault.ensures;
       calm = tt;
       failed = c.in-Err.ensures.failed;
       waits = λ room. absurd (omega (arith, room, c.requires.long));

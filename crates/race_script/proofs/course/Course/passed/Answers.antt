@@ -11,19 +11,22 @@ use Rattle.race_script.proofs.course.Course.passed.Goals.{else-can_make-via-then
 pub returns-then-stand_alike : goal.returns-then-stand_alike
 returns-then-stand_alike g c = λ e fits fails.
     let course = c.args.self.now in
-    let made = made_is course.places.now.places course.recorded.now.places course.body.now course.goroutine c.args.position c.args.step.now course.fault e fits fails
+    let made = made_is course.places.now.places course.recorded.now.places course.body.now
+    course.goroutine c.args.position c.args.step.now course.fault e fits fails
     c.made_in.result c.made_in.ensures in
     let was = c.in_ok-made.was in
     let is : c.in_ok-made.made ≡ done_by course.goroutine e.op = cc in
     let at : slice_get course.body.now c.args.position ≡ Some c.in_ok-request.request.now = sym c.at.ensures ∙ ap (λ o. option_copied o) c.in_ok-request.was in
     passes_step course.places.now.places course.recorded.now.places course.body.now course.goroutine c.args.position c.args.step.now course.fault e fits fails
-    c.in_ok-request.request.now c.in_ok-made.made c.behind.result at is (c.can_make.ensures.0 c.if-can_make.true) (c.stand_alike.ensures.0 c.if-stand_alike.true)
+    c.in_ok-request.request.now c.in_ok-made.made c.behind.result at is
+    (c.can_make.ensures.0 c.if-can_make.true) (c.stand_alike.ensures.0 c.if-stand_alike.true)
     c.behind.ensures
 
 pub returns-else-can_make : goal.returns-else-can_make
 returns-else-can_make g c = λ e fits fails.
     let course = c.args.self.now in
-    let made = made_is course.places.now.places course.recorded.now.places course.body.now course.goroutine c.args.position c.args.step.now course.fault e fits fails
+    let made = made_is course.places.now.places course.recorded.now.places course.body.now
+    course.goroutine c.args.position c.args.step.now course.fault e fits fails
     c.made_in.result c.made_in.ensures in
     let was = c.in_ok-made.was in
     let is : c.in_ok-made.made ≡ done_by course.goroutine e.op = cc in

@@ -8,14 +8,16 @@ pub returns-then-is_same : goal.returns-then-is_same
 returns-then-is_same g c =
     let at : slice_get c.args.self.now.body.now c.args.position ≡ Some c.in-Some.asked.now = sym c.at.ensures ∙ ap (λ o. option_copied o) c.in-Some.is in
     waits_here c.args.self.now.places.now.places c.args.self.now.recorded.now.places c.args.self.now.body.now c.args.position c.args.request.now
-    c.in-Some.asked.now at ((same_ask-Decides c.in-Some.asked.now.ask c.args.request.now.ask).0 (sym c.is_same.ensures ∙ c.if-is_same.true)) c.stand_alike.result c.stand_alike.ensures
+    c.in-Some.asked.now at ((same_ask-Decides c.in-Some.asked.now.ask c.args.request.now.ask).0 (sym c.is_same.ensures ∙ c.if-is_same.true))
+    c.stand_alike.result c.stand_alike.ensures
 
 pub returns-else-is_same : goal.returns-else-is_same
 returns-else-is_same g c =
     let at : slice_get c.args.self.now.body.now c.args.position ≡ Some c.in-Some.asked.now = sym c.at.ensures ∙ ap (λ o. option_copied o) c.in-Some.is in (
       λ yes. absurd (true≢false (sym yes ∙ c.if-is_same.false)),
       λ is. absurd (waits_not c.args.self.now.places.now.places c.args.self.now.recorded.now.places c.args.self.now.body.now c.args.position c.args.request.now
-          c.in-Some.asked.now at (λ same. true≢false (sym ((same_ask-Decides c.in-Some.asked.now.ask c.args.request.now.ask).1 same) ∙ sym c.is_same.ensures ∙ c.if-is_same.false)) is),
+          c.in-Some.asked.now at (λ same. true≢false
+          (sym ((same_ask-Decides c.in-Some.asked.now.ask c.args.request.now.ask).1 same) ∙ sym c.is_same.ensures ∙ c.if-is_same.false)) is),
     )
 
 pub returns-in-None : goal.returns-in-None

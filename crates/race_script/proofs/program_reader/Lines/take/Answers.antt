@@ -41,7 +41,8 @@ returns-in_err-take_part-in-Some-clause-taken g c =
     c.in_ok-keep.ensures.kept c.in_err-take_part-in-Some.ensures.taken) in
     match_err _ _ c.from_residual-in_err-take_part-in-Some.result told c.from_residual-in_err-take_part-in-Some.ensures.1
     (λ whole more t. line_told whole lines ((part ++ piece) ++ more) t (part ++ end) (c.in-Some.others.now ++ more)
-    (seam_line (part ++ piece) (part ++ end) c.in-Some.others.now more (seam_part part piece end (parts_of c.in-Some.others.now) c.requires.unended parts)) told tells)
+    (seam_line (part ++ piece) (part ++ end) c.in-Some.others.now more
+    (seam_part part piece end (parts_of c.in-Some.others.now) c.requires.unended parts)) told tells)
 
 pub returns-in-None-clause-taken : goal.returns-in-None-clause-taken
 returns-in-None-clause-taken g c = λ whole more t.

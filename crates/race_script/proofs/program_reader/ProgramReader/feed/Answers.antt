@@ -37,7 +37,8 @@ module _ (g : _) (c : goal.After-self-1 g) where
       let old : LinesState = record { lines = lines_read lines.reader; part = lines.part.items; fault = c.self.inside.fault } in
       let new : LinesState = record { lines = []; part = []; fault = Some c.in-Err.fault } in
       told_of new (fed ++ c.args.piece.now) c.in-Err.fault refl
-      (fed_tells old new c.args.piece.now fed c.in-Err.fault c.in-None.is refl c.in-Err.ensures.taken (subst (λ (k : LinesState). StandsFor k fed) (sym c.self.view_is) S))
+      (fed_tells old new c.args.piece.now fed c.in-Err.fault c.in-None.is refl c.in-Err.ensures.taken
+      (subst (λ (k : LinesState). StandsFor k fed) (sym c.self.view_is) S))
 
 pub returns-in-Err-clause-fault : goal.returns-in-Err-clause-fault
 returns-in-Err-clause-fault g c = λ fed S. (told g c fed S).ended

@@ -48,7 +48,8 @@ module _ (g : _) (c : goal.Joined-reader-2 g) where
   whole fed S =
       let reader = c.self.inside.lines.reader in
       let read = lines_read reader in
-      end_told fed read c.self.inside.lines.part.items (taken fed S) (c.self.invariant c.in-None.is).1 (record { line = c.line.result; cause = c.in-Some-end_cause.cause })
+      end_told fed read c.self.inside.lines.part.items (taken fed S) (c.self.invariant c.in-None.is).1
+      (record { line = c.line.result; cause = c.in-Some-end_cause.cause })
       c.line.ensures (ap (λ (left : List ℕ). end_cause read left) (sym c.as_slice.ensures.value) ∙ sym c.in-Some-end_cause.ensures)
 
 pub returns-in-Some-end_cause-clause-accepted : goal.returns-in-Some-end_cause-clause-accepted
@@ -80,7 +81,8 @@ module _ (g : _) (c : goal.After-drop-part-in-None-end_cause g) where
       let all = all_read lines.reader (c.self.invariant c.in-None.is).0 c.as_slice.result.now (sym c.in-None-end_cause.ensures) in
       subst (λ p. IsTextOf p fed) (sym c.into_program.ensures) (record {
         program = all.program;
-        printed = end_bytes fed has lines.part.items at (ap (λ (left : List ℕ). end_cause has left) (sym c.as_slice.ensures.value) ∙ sym c.in-None-end_cause.ensures) ∙ all.text;
+        printed = end_bytes fed has lines.part.items at
+            (ap (λ (left : List ℕ). end_cause has left) (sym c.as_slice.ensures.value) ∙ sym c.in-None-end_cause.ensures) ∙ all.text;
       })
 
 pub returns-in-None-end_cause-clause-text : goal.returns-in-None-end_cause-clause-text

@@ -14,16 +14,20 @@ returns-in-Err g c = λ other.
     let s = c.args.self.now in
     let u : UnendedState = record { requests = c.in-Some.unended.requests.items; onces = c.in-Some.unended.onces.items } in
     let is : s.unended ≡ Some u =
-    ap (λ (x : ReadState). x.unended) (sym c.self.view_is) ∙ some_viewed _ c.self.inside.unended c.in-Some.unended (sym c.replace.ensures.value ∙ c.in-Some.is) in
+    ap (λ (x : ReadState). x.unended) (sym c.self.view_is)
+    ∙ some_viewed _ c.self.inside.unended c.in-Some.unended (sym c.replace.ensures.value ∙ c.in-Some.is) in
     let less = c.if-len-ge-MAX_STEPS.false in
     let len = c.len.ensures in
     let places : c.self.inside.decls.places ≡ s.decls.places = ap (λ (x : ReadState). x.decls.places) c.self.view_is in
     let told = place_told s.decls.places c.args.place.now c.requires.form c.in-Err.refused
-    (subst (λ (p : List (List ℕ) × List ℕ). Refuses {T = ℕ} (place_fault p.0 p.1) (Err c.in-Err.refused)) (λ k. (places k, c.as_text.ensures k)) c.in-Err.ensures.refused)
-    (subst (λ (p : List (List ℕ) × List ℕ). AllowsUnless {T = ℕ} (place_fault p.0 p.1) (Err c.in-Err.refused) DeclFault.OutOfMemory) (λ k. (places k, c.as_text.ensures k))
+    (subst (λ (p : List (List ℕ) × List ℕ). Refuses {T = ℕ} (place_fault p.0 p.1) (Err c.in-Err.refused))
+    (λ k. (places k, c.as_text.ensures k)) c.in-Err.ensures.refused)
+    (subst (λ (p : List (List ℕ) × List ℕ). AllowsUnless {T = ℕ} (place_fault p.0 p.1) (Err c.in-Err.refused) DeclFault.OutOfMemory)
+    (λ k. (places k, c.as_text.ensures k))
     c.in-Err.ensures.allowed)
     (λ e. other (c.cause_of.ensures ∙ e)) in
-    asked_cause_is s c.requires.sound u is (asked_at c.args.ask c.args.place.now) c.requires.fits c.requires.form false true _ (grind (arith, nat_tests, less, len)) told.1 refl
+    asked_cause_is s c.requires.sound u is (asked_at c.args.ask c.args.place.now)
+    c.requires.fits c.requires.form false true _ (grind (arith, nat_tests, less, len)) told.1 refl
     ∙ ap Some (sym told.0 ∙ sym c.cause_of.ensures)
 
 pub returns-in_err-push : goal.returns-in_err-push
@@ -31,12 +35,14 @@ returns-in_err-push g c =
     let s = c.args.self.now in
     let u : UnendedState = record { requests = c.in-Some.unended.requests.items; onces = c.in-Some.unended.onces.items } in
     let is : s.unended ≡ Some u =
-    ap (λ (x : ReadState). x.unended) (sym c.self.view_is) ∙ some_viewed _ c.self.inside.unended c.in-Some.unended (sym c.replace.ensures.value ∙ c.in-Some.is) in
+    ap (λ (x : ReadState). x.unended) (sym c.self.view_is)
+    ∙ some_viewed _ c.self.inside.unended c.in-Some.unended (sym c.replace.ensures.value ∙ c.in-Some.is) in
     let less = c.if-len-ge-MAX_STEPS.false in
     let len = c.len.ensures in
     let decls : c.self.inside.decls ≡ s.decls = ap (λ (x : ReadState). x.decls) c.self.view_is in
     let room : place_fault s.decls.places c.args.place.now ≡ None =
-    (λ k. place_fault (sym decls k).places (sym c.as_text.ensures k)) ∙ not_refused (place_fault c.self.inside.decls.places c.as_text.result.now) c.in-Ok.number c.in-Ok.ensures.refused in
+    (λ k. place_fault (sym decls k).places (sym c.as_text.ensures k))
+    ∙ not_refused (place_fault c.self.inside.decls.places c.as_text.result.now) c.in-Ok.number c.in-Ok.ensures.refused in
     match_err _ _ c.from_residual.result c.in_err-push.field-0.0 c.from_residual.ensures.1
     (λ other.
     let told = c.in_err-push.ensures other in
@@ -49,12 +55,14 @@ returns-then-not-exits g c =
     let s = c.args.self.now in
     let u : UnendedState = record { requests = c.in-Some.unended.requests.items; onces = c.in-Some.unended.onces.items } in
     let is : s.unended ≡ Some u =
-    ap (λ (x : ReadState). x.unended) (sym c.self.view_is) ∙ some_viewed _ c.self.inside.unended c.in-Some.unended (sym c.replace.ensures.value ∙ c.in-Some.is) in
+    ap (λ (x : ReadState). x.unended) (sym c.self.view_is)
+    ∙ some_viewed _ c.self.inside.unended c.in-Some.unended (sym c.replace.ensures.value ∙ c.in-Some.is) in
     let less = c.if-len-ge-MAX_STEPS.false in
     let len = c.len.ensures in
     let decls : c.self.inside.decls ≡ s.decls = ap (λ (x : ReadState). x.decls) c.self.view_is in
     let room : place_fault s.decls.places c.args.place.now ≡ None =
-    (λ k. place_fault (sym decls k).places (sym c.as_text.ensures k)) ∙ not_refused (place_fault c.self.inside.decls.places c.as_text.result.now) c.in-Ok.number c.in-Ok.ensures.refused in
+    (λ k. place_fault (sym decls k).places (sym c.as_text.ensures k))
+    ∙ not_refused (place_fault c.self.inside.decls.places c.as_text.result.now) c.in-Ok.number c.in-Ok.ensures.refused in
     let number : c.in-Ok.number ≡ place_number s.decls.places c.args.place.now =
     c.in-Ok.ensures.number ∙ (λ k. place_number (decls k).places (c.as_text.ensures k)) in
     let pushed = c.in_ok-push.ensures in
@@ -64,19 +72,24 @@ returns-then-not-exits g c =
     (c.in-Ok.ensures.added ∙ (λ k. with_place (decls k) (c.as_text.ensures k)))
     c.push.new.self.onces.items other (pushed.entered other)
     (ap (λ (x : ReadState). x.ended) c.self.view_is)
-    (λ k. Some (record { requests = (pushed.added ∙ (λ j. c.in-Some.unended.requests.items ++ record { ask = c.args.ask; place = number j } ∷ [])) k; onces = c.push.new.self.onces.items }))
+    (λ k. Some (record {
+      requests = (pushed.added ∙ (λ j. c.in-Some.unended.requests.items ++ record { ask = c.args.ask; place = number j } ∷ [])) k;
+      onces = c.push.new.self.onces.items;
+    }))
 
 pub returns-in-Ok-push : goal.returns-in-Ok-push
 returns-in-Ok-push g c =
     let s = c.args.self.now in
     let u : UnendedState = record { requests = c.in-Some.unended.requests.items; onces = c.in-Some.unended.onces.items } in
     let is : s.unended ≡ Some u =
-    ap (λ (x : ReadState). x.unended) (sym c.self.view_is) ∙ some_viewed _ c.self.inside.unended c.in-Some.unended (sym c.replace.ensures.value ∙ c.in-Some.is) in
+    ap (λ (x : ReadState). x.unended) (sym c.self.view_is)
+    ∙ some_viewed _ c.self.inside.unended c.in-Some.unended (sym c.replace.ensures.value ∙ c.in-Some.is) in
     let less = c.if-len-ge-MAX_STEPS.false in
     let len = c.len.ensures in
     let decls : c.self.inside.decls ≡ s.decls = ap (λ (x : ReadState). x.decls) c.self.view_is in
     let room : place_fault s.decls.places c.args.place.now ≡ None =
-    (λ k. place_fault (sym decls k).places (sym c.as_text.ensures k)) ∙ not_refused (place_fault c.self.inside.decls.places c.as_text.result.now) c.in-Ok.number c.in-Ok.ensures.refused in
+    (λ k. place_fault (sym decls k).places (sym c.as_text.ensures k))
+    ∙ not_refused (place_fault c.self.inside.decls.places c.as_text.result.now) c.in-Ok.number c.in-Ok.ensures.refused in
     let number : c.in-Ok.number ≡ place_number s.decls.places c.args.place.now =
     c.in-Ok.ensures.number ∙ (λ k. place_number (decls k).places (c.as_text.ensures k)) in
     let pushed = c.in_ok-push.ensures in

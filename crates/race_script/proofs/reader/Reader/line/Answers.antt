@@ -24,7 +24,8 @@ count_lines-requires g c =
     let declared = ap (λ (x : ReadState). length x.decls.declarations) c.self.view_is in
     let len = c.len.ensures.len in
     let low = few.1 in
-    few_viewed _ c.as_slice.result.now c.self.inside.ended.items s.ended _ c.as_slice.ensures.value (ap (λ (x : ReadState). x.ended) c.self.view_is) (omega (arith, low))
+    few_viewed _ c.as_slice.result.now c.self.inside.ended.items s.ended _ c.as_slice.ensures.value
+    (ap (λ (x : ReadState). x.ended) c.self.view_is) (omega (arith, low))
 
 pub overflow_add-before-2 : goal.overflow_add-before-2
 overflow_add-before-2 g c =

@@ -22,7 +22,8 @@ module _ (g : _) (c : goal.After-add-arg-1 g) where
   abbrev asked : Instruction
   asked = asked_read c.unwrap-ask.result
 
-  read : asked_in c.args.self.now.decls.declarations (on_nil c.args.word (parts_left 32 c.args.rest)).0 (on_nil c.args.word (parts_left 32 c.args.rest)).1 ≡ Some asked
+  read : asked_in c.args.self.now.decls.declarations (on_nil c.args.word (parts_left 32 c.args.rest)).0
+      (on_nil c.args.word (parts_left 32 c.args.rest)).1 ≡ Some asked
   read =
       (λ k. asked_in (sym c.self.view_is k).decls.declarations (sym c.on_nil-word.ensures k).0 (sym c.on_nil-word.ensures k).1)
       ∙ sym c.asked_in.ensures ∙ ap (option_map asked_read) c.unwrap-ask.ensures
@@ -34,7 +35,8 @@ returns-in-Some g c = record {
       let words = parts_left 32 c.args.rest in
       asks_told s c.requires.read c.args.line.now c.args.word words c.in-Some.cause c.requires.words
       ((λ k. words_cause (sym c.self.view_is k).decls.declarations (ask_fields (sym c.on_nil-word.ensures k).0) (sym c.on_nil-word.ensures k).1)
-      ∙ (λ k. words_cause c.self.inside.decls.declarations (sym (c.as_slice.ensures.value ∙ c.ask_fields-fields.ensures) k) (parts_left 32 c.on_nil-word.result.1))
+      ∙ (λ k. words_cause c.self.inside.decls.declarations
+      (sym (c.as_slice.ensures.value ∙ c.ask_fields-fields.ensures) k) (parts_left 32 c.on_nil-word.result.1))
       ∙ sym c.words_cause.ensures ∙ c.in-Some.is);
 }
 

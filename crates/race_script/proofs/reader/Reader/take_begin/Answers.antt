@@ -47,8 +47,10 @@ returns g c =
     record {
       taken = said_taken s c.requires.read c.args.line.now (Begins c.unwrap-goroutine.result) _
           (begins_line s.decls c.requires.read.sound.well_formed c.args.line.now words c.unwrap-goroutine.result c.requires.words begun)
-          (begin_taken s c.requires.read.sound c.unwrap-goroutine.result (is_begun s.decls c.requires.read.sound.well_formed words c.unwrap-goroutine.result begun).less
+          (begin_taken s c.requires.read.sound c.unwrap-goroutine.result
+          (is_begun s.decls c.requires.read.sound.well_formed words c.unwrap-goroutine.result begun).less
           (sym c.may_begin.ensures ∙ c.if-not-may_begin.false) _
-          (ap (λ (x : ReadState). x.has_header) c.self.view_is ∙ c.requires.header) (ap (λ (x : ReadState). x.decls) c.self.view_is) (ap (λ (x : ReadState). x.ended) c.self.view_is)
+          (ap (λ (x : ReadState). x.has_header) c.self.view_is ∙ c.requires.header)
+          (ap (λ (x : ReadState). x.decls) c.self.view_is) (ap (λ (x : ReadState). x.ended) c.self.view_is)
           (λ k. Some (record { requests = e.requests k; onces = e.onces k })));
     }

@@ -21,7 +21,8 @@ returns-then-begun-gt0 g c = record {
       let made = c.word_cause.ensures in
       let told = c.unwrap.ensures in
       declares_cause s c.requires.read c.args.line.now c.args.noun words c.requires.words
-      ∙ (λ k. text_cause (seen_so_far (ap (λ (x : ReadState). x.decls.declarations) (sym c.self.view_is) k) (sym c.begun-begun.ensures k)) (Some (Word.Declares c.args.noun)) words)
+      ∙ (λ k. text_cause (seen_so_far (ap (λ (x : ReadState). x.decls.declarations) (sym c.self.view_is) k) (sym c.begun-begun.ensures k))
+      (Some (Word.Declares c.args.noun)) words)
       ∙ sym made ∙ told;
 }
 
@@ -37,12 +38,16 @@ returns g c =
       taken = declared_answered s c.requires.read c.args.line.now c.args.noun (parts_left 32 c.args.rest) c.requires.words none
           c.read_declaration.result _
           (subst (λ (x : DeclsState). Refuses (declaration_cause x.declarations c.args.line.now) c.read_declaration.result) decls e.refused)
-          (subst (λ (x : DeclsState). AllowsUnless (declaration_cause x.declarations c.args.line.now) c.read_declaration.result TextCause.OutOfMemory) decls e.allowed)
+          (subst (λ (x : DeclsState). AllowsUnless (declaration_cause x.declarations c.args.line.now) c.read_declaration.result TextCause.OutOfMemory)
+          decls e.allowed)
           e.ok (λ h. e.added h ∙ ap (λ (x : DeclsState). with_declaration_in x c.args.line.now) decls)
-          (ap (λ (x : ReadState). x.has_header) c.self.view_is ∙ c.requires.header) (ap (λ (x : ReadState). x.ended) c.self.view_is) (ap (λ (x : ReadState). x.unended) c.self.view_is)
+          (ap (λ (x : ReadState). x.has_header) c.self.view_is ∙ c.requires.header)
+          (ap (λ (x : ReadState). x.ended) c.self.view_is) (ap (λ (x : ReadState). x.unended) c.self.view_is)
           c.match-read_declaration.result
           (elim c.match-read_declaration.branch [
-            | in-Ok w ↦ subst (λ r. MatchResult r (λ _. c.match-read_declaration.result ≡ Ok tt) (λ told. c.match-read_declaration.result ≡ Err told)) (sym w.in-Ok.is) w.result-is
-            | in-Err w ↦ subst (λ r. MatchResult r (λ _. c.match-read_declaration.result ≡ Ok tt) (λ told. c.match-read_declaration.result ≡ Err told)) (sym w.in-Err.is) w.result-is
+            | in-Ok w ↦ subst (λ r. MatchResult r (λ _. c.match-read_declaration.result ≡ Ok tt) (λ told. c.match-read_declaration.result ≡ Err told))
+                (sym w.in-Ok.is) w.result-is
+            | in-Err w ↦ subst (λ r. MatchResult r (λ _. c.match-read_declaration.result ≡ Ok tt) (λ told. c.match-read_declaration.result ≡ Err told))
+                (sym w.in-Err.is) w.result-is
           ]);
     }

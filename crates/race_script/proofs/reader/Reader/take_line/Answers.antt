@@ -11,7 +11,8 @@ returns-then-has_bad_byte-clause-taken g c = λ _.
     let s = c.args.self.now in
     let header_is : s.has_header ≡ true = ap (λ (x : ReadState). x.has_header) (sym c.self.view_is) ∙ (let h = c.if-not-self.false in cc) in
     let read : IsRead s = subst (λ b. IsReadBy b s) header_is c.requires in
-    ap (λ b. cause (lines_by b (draft_read s)) c.args.line.now true) header_is ∙ bad_byte_told s read c.args.line.now (sym c.has_bad_byte.ensures ∙ c.if-has_bad_byte.true)
+    ap (λ b. cause (lines_by b (draft_read s)) c.args.line.now true) header_is
+    ∙ bad_byte_told s read c.args.line.now (sym c.has_bad_byte.ensures ∙ c.if-has_bad_byte.true)
 
 pub returns-in-None-clause-taken : goal.returns-in-None-clause-taken
 returns-in-None-clause-taken g c = λ _.

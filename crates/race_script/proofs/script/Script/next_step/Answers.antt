@@ -10,7 +10,8 @@ module _ (g : _) (c : goal.After-steps_to_end g) where
   behind : is_behind_do (asks_of c.self.inside.whole.items) c.self.inside.position ≡ true
   behind = ap (λ (s : ScriptState). is_behind_do (asks_of s.whole) s.position) c.self.view_is ∙ sym c.is_behind_do.ensures ∙ c.if-is_behind_do.true
 
-  counted : c.steps_to_end.result ≡ steps_to_end 0 (asks_of (take (length c.self.inside.whole.items - c.self.inside.position) (drop c.self.inside.position c.self.inside.whole.items)))
+  counted : c.steps_to_end.result ≡ steps_to_end 0
+      (asks_of (take (length c.self.inside.whole.items - c.self.inside.position) (drop c.self.inside.position c.self.inside.whole.items)))
   counted =
       c.steps_to_end.ensures.count
       ∙ ap (λ (xs : List Request). steps_to_end 0 (asks_of (take (length xs - c.self.inside.position) (drop c.self.inside.position xs)))) c.deref.ensures.value
@@ -27,7 +28,8 @@ overflow_add-result g c =
 
 pub returns-then-is_done-clause-step : goal.returns-then-is_done-clause-step
 returns-then-is_done-clause-step g c =
-    done_step c.self.inside.whole.items c.self.inside.position c.steps_to_end.result c.args.answer (behind g c) (counted g c) (sym c.is_done.ensures ∙ c.if-is_done.true)
+    done_step c.self.inside.whole.items c.self.inside.position c.steps_to_end.result c.args.answer
+    (behind g c) (counted g c) (sym c.is_done.ensures ∙ c.if-is_done.true)
     ∙ ap (λ (s : ScriptState). next_step s c.args.answer) c.self.view_is
 
 pub returns-then-is_done-clause-within : goal.returns-then-is_done-clause-within

@@ -11,8 +11,11 @@ invariant_of-self g c =
     let same = ap (λ (s : ScriptState). length s.whole) c.self.view_is in
     let within = c.next_step-step.ensures.within in
     let read : c.copy-request.result ≡ get_or body c.next_step-step.result c.copy-request.result =
-    c.copy-request.ensures ∙ c.index.ensures ∙ ap (get_or body c.next_step-step.result) (sym c.copy-request.ensures) in
-    (c.self.invariant.0, script_goes_on body c.next_step-step.result c.copy-request.result c.self.invariant.0 read (omega (arith, same, within)) (sym c.is_exit.ensures ∙ c.if-not-is_exit.true))
+    c.copy-request.ensures ∙ c.index.ensures ∙ ap (get_or body c.next_step-step.result) (sym c.copy-request.ensures) in (
+      c.self.invariant.0,
+      script_goes_on body c.next_step-step.result c.copy-request.result c.self.invariant.0 read
+          (omega (arith, same, within)) (sym c.is_exit.ensures ∙ c.if-not-is_exit.true),
+    )
 
 pub returns-then-not-is_exit : goal.returns-then-not-is_exit
 returns-then-not-is_exit g c =

@@ -17,14 +17,22 @@ returns-in-Some-clause-line g c = λ fed S.
 pub returns-in-Ok-clause-goes_on : goal.returns-in-Ok-clause-goes_on
 returns-in-Ok-clause-goes_on g c = λ fed S.
     let lines = c.self.inside.lines in
-    let old : LinesState = record { lines = lines_read lines.reader.has_header lines.reader.decls lines.reader.trace; part = lines.part.items; fault = c.self.inside.fault } in
+    let old : LinesState = record {
+      lines = lines_read lines.reader.has_header lines.reader.decls lines.reader.trace;
+      part = lines.part.items;
+      fault = c.self.inside.fault;
+    } in
     fed_takes old _ c.args.piece.now fed c.in-None.is c.in-None.is c.in-Ok.ensures.taken (subst (λ (k : LinesState). StandsFor k fed) (sym c.self.view_is) S)
 
 pub returns-in-Ok-clause-ok : goal.returns-in-Ok-clause-ok
 returns-in-Ok-clause-ok g c = λ fed S.
     let lines = c.self.inside.lines in
     let after = c.take.new.self in
-    let old : LinesState = record { lines = lines_read lines.reader.has_header lines.reader.decls lines.reader.trace; part = lines.part.items; fault = c.self.inside.fault } in
+    let old : LinesState = record {
+      lines = lines_read lines.reader.has_header lines.reader.decls lines.reader.trace;
+      part = lines.part.items;
+      fault = c.self.inside.fault;
+    } in
     let new : LinesState = record { lines = lines_read after.reader.has_header after.reader.decls after.reader.trace; part = after.part.items; fault = None } in
     none_of new (fed ++ c.args.piece.now) refl c.in-Ok.ensures.unended
     (fed_takes old new c.args.piece.now fed c.in-None.is refl c.in-Ok.ensures.taken (subst (λ (k : LinesState). StandsFor k fed) (sym c.self.view_is) S))
@@ -33,10 +41,15 @@ module _ (g : _) (c : goal.After-self-1 g) where
   told : (fed : List ℕ) → StandsFor c.args.self.now fed → IsTold (fed ++ c.args.piece.now) c.in-Err.fault
   told fed S =
       let lines = c.self.inside.lines in
-      let old : LinesState = record { lines = lines_read lines.reader.has_header lines.reader.decls lines.reader.trace; part = lines.part.items; fault = c.self.inside.fault } in
+      let old : LinesState = record {
+        lines = lines_read lines.reader.has_header lines.reader.decls lines.reader.trace;
+        part = lines.part.items;
+        fault = c.self.inside.fault;
+      } in
       let new : LinesState = record { lines = []; part = []; fault = Some c.in-Err.fault } in
       told_of new (fed ++ c.args.piece.now) c.in-Err.fault refl
-      (fed_tells old new c.args.piece.now fed c.in-Err.fault c.in-None.is refl c.in-Err.ensures.taken (subst (λ (k : LinesState). StandsFor k fed) (sym c.self.view_is) S))
+      (fed_tells old new c.args.piece.now fed c.in-Err.fault c.in-None.is refl c.in-Err.ensures.taken
+      (subst (λ (k : LinesState). StandsFor k fed) (sym c.self.view_is) S))
 
 pub returns-in-Err-clause-fault : goal.returns-in-Err-clause-fault
 returns-in-Err-clause-fault g c = λ fed S. (told g c fed S).ended

@@ -34,17 +34,23 @@ into_trace-requires-clause-header g c =
 
 module _ (g : _) (c : goal.Joined-reader-2 g) where
   taken : (fed : List ℕ) → StandsFor c.args.self fed
-      → IsTaken fed (lines_read c.self.inside.lines.reader.has_header c.self.inside.lines.reader.decls c.self.inside.lines.reader.trace) c.self.inside.lines.part.items
+      → IsTaken fed (lines_read c.self.inside.lines.reader.has_header c.self.inside.lines.reader.decls c.self.inside.lines.reader.trace)
+      c.self.inside.lines.part.items
   taken fed S =
       let lines = c.self.inside.lines in
-      let view : LinesState = record { lines = lines_read lines.reader.has_header lines.reader.decls lines.reader.trace; part = lines.part.items; fault = c.self.inside.fault } in
+      let view : LinesState = record {
+        lines = lines_read lines.reader.has_header lines.reader.decls lines.reader.trace;
+        part = lines.part.items;
+        fault = c.self.inside.fault;
+      } in
       taken_of view fed c.in-None.is (subst (λ (k : LinesState). StandsFor k fed) (sym c.self.view_is) S)
 
   whole : (fed : List ℕ) → StandsFor c.args.self fed → text_fault fed ≡ Some (record { line = c.line.result; cause = c.in-Some-end_cause.cause })
   whole fed S =
       let reader = c.self.inside.lines.reader in
       let read = lines_read reader.has_header reader.decls reader.trace in
-      end_told fed read c.self.inside.lines.part.items (taken fed S) (c.self.invariant c.in-None.is).1 (record { line = c.line.result; cause = c.in-Some-end_cause.cause })
+      end_told fed read c.self.inside.lines.part.items (taken fed S) (c.self.invariant c.in-None.is).1
+      (record { line = c.line.result; cause = c.in-Some-end_cause.cause })
       c.line.ensures (ap (λ (left : List ℕ). end_cause read left) (sym c.as_slice.ensures.value) ∙ sym c.in-Some-end_cause.ensures)
 
 pub returns-in-Some-end_cause-clause-accepted : goal.returns-in-Some-end_cause-clause-accepted
@@ -76,7 +82,8 @@ module _ (g : _) (c : goal.After-drop-part-in-None-end_cause g) where
       let at = taken_of view fed c.in-None.is (subst (λ (k : LinesState). StandsFor k fed) (sym c.self.view_is) S) in
       record {
         has_text = c.into_trace.ensures.has_text;
-        printed = end_bytes fed has lines.part.items at (ap (λ (left : List ℕ). end_cause has left) (sym c.as_slice.ensures.value) ∙ sym c.in-None-end_cause.ensures)
+        printed = end_bytes fed has lines.part.items at
+            (ap (λ (left : List ℕ). end_cause has left) (sym c.as_slice.ensures.value) ∙ sym c.in-None-end_cause.ensures)
             ∙ ap (flat_map ended) (sym c.into_trace.ensures.lines);
       }
 

@@ -38,7 +38,8 @@ returns-in-None-clause-taken g c = λ whole more t.
     let kept : c.keep.new.self.part.items ≡ [] ++ left = c.in_ok-keep-in-None.ensures.kept ∙ ap (λ (p : List ℕ). p ++ left) c.loop-self.invariant.none in
     subst (λ (ls : List (List ℕ)). IsTaken whole ls (c.keep.new.self.part.items ++ more))
     (sym none.1
-    ∙ (λ i. lines_read (sym c.in_ok-keep-in-None.ensures.same i).has_header (sym c.in_ok-keep-in-None.ensures.same i).decls (sym c.in_ok-keep-in-None.ensures.same i).trace))
+    ∙ (λ i. lines_read (sym c.in_ok-keep-in-None.ensures.same i).has_header
+    (sym c.in_ok-keep-in-None.ensures.same i).decls (sym c.in_ok-keep-in-None.ensures.same i).trace))
     (kept_taken whole before left left c.keep.new.self.part.items more none.0 kept (c.loop-self.invariant.taken whole more t))
 
 pub loop-self-smaller : goal.loop-self-smaller
@@ -47,7 +48,8 @@ loop-self-smaller g c =
     let new = c.take_next.new.reader in
     let left = c.loop-self.left.now in
     let some : TakesNext (lines_read reader.has_header reader.decls reader.trace) left (Some c.in-Some.others) (lines_read new.has_header new.decls new.trace) =
-    subst (λ o. TakesNext (lines_read reader.has_header reader.decls reader.trace) left o (lines_read new.has_header new.decls new.trace)) c.in-Some.is c.in_ok-take_next.ensures.taken in
+    subst (λ o. TakesNext (lines_read reader.has_header reader.decls reader.trace) left o (lines_read new.has_header new.decls new.trace))
+    c.in-Some.is c.in_ok-take_next.ensures.taken in
     shorter left (line_in left) c.in-Some.others.now some.0
 
 pub loop-self-preserved : goal.loop-self-preserved

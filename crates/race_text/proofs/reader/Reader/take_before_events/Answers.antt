@@ -7,5 +7,6 @@ use Rattle.race_text.proofs.reader.Reader.take_before_events.Goals as goal
 pub returns-in-Err-take_event-clause-taken : goal.returns-in-Err-take_event-clause-taken
 returns-in-Err-take_event-clause-taken g c = λ other.
     let same = not_declared c.args.self.now.decls c.take_declaration.new.decls c.args.line.now c.in-Ok.added c.in-Ok.ensures c.if-added.false in
-    let is = fresh c.new-trace.result c.args.self.now.decls (c.new-trace.ensures.decls ∙ c.replace.ensures.value ∙ same) c.new-trace.ensures.events c.new-trace.ensures.spare in
+    let is = fresh c.new-trace.result c.args.self.now.decls
+    (c.new-trace.ensures.decls ∙ c.replace.ensures.value ∙ same) c.new-trace.ensures.events c.new-trace.ensures.spare in
     (λ i. cause (lines (sym is i)) c.args.line.now true) ∙ c.in-Err-take_event.ensures.taken other

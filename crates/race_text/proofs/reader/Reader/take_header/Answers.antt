@@ -13,7 +13,8 @@ returns-then-eq-clause-taken g c =
 
 pub returns-then-eq-clause-reading : goal.returns-then-eq-clause-reading
 returns-then-eq-clause-reading g c =
-    header_reading c.args.self.now.decls c.args.self.now.trace (subst (λ b. IsReading b c.args.self.now.decls c.args.self.now.trace) c.requires.header c.requires.reading)
+    header_reading c.args.self.now.decls c.args.self.now.trace
+    (subst (λ b. IsReading b c.args.self.now.decls c.args.self.now.trace) c.requires.header c.requires.reading)
 
 pub returns-clause-taken : goal.returns-clause-taken
 returns-clause-taken g c =

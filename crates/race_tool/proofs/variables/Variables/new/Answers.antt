@@ -7,5 +7,6 @@ pub loop-preserved : goal.loop-preserved
 loop-preserved g c = record {
   len = ap length c.in_ok-push.ensures.items ∙ length-append c.loop.states.items (c.new.result ∷ []) ∙ ap (λ n. n + 1) c.loop.invariant.len;
   kept = λ caps. subst (AreKept caps []) (sym c.in_ok-push.ensures.items)
-      (kept_push caps [] c.loop.states.items c.new.result (c.loop.invariant.kept caps) (kept_first caps (length c.loop.states.items) c.new.result c.new.ensures));
+      (kept_push caps [] c.loop.states.items c.new.result (c.loop.invariant.kept caps)
+      (kept_first caps (length c.loop.states.items) c.new.result c.new.ensures));
 }

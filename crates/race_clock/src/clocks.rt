@@ -21,7 +21,7 @@ use race_records::{Decls, Kind, Op};
 use std::alloc::{AllocError, Allocator};
 use std::marker::Model;
 
-#[derive(Debug, Drop)]
+#[derive(Debug)]
 pub(crate) struct Clocks<A: Allocator> {
     slots: Vec<Slot<A>, A>,
     channels: Vec<Channel<A>, A>,
@@ -30,6 +30,19 @@ pub(crate) struct Clocks<A: Allocator> {
     // Free to be written.
     spare: Clock<A>,
     second: Clock<A>,
+}
+
+impl<A: Allocator> Drop for Clocks<A> {
+    fn drop(self) {
+        let Clocks {
+            slots: _,
+            channels: _,
+            locks: _,
+            ends: _,
+            spare: _,
+            second: _,
+        } = self;
+    }
 }
 
 impl<A: Allocator> Model for Clocks<A> {

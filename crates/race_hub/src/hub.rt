@@ -51,7 +51,6 @@ pub enum SubmitFault<R, A: Allocator = Global> {
 }
 
 /// The goroutines of a run, their requests, and the trace that they make.
-#[derive(Drop)]
 pub struct Hub<R, A: Allocator = Global> {
     alloc: A,
     replay: Replay<A>,
@@ -66,6 +65,25 @@ pub struct Hub<R, A: Allocator = Global> {
     bad: Option<u32>,
     // A place for each log: what a recording needs is there from the start.
     tracks: Vec<Track<A>, A>,
+}
+
+impl<R: Drop, A: Allocator> Drop for Hub<R, A> {
+    fn drop(self) {
+        let Hub {
+            alloc: _,
+            replay: _,
+            trace: _,
+            limit: _,
+            ready: _,
+            waiting: _,
+            parked: _,
+            out: _,
+            unstarted: _,
+            ended: _,
+            bad: _,
+            tracks: _,
+        } = self;
+    }
 }
 
 impl<R, A: Allocator> Model for Hub<R, A> {
@@ -425,13 +443,18 @@ impl<R, A: Allocator> Hub<R, A> {
             return Err(Mismatch::Out(goroutine));
         }
         let Hub {
+            alloc: _,
+            replay: _,
             trace,
+            limit: _,
             ready,
             waiting,
             parked,
+            out: _,
+            unstarted: _,
             ended,
+            bad: _,
             mut tracks,
-            ..
         } = self;
         put_ready(&mut tracks, ready);
         put_parked(&mut tracks, waiting.as_slice(), parked);

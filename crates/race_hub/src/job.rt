@@ -8,13 +8,24 @@ use std::alloc::{AllocError, Allocator, Global};
 use std::marker::Model;
 
 /// A goroutine: its box, what it was last told, its log, and what it asks and isn't told yet.
-#[derive(Drop)]
 pub struct Job<R, A: Allocator = Global> {
     who: u32,
     routine: R,
     answer: Answer,
     log: Vec<Step, A>,
     asked: Option<Request>,
+}
+
+impl<R: Drop, A: Allocator> Drop for Job<R, A> {
+    fn drop(self) {
+        let Job {
+            who: _,
+            routine: _,
+            answer: _,
+            log: _,
+            asked: _,
+        } = self;
+    }
 }
 
 impl<R, A: Allocator> Model for Job<R, A> {
@@ -126,9 +137,9 @@ impl<R, A: Allocator> Job<R, A> {
         let Job {
             who,
             routine,
+            answer: _,
             log,
             asked,
-            ..
         } = self;
         let Some(asked) = asked else {
             unreachable!();
@@ -142,7 +153,13 @@ impl<R, A: Allocator> Job<R, A> {
         ensures who { result.0 ≡ self.who }
         ensures log { result.1.items ≡ self.log }
     {
-        let Job { who, log, .. } = self;
+        let Job {
+            who,
+            routine: _,
+            answer: _,
+            log,
+            asked: _,
+        } = self;
         (who, log)
     }
 }

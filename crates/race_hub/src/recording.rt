@@ -32,12 +32,22 @@ pub enum Mismatch {
 
 /// A run that has ended: its trace, which is legal, the log of each goroutine, which is its part of the trace, the requests
 /// that have no event, and how it ended. `Hub::finish` makes one.
-#[derive(Drop)]
 pub struct Recording<A: Allocator = Global> {
     trace: Trace<A>,
     tracks: Vec<Track<A>, A>,
     waiting: Vec<Waiter, A>,
     end: End,
+}
+
+impl<A: Allocator> Drop for Recording<A> {
+    fn drop(self) {
+        let Recording {
+            trace: _,
+            tracks: _,
+            waiting: _,
+            end: _,
+        } = self;
+    }
 }
 
 impl<A: Allocator> Model for Recording<A> {

@@ -36,7 +36,7 @@ pub enum Broken {
 }
 
 /// What the next event of a legal list is tested against. Keeps no list of events.
-#[derive(Debug, Drop)]
+#[derive(Debug)]
 pub struct Replay<A: Allocator = Global> {
     len: usize,
     over: bool,
@@ -45,6 +45,20 @@ pub struct Replay<A: Allocator = Global> {
     channels: Channels<A>,
     locks: Locks<A>,
     onces: Onces<A>,
+}
+
+impl<A: Allocator> Drop for Replay<A> {
+    fn drop(self) {
+        let Replay {
+            len: _,
+            over: _,
+            goroutines: _,
+            values: _,
+            channels: _,
+            locks: _,
+            onces: _,
+        } = self;
+    }
 }
 
 impl<A: Allocator> Model for Replay<A> {

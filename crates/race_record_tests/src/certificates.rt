@@ -54,8 +54,7 @@ static ROWS: [Row; 19] = [
     (
         HANDOFF,
         99,
-        b"goprogram 1\ngoroutine w\nchan c 0\nvar x\nvar y\nbody main\ngo w m:1\nrecv
-          c m:2\nread x m:3\nexit m:4\nbody w\nwrite x 8 w:1\nsend c 1 w:2\nexit w:3\n",
+        b"goprogram 1\ngoroutine w\nchan c 0\nvar x\nvar y\nbody main\ngo w m:1\nrecv c m:2\nread x m:3\nexit m:4\nbody w\nwrite x 8 w:1\nsend c 1 w:2\nexit w:3\n",
         Some((0, 0)),
     ),
     // A run may stop before a body does; the next step of a goroutine that waits is told, that of another isn't.

@@ -47,11 +47,21 @@ pub enum DeclFault {
 /// The number of an object is the count of objects of its kind that were declared before it;
 /// goroutines count from 1, since `main` is 0 and isn't declared. All kinds share one table of
 /// names. Each look-up costs the same however many names and places there are.
-#[derive(Debug, Drop)]
+#[derive(Debug)]
 pub struct Decls<A: Allocator = Global> {
     names: Names<A>,
     indexes: Indexes<A>,
     places: Places<A>,
+}
+
+impl<A: Allocator> Drop for Decls<A> {
+    fn drop(self) {
+        let Decls {
+            names: _,
+            indexes: _,
+            places: _,
+        } = self;
+    }
 }
 
 impl<A: Allocator> Model for Decls<A> {

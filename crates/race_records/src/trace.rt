@@ -33,12 +33,22 @@ pub enum PushFault {
 }
 
 /// Declarations and a list of events, each of which fits them.
-#[derive(Debug, Drop)]
+#[derive(Debug)]
 pub struct Trace<A: Allocator = Global> {
     decls: Decls<A>,
     events: Vec<Event, A>,
     // For how many more events there is room for certain.
     spare: usize,
+}
+
+impl<A: Allocator> Drop for Trace<A> {
+    fn drop(self) {
+        let Trace {
+            decls: _,
+            events: _,
+            spare: _,
+        } = self;
+    }
 }
 
 impl<A: Allocator> Model for Trace<A> {

@@ -11,10 +11,19 @@ use std::marker::Model;
 pub const MAX_STEPS: usize = 65_535;
 
 /// Declarations, and for each goroutine its body: the requests that it makes, one after another.
-#[derive(Debug, Drop)]
+#[derive(Debug)]
 pub struct Program<A: Allocator = Global> {
     decls: Decls<A>,
     bodies: Vec<Vec<Request, A>, A>,
+}
+
+impl<A: Allocator> Drop for Program<A> {
+    fn drop(self) {
+        let Program {
+            decls: _,
+            bodies: _,
+        } = self;
+    }
 }
 
 impl<A: Allocator> Model for Program<A> {

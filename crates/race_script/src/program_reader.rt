@@ -25,10 +25,16 @@ pub struct Lines<A: Allocator> {
 
 /// Reads a program from its text, which comes in pieces that may be cut anywhere. A line is read as
 /// soon as its newline has come.
-#[derive(Debug, Drop)]
+#[derive(Debug)]
 pub struct ProgramReader<A: Allocator = Global> {
     lines: Lines<A>,
     fault: Option<TextFault>,
+}
+
+impl<A: Allocator> Drop for ProgramReader<A> {
+    fn drop(self) {
+        let ProgramReader { lines: _, fault: _ } = self;
+    }
 }
 
 impl<A: Allocator> Model for ProgramReader<A> {

@@ -37,13 +37,25 @@ pub struct Unended<A: Allocator> {
 }
 
 /// What was read so far.
-#[derive(Debug, Drop)]
+#[derive(Debug)]
 pub struct Reader<A: Allocator> {
     alloc: A,
     has_header: bool,
     decls: Decls<A>,
     ended: Vec<Vec<Request, A>, A>,
     unended: Option<Unended<A>>,
+}
+
+impl<A: Allocator> Drop for Reader<A> {
+    fn drop(self) {
+        let Reader {
+            alloc: _,
+            has_header: _,
+            decls: _,
+            ended: _,
+            unended: _,
+        } = self;
+    }
 }
 
 impl<A: Allocator> Model for Reader<A> {

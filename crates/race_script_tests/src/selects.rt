@@ -10,8 +10,7 @@ use std::test::Fail;
 
 // A program with a select in each body.
 static TWO: &[u8] =
-    b"goprogram 1\ngoroutine w\nchan c 0\nbody main\ngo w m:1\nselect send:c:5,recv:c
-      block m:2\nexit m:3\nbody w\nselect recv:c,send:c:6 block w:1\nexit w:2\n";
+    b"goprogram 1\ngoroutine w\nchan c 0\nbody main\ngo w m:1\nselect send:c:5,recv:c block m:2\nexit m:3\nbody w\nselect recv:c,send:c:6 block w:1\nexit w:2\n";
 
 // The offers of each.
 static OFFERS: [[Offer; 2]; 2] = [

@@ -25,10 +25,16 @@ pub struct Lines<A: Allocator> {
 
 /// Reads a trace from its text, which comes in pieces that may be cut anywhere. A line is read as
 /// soon as its newline has come.
-#[derive(Debug, Drop)]
+#[derive(Debug)]
 pub struct LineReader<A: Allocator = Global> {
     lines: Lines<A>,
     fault: Option<TextFault>,
+}
+
+impl<A: Allocator> Drop for LineReader<A> {
+    fn drop(self) {
+        let LineReader { lines: _, fault: _ } = self;
+    }
 }
 
 impl<A: Allocator> Model for LineReader<A> {

@@ -16,7 +16,7 @@ use std::alloc::Allocator;
 use std::mem;
 
 /// What was read so far: the header or not, declarations, and the trace from its first event on.
-#[derive(Debug, Drop)]
+#[derive(Debug)]
 pub struct Reader<A: Allocator> {
     /// The memory for what is read.
     pub alloc: A,
@@ -28,6 +28,18 @@ pub struct Reader<A: Allocator> {
     pub trace: Option<Trace<A>>,
     /// Where the places of common lines likely stand.
     pub guesses: Guesses,
+}
+
+impl<A: Allocator> Drop for Reader<A> {
+    fn drop(self) {
+        let Reader {
+            alloc: _,
+            has_header: _,
+            decls: _,
+            trace: _,
+            guesses: _,
+        } = self;
+    }
 }
 
 impl<A: Allocator + Copy> Reader<A> {

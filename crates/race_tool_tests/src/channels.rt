@@ -7,8 +7,7 @@ static JUDGED: [(&str, &str, u8); 10] = [
     // The reader that met main is ordered before the write, and so is the one that met it later; the
     // third isn't.
     (
-        "gotrace 1 / goroutine a / goroutine b / goroutine c / var x / chan d 0 / go main a m:1 / go main b m:2 / go main c m:3 /
-          read c x 0 c:1 / read a x 0 a:1 / read b x 0 b:1 / meet a main d 1 a:2 m:4 / meet b main d 2 b:2 m:5 / write main x 9 m:6",
+        "gotrace 1 / goroutine a / goroutine b / goroutine c / var x / chan d 0 / go main a m:1 / go main b m:2 / go main c m:3 / read c x 0 c:1 / read a x 0 a:1 / read b x 0 b:1 / meet a main d 1 a:2 m:4 / meet b main d 2 b:2 m:5 / write main x 9 m:6",
         "race on x: read by c at c:1 (event 4), write by main at m:6 (event 9) / races: 1",
         status::RACES,
     ),
@@ -20,54 +19,46 @@ static JUDGED: [(&str, &str, u8); 10] = [
     ),
     // A buffered operation isn't one point: what a saw at its receive reaches b's send, and not main.
     (
-        "gotrace 1 / goroutine a / goroutine b / var x / chan c 1 / go main a m:1 / go main b m:2 / send main
-          c 1 m:3 / write a x 5 a:1 / recv a c 1 a:2 / send b c 2 b:1 / recv main c 2 m:4 / read main x 5 m:5",
+        "gotrace 1 / goroutine a / goroutine b / var x / chan c 1 / go main a m:1 / go main b m:2 / send main c 1 m:3 / write a x 5 a:1 / recv a c 1 a:2 / send b c 2 b:1 / recv main c 2 m:4 / read main x 5 m:5",
         "race on x: write by a at a:1 (event 4), read by main at m:5 (event 8) / races: 1",
         status::RACES,
     ),
     // A receive makes room for a send.
     (
-        "gotrace 1 / goroutine a / var x / chan c 1 / go main a m:1 / send main c 1 m:2 / write
-          main x 1 m:3 / recv main c 1 m:4 / send a c 1 a:1 / write a x 2 a:2 / recv a c 1 a:3",
+        "gotrace 1 / goroutine a / var x / chan c 1 / go main a m:1 / send main c 1 m:2 / write main x 1 m:3 / recv main c 1 m:4 / send a c 1 a:1 / write a x 2 a:2 / recv a c 1 a:3",
         "clean: 7 events, 2 accesses",
         status::CLEAN,
     ),
     // A close comes before each receive that finds the channel closed.
     (
-        "gotrace 1 / goroutine a / goroutine b / var x / chan c 0 / go main a m:1 / go main b m:2 / write main
-          x 4 m:3 / close main c m:4 / recvclosed a c a:1 / read a x 4 a:2 / recvclosed b c b:1 / read b x 4 b:2",
+        "gotrace 1 / goroutine a / goroutine b / var x / chan c 0 / go main a m:1 / go main b m:2 / write main x 4 m:3 / close main c m:4 / recvclosed a c a:1 / read a x 4 a:2 / recvclosed b c b:1 / read b x 4 b:2",
         "clean: 8 events, 3 accesses",
         status::CLEAN,
     ),
     (
-        "gotrace 1 / goroutine a / goroutine b / var x / chan c 1 / go main a m:1 / go main b
-          m:2 / send main c 9 m:3 / write main x 4 m:4 / close main c m:5 / recvclosed a c a:1",
+        "gotrace 1 / goroutine a / goroutine b / var x / chan c 1 / go main a m:1 / go main b m:2 / send main c 9 m:3 / write main x 4 m:4 / close main c m:5 / recvclosed a c a:1",
         "illegal: event 6: not drained",
         status::ILLEGAL,
     ),
     // The greatest value, and one more.
     (
-        "gotrace 1 / var x / chan c 1 / send main c 18446744073709551615 p / recv main c
-          18446744073709551615 q / write main x 18446744073709551615 r / read main x 18446744073709551615 s",
+        "gotrace 1 / var x / chan c 1 / send main c 18446744073709551615 p / recv main c 18446744073709551615 q / write main x 18446744073709551615 r / read main x 18446744073709551615 s",
         "clean: 4 events, 2 accesses",
         status::CLEAN,
     ),
     (
-        "gotrace 1 / var x / chan c 1 / send main c 18446744073709551616 p / recv main c
-          18446744073709551615 q / write main x 18446744073709551615 r / read main x 18446744073709551615 s",
+        "gotrace 1 / var x / chan c 1 / send main c 18446744073709551616 p / recv main c 18446744073709551615 q / write main x 18446744073709551615 r / read main x 18446744073709551615 s",
         "line 4: bad number",
         status::TEXT_FAULT,
     ),
     // A writer and its reader on two channels of capacity 2, which aren't mixed up.
     (
-        "gotrace 1 / goroutine w / var x / chan c 2 / chan d 2 / go main w m:1 / send main d 1 m:2 /
-          write main x 7 m:3 / send main c 2 m:4 / send main c 3 m:5 / recv w c 2 w:1 / read w x 7 w:2",
+        "gotrace 1 / goroutine w / var x / chan c 2 / chan d 2 / go main w m:1 / send main d 1 m:2 / write main x 7 m:3 / send main c 2 m:4 / send main c 3 m:5 / recv w c 2 w:1 / read w x 7 w:2",
         "clean: 7 events, 2 accesses",
         status::CLEAN,
     ),
     (
-        "gotrace 1 / goroutine w / var x / chan c 2 / chan d 2 / go main w m:1 / send main d 1 m:2 /
-          write main x 7 m:3 / send main c 2 m:4 / send main c 3 m:5 / recv w d 1 w:1 / read w x 7 w:2",
+        "gotrace 1 / goroutine w / var x / chan c 2 / chan d 2 / go main w m:1 / send main d 1 m:2 / write main x 7 m:3 / send main c 2 m:4 / send main c 3 m:5 / recv w d 1 w:1 / read w x 7 w:2",
         "race on x: write by main at m:3 (event 3), read by w at w:2 (event 7) / races: 1",
         status::RACES,
     ),

@@ -6,28 +6,24 @@ use std::test::Fail;
 static JUDGED: [(&str, &str, u8); 9] = [
     // A reader's unlock is ordered before the next lock alone, and not before the one behind it.
     (
-        "gotrace 1 / goroutine g1 / goroutine g2 / goroutine g3 / goroutine g4 / rwmutex l / var x / go main g1 m:1 / go main g2 m:2 / go main g3 m:3 /
-          go main g4 m:4 / rlock g1 l r:1 / read g1 x 0 r:2 / runlock g1 l r:3 / lock g2 l s:1 / unlock g3 l t:1 / lock g4 l u:1 / write g4 x 1 u:2",
+        "gotrace 1 / goroutine g1 / goroutine g2 / goroutine g3 / goroutine g4 / rwmutex l / var x / go main g1 m:1 / go main g2 m:2 / go main g3 m:3 / go main g4 m:4 / rlock g1 l r:1 / read g1 x 0 r:2 / runlock g1 l r:3 / lock g2 l s:1 / unlock g3 l t:1 / lock g4 l u:1 / write g4 x 1 u:2",
         "race on x: read by g1 at r:2 (event 6), write by g4 at u:2 (event 11) / races: 1",
         status::RACES,
     ),
     // With a write under the lock, and its unlock, in place of the read.
     (
-        "gotrace 1 / goroutine g1 / goroutine g2 / goroutine g3 / goroutine g4 / rwmutex l / var x / go main g1 m:1 / go main g2 m:2 / go main g3 m:3 /
-          go main g4 m:4 / lock g1 l r:1 / write g1 x 5 r:2 / unlock g1 l r:3 / lock g2 l s:1 / unlock g3 l t:1 / lock g4 l u:1 / write g4 x 1 u:2",
+        "gotrace 1 / goroutine g1 / goroutine g2 / goroutine g3 / goroutine g4 / rwmutex l / var x / go main g1 m:1 / go main g2 m:2 / go main g3 m:3 / go main g4 m:4 / lock g1 l r:1 / write g1 x 5 r:2 / unlock g1 l r:3 / lock g2 l s:1 / unlock g3 l t:1 / lock g4 l u:1 / write g4 x 1 u:2",
         "clean: 11 events, 2 accesses",
         status::CLEAN,
     ),
     // An rlock sees the last unlock alone: that of g1, who wrote, stands before it.
     (
-        "gotrace 1 / goroutine g1 / goroutine g2 / goroutine g3 / rwmutex l / var x / go main g1 m:1 / go main g2 m:2 / go main g3 m:3
-          / lock g1 l r:1 / write g1 x 5 r:2 / unlock g1 l r:3 / lock g2 l s:1 / unlock g3 l t:1 / rlock g3 l t:2 / read g3 x 5 t:3",
+        "gotrace 1 / goroutine g1 / goroutine g2 / goroutine g3 / rwmutex l / var x / go main g1 m:1 / go main g2 m:2 / go main g3 m:3 / lock g1 l r:1 / write g1 x 5 r:2 / unlock g1 l r:3 / lock g2 l s:1 / unlock g3 l t:1 / rlock g3 l t:2 / read g3 x 5 t:3",
         "race on x: write by g1 at r:2 (event 5), read by g3 at t:3 (event 10) / races: 1",
         status::RACES,
     ),
     (
-        "gotrace 1 / goroutine a / goroutine b / once o / var x / go main a m:1 / go main b m:2 /
-          oncebegin a o a:1 / write a x 1 a:2 / onceend a o a:3 / oncedone b o b:1 / read b x 1 b:2",
+        "gotrace 1 / goroutine a / goroutine b / once o / var x / go main a m:1 / go main b m:2 / oncebegin a o a:1 / write a x 1 a:2 / onceend a o a:3 / oncedone b o b:1 / read b x 1 b:2",
         "clean: 7 events, 2 accesses",
         status::CLEAN,
     ),
@@ -50,15 +46,13 @@ static JUDGED: [(&str, &str, u8); 9] = [
     ),
     // Two mutexes order nothing between them.
     (
-        "gotrace 1 / goroutine a / mutex m / mutex n / var x / go main a m:1 / lock a m a:1 / write
-          a x 1 a:2 / unlock a m a:3 / lock main n m:2 / read main x 1 m:3 / unlock main n m:4",
+        "gotrace 1 / goroutine a / mutex m / mutex n / var x / go main a m:1 / lock a m a:1 / write a x 1 a:2 / unlock a m a:3 / lock main n m:2 / read main x 1 m:3 / unlock main n m:4",
         "race on x: write by a at a:2 (event 3), read by main at m:3 (event 6) / races: 1",
         status::RACES,
     ),
     // Two readers at a time, and then a writer.
     (
-        "gotrace 1 / goroutine a / rwmutex l / var x / go main a m:1 / rlock main l m:2 / rlock a l a:1 / read a x 0 a:2 /
-          read main x 0 m:3 / runlock a l a:3 / runlock main l m:4 / lock main l m:5 / write main x 1 m:6 / unlock main l m:7",
+        "gotrace 1 / goroutine a / rwmutex l / var x / go main a m:1 / rlock main l m:2 / rlock a l a:1 / read a x 0 a:2 / read main x 0 m:3 / runlock a l a:3 / runlock main l m:4 / lock main l m:5 / write main x 1 m:6 / unlock main l m:7",
         "clean: 10 events, 3 accesses",
         status::CLEAN,
     ),

@@ -33,8 +33,7 @@ static ROWS: [Row<'static>; 12] = [
     ),
     // Each end without a race.
     (
-        "goprogram 1 / goroutine w / chan c 0 / var x / body main / go w m:1 / recv c
-          m:2 / read x m:3 / exit m:4 / body w / write x 8 w:1 / send c 1 w:2 / exit w:3",
+        "goprogram 1 / goroutine w / chan c 0 / var x / body main / go w m:1 / recv c m:2 / read x m:3 / exit m:4 / body w / write x 8 w:1 / send c 1 w:2 / exit w:3",
         MOST,
         None,
         "clean: 6 events, 2 accesses / end: main",
@@ -62,8 +61,7 @@ static ROWS: [Row<'static>; 12] = [
         status::LIMIT,
     ),
     (
-        "goprogram 1 / goroutine w / goroutine v / body main / go w m:1 / recv nil
-          m:2 / exit m:3 / body w / go v w:1 / go v w:2 / exit w:3 / body v / exit v:1",
+        "goprogram 1 / goroutine w / goroutine v / body main / go w m:1 / recv nil m:2 / exit m:3 / body w / go v w:1 / go v w:2 / exit w:3 / body v / exit v:1",
         MOST,
         None,
         "clean: 2 events, 0 accesses / end: bad w",
@@ -71,8 +69,7 @@ static ROWS: [Row<'static>; 12] = [
     ),
     // Each other end with one: main and w write x, whatever comes then.
     (
-        "goprogram 1 / goroutine w / chan c 0 / var x / body main / go w m:1 / write x 1 m:2 /
-          recv c m:3 / exit m:4 / body w / write x 2 w:1 / close c w:2 / close c w:3 / exit w:4",
+        "goprogram 1 / goroutine w / chan c 0 / var x / body main / go w m:1 / write x 1 m:2 / recv c m:3 / exit m:4 / body w / write x 2 w:1 / close c w:2 / close c w:3 / exit w:4",
         MOST,
         Some(&[0, 0, 0, 0, 1]),
         "race on x: write by main at m:2 (event 2), write by w at w:1 (event 3) / races: 1 / end: fault",

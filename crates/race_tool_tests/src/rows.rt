@@ -99,17 +99,14 @@ fn each_variable_with_a_race_has_one_line(rt: HostRuntime) -> Result<(), Fail> {
             ),
             // Two reads race with the write, and the later one is named.
             (
-                "gotrace 1 / goroutine a / goroutine b / var x / var y / go main a m:1 / go main b m:2 / write
-                  main y 1 m:3 / read a x 0 a:1 / write main y 2 m:4 / read b x 0 b:1 / write main x 1 m:5",
+                "gotrace 1 / goroutine a / goroutine b / var x / var y / go main a m:1 / go main b m:2 / write main y 1 m:3 / read a x 0 a:1 / write main y 2 m:4 / read b x 0 b:1 / write main x 1 m:5",
                 "race on x: read by b at b:1 (event 6), write by main at m:5 (event 7) / races: 1",
                 status::RACES,
             ),
             // Two variables, in rising order, though the race on z comes first.
             (
-                "gotrace 1 / goroutine a / var x / var y / var z / go main a m:1 / write main z 1
-                  m:2 / write a z 2 a:1 / write main y 1 m:3 / write main x 1 m:4 / write a x 2 a:2",
-                "race on x: write by main at m:4 (event 5),
-                  write by a at a:2 (event 6) / race on z: write by main at m:2 (event 2), write by a at a:1 (event 3) / races: 2",
+                "gotrace 1 / goroutine a / var x / var y / var z / go main a m:1 / write main z 1 m:2 / write a z 2 a:1 / write main y 1 m:3 / write main x 1 m:4 / write a x 2 a:2",
+                "race on x: write by main at m:4 (event 5), write by a at a:2 (event 6) / race on z: write by main at m:2 (event 2), write by a at a:1 (event 3) / races: 2",
                 status::RACES,
             ),
         ],

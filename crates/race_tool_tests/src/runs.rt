@@ -14,8 +14,8 @@ type Row<'a> = (&'a str, u32, Option<&'a [u64]>, &'a str, u8);
 pub(crate) const MOST: u32 = 16_777_216;
 
 // Main waits for w's value over c, and reads what w wrote.
-const HANDOFF: &str = "goprogram 1 / goroutine w / chan c 0 / var x / body main / go w m:1 / recv c
-      m:2 / read x m:3 / exit m:4 / body w / write x 8 w:1 / send c 1 w:2 / exit w:3";
+const HANDOFF: &str =
+    "goprogram 1 / goroutine w / chan c 0 / var x / body main / go w m:1 / recv c m:2 / read x m:3 / exit m:4 / body w / write x 8 w:1 / send c 1 w:2 / exit w:3";
 
 const HANDOFF_TRACE: &str =
     "gotrace 1 / goroutine w / chan c 0 / var x / go main w m:1 / write w x 8 w:1 / meet w main c 1 w:2 m:2 / exit w w:3 / read main x 8 m:3 / exit main m:4";
@@ -93,8 +93,7 @@ fn a_program_runs_to_its_end(rt: HostRuntime) -> Result<(), Fail> {
                 status::CLEAN,
             ),
             (
-                "goprogram 1 / goroutine w / chan c 0 / chan d 0 / body main / go w m:1 / recv c
-                  m:2 / send d 1 m:3 / exit m:4 / body w / recv d w:1 / send c 1 w:2 / exit w:3",
+                "goprogram 1 / goroutine w / chan c 0 / chan d 0 / body main / go w m:1 / recv c m:2 / send d 1 m:3 / exit m:4 / body w / recv d w:1 / send c 1 w:2 / exit w:3",
                 MOST,
                 zero,
                 "gotrace 1 / goroutine w / chan c 0 / chan d 0 / go main w m:1",
@@ -134,8 +133,7 @@ fn a_program_runs_to_its_end(rt: HostRuntime) -> Result<(), Fail> {
 
 // Each would send or receive over c.
 const TWO_SELECTS: &str =
-    "goprogram 1 / goroutine w / chan c 0 / body main / go w m:1 / select send:c:5,recv:c
-      block m:2 / exit m:3 / body w / select recv:c,send:c:6 block w:1 / exit w:2";
+    "goprogram 1 / goroutine w / chan c 0 / body main / go w m:1 / select send:c:5,recv:c block m:2 / exit m:3 / body w / select recv:c,send:c:6 block w:1 / exit w:2";
 
 #[test]
 fn a_select_goes_on_by_its_pick(rt: HostRuntime) -> Result<(), Fail> {

@@ -98,7 +98,7 @@ pub record Declines {R W : Type 0} (kind : ErrorKind) (source source_now : Sourc
   pub unread : source_now ≡ source
   pub unwritten : sink_now ≡ sink
 
--- how the program ends where there are words
+-- how the program ends where there are words: one request is done, or none is; which words ask for which is clap's
 abbrev pub Ends : {R W : Type 0} → (R → Option (List ℕ)) → (W → Option (List ℕ)) → Source R → Source R → Sink W → Sink W → ℕ → Type 0
 Ends remaining contents source source_now sink sink_now answer =
     ((request : Request) × Does request remaining contents source source_now sink sink_now answer)

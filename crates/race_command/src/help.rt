@@ -101,7 +101,7 @@ Statuses:
   3   usage
   4   memory was refused
   5   reading or writing failed
-  15  the run could not be recorded";
+  15  the run could not be recorded, or what was recorded isn't a run of the program";
 
 pub(crate) const RACE_ABOUT: &str =
     "Reads a program from standard input, runs it, and writes the report of the run";
@@ -145,4 +145,4 @@ Statuses:
   3   usage, or more events than --plain takes (2,000)
   4   memory was refused
   5   reading or writing failed
-  15  the run could not be recorded";
+  15  the run could not be recorded, or what was recorded isn't a run of the program";

@@ -46,27 +46,30 @@ places_read places = (places.0.now, option_map (λ place. place.now) places.1)
 abbrev pub drafted : Draft → Occurrence
 drafted draft = occurrence draft.who draft.op (places_read (draft.place, draft.place2))
 
--- what a word names, where that is wanted
+-- this name, where that is wanted
 abbrev pub as_wanted : List Declaration → PartKind → Named → Option Named
 as_wanted ds kind named = if is_wanted ds kind named then Some named else None
 
+-- what a word names, where that is wanted
 abbrev pub named_in : List Declaration → PartKind → List ℕ → Option Named
 named_in ds kind w = option_and_then (as_wanted ds kind) (find_name ds w)
 
--- what a word says as a channel, or nil
+-- a name as a channel
 abbrev pub chan_of : Named → Option ℕ
 chan_of named = Some (number_of named)
 
+-- what a word says as a channel, or nil
 abbrev pub chan_in : List Declaration → List ℕ → Option (Option ℕ)
 chan_in ds w = if bytes_eq w nil then Some None else option_map chan_of (named_in ds (PartKind.Object Kind.Chan) w)
 
--- and as a case of a select
+-- a case that would do this with the channel
 abbrev pub case_with : Dir → Option ℕ → Case
 case_with dir chan = record { dir = dir; chan = chan }
 
 abbrev pub spelled_case_in : List Declaration → SpelledCase → Option Case
 spelled_case_in ds case = option_map (case_with case.0) (chan_in ds case.1)
 
+-- what a piece of a word says as a case of a select
 abbrev pub case_in : List Declaration → List ℕ → Option Case
 case_in ds piece = option_and_then (spelled_case_in ds) (case_spelled piece)
 
@@ -80,10 +83,11 @@ cases_on ds got (piece ∷ pieces) =
 abbrev pub cases_in : List Declaration → List ℕ → Option (List Case)
 cases_in ds w = if bytes_eq w no_cases then Some [] else cases_on ds [] (pieces_of w)
 
--- why a run failed
+-- the cause that is spelled so, where its name is of the kind that is wanted
 abbrev pub spelled_failure_in : List Declaration → SpelledFailure → Option Cause
 spelled_failure_in ds failure = option_map (cause_by failure.0) (named_in ds (kind_tried failure.0) failure.1)
 
+-- why a run failed, as a word says it
 abbrev pub failure_in : List Declaration → List ℕ → Option Cause
 failure_in ds w = if bytes_eq w close_nil then Some Cause.CloseNil else option_and_then (spelled_failure_in ds) (failure_spelled w)
 

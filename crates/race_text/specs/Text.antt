@@ -63,11 +63,12 @@ abbrev pub chan_text : List Declaration → Option ℕ → List ℕ
 chan_text ds None = codes "nil"
 chan_text ds (Some c) = chan_name ds c
 
--- a case of a select: what it would do, and its channel
+-- what a case of a select would do
 abbrev pub dir_text : Dir → List ℕ
 dir_text Dir.Send = codes "send:"
 dir_text Dir.Recv = codes "recv:"
 
+-- and with its channel
 abbrev pub case_text : List Declaration → Case → List ℕ
 case_text ds case = dir_text case.dir ++ chan_text ds case.chan
 

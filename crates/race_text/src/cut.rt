@@ -7,7 +7,7 @@ ghost use Rattle.race_text.specs.Words as spec;
 
 use crate::lanes::{first_index, first_unseen};
 
-// What stands before the first such byte, and what stands behind it where there is one.
+/// What stands before the first such byte, and what stands behind it where there is one.
 pub fn cut_at(bytes: &[u8], byte: u8) -> (&[u8], Option<&[u8]>)
     ensures { slice_split (λ b. b == byte) bytes.now ≡ result.0.now ∷ spec.parts_left byte
         result.1 }
@@ -18,7 +18,7 @@ pub fn cut_at(bytes: &[u8], byte: u8) -> (&[u8], Option<&[u8]>)
     }
 }
 
-// Whether the line has a byte that no line may have.
+/// Whether the line has a byte that no line may have.
 pub fn has_bad_byte(line: &[u8]) -> bool
     ensures { result ≡ spec.has_bad_byte line.now }
 {

@@ -83,7 +83,7 @@ fn object_read(noun: Noun, behind: Option<&[u8]>) -> Option<Object>
     }
 }
 
-// The cause that a refused declaration or place gives.
+/// The cause that a refused declaration or place gives.
 pub fn cause_of(fault: DeclFault) -> TextCause
     ensures { result ≡ spec.cause_of fault }
 {

@@ -72,7 +72,7 @@ fn read_behind<'a, A: Allocator>(
     })
 }
 
-// The number of a goroutine.
+/// The number of a goroutine.
 pub fn goroutine_of(part: Part) -> Option<u32>
     ensures { result ≡ spec.goroutine_of part }
 {
@@ -130,7 +130,7 @@ fn other_op<'a, A: Allocator>(
     Some((op, rest))
 }
 
-// A part for each of the kinds, and what is left behind them.
+/// A part for each of the kinds, and what is left behind them.
 pub fn next_parts<'a, A: Allocator>(
     decls: &Decls<A>,
     mut kinds: &[PartKind],
@@ -152,7 +152,7 @@ pub fn next_parts<'a, A: Allocator>(
     Some((parts, left))
 }
 
-// The part of this kind that the next word says, and what is left behind it.
+/// The part of this kind that the next word says, and what is left behind it.
 #[inline(always)]
 pub fn next_part<'a, A: Allocator>(
     decls: &Decls<A>,
@@ -273,7 +273,7 @@ fn case_in<A: Allocator>(decls: &Decls<A>, piece: &[u8]) -> Option<Case>
     Some(Case { dir, chan })
 }
 
-// What a word says as a channel, or nil.
+/// What a word says as a channel, or nil.
 pub fn chan_in<A: Allocator>(decls: &Decls<A>, word: &[u8]) -> Option<Option<u32>>
     requires { IsWellFormed decls.now }
     ensures chan { result ≡ spec.chan_in decls.now.declarations word.now }
@@ -315,7 +315,7 @@ fn last_places<'a>(two: bool, rest: Option<&'a [u8]>) -> Option<(&'a [u8], Optio
     Some((place, Some(second)))
 }
 
-// The one word that is left, which is a place.
+/// The one word that is left, which is a place.
 #[inline(always)]
 pub fn last_place<'a>(rest: Option<&'a [u8]>) -> Option<&'a [u8]>
     ensures { option_map (λ place. place.now) result ≡ spec.last_place (parts_left 32 rest.entry) }

@@ -49,7 +49,7 @@ pub(crate) fn is_wanted<A: Allocator>(decls: &Decls<A>, kind: PartKind, named: N
     }
 }
 
-// The least cause of a used name.
+/// The least cause of a used name.
 pub fn used_name_cause<A: Allocator>(
     decls: &Decls<A>,
     kind: PartKind,
@@ -112,7 +112,7 @@ fn pieces_cause<A: Allocator>(decls: &Decls<A>, word: &[u8]) -> Option<TextCause
     least
 }
 
-// Whether there are more pieces than a select can have cases.
+/// Whether there are more pieces than a select can have cases.
 pub fn has_too_many_pieces(word: &[u8]) -> bool
     ensures { result ≡ nat_lt MAX_CASES (length (pieces_of word.now)) }
 {
@@ -205,7 +205,7 @@ fn rank(cause: TextCause) -> u8
     }
 }
 
-// Of two causes that may hold, the lesser.
+/// Of two causes that may hold, the lesser.
 pub fn lesser(a: Option<TextCause>, b: Option<TextCause>) -> Option<TextCause>
     ensures { result ≡ spec.lesser a b }
 {
@@ -224,7 +224,7 @@ pub fn lesser(a: Option<TextCause>, b: Option<TextCause>) -> Option<TextCause>
     }
 }
 
-// The least cause of the words behind the first.
+/// The least cause of the words behind the first.
 pub fn fields_cause<A: Allocator>(
     decls: &Decls<A>,
     fields: &[Field],

@@ -29,7 +29,7 @@ pub(crate) fn line_cause<A: Allocator>(
     }
 }
 
-// The least cause of the words behind the first.
+/// The least cause of the words behind the first.
 pub fn word_cause<A: Allocator>(
     decls: &Decls<A>,
     events: usize,
@@ -49,7 +49,7 @@ pub fn word_cause<A: Allocator>(
     }
 }
 
-// Whether so many words are left.
+/// Whether so many words are left.
 pub fn has_count(rest: Option<&[u8]>, count: usize) -> bool
     ensures { result ≡ (length (parts_left 32 rest.entry) == count) }
 {

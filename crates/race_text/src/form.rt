@@ -61,7 +61,7 @@ impl Default for Field {
     }
 }
 
-// What the first word of a line says that the line is.
+/// What the first word of a line says that the line is.
 #[inline(always)]
 #[tactic(auto, unfolding(crate::specs::Form::word_named))]
 pub fn word_named(word: &[u8]) -> Option<Word>

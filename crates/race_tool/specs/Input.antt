@@ -85,7 +85,8 @@ pub record ReadsFine (faults : Faults) (before after : Option (List ℕ)) : Type
   pub consumed : Consumes before after bytes
   pub fine : faults.ended bytes ≡ None
 
--- the reader was read as often as an input may be, each of these reads gave bytes, and no line that a newline ends is at fault in them
+-- the reader was read as often as an input may be, together the reads gave as many bytes at least, and no line that a newline ends is
+-- at fault in them
 pub record ReadsMany {R : Type 0} (faults : Faults) (remaining : R → Option (List ℕ)) (source source_now : Source R) : Type 0 where
   pub reads : source_reads source_now ≡ more_by MAX_TURNS (source_reads source)
   pub bytes : List ℕ

@@ -48,8 +48,8 @@ pub record IsRunOf (limit : ℕ) (picks : List ℕ) (program : ProgramState) (r 
 abbrev pub IsUncertified : List ℕ → ProgramState → HubState ScriptState → Type 0
 IsUncertified picks program hub = (r : RecordingState) × IsSerial Asks picks hub r × (IsCertified program r → ⊥)
 
--- of a run of the program by these picks there is no recording, since a log isn't its goroutine's part of the trace, or none that follows
--- the program
+-- of a run of the program by these picks there is no recording, since a log isn't its goroutine's part of the trace, or what was
+-- recorded isn't a run of the program
 pub record IsRefusedRun (limit : ℕ) (picks : List ℕ) (program : ProgramState) : Type 0 where
   pub hub : HubState ScriptState
   pub opens : IsOpening program.decls limit (scripts_of program) hub

@@ -49,7 +49,8 @@ use std::io::{Read, Write};
 /// main returned, 10 a goroutine failed, 11 nobody can go on, 12 the limit is reached, 13 a goroutine
 /// asked what can't be. 2 a text fault, which is written; 3 an option is out of its limits, or there are
 /// more events than the plain judge takes, of which alone a line is written then; 4 memory was refused;
-/// 5 a device failed; 15 nothing was recorded. No runtime is needed, so any value will do for one.
+/// 5 a device failed; 15 nothing was recorded, or what isn't a run of the program. No runtime is needed,
+/// so any value will do for one.
 pub fn run_race<T, R: Read, W: Write, A: Allocator + Copy + Send>(
     _rt: &T,
     alloc: A,
@@ -73,8 +74,8 @@ pub fn run_race<T, R: Read, W: Write, A: Allocator + Copy + Send>(
         (unread R.remaining source.old) (unread R.remaining source.new)
         (written W.contents sink.old) (written W.contents sink.new) result }
 
-    // The input is a program. With CLEAN main returned in a run of it by the picks that has no data
-    // race; with RACES a run of it by the picks has one.
+    // The input is a program. With CLEAN a run of it by the picks has no data race (that main returned
+    // in it, `judged` says); with RACES one has.
     ensures clean { result ≡ status.CLEAN
         → ReadsProgramOf (HasRunWhere run.now.limit (picks.picks_asked run.now) IsClean)
         (unread R.remaining source.old) (unread R.remaining source.new) }
@@ -88,7 +89,7 @@ pub fn run_race<T, R: Read, W: Write, A: Allocator + Copy + Send>(
     // Memory was refused: nothing is written.
     ensures refused { result ≡ status.REFUSED → sink.new ≡ sink.old }
 
-    // Of a run of the program nothing was recorded, and nothing is written.
+    // Of a run of the program nothing was recorded, or what isn't a run of it; nothing is written.
     ensures mismatch { result ≡ status.MISMATCH
         → (sink.new ≡ sink.old)
         × ReadsProgramOf (IsRefusedRun run.now.limit (picks.picks_asked run.now))

@@ -46,7 +46,8 @@ pub struct RunOptions<A: Allocator = Global> {
 /// The answer is a status, which tells how the run ended: 0 main returned, 10 a goroutine failed, 11
 /// nobody can go on, 12 the limit is reached, 13 a goroutine asked what can't be. 2 a text fault,
 /// which is written; 3 the limit is out of its own limits; 4 memory was refused; 5 a device failed; 15
-/// nothing was recorded. No runtime is needed, so any value will do for one.
+/// nothing was recorded, or what isn't a run of the program. No runtime is needed, so any value will do
+/// for one.
 pub fn run_run<T, R: Read, W: Write, A: Allocator + Copy + Send>(
     _rt: &T,
     alloc: A,
@@ -72,7 +73,7 @@ pub fn run_run<T, R: Read, W: Write, A: Allocator + Copy + Send>(
     // Memory was refused: nothing is written.
     ensures refused { result ≡ status.REFUSED → sink.new ≡ sink.old }
 
-    // Of a run of the program nothing was recorded, and nothing is written.
+    // Of a run of the program nothing was recorded, or what isn't a run of it; nothing is written.
     ensures mismatch { result ≡ status.MISMATCH
         → (sink.new ≡ sink.old)
         × ReadsProgramOf (spec.IsRefusedRun options.now.limit (picks.picks_asked options.now))

@@ -1,6 +1,6 @@
 //! The statuses that the engines answer.
 
-/// The trace is legal and has no race; of a run, main returned.
+/// The trace is legal and has no race; of a listing, its edges are out; of a run, main returned.
 pub const CLEAN: u8 = 0;
 
 /// The trace is legal and has races. Go's own race detector exits with it too.
@@ -9,7 +9,7 @@ pub const RACES: u8 = 66;
 /// An event breaks a rule.
 pub const ILLEGAL: u8 = 1;
 
-/// The input isn't the text of a trace.
+/// The input isn't the text of a trace, or of a program where one is wanted.
 pub const TEXT_FAULT: u8 = 2;
 
 /// An option is out of its limits, of which nothing is printed, or there are more events than are
@@ -34,7 +34,8 @@ pub const LIMIT: u8 = 12;
 /// A run ended since a goroutine asked what can't be.
 pub const BAD_REQUEST: u8 = 13;
 
-/// A run is not recorded, since what a goroutine asked and was told isn't its part of the trace.
+/// A run is not recorded, since what a goroutine asked and was told isn't its part of the trace; or what
+/// was recorded isn't a run of the program.
 pub const MISMATCH: u8 = 15;
 
 // Definitions cite these numbers, so each is written down twice.

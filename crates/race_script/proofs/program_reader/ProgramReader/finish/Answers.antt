@@ -12,7 +12,7 @@ use Rattle.race_script.proofs.TextFine.{equal_texts}
 use Rattle.race_script.proofs.FedLemmas.{told_of, taken_of, end_told, end_is_line, end_none_before, end_bytes}
 use Rattle.race_script.proofs.program_reader.ProgramReader.finish.Goals as goal
 
-module _ (g : _) (c : goal.Joined-reader g) where
+module _ (g : _) (c : goal.After-drop-reader g) where
   told : (fed : List ℕ) → StandsFor c.args.self fed → IsTold fed c.in-Some.fault
   told fed S = told_of c.args.self fed c.in-Some.fault (ap (λ (k : LinesState). k.fault) (sym c.self.view_is) ∙ c.in-Some.is) S
 
@@ -36,7 +36,7 @@ pub into_program-requires-clause-whole : goal.into_program-requires-clause-whole
 into_program-requires-clause-whole g c =
     (all_read c.self.inside.lines.reader (c.self.invariant c.in-None.is).0 c.as_slice.result.now (sym c.in-None-end_cause.ensures)).whole
 
-module _ (g : _) (c : goal.Joined-reader-2 g) where
+module _ (g : _) (c : goal.After-drop-reader-in-Some-end_cause g) where
   taken : (fed : List ℕ) → StandsFor c.args.self fed
       → IsTaken fed (lines_read c.self.inside.lines.reader) c.self.inside.lines.part.items
   taken fed S =

@@ -11,7 +11,7 @@ use Rattle.race_text.proofs.TextLaws.{equal_texts}
 use Rattle.race_text.proofs.FedLemmas.{told_of, taken_of, end_told, end_is_line, end_none_before, end_bytes}
 use Rattle.race_text.proofs.line_reader.LineReader.finish.Goals as goal
 
-module _ (g : _) (c : goal.Joined-reader g) where
+module _ (g : _) (c : goal.After-drop-reader g) where
   told : (fed : List ℕ) → StandsFor c.args.self fed → IsTold fed c.in-Some.fault
   told fed S = told_of c.args.self fed c.in-Some.fault (ap (λ (k : LinesState). k.fault) (sym c.self.view_is) ∙ c.in-Some.is) S
 
@@ -32,7 +32,7 @@ into_trace-requires-clause-header g c =
     let reader = c.self.inside.lines.reader in
     header_before_end reader.has_header reader.decls reader.trace c.as_slice.result.now (sym c.in-None-end_cause.ensures)
 
-module _ (g : _) (c : goal.Joined-reader-2 g) where
+module _ (g : _) (c : goal.After-drop-reader-in-Some-end_cause g) where
   taken : (fed : List ℕ) → StandsFor c.args.self fed
       → IsTaken fed (lines_read c.self.inside.lines.reader.has_header c.self.inside.lines.reader.decls c.self.inside.lines.reader.trace)
       c.self.inside.lines.part.items

@@ -4,8 +4,6 @@
 mod access;
 mod accesses;
 pub mod laws;
-#[cfg(test)]
-mod tests;
 mod variable;
 
 pub use variable::VarState;

@@ -10,8 +10,6 @@ mod lock;
 mod slot;
 mod stamp;
 mod stamper;
-#[cfg(test)]
-mod tests;
 
 pub use clock::Clock;
 pub use stamp::Stamp;

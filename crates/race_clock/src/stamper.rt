@@ -36,7 +36,7 @@ impl<A: Allocator + Copy> Stamper<A> {
         })
     }
 
-    /// The clock of a goroutine.
+    /// The clock of a goroutine that is declared, or of main: what it knows behind the last event that was taken.
     pub fn clock(&self, goroutine: u32) -> &Clock<A>
         requires { goroutine < length self.now.clocks.slots }
         ensures { result.now ≡ clock_of self.now.clocks goroutine }
@@ -44,7 +44,10 @@ impl<A: Allocator + Copy> Stamper<A> {
         self.clocks.clock(goroutine)
     }
 
-    /// Takes the next event, and stamps it where it is an access.
+    /// Takes the next event, and stamps it where it is an access. Fails for want of memory alone, and is then as before.
+    ///
+    /// The event is in range of the declarations, breaks no rule behind the events that were taken, and these are fewer
+    /// than 2^24: a `Replay` that accepts it beside the stamper says so.
     pub fn step(&mut self, event: &Event) -> Result<Option<Stamp>, AllocError>
         requires { IsNext self.old event.now }
         ensures goes_on { OnOk result (GoesOn self.old self.new event.now) }

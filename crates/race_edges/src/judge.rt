@@ -27,7 +27,7 @@ pub enum Verdict<A: Allocator = Global> {
     Races(RaceList<A>),
 }
 
-/// The verdict on a trace of at most 2,000 events.
+/// The verdict on a trace of at most 2,000 events. Refused exactly where there are more, and else for want of memory alone.
 pub fn plain_judge<A: Allocator + Copy, B: Allocator>(
     alloc: A,
     trace: &Trace<B>,

@@ -29,6 +29,8 @@ pub struct Edge {
 
 /// Every edge of a legal trace of at most 2,000 events, once, in rising order of `from`, `to`,
 /// `from_who` and `to_who`. What one goroutine does in order isn't listed.
+///
+/// Refused exactly where there are more events; else where an event breaks a rule; else for want of memory alone.
 pub fn edges<A: Allocator + Copy, B: Allocator>(
     alloc: A,
     trace: &Trace<B>,

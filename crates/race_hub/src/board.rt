@@ -48,6 +48,9 @@ impl<'a, A: Allocator, B: Allocator> Model for WaitingList<'a, A, B> {
 
 impl<'a, A: Allocator, B: Allocator> WaitingList<'a, A, B> {
     /// The list of these requests. It borrows the run, so it is made anew after each event.
+    ///
+    /// The replay has accepted the trace's events and no others, what the requests name is declared in the trace, and
+    /// there are at most 1,024 requests.
     pub fn new(
         replay: &'a Replay<A>,
         trace: &'a Trace<B>,

@@ -86,7 +86,7 @@ impl Offers {
         self.cases.copy()
     }
 
-    /// Puts an offer last. A channel's number is at most 65,534.
+    /// Puts an offer last. A channel's number is at most 65,534. Refused where there are 16; then the list stays as it was.
     pub fn push(&mut self, offer: Offer) -> Result<(), OffersFull>
         requires { IfSome (chan_of offer) (λ c. c < 65_535) }
         ensures full { IsErr result ↔ (MAX_CASES ≤ length self.old) }

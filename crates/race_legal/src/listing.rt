@@ -16,7 +16,7 @@ pub struct Illegal {
     pub rule: Rule,
 }
 
-/// The first event of the trace that breaks a rule, with the least rule that it breaks.
+/// The first event of the trace that breaks a rule, with the least rule that it breaks. Fails for want of memory alone.
 pub fn legal<A: Allocator + Copy, B: Allocator>(
     alloc: A,
     trace: &Trace<B>,

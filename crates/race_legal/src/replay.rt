@@ -200,7 +200,11 @@ impl<A: Allocator> Replay<A> {
         self.goroutines.innermost(goroutine)
     }
 
-    /// Accepts the next event where the longer list is legal.
+    /// Accepts the next event where the longer list is legal; else tells the least rule that it breaks, or that memory
+    /// was refused, and stays as it was.
+    ///
+    /// The event's goroutines and objects are in range of the declarations that the replay was made for, and fewer than
+    /// 2^24 events were accepted before.
     #[tactic(auto, using(crate::proofs::ReplayLemmas::broken_is))]
     pub fn accept(&mut self, event: &Event) -> Result<(), Broken>
         requires range { IsInRange (counts_in self.old) event.now }

@@ -4,54 +4,55 @@ ghost use Rattle.std.specs.Option.{option_map};
 ghost use Rattle.race_model.specs.Legal.{least_broken};
 ghost use Rattle.race_legal.specs.Rules.{number_of};
 
-/// A rule that an event can break, in the order in which they are tested. The first has number 1.
+/// A rule that an event can break, in the order in which they are tested. The first has number 1. In quotes stand
+/// sections of The Go Programming Language Specification; the rules on locks and onces are those of package sync.
 #[derive(Clone, Copy, Debug, PartialEq, Eq)]
 pub enum Rule {
-    /// The run is over.
+    /// The run is over ("Program execution", "Handling panics").
     AfterEnd = 1,
-    /// Who acts doesn't run.
+    /// Who acts doesn't run ("Go statements").
     NotRunning,
-    /// The goroutine was started before, or is main.
+    /// The goroutine was started before, or is main ("Go statements").
     AlreadyStarted,
-    /// The receiver is the sender.
+    /// The receiver is the sender ("Channel types").
     MeetsItself,
-    /// A buffered operation on an unbuffered channel, or the other way round.
+    /// A buffered operation on an unbuffered channel, or the other way round ("Channel types").
     WrongForm,
-    /// The channel is closed.
+    /// The channel is closed ("Send statements").
     SendOnClosed,
-    /// The channel's buffer has no room.
+    /// The channel's buffer has no room ("Send statements").
     BufferFull,
-    /// The channel's buffer has no value.
+    /// The channel's buffer has no value ("Receive operator").
     BufferEmpty,
-    /// The value received isn't the one sent.
+    /// The value received isn't the one sent ("Channel types": first in, first out).
     WrongValue,
-    /// The channel is open.
+    /// The channel is open ("Receive operator").
     NotClosed,
-    /// The closed channel still has a value.
+    /// The closed channel still has a value ("Close").
     NotDrained,
-    /// The channel was closed before.
+    /// The channel was closed before ("Close").
     CloseOfClosed,
-    /// The lock is held.
+    /// The lock is held (`Lock`, `RLock`).
     Held,
-    /// The lock is held for reading.
+    /// The lock is held for reading (`Lock`).
     ReadHeld,
-    /// The lock isn't held.
+    /// The lock isn't held (`Unlock`).
     NotHeld,
-    /// The lock isn't held for reading.
+    /// The lock isn't held for reading (`RUnlock`).
     NotReadHeld,
-    /// The once was begun before.
+    /// The once was begun before (`Do`).
     OnceAgain,
-    /// The once isn't the innermost that the goroutine has begun and not ended.
+    /// The once isn't the innermost that the goroutine has begun and not ended (`Do`).
     OnceNotInner,
-    /// The once isn't ended.
+    /// The once isn't ended (`Do`).
     OnceNotDone,
-    /// The goroutine has a once that isn't ended.
+    /// The goroutine has a once that isn't ended (`Do`).
     OnceOpen,
-    /// The value read isn't the last one written.
+    /// The value read isn't the last one written, or 0 where none was ("The zero value").
     StaleRead,
-    /// A case of the select is ready.
+    /// A case of the select is ready ("Select statements").
     CaseReady,
-    /// The cause of the fault doesn't hold.
+    /// The cause of the fault doesn't hold ("Run-time panics").
     NoFault,
 }
 

@@ -1,6 +1,6 @@
 -- Which rules an event breaks after the events before it, and which lists of events are legal. (The Go Programming
 -- Language Specification, "Program execution", "Go statements", "Send statements", "Receive operator", "Close", "Select
--- statements", "Run-time panics"; package sync)
+-- statements", "Channel types", "Run-time panics", "Handling panics"; package sync)
 use Rattle.std.specs.Prelude.{ℕ, if◌then◌else◌, ◌≡◌, ◌==◌, ◌||◌, ◌&&◌, not, nat_lt, Bool, true, false, List, [], ◌∷◌, Option, Some, None, is_some, take}
 use Rattle.std.specs.List.{list_any}
 use Rattle.race_records.specs.declared.event.Event.{Event}

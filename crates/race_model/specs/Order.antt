@@ -1,5 +1,6 @@
 -- Which event happens before which. (The Go Memory Model, "Memory Model": sequenced before, synchronized before,
--- happens before; "Goroutine creation", "Goroutine destruction", "Channel communication", "Locks", "Once")
+-- happens before; "Goroutine creation", "Goroutine destruction", "Channel communication", "Locks", "Once"; for the numbering of sends and
+-- receives The Go Programming Language Specification, "Channel types": a channel is a first-in-first-out queue)
 use Rattle.std.specs.Prelude.{ℕ, ◌≡◌, ◌<◌, ◌+◌, ◌⊎◌, IsTrue, List, take}
 use Rattle.race_records.specs.declared.event.Event.{Event}
 use Rattle.race_records.specs.declared.event.Op.{Op}
@@ -25,17 +26,17 @@ SynchronizedInside who (Go k) g h = (who ≡ g) × (k ≡ h)
 SynchronizedInside who (Meet r c v) g h = ((who ≡ g) × (r ≡ h)) ⊎ ((r ≡ g) × (who ≡ h))
 SynchronizedInside who _ g h = ⊥
 
--- s, at index i of the events past, unlocks l for a Lock that comes next: it is an Unlock, or an RUnlock behind which no Lock of l stands
+-- s, at index i of the events past, unlocks l for a Lock that comes next: s is an Unlock, or an RUnlock behind which there is no Lock of l in past
 abbrev pub IsBeforeLock : List Event → ℕ → Op → ℕ → Type 0
 IsBeforeLock past i s l = IsTrue (unlocks l s) ⊎ (IsTrue (runlocks l s) × (count (locks l) (take i past) ≡ count (locks l) past))
 
--- s, at index i of the events past, is the last Unlock of l there
+-- s, at index i of the events past, is the last Unlock of l in past
 abbrev pub IsLastUnlock : List Event → ℕ → Op → ℕ → Type 0
 IsLastUnlock past i s l = (k : ℕ) × IsKth (unlocks l) k past i s × (k + 1 ≡ count (unlocks l) past)
 
 -- the operation s, at index i of the events past, is synchronized before the completion of o, the operation that comes next
 abbrev pub IsSource : (ℕ → ℕ) → List Event → ℕ → Op → Op → Type 0
--- the kth send on a channel before the completion of the kth receive from it
+-- the kth send on a channel before the completion of the kth receive from it, since values are received in the order in which they are sent
 IsSource caps past i s (Recv c v) = IsKth (sends c) (count (receives c) past) past i s
 -- the kth receive from a channel before the completion of the send numbered k plus the capacity
 IsSource caps past i s (Send c v) = (k : ℕ) × IsKth (receives c) k past i s × (k + caps c ≡ count (sends c) past)
@@ -43,7 +44,7 @@ IsSource caps past i s (Send c v) = (k : ℕ) × IsKth (receives c) k past i s �
 IsSource caps past i s (RecvClosed c) = IsTrue (closes c s)
 -- each Unlock of a lock before each later Lock of it, and each RUnlock before the next Lock
 IsSource caps past i s (Lock l) = IsBeforeLock past i s l
--- the last Unlock of a lock before each RLock that comes between it and the next Unlock
+-- the last Unlock of a lock that stands before an RLock, before that RLock
 IsSource caps past i s (RLock l) = IsLastUnlock past i s l
 -- the end of a once's function before each return that finds it ended
 IsSource caps past i s (OnceDone o) = IsTrue (once_ends o s)

@@ -1,5 +1,5 @@
 -- What the events so far say of the run, its goroutines, variables, channels, locks and onces. (The Go Programming
--- Language Specification, "Program execution", "Go statements", "Channel types", "Close", "Run-time panics"; package
+-- Language Specification, "Program execution", "Go statements", "Channel types", "Close", "Run-time panics", "Handling panics"; package
 -- sync)
 use Rattle.std.specs.Prelude.{ℕ, if◌then◌else◌, ◌==◌, ◌-◌, ◌||◌, ◌&&◌, not, nat_lt, Bool, List, Option, Some, None, filter_map, slice_get, unwrap_or}
 use Rattle.race_records.specs.declared.event.Event.{Event}

@@ -11,6 +11,8 @@ use std::alloc::{AllocError, Allocator};
 
 /// Runs the hub to its end: while a goroutine is ready, the one that has been ready longest takes its turn and its request
 /// waits; else the choice of the next pick happens. Each event uses up a pick, and behind the last pick they are 0.
+///
+/// No job of the hub is out when it starts.
 pub fn record_serial<R: Routine, A: Allocator + Copy>(
     hub: Hub<R, A>,
     picks: &[u64],

@@ -110,7 +110,7 @@ impl Cases {
         case_in(&self.chans[..self.len()], self.sends, k)
     }
 
-    /// Puts a case last. A channel's number is at most 65,534.
+    /// Puts a case last. A channel's number is at most 65,534. Refused where there are 16; then the list stays as it was.
     pub fn push(&mut self, case: Case) -> Result<(), CasesFull>
         requires { IfSome case.chan (λ c. c < 65_535) }
         ensures full { IsErr result ↔ (MAX_CASES ≤ length self.old) }

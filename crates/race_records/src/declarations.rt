@@ -144,7 +144,8 @@ impl<A: Allocator> Decls<A> {
 
     /// What the name stands for that the first `len` of these bytes are, as [`Decls::find`] tells it.
     ///
-    /// It is faster for a name of at most 16 bytes, and most where 16 bytes are there.
+    /// There are so many bytes, and each of them is one of a place (33 to 126). It is faster for a name of at
+    /// most 16 bytes, and most where 16 bytes are there.
     pub fn find_at(&self, bytes: &[u8], len: usize) -> Option<Named>
         requires len { len ≤ length bytes.now }
         requires visible { list_all is_place_byte (take len bytes.now) ≡ true }
@@ -419,7 +420,7 @@ impl<A: Allocator + Copy> Decls<A> {
         Ok(number)
     }
 
-    /// An equal one, with the same places.
+    /// An equal one, with the same places. Fails for want of memory alone.
     pub fn copy(&self) -> Result<Decls<A>, AllocError>
         ensures { IfOk result (λ copy. copy ≡ self.now) }
     {

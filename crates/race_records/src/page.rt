@@ -9,7 +9,7 @@ use arrayvec::ArrayVec;
 use std::io::Write;
 use std::marker::Model;
 
-/// How many bytes go out in one write.
+/// How many bytes go out in one write at most.
 pub const BLOCK: usize = 4096;
 
 // Definitions cite this number, so it is written down twice.

@@ -213,7 +213,7 @@ pub fn op_by(verb: Verb, parts: &[Part]) -> Option<Op>
     }
 }
 
-// The number of the object of the kind, where the parts are that.
+/// The number of the object of this kind, where the parts are that one alone.
 #[inline(always)]
 pub fn object_alone(kind: Kind, parts: &[Part]) -> Option<u32>
     ensures { result ≡ spec.object_alone kind parts.now }
@@ -224,7 +224,7 @@ pub fn object_alone(kind: Kind, parts: &[Part]) -> Option<u32>
     }
 }
 
-// The number of the object of the kind and the value, where the parts are these.
+/// The number of the object of this kind and the value, where the parts are these two.
 #[inline(always)]
 pub fn object_value(kind: Kind, parts: &[Part]) -> Option<(u32, u64)>
     ensures { result ≡ spec.object_value kind parts.now }

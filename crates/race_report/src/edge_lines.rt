@@ -15,7 +15,8 @@ use std::io::Write;
 /// Writes a line for each edge, in the order in which they are given, and their count. Takes no
 /// memory; writes in blocks of at most 4,096 bytes.
 ///
-/// A write that fails or takes no byte ends it: then exactly the first `sent` bytes are out.
+/// The edges are of this trace, as `edges` lists them. A write that fails or takes no byte ends it: then exactly the
+/// first `sent` bytes are out.
 pub fn write_edges<W: Write, A: Allocator>(
     trace: &Trace<A>,
     edges: &[Edge],

@@ -10,6 +10,3 @@ pub use edge_lines::write_edges;
 pub use fault::write_text_fault;
 pub use race_records::WriteFault;
 pub use verdict::{print_report, write_report};
-
-#[cfg(test)]
-mod tests;

@@ -22,7 +22,8 @@ use std::io::Write;
 /// Writes the report of the verdict on the trace: one line for an illegal event or a clean trace,
 /// or a line for each race and their count. Takes no memory; writes in blocks of at most 4,096 bytes.
 ///
-/// A write that fails or takes no byte ends it: then exactly the first `sent` bytes are out.
+/// The races of the verdict are of this trace, as a judge gives them. A write that fails or takes no byte ends it: then
+/// exactly the first `sent` bytes are out.
 pub fn write_report<W: Write, A: Allocator, B: Allocator>(
     trace: &Trace<A>,
     verdict: &Verdict<B>,
@@ -44,6 +45,8 @@ pub fn write_report<W: Write, A: Allocator, B: Allocator>(
 }
 
 /// Prints the report of the verdict on a page, behind whatever was printed on it before. Takes no memory.
+///
+/// The races of the verdict are of this trace, as a judge gives them. After a fault the page is of no more use.
 pub fn print_report<W: Write, A: Allocator, B: Allocator>(
     page: &mut Page,
     sink: &mut Sink<W>,

@@ -1,4 +1,4 @@
-use crate::{Clock, Stamp, Stamper};
+use race_clock::{Clock, Stamp, Stamper};
 use race_legal::Replay;
 use race_records::{Case, Cases, Cause, Decls, Dir, Event, Object, Op, Trace};
 use std::alloc::{AllocError, Global};

@@ -1,4 +1,4 @@
-use crate::{WriteFault, write_report, write_text_fault};
+use race_report::{WriteFault, write_report, write_text_fault};
 use race_edges::plain_judge;
 use race_records::Sink;
 use race_text::parse_trace;

@@ -2,7 +2,7 @@
 use Rattle.std.proofs.Common.{take}
 use Rattle.race_legal.specs.StandsFor as legal
 use Rattle.race_clock.specs.StandsFor.{StandsFor}
-use Rattle.race_clock.proofs.tests.stamps.Given as goal
+use Rattle.race_clock_tests.proofs.stamps.stamps.Given as goal
 
 abbrev pub invariant-loop-at : goal.invariant-loop-at
 invariant-loop-at l = record {

@@ -7,7 +7,7 @@ use Rattle.race_legal.proofs.Fronts.{take_next}
 use Rattle.race_legal.proofs.RangeLemmas.{in_range}
 use Rattle.race_clock.specs.StandsFor.{StandsFor}
 use Rattle.race_clock.proofs.NextFrom.{allowed_last, may_come, has_clock, room_at}
-use Rattle.race_clock.proofs.tests.stamps.Goals as goal
+use Rattle.race_clock_tests.proofs.stamps.stamps.Goals as goal
 
 pub accept-requires-clause-range : goal.accept-requires-clause-range
 accept-requires-clause-range c =

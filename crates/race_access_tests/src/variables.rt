@@ -1,6 +1,6 @@
 ghost use Rattle.std.specs.Prelude.{◌<◌};
 
-use crate::VarState;
+use race_access::VarState;
 use race_clock::{Clock, Stamp};
 use std::alloc::{AllocError, Global};
 use std::test::Fail;

@@ -1,0 +1,5 @@
+//! What race_report does that no contract says.
+#![tactic(auto)]
+
+#[cfg(test)]
+mod texts;

@@ -6,7 +6,8 @@ use Rattle.race_records.specs.declared.event.Op.{Op}
 use Rattle.race_records.specs.declared.event.Op.TheVariants.{Send, Recv, RecvClosed}
 use Rattle.race_model.specs.Events.{count, IsKth, sends, receives, closes}
 use Rattle.race_model.specs.Order.{IsSource}
-use Rattle.race_model.specs.Clocks.{CountsAt, CountsFrom}
+use Rattle.race_model.specs.Clocks.{CountsFrom}
+use Rattle.race_model.proofs.ClockSteps.{CountsAt}
 use Rattle.race_model.proofs.CountSteps.{count_push, as_number}
 use Rattle.race_model.proofs.ClockLemmas.{counts_like}
 use Rattle.race_model.proofs.SourceSteps.{from_none, from_as, from_same, from_more}

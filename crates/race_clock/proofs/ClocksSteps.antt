@@ -12,7 +12,8 @@ use Rattle.race_records.specs.declared.event.Op.TheVariants.{Unlock, RLock, RUnl
 use Rattle.race_records.specs.declared.event.Op.TheVariants.{OnceDone}
 use Rattle.race_model.specs.Events.{is_access, partner, gives, takes_part, count, sends, receives, closes, locks, unlocks, runlocks, once_ends}
 use Rattle.race_model.specs.Order.{Begin, SynchronizedInside, IsSource, Reaches}
-use Rattle.race_model.specs.Clocks.{participations, CountsBegins, Handed, owning, CountsSeen, CountsAt, CountsFrom}
+use Rattle.race_model.specs.Clocks.{participations, CountsBegins, owning, CountsSeen, CountsFrom}
+use Rattle.race_model.proofs.ClockSteps.{Handed, CountsAt}
 use Rattle.race_model.proofs.Reaching.{who_takes_part}
 use Rattle.race_model.proofs.ClockLemmas.{one_if, participations_push, counts_like, max_within}
 use Rattle.race_model.proofs.ClockSteps.{counts_seen_from, counts_before, counts_at_begin, counts_alone, counts_pair, counts_other}
@@ -22,12 +23,18 @@ use Rattle.race_clock.specs.ClocksState.{SlotState, ClocksState, no_slot, no_cha
 use Rattle.race_clock.specs.ClocksState.{parts_of, channel_of, lock_of, end_of, begin_of, handed, channels_after, locks_after, ends_after, acted}
 use Rattle.race_clock.specs.ClocksState.{paired, after, channel_sent, channel_received, channel_closed, lock_locked, lock_unlocked, lock_read_unlocked}
 use Rattle.race_clock.specs.StandsFor.{StandsForChannel, StandsForLock, ClocksStandFor, CountsReaching}
-use Rattle.race_clock.specs.Needs.{FindsRoom, OpHasClocks, HasClocks}
+use Rattle.race_clock.specs.Needs.{OpHasClocks, HasClocks}
 use Rattle.race_clock.proofs.ClockLists.{knows_joined, knows_with_count, joined_long, joined_long_right}
 use Rattle.race_clock.proofs.ChannelSteps.{all_same, all_more, hands_receive, hands_send}
 use Rattle.race_clock.proofs.ChannelSteps.{hands_closed, channel_same, channel_send}
 use Rattle.race_clock.proofs.ChannelSteps.{channel_receive, channel_close}
 use Rattle.race_clock.proofs.LockSteps.{hands_lock, hands_rlock, lock_same, lock_lock, lock_unlock, lock_runlock}
+
+-- a send finds room, and a receive finds a value
+abbrev pub FindsRoom : (ℕ → ℕ) → List Event → Op → Type 0
+FindsRoom caps past (Send c v) = count (sends c) past < count (receives c) past + caps c
+FindsRoom caps past (Recv c v) = count (receives c) past < count (sends c) past
+FindsRoom caps past _ = Unit {0}
 
 -- the greater of two is the one that is no less
 max_above : (m n : ℕ) → m ≤ n → max m n ≡ n

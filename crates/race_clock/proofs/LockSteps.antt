@@ -7,7 +7,8 @@ use Rattle.race_records.specs.declared.event.Op.{Op}
 use Rattle.race_records.specs.declared.event.Op.TheVariants.{Lock, RLock}
 use Rattle.race_model.specs.Events.{At, count, IsKth, locks, unlocks, runlocks}
 use Rattle.race_model.specs.Order.{IsSource}
-use Rattle.race_model.specs.Clocks.{CountsAt, CountsFrom}
+use Rattle.race_model.specs.Clocks.{CountsFrom}
+use Rattle.race_model.proofs.ClockSteps.{CountsAt}
 use Rattle.race_model.proofs.CountSteps.{count_up, count_below}
 use Rattle.race_model.proofs.ClockLemmas.{front_old, front_new}
 use Rattle.race_model.proofs.SourceSteps.{from_none, from_either, from_same, from_more, from_only, Agree}

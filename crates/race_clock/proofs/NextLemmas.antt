@@ -19,7 +19,8 @@ use Rattle.race_legal.specs.ReplayState.{IsInRange}
 use Rattle.race_clock.specs.ClocksState.{ClocksState, parts_of, channel_of}
 use Rattle.race_clock.specs.StamperState.{StamperState}
 use Rattle.race_clock.specs.StandsFor.{ClocksStandFor, StandsFor, IsAllowed}
-use Rattle.race_clock.specs.Needs.{FindsRoom, OpHasClocks, HasClocks, IsApart, CountsFit}
+use Rattle.race_clock.specs.Needs.{OpHasClocks, HasClocks, IsApart, CountsFit}
+use Rattle.race_clock.proofs.ClocksSteps.{FindsRoom}
 use Rattle.race_clock.proofs.RoomLemmas.{send_room, receive_room}
 
 and_first : (a b : Bool) → (a && b) ≡ true → a ≡ true

@@ -8,7 +8,8 @@ use Rattle.std.proofs.lemmas.Option.{slice_get_within}
 use Rattle.race_records.specs.declared.event.Event.{Event}
 use Rattle.race_records.specs.declared.event.Op.{Op}
 use Rattle.race_model.specs.Events.{At, count, IsKth}
-use Rattle.race_model.specs.Clocks.{CountsAt, CountsFrom}
+use Rattle.race_model.specs.Clocks.{CountsFrom}
+use Rattle.race_model.proofs.ClockSteps.{CountsAt}
 use Rattle.race_model.proofs.CountSteps.{count_push, count_below, as_number}
 use Rattle.race_model.proofs.ClockLemmas.{front_old, front_new}
 use Rattle.race_model.proofs.SourceSteps.{Agree, from_same, from_only}

@@ -7,7 +7,8 @@ use Rattle.race_records.specs.declared.event.Op.{Op}
 use Rattle.race_records.specs.declared.event.Op.TheVariants.{Read, Write}
 use Rattle.race_model.specs.Events.{At, is_access}
 use Rattle.race_model.specs.Order.{Begin, Reaches}
-use Rattle.race_model.specs.Clocks.{participations, CountsBegins, IsStamped}
+use Rattle.race_model.specs.Clocks.{participations, CountsBegins}
+use Rattle.race_model.proofs.StampsLawful.{IsStamped}
 use Rattle.race_model.proofs.StampsLawful.{front_one, known_is_before, known_own, known_not_back, known_on}
 use Rattle.race_clock.specs.declared.stamp.Stamp.{Stamp}
 use Rattle.race_clock.specs.ClockState.{knows}

@@ -1,16 +1,8 @@
 -- What a step needs of the next operation: not needed to understand a contract.
-use Rattle.std.specs.Prelude.{ℕ, ◌≢◌, ◌<◌, ◌+◌, ◌^◌, List, length}
-use Rattle.race_records.specs.declared.event.Event.{Event}
+use Rattle.std.specs.Prelude.{ℕ, ◌≢◌, ◌<◌, ◌+◌, ◌^◌, length}
 use Rattle.race_records.specs.declared.event.Op.{Op}
 use Rattle.race_records.specs.declared.event.Op.TheVariants.{Go, Send, Recv, Meet, RecvClosed, Close, Lock, Unlock, RLock, RUnlock, OnceEnd, OnceDone}
-use Rattle.race_model.specs.Events.{count, sends, receives}
 use Rattle.race_clock.specs.ClocksState.{ClocksState, parts_of}
-
--- a send finds room, and a receive finds a value
-abbrev pub FindsRoom : (ℕ → ℕ) → List Event → Op → Type 0
-FindsRoom caps past (Send c v) = count (sends c) past < count (receives c) past + caps c
-FindsRoom caps past (Recv c v) = count (receives c) past < count (sends c) past
-FindsRoom caps past _ = Unit {0}
 
 -- there is a clock for each number that the operation names
 abbrev pub OpHasClocks : ClocksState → Op → Type 0

@@ -18,9 +18,10 @@ use Rattle.race_model.proofs.Indexes.{at_below, at_same, take_within, take_at_ol
 use Rattle.race_edges.specs.declared.races.Race.{Race}
 use Rattle.race_edges.specs.Synchronized.{source_at}
 use Rattle.race_edges.specs.TableState.{TableState, with_seen, inside, table_after}
-use Rattle.race_edges.specs.IsTable.{IsTable}
+use Rattle.race_edges.proofs.IsTable.{IsTable}
 use Rattle.race_edges.specs.Partners.{accessed, noted, found_after, race_at}
-use Rattle.race_edges.specs.Answers.{race_of, races_of, AreFound, AreRaces}
+use Rattle.race_edges.specs.Answers.{race_of, races_of, AreRaces}
+use Rattle.race_edges.proofs.FoundSteps.{AreFound}
 use Rattle.race_edges.specs.Traces.{capacities, HasVerdict}
 use Rattle.race_edges.proofs.RowLemmas.{shape_with_seen, shape_inside, shape_taken}
 use Rattle.race_edges.proofs.TableSteps.{table_none}

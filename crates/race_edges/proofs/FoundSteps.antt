@@ -2,6 +2,7 @@
 use Rattle.std.proofs.Common.{◌≡◌, ◌⊎◌, ℕ, ◌+◌, ◌<◌, ◌≤◌, Bool, true, false, List, [], ◌∷◌, ◌++◌, length, replicate, Option, Some, None}
 use Rattle.std.proofs.Common.{IfSome, is_some, get_or, set, if◌then◌else◌, refl, sym, ◌∙◌, subst, inl, inr, arith, IsTrue, eqb-true, eq-eqb}
 use Rattle.std.proofs.Common.{length-append}
+use Rattle.std.specs.List.{slice_index_or}
 use Rattle.std.specs.Option.{option_map}
 use Rattle.std.proofs.lemmas.Bool.{cases_eq, cases_lt}
 use Rattle.std.proofs.lemmas.List.{get_or-set_same, get_or-set_other, get_or-replicate, length-set, length-replicate}
@@ -12,11 +13,15 @@ use Rattle.race_model.proofs.Indexes.{at_same, slice_get-push}
 use Rattle.race_model.proofs.RaceSteps.{race_turned, access_within, race_old, reported_grow}
 use Rattle.race_edges.specs.declared.races.Race.{Race}
 use Rattle.race_edges.specs.TableState.{TableState}
-use Rattle.race_edges.specs.IsTable.{IsTable}
+use Rattle.race_edges.proofs.IsTable.{IsTable}
 use Rattle.race_edges.specs.Partners.{is_partner, greatest_below, race_at, accessed, HasPlace, noted, found_after}
-use Rattle.race_edges.specs.Answers.{IsFound, AreFound}
+use Rattle.race_edges.specs.Answers.{IsFound}
 use Rattle.race_edges.proofs.RangeLemmas.{accesses_is}
 use Rattle.race_edges.proofs.PartnerLemmas.{IsGreatest, greatest_is, race_from_partner, partner_from_race}
+
+-- what is noted of each variable is right
+abbrev pub AreFound : (ℕ → ℕ) → List Event → List (Option Race) → Type 0
+AreFound caps events found = (x : ℕ) → x < length found → IsFound caps events x (slice_index_or found x None)
 
 -- before the first event there is no race
 pub found_none : (caps : ℕ → ℕ) (vars : ℕ) → AreFound caps [] (replicate vars None)

@@ -14,9 +14,9 @@ use Rattle.race_legal.proofs.Fronts.{take_next}
 use Rattle.race_edges.specs.declared.races.Race.{Race}
 use Rattle.race_edges.specs.Synchronized.{source_at}
 use Rattle.race_edges.specs.TableState.{TableState, HasRows, table_after}
-use Rattle.race_edges.specs.IsTable.{IsTable}
+use Rattle.race_edges.proofs.IsTable.{IsTable}
 use Rattle.race_edges.specs.Partners.{accessed, HasPlace, found_after}
-use Rattle.race_edges.specs.Answers.{AreFound}
+use Rattle.race_edges.proofs.FoundSteps.{AreFound}
 use Rattle.race_edges.proofs.RangeLemmas.{range_in_trace, partner_in_range, accessed_in_range, accessed_below}
 use Rattle.race_model.proofs.SynchronizedTests.{source_is}
 use Rattle.race_edges.proofs.SynchronizedLemmas.{source_at_is}

@@ -3,6 +3,7 @@ pub mod SynchronizedLemmas
 pub mod NumberLemmas
 pub mod EdgeLemmas
 pub mod RowLemmas
+pub mod IsTable
 pub mod TableSteps
 pub mod PartnerLemmas
 pub mod FoundSteps

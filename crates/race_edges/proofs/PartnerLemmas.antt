@@ -10,7 +10,7 @@ use Rattle.race_model.specs.Race.{IsAccessOf, IsWriteOf, Conflict, IsRace}
 use Rattle.race_model.proofs.Indexes.{at_same, at_below, slice_get-push, append_at_old}
 use Rattle.race_model.proofs.BeforeSeen.{race_from_unseen, unseen_from_race}
 use Rattle.race_edges.specs.TableState.{TableState, sees}
-use Rattle.race_edges.specs.IsTable.{IsTable}
+use Rattle.race_edges.proofs.IsTable.{IsTable}
 use Rattle.race_edges.specs.Partners.{is_partner, greatest_below}
 use Rattle.race_edges.proofs.TableSteps.{table_seen}
 

@@ -6,5 +6,4 @@ pub mod Numbers
 pub mod Synchronized
 pub mod EdgesSoFar
 pub mod TableState
-pub mod IsTable
 pub mod Partners

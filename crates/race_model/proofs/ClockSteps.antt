@@ -5,18 +5,27 @@ use Rattle.std.proofs.Common.{ne_eqb}
 use Rattle.std.proofs.lemmas.Bool.{cases_eq, cases_lt}
 use Rattle.std.proofs.lemmas.Option.{slice_get_within}
 use Rattle.race_records.specs.declared.event.Event.{Event}
+use Rattle.race_records.specs.declared.event.Op.{Op}
 use Rattle.race_model.specs.Events.{takes_part, TakesPart}
-use Rattle.race_model.specs.Order.{Begin, SynchronizedInside, Reaches, then_step}
-use Rattle.race_model.specs.Known.{SeenBy, SeenAt, Brings}
-use Rattle.race_model.specs.Clocks.{participations, CountsBegins, Handed, owning, CountsSeen, CountsAt}
+use Rattle.race_model.specs.Order.{Begin, SynchronizedInside, IsSource, Reaches, then_step}
+use Rattle.race_model.specs.Known.{SeenBy, SeenAt}
+use Rattle.race_model.specs.Clocks.{participations, CountsBegins, SeenFrom, owning, CountsSeen}
 use Rattle.race_model.proofs.Indexes.{slice_get-push}
 use Rattle.race_model.proofs.Ranks.{reaches_up}
 use Rattle.race_model.proofs.Grow.{takes_part_grow, takes_part_old, reaches_grow, reaches_old}
 use Rattle.race_model.proofs.Reaching.{inside_from, ReachesEarlier, into_begin, out_of_seen, who_takes_part}
-use Rattle.race_model.proofs.SeenSteps.{own_seen, new_part, seen_at_from, seen_grow, seen_step, seen_brings}
+use Rattle.race_model.proofs.SeenSteps.{Brings, own_seen, new_part, seen_at_from, seen_grow, seen_step, seen_brings}
 use Rattle.race_model.proofs.ClockLemmas.{one_if, participations_push, nth_participation}
 use Rattle.race_model.proofs.ClockLemmas.{counts_as, counts_like, counts_join, counts_grow}
 use Rattle.race_model.proofs.ClockLemmas.{part_push, front_new}
+
+-- what o, coming next, is handed by its sources: all that they had seen by their begins
+abbrev pub Handed : (ℕ → ℕ) → List Event → Op → ℕ → ℕ → Type 0
+Handed caps past o = SeenFrom caps past (λ k s. IsSource caps past k s o)
+
+-- c counts what g's begin in event k has seen, that begin included
+abbrev pub CountsAt : (ℕ → ℕ) → List Event → ℕ → ℕ → (ℕ → ℕ) → Type 0
+CountsAt caps events k g c = CountsBegins events c (λ i h. SeenAt caps events i h k g)
 
 -- a goroutine has seen its own begins, and so counts them all
 pub own_count : (caps : ℕ → ℕ) (events : List Event) (g : ℕ) (d : ℕ → ℕ)

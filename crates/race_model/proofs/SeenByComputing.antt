@@ -13,7 +13,8 @@ use Rattle.race_model.specs.Events.{At, takes_part}
 use Rattle.race_model.specs.Order.{SynchronizedInside, IsSource, then_step}
 use Rattle.race_model.specs.Synchronized.{is_source}
 use Rattle.race_model.proofs.SynchronizedTests.{source_is}
-use Rattle.race_model.specs.Known.{SeenBy, SeenAt, Brings}
+use Rattle.race_model.specs.Known.{SeenBy, SeenAt}
+use Rattle.race_model.proofs.SeenSteps.{Brings}
 use Rattle.race_model.proofs.Indexes.{at_same, at_below, take_within, take_at_old, take_suc, slice_get-take}
 use Rattle.race_model.proofs.Reaching.{ReachesEarlier, into_begin, who_takes_part}
 use Rattle.race_model.proofs.SeenSteps.{seen_none, seen_one_on}

@@ -5,7 +5,8 @@ use Rattle.race_records.specs.declared.event.Event.{Event}
 use Rattle.race_records.specs.declared.event.Op.{Op}
 use Rattle.race_model.specs.Events.{At}
 use Rattle.race_model.specs.Known.{SeenAt}
-use Rattle.race_model.specs.Clocks.{SeenFrom, CountsAt, CountsFrom}
+use Rattle.race_model.specs.Clocks.{SeenFrom, CountsFrom}
+use Rattle.race_model.proofs.ClockSteps.{CountsAt}
 use Rattle.race_model.proofs.Indexes.{push_at, append_at_old, slice_get-push}
 use Rattle.race_model.proofs.Ranks.{reaches_up}
 use Rattle.race_model.proofs.SeenSteps.{seen_at_grow, seen_at_old}

@@ -5,14 +5,24 @@ use Rattle.std.proofs.lemmas.List.{length-take-le, take_more}
 use Rattle.std.proofs.lemmas.List.Sums.{sum_by-take-le}
 use Rattle.std.proofs.lemmas.Option.{slice_get_within, get_or_from_slice_get}
 use Rattle.race_records.specs.declared.event.Event.{Event}
-use Rattle.race_model.specs.Events.{At, TakesPart, takes_part}
+use Rattle.race_model.specs.Events.{At, TakesPart, takes_part, is_access}
 use Rattle.race_model.specs.Order.{Begin, Reaches, one_step, HappensBefore}
-use Rattle.race_model.specs.Clocks.{participations, CountsBegins, IsStamped}
+use Rattle.race_model.specs.Clocks.{participations, CountsBegins}
 use Rattle.race_model.proofs.Indexes.{slice_get-take, take_at_old}
 use Rattle.race_model.proofs.Ranks.{reaches_up, happens_before_up}
 use Rattle.race_model.proofs.Reaching.{who_takes_part}
 use Rattle.race_model.proofs.BeforeSeen.{front_reaches, front_grow, happens_before_on}
 use Rattle.race_model.proofs.StampOrder.{known_from_before, before_from_known}
+
+-- the stamp of an access, with its clock, among the events: who, and number `count` of its goroutine's events; the clock
+-- counts the begins that reach the access's begin
+pub record IsStamped (caps : ℕ → ℕ) (events : List Event) (at who count : ℕ) (c : ℕ → ℕ) : Type 0 where
+  pub event : Event
+  pub stands : At events at event
+  pub access : IsTrue (is_access event.op)
+  pub actor : event.who ≡ who
+  pub number : count ≡ participations who (take at events) + 1
+  pub clock : CountsBegins (take (at + 1) events) c (λ i h. Reaches caps (take (at + 1) events) (Begin i h) (Begin at who))
 
 module _ (caps : ℕ → ℕ) (events : List Event) where
   -- an event behind those before it

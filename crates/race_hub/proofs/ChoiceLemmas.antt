@@ -117,14 +117,13 @@ offered_alone past g (Offer.Recv (Some c)) op is = subst (λ op. HasOffered (Off
     by None = record { row = inl (None, (c, refl, inr (refl, refl))) }
 
 -- a select by its offer k, or by its default where it has one
-select_told : (past : List Event) (g k : ℕ) (offers : List Offer) (has_default behind : Bool) (op : Op) → (k == length offers) ≡ behind
-    → k < length offers + cond has_default 1 0
-    → cond behind (Some (Default (map case_of offers))) (offer_at offers k (lone_op past)) ≡ Some op → HasTold (Ask.Select offers has_default) k g op
-select_told past g k offers true true op test less is =
+select_told : (past : List Event) (g k : ℕ) (offers : List Offer) (has_default by_default : Bool) (op : Op)
+    → (has_default && (k == length offers)) ≡ by_default
+    → cond by_default (Some (Default (map case_of offers))) (offer_at offers k (lone_op past)) ≡ Some op → HasTold (Ask.Select offers has_default) k g op
+select_told past g k offers true true op test is =
     subst (HasTold (Ask.Select offers true) k g) (some_is is) (record { told = Some Answer.DefaultTaken; row = inr (refl, refl, refl) })
-select_told past g k offers false true op test less is =
-    let same = eqb-true k (length offers) test in absurd (omega (arith, same, less))
-select_told past g k offers has_default false op test less is = by (slice_get offers k) refl is
+select_told past g k offers false true op test is = absurd (true≢false (sym test))
+select_told past g k offers has_default false op test is = by (slice_get offers k) refl is
   where
     by : (o : Option Offer) → slice_get offers k ≡ o → elim o [ Some o ↦ lone_op past o | None ↦ None ] ≡ Some op
         → HasTold (Ask.Select offers has_default) k g op
@@ -169,7 +168,7 @@ module _ (past : List Event) (g k : ℕ) where
   lone_told (Ask.Recv (Some c)) op less is = subst (HasTold (Ask.Recv (Some c)) k g) (some_is is) (received_told c (front c past) (omega (arith, less)))
   lone_told (Ask.Close None) op less is = subst (HasTold (Ask.Close None) k g) (some_is is) (record { told = None; row = inr (refl, refl, refl) })
   lone_told (Ask.Close (Some c)) op less is = subst (HasTold (Ask.Close (Some c)) k g) (some_is is) (closed_told c (is_closed c past))
-  lone_told (Ask.Select offers has_default) op less is = select_told past g k offers has_default (k == length offers) op refl less is
+  lone_told (Ask.Select offers has_default) op less is = select_told past g k offers has_default (has_default && (k == length offers)) op refl is
   lone_told (Ask.Lock l) op less is = subst (HasTold (Ask.Lock l) k g) (some_is is) (record { told = Some Answer.Unit; row = (refl, refl) })
   lone_told (Ask.RLock l) op less is = subst (HasTold (Ask.RLock l) k g) (some_is is) (record { told = Some Answer.Unit; row = (refl, refl) })
   lone_told (Ask.Unlock l) op less is = subst (HasTold (Ask.Unlock l) k g) (some_is is) (unlocked_told l (is_held l past))

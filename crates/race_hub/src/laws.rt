@@ -59,7 +59,7 @@ pub fn rows_of_meets()
     ensures { RowsOfMeets }
 {}
 
-/// A select goes on by an offer as that does alone, and by its default where no offer can.
+/// A select goes on by an offer as that does alone, and by its default, if it has one, where no offer can.
 pub fn rows_of_selects()
     ensures { RowsOfSelects }
 {}

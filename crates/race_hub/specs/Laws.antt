@@ -16,7 +16,7 @@ use Rattle.race_hub.specs.Possible.{goes_on, meet_goes_on}
 use Rattle.race_hub.specs.Rows.{capacities, waits, alone, HasWay, HasRow, Stays, sends_on, receives_from, three_started, one_meets_main}
 use Rattle.race_hub.specs.Rows.{sends_or_receives, receives_or_sends}
 
--- a start and an exit always go on
+-- the table has a row for a start and one for an exit, and in a run without events each goes on by it
 pub record RowsOfGoroutines : Type 0 where
   pub start : HasRow [] (Ask.Go 1) (Go 1) (Some Answer.Unit)
   pub exit : HasRow [] Ask.Exit Exit None

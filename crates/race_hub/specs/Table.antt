@@ -55,7 +55,8 @@ IsChosen offers k op told =
 abbrev pub IsDefault : List Offer → Bool → Op → Option Answer → Type 0
 IsDefault offers has_default op told = (has_default ≡ true) × (op ≡ Default (map case_of offers)) × (told ≡ Some Answer.DefaultTaken)
 
--- a row of the table: who asks does the operation, by its way k, and is told that; nothing after an exit and a fault
+-- a row of the table: who asks does the operation and is told that, or nothing after an exit and a fault; by its way k, which matters only for sends,
+-- receives and a select's offers
 abbrev pub IsRow : Ask → ℕ → Op → Option Answer → Type 0
 IsRow (Ask.Go h) k op told = (op ≡ Go h) × (told ≡ Some Answer.Unit)
 IsRow Ask.Exit k op told = (op ≡ Exit) × (told ≡ None)

@@ -19,7 +19,7 @@ ghost use Rattle.race_hub.specs.Laws.{
   SelectsMeet,
 };
 
-/// A start and an exit always go on.
+/// The table has a row for a start and one for an exit, and in a run without events each goes on by it.
 pub fn rows_of_goroutines()
     ensures { RowsOfGoroutines }
 {}

@@ -117,14 +117,14 @@ offered_alone past g (Offer.Recv (Some c)) op is = subst (λ op. HasOffered (Off
     by None = record { row = inl (None, (c, refl, inr (refl, refl))) }
 
 -- a select by its offer k, or by its default where it has one
-select_told : (past : List Event) (g k : ℕ) (offers : List Offer) (has_default behind : Bool) (op : Op) → (k == length offers) ≡ behind
-    → k < length offers + cond has_default 1 0
-    → cond behind (Some (Default (map case_of offers))) (offer_at offers k (lone_op past)) ≡ Some op → HasTold (Ask.Select offers has_default) k g op
-select_told past g k offers true true op test less is =
-    subst (HasTold (Ask.Select offers true) k g) (some_is is) (record { told = Some Answer.DefaultTaken; row = inr (refl, refl, refl) })
-select_told past g k offers false true op test less is =
-    let same = eqb-true k (length offers) test in absurd (omega (arith, same, less))
-select_told past g k offers has_default false op test less is = by (slice_get offers k) refl is
+select_told : (past : List Event) (g k : ℕ) (offers : List Offer) (has_default by_default : Bool) (op : Op)
+    → (has_default && (k == length offers)) ≡ by_default
+    → cond by_default (Some (Default (map case_of offers))) (offer_at offers k (lone_op past)) ≡ Some op → HasTold (Ask.Select offers has_default) k g op
+select_told past g k offers true true op test is =
+    subst (HasTold (Ask.Select offers true) k g) (some_is is)
+    (record { told = Some Answer.DefaultTaken; row = inr (refl, eqb-true k (length offers) test, refl, refl) })
+select_told past g k offers false true op test is = absurd (true≢false (sym test))
+select_told past g k offers has_default false op test is = by (slice_get offers k) refl is
   where
     by : (o : Option Offer) → slice_get offers k ≡ o → elim o [ Some o ↦ lone_op past o | None ↦ None ] ≡ Some op
         → HasTold (Ask.Select offers has_default) k g op
@@ -140,42 +140,48 @@ module _ (past : List Event) (g k : ℕ) where
   received_told c (Some v) first = record { told = Some (Answer.Value v); row = (first, Some v, (c, refl, inl (v, refl, refl)), refl) }
   received_told c None first = record { told = Some Answer.Closed; row = (first, None, (c, refl, inr (refl, refl)), refl) }
 
-  closed_told : (c : ℕ) (closed : Bool) → HasTold (Ask.Close (Some c)) k g (cond closed (Fault (CloseClosed c)) (Close c))
-  closed_told c true = record { told = None; row = inl (c, refl, inr (refl, refl)) }
-  closed_told c false = record { told = Some Answer.Unit; row = inl (c, refl, inl (refl, refl)) }
+  closed_told : (c : ℕ) (closed : Bool) → k ≡ 0 → HasTold (Ask.Close (Some c)) k g (cond closed (Fault (CloseClosed c)) (Close c))
+  closed_told c true first = record { told = None; row = (first, inl (c, refl, inr (refl, refl))) }
+  closed_told c false first = record { told = Some Answer.Unit; row = (first, inl (c, refl, inl (refl, refl))) }
 
-  unlocked_told : (l : ℕ) (held : Bool) → HasTold (Ask.Unlock l) k g (cond held (Unlock l) (Fault (UnlockFree l)))
-  unlocked_told l true = record { told = Some Answer.Unit; row = inl (refl, refl) }
-  unlocked_told l false = record { told = None; row = inr (refl, refl) }
+  unlocked_told : (l : ℕ) (held : Bool) → k ≡ 0 → HasTold (Ask.Unlock l) k g (cond held (Unlock l) (Fault (UnlockFree l)))
+  unlocked_told l true first = record { told = Some Answer.Unit; row = (first, inl (refl, refl)) }
+  unlocked_told l false first = record { told = None; row = (first, inr (refl, refl)) }
 
-  runlocked_told : (l : ℕ) (held : Bool) → HasTold (Ask.RUnlock l) k g (cond held (RUnlock l) (Fault (RUnlockFree l)))
-  runlocked_told l true = record { told = Some Answer.Unit; row = inl (refl, refl) }
-  runlocked_told l false = record { told = None; row = inr (refl, refl) }
+  runlocked_told : (l : ℕ) (held : Bool) → k ≡ 0 → HasTold (Ask.RUnlock l) k g (cond held (RUnlock l) (Fault (RUnlockFree l)))
+  runlocked_told l true first = record { told = Some Answer.Unit; row = (first, inl (refl, refl)) }
+  runlocked_told l false first = record { told = None; row = (first, inr (refl, refl)) }
 
-  did_told : (o : ℕ) (begun : Bool) → HasTold (Ask.Do o) k g (cond begun (OnceDone o) (OnceBegin o))
-  did_told o true = record { told = Some Answer.AlreadyDone; row = inr (refl, refl) }
-  did_told o false = record { told = Some Answer.Run; row = inl (refl, refl) }
+  did_told : (o : ℕ) (begun : Bool) → k ≡ 0 → HasTold (Ask.Do o) k g (cond begun (OnceDone o) (OnceBegin o))
+  did_told o true first = record { told = Some Answer.AlreadyDone; row = (first, inr (refl, refl)) }
+  did_told o false first = record { told = Some Answer.Run; row = (first, inl (refl, refl)) }
 
   -- what a request does alone has a row
   lone_told : (ask : Ask) (op : Op) → k < ways ask → op_of past ask k ≡ Some op → HasTold ask k g op
-  lone_told (Ask.Go h) op less is = subst (HasTold (Ask.Go h) k g) (some_is is) (record { told = Some Answer.Unit; row = (refl, refl) })
-  lone_told Ask.Exit op less is = subst (HasTold Ask.Exit k g) (some_is is) (record { told = None; row = (refl, refl) })
+  lone_told (Ask.Go h) op less is = subst (HasTold (Ask.Go h) k g) (some_is is) (record { told = Some Answer.Unit; row = (omega (arith, less), refl, refl) })
+  lone_told Ask.Exit op less is = subst (HasTold Ask.Exit k g) (some_is is) (record { told = None; row = (omega (arith, less), refl, refl) })
   lone_told (Ask.Read x) op less is =
-      subst (HasTold (Ask.Read x) k g) (some_is is) (record { told = Some (Answer.Value (last_value x past)); row = (last_value x past, refl, refl) })
-  lone_told (Ask.Write x v) op less is = subst (HasTold (Ask.Write x v) k g) (some_is is) (record { told = Some Answer.Unit; row = (refl, refl) })
+      subst (HasTold (Ask.Read x) k g) (some_is is)
+      (record { told = Some (Answer.Value (last_value x past)); row = (omega (arith, less), last_value x past, refl, refl) })
+  lone_told (Ask.Write x v) op less is =
+      subst (HasTold (Ask.Write x v) k g) (some_is is) (record { told = Some Answer.Unit; row = (omega (arith, less), refl, refl) })
   lone_told (Ask.Send None v) op less is = absurd (none-some op is)
   lone_told (Ask.Send (Some c) v) op less is = subst (HasTold (Ask.Send (Some c) v) k g) (some_is is) (sent_told c v (is_closed c past) (omega (arith, less)))
   lone_told (Ask.Recv None) op less is = absurd (none-some op is)
   lone_told (Ask.Recv (Some c)) op less is = subst (HasTold (Ask.Recv (Some c)) k g) (some_is is) (received_told c (front c past) (omega (arith, less)))
-  lone_told (Ask.Close None) op less is = subst (HasTold (Ask.Close None) k g) (some_is is) (record { told = None; row = inr (refl, refl, refl) })
-  lone_told (Ask.Close (Some c)) op less is = subst (HasTold (Ask.Close (Some c)) k g) (some_is is) (closed_told c (is_closed c past))
-  lone_told (Ask.Select offers has_default) op less is = select_told past g k offers has_default (k == length offers) op refl less is
-  lone_told (Ask.Lock l) op less is = subst (HasTold (Ask.Lock l) k g) (some_is is) (record { told = Some Answer.Unit; row = (refl, refl) })
-  lone_told (Ask.RLock l) op less is = subst (HasTold (Ask.RLock l) k g) (some_is is) (record { told = Some Answer.Unit; row = (refl, refl) })
-  lone_told (Ask.Unlock l) op less is = subst (HasTold (Ask.Unlock l) k g) (some_is is) (unlocked_told l (is_held l past))
-  lone_told (Ask.RUnlock l) op less is = subst (HasTold (Ask.RUnlock l) k g) (some_is is) (runlocked_told l (is_read_held l past))
-  lone_told (Ask.Do o) op less is = subst (HasTold (Ask.Do o) k g) (some_is is) (did_told o (is_begun o past))
-  lone_told (Ask.EndDo o) op less is = subst (HasTold (Ask.EndDo o) k g) (some_is is) (record { told = Some Answer.Unit; row = (refl, refl) })
+  lone_told (Ask.Close None) op less is =
+      subst (HasTold (Ask.Close None) k g) (some_is is) (record { told = None; row = (omega (arith, less), inr (refl, refl, refl)) })
+  lone_told (Ask.Close (Some c)) op less is = subst (HasTold (Ask.Close (Some c)) k g) (some_is is) (closed_told c (is_closed c past) (omega (arith, less)))
+  lone_told (Ask.Select offers has_default) op less is = select_told past g k offers has_default (has_default && (k == length offers)) op refl is
+  lone_told (Ask.Lock l) op less is =
+      subst (HasTold (Ask.Lock l) k g) (some_is is) (record { told = Some Answer.Unit; row = (omega (arith, less), refl, refl) })
+  lone_told (Ask.RLock l) op less is =
+      subst (HasTold (Ask.RLock l) k g) (some_is is) (record { told = Some Answer.Unit; row = (omega (arith, less), refl, refl) })
+  lone_told (Ask.Unlock l) op less is = subst (HasTold (Ask.Unlock l) k g) (some_is is) (unlocked_told l (is_held l past) (omega (arith, less)))
+  lone_told (Ask.RUnlock l) op less is = subst (HasTold (Ask.RUnlock l) k g) (some_is is) (runlocked_told l (is_read_held l past) (omega (arith, less)))
+  lone_told (Ask.Do o) op less is = subst (HasTold (Ask.Do o) k g) (some_is is) (did_told o (is_begun o past) (omega (arith, less)))
+  lone_told (Ask.EndDo o) op less is =
+      subst (HasTold (Ask.EndDo o) k g) (some_is is) (record { told = Some Answer.Unit; row = (omega (arith, less), refl, refl) })
 
 -- the operation of two offers, where there are both
 abbrev pub meets_by : ℕ → Option Offer → Option Offer → Option Op

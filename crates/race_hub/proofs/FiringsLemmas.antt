@@ -34,7 +34,7 @@ go_is_fired = record {
     behind = refl;
     makes = refl;
     legal = refl;
-    row = (refl, refl);
+    row = (refl, refl, refl);
     partner_row = refl;
     box = (11, refl);
     events = refl;
@@ -103,6 +103,6 @@ starter_is_first fired =
     let ready : 1 ≡ f.w.who = ap first_who f.ready
     ∙ ap (λ (told : Option Answer). first_who (before_go.ready ++ goes_on f.w f.p told
     ++ partner_goes_on (partner_of fired.t before_go.waiting) (partner_of fired.t before_go.parked) f.partner_told
-    ++ born_of before_go.unstarted (started_by f.e.op))) row.1 in
+    ++ born_of before_go.unstarted (started_by f.e.op))) row.2 in
     let who : 0 ≡ f.w.who = ap (λ (w : Waiter). w.who) asks in
     absurd (omega (arith, ready, who))

@@ -74,9 +74,9 @@ module _ (decls : DeclsState) where
   by_offer past (Some (Offer.Recv None)) op is made = absurd (none-some op made)
   by_offer past (Some (Offer.Recv (Some c))) op is made = subst (OpFits decls) (some_is made) (by_front c (front c past) is)
 
-  by_select : (past : List Event) (offers : List Offer) (k : ℕ) (behind : Bool) (op : Op)
+  by_select : (past : List Event) (offers : List Offer) (k : ℕ) (by_default : Bool) (op : Op)
       → list_all (offer_is_in_range (counts_of decls.declarations Kind.Chan)) offers ≡ true
-      → cond behind (Some (Default (map case_of offers))) (offer_at offers k (lone_op past)) ≡ Some op → OpFits decls op
+      → cond by_default (Some (Default (map case_of offers))) (offer_at offers k (lone_op past)) ≡ Some op → OpFits decls op
   by_select past offers k true op is made =
       subst (OpFits decls) (some_is made)
       (record { range = and_true _ (cases_in_range (counts_of decls.declarations Kind.Chan) offers is); lock = refl; one_place = refl })
@@ -100,7 +100,7 @@ module _ (decls : DeclsState) where
       subst (OpFits decls) (some_is made) (by_test (is_closed c past) (Fault (CloseClosed c)) (Close c)
       (record { range = and_true _ is; lock = refl; one_place = refl }) (record { range = and_true _ is; lock = refl; one_place = refl }))
   lone_fits past (Ask.Select offers has_default) k op is suits made =
-      by_select past offers k (k == length offers) op (offers_in_range (counts_of decls.declarations) offers has_default is) made
+      by_select past offers k (has_default && (k == length offers)) op (offers_in_range (counts_of decls.declarations) offers has_default is) made
   lone_fits past (Ask.Lock l) k op is suits made = subst (OpFits decls) (some_is made) (record { range = and_true _ is; lock = refl; one_place = refl })
   lone_fits past (Ask.Unlock l) k op is suits made =
       subst (OpFits decls) (some_is made) (by_test (is_held l past) (Unlock l) (Fault (UnlockFree l))

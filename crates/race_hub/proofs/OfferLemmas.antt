@@ -1,5 +1,5 @@
 -- A list of offers, read and made longer by its cases and values.
-use Rattle.std.proofs.Common.{◌≡◌, ℕ, zero, suc, ◌<◌, ◌≤◌, ◌==◌, ◌&&◌, ◌||◌, cond, nat_lt, nat_le, Bool}
+use Rattle.std.proofs.Common.{◌≡◌, ℕ, zero, suc, ◌<◌, ◌≤◌, ◌&&◌, ◌||◌, cond, nat_lt, nat_le, Bool}
 use Rattle.std.proofs.Common.{true, false, List, [], ◌∷◌, ◌++◌, length, map, set, get_or, Option, Some}
 use Rattle.std.proofs.Common.{None}
 use Rattle.std.proofs.Common.{IfSome, IsTrue, slice_get, true≢false, refl, sym, ap, ◌∙◌, arith}
@@ -129,10 +129,10 @@ few_ways counts (Ask.Select offers has_default) is = by has_default (few (both (
     by false le = omega (arith, le)
 few_ways counts _ is = omega arith
 
--- what a select does by the way of an offer is what that does
-pub by_offer_at : {X : Type 0} (offers : List Offer) (k : ℕ) (o : Offer) (x : X) (f : Option Offer → X) → (k == length offers) ≡ false
-    → slice_get offers k ≡ Some o → f (Some o) ≡ cond (k == length offers) x (f (slice_get offers k))
-by_offer_at offers k o x f test there = ap f (sym there) ∙ ap (λ b. cond b x (f (slice_get offers k))) (sym test)
+-- what a select does by a way that is no default's is what the offer does that stands there, if one does
+pub by_offer_at : {X : Type 0} (offers : List Offer) (k : ℕ) (o : Option Offer) (by_default : Bool) (x : X) (f : Option Offer → X) → by_default ≡ false
+    → slice_get offers k ≡ o → f o ≡ cond by_default x (f (slice_get offers k))
+by_offer_at offers k o by_default x f test there = ap f (sym there) ∙ ap (λ b. cond b x (f (slice_get offers k))) (sym test)
 
 pub chan_in_range : (chans : ℕ) (offers : List Offer) (k : ℕ) (o p : Offer) → list_all (offer_is_in_range chans) offers ≡ true
     → slice_get offers k ≡ Some o → o ≡ p → offer_is_in_range chans p ≡ true

@@ -103,32 +103,32 @@ by_row : (op did : Op) (told answer : Option Answer) → op ≡ did → told ≡
 by_row op did told answer o t is = ap is_some t ∙ is ∙ sym (ap (λ o. not (leaves o)) o)
 
 row_leaves : (ask : Ask) (k : ℕ) (op : Op) (told : Option Answer) → IsRow ask k op told → is_some told ≡ not (leaves op)
-row_leaves (Ask.Go h) k op told (o, t) = by_row op _ told _ o t refl
-row_leaves Ask.Exit k op told (o, t) = by_row op _ told _ o t refl
-row_leaves (Ask.Read x) k op told (v, o, t) = by_row op _ told _ o t refl
-row_leaves (Ask.Write x v) k op told (o, t) = by_row op _ told _ o t refl
+row_leaves (Ask.Go h) k op told (z, o, t) = by_row op _ told _ o t refl
+row_leaves Ask.Exit k op told (z, o, t) = by_row op _ told _ o t refl
+row_leaves (Ask.Read x) k op told (z, v, o, t) = by_row op _ told _ o t refl
+row_leaves (Ask.Write x v) k op told (z, o, t) = by_row op _ told _ o t refl
 row_leaves (Ask.Send c v) k op told (z, inl (got, (d, e, o, n), t)) = by_row op _ told _ o t refl
 row_leaves (Ask.Send c v) k op told (z, inr ((d, e, o), t)) = by_row op _ told _ o t refl
 row_leaves (Ask.Recv c) k op told (z, got, (d, e, inl (v, o, n)), t) = by_row op _ told _ o t refl
 row_leaves (Ask.Recv c) k op told (z, got, (d, e, inr (o, n)), t) = by_row op _ told _ o t refl
-row_leaves (Ask.Close c) k op told (inl (d, e, inl (o, t))) = by_row op _ told _ o t refl
-row_leaves (Ask.Close c) k op told (inl (d, e, inr (o, t))) = by_row op _ told _ o t refl
-row_leaves (Ask.Close c) k op told (inr (n, o, t)) = by_row op _ told _ o t refl
+row_leaves (Ask.Close c) k op told (z, inl (d, e, inl (o, t))) = by_row op _ told _ o t refl
+row_leaves (Ask.Close c) k op told (z, inl (d, e, inr (o, t))) = by_row op _ told _ o t refl
+row_leaves (Ask.Close c) k op told (z, inr (n, o, t)) = by_row op _ told _ o t refl
 row_leaves (Ask.Select offers has_default) k op told (inl (Offer.Send c v, there, inl (got, (d, e, o, n), t))) = by_row op _ told _ o t refl
 row_leaves (Ask.Select offers has_default) k op told (inl (Offer.Send c v, there, inr ((d, e, o), t))) = by_row op _ told _ o t refl
 row_leaves (Ask.Select offers has_default) k op told (inl (Offer.Recv c, there, inl (got, (d, e, inl (v, o, n)), t))) = by_row op _ told _ o t refl
 row_leaves (Ask.Select offers has_default) k op told (inl (Offer.Recv c, there, inl (got, (d, e, inr (o, n)), t))) = by_row op _ told _ o t refl
 row_leaves (Ask.Select offers has_default) k op told (inl (Offer.Recv c, there, inr (never, t))) = absurd never
-row_leaves (Ask.Select offers has_default) k op told (inr (d, o, t)) = by_row op _ told _ o t refl
-row_leaves (Ask.Lock l) k op told (o, t) = by_row op _ told _ o t refl
-row_leaves (Ask.RLock l) k op told (o, t) = by_row op _ told _ o t refl
-row_leaves (Ask.Unlock l) k op told (inl (o, t)) = by_row op _ told _ o t refl
-row_leaves (Ask.Unlock l) k op told (inr (o, t)) = by_row op _ told _ o t refl
-row_leaves (Ask.RUnlock l) k op told (inl (o, t)) = by_row op _ told _ o t refl
-row_leaves (Ask.RUnlock l) k op told (inr (o, t)) = by_row op _ told _ o t refl
-row_leaves (Ask.Do o) k op told (inl (d, t)) = by_row op _ told _ d t refl
-row_leaves (Ask.Do o) k op told (inr (d, t)) = by_row op _ told _ d t refl
-row_leaves (Ask.EndDo o) k op told (d, t) = by_row op _ told _ d t refl
+row_leaves (Ask.Select offers has_default) k op told (inr (d, w, o, t)) = by_row op _ told _ o t refl
+row_leaves (Ask.Lock l) k op told (z, o, t) = by_row op _ told _ o t refl
+row_leaves (Ask.RLock l) k op told (z, o, t) = by_row op _ told _ o t refl
+row_leaves (Ask.Unlock l) k op told (z, inl (o, t)) = by_row op _ told _ o t refl
+row_leaves (Ask.Unlock l) k op told (z, inr (o, t)) = by_row op _ told _ o t refl
+row_leaves (Ask.RUnlock l) k op told (z, inl (o, t)) = by_row op _ told _ o t refl
+row_leaves (Ask.RUnlock l) k op told (z, inr (o, t)) = by_row op _ told _ o t refl
+row_leaves (Ask.Do o) k op told (z, inl (d, t)) = by_row op _ told _ d t refl
+row_leaves (Ask.Do o) k op told (z, inr (d, t)) = by_row op _ told _ d t refl
+row_leaves (Ask.EndDo o) k op told (z, d, t) = by_row op _ told _ d t refl
 
 done_leaves : (g : ℕ) (op : Op) → leaves (done_by g op) ≡ leaves op
 done_leaves g (Meet r c v) = by (r == g)

@@ -178,9 +178,9 @@ module _ (caps : ℕ → ℕ) (past : List Event) (g place : ℕ) where
   default_row : (cases : List Case) → fits (Default cases) ≡ and_acts (not (list_any (is_ready caps past) cases))
   default_row cases = head (over past) (runs g past) _ (op_rules caps past g (Default cases)) (one 22 (list_any (is_ready caps past) cases))
 
-  select_row : (offers : List Offer) (k : ℕ) (behind : Bool)
-      → is_legal_next caps past (made (cond behind (Some (Default (map case_of offers))) (offer_at offers k (lone_op past))))
-      ≡ and_acts (cond behind (not (list_any (is_ready caps past) (map case_of offers))) (offer_goes_on caps past (slice_get offers k)))
+  select_row : (offers : List Offer) (k : ℕ) (by_default : Bool)
+      → is_legal_next caps past (made (cond by_default (Some (Default (map case_of offers))) (offer_at offers k (lone_op past))))
+      ≡ and_acts (cond by_default (not (list_any (is_ready caps past) (map case_of offers))) (offer_goes_on caps past (slice_get offers k)))
   select_row offers k true = default_row (map case_of offers)
   select_row offers k false = offer_row (slice_get offers k)
 
@@ -201,7 +201,7 @@ module _ (caps : ℕ → ℕ) (past : List Event) (g place : ℕ) where
   row_goes_on (Ask.Recv (Some c)) k = recv_row c (front c past) refl
   row_goes_on (Ask.Close None) k = head (over past) (runs g past) true (op_rules caps past g (Fault CloseNil)) (one 23 false)
   row_goes_on (Ask.Close (Some c)) k = close_row c (is_closed c past) refl
-  row_goes_on (Ask.Select offers has_default) k = select_row offers k (k == length offers)
+  row_goes_on (Ask.Select offers has_default) k = select_row offers k (has_default && (k == length offers))
   row_goes_on (Ask.Lock l) k = head (over past) (runs g past) _ (op_rules caps past g (Lock l)) (two 13 14 (is_held l past) (is_read_held l past))
   row_goes_on (Ask.RLock l) k = head (over past) (runs g past) _ (op_rules caps past g (RLock l)) (one 13 (is_held l past))
   row_goes_on (Ask.Unlock l) k = unlock_row l (is_held l past) refl

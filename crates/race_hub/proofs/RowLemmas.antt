@@ -1,6 +1,6 @@
 -- The tests of Told give an answer exactly where a row of the table holds.
 use Rattle.std.proofs.Common.{◌≡◌, ℕ, ◌==◌, ◌↔◌, ◌&&◌, ◌⊎◌, ◌≤◌, if◌then◌else◌, Bool, true, false, List}
-use Rattle.std.proofs.Common.{length, map, slice_get, Option, Some, None, option_map, inl, inr, refl, sym}
+use Rattle.std.proofs.Common.{length, map, slice_get, Option, Some, None, option_map, inl, inr, refl, sym, subst}
 use Rattle.std.proofs.Common.{ap, ◌∙◌}
 use Rattle.std.proofs.Common.{arith}
 use Rattle.std.proofs.lemmas.Option.{slice_get_within}
@@ -19,7 +19,7 @@ use Rattle.race_hub.specs.declared.request.Ask.{Ask}
 use Rattle.race_hub.specs.declared.request.Offer.{Offer}
 use Rattle.race_hub.specs.Offers.{case_of}
 use Rattle.race_hub.specs.Table.{offers_of, plain_answer, IsOffered, IsOfferedFault, IsChosen, IsDefault, IsRow}
-use Rattle.race_hub.specs.Told.{told_if, told_sender, told_receiver, told_closer, told_by, chosen, told_plain, told_offer, told_selector, is_way, told_at}
+use Rattle.race_hub.specs.Told.{told_if, told_sender, told_receiver, told_closer, told_by, chosen, told_plain, told_offer, told_selector, told_at}
 
 -- where the number is the one that is wanted
 told_same : (n : ℕ) (a : Option Answer) → told_if (n == n) a ≡ Some a
@@ -61,31 +61,31 @@ receiver_row (Some c) (RecvClosed d) told e =
 receiver_row _ _ told e = absurd cc
 
 closer_row : (c : Option ℕ) (op : Op) (told : Option Answer) → told_closer c op ≡ Some told → IsRow (Ask.Close c) 0 op told
-closer_row (Some c) (Close d) told e = let p = wanted d c (Some Answer.Unit) told e in inl (c, refl, inl (ap Close p.0, p.1))
+closer_row (Some c) (Close d) told e = let p = wanted d c (Some Answer.Unit) told e in (refl, inl (c, refl, inl (ap Close p.0, p.1)))
 closer_row (Some c) (Fault (CloseClosed d)) told e =
-    let p = wanted d c None told e in inl (c, refl, inr (ap (λ x. Fault (CloseClosed x)) p.0, p.1))
-closer_row None (Fault CloseNil) told e = inr (refl, refl, cc)
+    let p = wanted d c None told e in (refl, inl (c, refl, inr (ap (λ x. Fault (CloseClosed x)) p.0, p.1)))
+closer_row None (Fault CloseNil) told e = (refl, inr (refl, refl, cc))
 closer_row _ _ told e = absurd cc
 
 -- where the tests give an answer, it is that of a row
 row_of_told : (ask : Ask) (op : Op) (told : Option Answer) → told_by ask op ≡ Some told → IsRow ask 0 op told
-row_of_told (Ask.Go h) (Go g) told e = let p = wanted g h (Some Answer.Unit) told e in (ap Go p.0, p.1)
-row_of_told Ask.Exit Exit told e = (refl, cc)
-row_of_told (Ask.Read x) (Read y v) told e = let p = wanted y x (Some (Answer.Value v)) told e in (v, ap (λ z. Read z v) p.0, p.1)
+row_of_told (Ask.Go h) (Go g) told e = let p = wanted g h (Some Answer.Unit) told e in (refl, ap Go p.0, p.1)
+row_of_told Ask.Exit Exit told e = (refl, refl, cc)
+row_of_told (Ask.Read x) (Read y v) told e = let p = wanted y x (Some (Answer.Value v)) told e in (refl, v, ap (λ z. Read z v) p.0, p.1)
 row_of_told (Ask.Write x v) (Write y w) told e =
-    let p = wanted_two y x w v (Some Answer.Unit) told e in (λ i. Write (p.0 i) (p.1 i), p.2)
+    let p = wanted_two y x w v (Some Answer.Unit) told e in (refl, λ i. Write (p.0 i) (p.1 i), p.2)
 row_of_told (Ask.Send c v) op told e = sender_row c v op told e
 row_of_told (Ask.Recv c) op told e = receiver_row c op told e
 row_of_told (Ask.Close c) op told e = closer_row c op told e
-row_of_told (Ask.Lock l) (Lock m) told e = let p = wanted m l (Some Answer.Unit) told e in (ap Lock p.0, p.1)
-row_of_told (Ask.Unlock l) (Unlock m) told e = let p = wanted m l (Some Answer.Unit) told e in inl (ap Unlock p.0, p.1)
-row_of_told (Ask.Unlock l) (Fault (UnlockFree m)) told e = let p = wanted m l None told e in inr (ap (λ x. Fault (UnlockFree x)) p.0, p.1)
-row_of_told (Ask.RLock l) (RLock m) told e = let p = wanted m l (Some Answer.Unit) told e in (ap RLock p.0, p.1)
-row_of_told (Ask.RUnlock l) (RUnlock m) told e = let p = wanted m l (Some Answer.Unit) told e in inl (ap RUnlock p.0, p.1)
-row_of_told (Ask.RUnlock l) (Fault (RUnlockFree m)) told e = let p = wanted m l None told e in inr (ap (λ x. Fault (RUnlockFree x)) p.0, p.1)
-row_of_told (Ask.Do o) (OnceBegin p) told e = let q = wanted p o (Some Answer.Run) told e in inl (ap OnceBegin q.0, q.1)
-row_of_told (Ask.Do o) (OnceDone p) told e = let q = wanted p o (Some Answer.AlreadyDone) told e in inr (ap OnceDone q.0, q.1)
-row_of_told (Ask.EndDo o) (OnceEnd p) told e = let q = wanted p o (Some Answer.Unit) told e in (ap OnceEnd q.0, q.1)
+row_of_told (Ask.Lock l) (Lock m) told e = let p = wanted m l (Some Answer.Unit) told e in (refl, ap Lock p.0, p.1)
+row_of_told (Ask.Unlock l) (Unlock m) told e = let p = wanted m l (Some Answer.Unit) told e in (refl, inl (ap Unlock p.0, p.1))
+row_of_told (Ask.Unlock l) (Fault (UnlockFree m)) told e = let p = wanted m l None told e in (refl, inr (ap (λ x. Fault (UnlockFree x)) p.0, p.1))
+row_of_told (Ask.RLock l) (RLock m) told e = let p = wanted m l (Some Answer.Unit) told e in (refl, ap RLock p.0, p.1)
+row_of_told (Ask.RUnlock l) (RUnlock m) told e = let p = wanted m l (Some Answer.Unit) told e in (refl, inl (ap RUnlock p.0, p.1))
+row_of_told (Ask.RUnlock l) (Fault (RUnlockFree m)) told e = let p = wanted m l None told e in (refl, inr (ap (λ x. Fault (RUnlockFree x)) p.0, p.1))
+row_of_told (Ask.Do o) (OnceBegin p) told e = let q = wanted p o (Some Answer.Run) told e in (refl, inl (ap OnceBegin q.0, q.1))
+row_of_told (Ask.Do o) (OnceDone p) told e = let q = wanted p o (Some Answer.AlreadyDone) told e in (refl, inr (ap OnceDone q.0, q.1))
+row_of_told (Ask.EndDo o) (OnceEnd p) told e = let q = wanted p o (Some Answer.Unit) told e in (refl, ap OnceEnd q.0, q.1)
 row_of_told _ _ told e = absurd cc
 
 -- it doesn't ask to select
@@ -96,10 +96,10 @@ IsPlain _ = Unit {0}
 -- where a row holds, the tests give its answer
 told_of_row : (ask : Ask) (k : ℕ) (op : Op) (told : Option Answer) → IsPlain ask → IsRow ask k op told → told_by ask op ≡ Some told
 told_of_row (Ask.Select offers has_default) k op told plain row = absurd plain
-told_of_row (Ask.Go h) k op told plain (o, t) = ap (told_by (Ask.Go h)) o ∙ told_same h (Some Answer.Unit) ∙ ap Some (sym t)
-told_of_row Ask.Exit k op told plain (o, t) = ap (told_by Ask.Exit) o ∙ ap Some (sym t)
-told_of_row (Ask.Read x) k op told plain (v, o, t) = ap (told_by (Ask.Read x)) o ∙ told_same x (Some (Answer.Value v)) ∙ ap Some (sym t)
-told_of_row (Ask.Write x v) k op told plain (o, t) = ap (told_by (Ask.Write x v)) o ∙ told_same_two x v (Some Answer.Unit) ∙ ap Some (sym t)
+told_of_row (Ask.Go h) k op told plain (z, o, t) = ap (told_by (Ask.Go h)) o ∙ told_same h (Some Answer.Unit) ∙ ap Some (sym t)
+told_of_row Ask.Exit k op told plain (z, o, t) = ap (told_by Ask.Exit) o ∙ ap Some (sym t)
+told_of_row (Ask.Read x) k op told plain (z, v, o, t) = ap (told_by (Ask.Read x)) o ∙ told_same x (Some (Answer.Value v)) ∙ ap Some (sym t)
+told_of_row (Ask.Write x v) k op told plain (z, o, t) = ap (told_by (Ask.Write x v)) o ∙ told_same_two x v (Some Answer.Unit) ∙ ap Some (sym t)
 told_of_row (Ask.Send c v) k op told plain (z, inl (got, (d, e, o, n), t)) =
     (λ i. told_sender (e i) v (o i)) ∙ told_same_two d v (Some Answer.Unit) ∙ ap Some (sym t)
 told_of_row (Ask.Send c v) k op told plain (z, inr ((d, e, o), t)) = (λ i. told_sender (e i) v (o i)) ∙ told_same d None ∙ ap Some (sym t)
@@ -109,35 +109,31 @@ told_of_row (Ask.Recv c) k op told plain (z, got, (d, e, inl (v, o, n)), t) =
 told_of_row (Ask.Recv c) k op told plain (z, got, (d, e, inr (o, n)), t) =
     (λ i. told_receiver (e i) (o i)) ∙ told_same d (Some Answer.Closed)
     ∙ ap Some (sym (t ∙ ap (λ g. Some (elim g [ Some x ↦ Answer.Value x | None ↦ Answer.Closed ])) n))
-told_of_row (Ask.Close c) k op told plain (inl (d, e, inl (o, t))) = (λ i. told_closer (e i) (o i)) ∙ told_same d (Some Answer.Unit) ∙ ap Some (sym t)
-told_of_row (Ask.Close c) k op told plain (inl (d, e, inr (o, t))) = (λ i. told_closer (e i) (o i)) ∙ told_same d None ∙ ap Some (sym t)
-told_of_row (Ask.Close c) k op told plain (inr (e, o, t)) = (λ i. told_closer (e i) (o i)) ∙ ap Some (sym t)
-told_of_row (Ask.Lock l) k op told plain (o, t) = ap (told_by (Ask.Lock l)) o ∙ told_same l (Some Answer.Unit) ∙ ap Some (sym t)
-told_of_row (Ask.Unlock l) k op told plain (inl (o, t)) = ap (told_by (Ask.Unlock l)) o ∙ told_same l (Some Answer.Unit) ∙ ap Some (sym t)
-told_of_row (Ask.Unlock l) k op told plain (inr (o, t)) = ap (told_by (Ask.Unlock l)) o ∙ told_same l None ∙ ap Some (sym t)
-told_of_row (Ask.RLock l) k op told plain (o, t) = ap (told_by (Ask.RLock l)) o ∙ told_same l (Some Answer.Unit) ∙ ap Some (sym t)
-told_of_row (Ask.RUnlock l) k op told plain (inl (o, t)) = ap (told_by (Ask.RUnlock l)) o ∙ told_same l (Some Answer.Unit) ∙ ap Some (sym t)
-told_of_row (Ask.RUnlock l) k op told plain (inr (o, t)) = ap (told_by (Ask.RUnlock l)) o ∙ told_same l None ∙ ap Some (sym t)
-told_of_row (Ask.Do o) k op told plain (inl (x, t)) = ap (told_by (Ask.Do o)) x ∙ told_same o (Some Answer.Run) ∙ ap Some (sym t)
-told_of_row (Ask.Do o) k op told plain (inr (x, t)) = ap (told_by (Ask.Do o)) x ∙ told_same o (Some Answer.AlreadyDone) ∙ ap Some (sym t)
-told_of_row (Ask.EndDo o) k op told plain (x, t) = ap (told_by (Ask.EndDo o)) x ∙ told_same o (Some Answer.Unit) ∙ ap Some (sym t)
+told_of_row (Ask.Close c) k op told plain (z, inl (d, e, inl (o, t))) = (λ i. told_closer (e i) (o i)) ∙ told_same d (Some Answer.Unit) ∙ ap Some (sym t)
+told_of_row (Ask.Close c) k op told plain (z, inl (d, e, inr (o, t))) = (λ i. told_closer (e i) (o i)) ∙ told_same d None ∙ ap Some (sym t)
+told_of_row (Ask.Close c) k op told plain (z, inr (e, o, t)) = (λ i. told_closer (e i) (o i)) ∙ ap Some (sym t)
+told_of_row (Ask.Lock l) k op told plain (z, o, t) = ap (told_by (Ask.Lock l)) o ∙ told_same l (Some Answer.Unit) ∙ ap Some (sym t)
+told_of_row (Ask.Unlock l) k op told plain (z, inl (o, t)) = ap (told_by (Ask.Unlock l)) o ∙ told_same l (Some Answer.Unit) ∙ ap Some (sym t)
+told_of_row (Ask.Unlock l) k op told plain (z, inr (o, t)) = ap (told_by (Ask.Unlock l)) o ∙ told_same l None ∙ ap Some (sym t)
+told_of_row (Ask.RLock l) k op told plain (z, o, t) = ap (told_by (Ask.RLock l)) o ∙ told_same l (Some Answer.Unit) ∙ ap Some (sym t)
+told_of_row (Ask.RUnlock l) k op told plain (z, inl (o, t)) = ap (told_by (Ask.RUnlock l)) o ∙ told_same l (Some Answer.Unit) ∙ ap Some (sym t)
+told_of_row (Ask.RUnlock l) k op told plain (z, inr (o, t)) = ap (told_by (Ask.RUnlock l)) o ∙ told_same l None ∙ ap Some (sym t)
+told_of_row (Ask.Do o) k op told plain (z, inl (x, t)) = ap (told_by (Ask.Do o)) x ∙ told_same o (Some Answer.Run) ∙ ap Some (sym t)
+told_of_row (Ask.Do o) k op told plain (z, inr (x, t)) = ap (told_by (Ask.Do o)) x ∙ told_same o (Some Answer.AlreadyDone) ∙ ap Some (sym t)
+told_of_row (Ask.EndDo o) k op told plain (z, x, t) = ap (told_by (Ask.EndDo o)) x ∙ told_same o (Some Answer.Unit) ∙ ap Some (sym t)
 
 guarded : (b : Bool) (row : Option (Option Answer)) (told : Option Answer) → (if b then row else None) ≡ Some told → (b ≡ true) × (row ≡ Some told)
 guarded true row told e = (refl, e)
 guarded false row told e = absurd cc
 
--- a row holds by each way that its ask has
-row_by_way : (ask : Ask) (k : ℕ) (op : Op) (told : Option Answer) → IsPlain ask → is_way ask k ≡ true → IsRow ask 0 op told → IsRow ask k op told
-row_by_way (Ask.Select offers has_default) k op told plain w row = absurd plain
-row_by_way (Ask.Send c v) k op told plain w row = ((Decides-eqb k 0).0 w, row.1)
-row_by_way (Ask.Recv c) k op told plain w row = ((Decides-eqb k 0).0 w, row.1, row.2, row.3)
-row_by_way _ k op told plain w row = row
+-- a row of an ask that is no select holds by way 0
+row_by_way : (ask : Ask) (k : ℕ) (op : Op) (told : Option Answer) → (k == 0) ≡ true → IsRow ask 0 op told → IsRow ask k op told
+row_by_way ask k op told w row = subst (λ n. IsRow ask n op told) (sym ((Decides-eqb k 0).0 w)) row
 
 -- and by no other
-way_of_row : (ask : Ask) (k : ℕ) (op : Op) (told : Option Answer) → IsRow ask k op told → is_way ask k ≡ true
-way_of_row (Ask.Send c v) k op told row = (Decides-eqb k 0).1 row.0
-way_of_row (Ask.Recv c) k op told row = (Decides-eqb k 0).1 row.0
-way_of_row _ k op told row = refl
+way_of_row : (ask : Ask) (k : ℕ) (op : Op) (told : Option Answer) → IsPlain ask → IsRow ask k op told → (k == 0) ≡ true
+way_of_row (Ask.Select offers has_default) k op told plain row = absurd plain
+way_of_row _ k op told plain row = (Decides-eqb k 0).1 row.0
 
 -- Selects.
 
@@ -206,12 +202,13 @@ module _ (offers : List Offer) (has_default : Bool) (k : ℕ) where
   offer_row (Some o) op told there e = chosen_row o op told there e
 
   default_row : (cases : List Case) (told : Option Answer)
-      → told_if (has_default && same_cases cases (map case_of offers)) (Some Answer.DefaultTaken) ≡ Some told
-      → IsDefault offers has_default (Default cases) told
+      → told_if ((has_default && (k == length offers)) && same_cases cases (map case_of offers)) (Some Answer.DefaultTaken) ≡ Some told
+      → IsDefault offers has_default k (Default cases) told
   default_row cases told e =
-      let p = passed (has_default && same_cases cases (map case_of offers)) (Some Answer.DefaultTaken) told e in
-      let q = both_true has_default (same_cases cases (map case_of offers)) p.0 in
-      (q.0, ap Default ((same_cases-Decides cases (map case_of offers)).0 q.1), p.1)
+      let p = passed ((has_default && (k == length offers)) && same_cases cases (map case_of offers)) (Some Answer.DefaultTaken) told e in
+      let q = both_true (has_default && (k == length offers)) (same_cases cases (map case_of offers)) p.0 in
+      let r = both_true has_default (k == length offers) q.0 in
+      (r.0, (Decides-eqb k (length offers)).0 r.1, ap Default ((same_cases-Decides cases (map case_of offers)).0 q.1), p.1)
 
   selector_row : (op : Op) (told : Option Answer) → told_selector offers has_default k op ≡ Some told → IsRow (Ask.Select offers has_default) k op told
   selector_row op told e = by op (takes_default op) refl e
@@ -230,16 +227,17 @@ module _ (offers : List Offer) (has_default : Bool) (k : ℕ) where
   selector_told op told (inl (o, there, inr (fault, t))) =
       no_default op (fault_is_none o op fault) ∙ ap (by_offer op) there
       ∙ ap (option_map (option_map (chosen k))) (plain_told o op None (inr (fault, refl))) ∙ ap Some (sym t)
-  selector_told op told (inr (d, o, t)) =
+  selector_told op told (inr (d, w, o, t)) =
       ap (told_selector offers has_default k) o
-      ∙ (λ i. told_if (d i && (same_cases-Decides (map case_of offers) (map case_of offers)).1 refl i) (Some Answer.DefaultTaken)) ∙ ap Some (sym t)
+      ∙ (λ i. told_if ((d i && (Decides-eqb k (length offers)).1 w i)
+      && (same_cases-Decides (map case_of offers) (map case_of offers)).1 refl i) (Some Answer.DefaultTaken)) ∙ ap Some (sym t)
 
 -- the tests by a way give an answer exactly where a row by that way holds
 plain_at : (ask : Ask) (k : ℕ) (op : Op) (told : Option Answer) (r : Option (Option Answer)) → IsPlain ask
-    → r ≡ (if is_way ask k then told_by ask op else None) → (r ≡ Some told) ↔ IsRow ask k op told
+    → r ≡ (if k == 0 then told_by ask op else None) → (r ≡ Some told) ↔ IsRow ask k op told
 plain_at ask k op told r plain is = (
-  λ e. let g = guarded (is_way ask k) (told_by ask op) told (sym is ∙ e) in row_by_way ask k op told plain g.0 (row_of_told ask op told g.1),
-  λ row. is ∙ ap (λ b. if b then told_by ask op else None) (way_of_row ask k op told row) ∙ told_of_row ask k op told plain row,
+  λ e. let g = guarded (k == 0) (told_by ask op) told (sym is ∙ e) in row_by_way ask k op told g.0 (row_of_told ask op told g.1),
+  λ row. is ∙ ap (λ b. if b then told_by ask op else None) (way_of_row ask k op told plain row) ∙ told_of_row ask k op told plain row,
 )
 
 pub row_at : (ask : Ask) (k : ℕ) (op : Op) (told : Option Answer) (r : Option (Option Answer)) → r ≡ told_at ask k op
@@ -261,5 +259,6 @@ pub holds_before : (ask : Ask) (k : ℕ) (op : Op) (told : Option Answer) → Is
 holds_before (Ask.Select offers has_default) k op told (inl (o, there, rest)) =
     let within = slice_get_within offers k o there in
     record { way = k; few = omega (arith, within); row = inl (o, there, rest) }
-holds_before (Ask.Select offers has_default) k op told (inr takes) = record { way = 0; few = omega arith; row = inr takes }
+holds_before (Ask.Select offers has_default) k op told (inr (has, behind, o, t)) =
+    record { way = k; few = omega (arith, behind); row = inr (has, behind, o, t) }
 holds_before ask k op told row = plain_before ask k op told tt row

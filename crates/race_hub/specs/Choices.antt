@@ -31,7 +31,7 @@ lone_op past (Offer.Recv (Some c)) = Some (elim (front c past) [ Some v ↦ Recv
 abbrev pub offer_at : List Offer → ℕ → (Offer → Option Op) → Option Op
 offer_at offers k f = elim (slice_get offers k) [ Some o ↦ f o | None ↦ None ]
 
--- the operation of a request by its way k without a partner, after the events past; a select's default comes behind its offers
+-- the operation of a request by its way k without a partner, after the events past; the default of a select that has one comes behind its offers
 abbrev pub op_of : List Event → Ask → ℕ → Option Op
 op_of past (Ask.Go h) k = Some (Go h)
 op_of past Ask.Exit k = Some Exit
@@ -41,7 +41,8 @@ op_of past (Ask.Send c v) k = lone_op past (Offer.Send c v)
 op_of past (Ask.Recv c) k = lone_op past (Offer.Recv c)
 op_of past (Ask.Close (Some c)) k = Some (cond (is_closed c past) (Fault (CloseClosed c)) (Close c))
 op_of past (Ask.Close None) k = Some (Fault CloseNil)
-op_of past (Ask.Select offers has_default) k = cond (k == length offers) (Some (Default (map case_of offers))) (offer_at offers k (lone_op past))
+op_of past (Ask.Select offers has_default) k =
+    cond (has_default && (k == length offers)) (Some (Default (map case_of offers))) (offer_at offers k (lone_op past))
 op_of past (Ask.Lock l) k = Some (Lock l)
 op_of past (Ask.Unlock l) k = Some (cond (is_held l past) (Unlock l) (Fault (UnlockFree l)))
 op_of past (Ask.RLock l) k = Some (RLock l)
@@ -116,7 +117,7 @@ tuples_of waiting = tuples (length waiting) (ways_at waiting)
 
 -- way k of the ask is its default
 abbrev pub is_default_of : Ask → ℕ → Bool
-is_default_of (Ask.Select offers has_default) k = k == length offers
+is_default_of (Ask.Select offers has_default) k = has_default && (k == length offers)
 is_default_of _ k = false
 
 -- the tuple takes a default

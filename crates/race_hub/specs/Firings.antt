@@ -74,7 +74,7 @@ after_meet =
     hub_of (went ∷ met ∷ []) (told_first 0 10 (Ask.Send (Some 0) 9) Answer.Unit ∷ told_first 1 11 (Ask.Recv (Some 0)) (Answer.Value 9) ∷ [])
     [] [] (None ∷ None ∷ [])
 
--- whichever the pick, since there is one choice
+-- the start is fired by pick 4, and would be by any other, since there is one choice; so is the meet by pick 3
 abbrev pub AGoIsFired : Type 0
 AGoIsFired = IsFired 4 before_go after_go
 

@@ -16,7 +16,7 @@ use Rattle.race_hub.specs.Possible.{goes_on, meet_goes_on}
 use Rattle.race_hub.specs.Rows.{capacities, waits, alone, HasWay, HasRow, Stays, sends_on, receives_from, three_started, one_meets_main}
 use Rattle.race_hub.specs.Rows.{sends_or_receives, receives_or_sends}
 
--- a start and an exit always go on
+-- the table has a row for a start and one for an exit, and in a run without events each goes on by it
 pub record RowsOfGoroutines : Type 0 where
   pub start : HasRow [] (Ask.Go 1) (Go 1) (Some Answer.Unit)
   pub exit : HasRow [] Ask.Exit Exit None
@@ -81,7 +81,7 @@ pub record RowsOfMeets : Type 0 where
   pub receiver : IsRow (Ask.Recv (Some 0)) 0 (done_by 0 one_meets_main.op) (Some (Answer.Value 7))
   pub other_channel : choices capacities three_started (waits 0 (Ask.Recv (Some 0)) ∷ waits 1 (Ask.Send (Some 2) 7) ∷ []) ≡ choice 1 0 0 0 ∷ []
 
--- a select goes on by an offer as that does alone, and by its default, which comes behind the offers, where no offer can
+-- a select goes on by an offer as that does alone, and by its default, which comes behind the offers if it has one, where no offer can
 pub record RowsOfSelects : Type 0 where
   pub sends : HasWay [] (Ask.Select (Offer.Recv (Some 2) ∷ Offer.Send (Some 1) 7 ∷ []) false) 1 (Send 1 7) (Some (Answer.Chosen 1 None))
   pub receives :
@@ -91,6 +91,9 @@ pub record RowsOfSelects : Type 0 where
   pub by_default :
       HasWay [] (Ask.Select (Offer.Send (Some 0) 5 ∷ Offer.Recv (Some 1) ∷ []) true) 2 (Default (sends_on (Some 0) ∷ receives_from (Some 1) ∷ []))
       (Some Answer.DefaultTaken)
+  pub behind_with : lone_event [] (waits 0 (Ask.Select (Offer.Recv (Some 0) ∷ []) true)) 1
+      ≡ Some (record { who = 0; op = Default (receives_from (Some 0) ∷ []); place = 5; place2 = None })
+  pub behind_without : lone_event [] (waits 0 (Ask.Select (Offer.Recv (Some 0) ∷ []) false)) 1 ≡ None
   pub waits_without : Stays [] (Ask.Select (Offer.Send (Some 0) 5 ∷ Offer.Recv (Some 1) ∷ []) false)
   pub nil : HasWay [] (Ask.Select (Offer.Send None 5 ∷ Offer.Recv None ∷ []) true) 2
       (Default (sends_on None ∷ receives_from None ∷ [])) (Some Answer.DefaultTaken)

@@ -1,4 +1,5 @@
--- A goroutine's part of a trace, and its log. (Our own; compare The Go Memory Model, "Memory Model": the operations of a goroutine in program order)
+-- A goroutine's part of a trace, and its log. (Our own. The Go Memory Model, "Memory Model", speaks of each goroutine's execution: the operations that this
+-- goroutine executes)
 use Rattle.std.specs.Prelude.{ℕ, ◌≡◌, ◌&&◌, not, List, filter, length, slice_get, Some}
 use Rattle.race_records.specs.declared.event.Event.{Event}
 use Rattle.race_model.specs.Events.{takes_part, starts}

@@ -43,9 +43,10 @@ goes_on caps past g (Ask.Send c v) k = sender_goes_on caps past c
 goes_on caps past g (Ask.Recv c) k = receiver_goes_on caps past c
 -- on a closed channel and on nil this is a fault
 goes_on caps past g (Ask.Close c) k = true
--- by an offer as that does alone, and by its default where no case is ready
+-- by an offer as that does alone, and by its default, where it has one, if no case is ready
 goes_on caps past g (Ask.Select offers has_default) k =
-    cond (k == length offers) (not (list_any (is_ready caps past) (map case_of offers))) (offer_goes_on caps past (slice_get offers k))
+    cond (has_default && (k == length offers)) (not (list_any (is_ready caps past) (map case_of offers)))
+    (offer_goes_on caps past (slice_get offers k))
 -- neither a writer nor a reader has the lock
 goes_on caps past g (Ask.Lock l) k = not (is_held l past) && not (is_read_held l past)
 goes_on caps past g (Ask.RLock l) k = not (is_held l past)

@@ -42,7 +42,7 @@ abbrev pub IsEnd : DeclsState → List Event → List Waiter → Option End → 
 IsEnd decls events waiting (Some stop) end = end ≡ stop
 IsEnd decls events waiting None end = (end ≡ End.Deadlock) × AllWait events waiting × (length (choices (capacity_of decls.declarations) events waiting) ≡ 0)
 
--- the run has ended like that, where nobody's request was bad, or that of one whose bad request waits
+-- the end is what stops the run within this limit, or else a deadlock, where bad is nobody or a goroutine whose bad request waits
 pub record HasEnded (limit : ℕ) (r : RecordingState) : Type 0 where
   pub bad : Option ℕ
   pub whose : (g : ℕ) → bad ≡ Some g → HasBadRequest r.decls r.events r.waiting g

@@ -1,7 +1,7 @@
 -- The table of requests: what a goroutine that asks does in an event, and what it is told. (The Go Programming Language
 -- Specification, "Go statements",
 -- "Send statements", "Receive operator", "Close", "Select statements", "Run-time panics"; package sync)
-use Rattle.std.specs.Prelude.{ℕ, ◌≡◌, ◌==◌, ◌⊎◌, cond, Bool, true, Option, Some, None, List, [], ◌∷◌, map, slice_get}
+use Rattle.std.specs.Prelude.{ℕ, ◌≡◌, ◌==◌, ◌⊎◌, cond, Bool, true, Option, Some, None, List, [], ◌∷◌, length, map, slice_get}
 use Rattle.race_records.specs.declared.event.Cause.TheVariants.{SendClosed, CloseClosed, CloseNil, UnlockFree, RUnlockFree}
 use Rattle.race_records.specs.declared.event.Event.{Event}
 use Rattle.race_records.specs.declared.event.Op.{Op}
@@ -51,31 +51,32 @@ IsChosen offers k op told =
     (o : Offer) × (slice_get offers k ≡ Some o)
     × (((got : Option ℕ) × IsOffered o op got × (told ≡ Some (Answer.Chosen k got))) ⊎ (IsOfferedFault o op × (told ≡ None)))
 
--- the select took its default
-abbrev pub IsDefault : List Offer → Bool → Op → Option Answer → Type 0
-IsDefault offers has_default op told = (has_default ≡ true) × (op ≡ Default (map case_of offers)) × (told ≡ Some Answer.DefaultTaken)
+-- the select took its default, whose way comes behind those of its offers
+abbrev pub IsDefault : List Offer → Bool → ℕ → Op → Option Answer → Type 0
+IsDefault offers has_default k op told =
+    (has_default ≡ true) × (k ≡ length offers) × (op ≡ Default (map case_of offers)) × (told ≡ Some Answer.DefaultTaken)
 
--- a row of the table: who asks does the operation, by its way k, and is told that; nothing after an exit and a fault
+-- a row of the table: who asks does the operation, by its way k, and is told that; nothing after an exit and a fault. Only a select has another way than 0
 abbrev pub IsRow : Ask → ℕ → Op → Option Answer → Type 0
-IsRow (Ask.Go h) k op told = (op ≡ Go h) × (told ≡ Some Answer.Unit)
-IsRow Ask.Exit k op told = (op ≡ Exit) × (told ≡ None)
-IsRow (Ask.Read x) k op told = (v : ℕ) × (op ≡ Read x v) × (told ≡ Some (Answer.Value v))
-IsRow (Ask.Write x v) k op told = (op ≡ Write x v) × (told ≡ Some Answer.Unit)
+IsRow (Ask.Go h) k op told = (k ≡ 0) × (op ≡ Go h) × (told ≡ Some Answer.Unit)
+IsRow Ask.Exit k op told = (k ≡ 0) × (op ≡ Exit) × (told ≡ None)
+IsRow (Ask.Read x) k op told = (k ≡ 0) × (v : ℕ) × (op ≡ Read x v) × (told ≡ Some (Answer.Value v))
+IsRow (Ask.Write x v) k op told = (k ≡ 0) × (op ≡ Write x v) × (told ≡ Some Answer.Unit)
 IsRow (Ask.Send c v) k op told =
     (k ≡ 0) × (((got : Option ℕ) × IsOffered (Offer.Send c v) op got × (told ≡ Some (plain_answer (Offer.Send c v) got)))
     ⊎ (IsOfferedFault (Offer.Send c v) op × (told ≡ None)))
 IsRow (Ask.Recv c) k op told =
     (k ≡ 0) × (got : Option ℕ) × IsOffered (Offer.Recv c) op got × (told ≡ Some (plain_answer (Offer.Recv c) got))
 IsRow (Ask.Close c) k op told =
-    ((d : ℕ) × (c ≡ Some d) × (((op ≡ Close d) × (told ≡ Some Answer.Unit)) ⊎ ((op ≡ Fault (CloseClosed d)) × (told ≡ None))))
-    ⊎ ((c ≡ None) × (op ≡ Fault CloseNil) × (told ≡ None))
-IsRow (Ask.Select offers has_default) k op told = IsChosen offers k op told ⊎ IsDefault offers has_default op told
-IsRow (Ask.Lock l) k op told = (op ≡ Lock l) × (told ≡ Some Answer.Unit)
-IsRow (Ask.RLock l) k op told = (op ≡ RLock l) × (told ≡ Some Answer.Unit)
-IsRow (Ask.Unlock l) k op told = ((op ≡ Unlock l) × (told ≡ Some Answer.Unit)) ⊎ ((op ≡ Fault (UnlockFree l)) × (told ≡ None))
-IsRow (Ask.RUnlock l) k op told = ((op ≡ RUnlock l) × (told ≡ Some Answer.Unit)) ⊎ ((op ≡ Fault (RUnlockFree l)) × (told ≡ None))
-IsRow (Ask.Do o) k op told = ((op ≡ OnceBegin o) × (told ≡ Some Answer.Run)) ⊎ ((op ≡ OnceDone o) × (told ≡ Some Answer.AlreadyDone))
-IsRow (Ask.EndDo o) k op told = (op ≡ OnceEnd o) × (told ≡ Some Answer.Unit)
+    (k ≡ 0) × (((d : ℕ) × (c ≡ Some d) × (((op ≡ Close d) × (told ≡ Some Answer.Unit)) ⊎ ((op ≡ Fault (CloseClosed d)) × (told ≡ None))))
+    ⊎ ((c ≡ None) × (op ≡ Fault CloseNil) × (told ≡ None)))
+IsRow (Ask.Select offers has_default) k op told = IsChosen offers k op told ⊎ IsDefault offers has_default k op told
+IsRow (Ask.Lock l) k op told = (k ≡ 0) × (op ≡ Lock l) × (told ≡ Some Answer.Unit)
+IsRow (Ask.RLock l) k op told = (k ≡ 0) × (op ≡ RLock l) × (told ≡ Some Answer.Unit)
+IsRow (Ask.Unlock l) k op told = (k ≡ 0) × (((op ≡ Unlock l) × (told ≡ Some Answer.Unit)) ⊎ ((op ≡ Fault (UnlockFree l)) × (told ≡ None)))
+IsRow (Ask.RUnlock l) k op told = (k ≡ 0) × (((op ≡ RUnlock l) × (told ≡ Some Answer.Unit)) ⊎ ((op ≡ Fault (RUnlockFree l)) × (told ≡ None)))
+IsRow (Ask.Do o) k op told = (k ≡ 0) × (((op ≡ OnceBegin o) × (told ≡ Some Answer.Run)) ⊎ ((op ≡ OnceDone o) × (told ≡ Some Answer.AlreadyDone)))
+IsRow (Ask.EndDo o) k op told = (k ≡ 0) × (op ≡ OnceEnd o) × (told ≡ Some Answer.Unit)
 
 -- the step fits the event, in which g takes part: the places are the same, and some way's row has both
 abbrev pub Fits : ℕ → Step → Event → Type 0

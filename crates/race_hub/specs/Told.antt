@@ -1,5 +1,5 @@
 -- The rows of Table as tests: they give an answer exactly where IsRow holds, as proofs/RowLemmas shows.
-use Rattle.std.specs.Prelude.{ℕ, if◌then◌else◌, ◌==◌, ◌&&◌, Bool, true, List, map, slice_get, Option, Some, None, option_map}
+use Rattle.std.specs.Prelude.{ℕ, if◌then◌else◌, ◌==◌, ◌&&◌, Bool, List, length, map, slice_get, Option, Some, None, option_map}
 use Rattle.race_records.specs.Cases.{same_cases}
 use Rattle.race_records.specs.declared.event.Cause.TheVariants.{SendClosed, CloseClosed, CloseNil, UnlockFree, RUnlockFree}
 use Rattle.race_records.specs.declared.event.Op.{Op}
@@ -72,16 +72,11 @@ told_offer k o op = option_map (option_map (chosen k)) (told_plain o op)
 
 -- what is told who asks to select and went on by its way k
 abbrev pub told_selector : List Offer → Bool → ℕ → Op → Option (Option Answer)
-told_selector offers has_default k (Default cases) = told_if (has_default && same_cases cases (map case_of offers)) (Some Answer.DefaultTaken)
+told_selector offers has_default k (Default cases) =
+    told_if ((has_default && (k == length offers)) && same_cases cases (map case_of offers)) (Some Answer.DefaultTaken)
 told_selector offers has_default k op = elim (slice_get offers k) [ None ↦ None | Some o ↦ told_offer k o op ]
 
--- a send and a receive have the way 0 alone, and at the others the way says nothing
-abbrev pub is_way : Ask → ℕ → Bool
-is_way (Ask.Send c v) k = k == 0
-is_way (Ask.Recv c) k = k == 0
-is_way _ k = true
-
--- the same by the way k
+-- the same by the way k; only a select has another than 0
 abbrev pub told_at : Ask → ℕ → Op → Option (Option Answer)
 told_at (Ask.Select offers has_default) k op = told_selector offers has_default k op
-told_at ask k op = if is_way ask k then told_by ask op else None
+told_at ask k op = if k == 0 then told_by ask op else None

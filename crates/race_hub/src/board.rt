@@ -12,6 +12,7 @@ ghost use Rattle.race_hub.specs.Search.{picked};
 ghost use Rattle.race_hub.specs.Waiting as list;
 
 use crate::meet::offer_at;
+use crate::possible::is_default_way;
 use crate::receivers::Receivers;
 use crate::{
     Ask, Board, Choice, Found, Offer, Offers, Waiter, can_go_on, can_meet, find, lone_event,
@@ -337,7 +338,7 @@ fn is_default_of(ask: &Ask, way: u32) -> bool
     ensures { result ≡ spec.is_default_of ask.now way }
 {
     match ask {
-        Ask::Select(offers, _) => way as usize == offers.len(),
+        Ask::Select(offers, has_default) => is_default_way(offers, *has_default, way),
         _ => false,
     }
 }

@@ -19,7 +19,7 @@ ghost use Rattle.race_hub.specs.Laws.{
   SelectsMeet,
 };
 
-/// A start and an exit always go on.
+/// The table has a row for a start and one for an exit, and in a run without events each goes on by it.
 pub fn rows_of_goroutines()
     ensures { RowsOfGoroutines }
 {}
@@ -59,7 +59,7 @@ pub fn rows_of_meets()
     ensures { RowsOfMeets }
 {}
 
-/// A select goes on by an offer as that does alone, and by its default where no offer can.
+/// A select goes on by an offer as that does alone, and by its default, if it has one, where no offer can.
 pub fn rows_of_selects()
     ensures { RowsOfSelects }
 {}

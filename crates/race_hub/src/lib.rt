@@ -1,4 +1,4 @@
-//! The recorder's table: which event each request makes, what its goroutine is told, and between which requests there is a choice.
+//! Runs goroutines by what they ask: a table says what each does and is told, and a hub lets those that wait go on, one event at a time, and records it.
 #![tactic(auto)]
 
 mod board;

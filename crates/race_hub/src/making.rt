@@ -1,5 +1,5 @@
 //! Which event a waiting request makes alone, after the events so far.
-ghost use Rattle.std.specs.Prelude.{ℕ, ◌≡◌, cond, Bool, Option, Some, None, IsTrue};
+ghost use Rattle.std.specs.Prelude.{ℕ, ◌≡◌, cond, Option, Some, None, IsTrue};
 ghost use Rattle.std.specs.List.{list_all};
 ghost use Rattle.race_records.specs.declared.event.Cause.TheVariants.{SendClosed, CloseClosed, UnlockFree, RUnlockFree};
 ghost use Rattle.race_records.specs.declared.event.Op.TheVariants.{Send, Recv, RecvClosed, Close, Unlock, RUnlock, OnceBegin, OnceDone, Fault};
@@ -9,6 +9,7 @@ ghost use Rattle.race_legal.specs.StandsFor.{ForEachPast};
 ghost use Rattle.race_hub.specs.Choices as spec;
 ghost use Rattle.race_hub.specs.Possible.{ask_is_in_range, offer_is_in_range};
 
+use crate::possible::is_default_way;
 use crate::{Ask, Offer, Offers, Waiter};
 use race_legal::Replay;
 use race_records::{Cause, Event, Kind, Op};
@@ -113,15 +114,20 @@ fn lone_close<A: Allocator>(replay: &Replay<A>, chan: Option<u32>) -> Option<Op>
 }
 
 // What a select does alone by its way of this number.
-fn lone_select<A: Allocator>(replay: &Replay<A>, offers: &Offers, way: u32) -> Option<Op>
+fn lone_select<A: Allocator>(
+    replay: &Replay<A>,
+    offers: &Offers,
+    has_default: bool,
+    way: u32,
+) -> Option<Op>
     requires { IsTrue (list_all (offer_is_in_range (counts_in replay.now Kind.Chan)) offers.now) }
-    ensures { ForEachPast replay.now (λ past. (has_default : Bool) → result ≡ spec.op_of past (Ask.Select offers.now has_default) way) }
+    ensures { ForEachPast replay.now (λ past. result ≡ spec.op_of past (Ask.Select offers.now has_default) way) }
 {
-    let at = way as usize;
-    if at == offers.len() {
+    if is_default_way(offers, has_default, way) {
         return Some(Op::Default(offers.cases()));
     }
-    if at > offers.len() {
+    let at = way as usize;
+    if at >= offers.len() {
         return None;
     }
     match offers.get(at) {
@@ -143,7 +149,7 @@ fn lone_op<A: Allocator>(replay: &Replay<A>, ask: &Ask, way: u32) -> Option<Op>
         Ask::Send(chan, value) => lone_send(replay, *chan, *value),
         Ask::Recv(chan) => lone_recv(replay, *chan),
         Ask::Close(chan) => lone_close(replay, *chan),
-        Ask::Select(offers, _) => lone_select(replay, offers, way),
+        Ask::Select(offers, has_default) => lone_select(replay, offers, *has_default, way),
         Ask::Lock(lock) => Some(Op::Lock(*lock)),
         Ask::Unlock(lock) => Some(unlock_op(*lock, replay.is_held(*lock))),
         Ask::RLock(lock) => Some(Op::RLock(*lock)),

@@ -1,5 +1,5 @@
 //! Which requests can go on after the events so far, asked of a replay of these events, and which event each makes.
-ghost use Rattle.std.specs.Prelude.{ℕ, ◌≡◌, ◌<◌, ◌==◌, ◌&&◌, ◌||◌, not, nat_lt, Bool, List, map, is_none, IsTrue};
+ghost use Rattle.std.specs.Prelude.{ℕ, ◌≡◌, ◌<◌, ◌==◌, ◌&&◌, ◌||◌, not, nat_lt, List, length, map, is_none, IsTrue};
 ghost use Rattle.std.specs.List.{list_any, list_all};
 ghost use Rattle.race_model.specs.Events.{gives};
 ghost use Rattle.race_records.specs.declared.cases.Dir.{Dir};
@@ -55,6 +55,13 @@ pub(crate) fn is_number(found: Option<u32>, number: u32) -> bool
     ensures { result ≡ gives found number }
 {
     found == Some(number)
+}
+
+// By its way of this number the select takes its default, which it has.
+pub(crate) fn is_default_way(offers: &Offers, has_default: bool, way: u32) -> bool
+    ensures { result ≡ (has_default && (way == length offers.now)) }
+{
+    has_default && way as usize == offers.len()
 }
 
 // The run isn't over, who acts runs, and the rest lets it.
@@ -202,18 +209,19 @@ fn selector_can<A: Allocator, B: Allocator>(
     replay: &Replay<A>,
     decls: &Decls<B>,
     offers: &Offers,
+    has_default: bool,
     way: u32,
 ) -> bool
     requires same { count_of Kind.Chan decls.now.declarations ≡ counts_in replay.now Kind.Chan }
     requires range { IsTrue (list_all (offer_is_in_range (counts_in replay.now Kind.Chan)) offers.now) }
-    ensures { (past : List Event) (who : ℕ) (has_default : Bool) → StandsFor decls.now.declarations replay.now past
+    ensures { (past : List Event) (who : ℕ) → StandsFor decls.now.declarations replay.now past
         → result ≡ goes_on (capacity_of decls.now.declarations) past who (Ask.Select offers.now has_default) way }
 {
-    let at = way as usize;
-    if at == offers.len() {
+    if is_default_way(offers, has_default, way) {
         return default_can(replay, decls, offers);
     }
-    if at > offers.len() {
+    let at = way as usize;
+    if at >= offers.len() {
         return false;
     }
     match offers.get(at) {
@@ -241,7 +249,7 @@ fn ask_can<A: Allocator, B: Allocator>(
         Ask::Exit => is_absent(replay.innermost(who)),
         Ask::Send(chan, _) => sender_can(replay, decls, *chan),
         Ask::Recv(chan) => receiver_can(replay, decls, *chan),
-        Ask::Select(offers, _) => selector_can(replay, decls, offers, way),
+        Ask::Select(offers, has_default) => selector_can(replay, decls, offers, *has_default, way),
         Ask::Lock(lock) => neither(replay.is_held(*lock), replay.is_read_held(*lock)),
         Ask::RLock(lock) => !replay.is_held(*lock),
         Ask::Do(once) => only_if(replay.is_begun(*once), replay.is_ended(*once)),

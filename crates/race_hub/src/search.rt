@@ -42,7 +42,8 @@ pub trait Board {
         requires { place < size self.now }
         ensures { result ≡ ways_at self.now place };
 
-    /// The first place from this one on where the request may have a partner by this way; `len` or more where there is none.
+    /// The place, `from` or a later one, where the next partner of the request by this way may stand: none stands from `from`
+    /// up to just before it. So `len` or more says that there is none from `from` on.
     fn next_partner(&self, place: u32, way: u32, from: u32) -> u32
         requires { place < size self.now }
         ensures onward { from ≤ result }
@@ -146,7 +147,8 @@ fn by_request<B: Board>(board: &B, place: u32, skip: u64) -> Found
     Found::Left(left)
 }
 
-/// The choice number `skip`, counted from 0, or by how many there are too few. Takes no memory.
+/// `Found::At` with choice number `skip`, counted from 0; or `Found::Left` with `skip` less the count of choices, where `skip`
+/// isn't below that count. Takes no memory.
 pub fn find<B: Board>(board: &B, skip: u64) -> Found
     ensures { IsFound (filter (B.admitted board.now) (tuples (B.size board.now) (B.ways_at board.now))) skip result }
 {

@@ -3,8 +3,9 @@ ghost use Rattle.std.specs.Prelude.{ℕ, ◌≡◌, ◌≤◌, ◌↔◌, if◌t
 ghost use Rattle.race_hub.specs.declared.request.Answer.{Answer};
 ghost use Rattle.race_hub.specs.Table as spec;
 ghost use Rattle.race_hub.specs.Table.{offers_of, done_by, IsRow, Fits, CanMake};
-ghost use Rattle.race_hub.specs.Told.{told_if, told_sender, told_receiver, told_closer, told_by, chosen, told_offer, told_selector, is_way, told_at};
+ghost use Rattle.race_hub.specs.Told.{told_if, told_sender, told_receiver, told_closer, told_by, chosen, told_offer, told_selector, told_at};
 
+use crate::possible::is_default_way;
 use crate::{Answer, Ask, Offer, Offers, Step};
 use race_records::{Cause, Event, Op};
 
@@ -121,7 +122,7 @@ fn tells_selector(offers: &Offers, has_default: bool, way: u32, done: &Op) -> Op
 {
     if let Op::Default(cases) = done {
         return tells(
-            has_default && *cases == offers.cases(),
+            is_default_way(offers, has_default, way) && *cases == offers.cases(),
             Some(Answer::DefaultTaken),
         );
     }
@@ -131,7 +132,7 @@ fn tells_selector(offers: &Offers, has_default: bool, way: u32, done: &Op) -> Op
     tells_offer(way, offers.get(way as usize), done)
 }
 
-// What is told who asks, but to select, and did that, by whatever way.
+// What is told who asks, but to select, and did that.
 fn tells_by(ask: &Ask, done: &Op) -> Option<Option<Answer>>
     ensures { result ≡ told_by ask.now done.now }
 {
@@ -178,13 +179,10 @@ fn tells_by(ask: &Ask, done: &Op) -> Option<Option<Answer>>
 fn tells_at(ask: &Ask, way: u32, done: &Op) -> Option<Option<Answer>>
     ensures { result ≡ told_at ask.now way done.now }
 {
-    let has_way = match ask {
-        Ask::Select(offers, has_default) => return tells_selector(offers, *has_default, way, done),
-        Ask::Send(_, _) => way == 0,
-        Ask::Recv(_) => way == 0,
-        _ => true,
-    };
-    if has_way { tells_by(ask, done) } else { None }
+    if let Ask::Select(offers, has_default) = ask {
+        return tells_selector(offers, *has_default, way, done);
+    }
+    if way == 0 { tells_by(ask, done) } else { None }
 }
 
 // What is told who asks and did its part of an event with this operation.

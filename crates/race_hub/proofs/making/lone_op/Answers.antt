@@ -43,9 +43,9 @@ returns-in-Close g c D past S = c.lone_close.ensures D past S c.args.way ∙ sym
 
 pub lone_select-requires : goal.lone_select-requires
 lone_select-requires g c =
-    offers_in_range (counts_in c.args.replay.now) c.in-Select.offers c.in-Select.field-1
+    offers_in_range (counts_in c.args.replay.now) c.in-Select.offers c.in-Select.has_default
     (subst (λ (a : Ask). IsTrue (ask_is_in_range (counts_in c.args.replay.now) a)) c.in-Select.is c.requires)
 
 pub returns-in-Select : goal.returns-in-Select
 returns-in-Select g c D past S =
-    c.lone_select.ensures D past S c.in-Select.field-1 ∙ sym (ap (λ (a : Ask). op_of past a c.args.way) c.in-Select.is)
+    c.lone_select.ensures D past S ∙ sym (ap (λ (a : Ask). op_of past a c.args.way) c.in-Select.is)

@@ -1,6 +1,5 @@
 -- An offer makes what a send or a receive does.
-use Rattle.std.proofs.Common.{◌≡◌, ◌==◌, false, map, length, Option, Some, None, sym, ap, ◌∙◌, arith}
-use Rattle.std.proofs.lemmas.Bool.Decides.{nat_tests}
+use Rattle.std.proofs.Common.{◌==◌, ◌&&◌, map, length, Option, Some, None, sym, ap, ◌∙◌}
 use Rattle.race_records.specs.declared.event.Op.TheVariants.{Default}
 use Rattle.race_records.specs.declared.kind.Kind.{Kind}
 use Rattle.race_legal.specs.ReplayState.{counts_in}
@@ -19,15 +18,17 @@ lone_recv-requires g c =
     chan_in_range (counts_in c.args.replay.now Kind.Chan) c.args.offers.now c.args.way c.get.result _ c.requires c.get.ensures c.in-Recv.is
 
 pub returns-in-Send : goal.returns-in-Send
-returns-in-Send g c D past S has_default =
-    let test : (c.args.way == length c.args.offers.now) ≡ false = grind (arith, nat_tests, c.if-at-len.false, c.len.ensures.len) in
+returns-in-Send g c D past S =
+    let test = sym c.is_default_way.ensures ∙ c.if-is_default_way.false in
     c.lone_send.ensures D past S c.args.way ∙ sym (ap (lone_op past) c.in-Send.is)
-    ∙ by_offer_at c.args.offers.now c.args.way c.get.result (Some (Default (map case_of c.args.offers.now)))
+    ∙ by_offer_at c.args.offers.now c.args.way (Some c.get.result) (c.args.has_default && (c.args.way == length c.args.offers.now))
+    (Some (Default (map case_of c.args.offers.now)))
     (λ (o : Option Offer). elim o [ Some o ↦ lone_op past o | None ↦ None ]) test c.get.ensures
 
 pub returns-in-Recv : goal.returns-in-Recv
-returns-in-Recv g c D past S has_default =
-    let test : (c.args.way == length c.args.offers.now) ≡ false = grind (arith, nat_tests, c.if-at-len.false, c.len.ensures.len) in
+returns-in-Recv g c D past S =
+    let test = sym c.is_default_way.ensures ∙ c.if-is_default_way.false in
     c.lone_recv.ensures D past S c.args.way ∙ sym (ap (lone_op past) c.in-Recv.is)
-    ∙ by_offer_at c.args.offers.now c.args.way c.get.result (Some (Default (map case_of c.args.offers.now)))
+    ∙ by_offer_at c.args.offers.now c.args.way (Some c.get.result) (c.args.has_default && (c.args.way == length c.args.offers.now))
+    (Some (Default (map case_of c.args.offers.now)))
     (λ (o : Option Offer). elim o [ Some o ↦ lone_op past o | None ↦ None ]) test c.get.ensures

@@ -46,11 +46,11 @@ returns-in-EndDo g c past S =
 
 pub selector_can-requires-clause-range : goal.selector_can-requires-clause-range
 selector_can-requires-clause-range g c =
-    offers_in_range (counts_in c.args.replay.now) c.in-Select.offers c.in-Select.field-1
+    offers_in_range (counts_in c.args.replay.now) c.in-Select.offers c.in-Select.has_default
     (subst (λ (a : Ask). IsTrue (ask_is_in_range (counts_in c.args.replay.now) a)) c.in-Select.is c.requires.range)
 
 pub returns-in-Select : goal.returns-in-Select
 returns-in-Select g c past S =
     let D = c.args.decls.now.declarations in
-    c.selector_can.ensures past c.args.who c.in-Select.field-1 S
+    c.selector_can.ensures past c.args.who S
     ∙ sym (ap (λ (a : Ask). goes_on (capacity_of D) past c.args.who a c.args.way) c.in-Select.is)

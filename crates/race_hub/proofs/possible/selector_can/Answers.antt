@@ -1,7 +1,6 @@
 -- An offer goes on as a send or a receive does.
-use Rattle.std.proofs.Common.{◌≡◌, ◌==◌, false, map, Some, length, not, sym, ap, ◌∙◌, arith}
+use Rattle.std.proofs.Common.{◌==◌, ◌&&◌, map, Some, length, not, sym, ap, ◌∙◌}
 use Rattle.std.specs.List.{list_any}
-use Rattle.std.proofs.lemmas.Bool.Decides.{nat_tests}
 use Rattle.race_records.specs.declared.kind.Kind.{Kind}
 use Rattle.race_records.specs.Declarations.{capacity_of}
 use Rattle.race_model.specs.Legal.{is_ready}
@@ -20,17 +19,19 @@ receiver_can-requires-clause-range g c =
     chan_in_range (counts_in c.args.replay.now Kind.Chan) c.args.offers.now c.args.way c.get.result _ c.requires.range c.get.ensures c.in-Recv.is
 
 pub returns-in-Send : goal.returns-in-Send
-returns-in-Send g c past who has_default S =
+returns-in-Send g c past who S =
     let caps = capacity_of c.args.decls.now.declarations in
-    let test : (c.args.way == length c.args.offers.now) ≡ false = grind (arith, nat_tests, c.if-at-len.false, c.len.ensures.len) in
+    let test = sym c.is_default_way.ensures ∙ c.if-is_default_way.false in
     c.sender_can.ensures past S ∙ sym (ap (λ o. offer_goes_on caps past (Some o)) c.in-Send.is)
-    ∙ by_offer_at c.args.offers.now c.args.way c.get.result (not (list_any (is_ready caps past) (map case_of c.args.offers.now))) (offer_goes_on caps past)
+    ∙ by_offer_at c.args.offers.now c.args.way (Some c.get.result) (c.args.has_default && (c.args.way == length c.args.offers.now))
+    (not (list_any (is_ready caps past) (map case_of c.args.offers.now))) (offer_goes_on caps past)
     test c.get.ensures
 
 pub returns-in-Recv : goal.returns-in-Recv
-returns-in-Recv g c past who has_default S =
+returns-in-Recv g c past who S =
     let caps = capacity_of c.args.decls.now.declarations in
-    let test : (c.args.way == length c.args.offers.now) ≡ false = grind (arith, nat_tests, c.if-at-len.false, c.len.ensures.len) in
+    let test = sym c.is_default_way.ensures ∙ c.if-is_default_way.false in
     c.receiver_can.ensures past S ∙ sym (ap (λ o. offer_goes_on caps past (Some o)) c.in-Recv.is)
-    ∙ by_offer_at c.args.offers.now c.args.way c.get.result (not (list_any (is_ready caps past) (map case_of c.args.offers.now))) (offer_goes_on caps past)
+    ∙ by_offer_at c.args.offers.now c.args.way (Some c.get.result) (c.args.has_default && (c.args.way == length c.args.offers.now))
+    (not (list_any (is_ready caps past) (map case_of c.args.offers.now))) (offer_goes_on caps past)
     test c.get.ensures

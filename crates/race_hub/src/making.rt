@@ -159,7 +159,8 @@ fn lone_op<A: Allocator>(replay: &Replay<A>, ask: &Ask, way: u32) -> Option<Op>
     }
 }
 
-/// The event that the waiting request makes alone by its way of this number, if it can make one.
+/// The event that the waiting request makes alone by its way of this number, if it can make one. Only of a select the
+/// number is looked at: other requests have one way.
 pub fn lone_event<A: Allocator>(replay: &Replay<A>, waiter: &Waiter, way: u32) -> Option<Event>
     requires { IsTrue (ask_is_in_range (counts_in replay.now) waiter.now.asked.ask) }
     ensures { ForEachPast replay.now (λ past. result ≡ spec.lone_event past waiter.now way) }

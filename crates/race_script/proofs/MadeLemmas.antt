@@ -32,10 +32,10 @@ value_got c None = refl
 
 -- where a row of the table has an ask with an answer, the operation is the one that was done
 pub told_made : (ask : Ask) (k : ℕ) (op : Op) (a : Answer) → IsRow ask k op (Some a) → made_by ask a ≡ Some op
-told_made (Ask.Go h) k op a row = ap Some (sym row.0)
+told_made (Ask.Go h) k op a row = ap Some (sym row.1)
 told_made Ask.Exit k op a row = absurd cc
-told_made (Ask.Read x) k op a (v, did, told) = same_told (Ask.Read x) a (Answer.Value v) op told (ap Some (sym did))
-told_made (Ask.Write x v) k op a row = ap Some (sym row.0)
+told_made (Ask.Read x) k op a (way, v, did, told) = same_told (Ask.Read x) a (Answer.Value v) op told (ap Some (sym did))
+told_made (Ask.Write x v) k op a row = ap Some (sym row.1)
 told_made (Ask.Send c v) k op a (way, inl (got, is, told)) =
     ap (made_by_offer (Offer.Send c v)) (sym (sent_got c v op got is)) ∙ offer_made (Offer.Send c v) op got is where
       sent_got : (c : Option ℕ) (v : ℕ) (op : Op) (got : Option ℕ) → IsOffered (Offer.Send c v) op got → got ≡ None
@@ -44,23 +44,23 @@ told_made (Ask.Send c v) k op a (way, inr (fault, told)) = absurd cc
 told_made (Ask.Recv c) k op a (way, got, is, told) =
     same_told (Ask.Recv c) a (plain_answer (Offer.Recv c) got) op told
     (ap (made_by_offer (Offer.Recv c)) (value_got c got) ∙ offer_made (Offer.Recv c) op got is)
-told_made (Ask.Close c) k op a (inl (d, is, inl (did, told))) = ap (option_map Close) is ∙ ap Some (sym did)
-told_made (Ask.Close c) k op a (inl (d, is, inr (did, told))) = absurd cc
-told_made (Ask.Close c) k op a (inr (nil, did, told)) = absurd cc
+told_made (Ask.Close c) k op a (way, inl (d, is, inl (did, told))) = ap (option_map Close) is ∙ ap Some (sym did)
+told_made (Ask.Close c) k op a (way, inl (d, is, inr (did, told))) = absurd cc
+told_made (Ask.Close c) k op a (way, inr (nil, did, told)) = absurd cc
 told_made (Ask.Select offers has_default) k op a (inl (o, at, inl (got, is, told))) =
     same_told (Ask.Select offers has_default) a (Answer.Chosen k got) op told (ap (option_and_then (λ o. made_by_offer o got)) at ∙ offer_made o op got is)
 told_made (Ask.Select offers has_default) k op a (inl (o, at, inr (fault, told))) = absurd cc
-told_made (Ask.Select offers has_default) k op a (inr (has, did, told)) =
+told_made (Ask.Select offers has_default) k op a (inr (has, behind, did, told)) =
     same_told (Ask.Select offers has_default) a Answer.DefaultTaken op told (ap Some (sym did))
-told_made (Ask.Lock l) k op a row = ap Some (sym row.0)
-told_made (Ask.RLock l) k op a row = ap Some (sym row.0)
-told_made (Ask.Unlock l) k op a (inl (did, told)) = ap Some (sym did)
-told_made (Ask.Unlock l) k op a (inr (did, told)) = absurd cc
-told_made (Ask.RUnlock l) k op a (inl (did, told)) = ap Some (sym did)
-told_made (Ask.RUnlock l) k op a (inr (did, told)) = absurd cc
-told_made (Ask.Do o) k op a (inl (did, told)) = same_told (Ask.Do o) a Answer.Run op told (ap Some (sym did))
-told_made (Ask.Do o) k op a (inr (did, told)) = same_told (Ask.Do o) a Answer.AlreadyDone op told (ap Some (sym did))
-told_made (Ask.EndDo o) k op a row = ap Some (sym row.0)
+told_made (Ask.Lock l) k op a row = ap Some (sym row.1)
+told_made (Ask.RLock l) k op a row = ap Some (sym row.1)
+told_made (Ask.Unlock l) k op a (way, inl (did, told)) = ap Some (sym did)
+told_made (Ask.Unlock l) k op a (way, inr (did, told)) = absurd cc
+told_made (Ask.RUnlock l) k op a (way, inl (did, told)) = ap Some (sym did)
+told_made (Ask.RUnlock l) k op a (way, inr (did, told)) = absurd cc
+told_made (Ask.Do o) k op a (way, inl (did, told)) = same_told (Ask.Do o) a Answer.Run op told (ap Some (sym did))
+told_made (Ask.Do o) k op a (way, inr (did, told)) = same_told (Ask.Do o) a Answer.AlreadyDone op told (ap Some (sym did))
+told_made (Ask.EndDo o) k op a row = ap Some (sym row.1)
 
 -- it fails by the cause of its run
 failed : (fault : Option Cause) (op : Op) (cause : Cause) → FailsBy fault op → op ≡ Fault cause → option_map Fault fault ≡ Some op
@@ -69,27 +69,27 @@ failed fault op cause fails is = ap (option_map Fault) (fails cause is) ∙ ap S
 -- and so it is where the row tells nothing
 untold_made : (ask : Ask) (k : ℕ) (op : Op) (fault : Option Cause) → IsRow ask k op None → FailsBy fault op → made_in ask None fault ≡ Some op
 untold_made (Ask.Go h) k op fault row fails = absurd cc
-untold_made Ask.Exit k op fault row fails = ap Some (sym row.0)
-untold_made (Ask.Read x) k op fault (v, did, told) fails = absurd cc
+untold_made Ask.Exit k op fault row fails = ap Some (sym row.1)
+untold_made (Ask.Read x) k op fault (way, v, did, told) fails = absurd cc
 untold_made (Ask.Write x v) k op fault row fails = absurd cc
 untold_made (Ask.Send c v) k op fault (way, inl (got, is, told)) fails = absurd cc
 untold_made (Ask.Send c v) k op fault (way, inr ((d, is, did), told)) fails = failed fault op (SendClosed d) fails did
 untold_made (Ask.Recv c) k op fault (way, got, is, told) fails = absurd cc
-untold_made (Ask.Close c) k op fault (inl (d, is, inl (did, told))) fails = absurd cc
-untold_made (Ask.Close c) k op fault (inl (d, is, inr (did, told))) fails = failed fault op (CloseClosed d) fails did
-untold_made (Ask.Close c) k op fault (inr (nil, did, told)) fails = failed fault op CloseNil fails did
+untold_made (Ask.Close c) k op fault (way, inl (d, is, inl (did, told))) fails = absurd cc
+untold_made (Ask.Close c) k op fault (way, inl (d, is, inr (did, told))) fails = failed fault op (CloseClosed d) fails did
+untold_made (Ask.Close c) k op fault (way, inr (nil, did, told)) fails = failed fault op CloseNil fails did
 untold_made (Ask.Select offers has_default) k op fault (inl (o, at, inl (got, is, told))) fails = absurd cc
 untold_made (Ask.Select offers has_default) k op fault (inl (Offer.Send c v, at, inr ((d, is, did), told))) fails = failed fault op (SendClosed d) fails did
 untold_made (Ask.Select offers has_default) k op fault (inl (Offer.Recv c, at, inr (no_fault, told))) fails = absurd no_fault
-untold_made (Ask.Select offers has_default) k op fault (inr (has, did, told)) fails = absurd cc
+untold_made (Ask.Select offers has_default) k op fault (inr (has, behind, did, told)) fails = absurd cc
 untold_made (Ask.Lock l) k op fault row fails = absurd cc
 untold_made (Ask.RLock l) k op fault row fails = absurd cc
-untold_made (Ask.Unlock l) k op fault (inl (did, told)) fails = absurd cc
-untold_made (Ask.Unlock l) k op fault (inr (did, told)) fails = failed fault op (UnlockFree l) fails did
-untold_made (Ask.RUnlock l) k op fault (inl (did, told)) fails = absurd cc
-untold_made (Ask.RUnlock l) k op fault (inr (did, told)) fails = failed fault op (RUnlockFree l) fails did
-untold_made (Ask.Do o) k op fault (inl (did, told)) fails = absurd cc
-untold_made (Ask.Do o) k op fault (inr (did, told)) fails = absurd cc
+untold_made (Ask.Unlock l) k op fault (way, inl (did, told)) fails = absurd cc
+untold_made (Ask.Unlock l) k op fault (way, inr (did, told)) fails = failed fault op (UnlockFree l) fails did
+untold_made (Ask.RUnlock l) k op fault (way, inl (did, told)) fails = absurd cc
+untold_made (Ask.RUnlock l) k op fault (way, inr (did, told)) fails = failed fault op (RUnlockFree l) fails did
+untold_made (Ask.Do o) k op fault (way, inl (did, told)) fails = absurd cc
+untold_made (Ask.Do o) k op fault (way, inr (did, told)) fails = absurd cc
 untold_made (Ask.EndDo o) k op fault row fails = absurd cc
 
 -- the operation of a row is the one that was done in a step with its ask and its answer

@@ -14,8 +14,9 @@ use Rattle.race_hub.specs.Holds.{Holds}
 use Rattle.race_hub.specs.Job.{JobState}
 use Rattle.race_hub.specs.Kept.{standing, is_active, has_left, StandOnce, EndOnce}
 use Rattle.race_hub.specs.Recording.{HasBadRequest}
-use Rattle.race_hub.specs.Submits.{is_sound, is_out_of_turn, is_bad, is_back, ends_hub, Takes}
+use Rattle.race_hub.specs.Submits.{is_sound, is_out_of_turn, is_bad, is_back, ends_hub, without_first, Takes}
 use Rattle.race_hub.specs.declared.request.Request.{Request}
+use Rattle.race_hub.proofs.AmongLemmas.{first_gone}
 use Rattle.race_hub.proofs.ChoiceLemmas.{some_is}
 use Rattle.race_hub.proofs.EndLemmas.{end_while_out}
 use Rattle.race_hub.proofs.EndedLemmas.{through_of, bad_stays, bad_joins, out_waits_not}
@@ -182,6 +183,38 @@ module _ {R : Type 0} where
     unstarted = h.unstarted;
     ended = h.ended;
     bad = h.bad;
+  }
+
+  -- the hub with other waiting requests, boxes and jobs that are out, and this bad one
+  abbrev pub put_back : HubState R → List Waiter → List (ParkedState R) → List ℕ → Option ℕ → HubState R
+  put_back h waiting parked out bad = record {
+    decls = h.decls;
+    events = h.events;
+    limit = h.limit;
+    ready = h.ready;
+    waiting = waiting;
+    parked = parked;
+    out = out;
+    unstarted = h.unstarted;
+    ended = h.ended;
+    bad = bad;
+  }
+
+  -- one more waits and one fewer is out where the lists say so
+  pub joins_by : (h : HubState R) (w : Waiter) (p : ParkedState R) (waiting : List Waiter) (parked : List (ParkedState R)) (out : List ℕ) (bad : Option ℕ)
+      → waiting ≡ h.waiting ++ w ∷ [] → parked ≡ h.parked ++ p ∷ [] → length out + 1 ≡ length h.out → out ≡ without_first w.who h.out
+      → list_any (λ o. o == w.who) h.out ≡ true → Joins h (put_back h waiting parked out bad) w p
+  joins_by h w p waiting parked out bad waits rests fewer left among = record {
+    decls = refl;
+    events = refl;
+    limit = refl;
+    ready = refl;
+    waiting = waits;
+    parked = rests;
+    out = fewer;
+    gone = λ k. ap (λ xs. count_by (λ o. o == k) xs + cond (w.who == k) 1 0) left ∙ first_gone h.out w.who k among;
+    unstarted = refl;
+    ended = refl;
   }
 
   -- room alone changes no test

@@ -1,10 +1,8 @@
-use Rattle.std.proofs.Common.{◌≡◌, ◌==◌, ◌+◌, cond, ◌++◌, ◌∷◌, [], ◌∙◌, ap, subst, refl, arith, sym, if◌then◌else◌, Some, true}
-use Rattle.std.specs.List.{count_by}
+use Rattle.std.proofs.Common.{◌≡◌, ◌++◌, ◌∷◌, [], ◌∙◌, ap, subst, refl, arith, sym, if◌then◌else◌, Some, true}
 use Rattle.race_hub.specs.Hub.{HubState}
 use Rattle.race_hub.specs.HubHolds.{hub_state}
 use Rattle.race_hub.specs.Submits.{is_back, ends_hub, without_first, Submits}
-use Rattle.race_hub.proofs.AmongLemmas.{first_gone}
-use Rattle.race_hub.proofs.SubmitLemmas.{joined_well, joined_badly, back_was_out, test_same, ends_by}
+use Rattle.race_hub.proofs.SubmitLemmas.{put_back, joins_by, joined_well, joined_badly, back_was_out, test_same, ends_by}
 use Rattle.race_hub.proofs.hub.Hub.submit.Goals as goal
 
 pub invariant_of-self-then-bad : goal.invariant_of-self-then-bad
@@ -16,33 +14,14 @@ invariant_of-self-then-bad g c =
     let w = c.park-waiter.result.0 in
     let among = back_was_out old c.args.job c.is_back.result w.who (c.is_back.ensures ∙ ap (λ h. is_back h c.args.job) (sym c.self.view_is))
     c.if-not-is_back.false c.park-waiter.ensures.who in
-    let new : HubState g.row.R.Denot = record {
-      decls = old.decls;
-      events = old.events;
-      limit = old.limit;
-      ready = old.ready;
-      waiting = c.push_reserved.new.self.items;
-      parked = c.push_reserved-2.new.self.items;
-      out = c.take_first.new.numbers.items;
-      unstarted = old.unstarted;
-      ended = old.ended;
-      bad = Some w.who;
-    } in
+    let new : HubState g.row.R.Denot =
+    put_back old c.push_reserved.new.self.items c.push_reserved-2.new.self.items c.take_first.new.numbers.items (Some w.who) in
     let same = test_same old c.reserve.new.self.items c.reserve-else-is_err.new.self.items w c.reserve.ensures.items c.reserve-else-is_err.ensures.items in (
       joined_badly c.self.inside.replay old new w c.park-waiter.result.1
-          (record {
-            decls = refl;
-            events = refl;
-            limit = refl;
-            ready = refl;
-            waiting = c.push_reserved.ensures.items ∙ ap (λ xs. xs ++ w ∷ []) c.reserve.ensures.items;
-            parked = c.push_reserved-2.ensures.items ∙ ap (λ xs. xs ++ c.park-waiter.result.1 ∷ []) c.reserve-else-is_err.ensures.items;
-            out = c.take_first.ensures.count;
-            gone = λ k.
-                ap (λ xs. count_by (λ o. o == k) xs + cond (w.who == k) 1 0) c.take_first.ensures.numbers ∙ first_gone old.out w.who k among;
-            unstarted = refl;
-            ended = refl;
-          })
+          (joins_by old w c.park-waiter.result.1 new.waiting new.parked new.out (Some w.who)
+          (c.push_reserved.ensures.items ∙ ap (λ xs. xs ++ w ∷ []) c.reserve.ensures.items)
+          (c.push_reserved-2.ensures.items ∙ ap (λ xs. xs ++ c.park-waiter.result.1 ∷ []) c.reserve-else-is_err.ensures.items)
+          c.take_first.ensures.count c.take_first.ensures.numbers among)
           refl c.self.invariant.0 (sym same ∙ sym c.is_bad-bad.ensures ∙ c.if-bad.true),
       omega (arith, room, len, cap),
       c.self.invariant.2,
@@ -58,18 +37,8 @@ returns-then-bad-clause-bad g c _ =
     let same = test_same old c.reserve.new.self.items c.reserve-else-is_err.new.self.items w c.reserve.ensures.items c.reserve-else-is_err.ensures.items in
     let ends : ends_hub old c.args.job ≡ true =
     ends_by old c.args.job w among who c.park-waiter.ensures.asked (sym same ∙ sym c.is_bad-bad.ensures ∙ c.if-bad.true) in
-    let new : HubState g.row.R.Denot = record {
-      decls = old.decls;
-      events = old.events;
-      limit = old.limit;
-      ready = old.ready;
-      waiting = c.push_reserved.new.self.items;
-      parked = c.push_reserved-2.new.self.items;
-      out = c.take_first.new.numbers.items;
-      unstarted = old.unstarted;
-      ended = old.ended;
-      bad = Some w.who;
-    } in
+    let new : HubState g.row.R.Denot =
+    put_back old c.push_reserved.new.self.items c.push_reserved-2.new.self.items c.take_first.new.numbers.items (Some w.who) in
     let submits : Submits old c.args.job new = record {
       asked = w.asked;
       asks = c.park-waiter.ensures.asked;
@@ -94,33 +63,14 @@ invariant_of-self-else-bad g c =
     let w = c.park-waiter.result.0 in
     let among = back_was_out old c.args.job c.is_back.result w.who (c.is_back.ensures ∙ ap (λ h. is_back h c.args.job) (sym c.self.view_is))
     c.if-not-is_back.false c.park-waiter.ensures.who in
-    let new : HubState g.row.R.Denot = record {
-      decls = old.decls;
-      events = old.events;
-      limit = old.limit;
-      ready = old.ready;
-      waiting = c.push_reserved.new.self.items;
-      parked = c.push_reserved-2.new.self.items;
-      out = c.take_first.new.numbers.items;
-      unstarted = old.unstarted;
-      ended = old.ended;
-      bad = old.bad;
-    } in
+    let new : HubState g.row.R.Denot =
+    put_back old c.push_reserved.new.self.items c.push_reserved-2.new.self.items c.take_first.new.numbers.items old.bad in
     let same = test_same old c.reserve.new.self.items c.reserve-else-is_err.new.self.items w c.reserve.ensures.items c.reserve-else-is_err.ensures.items in (
       joined_well c.self.inside.replay old new w c.park-waiter.result.1
-          (record {
-            decls = refl;
-            events = refl;
-            limit = refl;
-            ready = refl;
-            waiting = c.push_reserved.ensures.items ∙ ap (λ xs. xs ++ w ∷ []) c.reserve.ensures.items;
-            parked = c.push_reserved-2.ensures.items ∙ ap (λ xs. xs ++ c.park-waiter.result.1 ∷ []) c.reserve-else-is_err.ensures.items;
-            out = c.take_first.ensures.count;
-            gone = λ k.
-                ap (λ xs. count_by (λ o. o == k) xs + cond (w.who == k) 1 0) c.take_first.ensures.numbers ∙ first_gone old.out w.who k among;
-            unstarted = refl;
-            ended = refl;
-          })
+          (joins_by old w c.park-waiter.result.1 new.waiting new.parked new.out old.bad
+          (c.push_reserved.ensures.items ∙ ap (λ xs. xs ++ w ∷ []) c.reserve.ensures.items)
+          (c.push_reserved-2.ensures.items ∙ ap (λ xs. xs ++ c.park-waiter.result.1 ∷ []) c.reserve-else-is_err.ensures.items)
+          c.take_first.ensures.count c.take_first.ensures.numbers among)
           refl c.self.invariant.0 (sym same ∙ sym c.is_bad-bad.ensures ∙ c.if-bad.false),
       omega (arith, room, len, cap),
       c.self.invariant.2,

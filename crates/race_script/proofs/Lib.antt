@@ -7,7 +7,6 @@ pub mod StuckLemmas
 pub mod CertifyLemmas
 pub mod ScriptLemmas
 pub mod ParseLemmas
-pub mod FedLemmas
 pub mod OfferAgain
 pub mod OfferWords
 pub mod SelectLines

@@ -11,7 +11,7 @@ use Rattle.race_records.specs.declared.kind.Kind.{Kind}
 use Rattle.race_records.specs.Declarations.{DeclsState}
 use Rattle.race_hub.specs.declared.request.Request.{Request}
 use Rattle.race_text.specs.Text.{declaration_line}
-use Rattle.race_text.proofs.FedLemmas.{few_declared}
+use Rattle.race_text.proofs.LineCount.{few_declared}
 use Rattle.race_text.proofs.WordLemmas.{both}
 use Rattle.race_script.specs.declared.program.TheConstants.{MAX_STEPS}
 use Rattle.race_script.specs.Bodies.{is_body}

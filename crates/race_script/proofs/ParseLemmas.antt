@@ -1,41 +1,17 @@
--- A program's text that is read part by part: what is left of it, and its first fault.
-use Rattle.std.proofs.Common.{◌≡◌, ℕ, ◌+◌, ◌<◌, ◌≤◌, ◌==◌, ◌&&◌, nat_lt, Bool, true, false, not}
-use Rattle.std.proofs.Common.{if◌then◌else◌, List, [], ◌∷◌, ◌++◌, length, Some, None, refl, sym}
+-- A program's text whose last part has no cause: nothing is left, and all bodies have ended.
+use Rattle.std.proofs.Common.{◌≡◌, ℕ, ◌<◌, ◌==◌, ◌&&◌, nat_lt, Bool, true, false, not}
+use Rattle.std.proofs.Common.{if◌then◌else◌, List, [], ◌∷◌, length, Some, None, refl, sym}
 use Rattle.std.proofs.Common.{arith}
 use Rattle.std.proofs.lemmas.Bool.Decides.{nat_tests}
-use Rattle.std.proofs.lemmas.List.{length-append}
 use Rattle.std.proofs.lemmas.Option.{none-some}
 use Rattle.std.specs.Str.{bytes_eq}
 use Rattle.race_text.specs.declared.cause.TextCause.{TextCause}
-use Rattle.race_text.specs.declared.cause.TextFault.{TextFault}
-use Rattle.race_text.specs.Fault.{or_later}
-use Rattle.race_text.proofs.ParseLemmas.{or_later_from}
 use Rattle.race_text.proofs.WordLemmas.{both}
-use Rattle.race_script.specs.Fault.{cause, end_cause, fault_after, is_whole}
+use Rattle.race_script.specs.Fault.{cause, end_cause, is_whole}
 use Rattle.race_script.specs.Program.{Draft}
 use Rattle.race_script.specs.Reader.{lines_by}
 use Rattle.race_script.specs.Reading.{seen}
 use Rattle.race_script.specs.Text.{header}
-
--- a part behind which another stands
-pub fault_step : (before : List (List ℕ)) (line : List ℕ) (parts : List (List ℕ)) → 0 < length parts
-    → fault_after before (line ∷ parts) ≡ or_later (length before + 1) (cause before line true) (fault_after (before ++ line ∷ []) parts)
-unfolding fault_after
-fault_step before line [] h = absurd (omega arith)
-fault_step before line (next ∷ others) h = refl
-
--- the last part
-pub fault_end : (before : List (List ℕ)) (last : List ℕ) → fault_after before (last ∷ []) ≡ or_later (length before + 1) (end_cause before last) None
-unfolding fault_after
-fault_end before last = refl
-
-pub fault_from : (parts before : List (List ℕ)) (f : TextFault) → fault_after before parts ≡ Some f → length before + 1 ≤ f.line
-unfolding fault_after
-fault_from [] before f h = absurd (none-some f h)
-fault_from (last ∷ []) before f h = or_later_from (length before + 1) (end_cause before last) None f h (λ g e. absurd (none-some g e))
-fault_from (line ∷ next ∷ others) before f h =
-    or_later_from (length before + 1) (cause before line true) (fault_after (before ++ line ∷ []) (next ∷ others)) f h
-    (λ g e. let later = fault_from (next ∷ others) (before ++ line ∷ []) g e in omega (arith, later, length-append before (line ∷ [])))
 
 -- a part that no newline ends is at fault where it is a line
 unended : (before : List (List ℕ)) (last : List ℕ) → cause before last false ≡ None → ⊥

@@ -22,6 +22,7 @@ use Rattle.race_text.specs.Declaring.{is_declaration_line, is_declaration_word, 
 use Rattle.race_text.specs.Fault.{or_else, seen_so_far, declaration_in}
 use Rattle.race_text.specs.Fault.{word_cause as text_cause}
 use Rattle.race_text.specs.Form.{word_named, first_word, arguments}
+use Rattle.race_text.specs.Lines.{GoesOn}
 use Rattle.race_text.specs.Text.{declaration_line}
 use Rattle.race_text.specs.Words.{words_of, has_bad_byte}
 use Rattle.race_text.proofs.ReaderLemmas.{declaration_of_line}
@@ -29,12 +30,12 @@ use Rattle.race_text.proofs.TextLaws.{IsDeclarationLine, declaration_again}
 use Rattle.race_text.proofs.WordLemmas.{both}
 use Rattle.race_script.specs.declared.form.AskWord.{AskWord}
 use Rattle.race_script.specs.declared.form.LineWord.{LineWord}
-use Rattle.race_script.specs.Fault.{words_cause, said_cause, word_cause, line_cause, cause, end_cause, is_whole}
+use Rattle.race_script.specs.Fault.{words_cause, said_cause, word_cause, line_cause, cause, end_cause, program_causes, is_whole}
 use Rattle.race_script.specs.Form.{line_word, on_nil, ask_fields, begin_fields}
 use Rattle.race_script.specs.Offers.{select_words, select_cause}
 use Rattle.race_script.specs.Program.{Instruction, Draft, IsProgram, draft_of, is_body_of, spelled, bodies_of, places_of}
 use Rattle.race_script.specs.Reader.{UnendedState, ReadState, draft_read, spelled_unended, lines_by, lines_read}
-use Rattle.race_script.specs.Reader.{program_read, IsUnended, IsRead, IsEmpty, IsReadBy, GoesOn, HasWords, TakesSaid}
+use Rattle.race_script.specs.Reader.{program_read, IsUnended, IsRead, IsEmpty, IsReadBy, HasWords, TakesSaid}
 use Rattle.race_script.specs.Reader.{TakesLine, TakesOrTells}
 use Rattle.race_script.specs.Reading.{said_by, asks_by, said_in, with_said, nothing_said, all_said, seen}
 use Rattle.std.specs.List.{flat_map}
@@ -257,7 +258,7 @@ module _ (s : ReadState) (empty : IsEmpty s) (header_is : s.has_header ≡ true)
   pub header_read : IsRead s
   header_read = subst IsRead (sym is_nothing) nothing_is_read
 
-  pub header_taken : (line : List ℕ) → bytes_eq line header ≡ true → GoesOn [] line (lines (draft_read s))
+  pub header_taken : (line : List ℕ) → bytes_eq line header ≡ true → GoesOn program_causes [] line (lines (draft_read s))
   unfolding cause
   header_taken line same = record {
     no_cause = ap (λ b. if not b then Some TextCause.BadHeader else None) same;

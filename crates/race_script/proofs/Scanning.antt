@@ -18,21 +18,20 @@ use Rattle.race_records.specs.Declarations.{Declaration, is_known, place_fault, 
 use Rattle.race_records.specs.Name.{is_place}
 use Rattle.race_records.specs.Nouns.{kind_of_noun}
 use Rattle.race_text.specs.declared.cause.TextCause.{TextCause}
-use Rattle.race_text.specs.declared.cause.TextFault.{TextFault}
 use Rattle.race_text.specs.declared.form.Word.{Word}
 use Rattle.race_text.specs.Declaring.{with_declaration_in}
-use Rattle.race_text.specs.Fault.{or_later}
+use Rattle.race_text.specs.Lines.{fault_after, first_fault}
 use Rattle.race_text.specs.Form.{word_named, first_word}
 use Rattle.race_text.specs.Text.{ended}
 use Rattle.race_text.specs.Words.{parts_of, words_of, has_bad_byte}
-use Rattle.race_text.proofs.ParseLemmas.{no_bytes}
+use Rattle.race_text.proofs.ParseLemmas.{or_later_none, fault_step, fault_end, no_bytes}
 use Rattle.race_text.proofs.TraceLemmas.{late_declaration}
 use Rattle.race_script.specs.declared.form.AskWord.{AskWord}
 use Rattle.race_script.specs.declared.form.LineWord.{LineWord}
 use Rattle.race_script.specs.declared.program.TheConstants.{MAX_STEPS}
 use Rattle.race_script.specs.Bodies.{is_exit, after_ask}
 use Rattle.race_script.specs.Fault.{words_cause, has_no_room, may_follow, may_begin}
-use Rattle.race_script.specs.Fault.{said_cause, asked_cause, cause, end_cause, fault_after}
+use Rattle.race_script.specs.Fault.{said_cause, asked_cause, cause, end_cause, program_causes}
 use Rattle.race_script.specs.Fault.{text_fault, is_whole}
 use Rattle.race_script.specs.Form.{line_word, on_nil, ask_fields, begin_fields}
 use Rattle.race_script.specs.Offers.{select_words, select_cause}
@@ -40,7 +39,7 @@ use Rattle.race_script.specs.Program.{Instruction, Draft, ask_fits, bodies_of}
 use Rattle.race_script.specs.Reader.{UnendedState, ReadState, draft_read, spelled_unended, program_read, IsRead, HasWords, TakesLine}
 use Rattle.race_script.specs.Text.{header, Said, Begins, Asks, lines, draft_text, IsProgramText}
 use Rattle.race_script.proofs.LineLemmas.{IsSaidLine, cause_behind, begins_line, asks_line, selects_line}
-use Rattle.race_script.proofs.ParseLemmas.{fault_step, fault_end, end_empty}
+use Rattle.race_script.proofs.ParseLemmas.{end_empty}
 use Rattle.race_script.proofs.ReadLemmas.{begin_told, asks_told, selects_told, bad_byte_told, unknown_told, declares_cause}
 use Rattle.race_script.proofs.ReadLemmas.{first_cause, declared_taken, said_taken, whole_program, nothing_read}
 use Rattle.race_script.proofs.ReadLemmas.{nothing_is_read, nothing_lines_read}
@@ -222,19 +221,16 @@ module _ (s : ReadState) (header_is : s.has_header ≡ true) (read : IsRead s) (
       clean true bad = absurd (not_told TextCause.BadByte (bad_byte_told s read line bad))
       clean false fine = words fine (words_of line) refl
 
--- where a fault is none, neither the first cause is one, nor a later fault
-or_later_none : (n : ℕ) (o : Option TextCause) (later : Option TextFault) → or_later n o later ≡ None → (o ≡ None) × (later ≡ None)
-or_later_none n None later h = (refl, h)
-or_later_none n (Some c) later h = absurd (none-some (record { line = n; cause = c }) (sym h))
-
 -- the parts that are left, behind the lines that were read
-scanned : (parts : List (List ℕ)) (s : ReadState) → s.has_header ≡ true → IsRead s → 0 < length parts → fault_after (lines (draft_read s)) parts ≡ None
+scanned : (parts : List (List ℕ)) (s : ReadState) → s.has_header ≡ true → IsRead s → 0 < length parts
+    → fault_after program_causes (lines (draft_read s)) parts ≡ None
     → (t : ReadState) × IsRead t × (is_whole (draft_read t) ≡ true)
     × (flat_map ended (lines (draft_read t)) ≡ flat_map ended (lines (draft_read s)) ++ join_with_byte 10 parts)
 scanned [] s header read some none = absurd (omega (arith, some))
 scanned (last ∷ []) s header read some none =
     let before = lines (draft_read s) in
-    let empty = end_empty before last (or_later_none (length before + 1) (end_cause before last) None (sym (fault_end before last) ∙ none)).0 in (
+    let fine = or_later_none (length before + 1) (end_cause before last) None (sym (fault_end program_causes before last) ∙ none) in
+    let empty = end_empty before last fine.0 in (
       s,
       read,
       ap is_whole (sym read.seen_is) ∙ empty.2,
@@ -244,10 +240,10 @@ scanned (line ∷ part ∷ others) s header read some none =
     let before = lines (draft_read s) in
     let parts = part ∷ others in
     let split = or_later_none (length before + 1) (cause before line true)
-    (fault_after (before ++ line ∷ []) parts) (sym (fault_step before line parts (omega arith)) ∙ none) in
+    (fault_after program_causes (before ++ line ∷ []) parts) (sym (fault_step program_causes before line parts (omega arith)) ∙ none) in
     let next = with_line s header read line split.0 in
     let rest = scanned (part ∷ others) next.next next.takes.header next.takes.read
-    (omega arith) (ap (λ ls. fault_after ls parts) next.takes.goes.lines ∙ split.1) in
+    (omega arith) (ap (λ ls. fault_after program_causes ls parts) next.takes.goes.lines ∙ split.1) in
     let front = flat_map ended before in (
       rest.0,
       rest.1,
@@ -268,21 +264,22 @@ is_header line h = by (bytes_eq line header) refl h
     by false e h = absurd (none-some TextCause.BadHeader (sym h))
 
 pub faultless_is_text : (bytes : List ℕ) → text_fault bytes ≡ None → IsProgramText bytes
-unfolding text_fault draft_text
+unfolding first_fault draft_text
 faultless_is_text bytes none = by (parts_of bytes) refl none
   where
-    by : (parts : List (List ℕ)) → parts_of bytes ≡ parts → fault_after [] parts ≡ None → IsProgramText bytes
+    by : (parts : List (List ℕ)) → parts_of bytes ≡ parts → fault_after program_causes [] parts ≡ None → IsProgramText bytes
     by [] e h = let some = sym (ap length e) ∙ length-slice_split (λ b. b == 10) bytes in absurd (omega (arith, some))
     by (last ∷ []) e h =
-        let empty = end_empty [] last (or_later_none 1 (end_cause [] last) None (sym (fault_end [] last) ∙ h)).0 in
+        let empty = end_empty [] last (or_later_none 1 (end_cause [] last) None (sym (fault_end program_causes [] last) ∙ h)).0 in
         let some = empty.1 in
         absurd (omega (arith, some))
     by (line ∷ part ∷ others) e h =
         let parts = part ∷ others in
-        let split = or_later_none 1 (cause [] line true) (fault_after (line ∷ []) parts) (sym (fault_step [] line parts (omega arith)) ∙ h) in
+        let split = or_later_none 1 (cause [] line true) (fault_after program_causes (line ∷ []) parts)
+        (sym (fault_step program_causes [] line parts (omega arith)) ∙ h) in
         let first = is_header line split.0 in
         let rest = scanned parts nothing_read refl nothing_is_read (omega arith)
-        (ap (λ ls. fault_after ls parts) (nothing_lines_read ∙ (λ i. sym first i ∷ [])) ∙ split.1) in
+        (ap (λ ls. fault_after program_causes ls parts) (nothing_lines_read ∙ (λ i. sym first i ∷ [])) ∙ split.1) in
         let program = whole_program rest.0 rest.1 rest.2 in
         let printed = sym (join_with_byte-slice_split 10 bytes) ∙ ap (join_with_byte 10) e ∙ (λ i. first i ++ 10 ∷ join_with_byte 10 parts)
         ∙ sym (rest.3 ∙ ap (λ ls. flat_map ended ls ++ join_with_byte 10 parts) nothing_lines_read)

@@ -16,15 +16,16 @@ use Rattle.race_records.specs.Name.{is_place}
 use Rattle.race_hub.specs.declared.request.Request.{Request}
 use Rattle.race_text.specs.declared.cause.TextCause.{TextCause}
 use Rattle.race_text.specs.declared.cause.TextFault.{TextFault}
-use Rattle.race_text.specs.Fault.{or_later}
+use Rattle.race_text.specs.Lines.{fault_after, first_fault}
 use Rattle.race_text.specs.Text.{declaration_line}
 use Rattle.race_text.specs.Words.{parts_of, has_bad_byte}
+use Rattle.race_text.proofs.ParseLemmas.{AreFine, fine_both, fine_lines}
 use Rattle.race_text.proofs.TextFine.{memory_or_not}
 use Rattle.race_text.proofs.WordLemmas.{both}
 use Rattle.race_text.proofs.WordsAgain.{parts_again}
 use Rattle.race_script.specs.declared.program.TheConstants.{MAX_STEPS}
 use Rattle.race_script.specs.Bodies.{is_exit, after_ask, onces_after, ends, is_body}
-use Rattle.race_script.specs.Fault.{said_cause, line_cause, cause, end_cause, fault_after, text_fault, is_whole, has_no_room, may_follow}
+use Rattle.race_script.specs.Fault.{said_cause, line_cause, cause, program_causes, text_fault, is_whole, has_no_room, may_follow}
 use Rattle.race_script.specs.Program.{Instruction, Draft, ProgramState, IsProgram, draft_of, with_place, places_of, ask_fits}
 use Rattle.race_script.specs.Reading.{with_said, nothing_said, seen}
 use Rattle.race_script.specs.Text.{header, Said, Asks, said_line, saids, lines, draft_text, program_text, IsProgramText}
@@ -54,24 +55,6 @@ use Rattle.race_script.proofs.BodyLemmas.{exit_is_last}
 use Rattle.race_script.proofs.SaidAgain.{said_again}
 use Rattle.race_script.proofs.TakingLemmas.{onces_more, places_grown}
 use Rattle.race_script.proofs.LineLemmas.{grown, SaidFits, IsSaidLine, said_keeps, seen_said, lines_said, cause_behind}
-use Rattle.race_script.proofs.ParseLemmas.{fault_step, fault_end}
-
--- no cause holds at any of the lines, each behind those before it
-abbrev AreFine : List (List ℕ) → List (List ℕ) → Type 0
-AreFine before [] = Unit
-AreFine before (l ∷ ls) = (cause before l true ≡ None) × AreFine (before ++ l ∷ []) ls
-
--- fine lines, each ended by a newline, have no fault
-fine_lines : (before ls : List (List ℕ)) → end_cause (before ++ ls) [] ≡ None → AreFine before ls → fault_after before (ls ++ [] ∷ []) ≡ None
-fine_lines before [] last fine = fault_end before [] ∙ ap (λ o. or_later (length before + 1) o None) (ap (λ b. end_cause b []) (sym (append-nil before)) ∙ last)
-fine_lines before (l ∷ ls) last fine =
-    fault_step before l (ls ++ [] ∷ []) (omega (arith, length-append ls ([] ∷ [])))
-    ∙ (λ j. or_later (length before + 1) (fine.0 j)
-    (fine_lines (before ++ l ∷ []) ls (ap (λ b. end_cause b []) (append_assoc before (l ∷ []) ls) ∙ last) fine.1 j))
-
-fine_both : (before xs ys : List (List ℕ)) → AreFine before xs → AreFine (before ++ xs) ys → AreFine before (xs ++ ys)
-fine_both before [] ys h k = subst (λ b. AreFine b ys) (append-nil before) k
-fine_both before (x ∷ xs) ys h k = (h.0, fine_both (before ++ x ∷ []) xs ys h.1 (subst (λ b. AreFine b ys) (sym (append_assoc before (x ∷ []) xs)) k))
 
 -- each of what is said may stand behind the others
 abbrev Stand : Draft → List Said → Type 0
@@ -80,7 +63,7 @@ Stand d (s ∷ ss) = SaidFits d.declarations s × (said_cause d s ≡ None) × S
 
 -- lines of bodies behind others
 record IsWalked (d : Draft) (ss : List Said) : Type 0 where
-  fine : AreFine (lines d) (map (said_line d.declarations) ss)
+  fine : AreFine program_causes (lines d) (map (said_line d.declarations) ss)
   lines_are : lines (fold with_said d ss) ≡ lines d ++ map (said_line d.declarations) ss
   seen_is : seen (lines (fold with_said d ss)) ≡ fold with_said d ss
   clean : AllByRecursion (λ l. has_bad_byte l ≡ false) (map (said_line d.declarations) ss)
@@ -102,7 +85,7 @@ walked decls holds d same is (s ∷ ss) stand =
     record {
       fine = (
         cause_behind d (said_line d.declarations s) is ∙ line.cause_is d refl ∙ stand.1,
-        subst (λ (p : List (List ℕ) × List (List ℕ)). AreFine p.0 p.1) (λ k. (after k, others k)) rest.fine,
+        subst (λ (p : List (List ℕ) × List (List ℕ)). AreFine program_causes p.0 p.1) (λ k. (after k, others k)) rest.fine,
       );
       lines_are = rest.lines_are ∙ (λ k. after k ++ others k) ∙ append_assoc (lines d) (said_line d.declarations s ∷ []) (map (said_line d.declarations) ss);
       seen_is = rest.seen_is;
@@ -279,11 +262,12 @@ module _ (decls : DeclsState) (holds : IsWellFormed decls) where
       ∙ ap (λ w. text_cause (seen_so_far before 0) w args) (sym line.named)
       ∙ text
 
-  declared_fine : (before after : List Declaration) → before ++ after ≡ decls.declarations → AreFine (lines (nothing_said before)) (map declaration_line after)
+  declared_fine : (before after : List Declaration) → before ++ after ≡ decls.declarations
+      → AreFine program_causes (lines (nothing_said before)) (map declaration_line after)
   declared_fine before [] is = tt
   declared_fine before (d ∷ after) is = (
     one_fine before after d is,
-    subst (λ ls. AreFine ls (map declaration_line after)) (lines_declared before d)
+    subst (λ ls. AreFine program_causes ls (map declaration_line after)) (lines_declared before d)
         (declared_fine (before ++ d ∷ []) after (append_assoc before (d ∷ []) after ∙ is)),
   )
 
@@ -355,12 +339,12 @@ module _ (p : ProgramState) (is : IsProgram p) where
         (declared_clean p.decls is.well_formed declared (declaration_lines p.decls is.well_formed)) all_walked.clean,
   )
 
-  all_fine : AreFine [] (lines (draft_of p))
-  all_fine = subst (λ ls. AreFine [] ls) (sym lines_are_all) (
+  all_fine : AreFine program_causes [] (lines (draft_of p))
+  all_fine = subst (λ ls. AreFine program_causes [] ls) (sym lines_are_all) (
     header_fine,
-    fine_both (header ∷ []) (map declaration_line declared) (map (said_line declared) (saids 0 bodies))
-        (subst (λ ls. AreFine ls (map declaration_line declared)) header_lines (declared_fine p.decls is.well_formed [] declared refl))
-        (subst (λ ls. AreFine ls (map (said_line declared) (saids 0 bodies))) (nothing_lines declared) all_walked.fine),
+    fine_both program_causes (header ∷ []) (map declaration_line declared) (map (said_line declared) (saids 0 bodies))
+        (subst (λ ls. AreFine program_causes ls (map declaration_line declared)) header_lines (declared_fine p.decls is.well_formed [] declared refl))
+        (subst (λ ls. AreFine program_causes ls (map (said_line declared) (saids 0 bodies))) (nothing_lines declared) all_walked.fine),
   )
 
   pub lines_again : parts_of (program_text p) ≡ lines (draft_of p) ++ [] ∷ []
@@ -368,12 +352,12 @@ module _ (p : ProgramState) (is : IsProgram p) where
   lines_again = parts_again (lines (draft_of p)) all_clean
 
   pub text_has_no_fault : text_fault (program_text p) ≡ None
-  unfolding text_fault
+  unfolding first_fault
   text_has_no_fault =
       let whole : is_whole (draft_of p) ≡ true = let n = len_bodies in
       let same : (length bodies == count_of Kind.Goroutine declared) ≡ true = grind (arith, nat_tests, n) in same in
-      ap (fault_after []) lines_again
-      ∙ fine_lines [] (lines (draft_of p)) (end_behind (draft_of p) [] true true seen_is_draft refl whole) all_fine
+      ap (fault_after program_causes []) lines_again
+      ∙ fine_lines program_causes [] (lines (draft_of p)) (end_behind (draft_of p) [] true true seen_is_draft refl whole) all_fine
 
 -- equal texts come from equal programs
 pub equal_texts : (p q : ProgramState) → IsProgram p → IsProgram q → program_text p ≡ program_text q → draft_of p ≡ draft_of q

@@ -1,6 +1,6 @@
 -- The first fault of a program's text: the first line at which a cause holds, and the least cause that holds there.
-use Rattle.std.specs.Prelude.{ℕ, ◌+◌, ◌==◌, ◌&&◌, ◌||◌, Bool, true, false, not, if◌then◌else◌}
-use Rattle.std.specs.Prelude.{nat_le, nat_lt, List, [], ◌∷◌, ◌++◌, length, Option, Some, None}
+use Rattle.std.specs.Prelude.{ℕ, ◌==◌, ◌&&◌, ◌||◌, Bool, true, false, not, if◌then◌else◌}
+use Rattle.std.specs.Prelude.{nat_le, nat_lt, List, [], ◌∷◌, length, Option, Some, None}
 use Rattle.std.specs.Prelude.{is_some, is_none}
 use Rattle.std.specs.Option.{option_and_then}
 use Rattle.std.specs.Str.{bytes_eq}
@@ -13,9 +13,10 @@ use Rattle.race_text.specs.declared.cause.TextFault.{TextFault}
 use Rattle.race_text.specs.declared.form.Field.{Field}
 use Rattle.race_text.specs.declared.form.Word.{Word}
 use Rattle.race_text.specs.Fault as text
-use Rattle.race_text.specs.Fault.{or_else, seen_so_far, fields_cause, or_later}
+use Rattle.race_text.specs.Fault.{or_else, seen_so_far, fields_cause}
 use Rattle.race_text.specs.Form.{first_word, arguments}
-use Rattle.race_text.specs.Words.{parts_of, words_of, has_bad_byte}
+use Rattle.race_text.specs.Lines.{Causes, first_fault}
+use Rattle.race_text.specs.Words.{words_of, has_bad_byte}
 use Rattle.race_script.specs.declared.form.LineWord.{LineWord}
 use Rattle.race_script.specs.declared.program.TheConstants.{MAX_STEPS}
 use Rattle.race_script.specs.Bodies.{is_exit, after_ask, onces_after}
@@ -93,13 +94,10 @@ end_cause before last =
     if (length last == 0) && nat_lt 0 (length before) then (if is_whole (seen before) then None else Some TextCause.BadBlock)
     else cause before last false
 
--- the first fault of the parts that stand after these lines
-unfoldable pub fault_after : List (List ℕ) → List (List ℕ) → Option TextFault
-fault_after before [] = None
-fault_after before (last ∷ []) = or_later (length before + 1) (end_cause before last) None
-fault_after before (line ∷ next ∷ others) =
-    or_later (length before + 1) (cause before line true) (fault_after (before ++ line ∷ []) (next ∷ others))
+-- the causes of a program's text
+abbrev pub program_causes : Causes
+program_causes = record { line = λ before line. cause before line true; end = end_cause }
 
--- the first fault of a text
-unfoldable pub text_fault : List ℕ → Option TextFault
-text_fault bytes = fault_after [] (parts_of bytes)
+-- the first fault of a program's text
+abbrev pub text_fault : List ℕ → Option TextFault
+text_fault bytes = first_fault program_causes bytes

@@ -1,8 +1,8 @@
 -- The laws of program text, which functions of src/laws.rt that do nothing have as their contracts.
 use Rattle.std.specs.Prelude.{◌≡◌, ℕ, List, ◌++◌, Some, None}
 use Rattle.race_text.specs.declared.cause.TextFault.{TextFault}
-use Rattle.race_script.specs.Fault.{text_fault}
-use Rattle.race_script.specs.Fed.{ended_fault}
+use Rattle.race_text.specs.Fed.{ended_fault}
+use Rattle.race_script.specs.Fault.{program_causes, text_fault}
 use Rattle.race_script.specs.Program.{ProgramState, IsProgram, draft_of}
 use Rattle.race_script.specs.Text.{program_text, IsTextOf, IsProgramText}
 
@@ -24,4 +24,4 @@ EqualTextsAreOfEqualPrograms = (p q : ProgramState) → IsProgram p → IsProgra
 
 -- the first fault of the lines that are ended is the whole text's, whatever follows
 abbrev pub EndedFaultsStay : Type 0
-EndedFaultsStay = (bytes more : List ℕ) (fault : TextFault) → ended_fault bytes ≡ Some fault → text_fault (bytes ++ more) ≡ Some fault
+EndedFaultsStay = (bytes more : List ℕ) (fault : TextFault) → ended_fault program_causes bytes ≡ Some fault → text_fault (bytes ++ more) ≡ Some fault

@@ -9,5 +9,4 @@ pub mod Text
 pub mod Reading
 pub mod Fault
 pub mod Reader
-pub mod Fed
 pub mod Laws

@@ -8,11 +8,12 @@ use Rattle.race_hub.specs.declared.request.Request.{Request}
 use Rattle.race_script.specs.declared.program.TheConstants.{MAX_STEPS}
 use Rattle.race_text.specs.declared.cause.TextCause.{TextCause}
 use Rattle.race_text.specs.Form.{first_word}
+use Rattle.race_text.specs.Lines.{GoesOn}
 use Rattle.race_text.specs.Words.{words_of, has_bad_byte}
 use Rattle.race_script.specs.declared.form.LineWord.{LineWord}
 use Rattle.race_script.specs.Bodies.{is_exit, after_ask, onces_after}
 use Rattle.race_script.specs.Form.{line_word}
-use Rattle.race_script.specs.Fault.{cause, said_cause, may_follow}
+use Rattle.race_script.specs.Fault.{cause, program_causes, said_cause, may_follow}
 use Rattle.race_script.specs.Program.{Instruction, Draft, ProgramState, asks_of, request_fits, is_body_of, spelled, bodies_of, places_of}
 use Rattle.race_script.specs.Reading.{seen, with_said}
 use Rattle.race_script.specs.Text.{Said, lines}
@@ -81,11 +82,6 @@ IsReadBy true s = IsRead s
 abbrev pub IsReading : ReadState → Type 0
 IsReading s = IsReadBy s.has_header s
 
--- one more line, at which no cause holds
-pub record GoesOn (before : List (List ℕ)) (line : List ℕ) (after : List (List ℕ)) : Type 0 where
-  pub no_cause : cause before line true ≡ None
-  pub lines : after ≡ before ++ line ∷ []
-
 -- the program that was read
 abbrev pub program_read : ReadState → ProgramState
 program_read s = record { decls = s.decls; bodies = s.ended }
@@ -112,7 +108,7 @@ pub record Pushes (requests : List Request) (onces : List ℕ) (request : Reques
 -- the line is taken behind the others
 pub record TakesLine (old : ReadState) (line : List ℕ) (new : ReadState) : Type 0 where
   pub header : new.has_header ≡ true
-  pub goes : GoesOn (lines (draft_read old)) line (lines (draft_read new))
+  pub goes : GoesOn program_causes (lines (draft_read old)) line (lines (draft_read new))
   pub read : IsRead new
 
 -- or its least cause is told, memory aside

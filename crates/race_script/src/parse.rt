@@ -3,7 +3,7 @@ ghost use Rattle.std.specs.Prelude.{◌≡◌, ◌≢◌, ◌<◌, Some, IfOk, I
 ghost use Rattle.race_script.specs.Text.{IsTextOf, IsProgramText};
 ghost use Rattle.race_script.specs.Fault.{text_fault};
 ghost use Rattle.race_script.specs.Laws.{IsOnlyProgramOf};
-ghost use Rattle.race_text.specs.Reader.{IsLineOf, IsNoneBefore};
+ghost use Rattle.race_text.specs.Lines.{IsLineOf, IsNoneBefore};
 
 use crate::program::Program;
 use crate::program_reader::ProgramReader;

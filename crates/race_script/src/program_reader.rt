@@ -1,12 +1,12 @@
 //! A program from its bytes, piece by piece.
 ghost use Rattle.std.specs.Prelude.{◌≡◌, ◌≢◌, ◌+◌, ◌++◌, ◌↔◌, [], IsTrue, Some, None, length, IfOk, IfErr, OnOk, MatchResult};
 ghost use Rattle.race_script.specs.Text.{IsTextOf, IsProgramText};
-ghost use Rattle.race_script.specs.Fault.{text_fault};
+ghost use Rattle.race_script.specs.Fault.{program_causes, text_fault};
 ghost use Rattle.race_script.specs.Laws.{IsOnlyProgramOf};
-ghost use Rattle.race_text.specs.Reader.{IsLineOf, IsNoneBefore};
-ghost use Rattle.race_text.specs.Fed.{IsUnended, TellsOfMemory};
-ghost use Rattle.race_script.specs.Reader.{IsReading, GoesOn, lines_read};
-ghost use Rattle.race_script.specs.Fed as spec;
+ghost use Rattle.race_script.specs.Reader.{IsReading, lines_read};
+ghost use Rattle.race_text.specs.Common.{TakesNext, TellsOfNext};
+ghost use Rattle.race_text.specs.Lines.{GoesOn, IsLineOf, IsNoneBefore};
+ghost use Rattle.race_text.specs.Fed as spec;
 
 use crate::program::Program;
 use crate::reader::Reader;
@@ -58,7 +58,7 @@ impl<A: Allocator> Model for ProgramReader<A> {
 impl<A: Allocator + Copy> ProgramReader<A> {
     /// Nothing is fed yet. Takes no memory.
     pub fn new(alloc: A) -> ProgramReader<A>
-        ensures { spec.StandsFor result [] }
+        ensures { spec.StandsFor program_causes result [] }
     {
         ProgramReader {
             lines: Lines {
@@ -74,14 +74,14 @@ impl<A: Allocator + Copy> ProgramReader<A> {
     /// Memory aside it is Ok exactly where none of them has one. After a refusal each further call
     /// refuses in the same way.
     pub fn feed(&mut self, piece: &[u8]) -> Result<(), TextFault>
-        ensures goes_on { spec.GoesOnBy self.old self.new piece.now }
-        ensures ok { IfOk result (λ _. spec.ForEachFed self.old
-            (λ fed. spec.ended_fault (fed ++ piece.now) ≡ None)) }
-        ensures fault { IfErr result (λ told. spec.ForEachFed self.old
-            (λ fed. told.cause ≢ TextCause.OutOfMemory → spec.ended_fault (fed ++ piece.now) ≡ Some told)) }
-        ensures memory { IfErr result (λ told. spec.ForEachFed self.old
-            (λ fed. IsNoneBefore told.line (spec.ended_fault (fed ++ piece.now)))) }
-        ensures line { IfErr result (λ told. spec.ForEachFed self.old
+        ensures goes_on { spec.GoesOnBy program_causes self.old self.new piece.now }
+        ensures ok { IfOk result (λ _. spec.ForEachFed program_causes self.old
+            (λ fed. spec.ended_fault program_causes (fed ++ piece.now) ≡ None)) }
+        ensures fault { IfErr result (λ told. spec.ForEachFed program_causes self.old
+            (λ fed. told.cause ≢ TextCause.OutOfMemory → spec.ended_fault program_causes (fed ++ piece.now) ≡ Some told)) }
+        ensures memory { IfErr result (λ told. spec.ForEachFed program_causes self.old
+            (λ fed. IsNoneBefore told.line (spec.ended_fault program_causes (fed ++ piece.now)))) }
+        ensures line { IfErr result (λ told. spec.ForEachFed program_causes self.old
             (λ fed. IsLineOf (fed ++ piece.now) told.line)) }
         ensures fine { IfOk result (λ _. self.new.fault ≡ None) }
         ensures told { IfErr result (λ told. self.new.fault ≡ Some told) }
@@ -101,15 +101,15 @@ impl<A: Allocator + Copy> ProgramReader<A> {
 
     /// The one program whose text was fed, or else the first fault, as `parse_program` tells it.
     pub fn finish(self) -> Result<Program<A>, TextFault>
-        ensures text { IfOk result (λ program. spec.ForEachFed self (IsTextOf program)) }
-        ensures only { IfOk result (λ program. spec.ForEachFed self (λ fed. IsOnlyProgramOf fed program)) }
-        ensures accepted { IfErr result (λ told. spec.ForEachFed self
+        ensures text { IfOk result (λ program. spec.ForEachFed program_causes self (IsTextOf program)) }
+        ensures only { IfOk result (λ program. spec.ForEachFed program_causes self (λ fed. IsOnlyProgramOf fed program)) }
+        ensures accepted { IfErr result (λ told. spec.ForEachFed program_causes self
             (λ fed. IsProgramText fed → told.cause ≡ TextCause.OutOfMemory)) }
-        ensures fault { IfErr result (λ told. spec.ForEachFed self
+        ensures fault { IfErr result (λ told. spec.ForEachFed program_causes self
             (λ fed. told.cause ≢ TextCause.OutOfMemory → text_fault fed ≡ Some told)) }
-        ensures memory { IfErr result (λ told. spec.ForEachFed self
+        ensures memory { IfErr result (λ told. spec.ForEachFed program_causes self
             (λ fed. IsNoneBefore told.line (text_fault fed))) }
-        ensures line { IfErr result (λ told. spec.ForEachFed self (λ fed. IsLineOf fed told.line)) }
+        ensures line { IfErr result (λ told. spec.ForEachFed program_causes self (λ fed. IsLineOf fed told.line)) }
         ensures repeated { (told : TextFault) → self.fault ≡ Some told → result ≡ Err told }
     {
         let ProgramReader { lines, fault } = self;
@@ -131,16 +131,16 @@ impl<A: Allocator + Copy> Lines<A> {
     // Takes the lines that the piece ends, and keeps what is behind them.
     fn take(&mut self, piece: &[u8]) -> Result<(), TextFault>
         requires reading { IsReading self.old.reader }
-        requires unended { IsUnended self.old.part.items }
+        requires unended { spec.IsUnended self.old.part.items }
         ensures taken { MatchResult result
-            (λ _. spec.TakesBytes (lines_read self.old.reader)
+            (λ _. spec.TakesBytes program_causes (lines_read self.old.reader)
             (self.old.part.items ++ piece.now)
             (lines_read self.new.reader) self.new.part.items)
-            (λ told. spec.TellsOfBytes (lines_read self.old.reader)
+            (λ told. spec.TellsOfBytes program_causes (lines_read self.old.reader)
             (self.old.part.items ++ piece.now) told) }
         ensures reading { OnOk result
             (IsReading self.new.reader) }
-        ensures unended { OnOk result (IsUnended self.new.part.items) }
+        ensures unended { OnOk result (spec.IsUnended self.new.part.items) }
     {
         if self.is_between_lines() {
             return self.take_whole(piece);
@@ -168,14 +168,14 @@ impl<A: Allocator + Copy> Lines<A> {
         requires reading { IsReading self.old.reader }
         requires none { self.old.part.items ≡ [] }
         ensures taken { MatchResult result
-            (λ _. spec.TakesBytes (lines_read self.old.reader)
+            (λ _. spec.TakesBytes program_causes (lines_read self.old.reader)
             bytes.now
             (lines_read self.new.reader) self.new.part.items)
-            (λ told. spec.TellsOfBytes (lines_read self.old.reader)
+            (λ told. spec.TellsOfBytes program_causes (lines_read self.old.reader)
             bytes.now told) }
         ensures reading { OnOk result
             (IsReading self.new.reader) }
-        ensures unended { OnOk result (IsUnended self.new.part.items) }
+        ensures unended { OnOk result (spec.IsUnended self.new.part.items) }
     {
         let mut left = bytes;
         loop {
@@ -193,9 +193,9 @@ impl<A: Allocator + Copy> Lines<A> {
     fn take_part(&mut self) -> Result<(), TextFault>
         requires { IsReading self.old.reader }
         ensures taken { MatchResult result
-            (λ _. GoesOn (lines_read self.old.reader)
+            (λ _. GoesOn program_causes (lines_read self.old.reader)
             self.old.part.items (lines_read self.new.reader))
-            (λ told. spec.TellsOfLine (lines_read self.old.reader)
+            (λ told. spec.TellsOfLine program_causes (lines_read self.old.reader)
             self.old.part.items told) }
         ensures reading { OnOk result
             (IsReading self.new.reader) }
@@ -210,7 +210,7 @@ impl<A: Allocator + Copy> Lines<A> {
     fn keep(&mut self, bytes: &[u8]) -> Result<(), TextFault>
         requires { IsReading self.old.reader }
         ensures kept { OnOk result (self.new.part.items ≡ self.old.part.items ++ bytes.now) }
-        ensures told { IfErr result (TellsOfMemory
+        ensures told { IfErr result (spec.TellsOfMemory
             (lines_read self.old.reader)) }
         ensures same { self.new.reader ≡ self.old.reader }
     {
@@ -231,9 +231,9 @@ fn take_next<'a, A: Allocator + Copy>(
 ) -> Result<Option<&'a [u8]>, TextFault>
     requires { IsReading reader.old }
     ensures taken { MatchResult result
-        (λ rest. spec.TakesNext (lines_read reader.old) bytes.now rest
+        (λ rest. TakesNext program_causes (lines_read reader.old) bytes.now rest
         (lines_read reader.new))
-        (spec.TellsOfNext (lines_read reader.old) bytes.now) }
+        (TellsOfNext program_causes (lines_read reader.old) bytes.now) }
     ensures reading { OnOk result (IsReading reader.new) }
 {
     let (line, rest) = cut_at(bytes, b'\n');
@@ -250,9 +250,9 @@ fn take_next<'a, A: Allocator + Copy>(
 fn take_line<A: Allocator + Copy>(reader: &mut Reader<A>, line: &[u8]) -> Result<(), TextFault>
     requires { IsReading reader.old }
     ensures taken { MatchResult result
-        (λ _. GoesOn (lines_read reader.old) line.now
+        (λ _. GoesOn program_causes (lines_read reader.old) line.now
         (lines_read reader.new))
-        (spec.TellsOfLine (lines_read reader.old) line.now) }
+        (spec.TellsOfLine program_causes (lines_read reader.old) line.now) }
     ensures reading { OnOk result (IsReading reader.new) }
 {
     let number = reader.line();

@@ -4,6 +4,7 @@ ghost use Rattle.std.specs.Prelude.{true, false, Some, None, Ok, is_some, IfOk, 
 ghost use Rattle.std.specs.Prelude.{MatchResult, OnOk};
 ghost use Rattle.race_records.specs.Declarations.{IsWellFormed};
 ghost use Rattle.race_records.specs.Name.{is_place};
+ghost use Rattle.race_text.specs.Lines.{GoesOn};
 ghost use Rattle.race_text.specs.Words.{parts_left};
 ghost use Rattle.race_script.specs.Bodies as bodies;
 ghost use Rattle.race_script.specs.Fault as fault;
@@ -95,7 +96,7 @@ impl<A: Allocator + Copy> Reader<A> {
     pub(crate) fn take_line(&mut self, line: &[u8]) -> Result<(), TextCause>
         requires { spec.IsReading self.old }
         ensures taken { MatchResult result
-            (λ _. spec.GoesOn (spec.lines_read self.old) line.now (spec.lines_read self.new))
+            (λ _. GoesOn fault.program_causes (spec.lines_read self.old) line.now (spec.lines_read self.new))
             (λ told. told ≢ TextCause.OutOfMemory
             → fault.cause (spec.lines_read self.old) line.now true ≡ Some told) }
         ensures reading { OnOk result (spec.IsReading self.new) }
@@ -182,7 +183,7 @@ impl<A: Allocator + Copy> Reader<A> {
         requires header { self.old.has_header ≡ false }
         requires reading { spec.IsReading self.old }
         ensures taken { MatchResult result
-            (λ _. spec.GoesOn [] line.now (spec.lines_read self.new))
+            (λ _. GoesOn fault.program_causes [] line.now (spec.lines_read self.new))
             (λ told. fault.cause [] line.now true ≡ Some told) }
         ensures reading { OnOk result (spec.IsReading self.new) }
     {

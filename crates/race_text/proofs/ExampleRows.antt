@@ -4,51 +4,52 @@ use Rattle.std.specs.Fmt.{digits}
 use Rattle.race_text.specs.declared.cause.TextCause.{TextCause}
 use Rattle.race_text.specs.Words.{number}
 use Rattle.race_text.specs.Form.{word_named}
-use Rattle.race_text.specs.Fault.{seen, field_cause, line_cause, cause, fault_after, text_fault}
+use Rattle.race_text.specs.Lines.{fault_after, first_fault}
+use Rattle.race_text.specs.Fault.{seen, field_cause, line_cause, cause, text_fault}
 use Rattle.race_text.specs.Examples.{fault_at, fine, no_newline, leading_zero, two_spaces}
 use Rattle.race_text.specs.Examples.{late_declaration, long_name, unknown_word, unknown_name}
 use Rattle.race_text.specs.Examples.{wrong_kind, mutex_for_rwmutex}
 
 pub fine_row : text_fault fine ≡ None
-unfolding text_fault fault_after cause line_cause seen word_named field_cause number digits
+unfolding first_fault fault_after cause line_cause seen word_named field_cause number digits
 fine_row = refl
 
 pub empty_row : text_fault [] ≡ Some (fault_at 1 TextCause.BadHeader)
-unfolding text_fault fault_after cause line_cause seen word_named field_cause number digits
+unfolding first_fault fault_after cause line_cause seen word_named field_cause number digits
 empty_row = refl
 
 pub no_newline_row : text_fault no_newline ≡ Some (fault_at 1 TextCause.NoNewline)
-unfolding text_fault fault_after cause line_cause seen word_named field_cause number digits
+unfolding first_fault fault_after cause line_cause seen word_named field_cause number digits
 no_newline_row = refl
 
 pub leading_zero_row : text_fault leading_zero ≡ Some (fault_at 3 TextCause.BadNumber)
-unfolding text_fault fault_after cause line_cause seen word_named field_cause number digits
+unfolding first_fault fault_after cause line_cause seen word_named field_cause number digits
 leading_zero_row = refl
 
 pub two_spaces_row : text_fault two_spaces ≡ Some (fault_at 3 TextCause.WrongCount)
-unfolding text_fault fault_after cause line_cause seen word_named field_cause number digits
+unfolding first_fault fault_after cause line_cause seen word_named field_cause number digits
 two_spaces_row = refl
 
 pub long_name_row : text_fault long_name ≡ Some (fault_at 2 TextCause.BadName)
-unfolding text_fault fault_after cause line_cause seen word_named field_cause number digits
+unfolding first_fault fault_after cause line_cause seen word_named field_cause number digits
 long_name_row = refl
 
 pub late_declaration_row : text_fault late_declaration ≡ Some (fault_at 4 TextCause.LateDeclaration)
-unfolding text_fault fault_after cause line_cause seen word_named field_cause number digits
+unfolding first_fault fault_after cause line_cause seen word_named field_cause number digits
 late_declaration_row = refl
 
 pub unknown_word_row : text_fault unknown_word ≡ Some (fault_at 9 TextCause.UnknownWord)
-unfolding text_fault fault_after cause line_cause seen word_named field_cause number digits
+unfolding first_fault fault_after cause line_cause seen word_named field_cause number digits
 unknown_word_row = refl
 
 pub unknown_name_row : text_fault unknown_name ≡ Some (fault_at 4 TextCause.Unknown)
-unfolding text_fault fault_after cause line_cause seen word_named field_cause number digits
+unfolding first_fault fault_after cause line_cause seen word_named field_cause number digits
 unknown_name_row = refl
 
 pub wrong_kind_row : text_fault wrong_kind ≡ Some (fault_at 4 TextCause.WrongKind)
-unfolding text_fault fault_after cause line_cause seen word_named field_cause number digits
+unfolding first_fault fault_after cause line_cause seen word_named field_cause number digits
 wrong_kind_row = refl
 
 pub mutex_for_rwmutex_row : text_fault mutex_for_rwmutex ≡ Some (fault_at 6 TextCause.WrongKind)
-unfolding text_fault fault_after cause line_cause seen word_named field_cause number digits
+unfolding first_fault fault_after cause line_cause seen word_named field_cause number digits
 mutex_for_rwmutex_row = refl

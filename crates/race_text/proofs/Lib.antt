@@ -30,6 +30,7 @@ pub mod ShortLemmas
 pub mod ReaderLemmas
 pub mod ParseLemmas
 pub mod FedLemmas
+pub mod LineCount
 pub mod MarkLemmas
 pub mod CommonLemmas
 pub mod TextLaws

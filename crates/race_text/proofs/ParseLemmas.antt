@@ -1,7 +1,7 @@
 -- A text that is read part by part: what is left of it, and its first fault.
 use Rattle.std.proofs.Common.{◌≡◌, ℕ, ◌+◌, ◌<◌, ◌≤◌, ◌==◌, ◌&&◌, nat_lt, Bool, true, false, not}
 use Rattle.std.proofs.Common.{if◌then◌else◌, List, [], ◌∷◌, ◌++◌, length, Option, Some, None, refl, sym}
-use Rattle.std.proofs.Common.{ap, ◌∙◌, arith}
+use Rattle.std.proofs.Common.{ap, subst, ◌∙◌, arith, append-nil, append_assoc}
 use Rattle.std.proofs.lemmas.Bool.Decides.{nat_tests}
 use Rattle.std.proofs.lemmas.List.{length-append}
 use Rattle.std.proofs.lemmas.List.Splits.{join_with_byte-slice_split, length-slice_split}
@@ -14,30 +14,13 @@ use Rattle.race_text.specs.declared.cause.TextCause.{TextCause}
 use Rattle.race_text.specs.declared.cause.TextFault.{TextFault}
 use Rattle.race_text.specs.Words.{parts_of}
 use Rattle.race_text.specs.Text.{header, lines}
-use Rattle.race_text.specs.Fault.{cause, or_later, fault_after}
+use Rattle.race_text.specs.Lines.{Causes, or_later, fault_after}
+use Rattle.race_text.specs.Fault.{cause, end_cause}
+use Rattle.race_text.specs.Reader.{lines_read}
 use Rattle.race_text.proofs.WordLemmas.{both}
-use Rattle.race_text.specs.Reader.{lines_read, end_cause}
 
 abbrev pub told : ℕ → TextCause → TextFault
 told line c = record { line = line; cause = c }
-
--- a part behind which another stands
-pub fault_step : (before : List (List ℕ)) (line : List ℕ) (parts : List (List ℕ)) → 0 < length parts
-    → fault_after before (line ∷ parts) ≡ or_later (length before + 1) (cause before line true) (fault_after (before ++ line ∷ []) parts)
-unfolding fault_after
-fault_step before line [] h = absurd (omega arith)
-fault_step before line (next ∷ others) h = refl
-
--- the last part
-pub fault_end : (before : List (List ℕ)) (last : List ℕ) → fault_after before (last ∷ []) ≡ or_later (length before + 1) (end_cause before last) None
-unfolding fault_after
-fault_end before last = by ((length last == 0) && nat_lt 0 (length before))
-  where
-    by : (b : Bool)
-        → (if b then None else or_later (length before + 1) (cause before last false) None)
-        ≡ or_later (length before + 1) (if b then None else cause before last false) None
-    by true = refl
-    by false = refl
 
 -- a fault is none of the lines before
 pub or_later_from : (n : ℕ) (o : Option TextCause) (later : Option TextFault) (f : TextFault) → or_later n o later ≡ Some f
@@ -45,14 +28,51 @@ pub or_later_from : (n : ℕ) (o : Option TextCause) (later : Option TextFault) 
 or_later_from n None later f h rest = rest f h
 or_later_from n (Some c) later f h rest = let same : n ≡ f.line = ap (λ (x : TextFault). x.line) (same_Some (told n c) f h) in omega (arith, same)
 
-pub fault_from : (parts before : List (List ℕ)) (f : TextFault) → fault_after before parts ≡ Some f → length before + 1 ≤ f.line
-unfolding fault_after
-fault_from [] before f h = absurd (none-some f h)
-fault_from (last ∷ []) before f h = or_later_from (length before + 1)
-    (end_cause before last) None f (sym (fault_end before last) ∙ h) (λ g e. absurd (none-some g e))
-fault_from (line ∷ next ∷ others) before f h =
-    or_later_from (length before + 1) (cause before line true) (fault_after (before ++ line ∷ []) (next ∷ others)) f h
-    (λ g e. let later = fault_from (next ∷ others) (before ++ line ∷ []) g e in omega (arith, later, length-append before (line ∷ [])))
+-- where a fault is none, neither the first cause is one, nor a later fault
+pub or_later_none : (n : ℕ) (o : Option TextCause) (later : Option TextFault) → or_later n o later ≡ None → (o ≡ None) × (later ≡ None)
+or_later_none n None later h = (refl, h)
+or_later_none n (Some c) later h = absurd (none-some (told n c) (sym h))
+
+module _ (causes : Causes) where
+  -- a part behind which another stands
+  pub fault_step : (before : List (List ℕ)) (line : List ℕ) (parts : List (List ℕ)) → 0 < length parts
+      → fault_after causes before (line ∷ parts)
+      ≡ or_later (length before + 1) (causes.line before line) (fault_after causes (before ++ line ∷ []) parts)
+  unfolding fault_after
+  fault_step before line [] h = absurd (omega arith)
+  fault_step before line (next ∷ others) h = refl
+
+  -- the last part
+  pub fault_end : (before : List (List ℕ)) (last : List ℕ)
+      → fault_after causes before (last ∷ []) ≡ or_later (length before + 1) (causes.end before last) None
+  unfolding fault_after
+  fault_end before last = refl
+
+  pub fault_from : (parts before : List (List ℕ)) (f : TextFault) → fault_after causes before parts ≡ Some f → length before + 1 ≤ f.line
+  unfolding fault_after
+  fault_from [] before f h = absurd (none-some f h)
+  fault_from (last ∷ []) before f h = or_later_from (length before + 1) (causes.end before last) None f h (λ g e. absurd (none-some g e))
+  fault_from (line ∷ next ∷ others) before f h =
+      or_later_from (length before + 1) (causes.line before line) (fault_after causes (before ++ line ∷ []) (next ∷ others)) f h
+      (λ g e. let later = fault_from (next ∷ others) (before ++ line ∷ []) g e in omega (arith, later, length-append before (line ∷ [])))
+
+  -- no cause holds at any of the lines, each behind those before it
+  abbrev pub AreFine : List (List ℕ) → List (List ℕ) → Type 0
+  AreFine before [] = Unit
+  AreFine before (l ∷ ls) = (causes.line before l ≡ None) × AreFine (before ++ l ∷ []) ls
+
+  pub fine_both : (before xs ys : List (List ℕ)) → AreFine before xs → AreFine (before ++ xs) ys → AreFine before (xs ++ ys)
+  fine_both before [] ys h k = subst (λ b. AreFine b ys) (append-nil before) k
+  fine_both before (x ∷ xs) ys h k = (h.0, fine_both (before ++ x ∷ []) xs ys h.1 (subst (λ b. AreFine b ys) (sym (append_assoc before (x ∷ []) xs)) k))
+
+  -- fine lines, each ended by a newline, have no fault, where the text may end behind them
+  pub fine_lines : (before ls : List (List ℕ)) → causes.end (before ++ ls) [] ≡ None → AreFine before ls → fault_after causes before (ls ++ [] ∷ []) ≡ None
+  fine_lines before [] last fine =
+      fault_end before [] ∙ ap (λ o. or_later (length before + 1) o None) (ap (λ b. causes.end b []) (sym (append-nil before)) ∙ last)
+  fine_lines before (l ∷ ls) last fine =
+      fault_step before l (ls ++ [] ∷ []) (omega (arith, length-append ls ([] ∷ [])))
+      ∙ (λ j. or_later (length before + 1) (fine.0 j)
+      (fine_lines (before ++ l ∷ []) ls (ap (λ b. causes.end b []) (append_assoc before (l ∷ []) ls) ∙ last) fine.1 j))
 
 -- a part that no newline ends is at fault where it is a line
 unended : (before : List (List ℕ)) (last : List ℕ) → cause before last false ≡ None → ⊥

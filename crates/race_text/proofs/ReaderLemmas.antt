@@ -16,12 +16,13 @@ use Rattle.race_text.specs.declared.form.Word.{Word}
 use Rattle.race_text.specs.Words.{words_of, has_bad_byte}
 use Rattle.race_text.specs.Text.{header, line_of, declaration_line, lines, HasText}
 use Rattle.race_text.specs.Form.{word_named, first_word, arguments}
-use Rattle.race_text.specs.Fault.{seen, seen_so_far, cause, word_cause, declaration, declaration_in, is_event_line, is_event_word}
+use Rattle.race_text.specs.Fault.{seen, seen_so_far, cause, trace_causes, word_cause, declaration, declaration_in, is_event_line, is_event_word}
+use Rattle.race_text.specs.Lines.{GoesOn}
 use Rattle.race_text.specs.Writing.{noun_text, number_words}
 use Rattle.race_records.specs.Nouns.{object_says}
 use Rattle.race_text.specs.Declaring.{is_declaration_line, is_declaration_word, declaration_cause, with_declared, with_declaration_in}
 use Rattle.race_text.specs.Taking.{state_of, IsRead, TakesLine, begun}
-use Rattle.race_text.specs.Reader.{trace_read, lines_read, IsReading, GoesOn, TakesIfDeclared, TakesDeclaration}
+use Rattle.race_text.specs.Reader.{trace_read, lines_read, IsReading, TakesIfDeclared, TakesDeclaration}
 use Rattle.race_text.proofs.DeclarationLemmas.{declaration_cause-words, declaration_in-words, is_there, declared_there, spelled_there}
 use Rattle.race_text.proofs.WordTable.{word_spelled, object_words_are}
 use Rattle.race_text.proofs.TraceLemmas.{cause_behind, clean_line, lines_declaration, seen_declaration, no_word}
@@ -51,7 +52,7 @@ unfolding seen word_named
 header_says = refl
 
 pub header_taken : (decls : DeclsState) (trace : Option TraceState) (line : List ℕ) → IsReading false decls trace → bytes_eq line header ≡ true
-    → GoesOn [] line (lines_read true decls trace)
+    → GoesOn trace_causes [] line (lines_read true decls trace)
 header_taken decls trace line reading h = record {
   no_cause = header_fine line h;
   lines = (λ i. lines (trace_read (reading.0 i) (reading.1 i))) ∙ header_lines ∙ (λ i. sym ((bytes_eq-Decides line header).0 h) i ∷ []);

@@ -24,24 +24,15 @@ use Rattle.race_text.specs.declared.cause.TextCause.{TextCause}
 use Rattle.race_text.specs.declared.cause.TextFault.{TextFault}
 use Rattle.race_text.specs.Text.{header, declaration_line, event_line, lines, text}
 use Rattle.race_text.specs.Form.{arguments}
-use Rattle.race_text.specs.Fault.{Seen, seen, seen_so_far, line_cause, word_cause, cause, or_later, fault_after, text_fault}
+use Rattle.race_text.specs.Lines.{fault_after, first_fault}
+use Rattle.race_text.specs.Fault.{Seen, seen, seen_so_far, line_cause, word_cause, cause, end_cause, trace_causes, text_fault}
 use Rattle.race_text.specs.Text.{HasText, IsTraceText}
-use Rattle.race_text.specs.Reader.{end_cause}
 use Rattle.race_text.proofs.DeclarationLemmas.{fault_by, said_fine}
 use Rattle.race_text.proofs.NamesAgain.{differ}
-use Rattle.race_text.proofs.ParseLemmas.{fault_step, fault_end}
+use Rattle.race_text.proofs.ParseLemmas.{AreFine, fine_both, fine_lines}
 use Rattle.race_text.proofs.ReaderLemmas.{header_says}
 use Rattle.race_text.proofs.TextLaws.{declaration_again, is_no_event, event_at, lines_again}
 use Rattle.race_text.proofs.TraceLemmas.{clean_line, seen_declaration, seen_event}
-
--- no cause holds at any of the lines, each behind those before it
-abbrev AreFine : List (List ℕ) → List (List ℕ) → Type 0
-AreFine before [] = Unit
-AreFine before (l ∷ ls) = (cause before l true ≡ None) × AreFine (before ++ l ∷ []) ls
-
-fine_both : (before xs ys : List (List ℕ)) → AreFine before xs → AreFine (before ++ xs) ys → AreFine before (xs ++ ys)
-fine_both before [] ys h k = subst (λ b. AreFine b ys) (append-nil before) k
-fine_both before (x ∷ xs) ys h k = (h.0, fine_both (before ++ x ∷ []) xs ys h.1 (subst (λ b. AreFine b ys) (sym (append_assoc before (x ∷ []) xs)) k))
 
 no_end_cause : (before : List (List ℕ)) → 0 < length before → end_cause before [] ≡ None
 no_end_cause before some = by (nat_lt 0 (length before)) (grind (arith, nat_tests, some))
@@ -49,13 +40,6 @@ no_end_cause before some = by (nat_lt 0 (length before)) (grind (arith, nat_test
     by : (b : Bool) → b ≡ true → (if b then None else cause before [] false) ≡ None
     by true h = refl
     by false h = absurd (true≢false (sym h))
-
--- fine lines, each ended by a newline, have no fault
-fine_lines : (before ls : List (List ℕ)) → 0 < length before + length ls → AreFine before ls → fault_after before (ls ++ [] ∷ []) ≡ None
-fine_lines before [] some fine = fault_end before [] ∙ ap (λ o. or_later (length before + 1) o None) (no_end_cause before (omega (arith, some)))
-fine_lines before (l ∷ ls) some fine =
-    fault_step before l (ls ++ [] ∷ []) (omega (arith, length-append ls ([] ∷ [])))
-    ∙ (λ j. or_later (length before + 1) (fine.0 j) (fine_lines (before ++ l ∷ []) ls (omega (arith, length-append before (l ∷ []))) fine.1 j))
 
 of_own_kind : (o : Object) → is_of_kind (kind_of o) o ≡ true
 of_own_kind Object.Goroutine = refl
@@ -145,7 +129,8 @@ module _ (t : TraceState) (has : HasText t) where
   print e = event_line t.decls e
 
   declarations_fine : (before after : List Declaration) → before ++ after ≡ declared → seen (header ∷ map declaration_line before) ≡ seen_so_far before 0
-      → AreFine (header ∷ map declaration_line before) (map declaration_line after) × (seen (header ∷ map declaration_line declared) ≡ seen_so_far declared 0)
+      → AreFine trace_causes (header ∷ map declaration_line before) (map declaration_line after)
+      × (seen (header ∷ map declaration_line declared) ≡ seen_so_far declared 0)
   declarations_fine before [] is says =
       (tt, subst (λ (ds : List Declaration). seen (header ∷ map declaration_line ds) ≡ seen_so_far ds 0) (sym (append-nil before) ∙ is) says)
   declarations_fine before (d ∷ after) is says =
@@ -160,14 +145,14 @@ module _ (t : TraceState) (has : HasText t) where
       ∙ seen_declaration (header ∷ map declaration_line before) (declaration_line d) before d says line.declares (is_no_event d (declaration_line d) line)) in (
         (
           cause_by_seen (map declaration_line before) (declaration_line d) (seen_so_far before 0) says ∙ no_cause t.decls has.well_formed before after d is,
-          subst (λ ls. AreFine (header ∷ ls) (map declaration_line after)) more rest.0,
+          subst (λ ls. AreFine trace_causes (header ∷ ls) (map declaration_line after)) more rest.0,
         ),
         rest.1,
       )
 
   events_fine : (done rest : List Event) → done ++ rest ≡ t.events
       → seen (header ∷ map declaration_line declared ++ map print done) ≡ seen_so_far declared (length done)
-      → AreFine (header ∷ map declaration_line declared ++ map print done) (map print rest)
+      → AreFine trace_causes (header ∷ map declaration_line declared ++ map print done) (map print rest)
   events_fine done [] is says = tt
   events_fine done (e ∷ rest) is says =
       let at : get_or t.events (length done) e ≡ e = ap (λ l. get_or l (length done) e) (sym is) ∙ get_or-append_seam done e rest e in
@@ -191,31 +176,31 @@ module _ (t : TraceState) (has : HasText t) where
       (ap (λ ls. seen (header ∷ ls)) more ∙ told ∙ ap (seen_so_far declared) (sym (length-append done (e ∷ [])))) in (
         ap (λ l. cause (header ∷ head) l true) (sym same)
             ∙ cause_by_seen head (print (get_or t.events (length done) e)) (seen_so_far declared (length done)) says ∙ fine,
-        subst (λ ls. AreFine (header ∷ ls) (map print rest)) more next,
+        subst (λ ls. AreFine trace_causes (header ∷ ls) (map print rest)) more next,
       )
 
   header_fine : cause [] header true ≡ None
   unfolding cause
   header_fine = refl
 
-  lines_fine : AreFine [] (lines t)
+  lines_fine : AreFine trace_causes [] (lines t)
   unfolding lines
   lines_fine =
       let first = declarations_fine [] declared refl header_says in
       let none_done : header ∷ map declaration_line declared ++ [] ≡ header ∷ map declaration_line declared =
       append-nil (header ∷ map declaration_line declared) in (
         header_fine,
-        fine_both (header ∷ []) (map declaration_line declared) (map print t.events) first.0
-            (subst (λ ls. AreFine ls (map print t.events)) none_done (events_fine [] t.events refl (ap seen none_done ∙ first.1))),
+        fine_both trace_causes (header ∷ []) (map declaration_line declared) (map print t.events) first.0
+            (subst (λ ls. AreFine trace_causes ls (map print t.events)) none_done (events_fine [] t.events refl (ap seen none_done ∙ first.1))),
       )
 
-  some_lines : 0 < 0 + length (lines t)
+  some_lines : 0 < length (lines t)
   unfolding lines
   some_lines = omega arith
 
   pub text_has_no_fault : text_fault (text t) ≡ None
-  unfolding text_fault
-  text_has_no_fault = ap (fault_after []) (lines_again t has) ∙ fine_lines [] (lines t) some_lines lines_fine
+  unfolding first_fault
+  text_has_no_fault = ap (fault_after trace_causes []) (lines_again t has) ∙ fine_lines trace_causes [] (lines t) (no_end_cause (lines t) some_lines) lines_fine
 
 pub memory_or_not : (c : TextCause) → (c ≡ TextCause.OutOfMemory) ⊎ (c ≢ TextCause.OutOfMemory)
 memory_or_not TextCause.OutOfMemory = inl refl

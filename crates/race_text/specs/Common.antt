@@ -18,9 +18,9 @@ use Rattle.race_text.specs.declared.common.Deed.{Deed}
 use Rattle.race_text.specs.declared.common.Said.{Said}
 use Rattle.race_text.specs.Words.{parts_of, words_of}
 use Rattle.race_text.specs.Form.{first_word, arguments}
-use Rattle.race_text.specs.Fault.{cause}
+use Rattle.race_text.specs.Lines.{Causes, GoesOn}
+use Rattle.race_text.specs.Fault.{cause, trace_causes}
 use Rattle.race_text.specs.Reading.{Occurrence, occurrence, first_part, parts_on, last_place, event_behind, event_in}
-use Rattle.race_text.specs.Reader.{GoesOn}
 use Rattle.race_text.specs.Fed.{IsUnended, TellsOfLine}
 
 -- so many bytes in front are marked: a bit for each, which is set where the byte can't be seen
@@ -126,7 +126,7 @@ pub record SaysEvent (ds : List Declaration) (bytes : List ℕ) (o : Occurrence)
 
 -- the lines go on with the one in front where the bytes behind it are told, and else they are the same
 abbrev pub GoesOnIfTold : List (List ℕ) → List ℕ → Option (Bor (List ℕ)) → List (List ℕ) → Type 0
-GoesOnIfTold before bytes (Some rest) after = EndsLine bytes rest.now × GoesOn before (line_in bytes) after
+GoesOnIfTold before bytes (Some rest) after = EndsLine bytes rest.now × GoesOn trace_causes before (line_in bytes) after
 GoesOnIfTold before bytes None after = after ≡ before
 
 -- a newline ends the line, whose least cause is told, memory aside
@@ -135,13 +135,14 @@ pub record TellsOfCommon (before : List (List ℕ)) (bytes : List ℕ) (told : T
   pub ends : EndsLine bytes rest
   pub least : told ≢ TextCause.OutOfMemory → cause before (line_in bytes) true ≡ Some told
 
--- the same where each line that a newline ends is taken
-abbrev pub TakesNext : List (List ℕ) → List ℕ → Option (Bor (List ℕ)) → List (List ℕ) → Type 0
-TakesNext before bytes (Some rest) after = EndsLine bytes rest.now × GoesOn before (line_in bytes) after
-TakesNext before bytes None after = IsUnended bytes × (after ≡ before)
+module _ (causes : Causes) where
+  -- the same where each line that a newline ends is taken
+  abbrev pub TakesNext : List (List ℕ) → List ℕ → Option (Bor (List ℕ)) → List (List ℕ) → Type 0
+  TakesNext before bytes (Some rest) after = EndsLine bytes rest.now × GoesOn causes before (line_in bytes) after
+  TakesNext before bytes None after = IsUnended bytes × (after ≡ before)
 
--- or its least cause is told, with its number
-pub record TellsOfNext (before : List (List ℕ)) (bytes : List ℕ) (told : TextFault) : Type 0 where
-  pub rest : List ℕ
-  pub ends : EndsLine bytes rest
-  pub is : TellsOfLine before (line_in bytes) told
+  -- or its least cause is told, with its number
+  pub record TellsOfNext (before : List (List ℕ)) (bytes : List ℕ) (told : TextFault) : Type 0 where
+    pub rest : List ℕ
+    pub ends : EndsLine bytes rest
+    pub is : TellsOfLine causes before (line_in bytes) told

@@ -1,6 +1,6 @@
--- The first fault of a text: the first line at which a cause holds, and the least cause that holds there.
-use Rattle.std.specs.Prelude.{ℕ, ◌+◌, ◌-◌, ◌==◌, ◌&&◌, ◌^◌, Bool, true, false, not, if◌then◌else◌, nat_le}
-use Rattle.std.specs.Prelude.{nat_lt, List, [], ◌∷◌, ◌++◌, length, count_by, fold, Option, Some, None}
+-- The first fault of a trace's text: the first line at which a cause holds, and the least cause that holds there.
+use Rattle.std.specs.Prelude.{ℕ, ◌-◌, ◌==◌, ◌&&◌, ◌^◌, Bool, true, false, not, if◌then◌else◌, nat_le}
+use Rattle.std.specs.Prelude.{nat_lt, List, [], ◌∷◌, length, count_by, fold, Option, Some, None}
 use Rattle.std.specs.Prelude.{is_some, is_none}
 use Rattle.std.specs.List.{filter_map, zip}
 use Rattle.std.specs.Option.{option_map}
@@ -19,7 +19,8 @@ use Rattle.race_text.specs.declared.cause.TextCause.{TextCause}
 use Rattle.race_text.specs.declared.cause.TextFault.{TextFault}
 use Rattle.race_text.specs.declared.form.Word.{Word}
 use Rattle.race_text.specs.declared.form.Field.{Field}
-use Rattle.race_text.specs.Words.{parts_of, words_of, has_bad_byte, number}
+use Rattle.race_text.specs.Words.{words_of, has_bad_byte, number}
+use Rattle.race_text.specs.Lines.{Causes, first_fault}
 use Rattle.race_text.specs.Select.{no_cases, nil, close_nil, pieces_of, SpelledCase, case_spelled, SpelledFailure, failure_spelled, kind_tried}
 use Rattle.race_text.specs.Text.{header}
 use Rattle.race_text.specs.Form.{word_named, fields_of, is_wanted, kind_declared, first_word, arguments}
@@ -181,20 +182,14 @@ cause [] line newline =
     else (if newline then None else Some TextCause.NoNewline)
 cause (first ∷ before) line newline = if newline then line_cause (seen (first ∷ before)) line else Some TextCause.NoNewline
 
--- the fault of a line by its cause, or else a later one
-abbrev pub or_later : ℕ → Option TextCause → Option TextFault → Option TextFault
-or_later line None later = later
-or_later line (Some c) later = Some (record { line = line; cause = c })
+-- the cause of the last part of a text, behind these lines. It is a line only where it has a byte, or is the first
+abbrev pub end_cause : List (List ℕ) → List ℕ → Option TextCause
+end_cause before last = if (length last == 0) && nat_lt 0 (length before) then None else cause before last false
 
--- the first fault of the parts that stand after these lines. The last part is a line only where it has a byte, or is the first
-unfoldable pub fault_after : List (List ℕ) → List (List ℕ) → Option TextFault
-fault_after before [] = None
-fault_after before (last ∷ []) =
-    if (length last == 0) && nat_lt 0 (length before) then None
-    else or_later (length before + 1) (cause before last false) None
-fault_after before (line ∷ next ∷ others) =
-    or_later (length before + 1) (cause before line true) (fault_after (before ++ line ∷ []) (next ∷ others))
+-- the causes of a trace's text
+abbrev pub trace_causes : Causes
+trace_causes = record { line = λ before line. cause before line true; end = end_cause }
 
--- the first fault of a text
-unfoldable pub text_fault : List ℕ → Option TextFault
-text_fault bytes = fault_after [] (parts_of bytes)
+-- the first fault of a trace's text
+abbrev pub text_fault : List ℕ → Option TextFault
+text_fault bytes = first_fault trace_causes bytes

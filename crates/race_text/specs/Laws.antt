@@ -14,7 +14,7 @@ use Rattle.race_text.specs.declared.form.Word.{Word}
 use Rattle.race_text.specs.Form.{word_named}
 use Rattle.race_text.specs.Writing.{noun_text, number_words, verb_text, said_words}
 use Rattle.race_text.specs.Text.{object_words, op_words, text, HasText, IsTextOf, IsTraceText}
-use Rattle.race_text.specs.Fault.{text_fault}
+use Rattle.race_text.specs.Fault.{trace_causes, text_fault}
 use Rattle.race_text.specs.Fed.{ended_fault}
 
 -- every trace whose text the bytes are records what t records; that t is one isn't said
@@ -45,4 +45,4 @@ EqualTextsAreOfEqualTraces = (t u : TraceState) → HasText t → HasText u → 
 
 -- the first fault of the lines that are ended is the whole text's, whatever follows
 abbrev pub EndedFaultsStay : Type 0
-EndedFaultsStay = (bytes more : List ℕ) (fault : TextFault) → ended_fault bytes ≡ Some fault → text_fault (bytes ++ more) ≡ Some fault
+EndedFaultsStay = (bytes more : List ℕ) (fault : TextFault) → ended_fault trace_causes bytes ≡ Some fault → text_fault (bytes ++ more) ≡ Some fault

@@ -2,6 +2,7 @@ pub mod Words
 pub mod Select
 pub mod Text
 pub mod Form
+pub mod Lines
 pub mod Fault
 pub mod Declaring
 pub mod Reading

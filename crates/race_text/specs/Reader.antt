@@ -1,12 +1,8 @@
 -- How far a trace is read, line by line.
-use Rattle.std.specs.Prelude.{◌≡◌, ◌≢◌, ℕ, ◌<◌, ◌≤◌, Bool, true, false, List, [], ◌∷◌, ◌++◌}
-use Rattle.std.specs.Prelude.{length, Option, Some, None, Result, Ok, Err, nat_lt, ◌==◌, ◌&&◌}
-use Rattle.std.specs.Prelude.{if◌then◌else◌}
+use Rattle.std.specs.Prelude.{◌≡◌, ◌≢◌, ℕ, ◌<◌, Bool, true, false, List, [], length, Option, Some, None, Result, Ok, Err}
 use Rattle.race_records.specs.Declarations.{DeclsState}
 use Rattle.race_records.specs.Events.{TraceState}
 use Rattle.race_text.specs.declared.cause.TextCause.{TextCause}
-use Rattle.race_text.specs.declared.cause.TextFault.{TextFault}
-use Rattle.race_text.specs.Words.{parts_of}
 use Rattle.race_text.specs.Text.{lines}
 use Rattle.race_text.specs.Fault.{cause}
 use Rattle.race_text.specs.Declaring.{is_declaration_line}
@@ -28,11 +24,6 @@ IsReading false decls trace = (decls ≡ record { declarations = []; places = []
 IsReading true decls None = IsRead (begun decls)
 IsReading true decls (Some trace) = IsRead trace × (0 < length trace.events)
 
--- one more line, at which no cause holds
-pub record GoesOn (before : List (List ℕ)) (line : List ℕ) (after : List (List ℕ)) : Type 0 where
-  pub no_cause : cause before line true ≡ None
-  pub lines : after ≡ before ++ line ∷ []
-
 -- a declaration is taken, or the line is none, or its least cause is told, memory aside
 abbrev pub TakesIfDeclared : DeclsState → List ℕ → Bool → DeclsState → Type 0
 TakesIfDeclared old line true new = TakesLine (lines (begun old)) line (begun new)
@@ -42,15 +33,3 @@ TakesIfDeclared old line false new = (new ≡ old) × (is_declaration_line line 
 abbrev pub TakesDeclaration : DeclsState → List ℕ → Result Bool TextCause → DeclsState → Type 0
 TakesDeclaration old line (Ok added) new = TakesIfDeclared old line added new
 TakesDeclaration old line (Err told) new = told ≢ TextCause.OutOfMemory → cause (lines (begun old)) line true ≡ Some told
-
--- the cause of the last part of a text, behind these lines. It is a line only where it has a byte, or is the first
-abbrev pub end_cause : List (List ℕ) → List ℕ → Option TextCause
-end_cause before last = if (length last == 0) && nat_lt 0 (length before) then None else cause before last false
-
--- the bytes have a line of this number, counted from 1, or it is the one behind the last newline
-abbrev pub IsLineOf : List ℕ → ℕ → Type 0
-IsLineOf bytes line = (1 ≤ line) × (line ≤ length (parts_of bytes))
-
--- no fault stands on an earlier line
-abbrev pub IsNoneBefore : ℕ → Option TextFault → Type 0
-IsNoneBefore line fault = (f : TextFault) → fault ≡ Some f → line ≤ f.line

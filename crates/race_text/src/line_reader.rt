@@ -1,9 +1,10 @@
 //! A trace from its bytes, piece by piece.
 ghost use Rattle.std.specs.Prelude.{◌≡◌, ◌≢◌, ◌+◌, ◌++◌, ◌↔◌, [], IsTrue, Some, None, length, IfOk, IfErr, OnOk, MatchResult};
 ghost use Rattle.race_text.specs.Text.{IsTextOf, IsTraceText};
-ghost use Rattle.race_text.specs.Fault.{text_fault};
+ghost use Rattle.race_text.specs.Fault.{trace_causes, text_fault};
 ghost use Rattle.race_text.specs.Laws.{IsOnlyTraceOf};
-ghost use Rattle.race_text.specs.Reader.{IsLineOf, IsNoneBefore, IsReading, GoesOn, lines_read};
+ghost use Rattle.race_text.specs.Lines.{GoesOn, IsLineOf, IsNoneBefore};
+ghost use Rattle.race_text.specs.Reader.{IsReading, lines_read};
 ghost use Rattle.race_text.specs.Common.{TakesNext, TellsOfNext};
 ghost use Rattle.race_text.specs.Fed as spec;
 
@@ -58,7 +59,7 @@ impl<A: Allocator> Model for LineReader<A> {
 impl<A: Allocator + Copy> LineReader<A> {
     /// Nothing is fed yet. Takes no memory.
     pub fn new(alloc: A) -> LineReader<A>
-        ensures { spec.StandsFor result [] }
+        ensures { spec.StandsFor trace_causes result [] }
     {
         LineReader {
             lines: Lines {
@@ -74,14 +75,14 @@ impl<A: Allocator + Copy> LineReader<A> {
     /// Memory aside it is Ok exactly where none of them has one. After a refusal each further call
     /// refuses in the same way.
     pub fn feed(&mut self, piece: &[u8]) -> Result<(), TextFault>
-        ensures goes_on { spec.GoesOnBy self.old self.new piece.now }
-        ensures ok { IfOk result (λ _. spec.ForEachFed self.old
-            (λ fed. spec.ended_fault (fed ++ piece.now) ≡ None)) }
-        ensures fault { IfErr result (λ told. spec.ForEachFed self.old
-            (λ fed. told.cause ≢ TextCause.OutOfMemory → spec.ended_fault (fed ++ piece.now) ≡ Some told)) }
-        ensures memory { IfErr result (λ told. spec.ForEachFed self.old
-            (λ fed. IsNoneBefore told.line (spec.ended_fault (fed ++ piece.now)))) }
-        ensures line { IfErr result (λ told. spec.ForEachFed self.old
+        ensures goes_on { spec.GoesOnBy trace_causes self.old self.new piece.now }
+        ensures ok { IfOk result (λ _. spec.ForEachFed trace_causes self.old
+            (λ fed. spec.ended_fault trace_causes (fed ++ piece.now) ≡ None)) }
+        ensures fault { IfErr result (λ told. spec.ForEachFed trace_causes self.old
+            (λ fed. told.cause ≢ TextCause.OutOfMemory → spec.ended_fault trace_causes (fed ++ piece.now) ≡ Some told)) }
+        ensures memory { IfErr result (λ told. spec.ForEachFed trace_causes self.old
+            (λ fed. IsNoneBefore told.line (spec.ended_fault trace_causes (fed ++ piece.now)))) }
+        ensures line { IfErr result (λ told. spec.ForEachFed trace_causes self.old
             (λ fed. IsLineOf (fed ++ piece.now) told.line)) }
         ensures fine { IfOk result (λ _. self.new.fault ≡ None) }
         ensures told { IfErr result (λ told. self.new.fault ≡ Some told) }
@@ -101,15 +102,15 @@ impl<A: Allocator + Copy> LineReader<A> {
 
     /// The one trace whose text was fed, or else the first fault, as `parse_trace` tells it.
     pub fn finish(self) -> Result<Trace<A>, TextFault>
-        ensures text { IfOk result (λ trace. spec.ForEachFed self (IsTextOf trace)) }
-        ensures only { IfOk result (λ trace. spec.ForEachFed self (λ fed. IsOnlyTraceOf fed trace)) }
-        ensures accepted { IfErr result (λ told. spec.ForEachFed self
+        ensures text { IfOk result (λ trace. spec.ForEachFed trace_causes self (IsTextOf trace)) }
+        ensures only { IfOk result (λ trace. spec.ForEachFed trace_causes self (λ fed. IsOnlyTraceOf fed trace)) }
+        ensures accepted { IfErr result (λ told. spec.ForEachFed trace_causes self
             (λ fed. IsTraceText fed → told.cause ≡ TextCause.OutOfMemory)) }
-        ensures fault { IfErr result (λ told. spec.ForEachFed self
+        ensures fault { IfErr result (λ told. spec.ForEachFed trace_causes self
             (λ fed. told.cause ≢ TextCause.OutOfMemory → text_fault fed ≡ Some told)) }
-        ensures memory { IfErr result (λ told. spec.ForEachFed self
+        ensures memory { IfErr result (λ told. spec.ForEachFed trace_causes self
             (λ fed. IsNoneBefore told.line (text_fault fed))) }
-        ensures line { IfErr result (λ told. spec.ForEachFed self (λ fed. IsLineOf fed told.line)) }
+        ensures line { IfErr result (λ told. spec.ForEachFed trace_causes self (λ fed. IsLineOf fed told.line)) }
         ensures repeated { (told : TextFault) → self.fault ≡ Some told → result ≡ Err told }
     {
         let LineReader { lines, fault } = self;
@@ -133,10 +134,10 @@ impl<A: Allocator + Copy> Lines<A> {
         requires reading { IsReading self.old.reader.has_header self.old.reader.decls self.old.reader.trace }
         requires unended { spec.IsUnended self.old.part.items }
         ensures taken { MatchResult result
-            (λ _. spec.TakesBytes (lines_read self.old.reader.has_header self.old.reader.decls self.old.reader.trace)
+            (λ _. spec.TakesBytes trace_causes (lines_read self.old.reader.has_header self.old.reader.decls self.old.reader.trace)
             (self.old.part.items ++ piece.now)
             (lines_read self.new.reader.has_header self.new.reader.decls self.new.reader.trace) self.new.part.items)
-            (λ told. spec.TellsOfBytes (lines_read self.old.reader.has_header self.old.reader.decls self.old.reader.trace)
+            (λ told. spec.TellsOfBytes trace_causes (lines_read self.old.reader.has_header self.old.reader.decls self.old.reader.trace)
             (self.old.part.items ++ piece.now) told) }
         ensures reading { OnOk result
             (IsReading self.new.reader.has_header self.new.reader.decls self.new.reader.trace) }
@@ -168,10 +169,10 @@ impl<A: Allocator + Copy> Lines<A> {
         requires reading { IsReading self.old.reader.has_header self.old.reader.decls self.old.reader.trace }
         requires none { self.old.part.items ≡ [] }
         ensures taken { MatchResult result
-            (λ _. spec.TakesBytes (lines_read self.old.reader.has_header self.old.reader.decls self.old.reader.trace)
+            (λ _. spec.TakesBytes trace_causes (lines_read self.old.reader.has_header self.old.reader.decls self.old.reader.trace)
             bytes.now
             (lines_read self.new.reader.has_header self.new.reader.decls self.new.reader.trace) self.new.part.items)
-            (λ told. spec.TellsOfBytes (lines_read self.old.reader.has_header self.old.reader.decls self.old.reader.trace)
+            (λ told. spec.TellsOfBytes trace_causes (lines_read self.old.reader.has_header self.old.reader.decls self.old.reader.trace)
             bytes.now told) }
         ensures reading { OnOk result
             (IsReading self.new.reader.has_header self.new.reader.decls self.new.reader.trace) }
@@ -193,9 +194,9 @@ impl<A: Allocator + Copy> Lines<A> {
     fn take_part(&mut self) -> Result<(), TextFault>
         requires { IsReading self.old.reader.has_header self.old.reader.decls self.old.reader.trace }
         ensures taken { MatchResult result
-            (λ _. GoesOn (lines_read self.old.reader.has_header self.old.reader.decls self.old.reader.trace)
+            (λ _. GoesOn trace_causes (lines_read self.old.reader.has_header self.old.reader.decls self.old.reader.trace)
             self.old.part.items (lines_read self.new.reader.has_header self.new.reader.decls self.new.reader.trace))
-            (λ told. spec.TellsOfLine (lines_read self.old.reader.has_header self.old.reader.decls self.old.reader.trace)
+            (λ told. spec.TellsOfLine trace_causes (lines_read self.old.reader.has_header self.old.reader.decls self.old.reader.trace)
             self.old.part.items told) }
         ensures reading { OnOk result
             (IsReading self.new.reader.has_header self.new.reader.decls self.new.reader.trace) }
@@ -232,9 +233,9 @@ fn take_next<'a, A: Allocator + Copy>(
 ) -> Result<Option<&'a [u8]>, TextFault>
     requires { IsReading reader.old.has_header reader.old.decls reader.old.trace }
     ensures taken { MatchResult result
-        (λ rest. TakesNext (lines_read reader.old.has_header reader.old.decls reader.old.trace) bytes.now rest
+        (λ rest. TakesNext trace_causes (lines_read reader.old.has_header reader.old.decls reader.old.trace) bytes.now rest
         (lines_read reader.new.has_header reader.new.decls reader.new.trace))
-        (TellsOfNext (lines_read reader.old.has_header reader.old.decls reader.old.trace) bytes.now) }
+        (TellsOfNext trace_causes (lines_read reader.old.has_header reader.old.decls reader.old.trace) bytes.now) }
     ensures reading { OnOk result (IsReading reader.new.has_header reader.new.decls reader.new.trace) }
 {
     let number = reader.line();
@@ -258,9 +259,9 @@ fn take_other<'a, A: Allocator + Copy>(
 ) -> Result<Option<&'a [u8]>, TextFault>
     requires { IsReading reader.old.has_header reader.old.decls reader.old.trace }
     ensures taken { MatchResult result
-        (λ rest. TakesNext (lines_read reader.old.has_header reader.old.decls reader.old.trace) bytes.now rest
+        (λ rest. TakesNext trace_causes (lines_read reader.old.has_header reader.old.decls reader.old.trace) bytes.now rest
         (lines_read reader.new.has_header reader.new.decls reader.new.trace))
-        (TellsOfNext (lines_read reader.old.has_header reader.old.decls reader.old.trace) bytes.now) }
+        (TellsOfNext trace_causes (lines_read reader.old.has_header reader.old.decls reader.old.trace) bytes.now) }
     ensures reading { OnOk result (IsReading reader.new.has_header reader.new.decls reader.new.trace) }
 {
     let (line, rest) = cut_at(bytes, b'\n');
@@ -278,9 +279,9 @@ fn take_other<'a, A: Allocator + Copy>(
 fn take_line<A: Allocator + Copy>(reader: &mut Reader<A>, line: &[u8]) -> Result<(), TextFault>
     requires { IsReading reader.old.has_header reader.old.decls reader.old.trace }
     ensures taken { MatchResult result
-        (λ _. GoesOn (lines_read reader.old.has_header reader.old.decls reader.old.trace) line.now
+        (λ _. GoesOn trace_causes (lines_read reader.old.has_header reader.old.decls reader.old.trace) line.now
         (lines_read reader.new.has_header reader.new.decls reader.new.trace))
-        (spec.TellsOfLine (lines_read reader.old.has_header reader.old.decls reader.old.trace) line.now) }
+        (spec.TellsOfLine trace_causes (lines_read reader.old.has_header reader.old.decls reader.old.trace) line.now) }
     ensures reading { OnOk result (IsReading reader.new.has_header reader.new.decls reader.new.trace) }
 {
     let number = reader.line();

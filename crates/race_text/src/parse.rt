@@ -3,7 +3,7 @@ ghost use Rattle.std.specs.Prelude.{◌≡◌, ◌≢◌, ◌<◌, Some, IfOk, I
 ghost use Rattle.race_text.specs.Text.{IsTextOf, IsTraceText};
 ghost use Rattle.race_text.specs.Fault.{text_fault};
 ghost use Rattle.race_text.specs.Laws.{IsOnlyTraceOf};
-ghost use Rattle.race_text.specs.Reader.{IsLineOf, IsNoneBefore};
+ghost use Rattle.race_text.specs.Lines.{IsLineOf, IsNoneBefore};
 
 use crate::cause::{TextCause, TextFault};
 use crate::line_reader::LineReader;

@@ -1,6 +1,7 @@
 //! A trace that is read line by line.
 ghost use Rattle.std.specs.Prelude.{◌≡◌, ◌≢◌, ◌+◌, [], length, true, false, Some, None, MatchResult, OnOk};
 ghost use Rattle.race_text.specs.Fault as fault;
+ghost use Rattle.race_text.specs.Lines.{GoesOn};
 ghost use Rattle.race_text.specs.Text.{HasText, lines};
 ghost use Rattle.race_text.specs.Taking.{IsRead, begun};
 ghost use Rattle.race_text.specs.Common.{GoesOnIfTold, TellsOfCommon};
@@ -62,7 +63,7 @@ impl<A: Allocator + Copy> Reader<A> {
     pub(crate) fn take_line(&mut self, line: &[u8]) -> Result<(), TextCause>
         requires { spec.IsReading self.old.has_header self.old.decls self.old.trace }
         ensures taken { MatchResult result
-            (λ _. spec.GoesOn (spec.lines_read self.old.has_header self.old.decls self.old.trace) line.now
+            (λ _. GoesOn fault.trace_causes (spec.lines_read self.old.has_header self.old.decls self.old.trace) line.now
             (spec.lines_read self.new.has_header self.new.decls self.new.trace))
             (λ told. told ≢ TextCause.OutOfMemory
             → fault.cause (spec.lines_read self.old.has_header self.old.decls self.old.trace) line.now true ≡ Some told) }
@@ -112,7 +113,7 @@ impl<A: Allocator + Copy> Reader<A> {
 
     // The cause of the last part of a text, which no newline ends.
     pub(crate) fn end_cause(&self, last: &[u8]) -> Option<TextCause>
-        ensures { result ≡ spec.end_cause
+        ensures { result ≡ fault.end_cause
             (spec.lines_read self.now.has_header self.now.decls self.now.trace) last.now }
     {
         if self.has_header {
@@ -155,7 +156,7 @@ impl<A: Allocator + Copy> Reader<A> {
         requires header { self.old.has_header ≡ false }
         requires reading { spec.IsReading self.old.has_header self.old.decls self.old.trace }
         ensures taken { MatchResult result
-            (λ _. spec.GoesOn [] line.now (spec.lines_read self.new.has_header self.new.decls self.new.trace))
+            (λ _. GoesOn fault.trace_causes [] line.now (spec.lines_read self.new.has_header self.new.decls self.new.trace))
             (λ told. fault.cause [] line.now true ≡ Some told) }
         ensures reading { OnOk result
             (spec.IsReading self.new.has_header self.new.decls self.new.trace) }
@@ -174,7 +175,7 @@ impl<A: Allocator + Copy> Reader<A> {
         requires trace { self.old.trace ≡ None }
         requires read { IsRead (begun self.old.decls) }
         ensures taken { MatchResult result
-            (λ _. spec.GoesOn (lines (begun self.old.decls)) line.now
+            (λ _. GoesOn fault.trace_causes (lines (begun self.old.decls)) line.now
             (spec.lines_read self.new.has_header self.new.decls self.new.trace))
             (λ told. told ≢ TextCause.OutOfMemory
             → fault.cause (lines (begun self.old.decls)) line.now true ≡ Some told) }

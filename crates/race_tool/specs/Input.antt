@@ -8,10 +8,10 @@ use Rattle.race_records.specs.Devices.{unread, source_reads, more_by}
 use Rattle.race_records.specs.Events.{TraceState}
 use Rattle.race_text.specs.declared.cause.TextFault.{TextFault}
 use Rattle.race_text.specs.Text.{IsTextOf}
-use Rattle.race_text.specs.Fault.{text_fault}
+use Rattle.race_text.specs.Lines.{Causes, first_fault}
+use Rattle.race_text.specs.Fault.{trace_causes}
 use Rattle.race_text.specs.Fed.{ended_fault}
-use Rattle.race_script.specs.Fault as program
-use Rattle.race_script.specs.Fed as program_fed
+use Rattle.race_script.specs.Fault.{program_causes}
 use Rattle.race_tool.specs.declared.input.TheConstants.{BLOCK, MAX_TURNS}
 
 -- which fault bytes have as a text of some kind: the first one, and the first one of the lines that a newline ends
@@ -19,13 +19,17 @@ pub record Faults : Type 0 where
   pub first : List ℕ → Option TextFault
   pub ended : List ℕ → Option TextFault
 
+-- by the causes of that kind
+abbrev pub faults_by : Causes → Faults
+faults_by causes = record { first = first_fault causes; ended = ended_fault causes }
+
 -- as the text of a trace
 abbrev pub of_traces : Faults
-of_traces = record { first = text_fault; ended = ended_fault }
+of_traces = faults_by trace_causes
 
 -- as the text of a program
 abbrev pub of_programs : Faults
-of_programs = record { first = program.text_fault; ended = program_fed.ended_fault }
+of_programs = faults_by program_causes
 
 -- the last block that was read is the one that ends the first faulty line
 pub record StopsAtFault (faults : Faults) (bytes : List ℕ) : Type 0 where

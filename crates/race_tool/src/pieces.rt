@@ -44,6 +44,7 @@ pub(crate) trait PieceReader: Drop {
 
 impl<A: Allocator + Copy> PieceReader for LineReader<A> {
     ghost use Rattle.race_text.specs.Text.{IsTextOf};
+    ghost use Rattle.race_text.specs.Fault.{trace_causes};
     ghost use Rattle.race_text.specs.Fed.{StandsFor};
     ghost use Rattle.race_tool.specs.Input.{of_traces};
     ghost use Rattle.race_text.proofs.FedLemmas.{ended_fault_stays};
@@ -51,7 +52,7 @@ impl<A: Allocator + Copy> PieceReader for LineReader<A> {
 
     type Whole = Trace<A>;
 
-    ghost stands_for = { StandsFor };
+    ghost stands_for = { StandsFor trace_causes };
 
     ghost is_text_of = { IsTextOf };
 
@@ -65,21 +66,22 @@ impl<A: Allocator + Copy> PieceReader for LineReader<A> {
         self.finish()
     }
 
-    ghost nothing = { nothing_ended };
+    ghost nothing = { nothing_ended trace_causes };
 
-    ghost stays = { ended_fault_stays };
+    ghost stays = { ended_fault_stays trace_causes };
 }
 
 impl<A: Allocator + Copy> PieceReader for ProgramReader<A> {
     ghost use Rattle.race_script.specs.Text.{IsTextOf as IsProgramOf};
-    ghost use Rattle.race_script.specs.Fed.{StandsFor as StandsForProgram};
+    ghost use Rattle.race_script.specs.Fault.{program_causes};
+    ghost use Rattle.race_text.specs.Fed.{StandsFor};
     ghost use Rattle.race_tool.specs.Input.{of_programs};
-    ghost use Rattle.race_script.proofs.FedLemmas.{ended_fault_stays as ended_fault_of_program_stays};
-    ghost use Rattle.race_tool.specs.PieceLaws.{nothing_ended_of_program};
+    ghost use Rattle.race_text.proofs.FedLemmas.{ended_fault_stays};
+    ghost use Rattle.race_tool.specs.PieceLaws.{nothing_ended};
 
     type Whole = Program<A>;
 
-    ghost stands_for = { StandsForProgram };
+    ghost stands_for = { StandsFor program_causes };
 
     ghost is_text_of = { IsProgramOf };
 
@@ -93,7 +95,7 @@ impl<A: Allocator + Copy> PieceReader for ProgramReader<A> {
         self.finish()
     }
 
-    ghost nothing = { nothing_ended_of_program };
+    ghost nothing = { nothing_ended program_causes };
 
-    ghost stays = { ended_fault_of_program_stays };
+    ghost stays = { ended_fault_stays program_causes };
 }

@@ -2,7 +2,8 @@ use Rattle.std.proofs.Common.{◌≡◌, ◌∷◌, [], refl, sym, ap, subst, �
 use Rattle.race_text.specs.Words.{parts_of, parts_left}
 use Rattle.race_text.specs.Form.{first_word}
 use Rattle.race_script.specs.Reader.{lines_read}
-use Rattle.race_script.specs.Fed.{TellsOfLine}
+use Rattle.race_text.specs.Fed.{TellsOfLine}
+use Rattle.race_script.specs.Fault.{program_causes}
 use Rattle.race_text.specs.Common.{line_in}
 use Rattle.race_text.proofs.FedLemmas.{last_is}
 use Rattle.race_script.proofs.program_reader.take_next.Goals as goal
@@ -21,5 +22,5 @@ returns-in-Err-clause-taken g c =
     record {
       rest = c.in-Some.others.now;
       ends = cut ∙ ap (λ l. l ∷ parts_of c.in-Some.others.now) (sym line);
-      is = subst (λ l. TellsOfLine (lines_read reader) l c.in-Err.fault) (sym line) c.in-Err.ensures.taken;
+      is = subst (λ l. TellsOfLine program_causes (lines_read reader) l c.in-Err.fault) (sym line) c.in-Err.ensures.taken;
     }

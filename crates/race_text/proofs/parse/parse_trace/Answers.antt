@@ -4,9 +4,9 @@ use Rattle.std.proofs.lemmas.Result.{IfOk-weaker, IfErr-weaker}
 use Rattle.race_text.specs.declared.cause.TextCause.{TextCause}
 use Rattle.race_text.specs.declared.cause.TextFault.{TextFault}
 use Rattle.race_text.specs.Text.{IsTextOf}
-use Rattle.race_text.specs.Fault.{text_fault}
+use Rattle.race_text.specs.Fault.{trace_causes, text_fault}
 use Rattle.race_text.specs.Laws.{IsOnlyTraceOf}
-use Rattle.race_text.specs.Reader.{IsLineOf, IsNoneBefore}
+use Rattle.race_text.specs.Lines.{IsLineOf, IsNoneBefore}
 use Rattle.race_text.specs.Fed.{StandsFor}
 use Rattle.race_text.proofs.TextFine.{text_is_accepted}
 use Rattle.race_text.proofs.FedLemmas.{told_at_once, match_err}
@@ -16,25 +16,25 @@ pub returns-in_err-feed-clause-accepted : goal.returns-in_err-feed-clause-accept
 returns-in_err-feed-clause-accepted g c = λ is.
     match_err _ (λ (f : TextFault). f.cause ≡ TextCause.OutOfMemory) c.from_residual.result c.in_err-feed.field-0.0 c.from_residual.ensures.1
     (text_is_accepted c.args.bytes.now c.in_err-feed.field-0.0
-    (told_at_once c.new-reader.result c.feed.new.self c.args.bytes.now c.in_err-feed.field-0.0 c.new-reader.ensures
+    (told_at_once trace_causes c.new-reader.result c.feed.new.self c.args.bytes.now c.in_err-feed.field-0.0 c.new-reader.ensures
     c.in_err-feed.ensures.goes_on c.in_err-feed.ensures.told).whole is)
 
 pub returns-in_err-feed-clause-fault : goal.returns-in_err-feed-clause-fault
 returns-in_err-feed-clause-fault g c =
     match_err _ (λ (f : TextFault). f.cause ≢ TextCause.OutOfMemory → text_fault c.args.bytes.now ≡ Some f)
     c.from_residual.result c.in_err-feed.field-0.0 c.from_residual.ensures.1
-    (told_at_once c.new-reader.result c.feed.new.self c.args.bytes.now c.in_err-feed.field-0.0 c.new-reader.ensures
+    (told_at_once trace_causes c.new-reader.result c.feed.new.self c.args.bytes.now c.in_err-feed.field-0.0 c.new-reader.ensures
     c.in_err-feed.ensures.goes_on c.in_err-feed.ensures.told).whole
 
 pub returns-in_err-feed-clause-memory : goal.returns-in_err-feed-clause-memory
 returns-in_err-feed-clause-memory g c =
     match_err _ (λ (f : TextFault). IsNoneBefore f.line (text_fault c.args.bytes.now))
     c.from_residual.result c.in_err-feed.field-0.0 c.from_residual.ensures.1
-    (told_at_once c.new-reader.result c.feed.new.self c.args.bytes.now c.in_err-feed.field-0.0 c.new-reader.ensures
+    (told_at_once trace_causes c.new-reader.result c.feed.new.self c.args.bytes.now c.in_err-feed.field-0.0 c.new-reader.ensures
     c.in_err-feed.ensures.goes_on c.in_err-feed.ensures.told).none_before
 
 module _ (g : _) (c : goal.After-finish g) where
-  stands : StandsFor c.feed.new.self c.args.bytes.now
+  stands : StandsFor trace_causes c.feed.new.self c.args.bytes.now
   stands = c.in_ok-feed.ensures.goes_on [] c.new-reader.ensures
 
 pub returns-clause-text : goal.returns-clause-text

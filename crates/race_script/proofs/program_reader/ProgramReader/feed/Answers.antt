@@ -1,25 +1,27 @@
 -- What is behind the lines that were taken goes on in the piece, and a fault that was told stays.
 use Rattle.std.proofs.Common.{◌≡◌, ℕ, List, [], ◌++◌, Some, None, refl, sym, ap, subst, ◌∙◌}
 use Rattle.race_script.specs.Reader.{lines_read}
-use Rattle.race_text.specs.Fed.{LinesState}
-use Rattle.race_script.specs.Fed.{StandsFor, IsTold}
-use Rattle.race_script.proofs.FedLemmas.{fed_takes, fed_tells, told_stays, told_of, none_of}
+use Rattle.race_text.specs.Fed.{LinesState, StandsFor, IsTold}
+use Rattle.race_script.specs.Fault.{program_causes}
+use Rattle.race_text.proofs.FedLemmas.{fed_takes, fed_tells, told_stays, told_of, none_of}
 use Rattle.race_script.proofs.program_reader.ProgramReader.feed.Goals as goal
 
 pub returns-in-Some-clause-goes_on : goal.returns-in-Some-clause-goes_on
 returns-in-Some-clause-goes_on g c = λ fed S.
-    told_stays c.args.self.now c.args.piece.now fed c.in-Some.fault (ap (λ (k : LinesState). k.fault) (sym c.self.view_is) ∙ c.in-Some.is) S
+    told_stays program_causes c.args.self.now c.args.piece.now fed c.in-Some.fault (ap (λ (k : LinesState). k.fault) (sym c.self.view_is) ∙ c.in-Some.is) S
 
 pub returns-in-Some-clause-line : goal.returns-in-Some-clause-line
 returns-in-Some-clause-line g c = λ fed S.
     let is : c.args.self.now.fault ≡ Some c.in-Some.fault = ap (λ (k : LinesState). k.fault) (sym c.self.view_is) ∙ c.in-Some.is in
-    (told_of c.args.self.now (fed ++ c.args.piece.now) c.in-Some.fault is (told_stays c.args.self.now c.args.piece.now fed c.in-Some.fault is S)).line
+    (told_of program_causes c.args.self.now (fed ++ c.args.piece.now) c.in-Some.fault is
+    (told_stays program_causes c.args.self.now c.args.piece.now fed c.in-Some.fault is S)).line
 
 pub returns-in-Ok-clause-goes_on : goal.returns-in-Ok-clause-goes_on
 returns-in-Ok-clause-goes_on g c = λ fed S.
     let lines = c.self.inside.lines in
     let old : LinesState = record { lines = lines_read lines.reader; part = lines.part.items; fault = c.self.inside.fault } in
-    fed_takes old _ c.args.piece.now fed c.in-None.is c.in-None.is c.in-Ok.ensures.taken (subst (λ (k : LinesState). StandsFor k fed) (sym c.self.view_is) S)
+    fed_takes program_causes old _ c.args.piece.now fed c.in-None.is c.in-None.is c.in-Ok.ensures.taken
+    (subst (λ (k : LinesState). StandsFor program_causes k fed) (sym c.self.view_is) S)
 
 pub returns-in-Ok-clause-ok : goal.returns-in-Ok-clause-ok
 returns-in-Ok-clause-ok g c = λ fed S.
@@ -27,18 +29,19 @@ returns-in-Ok-clause-ok g c = λ fed S.
     let after = c.take.new.self in
     let old : LinesState = record { lines = lines_read lines.reader; part = lines.part.items; fault = c.self.inside.fault } in
     let new : LinesState = record { lines = lines_read after.reader; part = after.part.items; fault = None } in
-    none_of new (fed ++ c.args.piece.now) refl c.in-Ok.ensures.unended
-    (fed_takes old new c.args.piece.now fed c.in-None.is refl c.in-Ok.ensures.taken (subst (λ (k : LinesState). StandsFor k fed) (sym c.self.view_is) S))
+    none_of program_causes new (fed ++ c.args.piece.now) refl c.in-Ok.ensures.unended
+    (fed_takes program_causes old new c.args.piece.now fed c.in-None.is refl c.in-Ok.ensures.taken
+    (subst (λ (k : LinesState). StandsFor program_causes k fed) (sym c.self.view_is) S))
 
 module _ (g : _) (c : goal.After-self-1 g) where
-  told : (fed : List ℕ) → StandsFor c.args.self.now fed → IsTold (fed ++ c.args.piece.now) c.in-Err.fault
+  told : (fed : List ℕ) → StandsFor program_causes c.args.self.now fed → IsTold program_causes (fed ++ c.args.piece.now) c.in-Err.fault
   told fed S =
       let lines = c.self.inside.lines in
       let old : LinesState = record { lines = lines_read lines.reader; part = lines.part.items; fault = c.self.inside.fault } in
       let new : LinesState = record { lines = []; part = []; fault = Some c.in-Err.fault } in
-      told_of new (fed ++ c.args.piece.now) c.in-Err.fault refl
-      (fed_tells old new c.args.piece.now fed c.in-Err.fault c.in-None.is refl c.in-Err.ensures.taken
-      (subst (λ (k : LinesState). StandsFor k fed) (sym c.self.view_is) S))
+      told_of program_causes new (fed ++ c.args.piece.now) c.in-Err.fault refl
+      (fed_tells program_causes old new c.args.piece.now fed c.in-Err.fault c.in-None.is refl c.in-Err.ensures.taken
+      (subst (λ (k : LinesState). StandsFor program_causes k fed) (sym c.self.view_is) S))
 
 pub returns-in-Err-clause-fault : goal.returns-in-Err-clause-fault
 returns-in-Err-clause-fault g c = λ fed S. (told g c fed S).ended

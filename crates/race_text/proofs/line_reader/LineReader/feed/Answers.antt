@@ -1,5 +1,6 @@
 -- What is behind the lines that were taken goes on in the piece, and a fault that was told stays.
 use Rattle.std.proofs.Common.{◌≡◌, ℕ, List, [], ◌++◌, Some, None, refl, sym, ap, subst, ◌∙◌}
+use Rattle.race_text.specs.Fault.{trace_causes}
 use Rattle.race_text.specs.Reader.{lines_read}
 use Rattle.race_text.specs.Fed.{LinesState, StandsFor, IsTold}
 use Rattle.race_text.proofs.FedLemmas.{fed_takes, fed_tells, told_stays, told_of, none_of}
@@ -7,12 +8,13 @@ use Rattle.race_text.proofs.line_reader.LineReader.feed.Goals as goal
 
 pub returns-in-Some-clause-goes_on : goal.returns-in-Some-clause-goes_on
 returns-in-Some-clause-goes_on g c = λ fed S.
-    told_stays c.args.self.now c.args.piece.now fed c.in-Some.fault (ap (λ (k : LinesState). k.fault) (sym c.self.view_is) ∙ c.in-Some.is) S
+    told_stays trace_causes c.args.self.now c.args.piece.now fed c.in-Some.fault (ap (λ (k : LinesState). k.fault) (sym c.self.view_is) ∙ c.in-Some.is) S
 
 pub returns-in-Some-clause-line : goal.returns-in-Some-clause-line
 returns-in-Some-clause-line g c = λ fed S.
     let is : c.args.self.now.fault ≡ Some c.in-Some.fault = ap (λ (k : LinesState). k.fault) (sym c.self.view_is) ∙ c.in-Some.is in
-    (told_of c.args.self.now (fed ++ c.args.piece.now) c.in-Some.fault is (told_stays c.args.self.now c.args.piece.now fed c.in-Some.fault is S)).line
+    (told_of trace_causes c.args.self.now (fed ++ c.args.piece.now) c.in-Some.fault is
+    (told_stays trace_causes c.args.self.now c.args.piece.now fed c.in-Some.fault is S)).line
 
 pub returns-in-Ok-clause-goes_on : goal.returns-in-Ok-clause-goes_on
 returns-in-Ok-clause-goes_on g c = λ fed S.
@@ -22,7 +24,8 @@ returns-in-Ok-clause-goes_on g c = λ fed S.
       part = lines.part.items;
       fault = c.self.inside.fault;
     } in
-    fed_takes old _ c.args.piece.now fed c.in-None.is c.in-None.is c.in-Ok.ensures.taken (subst (λ (k : LinesState). StandsFor k fed) (sym c.self.view_is) S)
+    fed_takes trace_causes old _ c.args.piece.now fed c.in-None.is c.in-None.is c.in-Ok.ensures.taken
+    (subst (λ (k : LinesState). StandsFor trace_causes k fed) (sym c.self.view_is) S)
 
 pub returns-in-Ok-clause-ok : goal.returns-in-Ok-clause-ok
 returns-in-Ok-clause-ok g c = λ fed S.
@@ -34,11 +37,12 @@ returns-in-Ok-clause-ok g c = λ fed S.
       fault = c.self.inside.fault;
     } in
     let new : LinesState = record { lines = lines_read after.reader.has_header after.reader.decls after.reader.trace; part = after.part.items; fault = None } in
-    none_of new (fed ++ c.args.piece.now) refl c.in-Ok.ensures.unended
-    (fed_takes old new c.args.piece.now fed c.in-None.is refl c.in-Ok.ensures.taken (subst (λ (k : LinesState). StandsFor k fed) (sym c.self.view_is) S))
+    none_of trace_causes new (fed ++ c.args.piece.now) refl c.in-Ok.ensures.unended
+    (fed_takes trace_causes old new c.args.piece.now fed c.in-None.is refl c.in-Ok.ensures.taken
+    (subst (λ (k : LinesState). StandsFor trace_causes k fed) (sym c.self.view_is) S))
 
 module _ (g : _) (c : goal.After-self-1 g) where
-  told : (fed : List ℕ) → StandsFor c.args.self.now fed → IsTold (fed ++ c.args.piece.now) c.in-Err.fault
+  told : (fed : List ℕ) → StandsFor trace_causes c.args.self.now fed → IsTold trace_causes (fed ++ c.args.piece.now) c.in-Err.fault
   told fed S =
       let lines = c.self.inside.lines in
       let old : LinesState = record {
@@ -47,9 +51,9 @@ module _ (g : _) (c : goal.After-self-1 g) where
         fault = c.self.inside.fault;
       } in
       let new : LinesState = record { lines = []; part = []; fault = Some c.in-Err.fault } in
-      told_of new (fed ++ c.args.piece.now) c.in-Err.fault refl
-      (fed_tells old new c.args.piece.now fed c.in-Err.fault c.in-None.is refl c.in-Err.ensures.taken
-      (subst (λ (k : LinesState). StandsFor k fed) (sym c.self.view_is) S))
+      told_of trace_causes new (fed ++ c.args.piece.now) c.in-Err.fault refl
+      (fed_tells trace_causes old new c.args.piece.now fed c.in-Err.fault c.in-None.is refl c.in-Err.ensures.taken
+      (subst (λ (k : LinesState). StandsFor trace_causes k fed) (sym c.self.view_is) S))
 
 pub returns-in-Err-clause-fault : goal.returns-in-Err-clause-fault
 returns-in-Err-clause-fault g c = λ fed S. (told g c fed S).ended

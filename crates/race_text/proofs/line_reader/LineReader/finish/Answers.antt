@@ -2,18 +2,18 @@
 use Rattle.std.proofs.Common.{◌≡◌, ℕ, List, Some, sym, ap, subst, ◌∙◌}
 use Rattle.std.specs.List.{flat_map}
 use Rattle.race_text.specs.Text.{IsTextOf, text, ended}
-use Rattle.race_text.specs.Fault.{text_fault}
-use Rattle.race_text.specs.Reader.{lines_read, end_cause}
+use Rattle.race_text.specs.Fault.{end_cause, trace_causes, text_fault}
+use Rattle.race_text.specs.Reader.{lines_read}
 use Rattle.race_text.specs.Fed.{LinesState, StandsFor, IsTaken, IsTold}
-use Rattle.race_text.proofs.ParseLemmas.{header_before_end}
+use Rattle.race_text.proofs.ParseLemmas.{end_empty, header_before_end}
 use Rattle.race_text.proofs.TextFine.{text_is_accepted}
 use Rattle.race_text.proofs.TextLaws.{equal_texts}
 use Rattle.race_text.proofs.FedLemmas.{told_of, taken_of, end_told, end_is_line, end_none_before, end_bytes}
 use Rattle.race_text.proofs.line_reader.LineReader.finish.Goals as goal
 
 module _ (g : _) (c : goal.After-drop-reader g) where
-  told : (fed : List ℕ) → StandsFor c.args.self fed → IsTold fed c.in-Some.fault
-  told fed S = told_of c.args.self fed c.in-Some.fault (ap (λ (k : LinesState). k.fault) (sym c.self.view_is) ∙ c.in-Some.is) S
+  told : (fed : List ℕ) → StandsFor trace_causes c.args.self fed → IsTold trace_causes fed c.in-Some.fault
+  told fed S = told_of trace_causes c.args.self fed c.in-Some.fault (ap (λ (k : LinesState). k.fault) (sym c.self.view_is) ∙ c.in-Some.is) S
 
 pub returns-in-Some-clause-accepted : goal.returns-in-Some-clause-accepted
 returns-in-Some-clause-accepted g c = λ fed S. text_is_accepted fed c.in-Some.fault (told g c fed S).whole
@@ -33,8 +33,8 @@ into_trace-requires-clause-header g c =
     header_before_end reader.has_header reader.decls reader.trace c.as_slice.result.now (sym c.in-None-end_cause.ensures)
 
 module _ (g : _) (c : goal.After-drop-reader-in-Some-end_cause g) where
-  taken : (fed : List ℕ) → StandsFor c.args.self fed
-      → IsTaken fed (lines_read c.self.inside.lines.reader.has_header c.self.inside.lines.reader.decls c.self.inside.lines.reader.trace)
+  taken : (fed : List ℕ) → StandsFor trace_causes c.args.self fed
+      → IsTaken trace_causes fed (lines_read c.self.inside.lines.reader.has_header c.self.inside.lines.reader.decls c.self.inside.lines.reader.trace)
       c.self.inside.lines.part.items
   taken fed S =
       let lines = c.self.inside.lines in
@@ -43,13 +43,13 @@ module _ (g : _) (c : goal.After-drop-reader-in-Some-end_cause g) where
         part = lines.part.items;
         fault = c.self.inside.fault;
       } in
-      taken_of view fed c.in-None.is (subst (λ (k : LinesState). StandsFor k fed) (sym c.self.view_is) S)
+      taken_of trace_causes view fed c.in-None.is (subst (λ (k : LinesState). StandsFor trace_causes k fed) (sym c.self.view_is) S)
 
-  whole : (fed : List ℕ) → StandsFor c.args.self fed → text_fault fed ≡ Some (record { line = c.line.result; cause = c.in-Some-end_cause.cause })
+  whole : (fed : List ℕ) → StandsFor trace_causes c.args.self fed → text_fault fed ≡ Some (record { line = c.line.result; cause = c.in-Some-end_cause.cause })
   whole fed S =
       let reader = c.self.inside.lines.reader in
       let read = lines_read reader.has_header reader.decls reader.trace in
-      end_told fed read c.self.inside.lines.part.items (taken fed S) (c.self.invariant c.in-None.is).1
+      end_told trace_causes fed read c.self.inside.lines.part.items (taken fed S) (c.self.invariant c.in-None.is).1
       (record { line = c.line.result; cause = c.in-Some-end_cause.cause })
       c.line.ensures (ap (λ (left : List ℕ). end_cause read left) (sym c.as_slice.ensures.value) ∙ sym c.in-Some-end_cause.ensures)
 
@@ -63,27 +63,28 @@ returns-in-Some-end_cause-clause-fault g c = λ fed S _. whole g c fed S
 pub returns-in-Some-end_cause-clause-memory : goal.returns-in-Some-end_cause-clause-memory
 returns-in-Some-end_cause-clause-memory g c = λ fed S.
     let reader = c.self.inside.lines.reader in
-    end_none_before fed (lines_read reader.has_header reader.decls reader.trace) c.self.inside.lines.part.items (taken g c fed S)
+    end_none_before trace_causes fed (lines_read reader.has_header reader.decls reader.trace) c.self.inside.lines.part.items (taken g c fed S)
     (record { line = c.line.result; cause = c.in-Some-end_cause.cause }) c.line.ensures
 
 pub returns-in-Some-end_cause-clause-line : goal.returns-in-Some-end_cause-clause-line
 returns-in-Some-end_cause-clause-line g c = λ fed S.
     let reader = c.self.inside.lines.reader in
-    end_is_line fed (lines_read reader.has_header reader.decls reader.trace) c.self.inside.lines.part.items (taken g c fed S)
+    end_is_line trace_causes fed (lines_read reader.has_header reader.decls reader.trace) c.self.inside.lines.part.items (taken g c fed S)
     (record { line = c.line.result; cause = c.in-Some-end_cause.cause }) c.line.ensures
 
 module _ (g : _) (c : goal.After-drop-part-in-None-end_cause g) where
-  read : (fed : List ℕ) → StandsFor c.args.self fed → IsTextOf c.into_trace.result fed
+  read : (fed : List ℕ) → StandsFor trace_causes c.args.self fed → IsTextOf c.into_trace.result fed
   unfolding text
   read fed S =
       let lines = c.self.inside.lines in
       let has = lines_read lines.reader.has_header lines.reader.decls lines.reader.trace in
       let view : LinesState = record { lines = has; part = lines.part.items; fault = c.self.inside.fault } in
-      let at = taken_of view fed c.in-None.is (subst (λ (k : LinesState). StandsFor k fed) (sym c.self.view_is) S) in
+      let at = taken_of trace_causes view fed c.in-None.is (subst (λ (k : LinesState). StandsFor trace_causes k fed) (sym c.self.view_is) S) in
       record {
         has_text = c.into_trace.ensures.has_text;
-        printed = end_bytes fed has lines.part.items at
-            (ap (λ (left : List ℕ). end_cause has left) (sym c.as_slice.ensures.value) ∙ sym c.in-None-end_cause.ensures)
+        printed = end_bytes trace_causes fed has lines.part.items at
+            (end_empty has lines.part.items
+            (ap (λ (left : List ℕ). end_cause has left) (sym c.as_slice.ensures.value) ∙ sym c.in-None-end_cause.ensures)).0
             ∙ ap (flat_map ended) (sym c.into_trace.ensures.lines);
       }
 

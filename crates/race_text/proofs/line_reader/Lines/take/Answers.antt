@@ -1,7 +1,9 @@
 -- What was kept of a line goes on in the first part of the piece.
 use Rattle.std.proofs.Common.{◌≡◌, ℕ, List, [], ◌∷◌, ◌++◌, ap, sym, subst, ◌∙◌}
 use Rattle.race_text.specs.Words.{parts_of, parts_left}
-use Rattle.race_text.specs.Reader.{lines_read, GoesOn}
+use Rattle.race_text.specs.Lines.{GoesOn}
+use Rattle.race_text.specs.Fault.{trace_causes}
+use Rattle.race_text.specs.Reader.{lines_read}
 use Rattle.race_text.specs.Fed.{IsTaken, IsUnended, TellsOfLine}
 use Rattle.race_text.proofs.FedLemmas.{seam_line, seam_part, last_is, kept_unended, memory_told, line_told, line_taken, match_err, match_map}
 use Rattle.race_text.proofs.line_reader.Lines.take.Goals as goal
@@ -12,15 +14,16 @@ returns-then-is_between_lines-clause-taken g c =
     let lines = lines_read reader.has_header reader.decls reader.trace in
     let none : c.args.self.now.part.items ≡ [] = c.is_between_lines.ensures.0 c.if-is_between_lines.true in
     match_map _ _ _ _ c.take_whole.result
-    (λ _ takes whole more t. takes whole more (subst (λ (p : List ℕ). IsTaken whole lines ((p ++ c.args.piece.now) ++ more)) none t))
-    (λ _ tells whole more t. tells whole more (subst (λ (p : List ℕ). IsTaken whole lines ((p ++ c.args.piece.now) ++ more)) none t))
+    (λ _ takes whole more t. takes whole more (subst (λ (p : List ℕ). IsTaken trace_causes whole lines ((p ++ c.args.piece.now) ++ more)) none t))
+    (λ _ tells whole more t. tells whole more (subst (λ (p : List ℕ). IsTaken trace_causes whole lines ((p ++ c.args.piece.now) ++ more)) none t))
     c.take_whole.ensures.taken
 
 pub returns-in_err-keep-clause-taken : goal.returns-in_err-keep-clause-taken
 returns-in_err-keep-clause-taken g c =
     let reader = c.args.self.now.reader in
     match_err _ _ c.from_residual.result c.in_err-keep.field-0.0 c.from_residual.ensures.1
-    (λ whole more t. memory_told whole (lines_read reader.has_header reader.decls reader.trace) ((c.args.self.now.part.items ++ c.args.piece.now) ++ more) t
+    (λ whole more t. memory_told trace_causes whole (lines_read reader.has_header reader.decls reader.trace)
+    ((c.args.self.now.part.items ++ c.args.piece.now) ++ more) t
     c.in_err-keep.field-0.0 c.in_err-keep.ensures.told)
 
 pub returns-in_err-take_part-in-Some-clause-taken : goal.returns-in_err-take_part-in-Some-clause-taken
@@ -32,13 +35,14 @@ returns-in_err-take_part-in-Some-clause-taken g c =
     let end = c.cut_at.result.0.now in
     let told = c.in_err-take_part-in-Some.field-0.0 in
     let parts : parts_of piece ≡ end ∷ parts_of c.in-Some.others.now = c.cut_at.ensures ∙ ap (λ r. end ∷ parts_left 10 r) c.in-Some.is in
-    let tells : TellsOfLine lines (part ++ end) told =
-    subst (λ (ls : List (List ℕ)). TellsOfLine ls (part ++ end) told)
+    let tells : TellsOfLine trace_causes lines (part ++ end) told =
+    subst (λ (ls : List (List ℕ)). TellsOfLine trace_causes ls (part ++ end) told)
     (λ i. lines_read (c.in_ok-keep.ensures.same i).has_header (c.in_ok-keep.ensures.same i).decls (c.in_ok-keep.ensures.same i).trace)
-    (subst (λ (p : List ℕ). TellsOfLine (lines_read c.keep.new.self.reader.has_header c.keep.new.self.reader.decls c.keep.new.self.reader.trace) p told)
+    (subst (λ (p : List ℕ). TellsOfLine trace_causes (lines_read c.keep.new.self.reader.has_header
+    c.keep.new.self.reader.decls c.keep.new.self.reader.trace) p told)
     c.in_ok-keep.ensures.kept c.in_err-take_part-in-Some.ensures.taken) in
     match_err _ _ c.from_residual-in_err-take_part-in-Some.result told c.from_residual-in_err-take_part-in-Some.ensures.1
-    (λ whole more t. line_told whole lines ((part ++ piece) ++ more) t (part ++ end) (c.in-Some.others.now ++ more)
+    (λ whole more t. line_told trace_causes whole lines ((part ++ piece) ++ more) t (part ++ end) (c.in-Some.others.now ++ more)
     (seam_line (part ++ piece) (part ++ end) c.in-Some.others.now more
     (seam_part part piece end (parts_of c.in-Some.others.now) c.requires.unended parts)) told tells)
 
@@ -51,9 +55,9 @@ returns-in-None-clause-taken g c = λ whole more t.
     let end = c.cut_at.result.0.now in
     let last : parts_of piece ≡ end ∷ [] = c.cut_at.ensures ∙ ap (λ r. end ∷ parts_left 10 r) c.in-None.is in
     let kept : c.keep.new.self.part.items ≡ part ++ piece = c.in_ok-keep.ensures.kept ∙ ap (λ (bytes : List ℕ). part ++ bytes) (last_is piece end last) in
-    subst (λ (ls : List (List ℕ)). IsTaken whole ls (c.keep.new.self.part.items ++ more))
+    subst (λ (ls : List (List ℕ)). IsTaken trace_causes whole ls (c.keep.new.self.part.items ++ more))
     (λ i. lines_read (sym c.in_ok-keep.ensures.same i).has_header (sym c.in_ok-keep.ensures.same i).decls (sym c.in_ok-keep.ensures.same i).trace)
-    (subst (λ (bytes : List ℕ). IsTaken whole lines (bytes ++ more)) (sym kept) t)
+    (subst (λ (bytes : List ℕ). IsTaken trace_causes whole lines (bytes ++ more)) (sym kept) t)
 
 pub returns-in-None-clause-unended : goal.returns-in-None-clause-unended
 returns-in-None-clause-unended g c =
@@ -74,13 +78,14 @@ returns-in_ok-take_part-in-Some-clause-taken g c =
     let end = c.cut_at.result.0.now in
     let others = c.in-Some.others.now in
     let parts : parts_of piece ≡ end ∷ parts_of others = c.cut_at.ensures ∙ ap (λ r. end ∷ parts_left 10 r) c.in-Some.is in
-    let goes : GoesOn lines (part ++ end) taken =
-    subst (λ (ls : List (List ℕ)). GoesOn ls (part ++ end) taken)
+    let goes : GoesOn trace_causes lines (part ++ end) taken =
+    subst (λ (ls : List (List ℕ)). GoesOn trace_causes ls (part ++ end) taken)
     (λ i. lines_read (c.in_ok-keep.ensures.same i).has_header (c.in_ok-keep.ensures.same i).decls (c.in_ok-keep.ensures.same i).trace)
-    (subst (λ (p : List ℕ). GoesOn (lines_read c.keep.new.self.reader.has_header c.keep.new.self.reader.decls c.keep.new.self.reader.trace) p taken)
+    (subst (λ (p : List ℕ). GoesOn trace_causes (lines_read c.keep.new.self.reader.has_header
+    c.keep.new.self.reader.decls c.keep.new.self.reader.trace) p taken)
     c.in_ok-keep.ensures.kept c.in_ok-take_part-in-Some.ensures.taken) in
-    let next = λ (whole more : List ℕ) (t : IsTaken whole lines ((part ++ piece) ++ more)).
-    line_taken whole lines ((part ++ piece) ++ more) t (part ++ end) (others ++ more)
+    let next = λ (whole more : List ℕ) (t : IsTaken trace_causes whole lines ((part ++ piece) ++ more)).
+    line_taken trace_causes whole lines ((part ++ piece) ++ more) t (part ++ end) (others ++ more)
     (seam_line (part ++ piece) (part ++ end) others more (seam_part part piece end (parts_of others) c.requires.unended parts)) taken goes in
     match_map _ _ _ _ c.take_whole-in-Some.result
     (λ _ takes whole more t. takes whole more (next whole more t))

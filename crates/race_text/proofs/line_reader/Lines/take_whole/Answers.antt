@@ -1,5 +1,6 @@
 -- Each line is taken where it lies, and the last part is kept.
 use Rattle.std.proofs.Common.{◌≡◌, ℕ, List, [], ◌++◌, None, Some, ap, sym, subst, ◌∙◌}
+use Rattle.race_text.specs.Fault.{trace_causes}
 use Rattle.race_text.specs.Reader.{lines_read}
 use Rattle.race_text.specs.Fed.{IsTaken, TellsOfMemory}
 use Rattle.race_text.specs.Common.{line_in, TakesNext}
@@ -12,7 +13,8 @@ returns-in_err-take_next-clause-taken g c =
     let left = c.loop-self.left.now in
     let told = c.in_err-take_next.ensures.taken in
     match_err _ _ c.from_residual.result c.in_err-take_next.field-0.0 c.from_residual.ensures.1
-    (λ whole more t. line_told whole (lines_read reader.has_header reader.decls reader.trace) (left ++ more) (c.loop-self.invariant.taken whole more t)
+    (λ whole more t. line_told trace_causes whole (lines_read reader.has_header reader.decls reader.trace) (left ++ more)
+    (c.loop-self.invariant.taken whole more t)
     (line_in left) (told.rest ++ more) (seam_line left (line_in left) told.rest more told.ends)
     c.in_err-take_next.field-0.0 told.is)
 
@@ -21,10 +23,11 @@ returns-in_err-keep-in-None-clause-taken g c =
     let reader = c.loop-self.self.reader in
     let new = c.take_next.new.reader in
     let before = lines_read reader.has_header reader.decls reader.trace in
-    let none : TakesNext before c.loop-self.left.now None (lines_read new.has_header new.decls new.trace) =
-    subst (λ o. TakesNext before c.loop-self.left.now o (lines_read new.has_header new.decls new.trace)) c.in-None.is c.in_ok-take_next.ensures.taken in
+    let none : TakesNext trace_causes before c.loop-self.left.now None (lines_read new.has_header new.decls new.trace) =
+    subst (λ o. TakesNext trace_causes before c.loop-self.left.now o (lines_read new.has_header new.decls new.trace))
+    c.in-None.is c.in_ok-take_next.ensures.taken in
     match_err _ _ c.from_residual-in_err-keep-in-None.result c.in_err-keep-in-None.field-0.0 c.from_residual-in_err-keep-in-None.ensures.1
-    (λ whole more t. memory_told whole before (c.loop-self.left.now ++ more) (c.loop-self.invariant.taken whole more t)
+    (λ whole more t. memory_told trace_causes whole before (c.loop-self.left.now ++ more) (c.loop-self.invariant.taken whole more t)
     c.in_err-keep-in-None.field-0.0 (subst (λ ls. TellsOfMemory ls c.in_err-keep-in-None.field-0.0) none.1 c.in_err-keep-in-None.ensures.told))
 
 pub returns-in-None-clause-taken : goal.returns-in-None-clause-taken
@@ -33,22 +36,23 @@ returns-in-None-clause-taken g c = λ whole more t.
     let new = c.take_next.new.reader in
     let before = lines_read reader.has_header reader.decls reader.trace in
     let left = c.loop-self.left.now in
-    let none : TakesNext before left None (lines_read new.has_header new.decls new.trace) =
-    subst (λ o. TakesNext before left o (lines_read new.has_header new.decls new.trace)) c.in-None.is c.in_ok-take_next.ensures.taken in
+    let none : TakesNext trace_causes before left None (lines_read new.has_header new.decls new.trace) =
+    subst (λ o. TakesNext trace_causes before left o (lines_read new.has_header new.decls new.trace)) c.in-None.is c.in_ok-take_next.ensures.taken in
     let kept : c.keep.new.self.part.items ≡ [] ++ left = c.in_ok-keep-in-None.ensures.kept ∙ ap (λ (p : List ℕ). p ++ left) c.loop-self.invariant.none in
-    subst (λ (ls : List (List ℕ)). IsTaken whole ls (c.keep.new.self.part.items ++ more))
+    subst (λ (ls : List (List ℕ)). IsTaken trace_causes whole ls (c.keep.new.self.part.items ++ more))
     (sym none.1
     ∙ (λ i. lines_read (sym c.in_ok-keep-in-None.ensures.same i).has_header
     (sym c.in_ok-keep-in-None.ensures.same i).decls (sym c.in_ok-keep-in-None.ensures.same i).trace))
-    (kept_taken whole before left left c.keep.new.self.part.items more none.0 kept (c.loop-self.invariant.taken whole more t))
+    (kept_taken trace_causes whole before left left c.keep.new.self.part.items more none.0 kept (c.loop-self.invariant.taken whole more t))
 
 pub loop-self-smaller : goal.loop-self-smaller
 loop-self-smaller g c =
     let reader = c.loop-self.self.reader in
     let new = c.take_next.new.reader in
     let left = c.loop-self.left.now in
-    let some : TakesNext (lines_read reader.has_header reader.decls reader.trace) left (Some c.in-Some.others) (lines_read new.has_header new.decls new.trace) =
-    subst (λ o. TakesNext (lines_read reader.has_header reader.decls reader.trace) left o (lines_read new.has_header new.decls new.trace))
+    let some : TakesNext trace_causes (lines_read reader.has_header reader.decls reader.trace)
+    left (Some c.in-Some.others) (lines_read new.has_header new.decls new.trace) =
+    subst (λ o. TakesNext trace_causes (lines_read reader.has_header reader.decls reader.trace) left o (lines_read new.has_header new.decls new.trace))
     c.in-Some.is c.in_ok-take_next.ensures.taken in
     shorter left (line_in left) c.in-Some.others.now some.0
 
@@ -58,13 +62,13 @@ loop-self-preserved g c =
     let new = c.take_next.new.reader in
     let before = lines_read reader.has_header reader.decls reader.trace in
     let left = c.loop-self.left.now in
-    let some : TakesNext before left (Some c.in-Some.others) (lines_read new.has_header new.decls new.trace) =
-    subst (λ o. TakesNext before left o (lines_read new.has_header new.decls new.trace)) c.in-Some.is c.in_ok-take_next.ensures.taken in
+    let some : TakesNext trace_causes before left (Some c.in-Some.others) (lines_read new.has_header new.decls new.trace) =
+    subst (λ o. TakesNext trace_causes before left o (lines_read new.has_header new.decls new.trace)) c.in-Some.is c.in_ok-take_next.ensures.taken in
     record {
       reading = c.in_ok-take_next.ensures.reading;
       none = c.loop-self.invariant.none;
       taken = λ whole more t.
-          line_taken whole before (left ++ more) (c.loop-self.invariant.taken whole more t)
+          line_taken trace_causes whole before (left ++ more) (c.loop-self.invariant.taken whole more t)
           (line_in left) (c.in-Some.others.now ++ more) (seam_line left (line_in left) c.in-Some.others.now more some.0)
           (lines_read new.has_header new.decls new.trace) some.1;
     }

@@ -1,7 +1,7 @@
 -- The lines that were read are the header, the declarations and the events, and there are few.
 use Rattle.std.proofs.Common.{◌≡◌, true, length, ap, ◌∙◌, arith}
 use Rattle.race_records.specs.Declarations.{DeclsState}
-use Rattle.race_text.proofs.FedLemmas.{few_declared, line_of_events, line_of_declarations}
+use Rattle.race_text.proofs.LineCount.{few_declared, line_of_events, line_of_declarations}
 use Rattle.race_text.proofs.reader.Reader.line.Goals as goal
 
 pub overflow_add-result : goal.overflow_add-result

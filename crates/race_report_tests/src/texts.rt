@@ -1,6 +1,6 @@
-use race_report::{WriteFault, write_report, write_text_fault};
 use race_edges::plain_judge;
 use race_records::Sink;
+use race_report::{WriteFault, write_report, write_text_fault};
 use race_text::parse_trace;
 use std::alloc::Allocator;
 use std::io;

@@ -1,6 +1,6 @@
 -- What was done in a step of a log, by its ask and its answer.
 use Rattle.std.proofs.Common.{◌≡◌, ℕ, ◌==◌, cond, Bool, true, false, List, Option, Some, None}
-use Rattle.std.proofs.Common.{slice_get, map, option_map, ◌⊎◌, ◌+◌, inl, inr, refl, sym, ap}
+use Rattle.std.proofs.Common.{option_map, ◌⊎◌, ◌+◌, inl, inr, refl, sym, ap}
 use Rattle.std.proofs.Common.{subst, ◌∙◌}
 use Rattle.std.specs.Option.{option_and_then}
 use Rattle.race_records.specs.declared.event.Cause.{Cause}
@@ -11,10 +11,9 @@ use Rattle.race_records.specs.declared.event.Op.TheVariants.{OnceBegin, OnceEnd,
 use Rattle.race_hub.specs.declared.request.Answer.{Answer}
 use Rattle.race_hub.specs.declared.request.Ask.{Ask}
 use Rattle.race_hub.specs.declared.request.Offer.{Offer}
-use Rattle.race_hub.specs.Table.{done_by, plain_answer, IsOffered, IsRow, CanMake}
+use Rattle.race_hub.specs.Table.{done_by, plain_answer, IsOffered, IsRow}
 use Rattle.race_script.specs.Certificate.{after_event}
-use Rattle.race_script.specs.Course.{value_in, received, made_by_offer, made_by_select, made_by, made_in, FailsBy}
-use Rattle.race_script.specs.Run.{is_done}
+use Rattle.race_script.specs.Course.{value_in, received, made_by_offer, made_by, made_in, FailsBy}
 
 -- told something else, it did the same
 same_told : (ask : Ask) (a b : Answer) (op : Op) → Some a ≡ Some b → made_by ask b ≡ Some op → made_by ask a ≡ Some op

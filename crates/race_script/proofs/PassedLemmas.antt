@@ -1,16 +1,16 @@
 -- A body's step makes an event exactly where the tests of the code hold.
-use Rattle.std.proofs.Common.{◌≡◌, ◌↔◌, ℕ, Bool, IsTrue, List, slice_get, Option, Some, None, option_map, refl, sym, ap, subst, ◌∙◌}
+use Rattle.std.proofs.Common.{◌≡◌, ◌↔◌, ℕ, Bool, IsTrue, List, slice_get, Option, Some, None, option_map, sym, ap, subst, ◌∙◌}
 use Rattle.race_records.specs.declared.event.Cause.{Cause}
 use Rattle.race_records.specs.declared.event.Event.{Event}
 use Rattle.race_records.specs.declared.event.Op.{Op}
 use Rattle.race_hub.specs.declared.request.Ask.{Ask}
 use Rattle.race_hub.specs.declared.request.Request.{Request}
 use Rattle.race_hub.specs.declared.request.Step.{Step}
-use Rattle.race_hub.specs.Table.{done_by, place_of, Fits, IsRow, CanMake}
+use Rattle.race_hub.specs.Table.{done_by, Fits, IsRow, CanMake}
 use Rattle.race_text.specs.Text.{place_text}
-use Rattle.race_script.specs.Certificate.{after_event, FitsAt}
+use Rattle.race_script.specs.Certificate.{after_event}
 use Rattle.race_script.specs.Course.{made_in, FailsBy, IsPassed}
-use Rattle.race_script.specs.Program.{Instruction, asks_of, asked_by, instruction, spelled}
+use Rattle.race_script.specs.Program.{Instruction, asks_of, instruction, spelled}
 use Rattle.race_script.proofs.CourseLemmas.{asks_spelled, spelled_at, spelled_past}
 use Rattle.race_script.proofs.MadeLemmas.{row_made, done_again, after_done, fails_done}
 

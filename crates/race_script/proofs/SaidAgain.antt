@@ -57,6 +57,19 @@ record IsFront (word : AskWord) (args : List (List ℕ)) : Type 0 where
   cut : on_nil table rest ≡ (word, args)
   visible : AreVisible args → AreVisible rest
 
+-- the front is the word alone, and stays
+alone : (word : AskWord) (first : List ℕ) (args : List (List ℕ)) → front_words word ≡ first ∷ [] → line_word first ≡ Some (LineWord.Asks word)
+    → on_nil word args ≡ (word, args) → IsFront word args
+alone word first args is known cut = record {
+  table = word;
+  first = first;
+  rest = args;
+  words = ap (λ (ws : List (List ℕ)). ws ++ args) is;
+  known = known;
+  cut = cut;
+  visible = λ v. v;
+}
+
 module _ (decls : DeclsState) (holds : IsWellFormed decls) where
   abbrev ds : List Declaration
   ds = decls.declarations
@@ -66,129 +79,32 @@ module _ (decls : DeclsState) (holds : IsWellFormed decls) where
 
   front_again : (ask : Ask) (place : List ℕ) → ask_fits ds ask ≡ true → IfSome (ask_says ask) (λ said. IsFront said.0 (map (part_text ds) said.1 ++ place ∷ []))
   unfolding line_word word_named
-  front_again (Ask.Go h) place fits = record {
-    table = AskWord.Go;
-    first = codes "go";
-    rest = _;
-    words = refl;
-    known = refl;
-    cut = plain AskWord.Go _ refl;
-    visible = λ v. v;
-  }
-  front_again Ask.Exit place fits = record {
-    table = AskWord.Exit;
-    first = codes "exit";
-    rest = _;
-    words = refl;
-    known = refl;
-    cut = plain AskWord.Exit _ refl;
-    visible = λ v. v;
-  }
-  front_again (Ask.Read x) place fits = record {
-    table = AskWord.Read;
-    first = codes "read";
-    rest = _;
-    words = refl;
-    known = refl;
-    cut = plain AskWord.Read _ refl;
-    visible = λ v. v;
-  }
-  front_again (Ask.Write x w) place fits =
-      record { table = AskWord.Write; first = codes "write"; rest = _; words = refl; known = refl; cut = plain AskWord.Write _ refl; visible = λ v. v }
+  front_again (Ask.Go h) place fits = alone AskWord.Go (codes "go") _ refl refl (plain AskWord.Go _ refl)
+  front_again Ask.Exit place fits = alone AskWord.Exit (codes "exit") _ refl refl (plain AskWord.Exit _ refl)
+  front_again (Ask.Read x) place fits = alone AskWord.Read (codes "read") _ refl refl (plain AskWord.Read _ refl)
+  front_again (Ask.Write x w) place fits = alone AskWord.Write (codes "write") _ refl refl (plain AskWord.Write _ refl)
   front_again (Ask.Send None w) place fits =
       record { table = AskWord.Send; first = codes "send"; rest = _; words = refl; known = refl; cut = refl; visible = λ v. (refl, v) }
   front_again (Ask.Send (Some c) w) place fits =
       let less = both (nat_lt c (counts_of ds Kind.Chan)) true (both (nat_lt c (counts_of ds Kind.Chan) && true) (nat_lt w (2 ^ 64)) fits).0 in
-      record {
-        table = AskWord.Send;
-        first = codes "send";
-        rest = _;
-        words = refl;
-        known = refl;
-        cut = named AskWord.Send (chan_name ds c) _ (chan_is_name c less.0);
-        visible = λ v. v;
-      }
+      alone AskWord.Send (codes "send") _ refl refl (named AskWord.Send (chan_name ds c) _ (chan_is_name c less.0))
   front_again (Ask.Recv None) place fits =
       record { table = AskWord.Recv; first = codes "recv"; rest = _; words = refl; known = refl; cut = refl; visible = λ v. (refl, v) }
   front_again (Ask.Recv (Some c)) place fits =
       let less = both (nat_lt c (counts_of ds Kind.Chan)) true (both (nat_lt c (counts_of ds Kind.Chan) && true) true fits).0 in
-      record {
-        table = AskWord.Recv;
-        first = codes "recv";
-        rest = _;
-        words = refl;
-        known = refl;
-        cut = named AskWord.Recv (chan_name ds c) _ (chan_is_name c less.0);
-        visible = λ v. v;
-      }
+      alone AskWord.Recv (codes "recv") _ refl refl (named AskWord.Recv (chan_name ds c) _ (chan_is_name c less.0))
   front_again (Ask.Close None) place fits =
       record { table = AskWord.Close; first = codes "close"; rest = _; words = refl; known = refl; cut = refl; visible = λ v. (refl, v) }
   front_again (Ask.Close (Some c)) place fits =
       let less = both (nat_lt c (counts_of ds Kind.Chan)) true (both (nat_lt c (counts_of ds Kind.Chan) && true) true fits).0 in
-      record {
-        table = AskWord.Close;
-        first = codes "close";
-        rest = _;
-        words = refl;
-        known = refl;
-        cut = named AskWord.Close (chan_name ds c) _ (chan_is_name c less.0);
-        visible = λ v. v;
-      }
+      alone AskWord.Close (codes "close") _ refl refl (named AskWord.Close (chan_name ds c) _ (chan_is_name c less.0))
   front_again (Ask.Select offers has_default) place fits = tt
-  front_again (Ask.Lock l) place fits = record {
-    table = AskWord.Lock;
-    first = codes "lock";
-    rest = _;
-    words = refl;
-    known = refl;
-    cut = plain AskWord.Lock _ refl;
-    visible = λ v. v;
-  }
-  front_again (Ask.Unlock l) place fits = record {
-    table = AskWord.Unlock;
-    first = codes "unlock";
-    rest = _;
-    words = refl;
-    known = refl;
-    cut = plain AskWord.Unlock _ refl;
-    visible = λ v. v;
-  }
-  front_again (Ask.RLock l) place fits = record {
-    table = AskWord.RLock;
-    first = codes "rlock";
-    rest = _;
-    words = refl;
-    known = refl;
-    cut = plain AskWord.RLock _ refl;
-    visible = λ v. v;
-  }
-  front_again (Ask.RUnlock l) place fits = record {
-    table = AskWord.RUnlock;
-    first = codes "runlock";
-    rest = _;
-    words = refl;
-    known = refl;
-    cut = plain AskWord.RUnlock _ refl;
-    visible = λ v. v;
-  }
-  front_again (Ask.Do o) place fits = record {
-    table = AskWord.Do;
-    first = codes "do";
-    rest = _;
-    words = refl;
-    known = refl;
-    cut = plain AskWord.Do _ refl;
-    visible = λ v. v;
-  }
-  front_again (Ask.EndDo o) place fits = record {
-    table = AskWord.EndDo;
-    first = codes "enddo";
-    rest = _;
-    words = refl;
-    known = refl;
-    cut = plain AskWord.EndDo _ refl;
-    visible = λ v. v;
-  }
+  front_again (Ask.Lock l) place fits = alone AskWord.Lock (codes "lock") _ refl refl (plain AskWord.Lock _ refl)
+  front_again (Ask.Unlock l) place fits = alone AskWord.Unlock (codes "unlock") _ refl refl (plain AskWord.Unlock _ refl)
+  front_again (Ask.RLock l) place fits = alone AskWord.RLock (codes "rlock") _ refl refl (plain AskWord.RLock _ refl)
+  front_again (Ask.RUnlock l) place fits = alone AskWord.RUnlock (codes "runlock") _ refl refl (plain AskWord.RUnlock _ refl)
+  front_again (Ask.Do o) place fits = alone AskWord.Do (codes "do") _ refl refl (plain AskWord.Do _ refl)
+  front_again (Ask.EndDo o) place fits = alone AskWord.EndDo (codes "enddo") _ refl refl (plain AskWord.EndDo _ refl)
 
   -- words that can be seen are those of their line
   has_words : (first : List ℕ) (rest : List (List ℕ)) (word : LineWord) → line_word first ≡ Some word

@@ -1,19 +1,18 @@
 -- Where a goroutine is stuck, by its log.
-use Rattle.std.proofs.Common.{◌≡◌, ℕ, zero, suc, ◌+◌, ◌<◌, List, [], ◌∷◌, length, filter, take, cond, Bool}
-use Rattle.std.proofs.Common.{true, false, slice_get, Option, Some, None, inl, inr, refl, sym, ap, subst}
+use Rattle.std.proofs.Common.{◌≡◌, ℕ, zero, suc, List, [], ◌∷◌, length, filter, take, cond, Bool}
+use Rattle.std.proofs.Common.{true, false, slice_get, Option, Some, None, inl, inr, ap, subst}
 use Rattle.std.proofs.Common.{◌∙◌, arith}
 use Rattle.std.proofs.lemmas.List.{take_all}
-use Rattle.std.proofs.lemmas.Option.{none-some, slice_get_within}
+use Rattle.std.proofs.lemmas.Option.{slice_get_within}
 use Rattle.race_records.proofs.ListLemmas.{slice_get-within}
 use Rattle.race_records.specs.declared.event.Event.{Event}
 use Rattle.race_hub.specs.declared.request.Request.{Request}
 use Rattle.race_hub.specs.declared.request.Step.{Step}
 use Rattle.race_hub.specs.Part.{part_of, IsPart}
 use Rattle.race_hub.specs.Table.{Fits}
-use Rattle.race_script.specs.Certificate.{behind, after_event, FitsAt, Follows, WaitsAt, IsRun, IsStuckAt}
+use Rattle.race_script.specs.Certificate.{behind, Follows, WaitsAt, IsRun, IsStuckAt}
 use Rattle.race_script.specs.Course.{IsPassed, IsStop}
-use Rattle.race_script.specs.Program.{Instruction, asked_by, instruction, spelled}
-use Rattle.race_script.proofs.CourseLemmas.{follows_next}
+use Rattle.race_script.specs.Program.{Instruction, asked_by, spelled}
 
 -- what passes a test stood in the list
 pub in_list : {X : Type 0} (p : X → Bool) (xs : List X) (k : ℕ) (x : X) → slice_get (filter p xs) k ≡ Some x → (n : ℕ) × (slice_get xs n ≡ Some x)

@@ -1,6 +1,6 @@
 -- When a recording is a run of a program. (The Go Memory Model, "Memory Model", requirement 1: the operations in each goroutine
 -- correspond to a correct sequential execution of that goroutine)
-use Rattle.std.specs.Prelude.{ℕ, ◌≡◌, ◌<◌, ◌+◌, ◌==◌, ◌⊎◌, List, take, drop, map, fold, slice_get, Option, Some, IfSome}
+use Rattle.std.specs.Prelude.{ℕ, ◌≡◌, ◌<◌, ◌+◌, ◌==◌, ◌⊎◌, List, take, drop, fold, slice_get, Option, Some, IfSome}
 use Rattle.std.specs.List.{find}
 use Rattle.std.specs.Option.{option_map}
 use Rattle.race_records.specs.declared.event.Event.{Event}

@@ -1,17 +1,16 @@
-use Rattle.std.proofs.Common.{◌≡◌, ℕ, ◌+◌, ◌<◌, ◌==◌, ◌&&◌, not, List, length, take}
-use Rattle.std.proofs.Common.{slice_get, Option, Some, None, refl, sym, ap, subst, ◌∙◌}
+use Rattle.std.proofs.Common.{◌≡◌, ◌&&◌, not, List, length}
+use Rattle.std.proofs.Common.{slice_get, Some, None, refl, sym, ap, subst, ◌∙◌}
 use Rattle.std.proofs.Common.{arith, true≢false}
 use Rattle.std.specs.Option.{option_copied}
 use Rattle.std.proofs.lemmas.Option.{slice_get-get_or}
 use Rattle.race_records.specs.Declarations.{DeclsState}
 use Rattle.race_records.specs.declared.event.Event.{Event}
 use Rattle.race_model.specs.Events.{takes_part, starts}
-use Rattle.race_hub.specs.declared.request.Request.{Request}
 use Rattle.race_hub.specs.Part.{part_of}
 use Rattle.race_script.specs.Certificate.{WaitsAt, waiting_of}
 use Rattle.race_script.specs.Course.{IsPassed}
 use Rattle.race_script.specs.Program.{spelled}
-use Rattle.race_script.proofs.CourseLemmas.{follows_none, follows_next}
+use Rattle.race_script.proofs.CourseLemmas.{follows_next}
 use Rattle.race_script.proofs.StuckLemmas.{in_list, event_of, stuck_inside, stuck_behind, runs, same_stop}
 use Rattle.race_script.proofs.certificate.stuck_at.Goals as goal
 

@@ -1,4 +1,4 @@
-use Rattle.std.proofs.Common.{◌≡◌, ◌+◌, ap, sym, ◌∙◌, arith}
+use Rattle.std.proofs.Common.{◌+◌, ap, sym, ◌∙◌, arith}
 use Rattle.race_records.specs.declared.event.Op.{Op}
 use Rattle.race_script.specs.Certificate.{after_event}
 use Rattle.race_script.specs.Program.{asks_of}

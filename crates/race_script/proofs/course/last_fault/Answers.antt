@@ -1,6 +1,5 @@
-use Rattle.std.proofs.Common.{◌≡◌, ◌+◌, ◌-◌, ◌≤◌, length, ap, sym, arith}
+use Rattle.std.proofs.Common.{◌≡◌, ◌+◌, length, arith}
 use Rattle.race_records.specs.Declarations.{capacity_of}
-use Rattle.race_records.specs.declared.event.Op.TheVariants.{Fault}
 use Rattle.race_script.proofs.CourseLemmas.{last_event}
 use Rattle.race_script.proofs.course.last_fault.Goals as goal
 

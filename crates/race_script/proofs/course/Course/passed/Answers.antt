@@ -1,10 +1,7 @@
-use Rattle.std.proofs.Common.{◌≡◌, ℕ, List, Option, Some, None, slice_get, ap, sym, ◌∙◌, true≢false}
+use Rattle.std.proofs.Common.{◌≡◌, Some, slice_get, ap, sym, ◌∙◌, true≢false}
 use Rattle.std.specs.Option.{option_copied}
-use Rattle.race_records.specs.declared.event.Event.{Event}
-use Rattle.race_records.specs.declared.event.Op.{Op}
-use Rattle.race_hub.specs.Table.{done_by, Fits}
-use Rattle.race_script.specs.Course.{FailsBy}
-use Rattle.race_script.proofs.PassedLemmas.{made_is, passes_step, passes_no_step, passes_no_fit}
+use Rattle.race_hub.specs.Table.{done_by}
+use Rattle.race_script.proofs.PassedLemmas.{made_is, passes_step, passes_no_fit}
 use Rattle.race_script.proofs.course.Course.passed.Goals as goal
 use Rattle.race_script.proofs.course.Course.passed.Goals.{else-can_make-via-then-can_make+else-stand_alike, else-can_make-via-else-can_make}
 

@@ -1,5 +1,5 @@
 -- Bytes without a fault are some program's text: line by line, each is taken into a program.
-use Rattle.std.proofs.Common.{◌≡◌, ℕ, zero, suc, ◌+◌, ◌<◌, ◌==◌, ◌&&◌, ◌||◌, Bool, true, false, true≢false, not, nat_le, if◌then◌else◌}
+use Rattle.std.proofs.Common.{◌≡◌, ℕ, zero, suc, ◌<◌, ◌==◌, ◌&&◌, ◌||◌, Bool, true, false, true≢false, not, nat_le, if◌then◌else◌}
 use Rattle.std.proofs.Common.{is_some, List, [], ◌∷◌, ◌++◌, length, Option, Some, None, refl, sym, ap, ◌∙◌, arith, append-nil}
 use Rattle.std.proofs.Common.{append_assoc}
 use Rattle.std.proofs.lemmas.Bool.Decides.{nat_tests}
@@ -24,14 +24,14 @@ use Rattle.race_text.specs.Lines.{fault_after, first_fault}
 use Rattle.race_text.specs.Form.{word_named, first_word}
 use Rattle.race_text.specs.Text.{ended}
 use Rattle.race_text.specs.Words.{parts_of, words_of, has_bad_byte}
-use Rattle.race_text.proofs.ParseLemmas.{or_later_none, fault_step, fault_end, no_bytes}
+use Rattle.race_text.proofs.ParseLemmas.{none_step, none_end, no_bytes}
 use Rattle.race_text.proofs.TraceLemmas.{late_declaration}
 use Rattle.race_script.specs.declared.form.AskWord.{AskWord}
 use Rattle.race_script.specs.declared.form.LineWord.{LineWord}
 use Rattle.race_script.specs.declared.program.TheConstants.{MAX_STEPS}
 use Rattle.race_script.specs.Bodies.{is_exit, after_ask}
 use Rattle.race_script.specs.Fault.{words_cause, has_no_room, may_follow, may_begin}
-use Rattle.race_script.specs.Fault.{said_cause, asked_cause, cause, end_cause, program_causes}
+use Rattle.race_script.specs.Fault.{said_cause, asked_cause, cause, program_causes}
 use Rattle.race_script.specs.Fault.{text_fault, is_whole}
 use Rattle.race_script.specs.Form.{line_word, on_nil, ask_fields, begin_fields}
 use Rattle.race_script.specs.Offers.{select_words, select_cause}
@@ -229,8 +229,7 @@ scanned : (parts : List (List ℕ)) (s : ReadState) → s.has_header ≡ true �
 scanned [] s header read some none = absurd (omega (arith, some))
 scanned (last ∷ []) s header read some none =
     let before = lines (draft_read s) in
-    let fine = or_later_none (length before + 1) (end_cause before last) None (sym (fault_end program_causes before last) ∙ none) in
-    let empty = end_empty before last fine.0 in (
+    let empty = end_empty before last (none_end program_causes before last none) in (
       s,
       read,
       ap is_whole (sym read.seen_is) ∙ empty.2,
@@ -239,8 +238,7 @@ scanned (last ∷ []) s header read some none =
 scanned (line ∷ part ∷ others) s header read some none =
     let before = lines (draft_read s) in
     let parts = part ∷ others in
-    let split = or_later_none (length before + 1) (cause before line true)
-    (fault_after program_causes (before ++ line ∷ []) parts) (sym (fault_step program_causes before line parts (omega arith)) ∙ none) in
+    let split = none_step program_causes before line parts (omega arith) none in
     let next = with_line s header read line split.0 in
     let rest = scanned (part ∷ others) next.next next.takes.header next.takes.read
     (omega arith) (ap (λ ls. fault_after program_causes ls parts) next.takes.goes.lines ∙ split.1) in
@@ -270,13 +268,12 @@ faultless_is_text bytes none = by (parts_of bytes) refl none
     by : (parts : List (List ℕ)) → parts_of bytes ≡ parts → fault_after program_causes [] parts ≡ None → IsProgramText bytes
     by [] e h = let some = sym (ap length e) ∙ length-slice_split (λ b. b == 10) bytes in absurd (omega (arith, some))
     by (last ∷ []) e h =
-        let empty = end_empty [] last (or_later_none 1 (end_cause [] last) None (sym (fault_end program_causes [] last) ∙ h)).0 in
+        let empty = end_empty [] last (none_end program_causes [] last h) in
         let some = empty.1 in
         absurd (omega (arith, some))
     by (line ∷ part ∷ others) e h =
         let parts = part ∷ others in
-        let split = or_later_none 1 (cause [] line true) (fault_after program_causes (line ∷ []) parts)
-        (sym (fault_step program_causes [] line parts (omega arith)) ∙ h) in
+        let split = none_step program_causes [] line parts (omega arith) h in
         let first = is_header line split.0 in
         let rest = scanned parts nothing_read refl nothing_is_read (omega arith)
         (ap (λ ls. fault_after program_causes ls parts) (nothing_lines_read ∙ (λ i. sym first i ∷ [])) ∙ split.1) in

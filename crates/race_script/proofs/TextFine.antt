@@ -1,12 +1,11 @@
 -- The text of a program has no fault, and says the program.
-use Rattle.std.proofs.Common.{◌≡◌, ◌≢◌, inl, inr, ℕ, suc, ◌+◌, ◌<◌, ◌≤◌, ◌==◌, ◌&&◌, ◌||◌, Bool, true}
+use Rattle.std.proofs.Common.{◌≡◌, ◌≢◌, ℕ, suc, ◌+◌, ◌<◌, ◌≤◌, ◌==◌, ◌&&◌, ◌||◌, Bool, true}
 use Rattle.std.proofs.Common.{false, true≢false, not, nat_lt, nat_le, if◌then◌else◌, is_some, List, []}
 use Rattle.std.proofs.Common.{◌∷◌, ◌++◌, length, map, fold, get_or, Some, None, refl, sym, ap, subst, ◌∙◌}
 use Rattle.std.proofs.Common.{arith, append-nil, append_assoc}
 use Rattle.std.proofs.lemmas.Bool.Decides.{nat_tests}
 use Rattle.std.proofs.lemmas.List.{length-append, length-map, map-append}
 use Rattle.std.proofs.lemmas.List.{append_cancel_right}
-use Rattle.std.proofs.lemmas.Option.{none-some}
 use Rattle.std.specs.List.{list_all, flat_map, AllByRecursion}
 use Rattle.std.specs.Option.{option_map_or}
 use Rattle.race_records.specs.declared.declarations.TheConstants.{MAX_PLACES}
@@ -19,8 +18,7 @@ use Rattle.race_text.specs.declared.cause.TextFault.{TextFault}
 use Rattle.race_text.specs.Lines.{fault_after, first_fault}
 use Rattle.race_text.specs.Text.{declaration_line}
 use Rattle.race_text.specs.Words.{parts_of, has_bad_byte}
-use Rattle.race_text.proofs.ParseLemmas.{AreFine, fine_both, fine_lines}
-use Rattle.race_text.proofs.TextFine.{memory_or_not}
+use Rattle.race_text.proofs.ParseLemmas.{AreFine, fine_both, fine_lines, only_memory}
 use Rattle.race_text.proofs.WordLemmas.{both}
 use Rattle.race_text.proofs.WordsAgain.{parts_again}
 use Rattle.race_script.specs.declared.program.TheConstants.{MAX_STEPS}
@@ -369,7 +367,4 @@ equal_texts p q is other same =
 -- so a program's text is refused for memory alone
 pub text_is_accepted : (bytes : List ℕ) (told : TextFault) → (told.cause ≢ TextCause.OutOfMemory → text_fault bytes ≡ Some told) → IsProgramText bytes
     → told.cause ≡ TextCause.OutOfMemory
-text_is_accepted bytes told is_fault is = elim (memory_or_not told.cause) [
-  | inl memory ↦ memory
-  | inr other ↦ absurd (none-some told (sym (ap text_fault is.1.printed ∙ text_has_no_fault is.0 is.1.program) ∙ is_fault other))
-]
+text_is_accepted bytes told is_fault is = only_memory (text_fault bytes) told is_fault (ap text_fault is.1.printed ∙ text_has_no_fault is.0 is.1.program)

@@ -1,5 +1,5 @@
 -- A text that is read part by part: what is left of it, and its first fault.
-use Rattle.std.proofs.Common.{◌≡◌, ℕ, ◌+◌, ◌<◌, ◌≤◌, ◌==◌, ◌&&◌, nat_lt, Bool, true, false, not}
+use Rattle.std.proofs.Common.{◌≡◌, ◌≢◌, ◌⊎◌, inl, inr, ℕ, ◌+◌, ◌<◌, ◌≤◌, ◌==◌, ◌&&◌, nat_lt, Bool, true, false, not}
 use Rattle.std.proofs.Common.{if◌then◌else◌, List, [], ◌∷◌, ◌++◌, length, Option, Some, None, refl, sym}
 use Rattle.std.proofs.Common.{ap, subst, ◌∙◌, arith, append-nil, append_assoc}
 use Rattle.std.proofs.lemmas.Bool.Decides.{nat_tests}
@@ -28,8 +28,20 @@ pub or_later_from : (n : ℕ) (o : Option TextCause) (later : Option TextFault) 
 or_later_from n None later f h rest = rest f h
 or_later_from n (Some c) later f h rest = let same : n ≡ f.line = ap (λ (x : TextFault). x.line) (same_Some (told n c) f h) in omega (arith, same)
 
+memory_or_not : (c : TextCause) → (c ≡ TextCause.OutOfMemory) ⊎ (c ≢ TextCause.OutOfMemory)
+memory_or_not TextCause.OutOfMemory = inl refl
+memory_or_not _ = inr (λ e. cc)
+
+-- of a text without a fault nothing is told but want of memory
+pub only_memory : (fault : Option TextFault) (told : TextFault) → (told.cause ≢ TextCause.OutOfMemory → fault ≡ Some told) → fault ≡ None
+    → told.cause ≡ TextCause.OutOfMemory
+only_memory fault told is_fault none = elim (memory_or_not told.cause) [
+  | inl memory ↦ memory
+  | inr other ↦ absurd (none-some told (sym none ∙ is_fault other))
+]
+
 -- where a fault is none, neither the first cause is one, nor a later fault
-pub or_later_none : (n : ℕ) (o : Option TextCause) (later : Option TextFault) → or_later n o later ≡ None → (o ≡ None) × (later ≡ None)
+or_later_none : (n : ℕ) (o : Option TextCause) (later : Option TextFault) → or_later n o later ≡ None → (o ≡ None) × (later ≡ None)
 or_later_none n None later h = (refl, h)
 or_later_none n (Some c) later h = absurd (none-some (told n c) (sym h))
 
@@ -55,6 +67,16 @@ module _ (causes : Causes) where
   fault_from (line ∷ next ∷ others) before f h =
       or_later_from (length before + 1) (causes.line before line) (fault_after causes (before ++ line ∷ []) (next ∷ others)) f h
       (λ g e. let later = fault_from (next ∷ others) (before ++ line ∷ []) g e in omega (arith, later, length-append before (line ∷ [])))
+
+  -- where there is no fault, the line in front has no cause, and what stands behind it has no fault
+  pub none_step : (before : List (List ℕ)) (line : List ℕ) (parts : List (List ℕ)) → 0 < length parts → fault_after causes before (line ∷ parts) ≡ None
+      → (causes.line before line ≡ None) × (fault_after causes (before ++ line ∷ []) parts ≡ None)
+  none_step before line parts some none =
+      or_later_none (length before + 1) (causes.line before line) (fault_after causes (before ++ line ∷ []) parts)
+      (sym (fault_step before line parts some) ∙ none)
+
+  pub none_end : (before : List (List ℕ)) (last : List ℕ) → fault_after causes before (last ∷ []) ≡ None → causes.end before last ≡ None
+  none_end before last none = (or_later_none (length before + 1) (causes.end before last) None (sym (fault_end before last) ∙ none)).0
 
   -- no cause holds at any of the lines, each behind those before it
   abbrev pub AreFine : List (List ℕ) → List (List ℕ) → Type 0

@@ -1,5 +1,5 @@
 -- Bytes without a fault are some trace's text: line by line, each is taken into a trace.
-use Rattle.std.proofs.Common.{◌≡◌, ℕ, ◌+◌, ◌*◌, ◌<◌, ◌≤◌, Bool, true, false, not, nat_le, ◌==◌, if◌then◌else◌, List, [], ◌∷◌}
+use Rattle.std.proofs.Common.{◌≡◌, ℕ, ◌*◌, ◌<◌, ◌≤◌, Bool, true, false, not, nat_le, ◌==◌, if◌then◌else◌, List, [], ◌∷◌}
 use Rattle.std.proofs.Common.{◌++◌, length, Option, Some, None, refl, sym, ap, subst, ◌∙◌, arith, true≢false, append-nil}
 use Rattle.std.proofs.Common.{append_assoc}
 use Rattle.std.proofs.lemmas.Bool.Decides.{nat_tests}
@@ -17,13 +17,13 @@ use Rattle.race_text.specs.declared.cause.TextCause.{TextCause}
 use Rattle.race_text.specs.Words.{parts_of, words_of, has_bad_byte}
 use Rattle.race_text.specs.Text.{header, ended, lines, text}
 use Rattle.race_text.specs.Lines.{fault_after, first_fault}
-use Rattle.race_text.specs.Fault.{seen, seen_so_far, line_cause, cause, end_cause, trace_causes, text_fault}
+use Rattle.race_text.specs.Fault.{seen, seen_so_far, line_cause, cause, trace_causes, text_fault}
 use Rattle.race_text.specs.Declaring.{is_declaration_line, with_declared}
 use Rattle.race_text.specs.Text.{HasText, IsTraceText}
 use Rattle.race_text.specs.Reading.{Occurrence, event_in}
 use Rattle.race_text.specs.Taking.{state_of, IsRead, begun, with_places, event_of}
 use Rattle.race_text.proofs.EventLines.{event_line as event_line_of}
-use Rattle.race_text.proofs.ParseLemmas.{or_later_none, fault_step, fault_end, end_empty, no_bytes}
+use Rattle.race_text.proofs.ParseLemmas.{none_step, none_end, end_empty, no_bytes}
 use Rattle.race_text.proofs.ReaderLemmas.{header_lines, header_says, empty_has_text, no_events, declaration_of_line, cause_of_line, taken_declaration}
 use Rattle.race_text.proofs.TraceLemmas.{cause_behind, bad_byte_is_told, no_event_is_told, event_cause, event_taken}
 
@@ -93,13 +93,11 @@ scanned : (parts : List (List ℕ)) (t : TraceState) → IsRead t → 0 < length
     → (u : TraceState) × HasText u × (flat_map ended (lines u) ≡ flat_map ended (lines t) ++ join_with_byte 10 parts)
 scanned [] t read some none = absurd (omega (arith, some))
 scanned (last ∷ []) t read some none =
-    let empty = end_empty (lines t) last
-    (or_later_none (length (lines t) + 1) (end_cause (lines t) last) None (sym (fault_end trace_causes (lines t) last) ∙ none)).0 in
+    let empty = end_empty (lines t) last (none_end trace_causes (lines t) last none) in
     (t, read.has_text, sym (ap (λ l. flat_map ended (lines t) ++ l) (no_bytes last empty.0) ∙ append-nil (flat_map ended (lines t))))
 scanned (line ∷ part ∷ others) t read some none =
     let parts = part ∷ others in
-    let split = or_later_none (length (lines t) + 1) (cause (lines t) line true)
-    (fault_after trace_causes (lines t ++ line ∷ []) parts) (sym (fault_step trace_causes (lines t) line parts (omega arith)) ∙ none) in
+    let split = none_step trace_causes (lines t) line parts (omega arith) none in
     let next = with_line t read line split.0 in
     let rest = scanned (part ∷ others) next.next next.read (omega arith) (ap (λ ls. fault_after trace_causes ls parts) next.lines_are ∙ split.1) in
     let front = flat_map ended (lines t) in (
@@ -134,13 +132,12 @@ faultless_is_text bytes none = by (parts_of bytes) refl none
     by : (parts : List (List ℕ)) → parts_of bytes ≡ parts → fault_after trace_causes [] parts ≡ None → IsTraceText bytes
     by [] e h = let some = sym (ap length e) ∙ length-slice_split (λ b. b == 10) bytes in absurd (omega (arith, some))
     by (last ∷ []) e h =
-        let empty = end_empty [] last (or_later_none 1 (end_cause [] last) None (sym (fault_end trace_causes [] last) ∙ h)).0 in
+        let empty = end_empty [] last (none_end trace_causes [] last h) in
         let some = empty.1 in
         absurd (omega (arith, some))
     by (line ∷ part ∷ others) e h =
         let parts = part ∷ others in
-        let split = or_later_none 1 (cause [] line true) (fault_after trace_causes (line ∷ []) parts)
-        (sym (fault_step trace_causes [] line parts (omega arith)) ∙ h) in
+        let split = none_step trace_causes [] line parts (omega arith) h in
         let first = is_header line split.0 in
         let rest = scanned parts empty_trace empty_is_read (omega arith)
         (ap (λ ls. fault_after trace_causes ls parts) (header_lines ∙ (λ i. sym first i ∷ [])) ∙ split.1) in

@@ -1,12 +1,11 @@
 -- The text of a trace has no fault.
 use Rattle.std.proofs.Common.{◌≡◌, ◌≢◌, ℕ, suc, ◌+◌, ◌<◌, Bool, true, false, nat_le, nat_lt, cond, if◌then◌else◌, List, [], ◌∷◌, ◌++◌, length}
-use Rattle.std.proofs.Common.{map, get_or, Some, None, ◌⊎◌, inl, inr, is_some, refl, sym, ap, subst, ◌∙◌, arith, true≢false, append-nil}
+use Rattle.std.proofs.Common.{map, get_or, Some, None, is_some, refl, sym, ap, subst, ◌∙◌, arith, true≢false, append-nil}
 use Rattle.std.proofs.Common.{append_assoc}
 use Rattle.std.proofs.lemmas.Bool.Decides.{nat_tests}
 use Rattle.std.proofs.lemmas.List.{length-append, map-append}
 use Rattle.std.proofs.lemmas.List.Elements.{filter-append}
 use Rattle.std.proofs.lemmas.List.Sums.{position_or_len_is}
-use Rattle.std.proofs.lemmas.Option.{none-some}
 use Rattle.std.proofs.Math.ListN.{get_or-append}
 use Rattle.std.proofs.Math.Seq.{get_or-append_seam}
 use Rattle.std.specs.Option.{option_and_then}
@@ -29,7 +28,7 @@ use Rattle.race_text.specs.Fault.{Seen, seen, seen_so_far, line_cause, word_caus
 use Rattle.race_text.specs.Text.{HasText, IsTraceText}
 use Rattle.race_text.proofs.DeclarationLemmas.{fault_by, said_fine}
 use Rattle.race_text.proofs.NamesAgain.{differ}
-use Rattle.race_text.proofs.ParseLemmas.{AreFine, fine_both, fine_lines}
+use Rattle.race_text.proofs.ParseLemmas.{AreFine, fine_both, fine_lines, only_memory}
 use Rattle.race_text.proofs.ReaderLemmas.{header_says}
 use Rattle.race_text.proofs.TextLaws.{declaration_again, is_no_event, event_at, lines_again}
 use Rattle.race_text.proofs.TraceLemmas.{clean_line, seen_declaration, seen_event}
@@ -202,14 +201,7 @@ module _ (t : TraceState) (has : HasText t) where
   unfolding first_fault
   text_has_no_fault = ap (fault_after trace_causes []) (lines_again t has) ∙ fine_lines trace_causes [] (lines t) (no_end_cause (lines t) some_lines) lines_fine
 
-pub memory_or_not : (c : TextCause) → (c ≡ TextCause.OutOfMemory) ⊎ (c ≢ TextCause.OutOfMemory)
-memory_or_not TextCause.OutOfMemory = inl refl
-memory_or_not _ = inr (λ e. cc)
-
 -- so a trace's text is refused for memory alone
 pub text_is_accepted : (bytes : List ℕ) (told : TextFault) → (told.cause ≢ TextCause.OutOfMemory → text_fault bytes ≡ Some told) → IsTraceText bytes
     → told.cause ≡ TextCause.OutOfMemory
-text_is_accepted bytes told is_fault is = elim (memory_or_not told.cause) [
-  | inl memory ↦ memory
-  | inr other ↦ absurd (none-some told (sym (ap text_fault is.1.printed ∙ text_has_no_fault is.0 is.1.has_text) ∙ is_fault other))
-]
+text_is_accepted bytes told is_fault is = only_memory (text_fault bytes) told is_fault (ap text_fault is.1.printed ∙ text_has_no_fault is.0 is.1.has_text)

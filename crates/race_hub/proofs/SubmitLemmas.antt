@@ -171,20 +171,6 @@ module _ {R : Type 0} where
   back_was_out h job back who is test same =
       subst (λ n. list_any (λ o. o == n) h.out ≡ true) (sym same) (both_true (is_some job.asked) _ (sym is ∙ test)).1
 
-  abbrev with_lists : HubState R → List Waiter → List (ParkedState R) → HubState R
-  with_lists h waiting parked = record {
-    decls = h.decls;
-    events = h.events;
-    limit = h.limit;
-    ready = h.ready;
-    waiting = waiting;
-    parked = parked;
-    out = h.out;
-    unstarted = h.unstarted;
-    ended = h.ended;
-    bad = h.bad;
-  }
-
   -- the hub with other waiting requests, boxes and jobs that are out, and this bad one
   abbrev pub put_back : HubState R → List Waiter → List (ParkedState R) → List ℕ → Option ℕ → HubState R
   put_back h waiting parked out bad = record {
@@ -219,8 +205,8 @@ module _ {R : Type 0} where
 
   -- room alone changes no test
   pub test_same : (h : HubState R) (waiting : List Waiter) (parked : List (ParkedState R)) (w : Waiter) → waiting ≡ h.waiting → parked ≡ h.parked
-      → (is_none (stop_of (with_lists h waiting parked)) && is_bad (with_lists h waiting parked) w) ≡ (is_none (stop_of h) && is_bad h w)
-  test_same h waiting parked w p q = λ i. is_none (stop_of (with_lists h (p i) (q i))) && is_bad (with_lists h (p i) (q i)) w
+      → (is_none (stop_of (put_back h waiting parked h.out h.bad)) && is_bad (put_back h waiting parked h.out h.bad) w) ≡ (is_none (stop_of h) && is_bad h w)
+  test_same h waiting parked w p q = λ i. is_none (stop_of (put_back h (p i) (q i) h.out h.bad)) && is_bad (put_back h (p i) (q i) h.out h.bad) w
 
   -- a bad request ends the hub
   pub ends_by : (h : HubState R) (job : JobState R) (w : Waiter) → list_any (λ o. o == w.who) h.out ≡ true → w.who ≡ job.who → job.asked ≡ Some w.asked

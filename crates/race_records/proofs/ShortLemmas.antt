@@ -4,7 +4,8 @@ use Rattle.std.proofs.Common.{nat_le, eqb, cond, not, Bool, true, false, true≢
 use Rattle.std.proofs.Common.{length, take, drop, position, slice_get, option_map, Option, Some, None, IsNone, refl}
 use Rattle.std.proofs.Common.{sym, ap, subst, ◌∙◌, arith, w64}
 use Rattle.std.specs.Int.{from_le_bytes, to_le_bytes, sum_through, byte_worth}
-use Rattle.std.proofs.lemmas.Nat.{le_bytes_8, and_mask}
+use Rattle.std.proofs.Math.Nat.{mul-le-mul_right, pow-suc, pow-le-pow_right, mod-eq_of_lt, add-mul-mod_self_right, mul_assoc}
+use Rattle.std.proofs.lemmas.Nat.{le_bytes_8, and_mask, pow-add}
 use Rattle.std.proofs.lemmas.List.{length-take-le, length-drop, get_or-take, get_or_past, drop-take, drop_all, get_or-drop, ext_get_or}
 use Rattle.std.proofs.lemmas.Bool.Decides.{nat_tests}
 use Rattle.std.proofs.lemmas.Option.{none-some, same_Some, cond_some}
@@ -90,148 +91,70 @@ same_parts a b ba bb same few front back = ext_get_or 0 a b same (λ i within. a
         ∙ same_byte (drop 8 a) (drop 8 b) (bytes_in_drop 8 a ba) (bytes_in_drop 8 b bb) back (i - 8) (omega (arith, within, few, late))
         ∙ get_or-drop 8 b (i - 8) 0 ∙ ap (λ j. get_or b j 0) sum
 
--- the bits of k bytes of a number of eight are that of the first k
-module _ (b c : ℕ → ℕ) (bytes : (i : ℕ) → b i < 256) where
-  abbrev CutAt : ℕ → Type 0
-  CutAt k = ((i : ℕ) → nat_lt i k ≡ true → c i ≡ b i) → ((i : ℕ) → nat_le k i ≡ true → nat_lt i 8 ≡ true → c i ≡ 0)
-      → sum_through (λ i. byte_worth i (b i)) 7 % 2 ^ (8 * k) ≡ sum_through (λ i. byte_worth i (c i)) 7
+-- a number of n + 1 bytes is below 256 ^ (n + 1)
+bytes_below : (b : ℕ → ℕ) → ((i : ℕ) → b i < 256) → (n : ℕ) → sum_through (λ i. byte_worth i (b i)) n < 256 ^ suc n
+bytes_below b bytes zero = omega (arith, bytes 0)
+bytes_below b bytes (suc n) =
+    let lower = bytes_below b bytes n in
+    let most : b (suc n) * 256 ^ suc n ≤ 255 * 256 ^ suc n = mul-le-mul_right (256 ^ suc n) (omega (arith, bytes (suc n))) in
+    let more = pow-suc 256 (suc n) in
+    omega (arith, lower, most, more)
 
-  low : (k : ℕ) → k ≤ 8 → CutAt k
-  low k few = up_to_eight CutAt
-      (λ is no. omega (arith, no 0 refl refl, no 1 refl refl, no 2 refl refl, no 3 refl refl, no 4 refl refl, no 5 refl refl, no 6 refl refl, no 7 refl refl))
-      (λ is no. omega (
-        arith,
-        bytes 0,
-        is 0 refl,
-        no 1 refl refl,
-        no 2 refl refl,
-        no 3 refl refl,
-        no 4 refl refl,
-        no 5 refl refl,
-        no 6 refl refl,
-        no 7 refl refl,
-      ))
-      (λ is no. omega (
-        arith,
-        bytes 0,
-        bytes 1,
-        is 0 refl,
-        is 1 refl,
-        no 2 refl refl,
-        no 3 refl refl,
-        no 4 refl refl,
-        no 5 refl refl,
-        no 6 refl refl,
-        no 7 refl refl,
-      ))
-      (λ is no. omega (
-        arith,
-        bytes 0,
-        bytes 1,
-        bytes 2,
-        is 0 refl,
-        is 1 refl,
-        is 2 refl,
-        no 3 refl refl,
-        no 4 refl refl,
-        no 5 refl refl,
-        no 6 refl refl,
-        no 7 refl refl,
-      ))
-      (λ is no. omega (
-        arith,
-        bytes 0,
-        bytes 1,
-        bytes 2,
-        bytes 3,
-        is 0 refl,
-        is 1 refl,
-        is 2 refl,
-        is 3 refl,
-        no 4 refl refl,
-        no 5 refl refl,
-        no 6 refl refl,
-        no 7 refl refl,
-      ))
-      (λ is no. omega (
-        arith,
-        bytes 0,
-        bytes 1,
-        bytes 2,
-        bytes 3,
-        bytes 4,
-        is 0 refl,
-        is 1 refl,
-        is 2 refl,
-        is 3 refl,
-        is 4 refl,
-        no 5 refl refl,
-        no 6 refl refl,
-        no 7 refl refl,
-      ))
-      (λ is no. omega (
-        arith,
-        bytes 0,
-        bytes 1,
-        bytes 2,
-        bytes 3,
-        bytes 4,
-        bytes 5,
-        is 0 refl,
-        is 1 refl,
-        is 2 refl,
-        is 3 refl,
-        is 4 refl,
-        is 5 refl,
-        no 6 refl refl,
-        no 7 refl refl,
-      ))
-      (λ is no. omega (
-        arith,
-        bytes 0,
-        bytes 1,
-        bytes 2,
-        bytes 3,
-        bytes 4,
-        bytes 5,
-        bytes 6,
-        is 0 refl,
-        is 1 refl,
-        is 2 refl,
-        is 3 refl,
-        is 4 refl,
-        is 5 refl,
-        is 6 refl,
-        no 7 refl refl,
-      ))
-      (λ is no. omega (
-        arith,
-        bytes 0,
-        bytes 1,
-        bytes 2,
-        bytes 3,
-        bytes 4,
-        bytes 5,
-        bytes 6,
-        bytes 7,
-        is 0 refl,
-        is 1 refl,
-        is 2 refl,
-        is 3 refl,
-        is 4 refl,
-        is 5 refl,
-        is 6 refl,
-        is 7 refl,
-      ))
-      k few
+bits_of_bytes : (k : ℕ) → 256 ^ k ≡ 2 ^ (8 * k)
+bits_of_bytes zero = refl
+bits_of_bytes (suc k) =
+    let sum : 8 * k + 8 ≡ 8 * suc k = omega arith in
+    pow-suc 256 k ∙ ap (λ x. x * 256) (bits_of_bytes k) ∙ sym (pow-add 2 (8 * k) 8) ∙ ap (λ j. 2 ^ j) sum
+
+-- what a number leaves by 256 ^ k are its k lowest bytes
+module _ (b c : ℕ → ℕ) (bytes : (i : ℕ) → b i < 256) (k : ℕ) (same : (i : ℕ) → nat_lt i k ≡ true → c i ≡ b i)
+    (none : (i : ℕ) → nat_le k i ≡ true → nat_lt i 8 ≡ true → c i ≡ 0) where
+  abbrev AreLowest : ℕ → Type 0
+  AreLowest n = sum_through (λ i. byte_worth i (b i)) n % 256 ^ k ≡ sum_through (λ i. byte_worth i (c i)) n
+
+  fits : (n : ℕ) → n < k → sum_through (λ i. byte_worth i (b i)) n % 256 ^ k ≡ sum_through (λ i. byte_worth i (b i)) n
+  fits n less =
+      let below = bytes_below b bytes n in
+      let most : 256 ^ suc n ≤ 256 ^ k = pow-le-pow_right (omega arith) (omega (arith, less)) in
+      mod-eq_of_lt (omega (arith, below, most))
+
+  lowest : (n : ℕ) → n < 8 → AreLowest n
+  lowest zero few = by (nat_lt 0 k) refl
+    where
+      by : (t : Bool) → nat_lt 0 k ≡ t → AreLowest 0
+      by true is = let less : 0 < k = grind (arith, nat_tests, is) in fits 0 less ∙ sym (same 0 is)
+      by false is =
+          let zero_bytes : k ≡ 0 = grind (arith, nat_tests, is) in
+          let rest = none 0 (grind (arith, nat_tests, is)) refl in
+          let one = ap (λ j. 256 ^ j) zero_bytes in
+          omega (arith, rest, one)
+  lowest (suc n) few = by (lowest n (omega (arith, few))) (nat_lt (suc n) k) refl
+    where
+      by : AreLowest n → (t : Bool) → nat_lt (suc n) k ≡ t → AreLowest (suc n)
+      by lower true is =
+          let less : suc n < k = grind (arith, nat_tests, is) in
+          let front = sym (fits n (omega (arith, less))) ∙ lower in
+          let last = ap (byte_worth (suc n)) (sym (same (suc n) is)) in
+          fits (suc n) less ∙ ap (λ x. x + byte_worth (suc n) (b (suc n))) front ∙ ap (λ x. sum_through (λ i. byte_worth i (c i)) n + x) last
+      by lower false is =
+          let behind : k ≤ suc n = grind (arith, nat_tests, is) in
+          let early : nat_lt (suc n) 8 ≡ true = grind (arith, nat_tests, few) in
+          let last = ap (byte_worth (suc n)) (none (suc n) (grind (arith, nat_tests, behind)) early) in
+          let sum : suc n - k + k ≡ suc n = omega (arith, behind) in
+          let whole : b (suc n) * 256 ^ suc n ≡ b (suc n) * 256 ^ (suc n - k) * 256 ^ k =
+          ap (λ j. b (suc n) * 256 ^ j) (sym sum) ∙ ap (λ x. b (suc n) * x) (pow-add 256 (suc n - k) k)
+          ∙ sym (mul_assoc (b (suc n)) (256 ^ (suc n - k)) (256 ^ k)) in
+          ap (λ x. (sum_through (λ i. byte_worth i (b i)) n + x) % 256 ^ k) whole
+          ∙ add-mul-mod_self_right (sum_through (λ i. byte_worth i (b i)) n) (b (suc n) * 256 ^ (suc n - k)) (256 ^ k)
+          ∙ lower ∙ omega (arith, last)
 
 -- so it is cut out of more bytes
 pub cut_front : (bytes : List ℕ) (k : ℕ) → AreBytes bytes → k ≤ length bytes
     → bit_and (from_le_bytes w64 bytes) (2 ^ (8 * min k 8) - 1) ≡ from_le_bytes w64 (take k bytes)
 cut_front bytes k are within =
-    and_mask (from_le_bytes w64 bytes) (8 * min k 8)
-    ∙ low (λ i. get_or bytes i 0) (λ i. get_or (take k bytes) i 0) are (min k 8) (omega arith)
-    (λ i h. get_or-take k bytes i 0 (before i h)) (λ i h early. get_or_past (take k bytes) i 0 (behind i h early))
+    and_mask (from_le_bytes w64 bytes) (8 * min k 8) ∙ ap (λ m. from_le_bytes w64 bytes % m) (sym (bits_of_bytes (min k 8)))
+    ∙ lowest (λ i. get_or bytes i 0) (λ i. get_or (take k bytes) i 0) are (min k 8)
+    (λ i h. get_or-take k bytes i 0 (before i h)) (λ i h early. get_or_past (take k bytes) i 0 (behind i h early)) 7 (omega arith)
   where
     before : (i : ℕ) → nat_lt i (min k 8) ≡ true → i < k
     before i h = let l : i < min k 8 = grind (arith, nat_tests, h) in omega (arith, l)

@@ -15,7 +15,7 @@ use std::convert::AsStr;
 
 /// What the words ask for.
 #[derive(Debug, Drop)]
-pub(crate) enum Request {
+pub enum Request {
     /// Judge the trace on standard input.
     Check(CheckOptions),
     /// List the synchronization edges of the trace on standard input.
@@ -50,11 +50,12 @@ impl Numbered {
     }
 }
 
-/// The request that the words make; the first is the program's name.
+/// What the words of a command line ask for; the first is the program's name.
 ///
-/// Otherwise a text for the user: help, or what is wrong with the words.
-pub(crate) fn parse<'a, S: AsStr>(alloc: Global, words: &'a [S]) -> Result<Request, Error>
-    ensures { IfOk result (λ request. IsTrue (is_in_limits request)) }
+/// Otherwise a text for the user: help or the version, or what is wrong with the words. Its kind is
+/// `OutOfMemory` where memory was refused.
+pub fn parse<'a, S: AsStr>(alloc: Global, words: &'a [S]) -> Result<Request, Error>
+    ensures limits { IfOk result (λ request. IsTrue (is_in_limits request)) }
 {
     let mut command = gorace(alloc)?;
     let matches = command.try_get_matches_from_mut(words)?;

@@ -5,7 +5,6 @@ mod command;
 mod help;
 mod number;
 mod program;
-#[cfg(test)]
-mod tests;
 
+pub use command::{Request, parse};
 pub use program::run;

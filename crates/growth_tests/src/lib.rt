@@ -2,8 +2,8 @@
 //! what it works on is as before.
 //!
 //! A test makes its value, calls `heap.refuse(nth)` and then the one call: growth 1, 2, 3 and so on
-//! is refused, until a run meets no refusal. `assert_refusals!` is that loop. The tests stand in the
-//! crates above, each over only the crates whose calls it makes.
+//! is refused, until a run meets no refusal. `assert_refusals!` is that loop. The tests stand in a
+//! crate above, which makes the calls.
 #![tactic(auto)]
 
 mod growths;

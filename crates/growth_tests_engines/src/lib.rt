@@ -1,5 +1,0 @@
-//! The engines of race_tool, each growth refused in turn.
-#![tactic(auto)]
-
-#[cfg(test)]
-mod engines;

@@ -57,8 +57,18 @@ impl Numbered {
 pub fn parse<'a, S: AsStr>(alloc: Global, words: &'a [S]) -> Result<Request, Error>
     ensures limits { IfOk result (λ request. IsTrue (is_in_limits request)) }
 {
-    let mut command = gorace(alloc)?;
-    let matches = command.try_get_matches_from_mut(words)?;
+    let matches = matches_of(alloc, words)?;
+    request_in(alloc, &matches)
+}
+
+fn matches_of<'a, S: AsStr>(alloc: Global, words: &'a [S]) -> Result<ArgMatches<'a>, Error> {
+    gorace(alloc)?.try_get_matches_from(words)
+}
+
+// What is asked for.
+fn request_in(alloc: Global, matches: &ArgMatches<'_>) -> Result<Request, Error>
+    ensures { IfOk result (λ request. IsTrue (is_in_limits request)) }
+{
     if let Some(given) = matches.subcommand_matches("check") {
         return Ok(Request::Check(check_options(alloc, Numbered::Check, given)?));
     }
@@ -71,20 +81,32 @@ pub fn parse<'a, S: AsStr>(alloc: Global, words: &'a [S]) -> Result<Request, Err
     }
     match matches.subcommand_matches("edges") {
         Some(_) => Ok(Request::Edges),
-        None => Err(command.error(ErrorKind::MissingSubcommand, "there is no such command")?),
+        None => Err(no_command(alloc)?),
     }
 }
 
+fn no_command(alloc: Global) -> Result<Error, AllocError> {
+    gorace(alloc)?.error(ErrorKind::MissingSubcommand, "there is no such command")
+}
+
 fn gorace<'a>(alloc: Global) -> Result<Command<'a>, AllocError> {
-    Command::new(alloc, "gorace")
+    let command = Command::new(alloc, "gorace")
         .version(help::VERSION)
         .about(help::ABOUT)
         .after_help(help::AFTER_HELP)
-        .subcommand_required(true)
-        .subcommand(check(alloc)?)?
-        .subcommand(edges(alloc))?
-        .subcommand(run(alloc)?)?
-        .subcommand(race(alloc)?)
+        .subcommand_required(true);
+    let command = with_subcommand(command, check(alloc))?;
+    let command = with_subcommand(command, Ok(edges(alloc)))?;
+    let command = with_subcommand(command, run(alloc))?;
+    with_subcommand(command, race(alloc))
+}
+
+// The command, with this one below it.
+fn with_subcommand<'a>(
+    command: Command<'a>,
+    subcommand: Result<Command<'a>, AllocError>,
+) -> Result<Command<'a>, AllocError> {
+    command.subcommand(subcommand?)
 }
 
 fn check<'a>(alloc: Global) -> Result<Command<'a>, AllocError> {
@@ -120,32 +142,49 @@ fn race<'a>(alloc: Global) -> Result<Command<'a>, AllocError> {
 
 // The command, with the options that say how a trace is judged.
 fn with_check_options<'a>(alloc: Global, command: Command<'a>) -> Result<Command<'a>, AllocError> {
-    let shards = Arg::new(alloc, "shards")
-        .long("shards")
-        .value_name("N")
-        .help(
-            "How many shards share the variables among them, 1 to 64 [default: 1] (no effect yet)",
-        );
-    let block = Arg::new(alloc, "block").long("block").value_name("N").help(
-        "How many events the shards are handed at a time, 1 to 65536 [default: 65536] (no effect yet)",
-    );
     let plain = Arg::new(alloc, "plain")
         .long("plain")
         .action(ArgAction::SetTrue)
         .help("Judge with the plain judge, which takes at most 2,000 events");
-    command.arg(shards)?.arg(block)?.arg(plain)
+    command
+        .arg(option(
+            alloc,
+            "shards",
+            "N",
+            "How many shards share the variables among them, 1 to 64 [default: 1] (no effect yet)",
+        ))?
+        .arg(option(
+            alloc,
+            "block",
+            "N",
+            "How many events the shards are handed at a time, 1 to 65536 [default: 65536] (no effect yet)",
+        ))?
+        .arg(plain)
 }
 
 // The command, with the options that say how a program is run.
 fn with_run_options<'a>(alloc: Global, command: Command<'a>) -> Result<Command<'a>, AllocError> {
-    let limit = Arg::new(alloc, "limit").long("limit").value_name("N").help(
-        "How many events the run may have, 1 to 16777216 [default: 16777216]",
-    );
-    let picks = Arg::new(alloc, "picks")
-        .long("picks")
-        .value_name("LIST")
-        .help("Numbers with commas between them, which say what happens next");
-    command.arg(limit)?.arg(picks)
+    command
+        .arg(option(
+            alloc,
+            "limit",
+            "N",
+            "How many events the run may have, 1 to 16777216 [default: 16777216]",
+        ))?
+        .arg(option(
+            alloc,
+            "picks",
+            "LIST",
+            "Numbers with commas between them, which say what happens next",
+        ))
+}
+
+// The option of this name, and what its value is called.
+fn option<'a>(alloc: Global, name: &'a str, value: &'a str, help: &'a str) -> Arg<'a> {
+    Arg::new(alloc, name)
+        .long(name)
+        .value_name(value)
+        .help(help)
 }
 
 // How a trace is judged, as the command's words say.

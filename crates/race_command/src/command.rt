@@ -15,7 +15,7 @@ use std::convert::AsStr;
 
 /// What the words ask for.
 #[derive(Debug, Drop)]
-pub enum Request {
+pub(crate) enum Request {
     /// Judge the trace on standard input.
     Check(CheckOptions),
     /// List the synchronization edges of the trace on standard input.
@@ -54,7 +54,7 @@ impl Numbered {
 ///
 /// Otherwise a text for the user: help or the version, or what is wrong with the words. Its kind is
 /// `OutOfMemory` where memory was refused.
-pub fn parse<'a, S: AsStr>(alloc: Global, words: &'a [S]) -> Result<Request, Error>
+pub(crate) fn parse<'a, S: AsStr>(alloc: Global, words: &'a [S]) -> Result<Request, Error>
     ensures limits { IfOk result (λ request. IsTrue (is_in_limits request)) }
 {
     let matches = matches_of(alloc, words)?;

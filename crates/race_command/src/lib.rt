@@ -6,5 +6,4 @@ mod help;
 mod number;
 mod program;
 
-pub use command::{Request, parse};
 pub use program::run;

@@ -30,6 +30,68 @@ fn ended(
     (code, output)
 }
 
+// The options are taken, or refused, and then nothing is written.
+#[test]
+fn options_are_numbers_in_their_limits(rt: HostRuntime) -> Result<(), Fail> {
+    let trace = ("gotrace 1\n", "clean: 0 events, 0 accesses\n");
+    let program = "goprogram 1\nbody main\nexit m:1\n";
+    let run = (program, "gotrace 1\nexit main m:1\n");
+    let race = (program, "clean: 1 events, 0 accesses\nend: main\n");
+    for (line, (input, report), is_taken) in [
+        ("gorace check --shards 0", trace, false),
+        ("gorace check --shards 1", trace, true),
+        ("gorace check --shards 64", trace, true),
+        ("gorace check --shards 65", trace, false),
+        ("gorace check --shards 01", trace, false),
+        ("gorace check --shards +1", trace, false),
+        ("gorace check --block 0", trace, false),
+        ("gorace check --block 1", trace, true),
+        ("gorace check --block 65536", trace, true),
+        ("gorace check --block 65537", trace, false),
+        ("gorace check --block x", trace, false),
+        ("gorace check --plain --block=7", trace, true),
+        ("gorace check --plain --workers", trace, false),
+        ("gorace check --plain trace", trace, false),
+        ("gorace run --limit 1", run, true),
+        ("gorace run --limit 16777216", run, true),
+        ("gorace run --limit 0", run, false),
+        ("gorace run --limit 16777217", run, false),
+        ("gorace run --picks 0", run, true),
+        (
+            "gorace run --limit=2 --picks=3,18446744073709551615",
+            run,
+            true,
+        ),
+        ("gorace run --picks 18446744073709551616", run, false),
+        ("gorace run --picks 1,,2", run, false),
+        ("gorace run --picks 01", run, false),
+        ("gorace run --workers 1", run, false),
+        ("gorace race --plain --limit=2 --picks=3,0", race, true),
+        (
+            "gorace race --picks=1 --shards=64 --block=65536",
+            race,
+            true,
+        ),
+        ("gorace race --plain --limit 16777216", race, true),
+        ("gorace race --plain --limit 0", race, false),
+        ("gorace race --plain --picks 1,", race, false),
+        ("gorace race --limit=1 --shards 65", race, false),
+        ("gorace race --picks=0 --block 65537", race, false),
+        ("gorace race --limit=1 --plain --workers", race, false),
+        ("gorace walk", trace, false),
+    ] {
+        let (code, output) = ended(&rt, Ok(args_of(rt.alloc(), line)?), input);
+        let (answer, written) = if is_taken {
+            (status::CLEAN, report)
+        } else {
+            (status::USAGE, "")
+        };
+        assert_eq!(rt; code, ExitCode::from(answer), "{line}");
+        assert_eq!(rt; output.as_slice(), written.as_bytes(), "{line}");
+    }
+    Ok(())
+}
+
 #[test]
 fn words_and_input_decide_the_status(rt: HostRuntime) -> Result<(), Fail> {
     for (line, input, answer, report) in [
@@ -56,6 +118,12 @@ fn words_and_input_decide_the_status(rt: HostRuntime) -> Result<(), Fail> {
             "goprogram 1\nbody main\nexit m:1\n",
             status::CLEAN,
             "gotrace 1\nexit main m:1\n",
+        ),
+        (
+            "gorace run --picks 0,1",
+            "goprogram 1\ngoroutine w\nvar x\nbody main\ngo w m:1\nwrite x 1 m:2\nexit m:3\nbody w\nread x w:1\nexit w:2\n",
+            status::CLEAN,
+            "gotrace 1\ngoroutine w\nvar x\ngo main w m:1\nread w x 0 w:1\nwrite main x 1 m:2\nexit w w:2\nexit main m:3\n",
         ),
         (
             "gorace run --limit 1",
@@ -91,6 +159,7 @@ fn words_and_input_decide_the_status(rt: HostRuntime) -> Result<(), Fail> {
         ("gorace edges --plain", "gotrace 1\n", status::USAGE, ""),
         ("gorace edges --help", "gotrace 1\n", status::CLEAN, ""),
         ("gorace check --help", "gotrace 1\n", status::CLEAN, ""),
+        ("gorace --help", "gotrace 1\n", status::CLEAN, ""),
         ("gorace --version", "gotrace 1\n", status::CLEAN, ""),
         ("gorace", "gotrace 1\n", status::USAGE, ""),
     ] {

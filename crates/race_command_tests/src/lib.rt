@@ -1,7 +1,5 @@
-//! What the words of a command line ask for, and how the program ends on them, which no contract says.
+//! How the program ends on the words of a command line, and what it writes, which no contract says.
 #![tactic(auto)]
 
 #[cfg(test)]
 mod endings;
-#[cfg(test)]
-mod words;

@@ -13,7 +13,7 @@ impl Read for Broken {
     fn read(&mut self, buf: &mut [u8]) -> io::Result<usize> {
         self.calls = self.calls.saturating_add(1);
         if self.calls == 3 {
-            return Err(io::ErrorKind::Other.into());
+            return Err(io::ErrorKind::TimedOut.into());
         }
         if self.calls > 3 || buf.len() < 2 {
             return Ok(0);
@@ -26,7 +26,7 @@ impl Write for Broken {
     fn write(&mut self, buf: &[u8]) -> io::Result<usize> {
         self.calls = self.calls.saturating_add(1);
         if self.calls == 3 {
-            return Err(io::ErrorKind::Other.into());
+            return Err(io::ErrorKind::TimedOut.into());
         }
         if self.calls > 3 || buf.len() < 2 {
             return Ok(0);
@@ -40,12 +40,20 @@ impl Write for Broken {
 }
 
 #[test]
-fn failed_reads_are_counted(rt: HostRuntime) {
+fn a_call_answers_as_the_device_does(rt: HostRuntime) {
     let mut source = Source::new(Broken { calls: 0 });
+    let mut sink = Sink::new(Broken { calls: 0 });
     let mut block = [0u8; 2];
-    for (read, failed) in [(2, 0), (2, 0), (9, 1), (0, 1)] {
-        let answer = source.read(&mut block).unwrap_or(9);
-        assert_eq!(rt; (answer, source.failures()), (read, failed));
+    for (answer, reads, writes) in [
+        (Ok(2), 0, 0),
+        (Ok(2), 0, 0),
+        (Err(io::ErrorKind::TimedOut), 1, 1),
+        (Ok(0), 1, 2),
+    ] {
+        let read = source.read(&mut block).map_err(|error| error.kind());
+        assert_eq!(rt; (read, source.failures()), (answer, reads));
+        let written = sink.write(b"ab").map_err(|error| error.kind());
+        assert_eq!(rt; (written, sink.failures()), (answer, writes));
     }
 }
 

@@ -92,6 +92,49 @@ fn options_are_numbers_in_their_limits(rt: HostRuntime) -> Result<(), Fail> {
     Ok(())
 }
 
+// A trace and a program of 2,001 events and more are too long for the plain judge alone.
+#[test]
+fn plain_asks_for_the_plain_judge(rt: HostRuntime) -> Result<(), Fail> {
+    let mut trace = String::from_str(rt.alloc(), "gotrace 1\nvar x\n")?;
+    let mut program = String::from_str(rt.alloc(), "goprogram 1\nvar x\nbody main\n")?;
+    for _ in 0..2_001u32 {
+        trace.push_str("write main x 1 m:1\n")?;
+        program.push_str("write x 1 m:1\n")?;
+    }
+    program.push_str("exit m:2\n")?;
+    for (line, input, answer, report) in [
+        (
+            "gorace check",
+            trace.as_str(),
+            status::CLEAN,
+            "clean: 2001 events, 2001 accesses\n",
+        ),
+        (
+            "gorace check --plain",
+            trace.as_str(),
+            status::USAGE,
+            "too long: 2001 events\n",
+        ),
+        (
+            "gorace race",
+            program.as_str(),
+            status::CLEAN,
+            "clean: 2002 events, 2001 accesses\nend: main\n",
+        ),
+        (
+            "gorace race --plain",
+            program.as_str(),
+            status::USAGE,
+            "too long: 2002 events\n",
+        ),
+    ] {
+        let (code, output) = ended(&rt, Ok(args_of(rt.alloc(), line)?), input);
+        assert_eq!(rt; code, ExitCode::from(answer), "{line}");
+        assert_eq!(rt; output.as_slice(), report.as_bytes(), "{line}");
+    }
+    Ok(())
+}
+
 #[test]
 fn words_and_input_decide_the_status(rt: HostRuntime) -> Result<(), Fail> {
     for (line, input, answer, report) in [

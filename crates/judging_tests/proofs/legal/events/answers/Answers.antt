@@ -1,0 +1,42 @@
+-- The replay has as many objects of each kind as the trace declares.
+use Rattle.std.proofs.Common.{ℕ, ◌<◌, ◌∙◌, sym, subst, arith, rules, ap}
+use Rattle.race_records.specs.declared.kind.Kind.{Kind}
+use Rattle.race_records.specs.Declarations.{DeclsState, counts_of}
+use Rattle.race_legal.specs.ReplayState.{IsInRange}
+use Rattle.race_legal.proofs.RangeLemmas.{range_from_fits}
+use Rattle.judging_tests.proofs.legal.events.answers.Goals as goal
+
+pub loop-at-init : goal.loop-at-init
+loop-at-init c =
+    let stands = c.in_ok-replay.ensures.stands in
+    let len = stands.len in
+    record {
+      counts = stands.counts ∙ ap (λ (d : DeclsState). counts_of d.declarations) c.decls-decls.ensures.decls;
+      goroutines = search rules;
+      vars = search rules;
+      chans = search rules;
+      len = omega (arith, len);
+    }
+
+pub accept-requires-clause-range : goal.accept-requires-clause-range
+accept-requires-clause-range c =
+    subst (λ (counts : Kind → ℕ). IsInRange counts c.event.result.now) (sym c.loop-at.invariant.counts)
+    (range_from_fits c.args.trace.now.decls c.event.result.now c.event.ensures.fits)
+
+pub state_of-requires : goal.state_of-requires
+state_of-requires c =
+    let counts = sym (c.accept.ensures.counts ∙ c.loop-at.invariant.counts) in
+    record {
+      goroutines = subst (λ (of : Kind → ℕ). 1 < of Kind.Goroutine) counts c.loop-at.invariant.goroutines;
+      vars = subst (λ (of : Kind → ℕ). 0 < of Kind.Var) counts c.loop-at.invariant.vars;
+      chans = subst (λ (of : Kind → ℕ). c.args.chan < of Kind.Chan) counts c.loop-at.invariant.chans;
+    }
+
+pub loop-at-preserved : goal.loop-at-preserved
+loop-at-preserved c = record {
+  counts = c.accept.ensures.counts ∙ c.loop-at.invariant.counts;
+  goroutines = c.loop-at.invariant.goroutines;
+  vars = c.loop-at.invariant.vars;
+  chans = c.loop-at.invariant.chans;
+  len = search rules;
+}

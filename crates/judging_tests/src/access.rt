@@ -1,0 +1,2 @@
+//! What race_access does that no contract says.
+mod variables;

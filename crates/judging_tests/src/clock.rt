@@ -1,0 +1,2 @@
+//! What race_clock does that no contract says.
+mod stamps;

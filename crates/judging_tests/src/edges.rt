@@ -1,0 +1,2 @@
+//! What race_edges does that no contract says.
+mod traces;

@@ -1,0 +1,3 @@
+//! What race_legal does that no contract says.
+mod events;
+mod locks;

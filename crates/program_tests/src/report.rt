@@ -1,0 +1,2 @@
+//! What race_report does that no contract says.
+mod texts;

@@ -1,0 +1,7 @@
+//! What race_text does that no contract says.
+mod channels;
+mod feeding;
+mod locks;
+mod reading;
+mod texts;
+mod writing;

@@ -1,0 +1,139 @@
+//! A text that is fed in pieces.
+ghost use Rattle.std.specs.Prelude.{◌≤◌, length};
+
+use crate::text::writing::{SMALL, is_written_as};
+use race_records::Trace;
+use race_text::TextCause::{
+    BadHeader, BadName, BadNumber, LateDeclaration, NoNewline, Unknown, UnknownWord, WrongCount,
+};
+use race_text::{LineReader, TextCause, TextFault, parse_trace};
+use std::alloc::Allocator;
+use std::test::Fail;
+
+// What a reader answers that is fed the text in pieces of this size.
+fn in_pieces<A: Allocator + Copy>(
+    alloc: A,
+    text: &[u8],
+    size: usize,
+) -> Result<Trace<A>, TextFault> {
+    let mut reader = LineReader::new(alloc);
+    for piece in text.chunks(size.max(1)) {
+        reader.feed(piece)?;
+    }
+    reader.finish()
+}
+
+// What it answers to the text in two pieces: to the first one, and then at the end.
+fn in_two<A: Allocator + Copy>(
+    alloc: A,
+    text: &[u8],
+    cut: usize,
+) -> (Result<(), TextFault>, Result<Trace<A>, TextFault>)
+    requires { cut ≤ length text.now }
+{
+    let (first, second) = text.split_at(cut);
+    let mut reader = LineReader::new(alloc);
+    let told = reader.feed(first);
+    match reader.feed(second) {
+        Ok(()) => (told, reader.finish()),
+        Err(fault) => (told, Err(fault)),
+    }
+}
+
+fn newlines(bytes: &[u8]) -> u64 {
+    let mut count = 0u64;
+    for byte in bytes {
+        if *byte == b'\n' {
+            count = count.saturating_add(1);
+        }
+    }
+    count
+}
+
+#[test]
+fn pieces_of_each_size_give_one_trace(rt: HostRuntime) -> Result<(), Fail> {
+    let whole = parse_trace(rt.alloc(), SMALL)?;
+    for size in [1, 2, 7, 1_000] {
+        let trace = in_pieces(rt.alloc(), SMALL, size)?;
+        assert!(rt; trace == whole, "at {size}");
+        is_written_as(&rt, &trace, SMALL)?;
+    }
+    Ok(())
+}
+
+#[test]
+fn a_refusal_is_told_again(rt: HostRuntime) {
+    let fault = TextFault {
+        line: 3,
+        cause: BadNumber,
+    };
+    let mut reader = LineReader::new(rt.alloc());
+    let pieces: [(&[u8], Result<(), TextFault>); 6] = [
+        (b"gotrace 1\nvar x\nwrite ma", Ok(())),
+        (b"in x 01 p", Ok(())),
+        (b"\njump\n", Err(fault)),
+        (b"", Err(fault)),
+        (b"exit main p\n", Err(fault)),
+        (b"\x80\n", Err(fault)),
+    ];
+    for (piece, answer) in pieces {
+        assert_eq!(rt; reader.feed(piece), answer, "at {piece:?}");
+    }
+    assert_eq!(rt; reader.finish().err(), Some(fault));
+}
+
+// Whatever follows a cut, the line in which it stands is read as a whole.
+#[test]
+fn a_text_may_be_cut_anywhere(rt: HostRuntime) -> Result<(), Fail> {
+    let texts: [&[u8]; 4] = [
+        SMALL,
+        b"gotrace 1\n",
+        b"gotrace 1\ngoroutine w\nchan c 3\nchan u 0\ngo main w a\nsend main c 7 b\nmeet w main u 8 c d\ndefault main send:u,recv:nil p\nclose main u a\n",
+        b"gotrace 1\ngoroutine w\nmutex m\nonce o\nrwmutex l\nlock main m a\nrlock main l c\noncebegin main o e\nfault w unlock:m h\n",
+    ];
+    for text in texts {
+        for cut in 0..text.len() {
+            let (told, answer) = in_two(rt.alloc(), text, cut);
+            assert_eq!(rt; told, Ok(()), "at {cut} of {text:?}");
+            is_written_as(&rt, &answer?, text)?;
+        }
+    }
+    Ok(())
+}
+
+// The first piece is refused exactly where it ends the faulty line.
+#[test]
+fn a_faulty_line_is_told_as_soon_as_it_has_ended(rt: HostRuntime) {
+    let texts: [(&[u8], u64, TextCause); 9] = [
+        (b"\n", 1, BadHeader),
+        (b"gotrace 1", 1, NoNewline),
+        (b"gotrace 1\r\n", 1, BadHeader),
+        (
+            b"gotrace 1\nvar x\nwrite main x 01 p\nexit main p\n",
+            3,
+            BadNumber,
+        ),
+        (
+            b"gotrace 1\nvar x\nwrite main  x 1 p\njump\n",
+            3,
+            WrongCount,
+        ),
+        (
+            b"gotrace 1\nvar x\nwrite main x 1 p\nvar y\n",
+            4,
+            LateDeclaration,
+        ),
+        (b"gotrace 1\nvar -\nvar x y\nexit main q", 2, BadName),
+        (b"gotrace 1\njump\n\x80\n", 2, UnknownWord),
+        (b"gotrace 1\nvar x\nread a x 0 p\n", 3, Unknown),
+    ];
+    for (text, line, cause) in texts {
+        let fault = TextFault { line, cause };
+        for cut in 0..text.len() {
+            let (told, answer) = in_two(rt.alloc(), text, cut);
+            let ended = newlines(&text[..cut]) >= line;
+            assert_eq!(rt; told.err(), ended.then_some(fault), "at {cut} of {text:?}");
+            assert_eq!(rt; answer.err(), Some(fault), "at {cut} of {text:?}");
+        }
+    }
+}

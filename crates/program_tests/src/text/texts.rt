@@ -1,0 +1,247 @@
+//! Texts that are none of a trace: the first fault of each, and the least cause of each line.
+use crate::text::{channels, locks};
+use race_text::TextCause::{
+    BadByte, BadHeader, BadName, BadNumber, LateDeclaration, NoNewline, Taken, TooMany, Unknown,
+    UnknownWord, WrongCount, WrongKind,
+};
+use race_text::{TextCause, TextFault, parse_trace};
+use std::alloc::Allocator;
+use std::test::Fail;
+
+// A text with an event, behind which a line is the fifth.
+static EVENT_BEFORE: &[u8] = b"gotrace 1\ngoroutine a\nvar x\nread main x 0 p\n";
+
+// Lines behind it: one for each cause, and the lesser of each two that one line can have at once.
+static LINES: [(&[u8], Option<TextCause>); 38] = [
+    (b"exit main \x80", Some(BadByte)),
+    (b"exit main p\r", Some(BadByte)),
+    (b"jump\t", Some(BadByte)),
+    (b"exit main\t", Some(BadByte)),
+    (b"go q a p\t", Some(BadByte)),
+    (b"exit -\t p", Some(BadByte)),
+    (b"var x\t", Some(BadByte)),
+    (b"exit q p\t", Some(BadByte)),
+    (b"exit x p\t", Some(BadByte)),
+    (b"read main x 01 p\t", Some(BadByte)),
+    (b"var y\t", Some(BadByte)),
+    (b"", Some(UnknownWord)),
+    (b" exit main p", Some(UnknownWord)),
+    (b"locks m", Some(UnknownWord)),
+    (b"exit main", Some(WrongCount)),
+    (b"exit main p ", Some(WrongCount)),
+    (b"var - y", Some(WrongCount)),
+    (b"var x y", Some(WrongCount)),
+    (b"exit q", Some(WrongCount)),
+    (b"exit x", Some(WrongCount)),
+    (b"read main x 01", Some(WrongCount)),
+    (b"var y z", Some(WrongCount)),
+    (b"exit main ", Some(BadName)),
+    (b"exit nil p", Some(BadName)),
+    (b"go q - p", Some(BadName)),
+    (b"read x - 0 p", Some(BadName)),
+    (b"read main x 01 ", Some(BadName)),
+    (b"var -", Some(BadName)),
+    (b"var main", Some(Taken)),
+    (b"var a", Some(Taken)),
+    (b"go main q p", Some(Unknown)),
+    (b"read x q 0 p", Some(Unknown)),
+    (b"read main q 01 p", Some(Unknown)),
+    (b"read main a 0 p", Some(WrongKind)),
+    (b"read x x 01 p", Some(WrongKind)),
+    (b"read main x - p", Some(BadNumber)),
+    (b"read main x +1 p", Some(BadNumber)),
+    (b"var y", Some(LateDeclaration)),
+];
+
+// The first fault of the bytes.
+fn fault_of<A: Allocator + Copy>(alloc: A, bytes: &[u8]) -> Option<TextFault> {
+    match parse_trace(alloc, bytes) {
+        Ok(_) => None,
+        Err(fault) => Some(fault),
+    }
+}
+
+// The fault of a text with one more line.
+fn fault_behind<A: Allocator + Copy>(
+    alloc: A,
+    before: &[u8],
+    line: &[u8],
+) -> Result<Option<TextFault>, Fail> {
+    let mut bytes = Vec::new(alloc);
+    bytes.extend_from_slice(before)?;
+    bytes.extend_from_slice(line)?;
+    bytes.extend_from_slice(b"\n")?;
+    Ok(fault_of(alloc, bytes.as_slice()))
+}
+
+#[test]
+fn tells_the_first_fault_of_a_text(rt: HostRuntime) {
+    let texts: [(&[u8], u64, TextCause); 17] = [
+        (b"", 1, BadHeader),
+        (b"\n", 1, BadHeader),
+        (b"gotrace 1", 1, NoNewline),
+        (b"gotrace 2", 1, BadHeader),
+        (b"gotrace 2\n", 1, BadHeader),
+        (b"gotrace 1\r\n", 1, BadHeader),
+        (b"gotrace 1\nvar x\nwrite main x 01 p\n", 3, BadNumber),
+        (b"gotrace 1\nvar x\nwrite main  x 1 p\n", 3, WrongCount),
+        (
+            b"gotrace 1\nvar x\nwrite main x 1 p\nvar y\n",
+            4,
+            LateDeclaration,
+        ),
+        (
+            b"gotrace 1\nvar aaaaaaaaaaaaaaaaaaaaaaaaaaaaaaaaaaaaaaaaaaaaaaaaaaaaaaaaaaaaaaaaa\n",
+            2,
+            BadName,
+        ),
+        (
+            b"gotrace 1\ngoroutine w\nvar x\nvar y\nread main x 1 p\ngo main w p\nexit w p\nwrite main y 1 p\njump main p\n",
+            9,
+            UnknownWord,
+        ),
+        (b"gotrace 1\ngoroutine a\nvar x\nread a y 0 p\n", 4, Unknown),
+        (
+            b"gotrace 1\ngoroutine a\nvar x\nread x a 0 p\n",
+            4,
+            WrongKind,
+        ),
+        (
+            b"gotrace 1\nvar x\nwrite main x 18446744073709551616 p\n",
+            3,
+            BadNumber,
+        ),
+        (b"gotrace 1\nvar x\nexit main q", 3, NoNewline),
+        (b"gotrace 1\njump\x80", 2, NoNewline),
+        (b"gotrace 1\nvar -\nvar x y\nexit main q", 2, BadName),
+    ];
+    for (bytes, line, cause) in texts {
+        let fault = fault_of(rt.alloc(), bytes);
+        assert_eq!(rt; fault, Some(TextFault { line, cause }), "in {bytes:?}");
+    }
+}
+
+#[test]
+fn tells_the_least_cause_of_a_line(rt: HostRuntime) -> Result<(), Fail> {
+    let tables: [(&[u8], u64, &[(&[u8], Option<TextCause>)]); 6] = [
+        (EVENT_BEFORE, 5, &LINES),
+        (channels::BEFORE, 5, &channels::LINES),
+        (channels::BEFORE_SELECTS, 6, &channels::SELECTS),
+        (locks::BEFORE, 7, &locks::LINES),
+        (locks::BEFORE, 7, &locks::DECLARED),
+        (locks::EVENT_BEFORE, 4, &locks::LATE),
+    ];
+    for (before, number, lines) in tables {
+        for (line, cause) in lines {
+            let fault = fault_behind(rt.alloc(), before, *line)?;
+            assert_eq!(rt;
+                fault,
+                cause.map(|cause| TextFault {
+                    line: number,
+                    cause
+                }),
+                "in {line:?}"
+            );
+        }
+    }
+    Ok(())
+}
+
+#[test]
+fn a_fault_is_printed(rt: HostRuntime) -> Result<(), Fail> {
+    let fault = TextFault {
+        line: 5,
+        cause: BadNumber,
+    };
+    assert_eq!(rt;
+        format!(in rt.alloc(); "{fault}")?.as_str(),
+        "line 5: bad number"
+    );
+    Ok(())
+}
+
+// 1,023 goroutines and one more. Where the last line is malformed, taken or late besides, `too many` is
+// told only where no cause before it holds.
+#[test]
+fn holds_the_limit_on_goroutines(rt: HostRuntime) -> Result<(), Fail> {
+    let mut many = String::from_str(rt.alloc(), "gotrace 1\n")?;
+    for n in 1..1024u32 {
+        many.push_str(format!(in rt.alloc(); "goroutine g{n}\n")?.as_str())?;
+    }
+    let lasts: [(&[u8], Option<TextCause>); 6] = [
+        (b"", None),
+        (b"goroutine g1024\n", Some(TooMany)),
+        (b"goroutine -\n", Some(BadName)),
+        (b"goroutine g7\n", Some(Taken)),
+        (b"goroutine g1024 p\n", Some(WrongCount)),
+        (b"goroutine g1024\t\n", Some(BadByte)),
+    ];
+    for (last, cause) in lasts {
+        let mut bytes = Vec::new(rt.alloc());
+        bytes.extend_from_slice(many.as_bytes())?;
+        bytes.extend_from_slice(last)?;
+        let fault = fault_of(rt.alloc(), bytes.as_slice());
+        assert_eq!(rt;
+            fault,
+            cause.map(|cause| TextFault { line: 1025, cause }),
+            "at {last:?}"
+        );
+    }
+    many.push_str("exit main p\ngoroutine g1024\n")?;
+    let late = fault_of(rt.alloc(), many.as_bytes());
+    assert_eq!(rt;
+        late,
+        Some(TextFault {
+            line: 1026,
+            cause: TooMany
+        })
+    );
+    Ok(())
+}
+
+#[test]
+fn holds_the_limit_on_places(rt: HostRuntime) -> Result<(), Fail> {
+    for (len, cause) in [(1, None), (128, None), (129, Some(BadName))] {
+        let mut line = Vec::new(rt.alloc());
+        line.extend_from_slice(b"exit main ")?;
+        for _i in 0..len {
+            line.push(b'~')?;
+        }
+        let fault = fault_behind(rt.alloc(), EVENT_BEFORE, line.as_slice())?;
+        assert_eq!(rt;
+            fault,
+            cause.map(|cause| TextFault { line: 5, cause }),
+            "at {len}"
+        );
+    }
+    Ok(())
+}
+
+// So many cases: 16 are fine, and 17 are told only where no cause before holds.
+#[test]
+fn holds_the_limit_on_cases(rt: HostRuntime) -> Result<(), Fail> {
+    let ends: [(u32, &[u8], Option<TextCause>); 7] = [
+        (16, b"c p", None),
+        (17, b"c p", Some(TooMany)),
+        (17, b"nil p", Some(TooMany)),
+        (17, b"q p", Some(Unknown)),
+        (17, b"x p", Some(WrongKind)),
+        (17, b"c ", Some(BadName)),
+        (30, b" p", Some(BadName)),
+    ];
+    for (count, end, cause) in ends {
+        let mut line = Vec::new(rt.alloc());
+        line.extend_from_slice(b"default main send:")?;
+        for _i in 1..count {
+            line.extend_from_slice(b"nil,recv:")?;
+        }
+        line.extend_from_slice(end)?;
+        let fault = fault_behind(rt.alloc(), b"gotrace 1\nvar x\nchan c 0\n", line.as_slice())?;
+        assert_eq!(rt;
+            fault,
+            cause.map(|cause| TextFault { line: 4, cause }),
+            "at {end:?}"
+        );
+    }
+    Ok(())
+}

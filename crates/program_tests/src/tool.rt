@@ -1,0 +1,11 @@
+//! What the engines of race_tool do that no contract says.
+mod channels;
+mod judges;
+mod limits;
+mod locks;
+mod numbers;
+mod programs;
+mod races;
+mod reading;
+mod rows;
+mod runs;

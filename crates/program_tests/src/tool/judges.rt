@@ -1,0 +1,171 @@
+//! Both judges on many small traces.
+ghost use Rattle.std.specs.Prelude.{IfOk};
+ghost use Rattle.race_legal.specs.StandsFor.{StandsFor};
+
+use crate::tool::numbers::Numbers;
+use race_edges::{Verdict, plain_judge};
+use race_legal::Replay;
+use race_records::{Case, Cases, Cause, Decls, Dir, Event, Object, Op, Trace};
+use race_tool::judge_by_clocks;
+use std::alloc::{AllocError, Global};
+use std::test::Fail;
+
+// How many operations there are.
+const KINDS: u32 = 18;
+
+// A trace has no more events than this.
+const MOST_EVENTS: usize = 200;
+
+// A select without a case, or with one.
+fn cases(numbers: &mut Numbers) -> Cases {
+    let mut cases = Cases::new();
+    if numbers.below(2) == 0 {
+        let _fits = cases.push(Case {
+            dir: if numbers.below(2) == 0 {
+                Dir::Send
+            } else {
+                Dir::Recv
+            },
+            chan: Some(numbers.below(2)),
+        });
+    }
+    cases
+}
+
+fn cause(numbers: &mut Numbers) -> Cause {
+    match numbers.below(5) {
+        0 => Cause::SendClosed(numbers.below(2)),
+        1 => Cause::CloseClosed(numbers.below(2)),
+        2 => Cause::CloseNil,
+        3 => Cause::UnlockFree(numbers.below(2)),
+        _ => Cause::RUnlockFree(1),
+    }
+}
+
+// An operation of this kind. All values are 0, so a read or a receive finds the right one.
+fn op(numbers: &mut Numbers, kind: u32) -> Op {
+    match kind {
+        0 => Op::Go(numbers.below(4)),
+        1 => Op::Exit,
+        2 => Op::Read(numbers.below(3), 0),
+        3 => Op::Write(numbers.below(3), 0),
+        4 => Op::Send(numbers.below(2), 0),
+        5 => Op::Recv(numbers.below(2), 0),
+        6 => Op::Meet(numbers.below(4), numbers.below(2), 0),
+        7 => Op::RecvClosed(numbers.below(2)),
+        8 => Op::Close(numbers.below(2)),
+        9 => Op::Default(cases(numbers)),
+        10 => Op::Lock(numbers.below(2)),
+        11 => Op::Unlock(numbers.below(2)),
+        12 => Op::RLock(1),
+        13 => Op::RUnlock(1),
+        14 => Op::OnceBegin(0),
+        15 => Op::OnceEnd(0),
+        16 => Op::OnceDone(0),
+        _ => Op::Fault(cause(numbers)),
+    }
+}
+
+fn declared(alloc: Global) -> Result<Decls, Fail> {
+    let mut decls = Decls::new(alloc);
+    for (name, object) in [
+        ("a", Object::Goroutine),
+        ("b", Object::Goroutine),
+        ("e", Object::Goroutine),
+        ("x", Object::Var),
+        ("y", Object::Var),
+        ("z", Object::Var),
+        ("c", Object::Chan(2)),
+        ("d", Object::Chan(0)),
+        ("m", Object::Lock(false)),
+        ("r", Object::Lock(true)),
+        ("o", Object::Once),
+    ] {
+        decls.declare(name, object)?;
+    }
+    decls.add_place("p")?;
+    Ok(decls)
+}
+
+// The next event to be tried, of a kind that seldom is one that ends a run.
+fn next(numbers: &mut Numbers) -> (u32, Event) {
+    let mut kind = numbers.below(KINDS);
+    if kind == 1 || kind == 8 || kind == 17 {
+        kind = if numbers.below(6) == 0 { kind } else { 0 };
+    }
+    let event = Event {
+        who: numbers.below(4),
+        op: op(numbers, kind),
+        place: 0,
+        place2: if kind == 6 { Some(0) } else { None },
+    };
+    (kind, event)
+}
+
+// Puts the event behind the trace where it is legal there, and tells whether it is.
+fn tried(trace: &mut Trace, replay: &mut Replay, event: Event) -> Result<bool, Fail>
+    requires { StandsFor trace.old.decls.declarations replay.old trace.old.events }
+    ensures { IfOk result (λ _.
+        StandsFor trace.new.decls.declarations replay.new trace.new.events) }
+{
+    if trace.len() >= MOST_EVENTS || !trace.decls().fits(&event) {
+        return Ok(false);
+    }
+    let Ok(()) = replay.accept(&event) else {
+        return Ok(false);
+    };
+    trace.push(event)?;
+    Ok(true)
+}
+
+// A legal trace: of so many events that are tried those that a replay accepts. And a bit for each
+// kind of operation in it.
+fn recorded(alloc: Global, numbers: &mut Numbers, tries: u32) -> Result<(Trace, u32), Fail> {
+    let mut trace = Trace::new(declared(alloc)?);
+    let mut replay = Replay::new(alloc, trace.decls())?;
+    let mut kinds = 0u32;
+    for _ in 0..tries {
+        let (kind, event) = next(numbers);
+        if tried(&mut trace, &mut replay, event)? {
+            kinds |= 1u32.wrapping_shl(kind);
+        }
+    }
+    Ok((trace, kinds))
+}
+
+// Whether the judges agree, and whether there is a race.
+fn judged(alloc: Global, trace: &Trace) -> Result<(bool, bool), AllocError> {
+    let Ok(plain) = plain_judge(alloc, trace) else {
+        return Err(AllocError);
+    };
+    Ok(match (plain, judge_by_clocks(alloc, trace)?) {
+        (Verdict::Clean, Verdict::Clean) => (true, false),
+        (Verdict::Races(plain), Verdict::Races(clocked)) => {
+            (plain.as_slice() == clocked.as_slice(), true)
+        }
+        _ => (false, false),
+    })
+}
+
+#[test]
+fn both_judges_agree(rt: HostRuntime) -> Result<(), Fail> {
+    let mut numbers = Numbers { state: 1 };
+    let (mut racy, mut clean, mut kinds) = (0u32, 0u32, 0u32);
+    for round in 0..1_000u32 {
+        let (trace, found) = recorded(rt.alloc(), &mut numbers, 8 + round % 120)?;
+        let (agree, race) = judged(rt.alloc(), &trace)?;
+        assert!(rt; agree, "trace {round}");
+        kinds |= found;
+        if race {
+            racy = racy.saturating_add(1);
+        } else {
+            clean = clean.saturating_add(1);
+        }
+    }
+    assert!(rt;
+        racy >= 200 && clean >= 200,
+        "{racy} with a race, {clean} without"
+    );
+    assert_eq!(rt; kinds, (1 << KINDS) - 1);
+    Ok(())
+}

@@ -1,5 +1,0 @@
-//! What race_edges does that no contract says.
-#![tactic(auto)]
-
-#[cfg(test)]
-mod traces;

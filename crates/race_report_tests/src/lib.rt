@@ -1,5 +1,0 @@
-//! What race_report does that no contract says.
-#![tactic(auto)]
-
-#[cfg(test)]
-mod texts;

@@ -1,0 +1,9 @@
+//! What the crates that run goroutines do that no contract says.
+#![tactic(auto)]
+
+#[cfg(test)]
+mod hub;
+#[cfg(test)]
+mod script;
+#[cfg(test)]
+mod record;

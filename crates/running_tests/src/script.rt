@@ -1,0 +1,4 @@
+//! What race_script does that no contract says.
+mod programs;
+mod selects;
+mod texts;

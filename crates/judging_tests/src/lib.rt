@@ -2,12 +2,12 @@
 #![tactic(auto)]
 
 #[cfg(test)]
-mod records;
-#[cfg(test)]
-mod legal;
+mod access;
 #[cfg(test)]
 mod clock;
 #[cfg(test)]
-mod access;
-#[cfg(test)]
 mod edges;
+#[cfg(test)]
+mod legal;
+#[cfg(test)]
+mod records;

@@ -2,10 +2,10 @@
 #![tactic(auto)]
 
 #[cfg(test)]
-mod text;
+mod command;
 #[cfg(test)]
 mod report;
 #[cfg(test)]
-mod tool;
+mod text;
 #[cfg(test)]
-mod command;
+mod tool;

@@ -4,6 +4,6 @@
 #[cfg(test)]
 mod hub;
 #[cfg(test)]
-mod script;
-#[cfg(test)]
 mod record;
+#[cfg(test)]
+mod script;

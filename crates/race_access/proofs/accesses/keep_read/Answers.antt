@@ -1,3 +1,4 @@
+use Rattle.std.proofs.lemmas.Grind.{common_steps, elements}
 use Rattle.std.proofs.Common.{◌≡◌, ◌≤◌, ◌∙◌, arith, length}
 use Rattle.std.specs.Prelude.{⊤}
 use Rattle.std.proofs.lemmas.Result.{MatchResult-from_err}
@@ -18,3 +19,12 @@ pub returns-clause-ok : goal.returns-clause-ok
 returns-clause-ok g c =
     rw c.in_ok-insert.ensures.items
     (keeps_inserted c.args.reads.now.items c.drop_known.new.reads.items _ c.args.access c.args.clock.now c.drop_known.ensures.kept)
+
+pub index-requires : goal.index-requires
+index-requires c = grind (arith, common_steps) steps 300000
+
+pub index_mut-requires : goal.index_mut-requires
+index_mut-requires c = grind (arith, common_steps) steps 300000
+
+pub returns-then-index-access-clause-ok : goal.returns-then-index-access-clause-ok
+returns-then-index-access-clause-ok c = grind (arith, elements) steps 2000000

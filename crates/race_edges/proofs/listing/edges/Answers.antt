@@ -10,3 +10,6 @@ returns-in-Ok-Some-clause-illegal g c = λ same. record {
   rule = number_of c.in-Ok-Some.field-0-0.rule;
   broken = subst (IsJudged (capacities c.args.trace.now) c.args.trace.now.events) c.in-Ok-Some.field-0-is c.in-Ok-Some.ensures;
 }
+
+pub returns-in-Ok-Some-clause-legal : goal.returns-in-Ok-Some-clause-legal
+returns-in-Ok-Some-clause-legal g c = cc

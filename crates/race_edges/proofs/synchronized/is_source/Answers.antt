@@ -1,4 +1,5 @@
-use Rattle.std.proofs.Common.{◌∙◌, ◌<◌, ◌+◌, ◌==◌, IsTrue, sym, ap, subst}
+use Rattle.std.proofs.lemmas.Grind.{common_steps}
+use Rattle.std.proofs.Common.{◌∙◌, ◌<◌, ◌+◌, ◌==◌, IsTrue, sym, ap, subst, rules, arith}
 use Rattle.race_records.specs.declared.event.Op.{Op}
 use Rattle.race_records.specs.declared.kind.Kind.{Kind}
 use Rattle.race_records.specs.Declarations.{DeclsState, count_of, counts_of, capacity_of}
@@ -24,3 +25,12 @@ returns-then-is_receive g c =
     ∙ told_send (capacities trace) trace.events c.args.numbers.now c.requires.numbers c.args.from c.args.to c.requires.earlier
     c.event-source.result.now c.event-target.result.now c.event-source.ensures.event c.event-target.ensures.event
     c.in-Send.chan c.in-Send.field-1 c.in-Send.is (sym c.if-is_receive.ensures)
+
+pub returns-in-RecvClosed : goal.returns-in-RecvClosed
+returns-in-RecvClosed g c = search rules steps 100000
+
+pub returns-then-is_unlock-2 : goal.returns-then-is_unlock-2
+returns-then-is_unlock-2 g c = grind (arith, common_steps) steps 1000000
+
+pub returns-else-is_runlock : goal.returns-else-is_runlock
+returns-else-is_runlock g c = search rules steps 300000

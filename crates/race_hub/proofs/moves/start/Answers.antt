@@ -1,4 +1,5 @@
-use Rattle.std.proofs.Common.{ℕ, ◌≡◌, ◌<◌, List, [], Option, Some, None, IfSome, ◌∙◌, sym, subst, ap, append-nil, length, get_or}
+use Rattle.std.proofs.lemmas.Grind.{common_steps}
+use Rattle.std.proofs.Common.{ℕ, ◌≡◌, ◌<◌, List, [], Option, Some, None, IfSome, ◌∙◌, sym, subst, ap, append-nil, length, get_or, arith}
 use Rattle.std.proofs.lemmas.Option.{slice_get_read}
 use Rattle.race_hub.specs.Fires.{born_of, begins}
 use Rattle.race_hub.proofs.moves.start.Goals as goal
@@ -14,3 +15,9 @@ pub returns-in_default-take-clause-ready : goal.returns-in_default-take-clause-r
 returns-in_default-take-clause-ready g c =
     rw (none_begins c.args.unstarted.now.items c.args.started c.in-Some.number c.index_mut.result.now c.in-Some.is c.requires.fits c.index_mut.ensures.value
     (sym c.take.ensures.value ∙ c.in_default-take.is)) (sym (append-nil c.args.ready.now.items))
+
+pub index_mut-requires : goal.index_mut-requires
+index_mut-requires c = grind (arith, common_steps) steps 300000
+
+pub push_reserved-requires : goal.push_reserved-requires
+push_reserved-requires c = grind (arith, common_steps) steps 300000

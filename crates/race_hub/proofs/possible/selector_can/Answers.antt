@@ -1,5 +1,6 @@
 -- An offer goes on as a send or a receive does.
-use Rattle.std.proofs.Common.{◌==◌, ◌&&◌, map, Some, length, not, sym, ap, ◌∙◌}
+use Rattle.std.proofs.lemmas.Grind.{elements}
+use Rattle.std.proofs.Common.{◌==◌, ◌&&◌, map, Some, length, not, sym, ap, ◌∙◌, arith}
 use Rattle.std.specs.List.{list_any}
 use Rattle.race_records.specs.declared.kind.Kind.{Kind}
 use Rattle.race_records.specs.Declarations.{capacity_of}
@@ -35,3 +36,6 @@ returns-in-Recv g c past who S =
     ∙ by_offer_at c.args.offers.now c.args.way (Some c.get.result) (c.args.has_default && (c.args.way == length c.args.offers.now))
     (not (list_any (is_ready caps past) (map case_of c.args.offers.now))) (offer_goes_on caps past)
     test c.get.ensures
+
+pub returns-then-at-len : goal.returns-then-at-len
+returns-then-at-len c = grind (arith, elements) steps 2000000

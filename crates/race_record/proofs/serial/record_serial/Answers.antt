@@ -1,4 +1,5 @@
-use Rattle.std.proofs.Common.{◌∙◌, subst}
+use Rattle.std.proofs.lemmas.Grind.{common_steps}
+use Rattle.std.proofs.Common.{◌∙◌, subst, arith}
 use Rattle.race_hub.specs.Recording.{HasEnded}
 use Rattle.race_record.proofs.SerialLemmas.{comes_goes_on, only_log}
 use Rattle.race_record.proofs.serial.record_serial.Goals as goal
@@ -22,3 +23,6 @@ returns-in-Err-clause-mismatch g c = λ _.
     let out = c.in-Ok.ensures in
     let (g, is) = only_log c.run.new.hub c.in-Err.field-0 c.in-Err.ensures.err out.ended out.back in
     (c.run.new.hub, out.comes, g, is)
+
+pub run-requires-after_bounds : goal.run-requires-after_bounds
+run-requires-after_bounds c = grind (arith, common_steps) steps 2000000

@@ -1,3 +1,4 @@
+use Rattle.std.proofs.lemmas.Grind.{common_steps}
 use Rattle.std.proofs.Common.{◌≡◌, not, false, inl, inr, refl, sym, ap, subst, ◌∙◌, arith, true≢false}
 use Rattle.race_records.specs.declared.kind.Kind.{Kind}
 use Rattle.race_records.specs.Declarations.{DeclsState, count_of}
@@ -74,3 +75,6 @@ returns-clause-run g c =
       λ _. all_run c.args.program.now c.args.recording.now c.loop-g.g same (omega (arith, end, count, bodies)) c.loop-g.invariant,
       λ _. refl,
     )
+
+pub stuck_at-requires-clause-declared : goal.stuck_at-requires-clause-declared
+stuck_at-requires-clause-declared c = grind (arith, common_steps) steps 300000

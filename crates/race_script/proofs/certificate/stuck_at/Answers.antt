@@ -1,3 +1,4 @@
+use Rattle.std.proofs.lemmas.Grind.{common_steps}
 use Rattle.std.proofs.Common.{◌≡◌, ◌&&◌, not, List, length}
 use Rattle.std.proofs.Common.{slice_get, Some, None, refl, sym, ap, subst, ◌∙◌}
 use Rattle.std.proofs.Common.{arith, true≢false}
@@ -106,3 +107,9 @@ returns-in_default-2 g c body is =
     same_stop who part waiting None c.decls.result.now.places c.args.program.now.decls.places c.decls-2.result.now.places recording.decls.places
     c.body.result.now body (ap (λ (d : DeclsState). d.places) c.decls.ensures.decls)
     (ap (λ (d : DeclsState). d.places) (c.decls-2.ensures.decls ∙ c.trace.ensures.decls)) same run
+
+pub logs-log-requires : goal.logs-log-requires
+logs-log-requires c = grind (arith, common_steps) steps 300000
+
+pub bounds-log-k : goal.bounds-log-k
+bounds-log-k c = grind (arith, common_steps) steps 300000

@@ -1,4 +1,5 @@
-use Rattle.std.proofs.Common.{sym}
+use Rattle.std.proofs.lemmas.Grind.{common_steps}
+use Rattle.std.proofs.Common.{sym, arith}
 use Rattle.race_text.specs.Common.{op_of, object_kind}
 use Rattle.race_text.proofs.CommonLemmas.{says_event}
 use Rattle.race_text.proofs.common.read_common.Goals as goal
@@ -12,3 +13,6 @@ returns g c =
     c.in_ok-goroutine.goroutine c.in_ok-object.object c.in_ok-who.who (op_of c.in_ok-deed.deed) c.in_ok-value.value c.in_ok-place.place.now
     c.in_ok-verb.ensures.says c.in_ok-has_value.ensures.one_place c.in_ok-has_value.ensures.kinds
     c.in_ok-goroutine.ensures.says (sym c.in_ok-who.ensures) object c.in_ok-value.ensures.says c.in_ok-deed.ensures.op c.in_ok-place.ensures
+
+pub deed_said-requires : goal.deed_said-requires
+deed_said-requires c = grind (arith, common_steps) steps 1000000

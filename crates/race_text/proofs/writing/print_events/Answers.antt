@@ -1,5 +1,6 @@
+use Rattle.std.proofs.lemmas.Grind.{common_steps}
 use Rattle.race_records.specs.declared.event.Event.{Event}
-use Rattle.std.proofs.Common.{Err, subst}
+use Rattle.std.proofs.Common.{Err, subst, arith}
 use Rattle.race_records.specs.Page.{Printing}
 use Rattle.race_records.proofs.PageLemmas.{piece_breaks_off}
 use Rattle.race_text.specs.Text.{ended, event_line}
@@ -10,3 +11,6 @@ returns-in-Err g c = piece_breaks_off (λ (e : Event). ended (event_line c.args.
     c.args.events.now c.loop-event.event-index c.event-item.result c.loop-event-test.true c.loop-event.invariant
     (subst (λ (e : Event). Printing g.W.Write.contents (Err c.in-Err.fault) c.loop-event.sink c.print_event.new.sink
     c.loop-event.page c.print_event.new.page (ended (event_line c.args.decls.now e))) c.event-item.is c.in-Err.ensures)
+
+pub returns : goal.returns
+returns c = grind (arith, common_steps) steps 300000

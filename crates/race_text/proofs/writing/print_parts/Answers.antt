@@ -1,4 +1,5 @@
-use Rattle.std.proofs.Common.{Err, subst}
+use Rattle.std.proofs.lemmas.Grind.{common_steps}
+use Rattle.std.proofs.Common.{Err, subst, arith}
 use Rattle.race_records.specs.declared.parts.Part.{Part}
 use Rattle.race_records.specs.Page.{Printing}
 use Rattle.race_records.proofs.PageLemmas.{piece_breaks_off}
@@ -10,3 +11,9 @@ returns-in-Err g c = piece_breaks_off (behind_space c.args.decls.now.declaration
     c.loop-part.part-index c.part-item.result c.loop-part-test.true c.loop-part.invariant
     (subst (λ (part : Part). Printing g.W.Write.contents (Err c.in-Err.fault) c.loop-part.sink c.print_part.new.sink
     c.loop-part.page c.print_part.new.page (behind_space c.args.decls.now.declarations part)) c.part-item.is c.in-Err.ensures)
+
+pub print_part-requires : goal.print_part-requires
+print_part-requires c = grind (arith, common_steps) steps 300000
+
+pub returns : goal.returns
+returns c = grind (arith, common_steps) steps 300000

@@ -1,5 +1,6 @@
 -- What was written of what was read is right for the whole input.
-use Rattle.std.proofs.Common.{inr}
+use Rattle.std.proofs.lemmas.Grind.{common_steps}
+use Rattle.std.proofs.Common.{inr, rules, arith}
 use Rattle.race_records.specs.Devices.{unread, written}
 use Rattle.race_edges.specs.Traces.{IsClean, IsRacy, IsIllegal}
 use Rattle.race_tool.specs.Finding.{IsFinding, report_of, status_of}
@@ -39,3 +40,15 @@ returns-in-Ok-clause-device g c = λ is.
     inr (inr (fails_to_write IsTextOf of_traces (IsFinding c.args.options.now.plain)
     report_of g.R.Read.remaining g.W.Write.contents c.args.source.now c.read_trace.new.source
     c.args.sink.now c.report.new.sink c.in-Ok.text c.in-Ok.ensures.ok (c.in-Ok.ensures.calm (λ e. cc)) (c.report.ensures.device is)))
+
+pub returns-in-Ok-clause-usage : goal.returns-in-Ok-clause-usage
+returns-in-Ok-clause-usage g c = search rules steps 300000
+
+pub returns-in-Ok-clause-untouched : goal.returns-in-Ok-clause-untouched
+returns-in-Ok-clause-untouched g c = grind (arith, common_steps) steps 300000
+
+pub returns-in-Err-clause-usage : goal.returns-in-Err-clause-usage
+returns-in-Err-clause-usage g c = search rules steps 300000
+
+pub returns-in-Err-clause-untouched : goal.returns-in-Err-clause-untouched
+returns-in-Err-clause-untouched g c = grind (arith, common_steps) steps 300000

@@ -1,4 +1,5 @@
 -- Behind each event the replay, the stamper and what is kept of the variables stand for the front up to it; at the end for all events.
+use Rattle.std.proofs.lemmas.Grind.{common_steps}
 use Rattle.std.proofs.Common.{◌≡◌, ◌∙◌, true, List, [], ◌∷◌, ◌++◌, length, take, Err, sym, ap, subst, arith}
 use Rattle.race_records.specs.declared.event.Event.{Event}
 use Rattle.race_records.specs.declared.kind.Kind.{Kind}
@@ -107,3 +108,6 @@ returns g c =
     (omega arith) c.loop-at.variables c.in_ok-races.races c.loop-at.invariant.legal.legal
     c.loop-at.invariant.kept c.loop-at.invariant.vars c.in_ok-races.ensures in
     (told.0, listed_some c.in_ok-races.races (λ none. let empty : c.is_empty.result ≡ true = c.is_empty.ensures.1 none in cc), told.1)
+
+pub event-event-requires : goal.event-event-requires
+event-event-requires c = grind (arith, common_steps) steps 300000

@@ -1,4 +1,5 @@
-use Rattle.std.proofs.Common.{◌∙◌}
+use Rattle.std.proofs.lemmas.Grind.{common_steps}
+use Rattle.std.proofs.Common.{◌∙◌, arith}
 use Rattle.race_tool.proofs.RunLemmas.{one_more_script}
 use Rattle.race_tool.proofs.recorded.scripts.Goals as goal
 
@@ -8,3 +9,9 @@ loop-goroutine-preserved g c = record {
       ∙ one_more_script c.args.program.now.bodies c.loop-goroutine.goroutine c.loop-goroutine.scripts.items c.in_ok-new.field-0 c.loop-goroutine.invariant.made
       c.in_ok-new.ensures.whole c.in_ok-new.ensures.position;
 }
+
+pub new-requires : goal.new-requires
+new-requires c = grind (arith, common_steps) steps 300000
+
+pub returns : goal.returns
+returns c = grind (arith, common_steps) steps 300000

@@ -1,4 +1,5 @@
-use Rattle.std.proofs.Common.{◌∙◌, ap}
+use Rattle.std.proofs.lemmas.Grind.{common_steps}
+use Rattle.std.proofs.Common.{◌∙◌, ap, arith}
 use Rattle.race_records.specs.Declarations.{capacity_of}
 use Rattle.race_hub.specs.Waiting.{sent_on}
 use Rattle.race_hub.proofs.MoveLemmas.{passed_over}
@@ -9,3 +10,6 @@ returns-in-Some-clause-passed g c p least less q =
     passed_over (capacity_of c.args.self.now.declarations)
     c.args.self.now.past c.args.self.now.waiting c.at.result.now c.args.place c.args.way p q c.in-Some.chan
     c.at.ensures.found (c.in-Some.ensures ∙ ap sent_on c.offer_at-offer.ensures.offer) (c.next_receiver.ensures.passed p least less)
+
+pub hands_over-requires : goal.hands_over-requires
+hands_over-requires c = grind (arith, common_steps) steps 300000

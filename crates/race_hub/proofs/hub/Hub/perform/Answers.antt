@@ -1,3 +1,4 @@
+use Rattle.std.proofs.lemmas.Grind.{common_steps}
 use Rattle.std.proofs.Common.{◌≡◌, ◌<◌, ◌++◌, ◌∷◌, [], None, ◌∙◌, sym, subst, ap, refl, arith, length, IfSome, IsTrue}
 use Rattle.race_records.specs.Events.{fits}
 use Rattle.race_hub.specs.Hub.{HubState, stop_of}
@@ -131,3 +132,6 @@ fired g c =
 
 pub returns-clause-fires : goal.returns-clause-fires
 returns-clause-fires g c = subst (λ h. Fires h c.args.firing.choice (after_of g c)) c.self.view_is (fired g c)
+
+pub partner_on-requires : goal.partner_on-requires
+partner_on-requires c = grind (arith, common_steps) steps 1000000

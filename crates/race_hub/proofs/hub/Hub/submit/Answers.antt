@@ -1,3 +1,4 @@
+use Rattle.std.proofs.lemmas.Grind.{common_steps}
 use Rattle.std.proofs.Common.{◌≡◌, ◌++◌, ◌∷◌, [], ◌∙◌, ap, subst, refl, arith, sym, if◌then◌else◌, Some, true}
 use Rattle.race_hub.specs.Hub.{HubState}
 use Rattle.race_hub.specs.HubHolds.{hub_state}
@@ -75,3 +76,12 @@ invariant_of-self-else-bad g c =
       omega (arith, room, len, cap),
       c.self.invariant.2,
     )
+
+pub push_reserved-requires : goal.push_reserved-requires
+push_reserved-requires c = grind (arith, common_steps) steps 1000000
+
+pub push_reserved-requires-2 : goal.push_reserved-requires-2
+push_reserved-requires-2 c = grind (arith, common_steps) steps 300000
+
+pub take_first-requires : goal.take_first-requires
+take_first-requires c = grind (arith, common_steps) steps 1000000

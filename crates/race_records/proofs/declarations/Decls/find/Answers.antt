@@ -1,4 +1,4 @@
-use Rattle.std.proofs.Common.{Some, option_map, sym, ap, ◌∙◌}
+use Rattle.std.proofs.Common.{Some, option_map, sym, ap, ◌∙◌, rules}
 use Rattle.race_records.specs.Declarations.{DeclsState}
 use Rattle.race_records.proofs.DeclsLemmas.{slot_stands, find_name-found}
 use Rattle.race_records.proofs.declarations.Decls.find.Goals as goal
@@ -16,3 +16,6 @@ returns-in-None g c =
     find_name-found c.self.inside.names c.self.inside.indexes c.self.invariant.numbered c.args.name.now c.args.self.now.declarations c.find.result
     (ap (λ (s : DeclsState). s.declarations) c.self.view_is) (sym c.eq.ensures ∙ c.if-eq.false) c.find.ensures in
     sym (found ∙ ap (option_map slot_stands) c.in-None.is)
+
+pub returns-then-eq : goal.returns-then-eq
+returns-then-eq g c = search rules steps 100000

@@ -12,3 +12,6 @@ returns-in-Some g c =
     find_name-found rows c.self.inside.indexes c.self.invariant.numbered name c.args.self.now.declarations (Some c.in-Some.slot)
     (ap (λ (s : DeclsState). s.declarations) c.self.view_is) other (sym c.in-Some.ensures) in
     ap Some c.named.ensures ∙ sym found
+
+pub returns : goal.returns
+returns g c = cc

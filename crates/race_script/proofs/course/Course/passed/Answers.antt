@@ -1,4 +1,5 @@
-use Rattle.std.proofs.Common.{◌≡◌, Some, slice_get, ap, sym, ◌∙◌, true≢false}
+use Rattle.std.proofs.Common.{arith, ◌≡◌, Some, slice_get, ap, sym, ◌∙◌, true≢false}
+use Rattle.std.proofs.lemmas.Grind.{elements}
 use Rattle.std.specs.Option.{option_copied}
 use Rattle.race_hub.specs.Table.{done_by}
 use Rattle.race_script.proofs.PassedLemmas.{made_is, passes_step, passes_no_fit}
@@ -34,3 +35,9 @@ returns-else-can_make g c = λ e fits fails.
       | else-can_make-via-then-can_make+else-stand_alike w ↦ true≢false (sym (w.stand_alike.ensures.1 alike) ∙ w.if-stand_alike.false)
       | else-can_make-via-else-can_make w ↦ true≢false (sym (c.can_make.ensures.1 can) ∙ w.if-can_make.false)
     ])
+
+pub returns-in_err-request : goal.returns-in_err-request
+returns-in_err-request g c = grind (arith, elements) steps 1000000
+
+pub behind-requires : goal.behind-requires
+behind-requires g c = grind (arith, elements) steps 1000000

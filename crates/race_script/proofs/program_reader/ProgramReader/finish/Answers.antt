@@ -1,5 +1,6 @@
 -- The fault that was told, or that of the bytes that are left behind the lines.
-use Rattle.std.proofs.Common.{◌≡◌, ℕ, List, Some, sym, ap, subst, ◌∙◌}
+use Rattle.std.proofs.lemmas.Grind.{elements, common_steps}
+use Rattle.std.proofs.Common.{◌≡◌, ℕ, List, Some, sym, ap, subst, ◌∙◌, arith}
 use Rattle.race_script.specs.Text.{IsTextOf}
 use Rattle.race_script.specs.Fault.{end_cause, program_causes, text_fault}
 use Rattle.race_script.specs.Reader.{lines_read}
@@ -93,3 +94,9 @@ pub returns-in-None-end_cause-clause-only : goal.returns-in-None-end_cause-claus
 returns-in-None-end_cause-clause-only g c = λ fed S u is.
     let has = read g c fed S in
     equal_texts u c.into_program.result is.program has.program (sym is.printed ∙ has.printed)
+
+pub end_cause-requires : goal.end_cause-requires
+end_cause-requires c = grind (arith, elements) steps 2000000
+
+pub line-requires : goal.line-requires
+line-requires c = grind (arith, common_steps) steps 300000

@@ -1,4 +1,5 @@
-use Rattle.std.proofs.Common.{◌≡◌, true, sym, ap, subst, ◌∙◌}
+use Rattle.std.proofs.lemmas.Grind.{common_steps}
+use Rattle.std.proofs.Common.{◌≡◌, true, sym, ap, subst, ◌∙◌, arith}
 use Rattle.race_text.specs.Form.{first_word}
 use Rattle.race_script.specs.Fault.{cause}
 use Rattle.race_script.specs.Form.{line_word}
@@ -22,3 +23,9 @@ returns-in-None-clause-taken g c = λ _.
     let none = ap (λ ws. line_word (first_word ws)) c.cut_at.ensures ∙ sym c.line_word.ensures ∙ c.in-None.is in
     ap (λ b. cause (lines_by b (draft_read s)) c.args.line.now true) header_is
     ∙ unknown_told s read c.args.line.now (sym c.has_bad_byte.ensures ∙ c.if-has_bad_byte.false) none
+
+pub take_header-requires-clause-reading : goal.take_header-requires-clause-reading
+take_header-requires-clause-reading c = grind (arith, common_steps) steps 300000
+
+pub returns-then-not-self-clause-taken : goal.returns-then-not-self-clause-taken
+returns-then-not-self-clause-taken c = grind (arith, common_steps) steps 300000

@@ -1,5 +1,6 @@
 -- What is behind the lines that were taken goes on in the piece, and a fault that was told stays.
-use Rattle.std.proofs.Common.{◌≡◌, ℕ, List, [], ◌++◌, Some, None, refl, sym, ap, subst, ◌∙◌}
+use Rattle.std.proofs.lemmas.Grind.{common_steps}
+use Rattle.std.proofs.Common.{◌≡◌, ℕ, List, [], ◌++◌, Some, None, refl, sym, ap, subst, ◌∙◌, rules, arith}
 use Rattle.race_text.specs.Fault.{trace_causes}
 use Rattle.race_text.specs.Reader.{lines_read}
 use Rattle.race_text.specs.Fed.{LinesState, StandsFor, IsTold}
@@ -63,3 +64,12 @@ returns-in-Err-clause-memory g c = λ fed S. (told g c fed S).none_ended_before
 
 pub returns-in-Err-clause-line : goal.returns-in-Err-clause-line
 returns-in-Err-clause-line g c = λ fed S. (told g c fed S).line
+
+pub invariant_of-self-in-Err : goal.invariant_of-self-in-Err
+invariant_of-self-in-Err g c = search rules steps 300000
+
+pub returns-in-Err-clause-goes_on : goal.returns-in-Err-clause-goes_on
+returns-in-Err-clause-goes_on g c = grind (arith, common_steps) steps 300000
+
+pub returns-in-Err-clause-told : goal.returns-in-Err-clause-told
+returns-in-Err-clause-told g c = refl

@@ -1,4 +1,5 @@
-use Rattle.std.proofs.Common.{◌≡◌, ◌++◌, ◌∷◌, [], ◌<◌, List, Some, length, take, get_or, sym, ap, ◌∙◌, subst, append-nil}
+use Rattle.std.proofs.lemmas.Grind.{common_steps}
+use Rattle.std.proofs.Common.{◌≡◌, ◌++◌, ◌∷◌, [], ◌<◌, List, Some, length, take, get_or, sym, ap, ◌∙◌, subst, append-nil, arith}
 use Rattle.std.proofs.lemmas.List.{get_or_default}
 use Rattle.race_edges.specs.declared.races.Race.{Race}
 use Rattle.race_edges.specs.Answers.{races_of}
@@ -32,3 +33,6 @@ loop-var-preserved g c =
             ∙ ap (λ last. before ++ last) (sym (races_none var kept (sym w.in_default.ensures.pair))) ∙ more
       ];
     }
+
+pub returns : goal.returns
+returns c = grind (arith, common_steps) steps 300000

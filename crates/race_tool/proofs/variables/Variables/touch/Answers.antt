@@ -1,4 +1,5 @@
-use Rattle.std.proofs.Common.{◌<◌, List, length, sym, ◌∙◌, subst}
+use Rattle.std.proofs.lemmas.Grind.{common_steps}
+use Rattle.std.proofs.Common.{◌<◌, List, length, sym, ◌∙◌, subst, arith}
 use Rattle.std.proofs.lemmas.List.{get_or_default}
 use Rattle.std.proofs.lemmas.Result.{on_ok_weaker}
 use Rattle.race_access.specs.Kept.{Kept}
@@ -20,3 +21,15 @@ returns-clause-goes_on g c =
     (subst (λ (k : Kept). touch.GoesOn k c.touch.new.self t) (c.index_mut.ensures.value ∙ get_or_default items x _ nothing_kept within) goes)
     (subst (AreKept caps past) (sym c.self.view_is) are))
     c.touch.ensures.goes_on
+
+pub index_mut-requires : goal.index_mut-requires
+index_mut-requires c = grind (arith, common_steps) steps 300000
+
+pub invariant_of-self : goal.invariant_of-self
+invariant_of-self c = grind (arith, common_steps) steps 1000000
+
+pub returns-clause-len : goal.returns-clause-len
+returns-clause-len c = grind (arith, common_steps) steps 1000000
+
+pub returns-clause-unchanged : goal.returns-clause-unchanged
+returns-clause-unchanged c = grind (arith, common_steps) steps 2000000

@@ -1,0 +1,6 @@
+use Rattle.std.proofs.lemmas.Grind.{common_steps}
+use Rattle.std.proofs.Common.{arith}
+use Rattle.race_clock.proofs.slot.Slot.tell.Goals as goal
+
+pub pass-requires : goal.pass-requires
+pass-requires c = grind (arith, common_steps) steps 300000

@@ -1,0 +1,4 @@
+use Rattle.race_edges.proofs.synchronized.joins.Goals as goal
+
+pub returns-in-Exit : goal.returns-in-Exit
+returns-in-Exit c = cc

@@ -1,0 +1,6 @@
+use Rattle.std.proofs.lemmas.Grind.{common_steps}
+use Rattle.std.proofs.Common.{arith}
+use Rattle.race_hub.proofs.board.WaitingList.next_receiver.Goals as goal
+
+pub bounds-waiting-place : goal.bounds-waiting-place
+bounds-waiting-place c = grind (arith, common_steps) steps 300000

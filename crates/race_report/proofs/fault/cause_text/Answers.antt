@@ -1,0 +1,4 @@
+use Rattle.race_report.proofs.fault.cause_text.Goals as goal
+
+pub returns-in-Unknown : goal.returns-in-Unknown
+returns-in-Unknown c = cc

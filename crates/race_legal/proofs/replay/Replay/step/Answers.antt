@@ -1,5 +1,6 @@
 -- Each arm on its own: all of them are too many for one search.
-use Rattle.std.proofs.Common.{rules}
+use Rattle.std.proofs.lemmas.Grind.{common_steps}
+use Rattle.std.proofs.Common.{rules, arith}
 use Rattle.race_legal.proofs.replay.Replay.step.Goals as goal
 use Rattle.race_legal.proofs.replay.Replay.step.Goals.{in-Go, in-Exit, in-Read, in-Write}
 use Rattle.race_legal.proofs.replay.Replay.step.Goals.{in-Send+in_ok-send-in-Send, in-Recv, in-Meet}
@@ -29,3 +30,18 @@ returns g c = elim c.match-event.branch [
   | in-OnceDone w ↦ search rules
   | in-Fault w ↦ search rules
 ]
+
+pub index_mut-requires : goal.index_mut-requires
+index_mut-requires c = grind (arith, common_steps) steps 300000
+
+pub lock_for_reading-requires-clause-row : goal.lock_for_reading-requires-clause-row
+lock_for_reading-requires-clause-row c = grind (arith, common_steps) steps 300000
+
+pub lock_for_reading-requires-clause-room : goal.lock_for_reading-requires-clause-room
+lock_for_reading-requires-clause-room c = grind (arith, common_steps) steps 300000
+
+pub unlock_from_reading-requires : goal.unlock_from_reading-requires
+unlock_from_reading-requires c = grind (arith, common_steps) steps 300000
+
+pub invariant_of-self-2 : goal.invariant_of-self-2
+invariant_of-self-2 c = grind (arith, common_steps) steps 2000000

@@ -243,14 +243,16 @@ end_is h end once is = by (stop_of h) (is_deadlock h) refl is
 
 module _ {R : Type 0} where
   -- the tracks are right once all logs are laid out and all events are passed
-  pub right_of : (h : HubState R) (blank one two three four : List TrackState) (waiting : List Waiter) (events : List Event)
-      → AreBlank (length h.unstarted) blank → StandOnce h → EndOnce h → one ≡ placed (logs_of_jobs h.ready) blank → waiting ≡ h.waiting
-      → two ≡ placed (logs_behind waiting h.parked) one → three ≡ placed h.ended two → events ≡ h.events → HavePassed events three four
-      → AreRight h h.events four
-  right_of h blank one two three four waiting events are once ends first same second third all passed =
-      all_right h h.events three four
-      (laid_out h blank one two three are once ends first (second ∙ ap (λ ws. placed (logs_behind ws h.parked) one) same) third)
-      (subst (λ es. HavePassed es three four) all passed)
+  pub right_of : (h : HubState R) (blank laid passed : List TrackState) (waiting : List Waiter) (events : List Event)
+      → AreBlank (length h.unstarted) blank → StandOnce h → EndOnce h → waiting ≡ h.waiting
+      → laid ≡ placed h.ended (placed (logs_behind waiting h.parked) (placed (logs_of_jobs h.ready) blank)) → events ≡ h.events
+      → HavePassed events laid passed → AreRight h h.events passed
+  right_of h blank laid passed waiting events are once ends same lays all passes =
+      let first = placed (logs_of_jobs h.ready) blank in
+      let second = placed (logs_behind h.waiting h.parked) first in
+      all_right h h.events laid passed
+      (laid_out h blank first second laid are once ends refl refl (lays ∙ ap (λ ws. placed h.ended (placed (logs_behind ws h.parked) first)) same))
+      (subst (λ es. HavePassed es laid passed) all passes)
 
   -- what a slice of them tells
   pub told_of : (h : HubState R) (tracks slice : List TrackState) (result told : Option ℕ) → AreRight h h.events tracks → slice ≡ tracks

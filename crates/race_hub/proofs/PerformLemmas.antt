@@ -232,6 +232,27 @@ module _ {R : Type 0} where
       by false (Some w) None = omega arith
       by false (Some w) (Some p) = let one = goes_len w p told in omega (arith, one)
 
+  -- the hub with this trace and these lists
+  abbrev pub with_lists : HubState R → DeclsState → List Event → List (JobState R) → List ℕ → List (ℕ × List Step) → HubState R
+  with_lists h decls events ready out ended = record {
+    decls = decls;
+    events = events;
+    limit = h.limit;
+    ready = ready;
+    waiting = h.waiting;
+    parked = h.parked;
+    out = out;
+    unstarted = h.unstarted;
+    ended = ended;
+    bad = h.bad;
+  }
+
+  -- where they are its own, it is the hub
+  pub lists_same : (h : HubState R) (decls : DeclsState) (events : List Event) (ready : List (JobState R)) (out : List ℕ) (ended : List (ℕ × List Step))
+      → decls ≡ h.decls → events ≡ h.events → ready ≡ h.ready → out ≡ h.out → ended ≡ h.ended
+      → with_lists h decls events ready out ended ≡ h
+  lists_same h decls events ready out ended a b c d e = λ i. with_lists h (a i) (b i) (c i) (d i) (e i)
+
   -- one event more, the requests of the choice answered, and a goroutine begun
   pub record Moves (old new : HubState R) (f : Firing) : Type 0 where
     pub w : Waiter

@@ -8,7 +8,10 @@ ghost use Rattle.race_records.specs.Refusal.{Refuses, AllowsUnless};
 ghost use Rattle.race_model.specs.Events as model;
 ghost use Rattle.race_records.specs.declared.kind.Kind.{Kind};
 ghost use Rattle.race_records.specs.Declarations.{capacity_of, count_of};
+ghost use Rattle.race_records.specs.Events.{fits};
 ghost use Rattle.race_model.specs.Legal.{IsLegal};
+ghost use Rattle.race_legal.specs.ReplayState.{counts_in, IsInRange};
+ghost use Rattle.race_legal.specs.StandsFor.{GoesOn};
 ghost use Rattle.race_hub.specs.Search.{picked};
 ghost use Rattle.race_hub.specs.Holds.{HaveBoxes};
 ghost use Rattle.race_hub.specs.Hub as spec;
@@ -25,13 +28,11 @@ ghost use Rattle.race_hub.specs.Finish.{IsRecorded, IsMismatch};
 
 use crate::firing::{Firing, firing_of, started_in};
 use crate::meet::both;
-use crate::moves::{go_on, is_among, partner_on, start, take_first, take_out};
+use crate::moves::{is_among, make_room, resume, start, take_first};
 use crate::opening::{HubFault, fault_of, unstarted};
 use crate::parked::{Ended, Parked};
 use crate::sound::{is_out_of_turn, is_sound};
-use crate::track::{
-    Track, blank_tracks, first_other, least, pass_all, put_ended, put_parked, put_ready,
-};
+use crate::track::{Track, blank_tracks, first_other, least, pass_all, put_logs};
 use crate::waiters::request_of;
 use crate::{Choice, End, Job, Mismatch, Recording, Request, Waiter, WaitingList};
 use race_legal::Replay;
@@ -118,6 +119,31 @@ fn is_fault(event: &Event) -> bool
     }
 }
 
+// Appends the event to the trace, and to the replay that stands for it.
+fn append<A: Allocator>(
+    replay: &mut Replay<A>,
+    trace: &mut Trace<A>,
+    event: Event,
+) -> Result<(), AllocError>
+    requires range { IsInRange (counts_in replay.old) event }
+    requires room { replay.old.len < MAX_EVENTS }
+    requires fits { IsTrue (fits trace.old.decls event) }
+    requires few { length trace.old.events < MAX_EVENTS }
+    ensures goes_on { OnOk result (GoesOn replay.old replay.new event) }
+    ensures events { OnOk result (trace.new.events ≡ trace.old.events ++ event ∷ []) }
+    ensures decls { trace.new.decls ≡ trace.old.decls }
+    ensures err { OnErr result ((replay.new ≡ replay.old) × (trace.new.events ≡ trace.old.events)) }
+{
+    trace.reserve()?;
+    let Ok(()) = replay.accept(&event) else {
+        return Err(AllocError);
+    };
+    let Ok(()) = trace.push(event) else {
+        unreachable!();
+    };
+    Ok(())
+}
+
 impl<R: Drop, A: Allocator + Copy> Hub<R, A> {
     /// The hub of these declarations, which may make as many events as the limit says, with a box for each goroutine, main
     /// first. Main is ready, and nobody else was started.
@@ -159,8 +185,8 @@ impl<R: Drop, A: Allocator + Copy> Hub<R, A> {
         let unstarted = unstarted(alloc, others)?;
         let mut ready = Vec::new(alloc);
         ready.push(Job::new(alloc, 0, main))?;
-        let mut out = Vec::new(alloc);
-        out.reserve(1)?;
+        // For main, and for the three that the first event asks room for.
+        let out = Vec::with_capacity(alloc, 4)?;
         let tracks = blank_tracks(alloc, unstarted.len())?;
         Ok(Hub {
             alloc,
@@ -389,21 +415,18 @@ impl<R, A: Allocator> Hub<R, A> {
             told,
             partner,
         } = firing;
-        self.ready.reserve(3)?;
-        self.out.reserve(self.ready.len() + 3)?;
-        self.ended.reserve(1)?;
-        self.trace.reserve()?;
-        let Ok(()) = self.replay.accept(&event) else {
-            return Err(AllocError);
-        };
         let started = started_in(&event.op);
-        let Ok(()) = self.trace.push(event) else {
-            unreachable!();
-        };
-        let (waiter, other) = take_out(&mut self.waiting, choice);
-        let (parked, other_parked) = take_out(&mut self.parked, choice);
-        go_on(&mut self.ready, &mut self.ended, waiter, parked, told);
-        partner_on(&mut self.ready, other, other_parked, partner);
+        make_room(&mut self.ready, &mut self.out, &mut self.ended)?;
+        append(&mut self.replay, &mut self.trace, event)?;
+        resume(
+            &mut self.waiting,
+            &mut self.parked,
+            &mut self.ready,
+            &mut self.ended,
+            choice,
+            told,
+            partner,
+        );
         start(self.alloc, &mut self.ready, &mut self.unstarted, started);
         Ok(())
     }
@@ -421,12 +444,15 @@ impl<R, A: Allocator> Hub<R, A> {
         if self.stop().is_some() {
             return Ok(false);
         }
-        let Some(firing) = self.next_firing(pick) else {
-            return Ok(false);
-        };
-        self.perform(firing)?;
-        Ok(true)
+        match self.next_firing(pick) {
+            Some(firing) => {
+                self.perform(firing)?;
+                Ok(true)
+            }
+            None => Ok(false),
+        }
     }
+
     /// The recording of the run, where the hub has ended, every job is back, and each log is its goroutine's part of the
     /// trace. Takes no memory.
     pub fn finish(self) -> Result<Recording<A>, Mismatch>
@@ -456,9 +482,7 @@ impl<R, A: Allocator> Hub<R, A> {
             bad: _,
             mut tracks,
         } = self;
-        put_ready(&mut tracks, ready);
-        put_parked(&mut tracks, waiting.as_slice(), parked);
-        put_ended(&mut tracks, ended);
+        put_logs(&mut tracks, ready, waiting.as_slice(), parked, ended);
         pass_all(&mut tracks, trace.events());
         if let Some(goroutine) = first_other(tracks.as_slice()) {
             return Err(Mismatch::Log(goroutine));

@@ -1,15 +1,37 @@
-//! How a choice moves goroutines from list to list. Room is made before, so that nothing here takes memory.
-ghost use Rattle.std.specs.Prelude.{◌≡◌, ◌≢◌, ◌==◌, true, ◌<◌, ◌≤◌, ◌+◌, ◌++◌, Some, None, length, slice_get, vec_len, vec_capacity, IfSome};
+//! How a choice moves goroutines from list to list. Room is made first, so that nothing behind that takes memory.
+ghost use Rattle.std.specs.Prelude.{◌≡◌, ◌≢◌, ◌==◌, true, ◌<◌, ◌≤◌, ◌+◌, ◌++◌, Some, None, length, slice_get, vec_len, vec_capacity, IfSome, OnOk};
 ghost use Rattle.std.specs.List.{list_any, position_or_len};
+ghost use Rattle.race_hub.specs.declared.request.Waiter.{Waiter as WaiterValue};
+ghost use Rattle.race_hub.specs.Hub.{ParkedState};
 ghost use Rattle.race_hub.specs.Submits.{without_first};
 ghost use Rattle.race_hub.specs.Fires.{without, partner_of, goes_on, is_through, partner_goes_on, born_of, boxes_after};
 
 use crate::parked::{Ended, Parked};
 use crate::{Answer, Choice, Job, Waiter};
-use std::alloc::Allocator;
+use std::alloc::{AllocError, Allocator};
 
-/// Takes what stands at the choice's places out of the list.
-pub(crate) fn take_out<X, A: Allocator>(list: &mut Vec<X, A>, choice: Choice) -> (X, Option<X>)
+/// Makes room for three more who are ready, for the turns of all of them, and for one who is through.
+pub(crate) fn make_room<R: Drop, A: Allocator>(
+    ready: &mut Vec<Job<R, A>, A>,
+    out: &mut Vec<u32, A>,
+    ended: &mut Vec<Ended<A>, A>,
+) -> Result<(), AllocError>
+    ensures ready { ready.new.items ≡ ready.old.items }
+    ensures out { out.new.items ≡ out.old.items }
+    ensures ended { ended.new.items ≡ ended.old.items }
+    ensures kept { vec_len ready.old + vec_len out.old ≤ vec_capacity out.old → vec_len ready.new + vec_len out.new ≤ vec_capacity out.new }
+    ensures jobs { OnOk result (vec_len ready.new + 3 ≤ vec_capacity ready.new) }
+    ensures turns { OnOk result (vec_len ready.new + 3 + vec_len out.new ≤ vec_capacity out.new) }
+    ensures logs { OnOk result (vec_len ended.new < vec_capacity ended.new) }
+{
+    ready.reserve(3)?;
+    out.reserve(ready.len() + 3)?;
+    ended.reserve(1)?;
+    Ok(())
+}
+
+// Takes what stands at the choice's places out of the list.
+fn take_out<X, A: Allocator>(list: &mut Vec<X, A>, choice: Choice) -> (X, Option<X>)
     requires place { choice.place < vec_len list.old }
     requires partner { choice.partner ≤ vec_len list.old }
     requires apart { choice.partner ≢ choice.place + 1 }
@@ -32,8 +54,8 @@ pub(crate) fn take_out<X, A: Allocator>(list: &mut Vec<X, A>, choice: Choice) ->
     (first, Some(second))
 }
 
-/// Who asked goes on with its answer, or is through.
-pub(crate) fn go_on<R: Drop, A: Allocator>(
+// Who asked goes on with its answer, or is through.
+fn go_on<R: Drop, A: Allocator>(
     ready: &mut Vec<Job<R, A>, A>,
     ended: &mut Vec<Ended<A>, A>,
     waiter: Waiter,
@@ -53,8 +75,8 @@ pub(crate) fn go_on<R: Drop, A: Allocator>(
     }
 }
 
-/// The partner goes on with its answer, where there is one.
-pub(crate) fn partner_on<R: Drop, A: Allocator>(
+// The partner goes on with its answer, where there is one.
+fn partner_on<R: Drop, A: Allocator>(
     ready: &mut Vec<Job<R, A>, A>,
     waiter: Option<Waiter>,
     parked: Option<Parked<R, A>>,
@@ -65,9 +87,46 @@ pub(crate) fn partner_on<R: Drop, A: Allocator>(
     ensures room { vec_capacity ready.new ≡ vec_capacity ready.old }
     ensures len { vec_len ready.new ≤ vec_len ready.old + 1 }
 {
-    if let (Some(waiter), Some(parked), Some(answer)) = (waiter, parked, told) {
-        ready.push_reserved(parked.told(waiter, answer));
+    let Some(answer) = told else {
+        return;
+    };
+    if let Some(waiter) = waiter {
+        if let Some(parked) = parked {
+            ready.push_reserved(parked.told(waiter, answer));
+        }
     }
+}
+
+/// Who asked goes on with what it is told, or is through; behind it its partner goes on, where it has one.
+pub(crate) fn resume<R: Drop, A: Allocator>(
+    waiting: &mut Vec<Waiter, A>,
+    parked: &mut Vec<Parked<R, A>, A>,
+    ready: &mut Vec<Job<R, A>, A>,
+    ended: &mut Vec<Ended<A>, A>,
+    choice: Choice,
+    told: Option<Answer>,
+    partner: Option<Answer>,
+)
+    requires place { choice.place < vec_len waiting.old }
+    requires partner { choice.partner ≤ vec_len waiting.old }
+    requires apart { choice.partner ≢ choice.place + 1 }
+    requires parked { vec_len parked.old ≡ vec_len waiting.old }
+    requires ready { vec_len ready.old + 2 ≤ vec_capacity ready.old }
+    requires ended { vec_len ended.old < vec_capacity ended.old }
+    ensures waiting { waiting.new.items ≡ without choice waiting.old.items }
+    ensures parked { parked.new.items ≡ without choice parked.old.items }
+    ensures moved { (w : WaiterValue) × (p : ParkedState R)
+        × (slice_get waiting.old.items choice.place ≡ Some w) × (slice_get parked.old.items choice.place ≡ Some p)
+        × (ready.new.items ≡ ready.old.items ++ goes_on w p told
+        ++ partner_goes_on (partner_of choice waiting.old.items) (partner_of choice parked.old.items) partner)
+        × (ended.new.items ≡ ended.old.items ++ is_through w p told) }
+    ensures room { vec_capacity ready.new ≡ vec_capacity ready.old }
+    ensures len { vec_len ready.new ≤ vec_len ready.old + 2 }
+{
+    let (waiter, other) = take_out(waiting, choice);
+    let (behind, other_behind) = take_out(parked, choice);
+    go_on(ready, ended, waiter, behind, told);
+    partner_on(ready, other, other_behind, partner);
 }
 
 /// Starts the goroutine of this number, where there is one.

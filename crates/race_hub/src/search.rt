@@ -10,7 +10,7 @@ use crate::Choice;
 use race_records::MAX_GOROUTINES;
 
 /// The choice that was looked for, or how many of the choices behind were still to be passed by.
-#[derive(Clone, Copy, Debug, PartialEq, Eq)]
+#[derive(Clone, Copy, PartialEq, Eq)]
 pub enum Found {
     /// This is the one.
     At(Choice),

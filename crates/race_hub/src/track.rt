@@ -95,11 +95,8 @@ fn put<A: Allocator>(tracks: &mut Vec<Track<A>, A>, goroutine: u32, log: Vec<Ste
     }
 }
 
-/// Puts the log of each job in its goroutine's place.
-pub(crate) fn put_ready<R: Drop, A: Allocator>(
-    tracks: &mut Vec<Track<A>, A>,
-    ready: Vec<Job<R, A>, A>,
-)
+// Puts the log of each job in its goroutine's place.
+fn put_ready<R: Drop, A: Allocator>(tracks: &mut Vec<Track<A>, A>, ready: Vec<Job<R, A>, A>)
     ensures { tracks.new.items ≡ placed (logs_of_jobs ready.items) tracks.old.items }
 {
     for job in ready {
@@ -108,8 +105,8 @@ pub(crate) fn put_ready<R: Drop, A: Allocator>(
     }
 }
 
-/// Puts the log behind each request in its goroutine's place.
-pub(crate) fn put_parked<R: Drop, A: Allocator>(
+// Puts the log behind each request in its goroutine's place.
+fn put_parked<R: Drop, A: Allocator>(
     tracks: &mut Vec<Track<A>, A>,
     waiting: &[Waiter],
     parked: Vec<Parked<R, A>, A>,
@@ -125,14 +122,30 @@ pub(crate) fn put_parked<R: Drop, A: Allocator>(
     }
 }
 
-/// Puts the log of each goroutine that is through in its place.
-pub(crate) fn put_ended<A: Allocator>(tracks: &mut Vec<Track<A>, A>, ended: Vec<Ended<A>, A>)
+// Puts the log of each goroutine that is through in its place.
+fn put_ended<A: Allocator>(tracks: &mut Vec<Track<A>, A>, ended: Vec<Ended<A>, A>)
     ensures { tracks.new.items ≡ placed ended.items tracks.old.items }
 {
     for through in ended {
         let (goroutine, log) = through.into_log();
         put(tracks, goroutine, log);
     }
+}
+
+/// Puts each log in its goroutine's place.
+pub(crate) fn put_logs<R: Drop, A: Allocator>(
+    tracks: &mut Vec<Track<A>, A>,
+    ready: Vec<Job<R, A>, A>,
+    waiting: &[Waiter],
+    parked: Vec<Parked<R, A>, A>,
+    ended: Vec<Ended<A>, A>,
+)
+    ensures { tracks.new.items ≡ placed ended.items
+        (placed (logs_behind waiting.now parked.items) (placed (logs_of_jobs ready.items) tracks.old.items)) }
+{
+    put_ready(tracks, ready);
+    put_parked(tracks, waiting, parked);
+    put_ended(tracks, ended);
 }
 
 // Who does the event, but for who starts itself.

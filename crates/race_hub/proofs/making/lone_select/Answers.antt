@@ -1,5 +1,6 @@
 -- An offer makes what a send or a receive does.
-use Rattle.std.proofs.Common.{◌==◌, ◌&&◌, map, length, Option, Some, None, sym, ap, ◌∙◌}
+use Rattle.std.proofs.lemmas.Grind.{elements}
+use Rattle.std.proofs.Common.{◌==◌, ◌&&◌, map, length, Option, Some, None, sym, ap, ◌∙◌, arith}
 use Rattle.race_records.specs.declared.event.Op.TheVariants.{Default}
 use Rattle.race_records.specs.declared.kind.Kind.{Kind}
 use Rattle.race_legal.specs.ReplayState.{counts_in}
@@ -32,3 +33,6 @@ returns-in-Recv g c D past S =
     ∙ by_offer_at c.args.offers.now c.args.way (Some c.get.result) (c.args.has_default && (c.args.way == length c.args.offers.now))
     (Some (Default (map case_of c.args.offers.now)))
     (λ (o : Option Offer). elim o [ Some o ↦ lone_op past o | None ↦ None ]) test c.get.ensures
+
+pub returns-then-at-len : goal.returns-then-at-len
+returns-then-at-len c = grind (arith, elements) steps 1000000

@@ -1,3 +1,4 @@
+use Rattle.std.proofs.lemmas.Grind.{common_steps}
 use Rattle.std.proofs.Common.{◌<◌, ◌==◌, sym, get_or, length, arith, eq-eqb}
 use Rattle.std.proofs.lemmas.List.Sums.{position_or_len_is}
 use Rattle.race_hub.proofs.AmongLemmas.{none_before, none_at_all}
@@ -16,3 +17,6 @@ pub unreachable-requires : goal.unreachable-requires
 unreachable-requires c =
     let test = c.loop-at-test.false in
     none_at_all (λ n. n == c.args.number) c.args.numbers.now c.loop-at.at (omega (arith, test)) c.loop-at.invariant c.requires
+
+pub loop-at-preserved : goal.loop-at-preserved
+loop-at-preserved c = grind (arith, common_steps) steps 1000000

@@ -1,4 +1,4 @@
-use Rattle.std.proofs.lemmas.Grind.{common_steps}
+use Rattle.std.proofs.lemmas.Grind.{common_steps, elements}
 use Rattle.std.proofs.Common.{ℕ, ◌≡◌, ◌<◌, List, [], Option, Some, None, IfSome, ◌∙◌, sym, subst, ap, append-nil, length, get_or, arith}
 use Rattle.std.proofs.lemmas.Option.{slice_get_read}
 use Rattle.race_hub.specs.Fires.{born_of, begins}
@@ -21,3 +21,6 @@ index_mut-requires c = grind (arith, common_steps) steps 300000
 
 pub push_reserved-requires : goal.push_reserved-requires
 push_reserved-requires c = grind (arith, common_steps) steps 300000
+
+pub returns-in-Some-take-clause-ready : goal.returns-in-Some-take-clause-ready
+returns-in-Some-take-clause-ready c = grind (arith, elements) steps 1000000

@@ -1,3 +1,4 @@
+use Rattle.std.proofs.lemmas.Grind.{common_steps}
 use Rattle.std.proofs.Common.{◌≡◌, ◌∙◌, ◌+◌, ◌∷◌, [], suc, take, sym, ap, subst, arith, Some}
 use Rattle.std.proofs.lemmas.Option.{slice_get-get_or}
 use Rattle.race_model.proofs.Indexes.{take_suc}
@@ -15,3 +16,6 @@ loop-event-preserved g c =
     subst (λ es. HavePassed es c.args.tracks.now.items c.pass.new.tracks.items) (sym more)
     (passed_more c.args.tracks.now.items c.loop-event.tracks.items c.pass.new.tracks.items
     (take i events) (c.event-item.result ∷ []) c.loop-event.invariant c.pass.ensures)
+
+pub returns : goal.returns
+returns c = grind (arith, common_steps) steps 1000000

@@ -1,4 +1,7 @@
-use Rattle.std.proofs.Common.{◌≡◌, ◌∙◌, ◌∷◌, [], ◌++◌, sym, ap, slice_set, slice_get, length, length-append, arith, get_or}
+use Rattle.std.proofs.lemmas.Iterator.Adapters.{YieldsList-from_vec}
+use Rattle.std.proofs.lemmas.Iterator.Consumers.{YieldsList-end}
+use Rattle.std.proofs.lemmas.Grind.{common_steps}
+use Rattle.std.proofs.Common.{◌≡◌, ◌∙◌, ◌∷◌, [], ◌++◌, sym, ap, slice_set, slice_get, length, length-append, arith, get_or, map-id, rules}
 use Rattle.std.proofs.lemmas.Option.{slice_get-get_or}
 use Rattle.race_hub.specs.declared.request.Waiter.{Waiter}
 use Rattle.race_hub.specs.Finish.{placed, logs_behind}
@@ -51,3 +54,22 @@ loop-behind-preserved g c =
           ∙ ap (λ logs. placed logs c.args.tracks.now.items) (sym (behind_all waiting parked c.in-Some.behind (omega (arith, at, beyond))));
       at = omega (arith, at, beyond, more);
     }
+
+pub bounds-waiting-at : goal.bounds-waiting-at
+bounds-waiting-at c = grind (arith, common_steps) steps 1000000
+
+pub bounds-waiting-at-then-at-waiting : goal.bounds-waiting-at-then-at-waiting
+bounds-waiting-at-then-at-waiting c = grind (arith, common_steps) steps 1000000
+
+pub offset_bounds-waiting-at : goal.offset_bounds-waiting-at
+offset_bounds-waiting-at c = grind (arith, common_steps) steps 1000000
+
+pub overflow_add-at : goal.overflow_add-at
+overflow_add-at c = grind (arith, common_steps) steps 1000000
+
+pub returns : goal.returns
+returns g c =
+    let all = YieldsList-from_vec {s = c.into_iter-behind-iterator.result} c.args.parked.items (search rules) (search rules) in
+    let end = YieldsList-end all c.loop-behind.yielded c.loop-behind.behind-iterator
+    c.loop-behind.yielded_by c.next.result c.next.new.self c.in-None.is c.next.ensures.steps in
+    rw (← end.0, map-id) c.loop-behind.invariant.places

@@ -13,3 +13,6 @@ returns-in-Some-clause-passed g c p least less q =
 
 pub hands_over-requires : goal.hands_over-requires
 hands_over-requires c = grind (arith, common_steps) steps 300000
+
+pub at-requires : goal.at-requires
+at-requires c = grind (arith, common_steps) steps 1000000

@@ -1,3 +1,4 @@
+use Rattle.std.proofs.lemmas.Grind.{common_steps}
 use Rattle.std.proofs.Common.{◌≡◌, ◌∙◌, ◌<◌, length, sym, ap, subst, arith, refl, Some, None}
 use Rattle.std.specs.Prelude.{is_some}
 use Rattle.race_hub.specs.Hub.{HubState, end_of}
@@ -12,10 +13,8 @@ pub first_other-requires : goal.first_other-requires
 first_other-requires g c =
     let h = hub_state c.self.inside in
     let holds = c.self.invariant.0 in
-    let right = right_of h c.self.inside.tracks.items c.put_ready.new.tracks.items c.put_parked.new.tracks.items c.put_ended.new.tracks.items
-    c.pass_all.new.tracks.items c.as_slice-2.result.now c.events.result.now
-    c.self.invariant.2 holds.once holds.ends c.put_ready.ensures c.as_slice-2.ensures.value
-    c.put_parked.ensures c.put_ended.ensures c.events.ensures.events c.pass_all.ensures in
+    let right = right_of h c.self.inside.tracks.items c.put_logs.new.tracks.items c.pass_all.new.tracks.items c.as_slice-2.result.now c.events.result.now
+    c.self.invariant.2 holds.once holds.ends c.as_slice-2.ensures.value c.put_logs.ensures c.events.ensures.events c.pass_all.ensures in
     let len = ap length c.as_slice-3.ensures.value in
     let count = right.count in
     let few = holds.few_goroutines in
@@ -26,10 +25,8 @@ returns-in-Some-first_other-clause-err g c =
     let h = hub_state c.self.inside in
     let holds = c.self.invariant.0 in
     let k = c.in-Some-first_other.goroutine in
-    let right = right_of h c.self.inside.tracks.items c.put_ready.new.tracks.items c.put_parked.new.tracks.items c.put_ended.new.tracks.items
-    c.pass_all.new.tracks.items c.as_slice-2.result.now c.events.result.now
-    c.self.invariant.2 holds.once holds.ends c.put_ready.ensures c.as_slice-2.ensures.value
-    c.put_parked.ensures c.put_ended.ensures c.events.ensures.events c.pass_all.ensures in
+    let right = right_of h c.self.inside.tracks.items c.put_logs.new.tracks.items c.pass_all.new.tracks.items c.as_slice-2.result.now c.events.result.now
+    c.self.invariant.2 holds.once holds.ends c.as_slice-2.ensures.value c.put_logs.ensures c.events.ensures.events c.pass_all.ensures in
     let other = told_of h c.pass_all.new.tracks.items c.as_slice-3.result.now c.first_other.result
     (Some k) right c.as_slice-3.ensures.value c.first_other.ensures
     c.in-Some-first_other.is in
@@ -48,10 +45,8 @@ pub new-requires-clause-parts : goal.new-requires-clause-parts
 new-requires-clause-parts g c =
     let h = hub_state c.self.inside in
     let holds = c.self.invariant.0 in
-    let right = right_of h c.self.inside.tracks.items c.put_ready.new.tracks.items c.put_parked.new.tracks.items c.put_ended.new.tracks.items
-    c.pass_all.new.tracks.items c.as_slice-2.result.now c.events.result.now
-    c.self.invariant.2 holds.once holds.ends c.put_ready.ensures c.as_slice-2.ensures.value
-    c.put_parked.ensures c.put_ended.ensures c.events.ensures.events c.pass_all.ensures in
+    let right = right_of h c.self.inside.tracks.items c.put_logs.new.tracks.items c.pass_all.new.tracks.items c.as_slice-2.result.now c.events.result.now
+    c.self.invariant.2 holds.once holds.ends c.as_slice-2.ensures.value c.put_logs.ensures c.events.ensures.events c.pass_all.ensures in
     parts_are h h.events c.pass_all.new.tracks.items
     (told_of h c.pass_all.new.tracks.items c.as_slice-3.result.now c.first_other.result None right c.as_slice-3.ensures.value c.first_other.ensures
     c.in_default-first_other.is)
@@ -60,20 +55,16 @@ pub new-requires-clause-count : goal.new-requires-clause-count
 new-requires-clause-count g c =
     let h = hub_state c.self.inside in
     let holds = c.self.invariant.0 in
-    let right = right_of h c.self.inside.tracks.items c.put_ready.new.tracks.items c.put_parked.new.tracks.items c.put_ended.new.tracks.items
-    c.pass_all.new.tracks.items c.as_slice-2.result.now c.events.result.now
-    c.self.invariant.2 holds.once holds.ends c.put_ready.ensures c.as_slice-2.ensures.value
-    c.put_parked.ensures c.put_ended.ensures c.events.ensures.events c.pass_all.ensures in
+    let right = right_of h c.self.inside.tracks.items c.put_logs.new.tracks.items c.pass_all.new.tracks.items c.as_slice-2.result.now c.events.result.now
+    c.self.invariant.2 holds.once holds.ends c.as_slice-2.ensures.value c.put_logs.ensures c.events.ensures.events c.pass_all.ensures in
     right.count ∙ holds.boxes
 
 pub returns-clause-ok : goal.returns-clause-ok
 returns-clause-ok g c =
     let h = hub_state c.self.inside in
     let holds = c.self.invariant.0 in
-    let right = right_of h c.self.inside.tracks.items c.put_ready.new.tracks.items c.put_parked.new.tracks.items c.put_ended.new.tracks.items
-    c.pass_all.new.tracks.items c.as_slice-2.result.now c.events.result.now
-    c.self.invariant.2 holds.once holds.ends c.put_ready.ensures c.as_slice-2.ensures.value
-    c.put_parked.ensures c.put_ended.ensures c.events.ensures.events c.pass_all.ensures in
+    let right = right_of h c.self.inside.tracks.items c.put_logs.new.tracks.items c.pass_all.new.tracks.items c.as_slice-2.result.now c.events.result.now
+    c.self.invariant.2 holds.once holds.ends c.as_slice-2.ensures.value c.put_logs.ensures c.events.ensures.events c.pass_all.ensures in
     let logs = logs_are h h.events c.pass_all.new.tracks.items right in
     let recorded = c.new.ensures in
     subst (λ h. IsRecorded h c.new.result) c.self.view_is (subst (IsRecorded h) (sym recorded) (record {
@@ -95,3 +86,27 @@ returns-clause-end g c =
       whose = holds.bad_waits;
       is_end = end_is h c.in-Some.end holds.once (ap end_of c.self.view_is ∙ sym c.end.ensures ∙ c.in-Some.is);
     }))
+
+pub returns-in-Some-first_other-clause-end : goal.returns-in-Some-first_other-clause-end
+returns-in-Some-first_other-clause-end c = grind (arith, common_steps) steps 1000000
+
+pub returns-in-Some-first_other-clause-ok : goal.returns-in-Some-first_other-clause-ok
+returns-in-Some-first_other-clause-ok c = grind (arith, common_steps) steps 1000000
+
+pub returns-in-Some-least-clause-end : goal.returns-in-Some-least-clause-end
+returns-in-Some-least-clause-end c = grind (arith, common_steps) steps 1000000
+
+pub returns-in-Some-least-clause-err : goal.returns-in-Some-least-clause-err
+returns-in-Some-least-clause-err c = grind (arith, common_steps) steps 1000000
+
+pub returns-in-Some-least-clause-ok : goal.returns-in-Some-least-clause-ok
+returns-in-Some-least-clause-ok c = grind (arith, common_steps) steps 1000000
+
+pub returns-in_default-clause-end : goal.returns-in_default-clause-end
+returns-in_default-clause-end c = grind (arith, common_steps) steps 1000000
+
+pub returns-in_default-clause-err : goal.returns-in_default-clause-err
+returns-in_default-clause-err c = grind (arith, common_steps) steps 1000000
+
+pub returns-in_default-clause-ok : goal.returns-in_default-clause-ok
+returns-in_default-clause-ok c = grind (arith, common_steps) steps 1000000

@@ -15,7 +15,7 @@ after_of g c = record {
   ready = c.push.new.self.items;
   waiting = c.new-4.result.items;
   parked = c.new-5.result.items;
-  out = c.reserve.new.self.items;
+  out = c.in_ok-out.out.items;
   unstarted = c.in_ok-unstarted.unstarted.items;
   ended = c.new-6.result.items;
   bad = None;
@@ -30,7 +30,7 @@ is_opening g c = λ i. record {
   ready = (c.in_ok-push.ensures.items ∙ ap (λ xs. xs ++ c.new-2.result ∷ []) c.new-ready.ensures.items ∙ ap (λ j. j ∷ []) c.new-2.ensures) i;
   waiting = c.new-4.ensures.items i;
   parked = c.new-5.ensures.items i;
-  out = (c.reserve.ensures.items ∙ c.new-out.ensures.items) i;
+  out = c.in_ok-out.ensures.items i;
   unstarted = (c.in_ok-unstarted.ensures ∙ ap (λ xs. None ∷ map Some xs) c.remove-main.ensures.items) i;
   ended = c.new-6.ensures.items i;
   bad = None;
@@ -44,11 +44,10 @@ all_is g c =
 pub invariant_of-result : goal.invariant_of-result
 invariant_of-result g c =
     let many = ap length (sym (all_is g c)) in
-    let room = c.in_ok-reserve.ensures.ok in
+    let room = c.in_ok-out.ensures.capacity in
     let ready = c.push.ensures.len in
     let fresh = c.new-ready.ensures.len in
-    let none = c.new-out.ensures.len in
-    let same = c.reserve.ensures.len in
+    let none = c.in_ok-out.ensures.len in
     let pushed = c.in_ok-push.ensures.len in
     let few = c.count-count.ensures.limited in
     let counted = c.count-count.ensures.count in
@@ -56,7 +55,7 @@ invariant_of-result g c =
       subst (Holds c.in_ok-replay.replay) (sym (is_opening g c))
           (holds_opening c.in_ok-replay.replay c.args.decls c.args.limit c.remove-main.result (remove c.args.routines.items 0) c.in_ok-replay.ensures.stands
           c.requires.few (many ∙ all) (omega (arith, many, all, few, counted))),
-      omega (arith, room, pushed, fresh, none, same),
+      omega (arith, room, pushed, fresh, none),
       subst (λ n. AreBlank n c.in_ok-tracks.tracks.items) c.in_ok-unstarted.unstarted.ok.0
           (subst (λ n. AreBlank n c.in_ok-tracks.tracks.items) c.len.ensures c.in_ok-tracks.ensures),
     )

@@ -1,42 +1,54 @@
 use Rattle.std.proofs.lemmas.Grind.{common_steps}
-use Rattle.std.proofs.Common.{◌≡◌, ◌<◌, ◌++◌, ◌∷◌, [], None, ◌∙◌, sym, subst, ap, refl, arith, length, IfSome, IsTrue}
-use Rattle.race_records.specs.Events.{fits}
+use Rattle.std.proofs.Common.{◌≡◌, ◌<◌, None, ◌∙◌, sym, subst, ap, refl, arith, length, IfSome}
 use Rattle.race_hub.specs.Hub.{HubState, stop_of}
 use Rattle.race_hub.specs.HubHolds.{hub_state}
+use Rattle.race_hub.specs.Holds.{Holds}
 use Rattle.race_hub.specs.Firing.{IsFiring}
 use Rattle.race_hub.specs.Fires.{Fires, started_by}
 use Rattle.race_hub.specs.Tracks.{AreBlank}
 use Rattle.race_hub.specs.Table.{IsRow, done_by}
-use Rattle.race_hub.proofs.PerformLemmas.{fit_is_in_range, fit_is_taken, below_limit, started_fits, holds_after, not_both, boxes_len, Moves}
+use Rattle.race_hub.proofs.PerformLemmas.{fit_is_in_range, below_limit, started_fits, holds_after, boxes_len, lists_same, Moves}
 use Rattle.race_hub.proofs.ChoiceLemmas.{some_is}
 use Rattle.race_hub.proofs.hub.Hub.perform.Given as given
 use Rattle.race_hub.proofs.hub.Hub.perform.Goals as goal
 
-pub accept-requires-clause-range : goal.accept-requires-clause-range
-accept-requires-clause-range g c =
+pub invariant_of-self : goal.invariant_of-self
+invariant_of-self g c =
+    let h = hub_state c.self.inside in
+    let lists = c.make_room.new in
+    let same = c.make_room.ensures in (
+      subst (Holds c.self.inside.replay)
+          (sym (lists_same h h.decls h.events lists.ready.items lists.out.items lists.ended.items refl refl same.ready same.out same.ended))
+          c.self.invariant.0,
+      same.kept c.self.invariant.1,
+      c.self.invariant.2,
+    )
+
+pub append-requires-clause-range : goal.append-requires-clause-range
+append-requires-clause-range g c =
     let firing = subst (λ h. IsFiring h c.args.firing) (sym c.self.view_is) c.requires.firing in
     let old = hub_state c.self.inside in
     fit_is_in_range old.decls c.self.inside.replay old.events c.args.firing.event c.self.invariant.0.stands firing.fits
 
-pub accept-requires-clause-room : goal.accept-requires-clause-room
-accept-requires-clause-room g c =
+pub append-requires-clause-room : goal.append-requires-clause-room
+append-requires-clause-room g c =
     let holds = c.self.invariant.0 in
     let less = below_limit (hub_state c.self.inside) (subst (λ h. stop_of h ≡ None) (sym c.self.view_is) c.requires.on) holds.limited in
     let few = holds.few in
     let len = holds.stands.len in
     omega (arith, less, few, len)
 
-pub unreachable-requires : goal.unreachable-requires
-unreachable-requires g c =
-    let old = hub_state c.self.inside in
-    let holds = c.self.invariant.0 in
+pub append-requires-clause-fits : goal.append-requires-clause-fits
+append-requires-clause-fits g c =
     let firing = subst (λ h. IsFiring h c.args.firing) (sym c.self.view_is) c.requires.firing in
-    let less = below_limit old (subst (λ h. stop_of h ≡ None) (sym c.self.view_is) c.requires.on) holds.limited in
+    firing.fits
+
+pub append-requires-clause-few : goal.append-requires-clause-few
+append-requires-clause-few g c =
+    let holds = c.self.invariant.0 in
+    let less = below_limit (hub_state c.self.inside) (subst (λ h. stop_of h ≡ None) (sym c.self.view_is) c.requires.on) holds.limited in
     let few = holds.few in
-    let same = ap length c.reserve-4.ensures.unchanged.events in
-    let fit = subst (λ d. IsTrue (fits d c.args.firing.event)) (sym c.reserve-4.ensures.unchanged.decls) firing.fits in
-    let taken = fit_is_taken c.reserve-4.new.self c.args.firing.event fit (omega (arith, less, few, same)) in
-    not_both c.push.result c.in_default-push.field-0 (c.push.ensures.room taken c.in_ok-reserve-4.ensures.room) c.in_default-push.is
+    omega (arith, less, few)
 
 pub start-requires-clause-fits : goal.start-requires-clause-fits
 start-requires-clause-fits g c =
@@ -46,42 +58,35 @@ start-requires-clause-fits g c =
 
 abbrev after_of : (g : given.Over) → goal.After-start g → HubState g.row.R.Denot
 after_of g c = record {
-  decls = c.push.new.self.decls;
-  events = c.push.new.self.events;
+  decls = c.append.new.trace.decls;
+  events = c.append.new.trace.events;
   limit = c.self.inside.limit;
   ready = c.start.new.ready.items;
-  waiting = c.take_out-waiter.new.list.items;
-  parked = c.take_out-parked.new.list.items;
-  out = c.reserve-2.new.self.items;
+  waiting = c.resume.new.waiting.items;
+  parked = c.resume.new.parked.items;
+  out = c.make_room.new.out.items;
   unstarted = c.start.new.unstarted.items;
-  ended = c.go_on.new.ended.items;
+  ended = c.resume.new.ended.items;
   bad = c.self.inside.bad;
 }
 
 abbrev moved : (g : given.Over) (c : goal.After-start g) → Moves (hub_state c.self.inside) (after_of g c) c.args.firing
-moved g c = record {
-  w = c.take_out-waiter.result.0;
-  p = c.take_out-parked.result.0;
-  asks = c.take_out-waiter.ensures.first;
-  decls = c.in-Ok-push.ensures.decls ∙ c.reserve-4.ensures.unchanged.decls;
-  events = c.in-Ok-push.ensures.events ∙ ap (λ es. es ++ c.args.firing.event ∷ []) c.reserve-4.ensures.unchanged.events;
-  limit = refl;
-  waiting = c.take_out-waiter.ensures.list;
-  parked = c.take_out-parked.ensures.list;
-  out = c.reserve-2.ensures.items;
-  ready = rw (
-    c.start.ensures.ready,
-    c.partner_on.ensures.ready,
-    c.go_on.ensures.ready,
-    c.reserve.ensures.items,
-    c.take_out-waiter.ensures.second,
-    c.take_out-parked.ensures.second,
-    c.started_in-started.ensures,
-  ) refl;
-  unstarted = rw (c.start.ensures.unstarted, c.started_in-started.ensures) refl;
-  ended = rw (c.go_on.ensures.ended, c.reserve-3.ensures.items) refl;
-  bad = refl;
-}
+moved g c =
+    let (w, p, asks, behind, ready, ended) = c.resume.ensures.moved in record {
+      w = w;
+      p = p;
+      asks = asks;
+      decls = c.append.ensures.decls;
+      events = c.in_ok-append.ensures.events;
+      limit = refl;
+      waiting = c.resume.ensures.waiting;
+      parked = c.resume.ensures.parked;
+      out = c.make_room.ensures.out;
+      ready = rw (c.start.ensures.ready, ready, c.make_room.ensures.ready, c.started_in-started.ensures) refl;
+      unstarted = rw (c.start.ensures.unstarted, c.started_in-started.ensures) refl;
+      ended = rw (ended, c.make_room.ensures.ended) refl;
+      bad = refl;
+    }
 
 pub invariant_of-self-2 : goal.invariant_of-self-2
 invariant_of-self-2 g c =
@@ -90,32 +95,29 @@ invariant_of-self-2 g c =
     let firing = subst (λ h. IsFiring h c.args.firing) (sym c.self.view_is) c.requires.firing in
     let on = subst (λ h. stop_of h ≡ None) (sym c.self.view_is) c.requires.on in
     let a = c.start.ensures.len in
-    let b = c.partner_on.ensures.len in
-    let d = c.go_on.ensures.len in
-    let e = c.in_ok-reserve-2.ensures.ok in
-    let f = c.len.ensures in
-    let i = c.reserve-2.ensures.len in
+    let b = c.resume.ensures.len in
+    let d = c.in_ok-make_room.ensures.turns in
     let boxes = ap length (moved g c).unstarted ∙ boxes_len old.unstarted (started_by c.args.firing.event.op) in (
-      holds_after c.self.inside.replay c.accept.new.self old (after_of g c) c.args.firing (moved g c) holds on firing
-          (c.in-Ok.ensures.goes_on old.decls.declarations old.events holds.stands),
-      omega (arith, a, b, d, e, f, i),
+      holds_after c.self.inside.replay c.append.new.replay old (after_of g c) c.args.firing (moved g c) holds on firing
+          (c.in_ok-append.ensures.goes_on old.decls.declarations old.events holds.stands),
+      omega (arith, a, b, d),
       subst (λ n. AreBlank n c.self.inside.tracks.items) (sym boxes) c.self.invariant.2,
     )
 
 fired : (g : given.Over) (c : goal.After-start g) → Fires (hub_state c.self.inside) c.args.firing.choice (after_of g c)
 fired g c =
-    let old = hub_state c.self.inside in
     let firing = subst (λ h. IsFiring h c.args.firing) (sym c.self.view_is) c.requires.firing in
     let m = moved g c in
-    let same = some_is (sym firing.rows.asks ∙ c.take_out-waiter.ensures.first) in
+    let (w, p, asks, behind, ready, ended) = c.resume.ensures.moved in
+    let same = some_is (sym firing.rows.asks ∙ m.asks) in
     record {
-      w = c.take_out-waiter.result.0;
-      p = c.take_out-parked.result.0;
+      w = m.w;
+      p = m.p;
       e = c.args.firing.event;
       told = c.args.firing.told;
       partner_told = c.args.firing.partner;
-      asks = c.take_out-waiter.ensures.first;
-      behind = c.take_out-parked.ensures.first;
+      asks = m.asks;
+      behind = behind;
       makes = firing.makes;
       legal = firing.legal;
       row = subst (λ w. IsRow w.asked.ask c.args.firing.choice.offer (done_by w.who c.args.firing.event.op) c.args.firing.told) same firing.rows.row;
@@ -126,12 +128,33 @@ fired g c =
       parked = m.parked;
       ready = m.ready;
       unstarted = m.unstarted;
-      ended = rw (c.go_on.ensures.ended, c.reserve-3.ensures.items) refl;
+      ended = m.ended;
       same = (m.decls, refl, m.out, refl);
     }
 
 pub returns-clause-fires : goal.returns-clause-fires
 returns-clause-fires g c = subst (λ h. Fires h c.args.firing.choice (after_of g c)) c.self.view_is (fired g c)
 
-pub partner_on-requires : goal.partner_on-requires
-partner_on-requires c = grind (arith, common_steps) steps 1000000
+pub invariant_of-self-in_err-append : goal.invariant_of-self-in_err-append
+invariant_of-self-in_err-append c = grind (arith, common_steps) steps 1000000
+
+pub resume-requires-clause-ended : goal.resume-requires-clause-ended
+resume-requires-clause-ended c = grind (arith, common_steps) steps 1000000
+
+pub resume-requires-clause-parked : goal.resume-requires-clause-parked
+resume-requires-clause-parked c = grind (arith, common_steps) steps 1000000
+
+pub resume-requires-clause-partner : goal.resume-requires-clause-partner
+resume-requires-clause-partner c = grind (arith, common_steps) steps 1000000
+
+pub resume-requires-clause-place : goal.resume-requires-clause-place
+resume-requires-clause-place c = grind (arith, common_steps) steps 1000000
+
+pub resume-requires-clause-ready : goal.resume-requires-clause-ready
+resume-requires-clause-ready c = grind (arith, common_steps) steps 1000000
+
+pub returns-clause-err : goal.returns-clause-err
+returns-clause-err c = grind (arith, common_steps) steps 1000000
+
+pub start-requires-clause-room : goal.start-requires-clause-room
+start-requires-clause-room c = grind (arith, common_steps) steps 1000000

@@ -1,5 +1,5 @@
-use Rattle.std.proofs.lemmas.Grind.{common_steps}
-use Rattle.std.proofs.Common.{◌≡◌, ◌++◌, ◌∷◌, [], ◌∙◌, ap, subst, refl, arith, sym, if◌then◌else◌, Some, true}
+use Rattle.std.proofs.lemmas.Grind.{common_steps, elements}
+use Rattle.std.proofs.Common.{◌≡◌, ◌++◌, ◌∷◌, [], ◌∙◌, ap, subst, refl, arith, sym, Some, true, if◌then◌else◌}
 use Rattle.race_hub.specs.Hub.{HubState}
 use Rattle.race_hub.specs.HubHolds.{hub_state}
 use Rattle.race_hub.specs.Submits.{is_back, ends_hub, without_first, Submits}
@@ -85,3 +85,39 @@ push_reserved-requires-2 c = grind (arith, common_steps) steps 300000
 
 pub take_first-requires : goal.take_first-requires
 take_first-requires c = grind (arith, common_steps) steps 1000000
+
+pub invariant_of-self : goal.invariant_of-self
+invariant_of-self c = grind (arith, common_steps) steps 1000000
+
+pub invariant_of-self-2 : goal.invariant_of-self-2
+invariant_of-self-2 c = grind (arith, common_steps) steps 1000000
+
+pub invariant_of-self-then-is_err-2 : goal.invariant_of-self-then-is_err-2
+invariant_of-self-then-is_err-2 c = grind (arith, common_steps) steps 1000000
+
+pub park-waiter-requires : goal.park-waiter-requires
+park-waiter-requires c = grind (arith, common_steps) steps 1000000
+
+pub returns-clause-bad : goal.returns-clause-bad
+returns-clause-bad c = grind (arith, common_steps) steps 1000000
+
+pub returns-clause-memory : goal.returns-clause-memory
+returns-clause-memory c = grind (arith, common_steps) steps 1000000
+
+pub returns-clause-ok : goal.returns-clause-ok
+returns-clause-ok c = grind (arith, elements) steps 1000000
+
+pub returns-clause-stray : goal.returns-clause-stray
+returns-clause-stray c = grind (arith, common_steps) steps 1000000
+
+pub returns-then-bad-clause-memory : goal.returns-then-bad-clause-memory
+returns-then-bad-clause-memory c = grind (arith, common_steps) steps 1000000
+
+pub returns-then-bad-clause-ok : goal.returns-then-bad-clause-ok
+returns-then-bad-clause-ok c = grind (arith, common_steps) steps 1000000
+
+pub returns-then-bad-clause-stray : goal.returns-then-bad-clause-stray
+returns-then-bad-clause-stray c = grind (arith, common_steps) steps 1000000
+
+pub returns-then-is_err-clause-stray : goal.returns-then-is_err-clause-stray
+returns-then-is_err-clause-stray c = grind (arith, common_steps) steps 1000000

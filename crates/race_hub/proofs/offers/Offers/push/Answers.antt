@@ -1,3 +1,4 @@
+use Rattle.std.proofs.lemmas.Grind.{common_steps}
 use Rattle.std.proofs.Common.{◌≡◌, ◌++◌, ◌∷◌, [], length, set, List, true≢false, refl, sym, ap, ◌∙◌, arith}
 use Rattle.race_hub.specs.declared.request.Offer.{Offer}
 use Rattle.race_hub.specs.Offers.{offers_with}
@@ -32,3 +33,6 @@ returns-clause-pushed c =
     (λ i. offers_with (c.in-Ok.ensures.pushed i) (set values (at i) c.parts_of-value.result.1))
     ∙ offers_push cases values c.parts_of-value.result.0 c.parts_of-value.result.1 (omega (arith, less, c.self.invariant.1))
     ∙ (λ i. c.self.view_is i ++ c.parts_of-value.ensures.offer i ∷ [])
+
+pub invariant_of-self-2 : goal.invariant_of-self-2
+invariant_of-self-2 c = grind (arith, common_steps) steps 1000000

@@ -1,3 +1,4 @@
+use Rattle.std.proofs.lemmas.Grind.{elements}
 use Rattle.std.proofs.Common.{◌≡◌, ◌∙◌, ◌<◌, ℕ, sym, ap, subst, length, arith, Some}
 use Rattle.std.specs.Option.{option_map}
 use Rattle.std.proofs.lemmas.Option.{slice_get-get_or, slice_get-map}
@@ -24,3 +25,6 @@ returns-clause-part g c =
     (slice_get-get_or c.self.inside.tracks.items c.args.goroutine c.index.result.now within ∙ ap Some (sym c.index.ensures)) in
     subst (IsPart c.args.goroutine c.log.result.now) (ap (λ (r : RecordingState). r.events) c.self.view_is)
     (c.self.invariant.parts c.args.goroutine c.log.result.now (at ∙ ap Some (sym c.log.ensures)))
+
+pub returns-clause-log : goal.returns-clause-log
+returns-clause-log c = grind (arith, elements) steps 1000000

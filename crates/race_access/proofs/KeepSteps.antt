@@ -26,6 +26,17 @@ cons_rest x xs e (k, less, is) = (suc k, omega (arith, less), is)
 pub only_one : {X : Type 0} (x e : X) → Contains (x ∷ []) e → x ≡ e
 only_one x e is = elim (cons_cases x [] e is) [ inl same ↦ same | inr (k, less, at) ↦ absurd (omega (arith, less)) ]
 
+-- the only one is kept, and the access behind it
+pub keeps_both : (clock : List ℕ) (read access : Access) → KeepsRead (read ∷ []) (read ∷ access ∷ []) access clock
+keeps_both clock read access = record {
+  itself = (1, omega arith, refl);
+  nothing_else = λ e is more. elim (cons_cases read (access ∷ []) e is) [
+    | inl same ↦ inl (0, omega arith, same)
+    | inr rest ↦ inr (sym (only_one access e rest))
+  ];
+  dropped = λ e is. inl (0, omega arith, only_one read e is);
+}
+
 -- the greatest unknown one of two lists
 pub greatest_of_both : (clock : List ℕ) (xs ys : List Access) (a b : Option ℕ)
     → IsGreatestUnknown clock xs a → IsGreatestUnknown clock ys b → IsGreatestUnknown clock (xs ++ ys) (greater a b)

@@ -17,7 +17,7 @@ use std::marker::Model;
 use std::mem;
 
 // Clocks, first in first out.
-#[derive(Debug, Drop)]
+#[derive(Drop)]
 struct Queue<A: Allocator> {
     clocks: VecDeque<Clock<A>, A>,
 }
@@ -78,7 +78,7 @@ impl<A: Allocator> Queue<A> {
 }
 
 // The clocks of what is on its way.
-#[derive(Debug, Drop)]
+#[derive(Drop)]
 struct Queues<A: Allocator> {
     sent: Queue<A>,
     freed: Queue<A>,
@@ -100,7 +100,7 @@ impl<A: Allocator + Copy> Queues<A> {
     }
 }
 
-#[derive(Debug, Drop)]
+#[derive(Drop)]
 pub(crate) struct Channel<A: Allocator> {
     capacity: usize,
     // Made at the first send.

@@ -21,7 +21,6 @@ use race_records::{Decls, Kind, Op};
 use std::alloc::{AllocError, Allocator};
 use std::marker::Model;
 
-#[derive(Debug)]
 pub(crate) struct Clocks<A: Allocator> {
     slots: Vec<Slot<A>, A>,
     channels: Vec<Channel<A>, A>,

@@ -8,7 +8,7 @@ use std::alloc::{AllocError, Allocator};
 use std::marker::Model;
 use std::mem;
 
-#[derive(Debug, Drop)]
+#[derive(Drop)]
 pub(crate) struct Kept<A: Allocator> {
     clock: Option<Box<Clock<A>, A>>,
 }

@@ -12,13 +12,13 @@ use std::marker::Model;
 use std::mem;
 
 // Of the unlocks: what all of them bring, and what the last of them does.
-#[derive(Debug, Drop)]
+#[derive(Drop)]
 struct Unlocks<A: Allocator> {
     all: Clock<A>,
     last: Clock<A>,
 }
 
-#[derive(Debug, Drop)]
+#[derive(Drop)]
 pub(crate) struct LockClocks<A: Allocator> {
     unlocks: Option<Box<Unlocks<A>, A>>,
     runlocks: Kept<A>,

@@ -9,7 +9,7 @@ use std::alloc::{AllocError, Allocator};
 use std::marker::Model;
 use std::mem;
 
-#[derive(Debug, Drop)]
+#[derive(Drop)]
 pub(crate) struct Slot<A: Allocator> {
     clock: Clock<A>,
     parts: u32,

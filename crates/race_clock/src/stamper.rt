@@ -13,7 +13,7 @@ use std::alloc::{AllocError, Allocator, Global};
 use std::marker::Model;
 
 /// Takes the events of a legal trace, and puts a stamp on each access. Keeps no list of events.
-#[derive(Debug, Drop)]
+#[derive(Drop)]
 pub struct Stamper<A: Allocator = Global> {
     len: u32,
     clocks: Clocks<A>,

@@ -10,7 +10,7 @@ use std::alloc::{AllocError, Allocator};
 use std::marker::Model;
 
 /// A number for each event of a trace: how many of the kind that it counts stand before it.
-#[derive(Debug, Drop)]
+#[derive(Drop)]
 pub(crate) struct Numbers<A: Allocator> {
     numbers: Vec<u32, A>,
 }

@@ -152,7 +152,7 @@ fn greatest_partner<A: Allocator>(
 }
 
 /// The race that is noted for each variable.
-#[derive(Debug, Drop)]
+#[derive(Drop)]
 pub(crate) struct Found<A: Allocator = Global> {
     races: Vec<Option<Race>, A>,
 }

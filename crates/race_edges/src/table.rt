@@ -18,7 +18,7 @@ use std::alloc::{AllocError, Allocator};
 use std::marker::Model;
 
 // Events by index: whether the begin of each was seen.
-#[derive(Debug, Drop)]
+#[derive(Drop)]
 struct Row<A: Allocator> {
     seen: Vec<bool, A>,
 }
@@ -77,7 +77,7 @@ impl<A: Allocator> Row<A> {
 
 /// What each goroutine has seen, and what had been seen at the begin of each event that can be a
 /// source.
-#[derive(Debug, Drop)]
+#[derive(Drop)]
 pub(crate) struct Table<A: Allocator> {
     rows: Vec<Row<A>, A>,
     heard: Vec<Row<A>, A>,

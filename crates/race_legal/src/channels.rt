@@ -45,7 +45,7 @@ use std::alloc::{AllocError, Allocator};
 use std::marker::Model;
 
 /// A row for each channel.
-#[derive(Debug, Drop)]
+#[derive(Drop)]
 pub(crate) struct Channels<A: Allocator> {
     capacities: Vec<u32, A>,
     closed: Vec<bool, A>,

@@ -28,7 +28,7 @@ use std::alloc::{AllocError, Allocator};
 use std::marker::Model;
 
 /// A row for each goroutine.
-#[derive(Debug, Drop)]
+#[derive(Drop)]
 pub(crate) struct Goroutines<A: Allocator> {
     started: Vec<bool, A>,
     exited: Vec<bool, A>,

@@ -29,7 +29,7 @@ use std::alloc::{AllocError, Allocator};
 use std::marker::Model;
 
 /// A row for each lock.
-#[derive(Debug, Drop)]
+#[derive(Drop)]
 pub(crate) struct Locks<A: Allocator> {
     held: Vec<bool, A>,
     readers: Vec<u32, A>,

@@ -18,7 +18,7 @@ use std::alloc::{AllocError, Allocator};
 use std::marker::Model;
 
 /// A row for each once.
-#[derive(Debug, Drop)]
+#[derive(Drop)]
 pub(crate) struct Onces<A: Allocator> {
     begun: Vec<bool, A>,
     ended: Vec<bool, A>,

@@ -18,7 +18,7 @@ use std::collections::VecDeque;
 use std::marker::Model;
 
 /// Values, first in, first out.
-#[derive(Debug, Drop)]
+#[derive(Drop)]
 pub(crate) struct Queue<A: Allocator> {
     values: VecDeque<u64, A>,
 }

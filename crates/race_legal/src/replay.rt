@@ -36,7 +36,6 @@ pub enum Broken {
 }
 
 /// What the next event of a legal list is tested against. Keeps no list of events.
-#[derive(Debug)]
 pub struct Replay<A: Allocator = Global> {
     len: usize,
     over: bool,
@@ -311,28 +310,28 @@ impl<A: Allocator> Replay<A> {
         requires room { self.old.len < MAX_EVENTS }
         ensures { self.new ≡ (if is_ok result then after self.old event.now else self.old) }
     {
-        match &event.op {
-            Op::Go(goroutine) => self.goroutines.start(*goroutine),
+        match event.op {
+            Op::Go(goroutine) => self.goroutines.start(goroutine),
             Op::Exit => {
                 self.goroutines.exit(event.who);
-                self.over = self.over || event.who == 0;
+                self.over |= event.who == 0;
             }
-            Op::Write(var, value) => self.values[*var as usize] = *value,
+            Op::Write(var, value) => self.values[var as usize] = value,
             // This and an OnceBegin alone make anything grow, each before it changes anything.
-            Op::Send(chan, value) => self.channels.send(*chan, *value)?,
-            Op::Recv(chan, _) => self.channels.receive(*chan),
-            Op::Close(chan) => self.channels.close(*chan),
-            Op::Lock(lock) => self.locks.lock(*lock),
-            Op::Unlock(lock) => self.locks.unlock(*lock),
-            Op::RLock(lock) => self.locks.lock_for_reading(*lock),
-            Op::RUnlock(lock) => self.locks.unlock_from_reading(*lock),
+            Op::Send(chan, value) => self.channels.send(chan, value)?,
+            Op::Recv(chan, _) => self.channels.receive(chan),
+            Op::Close(chan) => self.channels.close(chan),
+            Op::Lock(lock) => self.locks.lock(lock),
+            Op::Unlock(lock) => self.locks.unlock(lock),
+            Op::RLock(lock) => self.locks.lock_for_reading(lock),
+            Op::RUnlock(lock) => self.locks.unlock_from_reading(lock),
             Op::OnceBegin(once) => {
-                self.goroutines.enter(event.who, *once)?;
-                self.onces.begin(*once);
+                self.goroutines.enter(event.who, once)?;
+                self.onces.begin(once);
             }
             Op::OnceEnd(once) => {
                 self.goroutines.leave(event.who);
-                self.onces.end(*once);
+                self.onces.end(once);
             }
             Op::Fault(_) => self.over = true,
             // The others change no table.

@@ -18,7 +18,7 @@ use std::alloc::{AllocError, Allocator};
 use std::marker::Model;
 
 /// Onces, last in, first out.
-#[derive(Debug, Drop)]
+#[derive(Drop)]
 pub(crate) struct Stack<A: Allocator> {
     onces: Vec<u32, A>,
 }

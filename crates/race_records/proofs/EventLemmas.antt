@@ -54,6 +54,10 @@ unfolding fits
 fits-more_places ds places more e grown h = grind (arith, nat_tests)
 
 -- a second place of an event that fits is in range
+pub place_in_range : (decls : DeclsState) (e : Event) → IsTrue (fits decls e) → e.place < length decls.places
+unfolding fits
+place_in_range decls e h = grind (arith, nat_tests)
+
 pub second_in_range : (decls : DeclsState) (e : Event) → IsTrue (fits decls e) → IfSome e.place2 (λ place. place < length decls.places)
 unfolding fits
 second_in_range decls e h = grind (arith, nat_tests)

@@ -40,7 +40,6 @@ fn are_events_alike<A: Allocator>(trace: &Trace<A>, other: &Trace<A>) -> bool
 }
 
 // Whether the two events at the index are equal.
-#[tactic(auto, unfolding(crate::specs::Events::fits))]
 fn are_alike_at<A: Allocator>(trace: &Trace<A>, other: &Trace<A>, index: usize) -> bool
     requires here { index < length trace.now.events }
     requires there { index < length other.now.events }

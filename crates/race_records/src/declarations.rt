@@ -47,7 +47,6 @@ pub enum DeclFault {
 /// The number of an object is the count of objects of its kind that were declared before it;
 /// goroutines count from 1, since `main` is 0 and isn't declared. All kinds share one table of
 /// names. Each look-up costs the same however many names and places there are.
-#[derive(Debug)]
 pub struct Decls<A: Allocator = Global> {
     names: Names<A>,
     indexes: Indexes<A>,

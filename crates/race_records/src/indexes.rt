@@ -7,7 +7,7 @@ use std::alloc::{AllocError, Allocator};
 use std::marker::Model;
 
 /// One list of indexes for each kind.
-#[derive(Debug, Drop)]
+#[derive(Drop)]
 pub struct Indexes<A: Allocator> {
     goroutines: Vec<usize, A>,
     vars: Vec<usize, A>,

@@ -116,7 +116,7 @@ impl Named {
 }
 
 /// What a declaration says beside the name.
-#[derive(Clone, Copy, Debug, PartialEq, Eq)]
+#[derive(Clone, Copy, PartialEq, Eq)]
 pub enum Object {
     /// A goroutine.
     Goroutine,

@@ -20,14 +20,14 @@ fn is_same(a: Object, b: Object) -> bool
 }
 
 /// What a name stands for.
-#[derive(Clone, Copy, Debug)]
+#[derive(Clone, Copy)]
 pub struct Slot {
     pub(crate) object: Object,
     pub(crate) number: u32,
 }
 
 /// The declared names, each found by its bytes or by its index.
-#[derive(Debug, Drop)]
+#[derive(Drop)]
 pub struct Names<A: Allocator> {
     slots: IndexMap<String<A>, Slot, BuildHasherDefault<FoldHasher>, A>,
     // Short names are looked for here first: one look at memory, where the map has four.

@@ -5,7 +5,7 @@ ghost use Rattle.race_records.specs.Nouns as spec;
 use crate::{Kind, MAX_CAPACITY, Object};
 
 /// The words of declarations.
-#[derive(Clone, Copy, Debug, PartialEq, Eq)]
+#[derive(Clone, Copy, PartialEq, Eq)]
 pub enum Noun {
     /// A goroutine beside main.
     Goroutine,

@@ -7,7 +7,7 @@ use crate::{Cases, Cause, Kind, Named, Op};
 use arrayvec::ArrayVec;
 
 /// The words of operations.
-#[derive(Clone, Copy, Debug, PartialEq, Eq)]
+#[derive(Clone, Copy, PartialEq, Eq)]
 pub enum Verb {
     /// A goroutine is started.
     Go,
@@ -57,7 +57,7 @@ impl Verb {
 }
 
 /// One thing that an operation says beside its word.
-#[derive(Debug, PartialEq, Eq, Drop)]
+#[derive(PartialEq, Eq, Drop)]
 pub enum Part {
     /// An object.
     Object(Named),
@@ -70,7 +70,7 @@ pub enum Part {
 }
 
 /// What a part can be.
-#[derive(Clone, Copy, Debug, PartialEq, Eq)]
+#[derive(Clone, Copy, PartialEq, Eq)]
 pub enum PartKind {
     /// An object of this kind.
     Object(Kind),
@@ -180,36 +180,24 @@ pub fn op_by(verb: Verb, parts: &[Part]) -> Option<Op>
     ensures { result ≡ spec.op_by verb parts.now }
 {
     match verb {
-        Verb::Go => Some(Op::Go(object_alone(Kind::Goroutine, parts)?)),
         Verb::Exit => exit_of(parts),
-        Verb::Read => {
-            let (x, v) = object_value(Kind::Var, parts)?;
-            Some(Op::Read(x, v))
-        }
-        Verb::Write => {
-            let (x, v) = object_value(Kind::Var, parts)?;
-            Some(Op::Write(x, v))
-        }
-        Verb::Send => {
-            let (c, v) = object_value(Kind::Chan, parts)?;
-            Some(Op::Send(c, v))
-        }
-        Verb::Recv => {
-            let (c, v) = object_value(Kind::Chan, parts)?;
-            Some(Op::Recv(c, v))
-        }
         Verb::Meet => meet_of(parts),
-        Verb::RecvClosed => Some(Op::RecvClosed(object_alone(Kind::Chan, parts)?)),
-        Verb::Close => Some(Op::Close(object_alone(Kind::Chan, parts)?)),
         Verb::Default => default_of(parts),
-        Verb::Lock => Some(Op::Lock(object_alone(Kind::Lock, parts)?)),
-        Verb::Unlock => Some(Op::Unlock(object_alone(Kind::Lock, parts)?)),
-        Verb::RLock => Some(Op::RLock(object_alone(Kind::Lock, parts)?)),
-        Verb::RUnlock => Some(Op::RUnlock(object_alone(Kind::Lock, parts)?)),
-        Verb::OnceBegin => Some(Op::OnceBegin(object_alone(Kind::Once, parts)?)),
-        Verb::OnceEnd => Some(Op::OnceEnd(object_alone(Kind::Once, parts)?)),
-        Verb::OnceDone => Some(Op::OnceDone(object_alone(Kind::Once, parts)?)),
         Verb::Fault => fault_of(parts),
+        Verb::Read => object_value(Kind::Var, parts).map(|(x, v)| Op::Read(x, v)),
+        Verb::Write => object_value(Kind::Var, parts).map(|(x, v)| Op::Write(x, v)),
+        Verb::Send => object_value(Kind::Chan, parts).map(|(c, v)| Op::Send(c, v)),
+        Verb::Recv => object_value(Kind::Chan, parts).map(|(c, v)| Op::Recv(c, v)),
+        Verb::Go => object_alone(Kind::Goroutine, parts).map(Op::Go),
+        Verb::RecvClosed => object_alone(Kind::Chan, parts).map(Op::RecvClosed),
+        Verb::Close => object_alone(Kind::Chan, parts).map(Op::Close),
+        Verb::Lock => object_alone(Kind::Lock, parts).map(Op::Lock),
+        Verb::Unlock => object_alone(Kind::Lock, parts).map(Op::Unlock),
+        Verb::RLock => object_alone(Kind::Lock, parts).map(Op::RLock),
+        Verb::RUnlock => object_alone(Kind::Lock, parts).map(Op::RUnlock),
+        Verb::OnceBegin => object_alone(Kind::Once, parts).map(Op::OnceBegin),
+        Verb::OnceEnd => object_alone(Kind::Once, parts).map(Op::OnceEnd),
+        Verb::OnceDone => object_alone(Kind::Once, parts).map(Op::OnceDone),
     }
 }
 

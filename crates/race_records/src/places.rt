@@ -8,7 +8,7 @@ use std::hash::{BuildHasherDefault, FoldHasher};
 use std::marker::Model;
 
 /// Distinct texts, each found by its bytes or by its index.
-#[derive(Debug, Drop)]
+#[derive(Drop)]
 pub struct Places<A: Allocator> {
     texts: IndexSet<String<A>, BuildHasherDefault<FoldHasher>, A>,
 }

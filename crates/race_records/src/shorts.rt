@@ -9,7 +9,6 @@ ghost use Rattle.race_records.specs.Shorts.{AreBytes, AreNoted, IsNoted};
 use crate::Object;
 use crate::names::Slot;
 use std::alloc::Allocator;
-use std::fmt::{Debug, Error, Formatter, Write};
 use std::marker::Model;
 
 // The most bytes of a short name, which its first and its last eight are.
@@ -65,13 +64,6 @@ impl<A: Allocator> Model for Shorts<A> {
     ghost Value = { List Short };
 
     ghost view = { λ s. s.slots.items };
-}
-
-// What it holds is in the table of all names as well.
-impl<A: Allocator> Debug for Shorts<A> {
-    fn fmt<W: Write>(&self, f: &mut Formatter<W>) -> Result<(), Error> {
-        f.write_str("Shorts")
-    }
 }
 
 impl<A: Allocator> Shorts<A> {

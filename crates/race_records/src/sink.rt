@@ -18,7 +18,7 @@ pub struct WriteFault {
 /// A writer, and how many of its writes failed or took none of some bytes.
 ///
 /// The count lets a caller tell whether a refusal came from the device.
-#[derive(Debug, Drop)]
+#[derive(Drop)]
 pub struct Sink<W: Write> {
     writer: W,
     failures: u64,

@@ -9,7 +9,7 @@ use std::io::Read;
 /// A reader, how often it was read, and how many of its reads failed.
 ///
 /// The counts let a caller tell whether a refusal came from the device, and how long it was tried.
-#[derive(Debug, Drop)]
+#[derive(Drop)]
 pub struct Source<R: Read> {
     reader: R,
     reads: u64,

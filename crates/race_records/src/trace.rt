@@ -33,7 +33,6 @@ pub enum PushFault {
 }
 
 /// Declarations and a list of events, each of which fits them.
-#[derive(Debug)]
 pub struct Trace<A: Allocator = Global> {
     decls: Decls<A>,
     events: Vec<Event, A>,

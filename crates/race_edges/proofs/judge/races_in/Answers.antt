@@ -1,7 +1,8 @@
 -- Behind each event the tables are right for the front up to it; at the end they are for all events.
-use Rattle.std.proofs.Common.{◌≡◌, ◌∙◌, List, length, sym, subst, arith}
+use Rattle.std.proofs.lemmas.Grind.{common_steps}
+use Rattle.std.proofs.Common.{◌≡◌, ◌∙◌, List, length, sym, subst, arith, rules}
 use Rattle.std.proofs.lemmas.List.{take_all, length-take-le}
-use Rattle.std.proofs.lemmas.Result.{IfOk-weaker}
+use Rattle.std.proofs.lemmas.Result.{IfOk-weaker, IfOk-from_err}
 use Rattle.race_records.specs.declared.event.Event.{Event}
 use Rattle.race_edges.specs.Synchronized.{source_at}
 use Rattle.race_edges.specs.TableState.{HasRows, table_after}
@@ -61,3 +62,30 @@ returns g c =
     (λ x i j race. let below = race_declared (capacities c.args.trace.now) c.args.trace.now x i j c.len.ensures.is_trace race in
     omega (arith, below, c.loop-at.invariant.vars))))
     c.list.ensures
+
+pub returns-in_err-numbers : goal.returns-in_err-numbers
+returns-in_err-numbers g c = IfOk-from_err _ _ c.from_residual.ensures.0
+
+pub returns-in_err-table : goal.returns-in_err-table
+returns-in_err-table g c = IfOk-from_err _ _ c.from_residual-in_err-table.ensures.0
+
+pub returns-in_err-found : goal.returns-in_err-found
+returns-in_err-found g c = IfOk-from_err _ _ c.from_residual-in_err-found.ensures.0
+
+pub returns-in_err-step : goal.returns-in_err-step
+returns-in_err-step g c = IfOk-from_err _ _ c.from_residual-in_err-step.ensures.0
+
+pub slice_bounds-look-end : goal.slice_bounds-look-end
+slice_bounds-look-end g c = search rules steps 1000000
+
+pub event-requires : goal.event-requires
+event-requires g c = grind (arith, common_steps) steps 300000
+
+pub look-requires-clause-few : goal.look-requires-clause-few
+look-requires-clause-few g c = grind (arith, common_steps) steps 300000
+
+pub step-requires-clause-within : goal.step-requires-clause-within
+step-requires-clause-within g c = grind (arith, common_steps) steps 300000
+
+pub step-requires-clause-numbers : goal.step-requires-clause-numbers
+step-requires-clause-numbers g c = search rules steps 1000000

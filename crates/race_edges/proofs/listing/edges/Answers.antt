@@ -1,4 +1,5 @@
-use Rattle.std.proofs.Common.{subst}
+use Rattle.std.proofs.lemmas.Grind.{common_steps}
+use Rattle.std.proofs.Common.{subst, arith}
 use Rattle.race_legal.specs.Rules.{number_of}
 use Rattle.race_legal.specs.Judged.{IsJudged}
 use Rattle.race_edges.specs.Traces.{capacities}
@@ -13,3 +14,18 @@ returns-in-Ok-Some-clause-illegal g c = λ same. record {
 
 pub returns-in-Ok-Some-clause-legal : goal.returns-in-Ok-Some-clause-legal
 returns-in-Ok-Some-clause-legal g c = cc
+
+pub returns-in-Ok-clause-right : goal.returns-in-Ok-clause-right
+returns-in-Ok-clause-right g c = grind (arith, common_steps) steps 1000000
+
+pub returns-in-Ok-clause-too_long : goal.returns-in-Ok-clause-too_long
+returns-in-Ok-clause-too_long g c = grind (arith, common_steps) steps 1000000
+
+pub returns-in-Err-list_edges-clause-too_long : goal.returns-in-Err-list_edges-clause-too_long
+returns-in-Err-list_edges-clause-too_long g c = grind (arith, common_steps) steps 1000000
+
+pub returns-in-Ok-Some-clause-too_long : goal.returns-in-Ok-Some-clause-too_long
+returns-in-Ok-Some-clause-too_long g c = grind (arith, common_steps) steps 1000000
+
+pub returns-in-Err-clause-too_long : goal.returns-in-Err-clause-too_long
+returns-in-Err-clause-too_long g c = grind (arith, common_steps) steps 1000000

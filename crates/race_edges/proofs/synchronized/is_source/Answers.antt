@@ -1,4 +1,4 @@
-use Rattle.std.proofs.lemmas.Grind.{common_steps}
+use Rattle.std.proofs.lemmas.Grind.{common_steps, elements}
 use Rattle.std.proofs.Common.{◌∙◌, ◌<◌, ◌+◌, ◌==◌, IsTrue, sym, ap, subst, rules, arith}
 use Rattle.race_records.specs.declared.event.Op.{Op}
 use Rattle.race_records.specs.declared.kind.Kind.{Kind}
@@ -34,3 +34,9 @@ returns-then-is_unlock-2 g c = grind (arith, common_steps) steps 1000000
 
 pub returns-else-is_runlock : goal.returns-else-is_runlock
 returns-else-is_runlock g c = search rules steps 300000
+
+pub returns-then-is_send : goal.returns-then-is_send
+returns-then-is_send g c = grind (arith, elements) steps 1000000
+
+pub returns-then-is_runlock : goal.returns-then-is_runlock
+returns-then-is_runlock g c = grind (arith, common_steps) steps 1000000

@@ -1,7 +1,19 @@
 use Rattle.std.proofs.Common.{◌∙◌, sym, rules, false}
 use Rattle.race_records.proofs.AlikeLemmas.{alike_by, by_op, by_place, by_texts}
-use Rattle.race_records.proofs.EventLemmas.{second_in_range}
+use Rattle.race_records.proofs.EventLemmas.{place_in_range, second_in_range}
 use Rattle.race_records.proofs.alike.are_alike_at.Goals as goal
+
+pub event-here-requires : goal.event-here-requires
+event-here-requires g c = c.requires.here
+
+pub event-there-requires : goal.event-there-requires
+event-there-requires g c = c.requires.there
+
+pub place_text-requires : goal.place_text-requires
+place_text-requires g c = place_in_range c.args.trace.now.decls c.event-here.result.now c.event-here.ensures.fits
+
+pub place_text-requires-2 : goal.place_text-requires-2
+place_text-requires-2 g c = place_in_range c.args.other.now.decls c.event-there.result.now c.event-there.ensures.fits
 
 pub are_second_places_alike-requires-clause-here : goal.are_second_places_alike-requires-clause-here
 are_second_places_alike-requires-clause-here g c = second_in_range c.args.trace.now.decls c.event-here.result.now c.event-here.ensures.fits

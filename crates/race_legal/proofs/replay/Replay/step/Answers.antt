@@ -1,6 +1,7 @@
 -- Each arm on its own: all of them are too many for one search.
 use Rattle.std.proofs.lemmas.Grind.{common_steps}
 use Rattle.std.proofs.Common.{rules, arith}
+use Rattle.std.proofs.Math.Bool.{and-true, and-false, or-false, or-true}
 use Rattle.race_legal.proofs.replay.Replay.step.Goals as goal
 use Rattle.race_legal.proofs.replay.Replay.step.Goals.{in-Go, in-Exit, in-Read, in-Write}
 use Rattle.race_legal.proofs.replay.Replay.step.Goals.{in-Send+in_ok-send-in-Send, in-Recv, in-Meet}
@@ -11,24 +12,27 @@ use Rattle.race_legal.proofs.replay.Replay.step.Goals.{in-OnceDone, in-Fault}
 
 pub returns : goal.returns
 returns g c = elim c.match-event.branch [
-  | in-Go w ↦ search rules
-  | in-Exit w ↦ search rules
-  | in-Read w ↦ search rules
+  | in-Go w ↦ rw (w.self-inside-is, w.start.ensures, ← c.self.view_is, w.in-Go.is) (simp (and-false, or-false))
+  | in-Exit w ↦ rw (w.self-inside-is, w.exit.ensures, ← c.self.view_is, w.in-Exit.is) (simp (and-true, or-false))
+  | in-Read w ↦ rw (w.self-inside-is, ← c.self.view_is, w.in-Read.is) (simp (and-false, or-false))
   | in-Write w ↦ search rules
-  | in-Send+in_ok-send-in-Send w ↦ search rules
-  | in-Recv w ↦ search rules
-  | in-Meet w ↦ search rules
-  | in-RecvClosed w ↦ search rules
-  | in-Close w ↦ search rules
-  | in-Default w ↦ search rules
-  | in-Lock w ↦ search rules
-  | in-Unlock w ↦ search rules
-  | in-RLock w ↦ search rules
-  | in-RUnlock w ↦ search rules
-  | in-OnceBegin+in_ok-enter-in-OnceBegin w ↦ search rules
-  | in-OnceEnd w ↦ search rules
-  | in-OnceDone w ↦ search rules
-  | in-Fault w ↦ search rules
+  | in-Send+in_ok-send-in-Send w ↦
+      rw (w.self-inside-is, w.send.ensures, w.in_ok-send-in-Send.was, ← c.self.view_is, w.in-Send.is) (simp (and-false, or-false))
+  | in-Recv w ↦ rw (w.self-inside-is, w.receive.ensures, ← c.self.view_is, w.in-Recv.is) (simp (and-false, or-false))
+  | in-Meet w ↦ rw (w.self-inside-is, ← c.self.view_is, w.in-Meet.is) (simp (and-false, or-false))
+  | in-RecvClosed w ↦ rw (w.self-inside-is, ← c.self.view_is, w.in-RecvClosed.is) (simp (and-false, or-false))
+  | in-Close w ↦ rw (w.self-inside-is, w.close.ensures, ← c.self.view_is, w.in-Close.is) (simp (and-false, or-false))
+  | in-Default w ↦ rw (w.self-inside-is, ← c.self.view_is, w.in-Default.is) (simp (and-false, or-false))
+  | in-Lock w ↦ rw (w.self-inside-is, w.lock.ensures, ← c.self.view_is, w.in-Lock.is) (simp (and-false, or-false))
+  | in-Unlock w ↦ rw (w.self-inside-is, w.unlock.ensures, ← c.self.view_is, w.in-Unlock.is) (simp (and-false, or-false))
+  | in-RLock w ↦ rw (w.self-inside-is, w.lock_for_reading.ensures, ← c.self.view_is, w.in-RLock.is) (simp (and-false, or-false))
+  | in-RUnlock w ↦ rw (w.self-inside-is, w.unlock_from_reading.ensures, ← c.self.view_is, w.in-RUnlock.is) (simp (and-false, or-false))
+  | in-OnceBegin+in_ok-enter-in-OnceBegin w ↦
+      rw (w.self-inside-is, w.enter.ensures, w.in_ok-enter-in-OnceBegin.was, w.begin.ensures, ← c.self.view_is, w.in-OnceBegin.is)
+      (simp (and-false, or-false))
+  | in-OnceEnd w ↦ rw (w.self-inside-is, w.leave.ensures, w.end.ensures, ← c.self.view_is, w.in-OnceEnd.is) (simp (and-false, or-false))
+  | in-OnceDone w ↦ rw (w.self-inside-is, ← c.self.view_is, w.in-OnceDone.is) (simp (and-false, or-false))
+  | in-Fault w ↦ rw (w.self-inside-is, ← c.self.view_is, w.in-Fault.is) (simp (and-false, or-true))
 ]
 
 pub index_mut-requires : goal.index_mut-requires

@@ -14,7 +14,7 @@ use std::alloc::{AllocError, Global};
 use std::convert::AsStr;
 
 /// What the words ask for.
-#[derive(Debug, Drop)]
+#[derive(Drop)]
 pub(crate) enum Request {
     /// Judge the trace on standard input.
     Check(CheckOptions),
@@ -27,7 +27,7 @@ pub(crate) enum Request {
 }
 
 /// A command that has numbers for options.
-#[derive(Clone, Copy, Debug)]
+#[derive(Clone, Copy)]
 enum Numbered {
     Check,
     Run,

@@ -215,7 +215,6 @@ struct AccessWords<'a> {
 }
 
 // The words for the event at the index.
-#[tactic(auto, unfolding(race_records::specs::Events::fits))]
 fn access_words<A: Allocator>(trace: &Trace<A>, index: usize) -> AccessWords<'_>
     requires { index < length trace.now.events }
     ensures { IfSome (slice_get trace.now.events index) (λ e.

@@ -63,28 +63,22 @@ pub fn ask_by(word: AskWord, parts: &[Part]) -> Option<Ask>
     ensures { result ≡ form.ask_by word parts.now }
 {
     match word {
-        AskWord::Go => Some(Ask::Go(object_alone(Kind::Goroutine, parts)?)),
+        AskWord::Go => object_alone(Kind::Goroutine, parts).map(Ask::Go),
         AskWord::Exit => if_none(Ask::Exit, parts),
-        AskWord::Read => Some(Ask::Read(object_alone(Kind::Var, parts)?)),
-        AskWord::Write => {
-            let (var, value) = object_value(Kind::Var, parts)?;
-            Some(Ask::Write(var, value))
-        }
-        AskWord::Send => {
-            let (chan, value) = object_value(Kind::Chan, parts)?;
-            Some(Ask::Send(Some(chan), value))
-        }
-        AskWord::SendNil => Some(Ask::Send(None, value_alone(parts)?)),
-        AskWord::Recv => Some(Ask::Recv(Some(object_alone(Kind::Chan, parts)?))),
+        AskWord::Read => object_alone(Kind::Var, parts).map(Ask::Read),
+        AskWord::Write => object_value(Kind::Var, parts).map(|(x, v)| Ask::Write(x, v)),
+        AskWord::Send => object_value(Kind::Chan, parts).map(|(c, v)| Ask::Send(Some(c), v)),
+        AskWord::SendNil => value_alone(parts).map(|v| Ask::Send(None, v)),
+        AskWord::Recv => object_alone(Kind::Chan, parts).map(|c| Ask::Recv(Some(c))),
         AskWord::RecvNil => if_none(Ask::Recv(None), parts),
-        AskWord::Close => Some(Ask::Close(Some(object_alone(Kind::Chan, parts)?))),
+        AskWord::Close => object_alone(Kind::Chan, parts).map(|c| Ask::Close(Some(c))),
         AskWord::CloseNil => if_none(Ask::Close(None), parts),
-        AskWord::Lock => Some(Ask::Lock(object_alone(Kind::Lock, parts)?)),
-        AskWord::Unlock => Some(Ask::Unlock(object_alone(Kind::Lock, parts)?)),
-        AskWord::RLock => Some(Ask::RLock(object_alone(Kind::Lock, parts)?)),
-        AskWord::RUnlock => Some(Ask::RUnlock(object_alone(Kind::Lock, parts)?)),
-        AskWord::Do => Some(Ask::Do(object_alone(Kind::Once, parts)?)),
-        AskWord::EndDo => Some(Ask::EndDo(object_alone(Kind::Once, parts)?)),
+        AskWord::Lock => object_alone(Kind::Lock, parts).map(Ask::Lock),
+        AskWord::Unlock => object_alone(Kind::Lock, parts).map(Ask::Unlock),
+        AskWord::RLock => object_alone(Kind::Lock, parts).map(Ask::RLock),
+        AskWord::RUnlock => object_alone(Kind::Lock, parts).map(Ask::RUnlock),
+        AskWord::Do => object_alone(Kind::Once, parts).map(Ask::Do),
+        AskWord::EndDo => object_alone(Kind::Once, parts).map(Ask::EndDo),
     }
 }
 

@@ -33,8 +33,8 @@ impl<'a, A: Allocator> Course<'a, A> {
         ensures { (e : EventValue) → Fits self.now.goroutine step.now e → FailsBy self.now.fault e.op
             → IsPassed (spelled self.now.places.now.places self.now.body.now) self.now.recorded.now.places self.now.goroutine position e result }
     {
-        let made = made_in(step, self.fault)?;
         let request = self.at(position)?;
+        let made = made_in(step, self.fault)?;
         if can_make(self.goroutine, &request.ask, &made) && self.stand_alike(request, &step.asked) {
             Some(behind(self.body, position, &made))
         } else {
@@ -136,11 +136,11 @@ fn made_by(ask: &Ask, answer: Answer) -> Option<Op>
     match ask {
         Ask::Go(goroutine) => Some(Op::Go(*goroutine)),
         Ask::Exit => None,
-        Ask::Read(var) => Some(Op::Read(*var, value_in(answer)?)),
+        Ask::Read(var) => value_in(answer).map(|value| Op::Read(*var, value)),
         Ask::Write(var, value) => Some(Op::Write(*var, *value)),
         Ask::Send(chan, value) => made_by_offer(Offer::Send(*chan, *value), None),
         Ask::Recv(chan) => made_by_offer(Offer::Recv(*chan), value_in(answer)),
-        Ask::Close(chan) => Some(Op::Close((*chan)?)),
+        Ask::Close(chan) => (*chan).map(Op::Close),
         Ask::Select(offers, _) => made_by_select(offers, answer),
         Ask::Lock(lock) => Some(Op::Lock(*lock)),
         Ask::Unlock(lock) => Some(Op::Unlock(*lock)),
@@ -175,8 +175,8 @@ fn made_by_offer(offer: Offer, got: Option<u64>) -> Option<Op>
     ensures { result ≡ course.made_by_offer offer got }
 {
     match offer {
-        Offer::Send(chan, value) => Some(Op::Send(chan?, value)),
-        Offer::Recv(chan) => Some(received(chan?, got)),
+        Offer::Send(chan, value) => chan.map(|chan| Op::Send(chan, value)),
+        Offer::Recv(chan) => chan.map(|chan| received(chan, got)),
     }
 }
 

@@ -8,7 +8,7 @@ use race_records::{Kind, Noun, PartKind};
 use race_text::{Field, Word, cut_at, word_named};
 
 /// The words of asks. What is asked of a nil channel has words of its own.
-#[derive(Clone, Copy, Debug, PartialEq, Eq)]
+#[derive(Clone, Copy, PartialEq, Eq)]
 pub enum AskWord {
     /// A goroutine is started.
     Go,
@@ -45,7 +45,7 @@ pub enum AskWord {
 }
 
 /// What the first word of a line says that the line is.
-#[derive(Clone, Copy, Debug, PartialEq, Eq)]
+#[derive(Clone, Copy, PartialEq, Eq)]
 pub enum LineWord {
     /// An object is declared.
     Declares(Noun),

@@ -16,7 +16,7 @@ use race_text::{
 use std::alloc::Allocator;
 
 /// The words behind `select`.
-#[derive(Clone, Copy, Debug)]
+#[derive(Clone, Copy)]
 pub struct SelectWords<'a> {
     /// Its offers.
     pub offers: &'a [u8],

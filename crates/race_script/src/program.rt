@@ -11,7 +11,6 @@ use std::marker::Model;
 pub const MAX_STEPS: usize = 65_535;
 
 /// Declarations, and for each goroutine its body: the requests that it makes, one after another.
-#[derive(Debug)]
 pub struct Program<A: Allocator = Global> {
     decls: Decls<A>,
     bodies: Vec<Vec<Request, A>, A>,

@@ -15,7 +15,7 @@ use std::alloc::{Allocator, Global};
 use std::marker::Model;
 
 /// What was read, and the bytes behind it that no newline has ended yet.
-#[derive(Debug, Drop)]
+#[derive(Drop)]
 pub struct Lines<A: Allocator> {
     /// What was read.
     pub reader: Reader<A>,
@@ -25,7 +25,6 @@ pub struct Lines<A: Allocator> {
 
 /// Reads a program from its text, which comes in pieces that may be cut anywhere. A line is read as
 /// soon as its newline has come.
-#[derive(Debug)]
 pub struct ProgramReader<A: Allocator = Global> {
     lines: Lines<A>,
     fault: Option<TextFault>,

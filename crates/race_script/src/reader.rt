@@ -29,7 +29,7 @@ use std::marker::Model;
 use std::mem;
 
 /// The body that has not ended.
-#[derive(Debug, Drop)]
+#[derive(Drop)]
 pub struct Unended<A: Allocator> {
     /// Its requests so far.
     pub requests: Vec<Request, A>,
@@ -38,7 +38,6 @@ pub struct Unended<A: Allocator> {
 }
 
 /// What was read so far.
-#[derive(Debug)]
 pub struct Reader<A: Allocator> {
     alloc: A,
     has_header: bool,

@@ -12,7 +12,7 @@ use std::alloc::{AllocError, Allocator, Global};
 use std::marker::Model;
 
 /// The body of a goroutine, and how far it was asked.
-#[derive(Debug, Drop)]
+#[derive(Drop)]
 pub struct Script<A: Allocator = Global> {
     whole: Vec<Request, A>,
     position: usize,

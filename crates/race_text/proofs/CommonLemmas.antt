@@ -24,7 +24,7 @@ use Rattle.race_text.specs.Form.{first_word}
 use Rattle.race_text.specs.Reading.{ReadPart, ReadParts, ReadOp, occurrence, parts_on}
 use Rattle.race_text.specs.Reading.{goroutine_of, with_no_rest, last_place, op_before, op_in}
 use Rattle.race_text.specs.Reading.{last_places, event_of}
-use Rattle.race_text.specs.Common.{IsMarked, words_in, SaysVerb, SaysObject, SaysValue, SaysPlace, SaysEvent, value_kinds, value_parts}
+use Rattle.race_text.specs.Common.{IsMarked, words_in, SaysVerb, SaysObject, SaysValue, SaysDeed, SaysPlace, SaysEvent, value_kinds, value_parts}
 use Rattle.race_text.proofs.MarkLemmas.{first_part_is, within_line, word_is_seen, cuts_last}
 
 is_a_place : (w : List ℕ) → 0 < length w → length w ≤ 128 → list_all is_place_byte w ≡ true → is_place w ≡ true
@@ -50,32 +50,37 @@ says_place marks bytes m some is =
       behind = cut.1;
     }
 
-module _ (ds : List Declaration) (bytes verbs whos objects values rest : List ℕ)
-    (verb : Verb) (kind : PartKind) (has_value : Bool) (goroutine object : Named) (who : ℕ) where
+module _ (ds : List Declaration) (bytes objects rest : List ℕ) (verb : Verb) (kind : PartKind) (has_value : Bool) (object : Named) where
   says_op : (op : Op) (value : Option ℕ) → part_kinds verb ≡ kind ∷ value_kinds has_value
-      → SaysObject ds kind whos object objects → SaysValue has_value objects value values
-      → op_by verb (Part.Object object ∷ value_parts value) ≡ Some op → op_in ds verb (part_kinds verb) (words_in whos) ≡ Some (op, words_in values)
+      → SaysObject ds kind bytes object objects → SaysValue has_value objects value rest
+      → op_by verb (Part.Object object ∷ value_parts value) ≡ Some op → op_in ds verb (part_kinds verb) (words_in bytes) ≡ Some (op, words_in rest)
   says_op op value kinds first second is =
-      ap (λ ks. op_in ds verb ks (words_in whos)) kinds
+      ap (λ ks. op_in ds verb ks (words_in bytes)) kinds
       ∙ ap (λ o. option_and_then (λ (parts : ReadParts). option_map (op_before parts.1) (op_by verb parts.0))
       (option_and_then (λ (f : ReadPart). parts_on ds ([] ++ f.0 ∷ []) (value_kinds has_value) f.1) o)) first.says
       ∙ ap (option_and_then (λ (parts : ReadParts). option_map (op_before parts.1) (op_by verb parts.0))) (second.says ds (Part.Object object ∷ []))
-      ∙ ap (option_map (op_before (words_in values))) is
+      ∙ ap (option_map (op_before (words_in rest))) is
 
-  pub says_event : (op : Op) (value : Option ℕ) (place : List ℕ) → SaysVerb bytes verb verbs
-      → has_two_places verb ≡ false → part_kinds verb ≡ kind ∷ value_kinds has_value
+  pub says_deed : (op : Op) (value : Option ℕ) → part_kinds verb ≡ kind ∷ value_kinds has_value
+      → SaysObject ds kind bytes object objects → SaysValue has_value objects value rest
+      → op_by verb (Part.Object object ∷ value_parts value) ≡ Some op → has_two_places verb ≡ false → SaysDeed ds verb bytes op rest
+  says_deed op value kinds o val is one = record {
+    says = says_op op value kinds o val is;
+    behind = o.behind ∙ val.behind;
+    one_place = one;
+  }
+
+module _ (ds : List Declaration) (bytes verbs whos deeds rest : List ℕ) (verb : Verb) (goroutine : Named) (who : ℕ) where
+  pub says_event : (op : Op) (place : List ℕ) → SaysVerb bytes verb verbs
       → SaysObject ds (PartKind.Object Kind.Goroutine) verbs goroutine whos → goroutine_of (Part.Object goroutine) ≡ Some who
-      → SaysObject ds kind whos object objects → SaysValue has_value objects value values
-      → op_by verb (Part.Object object ∷ value_parts value) ≡ Some op → SaysPlace values place rest
-      → SaysEvent ds bytes (occurrence who op (place, None)) rest
-  says_event op value place v one kinds g is_who o val is_op p = record {
+      → SaysDeed ds verb whos op deeds → SaysPlace deeds place rest → SaysEvent ds bytes (occurrence who op (place, None)) rest
+  says_event op place v g is_who d p = record {
     says =
         v.says ds
         ∙ ap (option_and_then (λ (first : ReadPart). option_and_then (λ who. event_of ds verb who first.1) (goroutine_of first.0))) g.says
         ∙ ap (option_and_then (λ who. event_of ds verb who (words_in whos))) is_who
-        ∙ ap (option_and_then (λ (read : ReadOp). option_map (occurrence who read.0) (last_places (has_two_places verb) read.1)))
-        (says_op op value kinds o val is_op)
-        ∙ ap (λ two. option_map (occurrence who op) (last_places two (words_in values))) one
+        ∙ ap (option_and_then (λ (read : ReadOp). option_map (occurrence who read.0) (last_places (has_two_places verb) read.1))) d.says
+        ∙ ap (λ two. option_map (occurrence who op) (last_places two (words_in deeds))) d.one_place
         ∙ ap (λ l. option_map (occurrence who op) (option_map (λ w. (w, None)) l)) p.says;
-    ends = first_part_is bytes ∙ ap (λ ps. first_word (parts_of bytes) ∷ ps) (v.behind ∙ g.behind ∙ o.behind ∙ val.behind ∙ p.behind);
+    ends = first_part_is bytes ∙ ap (λ ps. first_word (parts_of bytes) ∷ ps) (v.behind ∙ g.behind ∙ d.behind ∙ p.behind);
   }

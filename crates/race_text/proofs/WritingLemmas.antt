@@ -1,15 +1,19 @@
 -- The lines of a trace, piece by piece.
 use Rattle.std.proofs.Common.{◌≡◌, ℕ, List, [], ◌∷◌, ◌++◌, append_assoc, map, slice_get, unwrap_or, Option, Some, None, sym, ap, ◌∙◌}
+use Rattle.std.proofs.Common.{◌<◌, true, length, IsTrue, arith}
+use Rattle.std.proofs.lemmas.Bool.Decides.{nat_tests}
 use Rattle.std.proofs.lemmas.Grind.{flat_map-append}
+use Rattle.std.specs.List.{list_all}
 use Rattle.std.proofs.lemmas.List.Concat.{flat_map-cons}
 use Rattle.race_records.specs.declared.event.Event.{Event}
 use Rattle.race_records.specs.declared.kind.Named.{Named}
 use Rattle.race_records.specs.declared.kind.Object.{Object}
-use Rattle.race_records.specs.Events.{TraceState}
+use Rattle.race_records.specs.Events.{TraceState, fits}
 use Rattle.race_records.specs.declared.parts.Part.{Part}
 use Rattle.race_records.specs.declared.parts.Verb.{Verb}
-use Rattle.race_records.specs.Parts.{says}
-use Rattle.race_records.specs.Declarations.{Declaration, DeclsState, name_of}
+use Rattle.race_records.specs.declared.kind.Kind.{Kind}
+use Rattle.race_records.specs.Parts.{says, part_fits}
+use Rattle.race_records.specs.Declarations.{Declaration, DeclsState, name_of, count_of}
 use Rattle.race_records.proofs.ListLemmas.{flat_map-map}
 use Rattle.race_text.specs.Text.{goroutine_name, place_text, second_text, place_words, text, lines, header, ended, line_of, declaration_line, event_line}
 use Rattle.race_text.specs.Writing.{body, text_of, declaration_text, noun_text, number_words}
@@ -82,3 +86,17 @@ text_is t =
 
 pub printed_is : (t : TraceState) (decls : DeclsState) (events : List Event) → decls ≡ t.decls → events ≡ t.events → ended header ++ body decls events ≡ text t
 printed_is t decls events d e = (λ i. ended header ++ body (d i) (e i)) ∙ sym (text_is t)
+
+-- what an event that fits says of its goroutine, its place and its parts
+module _ (decls : DeclsState) (e : Event) (fit : IsTrue (fits decls e)) where
+  pub who_is_declared : e.who < count_of Kind.Goroutine decls.declarations
+  unfolding fits
+  who_is_declared = grind (arith, nat_tests)
+
+  pub place_in_range : e.place < length decls.places
+  unfolding fits
+  place_in_range = grind (arith, nat_tests)
+
+  pub parts_fit : list_all (part_fits decls.declarations) (says e.op).1 ≡ true
+  unfolding fits
+  parts_fit = grind (arith, nat_tests)

@@ -12,6 +12,7 @@ use Rattle.race_records.specs.declared.parts.PartKind.{PartKind}
 use Rattle.race_records.specs.declared.parts.Verb.{Verb}
 use Rattle.race_records.specs.Name.{is_place_byte}
 use Rattle.race_records.specs.Declarations.{Declaration}
+use Rattle.race_records.specs.Parts.{part_kinds, has_two_places}
 use Rattle.race_text.specs.declared.cause.TextCause.{TextCause}
 use Rattle.race_text.specs.declared.cause.TextFault.{TextFault}
 use Rattle.race_text.specs.declared.common.Deed.{Deed}
@@ -20,7 +21,7 @@ use Rattle.race_text.specs.Words.{parts_of, words_of}
 use Rattle.race_text.specs.Form.{first_word, arguments}
 use Rattle.race_text.specs.Lines.{Causes, GoesOn}
 use Rattle.race_text.specs.Fault.{cause, trace_causes}
-use Rattle.race_text.specs.Reading.{Occurrence, occurrence, first_part, parts_on, last_place, event_behind, event_in}
+use Rattle.race_text.specs.Reading.{Occurrence, occurrence, first_part, parts_on, op_in, last_place, event_behind, event_in}
 use Rattle.race_text.specs.Fed.{IsUnended, TellsOfLine}
 
 -- so many bytes in front are marked: a bit for each, which is set where the byte can't be seen
@@ -89,6 +90,12 @@ pub record SaysValue (wanted : Bool) (bytes : List ℕ) (value : Option ℕ) (re
   pub says : (ds : List Declaration) (parts : List Part)
       → parts_on ds parts (value_kinds wanted) (words_in bytes) ≡ Some (parts ++ value_parts value, words_in rest)
   pub behind : parts_behind bytes ≡ parts_behind rest
+
+-- the words in front of the rest say what an operation with one place does
+pub record SaysDeed (ds : List Declaration) (verb : Verb) (bytes : List ℕ) (op : Op) (rest : List ℕ) : Type 0 where
+  pub says : op_in ds verb (part_kinds verb) (words_in bytes) ≡ Some (op, words_in rest)
+  pub behind : parts_behind bytes ≡ parts_behind rest
+  pub one_place : has_two_places verb ≡ false
 
 -- the one word that is left is a place, and a newline stands between it and the rest
 pub record SaysPlace (bytes place rest : List ℕ) : Type 0 where

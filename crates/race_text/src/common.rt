@@ -14,7 +14,7 @@ use race_records::{Decls, Kind, Named, Part, PartKind, Verb};
 use std::alloc::Allocator;
 
 /// The bytes from a word on, of which those in front are marked.
-#[derive(Clone, Copy, Debug)]
+#[derive(Clone, Copy)]
 pub struct Front<'a> {
     /// The bytes.
     pub bytes: &'a [u8],
@@ -24,7 +24,7 @@ pub struct Front<'a> {
 
 /// What a common operation does to its object, and with which value. It is small, while `Op` has
 /// room for a select and would go through memory.
-#[derive(Clone, Copy, Debug)]
+#[derive(Clone, Copy)]
 pub enum Deed {
     /// Reads a value from a variable.
     Read(u32, u64),
@@ -47,7 +47,7 @@ pub enum Deed {
 }
 
 /// What a common line says.
-#[derive(Clone, Copy, Debug)]
+#[derive(Clone, Copy)]
 pub struct Said<'a> {
     /// The goroutine whose event it is.
     pub who: u32,
@@ -72,12 +72,9 @@ pub(crate) fn read_common<'a, A: Allocator>(
     }
     let marks = unseen_in_front(bytes);
     let (verb, front) = next_verb(Front { bytes, marks })?;
-    let has_value = value_wanted(verb)?;
     let (goroutine, front) = next_object(decls, PartKind::Object(Kind::Goroutine), front)?;
     let who = goroutine_of(Part::Object(goroutine))?;
-    let (object, front) = next_named(decls, front)?;
-    let (value, front) = next_value(has_value, front)?;
-    let deed = deed_said(decls, verb, object, value)?;
+    let (deed, front) = next_deed(decls, verb, front)?;
     let (place, rest) = last_place(front)?;
     Some((Said { who, deed, place }, rest))
 }
@@ -112,6 +109,25 @@ fn next_object<'a, A: Allocator>(
     let (len, behind) = next_word(front)?;
     let named = object_in(decls, kind, front.bytes, len)?;
     Some((named, behind))
+}
+
+// What the operation does, by the object that the next word names and the value behind it.
+#[inline(always)]
+fn next_deed<'a, A: Allocator>(
+    decls: &Decls<A>,
+    verb: Verb,
+    front: Front<'a>,
+) -> Option<(Deed, Front<'a>)>
+    requires { spec.IsMarked front.marks front.bytes.now }
+    ensures says { IfSome result (λ read. spec.SaysDeed decls.now.declarations verb
+        front.entry.bytes.now (spec.op_of read.0) read.1.bytes.now) }
+    ensures marked { IfSome result (λ read. spec.IsMarked read.1.marks read.1.bytes.now) }
+{
+    let has_value = value_wanted(verb)?;
+    let (object, front) = next_named(decls, front)?;
+    let (value, front) = next_value(has_value, front)?;
+    let deed = deed_said(decls, verb, object, value)?;
+    Some((deed, front))
 }
 
 // What the next word names. Whether that is wanted there, the operation tells.

@@ -1,10 +1,11 @@
 //! Lines that are events. Slices and parts go through memory at a call, so the path of the common
 //! words is one function, and what a select or a fault says is read by others.
-ghost use Rattle.std.specs.Prelude.{◌≡◌, ◌≤◌, ◌<◌, [], length, take, true, IfSome};
+ghost use Rattle.std.specs.Prelude.{◌≡◌, ◌≤◌, ◌<◌, [], ◌∷◌, length, take, true, IfSome};
 ghost use Rattle.std.specs.List.{list_all};
 ghost use Rattle.std.specs.Option.{option_map};
 ghost use Rattle.race_records.specs.Name.{is_place_byte};
 ghost use Rattle.race_records.specs.Declarations.{IsWellFormed};
+ghost use Rattle.race_records.specs.Parts.{op_by};
 ghost use Rattle.race_text.specs.Words.{parts_left, words_of};
 ghost use Rattle.race_text.specs.Reading as spec;
 
@@ -20,7 +21,7 @@ use race_records::{
 use std::alloc::Allocator;
 
 /// An event with its places as they are spelled.
-#[derive(Debug, Drop)]
+#[derive(Drop)]
 pub struct Draft<'a> {
     /// The goroutine whose event it is.
     pub who: u32,
@@ -62,6 +63,21 @@ fn read_behind<'a, A: Allocator>(
 {
     let (first, rest) = next_part(decls, PartKind::Object(Kind::Goroutine), rest)?;
     let who = goroutine_of(first)?;
+    event_of(decls, verb, who, rest)
+}
+
+// The event of this goroutine that the words behind its name say.
+#[inline(always)]
+fn event_of<'a, A: Allocator>(
+    decls: &Decls<A>,
+    verb: Verb,
+    who: u32,
+    rest: Option<&'a [u8]>,
+) -> Option<Draft<'a>>
+    requires { IsWellFormed decls.now }
+    ensures { option_map spec.drafted result ≡ spec.event_of decls.now.declarations verb who
+        (parts_left 32 rest.entry) }
+{
     let (op, rest) = next_op(decls, verb, part_kinds(verb), rest)?;
     let (place, place2) = last_places(verb.has_two_places(), rest)?;
     Some(Draft {
@@ -97,19 +113,43 @@ fn next_op<'a, A: Allocator>(
         (parts_left 32 rest.entry) }
 {
     match kinds {
-        [PartKind::Object(kind), PartKind::Value] => {
-            let (object, rest) = next_part(decls, PartKind::Object(*kind), rest)?;
-            let (value, rest) = next_part(decls, PartKind::Value, rest)?;
-            let op = op_by(verb, [object, value].as_slice())?;
-            Some((op, rest))
-        }
-        [kind] => {
-            let (part, rest) = next_part(decls, *kind, rest)?;
-            let op = op_by(verb, [part].as_slice())?;
-            Some((op, rest))
-        }
+        [PartKind::Object(kind), PartKind::Value] => op_with_value(decls, verb, *kind, rest),
+        [kind] => op_on_one(decls, verb, *kind, rest),
         _ => other_op(decls, verb, kinds, rest),
     }
+}
+
+// An operation on an object of this kind, with a value.
+#[inline(always)]
+fn op_with_value<'a, A: Allocator>(
+    decls: &Decls<A>,
+    verb: Verb,
+    kind: Kind,
+    rest: Option<&'a [u8]>,
+) -> Option<(Op, Option<&'a [u8]>)>
+    requires { IsWellFormed decls.now }
+    ensures { option_map spec.op_so_far result ≡ spec.op_in decls.now.declarations verb
+        (PartKind.Object kind ∷ PartKind.Value ∷ []) (parts_left 32 rest.entry) }
+{
+    let (object, rest) = next_part(decls, PartKind::Object(kind), rest)?;
+    let (value, rest) = next_part(decls, PartKind::Value, rest)?;
+    op_before(verb, [object, value].as_slice(), rest)
+}
+
+// An operation that has one part.
+#[inline(always)]
+fn op_on_one<'a, A: Allocator>(
+    decls: &Decls<A>,
+    verb: Verb,
+    kind: PartKind,
+    rest: Option<&'a [u8]>,
+) -> Option<(Op, Option<&'a [u8]>)>
+    requires { IsWellFormed decls.now }
+    ensures { option_map spec.op_so_far result ≡ spec.op_in decls.now.declarations verb
+        (kind ∷ []) (parts_left 32 rest.entry) }
+{
+    let (part, rest) = next_part(decls, kind, rest)?;
+    op_before(verb, [part].as_slice(), rest)
 }
 
 // Any operation.
@@ -126,7 +166,20 @@ fn other_op<'a, A: Allocator>(
         (parts_left 32 rest.entry) }
 {
     let (parts, rest) = next_parts(decls, kinds, rest)?;
-    let op = op_by(verb, parts.as_slice())?;
+    op_before(verb, parts.as_slice(), rest)
+}
+
+// The operation of the word with these parts, before what is left behind them.
+#[inline(always)]
+fn op_before<'a>(
+    verb: Verb,
+    parts: &[Part],
+    rest: Option<&'a [u8]>,
+) -> Option<(Op, Option<&'a [u8]>)>
+    ensures { option_map spec.op_so_far result ≡ option_map
+        (spec.op_before (parts_left 32 rest.entry)) (op_by verb parts.now) }
+{
+    let op = op_by(verb, parts)?;
     Some((op, rest))
 }
 

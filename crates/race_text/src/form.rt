@@ -6,7 +6,7 @@ use arrayvec::ArrayVec;
 use race_records::{Kind, Noun, PartKind, Verb, part_kinds};
 
 /// What the first word of a line says that the line is.
-#[derive(Clone, Copy, Debug, PartialEq, Eq)]
+#[derive(Clone, Copy, PartialEq, Eq)]
 pub enum Word {
     /// An object is declared.
     Declares(Noun),
@@ -43,7 +43,7 @@ pub const WORDS: [(&[u8], Word); 24] = [
 ];
 
 /// What can stand behind the first word.
-#[derive(Clone, Copy, Debug, PartialEq, Eq)]
+#[derive(Clone, Copy, PartialEq, Eq)]
 pub enum Field {
     /// A name that the line declares.
     NewName,
@@ -80,42 +80,35 @@ pub(crate) fn common_word(word: &[u8]) -> Option<Word>
     ensures { IfSome result (λ found. spec.word_named word.now ≡ Some found) }
 {
     match word {
-        [b'r', rest @ ..] => word_behind_r(rest),
-        [b'l', b'o', b'c', b'k'] => Some(Word::Does(Verb::Lock)),
-        [b's', b'e', b'n', b'd'] => Some(Word::Does(Verb::Send)),
-        [b'm', b'e', b'e', b't'] => Some(Word::Does(Verb::Meet)),
-        [b'w', rest @ ..] => match rest {
-            [b'r', b'i', b't', b'e'] => Some(Word::Does(Verb::Write)),
-            _ => None,
-        },
-        [b'u', b'n', rest @ ..] => match rest {
-            [b'l', b'o', b'c', b'k'] => Some(Word::Does(Verb::Unlock)),
-            _ => None,
-        },
-        [b'o', b'n', b'c', b'e', rest @ ..] => match rest {
-            [b'd', b'o', b'n', b'e'] => Some(Word::Does(Verb::OnceDone)),
-            _ => None,
-        },
+        [b'r', b'e', b'a', ..] => verb_spelled(word, b"read", Verb::Read),
+        [b'r', b'e', ..] => verb_spelled(word, b"recv", Verb::Recv),
+        [b'r', b'l', ..] => verb_spelled(word, b"rlock", Verb::RLock),
+        [b'r', b'u', ..] => verb_spelled(word, b"runlock", Verb::RUnlock),
+        [b'w', ..] => verb_spelled(word, b"write", Verb::Write),
+        [b'l', ..] => verb_spelled(word, b"lock", Verb::Lock),
+        [b'u', ..] => verb_spelled(word, b"unlock", Verb::Unlock),
+        [b's', ..] => verb_spelled(word, b"send", Verb::Send),
+        [b'm', ..] => verb_spelled(word, b"meet", Verb::Meet),
+        [b'o', ..] => verb_spelled(word, b"oncedone", Verb::OnceDone),
         _ => None,
     }
 }
 
-// The common word that begins with `r`, from the bytes behind it.
+// The verb, where the word is its spelling. A loop over bytes, as the spelling is constant and short.
 #[inline(always)]
-#[tactic(auto, unfolding(crate::specs::Form::word_named))]
-fn word_behind_r(rest: &[u8]) -> Option<Word>
-    ensures { IfSome result (λ found. spec.word_named (114 ∷ rest.now) ≡ Some found) }
+fn verb_spelled(word: &[u8], spelling: &[u8], verb: Verb) -> Option<Word>
+    requires { spec.word_named spelling.now ≡ Some (Word.Does verb) }
+    ensures { IfSome result (λ found. spec.word_named word.now ≡ Some found) }
 {
-    match rest {
-        [b'e', b'a', b'd'] => Some(Word::Does(Verb::Read)),
-        [b'e', b'c', b'v'] => Some(Word::Does(Verb::Recv)),
-        [b'l', b'o', b'c', b'k'] => Some(Word::Does(Verb::RLock)),
-        [b'u', b'n', others @ ..] => match others {
-            [b'l', b'o', b'c', b'k'] => Some(Word::Does(Verb::RUnlock)),
-            _ => None,
-        },
-        _ => None,
+    if word.len() != spelling.len() {
+        return None;
     }
+    for i in 0..word.len() {
+        if word[i] != spelling[i] {
+            return None;
+        }
+    }
+    Some(Word::Does(verb))
 }
 
 #[inline(never)]

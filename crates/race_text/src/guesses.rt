@@ -9,14 +9,14 @@ use std::alloc::Allocator;
 const SLOTS: usize = 4_096;
 
 /// The number of a place, and a mark of its bytes, by which most others are told from it.
-#[derive(Clone, Copy, Debug)]
+#[derive(Clone, Copy)]
 pub struct Guess {
     mark: u32,
     place: u32,
 }
 
 /// Numbers of places that were met. A slot in which none was noted guesses the first place.
-#[derive(Debug, Drop)]
+#[derive(Drop)]
 pub struct Guesses {
     slots: [Guess; SLOTS],
 }

@@ -16,7 +16,7 @@ use std::alloc::{Allocator, Global};
 use std::marker::Model;
 
 /// What was read, and the bytes behind it that no newline has ended yet.
-#[derive(Debug, Drop)]
+#[derive(Drop)]
 pub struct Lines<A: Allocator> {
     /// What was read.
     pub reader: Reader<A>,
@@ -26,7 +26,6 @@ pub struct Lines<A: Allocator> {
 
 /// Reads a trace from its text, which comes in pieces that may be cut anywhere. A line is read as
 /// soon as its newline has come.
-#[derive(Debug)]
 pub struct LineReader<A: Allocator = Global> {
     lines: Lines<A>,
     fault: Option<TextFault>,

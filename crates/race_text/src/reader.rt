@@ -17,7 +17,6 @@ use std::alloc::Allocator;
 use std::mem;
 
 /// What was read so far: the header or not, declarations, and the trace from its first event on.
-#[derive(Debug)]
 pub struct Reader<A: Allocator> {
     /// The memory for what is read.
     pub alloc: A,

@@ -5,7 +5,7 @@ ghost use Rattle.race_text.specs.Select as spec;
 use race_records::{Cause, Dir, Kind, Named, PartKind};
 
 /// What a run failed at.
-#[derive(Clone, Copy, Debug, PartialEq, Eq)]
+#[derive(Clone, Copy, PartialEq, Eq)]
 pub enum Attempt {
     /// A send.
     Send,

@@ -6,7 +6,7 @@ use crate::cut::cut_at;
 use std::marker::Model;
 
 /// The words of a line, one after another. Two spaces have an empty word between them.
-#[derive(Debug, Drop)]
+#[derive(Drop)]
 pub struct Words<'a> {
     rest: Option<&'a [u8]>,
 }

@@ -169,7 +169,6 @@ fn print_number<W: Write>(
 }
 
 // Prints an event that fits.
-#[tactic(auto, unfolding(race_records::specs::Events::fits))]
 pub(crate) fn print_event<W: Write, A: Allocator>(
     page: &mut Page,
     sink: &mut Sink<W>,

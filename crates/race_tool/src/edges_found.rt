@@ -20,7 +20,7 @@ use std::alloc::{AllocError, Allocator};
 use std::io::Write;
 
 /// What there is to list of a list of bytes.
-#[derive(Debug, Drop)]
+#[derive(Drop)]
 pub(crate) enum Found<A: Allocator> {
     /// It is no trace: its first line at fault.
     NoTrace(TextFault),

@@ -13,7 +13,7 @@ use race_text::TextFault;
 use std::alloc::{AllocError, Allocator};
 
 /// What there is to say of a list of bytes.
-#[derive(Debug, Drop)]
+#[derive(Drop)]
 pub(crate) enum Finding<A: Allocator> {
     /// It is no trace: its first line at fault.
     Faulty(TextFault),

@@ -1,9 +1,10 @@
-use Rattle.std.proofs.Common.{◌≡◌, ℕ, ◌≤◌, ◌++◌, Ok, Err, List, take, length, sym, subst, ◌∙◌, ap}
+use Rattle.std.proofs.Common.{All, ◌≡◌, ℕ, ◌≤◌, ◌++◌, Ok, Err, List, take, length, sym, subst, ◌∙◌, ap}
 use Rattle.std.specs.List.{flat_map}
 use Rattle.race_records.specs.Page.{Printing}
 use Rattle.race_records.proofs.PageLemmas.{piece_breaks_off, breaks_off_before, prints_behind}
 use Rattle.race_edges.specs.declared.races.Race.{Race}
 use Rattle.race_edges.specs.Answers.{race_of}
+use Rattle.race_report.specs.Printable.{IsOf}
 use Rattle.race_report.specs.Report.{race_line, races_line}
 use Rattle.race_report.proofs.ReportLemmas.{races_text_is, take_all}
 use Rattle.race_report.proofs.verdict.print_races.Goals as goal
@@ -33,3 +34,8 @@ returns g c =
     subst (λ (l : List ℕ). Printing g.W.Write.contents c.print_race_count.result
     c.args.sink.now c.print_race_count.new.sink c.args.page.now c.print_race_count.new.page l)
     ((λ i. flat_map piece races ++ races_line (count i)) ∙ sym (races_text_is c.args.trace.now races)) (prints_behind before c.print_race_count.ensures)
+
+pub print_race-requires : goal.print_race-requires
+print_race-requires g c =
+    subst (λ (l : List Race). All (λ (r : Race). IsOf c.args.trace.now (race_of r)) l) (sym c.as_slice-race-items.ensures) c.requires
+    c.loop-race.race-index _ c.loop-race-test.true

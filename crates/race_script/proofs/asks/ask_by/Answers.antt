@@ -1,5 +1,5 @@
 use Rattle.std.proofs.Common.{rules}
 use Rattle.race_script.proofs.asks.ask_by.Goals as goal
 
-pub returns-in_ok-object_alone-in-RLock : goal.returns-in_ok-object_alone-in-RLock
-returns-in_ok-object_alone-in-RLock c = search rules steps 300000
+pub returns-in-RLock : goal.returns-in-RLock
+returns-in-RLock c = search rules steps 300000

@@ -2,6 +2,18 @@ use Rattle.std.proofs.Common.{take, sym}
 use Rattle.race_text.proofs.FoundLemmas.{found_is_declared}
 use Rattle.race_text.proofs.common.next_named.Goals as goal
 
+pub next_word-requires : goal.next_word-requires
+next_word-requires g c = c.requires
+
+pub find_at-requires-clause-len : goal.find_at-requires-clause-len
+find_at-requires-clause-len g c = c.in_ok-len.ensures.cut.within
+
+pub find_at-requires-clause-visible : goal.find_at-requires-clause-visible
+find_at-requires-clause-visible g c = c.in_ok-len.ensures.cut.is_seen
+
 pub returns-clause-declared : goal.returns-clause-declared
 returns-clause-declared g c =
     found_is_declared c.args.decls.now.declarations (take c.in_ok-len.len c.args.front.bytes.now) c.in_ok-named.named (sym c.in_ok-named.ensures)
+
+pub returns-clause-marked : goal.returns-clause-marked
+returns-clause-marked g c = c.in_ok-len.ensures.marked

@@ -4,3 +4,12 @@ use Rattle.race_text.proofs.event.next_parts.Goals as goal
 
 pub returns : goal.returns
 returns c = grind (arith, common_steps) steps 300000
+
+pub next_part-requires : goal.next_part-requires
+next_part-requires g c = c.requires.decls
+
+pub push-requires : goal.push-requires
+push-requires g c = omega (arith, c.loop-kinds.invariant.1)
+
+pub loop-kinds-preserved : goal.loop-kinds-preserved
+loop-kinds-preserved c = grind (arith, common_steps) steps 1000000

@@ -1,9 +1,12 @@
-use Rattle.std.proofs.Common.{ℕ, List, ◌++◌, ◌∙◌, Err, subst}
+use Rattle.std.proofs.Common.{ℕ, List, ◌++◌, ap, ◌∙◌, Err, subst}
+use Rattle.std.specs.List.{list_all}
 use Rattle.std.specs.Option.{option_map}
+use Rattle.race_records.specs.Parts.{part_fits}
+use Rattle.race_records.proofs.EventLemmas.{second_in_range}
 use Rattle.race_records.specs.Page.{Printing}
 use Rattle.race_records.proofs.PageLemmas.{prints_behind, breaks_off_before}
 use Rattle.race_text.specs.Writing.{parts_text, place_end}
-use Rattle.race_text.proofs.WritingLemmas.{event_text}
+use Rattle.race_text.proofs.WritingLemmas.{event_text, who_is_declared, place_in_range, parts_fit}
 use Rattle.race_text.proofs.writing.print_event.Goals as goal
 
 pub returns-in-Ok : goal.returns-in-Ok
@@ -27,3 +30,17 @@ returns-in-Err g c =
     c.args.sink.now c.print_first.new.sink c.args.page.now c.print_first.new.page l) whole
     (breaks_off_before (parts_text ds parts ++ place_end c.place_text-place.result.now (option_map (λ place. place.now) c.second_text-place2.result))
     c.in-Err.ensures)
+
+pub name-who-requires : goal.name-who-requires
+name-who-requires g c = who_is_declared c.args.decls.now c.args.event.now c.requires
+
+pub place_text-place-requires : goal.place_text-place-requires
+place_text-place-requires g c = place_in_range c.args.decls.now c.args.event.now c.requires
+
+pub second_text-place2-requires : goal.second_text-place2-requires
+second_text-place2-requires g c = second_in_range c.args.decls.now c.args.event.now c.requires
+
+pub print_behind-requires : goal.print_behind-requires
+print_behind-requires g c =
+    ap (list_all (part_fits c.args.decls.now.declarations)) (c.as_slice.ensures.value ∙ c.says-verb.ensures.parts)
+    ∙ parts_fit c.args.decls.now c.args.event.now c.requires

@@ -1,6 +1,7 @@
 use Rattle.std.proofs.lemmas.Grind.{common_steps}
 use Rattle.race_records.specs.declared.event.Event.{Event}
-use Rattle.std.proofs.Common.{Err, subst, arith}
+use Rattle.std.proofs.Common.{Err, IsTrue, subst, sym, arith}
+use Rattle.race_records.specs.Events.{fits}
 use Rattle.race_records.specs.Page.{Printing}
 use Rattle.race_records.proofs.PageLemmas.{piece_breaks_off}
 use Rattle.race_text.specs.Text.{ended, event_line}
@@ -14,3 +15,7 @@ returns-in-Err g c = piece_breaks_off (λ (e : Event). ended (event_line c.args.
 
 pub returns : goal.returns
 returns c = grind (arith, common_steps) steps 300000
+
+pub print_event-requires : goal.print_event-requires
+print_event-requires g c = subst (λ (e : Event). IsTrue (fits c.args.decls.now e)) (sym c.event-item.is)
+    (c.requires c.loop-event.event-index c.event-item.result c.loop-event-test.true)

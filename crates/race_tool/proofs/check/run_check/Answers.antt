@@ -1,6 +1,6 @@
 -- What was written of what was read is right for the whole input.
 use Rattle.std.proofs.lemmas.Grind.{common_steps}
-use Rattle.std.proofs.Common.{inr, rules, arith}
+use Rattle.std.proofs.Common.{inr, refl, rules, arith}
 use Rattle.race_records.specs.Devices.{unread, written}
 use Rattle.race_edges.specs.Traces.{IsClean, IsRacy, IsIllegal}
 use Rattle.race_tool.specs.Finding.{IsFinding, report_of, status_of}
@@ -52,3 +52,12 @@ returns-in-Err-clause-usage g c = search rules steps 300000
 
 pub returns-in-Err-clause-untouched : goal.returns-in-Err-clause-untouched
 returns-in-Err-clause-untouched g c = grind (arith, common_steps) steps 300000
+
+pub returns-in-Ok-clause-refused : goal.returns-in-Ok-clause-refused
+returns-in-Ok-clause-refused g c = c.report.ensures.refused
+
+pub returns-in-Ok-clause-calm : goal.returns-in-Ok-clause-calm
+returns-in-Ok-clause-calm g c = λ other. (c.in-Ok.ensures.calm (λ e. cc), c.report.ensures.calm other)
+
+pub returns-in-Err-clause-refused : goal.returns-in-Err-clause-refused
+returns-in-Err-clause-refused g c = λ _. refl

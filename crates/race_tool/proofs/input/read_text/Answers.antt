@@ -1,11 +1,17 @@
 -- A block is fed, and the reader of lines stands for all that was read.
-use Rattle.std.proofs.Common.{Bool, Result, Ok, refl, ap, subst, ◌∙◌, arith}
-use Rattle.race_records.specs.Devices.{unread, source_reads}
+use Rattle.std.proofs.Common.{◌≡◌, ◌≢◌, Bool, Result, Ok, Err, IfErr, refl, ap, subst, rules, ◌∙◌, arith}
+use Rattle.race_records.specs.Devices.{unread, source_reads, one_more}
 use Rattle.race_text.specs.declared.cause.TextFault.{TextFault}
 use Rattle.race_tool.specs.declared.input.ReadFault.{ReadFault}
 use Rattle.race_tool.specs.Input.{FeedsMore}
 use Rattle.race_tool.proofs.InputLemmas.{fed_none, fed_more, fine_before, fault_read, end_answered, err_same, err_other, read_more}
 use Rattle.race_tool.proofs.input.read_text.Goals as goal
+
+-- where want of memory is the only fault, there is no other
+out_of_memory_alone : {T : Type 0} (r : Result T ReadFault) → IfErr r (λ fault. fault ≡ ReadFault.OutOfMemory)
+    → (other : ReadFault) → ReadFault.OutOfMemory ≢ other → r ≡ Err other → ⊥
+out_of_memory_alone (Ok _) memory other differs is = cc
+out_of_memory_alone (Err fault) memory other differs is = differs cc
 
 pub loop-init : goal.loop-init
 loop-init g c = record {
@@ -69,3 +75,38 @@ loop-preserved g c =
       calm = c.in_ok-feed_block.ensures.calm (λ e. cc) ∙ held.calm;
       room = held.room;
     }
+
+pub returns-in_err-feed_block-clause-ok : goal.returns-in_err-feed_block-clause-ok
+returns-in_err-feed_block-clause-ok g c = search rules steps 300000
+
+pub returns-in_err-feed_block-clause-failed : goal.returns-in_err-feed_block-clause-failed
+returns-in_err-feed_block-clause-failed g c = λ is. c.in_err-feed_block.ensures.failed
+    (err_same c.from_residual.result c.in_err-feed_block.field-0.0 ReadFault.Failed c.from_residual.ensures.1 is) ∙ ap one_more c.loop.invariant.calm
+
+pub returns-in_err-feed_block-clause-endless : goal.returns-in_err-feed_block-clause-endless
+returns-in_err-feed_block-clause-endless g c = λ is. absurd (c.in_err-feed_block.ensures.ends
+    (err_same c.from_residual.result c.in_err-feed_block.field-0.0 ReadFault.Endless c.from_residual.ensures.1 is))
+
+pub returns-in-Ok-false-clause-calm : goal.returns-in-Ok-false-clause-calm
+returns-in-Ok-false-clause-calm g c = λ _. c.in_ok-feed_block.ensures.calm (λ e. cc) ∙ c.loop.invariant.calm
+
+pub returns-in-Ok-false-clause-failed : goal.returns-in-Ok-false-clause-failed
+returns-in-Ok-false-clause-failed g c = λ is. absurd (out_of_memory_alone c.set_memory_apart.result c.set_memory_apart.ensures.memory ReadFault.Failed (λ e. cc) is)
+
+pub returns-in-Ok-false-clause-fine : goal.returns-in-Ok-false-clause-fine
+returns-in-Ok-false-clause-fine g c = λ is. absurd (out_of_memory_alone c.set_memory_apart.result c.set_memory_apart.ensures.memory ReadFault.Failed (λ e. cc) is)
+
+pub returns-in-Ok-false-clause-endless : goal.returns-in-Ok-false-clause-endless
+returns-in-Ok-false-clause-endless g c = λ is. absurd (out_of_memory_alone c.set_memory_apart.result c.set_memory_apart.ensures.memory ReadFault.Endless (λ e. cc) is)
+
+pub returns-in-Err-clause-calm : goal.returns-in-Err-clause-calm
+returns-in-Err-clause-calm g c = λ _. c.in_ok-feed_block.ensures.calm (λ e. cc) ∙ c.loop.invariant.calm
+
+pub returns-in-Err-clause-failed : goal.returns-in-Err-clause-failed
+returns-in-Err-clause-failed g c = λ is. absurd cc
+
+pub returns-in-Err-clause-fine : goal.returns-in-Err-clause-fine
+returns-in-Err-clause-fine g c = λ is. absurd cc
+
+pub returns-in-Err-clause-endless : goal.returns-in-Err-clause-endless
+returns-in-Err-clause-endless g c = λ is. absurd cc

@@ -83,3 +83,15 @@ returns-clause-device g c = λ _.
           c.len.ensures.len c.in-Err-write_too_long.ensures.sent;
       failed = c.in-Err-write_too_long.ensures.failed;
     }
+
+pub returns-in-Ok-write_judged-clause-calm : goal.returns-in-Ok-write_judged-clause-calm
+returns-in-Ok-write_judged-clause-calm g c = λ _. c.in-Ok-write_judged.ensures.calm
+
+pub returns-in-Ok-write_too_long-clause-calm : goal.returns-in-Ok-write_too_long-clause-calm
+returns-in-Ok-write_too_long-clause-calm g c = λ _. c.in-Ok-write_too_long.ensures.calm
+
+pub returns-in-Some-clause-calm : goal.returns-in-Some-clause-calm
+returns-in-Some-clause-calm g c = λ other. absurd (other refl)
+
+pub returns-clause-calm : goal.returns-clause-calm
+returns-clause-calm g c = λ other. absurd (other refl)

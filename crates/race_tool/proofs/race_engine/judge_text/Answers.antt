@@ -74,3 +74,15 @@ returns-clause-device g c = λ _.
     (sym c.in-Err.is)
     (writes_judged_fault_front limit picks c.args.plain c.in-Err.fault g.W.Write.contents c.args.sink.now c.write_text_fault.new.sink
     c.in-Err-write_text_fault.field-0.sent c.in-Err-write_text_fault.ensures.sent c.in-Err-write_text_fault.ensures.failed)
+
+pub returns-in-Ok-record_program-clause-refused : goal.returns-in-Ok-record_program-clause-refused
+returns-in-Ok-record_program-clause-refused g c = c.judge_run.ensures.refused
+
+pub returns-in-Ok-record_program-clause-mismatch : goal.returns-in-Ok-record_program-clause-mismatch
+returns-in-Ok-record_program-clause-mismatch g c = λ is. absurd (c.judge_run.ensures.mismatch is)
+
+pub returns-in-Ok-record_program-clause-calm : goal.returns-in-Ok-record_program-clause-calm
+returns-in-Ok-record_program-clause-calm g c = c.judge_run.ensures.calm
+
+pub returns-in-Ok-write_text_fault-clause-calm : goal.returns-in-Ok-write_text_fault-clause-calm
+returns-in-Ok-write_text_fault-clause-calm g c = λ _. c.in-Ok-write_text_fault.ensures.calm

@@ -47,3 +47,12 @@ returns-in-Err-clause-calm g c = λ served. (
       c.in-Err.ensures.calm served,
   refl,
 )
+
+pub returns-in-Ok-clause-refused : goal.returns-in-Ok-clause-refused
+returns-in-Ok-clause-refused g c = c.run_text.ensures.refused
+
+pub returns-in-Ok-clause-calm : goal.returns-in-Ok-clause-calm
+returns-in-Ok-clause-calm g c = λ other. (c.in-Ok.ensures.calm (λ e. cc), c.run_text.ensures.calm other)
+
+pub returns-in-Err-clause-refused : goal.returns-in-Err-clause-refused
+returns-in-Err-clause-refused g c = λ _. refl

@@ -1,10 +1,16 @@
-use Rattle.std.proofs.Common.{arith, ◌≡◌, Some, slice_get, ap, sym, ◌∙◌, true≢false}
-use Rattle.std.proofs.lemmas.Grind.{elements}
-use Rattle.std.specs.Option.{option_copied}
+use Rattle.std.proofs.Common.{◌≡◌, ℕ, Option, Some, is_some, slice_get, ap, sym, subst, ◌∙◌, true≢false}
+use Rattle.std.proofs.lemmas.Option.{slice_get_within}
+use Rattle.std.specs.Option.{option_copied, unwrap_or}
 use Rattle.race_hub.specs.Table.{done_by}
-use Rattle.race_script.proofs.PassedLemmas.{made_is, passes_step, passes_no_fit}
+use Rattle.race_script.specs.Course.{IsPassed}
+use Rattle.race_script.specs.Program.{spelled}
+use Rattle.race_script.proofs.PassedLemmas.{made_is, passes_no_step, passes_step, passes_no_fit}
 use Rattle.race_script.proofs.course.Course.passed.Goals as goal
 use Rattle.race_script.proofs.course.Course.passed.Goals.{else-can_make-via-then-can_make+else-stand_alike, else-can_make-via-else-can_make}
+
+-- what is told twice is the same
+told_twice : {X : Type 0} (o : Option X) (x y : X) → o ≡ Some x → o ≡ Some y → x ≡ y
+told_twice o x y is also = ap (λ p. unwrap_or p x) (sym is ∙ also)
 
 pub returns-then-stand_alike : goal.returns-then-stand_alike
 returns-then-stand_alike g c = λ e fits fails.
@@ -12,8 +18,7 @@ returns-then-stand_alike g c = λ e fits fails.
     let made = made_is course.places.now.places course.recorded.now.places course.body.now
     course.goroutine c.args.position c.args.step.now course.fault e fits fails
     c.made_in.result c.made_in.ensures in
-    let was = c.in_ok-made.was in
-    let is : c.in_ok-made.made ≡ done_by course.goroutine e.op = cc in
+    let is : c.in_ok-made.made ≡ done_by course.goroutine e.op = told_twice c.made_in.result _ _ c.in_ok-made.was made in
     let at : slice_get course.body.now c.args.position ≡ Some c.in_ok-request.request.now = sym c.at.ensures ∙ ap (λ o. option_copied o) c.in_ok-request.was in
     passes_step course.places.now.places course.recorded.now.places course.body.now course.goroutine c.args.position c.args.step.now course.fault e fits fails
     c.in_ok-request.request.now c.in_ok-made.made c.behind.result at is
@@ -26,8 +31,7 @@ returns-else-can_make g c = λ e fits fails.
     let made = made_is course.places.now.places course.recorded.now.places course.body.now
     course.goroutine c.args.position c.args.step.now course.fault e fits fails
     c.made_in.result c.made_in.ensures in
-    let was = c.in_ok-made.was in
-    let is : c.in_ok-made.made ≡ done_by course.goroutine e.op = cc in
+    let is : c.in_ok-made.made ≡ done_by course.goroutine e.op = told_twice c.made_in.result _ _ c.in_ok-made.was made in
     let at : slice_get course.body.now c.args.position ≡ Some c.in_ok-request.request.now = sym c.at.ensures ∙ ap (λ o. option_copied o) c.in_ok-request.was in
     passes_no_fit course.places.now.places course.recorded.now.places course.body.now course.goroutine c.args.position c.args.step.now course.fault e fits fails
     c.in_ok-request.request.now c.in_ok-made.made at is
@@ -37,7 +41,22 @@ returns-else-can_make g c = λ e fits fails.
     ])
 
 pub returns-in_err-request : goal.returns-in_err-request
-returns-in_err-request g c = grind (arith, elements) steps 1000000
+returns-in_err-request g c = λ e fits fails.
+    let course = c.args.self.now in
+    subst (λ (next : Option ℕ). IsPassed (spelled course.places.now.places course.body.now) course.recorded.now.places course.goroutine c.args.position e next)
+    (sym c.from_residual.ensures)
+    (passes_no_step course.places.now.places course.recorded.now.places course.body.now course.goroutine c.args.position c.args.step.now course.fault e fits fails
+    (sym c.at.ensures ∙ ap (λ o. option_copied o) c.in_err-request.was))
 
 pub behind-requires : goal.behind-requires
-behind-requires g c = grind (arith, elements) steps 1000000
+behind-requires g c =
+    slice_get_within c.args.self.now.body.now c.args.position c.in_ok-request.request.now
+    (sym c.at.ensures ∙ ap (λ o. option_copied o) c.in_ok-request.was)
+
+pub returns-in_err-made : goal.returns-in_err-made
+returns-in_err-made g c = λ e fits fails.
+    let course = c.args.self.now in
+    let made = made_is course.places.now.places course.recorded.now.places course.body.now
+    course.goroutine c.args.position c.args.step.now course.fault e fits fails
+    c.made_in.result c.made_in.ensures in
+    absurd (true≢false (ap is_some (sym made ∙ c.in_err-made.was)))

@@ -1,10 +1,11 @@
 -- What was kept of a line goes on in the first part of the piece.
 use Rattle.std.proofs.Common.{◌≡◌, ℕ, List, [], ◌∷◌, ◌++◌, ap, sym, subst, ◌∙◌}
+use Rattle.std.proofs.lemmas.Result.{IfOk-from_err}
 use Rattle.race_text.specs.Words.{parts_of, parts_left}
 use Rattle.race_text.specs.Lines.{GoesOn}
 use Rattle.race_text.specs.Fed.{IsTaken, IsUnended, TellsOfLine}
 use Rattle.race_script.specs.Fault.{program_causes}
-use Rattle.race_script.specs.Reader.{lines_read}
+use Rattle.race_script.specs.Reader.{IsReading, lines_read}
 use Rattle.race_text.proofs.FedLemmas.{seam_line, seam_part, last_is, kept_unended, memory_told, line_told, line_taken, match_err, match_map}
 use Rattle.race_script.proofs.program_reader.Lines.take.Goals as goal
 
@@ -88,3 +89,30 @@ returns-in_ok-take_part-in-Some-clause-taken g c =
     (λ _ takes whole more t. takes whole more (next whole more t))
     (λ _ tells whole more t. tells whole more (next whole more t))
     c.take_whole-in-Some.ensures.taken
+
+pub returns-then-is_between_lines-clause-reading : goal.returns-then-is_between_lines-clause-reading
+returns-then-is_between_lines-clause-reading g c = c.take_whole.ensures.reading
+
+pub returns-then-is_between_lines-clause-unended : goal.returns-then-is_between_lines-clause-unended
+returns-then-is_between_lines-clause-unended g c = c.take_whole.ensures.unended
+
+pub returns-in_err-keep-clause-reading : goal.returns-in_err-keep-clause-reading
+returns-in_err-keep-clause-reading g c = IfOk-from_err _ _ c.from_residual.ensures.0
+
+pub returns-in_err-take_part-in-Some-clause-reading : goal.returns-in_err-take_part-in-Some-clause-reading
+returns-in_err-take_part-in-Some-clause-reading g c = IfOk-from_err _ _ c.from_residual-in_err-take_part-in-Some.ensures.0
+
+pub returns-in_ok-take_part-in-Some-clause-reading : goal.returns-in_ok-take_part-in-Some-clause-reading
+returns-in_ok-take_part-in-Some-clause-reading g c = c.take_whole-in-Some.ensures.reading
+
+pub returns-in_err-keep-clause-unended : goal.returns-in_err-keep-clause-unended
+returns-in_err-keep-clause-unended g c = IfOk-from_err _ _ c.from_residual.ensures.0
+
+pub returns-in_err-take_part-in-Some-clause-unended : goal.returns-in_err-take_part-in-Some-clause-unended
+returns-in_err-take_part-in-Some-clause-unended g c = IfOk-from_err _ _ c.from_residual-in_err-take_part-in-Some.ensures.0
+
+pub returns-in_ok-take_part-in-Some-clause-unended : goal.returns-in_ok-take_part-in-Some-clause-unended
+returns-in_ok-take_part-in-Some-clause-unended g c = c.take_whole-in-Some.ensures.unended
+
+pub returns-in-None-clause-reading : goal.returns-in-None-clause-reading
+returns-in-None-clause-reading g c = subst (λ r. IsReading r) (sym c.in_ok-keep.ensures.same) c.requires.reading

@@ -17,6 +17,18 @@ returns-in-Some-clause-line g c = λ fed S.
     (told_of program_causes c.args.self.now (fed ++ c.args.piece.now) c.in-Some.fault is
     (told_stays program_causes c.args.self.now c.args.piece.now fed c.in-Some.fault is S)).line
 
+pub returns-in-Some-clause-fault : goal.returns-in-Some-clause-fault
+returns-in-Some-clause-fault g c = λ fed S.
+    let is : c.args.self.now.fault ≡ Some c.in-Some.fault = ap (λ (k : LinesState). k.fault) (sym c.self.view_is) ∙ c.in-Some.is in
+    (told_of program_causes c.args.self.now (fed ++ c.args.piece.now) c.in-Some.fault is
+    (told_stays program_causes c.args.self.now c.args.piece.now fed c.in-Some.fault is S)).ended
+
+pub returns-in-Some-clause-memory : goal.returns-in-Some-clause-memory
+returns-in-Some-clause-memory g c = λ fed S.
+    let is : c.args.self.now.fault ≡ Some c.in-Some.fault = ap (λ (k : LinesState). k.fault) (sym c.self.view_is) ∙ c.in-Some.is in
+    (told_of program_causes c.args.self.now (fed ++ c.args.piece.now) c.in-Some.fault is
+    (told_stays program_causes c.args.self.now c.args.piece.now fed c.in-Some.fault is S)).none_ended_before
+
 pub returns-in-Ok-clause-goes_on : goal.returns-in-Ok-clause-goes_on
 returns-in-Ok-clause-goes_on g c = λ fed S.
     let lines = c.self.inside.lines in

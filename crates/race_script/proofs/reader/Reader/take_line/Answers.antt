@@ -1,16 +1,33 @@
 use Rattle.std.proofs.lemmas.Grind.{common_steps}
-use Rattle.std.proofs.Common.{◌≡◌, true, sym, ap, subst, ◌∙◌, arith}
+use Rattle.std.proofs.Common.{◌≡◌, ◌≢◌, ℕ, List, true, Result, Ok, Err, Some, OnOk, MatchResult, sym, ap, subst, ◌∙◌, arith}
+use Rattle.race_text.specs.declared.cause.TextCause.{TextCause}
 use Rattle.race_text.specs.Form.{first_word}
-use Rattle.race_script.specs.Fault.{cause}
+use Rattle.race_text.specs.Lines.{GoesOn}
+use Rattle.race_script.specs.Fault.{cause, program_causes}
 use Rattle.race_script.specs.Form.{line_word}
-use Rattle.race_script.specs.Reader.{ReadState, draft_read, lines_by, IsRead, IsReadBy}
+use Rattle.race_script.specs.Reader.{ReadState, draft_read, lines_read, lines_by, IsRead, IsReading, IsReadBy, TakesOrTells}
+use Rattle.race_script.specs.Text.{lines}
 use Rattle.race_script.proofs.ReadLemmas.{bad_byte_told, unknown_told}
 use Rattle.race_script.proofs.reader.Reader.take_line.Goals as goal
+
+-- behind the header a line goes on behind what was read, or its least cause is told
+module _ (s new : ReadState) (header : s.has_header ≡ true) (line : List ℕ) where
+  goes_on : (r : Result Unit TextCause) → TakesOrTells s line r new
+      → MatchResult r (λ _. GoesOn program_causes (lines_read s) line (lines_read new))
+      (λ told. told ≢ TextCause.OutOfMemory → cause (lines_read s) line true ≡ Some told)
+  goes_on (Ok u) takes =
+      subst (λ b. GoesOn program_causes (lines_by b (draft_read s)) line (lines_read new)) (sym header)
+      (subst (λ b. GoesOn program_causes (lines (draft_read s)) line (lines_by b (draft_read new))) (sym takes.header) takes.goes)
+  goes_on (Err told) tells = λ other. ap (λ b. cause (lines_by b (draft_read s)) line true) header ∙ tells other
+
+  reads_on : (r : Result Unit TextCause) → TakesOrTells s line r new → OnOk r (IsReading new)
+  reads_on (Ok u) takes = subst (λ b. IsReadBy b new) (sym takes.header) takes.read
+  reads_on (Err told) tells = tt
 
 pub returns-then-has_bad_byte-clause-taken : goal.returns-then-has_bad_byte-clause-taken
 returns-then-has_bad_byte-clause-taken g c = λ _.
     let s = c.args.self.now in
-    let header_is : s.has_header ≡ true = ap (λ (x : ReadState). x.has_header) (sym c.self.view_is) ∙ (let h = c.if-not-self.false in cc) in
+    let header_is : s.has_header ≡ true = ap (λ (x : ReadState). x.has_header) (sym c.self.view_is) ∙ c.if-not-self.false in
     let read : IsRead s = subst (λ b. IsReadBy b s) header_is c.requires in
     ap (λ b. cause (lines_by b (draft_read s)) c.args.line.now true) header_is
     ∙ bad_byte_told s read c.args.line.now (sym c.has_bad_byte.ensures ∙ c.if-has_bad_byte.true)
@@ -18,7 +35,7 @@ returns-then-has_bad_byte-clause-taken g c = λ _.
 pub returns-in-None-clause-taken : goal.returns-in-None-clause-taken
 returns-in-None-clause-taken g c = λ _.
     let s = c.args.self.now in
-    let header_is : s.has_header ≡ true = ap (λ (x : ReadState). x.has_header) (sym c.self.view_is) ∙ (let h = c.if-not-self.false in cc) in
+    let header_is : s.has_header ≡ true = ap (λ (x : ReadState). x.has_header) (sym c.self.view_is) ∙ c.if-not-self.false in
     let read : IsRead s = subst (λ b. IsReadBy b s) header_is c.requires in
     let none = ap (λ ws. line_word (first_word ws)) c.cut_at.ensures ∙ sym c.line_word.ensures ∙ c.in-None.is in
     ap (λ b. cause (lines_by b (draft_read s)) c.args.line.now true) header_is
@@ -29,3 +46,43 @@ take_header-requires-clause-reading c = grind (arith, common_steps) steps 300000
 
 pub returns-then-not-self-clause-taken : goal.returns-then-not-self-clause-taken
 returns-then-not-self-clause-taken c = grind (arith, common_steps) steps 300000
+
+pub returns-in-Some-Declares-clause-taken : goal.returns-in-Some-Declares-clause-taken
+returns-in-Some-Declares-clause-taken g c =
+    goes_on c.args.self.now c.take_declaration.new.self (ap (λ (x : ReadState). x.has_header) (sym c.self.view_is) ∙ c.if-not-self.false)
+    c.args.line.now c.take_declaration.result c.take_declaration.ensures.taken
+
+pub returns-in-Some-Declares-clause-reading : goal.returns-in-Some-Declares-clause-reading
+returns-in-Some-Declares-clause-reading g c =
+    reads_on c.args.self.now c.take_declaration.new.self (ap (λ (x : ReadState). x.has_header) (sym c.self.view_is) ∙ c.if-not-self.false)
+    c.args.line.now c.take_declaration.result c.take_declaration.ensures.taken
+
+pub returns-in-Some-Begins-clause-taken : goal.returns-in-Some-Begins-clause-taken
+returns-in-Some-Begins-clause-taken g c =
+    goes_on c.args.self.now c.take_begin.new.self (ap (λ (x : ReadState). x.has_header) (sym c.self.view_is) ∙ c.if-not-self.false)
+    c.args.line.now c.take_begin.result c.take_begin.ensures.taken
+
+pub returns-in-Some-Begins-clause-reading : goal.returns-in-Some-Begins-clause-reading
+returns-in-Some-Begins-clause-reading g c =
+    reads_on c.args.self.now c.take_begin.new.self (ap (λ (x : ReadState). x.has_header) (sym c.self.view_is) ∙ c.if-not-self.false)
+    c.args.line.now c.take_begin.result c.take_begin.ensures.taken
+
+pub returns-in-Some-Asks-clause-taken : goal.returns-in-Some-Asks-clause-taken
+returns-in-Some-Asks-clause-taken g c =
+    goes_on c.args.self.now c.take_asks.new.self (ap (λ (x : ReadState). x.has_header) (sym c.self.view_is) ∙ c.if-not-self.false)
+    c.args.line.now c.take_asks.result c.take_asks.ensures.taken
+
+pub returns-in-Some-Asks-clause-reading : goal.returns-in-Some-Asks-clause-reading
+returns-in-Some-Asks-clause-reading g c =
+    reads_on c.args.self.now c.take_asks.new.self (ap (λ (x : ReadState). x.has_header) (sym c.self.view_is) ∙ c.if-not-self.false)
+    c.args.line.now c.take_asks.result c.take_asks.ensures.taken
+
+pub returns-in-Some-Selects-clause-taken : goal.returns-in-Some-Selects-clause-taken
+returns-in-Some-Selects-clause-taken g c =
+    goes_on c.args.self.now c.take_select.new.self (ap (λ (x : ReadState). x.has_header) (sym c.self.view_is) ∙ c.if-not-self.false)
+    c.args.line.now c.take_select.result c.take_select.ensures.taken
+
+pub returns-in-Some-Selects-clause-reading : goal.returns-in-Some-Selects-clause-reading
+returns-in-Some-Selects-clause-reading g c =
+    reads_on c.args.self.now c.take_select.new.self (ap (λ (x : ReadState). x.has_header) (sym c.self.view_is) ∙ c.if-not-self.false)
+    c.args.line.now c.take_select.result c.take_select.ensures.taken

@@ -1,0 +1,46 @@
+use Rattle.std.proofs.Common.{◌≡◌, ◌==◌, List, [], ◌∷◌, ℕ, length, Option, Some, None, true, false, true≢false}
+use Rattle.std.proofs.Common.{option_map, option_and_then, refl, sym, ap, ◌∙◌, arith}
+use Rattle.std.proofs.lemmas.Bool.Decides.{nat_tests}
+use Rattle.race_records.specs.declared.kind.Kind.{Kind}
+use Rattle.race_records.specs.declared.parts.Part.{Part}
+use Rattle.race_records.specs.declared.parts.PartKind.{PartKind}
+use Rattle.race_records.specs.Declarations.{Declaration}
+use Rattle.race_text.specs.Reading.{ReadPart, part_so_far, first_part, part_in, with_rest, goroutine_of}
+use Rattle.race_text.specs.Words.{parts_left}
+use Rattle.race_script.specs.Reading.{begun_in}
+use Rattle.race_script.proofs.asks.begun_in.Goals as goal
+
+-- words that are not one name no goroutine
+not_one : (ds : List Declaration) (words : List (List ℕ)) → (length words == 1) ≡ false → None ≡ begun_in ds words
+not_one ds [] one = refl
+not_one ds (w ∷ []) one = absurd (true≢false one)
+not_one ds (w ∷ x ∷ words) one = refl
+
+-- one names the goroutine of its part
+of_part : (words : List (List ℕ)) (part : Option Part)
+    → option_and_then goroutine_of part ≡ option_and_then (λ (first : ReadPart). goroutine_of first.0) (option_map (with_rest words) part)
+of_part words None = refl
+of_part words (Some part) = refl
+
+one_named : (ds : List Declaration) (words : List (List ℕ)) → (length words == 1) ≡ true
+    → begun_in ds words ≡ option_and_then (λ (first : ReadPart). goroutine_of first.0) (first_part ds (PartKind.Object Kind.Goroutine) words)
+one_named ds [] one = refl
+one_named ds (w ∷ []) one = of_part [] (part_in ds (PartKind.Object Kind.Goroutine) w)
+one_named ds (w ∷ x ∷ words) one = absurd (grind (arith, nat_tests, one) steps 100000)
+
+pub returns-then-not-has_count : goal.returns-then-not-has_count
+returns-then-not-has_count g c = not_one _ _ (sym c.has_count.ensures ∙ c.if-not-has_count.true)
+
+pub returns-in_err-part : goal.returns-in_err-part
+returns-in_err-part g c =
+    let ds = c.args.decls.now.declarations in
+    c.from_residual.ensures
+    ∙ sym (one_named ds (parts_left 32 c.args.rest) (sym c.has_count.ensures ∙ c.if-not-has_count.false)
+    ∙ ap (option_and_then (λ (first : ReadPart). goroutine_of first.0)) (sym c.next_part.ensures ∙ ap (option_map part_so_far) c.in_err-part.was))
+
+pub returns : goal.returns
+returns g c =
+    let ds = c.args.decls.now.declarations in
+    c.goroutine_of.ensures
+    ∙ sym (one_named ds (parts_left 32 c.args.rest) (sym c.has_count.ensures ∙ c.if-not-has_count.false)
+    ∙ ap (option_and_then (λ (first : ReadPart). goroutine_of first.0)) (sym c.next_part.ensures ∙ ap (option_map part_so_far) c.in_ok-part.was))

@@ -1,0 +1,9 @@
+use Rattle.std.proofs.Common.{ap, ◌∙◌, arith}
+use Rattle.std.proofs.lemmas.Grind.{same_number_lists}
+use Rattle.race_text.specs.Form.{word_named}
+use Rattle.race_text.proofs.form.verb_spelled.Goals as goal
+
+pub returns : goal.returns
+returns c =
+    ap word_named (same_number_lists c.args.word.now c.args.spelling.now c.if-word-spelling.false (λ k below. c.loop-i.invariant k (omega arith)))
+    ∙ c.requires

@@ -101,7 +101,7 @@ fn script_of(call: Call) -> Script {
 }
 
 /// What a call answered.
-#[derive(Clone, Copy, Debug, PartialEq, Eq)]
+#[derive(Clone, Copy, PartialEq, Eq)]
 enum Reply {
     OutOfMemory,
     Right,

@@ -57,7 +57,7 @@ fn request_of(call: Call) -> Request {
 }
 
 /// What a turn answered.
-#[derive(Clone, Copy, Debug, PartialEq, Eq)]
+#[derive(Clone, Copy, PartialEq, Eq)]
 enum Reply {
     OutOfMemory,
     Right,

@@ -5,7 +5,7 @@ use race_records::Decls;
 use std::alloc::{Allocator, Global};
 
 // An ask but for a select, of which no table can be written down.
-#[derive(Clone, Copy, Debug)]
+#[derive(Clone, Copy)]
 pub(crate) enum Plain {
     Go(u32),
     Write(u32, u64),
@@ -49,7 +49,7 @@ impl Routine for Asks {
 }
 
 /// What is done with a hub before the call.
-#[derive(Clone, Copy, Debug)]
+#[derive(Clone, Copy)]
 pub(crate) enum Move {
     /// The goroutine that has been ready longest asks.
     Ask,

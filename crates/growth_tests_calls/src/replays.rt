@@ -51,7 +51,7 @@ enum Call {
 }
 
 /// What a call answered.
-#[derive(Clone, Copy, Debug, PartialEq, Eq)]
+#[derive(Clone, Copy, PartialEq, Eq)]
 enum Reply {
     OutOfMemory,
     Right,

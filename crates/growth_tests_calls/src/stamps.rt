@@ -23,7 +23,7 @@ enum Call {
 }
 
 /// What a call answered.
-#[derive(Clone, Copy, Debug, PartialEq, Eq)]
+#[derive(Clone, Copy, PartialEq, Eq)]
 enum Reply {
     OutOfMemory,
     Right,
@@ -31,7 +31,7 @@ enum Reply {
 }
 
 /// What the clocks of main and of the last goroutine know of main and of each other.
-#[derive(Clone, Copy, Debug, PartialEq, Eq)]
+#[derive(Clone, Copy, PartialEq, Eq)]
 struct Known {
     main_of_itself: u32,
     main_of_last: u32,
@@ -80,7 +80,7 @@ fn event_of(op: Op) -> Event {
 
 // Eight goroutines beside main, a variable, a channel, a mutex, a once.
 fn declare<A: Allocator + Copy>(decls: &mut Decls<A>) -> Option<()> {
-    for name in ["w1", "w2", "w3", "w4", "w5", "w6", "w7", "w8"] {
+    for &name in &["w1", "w2", "w3", "w4", "w5", "w6", "w7", "w8"] {
         decls.add_goroutine(name).ok()?;
     }
     decls.add_var("x").ok()?;

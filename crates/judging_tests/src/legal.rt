@@ -1,3 +1,3 @@
 //! What race_legal does that no contract says.
-mod events;
+pub(crate) mod events;
 mod locks;

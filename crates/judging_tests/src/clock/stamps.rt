@@ -1,3 +1,4 @@
+use crate::legal::events::declared;
 use race_clock::{Clock, Stamp, Stamper};
 use race_legal::Replay;
 use race_records::{Case, Cases, Cause, Decls, Dir, Event, Object, Op, Trace};
@@ -183,22 +184,19 @@ fn rows(alloc: Global, table: usize) -> Result<(Vec<Row>, Vec<Known>), AllocErro
     }
 }
 
+static OBJECTS: [(&str, Object); 8] = [
+    ("a", Object::Goroutine),
+    ("b", Object::Goroutine),
+    ("x", Object::Var),
+    ("c", Object::Chan(1)),
+    ("d", Object::Chan(0)),
+    ("m", Object::Lock(false)),
+    ("r", Object::Lock(true)),
+    ("o", Object::Once),
+];
+
 fn traced(alloc: Global, rows: Vec<Row>) -> Result<Trace, Fail> {
-    let mut decls = Decls::new(alloc);
-    for (name, object) in [
-        ("a", Object::Goroutine),
-        ("b", Object::Goroutine),
-        ("x", Object::Var),
-        ("c", Object::Chan(1)),
-        ("d", Object::Chan(0)),
-        ("m", Object::Lock(false)),
-        ("r", Object::Lock(true)),
-        ("o", Object::Once),
-    ] {
-        decls.declare(name, object)?;
-    }
-    decls.add_place("p")?;
-    let mut trace = Trace::new(decls);
+    let mut trace = Trace::new(declared(alloc, &OBJECTS)?);
     for (who, op) in rows {
         let place2 = match &op {
             Op::Meet(_, _, _) => Some(0),
@@ -247,17 +245,27 @@ fn accesses_are_stamped(rt: HostRuntime) -> Result<(), Fail> {
     Ok(())
 }
 
+// A clock in which the goroutine was counted joins one in which goroutine 3 was: what the first then knows
+// of these two and of goroutine 2, and the second of the goroutine.
+fn joined(alloc: Global, goroutine: u32) -> Result<[u32; 4], AllocError> {
+    let mut clock = Clock::new(alloc);
+    let mut other = Clock::new(alloc);
+    clock.tick(goroutine)?;
+    other.tick(3)?;
+    clock.join(&other)?;
+    Ok([
+        clock.knows(goroutine),
+        clock.knows(3),
+        clock.knows(2),
+        other.knows(goroutine),
+    ])
+}
+
 // The last counts stand in the clock itself, or behind them.
 #[test]
 fn clocks_are_joined(rt: HostRuntime) -> Result<(), Fail> {
-    for goroutine in [0, 7, 8, 1023] {
-        let mut clock = Clock::new(rt.alloc());
-        let mut other = Clock::new(rt.alloc());
-        clock.tick(goroutine)?;
-        other.tick(3)?;
-        clock.join(&other)?;
-        assert_eq!(rt; (clock.knows(goroutine), clock.knows(3)), (1, 1));
-        assert_eq!(rt; (other.knows(goroutine), clock.knows(2)), (0, 0));
+    for &goroutine in &[0, 7, 8, 1023] {
+        assert_eq!(rt; joined(rt.alloc(), goroutine)?, [1, 1, 0, 0]);
     }
     Ok(())
 }

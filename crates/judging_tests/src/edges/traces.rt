@@ -1,24 +1,25 @@
 //! Traces with their edges and their races, up to the longest that is judged.
+use crate::legal::events::declared;
 use race_edges::{Edge, EdgeFault, MAX_PLAIN_EVENTS, Race, Verdict, edges, plain_judge};
 use race_legal::{Illegal, Rule};
-use race_records::{Decls, Event, Op, Trace};
+use race_records::{Event, Object, Op, PushFault, Trace};
 use std::alloc::Global;
 use std::test::Fail;
 
-// Who does what. The last event breaks a rule.
-fn rows() -> [(u32, Op); 8] {
-    [
-        (0, Op::Go(1)),
-        (0, Op::Write(0, 1)),
-        (0, Op::Go(2)),
-        (1, Op::Write(1, 1)),
+// Who does what in the event of this index. Event 7 breaks a rule.
+fn row(index: usize) -> (u32, Op) {
+    match index {
+        0 => (0, Op::Go(1)),
+        1 => (0, Op::Write(0, 1)),
+        2 => (0, Op::Go(2)),
+        3 => (1, Op::Write(1, 1)),
         // The write of main stands before the go of this reader.
-        (2, Op::Read(0, 1)),
+        4 => (2, Op::Read(0, 1)),
         // But not before that of this one.
-        (1, Op::Read(0, 1)),
-        (0, Op::Read(1, 1)),
-        (0, Op::Go(1)),
-    ]
+        5 => (1, Op::Read(0, 1)),
+        6 => (0, Op::Read(1, 1)),
+        _ => (0, Op::Go(1)),
+    }
 }
 
 // The edges of these events, and the races.
@@ -55,25 +56,32 @@ static BROKEN: Illegal = Illegal {
     rule: Rule::AlreadyStarted,
 };
 
+static OBJECTS: [(&str, Object); 5] = [
+    ("a", Object::Goroutine),
+    ("b", Object::Goroutine),
+    ("x", Object::Var),
+    ("y", Object::Var),
+    ("m", Object::Lock(false)),
+];
+
+fn push(trace: &mut Trace, who: u32, op: Op) -> Result<(), PushFault> {
+    trace.push(Event {
+        who,
+        op,
+        place: 0,
+        place2: None,
+    })
+}
+
 // A trace of the first events of the rows, and so many writes behind them.
 fn traced(alloc: Global, count: usize, writes: usize) -> Result<Trace, Fail> {
-    let mut decls = Decls::new(alloc);
-    for name in ["a", "b"] {
-        decls.add_goroutine(name)?;
+    let mut trace = Trace::new(declared(alloc, &OBJECTS)?);
+    for index in 0..count {
+        let (who, op) = row(index);
+        push(&mut trace, who, op)?;
     }
-    for name in ["x", "y"] {
-        decls.add_var(name)?;
-    }
-    decls.add_place("p")?;
-    let mut trace = Trace::new(decls);
-    let writes = (0..writes).map(|_| (0, Op::Write(0, 1)));
-    for (who, op) in rows().into_iter().take(count).chain(writes) {
-        trace.push(Event {
-            who,
-            op,
-            place: 0,
-            place2: None,
-        })?;
+    for _ in 0..writes {
+        push(&mut trace, 0, Op::Write(0, 1))?;
     }
     Ok(trace)
 }
@@ -89,7 +97,7 @@ fn are_listed(alloc: Global, trace: &Trace, want: Result<usize, EdgeFault>) -> b
 }
 
 /// What is known of a trace.
-#[derive(Clone, Copy, Debug)]
+#[derive(Clone, Copy)]
 enum Known {
     Illegal,
     Races(usize),
@@ -114,10 +122,15 @@ fn is_judged(alloc: Global, trace: &Trace, want: Known) -> bool {
     }
 }
 
+// Whether so many edges of the trace are listed, and this is what is told of it.
+fn is_told(alloc: Global, trace: &Trace, edges: Result<usize, EdgeFault>, known: Known) -> bool {
+    are_listed(alloc, trace, edges) && is_judged(alloc, trace, known)
+}
+
 #[test]
 fn edges_and_races_are_told(rt: HostRuntime) -> Result<(), Fail> {
     let most = MAX_PLAIN_EVENTS;
-    for (count, writes, edges, known) in [
+    for &(count, writes, edges, known) in &[
         (0, 0, Ok(0), Known::Races(0)),
         (1, 0, Ok(1), Known::Races(0)),
         (5, 0, Ok(2), Known::Races(0)),
@@ -130,8 +143,10 @@ fn edges_and_races_are_told(rt: HostRuntime) -> Result<(), Fail> {
         (8, most, Err(EdgeFault::TooLong), Known::TooLong),
     ] {
         let trace = traced(rt.alloc(), count, writes)?;
-        assert!(rt; are_listed(rt.alloc(), &trace, edges), "{count} {writes}");
-        assert!(rt; is_judged(rt.alloc(), &trace, known), "{count} {writes}");
+        assert!(rt;
+            is_told(rt.alloc(), &trace, edges, known),
+            "{count} {writes}"
+        );
     }
     Ok(())
 }
@@ -139,48 +154,39 @@ fn edges_and_races_are_told(rt: HostRuntime) -> Result<(), Fail> {
 // A write of a goroutine, so many events that are locks of main and unlocks of the goroutine in turn,
 // and a read of main.
 fn handed_on(alloc: Global, turns: usize) -> Result<Trace, Fail> {
-    let mut decls = Decls::new(alloc);
-    decls.add_goroutine("w")?;
-    decls.add_var("x")?;
-    decls.add_lock("m", false)?;
-    decls.add_place("p")?;
-    let mut trace = Trace::new(decls);
-    let first = [(0, Op::Go(1)), (1, Op::Write(0, 1))];
-    let turns = (0..turns).map(|at| if at % 2 == 0 {
-        (0, Op::Lock(0))
-    } else {
-        (1, Op::Unlock(0))
-    });
-    let last = [(0, Op::Read(0, 1))];
-    for (who, op) in first.into_iter().chain(turns).chain(last) {
-        trace.push(Event {
-            who,
-            op,
-            place: 0,
-            place2: None,
-        })?;
+    let mut trace = Trace::new(declared(alloc, &OBJECTS)?);
+    push(&mut trace, 0, Op::Go(1))?;
+    push(&mut trace, 1, Op::Write(0, 1))?;
+    for turn in 0..turns {
+        let (who, op) = if turn % 2 == 0 {
+            (0, Op::Lock(0))
+        } else {
+            (1, Op::Unlock(0))
+        };
+        push(&mut trace, who, op)?;
     }
+    push(&mut trace, 0, Op::Read(0, 1))?;
     Ok(trace)
 }
 
-// How many edges there are, and whether the trace is clean.
-fn counted(alloc: Global, trace: &Trace) -> Result<(usize, bool), EdgeFault> {
-    let count = edges(alloc, trace)?.len();
-    Ok((count, matches!(plain_judge(alloc, trace)?, Verdict::Clean)))
+// How many edges there are with so many turns, and whether the trace is clean.
+fn counted(alloc: Global, turns: usize) -> Result<(usize, bool), Fail> {
+    let trace = handed_on(alloc, turns)?;
+    let count = edges(alloc, &trace)?.len();
+    Ok((count, matches!(plain_judge(alloc, &trace)?, Verdict::Clean)))
 }
 
 // Each unlock leads to each later lock: half a million edges, of which the judge needs a thousand.
 #[test]
 fn many_sources_are_judged(rt: HostRuntime) -> Result<(), Fail> {
-    for (turns, edges, clean) in [
+    for &(turns, edges, clean) in &[
         (0, 1, false),
         (2, 1, false),
         (4, 2, true),
         (6, 4, true),
         (1_996, 497_504, true),
     ] {
-        let trace = handed_on(rt.alloc(), turns)?;
-        assert_eq!(rt; counted(rt.alloc(), &trace), Ok((edges, clean)), "{turns}");
+        assert_eq!(rt; counted(rt.alloc(), turns)?, (edges, clean), "{turns}");
     }
     Ok(())
 }

@@ -272,17 +272,28 @@ fn found_in_front(decls: &Decls, bytes: &[u8], len: usize) -> Option<Named> {
 }
 
 #[test]
-fn declarations_are_found_again(rt: HostRuntime) -> Result<(), Fail> {
+fn an_rwmutex_is_told_from_a_mutex(rt: HostRuntime) -> Result<(), Fail> {
     let decls = declared(rt.alloc(), &SEVEN)?;
-    for (lock, rw) in [(0, Some(false)), (1, Some(true)), (2, None)] {
+    for &(lock, rw) in &[(0, Some(false)), (1, Some(true)), (2, None)] {
         assert_eq!(rt; is_rw(&decls, lock), rw, "{lock}");
     }
-    for index in 0..FOUND.len() {
-        let (name, named, told) = FOUND[index];
-        let answer = (found(&decls, name), declared_at(&decls, index));
-        assert_eq!(rt; answer, (named, told), "{name}");
+    Ok(())
+}
+
+#[test]
+fn declarations_are_found_again(rt: HostRuntime) -> Result<(), Fail> {
+    let decls = declared(rt.alloc(), &SEVEN)?;
+    for (index, (name, named, told)) in FOUND.iter().enumerate() {
+        assert!(rt; found(&decls, *name) == *named, "{name}");
+        assert!(rt; declared_at(&decls, index) == *told, "{name}");
     }
-    for (bytes, len, named) in IN_FRONT {
+    Ok(())
+}
+
+#[test]
+fn a_name_is_found_in_front_of_more(rt: HostRuntime) -> Result<(), Fail> {
+    let decls = declared(rt.alloc(), &SEVEN)?;
+    for &(bytes, len, named) in &IN_FRONT {
         assert_eq!(rt; found_in_front(&decls, bytes, len), named, "{len}");
     }
     Ok(())
@@ -315,7 +326,7 @@ static ADDED: [Addition; 4] = [
 #[test]
 fn equal_by_declarations_alone(rt: HostRuntime) -> Result<(), Fail> {
     let decls = declared(rt.alloc(), &SEVEN)?;
-    for (count, equal) in [(0, true), (1, true), (2, true), (3, true), (4, false)] {
+    for &(count, equal) in &[(0, true), (1, true), (2, true), (3, true), (4, false)] {
         let answer = is_equal_with(&decls, &ADDED[..count])?;
         assert_eq!(rt; answer, equal, "{count}");
     }

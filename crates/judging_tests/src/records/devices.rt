@@ -44,7 +44,7 @@ fn a_call_answers_as_the_device_does(rt: HostRuntime) {
     let mut source = Source::new(Broken { calls: 0 });
     let mut sink = Sink::new(Broken { calls: 0 });
     let mut block = [0u8; 2];
-    for (answer, reads, writes) in [
+    for &(answer, reads, writes) in &[
         (Ok(2), 0, 0),
         (Ok(2), 0, 0),
         (Err(io::ErrorKind::TimedOut), 1, 1),
@@ -60,7 +60,7 @@ fn a_call_answers_as_the_device_does(rt: HostRuntime) {
 #[test]
 fn failed_writes_are_counted(rt: HostRuntime) {
     let mut sink = Sink::new(Broken { calls: 0 });
-    for (text, answer, failures) in [
+    for &(text, answer, failures) in &[
         ("ab", Ok(()), 0),
         ("abcd", Err(WriteFault { sent: 2 }), 1),
         ("", Ok(()), 1),
@@ -109,7 +109,7 @@ impl Write for FailsOnce {
 
 #[test]
 fn a_failed_write_is_not_tried_again(rt: HostRuntime) {
-    for fails_at in [1, 2] {
+    for &fails_at in &[1, 2] {
         let mut device = FailsOnce { calls: 0, fails_at };
         let mut sink = Sink::new(&mut device);
         let told = sink.send(b"abcdef");
@@ -125,7 +125,7 @@ fn a_failed_write_is_not_tried_again(rt: HostRuntime) {
 #[test]
 fn a_failed_read_is_not_tried_again(rt: HostRuntime) {
     let mut block = [0u8; 2];
-    for fails_at in [1, 2] {
+    for &fails_at in &[1, 2] {
         let mut source = Source::new(FailsOnce { calls: 0, fails_at });
         for reads in 1..4 {
             let failed = source.read(&mut block).is_err();

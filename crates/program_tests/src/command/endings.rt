@@ -5,7 +5,7 @@ use race_tool::status;
 use std::alloc::Global;
 use std::env::Args;
 use std::io;
-use std::process::ExitCode;
+use std::process::{Abort, ExitCode};
 use std::test::Fail;
 
 // The words as the system hands them over.
@@ -30,6 +30,20 @@ fn ended(
     (code, output)
 }
 
+// Checks how the program ends by the words of the line on the input, and what it writes.
+fn ends_with(
+    rt: &(impl Abort + AllocGlobal + Print + Eprint),
+    line: &str,
+    input: &str,
+    answer: u8,
+    report: &str,
+) -> Result<(), Fail> {
+    let (code, output) = ended(rt, Ok(args_of(rt.alloc(), line)?), input);
+    assert_eq!(rt; code, ExitCode::from(answer), "{line}");
+    assert_eq!(rt; output.as_slice(), report.as_bytes(), "{line}");
+    Ok(())
+}
+
 // The options are taken, or refused, and then nothing is written.
 #[test]
 fn options_are_numbers_in_their_limits(rt: HostRuntime) -> Result<(), Fail> {
@@ -37,7 +51,7 @@ fn options_are_numbers_in_their_limits(rt: HostRuntime) -> Result<(), Fail> {
     let program = "goprogram 1\nbody main\nexit m:1\n";
     let run = (program, "gotrace 1\nexit main m:1\n");
     let race = (program, "clean: 1 events, 0 accesses\nend: main\n");
-    for (line, (input, report), is_taken) in [
+    for &(line, (input, report), is_taken) in &[
         ("gorace check --shards 0", trace, false),
         ("gorace check --shards 1", trace, true),
         ("gorace check --shards 64", trace, true),
@@ -80,14 +94,12 @@ fn options_are_numbers_in_their_limits(rt: HostRuntime) -> Result<(), Fail> {
         ("gorace race --limit=1 --plain --workers", race, false),
         ("gorace walk", trace, false),
     ] {
-        let (code, output) = ended(&rt, Ok(args_of(rt.alloc(), line)?), input);
         let (answer, written) = if is_taken {
             (status::CLEAN, report)
         } else {
             (status::USAGE, "")
         };
-        assert_eq!(rt; code, ExitCode::from(answer), "{line}");
-        assert_eq!(rt; output.as_slice(), written.as_bytes(), "{line}");
+        ends_with(&rt, line, input, answer, written)?;
     }
     Ok(())
 }
@@ -102,7 +114,7 @@ fn plain_asks_for_the_plain_judge(rt: HostRuntime) -> Result<(), Fail> {
         program.push_str("write x 1 m:1\n")?;
     }
     program.push_str("exit m:2\n")?;
-    for (line, input, answer, report) in [
+    for &(line, input, answer, report) in &[
         (
             "gorace check",
             trace.as_str(),
@@ -128,16 +140,14 @@ fn plain_asks_for_the_plain_judge(rt: HostRuntime) -> Result<(), Fail> {
             "too long: 2002 events\n",
         ),
     ] {
-        let (code, output) = ended(&rt, Ok(args_of(rt.alloc(), line)?), input);
-        assert_eq!(rt; code, ExitCode::from(answer), "{line}");
-        assert_eq!(rt; output.as_slice(), report.as_bytes(), "{line}");
+        ends_with(&rt, line, input, answer, report)?;
     }
     Ok(())
 }
 
 #[test]
 fn words_and_input_decide_the_status(rt: HostRuntime) -> Result<(), Fail> {
-    for (line, input, answer, report) in [
+    for &(line, input, answer, report) in &[
         (
             "gorace check",
             "gotrace 1\n",
@@ -206,11 +216,9 @@ fn words_and_input_decide_the_status(rt: HostRuntime) -> Result<(), Fail> {
         ("gorace --version", "gotrace 1\n", status::CLEAN, ""),
         ("gorace", "gotrace 1\n", status::USAGE, ""),
     ] {
-        let (code, output) = ended(&rt, Ok(args_of(rt.alloc(), line)?), input);
-        assert_eq!(rt; code, ExitCode::from(answer), "{line}");
-        assert_eq!(rt; output.as_slice(), report.as_bytes(), "{line}");
+        ends_with(&rt, line, input, answer, report)?;
     }
-    for (kind, answer) in [
+    for &(kind, answer) in &[
         (io::ErrorKind::InvalidData, status::USAGE),
         (io::ErrorKind::OutOfMemory, status::REFUSED),
     ] {

@@ -63,7 +63,7 @@ impl Write for Full {
 
 #[test]
 fn each_text_is_printed(rt: HostRuntime) {
-    for (text, want) in TEXTS {
+    for &(text, want) in &TEXTS {
         let mut out = Vec::new(rt.alloc());
         let mut sink = Sink::new(&mut out);
         assert_eq!(rt;

@@ -53,7 +53,7 @@ fn newlines(bytes: &[u8]) -> u64 {
 #[test]
 fn pieces_of_each_size_give_one_trace(rt: HostRuntime) -> Result<(), Fail> {
     let whole = parse_trace(rt.alloc(), SMALL)?;
-    for size in [1, 2, 7, 1_000] {
+    for &size in &[1, 2, 7, 1_000] {
         let trace = in_pieces(rt.alloc(), SMALL, size)?;
         assert!(rt; trace == whole, "at {size}");
         is_written_as(&rt, &trace, SMALL)?;
@@ -76,7 +76,7 @@ fn a_refusal_is_told_again(rt: HostRuntime) {
         (b"exit main p\n", Err(fault)),
         (b"\x80\n", Err(fault)),
     ];
-    for (piece, answer) in pieces {
+    for &(piece, answer) in &pieces {
         assert_eq!(rt; reader.feed(piece), answer, "at {piece:?}");
     }
     assert_eq!(rt; reader.finish().err(), Some(fault));
@@ -91,7 +91,7 @@ fn a_text_may_be_cut_anywhere(rt: HostRuntime) -> Result<(), Fail> {
         b"gotrace 1\ngoroutine w\nchan c 3\nchan u 0\ngo main w a\nsend main c 7 b\nmeet w main u 8 c d\ndefault main send:u,recv:nil p\nclose main u a\n",
         b"gotrace 1\ngoroutine w\nmutex m\nonce o\nrwmutex l\nlock main m a\nrlock main l c\noncebegin main o e\nfault w unlock:m h\n",
     ];
-    for text in texts {
+    for &text in &texts {
         for cut in 0..text.len() {
             let (told, answer) = in_two(rt.alloc(), text, cut);
             assert_eq!(rt; told, Ok(()), "at {cut} of {text:?}");
@@ -127,7 +127,7 @@ fn a_faulty_line_is_told_as_soon_as_it_has_ended(rt: HostRuntime) {
         (b"gotrace 1\njump\n\x80\n", 2, UnknownWord),
         (b"gotrace 1\nvar x\nread a x 0 p\n", 3, Unknown),
     ];
-    for (text, line, cause) in texts {
+    for &(text, line, cause) in &texts {
         let fault = TextFault { line, cause };
         for cut in 0..text.len() {
             let (told, answer) = in_two(rt.alloc(), text, cut);

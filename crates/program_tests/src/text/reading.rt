@@ -53,7 +53,7 @@ fn reads(rt: &(impl Abort + AllocGlobal), text: &[u8], events: &[Row]) -> Result
 #[test]
 fn reads_each_operation(rt: HostRuntime) -> Result<(), Fail> {
     let mut cases = Cases::new();
-    for (dir, chan) in [
+    for &(dir, chan) in &[
         (Dir::Send, Some(1)),
         (Dir::Recv, None),
         (Dir::Recv, Some(0)),
@@ -80,7 +80,7 @@ fn reads_each_operation(rt: HostRuntime) -> Result<(), Fail> {
         (channels::TEXT, &of_channels),
         (locks::TEXT, &of_locks),
     ];
-    for (text, events) in texts {
+    for &(text, events) in &texts {
         reads(&rt, text, events)?;
     }
     Ok(())
@@ -109,7 +109,7 @@ fn reads_fields(rt: HostRuntime) {
         (b"", 9, None),
         (b"+1", 9, None),
     ];
-    for (word, max, number) in numbers {
+    for &(word, max, number) in &numbers {
         assert_eq!(rt; read_number(word, max), number, "at {word:?}");
     }
     let mut decls = Decls::new(rt.alloc());
@@ -134,7 +134,7 @@ fn holds_the_limits_on_declarations(rt: HostRuntime) -> Result<(), Fail> {
         ([("chan", " 0"), ("chan", " 1")], &channels::AT_THE_LIMIT),
         ([("mutex", ""), ("rwmutex", "")], &locks::AT_THE_LIMIT),
     ];
-    for (forms, lines) in tables {
+    for &(forms, lines) in &tables {
         let mut decls = Decls::new(rt.alloc());
         for n in 0..65_535u32 {
             let (word, end) = forms[n as usize % 2];

@@ -115,7 +115,7 @@ fn tells_the_first_fault_of_a_text(rt: HostRuntime) {
         (b"gotrace 1\njump\x80", 2, NoNewline),
         (b"gotrace 1\nvar -\nvar x y\nexit main q", 2, BadName),
     ];
-    for (bytes, line, cause) in texts {
+    for &(bytes, line, cause) in &texts {
         let fault = fault_of(rt.alloc(), bytes);
         assert_eq!(rt; fault, Some(TextFault { line, cause }), "in {bytes:?}");
     }
@@ -131,7 +131,7 @@ fn tells_the_least_cause_of_a_line(rt: HostRuntime) -> Result<(), Fail> {
         (locks::BEFORE, 7, &locks::DECLARED),
         (locks::EVENT_BEFORE, 4, &locks::LATE),
     ];
-    for (before, number, lines) in tables {
+    for &(before, number, lines) in &tables {
         for (line, cause) in lines {
             let fault = fault_behind(rt.alloc(), before, *line)?;
             assert_eq!(rt;
@@ -160,6 +160,10 @@ fn a_fault_is_printed(rt: HostRuntime) -> Result<(), Fail> {
     Ok(())
 }
 
+fn at_line(line: u64, cause: Option<TextCause>) -> Option<TextFault> {
+    cause.map(|cause| TextFault { line, cause })
+}
+
 // 1,023 goroutines and one more. Where the last line is malformed, taken or late besides, `too many` is
 // told only where no cause before it holds.
 #[test]
@@ -176,16 +180,12 @@ fn holds_the_limit_on_goroutines(rt: HostRuntime) -> Result<(), Fail> {
         (b"goroutine g1024 p\n", Some(WrongCount)),
         (b"goroutine g1024\t\n", Some(BadByte)),
     ];
-    for (last, cause) in lasts {
+    for &(last, cause) in &lasts {
         let mut bytes = Vec::new(rt.alloc());
         bytes.extend_from_slice(many.as_bytes())?;
         bytes.extend_from_slice(last)?;
         let fault = fault_of(rt.alloc(), bytes.as_slice());
-        assert_eq!(rt;
-            fault,
-            cause.map(|cause| TextFault { line: 1025, cause }),
-            "at {last:?}"
-        );
+        assert_eq!(rt; fault, at_line(1025, cause), "at {last:?}");
     }
     many.push_str("exit main p\ngoroutine g1024\n")?;
     let late = fault_of(rt.alloc(), many.as_bytes());
@@ -201,18 +201,14 @@ fn holds_the_limit_on_goroutines(rt: HostRuntime) -> Result<(), Fail> {
 
 #[test]
 fn holds_the_limit_on_places(rt: HostRuntime) -> Result<(), Fail> {
-    for (len, cause) in [(1, None), (128, None), (129, Some(BadName))] {
+    for &(len, cause) in &[(1, None), (128, None), (129, Some(BadName))] {
         let mut line = Vec::new(rt.alloc());
         line.extend_from_slice(b"exit main ")?;
         for _i in 0..len {
             line.push(b'~')?;
         }
         let fault = fault_behind(rt.alloc(), EVENT_BEFORE, line.as_slice())?;
-        assert_eq!(rt;
-            fault,
-            cause.map(|cause| TextFault { line: 5, cause }),
-            "at {len}"
-        );
+        assert_eq!(rt; fault, at_line(5, cause), "at {len}");
     }
     Ok(())
 }
@@ -229,7 +225,7 @@ fn holds_the_limit_on_cases(rt: HostRuntime) -> Result<(), Fail> {
         (17, b"c ", Some(BadName)),
         (30, b" p", Some(BadName)),
     ];
-    for (count, end, cause) in ends {
+    for &(count, end, cause) in &ends {
         let mut line = Vec::new(rt.alloc());
         line.extend_from_slice(b"default main send:")?;
         for _i in 1..count {
@@ -237,11 +233,7 @@ fn holds_the_limit_on_cases(rt: HostRuntime) -> Result<(), Fail> {
         }
         line.extend_from_slice(end)?;
         let fault = fault_behind(rt.alloc(), b"gotrace 1\nvar x\nchan c 0\n", line.as_slice())?;
-        assert_eq!(rt;
-            fault,
-            cause.map(|cause| TextFault { line: 4, cause }),
-            "at {end:?}"
-        );
+        assert_eq!(rt; fault, at_line(4, cause), "at {end:?}");
     }
     Ok(())
 }

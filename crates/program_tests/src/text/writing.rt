@@ -50,7 +50,7 @@ impl Write for SlowWriter {
 #[test]
 fn a_trace_is_written_as_it_was_read(rt: HostRuntime) -> Result<(), Fail> {
     let trace = parse_trace(rt.alloc(), SMALL)?;
-    for (step, room, sent) in [
+    for &(step, room, sent) in &[
         (1, 1_000, None),
         (7, 1_000, None),
         (1_000, 1_000, None),

@@ -68,7 +68,7 @@ fn op(numbers: &mut Numbers, kind: u32) -> Op {
 
 fn declared(alloc: Global) -> Result<Decls, Fail> {
     let mut decls = Decls::new(alloc);
-    for (name, object) in [
+    for &(name, object) in &[
         ("a", Object::Goroutine),
         ("b", Object::Goroutine),
         ("e", Object::Goroutine),

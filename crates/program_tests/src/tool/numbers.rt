@@ -2,7 +2,7 @@
 ghost use Rattle.std.specs.Prelude.{◌<◌};
 
 /// Numbers that look like chance: a linear congruence modulo 2^64, of which the upper half is taken.
-#[derive(Clone, Copy, Debug)]
+#[derive(Clone, Copy)]
 pub(crate) struct Numbers {
     pub(crate) state: u64,
 }

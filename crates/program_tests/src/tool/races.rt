@@ -119,7 +119,7 @@ fn a_run_is_judged_and_says_how_it_ended(rt: HostRuntime) -> Result<(), Fail> {
         let bytes = text_of(rt.alloc(), *program)?;
         let want = text_of(rt.alloc(), *report)?;
         let run = options(rt.alloc(), *limit, *picks)?;
-        for plain in [false, true] {
+        for &plain in &[false, true] {
             let check = CheckOptions {
                 plain,
                 ..CheckOptions::default()
@@ -145,7 +145,7 @@ fn writes(alloc: Global, count: u32) -> Result<Vec<u8>, Fail> {
 #[test]
 fn a_run_that_is_too_long_for_the_plain_judge_has_no_end(rt: HostRuntime) -> Result<(), Fail> {
     let text = writes(rt.alloc(), 2_000)?;
-    for (limit, plain, report, status) in [
+    for &(limit, plain, report, status) in &[
         (
             2_000u32,
             true,
@@ -176,7 +176,7 @@ fn a_run_that_is_too_long_for_the_plain_judge_has_no_end(rt: HostRuntime) -> Res
 #[test]
 fn an_option_out_of_its_limits_leaves_a_program_unread(rt: HostRuntime) -> Result<(), Fail> {
     let text = writes(rt.alloc(), 1)?;
-    for (limit, shards, block) in [
+    for &(limit, shards, block) in &[
         (0, 1, 1),
         (MOST + 1, 1, 1),
         (1, 0, 1),

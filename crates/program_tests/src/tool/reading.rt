@@ -60,8 +60,8 @@ fn a_read_fails_only_before_the_first_faulty_line_has_ended(rt: HostRuntime) {
             0,
         ),
     ];
-    for (bytes, status, report, reads, failures) in inputs {
-        for lists_edges in [false, true] {
+    for &(bytes, status, report, reads, failures) in &inputs {
+        for &lists_edges in &[false, true] {
             let reader = SlowReader {
                 bytes,
                 step: 1_000,
@@ -99,7 +99,7 @@ fn a_text_is_read_up_to_the_block_with_its_first_faulty_line(rt: HostRuntime) ->
         (2_116, status::TEXT_FAULT, b"line 2116: bad number\n", 2),
         (4_002, status::TEXT_FAULT, b"line 4002: bad number\n", 2),
     ];
-    for (faulty, status, report, reads) in texts {
+    for &(faulty, status, report, reads) in &texts {
         let text = long_text(&rt, faulty)?;
         let reader = SlowReader {
             bytes: text.as_slice(),
@@ -117,7 +117,7 @@ fn a_text_is_read_up_to_the_block_with_its_first_faulty_line(rt: HostRuntime) ->
 // However the bytes come, the report is the same.
 #[test]
 fn a_byte_at_a_time_gives_the_report(rt: HostRuntime) {
-    for step in [1, 2, 7] {
+    for &step in &[1, 2, 7] {
         let reader = SlowReader {
             bytes: b"gotrace 1\ngoroutine w\nvar x\ngo main w a.go:2\nwrite main x 1 a.go:3\nread w x 1 a.go:6\n",
             step,

@@ -48,7 +48,7 @@ pub(crate) fn check(
         let text = format!(in rt.alloc(); "{first}{row}")?;
         let bytes = text_of(rt.alloc(), text.as_str())?;
         let want = text_of(rt.alloc(), *report)?;
-        for plain in [false, true] {
+        for &plain in &[false, true] {
             let (answer, output) = checked(rt.alloc(), bytes.as_slice(), plain);
             assert_eq!(rt; answer, *status, "{row}");
             assert_eq!(rt; output.as_slice(), want.as_slice(), "{row}");
@@ -203,7 +203,7 @@ fn the_first_line_at_fault_is_told_with_its_cause(rt: HostRuntime) -> Result<(),
 
 #[test]
 fn a_text_ends_with_a_newline(rt: HostRuntime) {
-    for (bytes, report) in [
+    for &(bytes, report) in &[
         (b"".as_slice(), b"line 1: bad header\n".as_slice()),
         (b"gotrace 1".as_slice(), b"line 1: no newline\n".as_slice()),
     ] {
@@ -240,7 +240,7 @@ fn each_go_is_an_edge(rt: HostRuntime) -> Result<(), Fail> {
 
 #[test]
 fn options_out_of_their_limits_leave_the_input_unread(rt: HostRuntime) {
-    for (shards, block, allowed) in [
+    for &(shards, block, allowed) in &[
         (0, 65_536, false),
         (1, 65_536, true),
         (64, 65_536, true),
@@ -249,7 +249,7 @@ fn options_out_of_their_limits_leave_the_input_unread(rt: HostRuntime) {
         (1, 1, true),
         (1, 65_537, false),
     ] {
-        for plain in [false, true] {
+        for &plain in &[false, true] {
             let mut source = Source::new(b"gotrace 1\n".as_slice());
             let mut output = Vec::new(rt.alloc());
             let mut sink = Sink::new(&mut output);
@@ -295,7 +295,7 @@ impl Write for FullWriter {
 
 #[test]
 fn a_failed_write_leaves_a_front_of_the_report(rt: HostRuntime) {
-    for fails in [false, true] {
+    for &fails in &[false, true] {
         let mut source = Source::new(b"gotrace 1\n".as_slice());
         let mut writer = FullWriter {
             taken: Vec::new(rt.alloc()),

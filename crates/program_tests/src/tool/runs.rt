@@ -214,7 +214,7 @@ fn a_text_that_is_no_program_isnt_run(rt: HostRuntime) -> Result<(), Fail> {
 #[test]
 fn a_limit_out_of_its_limits_leaves_the_input_unread(rt: HostRuntime) -> Result<(), Fail> {
     let text = text_of(rt.alloc(), HANDOFF)?;
-    for limit in [0, MOST + 1] {
+    for &limit in &[0, MOST + 1] {
         let options = options(rt.alloc(), limit, None)?;
         let (answer, output, reads) = ran(rt.alloc(), text.as_slice(), &options);
         assert_eq!(rt; (answer, output.len(), reads), (status::USAGE, 0, 0));
@@ -257,7 +257,7 @@ impl Write for FullWriter {
 #[test]
 fn a_device_that_fails_ends_a_run(rt: HostRuntime) -> Result<(), Fail> {
     let options = options(rt.alloc(), MOST, None)?;
-    for (text, status, reads) in [
+    for &(text, status, reads) in &[
         ("goprogram 1 / body main", status::DEVICE, 2),
         ("goprogram 2", status::TEXT_FAULT, 1),
     ] {

@@ -9,7 +9,7 @@ use std::alloc::{AllocError, Global};
 use std::test::Fail;
 
 // An ask but for a select, of which no table can be written down.
-#[derive(Clone, Copy, Debug)]
+#[derive(Clone, Copy)]
 enum Plain {
     Read(u32),
     Send(u32, u64),
@@ -26,7 +26,6 @@ fn ask_of(plain: Plain) -> Ask {
 
 /// Who asks what, and the choices in their order: the request's place in the list, and the partner's plus 1 or 0. Requests
 /// stand in the source at the places from 5 on.
-#[derive(Debug)]
 struct Row {
     asks: &'static [(u32, Plain)],
     choices: &'static [(u32, u32)],

@@ -8,7 +8,7 @@ use std::alloc::{AllocError, Global};
 use std::test::Fail;
 
 // An ask but for a select, of which no table can be written down.
-#[derive(Clone, Copy, Debug)]
+#[derive(Clone, Copy)]
 enum Plain {
     Go(u32),
     Read(u32),
@@ -85,7 +85,7 @@ fn box_of(asks: &'static [Plain]) -> Asks {
 }
 
 /// What is done with a hub.
-#[derive(Clone, Copy, Debug, PartialEq, Eq)]
+#[derive(Clone, Copy, PartialEq, Eq)]
 enum Move {
     Take,
     /// The job of this goroutine asks, and is put back.
@@ -96,7 +96,7 @@ enum Move {
 }
 
 /// What comes of it.
-#[derive(Clone, Copy, Debug, PartialEq, Eq)]
+#[derive(Clone, Copy, PartialEq, Eq)]
 enum Came {
     Nothing,
     Taken(u32),
@@ -317,13 +317,19 @@ fn fault(alloc: Global, limit: u32, with_other: bool) -> Result<Option<HubFault>
     }
 }
 
+// A limit, whether there is a box for w, and why no hub is made.
+static OPENINGS: [(u32, bool, Option<HubFault>); 4] = [
+    (0, false, Some(HubFault::WrongCount)),
+    (0, true, Some(HubFault::BadLimit)),
+    (16_777_217, true, Some(HubFault::BadLimit)),
+    (16_777_216, true, None),
+];
+
 #[test]
 fn a_hub_has_a_box_for_each_goroutine_and_a_limit(rt: HostRuntime) -> Result<(), Fail> {
-    let alloc = rt.alloc();
-    assert_eq!(rt; fault(alloc, 0, false)?, Some(HubFault::WrongCount));
-    assert_eq!(rt; fault(alloc, 0, true)?, Some(HubFault::BadLimit));
-    assert_eq!(rt; fault(alloc, 16_777_217, true)?, Some(HubFault::BadLimit));
-    assert_eq!(rt; fault(alloc, 16_777_216, true)?, None);
+    for (limit, with_other, want) in &OPENINGS {
+        assert_eq!(rt; fault(rt.alloc(), *limit, *with_other)?, *want);
+    }
     Ok(())
 }
 

@@ -59,11 +59,9 @@ fn picks_go_round_the_choices_in_order(rt: HostRuntime) {
         waiting: 4,
         pairs: true,
     };
-    assert_eq!(rt; pick_choice(&crowd, 0), meet(0, 2));
-    assert_eq!(rt; pick_choice(&crowd, 1), meet(0, 4));
-    assert_eq!(rt; pick_choice(&crowd, 2), meet(2, 2));
-    assert_eq!(rt; pick_choice(&crowd, 3), meet(2, 4));
-    assert_eq!(rt; pick_choice(&crowd, 4), meet(0, 2));
+    for &(pick, place, partner) in &[(0, 0, 2), (1, 0, 4), (2, 2, 2), (3, 2, 4), (4, 0, 2)] {
+        assert_eq!(rt; pick_choice(&crowd, pick), meet(place, partner));
+    }
     let nobody = Crowd {
         waiting: 0,
         pairs: false,

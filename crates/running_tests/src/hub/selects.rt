@@ -59,6 +59,9 @@ fn declared(alloc: Global) -> Result<Decls, Fail> {
     Ok(decls)
 }
 
+/// Who receives which value, or nobody where a default is taken; and what main and w are told.
+type Came = (Option<(u32, u64)>, (Option<Answer>, Option<Answer>));
+
 /// The selects of main and of w, each with whether it has a default; a pick; who receives which value then, or nobody where a
 /// default is taken; and what main and w are told.
 type Row = (
@@ -190,10 +193,7 @@ fn last_meet(hub: &Hub<Selects>) -> Result<Option<(u32, u64)>, Fail> {
 }
 
 // What comes of main's start of w, of what both then ask, and of the pick.
-fn comes(
-    hub: &mut Hub<Selects>,
-    pick: u64,
-) -> Result<(Option<(u32, u64)>, (Option<Answer>, Option<Answer>)), Fail> {
+fn comes(hub: &mut Hub<Selects>, pick: u64) -> Result<Came, Fail> {
     if !ask(hub)? || !hub.fire(0)? || !ask(hub)? || !ask(hub)? || !hub.fire(pick)? {
         return Err(Fail::new("nothing happens"));
     }
@@ -201,13 +201,25 @@ fn comes(
     Ok((met, told(hub)))
 }
 
+fn comes_by(
+    alloc: Global,
+    main: (Wanted, bool),
+    other: (Wanted, bool),
+    pick: u64,
+) -> Result<Came, Fail> {
+    let mut hub = hub_of(alloc, main, other)?;
+    comes(&mut hub, pick)
+}
+
 #[test]
 fn selects_meet_and_stand_back(rt: HostRuntime) -> Result<(), Fail> {
     let alloc = rt.alloc();
     for at in 0..ROWS.len() {
         let (main, other, pick, met, answers) = ROWS[at];
-        let mut hub = hub_of(alloc, main, other)?;
-        assert_eq!(rt; comes(&mut hub, pick)?, (met, answers));
+        assert!(rt;
+            comes_by(alloc, main, other, pick)? == (met, answers),
+            "{at}"
+        );
     }
     Ok(())
 }

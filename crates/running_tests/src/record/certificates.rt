@@ -148,12 +148,22 @@ fn recorded(hub: Hub<Script>) -> Result<Recording, Fail> {
     Ok(record_serial(hub, &[])?)
 }
 
+// Where the recording of the first program, up to the limit, leaves the other one.
+fn left_by(
+    alloc: Global,
+    text: &[u8],
+    limit: u32,
+    other: &[u8],
+) -> Result<Option<(u32, usize)>, Fail> {
+    let recording = recorded(hub_of(alloc, text, limit)?)?;
+    left_at(alloc, &recording, other)
+}
+
 #[test]
 fn a_recording_is_a_run_of_its_program_alone(rt: HostRuntime) -> Result<(), Fail> {
     for at in 0..19 {
         let (text, limit, other, left) = ROWS[at];
-        let recording = recorded(hub_of(rt.alloc(), text, limit)?)?;
-        assert_eq!(rt; left_at(rt.alloc(), &recording, other)?, left);
+        assert_eq!(rt; left_by(rt.alloc(), text, limit, other)?, left);
     }
     Ok(())
 }

@@ -160,7 +160,7 @@ fn each_text_is_judged(rt: HostRuntime) {
 #[test]
 fn pieces_are_judged_as_the_whole(rt: HostRuntime) {
     for (text, fault) in &ROWS {
-        for len in [1, 2, 7] {
+        for &len in &[1, 2, 7] {
             assert_eq!(rt; fed_fault_of(rt.alloc(), *text, len), *fault);
         }
     }

@@ -1,3 +1,4 @@
 //! What race_legal does that no contract says.
-pub(crate) mod events;
+mod events;
 mod locks;
+mod replays;

@@ -8,7 +8,8 @@ use Rattle.race_records.specs.declared.source.Source.{Source}
 use Rattle.race_records.specs.declared.sink.Sink.{Sink}
 use Rattle.race_records.specs.Devices.{unread, written, source_failures, sink_failures}
 use Rattle.race_command.specs.declared.command.Request.{Request}
-use Rattle.race_tool.specs.Input.{of_traces, of_programs}
+use Rattle.race_text.specs.Fault.{trace_causes}
+use Rattle.race_script.specs.Fault.{program_causes}
 use Rattle.race_tool.specs.Outcome.{ReadsAndReports, ReadsAndLists, ReadsAndRuns, ReadsAndJudges, ReadsTextWhere, ReadsProgramOf, FailsToRead, GivesUpReading}
 use Rattle.race_tool.specs.Outcome.{FailsToWrite, FailsToWriteListing, FailsToWriteRun, FailsToWriteJudged}
 use Rattle.race_tool.specs.Run.{IsRefusedRun}
@@ -27,8 +28,8 @@ pub record Checks {R W : Type 0} (plain : Bool) (remaining : R → Option (List 
   pub illegal : answer ≡ status.ILLEGAL → ReadsTextWhere IsIllegal (unread remaining source) (unread remaining source_now)
   pub refused : answer ≡ status.REFUSED → sink_now ≡ sink
   pub device : answer ≡ status.DEVICE
-      → FailsToRead of_traces remaining source source_now sink sink_now
-      ⊎ GivesUpReading of_traces remaining source source_now sink sink_now
+      → FailsToRead trace_causes remaining source source_now sink sink_now
+      ⊎ GivesUpReading trace_causes remaining source source_now sink sink_now
       ⊎ FailsToWrite plain remaining contents source source_now sink sink_now
   pub calm : answer ≢ status.DEVICE → (source_failures source_now ≡ source_failures source) × (sink_failures sink_now ≡ sink_failures sink)
 
@@ -39,8 +40,8 @@ pub record Lists {R W : Type 0} (remaining : R → Option (List ℕ)) (contents 
       → ReadsAndLists (unread remaining source) (unread remaining source_now) (written contents sink) (written contents sink_now) answer
   pub refused : answer ≡ status.REFUSED → sink_now ≡ sink
   pub device : answer ≡ status.DEVICE
-      → FailsToRead of_traces remaining source source_now sink sink_now
-      ⊎ GivesUpReading of_traces remaining source source_now sink sink_now
+      → FailsToRead trace_causes remaining source source_now sink sink_now
+      ⊎ GivesUpReading trace_causes remaining source source_now sink sink_now
       ⊎ FailsToWriteListing remaining contents source source_now sink sink_now
   pub calm : answer ≢ status.DEVICE → (source_failures source_now ≡ source_failures source) × (sink_failures sink_now ≡ sink_failures sink)
 
@@ -53,8 +54,8 @@ pub record Runs {R W : Type 0} (limit : ℕ) (picks : List ℕ) (remaining : R �
   pub mismatch : answer ≡ status.MISMATCH
       → (sink_now ≡ sink) × ReadsProgramOf (IsRefusedRun limit picks) (unread remaining source) (unread remaining source_now)
   pub device : answer ≡ status.DEVICE
-      → FailsToRead of_programs remaining source source_now sink sink_now
-      ⊎ GivesUpReading of_programs remaining source source_now sink sink_now
+      → FailsToRead program_causes remaining source source_now sink sink_now
+      ⊎ GivesUpReading program_causes remaining source source_now sink sink_now
       ⊎ FailsToWriteRun limit picks remaining contents source source_now sink sink_now
   pub calm : answer ≢ status.DEVICE → (source_failures source_now ≡ source_failures source) × (sink_failures sink_now ≡ sink_failures sink)
 
@@ -70,8 +71,8 @@ pub record Judges {R W : Type 0} (limit : ℕ) (picks : List ℕ) (plain : Bool)
   pub mismatch : answer ≡ status.MISMATCH
       → (sink_now ≡ sink) × ReadsProgramOf (IsRefusedRun limit picks) (unread remaining source) (unread remaining source_now)
   pub device : answer ≡ status.DEVICE
-      → FailsToRead of_programs remaining source source_now sink sink_now
-      ⊎ GivesUpReading of_programs remaining source source_now sink sink_now
+      → FailsToRead program_causes remaining source source_now sink sink_now
+      ⊎ GivesUpReading program_causes remaining source source_now sink sink_now
       ⊎ FailsToWriteJudged limit picks plain remaining contents source source_now sink sink_now
   pub calm : answer ≢ status.DEVICE → (source_failures source_now ≡ source_failures source) × (sink_failures sink_now ≡ sink_failures sink)
 

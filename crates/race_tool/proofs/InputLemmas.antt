@@ -11,28 +11,41 @@ use Rattle.race_records.specs.Devices.{unread, source_failures, more_by, one_mor
 use Rattle.race_records.specs.Events.{TraceState}
 use Rattle.race_text.specs.declared.cause.TextCause.{TextCause}
 use Rattle.race_text.specs.declared.cause.TextFault.{TextFault}
-use Rattle.race_text.specs.Fault.{text_fault}
+use Rattle.race_text.specs.Lines.{Causes, first_fault}
+use Rattle.race_text.specs.Fed.{ended_after, ended_fault}
+use Rattle.race_text.specs.Fault.{text_fault, trace_causes}
+use Rattle.race_text.proofs.FedLemmas.{ended_fault_stays}
 use Rattle.race_text.proofs.TextFine.{text_has_no_fault}
 use Rattle.race_tool.specs.Finding.{IsTextWhere}
-use Rattle.race_tool.specs.Input.{Faults, of_traces, Reads, IsInput, IsReadBy, IsReadable, ReadsBy, ReadsAs, ReadsFine, FeedsMore}
+use Rattle.race_tool.specs.Input.{Reads, IsInput, IsReadBy, IsReadable, ReadsBy, ReadsAs, ReadsFine, FeedsMore}
 use Rattle.race_tool.specs.Outcome.{IsRightFor, IsRightBy, AreTextWhere, WritesText, ReadsAndWrites, ReadsTextWhere, WritesFrontOf, FailsToWriteText}
 
 -- so many blocks were read and fed to a reader, which stands for them, and no line that a newline ends is at fault
-pub record IsFed (faults : Faults) (start now : Option (List ℕ)) (StandsFor : List ℕ → Type 0) (turns : ℕ) : Type 0 where
+pub record IsFed (causes : Causes) (start now : Option (List ℕ)) (StandsFor : List ℕ → Type 0) (turns : ℕ) : Type 0 where
   pub bytes : List ℕ
   pub consumed : Consumes start now bytes
   pub stands : StandsFor bytes
   pub many : turns ≤ length bytes
-  pub fine : faults.ended bytes ≡ None
+  pub fine : ended_fault causes bytes ≡ None
+
+-- where nothing was fed no line is at fault
+nothing_ended : (causes : Causes) → ended_fault causes [] ≡ None
+unfolding ended_fault ended_after
+nothing_ended causes = refl
 
 -- before the first one
-pub fed_none : (faults : Faults) (start : Option (List ℕ)) (StandsFor : List ℕ → Type 0) → StandsFor [] → faults.ended [] ≡ None
-    → IsFed faults start start StandsFor 0
-fed_none faults start StandsFor stands fine = record { bytes = []; consumed = Consumes-nil start; stands = stands; many = omega arith; fine = fine }
+pub fed_none : (causes : Causes) (start : Option (List ℕ)) (StandsFor : List ℕ → Type 0) → StandsFor [] → IsFed causes start start StandsFor 0
+fed_none causes start StandsFor stands = record {
+  bytes = [];
+  consumed = Consumes-nil start;
+  stands = stands;
+  many = omega arith;
+  fine = nothing_ended causes;
+}
 
-module _ (faults : Faults) (start before after : Option (List ℕ)) (Old New : List ℕ → Type 0) (turns : ℕ) (fed : IsFed faults start before Old turns) where
+module _ (causes : Causes) (start before after : Option (List ℕ)) (Old New : List ℕ → Type 0) (turns : ℕ) (fed : IsFed causes start before Old turns) where
   -- one more block, in which there were bytes
-  pub fed_more : (r : FeedsMore faults before after Old New (Ok true)) → IsFed faults start after New (turns + 1)
+  pub fed_more : (r : FeedsMore causes before after Old New (Ok true)) → IsFed causes start after New (turns + 1)
   fed_more r = record {
     bytes = fed.bytes ++ r.taken;
     consumed = Consumes-trans start before after fed.bytes r.taken fed.consumed r.consumed;
@@ -42,15 +55,14 @@ module _ (faults : Faults) (start before after : Option (List ℕ)) (Old New : L
   }
 
   -- the read before whose failure no line was at fault
-  pub fine_before : Keeps before after → ReadsFine faults start after
+  pub fine_before : Keeps before after → ReadsFine causes start after
   fine_before kept = record { bytes = fed.bytes; consumed = Consumes-kept start before after fed.bytes fed.consumed kept; fine = fed.fine }
 
   module _ {V : Type 0} (IsText : V → List ℕ → Type 0) where
     -- a faulty line was told
-    pub fault_read : (told : TextFault) → ((bytes more : List ℕ) (f : TextFault) → faults.ended bytes ≡ Some f → faults.first (bytes ++ more) ≡ Some f)
-        → FeedsMore faults before after Old New (Err told) → ReadsBy IsText faults start after (Err told)
-    fault_read told stays r =
-        let faulty : faults.ended (fed.bytes ++ r.taken) ≡ Some told = r.told fed.bytes fed.stands in
+    pub fault_read : (told : TextFault) → FeedsMore causes before after Old New (Err told) → ReadsBy IsText causes start after (Err told)
+    fault_read told r =
+        let faulty : ended_fault causes (fed.bytes ++ r.taken) ≡ Some told = r.told fed.bytes fed.stands in
         record {
           bytes = fed.bytes ++ r.taken;
           to_end = false;
@@ -58,16 +70,16 @@ module _ (faults : Faults) (start before after : Option (List ℕ)) (Old New : L
             consumed = Consumes-trans start before after fed.bytes r.taken fed.consumed r.consumed;
             stops = record { front = fed.bytes; block = r.taken; bytes_are = refl; short = r.short; fine = fed.fine; fault = told; faulty = faulty };
           };
-          is_so = λ whole (rest, is). ap faults.first is ∙ stays (fed.bytes ++ r.taken) rest told faulty;
+          is_so = λ whole (rest, is). ap (first_fault causes) is ∙ ended_fault_stays causes (fed.bytes ++ r.taken) rest told faulty;
           all = tt;
         }
 
     -- the end was found
-    end_read : (text : Result V TextFault) → FeedsMore faults before after Old New (Ok false)
+    end_read : (text : Result V TextFault) → FeedsMore causes before after Old New (Ok false)
         → IfOk text (λ value. (bytes : List ℕ) → New bytes → IsText value bytes)
-        → IfErr text (λ told. (bytes : List ℕ) → New bytes → told.cause ≢ TextCause.OutOfMemory → faults.first bytes ≡ Some told)
+        → IfErr text (λ told. (bytes : List ℕ) → New bytes → told.cause ≢ TextCause.OutOfMemory → first_fault causes bytes ≡ Some told)
         → IfErr text (λ told. told.cause ≢ TextCause.OutOfMemory)
-        → ReadsBy IsText faults start after text
+        → ReadsBy IsText causes start after text
     end_read text r read told other = record {
       bytes = whole_bytes;
       to_end = true;
@@ -75,7 +87,7 @@ module _ (faults : Faults) (start before after : Option (List ℕ)) (Old New : L
         consumed = Consumes-trans start before after fed.bytes r.taken fed.consumed r.consumed;
         stops = (r.told.1, r.told.0 fed.bytes fed.stands);
       };
-      is_so = λ whole is. subst (λ (bytes : List ℕ). IsReadBy IsText faults bytes text) (sym is) (so text read told other);
+      is_so = λ whole is. subst (λ (bytes : List ℕ). IsReadBy IsText causes bytes text) (sym is) (so text read told other);
       all = all text;
     }
       where
@@ -83,8 +95,8 @@ module _ (faults : Faults) (start before after : Option (List ℕ)) (Old New : L
         whole_bytes = fed.bytes ++ r.taken
 
         so : (t : Result V TextFault) → IfOk t (λ value. (bytes : List ℕ) → New bytes → IsText value bytes)
-            → IfErr t (λ f. (bytes : List ℕ) → New bytes → f.cause ≢ TextCause.OutOfMemory → faults.first bytes ≡ Some f)
-            → IfErr t (λ f. f.cause ≢ TextCause.OutOfMemory) → IsReadBy IsText faults whole_bytes t
+            → IfErr t (λ f. (bytes : List ℕ) → New bytes → f.cause ≢ TextCause.OutOfMemory → first_fault causes bytes ≡ Some f)
+            → IfErr t (λ f. f.cause ≢ TextCause.OutOfMemory) → IsReadBy IsText causes whole_bytes t
         so (Ok value) read told other = read whole_bytes (r.goes_on fed.bytes fed.stands)
         so (Err f) read told other = told whole_bytes (r.goes_on fed.bytes fed.stands) other
 
@@ -93,14 +105,14 @@ module _ (faults : Faults) (start before after : Option (List ℕ)) (Old New : L
         all (Err f) = tt
 
     -- what the reader of lines answers at the end, but for want of memory
-    pub end_answered : (told : Result V TextFault) {E : Type 0} (answer : Result (Result V TextFault) E) → FeedsMore faults before after Old New (Ok false)
+    pub end_answered : (told : Result V TextFault) {E : Type 0} (answer : Result (Result V TextFault) E) → FeedsMore causes before after Old New (Ok false)
         → IfOk told (λ value. (bytes : List ℕ) → New bytes → IsText value bytes)
-        → IfErr told (λ f. (bytes : List ℕ) → New bytes → f.cause ≢ TextCause.OutOfMemory → faults.first bytes ≡ Some f)
+        → IfErr told (λ f. (bytes : List ℕ) → New bytes → f.cause ≢ TextCause.OutOfMemory → first_fault causes bytes ≡ Some f)
         → IfOk answer (λ text. text ≡ told) → IfOk answer (λ text. IfErr text (λ f. f.cause ≢ TextCause.OutOfMemory))
-        → IfOk answer (λ text. ReadsBy IsText faults start after text)
+        → IfOk answer (λ text. ReadsBy IsText causes start after text)
     end_answered told (Err e) r read fault same other = tt
     end_answered told (Ok text) r read fault same other =
-        subst (λ (t : Result V TextFault). ReadsBy IsText faults start after t) (sym same)
+        subst (λ (t : Result V TextFault). ReadsBy IsText causes start after t) (sym same)
         (end_read told r read fault (subst (λ (t : Result V TextFault). IfErr t (λ f. f.cause ≢ TextCause.OutOfMemory)) same other))
 
 -- one read more is counted, whether or not it is the first
@@ -123,7 +135,7 @@ pub reads_text : (Holds : TraceState → Type 0) (before after : Option (List �
     → ReadsTextWhere Holds before after
 reads_text Holds before after (Ok trace) r holds = by r.to_end r.all r.read (holds r.bytes (r.is_so r.bytes (itself r.bytes r.to_end)))
   where
-    by : (to_end : Bool) → IsTrue to_end → Reads of_traces before after r.bytes to_end → IsTextWhere Holds r.bytes → ReadsTextWhere Holds before after
+    by : (to_end : Bool) → IsTrue to_end → Reads trace_causes before after r.bytes to_end → IsTextWhere Holds r.bytes → ReadsTextWhere Holds before after
     by true all read is = record { bytes = r.bytes; read = record { consumed = read.consumed; at_end = read.stops.0 }; text = is }
     by false all read is = cc
 reads_text Holds before after (Err told) r holds =
@@ -159,11 +171,11 @@ module _ {X Y E : Type 0} (r : Result Y E) (e g : E) (is : IsErrAnd r (λ f. f �
       by (Err f) is other = other (ap (λ (x : E). Err x) (is ∙ ap or_else same))
 
 -- what was written of what was read
-module _ {V F : Type 0} (IsText : V → List ℕ → Type 0) (faults : Faults) (IsRight : List ℕ → F → Type 0) (text_of : F → List ℕ) (before after : Option (List ℕ))
-    (text : Result V TextFault) (read : ReadsBy IsText faults before after text) where
+module _ {V F : Type 0} (IsText : V → List ℕ → Type 0) (causes : Causes) (IsRight : List ℕ → F → Type 0) (text_of : F → List ℕ) (before after : Option (List ℕ))
+    (text : Result V TextFault) (read : ReadsBy IsText causes before after text) where
   pub reads_and_writes : (status_for : F → ℕ) (output output_now : Option (List ℕ)) (status : ℕ)
-      → WritesText (IsRightBy IsText faults IsRight text) text_of status_for output output_now status
-      → ReadsAndWrites faults IsRight text_of status_for before after output output_now status
+      → WritesText (IsRightBy IsText causes IsRight text) text_of status_for output output_now status
+      → ReadsAndWrites causes IsRight text_of status_for before after output output_now status
   reads_and_writes status_for output output_now status w = record {
     bytes = read.bytes;
     to_end = read.to_end;
@@ -172,21 +184,21 @@ module _ {V F : Type 0} (IsText : V → List ℕ → Type 0) (faults : Faults) (
   }
 
   pub front_for : {W : Type 0} (contents : W → Option (List ℕ)) (sink sink_now : Sink W)
-      → WritesFrontOf (IsRightBy IsText faults IsRight text) text_of contents sink sink_now
+      → WritesFrontOf (IsRightBy IsText causes IsRight text) text_of contents sink sink_now
       → WritesFrontOf (IsRightFor IsRight read.bytes read.to_end) text_of contents sink sink_now
   front_for contents sink sink_now w =
       record { finding = w.finding; right = λ whole is. w.right whole (read.is_so whole is); sent = w.sent; cut_off = w.cut_off; failed = w.failed }
 
-pub fails_to_write : {V F R W : Type 0} (IsText : V → List ℕ → Type 0) (faults : Faults) (IsRight : List ℕ → F → Type 0) (text_of : F → List ℕ)
+pub fails_to_write : {V F R W : Type 0} (IsText : V → List ℕ → Type 0) (causes : Causes) (IsRight : List ℕ → F → Type 0) (text_of : F → List ℕ)
     (remaining : R → Option (List ℕ)) (contents : W → Option (List ℕ))
     (source source_now : Source R) (sink sink_now : Sink W) (text : Result V TextFault)
-    → ReadsBy IsText faults (unread remaining source) (unread remaining source_now) text
-    → source_failures source_now ≡ source_failures source → WritesFrontOf (IsRightBy IsText faults IsRight text) text_of contents sink sink_now
-    → FailsToWriteText faults IsRight text_of remaining contents source source_now sink sink_now
-fails_to_write IsText faults IsRight text_of remaining contents source source_now sink sink_now text read calm w = record {
+    → ReadsBy IsText causes (unread remaining source) (unread remaining source_now) text
+    → source_failures source_now ≡ source_failures source → WritesFrontOf (IsRightBy IsText causes IsRight text) text_of contents sink sink_now
+    → FailsToWriteText causes IsRight text_of remaining contents source source_now sink sink_now
+fails_to_write IsText causes IsRight text_of remaining contents source source_now sink sink_now text read calm w = record {
   bytes = read.bytes;
   to_end = read.to_end;
   read = read.read;
   calm = calm;
-  front = front_for IsText faults IsRight text_of (unread remaining source) (unread remaining source_now) text read contents sink sink_now w;
+  front = front_for IsText causes IsRight text_of (unread remaining source) (unread remaining source_now) text read contents sink sink_now w;
 }

@@ -28,7 +28,8 @@ use Rattle.race_record.specs.Serial.{IsSerial, IsTurnedAway}
 use Rattle.race_report.specs.Report.{fault_line}
 use Rattle.race_tool.specs.declared.input.ReadFault.{ReadFault}
 use Rattle.race_tool.specs.declared.status.TheConstants as status
-use Rattle.race_tool.specs.Input.{of_programs, Reads, ReadsBy, ReadsFine, ReadsMany}
+use Rattle.race_script.specs.Fault.{program_causes}
+use Rattle.race_tool.specs.Input.{Reads, ReadsBy, ReadsFine, ReadsMany}
 use Rattle.race_tool.specs.Outcome.{status_of_fault, FailsToRead, GivesUpReading}
 use Rattle.race_tool.specs.Outcome.{IsProgramWhere, ReadsProgramOf, WritesRun, WritesRunFront, WritesTrace, WritesTraceFront}
 use Rattle.race_tool.specs.Run.{scripts_of, IsRunOf, IsUncertified, IsRefusedRun, IsTraceOf, NoProgram, Ran}
@@ -99,10 +100,10 @@ none_out decls limit boxes hub opens = ap (λ h. length h.out) opens.hub_is
 
 -- a program was read to its end
 pub reads_program : (Holds : ProgramState → Type 0) (before after : Option (List ℕ)) (text : Result ProgramState TextFault)
-    → ReadsBy IsTextOf of_programs before after text → IsProgramWhere Holds text → ReadsProgramOf Holds before after
+    → ReadsBy IsTextOf program_causes before after text → IsProgramWhere Holds text → ReadsProgramOf Holds before after
 reads_program Holds before after (Ok program) r holds = by r.to_end r.all r.read (r.is_so r.bytes (itself r.bytes r.to_end))
   where
-    by : (to_end : Bool) → IsTrue to_end → Reads of_programs before after r.bytes to_end → IsTextOf program r.bytes → ReadsProgramOf Holds before after
+    by : (to_end : Bool) → IsTrue to_end → Reads program_causes before after r.bytes to_end → IsTextOf program r.bytes → ReadsProgramOf Holds before after
     by true all read is =
         record { bytes = r.bytes; read = record { consumed = read.consumed; at_end = read.stops.0 }; is = program; text_is = is; holds = holds }
     by false all read is = cc
@@ -185,12 +186,12 @@ unread_is_recorded ReadFault.OutOfMemory answer is mismatch = let e : status.REF
 module _ {R W Y : Type 0} (remaining : R → Option (List ℕ)) (source source_now : Source R) (sink : Sink W) where
   -- it says how reading failed
   pub unread_device : {X : Type 0} (fault : ReadFault) (answer : ℕ) → answer ≡ status_of_fault fault
-      → (◌≡◌ {A = Result Y ReadFault} (Err fault) (Err ReadFault.Failed) → ReadsFine of_programs (unread remaining source) (unread remaining source_now))
+      → (◌≡◌ {A = Result Y ReadFault} (Err fault) (Err ReadFault.Failed) → ReadsFine program_causes (unread remaining source) (unread remaining source_now))
       → (◌≡◌ {A = Result Y ReadFault} (Err fault) (Err ReadFault.Failed) → source_failures source_now ≡ one_more (source_failures source))
-      → (◌≡◌ {A = Result Y ReadFault} (Err fault) (Err ReadFault.Endless) → ReadsMany of_programs remaining source source_now)
+      → (◌≡◌ {A = Result Y ReadFault} (Err fault) (Err ReadFault.Endless) → ReadsMany program_causes remaining source source_now)
       → (◌≢◌ {A = Result Y ReadFault} (Err fault) (Err ReadFault.Failed) → source_failures source_now ≡ source_failures source)
       → answer ≡ status.DEVICE
-      → FailsToRead of_programs remaining source source_now sink sink ⊎ GivesUpReading of_programs remaining source source_now sink sink ⊎ X
+      → FailsToRead program_causes remaining source source_now sink sink ⊎ GivesUpReading program_causes remaining source source_now sink sink ⊎ X
   unread_device ReadFault.Failed answer is fine failed many calm device = inl (record { fine = fine refl; failed = failed refl; unwritten = refl })
   unread_device ReadFault.Endless answer is fine failed many calm device =
       inr (inl (record { many = many refl; calm = calm (λ e. cc); unwritten = refl }))

@@ -1,4 +1,4 @@
--- How an input was read: block by block, to its end or to its first faulty line.
+-- How an input was read: block by block, to its end or to its first faulty line, by the causes of its kind of text.
 use Rattle.std.specs.Prelude.{◌≡◌, ℕ, ◌<◌, ◌≤◌, Bool, true, false, IsTrue, List, ◌++◌}
 use Rattle.std.specs.Prelude.{length, Option, Some, None, Result, Ok, Err, OnOk, MatchBool}
 use Rattle.std.specs.Prelude.{MatchResult}
@@ -11,64 +11,46 @@ use Rattle.race_text.specs.Text.{IsTextOf}
 use Rattle.race_text.specs.Lines.{Causes, first_fault}
 use Rattle.race_text.specs.Fault.{trace_causes}
 use Rattle.race_text.specs.Fed.{ended_fault}
-use Rattle.race_script.specs.Fault.{program_causes}
 use Rattle.race_tool.specs.declared.input.TheConstants.{BLOCK, MAX_TURNS}
 
--- which fault bytes have as a text of some kind: the first one, and the first one of the lines that a newline ends
-pub record Faults : Type 0 where
-  pub first : List ℕ → Option TextFault
-  pub ended : List ℕ → Option TextFault
-
--- by the causes of that kind
-abbrev pub faults_by : Causes → Faults
-faults_by causes = record { first = first_fault causes; ended = ended_fault causes }
-
--- as the text of a trace
-abbrev pub of_traces : Faults
-of_traces = faults_by trace_causes
-
--- as the text of a program
-abbrev pub of_programs : Faults
-of_programs = faults_by program_causes
-
 -- the last block that was read is the one that ends the first faulty line
-pub record StopsAtFault (faults : Faults) (bytes : List ℕ) : Type 0 where
+pub record StopsAtFault (causes : Causes) (bytes : List ℕ) : Type 0 where
   pub front : List ℕ
   pub block : List ℕ
   pub bytes_are : bytes ≡ front ++ block
   pub short : length block ≤ BLOCK
-  pub fine : faults.ended front ≡ None
+  pub fine : ended_fault causes front ≡ None
   pub fault : TextFault
-  pub faulty : faults.ended bytes ≡ Some fault
+  pub faulty : ended_fault causes bytes ≡ Some fault
 
 -- these bytes were read: to the end of the input, and no line that a newline ends is at fault, or to the end of the
 -- block that ends the first faulty line
-pub record Reads (faults : Faults) (before after : Option (List ℕ)) (bytes : List ℕ) (to_end : Bool) : Type 0 where
+pub record Reads (causes : Causes) (before after : Option (List ℕ)) (bytes : List ℕ) (to_end : Bool) : Type 0 where
   pub consumed : Consumes before after bytes
-  pub stops : MatchBool to_end (IsAtEnd after × (faults.ended bytes ≡ None)) (StopsAtFault faults bytes)
+  pub stops : MatchBool to_end (IsAtEnd after × (ended_fault causes bytes ≡ None)) (StopsAtFault causes bytes)
 
 -- an input of which these bytes were read: to its end, or else anything may follow them
 abbrev pub IsInput : List ℕ → Bool → List ℕ → Type 0
 IsInput bytes true whole = whole ≡ bytes
 IsInput bytes false whole = (rest : List ℕ) × (whole ≡ bytes ++ rest)
 
-module _ {V : Type 0} (IsText : V → List ℕ → Type 0) (faults : Faults) where
+module _ {V : Type 0} (IsText : V → List ℕ → Type 0) (causes : Causes) where
   -- the bytes are the text of that, or else this is their first fault
   abbrev pub IsReadBy : List ℕ → Result V TextFault → Type 0
   IsReadBy bytes (Ok value) = IsText value bytes
-  IsReadBy bytes (Err fault) = faults.first bytes ≡ Some fault
+  IsReadBy bytes (Err fault) = first_fault causes bytes ≡ Some fault
 
   -- the input was read as a text, which needs its end, or with its first fault
   pub record ReadsBy (before after : Option (List ℕ)) (text : Result V TextFault) : Type 0 where
     pub bytes : List ℕ
     pub to_end : Bool
-    pub read : Reads faults before after bytes to_end
+    pub read : Reads causes before after bytes to_end
     pub is_so : (whole : List ℕ) → IsInput bytes to_end whole → IsReadBy whole text
     pub all : OnOk text (IsTrue to_end)
 
 -- the bytes are the text of this trace, or else this is their first fault
 abbrev pub IsReadAs : List ℕ → Result TraceState TextFault → Type 0
-IsReadAs bytes text = IsReadBy IsTextOf of_traces bytes text
+IsReadAs bytes text = IsReadBy IsTextOf trace_causes bytes text
 
 -- some bytes are read so
 abbrev pub IsReadable : Result TraceState TextFault → Type 0
@@ -76,7 +58,7 @@ IsReadable text = (bytes : List ℕ) × IsReadAs bytes text
 
 -- the input was read as a trace
 abbrev pub ReadsAs : Option (List ℕ) → Option (List ℕ) → Result TraceState TextFault → Type 0
-ReadsAs before after text = ReadsBy IsTextOf of_traces before after text
+ReadsAs before after text = ReadsBy IsTextOf trace_causes before after text
 
 -- the bytes were read, and they were all that was left
 pub record ReadsAll (before after : Option (List ℕ)) (bytes : List ℕ) : Type 0 where
@@ -84,31 +66,31 @@ pub record ReadsAll (before after : Option (List ℕ)) (bytes : List ℕ) : Type
   pub at_end : IsAtEnd after
 
 -- some bytes were read, and no line that a newline ends is at fault in them
-pub record ReadsFine (faults : Faults) (before after : Option (List ℕ)) : Type 0 where
+pub record ReadsFine (causes : Causes) (before after : Option (List ℕ)) : Type 0 where
   pub bytes : List ℕ
   pub consumed : Consumes before after bytes
-  pub fine : faults.ended bytes ≡ None
+  pub fine : ended_fault causes bytes ≡ None
 
 -- the reader was read as often as an input may be, together the reads gave as many bytes at least, and no line that a newline ends is
 -- at fault in them
-pub record ReadsMany {R : Type 0} (faults : Faults) (remaining : R → Option (List ℕ)) (source source_now : Source R) : Type 0 where
+pub record ReadsMany {R : Type 0} (causes : Causes) (remaining : R → Option (List ℕ)) (source source_now : Source R) : Type 0 where
   pub reads : source_reads source_now ≡ more_by MAX_TURNS (source_reads source)
   pub bytes : List ℕ
   pub consumed : Consumes (unread remaining source) (unread remaining source_now) bytes
   pub many : MAX_TURNS ≤ length bytes
-  pub fine : faults.ended bytes ≡ None
+  pub fine : ended_fault causes bytes ≡ None
 
 -- what is known of one more block, as its lines were told: fine, with whether there were bytes, or with the first fault
-abbrev pub IsToldOf : Faults → (List ℕ → Type 0) → Option (List ℕ) → List ℕ → Result Bool TextFault → Type 0
-IsToldOf faults StandsFor after taken answer =
+abbrev pub IsToldOf : Causes → (List ℕ → Type 0) → Option (List ℕ) → List ℕ → Result Bool TextFault → Type 0
+IsToldOf causes StandsFor after taken answer =
     MatchResult answer
-    (λ more. ((fed : List ℕ) → StandsFor fed → faults.ended (fed ++ taken) ≡ None) × MatchBool more (0 < length taken) (IsAtEnd after))
-    (λ told. (fed : List ℕ) → StandsFor fed → faults.ended (fed ++ taken) ≡ Some told)
+    (λ more. ((fed : List ℕ) → StandsFor fed → ended_fault causes (fed ++ taken) ≡ None) × MatchBool more (0 < length taken) (IsAtEnd after))
+    (λ told. (fed : List ℕ) → StandsFor fed → ended_fault causes (fed ++ taken) ≡ Some told)
 
 -- one read was fed to a reader of lines, which stood for some bytes, and stands for them with these behind
-pub record FeedsMore (faults : Faults) (before after : Option (List ℕ)) (StoodFor StandsFor : List ℕ → Type 0) (answer : Result Bool TextFault) : Type 0 where
+pub record FeedsMore (causes : Causes) (before after : Option (List ℕ)) (StoodFor StandsFor : List ℕ → Type 0) (answer : Result Bool TextFault) : Type 0 where
   pub taken : List ℕ
   pub short : length taken ≤ BLOCK
   pub consumed : Consumes before after taken
   pub goes_on : (fed : List ℕ) → StoodFor fed → StandsFor (fed ++ taken)
-  pub told : IsToldOf faults StoodFor after taken answer
+  pub told : IsToldOf causes StoodFor after taken answer

@@ -1,5 +1,4 @@
 pub mod Input
-pub mod PieceLaws
 pub mod Report
 pub mod Variables
 pub mod Finding

@@ -13,7 +13,10 @@ use Rattle.race_tool.specs.declared.input.ReadFault.{ReadFault}
 use Rattle.race_tool.specs.declared.status.TheConstants.{DEVICE, REFUSED}
 use Rattle.race_text.specs.declared.cause.TextFault.{TextFault}
 use Rattle.race_text.specs.Text.{IsTextOf, text}
-use Rattle.race_tool.specs.Input.{Faults, of_traces, of_programs, Reads, ReadsAll, ReadsFine, ReadsMany, IsInput, IsReadBy, IsReadAs}
+use Rattle.race_text.specs.Lines.{Causes}
+use Rattle.race_text.specs.Fault.{trace_causes}
+use Rattle.race_script.specs.Fault.{program_causes}
+use Rattle.race_tool.specs.Input.{Reads, ReadsAll, ReadsFine, ReadsMany, IsInput, IsReadBy, IsReadAs}
 use Rattle.race_tool.specs.Finding.{IsFinding, IsTextWhere, IsVerdictOn, report_of, status_of}
 use Rattle.race_tool.specs.Listing.{IsListing, listing_text, listing_status}
 use Rattle.race_tool.specs.Run.{IsRun, IsTraceOf, run_text, run_status, status_of_end}
@@ -39,12 +42,12 @@ abbrev pub IsRightFor : {F : Type 0} → (List ℕ → F → Type 0) → List �
 IsRightFor IsRight bytes to_end finding = (whole : List ℕ) → IsInput bytes to_end whole → IsRight whole finding
 
 -- right for all bytes that are read so
-abbrev pub IsRightBy : {V F : Type 0} → (V → List ℕ → Type 0) → Faults → (List ℕ → F → Type 0) → Result V TextFault → F → Type 0
-IsRightBy IsText faults IsRight text finding = (bytes : List ℕ) → IsReadBy IsText faults bytes text → IsRight bytes finding
+abbrev pub IsRightBy : {V F : Type 0} → (V → List ℕ → Type 0) → Causes → (List ℕ → F → Type 0) → Result V TextFault → F → Type 0
+IsRightBy IsText causes IsRight text finding = (bytes : List ℕ) → IsReadBy IsText causes bytes text → IsRight bytes finding
 
 -- as the text of a trace
 abbrev pub IsRightOn : {F : Type 0} → (List ℕ → F → Type 0) → Result TraceState TextFault → F → Type 0
-IsRightOn IsRight text finding = IsRightBy IsTextOf of_traces IsRight text finding
+IsRightOn IsRight text finding = IsRightBy IsTextOf trace_causes IsRight text finding
 
 -- all bytes that are read so are the text of a trace of which this holds
 abbrev pub AreTextWhere : (TraceState → Type 0) → Result TraceState TextFault → Type 0
@@ -60,11 +63,11 @@ pub record WritesText {F : Type 0} (IsRight : F → Type 0) (text : F → List �
 
 -- the input was read to its end, or to the end of the block that ends its first faulty line, and the text of a finding
 -- was written that is right for it
-pub record ReadsAndWrites {F : Type 0} (faults : Faults) (IsRight : List ℕ → F → Type 0) (text : F → List ℕ)
+pub record ReadsAndWrites {F : Type 0} (causes : Causes) (IsRight : List ℕ → F → Type 0) (text : F → List ℕ)
     (status_for : F → ℕ) (input input_left output output_now : Option (List ℕ)) (status : ℕ) : Type 0 where
   pub bytes : List ℕ
   pub to_end : Bool
-  pub read : Reads faults input input_left bytes to_end
+  pub read : Reads causes input input_left bytes to_end
   pub reported : WritesText (IsRightFor IsRight bytes to_end) text status_for output output_now status
 
 -- of a check: the report was written, and the status is the report's
@@ -74,7 +77,7 @@ WritesReport plain read output output_now status = WritesText (IsRightOn (IsFind
 -- the input was read, and its report was written
 abbrev pub ReadsAndReports : Bool → Option (List ℕ) → Option (List ℕ) → Option (List ℕ) → Option (List ℕ) → ℕ → Type 0
 ReadsAndReports plain input input_left output output_now status =
-    ReadsAndWrites of_traces (IsFinding plain) report_of status_of input input_left output output_now status
+    ReadsAndWrites trace_causes (IsFinding plain) report_of status_of input input_left output output_now status
 
 -- of a listing of edges: the edges were written, or why there are none
 abbrev pub WritesListing : Result TraceState TextFault → Option (List ℕ) → Option (List ℕ) → ℕ → Type 0
@@ -83,7 +86,7 @@ WritesListing read output output_now status = WritesText (IsRightOn IsListing re
 -- the input was read, and its listing was written
 abbrev pub ReadsAndLists : Option (List ℕ) → Option (List ℕ) → Option (List ℕ) → Option (List ℕ) → ℕ → Type 0
 ReadsAndLists input input_left output output_now status =
-    ReadsAndWrites of_traces IsListing listing_text listing_status input input_left output output_now status
+    ReadsAndWrites trace_causes IsListing listing_text listing_status input input_left output output_now status
 
 -- the input was read to its end, and it is the text of a trace of which this holds
 pub record ReadsTextWhere (Holds : TraceState → Type 0) (input input_left : Option (List ℕ)) : Type 0 where
@@ -100,11 +103,11 @@ pub record WritesFrontOf {F W : Type 0} (IsRight : F → Type 0) (text : F → L
   pub failed : sink_failures sink_now ≡ one_more (sink_failures sink)
 
 -- the input was read, no read failed, and a write did
-pub record FailsToWriteText {F R W : Type 0} (faults : Faults) (IsRight : List ℕ → F → Type 0) (text : F → List ℕ)
+pub record FailsToWriteText {F R W : Type 0} (causes : Causes) (IsRight : List ℕ → F → Type 0) (text : F → List ℕ)
     (remaining : R → Option (List ℕ)) (contents : W → Option (List ℕ)) (source source_now : Source R) (sink sink_now : Sink W) : Type 0 where
   pub bytes : List ℕ
   pub to_end : Bool
-  pub read : Reads faults (unread remaining source) (unread remaining source_now) bytes to_end
+  pub read : Reads causes (unread remaining source) (unread remaining source_now) bytes to_end
   pub calm : source_failures source_now ≡ source_failures source
   pub front : WritesFrontOf (IsRightFor IsRight bytes to_end) text contents sink sink_now
 
@@ -114,7 +117,7 @@ WritesFront plain read contents sink sink_now = WritesFrontOf (IsRightOn (IsFind
 
 abbrev pub FailsToWrite : {R W : Type 0} → Bool → (R → Option (List ℕ)) → (W → Option (List ℕ)) → Source R → Source R → Sink W → Sink W → Type 0
 FailsToWrite plain remaining contents source source_now sink sink_now =
-    FailsToWriteText of_traces (IsFinding plain) report_of remaining contents source source_now sink sink_now
+    FailsToWriteText trace_causes (IsFinding plain) report_of remaining contents source source_now sink sink_now
 
 -- of a listing of edges: only a front of it was written
 abbrev pub WritesListingFront : {W : Type 0} → Result TraceState TextFault → (W → Option (List ℕ)) → Sink W → Sink W → Type 0
@@ -122,18 +125,18 @@ WritesListingFront read contents sink sink_now = WritesFrontOf (IsRightOn IsList
 
 abbrev pub FailsToWriteListing : {R W : Type 0} → (R → Option (List ℕ)) → (W → Option (List ℕ)) → Source R → Source R → Sink W → Sink W → Type 0
 FailsToWriteListing remaining contents source source_now sink sink_now =
-    FailsToWriteText of_traces IsListing listing_text remaining contents source source_now sink sink_now
+    FailsToWriteText trace_causes IsListing listing_text remaining contents source source_now sink sink_now
 
 -- a read failed, before which no faulty line had ended, and nothing was written
-pub record FailsToRead {R W : Type 0} (faults : Faults) (remaining : R → Option (List ℕ)) (source source_now : Source R) (sink sink_now : Sink W) : Type 0 where
-  pub fine : ReadsFine faults (unread remaining source) (unread remaining source_now)
+pub record FailsToRead {R W : Type 0} (causes : Causes) (remaining : R → Option (List ℕ)) (source source_now : Source R) (sink sink_now : Sink W) : Type 0 where
+  pub fine : ReadsFine causes (unread remaining source) (unread remaining source_now)
   pub failed : source_failures source_now ≡ one_more (source_failures source)
   pub unwritten : sink_now ≡ sink
 
 -- no read failed, reading was given up after many reads, and nothing was written. Whether bytes were left isn't said
-pub record GivesUpReading {R W : Type 0} (faults : Faults) (remaining : R → Option (List ℕ))
+pub record GivesUpReading {R W : Type 0} (causes : Causes) (remaining : R → Option (List ℕ))
     (source source_now : Source R) (sink sink_now : Sink W) : Type 0 where
-  pub many : ReadsMany faults remaining source source_now
+  pub many : ReadsMany causes remaining source source_now
   pub calm : source_failures source_now ≡ source_failures source
   pub unwritten : sink_now ≡ sink
 
@@ -168,21 +171,21 @@ pub record ReadsProgramOf (Holds : ProgramState → Type 0) (input input_left : 
 -- the trace of a run was written, or why there is none
 abbrev pub WritesRun : ℕ → List ℕ → Result ProgramState TextFault → Option (List ℕ) → Option (List ℕ) → ℕ → Type 0
 WritesRun limit picks read output output_now status =
-    WritesText (IsRightBy program.IsTextOf of_programs (IsRun limit picks) read) run_text run_status output output_now status
+    WritesText (IsRightBy program.IsTextOf program_causes (IsRun limit picks) read) run_text run_status output output_now status
 
 -- the input was read, and the trace of a run of its program was written
 abbrev pub ReadsAndRuns : ℕ → List ℕ → Option (List ℕ) → Option (List ℕ) → Option (List ℕ) → Option (List ℕ) → ℕ → Type 0
 ReadsAndRuns limit picks input input_left output output_now status =
-    ReadsAndWrites of_programs (IsRun limit picks) run_text run_status input input_left output output_now status
+    ReadsAndWrites program_causes (IsRun limit picks) run_text run_status input input_left output output_now status
 
 -- only a front of it was written
 abbrev pub WritesRunFront : {W : Type 0} → ℕ → List ℕ → Result ProgramState TextFault → (W → Option (List ℕ)) → Sink W → Sink W → Type 0
 WritesRunFront limit picks read contents sink sink_now =
-    WritesFrontOf (IsRightBy program.IsTextOf of_programs (IsRun limit picks) read) run_text contents sink sink_now
+    WritesFrontOf (IsRightBy program.IsTextOf program_causes (IsRun limit picks) read) run_text contents sink sink_now
 
 abbrev pub FailsToWriteRun : {R W : Type 0} → ℕ → List ℕ → (R → Option (List ℕ)) → (W → Option (List ℕ)) → Source R → Source R → Sink W → Sink W → Type 0
 FailsToWriteRun limit picks remaining contents source source_now sink sink_now =
-    FailsToWriteText of_programs (IsRun limit picks) run_text remaining contents source source_now sink sink_now
+    FailsToWriteText program_causes (IsRun limit picks) run_text remaining contents source source_now sink sink_now
 
 -- of a judged run: the report of its trace and the line of its end were written, and the status is theirs
 pub record WritesVerdict (plain : Bool) (r : RecordingState) (output output_now : Option (List ℕ)) (status : ℕ) : Type 0 where
@@ -206,19 +209,19 @@ pub record WritesVerdictFront {W : Type 0} (plain : Bool) (r : RecordingState) (
 -- the report of a run was written, or why there is none
 abbrev pub WritesJudgedRun : ℕ → List ℕ → Bool → Result ProgramState TextFault → Option (List ℕ) → Option (List ℕ) → ℕ → Type 0
 WritesJudgedRun limit picks plain read output output_now status =
-    WritesText (IsRightBy program.IsTextOf of_programs (IsJudgedRun limit picks plain) read) judged_text judged_status output output_now status
+    WritesText (IsRightBy program.IsTextOf program_causes (IsJudgedRun limit picks plain) read) judged_text judged_status output output_now status
 
 -- the input was read, and the report of a run of its program was written
 abbrev pub ReadsAndJudges : ℕ → List ℕ → Bool → Option (List ℕ) → Option (List ℕ) → Option (List ℕ) → Option (List ℕ) → ℕ → Type 0
 ReadsAndJudges limit picks plain input input_left output output_now status =
-    ReadsAndWrites of_programs (IsJudgedRun limit picks plain) judged_text judged_status input input_left output output_now status
+    ReadsAndWrites program_causes (IsJudgedRun limit picks plain) judged_text judged_status input input_left output output_now status
 
 -- only a front of it was written
 abbrev pub WritesJudgedFront : {W : Type 0} → ℕ → List ℕ → Bool → Result ProgramState TextFault → (W → Option (List ℕ)) → Sink W → Sink W → Type 0
 WritesJudgedFront limit picks plain read contents sink sink_now =
-    WritesFrontOf (IsRightBy program.IsTextOf of_programs (IsJudgedRun limit picks plain) read) judged_text contents sink sink_now
+    WritesFrontOf (IsRightBy program.IsTextOf program_causes (IsJudgedRun limit picks plain) read) judged_text contents sink sink_now
 
 abbrev pub FailsToWriteJudged : {R W : Type 0} → ℕ → List ℕ → Bool → (R → Option (List ℕ))
     → (W → Option (List ℕ)) → Source R → Source R → Sink W → Sink W → Type 0
 FailsToWriteJudged limit picks plain remaining contents source source_now sink sink_now =
-    FailsToWriteText of_programs (IsJudgedRun limit picks plain) judged_text remaining contents source source_now sink sink_now
+    FailsToWriteText program_causes (IsJudgedRun limit picks plain) judged_text remaining contents source source_now sink sink_now

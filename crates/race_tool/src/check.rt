@@ -1,7 +1,8 @@
 //! The engine of `gorace check`: a trace's text in, its report out.
 ghost use Rattle.std.specs.Prelude.{◌≡◌, ◌≢◌, ◌⊎◌, true, false};
 ghost use Rattle.race_records.specs.Devices.{unread, written, source_failures, sink_failures};
-ghost use Rattle.race_tool.specs.Input.{of_traces, IsReadable};
+ghost use Rattle.race_text.specs.Fault.{trace_causes};
+ghost use Rattle.race_tool.specs.Input.{IsReadable};
 ghost use Rattle.race_tool.specs.Outcome.{
   are_in_limits,
   status_of_fault,
@@ -114,8 +115,8 @@ pub fn run_check<T, R: Read, W: Write, A: Allocator + Copy>(
     // A device failed, which its count shows, or the input didn't end. Behind a faulty line no read
     // can fail, since there is none.
     ensures device { result ≡ status.DEVICE
-        → FailsToRead of_traces R.remaining source.old source.new sink.old sink.new
-        ⊎ GivesUpReading of_traces R.remaining source.old source.new sink.old sink.new
+        → FailsToRead trace_causes R.remaining source.old source.new sink.old sink.new
+        ⊎ GivesUpReading trace_causes R.remaining source.old source.new sink.old sink.new
         ⊎ FailsToWrite options.now.plain R.remaining W.contents source.old source.new sink.old sink.new }
 
     // With every other status no device failed.

@@ -1,7 +1,8 @@
 //! The engine of `gorace edges`: a trace's text in, its synchronization edges out.
 ghost use Rattle.std.specs.Prelude.{◌≡◌, ◌≢◌, ◌⊎◌};
 ghost use Rattle.race_records.specs.Devices.{unread, written, source_failures, sink_failures};
-ghost use Rattle.race_tool.specs.Input.{of_traces, IsReadable};
+ghost use Rattle.race_text.specs.Fault.{trace_causes};
+ghost use Rattle.race_tool.specs.Input.{IsReadable};
 ghost use Rattle.race_tool.specs.Outcome.{
   WritesListing,
   WritesListingFront,
@@ -43,8 +44,8 @@ pub fn run_edges<R: Read, W: Write, A: Allocator + Copy>(
 
     // A device failed, which its count shows, or the input didn't end.
     ensures device { result ≡ status.DEVICE
-        → FailsToRead of_traces R.remaining source.old source.new sink.old sink.new
-        ⊎ GivesUpReading of_traces R.remaining source.old source.new sink.old sink.new
+        → FailsToRead trace_causes R.remaining source.old source.new sink.old sink.new
+        ⊎ GivesUpReading trace_causes R.remaining source.old source.new sink.old sink.new
         ⊎ FailsToWriteListing R.remaining W.contents source.old source.new sink.old sink.new }
 
     // With every other status no device failed.

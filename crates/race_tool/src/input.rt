@@ -3,7 +3,8 @@ ghost use Rattle.std.specs.Prelude.{◌≡◌, ◌≢◌, [], length, vec_len, I
 ghost use Rattle.std.specs.Io.KnownBytes.{Keeps};
 ghost use Rattle.race_records.specs.Devices.{unread, source_reads, source_failures, one_more};
 ghost use Rattle.race_text.specs.declared.cause.TextCause.{TextCause as Cause};
-ghost use Rattle.race_tool.specs.Input.{of_traces, ReadsAs, ReadsBy, ReadsFine, ReadsMany, FeedsMore};
+ghost use Rattle.race_text.specs.Fault.{trace_causes};
+ghost use Rattle.race_tool.specs.Input.{ReadsAs, ReadsBy, ReadsFine, ReadsMany, FeedsMore};
 
 use crate::pieces::PieceReader;
 use race_records::{Source, Trace};
@@ -48,9 +49,9 @@ pub(crate) fn read_trace<R: Read, A: Allocator + Copy>(
     ensures failed { result ≡ Err ReadFault.Failed
         → source_failures source.new ≡ one_more (source_failures source.old) }
     ensures fine { result ≡ Err ReadFault.Failed
-        → ReadsFine of_traces (unread R.remaining source.old) (unread R.remaining source.new) }
+        → ReadsFine trace_causes (unread R.remaining source.old) (unread R.remaining source.new) }
     ensures endless { result ≡ Err ReadFault.Endless
-        → ReadsMany of_traces R.remaining source.old source.new }
+        → ReadsMany trace_causes R.remaining source.old source.new }
 {
     read_text(alloc, source, LineReader::new(alloc))
 }
@@ -63,16 +64,16 @@ pub(crate) fn read_text<R: Read, P: PieceReader, A: Allocator>(
     reader: P,
 ) -> Result<Result<P::Whole, TextFault>, ReadFault>
     requires { P.stands_for reader [] }
-    ensures ok { IfOk result (λ text. ReadsBy P.is_text_of P.faults
+    ensures ok { IfOk result (λ text. ReadsBy P.is_text_of P.causes
         (unread R.remaining source.old) (unread R.remaining source.new) text) }
     ensures calm { result ≢ Err ReadFault.Failed
         → source_failures source.new ≡ source_failures source.old }
     ensures failed { result ≡ Err ReadFault.Failed
         → source_failures source.new ≡ one_more (source_failures source.old) }
     ensures fine { result ≡ Err ReadFault.Failed
-        → ReadsFine P.faults (unread R.remaining source.old) (unread R.remaining source.new) }
+        → ReadsFine P.causes (unread R.remaining source.old) (unread R.remaining source.new) }
     ensures endless { result ≡ Err ReadFault.Endless
-        → ReadsMany P.faults R.remaining source.old source.new }
+        → ReadsMany P.causes R.remaining source.old source.new }
 {
     let Ok(mut block) = blank_block(alloc) else {
         return Err(ReadFault::OutOfMemory);
@@ -101,7 +102,7 @@ fn feed_block<R: Read, P: PieceReader>(
     reader: &mut P,
 ) -> Result<Result<bool, TextFault>, ReadFault>
     requires { length block.old ≡ BLOCK }
-    ensures ok { IfOk result (λ answer. FeedsMore P.faults (unread R.remaining source.old)
+    ensures ok { IfOk result (λ answer. FeedsMore P.causes (unread R.remaining source.old)
         (unread R.remaining source.new) (P.stands_for reader.old) (P.stands_for reader.new) answer) }
     ensures calm { result ≢ Err ReadFault.Failed
         → source_failures source.new ≡ source_failures source.old }

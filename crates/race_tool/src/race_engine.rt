@@ -3,7 +3,7 @@ ghost use Rattle.std.specs.Prelude.{◌≡◌, ◌≢◌, ◌⊎◌, ◌&&◌, t
 ghost use Rattle.race_records.specs.Devices.{unread, written, source_failures, sink_failures};
 ghost use Rattle.race_edges.specs.Traces.{IsClean, IsRacy};
 ghost use Rattle.race_edges.specs.Verdicts.{verdict_of};
-ghost use Rattle.race_tool.specs.Input.{of_programs};
+ghost use Rattle.race_script.specs.Fault.{program_causes};
 ghost use Rattle.race_tool.specs.Outcome.{
   are_in_limits,
   IsProgramWhere,
@@ -97,8 +97,8 @@ pub fn run_race<T, R: Read, W: Write, A: Allocator + Copy + Send>(
 
     // A device failed, which its count shows, or the input didn't end.
     ensures device { result ≡ status.DEVICE
-        → FailsToRead of_programs R.remaining source.old source.new sink.old sink.new
-        ⊎ GivesUpReading of_programs R.remaining source.old source.new sink.old sink.new
+        → FailsToRead program_causes R.remaining source.old source.new sink.old sink.new
+        ⊎ GivesUpReading program_causes R.remaining source.old source.new sink.old sink.new
         ⊎ FailsToWriteJudged run.now.limit (picks.picks_asked run.now) check.now.plain
         R.remaining W.contents source.old source.new sink.old sink.new }
 

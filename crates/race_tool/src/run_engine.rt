@@ -1,7 +1,7 @@
 //! The engine of `gorace run`: a program's text in, the trace of a run of it out.
 ghost use Rattle.std.specs.Prelude.{◌≡◌, ◌≢◌, ◌⊎◌, true, false};
 ghost use Rattle.race_records.specs.Devices.{unread, written, source_failures, sink_failures};
-ghost use Rattle.race_tool.specs.Input.{of_programs};
+ghost use Rattle.race_script.specs.Fault.{program_causes};
 ghost use Rattle.race_tool.specs.Outcome.{
   IsProgramWhere,
   ReadsAndRuns,
@@ -81,8 +81,8 @@ pub fn run_run<T, R: Read, W: Write, A: Allocator + Copy + Send>(
 
     // A device failed, which its count shows, or the input didn't end.
     ensures device { result ≡ status.DEVICE
-        → FailsToRead of_programs R.remaining source.old source.new sink.old sink.new
-        ⊎ GivesUpReading of_programs R.remaining source.old source.new sink.old sink.new
+        → FailsToRead program_causes R.remaining source.old source.new sink.old sink.new
+        ⊎ GivesUpReading program_causes R.remaining source.old source.new sink.old sink.new
         ⊎ FailsToWriteRun options.now.limit (picks.picks_asked options.now)
         R.remaining W.contents source.old source.new sink.old sink.new }
 

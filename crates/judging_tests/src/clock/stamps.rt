@@ -1,215 +1,142 @@
-use crate::legal::events::declared;
-use race_clock::{Clock, Stamp, Stamper};
+use race_clock::{Clock, Stamper};
 use race_legal::Replay;
-use race_records::{Case, Cases, Cause, Decls, Dir, Event, Object, Op, Trace};
+use race_records::Trace;
+use race_text::parse_trace;
 use std::alloc::{AllocError, Global};
 use std::test::Fail;
 
-/// Who does what.
-type Row = (u32, Op);
+/// The stamp of an access of x (its index, its goroutine, its number there, and whether it is a write), and how
+/// many begins its goroutine's clock knows then of main, a and b.
+type Known = ((u32, u32, u32, bool), [u32; 3]);
 
-/// The stamp of an access, and how many begins its goroutine's clock knows then of the first three.
-type Known = (Stamp, [u32; 3]);
+static DECLARED: &str =
+    "gotrace 1\ngoroutine a\ngoroutine b\nvar x\nchan c 1\nchan d 0\nmutex m\nrwmutex r\nonce o\n";
 
-fn stamp(at: u32, who: u32, count: u32, write: bool) -> Stamp {
-    Stamp {
-        at,
-        who,
-        count,
-        var: 0,
-        write,
-    }
-}
-
-// A value of a buffered channel brings what its send's begin had seen, and not what the send itself has.
-fn rows_of_a_buffer(alloc: Global) -> Result<(Vec<Row>, Vec<Known>), AllocError> {
-    Ok((
-        vec![in alloc;
-            (0, Op::Go(1)),
-            (0, Op::Go(2)),
-            (0, Op::Send(0, 1)),
-            (1, Op::Write(0, 5)),
-            (1, Op::Recv(0, 1)),
-            (2, Op::Send(0, 2)),
-            (0, Op::Recv(0, 2)),
-            (0, Op::Read(0, 5)),
-        ]?,
-        vec![in alloc;
-            (stamp(3, 1, 2, true), [1, 1, 0]),
-            (stamp(7, 0, 5, false), [4, 0, 2]),
-        ]?,
-    ))
-}
-
-// A receive makes room for a send, which sees it.
-fn rows_of_room(alloc: Global) -> Result<(Vec<Row>, Vec<Known>), AllocError> {
-    Ok((
-        vec![in alloc;
-            (0, Op::Go(1)),
-            (0, Op::Send(0, 1)),
-            (0, Op::Write(0, 1)),
-            (0, Op::Recv(0, 1)),
-            (1, Op::Send(0, 1)),
-            (1, Op::Write(0, 2)),
-            (1, Op::Recv(0, 1)),
-        ]?,
-        vec![in alloc;
-            (stamp(2, 0, 3, true), [2, 0, 0]),
-            (stamp(5, 1, 3, true), [4, 2, 0]),
-        ]?,
-    ))
-}
-
-// Both sides of a meeting have seen the other's begin in it.
-fn rows_of_a_meeting(alloc: Global) -> Result<(Vec<Row>, Vec<Known>), AllocError> {
-    Ok((
-        vec![in alloc;
-            (0, Op::Go(1)),
-            (0, Op::Write(0, 1)),
-            (0, Op::Meet(1, 1, 7)),
-            (1, Op::Read(0, 1)),
-            (0, Op::Read(0, 1)),
-            (0, Op::Close(1)),
-            (0, Op::Write(0, 2)),
-            (1, Op::RecvClosed(1)),
-            (1, Op::Read(0, 2)),
-        ]?,
-        vec![in alloc;
-            (stamp(1, 0, 2, true), [1, 0, 0]),
-            (stamp(3, 1, 3, false), [3, 2, 0]),
-            (stamp(4, 0, 4, false), [3, 2, 0]),
-            (stamp(6, 0, 6, true), [5, 2, 0]),
-            (stamp(8, 1, 5, false), [5, 4, 0]),
-        ]?,
-    ))
-}
-
-// A counter under a mutex.
-fn rows_of_a_mutex(alloc: Global) -> Result<(Vec<Row>, Vec<Known>), AllocError> {
-    Ok((
-        vec![in alloc;
-            (0, Op::Go(1)),
-            (0, Op::Lock(0)),
-            (0, Op::Write(0, 1)),
-            (0, Op::Unlock(0)),
-            (1, Op::Lock(0)),
-            (1, Op::Write(0, 2)),
-            (1, Op::Unlock(0)),
-            (0, Op::Lock(0)),
-            (0, Op::Read(0, 2)),
-        ]?,
-        vec![in alloc;
-            (stamp(2, 0, 3, true), [2, 0, 0]),
-            (stamp(5, 1, 3, true), [4, 2, 0]),
-            (stamp(8, 0, 6, false), [5, 4, 0]),
-        ]?,
-    ))
-}
-
-// What a reader did is seen by who locks next, and not by another reader.
-fn rows_of_readers(alloc: Global) -> Result<(Vec<Row>, Vec<Known>), AllocError> {
-    Ok((
-        vec![in alloc;
-            (0, Op::Go(1)),
-            (0, Op::Go(2)),
-            (1, Op::RLock(1)),
-            (1, Op::RUnlock(1)),
-            (2, Op::RLock(1)),
-            (2, Op::Read(0, 0)),
-            (2, Op::RUnlock(1)),
-            (0, Op::Lock(1)),
-            (0, Op::Write(0, 1)),
-        ]?,
-        vec![in alloc;
-            (stamp(5, 2, 3, false), [2, 0, 2]),
-            (stamp(8, 0, 4, true), [3, 3, 4]),
-        ]?,
-    ))
-}
-
-// The end of a once's function is seen by who finds it ended, and what comes behind it isn't.
-fn rows_of_a_once(alloc: Global) -> Result<(Vec<Row>, Vec<Known>), AllocError> {
-    Ok((
-        vec![in alloc;
-            (0, Op::Go(1)),
-            (0, Op::OnceBegin(0)),
-            (0, Op::Write(0, 1)),
-            (0, Op::OnceEnd(0)),
-            (0, Op::Write(0, 2)),
-            (1, Op::OnceDone(0)),
-            (1, Op::Read(0, 2)),
-        ]?,
-        vec![in alloc;
-            (stamp(2, 0, 3, true), [2, 0, 0]),
-            (stamp(4, 0, 5, true), [4, 0, 0]),
-            (stamp(6, 1, 3, false), [4, 2, 0]),
-        ]?,
-    ))
-}
-
-// The default of a select and the failure that ends a run count as events of who they befall, and hand nothing over.
-fn rows_that_hand_nothing_over(alloc: Global) -> Result<(Vec<Row>, Vec<Known>), AllocError> {
-    let mut cases = Cases::new();
-    let case = Case {
-        dir: Dir::Recv,
-        chan: Some(0),
-    };
-    let _fits = cases.push(case);
-    Ok((
-        vec![in alloc;
-            (0, Op::Go(1)),
-            (0, Op::Default(cases)),
-            (0, Op::Write(0, 1)),
-            (1, Op::Read(0, 1)),
-            (0, Op::Read(0, 1)),
-            (1, Op::Fault(Cause::UnlockFree(0))),
-        ]?,
-        vec![in alloc;
-            (stamp(2, 0, 3, true), [2, 0, 0]),
-            (stamp(3, 1, 2, false), [1, 1, 0]),
-            (stamp(4, 0, 4, false), [3, 0, 0]),
-        ]?,
-    ))
-}
-
-fn rows(alloc: Global, table: usize) -> Result<(Vec<Row>, Vec<Known>), AllocError> {
-    match table {
-        0 => rows_of_a_buffer(alloc),
-        1 => rows_of_room(alloc),
-        2 => rows_of_a_meeting(alloc),
-        3 => rows_of_a_mutex(alloc),
-        4 => rows_of_readers(alloc),
-        5 => rows_of_a_once(alloc),
-        _ => rows_that_hand_nothing_over(alloc),
-    }
-}
-
-static OBJECTS: [(&str, Object); 8] = [
-    ("a", Object::Goroutine),
-    ("b", Object::Goroutine),
-    ("x", Object::Var),
-    ("c", Object::Chan(1)),
-    ("d", Object::Chan(0)),
-    ("m", Object::Lock(false)),
-    ("r", Object::Lock(true)),
-    ("o", Object::Once),
+static TABLES: [(&[&str], &[Known]); 7] = [
+    // A value of a buffered channel brings what its send's begin had seen, and not what the send itself has.
+    (
+        &[
+            "go main a p",
+            "go main b p",
+            "send main c 1 p",
+            "write a x 5 p",
+            "recv a c 1 p",
+            "send b c 2 p",
+            "recv main c 2 p",
+            "read main x 5 p",
+        ],
+        &[((3, 1, 2, true), [1, 1, 0]), ((7, 0, 5, false), [4, 0, 2])],
+    ),
+    // A receive makes room for a send, which sees it.
+    (
+        &[
+            "go main a p",
+            "send main c 1 p",
+            "write main x 1 p",
+            "recv main c 1 p",
+            "send a c 1 p",
+            "write a x 2 p",
+            "recv a c 1 p",
+        ],
+        &[((2, 0, 3, true), [2, 0, 0]), ((5, 1, 3, true), [4, 2, 0])],
+    ),
+    // Both sides of a meeting have seen the other's begin in it.
+    (
+        &[
+            "go main a p",
+            "write main x 1 p",
+            "meet main a d 7 p p",
+            "read a x 1 p",
+            "read main x 1 p",
+            "close main d p",
+            "write main x 2 p",
+            "recvclosed a d p",
+            "read a x 2 p",
+        ],
+        &[
+            ((1, 0, 2, true), [1, 0, 0]),
+            ((3, 1, 3, false), [3, 2, 0]),
+            ((4, 0, 4, false), [3, 2, 0]),
+            ((6, 0, 6, true), [5, 2, 0]),
+            ((8, 1, 5, false), [5, 4, 0]),
+        ],
+    ),
+    // A counter under a mutex.
+    (
+        &[
+            "go main a p",
+            "lock main m p",
+            "write main x 1 p",
+            "unlock main m p",
+            "lock a m p",
+            "write a x 2 p",
+            "unlock a m p",
+            "lock main m p",
+            "read main x 2 p",
+        ],
+        &[
+            ((2, 0, 3, true), [2, 0, 0]),
+            ((5, 1, 3, true), [4, 2, 0]),
+            ((8, 0, 6, false), [5, 4, 0]),
+        ],
+    ),
+    // What a reader did is seen by who locks next, and not by another reader.
+    (
+        &[
+            "go main a p",
+            "go main b p",
+            "rlock a r p",
+            "runlock a r p",
+            "rlock b r p",
+            "read b x 0 p",
+            "runlock b r p",
+            "lock main r p",
+            "write main x 1 p",
+        ],
+        &[((5, 2, 3, false), [2, 0, 2]), ((8, 0, 4, true), [3, 3, 4])],
+    ),
+    // The end of a once's function is seen by who finds it ended, and what comes behind it isn't.
+    (
+        &[
+            "go main a p",
+            "oncebegin main o p",
+            "write main x 1 p",
+            "onceend main o p",
+            "write main x 2 p",
+            "oncedone a o p",
+            "read a x 2 p",
+        ],
+        &[
+            ((2, 0, 3, true), [2, 0, 0]),
+            ((4, 0, 5, true), [4, 0, 0]),
+            ((6, 1, 3, false), [4, 2, 0]),
+        ],
+    ),
+    // The default of a select and the failure that ends a run count as events of who they befall, and hand nothing over.
+    (
+        &[
+            "go main a p",
+            "default main recv:c p",
+            "write main x 1 p",
+            "read a x 1 p",
+            "read main x 1 p",
+            "fault a unlock:m p",
+        ],
+        &[
+            ((2, 0, 3, true), [2, 0, 0]),
+            ((3, 1, 2, false), [1, 1, 0]),
+            ((4, 0, 4, false), [3, 0, 0]),
+        ],
+    ),
 ];
 
-fn traced(alloc: Global, rows: Vec<Row>) -> Result<Trace, Fail> {
-    let mut trace = Trace::new(declared(alloc, &OBJECTS)?);
-    for (who, op) in rows {
-        let place2 = match &op {
-            Op::Meet(_, _, _) => Some(0),
-            _ => None,
-        };
-        trace.push(Event {
-            who,
-            op,
-            place: 0,
-            place2,
-        })?;
+fn traced(alloc: Global, lines: &[&str]) -> Result<Trace, Fail> {
+    let mut text = String::from_str(alloc, DECLARED)?;
+    for line in lines {
+        text.push_str(*line)?;
+        text.push_str("\n")?;
     }
-    Ok(trace)
+    Ok(parse_trace(alloc, text.as_bytes())?)
 }
 
 // The stamps of the trace, up to an event that breaks a rule.
@@ -225,22 +152,23 @@ fn stamps(alloc: Global, trace: &Trace) -> Result<Vec<Known>, AllocError> {
         }
         if let Some(stamp) = stamper.step(event)? {
             let clock = stamper.clock(event.who);
-            stamps.push((stamp, [clock.knows(0), clock.knows(1), clock.knows(2)]))?;
+            let known = [clock.knows(0), clock.knows(1), clock.knows(2)];
+            stamps.push(((stamp.at, stamp.who, stamp.count, stamp.write), known))?;
         }
     }
     Ok(stamps)
 }
 
+// Whether the accesses of these events have these stamps.
+fn are_stamped(alloc: Global, lines: &[&str], known: &[Known]) -> Result<bool, Fail> {
+    let trace = traced(alloc, lines)?;
+    Ok(stamps(alloc, &trace)?.as_slice() == known)
+}
+
 #[test]
 fn accesses_are_stamped(rt: HostRuntime) -> Result<(), Fail> {
-    for table in 0..7 {
-        let (rows, known) = rows(rt.alloc(), table)?;
-        let trace = traced(rt.alloc(), rows)?;
-        let stamps = stamps(rt.alloc(), &trace)?;
-        assert_eq!(rt; stamps.len(), known.len());
-        for (stamp, known) in stamps.iter().zip(known) {
-            assert_eq!(rt; *stamp, known, "{table}");
-        }
+    for (table, (lines, known)) in TABLES.iter().enumerate() {
+        assert!(rt; are_stamped(rt.alloc(), *lines, *known)?, "{table}");
     }
     Ok(())
 }

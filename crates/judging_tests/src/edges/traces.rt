@@ -1,8 +1,7 @@
 //! Traces with their edges and their races, up to the longest that is judged.
-use crate::legal::events::declared;
 use race_edges::{Edge, EdgeFault, MAX_PLAIN_EVENTS, Race, Verdict, edges, plain_judge};
 use race_legal::{Illegal, Rule};
-use race_records::{Event, Object, Op, PushFault, Trace};
+use race_records::{DeclFault, Decls, Event, Object, Op, PushFault, Trace};
 use std::alloc::Global;
 use std::test::Fail;
 
@@ -64,6 +63,16 @@ static OBJECTS: [(&str, Object); 5] = [
     ("m", Object::Lock(false)),
 ];
 
+// These objects, and one place.
+fn declared(alloc: Global) -> Result<Decls, DeclFault> {
+    let mut decls = Decls::new(alloc);
+    for (name, object) in &OBJECTS {
+        decls.declare(*name, *object)?;
+    }
+    decls.add_place("p")?;
+    Ok(decls)
+}
+
 fn push(trace: &mut Trace, who: u32, op: Op) -> Result<(), PushFault> {
     trace.push(Event {
         who,
@@ -75,7 +84,7 @@ fn push(trace: &mut Trace, who: u32, op: Op) -> Result<(), PushFault> {
 
 // A trace of the first events of the rows, and so many writes behind them.
 fn traced(alloc: Global, count: usize, writes: usize) -> Result<Trace, Fail> {
-    let mut trace = Trace::new(declared(alloc, &OBJECTS)?);
+    let mut trace = Trace::new(declared(alloc)?);
     for index in 0..count {
         let (who, op) = row(index);
         push(&mut trace, who, op)?;
@@ -154,7 +163,7 @@ fn edges_and_races_are_told(rt: HostRuntime) -> Result<(), Fail> {
 // A write of a goroutine, so many events that are locks of main and unlocks of the goroutine in turn,
 // and a read of main.
 fn handed_on(alloc: Global, turns: usize) -> Result<Trace, Fail> {
-    let mut trace = Trace::new(declared(alloc, &OBJECTS)?);
+    let mut trace = Trace::new(declared(alloc)?);
     push(&mut trace, 0, Op::Go(1))?;
     push(&mut trace, 1, Op::Write(0, 1))?;
     for turn in 0..turns {

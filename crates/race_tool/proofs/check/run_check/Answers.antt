@@ -3,9 +3,9 @@ use Rattle.std.proofs.lemmas.Grind.{common_steps}
 use Rattle.std.proofs.Common.{inr, refl, rules, arith}
 use Rattle.race_records.specs.Devices.{unread, written}
 use Rattle.race_edges.specs.Traces.{IsClean, IsRacy, IsIllegal}
+use Rattle.race_text.specs.Fault.{trace_causes}
 use Rattle.race_tool.specs.Finding.{IsFinding, report_of, status_of}
 use Rattle.race_text.specs.Text.{IsTextOf}
-use Rattle.race_tool.specs.Input.{of_traces}
 use Rattle.race_tool.proofs.InputLemmas.{is_readable, reads_and_writes, reads_text, fails_to_write}
 use Rattle.race_tool.proofs.check.run_check.Goals as goal
 
@@ -15,7 +15,7 @@ report-requires g c = is_readable (unread g.R.Read.remaining c.args.source.now)
 
 pub returns-in-Ok-clause-reported : goal.returns-in-Ok-clause-reported
 returns-in-Ok-clause-reported g c = λ _ granted served.
-    reads_and_writes IsTextOf of_traces (IsFinding c.args.options.now.plain) report_of
+    reads_and_writes IsTextOf trace_causes (IsFinding c.args.options.now.plain) report_of
     (unread g.R.Read.remaining c.args.source.now) (unread g.R.Read.remaining c.read_trace.new.source)
     c.in-Ok.text c.in-Ok.ensures.ok status_of (written g.W.Write.contents c.args.sink.now) (written g.W.Write.contents c.report.new.sink) c.report.result
     (c.report.ensures.reported granted served)
@@ -37,7 +37,7 @@ returns-in-Ok-clause-illegal g c = λ is.
 
 pub returns-in-Ok-clause-device : goal.returns-in-Ok-clause-device
 returns-in-Ok-clause-device g c = λ is.
-    inr (inr (fails_to_write IsTextOf of_traces (IsFinding c.args.options.now.plain)
+    inr (inr (fails_to_write IsTextOf trace_causes (IsFinding c.args.options.now.plain)
     report_of g.R.Read.remaining g.W.Write.contents c.args.source.now c.read_trace.new.source
     c.args.sink.now c.report.new.sink c.in-Ok.text c.in-Ok.ensures.ok (c.in-Ok.ensures.calm (λ e. cc)) (c.report.ensures.device is)))
 

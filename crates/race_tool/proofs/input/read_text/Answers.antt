@@ -15,8 +15,8 @@ out_of_memory_alone (Err fault) memory other differs is = differs cc
 
 pub loop-init : goal.loop-init
 loop-init g c = record {
-  fed = fed_none g.P.PieceReader.faults (unread g.R.Read.remaining c.args.source.now)
-      (g.P.PieceReader.stands_for c.args.reader) c.requires g.met.P.PieceReader.nothing;
+  fed = fed_none g.P.PieceReader.causes (unread g.R.Read.remaining c.args.source.now)
+      (g.P.PieceReader.stands_for c.args.reader) c.requires;
   first = λ none. refl;
   reads = λ some. absurd (omega arith);
   calm = refl;
@@ -30,7 +30,7 @@ returns-in_err-feed_block-clause-calm g c = λ other.
 
 pub returns-in_err-feed_block-clause-fine : goal.returns-in_err-feed_block-clause-fine
 returns-in_err-feed_block-clause-fine g c = λ failed.
-    fine_before g.P.PieceReader.faults (unread g.R.Read.remaining c.args.source.now)
+    fine_before g.P.PieceReader.causes (unread g.R.Read.remaining c.args.source.now)
     (unread g.R.Read.remaining c.loop.source) (unread g.R.Read.remaining c.feed_block.new.source)
     (g.P.PieceReader.stands_for c.loop.reader) (g.P.PieceReader.stands_for c.feed_block.new.reader) c.loop.counter c.loop.invariant.fed
     (c.in_err-feed_block.ensures.kept (err_same c.from_residual.result c.in_err-feed_block.field-0.0 ReadFault.Failed c.from_residual.ensures.1 failed))
@@ -39,10 +39,10 @@ pub returns-in-Ok-false-clause-ok : goal.returns-in-Ok-false-clause-ok
 returns-in-Ok-false-clause-ok g c =
     let before = unread g.R.Read.remaining c.loop.source in
     let after = unread g.R.Read.remaining c.feed_block.new.source in
-    end_answered g.P.PieceReader.faults (unread g.R.Read.remaining c.args.source.now) before after
+    end_answered g.P.PieceReader.causes (unread g.R.Read.remaining c.args.source.now) before after
     (g.P.PieceReader.stands_for c.loop.reader) (g.P.PieceReader.stands_for c.feed_block.new.reader) c.loop.counter c.loop.invariant.fed
     g.P.PieceReader.is_text_of c.finish.result c.set_memory_apart.result
-    (subst (λ (answer : Result Bool TextFault). FeedsMore g.P.PieceReader.faults before after
+    (subst (λ (answer : Result Bool TextFault). FeedsMore g.P.PieceReader.causes before after
     (g.P.PieceReader.stands_for c.loop.reader) (g.P.PieceReader.stands_for c.feed_block.new.reader) answer)
     (c.in-Ok-false.is ∙ ap (λ (b : Bool). Ok b) c.in-Ok-false.field-0-test) c.in_ok-feed_block.ensures.ok)
     c.finish.ensures.text c.finish.ensures.fault c.set_memory_apart.ensures.same c.set_memory_apart.ensures.others
@@ -51,10 +51,9 @@ pub returns-in-Err-clause-ok : goal.returns-in-Err-clause-ok
 returns-in-Err-clause-ok g c =
     let before = unread g.R.Read.remaining c.loop.source in
     let after = unread g.R.Read.remaining c.feed_block.new.source in
-    fault_read g.P.PieceReader.faults (unread g.R.Read.remaining c.args.source.now) before after (g.P.PieceReader.stands_for c.loop.reader)
+    fault_read g.P.PieceReader.causes (unread g.R.Read.remaining c.args.source.now) before after (g.P.PieceReader.stands_for c.loop.reader)
     (g.P.PieceReader.stands_for c.feed_block.new.reader) c.loop.counter c.loop.invariant.fed g.P.PieceReader.is_text_of c.in-Err.fault
-    g.met.P.PieceReader.stays
-    (subst (λ (answer : Result Bool TextFault). FeedsMore g.P.PieceReader.faults before after (g.P.PieceReader.stands_for c.loop.reader)
+    (subst (λ (answer : Result Bool TextFault). FeedsMore g.P.PieceReader.causes before after (g.P.PieceReader.stands_for c.loop.reader)
     (g.P.PieceReader.stands_for c.feed_block.new.reader) answer) c.in-Err.is c.in_ok-feed_block.ensures.ok)
 
 pub loop-preserved : goal.loop-preserved
@@ -63,9 +62,9 @@ loop-preserved g c =
     let before = unread g.R.Read.remaining c.loop.source in
     let after = unread g.R.Read.remaining c.feed_block.new.source in
     record {
-      fed = fed_more g.P.PieceReader.faults (unread g.R.Read.remaining c.args.source.now) before after
+      fed = fed_more g.P.PieceReader.causes (unread g.R.Read.remaining c.args.source.now) before after
           (g.P.PieceReader.stands_for c.loop.reader) (g.P.PieceReader.stands_for c.feed_block.new.reader) c.loop.counter held.fed
-          (subst (λ (answer : Result Bool TextFault). FeedsMore g.P.PieceReader.faults before after
+          (subst (λ (answer : Result Bool TextFault). FeedsMore g.P.PieceReader.causes before after
           (g.P.PieceReader.stands_for c.loop.reader) (g.P.PieceReader.stands_for c.feed_block.new.reader) answer)
           (c.in-Ok-true.is ∙ ap (λ (b : Bool). Ok b) c.in-Ok-true.field-0-test) c.in_ok-feed_block.ensures.ok);
       first = λ none. absurd (omega arith);

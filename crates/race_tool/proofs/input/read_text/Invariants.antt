@@ -7,7 +7,7 @@ use Rattle.race_tool.proofs.input.read_text.Given as goal
 -- the blocks so far were fed, one read a turn, and no read failed
 abbrev pub invariant-loop : goal.invariant-loop
 invariant-loop g l = record {
-  fed : IsFed g.P.PieceReader.faults (unread g.R.Read.remaining l.initial.source) (unread g.R.Read.remaining l.source)
+  fed : IsFed g.P.PieceReader.causes (unread g.R.Read.remaining l.initial.source) (unread g.R.Read.remaining l.source)
       (g.P.PieceReader.stands_for l.reader) l.counter;
   first : l.counter ≡ 0 → source_reads l.source ≡ source_reads l.initial.source;
   reads : 0 < l.counter → source_reads l.source ≡ more_by l.counter (source_reads l.initial.source);

@@ -3,7 +3,7 @@ use Rattle.std.proofs.Common.{inr, refl, arith}
 use Rattle.race_records.specs.Devices.{unread, written}
 use Rattle.race_edges.specs.Traces.{IsClean, IsRacy}
 use Rattle.race_script.specs.Text.{IsTextOf}
-use Rattle.race_tool.specs.Input.{of_programs}
+use Rattle.race_script.specs.Fault.{program_causes}
 use Rattle.race_tool.specs.Picks.{picks_asked}
 use Rattle.race_tool.specs.Race.{IsJudgedRun, HasRunWhere, judged_text, judged_status}
 use Rattle.race_tool.specs.Run.{IsRefusedRun}
@@ -13,7 +13,7 @@ use Rattle.race_tool.proofs.race_engine.run_race.Goals as goal
 
 pub returns-in-Ok-clause-judged : goal.returns-in-Ok-clause-judged
 returns-in-Ok-clause-judged g c = λ _ granted served matched.
-    reads_and_writes IsTextOf of_programs (IsJudgedRun c.args.run.now.limit (picks_asked c.args.run.now) c.args.check.now.plain) judged_text
+    reads_and_writes IsTextOf program_causes (IsJudgedRun c.args.run.now.limit (picks_asked c.args.run.now) c.args.check.now.plain) judged_text
     (unread g.R.Read.remaining c.args.source.now) (unread g.R.Read.remaining c.read_text.new.source) c.in-Ok.text c.in-Ok.ensures.ok judged_status
     (written g.W.Write.contents c.args.sink.now) (written g.W.Write.contents c.judge_text.new.sink) c.judge_text.result
     (c.judge_text.ensures.judged granted served matched)
@@ -38,7 +38,7 @@ returns-in-Ok-clause-mismatch g c = λ is.
 
 pub returns-in-Ok-clause-device : goal.returns-in-Ok-clause-device
 returns-in-Ok-clause-device g c = λ is.
-    inr (inr (fails_to_write IsTextOf of_programs (IsJudgedRun c.args.run.now.limit (picks_asked c.args.run.now) c.args.check.now.plain) judged_text
+    inr (inr (fails_to_write IsTextOf program_causes (IsJudgedRun c.args.run.now.limit (picks_asked c.args.run.now) c.args.check.now.plain) judged_text
     g.R.Read.remaining g.W.Write.contents c.args.source.now c.read_text.new.source c.args.sink.now c.judge_text.new.sink c.in-Ok.text c.in-Ok.ensures.ok
     (c.in-Ok.ensures.calm (λ e. cc)) (c.judge_text.ensures.device is)))
 

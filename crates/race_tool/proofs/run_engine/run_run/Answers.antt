@@ -2,7 +2,7 @@
 use Rattle.std.proofs.Common.{inr, refl}
 use Rattle.race_records.specs.Devices.{unread, written}
 use Rattle.race_script.specs.Text.{IsTextOf}
-use Rattle.race_tool.specs.Input.{of_programs}
+use Rattle.race_script.specs.Fault.{program_causes}
 use Rattle.race_tool.specs.Picks.{picks_asked}
 use Rattle.race_tool.specs.Run.{IsRun, IsRefusedRun, run_text, run_status}
 use Rattle.race_tool.proofs.InputLemmas.{reads_and_writes, fails_to_write}
@@ -11,7 +11,7 @@ use Rattle.race_tool.proofs.run_engine.run_run.Goals as goal
 
 pub returns-in-Ok-clause-ran : goal.returns-in-Ok-clause-ran
 returns-in-Ok-clause-ran g c = λ _ granted served matched.
-    reads_and_writes IsTextOf of_programs (IsRun c.args.options.now.limit (picks_asked c.args.options.now))
+    reads_and_writes IsTextOf program_causes (IsRun c.args.options.now.limit (picks_asked c.args.options.now))
     run_text (unread g.R.Read.remaining c.args.source.now)
     (unread g.R.Read.remaining c.read_text.new.source) c.in-Ok.text c.in-Ok.ensures.ok run_status (written g.W.Write.contents c.args.sink.now)
     (written g.W.Write.contents c.run_text.new.sink) c.run_text.result (c.run_text.ensures.ran granted served matched)
@@ -26,7 +26,7 @@ returns-in-Ok-clause-mismatch g c = λ is.
 
 pub returns-in-Ok-clause-device : goal.returns-in-Ok-clause-device
 returns-in-Ok-clause-device g c = λ is.
-    inr (inr (fails_to_write IsTextOf of_programs (IsRun c.args.options.now.limit (picks_asked c.args.options.now)) run_text g.R.Read.remaining
+    inr (inr (fails_to_write IsTextOf program_causes (IsRun c.args.options.now.limit (picks_asked c.args.options.now)) run_text g.R.Read.remaining
     g.W.Write.contents c.args.source.now c.read_text.new.source c.args.sink.now c.run_text.new.sink c.in-Ok.text c.in-Ok.ensures.ok
     (c.in-Ok.ensures.calm (λ e. cc)) (c.run_text.ensures.device is)))
 

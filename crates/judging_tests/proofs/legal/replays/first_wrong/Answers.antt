@@ -4,7 +4,7 @@ use Rattle.race_records.specs.declared.kind.Kind.{Kind}
 use Rattle.race_records.specs.Declarations.{DeclsState, counts_of}
 use Rattle.race_legal.specs.ReplayState.{IsInRange}
 use Rattle.race_legal.proofs.RangeLemmas.{range_from_fits}
-use Rattle.judging_tests.proofs.legal.events.answers.Goals as goal
+use Rattle.judging_tests.proofs.legal.replays.first_wrong.Goals as goal
 
 pub loop-at-init : goal.loop-at-init
 loop-at-init c =
@@ -15,6 +15,8 @@ loop-at-init c =
       goroutines = search rules;
       vars = search rules;
       chans = search rules;
+      locks = search rules;
+      onces = search rules;
       len = omega (arith, len);
     }
 
@@ -23,13 +25,15 @@ accept-requires-clause-range c =
     subst (λ (counts : Kind → ℕ). IsInRange counts c.event.result.now) (sym c.loop-at.invariant.counts)
     (range_from_fits c.args.trace.now.decls c.event.result.now c.event.ensures.fits)
 
-pub state_of-requires : goal.state_of-requires
-state_of-requires c =
+pub asked_of-requires : goal.asked_of-requires
+asked_of-requires c =
     let counts = sym (c.accept.ensures.counts ∙ c.loop-at.invariant.counts) in
     record {
       goroutines = subst (λ (of : Kind → ℕ). 1 < of Kind.Goroutine) counts c.loop-at.invariant.goroutines;
       vars = subst (λ (of : Kind → ℕ). 0 < of Kind.Var) counts c.loop-at.invariant.vars;
-      chans = subst (λ (of : Kind → ℕ). c.args.chan < of Kind.Chan) counts c.loop-at.invariant.chans;
+      chans = subst (λ (of : Kind → ℕ). 2 < of Kind.Chan) counts c.loop-at.invariant.chans;
+      locks = subst (λ (of : Kind → ℕ). 1 < of Kind.Lock) counts c.loop-at.invariant.locks;
+      onces = subst (λ (of : Kind → ℕ). 1 < of Kind.Once) counts c.loop-at.invariant.onces;
     }
 
 pub loop-at-preserved : goal.loop-at-preserved
@@ -38,5 +42,7 @@ loop-at-preserved c = record {
   goroutines = c.loop-at.invariant.goroutines;
   vars = c.loop-at.invariant.vars;
   chans = c.loop-at.invariant.chans;
+  locks = c.loop-at.invariant.locks;
+  onces = c.loop-at.invariant.onces;
   len = search rules;
 }

@@ -137,28 +137,40 @@ fn a_failed_read_is_not_tried_again(rt: HostRuntime) {
     }
 }
 
+// What is answered to a text that is sent to a list, with how many failures.
+fn sent(text: &mut Vec<u8>, bytes: &[u8]) -> (Result<(), WriteFault>, u64) {
+    let mut sink = Sink::new(text);
+    let told = sink.send(bytes);
+    (told, sink.failures())
+}
+
 #[test]
-fn a_whole_text_is_sent(rt: HostRuntime) -> Result<(), Fail> {
+fn a_whole_text_is_sent(rt: HostRuntime) {
     let mut text = Vec::new(rt.alloc());
-    let mut sink = Sink::new(&mut text);
-    assert_eq!(rt; sink.send(b"gotrace 1\n"), Ok(()));
-    assert_eq!(rt; sink.failures(), 0);
-    assert_eq!(rt; text.as_slice(), b"gotrace 1\n".as_slice());
-    Ok(())
+    let told = sent(&mut text, b"gotrace 1\n");
+    assert_eq!(rt;
+        (told, text.as_slice()),
+        ((Ok(()), 0), b"gotrace 1\n".as_slice())
+    );
+}
+
+// Prints the parts one behind the other.
+fn print(text: &mut Vec<u8>, parts: &[&[u8]]) -> Result<(), WriteFault> {
+    let mut sink = Sink::new(text);
+    let mut page = Page::new();
+    page.put_all(&mut sink, parts)?;
+    page.flush(&mut sink)
 }
 
 #[test]
 fn a_text_is_printed_in_blocks(rt: HostRuntime) -> Result<(), Fail> {
     let long = Vec::from_array(rt.alloc(), [b'x'; BLOCK + 1])?;
     let mut text = Vec::new(rt.alloc());
-    let mut sink = Sink::new(&mut text);
-    let mut page = Page::new();
-    let parts = [b"events: ".as_slice(), long.as_slice(), b"\n".as_slice()];
-    assert_eq!(rt; page.put_all(&mut sink, &parts), Ok(()));
-    assert_eq!(rt; page.flush(&mut sink), Ok(()));
-    assert_eq!(rt; text.len(), 8 + BLOCK + 1 + 1);
-    assert!(rt; text.as_slice().starts_with(b"events: x"));
-    assert!(rt; text.as_slice().ends_with(b"x\n"));
+    let answer = print(&mut text, &[b"events: ", long.as_slice(), b"\n"]);
+    let is_whole = text.len() == 8 + BLOCK + 1 + 1
+        && text.as_slice().starts_with(b"events: x")
+        && text.as_slice().ends_with(b"x\n");
+    assert_eq!(rt; (answer, is_whole), (Ok(()), true));
     Ok(())
 }
 

@@ -23,16 +23,25 @@ fn first_place(trace: &Trace) -> (u32, usize, &str) {
     (count, trace.events().len(), text)
 }
 
+// Places, and what is answered where they are added one after another.
+static PLACES: [(&str, Result<u32, DeclFault>); 3] = [
+    ("a.go:1", Ok(0)),
+    ("a.go:1", Ok(0)),
+    ("nowhere at all", Err(DeclFault::BadName)),
+];
+
+// The first of them that is answered otherwise.
+fn wrong_place(trace: &mut Trace) -> Option<usize> {
+    PLACES
+        .iter()
+        .position(|(text, number)| add_place(trace, *text) != *number)
+}
+
 #[test]
 fn a_place_of_a_trace_is_found_again(rt: HostRuntime) -> Result<(), Fail> {
     let mut trace = started(rt.alloc(), &[])?;
-    assert_eq!(rt; add_place(&mut trace, "a.go:1"), Ok(0));
-    assert_eq!(rt; add_place(&mut trace, "a.go:1"), Ok(0));
-    assert_eq!(rt;
-        add_place(&mut trace, "nowhere at all"),
-        Err(DeclFault::BadName)
-    );
-    assert!(rt; first_place(&trace) == (1, 0, "a.go:1"));
+    let wrong = wrong_place(&mut trace);
+    assert_eq!(rt; (wrong, first_place(&trace)), (None, (1, 0, "a.go:1")));
     Ok(())
 }
 

@@ -32,7 +32,7 @@ use std::alloc::{Allocator, Global};
 use std::io::{Read, Write};
 
 /// How a program is run.
-#[derive(Drop)]
+#[derive(Debug, Drop)]
 pub struct RunOptions<A: Allocator = Global> {
     /// How many events the run may have, 1 to 16,777,216.
     pub limit: u32,

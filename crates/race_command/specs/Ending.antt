@@ -115,5 +115,5 @@ abbrev pub message_of : ℕ → Option (List ℕ)
 message_of answer =
     if answer == status.REFUSED then Some (codes "gorace: refused for memory or a thread")
     else if answer == status.DEVICE then Some (codes "gorace: reading or writing failed")
-    else if answer == status.MISMATCH then Some (codes "gorace: the run could not be recorded")
+    else if answer == status.MISMATCH then Some (codes "gorace: recording failed its check")
     else None

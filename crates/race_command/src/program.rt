@@ -143,7 +143,7 @@ fn message(answer: u8) -> Option<&'static str>
     match answer {
         status::REFUSED => Some("gorace: refused for memory or a thread"),
         status::DEVICE => Some("gorace: reading or writing failed"),
-        status::MISMATCH => Some("gorace: the run could not be recorded"),
+        status::MISMATCH => Some("gorace: recording failed its check"),
         _ => None,
     }
 }

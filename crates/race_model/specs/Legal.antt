@@ -18,7 +18,7 @@ use Rattle.race_model.specs.State.{over, started, runs, last_value, is_closed, b
 -- Each rule has a number of its own for good. caps gives the capacity of each channel.
 
 -- a case on channel c could go on at once: a send where it would fail, or where the buffer has room, a receive where the channel
--- is closed, or where the buffer has a value; of an open unbuffered channel nothing is said
+-- is closed, or where the buffer has a value; on an open unbuffered channel none could
 abbrev pub can_proceed : (ℕ → ℕ) → List Event → ℕ → Dir → Bool
 can_proceed caps past c Dir.Send = is_closed c past || (nat_lt 0 (caps c) && nat_lt (buffered c past) (caps c))
 can_proceed caps past c Dir.Recv = is_closed c past || (nat_lt 0 (caps c) && nat_lt 0 (buffered c past))
@@ -27,7 +27,8 @@ can_proceed caps past c Dir.Recv = is_closed c past || (nat_lt 0 (caps c) && nat
 abbrev pub is_ready : (ℕ → ℕ) → List Event → Case → Bool
 is_ready caps past case = elim case.chan [ None ↦ false | Some c ↦ can_proceed caps past c case.dir ]
 
--- the cause of a fault holds: a send on a closed channel, a close of one, or of nil, an unlock of what isn't locked
+-- the cause of a fault holds: a send on a closed channel, a close of one, or of nil, an unlock of what isn't locked, or from
+-- reading of what isn't locked for reading
 abbrev pub cause_holds : List Event → Cause → Bool
 cause_holds past (SendClosed c) = is_closed c past
 cause_holds past (CloseClosed c) = is_closed c past

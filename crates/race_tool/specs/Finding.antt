@@ -20,7 +20,7 @@ pub data Finding : Type 0 where
   -- it is the text of this trace, with this verdict
   Judged : (trace : TraceState) (verdict : Verdict) → Finding
 
--- the verdict is right for the trace, where the plain judge is wanted or not; it alone takes no long trace, and gives none
+-- the verdict is right for the trace; there is none where the plain judge is wanted and the trace is too long for it
 abbrev pub IsVerdictOn : Bool → TraceState → Option Verdict → Type 0
 IsVerdictOn plain trace None = IsTrue plain × (MAX_PLAIN_EVENTS < length trace.events)
 IsVerdictOn plain trace (Some verdict) = (IsTrue plain → length trace.events ≤ MAX_PLAIN_EVENTS) × HasVerdict trace verdict

@@ -13,7 +13,7 @@ use Rattle.race_text.specs.Fault.{trace_causes}
 use Rattle.race_text.specs.Fed.{ended_fault}
 use Rattle.race_tool.specs.declared.input.TheConstants.{BLOCK, MAX_TURNS}
 
--- the last block that was read is the one that ends the first faulty line
+-- the first faulty line ends in the last bytes that were read, as many as a block has at most
 pub record StopsAtFault (causes : Causes) (bytes : List ℕ) : Type 0 where
   pub front : List ℕ
   pub block : List ℕ
@@ -23,8 +23,8 @@ pub record StopsAtFault (causes : Causes) (bytes : List ℕ) : Type 0 where
   pub fault : TextFault
   pub faulty : ended_fault causes bytes ≡ Some fault
 
--- these bytes were read: to the end of the input, and no line that a newline ends is at fault, or to the end of the
--- block that ends the first faulty line
+-- these bytes were read: to the end of the input, and no line that a newline ends is at fault, or up to the block in
+-- which the first faulty line ends
 pub record Reads (causes : Causes) (before after : Option (List ℕ)) (bytes : List ℕ) (to_end : Bool) : Type 0 where
   pub consumed : Consumes before after bytes
   pub stops : MatchBool to_end (IsAtEnd after × (ended_fault causes bytes ≡ None)) (StopsAtFault causes bytes)

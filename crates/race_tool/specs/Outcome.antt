@@ -29,7 +29,7 @@ use Rattle.race_script.specs.Text as program
 abbrev pub are_in_limits : CheckOptions → Bool
 are_in_limits o = nat_le 1 o.shards && nat_le o.shards MAX_SHARDS && nat_le 1 o.block && nat_le o.block MAX_BLOCK
 
--- the status where the input wasn't read: its reader failed or gave no end, or memory was refused
+-- the status where the input wasn't read: its reader failed or it was given up, or memory was refused
 abbrev pub status_of_fault : ReadFault → ℕ
 status_of_fault ReadFault.Failed = DEVICE
 status_of_fault ReadFault.Endless = DEVICE

@@ -28,7 +28,7 @@ IsJudgedRun limit picks plain bytes (NoProgram fault) = text_fault bytes ≡ Som
 IsJudgedRun limit picks plain bytes (Ran program r trace verdict) =
     IsTextOf program bytes × IsRunOf limit picks program r × IsTraceOf r trace × IsVerdictOn plain trace verdict
 
--- what is printed of a recording's trace: its report, and how the run ended; of one that is too long that alone
+-- what is printed of a recording's trace: its report, and how the run ended; or, where it is too long for the plain judge, that alone
 abbrev pub verdict_text : RecordingState → TraceState → Option Verdict → List ℕ
 verdict_text r trace None = too_long_line (length trace.events)
 verdict_text r trace (Some verdict) = report trace verdict ++ end_line trace.decls.declarations r.end

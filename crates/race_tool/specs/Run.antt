@@ -34,8 +34,8 @@ pub data Run : Type 0 where
 abbrev pub scripts_of : ProgramState → List ScriptState
 scripts_of program = map (λ body. record { whole = body; position = 0 }) program.bodies
 
--- the recording of a run of the program by these picks: its trace is legal, each log is its goroutine's part of it, it follows the program,
--- and it has ended as it says
+-- the recording to which a hub of the program's scripts comes by these picks: it declares the same, follows the program, and has ended
+-- as it says. That its trace is legal, and each log its goroutine's part of it, IsTraceOf says
 pub record IsRunOf (limit : ℕ) (picks : List ℕ) (program : ProgramState) (r : RecordingState) : Type 0 where
   pub hub : HubState ScriptState
   pub opens : IsOpening program.decls limit (scripts_of program) hub

@@ -30,7 +30,7 @@ use std::io::{Read, Write};
 /// The most shards.
 pub const MAX_SHARDS: usize = 64;
 
-/// The most events of a block.
+/// The most events that shards are handed at a time.
 pub const MAX_BLOCK: usize = 65_536;
 
 // Definitions cite these numbers, so each is written down twice.
@@ -112,7 +112,7 @@ pub fn run_check<T, R: Read, W: Write, A: Allocator + Copy>(
     // Memory was refused: nothing is written.
     ensures refused { result ≡ status.REFUSED → sink.new ≡ sink.old }
 
-    // A device failed, which its count shows, or the input didn't end. Behind a faulty line no read
+    // A device failed, which its count shows, or reading was given up. Behind a faulty line no read
     // can fail, since there is none.
     ensures device { result ≡ status.DEVICE
         → FailsToRead trace_causes R.remaining source.old source.new sink.old sink.new

@@ -42,7 +42,7 @@ pub fn run_edges<R: Read, W: Write, A: Allocator + Copy>(
     // Memory was refused: nothing is written.
     ensures refused { result ≡ status.REFUSED → sink.new ≡ sink.old }
 
-    // A device failed, which its count shows, or the input didn't end.
+    // A device failed, which its count shows, or reading was given up.
     ensures device { result ≡ status.DEVICE
         → FailsToRead trace_causes R.remaining source.old source.new sink.old sink.new
         ⊎ GivesUpReading trace_causes R.remaining source.old source.new sink.old sink.new

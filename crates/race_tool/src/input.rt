@@ -28,7 +28,7 @@ pub(crate) enum ReadFault {
     /// The device failed.
     #[error("reading failed")]
     Failed,
-    /// It didn't end.
+    /// It was given up after as many reads as an input may have.
     #[error("the input doesn't end")]
     Endless,
     /// A growth was refused.

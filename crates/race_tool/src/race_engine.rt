@@ -95,7 +95,7 @@ pub fn run_race<T, R: Read, W: Write, A: Allocator + Copy + Send>(
         × ReadsProgramOf (IsRefusedRun run.now.limit (picks.picks_asked run.now))
         (unread R.remaining source.old) (unread R.remaining source.new) }
 
-    // A device failed, which its count shows, or the input didn't end.
+    // A device failed, which its count shows, or reading was given up.
     ensures device { result ≡ status.DEVICE
         → FailsToRead program_causes R.remaining source.old source.new sink.old sink.new
         ⊎ GivesUpReading program_causes R.remaining source.old source.new sink.old sink.new

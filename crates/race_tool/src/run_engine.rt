@@ -79,7 +79,7 @@ pub fn run_run<T, R: Read, W: Write, A: Allocator + Copy + Send>(
         × ReadsProgramOf (spec.IsRefusedRun options.now.limit (picks.picks_asked options.now))
         (unread R.remaining source.old) (unread R.remaining source.new) }
 
-    // A device failed, which its count shows, or the input didn't end.
+    // A device failed, which its count shows, or reading was given up.
     ensures device { result ≡ status.DEVICE
         → FailsToRead program_causes R.remaining source.old source.new sink.old sink.new
         ⊎ GivesUpReading program_causes R.remaining source.old source.new sink.old sink.new

@@ -2,27 +2,13 @@ ghost use Rattle.std.specs.Prelude.{◌≡◌, ◌≤◌, ◌<◌, true, length,
 ghost use Rattle.race_legal.specs.StandsFor.{StandsFor};
 ghost use Rattle.race_hub.specs.Waiting.{is_declared};
 
+use crate::asks::{Plain, ask_of};
 use race_hub::{Ask, Choice, Request, Waiter, WaitingList};
 use race_legal::Replay;
-use race_records::{Cause, Decls, Event, Kind, Object, Op, Trace};
+use race_records::{Cause, Decls, Event, Kind, Op, Trace};
+use race_text::parse_trace;
 use std::alloc::{AllocError, Global};
 use std::test::Fail;
-
-// An ask but for a select, of which no table can be written down.
-#[derive(Clone, Copy)]
-enum Plain {
-    Read(u32),
-    Send(u32, u64),
-    Recv(Option<u32>),
-}
-
-fn ask_of(plain: Plain) -> Ask {
-    match plain {
-        Plain::Read(var) => Ask::Read(var),
-        Plain::Send(chan, value) => Ask::Send(Some(chan), value),
-        Plain::Recv(chan) => Ask::Recv(chan),
-    }
-}
 
 /// Who asks what, and the choices in their order: the request's place in the list, and the partner's plus 1 or 0. Requests
 /// stand in the source at the places from 5 on.
@@ -114,40 +100,9 @@ static ROWS: [Row; 7] = [
     },
 ];
 
-static OBJECTS: [(&str, Object); 8] = [
-    ("g", Object::Goroutine),
-    ("h", Object::Goroutine),
-    ("i", Object::Goroutine),
-    ("x", Object::Var),
-    ("c", Object::Chan(0)),
-    ("b", Object::Chan(1)),
-    ("d", Object::Chan(0)),
-    ("e", Object::Chan(0)),
-];
-
-fn by_main(op: Op) -> Event {
-    Event {
-        who: 0,
-        op,
-        place: 0,
-        place2: None,
-    }
-}
-
 // Main started three goroutines and closed channel 2.
-fn traced(alloc: Global) -> Result<Trace, Fail> {
-    let mut decls = Decls::new(alloc);
-    for (name, object) in &OBJECTS {
-        decls.declare(*name, *object)?;
-    }
-    decls.add_place("p")?;
-    let mut trace = Trace::new(decls);
-    for goroutine in 1..4_u32 {
-        trace.push(by_main(Op::Go(goroutine)))?;
-    }
-    trace.push(by_main(Op::Close(2)))?;
-    Ok(trace)
-}
+static BEFORE: &[u8] =
+    b"gotrace 1\ngoroutine g\ngoroutine h\ngoroutine i\nvar x\nchan c 0\nchan b 1\nchan d 0\nchan e 0\ngo main g p\ngo main h p\ngo main i p\nclose main d p\n";
 
 // Where the run stands behind these events, if they are legal.
 fn replayed(alloc: Global, trace: &Trace) -> Result<Option<Replay>, AllocError>
@@ -240,7 +195,7 @@ fn rows_kept(alloc: Global, trace: &Trace, replay: &Replay) -> Result<usize, All
 #[test]
 fn picks_go_round_the_choices_of_a_run(rt: HostRuntime) -> Result<(), Fail> {
     let alloc = rt.alloc();
-    let trace = traced(alloc)?;
+    let trace = parse_trace(alloc, BEFORE)?;
     let kept = match replayed(alloc, &trace)? {
         Some(replay) => rows_kept(alloc, &trace, &replay)?,
         None => 0,

@@ -2,7 +2,7 @@
 
 use race_hub::{Answer, Ask, Hub, Offer, Offers, Request, Routine};
 use race_records::{Decls, Object};
-use std::alloc::Global;
+use std::alloc::{AllocError, Global};
 use std::test::Fail;
 
 /// An ask that a table can hold, but for a select on channel 0.
@@ -76,23 +76,28 @@ impl Routine for Asks {
     }
 }
 
-/// Goroutine w, this object and a place.
-pub(crate) fn declared(alloc: Global, name: &str, object: Object) -> Result<Decls, Fail> {
+/// Goroutine w, an object and a place.
+pub(crate) fn declared(alloc: Global, object: Object) -> Result<Decls, Fail> {
     let mut decls = Decls::new(alloc);
     decls.declare("w", Object::Goroutine)?;
-    decls.declare(name, object)?;
+    decls.declare("x", object)?;
     decls.add_place("p")?;
     Ok(decls)
 }
 
-/// A hub of these declarations with a box for main and one for w.
-pub(crate) fn hub_of<R: Routine>(
+/// A box for main and one for w.
+pub(crate) fn boxes_of<R: Routine>(alloc: Global, main: R, other: R) -> Result<Vec<R>, AllocError> {
+    Ok(vec![in alloc; main, other]?)
+}
+
+/// A hub with this object, of main and w that ask these.
+pub(crate) fn hub_of(
     alloc: Global,
-    decls: Decls,
+    object: Object,
     limit: u32,
-    main: R,
-    other: R,
-) -> Result<Hub<R>, Fail> {
-    let boxes = vec![in alloc; main, other]?;
-    Ok(Hub::new(alloc, decls, limit, boxes)?)
+    main: &'static [Plain],
+    other: &'static [Plain],
+) -> Result<Hub<Asks>, Fail> {
+    let boxes = boxes_of(alloc, box_of(main), box_of(other))?;
+    Ok(Hub::new(alloc, declared(alloc, object)?, limit, boxes)?)
 }

@@ -133,24 +133,25 @@ fn is_fit(decls: &Decls, waiter: &Waiter) -> bool
     }
 }
 
-// These requests, at the places from 5 on.
+fn waiter_of(asks: (u32, Plain), place: u32) -> Waiter {
+    let (who, plain) = asks;
+    let asked = Request {
+        ask: ask_of(plain),
+        place,
+    };
+    Waiter { who, asked }
+}
+
+// Those of these requests of which all is declared, at the places from 5 on.
 fn listed(alloc: Global, decls: &Decls, asks: &[(u32, Plain)]) -> Result<Vec<Waiter>, AllocError>
     ensures { IfOk result (λ v. (All (λ w. IsTrue (is_declared decls.now.declarations w)) v.items) × (length v.items ≤ 8)) }
 {
     let mut waiting = Vec::new(alloc);
     for i in 0..asks.len().min(8) {
-        let asked = Request {
-            ask: ask_of(asks[i].1),
-            place: i as u32 + 5,
-        };
-        let waiter = Waiter {
-            who: asks[i].0,
-            asked,
-        };
-        if !is_fit(decls, &waiter) {
-            return Ok(waiting);
+        let waiter = waiter_of(asks[i], i as u32 + 5);
+        if is_fit(decls, &waiter) {
+            waiting.push(waiter)?;
         }
-        waiting.push(waiter)?;
     }
     Ok(waiting)
 }

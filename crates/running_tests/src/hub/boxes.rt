@@ -14,37 +14,51 @@ fn hub(alloc: Global) -> Result<Hub<Asks>, Fail> {
     Ok(Hub::new(alloc, Decls::new(alloc), 1, boxes)?)
 }
 
-fn reads(var: u32) -> Request {
-    Request {
-        ask: Ask::Read(var),
-        place: 0,
+fn reads(asked: &Request, var: u32) -> bool {
+    asked.place == 0 && asked.ask == Ask::Read(var)
+}
+
+fn turns_to(job: &mut Job<Asks>, var: u32) -> Result<bool, AllocError> {
+    Ok(reads(&job.turn()?, var))
+}
+
+fn has_asked(job: &Job<Asks>, var: u32) -> bool {
+    match job.asked() {
+        Some(asked) => reads(&asked, var),
+        None => false,
     }
 }
 
-// Whether a turn gives this request.
-fn turns_to(job: &mut Job<Asks>, asked: &Request) -> Result<bool, AllocError> {
-    Ok(job.turn()? == *asked)
+// What of main is wrong, which asks to read the first variable until it is answered.
+fn wrong_in(job: &mut Job<Asks>) -> Result<Option<&'static str>, AllocError> {
+    if !turns_to(job, 1)? {
+        return Ok(Some("its first turn"));
+    }
+    if !has_asked(job, 1) {
+        return Ok(Some("what it has asked"));
+    }
+    if !turns_to(job, 1)? {
+        return Ok(Some("its second turn"));
+    }
+    if job.who() != 0 || job.answer() != Answer::Begin {
+        return Ok(Some("who was told what"));
+    }
+    Ok(None)
 }
 
-// Whether main asks the first again in a second turn, and keeps it.
-fn asks_once(job: &mut Job<Asks>, first: &Request) -> Result<bool, AllocError> {
-    Ok(turns_to(job, first)? && is_asked(job, first) && turns_to(job, first)?)
-}
-
-fn is_asked(job: &Job<Asks>, asked: &Request) -> bool {
-    match job.asked() {
-        Some(kept) => kept == *asked,
-        None => false,
+fn wrong_first(hub: &mut Hub<Asks>) -> Result<Option<&'static str>, AllocError> {
+    match hub.take() {
+        Some(job) => {
+            let mut job = job;
+            wrong_in(&mut job)
+        },
+        None => Ok(Some("that it is ready")),
     }
 }
 
 #[test]
 fn a_box_is_called_once_for_each_answer(rt: HostRuntime) -> Result<(), Fail> {
     let mut hub = hub(rt.alloc())?;
-    let Some(mut job) = hub.take() else {
-        return Err(Fail::new("main is not ready"));
-    };
-    assert!(rt; asks_once(&mut job, &reads(1))?);
-    assert_eq!(rt; (job.who(), job.answer()), (0, Answer::Begin));
+    assert_eq!(rt; wrong_first(&mut hub)?, None);
     Ok(())
 }

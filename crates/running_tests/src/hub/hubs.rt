@@ -1,6 +1,6 @@
 //! What a hub gives, step by step.
 
-use crate::asks::{Asks, Plain, box_of, declared, hub_of};
+use crate::asks::{Asks, Plain, box_of, boxes_of, declared, hub_of};
 use crate::turns::{asked, exchange};
 use race_hub::{
     Answer, Ask, Boxed, End, Hub, HubFault, Job, Mismatch, Recording, Request, Routine, SubmitFault,
@@ -27,17 +27,6 @@ impl Routine for Writes {
         };
         Request { ask, place: 0 }
     }
-}
-
-// A hub with a variable, of main and w that ask these.
-fn asking(
-    alloc: Global,
-    limit: u32,
-    main: &'static [Plain],
-    other: &'static [Plain],
-) -> Result<Hub<Asks>, Fail> {
-    let decls = declared(alloc, "x", Object::Var)?;
-    hub_of(alloc, decls, limit, box_of(main), box_of(other))
 }
 
 /// What is done with a hub.
@@ -83,7 +72,11 @@ impl<R: Routine> Held<R> {
     // Keeps the job, and says whose it is.
     fn keep(&mut self, job: Job<R>) -> u32 {
         let who = job.who();
-        *self.of(who) = Some(job);
+        if who == 0 {
+            self.main = Some(job);
+        } else {
+            self.other = Some(job);
+        }
         who
     }
 }
@@ -289,7 +282,7 @@ fn finished<R: Routine>(hub: Hub<R>) -> Finished {
 // The first row that comes otherwise in a new hub, and what comes of the hub then.
 fn finished_by(alloc: Global, run: &Run) -> Result<(Option<usize>, Finished), Fail> {
     let (limit, main, other, rows, count, _) = *run;
-    let mut hub = asking(alloc, limit, main, other)?;
+    let mut hub = hub_of(alloc, Object::Var, limit, main, other)?;
     let wrong = played(&mut hub, &rows[..count.min(rows.len())])?;
     Ok((wrong, finished(hub)))
 }
@@ -307,11 +300,10 @@ static GO_AND_READ: [Plain; 2] = [Plain::Go(1), Plain::Read(0)];
 static LIMITED: [Row; 10] = LIMIT;
 
 // A box of another type for main than for w.
-fn boxed(alloc: Global) -> Result<Hub<Boxed>, Fail> {
+fn boxed(alloc: Global) -> Result<Vec<Boxed>, AllocError> {
     let main = Box::new(alloc, box_of(&GO_AND_READ))?;
     let other = Box::new(alloc, Writes { value: 5 })?;
-    let decls = declared(alloc, "x", Object::Var)?;
-    hub_of(alloc, decls, 2, Boxed(main), Boxed(other))
+    boxes_of(alloc, Boxed(main), Boxed(other))
 }
 
 // Which variable it asks to read.
@@ -327,7 +319,8 @@ fn read_in(asked: Option<&Request>) -> Option<u32> {
 
 // The first row that comes otherwise, and which variables main and w ask to read then.
 fn limited(alloc: Global) -> Result<(Option<usize>, Option<u32>, Option<u32>), Fail> {
-    let mut hub = boxed(alloc)?;
+    let boxes = boxed(alloc)?;
+    let mut hub = Hub::new(alloc, declared(alloc, Object::Var)?, 2, boxes)?;
     let wrong = played(&mut hub, &LIMITED)?;
     Ok((wrong, read_in(hub.waiting(0)), read_in(hub.waiting(1))))
 }
@@ -357,17 +350,13 @@ fn boxes(alloc: Global, count: u32) -> Result<Vec<Asks>, AllocError> {
 
 fn fault(alloc: Global, limit: u32, count: u32) -> Result<Option<HubFault>, Fail> {
     let boxes = boxes(alloc, count)?;
-    let decls = declared(alloc, "x", Object::Var)?;
-    Ok(Hub::new(alloc, decls, limit, boxes).err())
+    Ok(Hub::new(alloc, declared(alloc, Object::Var)?, limit, boxes).err())
 }
 
 #[test]
 fn a_hub_has_a_box_for_each_goroutine_and_a_limit(rt: HostRuntime) -> Result<(), Fail> {
-    for &(limit, count, want) in &OPENINGS {
-        assert!(rt;
-            fault(rt.alloc(), limit, count)? == want,
-            "limit {limit}, {count} boxes"
-        );
+    for (at, row) in OPENINGS.iter().enumerate() {
+        assert!(rt; fault(rt.alloc(), row.0, row.1)? == row.2, "row {at}");
     }
     Ok(())
 }
@@ -376,8 +365,8 @@ static WRITE: [Plain; 1] = [Plain::Write(0, 5)];
 
 // What comes of a hub in which main of another goes on in place of its own.
 fn exchanged(alloc: Global) -> Result<Option<Finished>, Fail> {
-    let mut writes = asking(alloc, 8, &WRITE, &[])?;
-    let mut exits = asking(alloc, 8, &[], &[])?;
+    let mut writes = hub_of(alloc, Object::Var, 8, &WRITE, &[])?;
+    let mut exits = hub_of(alloc, Object::Var, 8, &[], &[])?;
     if exchange(&mut writes, &mut exits)? {
         Ok(Some(finished(writes)))
     } else {

@@ -1,6 +1,6 @@
 //! What selects make of each other.
 
-use crate::asks::{Asks, Plain, box_of, declared, hub_of};
+use crate::asks::{Asks, Plain, hub_of};
 use crate::turns::{ask, go_on};
 use race_hub::{Answer, Hub};
 use race_records::{Object, Op};
@@ -113,8 +113,7 @@ fn select(hub: &mut Hub<Asks>, pick: u64) -> Result<bool, AllocError> {
 
 fn comes(alloc: Global, row: &Row) -> Result<bool, Fail> {
     let (main, other, pick, met, answers) = *row;
-    let decls = declared(alloc, "c", Object::Chan(0))?;
-    let mut hub = hub_of(alloc, decls, 8, box_of(main), box_of(other))?;
+    let mut hub = hub_of(alloc, Object::Chan(0), 8, main, other)?;
     Ok(select(&mut hub, pick)? && is_last(&hub, met) && told(&mut hub) == answers)
 }
 

@@ -5,7 +5,7 @@ use race_records::{Decls, Object};
 use std::alloc::{AllocError, Global};
 use std::test::Fail;
 
-/// An ask that a table can hold, but for a select on channel 0.
+/// An ask that a table can hold. A select is on channel 0.
 #[derive(Clone, Copy)]
 pub(crate) enum Plain {
     Go(u32),
@@ -87,7 +87,10 @@ pub(crate) fn declared(alloc: Global, object: Object) -> Result<Decls, Fail> {
 
 /// A box for main and one for w.
 pub(crate) fn boxes_of<R: Routine>(alloc: Global, main: R, other: R) -> Result<Vec<R>, AllocError> {
-    Ok(vec![in alloc; main, other]?)
+    let mut boxes = Vec::new(alloc);
+    boxes.push(main)?;
+    boxes.push(other)?;
+    Ok(boxes)
 }
 
 /// A hub with this object, of main and w that ask these.

@@ -156,51 +156,79 @@ fn listed(alloc: Global, decls: &Decls, asks: &[(u32, Plain)]) -> Result<Vec<Wai
     Ok(waiting)
 }
 
-// The picks go round the row's choices in their order, and each makes its event.
-fn goes_round(list: &WaitingList, at: usize, choices: &[(u32, u32)]) -> bool {
-    let round = choices.len();
-    for number in 0..round {
-        let (place, partner) = choices[number];
-        let wanted = choice(place, partner);
-        let later = (number as u64).wrapping_add(round as u64);
-        if list.pick(number as u64) != Some(wanted) || list.pick(later) != Some(wanted) {
-            return false;
-        }
-        if !is_event(
+// Whether the choice of this number in that row is picked by its number and by one round more, and makes its event.
+fn is_picked(
+    list: &WaitingList,
+    row: usize,
+    number: usize,
+    wanted: (u32, u32),
+    round: u64,
+) -> bool {
+    let (place, partner) = wanted;
+    let wanted = choice(place, partner);
+    let pick = number as u64;
+    list.pick(pick) == Some(wanted)
+        && list.pick(pick.wrapping_add(round)) == Some(wanted)
+        && is_event(
             list.event_of(wanted),
             place,
             partner,
-            &wanted_op(at, number),
-        ) {
+            &wanted_op(row, number),
+        )
+}
+
+// The picks go round the row's choices in their order, and each makes its event.
+fn goes_round(list: &WaitingList, row: usize, choices: &[(u32, u32)]) -> bool {
+    let round = choices.len();
+    for number in 0..round {
+        if !is_picked(list, row, number, choices[number], round as u64) {
             return false;
         }
     }
     list.pick(0).is_none() == (round == 0)
 }
 
-// How many rows are as they are wanted, up to the first that isn't.
-fn rows_kept(alloc: Global, trace: &Trace, replay: &Replay) -> Result<usize, AllocError>
+fn is_kept(
+    alloc: Global,
+    trace: &Trace,
+    replay: &Replay,
+    at: usize,
+    row: &Row,
+) -> Result<bool, AllocError>
+    requires { StandsFor trace.now.decls.declarations replay.now trace.now.events }
+{
+    let waiting = listed(alloc, trace.decls(), row.asks)?;
+    let list = WaitingList::new(replay, trace, waiting.as_slice());
+    Ok(waiting.len() == row.asks.len() && goes_round(&list, at, row.choices))
+}
+
+// The first row that isn't as it is wanted.
+fn first_wrong(alloc: Global, trace: &Trace, replay: &Replay) -> Result<Option<usize>, AllocError>
     requires { StandsFor trace.now.decls.declarations replay.now trace.now.events }
 {
     for at in 0..ROWS.len() {
-        let row = &ROWS[at];
-        let waiting = listed(alloc, trace.decls(), row.asks)?;
-        let list = WaitingList::new(replay, trace, waiting.as_slice());
-        if waiting.len() != row.asks.len() || !goes_round(&list, at, row.choices) {
-            return Ok(at);
+        if !is_kept(alloc, trace, replay, at, &ROWS[at])? {
+            return Ok(Some(at));
         }
     }
-    Ok(ROWS.len())
+    Ok(None)
+}
+
+// The same behind this trace, which has no row where it isn't legal.
+fn first_wrong_behind(alloc: Global, trace: &Trace) -> Result<Option<usize>, AllocError> {
+    match replayed(alloc, trace)? {
+        Some(replay) => first_wrong(alloc, trace, &replay),
+        None => Ok(Some(usize::MAX)),
+    }
+}
+
+fn wrong_in(alloc: Global) -> Result<Option<usize>, Fail> {
+    let trace = parse_trace(alloc, BEFORE)?;
+    Ok(first_wrong_behind(alloc, &trace)?)
 }
 
 #[test]
 fn picks_go_round_the_choices_of_a_run(rt: HostRuntime) -> Result<(), Fail> {
-    let alloc = rt.alloc();
-    let trace = parse_trace(alloc, BEFORE)?;
-    let kept = match replayed(alloc, &trace)? {
-        Some(replay) => rows_kept(alloc, &trace, &replay)?,
-        None => 0,
-    };
-    assert_eq!(rt; kept, 7);
+    assert_eq!(rt; wrong_in(rt.alloc())?, None);
     Ok(())
 }

@@ -1,18 +1,16 @@
 //! A box, and the job that holds it.
 
-use crate::asks::{Asks, Plain, box_of};
+use crate::asks::{Asks, Plain, hub_of};
 use race_hub::{Answer, Ask, Hub, Job, Request};
-use race_records::Decls;
+use race_records::Object;
 use std::alloc::{AllocError, Global};
 use std::test::Fail;
 
 static READS: [Plain; 2] = [Plain::Read(1), Plain::Read(2)];
 
-// A hub where main is alone, and asks to read one variable and then another.
-fn hub(alloc: Global) -> Result<Hub<Asks>, Fail> {
-    let boxes = vec![in alloc; box_of(&READS)]?;
-    Ok(Hub::new(alloc, Decls::new(alloc), 1, boxes)?)
-}
+/// Whether main asks to read the first variable in its first turn, behind that, and in its second turn; and who it is, and
+/// what it was told.
+type Seen = (bool, bool, bool, u32, Answer);
 
 fn reads(asked: &Request, var: u32) -> bool {
     asked.place == 0 && asked.ask == Ask::Read(var)
@@ -29,36 +27,32 @@ fn has_asked(job: &Job<Asks>, var: u32) -> bool {
     }
 }
 
-// What of main is wrong, which asks to read the first variable until it is answered.
-fn wrong_in(job: &mut Job<Asks>) -> Result<Option<&'static str>, AllocError> {
-    if !turns_to(job, 1)? {
-        return Ok(Some("its first turn"));
-    }
-    if !has_asked(job, 1) {
-        return Ok(Some("what it has asked"));
-    }
-    if !turns_to(job, 1)? {
-        return Ok(Some("its second turn"));
-    }
-    if job.who() != 0 || job.answer() != Answer::Begin {
-        return Ok(Some("who was told what"));
-    }
-    Ok(None)
+fn seen(job: &mut Job<Asks>) -> Result<Seen, AllocError> {
+    let first = turns_to(job, 1)?;
+    let behind = has_asked(job, 1);
+    let second = turns_to(job, 1)?;
+    Ok((first, behind, second, job.who(), job.answer()))
 }
 
-fn wrong_first(hub: &mut Hub<Asks>) -> Result<Option<&'static str>, AllocError> {
+// The same of whoever is ready.
+fn seen_first(hub: &mut Hub<Asks>) -> Result<Option<Seen>, AllocError> {
     match hub.take() {
         Some(job) => {
             let mut job = job;
-            wrong_in(&mut job)
+            Ok(Some(seen(&mut job)?))
         },
-        None => Ok(Some("that it is ready")),
+        None => Ok(None),
     }
+}
+
+fn seen_in(alloc: Global) -> Result<Option<Seen>, Fail> {
+    let mut hub = hub_of(alloc, Object::Var, 1, &READS, &[])?;
+    Ok(seen_first(&mut hub)?)
 }
 
 #[test]
 fn a_box_is_called_once_for_each_answer(rt: HostRuntime) -> Result<(), Fail> {
-    let mut hub = hub(rt.alloc())?;
-    assert_eq!(rt; wrong_first(&mut hub)?, None);
+    let main = Some((true, true, true, 0, Answer::Begin));
+    assert_eq!(rt; seen_in(rt.alloc())?, main);
     Ok(())
 }

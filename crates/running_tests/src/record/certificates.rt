@@ -149,7 +149,7 @@ fn left_by(alloc: Global, row: &Row) -> Result<Option<(u32, usize)>, Fail> {
 #[test]
 fn a_recording_is_a_run_of_its_program_alone(rt: HostRuntime) -> Result<(), Fail> {
     for (at, row) in ROWS.iter().enumerate() {
-        assert_eq!(rt; left_by(rt.alloc(), row)?, row.3, "row {at}");
+        assert!(rt; left_by(rt.alloc(), row)? == row.3, "row {at}");
     }
     Ok(())
 }

@@ -2,7 +2,7 @@
 
 use crate::asks::{Plain, ask_of};
 use race_hub::{Answer, Routine};
-use race_script::{Program, Script, parse_program};
+use race_script::{Script, parse_program};
 use std::alloc::Global;
 use std::test::Fail;
 
@@ -48,20 +48,16 @@ fn first_wrong(script: &mut Script, rows: &[Row]) -> Option<usize> {
     None
 }
 
-fn wrong_in(alloc: Global, program: &Program, rows: &[Row]) -> Result<Option<usize>, Fail> {
-    let mut script = Script::new(alloc, program, 0)?;
+fn wrong_in(alloc: Global, rows: &[Row]) -> Result<Option<usize>, Fail> {
+    let program = parse_program(alloc, TEXT)?;
+    let mut script = Script::new(alloc, &program, 0)?;
     Ok(first_wrong(&mut script, rows))
 }
 
 #[test]
 fn a_script_asks_its_body_and_passes_over_what_was_done(rt: HostRuntime) -> Result<(), Fail> {
-    let program = parse_program(rt.alloc(), TEXT)?;
     for (table, rows) in TABLES.iter().enumerate() {
-        assert_eq!(rt;
-            wrong_in(rt.alloc(), &program, *rows)?,
-            None,
-            "table {table}"
-        );
+        assert_eq!(rt; wrong_in(rt.alloc(), *rows)?, None, "table {table}");
     }
     Ok(())
 }

@@ -1,7 +1,7 @@
 //! What a hub gives, step by step.
 
 use crate::asks::{Asks, Plain, box_of, boxes_of, declared, hub_of};
-use crate::turns::{asked, exchange};
+use crate::turns::exchange;
 use race_hub::{
     Answer, Ask, Boxed, End, Hub, HubFault, Job, Mismatch, Recording, Request, Routine, SubmitFault,
 };
@@ -102,6 +102,15 @@ fn submit<R: Routine>(
         Err(SubmitFault::OutOfMemory(_)) => Err(AllocError),
         Err(SubmitFault::Stray(job)) => Ok(Came::Stray(held.keep(job))),
     }
+}
+
+// Lets the job, if there is one, ask.
+fn asked<R: Routine>(job: Option<Job<R>>) -> Result<Option<Job<R>>, AllocError> {
+    let Some(mut job) = job else {
+        return Ok(None);
+    };
+    job.turn()?;
+    Ok(Some(job))
 }
 
 fn fired(happens: bool) -> Came {

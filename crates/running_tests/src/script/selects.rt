@@ -95,8 +95,10 @@ static READ: [Read; 7] = [
     },
 ];
 
-// The cause of each line, where it has one.
-static CAUSES: [(&[u8], Option<TextCause>); 25] = [
+/// A line, and the cause that is told of it, where one is.
+type Judged = (&'static [u8], Option<TextCause>);
+
+static CAUSES: [Judged; 25] = [
     (b"select send:c block p", Some(BadName)),
     (b"select send:c:5:6 block p", Some(BadName)),
     (b"select recv:c:5 block p", Some(BadName)),
@@ -145,19 +147,19 @@ fn with_line(alloc: Global, line: &[u8]) -> Result<Vec<u8>, AllocError> {
     Ok(text)
 }
 
-// The cause that is told of that program's line 5, where one is.
-fn is_told(alloc: Global, line: &[u8], cause: Option<TextCause>) -> Result<bool, AllocError> {
-    let text = with_line(alloc, line)?;
+// Whether the cause is told of that program's line 5.
+fn is_told(alloc: Global, row: &Judged) -> Result<bool, AllocError> {
+    let text = with_line(alloc, row.0)?;
     Ok(match fault_of(alloc, text.as_slice()) {
-        Some(fault) => Some(fault.1) == cause && fault.0 == 5,
-        None => cause.is_none(),
+        Some(fault) => Some(fault.1) == row.1 && fault.0 == 5,
+        None => row.1.is_none(),
     })
 }
 
 #[test]
 fn each_select_is_judged(rt: HostRuntime) -> Result<(), Fail> {
-    for (at, &(line, cause)) in CAUSES.iter().enumerate() {
-        assert!(rt; is_told(rt.alloc(), line, cause)?, "row {at}");
+    for (at, row) in CAUSES.iter().enumerate() {
+        assert!(rt; is_told(rt.alloc(), row)?, "row {at}");
     }
     Ok(())
 }

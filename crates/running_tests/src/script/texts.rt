@@ -160,22 +160,22 @@ fn fed_fault_of(alloc: Global, text: &[u8], len: usize) -> Option<(u64, TextCaus
 
 static LENGTHS: [usize; 3] = [1, 2, 7];
 
-// How long the pieces are of which something else is told, or 0 where it is told of the whole text.
-fn first_wrong(alloc: Global, text: &[u8], fault: Option<(u64, TextCause)>) -> Option<usize> {
-    if fault_of(alloc, text) != fault {
-        return Some(0);
+// Whether the fault is told of the whole text, and of its pieces of each length.
+fn is_told(alloc: Global, row: &Row) -> bool {
+    if fault_of(alloc, row.0) != row.1 {
+        return false;
     }
     for &len in &LENGTHS {
-        if fed_fault_of(alloc, text, len) != fault {
-            return Some(len);
+        if fed_fault_of(alloc, row.0, len) != row.1 {
+            return false;
         }
     }
-    None
+    true
 }
 
 #[test]
 fn each_text_is_judged_whole_and_in_pieces(rt: HostRuntime) {
-    for (at, &(text, fault)) in ROWS.iter().enumerate() {
-        assert_eq!(rt; first_wrong(rt.alloc(), text, fault), None, "row {at}");
+    for (at, row) in ROWS.iter().enumerate() {
+        assert!(rt; is_told(rt.alloc(), row), "row {at}");
     }
 }

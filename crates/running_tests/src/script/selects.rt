@@ -148,7 +148,7 @@ fn with_line(alloc: Global, line: &[u8]) -> Result<Vec<u8>, AllocError> {
 }
 
 // Whether the cause is told of that program's line 5.
-fn is_told(alloc: Global, row: &Judged) -> Result<bool, AllocError> {
+fn is_told(alloc: Global, row: &Judged) -> Result<bool, Fail> {
     let text = with_line(alloc, row.0)?;
     Ok(match fault_of(alloc, text.as_slice()) {
         Some(fault) => Some(fault.1) == row.1 && fault.0 == 5,

@@ -2,8 +2,12 @@
 #![tactic(auto)]
 
 #[cfg(test)]
+mod asks;
+#[cfg(test)]
 mod hub;
 #[cfg(test)]
 mod record;
 #[cfg(test)]
 mod script;
+#[cfg(test)]
+mod turns;

@@ -2,27 +2,13 @@ ghost use Rattle.std.specs.Prelude.{◌≡◌, ◌≤◌, ◌<◌, true, length,
 ghost use Rattle.race_legal.specs.StandsFor.{StandsFor};
 ghost use Rattle.race_hub.specs.Waiting.{is_declared};
 
+use crate::asks::{Plain, ask_of};
 use race_hub::{Ask, Choice, Request, Waiter, WaitingList};
 use race_legal::Replay;
-use race_records::{Cause, Decls, Event, Kind, Object, Op, Trace};
+use race_records::{Cause, Decls, Event, Kind, Op, Trace};
+use race_text::parse_trace;
 use std::alloc::{AllocError, Global};
 use std::test::Fail;
-
-// An ask but for a select, of which no table can be written down.
-#[derive(Clone, Copy)]
-enum Plain {
-    Read(u32),
-    Send(u32, u64),
-    Recv(Option<u32>),
-}
-
-fn ask_of(plain: Plain) -> Ask {
-    match plain {
-        Plain::Read(var) => Ask::Read(var),
-        Plain::Send(chan, value) => Ask::Send(Some(chan), value),
-        Plain::Recv(chan) => Ask::Recv(chan),
-    }
-}
 
 /// Who asks what, and the choices in their order: the request's place in the list, and the partner's plus 1 or 0. Requests
 /// stand in the source at the places from 5 on.
@@ -114,40 +100,9 @@ static ROWS: [Row; 7] = [
     },
 ];
 
-static OBJECTS: [(&str, Object); 8] = [
-    ("g", Object::Goroutine),
-    ("h", Object::Goroutine),
-    ("i", Object::Goroutine),
-    ("x", Object::Var),
-    ("c", Object::Chan(0)),
-    ("b", Object::Chan(1)),
-    ("d", Object::Chan(0)),
-    ("e", Object::Chan(0)),
-];
-
-fn by_main(op: Op) -> Event {
-    Event {
-        who: 0,
-        op,
-        place: 0,
-        place2: None,
-    }
-}
-
 // Main started three goroutines and closed channel 2.
-fn traced(alloc: Global) -> Result<Trace, Fail> {
-    let mut decls = Decls::new(alloc);
-    for (name, object) in &OBJECTS {
-        decls.declare(*name, *object)?;
-    }
-    decls.add_place("p")?;
-    let mut trace = Trace::new(decls);
-    for goroutine in 1..4_u32 {
-        trace.push(by_main(Op::Go(goroutine)))?;
-    }
-    trace.push(by_main(Op::Close(2)))?;
-    Ok(trace)
-}
+static BEFORE: &[u8] =
+    b"gotrace 1\ngoroutine g\ngoroutine h\ngoroutine i\nvar x\nchan c 0\nchan b 1\nchan d 0\nchan e 0\ngo main g p\ngo main h p\ngo main i p\nclose main d p\n";
 
 // Where the run stands behind these events, if they are legal.
 fn replayed(alloc: Global, trace: &Trace) -> Result<Option<Replay>, AllocError>
@@ -178,73 +133,102 @@ fn is_fit(decls: &Decls, waiter: &Waiter) -> bool
     }
 }
 
-// These requests, at the places from 5 on.
+fn waiter_of(asks: (u32, Plain), place: u32) -> Waiter {
+    let (who, plain) = asks;
+    let asked = Request {
+        ask: ask_of(plain),
+        place,
+    };
+    Waiter { who, asked }
+}
+
+// Those of these requests of which all is declared, at the places from 5 on.
 fn listed(alloc: Global, decls: &Decls, asks: &[(u32, Plain)]) -> Result<Vec<Waiter>, AllocError>
     ensures { IfOk result (λ v. (All (λ w. IsTrue (is_declared decls.now.declarations w)) v.items) × (length v.items ≤ 8)) }
 {
     let mut waiting = Vec::new(alloc);
     for i in 0..asks.len().min(8) {
-        let asked = Request {
-            ask: ask_of(asks[i].1),
-            place: i as u32 + 5,
-        };
-        let waiter = Waiter {
-            who: asks[i].0,
-            asked,
-        };
-        if !is_fit(decls, &waiter) {
-            return Ok(waiting);
+        let waiter = waiter_of(asks[i], i as u32 + 5);
+        if is_fit(decls, &waiter) {
+            waiting.push(waiter)?;
         }
-        waiting.push(waiter)?;
     }
     Ok(waiting)
 }
 
-// The picks go round the row's choices in their order, and each makes its event.
-fn goes_round(list: &WaitingList, at: usize, choices: &[(u32, u32)]) -> bool {
-    let round = choices.len();
-    for number in 0..round {
-        let (place, partner) = choices[number];
-        let wanted = choice(place, partner);
-        let later = (number as u64).wrapping_add(round as u64);
-        if list.pick(number as u64) != Some(wanted) || list.pick(later) != Some(wanted) {
-            return false;
-        }
-        if !is_event(
+// Whether the choice of this number in that row is picked by its number and by one round more, and makes its event.
+fn is_picked(
+    list: &WaitingList,
+    row: usize,
+    number: usize,
+    wanted: (u32, u32),
+    round: u64,
+) -> bool {
+    let (place, partner) = wanted;
+    let wanted = choice(place, partner);
+    let pick = number as u64;
+    list.pick(pick) == Some(wanted)
+        && list.pick(pick.wrapping_add(round)) == Some(wanted)
+        && is_event(
             list.event_of(wanted),
             place,
             partner,
-            &wanted_op(at, number),
-        ) {
+            &wanted_op(row, number),
+        )
+}
+
+// The picks go round the row's choices in their order, and each makes its event.
+fn goes_round(list: &WaitingList, row: usize, choices: &[(u32, u32)]) -> bool {
+    let round = choices.len();
+    for number in 0..round {
+        if !is_picked(list, row, number, choices[number], round as u64) {
             return false;
         }
     }
     list.pick(0).is_none() == (round == 0)
 }
 
-// How many rows are as they are wanted, up to the first that isn't.
-fn rows_kept(alloc: Global, trace: &Trace, replay: &Replay) -> Result<usize, AllocError>
+fn is_kept(
+    alloc: Global,
+    trace: &Trace,
+    replay: &Replay,
+    at: usize,
+    row: &Row,
+) -> Result<bool, AllocError>
+    requires { StandsFor trace.now.decls.declarations replay.now trace.now.events }
+{
+    let waiting = listed(alloc, trace.decls(), row.asks)?;
+    let list = WaitingList::new(replay, trace, waiting.as_slice());
+    Ok(waiting.len() == row.asks.len() && goes_round(&list, at, row.choices))
+}
+
+// The first row that isn't as it is wanted.
+fn first_wrong(alloc: Global, trace: &Trace, replay: &Replay) -> Result<Option<usize>, AllocError>
     requires { StandsFor trace.now.decls.declarations replay.now trace.now.events }
 {
     for at in 0..ROWS.len() {
-        let row = &ROWS[at];
-        let waiting = listed(alloc, trace.decls(), row.asks)?;
-        let list = WaitingList::new(replay, trace, waiting.as_slice());
-        if waiting.len() != row.asks.len() || !goes_round(&list, at, row.choices) {
-            return Ok(at);
+        if !is_kept(alloc, trace, replay, at, &ROWS[at])? {
+            return Ok(Some(at));
         }
     }
-    Ok(ROWS.len())
+    Ok(None)
+}
+
+// The same behind this trace, which has no row where it isn't legal.
+fn first_wrong_behind(alloc: Global, trace: &Trace) -> Result<Option<usize>, AllocError> {
+    match replayed(alloc, trace)? {
+        Some(replay) => first_wrong(alloc, trace, &replay),
+        None => Ok(Some(usize::MAX)),
+    }
+}
+
+fn wrong_in(alloc: Global) -> Result<Option<usize>, Fail> {
+    let trace = parse_trace(alloc, BEFORE)?;
+    Ok(first_wrong_behind(alloc, &trace)?)
 }
 
 #[test]
 fn picks_go_round_the_choices_of_a_run(rt: HostRuntime) -> Result<(), Fail> {
-    let alloc = rt.alloc();
-    let trace = traced(alloc)?;
-    let kept = match replayed(alloc, &trace)? {
-        Some(replay) => rows_kept(alloc, &trace, &replay)?,
-        None => 0,
-    };
-    assert_eq!(rt; kept, 7);
+    assert_eq!(rt; wrong_in(rt.alloc())?, None);
     Ok(())
 }

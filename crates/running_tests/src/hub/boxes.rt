@@ -1,52 +1,58 @@
 //! A box, and the job that holds it.
 
-use race_hub::{Answer, Ask, Hub, Job, Request, Routine};
-use race_records::Decls;
+use crate::asks::{Asks, Plain, hub_of};
+use race_hub::{Answer, Ask, Hub, Job, Request};
+use race_records::Object;
 use std::alloc::{AllocError, Global};
 use std::test::Fail;
 
-// Reads a variable of its own again and again, and counts how often it was called.
-#[derive(Drop)]
-struct Counter {
-    calls: u32,
+static READS: [Plain; 2] = [Plain::Read(1), Plain::Read(2)];
+
+/// Whether main asks to read the first variable in its first turn, behind that, and in its second turn; and who it is, and
+/// what it was told.
+type Seen = (bool, bool, bool, u32, Answer);
+
+fn reads(asked: &Request, var: u32) -> bool {
+    asked.place == 0 && asked.ask == Ask::Read(var)
 }
 
-impl Routine for Counter {
-    ghost use Rattle.std.specs.Prelude.{⊤};
+fn turns_to(job: &mut Job<Asks>, var: u32) -> Result<bool, AllocError> {
+    Ok(reads(&job.turn()?, var))
+}
 
-    ghost asks = { λ _ _ _ _. ⊤ };
-
-    fn next(&mut self, _answer: Answer) -> Request {
-        self.calls = self.calls.saturating_add(1);
-        reads(self.calls)
+fn has_asked(job: &Job<Asks>, var: u32) -> bool {
+    match job.asked() {
+        Some(asked) => reads(&asked, var),
+        None => false,
     }
 }
 
-fn reads(var: u32) -> Request {
-    Request {
-        ask: Ask::Read(var),
-        place: 0,
-    }
+fn seen(job: &mut Job<Asks>) -> Result<Seen, AllocError> {
+    let first = turns_to(job, 1)?;
+    let behind = has_asked(job, 1);
+    let second = turns_to(job, 1)?;
+    Ok((first, behind, second, job.who(), job.answer()))
 }
 
-// The job of main, in a hub where main is alone.
-fn job(alloc: Global) -> Result<Job<Counter>, Fail> {
-    let mut boxes = Vec::new(alloc);
-    boxes.push(Counter { calls: 0 })?;
-    let mut hub = Hub::new(alloc, Decls::new(alloc), 1, boxes)?;
+// The same of whoever is ready.
+fn seen_first(hub: &mut Hub<Asks>) -> Result<Option<Seen>, AllocError> {
     match hub.take() {
-        Some(job) => Ok(job),
-        None => Err(AllocError.into()),
+        Some(job) => {
+            let mut job = job;
+            Ok(Some(seen(&mut job)?))
+        },
+        None => Ok(None),
     }
+}
+
+fn seen_in(alloc: Global) -> Result<Option<Seen>, Fail> {
+    let mut hub = hub_of(alloc, Object::Var, 1, &READS, &[])?;
+    Ok(seen_first(&mut hub)?)
 }
 
 #[test]
 fn a_box_is_called_once_for_each_answer(rt: HostRuntime) -> Result<(), Fail> {
-    let mut job = job(rt.alloc())?;
-    assert_eq!(rt; job.turn()?, reads(1));
-    assert_eq!(rt; job.asked(), Some(reads(1)));
-    assert_eq!(rt; job.turn()?, reads(1));
-    assert_eq!(rt; job.who(), 0);
-    assert_eq!(rt; job.answer(), Answer::Begin);
+    let main = Some((true, true, true, 0, Answer::Begin));
+    assert_eq!(rt; seen_in(rt.alloc())?, main);
     Ok(())
 }

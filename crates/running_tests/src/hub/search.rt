@@ -53,18 +53,30 @@ fn meet(place: u32, partner: u32) -> Option<Choice> {
     })
 }
 
-#[test]
-fn picks_go_round_the_choices_in_order(rt: HostRuntime) {
+// A pick of four requests, and the places of the two that meet by it, the second plus 1.
+static PICKS: [(u64, u32, u32); 5] = [(0, 0, 2), (1, 0, 4), (2, 2, 2), (3, 2, 4), (4, 0, 2)];
+
+// Whether the pick of the four makes this choice.
+fn is_picked(pick: u64, choice: Option<Choice>) -> bool {
     let crowd = Crowd {
         waiting: 4,
         pairs: true,
     };
-    for &(pick, place, partner) in &[(0, 0, 2), (1, 0, 4), (2, 2, 2), (3, 2, 4), (4, 0, 2)] {
-        assert_eq!(rt; pick_choice(&crowd, pick), meet(place, partner));
-    }
+    pick_choice(&crowd, pick) == choice
+}
+
+fn is_nobody_picked() -> bool {
     let nobody = Crowd {
         waiting: 0,
         pairs: false,
     };
-    assert_eq!(rt; pick_choice(&nobody, 7), None);
+    pick_choice(&nobody, 7).is_none()
+}
+
+#[test]
+fn picks_go_round_the_choices_in_order(rt: HostRuntime) {
+    for &(pick, place, partner) in &PICKS {
+        assert!(rt; is_picked(pick, meet(place, partner)), "pick {pick}");
+    }
+    assert!(rt; is_nobody_picked());
 }

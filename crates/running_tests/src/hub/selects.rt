@@ -1,72 +1,17 @@
 //! What selects make of each other.
 
-use race_hub::{Answer, Ask, Hub, Offer, Offers, Request, Routine};
-use race_records::{Decls, Object, Op};
-use std::alloc::Global;
+use crate::asks::{Asks, Plain, hub_of};
+use crate::turns::{ask, go_on};
+use race_hub::{Answer, Hub};
+use race_records::{Object, Op};
+use std::alloc::{AllocError, Global};
 use std::test::Fail;
 
-// Starts w where it is main, selects once on channel c, and exits.
-#[derive(Drop)]
-struct Selects {
-    starts: bool,
-    offers: Offers,
-    has_default: bool,
-    asked: u32,
-}
-
-impl Routine for Selects {
-    ghost use Rattle.std.specs.Prelude.{⊤};
-
-    ghost asks = { λ _ _ _ _. ⊤ };
-
-    fn next(&mut self, _answer: Answer) -> Request {
-        self.asked = self.asked.saturating_add(1);
-        let at = if self.starts {
-            self.asked
-        } else {
-            self.asked.saturating_add(1)
-        };
-        let ask = match at {
-            1 => Ask::Go(1),
-            2 => Ask::Select(self.offers.copy(), self.has_default),
-            _ => Ask::Exit,
-        };
-        Request { ask, place: 0 }
-    }
-}
-
-/// The offers of a select on c in order: the value that one sends, or none where it receives.
-type Wanted = &'static [Option<u64>];
-
-fn offers(wanted: Wanted) -> Offers {
-    let mut offers = Offers::new();
-    for at in 0..wanted.len() {
-        let offer = match wanted[at] {
-            Some(value) => Offer::Send(Some(0), value),
-            None => Offer::Recv(Some(0)),
-        };
-        let _full = offers.push(offer);
-    }
-    offers
-}
-
-// Goroutine w, an unbuffered channel and a place.
-fn declared(alloc: Global) -> Result<Decls, Fail> {
-    let mut decls = Decls::new(alloc);
-    decls.declare("w", Object::Goroutine)?;
-    decls.declare("c", Object::Chan(0))?;
-    decls.add_place("p")?;
-    Ok(decls)
-}
-
-/// Who receives which value, or nobody where a default is taken; and what main and w are told.
-type Came = (Option<(u32, u64)>, (Option<Answer>, Option<Answer>));
-
-/// The selects of main and of w, each with whether it has a default; a pick; who receives which value then, or nobody where a
-/// default is taken; and what main and w are told.
+/// What main asks, which starts w first, and what w asks; a pick; who receives which value then, or nobody where a default is
+/// taken; and what main and w are told.
 type Row = (
-    (Wanted, bool),
-    (Wanted, bool),
+    &'static [Plain],
+    &'static [Plain],
     u64,
     Option<(u32, u64)>,
     (Option<Answer>, Option<Answer>),
@@ -75,8 +20,8 @@ type Row = (
 static ROWS: [Row; 6] = [
     // By either pair of offers.
     (
-        (&[Some(5), None], false),
-        (&[None, Some(6)], false),
+        &[Plain::Go(1), Plain::Select(&[Some(5), None], false)],
+        &[Plain::Select(&[None, Some(6)], false)],
         0,
         Some((1, 5)),
         (
@@ -85,8 +30,8 @@ static ROWS: [Row; 6] = [
         ),
     ),
     (
-        (&[Some(5), None], false),
-        (&[None, Some(6)], false),
+        &[Plain::Go(1), Plain::Select(&[Some(5), None], false)],
+        &[Plain::Select(&[None, Some(6)], false)],
         1,
         Some((0, 6)),
         (
@@ -96,8 +41,8 @@ static ROWS: [Row; 6] = [
     ),
     // The sender's default is none while a receiver waits, and the receiver's is none while a sender does.
     (
-        (&[Some(5)], true),
-        (&[None], false),
+        &[Plain::Go(1), Plain::Select(&[Some(5)], true)],
+        &[Plain::Select(&[None], false)],
         1,
         Some((1, 5)),
         (
@@ -106,8 +51,8 @@ static ROWS: [Row; 6] = [
         ),
     ),
     (
-        (&[None], true),
-        (&[Some(7)], true),
+        &[Plain::Go(1), Plain::Select(&[None], true)],
+        &[Plain::Select(&[Some(7)], true)],
         1,
         Some((0, 7)),
         (
@@ -117,54 +62,23 @@ static ROWS: [Row; 6] = [
     ),
     // Nobody receives, so a default is taken; and there is nothing else to wait for.
     (
-        (&[Some(5)], true),
-        (&[Some(6)], false),
+        &[Plain::Go(1), Plain::Select(&[Some(5)], true)],
+        &[Plain::Select(&[Some(6)], false)],
         1,
         None,
         (Some(Answer::DefaultTaken), None),
     ),
     (
-        (&[], true),
-        (&[], false),
+        &[Plain::Go(1), Plain::Select(&[], true)],
+        &[Plain::Select(&[], false)],
         0,
         None,
         (Some(Answer::DefaultTaken), None),
     ),
 ];
 
-fn hub_of(
-    alloc: Global,
-    main: (Wanted, bool),
-    other: (Wanted, bool),
-) -> Result<Hub<Selects>, Fail> {
-    let boxes = vec![in alloc;
-        Selects {
-            starts: true,
-            offers: offers(main.0),
-            has_default: main.1,
-            asked: 0
-        },
-        Selects {
-            starts: false,
-            offers: offers(other.0),
-            has_default: other.1,
-            asked: 0
-        },
-    ]?;
-    Ok(Hub::new(alloc, declared(alloc)?, 8, boxes)?)
-}
-
-// Lets whoever is ready ask.
-fn ask(hub: &mut Hub<Selects>) -> Result<bool, Fail> {
-    let Some(mut job) = hub.take() else {
-        return Ok(false);
-    };
-    job.turn()?;
-    Ok(hub.submit(job).is_ok())
-}
-
 // What main and w are told, of those that are ready.
-fn told(hub: &mut Hub<Selects>) -> (Option<Answer>, Option<Answer>) {
+fn told(hub: &mut Hub<Asks>) -> (Option<Answer>, Option<Answer>) {
     let mut main = None;
     let mut other = None;
     for _ in 0..2_u32 {
@@ -179,47 +93,34 @@ fn told(hub: &mut Hub<Selects>) -> (Option<Answer>, Option<Answer>) {
     (main, other)
 }
 
-// Who receives which value in the last event; nothing where that is a default.
-fn last_meet(hub: &Hub<Selects>) -> Result<Option<(u32, u64)>, Fail> {
+// Whether it receives that value in the last event, or a default is taken there.
+fn is_last(hub: &Hub<Asks>, met: Option<(u32, u64)>) -> bool {
     let len = hub.trace().len();
     if len == 0 {
-        return Err(Fail::new("no event"));
+        return false;
     }
     match hub.trace().event(len - 1).op {
-        Op::Meet(receiver, _, value) => Ok(Some((receiver, value))),
-        Op::Default(_) => Ok(None),
-        _ => Err(Fail::new("another operation")),
+        Op::Meet(receiver, _, value) => met == Some((receiver, value)),
+        Op::Default(_) => met.is_none(),
+        _ => false,
     }
 }
 
-// What comes of main's start of w, of what both then ask, and of the pick.
-fn comes(hub: &mut Hub<Selects>, pick: u64) -> Result<Came, Fail> {
-    if !ask(hub)? || !hub.fire(0)? || !ask(hub)? || !ask(hub)? || !hub.fire(pick)? {
-        return Err(Fail::new("nothing happens"));
-    }
-    let met = last_meet(hub)?;
-    Ok((met, told(hub)))
+// Main starts w, both select, and the pick happens.
+fn select(hub: &mut Hub<Asks>, pick: u64) -> Result<bool, AllocError> {
+    Ok(go_on(hub)? && ask(hub)? && ask(hub)? && hub.fire(pick)?)
 }
 
-fn comes_by(
-    alloc: Global,
-    main: (Wanted, bool),
-    other: (Wanted, bool),
-    pick: u64,
-) -> Result<Came, Fail> {
-    let mut hub = hub_of(alloc, main, other)?;
-    comes(&mut hub, pick)
+fn comes(alloc: Global, row: &Row) -> Result<bool, Fail> {
+    let (main, other, pick, met, answers) = *row;
+    let mut hub = hub_of(alloc, Object::Chan(0), 8, main, other)?;
+    Ok(select(&mut hub, pick)? && is_last(&hub, met) && told(&mut hub) == answers)
 }
 
 #[test]
 fn selects_meet_and_stand_back(rt: HostRuntime) -> Result<(), Fail> {
-    let alloc = rt.alloc();
-    for at in 0..ROWS.len() {
-        let (main, other, pick, met, answers) = ROWS[at];
-        assert!(rt;
-            comes_by(alloc, main, other, pick)? == (met, answers),
-            "{at}"
-        );
+    for (at, row) in ROWS.iter().enumerate() {
+        assert!(rt; comes(rt.alloc(), row)?, "row {at}");
     }
     Ok(())
 }

@@ -1,10 +1,9 @@
 //! Which recordings are runs of which programs.
 
-use crate::record::runs::hub_of;
-use race_hub::{Hub, Recording};
-use race_record::record_serial;
-use race_script::{NotARun, Script, certify, parse_program};
-use std::alloc::{AllocError, Global};
+use crate::record::runs::recording_of;
+use race_hub::Recording;
+use race_script::{NotARun, certify, parse_program};
+use std::alloc::Global;
 use std::test::Fail;
 
 /// The program that is recorded, how many events its run may have, another program, and where the recording leaves that.
@@ -140,30 +139,17 @@ fn left_at(
     }
 }
 
-// The recording of a hub from which no job is out.
-fn recorded(hub: Hub<Script>) -> Result<Recording, Fail> {
-    if hub.out() != 0 {
-        return Err(AllocError.into());
-    }
-    Ok(record_serial(hub, &[])?)
-}
-
 // Where the recording of the first program, up to the limit, leaves the other one.
-fn left_by(
-    alloc: Global,
-    text: &[u8],
-    limit: u32,
-    other: &[u8],
-) -> Result<Option<(u32, usize)>, Fail> {
-    let recording = recorded(hub_of(alloc, text, limit)?)?;
+fn left_by(alloc: Global, row: &Row) -> Result<Option<(u32, usize)>, Fail> {
+    let (text, limit, other, _) = *row;
+    let recording = recording_of(alloc, text, limit, false, &[])?;
     left_at(alloc, &recording, other)
 }
 
 #[test]
 fn a_recording_is_a_run_of_its_program_alone(rt: HostRuntime) -> Result<(), Fail> {
-    for at in 0..19 {
-        let (text, limit, other, left) = ROWS[at];
-        assert_eq!(rt; left_by(rt.alloc(), text, limit, other)?, left);
+    for (at, row) in ROWS.iter().enumerate() {
+        assert!(rt; left_by(rt.alloc(), row)? == row.3, "row {at}");
     }
     Ok(())
 }

@@ -1,23 +1,19 @@
 //! What programs come to on one thread, by their picks.
 
+use crate::turns::{exchange, go_on};
 use race_hub::{End, Hub, Recording};
 use race_record::{RecordFault, record_serial};
-use race_records::{Decls, Kind};
+use race_records::Kind;
 use race_script::{Program, Script, parse_program};
 use race_text::parse_trace;
 use std::alloc::{AllocError, Global};
 use std::test::Fail;
 
-/// A program, how many events it may make, the picks, what is recorded of it, and how that ends.
-type Row = (
-    &'static [u8],
-    u32,
-    &'static [u64],
-    &'static [u8],
-    End,
-    // whether main and w wait
-    (bool, bool),
-);
+/// A program, how many events it may make, whether its first happens before it is recorded, the picks, and what comes of it.
+type Row = (&'static [u8], u32, bool, &'static [u64], Recorded);
+
+/// What is recorded, how that ends, and whether main and w wait.
+type Recorded = (&'static [u8], End, (bool, bool));
 
 // Main starts w and reads what w writes.
 const READS: &[u8] =
@@ -37,63 +33,95 @@ const TWICE: &[u8] =
 const FAILS: &[u8] =
     b"goprogram 1\ngoroutine w\nbody main\nclose nil m:1\nexit m:2\nbody w\nexit w:1\n";
 
-static ROWS: [Row; 7] = [
+static ROWS: [Row; 8] = [
     (
         READS,
         2,
+        false,
         &[],
-        b"gotrace 1\ngoroutine w\nvar x\ngo main w m:1\nread main x 0 m:2\n",
-        End::Limit,
-        (false, true),
+        (
+            b"gotrace 1\ngoroutine w\nvar x\ngo main w m:1\nread main x 0 m:2\n",
+            End::Limit,
+            (false, true),
+        ),
     ),
     // The second event's pick.
     (
         READS,
         2,
+        false,
         &[0, 1],
-        b"gotrace 1\ngoroutine w\nvar x\ngo main w m:1\nwrite w x 5 w:1\n",
-        End::Limit,
-        (true, false),
+        (
+            b"gotrace 1\ngoroutine w\nvar x\ngo main w m:1\nwrite w x 5 w:1\n",
+            End::Limit,
+            (true, false),
+        ),
     ),
     (
         READS,
         8,
+        false,
         &[],
-        b"gotrace 1\ngoroutine w\nvar x\ngo main w m:1\nread main x 0 m:2\nwrite w x 5 w:1\nexit main m:3\n",
-        End::Main,
-        (false, true),
+        (
+            b"gotrace 1\ngoroutine w\nvar x\ngo main w m:1\nread main x 0 m:2\nwrite w x 5 w:1\nexit main m:3\n",
+            End::Main,
+            (false, true),
+        ),
     ),
     (
         SENDS,
         8,
+        false,
         &[],
-        b"gotrace 1\ngoroutine w\nchan c 0\ngo main w m:1\nmeet main w c 7 m:2 w:1\nexit main m:3\n",
-        End::Main,
-        (false, true),
+        (
+            b"gotrace 1\ngoroutine w\nchan c 0\ngo main w m:1\nmeet main w c 7 m:2 w:1\nexit main m:3\n",
+            End::Main,
+            (false, true),
+        ),
     ),
     (
         WAITS,
         8,
+        false,
         &[],
-        b"gotrace 1\ngoroutine w\nchan c 0\nchan d 1\ngo main w m:1\n",
-        End::Deadlock,
-        (true, true),
+        (
+            b"gotrace 1\ngoroutine w\nchan c 0\nchan d 1\ngo main w m:1\n",
+            End::Deadlock,
+            (true, true),
+        ),
     ),
     (
         TWICE,
         8,
+        false,
         &[],
-        b"gotrace 1\ngoroutine w\ngo main w m:1\n",
-        End::Bad(0),
-        (true, false),
+        (
+            b"gotrace 1\ngoroutine w\ngo main w m:1\n",
+            End::Bad(0),
+            (true, false),
+        ),
     ),
     (
         FAILS,
         8,
+        false,
         &[],
-        b"gotrace 1\ngoroutine w\nfault main close:nil m:1\n",
-        End::Fault,
-        (false, false),
+        (
+            b"gotrace 1\ngoroutine w\nfault main close:nil m:1\n",
+            End::Fault,
+            (false, false),
+        ),
+    ),
+    (
+        READS,
+        8,
+        true,
+        &[1],
+        (
+            b"gotrace 1\ngoroutine w\nvar x\ngo main w m:1\nwrite w x 5 w:1\nread main x 5 m:2\nexit w w:2\nexit main m:3\n",
+            End::Main,
+            (false, false),
+        ),
     ),
 ];
 
@@ -106,113 +134,69 @@ fn scripts(alloc: Global, program: &Program) -> Result<Vec<Script>, AllocError> 
     Ok(scripts)
 }
 
-// The declarations of a program, and a box for each goroutine.
-fn parts(alloc: Global, text: &[u8]) -> Result<(Decls, Vec<Script>), Fail> {
-    let program = parse_program(alloc, text)?;
-    let scripts = scripts(alloc, &program)?;
-    Ok((program.decls().copy()?, scripts))
+fn opened(alloc: Global, program: &Program, limit: u32) -> Result<Hub<Script>, Fail> {
+    let scripts = scripts(alloc, program)?;
+    Ok(Hub::new(alloc, program.decls().copy()?, limit, scripts)?)
 }
 
 // The hub of the program before its first event.
-pub(crate) fn hub_of(alloc: Global, text: &[u8], limit: u32) -> Result<Hub<Script>, Fail> {
-    let (decls, scripts) = parts(alloc, text)?;
-    Ok(Hub::new(alloc, decls, limit, scripts)?)
+fn hub_of(alloc: Global, text: &[u8], limit: u32) -> Result<Hub<Script>, Fail> {
+    let program = parse_program(alloc, text)?;
+    opened(alloc, &program, limit)
 }
 
-// Whether that was recorded.
-fn is_recorded(
+// What is recorded of a hub from which no job is out.
+fn recorded(hub: Hub<Script>, picks: &[u64]) -> Result<Recording, Fail> {
+    if hub.out() != 0 {
+        return Err(Fail::new("a job is out"));
+    }
+    Ok(record_serial(hub, picks)?)
+}
+
+/// What is recorded of the program by its picks, where its first event may have happened before.
+pub(crate) fn recording_of(
     alloc: Global,
-    recording: &Recording,
-    trace: &[u8],
-    end: End,
-    waits: (bool, bool),
-) -> Result<bool, Fail> {
-    let waiting = (
+    text: &[u8],
+    limit: u32,
+    begun: bool,
+    picks: &[u64],
+) -> Result<Recording, Fail> {
+    let mut hub = hub_of(alloc, text, limit)?;
+    if begun && !go_on(&mut hub)? {
+        return Err(Fail::new("main does not go on"));
+    }
+    recorded(hub, picks)
+}
+
+fn is_trace(alloc: Global, recording: &Recording, text: &[u8]) -> Result<bool, Fail> {
+    Ok(*recording.trace() == parse_trace(alloc, text)?)
+}
+
+// Whether main and w wait.
+fn waiting(recording: &Recording) -> (bool, bool) {
+    (
         recording.waiting(0).is_some(),
         recording.waiting(1).is_some(),
-    );
-    Ok(
-        *recording.trace() == parse_trace(alloc, trace)?
-            && recording.end() == end
-            && waiting == waits,
     )
 }
 
-// Whether the hub, from which no job is out, comes to that.
-fn comes_to(
-    alloc: Global,
-    hub: Hub<Script>,
-    picks: &[u64],
-    trace: &[u8],
-    end: End,
-    waits: (bool, bool),
-) -> Result<bool, Fail> {
-    if hub.out() != 0 {
-        return Ok(false);
-    }
-    let recording = record_serial(hub, picks)?;
-    is_recorded(alloc, &recording, trace, end, waits)
+// Whether the row comes as it stands here.
+fn comes(alloc: Global, row: &Row) -> Result<bool, Fail> {
+    let (text, limit, begun, picks, (trace, end, waits)) = *row;
+    let recording = recording_of(alloc, text, limit, begun, picks)?;
+    Ok(
+        recording.end() == end
+            && waiting(&recording) == waits
+            && is_trace(alloc, &recording, trace)?,
+    )
 }
 
 #[test]
 fn programs_run_by_their_picks(rt: HostRuntime) -> Result<(), Fail> {
-    let alloc = rt.alloc();
-    for at in 0..7 {
-        let (text, limit, picks, trace, end, waits) = ROWS[at];
-        let hub = hub_of(alloc, text, limit)?;
-        assert!(rt; comes_to(alloc, hub, picks, trace, end, waits)?);
+    for (at, row) in ROWS.iter().enumerate() {
+        assert!(rt; comes(rt.alloc(), row)?, "row {at}");
     }
     Ok(())
-}
-
-// Lets the goroutine that is ready in one hub go on in the other.
-fn go_on_in(from: &mut Hub<Script>, into: &mut Hub<Script>) -> Result<bool, Fail> {
-    let Some(mut job) = from.take() else {
-        return Ok(false);
-    };
-    job.turn()?;
-    if into.submit(job).is_err() {
-        return Ok(false);
-    }
-    Ok(into.fire(0)?)
-}
-
-fn go_on(hub: &mut Hub<Script>) -> Result<bool, Fail> {
-    let Some(mut job) = hub.take() else {
-        return Ok(false);
-    };
-    job.turn()?;
-    if hub.submit(job).is_err() {
-        return Ok(false);
-    }
-    Ok(hub.fire(0)?)
-}
-
-// A hub whose main has gone on once.
-fn begun(alloc: Global, text: &[u8]) -> Result<Hub<Script>, Fail> {
-    let mut hub = hub_of(alloc, text, 8)?;
-    if go_on(&mut hub)? {
-        Ok(hub)
-    } else {
-        Err(AllocError.into())
-    }
-}
-
-#[test]
-fn a_hub_goes_on_behind_its_events(rt: HostRuntime) -> Result<(), Fail> {
-    let alloc = rt.alloc();
-    let hub = begun(alloc, READS)?;
-    let trace =
-        b"gotrace 1\ngoroutine w\nvar x\ngo main w m:1\nwrite w x 5 w:1\nread main x 5 m:2\nexit w w:2\nexit main m:3\n";
-    assert!(rt; comes_to(alloc, hub, &[1], trace, End::Main, (false, false))?);
-    Ok(())
-}
-
-// Lets main of the other program go on in this hub in place of its own.
-fn exchanged(alloc: Global, hub: &mut Hub<Script>) -> Result<bool, Fail> {
-    let own = hub.take();
-    let mut exits = hub_of(alloc, b"goprogram 1\nvar x\nbody main\nexit m:2\n", 8)?;
-    Ok(go_on_in(&mut exits, hub)? && own.is_some())
 }
 
 // Why the hub isn't recorded, where no job is out.
@@ -223,14 +207,23 @@ fn fault_of(hub: Hub<Script>) -> Option<RecordFault> {
     record_serial(hub, &[]).err()
 }
 
+const WRITES: &[u8] = b"goprogram 1\nvar x\nbody main\nwrite x 5 m:1\nexit m:2\n";
+
+const EXITS: &[u8] = b"goprogram 1\nvar x\nbody main\nexit m:2\n";
+
+// Why a hub isn't recorded in which main of another goes on in place of its own.
+fn exchanged(alloc: Global) -> Result<Option<RecordFault>, Fail> {
+    let mut writes = hub_of(alloc, WRITES, 8)?;
+    let mut exits = hub_of(alloc, EXITS, 8)?;
+    if exchange(&mut writes, &mut exits)? {
+        Ok(fault_of(writes))
+    } else {
+        Ok(None)
+    }
+}
+
 #[test]
 fn a_job_of_another_hub_is_no_part(rt: HostRuntime) -> Result<(), Fail> {
-    let alloc = rt.alloc();
-    let mut writes = begun(
-        alloc,
-        b"goprogram 1\nvar x\nbody main\nwrite x 5 m:1\nexit m:2\n",
-    )?;
-    assert!(rt; exchanged(alloc, &mut writes)?);
-    assert_eq!(rt; fault_of(writes), Some(RecordFault::Mismatch));
+    assert!(rt; exchanged(rt.alloc())? == Some(RecordFault::Mismatch));
     Ok(())
 }

@@ -1,9 +1,7 @@
 //! What is told to a goroutine that selects, by the picks.
 
-use crate::record::runs::hub_of;
-use race_hub::{Answer, Hub};
-use race_record::record_serial;
-use race_script::Script;
+use crate::record::runs::recording_of;
+use race_hub::{Answer, Recording};
 use std::alloc::Global;
 use std::test::Fail;
 
@@ -33,28 +31,22 @@ static ROWS: [Row; 4] = [
     ),
 ];
 
-// Whether main is told that in this step of its log, which has so many.
-fn tells_main(
-    hub: Hub<Script>,
-    picks: &[u64],
-    at: usize,
-    told: Answer,
-    count: usize,
-) -> Result<bool, Fail> {
-    if hub.out() != 0 {
-        return Ok(false);
-    }
-    let recording = record_serial(hub, picks)?;
+// Whether the recording tells main that in this step of its log, which has so many.
+fn tells_main(recording: &Recording, at: usize, told: Answer, count: usize) -> bool {
     let log = recording.logs(0);
-    Ok(at < log.len() && log[at].told == Some(told) && log.len() == count)
+    at < log.len() && log[at].told == Some(told) && log.len() == count
+}
+
+fn comes(alloc: Global, row: &Row) -> Result<bool, Fail> {
+    let (text, picks, at, told, count) = *row;
+    let recording = recording_of(alloc, text, 8, false, picks)?;
+    Ok(tells_main(&recording, at, told, count))
 }
 
 #[test]
 fn who_selects_is_told_by_which_offer_it_went_on(rt: HostRuntime) -> Result<(), Fail> {
-    for at in 0..4 {
-        let (text, picks, step, told, count) = ROWS[at];
-        let hub = hub_of(rt.alloc(), text, 8)?;
-        assert!(rt; tells_main(hub, picks, step, told, count)?);
+    for (at, row) in ROWS.iter().enumerate() {
+        assert!(rt; comes(rt.alloc(), row)?, "row {at}");
     }
     Ok(())
 }

@@ -1,11 +1,11 @@
 //! Texts of programs: which are read, and what is told of the others.
 
-use race_script::{ProgramReader, parse_program};
-use race_text::TextCause;
+use race_script::{Program, ProgramReader, parse_program};
 use race_text::TextCause::{
     BadBlock, BadByte, BadHeader, BadName, BadNumber, LateDeclaration, NoNewline, Taken, TooMany,
     Unknown, UnknownWord, WrongCount, WrongKind,
 };
+use race_text::{TextCause, TextFault};
 use std::alloc::Global;
 
 // A text with its first fault, where it has one.
@@ -119,49 +119,63 @@ static ROWS: [Row; 41] = [
     (b"goprogram 1\n\n", Some((2, UnknownWord))),
 ];
 
-// What is told of a text.
-fn fault_of(alloc: Global, text: &[u8]) -> Option<(u64, TextCause)> {
-    match parse_program(alloc, text) {
+fn told(judged: Result<Program, TextFault>) -> Option<(u64, TextCause)> {
+    match judged {
         Ok(_) => None,
         Err(fault) => Some((fault.line, fault.cause)),
     }
+}
+
+/// What is told of a text.
+pub(crate) fn fault_of(alloc: Global, text: &[u8]) -> Option<(u64, TextCause)> {
+    told(parse_program(alloc, text))
+}
+
+// What is told of the piece. A fault that isn't told again then is of no line.
+fn fed(reader: &mut ProgramReader, piece: &[u8]) -> Result<(), TextFault> {
+    let judged = reader.feed(piece);
+    match judged {
+        Err(fault) if reader.feed(piece) != judged => Err(TextFault { line: 0, ..fault }),
+        _ => judged,
+    }
+}
+
+fn fed_all(reader: &mut ProgramReader, text: &[u8], len: usize) -> Result<(), TextFault> {
+    for piece in text.chunks(len.max(1)) {
+        fed(reader, piece)?;
+    }
+    Ok(())
+}
+
+fn read(alloc: Global, text: &[u8], len: usize) -> Result<Program, TextFault> {
+    let mut reader = ProgramReader::new(alloc);
+    fed_all(&mut reader, text, len)?;
+    reader.finish()
 }
 
 // The same of a text that comes in pieces.
 fn fed_fault_of(alloc: Global, text: &[u8], len: usize) -> Option<(u64, TextCause)> {
-    let mut reader = ProgramReader::new(alloc);
-    for piece in text.chunks(len.max(1)) {
-        if let Err(fault) = reader.feed(piece) {
-            return match reader.feed(piece) {
-                Ok(()) => None,
-                Err(again) => {
-                    if again == fault {
-                        Some((fault.line, fault.cause))
-                    } else {
-                        None
-                    }
-                }
-            };
+    told(read(alloc, text, len))
+}
+
+static LENGTHS: [usize; 3] = [1, 2, 7];
+
+// Whether the fault is told of the whole text, and of its pieces of each length.
+fn is_told(alloc: Global, row: &Row) -> bool {
+    if fault_of(alloc, row.0) != row.1 {
+        return false;
+    }
+    for &len in &LENGTHS {
+        if fed_fault_of(alloc, row.0, len) != row.1 {
+            return false;
         }
     }
-    match reader.finish() {
-        Ok(_) => None,
-        Err(fault) => Some((fault.line, fault.cause)),
-    }
+    true
 }
 
 #[test]
-fn each_text_is_judged(rt: HostRuntime) {
-    for (text, fault) in &ROWS {
-        assert_eq!(rt; fault_of(rt.alloc(), *text), *fault);
-    }
-}
-
-#[test]
-fn pieces_are_judged_as_the_whole(rt: HostRuntime) {
-    for (text, fault) in &ROWS {
-        for &len in &[1, 2, 7] {
-            assert_eq!(rt; fed_fault_of(rt.alloc(), *text, len), *fault);
-        }
+fn each_text_is_judged_whole_and_in_pieces(rt: HostRuntime) {
+    for (at, row) in ROWS.iter().enumerate() {
+        assert!(rt; is_told(rt.alloc(), row), "row {at}");
     }
 }

@@ -30,21 +30,21 @@ pub fn judge(has_refused: bool, refused: bool, done: bool) -> Outcome
 }
 
 /// Lets growth 1, 2, 3 and so on of each call be refused until a run meets no refusal, and asserts
-/// that it answered want of memory so many times.
+/// that it answered want of memory so many times. A call is told by its index in the table.
 #[macro_export]
 macro_rules! assert_refusals {
     ($rt:ident, $run:ident, $calls:expr) => {{
-        for (call, want) in $calls {
+        for (index, (call, want)) in $calls.iter().enumerate() {
             let mut refusals = 0u64;
             for nth in 1..64u64 {
-                match $run($rt.alloc(), call, nth) {
+                match $run($rt.alloc(), *call, nth) {
                     $crate::Outcome::Refused => refusals = refusals.saturating_add(1),
                     $crate::Outcome::DoneWithout => {}
                     $crate::Outcome::Done => break,
-                    $crate::Outcome::Wrong => assert!($rt; false, "{call:?}: wrong at growth {nth}"),
+                    $crate::Outcome::Wrong => assert!($rt; false, "call {index}: wrong at growth {nth}"),
                 }
             }
-            assert_eq!($rt; refusals, want, "{call:?}");
+            assert_eq!($rt; refusals, *want, "call {index}");
         }
     }};
 }

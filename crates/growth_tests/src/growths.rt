@@ -41,7 +41,7 @@ macro_rules! assert_refusals {
                     $crate::Outcome::Refused => refusals = refusals.saturating_add(1),
                     $crate::Outcome::DoneWithout => {}
                     $crate::Outcome::Done => break,
-                    $crate::Outcome::Wrong => assert!($rt; false, "call {index}: wrong at growth {nth}"),
+                    $crate::Outcome::Wrong => panic!($rt; "call {index}: wrong at growth {nth}"),
                 }
             }
             assert_eq!($rt; refusals, *want, "call {index}");

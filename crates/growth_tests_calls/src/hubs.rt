@@ -111,12 +111,13 @@ const MEET: Script = Script {
 };
 
 // The first state has no event, and main is the one that is ready.
-fn first<A: Allocator>(mut hub: Hub<Asks, A>) -> Reply {
-    let is_first = hub.trace().is_empty() && hub.end() == None && hub.out() == 0;
-    match hub.take() {
-        Some(job) if is_first && job.who() == 0 && hub.out() == 1 => Reply::Right,
-        _ => Reply::Wrong,
-    }
+fn is_first<A: Allocator>(hub: &mut Hub<Asks, A>) -> bool {
+    let is_unplayed = hub.trace().is_empty() && hub.end() == None && hub.out() == 0;
+    let ready = match hub.take() {
+        Some(job) => Some(job.who()),
+        None => None,
+    };
+    is_unplayed && ready == Some(0) && hub.out() == 1
 }
 
 // A growth is refused in the call.
@@ -127,7 +128,7 @@ fn made(heap: &RefusingHeap<Global>, script: Script, nth: u64) -> Reply
         (Some(decls), Some(boxes)) => {
             heap.refuse(nth);
             match Hub::new(heap, decls, 64, boxes) {
-                Ok(hub) => first(hub),
+                Ok(mut hub) => right_if(is_first(&mut hub)),
                 Err(fault) => refused_if(fault == HubFault::OutOfMemory),
             }
         }

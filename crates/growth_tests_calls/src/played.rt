@@ -93,19 +93,16 @@ pub(crate) fn declared<A: Allocator + Copy>(heap: A) -> Option<Decls<A>> {
 /// Their boxes.
 pub(crate) fn boxes<A: Allocator>(heap: A, script: Script) -> Option<Vec<Asks, A>> {
     let mut boxes = Vec::new(heap);
-    let main = Asks {
-        asks: script.main,
-        calls: 0,
-    };
-    boxes.push(main).ok()?;
-    for _ in 0..4 {
-        let other = Asks {
-            asks: script.others,
-            calls: 0,
+    let mut are_all = true;
+    for goroutine in 0..5 {
+        let asks = if goroutine == 0 {
+            script.main
+        } else {
+            script.others
         };
-        boxes.push(other).ok()?;
+        are_all &= boxes.push(Asks { asks, calls: 0 }).is_ok();
     }
-    Some(boxes)
+    if are_all { Some(boxes) } else { None }
 }
 
 /// The job that is ready longest, once it has asked.

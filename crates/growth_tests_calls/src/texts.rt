@@ -1,4 +1,5 @@
 //! The calls of race_text.
+ghost use Rattle.std.specs.Prelude.{◌<◌};
 
 use crate::calls::{Growing, Reply, assert_each, refused_if, right_if};
 use crate::records::{Start, is_as_started, started};

@@ -36,15 +36,21 @@ macro_rules! assert_refusals {
     ($rt:ident, $run:ident, $calls:expr) => {{
         for (index, (call, want)) in $calls.iter().enumerate() {
             let mut refusals = 0u64;
+            let mut wrong_at = 0u64;
             for nth in 1..64u64 {
                 match $run($rt.alloc(), *call, nth) {
                     $crate::Outcome::Refused => refusals = refusals.saturating_add(1),
                     $crate::Outcome::DoneWithout => {}
                     $crate::Outcome::Done => break,
-                    $crate::Outcome::Wrong => panic!($rt; "call {index}: wrong at growth {nth}"),
+                    $crate::Outcome::Wrong => {
+                        wrong_at = nth;
+                        break;
+                    }
                 }
             }
-            assert_eq!($rt; refusals, *want, "call {index}");
+            // Growths are counted from 1.
+            let is_right = wrong_at == 0 && refusals == *want;
+            assert!($rt; is_right, "call {index}: {refusals} refused, wrong at {wrong_at}");
         }
     }};
 }

@@ -6,7 +6,7 @@ use crate::played::{
     Asks, Move, Plain, Script, are_alike, are_jobs_alike, asked, boxes, declared, played,
 };
 use race_hub::{Hub, HubFault, Job, SubmitFault};
-use race_records::Op;
+use race_records::{Decls, Op};
 use refusing_heap::RefusingHeap;
 use std::alloc::{Allocator, Global};
 
@@ -120,6 +120,13 @@ fn is_first<A: Allocator>(hub: &mut Hub<Asks, A>) -> bool {
     is_unplayed && ready == Some(0) && hub.out() == 1
 }
 
+fn new<A: Allocator + Copy>(heap: A, decls: Decls<A>, boxes: Vec<Asks, A>) -> Reply {
+    match Hub::new(heap, decls, 64, boxes) {
+        Ok(mut hub) => right_if(is_first(&mut hub)),
+        Err(fault) => refused_if(fault == HubFault::OutOfMemory),
+    }
+}
+
 // A growth is refused in the call.
 fn made(heap: &RefusingHeap<Global>, script: Script, nth: u64) -> Reply
     requires { 0 < nth }
@@ -127,10 +134,7 @@ fn made(heap: &RefusingHeap<Global>, script: Script, nth: u64) -> Reply
     match (declared(heap), boxes(heap, script)) {
         (Some(decls), Some(boxes)) => {
             heap.refuse(nth);
-            match Hub::new(heap, decls, 64, boxes) {
-                Ok(mut hub) => right_if(is_first(&mut hub)),
-                Err(fault) => refused_if(fault == HubFault::OutOfMemory),
-            }
+            new(heap, decls, boxes)
         }
         _ => Reply::Wrong,
     }

@@ -41,13 +41,14 @@ fn accept<A: Allocator>(replay: &mut Replay<A>, event: &Event) -> Reply
 fn accepted(heap: &RefusingHeap<Global>, nth: u64, trace: &Trace<&RefusingHeap<Global>>) -> Reply
     requires { 0 < nth }
 {
-    match Replay::new(heap, trace.decls()) {
-        Ok(mut replay) if !trace.is_empty() => {
-            heap.refuse(nth);
-            accept(&mut replay, trace.event(0))
-        }
-        _ => Reply::Wrong,
+    if trace.is_empty() {
+        return Reply::Wrong;
     }
+    let Ok(mut replay) = Replay::new(heap, trace.decls()) else {
+        return Reply::Wrong;
+    };
+    heap.refuse(nth);
+    accept(&mut replay, trace.event(0))
 }
 
 fn judged<A: Allocator + Copy>(heap: A, trace: &Trace<A>) -> Reply {

@@ -29,28 +29,14 @@ pub fn judge(has_refused: bool, refused: bool, done: bool) -> Outcome
     }
 }
 
-/// Lets growth 1, 2, 3 and so on of each call be refused until a run meets no refusal, and asserts
-/// that it answered want of memory so many times. A call is told by its index in the table.
+/// Asserts of each call of a table how often it answers want of memory where growth 1, 2, 3 and so on
+/// is refused: `refusals` counts it, or gives none. A call is told by its index.
 #[macro_export]
 macro_rules! assert_refusals {
-    ($rt:ident, $run:ident, $calls:expr) => {{
+    ($rt:ident, $refusals:ident, $calls:expr) => {{
         for (index, (call, want)) in $calls.iter().enumerate() {
-            let mut refusals = 0u64;
-            let mut wrong_at = 0u64;
-            for nth in 1..64u64 {
-                match $run($rt.alloc(), *call, nth) {
-                    $crate::Outcome::Refused => refusals = refusals.saturating_add(1),
-                    $crate::Outcome::DoneWithout => {}
-                    $crate::Outcome::Done => break,
-                    $crate::Outcome::Wrong => {
-                        wrong_at = nth;
-                        break;
-                    }
-                }
-            }
-            // Growths are counted from 1.
-            let is_right = wrong_at == 0 && refusals == *want;
-            assert!($rt; is_right, "call {index}: {refusals} refused, wrong at {wrong_at}");
+            let is_right = $refusals($rt.alloc(), *call) == Some(*want);
+            assert!($rt; is_right, "call {index}");
         }
     }};
 }

@@ -48,7 +48,21 @@ fn outcome<C: Growing>(alloc: Global, call: C, nth: u64) -> Outcome
     )
 }
 
+// How often the call answers want of memory until a run meets no refusal, or none where a run is wrong.
+fn refusals<C: Growing>(alloc: Global, call: C) -> Option<u64> {
+    let mut refusals = 0u64;
+    for nth in 1..64u64 {
+        match outcome(alloc, call, nth) {
+            Outcome::Refused => refusals = refusals.saturating_add(1),
+            Outcome::DoneWithout => {}
+            Outcome::Done => return Some(refusals),
+            Outcome::Wrong => return None,
+        }
+    }
+    None
+}
+
 /// Asserts how often each call answers want of memory.
 pub(crate) fn assert_each<C: Growing>(rt: &(impl Abort + AllocGlobal), calls: &[(C, u64)]) {
-    assert_refusals!(rt, outcome, calls);
+    assert_refusals!(rt, refusals, calls);
 }

@@ -29,22 +29,14 @@ pub fn judge(has_refused: bool, refused: bool, done: bool) -> Outcome
     }
 }
 
-/// Lets growth 1, 2, 3 and so on of each call be refused until a run meets no refusal, and asserts
-/// that it answered want of memory so many times.
+/// Asserts of each call of a table how often it answers want of memory where growth 1, 2, 3 and so on
+/// is refused: `refusals` counts it, or gives none. A call is told by its index.
 #[macro_export]
 macro_rules! assert_refusals {
-    ($rt:ident, $run:ident, $calls:expr) => {{
-        for (call, want) in $calls {
-            let mut refusals = 0u64;
-            for nth in 1..64u64 {
-                match $run($rt.alloc(), call, nth) {
-                    $crate::Outcome::Refused => refusals = refusals.saturating_add(1),
-                    $crate::Outcome::DoneWithout => {}
-                    $crate::Outcome::Done => break,
-                    $crate::Outcome::Wrong => assert!($rt; false, "{call:?}: wrong at growth {nth}"),
-                }
-            }
-            assert_eq!($rt; refusals, want, "{call:?}");
+    ($rt:ident, $refusals:ident, $calls:expr) => {{
+        for (index, (call, want)) in $calls.iter().enumerate() {
+            let is_right = $refusals($rt.alloc(), *call) == Some(*want);
+            assert!($rt; is_right, "call {index}");
         }
     }};
 }

@@ -1,14 +1,13 @@
 //! The calls of race_access.
-ghost use Rattle.std.specs.Prelude.{◌<◌};
 
-use growth_tests::{Outcome, assert_refusals, judge};
+use crate::calls::{Growing, Reply, assert_each, refused_if, right_if};
 use race_access::VarState;
 use race_clock::{Clock, Stamp};
 use refusing_heap::RefusingHeap;
 use std::alloc::{Allocator, Global};
 
 /// What the goroutines, which know nothing of one another, do with a variable.
-#[derive(Clone, Copy, Debug)]
+#[derive(Clone, Copy)]
 enum Call {
     /// One reads.
     OneReads,
@@ -27,66 +26,52 @@ fn stamp(at: u32, who: u32, write: bool) -> Stamp {
     }
 }
 
-// So many reads, of which one may be refused: then no race is told, and it is made again. How many
-// were refused, or none where something else went wrong.
-fn read_by<A: Allocator + Copy>(
-    state: &mut VarState<A>,
-    clock: &Clock<A>,
-    readers: u32,
-) -> Option<u32> {
-    let mut refused = 0u32;
-    for who in 1..=readers {
+// The reads of goroutine 1 and those up to this one. One may be refused: then no race is told, and it
+// is made again.
+fn read_up_to<A: Allocator + Copy>(state: &mut VarState<A>, clock: &Clock<A>, last: u32) -> Reply {
+    let mut reply = Reply::Right;
+    for who in 1..=last {
         let stamp = stamp(who, who, false);
         if state.touch(&stamp, clock).is_err() {
-            refused = refused.saturating_add(1);
-            if state.raced().is_some() || state.touch(&stamp, clock).is_err() {
-                return None;
-            }
+            let is_as_before = reply == Reply::Right && state.raced().is_none();
+            reply = refused_if(is_as_before && state.touch(&stamp, clock).is_ok());
         }
     }
-    Some(refused)
+    reply
 }
 
 // Main's write races with the last read. From then on nothing is taken.
 fn races_on<A: Allocator + Copy>(state: &mut VarState<A>, clock: &Clock<A>) -> bool {
-    if state.touch(&stamp(7, 0, true), clock).is_err() {
-        return false;
-    }
+    let mut is_taken = state.touch(&stamp(7, 0, true), clock).is_ok();
     for who in 8..108 {
-        if state.touch(&stamp(who, who, who % 2 == 0), clock).is_err() {
-            return false;
-        }
+        is_taken &= state.touch(&stamp(who, who, who % 2 == 0), clock).is_ok();
     }
-    state.raced() == Some((6, 7))
+    is_taken && state.raced() == Some((6, 7))
 }
 
-fn on_a_variable(alloc: Global, call: Call, nth: u64) -> Outcome
-    requires { 0 < nth }
-{
-    let heap = RefusingHeap::new(alloc);
-    let mut state = VarState::new(&heap);
-    let clock = Clock::new(&heap);
-    heap.refuse(nth);
-    let (refused, right) = match call {
-        Call::OneReads => (read_by(&mut state, &clock, 1), true),
-        Call::ManyFollow => {
-            let refused = read_by(&mut state, &clock, 6);
-            (refused, races_on(&mut state, &clock))
+impl Growing for Call {
+    fn reply(self, heap: &RefusingHeap<Global>, nth: u64) -> Reply {
+        let mut state = VarState::new(heap);
+        let clock = Clock::new(heap);
+        heap.refuse(nth);
+        match self {
+            Call::OneReads => read_up_to(&mut state, &clock, 1),
+            Call::ManyFollow => {
+                let reply = read_up_to(&mut state, &clock, 6);
+                if races_on(&mut state, &clock) {
+                    reply
+                } else {
+                    Reply::Wrong
+                }
+            }
         }
-    };
-    judge(
-        heap.has_refused(),
-        refused == Some(1) && right,
-        refused == Some(0) && right,
-    )
+    }
 }
+
+// A read beside another takes a list, which grows with the fifth.
+static CALLS: [(Call, u64); 2] = [(Call::OneReads, 0), (Call::ManyFollow, 2)];
 
 #[test]
 fn accesses(rt: HostRuntime) {
-    assert_refusals!(
-        rt,
-        on_a_variable,
-        // A read beside another takes a list, which grows with the fifth.
-        [(Call::OneReads, 0), (Call::ManyFollow, 2)]
-    );
+    assert_each(&rt, &CALLS);
 }

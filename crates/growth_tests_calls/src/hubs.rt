@@ -1,153 +1,140 @@
 //! The calls of a hub.
 ghost use Rattle.std.specs.Prelude.{◌<◌};
 
+use crate::calls::{Growing, Reply, assert_each, refused_if, right_if};
 use crate::played::{
     Asks, Move, Plain, Script, are_alike, are_jobs_alike, asked, boxes, declared, played,
 };
-use growth_tests::{Outcome, assert_refusals, judge};
 use race_hub::{Hub, HubFault, Job, SubmitFault};
-use race_records::Op;
+use race_records::{Decls, Op};
 use refusing_heap::RefusingHeap;
 use std::alloc::{Allocator, Global};
 
-/// A call of a hub.
-#[derive(Clone, Copy, Debug)]
+/// The event of a firing.
+#[derive(Clone, Copy)]
+enum Happening {
+    Write,
+    Send,
+    OnceBegin,
+    Meet,
+}
+
+/// A call of a hub that was played so far.
+#[derive(Clone, Copy)]
 enum Call {
     New,
-    /// Nobody waits.
     Submit,
-    /// One waits.
-    SubmitSecond,
-    /// Four wait.
-    SubmitFifth,
-    FireWrite,
-    FireSend,
-    FireOnceBegin,
-    /// Two are ready, and the event is the fifth.
-    FireFifth,
-    /// Sender and receiver wait, and the event is the fifth.
-    FireMeet,
+    Fire(Happening),
 }
 
-static NONE: [Move; 0] = [];
+const STARTS: &[Plain] = &[Plain::Go(1), Plain::Go(2), Plain::Go(3), Plain::Go(4)];
 
-static ASK: [Move; 1] = [Move::Ask];
+const QUIET: Script = Script {
+    main: &[],
+    others: &[],
+    moves: &[],
+};
+
 // Main starts w1, and one of them waits.
-static ONE_WAITS: [Move; 2] = [Move::Step, Move::Ask];
+const ONE_WAITS: Script = Script {
+    main: STARTS,
+    others: &[],
+    moves: &[Move::Step, Move::Ask],
+};
+
 // Main starts all, and all but w4 wait.
-static FOUR_WAIT: [Move; 10] = [
-    Move::Step,
-    Move::Step,
-    Move::Ask,
-    Move::Ask,
-    Move::Fire(1),
-    Move::Ask,
-    Move::Ask,
-    Move::Fire(2),
-    Move::Ask,
-    Move::Ask,
-];
-// Main writes twice and starts w1 and w2, and w1 asks.
-static FIFTH: [Move; 5] = [Move::Step, Move::Step, Move::Step, Move::Step, Move::Ask];
-// Main writes three times and starts w1, and both ask.
-static MEET: [Move; 6] = [
-    Move::Step,
-    Move::Step,
-    Move::Step,
-    Move::Step,
-    Move::Ask,
-    Move::Ask,
-];
+const FOUR_WAIT: Script = Script {
+    main: STARTS,
+    others: &[],
+    moves: &[
+        Move::Step,
+        Move::Step,
+        Move::Ask,
+        Move::Ask,
+        Move::Fire(1),
+        Move::Ask,
+        Move::Ask,
+        Move::Fire(2),
+        Move::Ask,
+        Move::Ask,
+    ],
+};
 
-static SENDS: [Plain; 1] = [Plain::Send(0, 7)];
+const MAIN_WRITES: Script = Script {
+    main: &[],
+    others: &[],
+    moves: &[Move::Ask],
+};
 
-static BEGINS: [Plain; 1] = [Plain::Do(0)];
+const MAIN_SENDS: Script = Script {
+    main: &[Plain::Send(0, 7)],
+    others: &[],
+    moves: &[Move::Ask],
+};
 
-static STARTS: [Plain; 4] = [Plain::Go(1), Plain::Go(2), Plain::Go(3), Plain::Go(4)];
+const MAIN_BEGINS: Script = Script {
+    main: &[Plain::Do(0)],
+    others: &[],
+    moves: &[Move::Ask],
+};
 
-static WRITES_AND_STARTS: [Plain; 4] = [
-    Plain::Write(0, 1),
-    Plain::Write(0, 2),
-    Plain::Go(1),
-    Plain::Go(2),
-];
+// Main writes twice and starts w1 and w2, and w1 asks. Two are ready, and the event is the fifth.
+const FIFTH: Script = Script {
+    main: &[
+        Plain::Write(0, 1),
+        Plain::Write(0, 2),
+        Plain::Go(1),
+        Plain::Go(2),
+    ],
+    others: &[],
+    moves: &[Move::Step, Move::Step, Move::Step, Move::Step, Move::Ask],
+};
 
-static HANDS_OVER: [Plain; 5] = [
-    Plain::Write(0, 1),
-    Plain::Write(0, 2),
-    Plain::Write(0, 3),
-    Plain::Go(1),
-    Plain::Send(1, 7),
-];
-
-static RECEIVES: [Plain; 1] = [Plain::Recv(Some(1))];
-
-fn script_of(call: Call) -> Script {
-    let (main, others, moves): (&'static [Plain], &'static [Plain], &'static [Move]) = match call {
-        Call::New | Call::Submit => (&[], &[], &NONE),
-        Call::SubmitSecond => (&STARTS, &[], &ONE_WAITS),
-        Call::SubmitFifth => (&STARTS, &[], &FOUR_WAIT),
-        Call::FireWrite => (&[], &[], &ASK),
-        Call::FireSend => (&SENDS, &[], &ASK),
-        Call::FireOnceBegin => (&BEGINS, &[], &ASK),
-        Call::FireFifth => (&WRITES_AND_STARTS, &[], &FIFTH),
-        Call::FireMeet => (&HANDS_OVER, &RECEIVES, &MEET),
-    };
-    Script {
-        main,
-        others,
-        moves,
-    }
-}
-
-/// What a call answered.
-#[derive(Clone, Copy, PartialEq, Eq)]
-enum Reply {
-    OutOfMemory,
-    Right,
-    Wrong,
-}
+// Main writes three times and starts w1, and both ask. Sender and receiver wait, and the event is the fifth.
+const MEET: Script = Script {
+    main: &[
+        Plain::Write(0, 1),
+        Plain::Write(0, 2),
+        Plain::Write(0, 3),
+        Plain::Go(1),
+        Plain::Send(1, 7),
+    ],
+    others: &[Plain::Recv(Some(1))],
+    moves: &[
+        Move::Step,
+        Move::Step,
+        Move::Step,
+        Move::Step,
+        Move::Ask,
+        Move::Ask,
+    ],
+};
 
 // The first state has no event, and main is the one that is ready.
-fn first<A: Allocator>(mut hub: Hub<Asks, A>) -> Reply {
-    let is_first = hub.trace().is_empty() && hub.end() == None && hub.out() == 0;
-    match hub.take() {
-        Some(job) if is_first && job.who() == 0 && hub.out() == 1 => Reply::Right,
-        _ => Reply::Wrong,
+fn is_first<A: Allocator>(hub: &mut Hub<Asks, A>) -> bool {
+    let is_unplayed = hub.trace().is_empty() && hub.end() == None && hub.out() == 0;
+    let ready = match hub.take() {
+        Some(job) => Some(job.who()),
+        None => None,
+    };
+    is_unplayed && ready == Some(0) && hub.out() == 1
+}
+
+fn new<A: Allocator + Copy>(heap: A, decls: Decls<A>, boxes: Vec<Asks, A>) -> Reply {
+    match Hub::new(heap, decls, 64, boxes) {
+        Ok(mut hub) => right_if(is_first(&mut hub)),
+        Err(fault) => refused_if(fault == HubFault::OutOfMemory),
     }
 }
 
 // A growth is refused in the call.
-fn made(heap: &RefusingHeap<Global>, nth: u64) -> Reply
+fn made(heap: &RefusingHeap<Global>, script: Script, nth: u64) -> Reply
     requires { 0 < nth }
 {
-    let (Some(decls), Some(boxes)) = (declared(heap), boxes(heap, script_of(Call::New))) else {
-        return Reply::Wrong;
-    };
-    heap.refuse(nth);
-    match Hub::new(heap, decls, 64, boxes) {
-        Ok(hub) => first(hub),
-        Err(HubFault::OutOfMemory) => Reply::OutOfMemory,
-        Err(_) => Reply::Wrong,
-    }
-}
-
-// The job comes back whole, so that it waits once it is put back again.
-fn put_back<A: Allocator>(
-    hub: &mut Hub<Asks, A>,
-    job: Job<Asks, A>,
-    twin: &Hub<Asks, A>,
-    twin_job: &Job<Asks, A>,
-) -> Reply {
-    match hub.submit(job) {
-        Ok(()) if waits(hub, twin, twin_job) => Reply::Right,
-        Err(SubmitFault::OutOfMemory(job)) => {
-            let is_as_before = are_alike(hub, twin) && are_jobs_alike(&job, twin_job);
-            if is_as_before && hub.submit(job).is_ok() && waits(hub, twin, twin_job) {
-                Reply::OutOfMemory
-            } else {
-                Reply::Wrong
-            }
+    match (declared(heap), boxes(heap, script)) {
+        (Some(decls), Some(boxes)) => {
+            heap.refuse(nth);
+            new(heap, decls, boxes)
         }
         _ => Reply::Wrong,
     }
@@ -162,30 +149,56 @@ fn waits<A: Allocator>(hub: &Hub<Asks, A>, twin: &Hub<Asks, A>, twin_job: &Job<A
     }
 }
 
+// Puts back the job that came back: it is whole, so that it waits then.
+fn put_again<A: Allocator>(
+    hub: &mut Hub<Asks, A>,
+    job: Job<Asks, A>,
+    twin: &Hub<Asks, A>,
+    twin_job: &Job<Asks, A>,
+) -> bool {
+    let is_as_before = are_alike(hub, twin) && are_jobs_alike(&job, twin_job);
+    let is_put_back = hub.submit(job).is_ok();
+    is_as_before && is_put_back && waits(hub, twin, twin_job)
+}
+
+fn put_back<A: Allocator>(
+    hub: &mut Hub<Asks, A>,
+    job: Job<Asks, A>,
+    twin: &Hub<Asks, A>,
+    twin_job: &Job<Asks, A>,
+) -> Reply {
+    match hub.submit(job) {
+        Ok(()) => right_if(waits(hub, twin, twin_job)),
+        Err(SubmitFault::OutOfMemory(job)) => refused_if(put_again(hub, job, twin, twin_job)),
+        Err(_) => Reply::Wrong,
+    }
+}
+
 // A growth is refused where a job is put back.
-fn submitted(heap: &RefusingHeap<Global>, call: Call, nth: u64) -> Reply
+fn submitted<'a>(
+    heap: &'a RefusingHeap<Global>,
+    nth: u64,
+    hub: &mut Hub<Asks, &'a RefusingHeap<Global>>,
+    twin: &mut Hub<Asks, &'a RefusingHeap<Global>>,
+) -> Reply
     requires { 0 < nth }
 {
-    let (Some(mut hub), Some(mut twin)) = (
-        played(heap, script_of(call)),
-        played(heap, script_of(call)),
-    ) else {
-        return Reply::Wrong;
-    };
-    let (Some(job), Some(twin_job)) = (asked(&mut hub), asked(&mut twin)) else {
-        return Reply::Wrong;
-    };
-    heap.refuse(nth);
-    put_back(&mut hub, job, &twin, &twin_job)
+    match (asked(hub), asked(twin)) {
+        (Some(job), Some(twin_job)) => {
+            heap.refuse(nth);
+            put_back(hub, job, twin, &twin_job)
+        }
+        _ => Reply::Wrong,
+    }
 }
 
 // What happens in the event.
-fn op_of(call: Call) -> Op {
-    match call {
-        Call::FireSend => Op::Send(0, 7),
-        Call::FireOnceBegin => Op::OnceBegin(0),
-        Call::FireMeet => Op::Meet(1, 1, 7),
-        _ => Op::Write(0, 1),
+fn op_of(happening: Happening) -> Op {
+    match happening {
+        Happening::Write => Op::Write(0, 1),
+        Happening::Send => Op::Send(0, 7),
+        Happening::OnceBegin => Op::OnceBegin(0),
+        Happening::Meet => Op::Meet(1, 1, 7),
     }
 }
 
@@ -197,65 +210,65 @@ fn has_happened<A: Allocator>(hub: &Hub<Asks, A>, twin: &Hub<Asks, A>, op: &Op) 
 
 // A firing that is refused has done nothing, so that the choice is there still.
 fn fire<A: Allocator + Copy>(hub: &mut Hub<Asks, A>, twin: &Hub<Asks, A>, op: &Op) -> Reply {
-    let answer = hub.fire(0);
-    let is_as_before = are_alike(hub, twin);
-    match answer {
-        Ok(true) if has_happened(hub, twin, op) => Reply::Right,
-        Err(_) if is_as_before && hub.fire(0) == Ok(true) && has_happened(hub, twin, op) =>
-            Reply::OutOfMemory,
-        _ => Reply::Wrong,
+    match hub.fire(0) {
+        Ok(is_fired) => right_if(is_fired && has_happened(hub, twin, op)),
+        Err(_) => refused_if(
+            are_alike(hub, twin) && hub.fire(0) == Ok(true) && has_happened(hub, twin, op),
+        ),
     }
 }
 
-// A growth is refused in the firing.
-fn fired(heap: &RefusingHeap<Global>, call: Call, nth: u64) -> Reply
-    requires { 0 < nth }
-{
-    let (Some(mut hub), Some(twin)) = (played(heap, script_of(call)), played(heap, script_of(call)))
-    else {
-        return Reply::Wrong;
-    };
-    heap.refuse(nth);
-    fire(&mut hub, &twin, &op_of(call))
+/// A call behind what was played.
+#[derive(Clone, Copy)]
+struct Row(Call, Script);
+
+impl Row {
+    fn beside_a_twin(self, heap: &RefusingHeap<Global>, nth: u64) -> Reply
+        requires { 0 < nth }
+    {
+        let Row(call, script) = self;
+        match (played(heap, script), played(heap, script)) {
+            (Some(mut hub), Some(mut twin)) => match call {
+                Call::Fire(happening) => {
+                    heap.refuse(nth);
+                    fire(&mut hub, &twin, &op_of(happening))
+                }
+                _ => submitted(heap, nth, &mut hub, &mut twin),
+            },
+            _ => Reply::Wrong,
+        }
+    }
 }
 
-fn on_a_hub(alloc: Global, call: Call, nth: u64) -> Outcome
-    requires { 0 < nth }
-{
-    let heap = RefusingHeap::new(alloc);
-    let reply = match call {
-        Call::New => made(&heap, nth),
-        Call::Submit | Call::SubmitSecond | Call::SubmitFifth => submitted(&heap, call, nth),
-        _ => fired(&heap, call, nth),
-    };
-    judge(
-        heap.has_refused(),
-        reply == Reply::OutOfMemory,
-        reply == Reply::Right,
-    )
+impl Growing for Row {
+    fn reply(self, heap: &RefusingHeap<Global>, nth: u64) -> Reply {
+        match self {
+            Row(Call::New, script) => made(heap, script, nth),
+            _ => self.beside_a_twin(heap, nth),
+        }
+    }
 }
+
+static CALLS: [(Row, u64); 9] = [
+    // The replay's lists, the five boxes and their logs' places in lists that grow twice, who is ready
+    // and who is out.
+    (Row(Call::New, QUIET), 17),
+    // The requests, and what stands behind them: nobody waits, one does, four do.
+    (Row(Call::Submit, QUIET), 2),
+    (Row(Call::Submit, ONE_WAITS), 0),
+    (Row(Call::Submit, FOUR_WAIT), 2),
+    // Who is through, and the trace.
+    (Row(Call::Fire(Happening::Write), MAIN_WRITES), 2),
+    // The channel's queue too, and the goroutine's onces.
+    (Row(Call::Fire(Happening::Send), MAIN_SENDS), 3),
+    (Row(Call::Fire(Happening::OnceBegin), MAIN_BEGINS), 3),
+    // Who is ready and who is out, and the trace.
+    (Row(Call::Fire(Happening::Write), FIFTH), 3),
+    // The trace.
+    (Row(Call::Fire(Happening::Meet), MEET), 1),
+];
 
 #[test]
 fn hubs(rt: HostRuntime) {
-    assert_refusals!(
-        rt,
-        on_a_hub,
-        [
-            // The replay's lists, the five boxes and their logs' places in lists that grow twice, who is ready and who is out.
-            (Call::New, 17),
-            // The requests, and what stands behind them.
-            (Call::Submit, 2),
-            (Call::SubmitSecond, 0),
-            (Call::SubmitFifth, 2),
-            // Who is through, and the trace.
-            (Call::FireWrite, 2),
-            // The channel's queue too, and the goroutine's onces.
-            (Call::FireSend, 3),
-            (Call::FireOnceBegin, 3),
-            // Who is ready and who is out, and the trace.
-            (Call::FireFifth, 3),
-            // The trace.
-            (Call::FireMeet, 1)
-        ]
-    );
+    assert_each(&rt, &CALLS);
 }

@@ -1,43 +1,34 @@
 //! The turn of a job.
-ghost use Rattle.std.specs.Prelude.{◌<◌};
 
+use crate::calls::{Growing, Reply, assert_each, refused_if, right_if};
 use crate::played::{Asks, Move, Script, are_jobs_alike, asked, played};
-use growth_tests::{Outcome, assert_refusals, judge};
 use race_hub::{Ask, Job, Request};
 use refusing_heap::RefusingHeap;
-use std::alloc::{Allocator, Global};
+use std::alloc::{AllocError, Allocator, Global};
 
 /// A turn of main, which writes again and again how often its box was called.
-#[derive(Clone, Copy, Debug)]
+#[derive(Clone, Copy)]
 enum Call {
     /// Behind so many answers.
-    Turn(u64),
+    Turn(&'static [Move]),
     /// Once more, behind the first.
     Again,
 }
 
-static NONE: [Move; 0] = [];
-
-static ONE: [Move; 1] = [Move::Step];
-
-static FOUR: [Move; 4] = [Move::Step, Move::Step, Move::Step, Move::Step];
-
-fn script_of(call: Call) -> Script {
-    let moves: &'static [Move] = match call {
-        Call::Turn(1) => &ONE,
-        Call::Turn(4) => &FOUR,
-        _ => &NONE,
-    };
-    Script {
-        main: &[],
-        others: &[],
-        moves,
-    }
-}
-
 // Main's job before the call.
 fn job_of<A: Allocator + Copy>(heap: A, call: Call) -> Option<Job<Asks, A>> {
-    let mut hub = played(heap, script_of(call))?;
+    let moves: &'static [Move] = match call {
+        Call::Turn(moves) => moves,
+        Call::Again => &[],
+    };
+    let mut hub = played(
+        heap,
+        Script {
+            main: &[],
+            others: &[],
+            moves,
+        },
+    )?;
     match call {
         Call::Turn(_) => hub.take(),
         Call::Again => asked(&mut hub),
@@ -47,7 +38,7 @@ fn job_of<A: Allocator + Copy>(heap: A, call: Call) -> Option<Job<Asks, A>> {
 // What the box asks when it is called for the first time behind so many answers.
 fn request_of(call: Call) -> Request {
     let answers = match call {
-        Call::Turn(answers) => answers,
+        Call::Turn(moves) => moves.len() as u64,
         Call::Again => 0,
     };
     Request {
@@ -56,67 +47,45 @@ fn request_of(call: Call) -> Request {
     }
 }
 
-/// What a turn answered.
-#[derive(Clone, Copy, PartialEq, Eq)]
-enum Reply {
-    OutOfMemory,
-    Right,
-    Wrong,
+// Whether a turn gives this request, and it is kept.
+fn gives<A: Allocator>(job: &mut Job<Asks, A>, wanted: &Request) -> Result<bool, AllocError> {
+    let request = job.turn()?;
+    Ok(request == *wanted && job.asked() == Some(request))
 }
 
 // A turn that is refused has called nothing: the next one gives what the box asks when it is called once.
-fn turn<A: Allocator>(job: &mut Job<Asks, A>, twin: &Job<Asks, A>, call: Call) -> Reply {
-    match job.turn() {
-        Ok(request) => if request == request_of(call) && job.asked() == Some(request) {
-            Reply::Right
-        } else {
-            Reply::Wrong
-        },
-        Err(_) => if are_jobs_alike(job, twin) && job.turn() == Ok(request_of(call)) {
-            Reply::OutOfMemory
-        } else {
-            Reply::Wrong
-        },
+fn turn<A: Allocator>(job: &mut Job<Asks, A>, twin: &Job<Asks, A>, wanted: &Request) -> Reply {
+    match gives(job, wanted) {
+        Ok(is_right) => right_if(is_right),
+        Err(_) => refused_if(are_jobs_alike(job, twin) && gives(job, wanted) == Ok(true)),
     }
 }
 
-// A growth is refused in the turn.
-fn turned(heap: &RefusingHeap<Global>, call: Call, nth: u64) -> Reply
-    requires { 0 < nth }
-{
-    match (job_of(heap, call), job_of(heap, call)) {
-        (Some(mut job), Some(twin)) => {
-            heap.refuse(nth);
-            turn(&mut job, &twin, call)
+impl Growing for Call {
+    fn reply(self, heap: &RefusingHeap<Global>, nth: u64) -> Reply {
+        match (job_of(heap, self), job_of(heap, self)) {
+            (Some(mut job), Some(twin)) => {
+                heap.refuse(nth);
+                turn(&mut job, &twin, &request_of(self))
+            }
+            _ => Reply::Wrong,
         }
-        _ => Reply::Wrong,
     }
 }
 
-fn on_a_job(alloc: Global, call: Call, nth: u64) -> Outcome
-    requires { 0 < nth }
-{
-    let heap = RefusingHeap::new(alloc);
-    let reply = turned(&heap, call, nth);
-    judge(
-        heap.has_refused(),
-        reply == Reply::OutOfMemory,
-        reply == Reply::Right,
-    )
-}
+static CALLS: [(Call, u64); 4] = [
+    // The log is made with room for four steps, and grows with the fifth.
+    (Call::Turn(&[]), 1),
+    (Call::Turn(&[Move::Step]), 0),
+    (
+        Call::Turn(&[Move::Step, Move::Step, Move::Step, Move::Step]),
+        1,
+    ),
+    // The kept request is given.
+    (Call::Again, 0),
+];
 
 #[test]
 fn turns(rt: HostRuntime) {
-    assert_refusals!(
-        rt,
-        on_a_job,
-        [
-            // The log is made with room for four steps, and grows with the fifth.
-            (Call::Turn(0), 1),
-            (Call::Turn(1), 0),
-            (Call::Turn(4), 1),
-            // The kept request is given.
-            (Call::Again, 0)
-        ]
-    );
+    assert_each(&rt, &CALLS);
 }

@@ -4,6 +4,8 @@
 #[cfg(test)]
 mod accesses;
 #[cfg(test)]
+mod calls;
+#[cfg(test)]
 mod clocks;
 #[cfg(test)]
 mod engines;
@@ -27,3 +29,5 @@ mod replays;
 mod stamps;
 #[cfg(test)]
 mod texts;
+#[cfg(test)]
+mod traced;

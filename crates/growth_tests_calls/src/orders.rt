@@ -1,77 +1,57 @@
 //! The calls of race_edges.
-ghost use Rattle.std.specs.Prelude.{◌<◌};
 
-use growth_tests::{Outcome, assert_refusals, judge};
+use crate::calls::{Growing, Reply, assert_each, refused_if, right_if};
+use crate::traced::traced;
 use race_edges::{EdgeFault, Verdict, edges, plain_judge};
 use race_records::Trace;
-use race_text::{TextFault, parse_trace};
 use refusing_heap::RefusingHeap;
 use std::alloc::{Allocator, Global};
 
-// A goroutine, a variable with a race, and a channel on which a value is sent.
-fn traced<A: Allocator + Copy>(heap: A) -> Result<Trace<A>, TextFault> {
-    parse_trace(
-        heap,
-        b"gotrace 1\ngoroutine w\nvar x\nchan c 1\ngo main w p\nwrite main x 1 p\nread w x 1 p\nsend w c 1 p\n",
-    )
-}
-
 /// A call of race_edges.
-#[derive(Clone, Copy, Debug)]
+#[derive(Clone, Copy)]
 enum Call {
     Edges,
     PlainJudge,
 }
 
-/// What a call answered.
-#[derive(Clone, Copy, PartialEq, Eq)]
-enum Reply {
-    OutOfMemory,
-    Right,
-    Wrong,
-}
+// A goroutine, a variable with a race, and a channel on which a value is sent.
+static DECLARED: &[u8] = b"gotrace 1\ngoroutine w\nvar x\nchan c 1\n";
 
-fn reply_of(right: bool) -> Reply {
-    if right { Reply::Right } else { Reply::Wrong }
-}
+static EVENTS: &[u8] = b"go main w p\nwrite main x 1 p\nread w x 1 p\nsend w c 1 p\n";
 
 fn listed<A: Allocator + Copy>(heap: A, trace: &Trace<A>) -> Reply {
     match edges(heap, trace) {
-        Ok(edges) => reply_of(edges.len() == 1),
-        Err(EdgeFault::OutOfMemory) => Reply::OutOfMemory,
-        Err(_) => Reply::Wrong,
+        Ok(edges) => right_if(edges.len() == 1),
+        Err(fault) => refused_if(fault == EdgeFault::OutOfMemory),
     }
 }
 
 fn judged<A: Allocator + Copy>(heap: A, trace: &Trace<A>) -> Reply {
     match plain_judge(heap, trace) {
-        Ok(Verdict::Races(races)) => reply_of(races.as_slice().len() == 1),
+        Ok(Verdict::Races(races)) => right_if(races.as_slice().len() == 1),
         Ok(_) => Reply::Wrong,
-        Err(EdgeFault::OutOfMemory) => Reply::OutOfMemory,
-        Err(_) => Reply::Wrong,
+        Err(fault) => refused_if(fault == EdgeFault::OutOfMemory),
     }
 }
 
-fn on_a_trace(alloc: Global, call: Call, nth: u64) -> Outcome
-    requires { 0 < nth }
-{
-    let heap = RefusingHeap::new(alloc);
-    let Ok(trace) = traced(&heap) else {
-        return Outcome::Wrong;
-    };
-    heap.refuse(nth);
-    let reply = match call {
-        Call::Edges => listed(&heap, &trace),
-        Call::PlainJudge => judged(&heap, &trace),
-    };
-    judge(
-        heap.has_refused(),
-        reply == Reply::OutOfMemory,
-        reply == Reply::Right,
-    )
+impl Growing for Call {
+    fn reply(self, heap: &RefusingHeap<Global>, nth: u64) -> Reply {
+        match traced(heap, DECLARED, EVENTS) {
+            Some(trace) => {
+                heap.refuse(nth);
+                match self {
+                    Call::Edges => listed(heap, &trace),
+                    Call::PlainJudge => judged(heap, &trace),
+                }
+            }
+            None => Reply::Wrong,
+        }
+    }
 }
+
+static CALLS: [(Call, u64); 2] = [(Call::Edges, 10), (Call::PlainJudge, 16)];
 
 #[test]
 fn edges_and_verdicts(rt: HostRuntime) {
-    assert_refusals!(rt, on_a_trace, [(Call::Edges, 10), (Call::PlainJudge, 16)]);
+    assert_each(&rt, &CALLS);
 }

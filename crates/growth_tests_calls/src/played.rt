@@ -1,7 +1,7 @@
 //! Hubs, and how far each is played before the call.
 
 use race_hub::{Answer, Ask, Hub, Job, Request, Routine};
-use race_records::Decls;
+use race_records::{Decls, Object};
 use std::alloc::{Allocator, Global};
 
 // An ask but for a select, of which no table can be written down.
@@ -67,109 +67,87 @@ pub(crate) struct Script {
     pub moves: &'static [Move],
 }
 
-// Four goroutines beside main.
-fn declare_goroutines<A: Allocator + Copy>(decls: &mut Decls<A>) -> Option<()> {
-    decls.add_goroutine("w1").ok()?;
-    decls.add_goroutine("w2").ok()?;
-    decls.add_goroutine("w3").ok()?;
-    decls.add_goroutine("w4").ok()?;
-    Some(())
-}
-
-// A variable, a buffered channel, an unbuffered one, a mutex, a once.
-fn declare_objects<A: Allocator + Copy>(decls: &mut Decls<A>) -> Option<()> {
-    decls.add_var("x").ok()?;
-    decls.add_chan("c", 2).ok()?;
-    decls.add_chan("d", 0).ok()?;
-    decls.add_lock("l", false).ok()?;
-    decls.add_once("o").ok()?;
-    decls.add_place("p").ok()?;
-    Some(())
-}
-
-fn declare<A: Allocator + Copy>(decls: &mut Decls<A>) -> Option<()> {
-    declare_goroutines(decls)?;
-    declare_objects(decls)
-}
+// Four goroutines beside main, a variable, a buffered channel, an unbuffered one, a mutex, a once.
+static OBJECTS: [(&str, Object); 9] = [
+    ("w1", Object::Goroutine),
+    ("w2", Object::Goroutine),
+    ("w3", Object::Goroutine),
+    ("w4", Object::Goroutine),
+    ("x", Object::Var),
+    ("c", Object::Chan(2)),
+    ("d", Object::Chan(0)),
+    ("l", Object::Lock(false)),
+    ("o", Object::Once),
+];
 
 /// Goroutines, an object of each kind, and a place.
 pub(crate) fn declared<A: Allocator + Copy>(heap: A) -> Option<Decls<A>> {
     let mut decls = Decls::new(heap);
-    match declare(&mut decls) {
-        Some(()) => Some(decls),
-        None => None,
+    let mut is_declared = decls.add_place("p").is_ok();
+    for (name, object) in &OBJECTS {
+        is_declared &= decls.declare(*name, *object).is_ok();
     }
+    if is_declared { Some(decls) } else { None }
 }
 
 /// Their boxes.
 pub(crate) fn boxes<A: Allocator>(heap: A, script: Script) -> Option<Vec<Asks, A>> {
     let mut boxes = Vec::new(heap);
-    let main = Asks {
-        asks: script.main,
-        calls: 0,
-    };
-    boxes.push(main).ok()?;
-    for _ in 0..4 {
-        let other = Asks {
-            asks: script.others,
-            calls: 0,
+    let mut are_all = true;
+    for goroutine in 0..5 {
+        let asks = if goroutine == 0 {
+            script.main
+        } else {
+            script.others
         };
-        boxes.push(other).ok()?;
+        are_all &= boxes.push(Asks { asks, calls: 0 }).is_ok();
     }
-    Some(boxes)
+    if are_all { Some(boxes) } else { None }
 }
 
 /// The job that is ready longest, once it has asked.
 pub(crate) fn asked<A: Allocator>(hub: &mut Hub<Asks, A>) -> Option<Job<Asks, A>> {
     let mut job = hub.take()?;
-    job.turn().ok()?;
-    Some(job)
-}
-
-fn ask<A: Allocator>(hub: &mut Hub<Asks, A>) -> Option<()> {
-    let job = asked(hub)?;
-    hub.submit(job).ok()?;
-    Some(())
-}
-
-fn fire<A: Allocator + Copy>(hub: &mut Hub<Asks, A>, pick: u64) -> Option<()> {
-    match hub.fire(pick) {
-        Ok(true) => Some(()),
-        _ => None,
+    match job.turn() {
+        Ok(_) => Some(job),
+        Err(_) => None,
     }
 }
 
-fn step<A: Allocator + Copy>(hub: &mut Hub<Asks, A>, step: Move) -> Option<()> {
+fn ask<A: Allocator>(hub: &mut Hub<Asks, A>) -> bool {
+    match asked(hub) {
+        Some(job) => hub.submit(job).is_ok(),
+        None => false,
+    }
+}
+
+fn step<A: Allocator + Copy>(hub: &mut Hub<Asks, A>, step: Move) -> bool {
     match step {
         Move::Ask => ask(hub),
-        Move::Fire(pick) => fire(hub, pick),
-        Move::Step => {
-            ask(hub)?;
-            fire(hub, 0)
+        Move::Fire(pick) => hub.fire(pick) == Ok(true),
+        Move::Step => ask(hub) && hub.fire(0) == Ok(true),
+    }
+}
+
+fn play<A: Allocator + Copy>(hub: &mut Hub<Asks, A>, moves: &'static [Move]) -> bool {
+    for at in 0..moves.len() {
+        if !step(hub, moves[at]) {
+            return false;
         }
     }
-}
-
-fn play<A: Allocator + Copy>(hub: &mut Hub<Asks, A>, moves: &'static [Move]) -> Option<()> {
-    for at in 0..moves.len() {
-        step(hub, moves[at])?;
-    }
-    Some(())
-}
-
-fn opened<A: Allocator + Copy>(heap: A, script: Script) -> Option<Hub<Asks, A>> {
-    match (declared(heap), boxes(heap, script)) {
-        (Some(decls), Some(boxes)) => Hub::new(heap, decls, 64, boxes).ok(),
-        _ => None,
-    }
+    true
 }
 
 /// A hub that was played so far.
 pub(crate) fn played<A: Allocator + Copy>(heap: A, script: Script) -> Option<Hub<Asks, A>> {
-    let mut hub = opened(heap, script)?;
-    match play(&mut hub, script.moves) {
-        Some(()) => Some(hub),
-        None => None,
+    let mut hub = match (declared(heap), boxes(heap, script)) {
+        (Some(decls), Some(boxes)) => Hub::new(heap, decls, 64, boxes).ok()?,
+        _ => return None,
+    };
+    if play(&mut hub, script.moves) {
+        Some(hub)
+    } else {
+        None
     }
 }
 

@@ -1,12 +1,21 @@
 //! The calls of race_script.
 ghost use Rattle.std.specs.Prelude.{◌<◌};
 
-use growth_tests::{Outcome, assert_refusals, judge};
+use crate::calls::{Growing, Reply, assert_each, refused_if, right_if};
 use race_records::Kind;
 use race_script::{Program, ProgramReader, Script, parse_program};
 use race_text::{TextCause, TextFault};
 use refusing_heap::RefusingHeap;
 use std::alloc::{Allocator, Global};
+
+/// A call of race_script.
+#[derive(Clone, Copy)]
+enum Call {
+    Parse,
+    Feed,
+    Finish,
+    Script,
+}
 
 static TEXT: &[u8] = b"goprogram 1\nvar x\nbody main\nwrite x 7 m:1\nexit m:2\n";
 
@@ -15,16 +24,14 @@ pub(crate) fn parse<A: Allocator + Copy>(alloc: A) -> Result<Program<A>, TextFau
     parse_program(alloc, TEXT)
 }
 
-fn text(alloc: Global, _call: (), nth: u64) -> Outcome
+fn parsed(heap: &RefusingHeap<Global>, nth: u64) -> Reply
     requires { 0 < nth }
 {
-    let heap = RefusingHeap::new(alloc);
     heap.refuse(nth);
-    let (refused, done) = match parse(&heap) {
-        Ok(program) => (false, program.decls().count(Kind::Var) == 1),
-        Err(fault) => (fault.cause == TextCause::OutOfMemory, false),
-    };
-    judge(heap.has_refused(), refused, done)
+    match parse(heap) {
+        Ok(program) => right_if(program.decls().count(Kind::Var) == 1),
+        Err(fault) => refused_if(fault.cause == TextCause::OutOfMemory),
+    }
 }
 
 // Feeds a program, but for its last newline.
@@ -34,73 +41,86 @@ fn feed<A: Allocator + Copy>(reader: &mut ProgramReader<A>) -> Result<(), TextFa
 
 // What a reader answers at the end: how many variables.
 fn finish<A: Allocator + Copy>(reader: ProgramReader<A>) -> Result<u32, TextFault> {
-    Ok(reader.finish()?.decls().count(Kind::Var))
+    match reader.finish() {
+        Ok(program) => Ok(program.decls().count(Kind::Var)),
+        Err(fault) => Err(fault),
+    }
 }
 
-// After a refusal the same is told again.
-fn feeding(alloc: Global, _call: (), nth: u64) -> Outcome
+// Whether the same fault is told again, by the next piece and at the end.
+fn tells_again<A: Allocator + Copy>(mut reader: ProgramReader<A>, fault: TextFault) -> bool {
+    let next = feed(&mut reader);
+    let end = finish(reader);
+    next == Err(fault) && end == Err(fault)
+}
+
+fn fed(heap: &RefusingHeap<Global>, nth: u64) -> Reply
     requires { 0 < nth }
 {
-    let heap = RefusingHeap::new(alloc);
-    let mut reader = ProgramReader::new(&heap);
+    let mut reader = ProgramReader::new(heap);
     heap.refuse(nth);
-    let first = feed(&mut reader);
-    let second = feed(&mut reader);
-    match first {
-        Ok(()) => judge(heap.has_refused(), false, true),
-        Err(fault) => {
-            let again = second == first && finish(reader).err() == Some(fault);
-            judge(
-                heap.has_refused(),
-                again && fault.cause == TextCause::OutOfMemory,
-                false,
-            )
+    match feed(&mut reader) {
+        Ok(()) => Reply::Right,
+        Err(fault) => refused_if(
+            tells_again(reader, fault) && fault.cause == TextCause::OutOfMemory,
+        ),
+    }
+}
+
+fn finished(heap: &RefusingHeap<Global>, nth: u64) -> Reply
+    requires { 0 < nth }
+{
+    let mut reader = ProgramReader::new(heap);
+    let is_fed = feed(&mut reader).is_ok() && reader.feed(b"\n").is_ok();
+    heap.refuse(nth);
+    let answer = finish(reader);
+    right_if(is_fed && answer == Ok(1))
+}
+
+// Main's script has two steps.
+fn script<A: Allocator + Copy>(alloc: A, program: &Program<A>) -> Reply {
+    if program.decls().count(Kind::Goroutine) == 0 {
+        return Reply::Wrong;
+    }
+    match Script::new(alloc, program, 0) {
+        Ok(script) => right_if(script.whole().len() == 2),
+        Err(_) => Reply::OutOfMemory,
+    }
+}
+
+fn scripted(heap: &RefusingHeap<Global>, nth: u64) -> Reply
+    requires { 0 < nth }
+{
+    match parse(heap) {
+        Ok(program) => {
+            heap.refuse(nth);
+            script(heap, &program)
+        }
+        Err(_) => Reply::Wrong,
+    }
+}
+
+impl Growing for Call {
+    fn reply(self, heap: &RefusingHeap<Global>, nth: u64) -> Reply {
+        match self {
+            Call::Parse => parsed(heap, nth),
+            Call::Feed => fed(heap, nth),
+            Call::Finish => finished(heap, nth),
+            Call::Script => scripted(heap, nth),
         }
     }
 }
 
-fn finishing(alloc: Global, _call: (), nth: u64) -> Outcome
-    requires { 0 < nth }
-{
-    let heap = RefusingHeap::new(alloc);
-    let mut reader = ProgramReader::new(&heap);
-    let Ok(()) = feed(&mut reader) else {
-        return Outcome::Wrong;
-    };
-    let Ok(()) = reader.feed(b"\n") else {
-        return Outcome::Wrong;
-    };
-    heap.refuse(nth);
-    let answer = finish(reader);
-    judge(heap.has_refused(), false, answer == Ok(1))
-}
-
-// How many steps main's script has.
-fn steps<A: Allocator + Copy>(alloc: A, program: &Program<A>) -> Option<usize> {
-    if program.decls().count(Kind::Goroutine) == 0 {
-        return None;
-    }
-    Some(Script::new(alloc, program, 0).ok()?.whole().len())
-}
-
-fn script(alloc: Global, _call: (), nth: u64) -> Outcome
-    requires { 0 < nth }
-{
-    let heap = RefusingHeap::new(alloc);
-    let Ok(program) = parse(&heap) else {
-        return Outcome::Wrong;
-    };
-    heap.refuse(nth);
-    let steps = steps(&heap, &program);
-    judge(heap.has_refused(), steps.is_none(), steps == Some(2))
-}
+static CALLS: [(Call, u64); 4] = [
+    // The variable takes six, the first step with its place six, the second place and the list of bodies one each.
+    (Call::Parse, 14),
+    // The bytes of the second step are kept.
+    (Call::Feed, 13),
+    (Call::Finish, 0),
+    (Call::Script, 1),
+];
 
 #[test]
 fn programs(rt: HostRuntime) {
-    // The variable takes six, the first step with its place six, the second place and the list of bodies one each.
-    assert_refusals!(rt, text, [((), 14)]);
-    // The bytes of the second step are kept.
-    assert_refusals!(rt, feeding, [((), 13)]);
-    assert_refusals!(rt, finishing, [((), 0)]);
-    assert_refusals!(rt, script, [((), 1)]);
+    assert_each(&rt, &CALLS);
 }

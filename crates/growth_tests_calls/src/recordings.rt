@@ -1,58 +1,66 @@
 //! The call of race_record.
-ghost use Rattle.std.specs.Prelude.{◌<◌};
 
+use crate::calls::{Growing, Reply, assert_each, refused_if, right_if};
 use crate::programs::parse;
-use growth_tests::{Outcome, assert_refusals, judge};
-use race_hub::{End, Hub, Recording};
+use race_hub::{End, Hub};
 use race_record::{RecordFault, record_serial};
 use race_records::Kind;
-use race_script::Script;
+use race_script::{Program, Script};
 use refusing_heap::RefusingHeap;
 use std::alloc::{Allocator, Global};
+
+#[derive(Clone, Copy)]
+struct RecordSerial;
+
+fn scripts_of<A: Allocator + Copy + Send>(
+    alloc: A,
+    program: &Program<A>,
+) -> Option<Vec<Script<A>, A>> {
+    let mut scripts = Vec::new(alloc);
+    for goroutine in 0..program.decls().count(Kind::Goroutine) {
+        scripts
+            .push(Script::new(alloc, program, goroutine).ok()?)
+            .ok()?;
+    }
+    Some(scripts)
+}
 
 // The hub of the program: main writes and exits.
 fn hub_of<A: Allocator + Copy + Send>(alloc: A) -> Option<Hub<Script<A>, A>> {
     let program = parse(alloc).ok()?;
-    let mut scripts = Vec::new(alloc);
-    for goroutine in 0..program.decls().count(Kind::Goroutine) {
-        scripts
-            .push(Script::new(alloc, &program, goroutine).ok()?)
-            .ok()?;
+    match (program.decls().copy(), scripts_of(alloc, &program)) {
+        (Ok(decls), Some(scripts)) => Hub::new(alloc, decls, 8, scripts).ok(),
+        _ => None,
     }
-    Hub::new(alloc, program.decls().copy().ok()?, 8, scripts).ok()
 }
 
-// A function round the call; none where a job is out.
-fn record<A: Allocator + Copy + Send>(
-    hub: Hub<Script<A>, A>,
-) -> Option<Result<Recording<A>, RecordFault>> {
+// None where a job is out.
+fn record<A: Allocator + Copy + Send>(hub: Hub<Script<A>, A>) -> Reply {
     if hub.out() != 0 {
-        return None;
+        return Reply::Wrong;
     }
-    Some(record_serial(hub, &[]))
+    match record_serial(hub, &[]) {
+        Ok(recording) => right_if(recording.end() == End::Main && recording.trace().len() == 2),
+        Err(fault) => refused_if(fault == RecordFault::OutOfMemory),
+    }
 }
 
-fn recorded(alloc: Global, _call: (), nth: u64) -> Outcome
-    requires { 0 < nth }
-{
-    let heap = RefusingHeap::new(alloc);
-    let Some(hub) = hub_of(&heap) else {
-        return Outcome::Wrong;
-    };
-    heap.refuse(nth);
-    let (refused, done) = match record(hub) {
-        Some(Ok(recording)) => (
-            false,
-            recording.end() == End::Main && recording.trace().len() == 2,
-        ),
-        Some(Err(fault)) => (fault == RecordFault::OutOfMemory, false),
-        None => (false, false),
-    };
-    judge(heap.has_refused(), refused, done)
+impl Growing for RecordSerial {
+    fn reply(self, heap: &RefusingHeap<Global>, nth: u64) -> Reply {
+        match hub_of(heap) {
+            Some(hub) => {
+                heap.refuse(nth);
+                record(hub)
+            }
+            None => Reply::Wrong,
+        }
+    }
 }
+
+// The log, the requests and what stands behind them, who is through, and the trace.
+static CALLS: [(RecordSerial, u64); 1] = [(RecordSerial, 5)];
 
 #[test]
 fn recordings(rt: HostRuntime) {
-    // The log, the requests and what stands behind them, who is through, and the trace.
-    assert_refusals!(rt, recorded, [((), 5)]);
+    assert_each(&rt, &CALLS);
 }

@@ -1,19 +1,15 @@
 //! The calls of race_records.
-ghost use Rattle.std.specs.Prelude.{◌<◌};
 
-use growth_tests::{Outcome, assert_refusals, judge};
+use crate::calls::{Growing, Reply, assert_each, refused_if, right_if};
+use crate::traced::traced;
 use race_records::{DeclFault, Decls, Event, Kind, Named, Op, PushFault, Trace};
-use race_text::{TextFault, parse_trace};
 use refusing_heap::RefusingHeap;
 use std::alloc::{AllocError, Allocator, Global};
 
 // A goroutine, two variables, three places and four events, which fill their tables.
-fn traced<A: Allocator + Copy>(heap: A) -> Result<Trace<A>, TextFault> {
-    parse_trace(
-        heap,
-        b"gotrace 1\ngoroutine w\nvar x\nvar z\nexit w p\nexit w q\nexit w r\nexit w r\n",
-    )
-}
+static DECLARED: &[u8] = b"gotrace 1\ngoroutine w\nvar x\nvar z\n";
+
+static EVENTS: &[u8] = b"exit w p\nexit w q\nexit w r\nexit w r\n";
 
 fn is_as_declared<A: Allocator>(decls: &Decls<A>) -> bool {
     decls.len() == 3
@@ -33,8 +29,32 @@ fn copied<A: Allocator + Copy>(trace: &Trace<A>) -> Result<Decls<A>, AllocError>
     trace.decls().copy()
 }
 
+/// What a call adds to.
+#[derive(Clone, Copy)]
+pub(crate) enum Start {
+    Nothing,
+    Copy,
+}
+
+pub(crate) fn started<A: Allocator + Copy>(heap: A, start: Start) -> Option<Decls<A>> {
+    match start {
+        Start::Nothing => Some(Decls::new(heap)),
+        Start::Copy => match traced(heap, DECLARED, EVENTS) {
+            Some(trace) => copied(&trace).ok(),
+            None => None,
+        },
+    }
+}
+
+pub(crate) fn is_as_started<A: Allocator>(decls: &Decls<A>, start: Start) -> bool {
+    match start {
+        Start::Nothing => decls.is_empty() && decls.place_count() == 0,
+        Start::Copy => is_as_declared(decls),
+    }
+}
+
 /// A call that changes declarations.
-#[derive(Clone, Copy, Debug)]
+#[derive(Clone, Copy)]
 enum Addition {
     Goroutine,
     Var,
@@ -55,56 +75,52 @@ fn add<A: Allocator + Copy>(decls: &mut Decls<A>, addition: Addition) -> Result<
     }
 }
 
-/// What a call adds to.
-#[derive(Clone, Copy, Debug)]
-pub(crate) enum Start {
-    Nothing,
-    Copy,
-}
+/// What is added to, an addition, and the number that it gives.
+#[derive(Clone, Copy)]
+struct OneMore(Start, Addition, u32);
 
-pub(crate) fn started<A: Allocator + Copy>(heap: A, start: Start) -> Option<Decls<A>> {
-    match start {
-        Start::Nothing => Some(Decls::new(heap)),
-        Start::Copy => copied(&traced(heap).ok()?).ok(),
+impl Growing for OneMore {
+    fn reply(self, heap: &RefusingHeap<Global>, nth: u64) -> Reply {
+        let OneMore(start, addition, number) = self;
+        match started(heap, start) {
+            Some(mut decls) => {
+                heap.refuse(nth);
+                match add(&mut decls, addition) {
+                    Ok(added) => right_if(added == number),
+                    Err(fault) => refused_if(
+                        fault == DeclFault::OutOfMemory && is_as_started(&decls, start),
+                    ),
+                }
+            }
+            None => Reply::Wrong,
+        }
     }
 }
 
-pub(crate) fn is_as_started<A: Allocator>(decls: &Decls<A>, start: Start) -> bool {
-    match start {
-        Start::Nothing => decls.is_empty() && decls.place_count() == 0,
-        Start::Copy => is_as_declared(decls),
-    }
-}
+static ADDITIONS: [(OneMore, u64); 9] = [
+    (OneMore(Start::Nothing, Addition::Goroutine, 1), 6),
+    (OneMore(Start::Nothing, Addition::Var, 0), 6),
+    (OneMore(Start::Nothing, Addition::Chan, 0), 6),
+    (OneMore(Start::Nothing, Addition::Lock, 0), 6),
+    (OneMore(Start::Nothing, Addition::Once, 0), 6),
+    (OneMore(Start::Nothing, Addition::Place, 0), 5),
+    (OneMore(Start::Copy, Addition::Goroutine, 2), 4),
+    (OneMore(Start::Copy, Addition::Var, 2), 4),
+    (OneMore(Start::Copy, Addition::Place, 3), 3),
+];
 
-fn one_more(alloc: Global, call: (Start, Addition, u32), nth: u64) -> Outcome
-    requires { 0 < nth }
-{
-    let (start, addition, number) = call;
-    let heap = RefusingHeap::new(alloc);
-    let Some(mut decls) = started(&heap, start) else {
-        return Outcome::Wrong;
-    };
-    heap.refuse(nth);
-    let answer = add(&mut decls, addition);
-    let refused = answer == Err(DeclFault::OutOfMemory) && is_as_started(&decls, start);
-    judge(heap.has_refused(), refused, answer == Ok(number))
+#[test]
+fn names_and_places(rt: HostRuntime) {
+    assert_each(&rt, &ADDITIONS);
 }
 
 /// A call on a trace.
-#[derive(Clone, Copy, Debug)]
+#[derive(Clone, Copy)]
 enum Call {
     Copy,
     Reserve,
     Push,
     AddPlace,
-}
-
-/// What a call answered.
-#[derive(Clone, Copy, PartialEq, Eq)]
-enum Reply {
-    OutOfMemory,
-    Right,
-    Wrong,
 }
 
 fn push<A: Allocator>(trace: &mut Trace<A>) -> Reply {
@@ -116,88 +132,56 @@ fn push<A: Allocator>(trace: &mut Trace<A>) -> Reply {
     };
     match trace.push(event) {
         Ok(()) => Reply::Right,
-        Err(PushFault::OutOfMemory) => Reply::OutOfMemory,
-        Err(_) => Reply::Wrong,
+        Err(fault) => refused_if(fault == PushFault::OutOfMemory && is_as_traced(trace)),
     }
 }
 
 fn add_place<A: Allocator + Copy>(trace: &mut Trace<A>) -> Reply {
     match trace.add_place("s") {
-        Ok(3) => Reply::Right,
-        Err(DeclFault::OutOfMemory) => Reply::OutOfMemory,
-        _ => Reply::Wrong,
+        Ok(number) => right_if(number == 3),
+        Err(fault) => refused_if(fault == DeclFault::OutOfMemory && is_as_traced(trace)),
     }
 }
 
 fn reserve<A: Allocator>(trace: &mut Trace<A>) -> Reply {
     match trace.reserve() {
         Ok(()) => Reply::Right,
-        Err(_) => Reply::OutOfMemory,
+        Err(_) => refused_if(is_as_traced(trace)),
     }
 }
 
 fn copy<A: Allocator + Copy>(trace: &Trace<A>) -> Reply {
     match copied(trace) {
-        Ok(copy) => if is_as_declared(&copy) {
-            Reply::Right
-        } else {
-            Reply::Wrong
-        },
-        Err(_) => Reply::OutOfMemory,
+        Ok(copy) => right_if(is_as_declared(&copy)),
+        Err(_) => refused_if(is_as_traced(trace)),
     }
 }
 
-fn make<A: Allocator + Copy>(trace: &mut Trace<A>, call: Call) -> Reply {
-    match call {
-        Call::Copy => copy(trace),
-        Call::Reserve => reserve(trace),
-        Call::Push => push(trace),
-        Call::AddPlace => add_place(trace),
+impl Growing for Call {
+    fn reply(self, heap: &RefusingHeap<Global>, nth: u64) -> Reply {
+        match traced(heap, DECLARED, EVENTS) {
+            Some(mut trace) => {
+                heap.refuse(nth);
+                match self {
+                    Call::Copy => copy(&trace),
+                    Call::Reserve => reserve(&mut trace),
+                    Call::Push => push(&mut trace),
+                    Call::AddPlace => add_place(&mut trace),
+                }
+            }
+            None => Reply::Wrong,
+        }
     }
 }
 
-fn on_a_trace(alloc: Global, call: Call, nth: u64) -> Outcome
-    requires { 0 < nth }
-{
-    let heap = RefusingHeap::new(alloc);
-    let Ok(mut trace) = traced(&heap) else {
-        return Outcome::Wrong;
-    };
-    heap.refuse(nth);
-    let answer = make(&mut trace, call);
-    let refused = answer == Reply::OutOfMemory && is_as_traced(&trace);
-    judge(heap.has_refused(), refused, answer == Reply::Right)
-}
-
-#[test]
-fn names_and_places(rt: HostRuntime) {
-    assert_refusals!(
-        rt,
-        one_more,
-        [
-            ((Start::Nothing, Addition::Goroutine, 1), 6),
-            ((Start::Nothing, Addition::Var, 0), 6),
-            ((Start::Nothing, Addition::Chan, 0), 6),
-            ((Start::Nothing, Addition::Lock, 0), 6),
-            ((Start::Nothing, Addition::Once, 0), 6),
-            ((Start::Nothing, Addition::Place, 0), 5),
-            ((Start::Copy, Addition::Goroutine, 2), 4),
-            ((Start::Copy, Addition::Var, 2), 4),
-            ((Start::Copy, Addition::Place, 3), 3)
-        ]
-    );
-}
+static CALLS: [(Call, u64); 4] = [
+    (Call::Copy, 16),
+    (Call::Reserve, 1),
+    (Call::Push, 1),
+    (Call::AddPlace, 1),
+];
 
 #[test]
 fn traces(rt: HostRuntime) {
-    assert_refusals!(
-        rt,
-        on_a_trace,
-        [
-            (Call::Copy, 16),
-            (Call::Reserve, 1),
-            (Call::Push, 1),
-            (Call::AddPlace, 1)
-        ]
-    );
+    assert_each(&rt, &CALLS);
 }

@@ -2,69 +2,27 @@
 ghost use Rattle.std.specs.Prelude.{◌≡◌, ◌<◌};
 ghost use Rattle.race_legal.specs.ReplayState.{IsInRange, counts_in};
 
-use growth_tests::{Outcome, assert_refusals, judge};
+use crate::calls::{Growing, Reply, assert_each, refused_if, right_if};
+use crate::traced::traced;
 use race_legal::{Broken, Replay, legal};
-use race_records::{Decls, Event, Op, Trace};
+use race_records::{Event, Trace};
 use refusing_heap::RefusingHeap;
 use std::alloc::{Allocator, Global};
 
-// A goroutine, a variable, a channel, an rwmutex, a once.
-fn declare<A: Allocator + Copy>(decls: &mut Decls<A>) -> Option<()> {
-    decls.add_goroutine("w").ok()?;
-    decls.add_var("x").ok()?;
-    decls.add_chan("c", 2).ok()?;
-    decls.add_lock("l", true).ok()?;
-    decls.add_once("o").ok()?;
-    decls.add_place("p").ok()?;
-    Some(())
-}
-
-// Adds what main does.
-fn push<A: Allocator>(trace: &mut Trace<A>, op: Op) -> Option<()> {
-    let event = Event {
-        who: 0,
-        op,
-        place: 0,
-        place2: None,
-    };
-    trace.push(event).ok()
-}
-
-// All that is declared, and what main does.
-fn traced<A: Allocator + Copy>(heap: A, op: Op) -> Option<Trace<A>> {
-    let mut decls = Decls::new(heap);
-    declare(&mut decls)?;
-    let mut trace = Trace::new(decls);
-    push(&mut trace, op)?;
-    Some(trace)
-}
-
 /// A call of race_legal.
-#[derive(Clone, Copy, Debug)]
+#[derive(Clone, Copy)]
 enum Call {
     New,
-    AcceptWrite,
-    AcceptSend,
-    AcceptLock,
-    AcceptOnceBegin,
+    Accept,
     Legal,
 }
 
-/// What a call answered.
-#[derive(Clone, Copy, PartialEq, Eq)]
-enum Reply {
-    OutOfMemory,
-    Right,
-    Wrong,
-}
+// A goroutine, a variable, a channel, an rwmutex, a once.
+static DECLARED: &[u8] = b"gotrace 1\ngoroutine w\nvar x\nchan c 2\nrwmutex l\nonce o\n";
 
 fn new<A: Allocator + Copy>(heap: A, trace: &Trace<A>) -> Reply {
     match Replay::new(heap, trace.decls()) {
-        Ok(replay) => if replay.len() == 0 {
-            Reply::Right
-        } else {
-            Reply::Wrong
-        },
+        Ok(replay) => right_if(replay.len() == 0),
         Err(_) => Reply::OutOfMemory,
     }
 }
@@ -73,28 +31,9 @@ fn accept<A: Allocator>(replay: &mut Replay<A>, event: &Event) -> Reply
     requires range { IsInRange (counts_in replay.old) event.now }
     requires first { replay.old.len ≡ 0 }
 {
-    match (replay.accept(event), replay.len()) {
-        (Ok(()), 1) => Reply::Right,
-        (Err(Broken::OutOfMemory), 0) => Reply::OutOfMemory,
-        _ => Reply::Wrong,
-    }
-}
-
-fn judged<A: Allocator + Copy>(heap: A, trace: &Trace<A>) -> Reply {
-    match legal(heap, trace) {
-        Ok(None) => Reply::Right,
-        Ok(Some(_)) => Reply::Wrong,
-        Err(_) => Reply::OutOfMemory,
-    }
-}
-
-// What main does.
-fn op_of(call: Call) -> Op {
-    match call {
-        Call::AcceptWrite => Op::Write(0, 7),
-        Call::AcceptLock => Op::Lock(0),
-        Call::AcceptOnceBegin => Op::OnceBegin(0),
-        Call::New | Call::AcceptSend | Call::Legal => Op::Send(0, 7),
+    match replay.accept(event) {
+        Ok(()) => right_if(replay.len() == 1),
+        Err(fault) => refused_if(fault == Broken::OutOfMemory && replay.len() == 0),
     }
 }
 
@@ -112,57 +51,49 @@ fn accepted(heap: &RefusingHeap<Global>, nth: u64, trace: &Trace<&RefusingHeap<G
     accept(&mut replay, trace.event(0))
 }
 
-// A growth is refused in the call.
-fn answered<'a>(
-    heap: &'a RefusingHeap<Global>,
-    nth: u64,
-    trace: &Trace<&'a RefusingHeap<Global>>,
-    call: Call,
-) -> Reply
-    requires { 0 < nth }
-{
-    match call {
-        Call::New => {
-            heap.refuse(nth);
-            new(heap, trace)
-        }
-        Call::Legal => {
-            heap.refuse(nth);
-            judged(heap, trace)
-        }
-        _ => accepted(heap, nth, trace),
+fn judged<A: Allocator + Copy>(heap: A, trace: &Trace<A>) -> Reply {
+    match legal(heap, trace) {
+        Ok(illegal) => right_if(illegal.is_none()),
+        Err(_) => Reply::OutOfMemory,
     }
 }
 
-fn on_a_trace(alloc: Global, call: Call, nth: u64) -> Outcome
-    requires { 0 < nth }
-{
-    let heap = RefusingHeap::new(alloc);
-    let reply = match traced(&heap, op_of(call)) {
-        Some(trace) => answered(&heap, nth, &trace, call),
-        None => Reply::Wrong,
-    };
-    judge(
-        heap.has_refused(),
-        reply == Reply::OutOfMemory,
-        reply == Reply::Right,
-    )
+/// A call behind the declarations, and what main does.
+#[derive(Clone, Copy)]
+struct Row(Call, &'static [u8]);
+
+impl Growing for Row {
+    fn reply(self, heap: &RefusingHeap<Global>, nth: u64) -> Reply {
+        let Row(call, events) = self;
+        match traced(heap, DECLARED, events) {
+            Some(trace) => match call {
+                Call::New => {
+                    heap.refuse(nth);
+                    new(heap, &trace)
+                }
+                Call::Accept => accepted(heap, nth, &trace),
+                Call::Legal => {
+                    heap.refuse(nth);
+                    judged(heap, &trace)
+                }
+            },
+            None => Reply::Wrong,
+        }
+    }
 }
+
+// A replay has three lists for goroutines, one for variables, three for channels, two for locks
+// and two for onces. A value that is sent makes it grow, and a once whose function begins.
+static CALLS: [(Row, u64); 6] = [
+    (Row(Call::New, b"send main c 7 p\n"), 11),
+    (Row(Call::Accept, b"write main x 7 p\n"), 0),
+    (Row(Call::Accept, b"send main c 7 p\n"), 1),
+    (Row(Call::Accept, b"lock main l p\n"), 0),
+    (Row(Call::Accept, b"oncebegin main o p\n"), 1),
+    (Row(Call::Legal, b"send main c 7 p\n"), 12),
+];
 
 #[test]
 fn replays(rt: HostRuntime) {
-    assert_refusals!(
-        rt,
-        on_a_trace,
-        // A replay has three lists for goroutines, one for variables, three for channels, two for locks
-        // and two for onces. A value that is sent makes it grow, and a once whose function begins.
-        [
-            (Call::New, 11),
-            (Call::AcceptWrite, 0),
-            (Call::AcceptSend, 1),
-            (Call::AcceptLock, 0),
-            (Call::AcceptOnceBegin, 1),
-            (Call::Legal, 12)
-        ]
-    );
+    assert_each(&rt, &CALLS);
 }

@@ -1,16 +1,20 @@
 //! The calls of race_text.
 ghost use Rattle.std.specs.Prelude.{◌<◌};
 
+use crate::calls::{Growing, Reply, assert_each, refused_if, right_if};
 use crate::records::{Start, is_as_started, started};
-use growth_tests::{Outcome, assert_refusals, judge};
 use race_records::{Decls, Trace};
 use race_text::{LineReader, TextCause, TextFault, parse_trace, read_declaration};
 use refusing_heap::RefusingHeap;
 use std::alloc::{Allocator, Global};
 
-// A function round the call, so that the run's proof needs nothing of its contract.
-fn parse<A: Allocator + Copy>(alloc: A) -> Result<Trace<A>, TextFault> {
-    parse_trace(alloc, b"gotrace 1\nvar x\nwrite main x 7 a.go:1\n")
+/// A call of race_text.
+#[derive(Clone, Copy)]
+enum Call {
+    Parse,
+    Feed,
+    Finish,
+    ReadDeclaration(Start),
 }
 
 // The fault where this growth is refused: the variable takes six, and a seventh for its short name that
@@ -28,16 +32,19 @@ fn fault_of_growth(nth: u64) -> TextFault {
     }
 }
 
-fn text(alloc: Global, _call: (), nth: u64) -> Outcome
+// A function round the call, so that the run's proof needs nothing of its contract.
+fn parse<A: Allocator + Copy>(alloc: A) -> Result<Trace<A>, TextFault> {
+    parse_trace(alloc, b"gotrace 1\nvar x\nwrite main x 7 a.go:1\n")
+}
+
+fn parsed(heap: &RefusingHeap<Global>, nth: u64) -> Reply
     requires { 0 < nth }
 {
-    let heap = RefusingHeap::new(alloc);
     heap.refuse(nth);
-    let (refused, done) = match parse(&heap) {
-        Ok(trace) => (false, trace.len() == 1),
-        Err(fault) => (fault == fault_of_growth(nth), false),
-    };
-    judge(heap.has_refused(), refused, done)
+    match parse(heap) {
+        Ok(trace) => right_if(trace.len() == 1),
+        Err(fault) => refused_if(fault == fault_of_growth(nth)),
+    }
 }
 
 // Feeds a trace and half a line more.
@@ -47,65 +54,81 @@ fn feed<A: Allocator + Copy>(reader: &mut LineReader<A>) -> Result<(), TextFault
 
 // What a reader answers at the end: how many events.
 fn finish<A: Allocator + Copy>(reader: LineReader<A>) -> Result<usize, TextFault> {
-    Ok(reader.finish()?.len())
+    match reader.finish() {
+        Ok(trace) => Ok(trace.len()),
+        Err(fault) => Err(fault),
+    }
 }
 
-// After a refusal the same is told again.
-fn feeding(alloc: Global, _call: (), nth: u64) -> Outcome
+// Whether the same fault is told again, by the next piece and at the end.
+fn tells_again<A: Allocator + Copy>(mut reader: LineReader<A>, fault: TextFault) -> bool {
+    let next = feed(&mut reader);
+    let end = finish(reader);
+    next == Err(fault) && end == Err(fault)
+}
+
+fn fed(heap: &RefusingHeap<Global>, nth: u64) -> Reply
     requires { 0 < nth }
 {
-    let heap = RefusingHeap::new(alloc);
-    let mut reader = LineReader::new(&heap);
+    let mut reader = LineReader::new(heap);
     heap.refuse(nth);
-    let answer = feed(&mut reader);
-    let told = Err(fault_of_growth(nth));
-    let refused = answer == told && feed(&mut reader) == told;
-    let done = answer == Ok(());
-    let ended = finish(reader).err();
-    judge(
-        heap.has_refused(),
-        refused && ended == Some(fault_of_growth(nth)),
-        done,
-    )
+    match feed(&mut reader) {
+        Ok(()) => Reply::Right,
+        Err(fault) => refused_if(tells_again(reader, fault) && fault == fault_of_growth(nth)),
+    }
 }
 
-fn finishing(alloc: Global, _call: (), nth: u64) -> Outcome
+fn finished(heap: &RefusingHeap<Global>, nth: u64) -> Reply
     requires { 0 < nth }
 {
-    let heap = RefusingHeap::new(alloc);
-    let mut reader = LineReader::new(&heap);
-    let Ok(()) = feed(&mut reader) else {
-        return Outcome::Wrong;
-    };
-    let Ok(()) = reader.feed(b" main a.go:1\n") else {
-        return Outcome::Wrong;
-    };
+    let mut reader = LineReader::new(heap);
+    let is_fed = feed(&mut reader).is_ok() && reader.feed(b" main a.go:1\n").is_ok();
     heap.refuse(nth);
     let answer = finish(reader);
-    judge(heap.has_refused(), false, answer == Ok(2))
+    right_if(is_fed && answer == Ok(2))
 }
 
 fn declare<A: Allocator + Copy>(decls: &mut Decls<A>) -> Result<bool, TextCause> {
     read_declaration(decls, b"var y")
 }
 
-fn declaration(alloc: Global, start: Start, nth: u64) -> Outcome
+fn declared(heap: &RefusingHeap<Global>, start: Start, nth: u64) -> Reply
     requires { 0 < nth }
 {
-    let heap = RefusingHeap::new(alloc);
-    let Some(mut decls) = started(&heap, start) else {
-        return Outcome::Wrong;
-    };
-    heap.refuse(nth);
-    let answer = declare(&mut decls);
-    let refused = answer == Err(TextCause::OutOfMemory) && is_as_started(&decls, start);
-    judge(heap.has_refused(), refused, answer == Ok(true))
+    match started(heap, start) {
+        Some(mut decls) => {
+            heap.refuse(nth);
+            match declare(&mut decls) {
+                Ok(is_declared) => right_if(is_declared),
+                Err(cause) => refused_if(
+                    cause == TextCause::OutOfMemory && is_as_started(&decls, start),
+                ),
+            }
+        }
+        None => Reply::Wrong,
+    }
 }
+
+impl Growing for Call {
+    fn reply(self, heap: &RefusingHeap<Global>, nth: u64) -> Reply {
+        match self {
+            Call::Parse => parsed(heap, nth),
+            Call::Feed => fed(heap, nth),
+            Call::Finish => finished(heap, nth),
+            Call::ReadDeclaration(start) => declared(heap, start, nth),
+        }
+    }
+}
+
+static CALLS: [(Call, u64); 5] = [
+    (Call::Parse, 12),
+    (Call::Feed, 13),
+    (Call::Finish, 0),
+    (Call::ReadDeclaration(Start::Nothing), 6),
+    (Call::ReadDeclaration(Start::Copy), 4),
+];
 
 #[test]
 fn texts(rt: HostRuntime) {
-    assert_refusals!(rt, text, [((), 12)]);
-    assert_refusals!(rt, feeding, [((), 13)]);
-    assert_refusals!(rt, finishing, [((), 0)]);
-    assert_refusals!(rt, declaration, [(Start::Nothing, 6), (Start::Copy, 4)]);
+    assert_each(&rt, &CALLS);
 }

@@ -7,7 +7,7 @@ use Rattle.race_legal.proofs.Fronts.{take_next}
 use Rattle.race_legal.proofs.RangeLemmas.{in_range}
 use Rattle.race_clock.specs.StandsFor.{StandsFor}
 use Rattle.race_clock.proofs.NextFrom.{allowed_last, may_come, room_at}
-use Rattle.growth_tests_calls.proofs.stamps.stepped.Goals as goal
+use Rattle.growth_tests_calls.proofs.stamps.step_each.Goals as goal
 
 pub accept-requires-clause-range : goal.accept-requires-clause-range
 accept-requires-clause-range c =
@@ -16,21 +16,21 @@ accept-requires-clause-range c =
 
 pub last_step-requires-clause-next : goal.last_step-requires-clause-next
 last_step-requires-clause-next c =
-    let grown = c.in-Ok-accept.ensures.goes_on c.args.trace.now.decls.declarations (take c.loop-at.at c.args.trace.now.events) c.loop-at.invariant.legal in
+    let grown = c.in-Ok.ensures.goes_on c.args.trace.now.decls.declarations (take c.loop-at.at c.args.trace.now.events) c.loop-at.invariant.legal in
     may_come c.args.trace.now.decls c.loop-at.stamper (take c.loop-at.at c.args.trace.now.events) c.event-event.result.now c.loop-at.invariant.stands
     c.event-event.ensures.fits grown.legal
     (room_at c.args.trace.now.events c.loop-at.at c.event-event.result.now c.event-event.ensures.event c.len-at-end.ensures.is_trace.limited)
 
 pub step-requires : goal.step-requires
 step-requires c =
-    let grown = c.in-Ok-accept.ensures.goes_on c.args.trace.now.decls.declarations (take c.loop-at.at c.args.trace.now.events) c.loop-at.invariant.legal in
+    let grown = c.in-Ok.ensures.goes_on c.args.trace.now.decls.declarations (take c.loop-at.at c.args.trace.now.events) c.loop-at.invariant.legal in
     may_come c.args.trace.now.decls c.loop-at.stamper (take c.loop-at.at c.args.trace.now.events) c.event-event.result.now c.loop-at.invariant.stands
     c.event-event.ensures.fits grown.legal
     (room_at c.args.trace.now.events c.loop-at.at c.event-event.result.now c.event-event.ensures.event c.len-at-end.ensures.is_trace.limited)
 
 pub loop-at-preserved : goal.loop-at-preserved
 loop-at-preserved c =
-    let grown = c.in-Ok-accept.ensures.goes_on c.args.trace.now.decls.declarations (take c.loop-at.at c.args.trace.now.events) c.loop-at.invariant.legal in
+    let grown = c.in-Ok.ensures.goes_on c.args.trace.now.decls.declarations (take c.loop-at.at c.args.trace.now.events) c.loop-at.invariant.legal in
     let stepped = c.in-Ok-step.ensures.goes_on c.args.trace.now.decls.declarations (take c.loop-at.at c.args.trace.now.events) c.loop-at.invariant.stands
     (allowed_last (capacity_of c.args.trace.now.decls.declarations) (take c.loop-at.at c.args.trace.now.events) c.event-event.result.now grown.legal) in
     let next = sym (take_next c.args.trace.now.events c.loop-at.at c.event-event.result.now c.event-event.ensures.event) in

@@ -1,0 +1,68 @@
+//! A call that takes memory, of which each growth is refused in turn.
+ghost use Rattle.std.specs.Prelude.{◌<◌};
+
+use growth_tests::{Outcome, assert_refusals, judge};
+use refusing_heap::RefusingHeap;
+use std::alloc::{AllocGlobal, Global};
+use std::process::Abort;
+
+/// What a call answered.
+#[derive(Clone, Copy, PartialEq, Eq)]
+pub(crate) enum Reply {
+    /// Want of memory, and what it works on is as before.
+    OutOfMemory,
+    Right,
+    Wrong,
+}
+
+/// The reply of a call that answered.
+pub(crate) fn right_if(is_right: bool) -> Reply {
+    if is_right { Reply::Right } else { Reply::Wrong }
+}
+
+/// The reply of a call that answered want of memory.
+pub(crate) fn refused_if(is_as_before: bool) -> Reply {
+    if is_as_before {
+        Reply::OutOfMemory
+    } else {
+        Reply::Wrong
+    }
+}
+
+/// A call with what it works on.
+pub(crate) trait Growing: Copy {
+    /// Makes the value, lets growth `nth` from there on be refused, and makes the one call.
+    fn reply(self, heap: &RefusingHeap<Global>, nth: u64) -> Reply
+        requires { 0 < nth };
+}
+
+fn outcome<C: Growing>(alloc: Global, call: C, nth: u64) -> Outcome
+    requires { 0 < nth }
+{
+    let heap = RefusingHeap::new(alloc);
+    let reply = call.reply(&heap, nth);
+    judge(
+        heap.has_refused(),
+        reply == Reply::OutOfMemory,
+        reply == Reply::Right,
+    )
+}
+
+// How often the call answers want of memory until a run meets no refusal, or none where a run is wrong.
+fn refusals<C: Growing>(alloc: Global, call: C) -> Option<u64> {
+    let mut refusals = 0u64;
+    for nth in 1..64u64 {
+        match outcome(alloc, call, nth) {
+            Outcome::Refused => refusals = refusals.saturating_add(1),
+            Outcome::DoneWithout => {}
+            Outcome::Done => return Some(refusals),
+            Outcome::Wrong => return None,
+        }
+    }
+    None
+}
+
+/// Asserts how often each call answers want of memory.
+pub(crate) fn assert_each<C: Growing>(rt: &(impl Abort + AllocGlobal), calls: &[(C, u64)]) {
+    assert_refusals!(rt, refusals, calls);
+}

@@ -1,11 +1,33 @@
-//! Each growth of a call that takes memory, refused in turn: the call answers want of memory, and
-//! what it works on is as before.
-//!
-//! A test makes its value, calls `heap.refuse(nth)` and then the one call: growth 1, 2, 3 and so on
-//! is refused, until a run meets no refusal. `assert_refusals!` is that loop. The tests stand in a
-//! crate above, which makes the calls.
+//! Each public call that takes memory, each growth refused in turn.
 #![tactic(auto)]
 
-mod growths;
-
-pub use growths::{Outcome, judge};
+#[cfg(test)]
+mod accesses;
+#[cfg(test)]
+mod calls;
+#[cfg(test)]
+mod clocks;
+#[cfg(test)]
+mod engines;
+#[cfg(test)]
+mod hubs;
+#[cfg(test)]
+mod jobs;
+#[cfg(test)]
+mod orders;
+#[cfg(test)]
+mod played;
+#[cfg(test)]
+mod programs;
+#[cfg(test)]
+mod recordings;
+#[cfg(test)]
+mod records;
+#[cfg(test)]
+mod replays;
+#[cfg(test)]
+mod stamps;
+#[cfg(test)]
+mod texts;
+#[cfg(test)]
+mod traced;

@@ -2,7 +2,7 @@
 use Rattle.std.proofs.Common.{take}
 use Rattle.race_legal.specs.StandsFor as legal
 use Rattle.race_clock.specs.StandsFor.{StandsFor}
-use Rattle.growth_tests_calls.proofs.stamps.step_each.Given as goal
+use Rattle.growth_tests.proofs.stamps.step_each.Given as goal
 
 abbrev pub invariant-loop-at : goal.invariant-loop-at
 invariant-loop-at l = record {

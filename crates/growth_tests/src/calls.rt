@@ -1,7 +1,6 @@
 //! A call that takes memory, of which each growth is refused in turn.
 ghost use Rattle.std.specs.Prelude.{◌<◌};
 
-use growth_tests::{Outcome, assert_refusals, judge};
 use refusing_heap::RefusingHeap;
 use std::alloc::{AllocGlobal, Global};
 use std::process::Abort;
@@ -36,16 +35,30 @@ pub(crate) trait Growing: Copy {
         requires { 0 < nth };
 }
 
+/// How a run went in which one growth of the call was to be refused.
+enum Outcome {
+    /// The growth was refused, and the call answered want of memory.
+    Refused,
+    /// The growth was refused, and the call answered right without it: a list that grows by a hint
+    /// asks again for less.
+    DoneWithout,
+    /// The call has no such growth, and answered right.
+    Done,
+    /// Anything else.
+    Wrong,
+}
+
 fn outcome<C: Growing>(alloc: Global, call: C, nth: u64) -> Outcome
     requires { 0 < nth }
 {
     let heap = RefusingHeap::new(alloc);
     let reply = call.reply(&heap, nth);
-    judge(
-        heap.has_refused(),
-        reply == Reply::OutOfMemory,
-        reply == Reply::Right,
-    )
+    match (heap.has_refused(), reply) {
+        (true, Reply::OutOfMemory) => Outcome::Refused,
+        (true, Reply::Right) => Outcome::DoneWithout,
+        (false, Reply::Right) => Outcome::Done,
+        _ => Outcome::Wrong,
+    }
 }
 
 // How often the call answers want of memory until a run meets no refusal, or none where a run is wrong.
@@ -64,5 +77,8 @@ fn refusals<C: Growing>(alloc: Global, call: C) -> Option<u64> {
 
 /// Asserts how often each call answers want of memory.
 pub(crate) fn assert_each<C: Growing>(rt: &(impl Abort + AllocGlobal), calls: &[(C, u64)]) {
-    assert_refusals!(rt, refusals, calls);
+    for (index, (call, want)) in calls.iter().enumerate() {
+        let is_right = refusals(rt.alloc(), *call) == Some(*want);
+        assert!(rt; is_right, "call {index}");
+    }
 }

@@ -7,7 +7,7 @@ use Rattle.race_legal.proofs.Fronts.{take_next}
 use Rattle.race_legal.proofs.RangeLemmas.{in_range}
 use Rattle.race_clock.specs.StandsFor.{StandsFor}
 use Rattle.race_clock.proofs.NextFrom.{allowed_last, may_come, room_at}
-use Rattle.growth_tests_calls.proofs.stamps.step_each.Goals as goal
+use Rattle.growth_tests.proofs.stamps.step_each.Goals as goal
 
 pub accept-requires-clause-range : goal.accept-requires-clause-range
 accept-requires-clause-range c =

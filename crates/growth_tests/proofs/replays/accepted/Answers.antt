@@ -3,7 +3,7 @@ use Rattle.std.proofs.Common.{[], subst}
 use Rattle.race_records.specs.Declarations.{DeclsState}
 use Rattle.race_legal.specs.StandsFor.{StandsFor}
 use Rattle.race_legal.proofs.RangeLemmas.{in_range}
-use Rattle.growth_tests_calls.proofs.replays.accepted.Goals as goal
+use Rattle.growth_tests.proofs.replays.accepted.Goals as goal
 
 pub accept-requires-clause-range : goal.accept-requires-clause-range
 accept-requires-clause-range c =

@@ -56,8 +56,68 @@ const RUN: &str = "gotrace 1\nexit main m:1\n";
 
 const JUDGED_RUN: &str = "clean: 1 events, 0 accesses\nend: main\n";
 
-// The options are taken, or refused, and then nothing is written.
-static OPTIONS: [Row; 33] = [
+/// The first lines of an input, the line that stands behind them 2,001 times, and the last line.
+type Long = (&'static str, &'static str, &'static str);
+
+const LONG_TRACE: Long = ("gotrace 1\nvar x\n", "write main x 1 m:1\n", "");
+
+const LONG_PROGRAM: Long = (
+    "goprogram 1\nvar x\nbody main\n",
+    "write x 1 m:1\n",
+    "exit m:2\n",
+);
+
+// A trace and a program of 2,001 events and more are too long for the plain judge alone.
+static LONG: [(&str, Long, u8, &str); 4] = [
+    (
+        "gorace check",
+        LONG_TRACE,
+        status::CLEAN,
+        "clean: 2001 events, 2001 accesses\n",
+    ),
+    (
+        "gorace check --plain",
+        LONG_TRACE,
+        status::USAGE,
+        "too long: 2001 events\n",
+    ),
+    (
+        "gorace race",
+        LONG_PROGRAM,
+        status::CLEAN,
+        "clean: 2002 events, 2001 accesses\nend: main\n",
+    ),
+    (
+        "gorace race --plain",
+        LONG_PROGRAM,
+        status::USAGE,
+        "too long: 2002 events\n",
+    ),
+];
+
+fn written_out(alloc: Global, (first, line, last): Long) -> Result<String, Fail> {
+    let mut text = String::from_str(alloc, first)?;
+    for _ in 0..2_001u32 {
+        text.push_str(line)?;
+    }
+    text.push_str(last)?;
+    Ok(text)
+}
+
+#[test]
+fn plain_asks_for_the_plain_judge(rt: HostRuntime) -> Result<(), Fail> {
+    for &(line, input, answer, report) in &LONG {
+        let input = written_out(rt.alloc(), input)?;
+        assert!(rt;
+            ends_so(&rt, line, input.as_str(), answer, report)?,
+            "{line}"
+        );
+    }
+    Ok(())
+}
+
+static ROWS: [Row; 50] = [
+    // The options are taken, or refused, and then nothing is written.
     ("gorace check --shards 0", TRACE, status::USAGE, ""),
     ("gorace check --shards 1", TRACE, status::CLEAN, NO_EVENTS),
     ("gorace check --shards 64", TRACE, status::CLEAN, NO_EVENTS),
@@ -141,77 +201,7 @@ static OPTIONS: [Row; 33] = [
         "",
     ),
     ("gorace walk", TRACE, status::USAGE, ""),
-];
-
-#[test]
-fn options_are_numbers_in_their_limits(rt: HostRuntime) -> Result<(), Fail> {
-    for &(line, input, answer, report) in &OPTIONS {
-        assert!(rt; ends_so(&rt, line, input, answer, report)?, "{line}");
-    }
-    Ok(())
-}
-
-/// The first lines of an input, the line that stands behind them 2,001 times, and the last line.
-type Long = (&'static str, &'static str, &'static str);
-
-const LONG_TRACE: Long = ("gotrace 1\nvar x\n", "write main x 1 m:1\n", "");
-
-const LONG_PROGRAM: Long = (
-    "goprogram 1\nvar x\nbody main\n",
-    "write x 1 m:1\n",
-    "exit m:2\n",
-);
-
-// A trace and a program of 2,001 events and more are too long for the plain judge alone.
-static LONG: [(&str, Long, u8, &str); 4] = [
-    (
-        "gorace check",
-        LONG_TRACE,
-        status::CLEAN,
-        "clean: 2001 events, 2001 accesses\n",
-    ),
-    (
-        "gorace check --plain",
-        LONG_TRACE,
-        status::USAGE,
-        "too long: 2001 events\n",
-    ),
-    (
-        "gorace race",
-        LONG_PROGRAM,
-        status::CLEAN,
-        "clean: 2002 events, 2001 accesses\nend: main\n",
-    ),
-    (
-        "gorace race --plain",
-        LONG_PROGRAM,
-        status::USAGE,
-        "too long: 2002 events\n",
-    ),
-];
-
-fn written_out(alloc: Global, (first, line, last): Long) -> Result<String, Fail> {
-    let mut text = String::from_str(alloc, first)?;
-    for _ in 0..2_001u32 {
-        text.push_str(line)?;
-    }
-    text.push_str(last)?;
-    Ok(text)
-}
-
-#[test]
-fn plain_asks_for_the_plain_judge(rt: HostRuntime) -> Result<(), Fail> {
-    for &(line, input, answer, report) in &LONG {
-        let input = written_out(rt.alloc(), input)?;
-        assert!(rt;
-            ends_so(&rt, line, input.as_str(), answer, report)?,
-            "{line}"
-        );
-    }
-    Ok(())
-}
-
-static ROWS: [Row; 17] = [
+    // Each command, and the words that are none.
     (
         "gorace check",
         "gotrace 1\n",

@@ -1,6 +1,5 @@
-use crate::tool::rows::{Row, first_misjudged, first_mislisted};
+use crate::tool::rows::Row;
 use race_tool::status;
-use std::test::Fail;
 
 const MET: &str =
     "gotrace 1 / goroutine w / var x / chan c 0 / go main w m:1 / write w x 3 w:1 / meet main w c 1 m:2 w:2 / read main x 3 m:3";
@@ -12,7 +11,7 @@ const CLOSED: &str =
     "gotrace 1 / goroutine a / goroutine b / var x / chan c 0 / go main a m:1 / go main b m:2 / write main x 4 m:3 / close main c m:4 / recvclosed a c a:1 / read a x 4 a:2 / recvclosed b c b:1 / read b x 4 b:2";
 
 // Traces with their reports and statuses.
-static JUDGED: [Row; 10] = [
+pub(crate) static JUDGED: [Row; 10] = [
     // The reader that met main is ordered before the write, and so is the one that met it later; the
     // third isn't.
     (
@@ -66,9 +65,9 @@ static JUDGED: [Row; 10] = [
 ];
 
 // Events behind these declarations, with the report and the status.
-const DECLARED: &str = "gotrace 1 / goroutine a / var x / chan c 1 / chan d 0 / ";
+pub(crate) const DECLARED: &str = "gotrace 1 / goroutine a / var x / chan c 1 / chan d 0 / ";
 
-static EVENTS: [Row; 12] = [
+pub(crate) static EVENTS: [Row; 12] = [
     (
         "meet main main d 1 p q",
         "illegal: event 1: meets itself",
@@ -133,7 +132,7 @@ static EVENTS: [Row; 12] = [
 ];
 
 // A select's defaults, and faults, behind the same declarations.
-static ENDS: [Row; 15] = [
+pub(crate) static ENDS: [Row; 15] = [
     (
         "default main send:c p",
         "illegal: event 1: case ready",
@@ -215,15 +214,7 @@ static ENDS: [Row; 15] = [
     ),
 ];
 
-#[test]
-fn channels_are_judged(rt: HostRuntime) -> Result<(), Fail> {
-    assert_eq!(rt; first_misjudged(rt.alloc(), "", &JUDGED)?, None);
-    assert_eq!(rt; first_misjudged(rt.alloc(), DECLARED, &EVENTS)?, None);
-    assert_eq!(rt; first_misjudged(rt.alloc(), DECLARED, &ENDS)?, None);
-    Ok(())
-}
-
-static EDGES: [(&str, &str); 3] = [
+pub(crate) static EDGES: [(&str, &str); 3] = [
     (
         BUFFERED,
         "edge 1 main 1 a / edge 2 main 2 b / edge 3 main 5 a / edge 5 a 6 b / edge 6 b 7 main / edges: 5",
@@ -237,9 +228,3 @@ static EDGES: [(&str, &str); 3] = [
         "edge 1 main 1 a / edge 2 main 2 b / edge 4 main 5 a / edge 4 main 7 b / edges: 4",
     ),
 ];
-
-#[test]
-fn the_edges_of_channels_are_listed(rt: HostRuntime) -> Result<(), Fail> {
-    assert_eq!(rt; first_mislisted(rt.alloc(), &EDGES)?, None);
-    Ok(())
-}

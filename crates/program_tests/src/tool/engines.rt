@@ -1,7 +1,7 @@
 //! The engines on bytes, and what they tell.
 use race_records::{Sink, Source};
 use race_tool::{CheckOptions, RunOptions, run_check, run_edges, run_race, run_run, status};
-use std::alloc::Global;
+use std::alloc::{AllocError, Global};
 use std::io;
 use std::io::{Read, Write};
 use std::test::Fail;
@@ -23,13 +23,19 @@ pub(crate) fn judge(plain: bool) -> CheckOptions {
     }
 }
 
-/// The lines of a row, each with its newline.
-pub(crate) fn text_of(alloc: Global, row: &str) -> Result<Vec<u8>, Fail> {
-    let mut text = Vec::new(alloc);
+/// Puts the lines of a row, each with its newline, behind the text.
+pub(crate) fn push_lines(text: &mut Vec<u8>, row: &str) -> Result<(), AllocError> {
     for line in row.split(" / ") {
         text.extend_from_slice(line.as_bytes())?;
         text.push(b'\n')?;
     }
+    Ok(())
+}
+
+/// The lines of a row.
+pub(crate) fn text_of(alloc: Global, row: &str) -> Result<Vec<u8>, AllocError> {
+    let mut text = Vec::new(alloc);
+    push_lines(&mut text, row)?;
     Ok(text)
 }
 

@@ -160,13 +160,16 @@ fn next_judged(
     Ok((agree, race, kinds))
 }
 
-#[test]
-fn both_judges_agree(rt: HostRuntime) -> Result<(), Fail> {
+// The first of a thousand traces on which the judges disagree, how many of them have a race and how many
+// don't, and the kinds of operations in them.
+fn rounds(alloc: Global) -> Result<(Option<u32>, u32, u32, u32), Fail> {
     let mut numbers = Numbers { state: 1 };
     let (mut racy, mut clean, mut kinds) = (0u32, 0u32, 0u32);
     for round in 0..1_000u32 {
-        let (agree, race, found) = next_judged(rt.alloc(), &mut numbers, 8 + round % 120)?;
-        assert!(rt; agree, "trace {round}");
+        let (agree, race, found) = next_judged(alloc, &mut numbers, 8 + round % 120)?;
+        if !agree {
+            return Ok((Some(round), racy, clean, kinds));
+        }
         kinds |= found;
         if race {
             racy = racy.saturating_add(1);
@@ -174,10 +177,15 @@ fn both_judges_agree(rt: HostRuntime) -> Result<(), Fail> {
             clean = clean.saturating_add(1);
         }
     }
+    Ok((None, racy, clean, kinds))
+}
+
+#[test]
+fn both_judges_agree(rt: HostRuntime) -> Result<(), Fail> {
+    let (wrong, racy, clean, kinds) = rounds(rt.alloc())?;
     assert!(rt;
-        racy >= 200 && clean >= 200,
-        "{racy} with a race, {clean} without"
+        wrong.is_none() && racy >= 200 && clean >= 200 && kinds == (1 << KINDS) - 1,
+        "trace {wrong:?}: {racy} with a race, {clean} without, kinds {kinds}"
     );
-    assert_eq!(rt; kinds, (1 << KINDS) - 1);
     Ok(())
 }

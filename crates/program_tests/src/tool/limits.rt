@@ -1,7 +1,8 @@
 //! Traces as long and as wide as they may be, and one event longer than the plain judge takes.
-use crate::tool::engines::{Engine, Told, judge, tells, text_of};
+use crate::tool::engines::{Engine, Told, judge, push_lines, tells, text_of};
 use race_tool::status;
 use std::alloc::Global;
+use std::ops::Range;
 use std::test::Fail;
 
 // A first line or more behind so many goroutines and variables, and so many writes behind it.
@@ -72,22 +73,26 @@ static LONG_ROWS: [Row; 6] = [
     },
 ];
 
-// The lines before the first event: so many goroutines, main among them, and so many variables.
-fn declarations_of(alloc: Global, goroutines: u32, vars: u32) -> Result<String, Fail> {
-    let mut text = String::from_str(alloc, "gotrace 1\n")?;
-    for number in 1..goroutines {
-        text.push_str(format!(in alloc; "goroutine g{number}\n")?.as_str())?;
+// Puts a line for each number behind the text.
+fn push_numbered(
+    alloc: Global,
+    text: &mut Vec<u8>,
+    word: &str,
+    numbers: Range<u32>,
+) -> Result<(), Fail> {
+    for number in numbers {
+        let line = format!(in alloc; "{word}{number}\n")?;
+        text.extend_from_slice(line.as_bytes())?;
     }
-    for number in 0..vars {
-        text.push_str(format!(in alloc; "var x{number}\n")?.as_str())?;
-    }
-    Ok(text)
+    Ok(())
 }
 
+// So many goroutines, main among them, so many variables, and the events.
 fn written_out(alloc: Global, row: &Row) -> Result<Vec<u8>, Fail> {
-    let mut text = Vec::new(alloc);
-    text.extend_from_slice(declarations_of(alloc, row.goroutines, row.vars)?.as_bytes())?;
-    text.extend_from_slice(text_of(alloc, row.first)?.as_slice())?;
+    let mut text = text_of(alloc, "gotrace 1")?;
+    push_numbered(alloc, &mut text, "goroutine g", 1..row.goroutines)?;
+    push_numbered(alloc, &mut text, "var x", 0..row.vars)?;
+    push_lines(&mut text, row.first)?;
     for _ in 0..row.writes {
         text.extend_from_slice(b"write main x0 1 p\n")?;
     }

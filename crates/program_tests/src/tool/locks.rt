@@ -1,6 +1,5 @@
-use crate::tool::rows::{Row, first_misjudged, first_mislisted};
+use crate::tool::rows::Row;
 use race_tool::status;
-use std::test::Fail;
 
 const READ_UNDER_LOCK: &str =
     "gotrace 1 / goroutine g1 / goroutine g2 / goroutine g3 / goroutine g4 / rwmutex l / var x / go main g1 m:1 / go main g2 m:2 / go main g3 m:3 / go main g4 m:4 / rlock g1 l r:1 / read g1 x 0 r:2 / runlock g1 l r:3 / lock g2 l s:1 / unlock g3 l t:1 / lock g4 l u:1 / write g4 x 1 u:2";
@@ -15,7 +14,7 @@ const DONE_ONCE: &str =
     "gotrace 1 / goroutine a / goroutine b / once o / var x / go main a m:1 / go main b m:2 / oncebegin a o a:1 / write a x 1 a:2 / onceend a o a:3 / oncedone b o b:1 / read b x 1 b:2";
 
 // Traces with their reports and statuses.
-static JUDGED: [Row; 9] = [
+pub(crate) static JUDGED: [Row; 9] = [
     // A reader's unlock is ordered before the next lock alone, and not before the one behind it.
     (
         READ_UNDER_LOCK,
@@ -67,9 +66,9 @@ static JUDGED: [Row; 9] = [
 ];
 
 // Events behind these declarations, with the report and the status.
-const DECLARED: &str = "gotrace 1 / goroutine a / mutex m / rwmutex l / once o / ";
+pub(crate) const DECLARED: &str = "gotrace 1 / goroutine a / mutex m / rwmutex l / once o / ";
 
-static EVENTS: [Row; 21] = [
+pub(crate) static EVENTS: [Row; 21] = [
     (
         "lock main l p / rlock main l q",
         "illegal: event 2: held",
@@ -169,10 +168,10 @@ static EVENTS: [Row; 21] = [
 ];
 
 // The function of a once calls another's.
-const TWO_ONCES: &str =
+pub(crate) const TWO_ONCES: &str =
     "gotrace 1 / once o / once p / oncebegin main o a:1 / oncebegin main p b:1 / ";
 
-static NESTED: [Row; 3] = [
+pub(crate) static NESTED: [Row; 3] = [
     (
         "onceend main p b:2 / onceend main o a:2 / exit main a:3",
         "clean: 5 events, 0 accesses",
@@ -190,15 +189,7 @@ static NESTED: [Row; 3] = [
     ),
 ];
 
-#[test]
-fn locks_and_onces_are_judged(rt: HostRuntime) -> Result<(), Fail> {
-    assert_eq!(rt; first_misjudged(rt.alloc(), "", &JUDGED)?, None);
-    assert_eq!(rt; first_misjudged(rt.alloc(), DECLARED, &EVENTS)?, None);
-    assert_eq!(rt; first_misjudged(rt.alloc(), TWO_ONCES, &NESTED)?, None);
-    Ok(())
-}
-
-static EDGES: [(&str, &str); 4] = [
+pub(crate) static EDGES: [(&str, &str); 4] = [
     (
         READ_UNDER_LOCK,
         "edge 1 main 1 g1 / edge 2 main 2 g2 / edge 3 main 3 g3 / edge 4 main 4 g4 / edge 7 g1 8 g2 / edge 9 g3 10 g4 / edges: 6",
@@ -217,9 +208,3 @@ static EDGES: [(&str, &str); 4] = [
         "edge 1 main 1 a / edge 2 main 2 b / edge 5 a 6 b / edges: 3",
     ),
 ];
-
-#[test]
-fn the_edges_of_locks_and_onces_are_listed(rt: HostRuntime) -> Result<(), Fail> {
-    assert_eq!(rt; first_mislisted(rt.alloc(), &EDGES)?, None);
-    Ok(())
-}

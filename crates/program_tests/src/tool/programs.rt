@@ -127,16 +127,16 @@ fn next(alloc: Global, numbers: &mut Numbers) -> Result<(Option<u8>, u32), Alloc
     Ok((answer, words(trace.as_slice())))
 }
 
-#[test]
-fn both_judges_agree_on_the_runs_of_programs(rt: HostRuntime) -> Result<(), Fail> {
+// The first of a thousand programs on which the judges disagree or give no verdict, how many of them have a
+// race and how many don't, and the words of their traces.
+fn rounds(alloc: Global) -> Result<(Option<u32>, u32, u32, u32), AllocError> {
     let mut numbers = Numbers { state: 7 };
     let (mut racy, mut other, mut found) = (0u32, 0u32, 0u32);
     for round in 0..1_000u32 {
-        let (answer, words) = next(rt.alloc(), &mut numbers)?;
-        assert!(rt;
-            answer.is_some_and(has_a_verdict),
-            "program {round} ends with {answer:?}"
-        );
+        let (answer, words) = next(alloc, &mut numbers)?;
+        if !answer.is_some_and(has_a_verdict) {
+            return Ok((Some(round), racy, other, found));
+        }
         found |= words;
         if answer == Some(status::RACES) {
             racy = racy.saturating_add(1);
@@ -144,10 +144,15 @@ fn both_judges_agree_on_the_runs_of_programs(rt: HostRuntime) -> Result<(), Fail
             other = other.saturating_add(1);
         }
     }
+    Ok((None, racy, other, found))
+}
+
+#[test]
+fn both_judges_agree_on_the_runs_of_programs(rt: HostRuntime) -> Result<(), Fail> {
+    let (wrong, racy, other, found) = rounds(rt.alloc())?;
     assert!(rt;
-        racy >= 100 && other >= 100,
-        "{racy} with a race, {other} without"
+        wrong.is_none() && racy >= 100 && other >= 100 && found == (1 << 18) - 1,
+        "program {wrong:?}: {racy} with a race, {other} without, words {found}"
     );
-    assert_eq!(rt; found, (1 << 18) - 1);
     Ok(())
 }

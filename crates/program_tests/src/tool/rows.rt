@@ -1,5 +1,6 @@
 //! Traces with their reports and statuses, by both judges, and with their edges.
 use crate::tool::engines::{Engine, answer, ended, is_cut_off, judge, tells, text_of};
+use crate::tool::{channels, locks};
 use race_records::{Sink, Source};
 use race_tool::{CheckOptions, status};
 use std::alloc::Global;
@@ -21,12 +22,8 @@ fn is_judged(alloc: Global, first: &str, row: &Row) -> Result<bool, Fail> {
     )
 }
 
-/// The first row, behind these first lines, of which a judge tells something else.
-pub(crate) fn first_misjudged(
-    alloc: Global,
-    first: &str,
-    rows: &[Row],
-) -> Result<Option<usize>, Fail> {
+// The first row, behind these first lines, of which a judge tells something else.
+fn first_misjudged(alloc: Global, first: &str, rows: &[Row]) -> Result<Option<usize>, Fail> {
     for (at, row) in rows.iter().enumerate() {
         if !is_judged(alloc, first, row)? {
             return Ok(Some(at));
@@ -35,7 +32,8 @@ pub(crate) fn first_misjudged(
     Ok(None)
 }
 
-static ORDERED: [Row; 3] = [
+static ROWS: [Row; 22] = [
+    // Ordered accesses are clean.
     ("gotrace 1", "clean: 0 events, 0 accesses", status::CLEAN),
     // A write before the go.
     (
@@ -48,15 +46,8 @@ static ORDERED: [Row; 3] = [
         "clean: 2 events, 2 accesses",
         status::CLEAN,
     ),
-];
+    // Each variable with a race has one line.
 
-#[test]
-fn ordered_accesses_are_clean(rt: HostRuntime) -> Result<(), Fail> {
-    assert_eq!(rt; first_misjudged(rt.alloc(), "", &ORDERED)?, None);
-    Ok(())
-}
-
-static RACY: [Row; 4] = [
     // A write behind the go.
     (
         "gotrace 1 / goroutine w / var x / go main w a.go:2 / write main x 1 a.go:3 / read w x 1 a.go:6",
@@ -81,15 +72,7 @@ static RACY: [Row; 4] = [
         "race on x: write by main at m:4 (event 5), write by a at a:2 (event 6) / race on z: write by main at m:2 (event 2), write by a at a:1 (event 3) / races: 2",
         status::RACES,
     ),
-];
-
-#[test]
-fn each_variable_with_a_race_has_one_line(rt: HostRuntime) -> Result<(), Fail> {
-    assert_eq!(rt; first_misjudged(rt.alloc(), "", &RACY)?, None);
-    Ok(())
-}
-
-static ILLEGAL: [Row; 4] = [
+    // The first illegal event is told with its rule.
     (
         "gotrace 1 / goroutine a / var x / exit main p / exit main q",
         "illegal: event 2: after end",
@@ -110,15 +93,7 @@ static ILLEGAL: [Row; 4] = [
         "illegal: event 1: stale read",
         status::ILLEGAL,
     ),
-];
-
-#[test]
-fn the_first_illegal_event_is_told_with_its_rule(rt: HostRuntime) -> Result<(), Fail> {
-    assert_eq!(rt; first_misjudged(rt.alloc(), "", &ILLEGAL)?, None);
-    Ok(())
-}
-
-static FAULTY: [Row; 11] = [
+    // The first line at fault is told with its cause.
     ("", "line 1: bad header", status::TEXT_FAULT),
     (
         "gotrace 1 / goroutine a / var x / read a y 0 p",
@@ -169,9 +144,26 @@ static FAULTY: [Row; 11] = [
     ),
 ];
 
+// The tables, and the first lines of each of their traces.
+fn table(number: usize) -> (&'static str, &'static [Row]) {
+    match number {
+        0 => ("", &ROWS),
+        1 => ("", &channels::JUDGED),
+        2 => (channels::DECLARED, &channels::EVENTS),
+        3 => (channels::DECLARED, &channels::ENDS),
+        4 => ("", &locks::JUDGED),
+        5 => (locks::DECLARED, &locks::EVENTS),
+        _ => (locks::TWO_ONCES, &locks::NESTED),
+    }
+}
+
 #[test]
-fn the_first_line_at_fault_is_told_with_its_cause(rt: HostRuntime) -> Result<(), Fail> {
-    assert_eq!(rt; first_misjudged(rt.alloc(), "", &FAULTY)?, None);
+fn each_trace_is_judged(rt: HostRuntime) -> Result<(), Fail> {
+    for number in 0..7usize {
+        let (first, rows) = table(number);
+        let wrong = first_misjudged(rt.alloc(), first, rows)?;
+        assert!(rt; wrong.is_none(), "row {wrong:?} of table {number}");
+    }
     Ok(())
 }
 
@@ -193,8 +185,8 @@ fn a_text_ends_with_a_newline(rt: HostRuntime) {
     }
 }
 
-/// The first row whose edges are listed otherwise: the lines of a legal trace, and the edges.
-pub(crate) fn first_mislisted(alloc: Global, rows: &[(&str, &str)]) -> Result<Option<usize>, Fail> {
+// The first row whose edges are listed otherwise: the lines of a legal trace, and the edges.
+fn first_mislisted(alloc: Global, rows: &[(&str, &str)]) -> Result<Option<usize>, Fail> {
     for (at, &(trace, edges)) in rows.iter().enumerate() {
         let text = text_of(alloc, trace)?;
         if !tells(
@@ -217,9 +209,20 @@ static GOES: [(&str, &str); 2] = [
     ("gotrace 1", "edges: 0"),
 ];
 
+fn listed(number: usize) -> &'static [(&'static str, &'static str)] {
+    match number {
+        0 => &GOES,
+        1 => &channels::EDGES,
+        _ => &locks::EDGES,
+    }
+}
+
 #[test]
-fn each_go_is_an_edge(rt: HostRuntime) -> Result<(), Fail> {
-    assert_eq!(rt; first_mislisted(rt.alloc(), &GOES)?, None);
+fn the_edges_are_listed(rt: HostRuntime) -> Result<(), Fail> {
+    for number in 0..3usize {
+        let wrong = first_mislisted(rt.alloc(), listed(number))?;
+        assert!(rt; wrong.is_none(), "row {wrong:?} of table {number}");
+    }
     Ok(())
 }
 

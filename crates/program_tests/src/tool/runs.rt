@@ -47,17 +47,12 @@ fn is_run(alloc: Global, row: &Row<'_>) -> Result<bool, Fail> {
     )
 }
 
-// The first row whose run has another trace or status.
-fn first_wrong(alloc: Global, rows: &[Row<'_>]) -> Result<Option<usize>, Fail> {
-    for (at, row) in rows.iter().enumerate() {
-        if !is_run(alloc, row)? {
-            return Ok(Some(at));
-        }
-    }
-    Ok(None)
-}
+// Each would send or receive over c.
+const TWO_SELECTS: &str =
+    "goprogram 1 / goroutine w / chan c 0 / body main / go w m:1 / select send:c:5,recv:c block m:2 / exit m:3 / body w / select recv:c,send:c:6 block w:1 / exit w:2";
 
-static ENDING: [Row<'static>; 9] = [
+static ROWS: [Row<'static>; 17] = [
+    // A program runs to its end.
     (HANDOFF, MOST, Some(&[0]), HANDOFF_TRACE, status::CLEAN),
     (HANDOFF, MOST, None, HANDOFF_TRACE, status::CLEAN),
     (
@@ -109,19 +104,7 @@ static ENDING: [Row<'static>; 9] = [
         "gotrace 1 / once o / var x / oncebegin main o m:1 / write main x 1 m:2 / onceend main o m:3 / oncedone main o m:4 / exit main m:7",
         status::CLEAN,
     ),
-];
-
-#[test]
-fn a_program_runs_to_its_end(rt: HostRuntime) -> Result<(), Fail> {
-    assert_eq!(rt; first_wrong(rt.alloc(), &ENDING)?, None);
-    Ok(())
-}
-
-// Each would send or receive over c.
-const TWO_SELECTS: &str =
-    "goprogram 1 / goroutine w / chan c 0 / body main / go w m:1 / select send:c:5,recv:c block m:2 / exit m:3 / body w / select recv:c,send:c:6 block w:1 / exit w:2";
-
-static SELECTS: [Row<'static>; 5] = [
+    // A select goes on by its pick.
     (
         TWO_SELECTS,
         MOST,
@@ -159,15 +142,7 @@ static SELECTS: [Row<'static>; 5] = [
         "gotrace 1",
         status::DEADLOCK,
     ),
-];
-
-#[test]
-fn a_select_goes_on_by_its_pick(rt: HostRuntime) -> Result<(), Fail> {
-    assert_eq!(rt; first_wrong(rt.alloc(), &SELECTS)?, None);
-    Ok(())
-}
-
-static NO_PROGRAMS: [Row<'static>; 3] = [
+    // A text that is no program isn't run.
     (
         "goprogram 1",
         MOST,
@@ -192,8 +167,10 @@ static NO_PROGRAMS: [Row<'static>; 3] = [
 ];
 
 #[test]
-fn a_text_that_is_no_program_isnt_run(rt: HostRuntime) -> Result<(), Fail> {
-    assert_eq!(rt; first_wrong(rt.alloc(), &NO_PROGRAMS)?, None);
+fn each_program_has_its_trace(rt: HostRuntime) -> Result<(), Fail> {
+    for row in &ROWS {
+        assert!(rt; is_run(rt.alloc(), row)?, "{}", row.0);
+    }
     Ok(())
 }
 

@@ -169,7 +169,48 @@ fn a_fault_is_printed(rt: HostRuntime) -> Result<(), Fail> {
     Ok(())
 }
 
-// 1,023 goroutines, as many as may be.
+/// What is as long as it may be, or longer.
+enum Long {
+    /// Lines behind 1,023 goroutines.
+    Goroutines(&'static str),
+    /// A place of so many bytes.
+    Place(u32),
+    /// So many cases of a select, and the end of the line from the last one's channel on.
+    Cases(u32, &'static [u8]),
+}
+
+// Each with the number of its last line, and the cause for which that is refused.
+static LIMITS: [(Long, u64, Option<TextCause>); 17] = [
+    // Where the last line is malformed, taken or late besides, `too many` is told only where no cause before
+    // it holds.
+    (Long::Goroutines(""), 1025, None),
+    (Long::Goroutines("goroutine g1024\n"), 1025, Some(TooMany)),
+    (Long::Goroutines("goroutine -\n"), 1025, Some(BadName)),
+    (Long::Goroutines("goroutine g7\n"), 1025, Some(Taken)),
+    (
+        Long::Goroutines("goroutine g1024 p\n"),
+        1025,
+        Some(WrongCount),
+    ),
+    (Long::Goroutines("goroutine g1024\t\n"), 1025, Some(BadByte)),
+    (
+        Long::Goroutines("exit main p\ngoroutine g1024\n"),
+        1026,
+        Some(TooMany),
+    ),
+    (Long::Place(1), 5, None),
+    (Long::Place(128), 5, None),
+    (Long::Place(129), 5, Some(BadName)),
+    // 16 cases are fine, and 17 are told only where no cause before holds.
+    (Long::Cases(16, b"c p"), 4, None),
+    (Long::Cases(17, b"c p"), 4, Some(TooMany)),
+    (Long::Cases(17, b"nil p"), 4, Some(TooMany)),
+    (Long::Cases(17, b"q p"), 4, Some(Unknown)),
+    (Long::Cases(17, b"x p"), 4, Some(WrongKind)),
+    (Long::Cases(17, b"c "), 4, Some(BadName)),
+    (Long::Cases(30, b" p"), 4, Some(BadName)),
+];
+
 fn goroutines(alloc: Global) -> Result<String, Fail> {
     let mut many = String::from_str(alloc, "gotrace 1\n")?;
     for n in 1..1024u32 {
@@ -178,36 +219,12 @@ fn goroutines(alloc: Global) -> Result<String, Fail> {
     Ok(many)
 }
 
-// Lines behind them, the number of the faulty one, and its cause. Where the last line is malformed, taken or late
-// besides, `too many` is told only where no cause before it holds.
-static LASTS: [(&str, u64, Option<TextCause>); 7] = [
-    ("", 1025, None),
-    ("goroutine g1024\n", 1025, Some(TooMany)),
-    ("goroutine -\n", 1025, Some(BadName)),
-    ("goroutine g7\n", 1025, Some(Taken)),
-    ("goroutine g1024 p\n", 1025, Some(WrongCount)),
-    ("goroutine g1024\t\n", 1025, Some(BadByte)),
-    ("exit main p\ngoroutine g1024\n", 1026, Some(TooMany)),
-];
-
 fn fault_behind_many(alloc: Global, last: &str) -> Result<Option<TextFault>, Fail> {
     let mut text = goroutines(alloc)?;
     text.push_str(last)?;
     Ok(fault_of(alloc, text.as_bytes()))
 }
 
-#[test]
-fn holds_the_limit_on_goroutines(rt: HostRuntime) -> Result<(), Fail> {
-    for &(last, line, cause) in &LASTS {
-        let fault = fault_behind_many(rt.alloc(), last)?;
-        assert_eq!(rt; fault, at_line(line, cause), "at {last:?}");
-    }
-    Ok(())
-}
-
-static PLACES: [(u32, Option<TextCause>); 3] = [(1, None), (128, None), (129, Some(BadName))];
-
-// The fault of a line with a place of so many bytes.
 fn fault_at(alloc: Global, len: u32) -> Result<Option<TextFault>, Fail> {
     let mut line = Vec::new(alloc);
     line.extend_from_slice(b"exit main ")?;
@@ -217,26 +234,6 @@ fn fault_at(alloc: Global, len: u32) -> Result<Option<TextFault>, Fail> {
     fault_behind(alloc, EVENT_BEFORE, line.as_slice())
 }
 
-#[test]
-fn holds_the_limit_on_places(rt: HostRuntime) -> Result<(), Fail> {
-    for &(len, cause) in &PLACES {
-        assert_eq!(rt; fault_at(rt.alloc(), len)?, at_line(5, cause), "at {len}");
-    }
-    Ok(())
-}
-
-// So many cases: 16 are fine, and 17 are told only where no cause before holds.
-static ENDS: [(u32, &[u8], Option<TextCause>); 7] = [
-    (16, b"c p", None),
-    (17, b"c p", Some(TooMany)),
-    (17, b"nil p", Some(TooMany)),
-    (17, b"q p", Some(Unknown)),
-    (17, b"x p", Some(WrongKind)),
-    (17, b"c ", Some(BadName)),
-    (30, b" p", Some(BadName)),
-];
-
-// The fault of a select of so many cases.
 fn fault_in_cases(alloc: Global, count: u32, end: &[u8]) -> Result<Option<TextFault>, Fail> {
     let mut line = Vec::new(alloc);
     line.extend_from_slice(b"default main send:")?;
@@ -247,11 +244,19 @@ fn fault_in_cases(alloc: Global, count: u32, end: &[u8]) -> Result<Option<TextFa
     fault_behind(alloc, b"gotrace 1\nvar x\nchan c 0\n", line.as_slice())
 }
 
+fn fault_of_long(alloc: Global, long: &Long) -> Result<Option<TextFault>, Fail> {
+    match *long {
+        Long::Goroutines(last) => fault_behind_many(alloc, last),
+        Long::Place(len) => fault_at(alloc, len),
+        Long::Cases(count, end) => fault_in_cases(alloc, count, end),
+    }
+}
+
 #[test]
-fn holds_the_limit_on_cases(rt: HostRuntime) -> Result<(), Fail> {
-    for &(count, end, cause) in &ENDS {
-        let fault = fault_in_cases(rt.alloc(), count, end)?;
-        assert_eq!(rt; fault, at_line(4, cause), "at {end:?}");
+fn holds_the_limits(rt: HostRuntime) -> Result<(), Fail> {
+    for (at, (long, line, cause)) in LIMITS.iter().enumerate() {
+        let fault = fault_of_long(rt.alloc(), long)?;
+        assert_eq!(rt; fault, at_line(*line, *cause), "row {at}");
     }
     Ok(())
 }

@@ -87,20 +87,27 @@ fn push_numbered(
     Ok(())
 }
 
-// So many goroutines, main among them, so many variables, and the events.
-fn written_out(alloc: Global, row: &Row) -> Result<Vec<u8>, Fail> {
-    let mut text = text_of(alloc, "gotrace 1")?;
-    push_numbered(alloc, &mut text, "goroutine g", 1..row.goroutines)?;
-    push_numbered(alloc, &mut text, "var x", 0..row.vars)?;
-    push_lines(&mut text, row.first)?;
+// Puts so many goroutines, main among them, so many variables, and the events behind the text.
+fn push_row(alloc: Global, text: &mut Vec<u8>, row: &Row) -> Result<(), Fail> {
+    push_numbered(alloc, text, "goroutine g", 1..row.goroutines)?;
+    push_numbered(alloc, text, "var x", 0..row.vars)?;
+    push_lines(text, row.first)?;
     for _ in 0..row.writes {
         text.extend_from_slice(b"write main x0 1 p\n")?;
     }
+    Ok(())
+}
+
+fn written_out(alloc: Global, row: &Row) -> Result<Vec<u8>, Fail> {
+    let mut text = text_of(alloc, "gotrace 1")?;
+    push_row(alloc, &mut text, row)?;
     Ok(text)
 }
 
 // Whether both judges and the listing tell so of the row's trace.
-fn is_told(alloc: Global, row: &Row, text: &[u8]) -> Result<bool, Fail> {
+fn is_told(alloc: Global, row: &Row) -> Result<bool, Fail> {
+    let written = written_out(alloc, row)?;
+    let text = written.as_slice();
     let told_by_plain = if row.writes >= 2_000 {
         TOO_LONG
     } else {
@@ -118,12 +125,7 @@ fn is_told(alloc: Global, row: &Row, text: &[u8]) -> Result<bool, Fail> {
 #[test]
 fn both_engines_tell_of_traces_up_to_each_limit(rt: HostRuntime) -> Result<(), Fail> {
     for row in &LONG_ROWS {
-        let text = written_out(rt.alloc(), row)?;
-        assert!(rt;
-            is_told(rt.alloc(), row, text.as_slice())?,
-            "{}",
-            row.check.0
-        );
+        assert!(rt; is_told(rt.alloc(), row)?, "{}", row.check.0);
     }
     Ok(())
 }

@@ -1,5 +1,5 @@
 //! Programs, the reports of their runs with their ends, and the statuses.
-use crate::tool::engines::{Engine, is_cut_off, judge, leaves_unread, tells, text_of};
+use crate::tool::engines::{Engine, Told, is_cut_off, judge, leaves_unread, tells, text_of};
 use crate::tool::runs::{MOST, Row, options};
 use race_tool::{CheckOptions, MAX_BLOCK, MAX_SHARDS, RunOptions, status};
 use std::alloc::Global;
@@ -95,17 +95,18 @@ static ROWS: [Row<'static>; 12] = [
     ),
 ];
 
+fn both_tell(alloc: Global, run: &RunOptions, text: &[u8], told: Told<'_>) -> Result<bool, Fail> {
+    let (plain, by_clocks) = (judge(true), judge(false));
+    let (plain, by_clocks) = (Engine::Race(run, &plain), Engine::Race(run, &by_clocks));
+    Ok(tells(alloc, plain, text, told)? && tells(alloc, by_clocks, text, told)?)
+}
+
 // Whether both judges tell so of the program's run.
 fn is_judged(alloc: Global, row: &Row<'_>) -> Result<bool, Fail> {
     let &(program, limit, picks, report, status) = row;
     let text = text_of(alloc, program)?;
     let run = options(alloc, limit, picks)?;
-    let (plain, by_clocks) = (judge(true), judge(false));
-    let (plain, by_clocks) = (Engine::Race(&run, &plain), Engine::Race(&run, &by_clocks));
-    Ok(
-        tells(alloc, plain, text.as_slice(), (report, status))?
-            && tells(alloc, by_clocks, text.as_slice(), (report, status))?,
-    )
+    both_tell(alloc, &run, text.as_slice(), (report, status))
 }
 
 #[test]
@@ -126,32 +127,37 @@ fn writes(alloc: Global, count: u32) -> Result<Vec<u8>, Fail> {
     Ok(text)
 }
 
-// How many events the run may have, whether the plain judge is asked, what it tells, and the status.
-static LONG: [(u32, bool, &str, u8); 3] = [
+// How many events the run may have, whether the plain judge is asked, and what it tells.
+static LONG: [(u32, bool, Told<'static>); 3] = [
     (
         2_000,
         true,
-        "clean: 2000 events, 2000 accesses / end: limit",
-        status::LIMIT,
+        (
+            "clean: 2000 events, 2000 accesses / end: limit",
+            status::LIMIT,
+        ),
     ),
-    (2_001, true, "too long: 2001 events", status::USAGE),
+    (2_001, true, ("too long: 2001 events", status::USAGE)),
     (
         2_001,
         false,
-        "clean: 2001 events, 2000 accesses / end: main",
-        status::CLEAN,
+        (
+            "clean: 2001 events, 2000 accesses / end: main",
+            status::CLEAN,
+        ),
     ),
 ];
 
+fn is_long_run(alloc: Global, limit: u32, plain: bool, told: Told<'_>) -> Result<bool, Fail> {
+    let text = writes(alloc, 2_000)?;
+    let (run, check) = (RunOptions { limit, picks: None }, judge(plain));
+    tells(alloc, Engine::Race(&run, &check), text.as_slice(), told)
+}
+
 #[test]
 fn a_run_that_is_too_long_for_the_plain_judge_has_no_end(rt: HostRuntime) -> Result<(), Fail> {
-    let text = writes(rt.alloc(), 2_000)?;
-    for &(limit, plain, report, status) in &LONG {
-        let run = RunOptions { limit, picks: None };
-        let check = judge(plain);
-        let engine = Engine::Race(&run, &check);
-        let is_right = tells(rt.alloc(), engine, text.as_slice(), (report, status))?;
-        assert!(rt; is_right, "{report}");
+    for &(limit, plain, told) in &LONG {
+        assert!(rt; is_long_run(rt.alloc(), limit, plain, told)?, "{told:?}");
     }
     Ok(())
 }
@@ -166,18 +172,21 @@ static OPTIONS: [(u32, usize, usize); 6] = [
     (1, 1, MAX_BLOCK + 1),
 ];
 
+fn is_unread(alloc: Global, (limit, shards, block): (u32, usize, usize)) -> Result<bool, Fail> {
+    let text = writes(alloc, 1)?;
+    let run = RunOptions { limit, picks: None };
+    let check = CheckOptions {
+        shards,
+        block,
+        plain: false,
+    };
+    Ok(leaves_unread(alloc, Engine::Race(&run, &check), text.as_slice()))
+}
+
 #[test]
 fn an_option_out_of_its_limits_leaves_a_program_unread(rt: HostRuntime) -> Result<(), Fail> {
-    let text = writes(rt.alloc(), 1)?;
-    for &(limit, shards, block) in &OPTIONS {
-        let run = RunOptions { limit, picks: None };
-        let check = CheckOptions {
-            shards,
-            block,
-            plain: false,
-        };
-        let unread = leaves_unread(rt.alloc(), Engine::Race(&run, &check), text.as_slice());
-        assert!(rt; unread, "{limit} {shards} {block}");
+    for options in &OPTIONS {
+        assert!(rt; is_unread(rt.alloc(), *options)?, "{options:?}");
     }
     Ok(())
 }

@@ -70,20 +70,20 @@ static LONG: [(u64, u8, &[u8], u64); 5] = [
     (4_002, status::TEXT_FAULT, b"line 4002: bad number\n", 2),
 ];
 
+fn is_read_so(
+    alloc: Global,
+    &(faulty, status, report, reads): &(u64, u8, &[u8], u64),
+) -> Result<bool, Fail> {
+    let text = long_text(alloc, faulty)?;
+    let row = (text.as_slice(), status, report, reads, 0);
+    let by_clocks = judge(false);
+    Ok(ends_so(alloc, Engine::Check(&by_clocks), &row, 1_000_000, false))
+}
+
 #[test]
 fn a_text_is_read_up_to_the_block_with_its_first_faulty_line(rt: HostRuntime) -> Result<(), Fail> {
-    let by_clocks = judge(false);
-    for &(faulty, status, report, reads) in &LONG {
-        let text = long_text(rt.alloc(), faulty)?;
-        let row = (text.as_slice(), status, report, reads, 0);
-        let is_right = ends_so(
-            rt.alloc(),
-            Engine::Check(&by_clocks),
-            &row,
-            1_000_000,
-            false,
-        );
-        assert!(rt; is_right, "with {faulty}");
+    for row in &LONG {
+        assert!(rt; is_read_so(rt.alloc(), row)?, "with {}", row.0);
     }
     Ok(())
 }

@@ -1,5 +1,5 @@
 //! Traces with their reports and statuses, by both judges, and with their edges.
-use crate::tool::engines::{Engine, answer, ended, is_cut_off, judge, tells, text_of};
+use crate::tool::engines::{Engine, Told, answer, ended, is_cut_off, judge, tells, text_of};
 use crate::tool::{channels, locks};
 use race_records::{Sink, Source};
 use race_tool::{CheckOptions, status};
@@ -9,17 +9,22 @@ use std::test::Fail;
 /// The lines of a trace, the lines that are written, and the status.
 pub(crate) type Row = (&'static str, &'static str, u8);
 
+fn both_tell(alloc: Global, text: &[u8], want: Told<'_>) -> Result<bool, Fail> {
+    let (plain, by_clocks) = (judge(true), judge(false));
+    let (plain, by_clocks) = (Engine::Check(&plain), Engine::Check(&by_clocks));
+    Ok(tells(alloc, plain, text, want)? && tells(alloc, by_clocks, text, want)?)
+}
+
+fn text_behind(alloc: Global, first: &str, lines: &str) -> Result<Vec<u8>, Fail> {
+    let text = format!(in alloc; "{first}{lines}")?;
+    Ok(text_of(alloc, text.as_str())?)
+}
+
 // Whether both judges tell so of the trace, which stands behind these first lines.
 fn is_judged(alloc: Global, first: &str, row: &Row) -> Result<bool, Fail> {
     let &(lines, report, status) = row;
-    let want = (report, status);
-    let text = text_of(alloc, format!(in alloc; "{first}{lines}")?.as_str())?;
-    let (plain, by_clocks) = (judge(true), judge(false));
-    let (plain, by_clocks) = (Engine::Check(&plain), Engine::Check(&by_clocks));
-    Ok(
-        tells(alloc, plain, text.as_slice(), want)?
-            && tells(alloc, by_clocks, text.as_slice(), want)?,
-    )
+    let text = text_behind(alloc, first, lines)?;
+    both_tell(alloc, text.as_slice(), (report, status))
 }
 
 // The first row, behind these first lines, of which a judge tells something else.

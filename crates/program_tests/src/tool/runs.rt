@@ -174,13 +174,16 @@ fn each_program_has_its_trace(rt: HostRuntime) -> Result<(), Fail> {
     Ok(())
 }
 
+fn is_unread(alloc: Global, limit: u32) -> Result<bool, Fail> {
+    let text = text_of(alloc, HANDOFF)?;
+    let options = RunOptions { limit, picks: None };
+    Ok(leaves_unread(alloc, Engine::Run(&options), text.as_slice()))
+}
+
 #[test]
 fn a_limit_out_of_its_limits_leaves_the_input_unread(rt: HostRuntime) -> Result<(), Fail> {
-    let text = text_of(rt.alloc(), HANDOFF)?;
     for &limit in &[0, MOST + 1] {
-        let options = RunOptions { limit, picks: None };
-        let unread = leaves_unread(rt.alloc(), Engine::Run(&options), text.as_slice());
-        assert!(rt; unread, "{limit}");
+        assert!(rt; is_unread(rt.alloc(), limit)?, "{limit}");
     }
     Ok(())
 }

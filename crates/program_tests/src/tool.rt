@@ -1,5 +1,6 @@
 //! What the engines of race_tool do that no contract says.
 mod channels;
+mod engines;
 mod judges;
 mod limits;
 mod locks;

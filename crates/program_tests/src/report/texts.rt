@@ -2,7 +2,7 @@ use race_edges::plain_judge;
 use race_records::Sink;
 use race_report::{WriteFault, write_report, write_text_fault};
 use race_text::parse_trace;
-use std::alloc::Allocator;
+use std::alloc::{Allocator, Global};
 use std::io;
 use std::io::Write;
 
@@ -61,20 +61,21 @@ impl Write for Full {
     }
 }
 
+fn is_printed(alloc: Global, text: &str, want: &str) -> bool {
+    let mut out = Vec::new(alloc);
+    let mut sink = Sink::new(&mut out);
+    write_of(alloc, text, &mut sink) == Some(Ok(())) && out.as_slice() == want.as_bytes()
+}
+
+fn is_cut_off(alloc: Global, text: &str) -> bool {
+    let mut full = Sink::new(Full { room: 5 });
+    write_of(alloc, text, &mut full) == Some(Err(WriteFault { sent: 5 }))
+}
+
 #[test]
 fn each_text_is_printed(rt: HostRuntime) {
     for &(text, want) in &TEXTS {
-        let mut out = Vec::new(rt.alloc());
-        let mut sink = Sink::new(&mut out);
-        assert_eq!(rt;
-            write_of(rt.alloc(), text, &mut sink),
-            Some(Ok(())),
-            "{text}"
-        );
-        assert_eq!(rt; out.as_slice(), want.as_bytes(), "{text}");
-
-        let mut full = Sink::new(Full { room: 5 });
-        let cut = Some(Err(WriteFault { sent: 5 }));
-        assert_eq!(rt; write_of(rt.alloc(), text, &mut full), cut, "{text}");
+        let is_right = is_printed(rt.alloc(), text, want) && is_cut_off(rt.alloc(), text);
+        assert!(rt; is_right, "{text}");
     }
 }

@@ -1,5 +1,5 @@
 //! Channels and selects: lines behind a text, what is told once as many are declared as may be, and events.
-use crate::text::reading::Row;
+use crate::text::reading::{Line, Row};
 use race_records::Op;
 use race_text::TextCause;
 use race_text::TextCause::{
@@ -97,7 +97,7 @@ pub(crate) static SELECTS: [(&[u8], Option<TextCause>); 38] = [
 ];
 
 // Behind as many channels as may be. A capacity over its limit is told before one channel too many.
-pub(crate) static AT_THE_LIMIT: [(&[u8], Result<bool, TextCause>); 4] = [
+pub(crate) static AT_THE_LIMIT: [Line; 4] = [
     (b"chan c 0", Err(TooMany)),
     (b"chan c 65536", Err(BadNumber)),
     (b"chan n7 65536", Err(Taken)),
@@ -109,14 +109,14 @@ pub(crate) static TEXT: &[u8] =
     b"gotrace 1\ngoroutine w\nchan c 65535\nchan u 0\ngo main w a\nsend main c 7 b\nrecv w c 7 c\nmeet w main u 8 c d\nmeet main w u 9 e e\n\
       close main u a\nrecvclosed w u f\n";
 
-pub(crate) fn events() -> [Row; 7] {
-    [
-        (0, Op::Go(1), "a", ""),
-        (0, Op::Send(0, 7), "b", ""),
-        (1, Op::Recv(0, 7), "c", ""),
-        (1, Op::Meet(0, 1, 8), "c", "d"),
-        (0, Op::Meet(1, 1, 9), "e", "e"),
-        (0, Op::Close(1), "a", ""),
-        (1, Op::RecvClosed(1), "f", ""),
-    ]
+pub(crate) fn event(at: usize) -> Row {
+    match at {
+        0 => (0, Op::Go(1), "a", ""),
+        1 => (0, Op::Send(0, 7), "b", ""),
+        2 => (1, Op::Recv(0, 7), "c", ""),
+        3 => (1, Op::Meet(0, 1, 8), "c", "d"),
+        4 => (0, Op::Meet(1, 1, 9), "e", "e"),
+        5 => (0, Op::Close(1), "a", ""),
+        _ => (1, Op::RecvClosed(1), "f", ""),
+    }
 }

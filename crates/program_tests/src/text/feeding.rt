@@ -7,7 +7,7 @@ use race_text::TextCause::{
     BadHeader, BadName, BadNumber, LateDeclaration, NoNewline, Unknown, UnknownWord, WrongCount,
 };
 use race_text::{LineReader, TextCause, TextFault, parse_trace};
-use std::alloc::Allocator;
+use std::alloc::{Allocator, Global};
 use std::test::Fail;
 
 // What a reader answers that is fed the text in pieces of this size.
@@ -50,90 +50,117 @@ fn newlines(bytes: &[u8]) -> u64 {
     count
 }
 
+fn is_whole_in_pieces(alloc: Global, size: usize) -> Result<bool, Fail> {
+    let trace = in_pieces(alloc, SMALL, size)?;
+    let whole = parse_trace(alloc, SMALL)?;
+    Ok(trace == whole && is_written_as(alloc, &trace, SMALL))
+}
+
 #[test]
 fn pieces_of_each_size_give_one_trace(rt: HostRuntime) -> Result<(), Fail> {
-    let whole = parse_trace(rt.alloc(), SMALL)?;
     for &size in &[1, 2, 7, 1_000] {
-        let trace = in_pieces(rt.alloc(), SMALL, size)?;
-        assert!(rt; trace == whole, "at {size}");
-        is_written_as(&rt, &trace, SMALL)?;
+        assert!(rt; is_whole_in_pieces(rt.alloc(), size)?, "at {size}");
     }
     Ok(())
+}
+
+const FAULT: TextFault = TextFault {
+    line: 3,
+    cause: BadNumber,
+};
+
+static PIECES: [(&[u8], Result<(), TextFault>); 6] = [
+    (b"gotrace 1\nvar x\nwrite ma", Ok(())),
+    (b"in x 01 p", Ok(())),
+    (b"\njump\n", Err(FAULT)),
+    (b"", Err(FAULT)),
+    (b"exit main p\n", Err(FAULT)),
+    (b"\x80\n", Err(FAULT)),
+];
+
+// The first piece that is answered otherwise, and the fault that is told at the end.
+fn fed(alloc: Global) -> (Option<usize>, Option<TextFault>) {
+    let mut reader = LineReader::new(alloc);
+    let mut wrong = None;
+    for (at, &(piece, answer)) in PIECES.iter().enumerate() {
+        if reader.feed(piece) != answer {
+            wrong = wrong.or(Some(at));
+        }
+    }
+    (wrong, reader.finish().err())
 }
 
 #[test]
 fn a_refusal_is_told_again(rt: HostRuntime) {
-    let fault = TextFault {
-        line: 3,
-        cause: BadNumber,
-    };
-    let mut reader = LineReader::new(rt.alloc());
-    let pieces: [(&[u8], Result<(), TextFault>); 6] = [
-        (b"gotrace 1\nvar x\nwrite ma", Ok(())),
-        (b"in x 01 p", Ok(())),
-        (b"\njump\n", Err(fault)),
-        (b"", Err(fault)),
-        (b"exit main p\n", Err(fault)),
-        (b"\x80\n", Err(fault)),
-    ];
-    for &(piece, answer) in &pieces {
-        assert_eq!(rt; reader.feed(piece), answer, "at {piece:?}");
-    }
-    assert_eq!(rt; reader.finish().err(), Some(fault));
+    assert_eq!(rt; fed(rt.alloc()), (None, Some(FAULT)));
 }
 
+static WHOLE: [&[u8]; 4] = [
+    SMALL,
+    b"gotrace 1\n",
+    b"gotrace 1\ngoroutine w\nchan c 3\nchan u 0\ngo main w a\nsend main c 7 b\nmeet w main u 8 c d\ndefault main send:u,recv:nil p\nclose main u a\n",
+    b"gotrace 1\ngoroutine w\nmutex m\nonce o\nrwmutex l\nlock main m a\nrlock main l c\noncebegin main o e\nfault w unlock:m h\n",
+];
+
 // Whatever follows a cut, the line in which it stands is read as a whole.
+fn first_wrong_cut(alloc: Global, text: &[u8]) -> Result<Option<usize>, Fail> {
+    for cut in 0..text.len() {
+        let (told, answer) = in_two(alloc, text, cut);
+        if told != Ok(()) || !is_written_as(alloc, &answer?, text) {
+            return Ok(Some(cut));
+        }
+    }
+    Ok(None)
+}
+
 #[test]
 fn a_text_may_be_cut_anywhere(rt: HostRuntime) -> Result<(), Fail> {
-    let texts: [&[u8]; 4] = [
-        SMALL,
-        b"gotrace 1\n",
-        b"gotrace 1\ngoroutine w\nchan c 3\nchan u 0\ngo main w a\nsend main c 7 b\nmeet w main u 8 c d\ndefault main send:u,recv:nil p\nclose main u a\n",
-        b"gotrace 1\ngoroutine w\nmutex m\nonce o\nrwmutex l\nlock main m a\nrlock main l c\noncebegin main o e\nfault w unlock:m h\n",
-    ];
-    for &text in &texts {
-        for cut in 0..text.len() {
-            let (told, answer) = in_two(rt.alloc(), text, cut);
-            assert_eq!(rt; told, Ok(()), "at {cut} of {text:?}");
-            is_written_as(&rt, &answer?, text)?;
-        }
+    for &text in &WHOLE {
+        assert_eq!(rt; first_wrong_cut(rt.alloc(), text)?, None, "in {text:?}");
     }
     Ok(())
 }
 
+static FAULTY: [(&[u8], u64, TextCause); 9] = [
+    (b"\n", 1, BadHeader),
+    (b"gotrace 1", 1, NoNewline),
+    (b"gotrace 1\r\n", 1, BadHeader),
+    (
+        b"gotrace 1\nvar x\nwrite main x 01 p\nexit main p\n",
+        3,
+        BadNumber,
+    ),
+    (
+        b"gotrace 1\nvar x\nwrite main  x 1 p\njump\n",
+        3,
+        WrongCount,
+    ),
+    (
+        b"gotrace 1\nvar x\nwrite main x 1 p\nvar y\n",
+        4,
+        LateDeclaration,
+    ),
+    (b"gotrace 1\nvar -\nvar x y\nexit main q", 2, BadName),
+    (b"gotrace 1\njump\n\x80\n", 2, UnknownWord),
+    (b"gotrace 1\nvar x\nread a x 0 p\n", 3, Unknown),
+];
+
 // The first piece is refused exactly where it ends the faulty line.
+fn first_wrongly_told(alloc: Global, text: &[u8], fault: TextFault) -> Option<usize> {
+    for cut in 0..text.len() {
+        let (told, answer) = in_two(alloc, text, cut);
+        let ended = newlines(&text[..cut]) >= fault.line;
+        if told.err() != ended.then_some(fault) || answer.err() != Some(fault) {
+            return Some(cut);
+        }
+    }
+    None
+}
+
 #[test]
 fn a_faulty_line_is_told_as_soon_as_it_has_ended(rt: HostRuntime) {
-    let texts: [(&[u8], u64, TextCause); 9] = [
-        (b"\n", 1, BadHeader),
-        (b"gotrace 1", 1, NoNewline),
-        (b"gotrace 1\r\n", 1, BadHeader),
-        (
-            b"gotrace 1\nvar x\nwrite main x 01 p\nexit main p\n",
-            3,
-            BadNumber,
-        ),
-        (
-            b"gotrace 1\nvar x\nwrite main  x 1 p\njump\n",
-            3,
-            WrongCount,
-        ),
-        (
-            b"gotrace 1\nvar x\nwrite main x 1 p\nvar y\n",
-            4,
-            LateDeclaration,
-        ),
-        (b"gotrace 1\nvar -\nvar x y\nexit main q", 2, BadName),
-        (b"gotrace 1\njump\n\x80\n", 2, UnknownWord),
-        (b"gotrace 1\nvar x\nread a x 0 p\n", 3, Unknown),
-    ];
-    for &(text, line, cause) in &texts {
-        let fault = TextFault { line, cause };
-        for cut in 0..text.len() {
-            let (told, answer) = in_two(rt.alloc(), text, cut);
-            let ended = newlines(&text[..cut]) >= line;
-            assert_eq!(rt; told.err(), ended.then_some(fault), "at {cut} of {text:?}");
-            assert_eq!(rt; answer.err(), Some(fault), "at {cut} of {text:?}");
-        }
+    for &(text, line, cause) in &FAULTY {
+        let wrong = first_wrongly_told(rt.alloc(), text, TextFault { line, cause });
+        assert_eq!(rt; wrong, None, "in {text:?}");
     }
 }

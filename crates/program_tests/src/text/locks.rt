@@ -1,5 +1,5 @@
 //! Locks and onces: lines behind a text, what is told once as many are declared as may be, and events.
-use crate::text::reading::Row;
+use crate::text::reading::{Line, Row};
 use race_records::{Cause, Op};
 use race_text::TextCause;
 use race_text::TextCause::{
@@ -81,7 +81,7 @@ pub(crate) static LATE: [(&[u8], Option<TextCause>); 4] = [
 ];
 
 // Behind as many mutexes and rwmutexes as may be: they count together.
-pub(crate) static AT_THE_LIMIT: [(&[u8], Result<bool, TextCause>); 4] = [
+pub(crate) static AT_THE_LIMIT: [Line; 4] = [
     (b"mutex m", Err(TooMany)),
     (b"rwmutex l", Err(TooMany)),
     (b"mutex n7", Err(Taken)),
@@ -94,19 +94,19 @@ pub(crate) static TEXT: &[u8] =
       lock main m a\nunlock w m b\nrlock main l c\nrunlock w l d\nlock w n a\nunlock main l b\n\
       oncebegin main o e\nonceend main o f\noncedone w u g\nfault w unlock:n h\nfault main unlock:l h\nfault main runlock:l h\n";
 
-pub(crate) fn events() -> [Row; 12] {
-    [
-        (0, Op::Lock(0), "a", ""),
-        (1, Op::Unlock(0), "b", ""),
-        (0, Op::RLock(1), "c", ""),
-        (1, Op::RUnlock(1), "d", ""),
-        (1, Op::Lock(2), "a", ""),
-        (0, Op::Unlock(1), "b", ""),
-        (0, Op::OnceBegin(0), "e", ""),
-        (0, Op::OnceEnd(0), "f", ""),
-        (1, Op::OnceDone(1), "g", ""),
-        (1, Op::Fault(Cause::UnlockFree(2)), "h", ""),
-        (0, Op::Fault(Cause::UnlockFree(1)), "h", ""),
-        (0, Op::Fault(Cause::RUnlockFree(1)), "h", ""),
-    ]
+pub(crate) fn event(at: usize) -> Row {
+    match at {
+        0 => (0, Op::Lock(0), "a", ""),
+        1 => (1, Op::Unlock(0), "b", ""),
+        2 => (0, Op::RLock(1), "c", ""),
+        3 => (1, Op::RUnlock(1), "d", ""),
+        4 => (1, Op::Lock(2), "a", ""),
+        5 => (0, Op::Unlock(1), "b", ""),
+        6 => (0, Op::OnceBegin(0), "e", ""),
+        7 => (0, Op::OnceEnd(0), "f", ""),
+        8 => (1, Op::OnceDone(1), "g", ""),
+        9 => (1, Op::Fault(Cause::UnlockFree(2)), "h", ""),
+        10 => (0, Op::Fault(Cause::UnlockFree(1)), "h", ""),
+        _ => (0, Op::Fault(Cause::RUnlockFree(1)), "h", ""),
+    }
 }

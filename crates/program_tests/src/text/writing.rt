@@ -1,26 +1,19 @@
 //! Traces that are written again.
 use race_records::{Sink, Trace};
 use race_text::{parse_trace, write_trace};
-use std::alloc::{AllocGlobal, Allocator};
+use std::alloc::{Allocator, Global};
 use std::io;
 use std::io::Write;
-use std::process::Abort;
 use std::test::Fail;
 
-pub(crate) static SMALL: &[u8] =
+pub(crate) const SMALL: &[u8] =
     b"gotrace 1\ngoroutine w\nvar x\nwrite main x 7 a.go:1\ngo main w a.go:2\nread w x 7 a.go:5\nexit main a.go:3\n";
 
-// Tests that the trace is written as this text.
-pub(crate) fn is_written_as<A: Allocator>(
-    rt: &(impl Abort + AllocGlobal),
-    trace: &Trace<A>,
-    text: &[u8],
-) -> Result<(), Fail> {
-    let mut written = Vec::new(rt.alloc());
+/// Whether the trace is written as this text.
+pub(crate) fn is_written_as<A: Allocator>(alloc: Global, trace: &Trace<A>, text: &[u8]) -> bool {
+    let mut written = Vec::new(alloc);
     let mut sink = Sink::new(&mut written);
-    assert!(rt; write_trace(trace, &mut sink).is_ok());
-    assert_eq!(rt; written.as_slice(), text);
-    Ok(())
+    write_trace(trace, &mut sink).is_ok() && written.as_slice() == text
 }
 
 // Takes so many bytes a call, and fails where its room is used up.
@@ -47,29 +40,33 @@ impl Write for SlowWriter {
     }
 }
 
+// How many bytes the writer takes a call and in all, and how many are sent where that is too few.
+static WRITERS: [(usize, usize, Option<u64>); 5] = [
+    (1, 1_000, None),
+    (7, 1_000, None),
+    (1_000, 1_000, None),
+    (1_000, 10, Some(10)),
+    (7, 10, Some(10)),
+];
+
+// Whether a writer is sent so many bytes of the small trace, or all of them.
+fn is_sent(alloc: Global, trace: &Trace, (step, room, sent): (usize, usize, Option<u64>)) -> bool {
+    let mut writer = SlowWriter {
+        taken: Vec::new(alloc),
+        step,
+        room,
+    };
+    let mut sink = Sink::new(&mut writer);
+    let answer = write_trace(trace, &mut sink).err();
+    let end = SMALL.len().min(sent.unwrap_or(u64::MAX) as usize);
+    answer.map(|fault| fault.sent) == sent && writer.taken.as_slice() == &SMALL[..end]
+}
+
 #[test]
 fn a_trace_is_written_as_it_was_read(rt: HostRuntime) -> Result<(), Fail> {
     let trace = parse_trace(rt.alloc(), SMALL)?;
-    for &(step, room, sent) in &[
-        (1, 1_000, None),
-        (7, 1_000, None),
-        (1_000, 1_000, None),
-        (1_000, 10, Some(10)),
-        (7, 10, Some(10)),
-    ] {
-        let mut writer = SlowWriter {
-            taken: Vec::new(rt.alloc()),
-            step,
-            room,
-        };
-        let mut sink = Sink::new(&mut writer);
-        let answer = write_trace(&trace, &mut sink).err().map(|fault| fault.sent);
-        assert_eq!(rt; answer, sent, "{step} {room}");
-        let end = match sent {
-            Some(sent) => SMALL.len().min(sent as usize),
-            None => SMALL.len(),
-        };
-        assert_eq!(rt; writer.taken.as_slice(), &SMALL[..end], "{step} {room}");
+    for row in &WRITERS {
+        assert!(rt; is_sent(rt.alloc(), &trace, *row), "{row:?}");
     }
     Ok(())
 }

@@ -1,9 +1,17 @@
-use crate::tool::rows::{check, list};
+use crate::tool::rows::Row;
 use race_tool::status;
-use std::test::Fail;
+
+const MET: &str =
+    "gotrace 1 / goroutine w / var x / chan c 0 / go main w m:1 / write w x 3 w:1 / meet main w c 1 m:2 w:2 / read main x 3 m:3";
+
+const BUFFERED: &str =
+    "gotrace 1 / goroutine a / goroutine b / var x / chan c 1 / go main a m:1 / go main b m:2 / send main c 1 m:3 / write a x 5 a:1 / recv a c 1 a:2 / send b c 2 b:1 / recv main c 2 m:4 / read main x 5 m:5";
+
+const CLOSED: &str =
+    "gotrace 1 / goroutine a / goroutine b / var x / chan c 0 / go main a m:1 / go main b m:2 / write main x 4 m:3 / close main c m:4 / recvclosed a c a:1 / read a x 4 a:2 / recvclosed b c b:1 / read b x 4 b:2";
 
 // Traces with their reports and statuses.
-static JUDGED: [(&str, &str, u8); 10] = [
+pub(crate) static JUDGED: [Row; 10] = [
     // The reader that met main is ordered before the write, and so is the one that met it later; the
     // third isn't.
     (
@@ -12,14 +20,10 @@ static JUDGED: [(&str, &str, u8); 10] = [
         status::RACES,
     ),
     // The receiver's write is ordered before what the sender does behind the meet.
-    (
-        "gotrace 1 / goroutine w / var x / chan c 0 / go main w m:1 / write w x 3 w:1 / meet main w c 1 m:2 w:2 / read main x 3 m:3",
-        "clean: 4 events, 2 accesses",
-        status::CLEAN,
-    ),
+    (MET, "clean: 4 events, 2 accesses", status::CLEAN),
     // A buffered operation isn't one point: what a saw at its receive reaches b's send, and not main.
     (
-        "gotrace 1 / goroutine a / goroutine b / var x / chan c 1 / go main a m:1 / go main b m:2 / send main c 1 m:3 / write a x 5 a:1 / recv a c 1 a:2 / send b c 2 b:1 / recv main c 2 m:4 / read main x 5 m:5",
+        BUFFERED,
         "race on x: write by a at a:1 (event 4), read by main at m:5 (event 8) / races: 1",
         status::RACES,
     ),
@@ -30,11 +34,7 @@ static JUDGED: [(&str, &str, u8); 10] = [
         status::CLEAN,
     ),
     // A close comes before each receive that finds the channel closed.
-    (
-        "gotrace 1 / goroutine a / goroutine b / var x / chan c 0 / go main a m:1 / go main b m:2 / write main x 4 m:3 / close main c m:4 / recvclosed a c a:1 / read a x 4 a:2 / recvclosed b c b:1 / read b x 4 b:2",
-        "clean: 8 events, 3 accesses",
-        status::CLEAN,
-    ),
+    (CLOSED, "clean: 8 events, 3 accesses", status::CLEAN),
     (
         "gotrace 1 / goroutine a / goroutine b / var x / chan c 1 / go main a m:1 / go main b m:2 / send main c 9 m:3 / write main x 4 m:4 / close main c m:5 / recvclosed a c a:1",
         "illegal: event 6: not drained",
@@ -65,9 +65,9 @@ static JUDGED: [(&str, &str, u8); 10] = [
 ];
 
 // Events behind these declarations, with the report and the status.
-const DECLARED: &str = "gotrace 1 / goroutine a / var x / chan c 1 / chan d 0 / ";
+pub(crate) const DECLARED: &str = "gotrace 1 / goroutine a / var x / chan c 1 / chan d 0 / ";
 
-static EVENTS: [(&str, &str, u8); 12] = [
+pub(crate) static EVENTS: [Row; 12] = [
     (
         "meet main main d 1 p q",
         "illegal: event 1: meets itself",
@@ -132,7 +132,7 @@ static EVENTS: [(&str, &str, u8); 12] = [
 ];
 
 // A select's defaults, and faults, behind the same declarations.
-static ENDS: [(&str, &str, u8); 15] = [
+pub(crate) static ENDS: [Row; 15] = [
     (
         "default main send:c p",
         "illegal: event 1: case ready",
@@ -214,30 +214,17 @@ static ENDS: [(&str, &str, u8); 15] = [
     ),
 ];
 
-#[test]
-fn channels_are_judged(rt: HostRuntime) -> Result<(), Fail> {
-    check(&rt, "", &JUDGED)?;
-    check(&rt, DECLARED, &EVENTS)?;
-    check(&rt, DECLARED, &ENDS)
-}
-
-#[test]
-fn the_edges_of_channels_are_listed(rt: HostRuntime) -> Result<(), Fail> {
-    list(
-        &rt,
-        &[
-            (
-                JUDGED[2].0,
-                "edge 1 main 1 a / edge 2 main 2 b / edge 3 main 5 a / edge 5 a 6 b / edge 6 b 7 main / edges: 5",
-            ),
-            (
-                JUDGED[1].0,
-                "edge 1 main 1 w / edge 3 main 3 w / edge 3 w 3 main / edges: 3",
-            ),
-            (
-                JUDGED[4].0,
-                "edge 1 main 1 a / edge 2 main 2 b / edge 4 main 5 a / edge 4 main 7 b / edges: 4",
-            ),
-        ],
-    )
-}
+pub(crate) static EDGES: [(&str, &str); 3] = [
+    (
+        BUFFERED,
+        "edge 1 main 1 a / edge 2 main 2 b / edge 3 main 5 a / edge 5 a 6 b / edge 6 b 7 main / edges: 5",
+    ),
+    (
+        MET,
+        "edge 1 main 1 w / edge 3 main 3 w / edge 3 w 3 main / edges: 3",
+    ),
+    (
+        CLOSED,
+        "edge 1 main 1 a / edge 2 main 2 b / edge 4 main 5 a / edge 4 main 7 b / edges: 4",
+    ),
+];

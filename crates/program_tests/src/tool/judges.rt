@@ -66,21 +66,23 @@ fn op(numbers: &mut Numbers, kind: u32) -> Op {
     }
 }
 
+static OBJECTS: [(&str, Object); 11] = [
+    ("a", Object::Goroutine),
+    ("b", Object::Goroutine),
+    ("e", Object::Goroutine),
+    ("x", Object::Var),
+    ("y", Object::Var),
+    ("z", Object::Var),
+    ("c", Object::Chan(2)),
+    ("d", Object::Chan(0)),
+    ("m", Object::Lock(false)),
+    ("r", Object::Lock(true)),
+    ("o", Object::Once),
+];
+
 fn declared(alloc: Global) -> Result<Decls, Fail> {
     let mut decls = Decls::new(alloc);
-    for &(name, object) in &[
-        ("a", Object::Goroutine),
-        ("b", Object::Goroutine),
-        ("e", Object::Goroutine),
-        ("x", Object::Var),
-        ("y", Object::Var),
-        ("z", Object::Var),
-        ("c", Object::Chan(2)),
-        ("d", Object::Chan(0)),
-        ("m", Object::Lock(false)),
-        ("r", Object::Lock(true)),
-        ("o", Object::Once),
-    ] {
+    for &(name, object) in &OBJECTS {
         decls.declare(name, object)?;
     }
     decls.add_place("p")?;
@@ -147,14 +149,27 @@ fn judged(alloc: Global, trace: &Trace) -> Result<(bool, bool), AllocError> {
     })
 }
 
-#[test]
-fn both_judges_agree(rt: HostRuntime) -> Result<(), Fail> {
+// Whether the judges agree on the next trace, whether it has a race, and its kinds of operations.
+fn next_judged(
+    alloc: Global,
+    numbers: &mut Numbers,
+    tries: u32,
+) -> Result<(bool, bool, u32), Fail> {
+    let (trace, kinds) = recorded(alloc, numbers, tries)?;
+    let (agree, race) = judged(alloc, &trace)?;
+    Ok((agree, race, kinds))
+}
+
+// The first of a thousand traces on which the judges disagree, how many of them have a race and how many
+// don't, and the kinds of operations in them.
+fn rounds(alloc: Global) -> Result<(Option<u32>, u32, u32, u32), Fail> {
     let mut numbers = Numbers { state: 1 };
     let (mut racy, mut clean, mut kinds) = (0u32, 0u32, 0u32);
     for round in 0..1_000u32 {
-        let (trace, found) = recorded(rt.alloc(), &mut numbers, 8 + round % 120)?;
-        let (agree, race) = judged(rt.alloc(), &trace)?;
-        assert!(rt; agree, "trace {round}");
+        let (agree, race, found) = next_judged(alloc, &mut numbers, 8 + round % 120)?;
+        if !agree {
+            return Ok((Some(round), racy, clean, kinds));
+        }
         kinds |= found;
         if race {
             racy = racy.saturating_add(1);
@@ -162,10 +177,15 @@ fn both_judges_agree(rt: HostRuntime) -> Result<(), Fail> {
             clean = clean.saturating_add(1);
         }
     }
+    Ok((None, racy, clean, kinds))
+}
+
+#[test]
+fn both_judges_agree(rt: HostRuntime) -> Result<(), Fail> {
+    let (wrong, racy, clean, kinds) = rounds(rt.alloc())?;
     assert!(rt;
-        racy >= 200 && clean >= 200,
-        "{racy} with a race, {clean} without"
+        wrong.is_none() && racy >= 200 && clean >= 200 && kinds == (1 << KINDS) - 1,
+        "trace {wrong:?}: {racy} with a race, {clean} without, kinds {kinds}"
     );
-    assert_eq!(rt; kinds, (1 << KINDS) - 1);
     Ok(())
 }

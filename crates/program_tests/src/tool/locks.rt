@@ -1,32 +1,39 @@
-use crate::tool::rows::{check, list};
+use crate::tool::rows::Row;
 use race_tool::status;
-use std::test::Fail;
+
+const READ_UNDER_LOCK: &str =
+    "gotrace 1 / goroutine g1 / goroutine g2 / goroutine g3 / goroutine g4 / rwmutex l / var x / go main g1 m:1 / go main g2 m:2 / go main g3 m:3 / go main g4 m:4 / rlock g1 l r:1 / read g1 x 0 r:2 / runlock g1 l r:3 / lock g2 l s:1 / unlock g3 l t:1 / lock g4 l u:1 / write g4 x 1 u:2";
+
+const WRITTEN_UNDER_LOCK: &str =
+    "gotrace 1 / goroutine g1 / goroutine g2 / goroutine g3 / goroutine g4 / rwmutex l / var x / go main g1 m:1 / go main g2 m:2 / go main g3 m:3 / go main g4 m:4 / lock g1 l r:1 / write g1 x 5 r:2 / unlock g1 l r:3 / lock g2 l s:1 / unlock g3 l t:1 / lock g4 l u:1 / write g4 x 1 u:2";
+
+const READ_BEHIND_TWO_LOCKS: &str =
+    "gotrace 1 / goroutine g1 / goroutine g2 / goroutine g3 / rwmutex l / var x / go main g1 m:1 / go main g2 m:2 / go main g3 m:3 / lock g1 l r:1 / write g1 x 5 r:2 / unlock g1 l r:3 / lock g2 l s:1 / unlock g3 l t:1 / rlock g3 l t:2 / read g3 x 5 t:3";
+
+const DONE_ONCE: &str =
+    "gotrace 1 / goroutine a / goroutine b / once o / var x / go main a m:1 / go main b m:2 / oncebegin a o a:1 / write a x 1 a:2 / onceend a o a:3 / oncedone b o b:1 / read b x 1 b:2";
 
 // Traces with their reports and statuses.
-static JUDGED: [(&str, &str, u8); 9] = [
+pub(crate) static JUDGED: [Row; 9] = [
     // A reader's unlock is ordered before the next lock alone, and not before the one behind it.
     (
-        "gotrace 1 / goroutine g1 / goroutine g2 / goroutine g3 / goroutine g4 / rwmutex l / var x / go main g1 m:1 / go main g2 m:2 / go main g3 m:3 / go main g4 m:4 / rlock g1 l r:1 / read g1 x 0 r:2 / runlock g1 l r:3 / lock g2 l s:1 / unlock g3 l t:1 / lock g4 l u:1 / write g4 x 1 u:2",
+        READ_UNDER_LOCK,
         "race on x: read by g1 at r:2 (event 6), write by g4 at u:2 (event 11) / races: 1",
         status::RACES,
     ),
     // With a write under the lock, and its unlock, in place of the read.
     (
-        "gotrace 1 / goroutine g1 / goroutine g2 / goroutine g3 / goroutine g4 / rwmutex l / var x / go main g1 m:1 / go main g2 m:2 / go main g3 m:3 / go main g4 m:4 / lock g1 l r:1 / write g1 x 5 r:2 / unlock g1 l r:3 / lock g2 l s:1 / unlock g3 l t:1 / lock g4 l u:1 / write g4 x 1 u:2",
+        WRITTEN_UNDER_LOCK,
         "clean: 11 events, 2 accesses",
         status::CLEAN,
     ),
     // An rlock sees the last unlock alone: that of g1, who wrote, stands before it.
     (
-        "gotrace 1 / goroutine g1 / goroutine g2 / goroutine g3 / rwmutex l / var x / go main g1 m:1 / go main g2 m:2 / go main g3 m:3 / lock g1 l r:1 / write g1 x 5 r:2 / unlock g1 l r:3 / lock g2 l s:1 / unlock g3 l t:1 / rlock g3 l t:2 / read g3 x 5 t:3",
+        READ_BEHIND_TWO_LOCKS,
         "race on x: write by g1 at r:2 (event 5), read by g3 at t:3 (event 10) / races: 1",
         status::RACES,
     ),
-    (
-        "gotrace 1 / goroutine a / goroutine b / once o / var x / go main a m:1 / go main b m:2 / oncebegin a o a:1 / write a x 1 a:2 / onceend a o a:3 / oncedone b o b:1 / read b x 1 b:2",
-        "clean: 7 events, 2 accesses",
-        status::CLEAN,
-    ),
+    (DONE_ONCE, "clean: 7 events, 2 accesses", status::CLEAN),
     (
         "gotrace 1 / goroutine a / goroutine b / once o / var x / go main a m:1 / go main b m:2 / oncebegin a o a:1 / oncedone b o b:1",
         "illegal: event 4: once not done",
@@ -59,9 +66,9 @@ static JUDGED: [(&str, &str, u8); 9] = [
 ];
 
 // Events behind these declarations, with the report and the status.
-const DECLARED: &str = "gotrace 1 / goroutine a / mutex m / rwmutex l / once o / ";
+pub(crate) const DECLARED: &str = "gotrace 1 / goroutine a / mutex m / rwmutex l / once o / ";
 
-static EVENTS: [(&str, &str, u8); 21] = [
+pub(crate) static EVENTS: [Row; 21] = [
     (
         "lock main l p / rlock main l q",
         "illegal: event 2: held",
@@ -161,10 +168,10 @@ static EVENTS: [(&str, &str, u8); 21] = [
 ];
 
 // The function of a once calls another's.
-const TWO_ONCES: &str =
+pub(crate) const TWO_ONCES: &str =
     "gotrace 1 / once o / once p / oncebegin main o a:1 / oncebegin main p b:1 / ";
 
-static NESTED: [(&str, &str, u8); 3] = [
+pub(crate) static NESTED: [Row; 3] = [
     (
         "onceend main p b:2 / onceend main o a:2 / exit main a:3",
         "clean: 5 events, 0 accesses",
@@ -182,35 +189,22 @@ static NESTED: [(&str, &str, u8); 3] = [
     ),
 ];
 
-#[test]
-fn locks_and_onces_are_judged(rt: HostRuntime) -> Result<(), Fail> {
-    check(&rt, "", &JUDGED)?;
-    check(&rt, DECLARED, &EVENTS)?;
-    check(&rt, TWO_ONCES, &NESTED)
-}
-
-#[test]
-fn the_edges_of_locks_and_onces_are_listed(rt: HostRuntime) -> Result<(), Fail> {
-    list(
-        &rt,
-        &[
-            (
-                JUDGED[0].0,
-                "edge 1 main 1 g1 / edge 2 main 2 g2 / edge 3 main 3 g3 / edge 4 main 4 g4 / edge 7 g1 8 g2 / edge 9 g3 10 g4 / edges: 6",
-            ),
-            // The first unlock leads to both later locks.
-            (
-                JUDGED[1].0,
-                "edge 1 main 1 g1 / edge 2 main 2 g2 / edge 3 main 3 g3 / edge 4 main 4 g4 / edge 7 g1 8 g2 / edge 7 g1 10 g4 / edge 9 g3 10 g4 / edges: 7",
-            ),
-            (
-                JUDGED[2].0,
-                "edge 1 main 1 g1 / edge 2 main 2 g2 / edge 3 main 3 g3 / edge 6 g1 7 g2 / edge 8 g3 9 g3 / edges: 5",
-            ),
-            (
-                JUDGED[3].0,
-                "edge 1 main 1 a / edge 2 main 2 b / edge 5 a 6 b / edges: 3",
-            ),
-        ],
-    )
-}
+pub(crate) static EDGES: [(&str, &str); 4] = [
+    (
+        READ_UNDER_LOCK,
+        "edge 1 main 1 g1 / edge 2 main 2 g2 / edge 3 main 3 g3 / edge 4 main 4 g4 / edge 7 g1 8 g2 / edge 9 g3 10 g4 / edges: 6",
+    ),
+    // The first unlock leads to both later locks.
+    (
+        WRITTEN_UNDER_LOCK,
+        "edge 1 main 1 g1 / edge 2 main 2 g2 / edge 3 main 3 g3 / edge 4 main 4 g4 / edge 7 g1 8 g2 / edge 7 g1 10 g4 / edge 9 g3 10 g4 / edges: 7",
+    ),
+    (
+        READ_BEHIND_TWO_LOCKS,
+        "edge 1 main 1 g1 / edge 2 main 2 g2 / edge 3 main 3 g3 / edge 6 g1 7 g2 / edge 8 g3 9 g3 / edges: 5",
+    ),
+    (
+        DONE_ONCE,
+        "edge 1 main 1 a / edge 2 main 2 b / edge 5 a 6 b / edges: 3",
+    ),
+];

@@ -1,8 +1,7 @@
 //! Both judges on the runs of many programs.
-
+use crate::tool::engines::{Engine, ended, judge};
 use crate::tool::numbers::Numbers;
-use race_records::{Sink, Source};
-use race_tool::{CheckOptions, RunOptions, run_race, run_run, status};
+use race_tool::{RunOptions, status};
 use std::alloc::{AllocError, Global};
 use std::test::Fail;
 
@@ -86,17 +85,11 @@ fn options(alloc: Global, numbers: &mut Numbers) -> Result<RunOptions, AllocErro
     })
 }
 
-// The report of the program's run, by the plain judge or by clocks, with its status.
-fn report(alloc: Global, text: &[u8], options: &RunOptions, plain: bool) -> (u8, Vec<u8>) {
-    let mut source = Source::new(text);
-    let mut output = Vec::new(alloc);
-    let mut sink = Sink::new(&mut output);
-    let check = CheckOptions {
-        plain,
-        ..CheckOptions::default()
-    };
-    let answer = run_race(&(), alloc, &mut source, &mut sink, options, &check);
-    (answer, output)
+// What both judges answer to the program's run, where they write one report.
+fn agreed(alloc: Global, text: &[u8], options: &RunOptions) -> Option<u8> {
+    let (answer, clocked, _, _) = ended(alloc, Engine::Race(options, &judge(false)), text);
+    let (plain_answer, plain, _, _) = ended(alloc, Engine::Race(options, &judge(true)), text);
+    (answer == plain_answer && clocked.as_slice() == plain.as_slice()).then_some(answer)
 }
 
 // The run was judged.
@@ -112,14 +105,10 @@ fn has_a_verdict(answer: u8) -> bool {
     )
 }
 
-// A bit for each word that begins a line of the run's trace.
-fn words(alloc: Global, text: &[u8], options: &RunOptions) -> u32 {
-    let mut source = Source::new(text);
-    let mut output = Vec::new(alloc);
-    let mut sink = Sink::new(&mut output);
-    let _answer = run_run(&(), alloc, &mut source, &mut sink, options);
+// A bit for each word that begins a line of the trace.
+fn words(trace: &[u8]) -> u32 {
     let mut found = 0u32;
-    for line in output.as_slice().split(|byte| *byte == b'\n') {
+    for line in trace.split(|byte| *byte == b'\n') {
         for word in 0..18u32 {
             if line.starts_with(WORDS[word as usize].as_bytes()) {
                 found |= 1u32.wrapping_shl(word);
@@ -129,29 +118,41 @@ fn words(alloc: Global, text: &[u8], options: &RunOptions) -> u32 {
     found
 }
 
-#[test]
-fn both_judges_agree_on_the_runs_of_programs(rt: HostRuntime) -> Result<(), Fail> {
+// What both judges answer to the run of the next program, and the words of its trace.
+fn next(alloc: Global, numbers: &mut Numbers) -> Result<(Option<u8>, u32), AllocError> {
+    let text = program(alloc, numbers)?;
+    let options = options(alloc, numbers)?;
+    let answer = agreed(alloc, text.as_slice(), &options);
+    let (_, trace, _, _) = ended(alloc, Engine::Run(&options), text.as_slice());
+    Ok((answer, words(trace.as_slice())))
+}
+
+// The first of a thousand programs on which the judges disagree or give no verdict, how many of them have a
+// race and how many don't, and the words of their traces.
+fn rounds(alloc: Global) -> Result<(Option<u32>, u32, u32, u32), AllocError> {
     let mut numbers = Numbers { state: 7 };
     let (mut racy, mut other, mut found) = (0u32, 0u32, 0u32);
     for round in 0..1_000u32 {
-        let text = program(rt.alloc(), &mut numbers)?;
-        let options = options(rt.alloc(), &mut numbers)?;
-        let (answer, clocked) = report(rt.alloc(), text.as_slice(), &options, false);
-        let (plain_answer, plain) = report(rt.alloc(), text.as_slice(), &options, true);
-        assert_eq!(rt; answer, plain_answer, "program {round}");
-        assert!(rt; has_a_verdict(answer), "program {round} ends with {answer}");
-        assert_eq!(rt; clocked.as_slice(), plain.as_slice(), "program {round}");
-        found |= words(rt.alloc(), text.as_slice(), &options);
-        if answer == status::RACES {
+        let (answer, words) = next(alloc, &mut numbers)?;
+        if !answer.is_some_and(has_a_verdict) {
+            return Ok((Some(round), racy, other, found));
+        }
+        found |= words;
+        if answer == Some(status::RACES) {
             racy = racy.saturating_add(1);
         } else {
             other = other.saturating_add(1);
         }
     }
+    Ok((None, racy, other, found))
+}
+
+#[test]
+fn both_judges_agree_on_the_runs_of_programs(rt: HostRuntime) -> Result<(), Fail> {
+    let (wrong, racy, other, found) = rounds(rt.alloc())?;
     assert!(rt;
-        racy >= 100 && other >= 100,
-        "{racy} with a race, {other} without"
+        wrong.is_none() && racy >= 100 && other >= 100 && found == (1 << 18) - 1,
+        "program {wrong:?}: {racy} with a race, {other} without, words {found}"
     );
-    assert_eq!(rt; found, (1 << 18) - 1);
     Ok(())
 }

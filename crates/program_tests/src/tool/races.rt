@@ -1,27 +1,9 @@
 //! Programs, the reports of their runs with their ends, and the statuses.
-
-use crate::tool::runs::{FullWriter, MOST, options, text_of};
-use race_records::{Sink, Source};
-use race_tool::{CheckOptions, MAX_BLOCK, MAX_SHARDS, RunOptions, run_race, status};
+use crate::tool::engines::{Engine, Told, is_cut_off, judge, leaves_unread, tells, text_of};
+use crate::tool::runs::{MOST, Row, options};
+use race_tool::{CheckOptions, MAX_BLOCK, MAX_SHARDS, RunOptions, status};
 use std::alloc::Global;
 use std::test::Fail;
-
-/// The lines of a program, its limit and picks, the lines that are written, and the status.
-type Row<'a> = (&'a str, u32, Option<&'a [u64]>, &'a str, u8);
-
-// Runs a program, and judges the run.
-fn judged(
-    alloc: Global,
-    text: &[u8],
-    run: &RunOptions,
-    check: &CheckOptions,
-) -> (u8, Vec<u8>, u64) {
-    let mut source = Source::new(text);
-    let mut output = Vec::new(alloc);
-    let mut sink = Sink::new(&mut output);
-    let answer = run_race(&(), alloc, &mut source, &mut sink, run, check);
-    (answer, output, source.reads())
-}
 
 static ROWS: [Row<'static>; 12] = [
     (
@@ -113,26 +95,29 @@ static ROWS: [Row<'static>; 12] = [
     ),
 ];
 
+fn both_tell(alloc: Global, run: &RunOptions, text: &[u8], told: Told<'_>) -> Result<bool, Fail> {
+    let (plain, by_clocks) = (judge(true), judge(false));
+    let (plain, by_clocks) = (Engine::Race(run, &plain), Engine::Race(run, &by_clocks));
+    Ok(tells(alloc, plain, text, told)? && tells(alloc, by_clocks, text, told)?)
+}
+
+// Whether both judges tell so of the program's run.
+fn is_judged(alloc: Global, row: &Row<'_>) -> Result<bool, Fail> {
+    let &(program, limit, picks, report, status) = row;
+    let text = text_of(alloc, program)?;
+    let run = options(alloc, limit, picks)?;
+    both_tell(alloc, &run, text.as_slice(), (report, status))
+}
+
 #[test]
 fn a_run_is_judged_and_says_how_it_ended(rt: HostRuntime) -> Result<(), Fail> {
-    for (program, limit, picks, report, status) in &ROWS {
-        let bytes = text_of(rt.alloc(), *program)?;
-        let want = text_of(rt.alloc(), *report)?;
-        let run = options(rt.alloc(), *limit, *picks)?;
-        for &plain in &[false, true] {
-            let check = CheckOptions {
-                plain,
-                ..CheckOptions::default()
-            };
-            let (answer, output, _reads) = judged(rt.alloc(), bytes.as_slice(), &run, &check);
-            assert_eq!(rt; answer, *status, "{program}");
-            assert_eq!(rt; output.as_slice(), want.as_slice(), "{program}");
-        }
+    for row in &ROWS {
+        assert!(rt; is_judged(rt.alloc(), row)?, "{}", row.0);
     }
     Ok(())
 }
 
-// A program that writes so often, and its limit of events.
+// A program that writes so often.
 fn writes(alloc: Global, count: u32) -> Result<Vec<u8>, Fail> {
     let mut text = text_of(alloc, "goprogram 1 / var x / body main")?;
     for _ in 0..count {
@@ -142,56 +127,66 @@ fn writes(alloc: Global, count: u32) -> Result<Vec<u8>, Fail> {
     Ok(text)
 }
 
-#[test]
-fn a_run_that_is_too_long_for_the_plain_judge_has_no_end(rt: HostRuntime) -> Result<(), Fail> {
-    let text = writes(rt.alloc(), 2_000)?;
-    for &(limit, plain, report, status) in &[
+// How many events the run may have, whether the plain judge is asked, and what it tells.
+static LONG: [(u32, bool, Told<'static>); 3] = [
+    (
+        2_000,
+        true,
         (
-            2_000u32,
-            true,
             "clean: 2000 events, 2000 accesses / end: limit",
             status::LIMIT,
         ),
-        (2_001, true, "too long: 2001 events", status::USAGE),
+    ),
+    (2_001, true, ("too long: 2001 events", status::USAGE)),
+    (
+        2_001,
+        false,
         (
-            2_001,
-            false,
             "clean: 2001 events, 2000 accesses / end: main",
             status::CLEAN,
         ),
-    ] {
-        let run = options(rt.alloc(), limit, None)?;
-        let check = CheckOptions {
-            plain,
-            ..CheckOptions::default()
-        };
-        let want = text_of(rt.alloc(), report)?;
-        let (answer, output, _reads) = judged(rt.alloc(), text.as_slice(), &run, &check);
-        assert_eq!(rt; answer, status);
-        assert_eq!(rt; output.as_slice(), want.as_slice());
+    ),
+];
+
+fn is_long_run(alloc: Global, limit: u32, plain: bool, told: Told<'_>) -> Result<bool, Fail> {
+    let text = writes(alloc, 2_000)?;
+    let (run, check) = (RunOptions { limit, picks: None }, judge(plain));
+    tells(alloc, Engine::Race(&run, &check), text.as_slice(), told)
+}
+
+#[test]
+fn a_run_that_is_too_long_for_the_plain_judge_has_no_end(rt: HostRuntime) -> Result<(), Fail> {
+    for &(limit, plain, told) in &LONG {
+        assert!(rt; is_long_run(rt.alloc(), limit, plain, told)?, "{told:?}");
     }
     Ok(())
 }
 
+// A limit of events, shards and a block, one of which is out of its limits.
+static OPTIONS: [(u32, usize, usize); 6] = [
+    (0, 1, 1),
+    (MOST + 1, 1, 1),
+    (1, 0, 1),
+    (1, MAX_SHARDS + 1, 1),
+    (1, 1, 0),
+    (1, 1, MAX_BLOCK + 1),
+];
+
+fn is_unread(alloc: Global, (limit, shards, block): (u32, usize, usize)) -> Result<bool, Fail> {
+    let text = writes(alloc, 1)?;
+    let run = RunOptions { limit, picks: None };
+    let check = CheckOptions {
+        shards,
+        block,
+        plain: false,
+    };
+    Ok(leaves_unread(alloc, Engine::Race(&run, &check), text.as_slice()))
+}
+
 #[test]
 fn an_option_out_of_its_limits_leaves_a_program_unread(rt: HostRuntime) -> Result<(), Fail> {
-    let text = writes(rt.alloc(), 1)?;
-    for &(limit, shards, block) in &[
-        (0, 1, 1),
-        (MOST + 1, 1, 1),
-        (1, 0, 1),
-        (1, MAX_SHARDS + 1, 1),
-        (1, 1, 0),
-        (1, 1, MAX_BLOCK + 1),
-    ] {
-        let run = options(rt.alloc(), limit, None)?;
-        let check = CheckOptions {
-            shards,
-            block,
-            plain: false,
-        };
-        let (answer, output, reads) = judged(rt.alloc(), text.as_slice(), &run, &check);
-        assert_eq!(rt; (answer, output.len(), reads), (status::USAGE, 0, 0));
+    for options in &OPTIONS {
+        assert!(rt; is_unread(rt.alloc(), *options)?, "{options:?}");
     }
     Ok(())
 }
@@ -199,17 +194,12 @@ fn an_option_out_of_its_limits_leaves_a_program_unread(rt: HostRuntime) -> Resul
 #[test]
 fn a_writer_that_fails_ends_a_judged_run(rt: HostRuntime) -> Result<(), Fail> {
     let text = writes(rt.alloc(), 1)?;
-    let run = options(rt.alloc(), MOST, None)?;
-    let mut source = Source::new(text.as_slice());
-    let mut sink = Sink::new(FullWriter(5));
-    let answer = run_race(
-        &(),
-        rt.alloc(),
-        &mut source,
-        &mut sink,
-        &run,
-        &CheckOptions::default(),
-    );
-    assert_eq!(rt; (answer, sink.failures()), (status::DEVICE, 1));
+    let run = RunOptions {
+        limit: MOST,
+        picks: None,
+    };
+    let check = CheckOptions::default();
+    let engine = Engine::Race(&run, &check);
+    assert!(rt; is_cut_off(&(), rt.alloc(), engine, text.as_slice(), true, b"clean"));
     Ok(())
 }

@@ -1,132 +1,113 @@
 //! Inputs that are read in blocks.
-
-use race_records::{Sink, Source};
-use race_tool::{CheckOptions, run_check, run_edges, status};
-use std::alloc::{AllocGlobal, Global};
-use std::io;
-use std::io::Read;
-use std::process::Abort;
+use crate::tool::engines::{Engine, SlowReader, ended, judge};
+use race_tool::status;
+use std::alloc::Global;
 use std::test::Fail;
 
-// Gives its bytes, so many a read, and then fails or ends.
-#[derive(Drop)]
-struct SlowReader<'a> {
-    bytes: &'a [u8],
-    step: usize,
-    fails: bool,
-}
-
-impl Read for SlowReader<'_> {
-    fn read(&mut self, buf: &mut [u8]) -> io::Result<usize> {
-        if self.bytes.is_empty() && self.fails {
-            return Err(io::ErrorKind::Other.into());
-        }
-        let count = buf.len().min(self.step);
-        self.bytes.read(&mut buf[..count])
-    }
-}
-
-// What an engine answers and writes, and how often it read, with how many failures.
-fn ended(alloc: Global, reader: SlowReader<'_>, lists_edges: bool) -> (u8, Vec<u8>, u64, u64) {
-    let mut source = Source::new(reader);
-    let mut output = Vec::new(alloc);
-    let mut sink = Sink::new(&mut output);
-    let answer = if lists_edges {
-        run_edges(alloc, &mut source, &mut sink)
-    } else {
-        run_check(&(), alloc, &mut source, &mut sink, &CheckOptions::default())
-    };
-    (answer, output, source.reads(), source.failures())
-}
+/// An input, the status and the report, and how often it is read, with how many failures.
+type Row<'a> = (&'a [u8], u8, &'a [u8], u64, u64);
 
 // Behind a faulty line no read can fail: there is none.
+static FAILING: [Row<'static>; 4] = [
+    (b"gotrace 1\nvar x\n", status::DEVICE, b"", 2, 1),
+    (b"gotrace 1\njump", status::DEVICE, b"", 2, 1),
+    (
+        b"gotrace 2\n",
+        status::TEXT_FAULT,
+        b"line 1: bad header\n",
+        1,
+        0,
+    ),
+    (
+        b"gotrace 1\nvar x\njump\nvar",
+        status::TEXT_FAULT,
+        b"line 3: unknown word\n",
+        1,
+        0,
+    ),
+];
+
+// Whether the engine ends so on the row's input, of which a read gives so many bytes.
+fn ends_so(alloc: Global, engine: Engine<'_>, row: &Row<'_>, step: usize, fails: bool) -> bool {
+    let &(bytes, status, report, reads, failures) = row;
+    let reader = SlowReader { bytes, step, fails };
+    let (answer, output, read, failed) = ended(alloc, engine, reader);
+    (answer, read, failed) == (status, reads, failures) && output.as_slice() == report
+}
+
 #[test]
 fn a_read_fails_only_before_the_first_faulty_line_has_ended(rt: HostRuntime) {
-    let inputs: [(&[u8], u8, &[u8], u64, u64); 4] = [
-        (b"gotrace 1\nvar x\n", status::DEVICE, b"", 2, 1),
-        (b"gotrace 1\njump", status::DEVICE, b"", 2, 1),
-        (
-            b"gotrace 2\n",
-            status::TEXT_FAULT,
-            b"line 1: bad header\n",
-            1,
-            0,
-        ),
-        (
-            b"gotrace 1\nvar x\njump\nvar",
-            status::TEXT_FAULT,
-            b"line 3: unknown word\n",
-            1,
-            0,
-        ),
-    ];
-    for &(bytes, status, report, reads, failures) in &inputs {
-        for &lists_edges in &[false, true] {
-            let reader = SlowReader {
-                bytes,
-                step: 1_000,
-                fails: true,
-            };
-            let (answer, output, read, failed) = ended(rt.alloc(), reader, lists_edges);
-            assert_eq!(rt; answer, status, "at {bytes:?}");
-            assert_eq!(rt; output.as_slice(), report, "at {bytes:?}");
-            assert_eq!(rt; (read, failed), (reads, failures), "at {bytes:?}");
-        }
+    let by_clocks = judge(false);
+    for row in &FAILING {
+        let is_right = ends_so(rt.alloc(), Engine::Check(&by_clocks), row, 1_000, true)
+            && ends_so(rt.alloc(), Engine::Edges, row, 1_000, true);
+        assert!(rt; is_right, "at {:?}", row.0);
     }
 }
 
 // Four thousand writes, of which each is a line of 31 bytes; the line of this number is none.
-fn long_text(rt: &(impl Abort + AllocGlobal), faulty: u64) -> Result<Vec<u8>, Fail> {
-    let mut text = Vec::new(rt.alloc());
+fn long_text(alloc: Global, faulty: u64) -> Result<Vec<u8>, Fail> {
+    let mut text = Vec::new(alloc);
     text.extend_from_slice(b"gotrace 1\nvar x\n")?;
-    for line in 3..4_003u64 {
-        if line == faulty {
-            text.extend_from_slice(b"write main x 01 src/file.go:10\n")?;
+    for number in 3..4_003u64 {
+        let line = if number == faulty {
+            b"write main x 01 src/file.go:10\n"
         } else {
-            text.extend_from_slice(b"write main x 1 src/file.go:100\n")?;
-        }
+            b"write main x 1 src/file.go:100\n"
+        };
+        text.extend_from_slice(line)?;
     }
     Ok(text)
 }
 
-// A block has 65,536 bytes, so the first one ends in the 2,114th write.
+// The faulty line, the status and the report, and how often is read. A block has 65,536 bytes, so the
+// first one ends in the 2,114th write.
+static LONG: [(u64, u8, &[u8], u64); 5] = [
+    (0, status::CLEAN, b"clean: 4000 events, 4000 accesses\n", 3),
+    (3, status::TEXT_FAULT, b"line 3: bad number\n", 1),
+    (2_115, status::TEXT_FAULT, b"line 2115: bad number\n", 1),
+    (2_116, status::TEXT_FAULT, b"line 2116: bad number\n", 2),
+    (4_002, status::TEXT_FAULT, b"line 4002: bad number\n", 2),
+];
+
+fn is_read_so(
+    alloc: Global,
+    &(faulty, status, report, reads): &(u64, u8, &[u8], u64),
+) -> Result<bool, Fail> {
+    let text = long_text(alloc, faulty)?;
+    let row = (text.as_slice(), status, report, reads, 0);
+    let by_clocks = judge(false);
+    Ok(ends_so(alloc, Engine::Check(&by_clocks), &row, 1_000_000, false))
+}
+
 #[test]
 fn a_text_is_read_up_to_the_block_with_its_first_faulty_line(rt: HostRuntime) -> Result<(), Fail> {
-    let texts: [(u64, u8, &[u8], u64); 5] = [
-        (0, status::CLEAN, b"clean: 4000 events, 4000 accesses\n", 3),
-        (3, status::TEXT_FAULT, b"line 3: bad number\n", 1),
-        (2_115, status::TEXT_FAULT, b"line 2115: bad number\n", 1),
-        (2_116, status::TEXT_FAULT, b"line 2116: bad number\n", 2),
-        (4_002, status::TEXT_FAULT, b"line 4002: bad number\n", 2),
-    ];
-    for &(faulty, status, report, reads) in &texts {
-        let text = long_text(&rt, faulty)?;
-        let reader = SlowReader {
-            bytes: text.as_slice(),
-            step: 1_000_000,
-            fails: false,
-        };
-        let (answer, output, read, _) = ended(rt.alloc(), reader, false);
-        assert_eq!(rt; answer, status, "with {faulty}");
-        assert_eq!(rt; output.as_slice(), report, "with {faulty}");
-        assert_eq!(rt; read, reads, "with {faulty}");
+    for row in &LONG {
+        assert!(rt; is_read_so(rt.alloc(), row)?, "with {}", row.0);
     }
     Ok(())
 }
 
+static RACY: &[u8] =
+    b"gotrace 1\ngoroutine w\nvar x\ngo main w a.go:2\nwrite main x 1 a.go:3\nread w x 1 a.go:6\n";
+
+static RACE: &[u8] =
+    b"race on x: write by main at a.go:3 (event 2), read by w at a.go:6 (event 3)\nraces: 1\n";
+
 // However the bytes come, the report is the same.
+fn is_racy_by(alloc: Global, step: usize) -> bool {
+    let reader = SlowReader {
+        bytes: RACY,
+        step,
+        fails: false,
+    };
+    let (answer, output, _, _) = ended(alloc, Engine::Check(&judge(false)), reader);
+    answer == status::RACES && output.as_slice() == RACE
+}
+
 #[test]
 fn a_byte_at_a_time_gives_the_report(rt: HostRuntime) {
     for &step in &[1, 2, 7] {
-        let reader = SlowReader {
-            bytes: b"gotrace 1\ngoroutine w\nvar x\ngo main w a.go:2\nwrite main x 1 a.go:3\nread w x 1 a.go:6\n",
-            step,
-            fails: false,
-        };
-        let (answer, output, _, _) = ended(rt.alloc(), reader, false);
-        assert_eq!(rt; answer, status::RACES, "by {step}");
-        let report =
-            b"race on x: write by main at a.go:3 (event 2), read by w at a.go:6 (event 3)\nraces: 1\n";
-        assert_eq!(rt; output.as_slice(), report.as_slice(), "by {step}");
+        assert!(rt; is_racy_by(rt.alloc(), step), "by {step}");
     }
 }

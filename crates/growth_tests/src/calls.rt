@@ -48,7 +48,7 @@ enum Outcome {
     Wrong,
 }
 
-fn outcome<C: Growing>(alloc: Global, call: C, nth: u64) -> Outcome
+fn run<C: Growing>(alloc: Global, call: C, nth: u64) -> Outcome
     requires { 0 < nth }
 {
     let heap = RefusingHeap::new(alloc);
@@ -65,7 +65,7 @@ fn outcome<C: Growing>(alloc: Global, call: C, nth: u64) -> Outcome
 fn refusals<C: Growing>(alloc: Global, call: C) -> Option<u64> {
     let mut refusals = 0u64;
     for nth in 1..64u64 {
-        match outcome(alloc, call, nth) {
+        match run(alloc, call, nth) {
             Outcome::Refused => refusals = refusals.saturating_add(1),
             Outcome::DoneWithout => {}
             Outcome::Done => return Some(refusals),

@@ -5,14 +5,23 @@ use race_records::{Sink, Source};
 use race_tool::{CheckOptions, RunOptions, run_check, run_edges, run_race, run_run, status};
 use refusing_heap::RefusingHeap;
 use std::alloc::{Allocator, Global};
+use std::sync::Wait;
+use std::thread::Threads;
 
-// An engine, and whether its judge is the plain one.
+// How a trace is judged.
+#[derive(Clone, Copy)]
+enum Judging {
+    Plain,
+    /// By so many shards.
+    Shards(usize),
+}
+
 #[derive(Clone, Copy)]
 enum Engine {
-    Check(bool),
+    Check(Judging),
     Edges,
     Run,
-    Race(bool),
+    Race(Judging),
 }
 
 // A goroutine, a variable and a race.
@@ -23,15 +32,26 @@ static TRACE: &[u8] =
 static PROGRAM: &[u8] =
     b"goprogram 1\ngoroutine w\nvar x\nbody main\ngo w p\nwrite x 1 p\nexit p\nbody w\nread x p\nexit p\n";
 
-fn judging(plain: bool) -> CheckOptions {
-    CheckOptions {
-        plain,
-        ..CheckOptions::default()
+fn options(judging: Judging) -> CheckOptions {
+    match judging {
+        Judging::Plain => CheckOptions {
+            plain: true,
+            ..CheckOptions::default()
+        },
+        Judging::Shards(shards) => CheckOptions {
+            shards,
+            ..CheckOptions::default()
+        },
     }
 }
 
 // The status.
-fn run<A: Allocator + Copy + Send>(alloc: A, engine: Engine, output: &mut [u8]) -> u8 {
+fn run<R: Threads + Wait, A: Allocator + Copy + Send>(
+    rt: &R,
+    alloc: A,
+    engine: Engine,
+    output: &mut [u8],
+) -> u8 {
     let mut trace = Source::new(TRACE);
     let mut program = Source::new(PROGRAM);
     let mut sink = Sink::new(output);
@@ -40,23 +60,30 @@ fn run<A: Allocator + Copy + Send>(alloc: A, engine: Engine, output: &mut [u8]) 
         picks: None,
     };
     match engine {
-        Engine::Check(plain) => run_check(&(), alloc, &mut trace, &mut sink, &judging(plain)),
+        Engine::Check(judging) => run_check(rt, alloc, &mut trace, &mut sink, &options(judging)),
         Engine::Edges => run_edges(alloc, &mut trace, &mut sink),
-        Engine::Run => run_run(&(), alloc, &mut program, &mut sink, &run),
-        Engine::Race(plain) => run_race(&(), alloc, &mut program, &mut sink, &run, &judging(plain)),
+        Engine::Run => run_run(rt, alloc, &mut program, &mut sink, &run),
+        Engine::Race(judging) => {
+            run_race(rt, alloc, &mut program, &mut sink, &run, &options(judging))
+        }
     }
 }
 
 /// An engine, the status with which it ends, and how much it writes.
-#[derive(Clone, Copy)]
-struct Row(Engine, u8, usize);
+type Ending = (Engine, u8, usize);
 
-impl Growing for Row {
+#[derive(Clone, Copy)]
+struct Row<'a, R> {
+    rt: &'a R,
+    ending: Ending,
+}
+
+impl<R: Threads + Wait> Growing for Row<'_, R> {
     fn reply(self, heap: &RefusingHeap<Global>, nth: u64) -> Reply {
-        let Row(engine, status, len) = self;
+        let (engine, status, len) = self.ending;
         let mut output = [0; 128];
         heap.refuse(nth);
-        let ended = run(heap, engine, output.as_mut_slice());
+        let ended = run(self.rt, heap, engine, output.as_mut_slice());
         let written = output.iter().position(|byte| *byte == 0).unwrap_or(128);
         if ended == status::REFUSED {
             refused_if(written == 0)
@@ -66,19 +93,22 @@ impl Growing for Row {
     }
 }
 
-// The judge by clocks takes seven lists: four of the replay, for goroutines and variables, one for
-// their clocks, one for what is kept of variables, and the races. A judged run takes what the run
-// takes, and then what its judge does.
-static ENGINES: [(Row, u64); 6] = [
-    (Row(Engine::Check(false), status::RACES, 75), 22),
-    (Row(Engine::Check(true), status::RACES, 75), 26),
-    (Row(Engine::Edges, status::CLEAN, 25), 21),
-    (Row(Engine::Run, status::LIMIT, TRACE.len()), 47),
-    (Row(Engine::Race(false), status::RACES, 86), 54),
-    (Row(Engine::Race(true), status::RACES, 86), 58),
+// The judge by one shard takes eight lists: four of the replay, for goroutines and variables, the list of shards, one for
+// the shard's clocks, one for what is kept of its variables, and the races. A second shard takes two of its own. A judged
+// run takes what the run takes, and then what its judge does.
+static ENGINES: [(Ending, u64); 7] = [
+    ((Engine::Check(Judging::Shards(1)), status::RACES, 75), 23),
+    ((Engine::Check(Judging::Shards(2)), status::RACES, 75), 25),
+    ((Engine::Check(Judging::Plain), status::RACES, 75), 26),
+    ((Engine::Edges, status::CLEAN, 25), 21),
+    ((Engine::Run, status::LIMIT, TRACE.len()), 47),
+    ((Engine::Race(Judging::Shards(1)), status::RACES, 86), 55),
+    ((Engine::Race(Judging::Plain), status::RACES, 86), 58),
 ];
 
 #[test]
 fn engines(rt: HostRuntime) {
-    assert_each(&rt, &ENGINES);
+    for &(ending, want) in &ENGINES {
+        assert_each(&rt, &[(Row { rt: &rt, ending }, want)]);
+    }
 }

@@ -14,6 +14,8 @@ mod hubs;
 #[cfg(test)]
 mod jobs;
 #[cfg(test)]
+mod judges;
+#[cfg(test)]
 mod orders;
 #[cfg(test)]
 mod played;

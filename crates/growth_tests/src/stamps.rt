@@ -1,12 +1,13 @@
 //! The calls of race_clock.
 ghost use Rattle.std.specs.Prelude.{◌<◌, [], length};
 ghost use Rattle.race_clock.specs.StandsFor.{IsNext, StandsFor};
-ghost use Rattle.race_legal.specs.StandsFor as legal;
+ghost use Rattle.race_model.specs.Legal.{IsLegal};
+ghost use Rattle.race_verdict.specs.Traces.{capacities};
 
 use crate::calls::{Growing, Reply, assert_each, refused_if, right_if};
 use crate::traced::traced;
 use race_clock::Stamper;
-use race_legal::Replay;
+use race_legal::legal;
 use race_records::{Event, Kind, Trace};
 use refusing_heap::RefusingHeap;
 use std::alloc::{Allocator, Global};
@@ -59,17 +60,16 @@ fn last_step<A: Allocator + Copy>(stamper: &mut Stamper<A>, event: &Event, right
     }
 }
 
-// Takes the events that the replay accepts. A growth is refused at the last of them.
+// Takes the events of a legal trace. A growth is refused at the last of them.
 fn step_each(
     heap: &RefusingHeap<Global>,
     nth: u64,
     trace: &Trace<&RefusingHeap<Global>>,
     right: Known,
-    replay: &mut Replay<&RefusingHeap<Global>>,
     stamper: &mut Stamper<&RefusingHeap<Global>>,
 ) -> Reply
     requires nth { 0 < nth }
-    requires legal { legal.StandsFor trace.now.decls.declarations replay.old [] }
+    requires legal { IsLegal (capacities trace.now) trace.now.events }
     requires stands { StandsFor trace.now.decls.declarations stamper.old [] }
 {
     if trace.decls().count(Kind::Goroutine) <= LAST {
@@ -77,9 +77,6 @@ fn step_each(
     }
     for at in 0..trace.len() {
         let event = trace.event(at);
-        let Ok(()) = replay.accept(event) else {
-            return Reply::Wrong;
-        };
         if at + 1 == trace.len() {
             heap.refuse(nth);
             return last_step(stamper, event, right);
@@ -99,13 +96,13 @@ fn stepped(
 ) -> Reply
     requires { 0 < nth }
 {
-    let Ok(mut replay) = Replay::new(heap, trace.decls()) else {
+    let Ok(None) = legal(heap, trace) else {
         return Reply::Wrong;
     };
     let Ok(mut stamper) = Stamper::new(heap, trace.decls()) else {
         return Reply::Wrong;
     };
-    step_each(heap, nth, trace, right, &mut replay, &mut stamper)
+    step_each(heap, nth, trace, right, &mut stamper)
 }
 
 /// A call behind the declarations and all but the last of these events.

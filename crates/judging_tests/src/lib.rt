@@ -11,3 +11,7 @@ mod edges;
 mod legal;
 #[cfg(test)]
 mod records;
+#[cfg(test)]
+mod rows;
+#[cfg(test)]
+mod shards;

@@ -15,7 +15,7 @@ use Rattle.race_tool.specs.Outcome.{FailsToWrite, FailsToWriteListing, FailsToWr
 use Rattle.race_tool.specs.Run.{IsRefusedRun}
 use Rattle.race_tool.specs.Race.{HasRunWhere}
 use Rattle.race_tool.specs.Picks.{picks_asked}
-use Rattle.race_edges.specs.Traces.{IsClean, IsRacy, IsIllegal}
+use Rattle.race_verdict.specs.Traces.{IsClean, IsRacy, IsIllegal}
 use Rattle.race_tool.specs.declared.status.TheConstants as status
 
 -- the input was checked, by the plain judge or not: what run_check promises of options in their limits

@@ -15,19 +15,20 @@ use Rattle.race_model.specs.Events.{At}
 use Rattle.race_model.specs.Legal.{broken, IsLegal, IsIllegalAt}
 use Rattle.race_model.specs.Verdict.{Verdict, Illegal, Clean, Races}
 use Rattle.race_model.proofs.Indexes.{at_below, at_same, take_within, take_at_old}
-use Rattle.race_edges.specs.declared.races.Race.{Race}
+use Rattle.race_verdict.specs.declared.races.Race.{Race}
 use Rattle.race_edges.specs.Synchronized.{source_at}
 use Rattle.race_edges.specs.TableState.{TableState, with_seen, inside, table_after}
 use Rattle.race_edges.proofs.IsTable.{IsTable}
-use Rattle.race_edges.specs.Partners.{accessed, noted, found_after, race_at}
-use Rattle.race_edges.specs.Answers.{race_of, races_of, AreRaces}
-use Rattle.race_edges.proofs.FoundSteps.{AreFound}
-use Rattle.race_edges.specs.Traces.{capacities, HasVerdict}
+use Rattle.race_edges.specs.Partners.{noted, found_after, race_at}
+use Rattle.race_verdict.specs.Accesses.{accessed}
+use Rattle.race_verdict.specs.Races.{race_of, AreFound, races_of, AreRaces}
+use Rattle.race_verdict.specs.Traces.{capacities, HasVerdict}
 use Rattle.race_edges.proofs.RowLemmas.{shape_with_seen, shape_inside, shape_taken}
 use Rattle.race_edges.proofs.TableSteps.{table_none}
 use Rattle.race_edges.proofs.FoundSteps.{found_none}
-use Rattle.race_edges.proofs.JudgeSteps.{has_rows, has_place, race_declared, table_next, found_next}
-use Rattle.race_edges.proofs.RaceLists.{are_races, free_from_none, listed_some}
+use Rattle.race_edges.proofs.JudgeSteps.{has_rows, has_place, table_next, found_next}
+use Rattle.race_verdict.proofs.RangeLemmas.{race_declared}
+use Rattle.race_verdict.proofs.RaceLists.{are_races, free_from_none, listed_some}
 
 -- the tables keep their sizes
 rows_kept : (is : ℕ → Bool) (table : TableState) (n who : ℕ) (o : Op) → length (table_after is table n who o).rows ≡ length table.rows

@@ -11,17 +11,14 @@ use Rattle.race_model.specs.Events.{gives, accesses}
 use Rattle.race_model.specs.Race.{IsAccessOf, IsRace}
 use Rattle.race_model.proofs.Indexes.{at_same, slice_get-push}
 use Rattle.race_model.proofs.RaceSteps.{race_turned, access_within, race_old, reported_grow}
-use Rattle.race_edges.specs.declared.races.Race.{Race}
+use Rattle.race_verdict.specs.declared.races.Race.{Race}
 use Rattle.race_edges.specs.TableState.{TableState}
 use Rattle.race_edges.proofs.IsTable.{IsTable}
-use Rattle.race_edges.specs.Partners.{is_partner, greatest_below, race_at, accessed, HasPlace, noted, found_after}
-use Rattle.race_edges.specs.Answers.{IsFound}
-use Rattle.race_edges.proofs.RangeLemmas.{accesses_is}
+use Rattle.race_edges.specs.Partners.{is_partner, greatest_below, race_at, HasPlace, noted, found_after}
+use Rattle.race_verdict.specs.Accesses.{accessed}
+use Rattle.race_verdict.specs.Races.{IsFound, AreFound}
+use Rattle.race_verdict.proofs.RangeLemmas.{accesses_is}
 use Rattle.race_edges.proofs.PartnerLemmas.{IsGreatest, greatest_is, race_from_partner, partner_from_race}
-
--- what is noted of each variable is right
-abbrev pub AreFound : (ℕ → ℕ) → List Event → List (Option Race) → Type 0
-AreFound caps events found = (x : ℕ) → x < length found → IsFound caps events x (slice_index_or found x None)
 
 -- before the first event there is no race
 pub found_none : (caps : ℕ → ℕ) (vars : ℕ) → AreFound caps [] (replicate vars None)

@@ -11,13 +11,14 @@ use Rattle.race_model.specs.Order.{IsSource}
 use Rattle.race_model.specs.Race.{IsAccessOf, IsRace}
 use Rattle.race_model.proofs.Indexes.{take_at_old}
 use Rattle.race_legal.proofs.Fronts.{take_next}
-use Rattle.race_edges.specs.declared.races.Race.{Race}
+use Rattle.race_verdict.specs.declared.races.Race.{Race}
 use Rattle.race_edges.specs.Synchronized.{source_at}
 use Rattle.race_edges.specs.TableState.{TableState, HasRows, table_after}
 use Rattle.race_edges.proofs.IsTable.{IsTable}
-use Rattle.race_edges.specs.Partners.{accessed, HasPlace, found_after}
-use Rattle.race_edges.proofs.FoundSteps.{AreFound}
-use Rattle.race_edges.proofs.RangeLemmas.{range_in_trace, partner_in_range, accessed_in_range, accessed_below}
+use Rattle.race_edges.specs.Partners.{HasPlace, found_after}
+use Rattle.race_verdict.specs.Accesses.{accessed}
+use Rattle.race_verdict.specs.Races.{AreFound}
+use Rattle.race_verdict.proofs.RangeLemmas.{range_in_trace, partner_in_range, accessed_in_range, accessed_below}
 use Rattle.race_model.proofs.SynchronizedTests.{source_is}
 use Rattle.race_edges.proofs.SynchronizedLemmas.{source_at_is}
 use Rattle.race_edges.proofs.TableSteps.{table_step}
@@ -47,14 +48,6 @@ pub has_place : (trace : TraceState) (i : ℕ) (e : Event) (found : List (Option
 has_place trace i e found holds at vars =
     subst (λ n. IfSome (accessed e.op) (λ x. x < n)) (sym vars)
     (accessed_in_range (counts_of trace.decls.declarations) e.op (range_in_trace trace i e holds at).1)
-
--- a race is on a declared variable
-pub race_declared : (caps : ℕ → ℕ) (trace : TraceState) (x i j : ℕ) → IsTrace trace → IsRace caps trace.events x i j
-    → x < count_of Kind.Var trace.decls.declarations
-race_declared caps trace x i j holds race = go race.conflict.1
-  where
-    go : IsAccessOf trace.events x i → x < count_of Kind.Var trace.decls.declarations
-    go (e, at, is) = accessed_below e.op _ x (accessed_in_range (counts_of trace.decls.declarations) e.op (range_in_trace trace i e holds at).1) is
 
 module _ (caps : ℕ → ℕ) (events : List Event) (at : ℕ) (e : Event) (here : slice_get events at ≡ Some e)
     (table : TableState) (limit : ℕ) (is_table : IsTable caps table limit (take at events)) where

@@ -1,4 +1,3 @@
-pub mod RangeLemmas
 pub mod SynchronizedLemmas
 pub mod NumberLemmas
 pub mod EdgeLemmas
@@ -8,5 +7,4 @@ pub mod TableSteps
 pub mod PartnerLemmas
 pub mod FoundSteps
 pub mod JudgeSteps
-pub mod RaceLists
 pub mod EachHasAVerdict

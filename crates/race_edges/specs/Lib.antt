@@ -1,7 +1,4 @@
-pub mod Traces
 pub mod Edges
-pub mod Answers
-pub mod Verdicts
 pub mod Numbers
 pub mod Synchronized
 pub mod EdgesSoFar

@@ -6,16 +6,10 @@ use Rattle.std.specs.List.{slice_index_or}
 use Rattle.std.specs.Option.{option_map}
 use Rattle.race_records.specs.declared.event.Event.{Event}
 use Rattle.race_records.specs.declared.event.Op.{Op}
-use Rattle.race_records.specs.declared.event.Op.TheVariants.{Read, Write}
 use Rattle.race_model.specs.Events.{writes, accesses}
-use Rattle.race_edges.specs.declared.races.Race.{Race}
+use Rattle.race_verdict.specs.Accesses.{accessed}
+use Rattle.race_verdict.specs.declared.races.Race.{Race}
 use Rattle.race_edges.specs.TableState.{sees}
-
--- the variable that the operation accesses
-abbrev pub accessed : Op → Option ℕ
-accessed (Read x v) = Some x
-accessed (Write x v) = Some x
-accessed _ = None
 
 -- it has a place in the list
 abbrev pub HasPlace : List (Option Race) → Op → Type 0

@@ -4,28 +4,18 @@
 //! So a row of flags for each goroutine decides every pair of accesses when the later one comes. It
 //! takes time in the square of the events, and is what faster judges are compared with.
 ghost use Rattle.std.specs.Prelude.{◌≡◌, ◌≢◌, ◌↔◌, ◌<◌, length, IfOk};
-ghost use Rattle.race_edges.specs.Answers.{AreRaces};
-ghost use Rattle.race_edges.specs.Traces.{capacities, HasVerdict};
-ghost use Rattle.race_edges.specs.Verdicts.{verdict_of};
+ghost use Rattle.race_verdict.specs.Races.{AreRaces};
+ghost use Rattle.race_verdict.specs.Traces.{capacities, HasVerdict};
+ghost use Rattle.race_verdict.specs.Verdicts.{verdict_of};
 
 use crate::fault::{EdgeFault, MAX_PLAIN_EVENTS};
 use crate::numbers::Numbers;
-use crate::races::{Found, RaceList};
+use crate::races::Found;
 use crate::table::Table;
-use race_legal::{Illegal, legal};
+use race_legal::legal;
 use race_records::{Kind, Trace};
-use std::alloc::{AllocError, Allocator, Global};
-
-/// What can be said of a trace.
-#[derive(Debug, Drop)]
-pub enum Verdict<A: Allocator = Global> {
-    /// An event breaks a rule.
-    Illegal(Illegal),
-    /// The trace is legal and has no race.
-    Clean,
-    /// The trace is legal, and these are its races.
-    Races(RaceList<A>),
-}
+use race_verdict::{RaceList, Verdict};
+use std::alloc::{AllocError, Allocator};
 
 /// The verdict on a trace of at most 2,000 events. Refused exactly where there are more, and else for want of memory alone.
 pub fn plain_judge<A: Allocator + Copy, B: Allocator>(
@@ -55,14 +45,7 @@ fn verdict_on<A: Allocator + Copy, B: Allocator>(
 {
     match legal(alloc, trace)? {
         Some(illegal) => Ok(Verdict::Illegal(illegal)),
-        None => {
-            let races = races_in(alloc, trace)?;
-            if races.is_empty() {
-                Ok(Verdict::Clean)
-            } else {
-                Ok(Verdict::Races(races))
-            }
-        }
+        None => Ok(Verdict::of_races(races_in(alloc, trace)?)),
     }
 }
 

@@ -10,6 +10,6 @@ mod synchronized;
 mod table;
 
 pub use fault::{EdgeFault, MAX_PLAIN_EVENTS};
-pub use judge::{Verdict, plain_judge};
+pub use judge::plain_judge;
 pub use listing::{Edge, edges};
-pub use races::{Race, RaceList};
+pub use race_verdict::{Race, RaceList, Verdict};

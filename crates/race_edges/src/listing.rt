@@ -4,7 +4,7 @@ ghost use Rattle.race_model.specs.Legal.{IsLegal};
 ghost use Rattle.race_edges.specs.Edges.{AreEdges};
 ghost use Rattle.race_edges.specs.Numbers.{AreNumbers};
 ghost use Rattle.race_edges.specs.EdgesSoFar.{AreEdgesBefore, with_edge, edge_inside};
-ghost use Rattle.race_edges.specs.Traces.{capacities, IsIllegal};
+ghost use Rattle.race_verdict.specs.Traces.{capacities, IsIllegal};
 
 use crate::fault::{EdgeFault, MAX_PLAIN_EVENTS};
 use crate::numbers::Numbers;

@@ -1,80 +1,21 @@
 //! The races of a list of events, found event by event.
-ghost use Rattle.std.specs.Prelude.{◌≡◌, ◌↔◌, ◌<◌, ◌^◌, [], ◌∷◌, ◌++◌, None, replicate, length, IfOk, OnOk, OnErr, IsTrue};
+ghost use Rattle.std.specs.Prelude.{◌≡◌, ◌<◌, ◌^◌, None, replicate, length, IfOk};
 ghost use Rattle.race_model.specs.Events.{reads, writes, accesses};
+ghost use Rattle.race_verdict.specs.Accesses.{accessed};
 ghost use Rattle.race_edges.specs.Partners.{
-  accessed,
   is_partner,
   greatest_below,
   found_after,
   noted,
   HasPlace,
 };
-ghost use Rattle.race_edges.specs.Answers.{races_of};
+ghost use Rattle.race_verdict.specs.Races.{races_of};
 
 use crate::table::Table;
 use race_records::{Event, Op};
+use race_verdict::{Race, RaceList};
 use std::alloc::{AllocError, Allocator, Global};
 use std::marker::Model;
-
-/// Two accesses of a variable that race, by their indexes counted from 0.
-#[derive(Clone, Copy, Debug, PartialEq, Eq)]
-pub struct Race {
-    /// The variable.
-    pub var: u32,
-    /// The earlier access.
-    pub first: u32,
-    /// The later one.
-    pub second: u32,
-}
-
-/// A list of races.
-#[derive(Debug, Drop)]
-pub struct RaceList<A: Allocator = Global> {
-    races: Vec<Race, A>,
-}
-
-impl<A: Allocator> Model for RaceList<A> {
-    ghost use Rattle.std.specs.Prelude.{List};
-    ghost use Rattle.race_edges.specs.declared.races.Race.{Race};
-
-    ghost Value = { List Race };
-
-    ghost view = { λ l. l.races.items };
-}
-
-impl<A: Allocator> RaceList<A> {
-    /// No race. Takes no memory.
-    pub fn new(alloc: A) -> RaceList<A>
-        ensures { result ≡ [] }
-    {
-        RaceList {
-            races: Vec::new(alloc),
-        }
-    }
-
-    /// Puts a race behind the others.
-    pub fn push(&mut self, race: Race) -> Result<(), AllocError>
-        ensures pushed { OnOk result (self.new ≡ self.old ++ race ∷ []) }
-        ensures unchanged { OnErr result (self.new ≡ self.old) }
-    {
-        self.races.push(race)?;
-        Ok(())
-    }
-
-    /// The races in order.
-    pub fn as_slice(&self) -> &[Race]
-        ensures { result.now ≡ self.now }
-    {
-        self.races.as_slice()
-    }
-
-    /// Whether there is none.
-    pub fn is_empty(&self) -> bool
-        ensures { IsTrue result ↔ (self.now ≡ []) }
-    {
-        self.races.is_empty()
-    }
-}
 
 // The variable that the operation accesses.
 fn accessed(op: &Op) -> Option<u32>
@@ -159,7 +100,7 @@ pub(crate) struct Found<A: Allocator = Global> {
 
 impl<A: Allocator> Model for Found<A> {
     ghost use Rattle.std.specs.Prelude.{List, Option};
-    ghost use Rattle.race_edges.specs.declared.races.Race.{Race};
+    ghost use Rattle.race_verdict.specs.declared.races.Race.{Race};
 
     ghost Value = { List (Option Race) };
 
@@ -216,7 +157,13 @@ impl<A: Allocator> Found<A> {
     pub(crate) fn list<B: Allocator>(&self, alloc: B) -> Result<RaceList<B>, AllocError>
         ensures { IfOk result (λ races. races ≡ races_of self.now) }
     {
+        Ok(RaceList::from_vec(self.noted(alloc)?))
+    }
+
+    fn noted<B: Allocator>(&self, alloc: B) -> Result<Vec<Race, B>, AllocError>
+        ensures { IfOk result (λ races. races.items ≡ races_of self.now) }
+    {
         let races = self.races.iter().filter_map(|found| *found).collect(alloc)?;
-        Ok(RaceList { races })
+        Ok(races)
     }
 }

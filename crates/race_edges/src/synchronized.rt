@@ -5,7 +5,7 @@ ghost use Rattle.race_model.specs.Events as model;
 ghost use Rattle.race_model.specs.Synchronized.{joins};
 ghost use Rattle.race_edges.specs.Synchronized as spec;
 ghost use Rattle.race_edges.specs.Numbers.{AreNumbers};
-ghost use Rattle.race_edges.specs.Traces.{capacities};
+ghost use Rattle.race_verdict.specs.Traces.{capacities};
 
 use crate::numbers::Numbers;
 use race_records::{Op, Trace};

@@ -9,7 +9,7 @@ ghost use Rattle.race_edges.specs.Numbers.{AreNumbers};
 ghost use Rattle.race_model.specs.Synchronized.{joins};
 ghost use Rattle.race_edges.specs.Synchronized.{source_at};
 ghost use Rattle.race_edges.specs.TableState as spec;
-ghost use Rattle.race_edges.specs.Traces.{capacities};
+ghost use Rattle.race_verdict.specs.Traces.{capacities};
 
 use crate::numbers::Numbers;
 use crate::synchronized::{can_be_source, is_source, joins, partner};

@@ -10,16 +10,15 @@ use Rattle.race_model.specs.Events.{partner}
 use Rattle.race_model.proofs.Indexes.{take_at_old}
 use Rattle.race_edges.specs.declared.listing.Edge.{Edge}
 use Rattle.race_edges.specs.Edges.{IsEdge, AreEdges}
-use Rattle.race_edges.proofs.RangeLemmas.{range_in_trace, partner_in_range}
+use Rattle.race_verdict.proofs.RangeLemmas.{range_in_trace, partner_in_range, race_declared}
 use Rattle.race_edges.proofs.SynchronizedLemmas.{inside_pair}
 use Rattle.race_model.specs.Race.{IsReportedRace}
 use Rattle.race_model.specs.Verdict as model
-use Rattle.race_edges.specs.declared.judge.Verdict.{Verdict}
-use Rattle.race_edges.specs.declared.races.Race as tool
-use Rattle.race_edges.specs.Answers.{race_of}
-use Rattle.race_edges.specs.Traces.{capacities, HasVerdict}
-use Rattle.race_edges.specs.Verdicts.{verdict_of}
-use Rattle.race_edges.proofs.JudgeSteps.{race_declared}
+use Rattle.race_verdict.specs.declared.verdict.Verdict.{Verdict}
+use Rattle.race_verdict.specs.declared.races.Race as tool
+use Rattle.race_verdict.specs.Races.{race_of}
+use Rattle.race_verdict.specs.Traces.{capacities, HasVerdict}
+use Rattle.race_verdict.specs.Verdicts.{verdict_of}
 use Rattle.race_report.specs.Printable.{IsOf, RacesAreOf, IsEdgeOf}
 
 module _ (trace : TraceState) (is_trace : IsTrace trace) where

@@ -8,8 +8,8 @@ use Rattle.race_records.specs.Events.{TraceState}
 use Rattle.race_records.proofs.ListLemmas.{slice_get-within, flat_map-map}
 use Rattle.race_model.specs.Verdict.{Race}
 use Rattle.race_text.specs.Text.{goroutine_name, var_name, place_text}
-use Rattle.race_edges.specs.declared.races.Race as tool
-use Rattle.race_edges.specs.Answers.{race_of}
+use Rattle.race_verdict.specs.declared.races.Race as tool
+use Rattle.race_verdict.specs.Races.{race_of}
 use Rattle.race_report.specs.Report.{races_line, races_text, access_text, access_word, race_line, newline}
 
 -- the words are those of the access at the index

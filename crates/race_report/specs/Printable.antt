@@ -4,9 +4,9 @@ use Rattle.race_records.specs.declared.kind.Kind.{Kind}
 use Rattle.race_records.specs.Declarations.{count_of}
 use Rattle.race_records.specs.Events.{TraceState}
 use Rattle.race_model.specs.Verdict.{Race}
-use Rattle.race_edges.specs.declared.judge.Verdict.{Verdict}
+use Rattle.race_verdict.specs.declared.verdict.Verdict.{Verdict}
 use Rattle.race_edges.specs.declared.listing.Edge.{Edge}
-use Rattle.race_edges.specs.Answers.{race_of}
+use Rattle.race_verdict.specs.Races.{race_of}
 
 -- the numbers of the race are the trace's
 pub record IsOf (trace : TraceState) (race : Race) : Type 0 where

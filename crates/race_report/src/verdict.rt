@@ -6,8 +6,8 @@ ghost use Rattle.race_records.specs.Page.{Printing, IsCutOff};
 ghost use Rattle.race_model.specs.Events.{count, is_access};
 ghost use Rattle.race_legal.specs.Rules.{number_of};
 ghost use Rattle.race_text.specs.Text.{goroutine_name, place_text};
-ghost use Rattle.race_edges.specs.Answers.{race_of};
-ghost use Rattle.race_edges.specs.Verdicts.{verdict_of};
+ghost use Rattle.race_verdict.specs.Races.{race_of};
+ghost use Rattle.race_verdict.specs.Verdicts.{verdict_of};
 ghost use Rattle.race_report.specs.Printable.{IsOf, RacesAreOf};
 ghost use Rattle.race_report.specs.Report as spec;
 

@@ -16,15 +16,15 @@ use Rattle.race_clock.specs.StandsFor.{StandsFor, IsNext, CountsReaching, Counts
 use Rattle.race_clock.proofs.NextFrom.{may_come, room_at, has_clock}
 use Rattle.race_clock.proofs.StampLaws.{Says, says}
 use Rattle.race_access.proofs.StampSteps.{accessed}
-use Rattle.race_edges.specs.Traces.{capacities}
-use Rattle.race_edges.specs.declared.races.Race.{Race}
-use Rattle.race_edges.specs.Answers.{AreRaces, races_of}
+use Rattle.race_verdict.specs.Traces.{capacities}
+use Rattle.race_verdict.specs.declared.races.Race.{Race}
+use Rattle.race_verdict.specs.Races.{AreRaces, races_of}
 use Rattle.race_edges.proofs.JudgeSteps.{race_declared}
-use Rattle.race_edges.proofs.RaceLists.{are_races}
+use Rattle.race_verdict.proofs.RaceLists.{are_races}
 use Rattle.race_access.specs.Kept.{Kept}
 use Rattle.race_tool.specs.Variables.{IsTouch, AreKept, races_from}
 use Rattle.race_tool.proofs.VariableSteps.{found_are, found_len}
-use Rattle.race_edges.proofs.RangeLemmas.{accessed_in_range, accessed_below, range_in_trace}
+use Rattle.race_verdict.proofs.RangeLemmas.{accessed_in_range, accessed_below, range_in_trace}
 
 module _ (trace : TraceState) (holds : IsTrace trace) (at : ℕ) (e : Event) (here : slice_get trace.events at ≡ Some e) where
   pub fit : IsTrue (fits trace.decls e)

@@ -1,6 +1,6 @@
 -- A right listing can be printed.
 use Rattle.std.proofs.Common.{ℕ, List}
-use Rattle.race_edges.specs.Traces.{capacities}
+use Rattle.race_verdict.specs.Traces.{capacities}
 use Rattle.race_report.proofs.PrintableLemmas.{edges_are_of}
 use Rattle.race_tool.specs.declared.edges_found.Found.{Found}
 use Rattle.race_tool.specs.Listing.{IsListing}

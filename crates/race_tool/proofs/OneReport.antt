@@ -21,7 +21,7 @@ use Rattle.race_text.specs.Text.{goroutine_name, var_name, place_text, IsTextOf}
 use Rattle.race_text.proofs.TextFine.{text_has_no_fault}
 use Rattle.race_text.proofs.TextLaws.{equal_texts}
 use Rattle.race_report.specs.Report.{newline, clean_line, access_word, access_text, race_line, races_line, report}
-use Rattle.race_edges.specs.Traces.{capacities, HasVerdict}
+use Rattle.race_verdict.specs.Traces.{capacities, HasVerdict}
 use Rattle.race_tool.specs.declared.status.TheConstants as status
 use Rattle.race_tool.specs.Finding.{Finding, Faulty, TooLong, Judged, IsFinding, report_of, status_of}
 

@@ -8,9 +8,9 @@ use Rattle.race_records.specs.Page.{IsCutOff}
 use Rattle.race_records.specs.Devices.{written, sink_failures, one_more}
 use Rattle.race_model.specs.Verdict.{Verdict, Illegal, Clean, Races}
 use Rattle.race_model.proofs.Uniqueness.{illegal_not_legal}
-use Rattle.race_edges.specs.declared.judge.Verdict.{Verdict as Judged}
-use Rattle.race_edges.specs.Traces.{capacities, IsClean, IsRacy}
-use Rattle.race_edges.specs.Verdicts.{verdict_of}
+use Rattle.race_verdict.specs.declared.verdict.Verdict.{Verdict as Judged}
+use Rattle.race_verdict.specs.Traces.{capacities, IsClean, IsRacy}
+use Rattle.race_verdict.specs.Verdicts.{verdict_of}
 use Rattle.race_text.specs.declared.cause.TextFault.{TextFault}
 use Rattle.race_hub.specs.declared.ending.End.{End}
 use Rattle.race_hub.specs.Recording.{RecordingState}

@@ -6,7 +6,7 @@ use Rattle.race_records.specs.Events.{TraceState}
 use Rattle.race_model.proofs.OwnOrder.{own_is_reordering}
 use Rattle.race_model.proofs.ReorderLemmas.{same_finds}
 use Rattle.race_tool.specs.declared.status.TheConstants as status
-use Rattle.race_edges.specs.Traces.{capacities, HasVerdict, IsClean, IsRacy, IsIllegal}
+use Rattle.race_verdict.specs.Traces.{capacities, HasVerdict, IsClean, IsRacy, IsIllegal}
 use Rattle.race_tool.specs.Finding.{Finding, Faulty, TooLong, Judged, IsFinding, IsTextWhere, status_of}
 
 -- clean: no race, so each read finds the same write in every reordering

@@ -19,8 +19,8 @@ use Rattle.race_access.specs.TouchHolds.{StandsFor}
 use Rattle.race_access.specs.TouchHolds as touch
 use Rattle.race_access.proofs.StampSteps.{accesses_one, accesses_none, touches_lawful, reported_on, stamps_next, stamps_other}
 use Rattle.race_access.proofs.StandSteps.{stands_reports}
-use Rattle.race_edges.specs.declared.races.Race.{Race}
-use Rattle.race_edges.specs.Answers.{IsFound, races_of}
+use Rattle.race_verdict.specs.declared.races.Race.{Race}
+use Rattle.race_verdict.specs.Races.{IsFound, races_of}
 use Rattle.race_edges.proofs.FoundSteps.{AreFound}
 use Rattle.race_tool.specs.Variables.{IsKeptOf, AreKept, IsTouch, kept_of, nothing_kept, race_of, races_from}
 

@@ -7,7 +7,7 @@ use Rattle.race_text.specs.Fault.{text_fault}
 use Rattle.race_text.specs.Text.{IsTextOf}
 use Rattle.race_edges.specs.declared.fault.TheConstants.{MAX_PLAIN_EVENTS}
 use Rattle.race_tool.specs.declared.status.TheConstants as status
-use Rattle.race_edges.specs.Traces.{HasVerdict}
+use Rattle.race_verdict.specs.Traces.{HasVerdict}
 use Rattle.race_report.specs.Report.{fault_line, report}
 use Rattle.race_tool.specs.Report.{too_long_line}
 

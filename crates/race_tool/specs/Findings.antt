@@ -5,7 +5,7 @@ use Rattle.race_text.specs.Text.{IsTextOf}
 use Rattle.race_tool.specs.Finding as spec
 use Rattle.race_tool.specs.declared.finding.Finding.{Finding}
 use Rattle.race_report.specs.Printable.{RacesAreOf}
-use Rattle.race_edges.specs.Verdicts.{verdict_of}
+use Rattle.race_verdict.specs.Verdicts.{verdict_of}
 
 -- what the finding says
 abbrev pub finding_of : {A : Type 0} → Finding A → spec.Finding

@@ -8,7 +8,7 @@ use Rattle.race_text.specs.Text.{IsTextOf}
 use Rattle.race_edges.specs.declared.fault.TheConstants.{MAX_PLAIN_EVENTS}
 use Rattle.race_edges.specs.declared.listing.Edge.{Edge}
 use Rattle.race_edges.specs.Edges.{AreEdges}
-use Rattle.race_edges.specs.Traces.{capacities}
+use Rattle.race_verdict.specs.Traces.{capacities}
 use Rattle.race_report.specs.Report.{fault_line, illegal_line, edges_text}
 use Rattle.race_tool.specs.Report.{too_long_line}
 use Rattle.race_tool.specs.declared.status.TheConstants as status

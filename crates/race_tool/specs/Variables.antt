@@ -10,7 +10,7 @@ use Rattle.race_access.specs.Kept.{Kept, no_access}
 use Rattle.race_access.specs.Touches.{Touch}
 use Rattle.race_access.specs.StampsOf.{AreStampsOf}
 use Rattle.race_access.specs.TouchHolds.{StandsFor}
-use Rattle.race_edges.specs.declared.races.Race.{Race}
+use Rattle.race_verdict.specs.declared.races.Race.{Race}
 
 -- what is kept of variable x stands for its accesses among the events
 pub record IsKeptOf (caps : ℕ → ℕ) (events : List Event) (x : ℕ) (kept : Kept) : Type 0 where

@@ -15,7 +15,7 @@ ghost use Rattle.race_tool.specs.Outcome.{
   GivesUpReading,
   FailsToWrite,
 };
-ghost use Rattle.race_edges.specs.Traces.{IsClean, IsRacy, IsIllegal};
+ghost use Rattle.race_verdict.specs.Traces.{IsClean, IsRacy, IsIllegal};
 ghost use Rattle.race_tool.specs.declared.status.TheConstants as status;
 
 use crate::finding::find;

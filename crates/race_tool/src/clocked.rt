@@ -3,8 +3,8 @@
 //! A replay tells whether each event is legal, a stamper which begins each access has seen, and what is kept of its
 //! variable whether it races with an earlier one.
 ghost use Rattle.std.specs.Prelude.{IfOk};
-ghost use Rattle.race_edges.specs.Traces.{HasVerdict};
-ghost use Rattle.race_edges.specs.Verdicts.{verdict_of};
+ghost use Rattle.race_verdict.specs.Traces.{HasVerdict};
+ghost use Rattle.race_verdict.specs.Verdicts.{verdict_of};
 
 use crate::variables::Variables;
 use race_clock::Stamper;

@@ -4,7 +4,7 @@ ghost use Rattle.std.specs.Io.KnownBytes.{Appends};
 ghost use Rattle.race_records.specs.Devices.{written, sink_failures, one_more};
 ghost use Rattle.race_records.specs.Page.{IsCutOff};
 ghost use Rattle.race_edges.specs.declared.fault.TheConstants.{MAX_PLAIN_EVENTS};
-ghost use Rattle.race_edges.specs.Traces.{IsIllegal};
+ghost use Rattle.race_verdict.specs.Traces.{IsIllegal};
 ghost use Rattle.race_tool.specs.Listing as spec;
 ghost use Rattle.race_tool.specs.Listings.{listing_of, IsListingOn, CanBeListed};
 ghost use Rattle.race_tool.specs.Outcome.{IsRightOn};

@@ -1,6 +1,6 @@
 //! What there is to say of a list of bytes.
 ghost use Rattle.std.specs.Prelude.{◌≡◌, IfOk, option_map};
-ghost use Rattle.race_edges.specs.Verdicts.{verdict_of};
+ghost use Rattle.race_verdict.specs.Verdicts.{verdict_of};
 ghost use Rattle.race_tool.specs.Finding as spec;
 ghost use Rattle.race_tool.specs.Findings.{finding_of, IsFindingOn};
 ghost use Rattle.race_tool.specs.Outcome.{IsRightOn};

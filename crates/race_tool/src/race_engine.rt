@@ -1,8 +1,8 @@
 //! The engine of `gorace race`: a program's text in, the report of a run of it and its end out.
 ghost use Rattle.std.specs.Prelude.{◌≡◌, ◌≢◌, ◌⊎◌, ◌&&◌, true, false};
 ghost use Rattle.race_records.specs.Devices.{unread, written, source_failures, sink_failures};
-ghost use Rattle.race_edges.specs.Traces.{IsClean, IsRacy};
-ghost use Rattle.race_edges.specs.Verdicts.{verdict_of};
+ghost use Rattle.race_verdict.specs.Traces.{IsClean, IsRacy};
+ghost use Rattle.race_verdict.specs.Verdicts.{verdict_of};
 ghost use Rattle.race_script.specs.Fault.{program_causes};
 ghost use Rattle.race_tool.specs.Outcome.{
   are_in_limits,

@@ -3,7 +3,7 @@ ghost use Rattle.std.specs.Prelude.{◌≡◌, ◌++◌, OnOk, OnErr, IfErr};
 ghost use Rattle.std.specs.Io.KnownBytes.{Appends};
 ghost use Rattle.race_records.specs.Devices.{written, sink_failures, one_more};
 ghost use Rattle.race_records.specs.Page.{Printing, IsCutOff};
-ghost use Rattle.race_edges.specs.Verdicts.{verdict_of};
+ghost use Rattle.race_verdict.specs.Verdicts.{verdict_of};
 ghost use Rattle.race_text.specs.Text.{goroutine_name};
 ghost use Rattle.race_report.specs.Printable.{RacesAreOf};
 ghost use Rattle.race_report.specs.Report.{report};

@@ -1,7 +1,7 @@
 //! What is kept of all variables of a trace.
 ghost use Rattle.std.specs.Prelude.{ℕ, ◌≡◌, ◌<◌, List, [], length, IfOk, OnOk, OnErr};
 ghost use Rattle.race_records.specs.declared.event.Event.{Event};
-ghost use Rattle.race_edges.specs.Answers.{races_of};
+ghost use Rattle.race_verdict.specs.Races.{races_of};
 ghost use Rattle.race_tool.specs.Variables.{AreKept, GoesOn, races_from};
 
 use race_access::VarState;

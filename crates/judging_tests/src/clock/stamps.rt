@@ -1,7 +1,7 @@
+use crate::rows::traced;
 use race_clock::{Clock, Stamper};
-use race_legal::Replay;
+use race_legal::legal;
 use race_records::Trace;
-use race_text::parse_trace;
 use std::alloc::{AllocError, Global};
 use std::test::Fail;
 
@@ -130,26 +130,15 @@ static TABLES: [(&[&str], &[Known]); 7] = [
     ),
 ];
 
-fn traced(alloc: Global, lines: &[&str]) -> Result<Trace, Fail> {
-    let mut text = String::from_str(alloc, DECLARED)?;
-    for line in lines {
-        text.push_str(*line)?;
-        text.push_str("\n")?;
-    }
-    Ok(parse_trace(alloc, text.as_bytes())?)
-}
-
-// The stamps of the trace, up to an event that breaks a rule.
+// The stamps of the trace, and none where an event breaks a rule.
 fn stamps(alloc: Global, trace: &Trace) -> Result<Vec<Known>, AllocError> {
     let mut stamps = Vec::new(alloc);
-    let mut replay = Replay::new(alloc, trace.decls())?;
+    if legal(alloc, trace)?.is_some() {
+        return Ok(stamps);
+    }
     let mut stamper = Stamper::new(alloc, trace.decls())?;
     for at in 0..trace.len() {
         let event = trace.event(at);
-        match replay.accept(event) {
-            Ok(()) => {}
-            Err(_) => return Ok(stamps),
-        }
         if let Some(stamp) = stamper.step(event)? {
             let clock = stamper.clock(event.who);
             let known = [clock.knows(0), clock.knows(1), clock.knows(2)];
@@ -161,7 +150,7 @@ fn stamps(alloc: Global, trace: &Trace) -> Result<Vec<Known>, AllocError> {
 
 // Whether the accesses of these events have these stamps.
 fn are_stamped(alloc: Global, lines: &[&str], known: &[Known]) -> Result<bool, Fail> {
-    let trace = traced(alloc, lines)?;
+    let trace = traced(alloc, DECLARED, lines)?;
     Ok(stamps(alloc, &trace)?.as_slice() == known)
 }
 

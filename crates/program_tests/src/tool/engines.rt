@@ -1,10 +1,17 @@
 //! The engines on bytes, and what they tell.
 use race_records::{Sink, Source};
 use race_tool::{CheckOptions, RunOptions, run_check, run_edges, run_race, run_run, status};
-use std::alloc::{AllocError, Global};
+use std::alloc::{AllocError, AllocGlobal, Global};
 use std::io;
 use std::io::{Read, Write};
+use std::sync::Wait;
 use std::test::Fail;
+use std::thread::Threads;
+
+/// A runtime by which each engine can be run.
+pub(crate) trait Runtime: AllocGlobal + Threads + Wait {}
+
+impl<T: AllocGlobal + Threads + Wait> Runtime for T {}
 
 /// An engine with its options.
 #[derive(Clone, Copy)]
@@ -40,31 +47,30 @@ pub(crate) fn text_of(alloc: Global, row: &str) -> Result<Vec<u8>, AllocError> {
 }
 
 /// What the engine answers.
-pub(crate) fn answer<T, R: Read, W: Write>(
-    rt: &T,
-    alloc: Global,
+pub(crate) fn answer<R: Read, W: Write>(
+    rt: &impl Runtime,
     engine: Engine<'_>,
     source: &mut Source<R>,
     sink: &mut Sink<W>,
 ) -> u8 {
     match engine {
-        Engine::Check(options) => run_check(rt, alloc, source, sink, options),
-        Engine::Edges => run_edges(alloc, source, sink),
-        Engine::Run(options) => run_run(rt, alloc, source, sink, options),
-        Engine::Race(run, check) => run_race(rt, alloc, source, sink, run, check),
+        Engine::Check(options) => run_check(rt, rt.alloc(), source, sink, options),
+        Engine::Edges => run_edges(rt.alloc(), source, sink),
+        Engine::Run(options) => run_run(rt, rt.alloc(), source, sink, options),
+        Engine::Race(run, check) => run_race(rt, rt.alloc(), source, sink, run, check),
     }
 }
 
 /// What the engine answers and writes, and how often it read, with how many failures.
 pub(crate) fn ended<R: Read + Drop>(
-    alloc: Global,
+    rt: &impl Runtime,
     engine: Engine<'_>,
     reader: R,
 ) -> (u8, Vec<u8>, u64, u64) {
     let mut source = Source::new(reader);
-    let mut output = Vec::new(alloc);
+    let mut output = Vec::new(rt.alloc());
     let mut sink = Sink::new(&mut output);
-    let answer = answer(&(), alloc, engine, &mut source, &mut sink);
+    let answer = answer(rt, engine, &mut source, &mut sink);
     (answer, output, source.reads(), source.failures())
 }
 
@@ -73,19 +79,19 @@ pub(crate) type Told<'a> = (&'a str, u8);
 
 /// Whether the engine tells so of the text.
 pub(crate) fn tells(
-    alloc: Global,
+    rt: &impl Runtime,
     engine: Engine<'_>,
     text: &[u8],
     (lines, status): Told<'_>,
 ) -> Result<bool, Fail> {
-    let want = text_of(alloc, lines)?;
-    let (answer, output, _, _) = ended(alloc, engine, text);
+    let want = text_of(rt.alloc(), lines)?;
+    let (answer, output, _, _) = ended(rt, engine, text);
     Ok(answer == status && output.as_slice() == want.as_slice())
 }
 
 /// Whether the engine refuses its options, reads nothing and writes nothing.
-pub(crate) fn leaves_unread(alloc: Global, engine: Engine<'_>, text: &[u8]) -> bool {
-    let (answer, output, reads, _) = ended(alloc, engine, text);
+pub(crate) fn leaves_unread(rt: &impl Runtime, engine: Engine<'_>, text: &[u8]) -> bool {
+    let (answer, output, reads, _) = ended(rt, engine, text);
     (answer, output.len(), reads) == (status::USAGE, 0, 0)
 }
 
@@ -130,9 +136,8 @@ impl Write for FullWriter {
 }
 
 /// Whether the engine tells of a device that takes no more than these five bytes, and tries once.
-pub(crate) fn is_cut_off<T>(
-    rt: &T,
-    alloc: Global,
+pub(crate) fn is_cut_off(
+    rt: &impl Runtime,
     engine: Engine<'_>,
     text: &[u8],
     fails: bool,
@@ -140,10 +145,10 @@ pub(crate) fn is_cut_off<T>(
 ) -> bool {
     let mut source = Source::new(text);
     let mut writer = FullWriter {
-        taken: Vec::new(alloc),
+        taken: Vec::new(rt.alloc()),
         fails,
     };
     let mut sink = Sink::new(&mut writer);
-    let answer = answer(rt, alloc, engine, &mut source, &mut sink);
+    let answer = answer(rt, engine, &mut source, &mut sink);
     (answer, sink.failures()) == (status::DEVICE, 1) && writer.taken.as_slice() == taken.as_slice()
 }

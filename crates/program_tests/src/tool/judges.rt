@@ -1,13 +1,14 @@
-//! Both judges on many small traces.
+//! Both judges on many small traces, the fast one by many numbers of shards.
 ghost use Rattle.std.specs.Prelude.{IfOk};
 ghost use Rattle.race_legal.specs.StandsFor.{StandsFor};
 
+use crate::tool::engines::Runtime;
 use crate::tool::numbers::Numbers;
 use race_edges::{Verdict, plain_judge};
 use race_legal::Replay;
 use race_records::{Case, Cases, Cause, Decls, Dir, Event, Object, Op, Trace};
-use race_tool::judge_by_clocks;
-use std::alloc::{AllocError, Global};
+use race_shards::{Judge, OpenGate};
+use std::alloc::Global;
 use std::test::Fail;
 
 // How many operations there are.
@@ -135,38 +136,49 @@ fn recorded(alloc: Global, numbers: &mut Numbers, tries: u32) -> Result<(Trace, 
     Ok((trace, kinds))
 }
 
-// Whether the judges agree, and whether there is a race.
-fn judged(alloc: Global, trace: &Trace) -> Result<(bool, bool), AllocError> {
-    let Ok(plain) = plain_judge(alloc, trace) else {
-        return Err(AllocError);
-    };
-    Ok(match (plain, judge_by_clocks(alloc, trace)?) {
-        (Verdict::Clean, Verdict::Clean) => (true, false),
-        (Verdict::Races(plain), Verdict::Races(clocked)) => {
-            (plain.as_slice() == clocked.as_slice(), true)
+fn is_same(one: &Verdict, other: &Verdict) -> bool {
+    match (one, other) {
+        (Verdict::Clean, Verdict::Clean) => true,
+        (Verdict::Races(one), Verdict::Races(other)) => one.as_slice() == other.as_slice(),
+        _ => false,
+    }
+}
+
+// Whether the judge agrees with this verdict for each number of shards. Three traces in a row meet each of them with each block.
+fn agrees(rt: &impl Runtime, trace: &Trace, plain: &Verdict, round: u32) -> Result<bool, Fail> {
+    for shards in [1, 2, 3, 7, 64] {
+        let block = match round.wrapping_add(shards as u32) % 3 {
+            0 => 1,
+            1 => 5,
+            _ => 65_536,
+        };
+        let verdict = Judge::judge(rt, rt.alloc(), trace, shards, block, &OpenGate)?;
+        if !is_same(plain, &verdict) {
+            return Ok(false);
         }
-        _ => (false, false),
-    })
+    }
+    Ok(true)
 }
 
 // Whether the judges agree on the next trace, whether it has a race, and its kinds of operations.
 fn next_judged(
-    alloc: Global,
+    rt: &impl Runtime,
     numbers: &mut Numbers,
-    tries: u32,
+    round: u32,
 ) -> Result<(bool, bool, u32), Fail> {
-    let (trace, kinds) = recorded(alloc, numbers, tries)?;
-    let (agree, race) = judged(alloc, &trace)?;
-    Ok((agree, race, kinds))
+    let (trace, kinds) = recorded(rt.alloc(), numbers, 8 + round % 120)?;
+    let plain = plain_judge(rt.alloc(), &trace)?;
+    let agree = agrees(rt, &trace, &plain, round)?;
+    Ok((agree, matches!(&plain, Verdict::Races(_)), kinds))
 }
 
 // The first of a thousand traces on which the judges disagree, how many of them have a race and how many
 // don't, and the kinds of operations in them.
-fn rounds(alloc: Global) -> Result<(Option<u32>, u32, u32, u32), Fail> {
+fn rounds(rt: &impl Runtime) -> Result<(Option<u32>, u32, u32, u32), Fail> {
     let mut numbers = Numbers { state: 1 };
     let (mut racy, mut clean, mut kinds) = (0u32, 0u32, 0u32);
     for round in 0..1_000u32 {
-        let (agree, race, found) = next_judged(alloc, &mut numbers, 8 + round % 120)?;
+        let (agree, race, found) = next_judged(rt, &mut numbers, round)?;
         if !agree {
             return Ok((Some(round), racy, clean, kinds));
         }
@@ -182,7 +194,7 @@ fn rounds(alloc: Global) -> Result<(Option<u32>, u32, u32, u32), Fail> {
 
 #[test]
 fn both_judges_agree(rt: HostRuntime) -> Result<(), Fail> {
-    let (wrong, racy, clean, kinds) = rounds(rt.alloc())?;
+    let (wrong, racy, clean, kinds) = rounds(&rt)?;
     assert!(rt;
         wrong.is_none() && racy >= 200 && clean >= 200 && kinds == (1 << KINDS) - 1,
         "trace {wrong:?}: {racy} with a race, {clean} without, kinds {kinds}"

@@ -1,5 +1,5 @@
 //! Traces as long and as wide as they may be, and one event longer than the plain judge takes.
-use crate::tool::engines::{Engine, Told, judge, push_lines, tells, text_of};
+use crate::tool::engines::{Engine, Runtime, Told, judge, push_lines, tells, text_of};
 use race_tool::status;
 use std::alloc::Global;
 use std::ops::Range;
@@ -105,8 +105,8 @@ fn written_out(alloc: Global, row: &Row) -> Result<Vec<u8>, Fail> {
 }
 
 // Whether both judges and the listing tell so of the row's trace.
-fn is_told(alloc: Global, row: &Row) -> Result<bool, Fail> {
-    let written = written_out(alloc, row)?;
+fn is_told(rt: &impl Runtime, row: &Row) -> Result<bool, Fail> {
+    let written = written_out(rt.alloc(), row)?;
     let text = written.as_slice();
     let told_by_plain = if row.writes >= 2_000 {
         TOO_LONG
@@ -116,9 +116,9 @@ fn is_told(alloc: Global, row: &Row) -> Result<bool, Fail> {
     let (plain, by_clocks) = (judge(true), judge(false));
     let (plain, by_clocks) = (Engine::Check(&plain), Engine::Check(&by_clocks));
     Ok(
-        tells(alloc, by_clocks, text, row.check)?
-            && tells(alloc, plain, text, told_by_plain)?
-            && tells(alloc, Engine::Edges, text, row.edges)?,
+        tells(rt, by_clocks, text, row.check)?
+            && tells(rt, plain, text, told_by_plain)?
+            && tells(rt, Engine::Edges, text, row.edges)?,
     )
 }
 

@@ -1,5 +1,5 @@
 //! Both judges on the runs of many programs.
-use crate::tool::engines::{Engine, ended, judge};
+use crate::tool::engines::{Engine, Runtime, ended, judge};
 use crate::tool::numbers::Numbers;
 use race_tool::{RunOptions, status};
 use std::alloc::{AllocError, Global};
@@ -86,9 +86,9 @@ fn options(alloc: Global, numbers: &mut Numbers) -> Result<RunOptions, AllocErro
 }
 
 // What both judges answer to the program's run, where they write one report.
-fn agreed(alloc: Global, text: &[u8], options: &RunOptions) -> Option<u8> {
-    let (answer, clocked, _, _) = ended(alloc, Engine::Race(options, &judge(false)), text);
-    let (plain_answer, plain, _, _) = ended(alloc, Engine::Race(options, &judge(true)), text);
+fn agreed(rt: &impl Runtime, text: &[u8], options: &RunOptions) -> Option<u8> {
+    let (answer, clocked, _, _) = ended(rt, Engine::Race(options, &judge(false)), text);
+    let (plain_answer, plain, _, _) = ended(rt, Engine::Race(options, &judge(true)), text);
     (answer == plain_answer && clocked.as_slice() == plain.as_slice()).then_some(answer)
 }
 
@@ -119,21 +119,21 @@ fn words(trace: &[u8]) -> u32 {
 }
 
 // What both judges answer to the run of the next program, and the words of its trace.
-fn next(alloc: Global, numbers: &mut Numbers) -> Result<(Option<u8>, u32), AllocError> {
-    let text = program(alloc, numbers)?;
-    let options = options(alloc, numbers)?;
-    let answer = agreed(alloc, text.as_slice(), &options);
-    let (_, trace, _, _) = ended(alloc, Engine::Run(&options), text.as_slice());
+fn next(rt: &impl Runtime, numbers: &mut Numbers) -> Result<(Option<u8>, u32), AllocError> {
+    let text = program(rt.alloc(), numbers)?;
+    let options = options(rt.alloc(), numbers)?;
+    let answer = agreed(rt, text.as_slice(), &options);
+    let (_, trace, _, _) = ended(rt, Engine::Run(&options), text.as_slice());
     Ok((answer, words(trace.as_slice())))
 }
 
 // The first of a thousand programs on which the judges disagree or give no verdict, how many of them have a
 // race and how many don't, and the words of their traces.
-fn rounds(alloc: Global) -> Result<(Option<u32>, u32, u32, u32), AllocError> {
+fn rounds(rt: &impl Runtime) -> Result<(Option<u32>, u32, u32, u32), AllocError> {
     let mut numbers = Numbers { state: 7 };
     let (mut racy, mut other, mut found) = (0u32, 0u32, 0u32);
     for round in 0..1_000u32 {
-        let (answer, words) = next(alloc, &mut numbers)?;
+        let (answer, words) = next(rt, &mut numbers)?;
         if !answer.is_some_and(has_a_verdict) {
             return Ok((Some(round), racy, other, found));
         }

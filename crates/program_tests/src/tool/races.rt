@@ -1,5 +1,5 @@
 //! Programs, the reports of their runs with their ends, and the statuses.
-use crate::tool::engines::{Engine, Told, is_cut_off, judge, leaves_unread, tells, text_of};
+use crate::tool::engines::{Engine, Runtime, Told, is_cut_off, judge, leaves_unread, tells, text_of};
 use crate::tool::runs::{MOST, Row, options};
 use race_tool::{CheckOptions, MAX_BLOCK, MAX_SHARDS, RunOptions, status};
 use std::alloc::Global;
@@ -95,18 +95,18 @@ static ROWS: [Row<'static>; 12] = [
     ),
 ];
 
-fn both_tell(alloc: Global, run: &RunOptions, text: &[u8], told: Told<'_>) -> Result<bool, Fail> {
+fn both_tell(rt: &impl Runtime, run: &RunOptions, text: &[u8], told: Told<'_>) -> Result<bool, Fail> {
     let (plain, by_clocks) = (judge(true), judge(false));
     let (plain, by_clocks) = (Engine::Race(run, &plain), Engine::Race(run, &by_clocks));
-    Ok(tells(alloc, plain, text, told)? && tells(alloc, by_clocks, text, told)?)
+    Ok(tells(rt, plain, text, told)? && tells(rt, by_clocks, text, told)?)
 }
 
 // Whether both judges tell so of the program's run.
-fn is_judged(alloc: Global, row: &Row<'_>) -> Result<bool, Fail> {
+fn is_judged(rt: &impl Runtime, row: &Row<'_>) -> Result<bool, Fail> {
     let &(program, limit, picks, report, status) = row;
-    let text = text_of(alloc, program)?;
-    let run = options(alloc, limit, picks)?;
-    both_tell(alloc, &run, text.as_slice(), (report, status))
+    let text = text_of(rt.alloc(), program)?;
+    let run = options(rt.alloc(), limit, picks)?;
+    both_tell(rt, &run, text.as_slice(), (report, status))
 }
 
 #[test]
@@ -148,10 +148,10 @@ static LONG: [(u32, bool, Told<'static>); 3] = [
     ),
 ];
 
-fn is_long_run(alloc: Global, limit: u32, plain: bool, told: Told<'_>) -> Result<bool, Fail> {
-    let text = writes(alloc, 2_000)?;
+fn is_long_run(rt: &impl Runtime, limit: u32, plain: bool, told: Told<'_>) -> Result<bool, Fail> {
+    let text = writes(rt.alloc(), 2_000)?;
     let (run, check) = (RunOptions { limit, picks: None }, judge(plain));
-    tells(alloc, Engine::Race(&run, &check), text.as_slice(), told)
+    tells(rt, Engine::Race(&run, &check), text.as_slice(), told)
 }
 
 #[test]
@@ -172,15 +172,15 @@ static OPTIONS: [(u32, usize, usize); 6] = [
     (1, 1, MAX_BLOCK + 1),
 ];
 
-fn is_unread(alloc: Global, (limit, shards, block): (u32, usize, usize)) -> Result<bool, Fail> {
-    let text = writes(alloc, 1)?;
+fn is_unread(rt: &impl Runtime, (limit, shards, block): (u32, usize, usize)) -> Result<bool, Fail> {
+    let text = writes(rt.alloc(), 1)?;
     let run = RunOptions { limit, picks: None };
     let check = CheckOptions {
         shards,
         block,
         plain: false,
     };
-    Ok(leaves_unread(alloc, Engine::Race(&run, &check), text.as_slice()))
+    Ok(leaves_unread(rt, Engine::Race(&run, &check), text.as_slice()))
 }
 
 #[test]

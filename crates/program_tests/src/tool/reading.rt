@@ -1,5 +1,5 @@
 //! Inputs that are read in blocks.
-use crate::tool::engines::{Engine, SlowReader, ended, judge};
+use crate::tool::engines::{Engine, Runtime, SlowReader, ended, judge};
 use race_tool::status;
 use std::alloc::Global;
 use std::test::Fail;
@@ -28,10 +28,10 @@ static FAILING: [Row<'static>; 4] = [
 ];
 
 // Whether the engine ends so on the row's input, of which a read gives so many bytes.
-fn ends_so(alloc: Global, engine: Engine<'_>, row: &Row<'_>, step: usize, fails: bool) -> bool {
+fn ends_so(rt: &impl Runtime, engine: Engine<'_>, row: &Row<'_>, step: usize, fails: bool) -> bool {
     let &(bytes, status, report, reads, failures) = row;
     let reader = SlowReader { bytes, step, fails };
-    let (answer, output, read, failed) = ended(alloc, engine, reader);
+    let (answer, output, read, failed) = ended(rt, engine, reader);
     (answer, read, failed) == (status, reads, failures) && output.as_slice() == report
 }
 
@@ -71,13 +71,13 @@ static LONG: [(u64, u8, &[u8], u64); 5] = [
 ];
 
 fn is_read_so(
-    alloc: Global,
+    rt: &impl Runtime,
     &(faulty, status, report, reads): &(u64, u8, &[u8], u64),
 ) -> Result<bool, Fail> {
-    let text = long_text(alloc, faulty)?;
+    let text = long_text(rt.alloc(), faulty)?;
     let row = (text.as_slice(), status, report, reads, 0);
     let by_clocks = judge(false);
-    Ok(ends_so(alloc, Engine::Check(&by_clocks), &row, 1_000_000, false))
+    Ok(ends_so(rt, Engine::Check(&by_clocks), &row, 1_000_000, false))
 }
 
 #[test]
@@ -95,13 +95,13 @@ static RACE: &[u8] =
     b"race on x: write by main at a.go:3 (event 2), read by w at a.go:6 (event 3)\nraces: 1\n";
 
 // However the bytes come, the report is the same.
-fn is_racy_by(alloc: Global, step: usize) -> bool {
+fn is_racy_by(rt: &impl Runtime, step: usize) -> bool {
     let reader = SlowReader {
         bytes: RACY,
         step,
         fails: false,
     };
-    let (answer, output, _, _) = ended(alloc, Engine::Check(&judge(false)), reader);
+    let (answer, output, _, _) = ended(rt, Engine::Check(&judge(false)), reader);
     answer == status::RACES && output.as_slice() == RACE
 }
 

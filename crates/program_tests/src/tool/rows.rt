@@ -1,5 +1,5 @@
 //! Traces with their reports and statuses, by both judges, and with their edges.
-use crate::tool::engines::{Engine, Told, answer, ended, is_cut_off, judge, tells, text_of};
+use crate::tool::engines::{Engine, Runtime, Told, answer, ended, is_cut_off, judge, tells, text_of};
 use crate::tool::{channels, locks};
 use race_records::{Sink, Source};
 use race_tool::{CheckOptions, status};
@@ -9,10 +9,10 @@ use std::test::Fail;
 /// The lines of a trace, the lines that are written, and the status.
 pub(crate) type Row = (&'static str, &'static str, u8);
 
-fn both_tell(alloc: Global, text: &[u8], want: Told<'_>) -> Result<bool, Fail> {
+fn both_tell(rt: &impl Runtime, text: &[u8], want: Told<'_>) -> Result<bool, Fail> {
     let (plain, by_clocks) = (judge(true), judge(false));
     let (plain, by_clocks) = (Engine::Check(&plain), Engine::Check(&by_clocks));
-    Ok(tells(alloc, plain, text, want)? && tells(alloc, by_clocks, text, want)?)
+    Ok(tells(rt, plain, text, want)? && tells(rt, by_clocks, text, want)?)
 }
 
 fn text_behind(alloc: Global, first: &str, lines: &str) -> Result<Vec<u8>, Fail> {
@@ -21,16 +21,16 @@ fn text_behind(alloc: Global, first: &str, lines: &str) -> Result<Vec<u8>, Fail>
 }
 
 // Whether both judges tell so of the trace, which stands behind these first lines.
-fn is_judged(alloc: Global, first: &str, row: &Row) -> Result<bool, Fail> {
+fn is_judged(rt: &impl Runtime, first: &str, row: &Row) -> Result<bool, Fail> {
     let &(lines, report, status) = row;
-    let text = text_behind(alloc, first, lines)?;
-    both_tell(alloc, text.as_slice(), (report, status))
+    let text = text_behind(rt.alloc(), first, lines)?;
+    both_tell(rt, text.as_slice(), (report, status))
 }
 
 // The first row, behind these first lines, of which a judge tells something else.
-fn first_misjudged(alloc: Global, first: &str, rows: &[Row]) -> Result<Option<usize>, Fail> {
+fn first_misjudged(rt: &impl Runtime, first: &str, rows: &[Row]) -> Result<Option<usize>, Fail> {
     for (at, row) in rows.iter().enumerate() {
-        if !is_judged(alloc, first, row)? {
+        if !is_judged(rt, first, row)? {
             return Ok(Some(at));
         }
     }
@@ -172,14 +172,47 @@ fn each_trace_is_judged(rt: HostRuntime) -> Result<(), Fail> {
     Ok(())
 }
 
+// A race on x and one on z, of which that on z comes first.
+static TWO_RACES: &str =
+    "gotrace 1 / goroutine a / var x / var y / var z / go main a m:1 / write main z 1 m:2 / write a z 2 a:1 / write main y 1 m:3 / write main x 1 m:4 / write a x 2 a:2";
+
+static TWO_LINES: Told<'static> = (
+    "race on x: write by main at m:4 (event 5), write by a at a:2 (event 6) / race on z: write by main at m:2 (event 2), write by a at a:1 (event 3) / races: 2",
+    status::RACES,
+);
+
+// Whether the report of the text is the same for every number of shards and every block.
+fn is_told_by_shards(rt: &impl Runtime, text: &[u8], want: Told<'_>) -> Result<bool, Fail> {
+    for shards in [1, 2, 3, 64] {
+        for block in [1, 2, 65_536] {
+            let options = CheckOptions {
+                shards,
+                block,
+                plain: false,
+            };
+            if !tells(rt, Engine::Check(&options), text, want)? {
+                return Ok(false);
+            }
+        }
+    }
+    Ok(true)
+}
+
+#[test]
+fn a_report_is_the_same_for_every_number_of_shards(rt: HostRuntime) -> Result<(), Fail> {
+    let text = text_of(rt.alloc(), TWO_RACES)?;
+    assert!(rt; is_told_by_shards(&rt, text.as_slice(), TWO_LINES)?);
+    Ok(())
+}
+
 // Texts without a newline at their end, and the reports.
 static CUT: [(&[u8], &[u8]); 2] = [
     (b"", b"line 1: bad header\n"),
     (b"gotrace 1", b"line 1: no newline\n"),
 ];
 
-fn is_at_fault(alloc: Global, text: &[u8], report: &[u8]) -> bool {
-    let (answer, output, _, _) = ended(alloc, Engine::Check(&judge(false)), text);
+fn is_at_fault(rt: &impl Runtime, text: &[u8], report: &[u8]) -> bool {
+    let (answer, output, _, _) = ended(rt, Engine::Check(&judge(false)), text);
     answer == status::TEXT_FAULT && output.as_slice() == report
 }
 
@@ -191,11 +224,11 @@ fn a_text_ends_with_a_newline(rt: HostRuntime) {
 }
 
 // The first row whose edges are listed otherwise: the lines of a legal trace, and the edges.
-fn first_mislisted(alloc: Global, rows: &[(&str, &str)]) -> Result<Option<usize>, Fail> {
+fn first_mislisted(rt: &impl Runtime, rows: &[(&str, &str)]) -> Result<Option<usize>, Fail> {
     for (at, &(trace, edges)) in rows.iter().enumerate() {
-        let text = text_of(alloc, trace)?;
+        let text = text_of(rt.alloc(), trace)?;
         if !tells(
-            alloc,
+            rt,
             Engine::Edges,
             text.as_slice(),
             (edges, status::CLEAN),
@@ -232,22 +265,24 @@ fn the_edges_are_listed(rt: HostRuntime) -> Result<(), Fail> {
 }
 
 // How many shards, how long a block, and whether both are in their limits.
-static OPTIONS: [(usize, usize, bool); 7] = [
-    (0, 65_536, false),
+static OPTIONS: [(usize, usize, bool); 9] = [
+    (1, 1, true),
     (1, 65_536, true),
     (64, 65_536, true),
-    (65, 65_536, false),
-    (1, 0, false),
-    (1, 1, true),
-    (1, 65_537, false),
+    (0, 0, false),
+    (0, 1, false),
+    (65, 0, false),
+    (65, 1, false),
+    (64, 0, false),
+    (64, 65_537, false),
 ];
 
 // What the engine answers, and how many bytes are written, and are left to be read.
-fn left_by<T>(rt: &T, alloc: Global, options: &CheckOptions) -> (u8, usize, usize) {
+fn left_by(rt: &impl Runtime, options: &CheckOptions) -> (u8, usize, usize) {
     let mut source = Source::new(b"gotrace 1\n".as_slice());
-    let mut output = Vec::new(alloc);
+    let mut output = Vec::new(rt.alloc());
     let mut sink = Sink::new(&mut output);
-    let answer = answer(rt, alloc, Engine::Check(options), &mut source, &mut sink);
+    let answer = answer(rt, Engine::Check(options), &mut source, &mut sink);
     let mut left = [0u8; 16];
     let unread = source.read(&mut left).unwrap_or(16);
     (answer, output.len(), unread)

@@ -1,5 +1,5 @@
 //! Programs, the traces of their runs, and the statuses.
-use crate::tool::engines::{Engine, SlowReader, ended, is_cut_off, leaves_unread, tells, text_of};
+use crate::tool::engines::{Engine, Runtime, SlowReader, ended, is_cut_off, leaves_unread, tells, text_of};
 use race_tool::{RunOptions, status};
 use std::alloc::Global;
 use std::test::Fail;
@@ -35,12 +35,12 @@ pub(crate) fn options(
     })
 }
 
-fn is_run(alloc: Global, row: &Row<'_>) -> Result<bool, Fail> {
+fn is_run(rt: &impl Runtime, row: &Row<'_>) -> Result<bool, Fail> {
     let &(program, limit, picks, trace, status) = row;
-    let text = text_of(alloc, program)?;
-    let options = options(alloc, limit, picks)?;
+    let text = text_of(rt.alloc(), program)?;
+    let options = options(rt.alloc(), limit, picks)?;
     tells(
-        alloc,
+        rt,
         Engine::Run(&options),
         text.as_slice(),
         (trace, status),
@@ -174,10 +174,10 @@ fn each_program_has_its_trace(rt: HostRuntime) -> Result<(), Fail> {
     Ok(())
 }
 
-fn is_unread(alloc: Global, limit: u32) -> Result<bool, Fail> {
-    let text = text_of(alloc, HANDOFF)?;
+fn is_unread(rt: &impl Runtime, limit: u32) -> Result<bool, Fail> {
+    let text = text_of(rt.alloc(), HANDOFF)?;
     let options = RunOptions { limit, picks: None };
-    Ok(leaves_unread(alloc, Engine::Run(&options), text.as_slice()))
+    Ok(leaves_unread(rt, Engine::Run(&options), text.as_slice()))
 }
 
 #[test]
@@ -194,7 +194,7 @@ static FAILING: [(&[u8], u8, u64); 2] = [
     (b"goprogram 2\n", status::TEXT_FAULT, 1),
 ];
 
-fn ends_so(alloc: Global, bytes: &[u8], status: u8, reads: u64) -> bool {
+fn ends_so(rt: &impl Runtime, bytes: &[u8], status: u8, reads: u64) -> bool {
     let options = RunOptions {
         limit: MOST,
         picks: None,
@@ -204,7 +204,7 @@ fn ends_so(alloc: Global, bytes: &[u8], status: u8, reads: u64) -> bool {
         step: usize::MAX,
         fails: true,
     };
-    let (answer, _, read, _) = ended(alloc, Engine::Run(&options), reader);
+    let (answer, _, read, _) = ended(rt, Engine::Run(&options), reader);
     (answer, read) == (status, reads)
 }
 

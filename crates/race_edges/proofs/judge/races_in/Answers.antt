@@ -6,11 +6,11 @@ use Rattle.std.proofs.lemmas.Result.{IfOk-weaker, IfOk-from_err}
 use Rattle.race_records.specs.declared.event.Event.{Event}
 use Rattle.race_edges.specs.Synchronized.{source_at}
 use Rattle.race_edges.specs.TableState.{HasRows, table_after}
-use Rattle.race_edges.specs.Answers.{AreRaces, races_of}
-use Rattle.race_edges.proofs.FoundSteps.{AreFound}
-use Rattle.race_edges.specs.Traces.{capacities}
-use Rattle.race_edges.proofs.JudgeSteps.{said_of, said_from, has_rows, has_place, race_declared, table_next, found_next, noted_of_trace}
-use Rattle.race_edges.proofs.RaceLists.{are_races}
+use Rattle.race_verdict.specs.Races.{AreFound, AreRaces, races_of}
+use Rattle.race_verdict.specs.Traces.{capacities}
+use Rattle.race_edges.proofs.JudgeSteps.{said_of, said_from, has_rows, has_place, table_next, found_next, noted_of_trace}
+use Rattle.race_verdict.proofs.RangeLemmas.{race_declared}
+use Rattle.race_verdict.proofs.RaceLists.{are_races}
 use Rattle.race_edges.proofs.judge.races_in.Goals as goal
 
 pub look-requires-clause-row : goal.look-requires-clause-row

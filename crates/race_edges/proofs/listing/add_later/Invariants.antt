@@ -1,5 +1,5 @@
 use Rattle.race_edges.specs.EdgesSoFar.{AreEdgesBefore}
-use Rattle.race_edges.specs.Traces.{capacities}
+use Rattle.race_verdict.specs.Traces.{capacities}
 use Rattle.race_edges.proofs.listing.add_later.Given as goal
 
 abbrev pub invariant-loop-to : goal.invariant-loop-to

@@ -5,7 +5,7 @@ use Rattle.race_records.specs.declared.kind.Kind.{Kind}
 use Rattle.race_records.specs.Declarations.{DeclsState, count_of, counts_of, capacity_of}
 use Rattle.race_records.specs.Parts.{op_is_in_range}
 use Rattle.race_legal.proofs.RangeLemmas.{range_from_fits}
-use Rattle.race_edges.specs.Traces.{capacities}
+use Rattle.race_verdict.specs.Traces.{capacities}
 use Rattle.race_edges.proofs.NumberLemmas.{chan_in_range, told_send}
 use Rattle.race_edges.proofs.synchronized.is_source.Goals as goal
 

@@ -1,7 +1,7 @@
 use Rattle.std.proofs.Common.{◌≡◌, ℕ, ◌+◌, List, [], ◌∷◌, ◌++◌, codes, decimal, unwrap_or, subst, sym, ap, ◌∙◌}
 use Rattle.race_records.specs.Declarations.{DeclsState}
 use Rattle.race_records.specs.Page.{Printing, joined}
-use Rattle.race_edges.specs.Answers.{race_of}
+use Rattle.race_verdict.specs.Races.{race_of}
 use Rattle.race_text.specs.Text.{var_name}
 use Rattle.race_report.proofs.ReportLemmas.{race_line_is}
 use Rattle.race_report.proofs.verdict.print_race.Goals as goal

@@ -1,7 +1,7 @@
 use Rattle.race_records.specs.declared.sink.WriteFault.{WriteFault}
 use Rattle.race_records.specs.Page.{IsCutOff}
 use Rattle.race_records.proofs.PageLemmas.{flushed, cut_off, broken_off, IfErr-map}
-use Rattle.race_edges.specs.Verdicts.{verdict_of}
+use Rattle.race_verdict.specs.Verdicts.{verdict_of}
 use Rattle.race_report.specs.Report.{report}
 use Rattle.race_report.proofs.verdict.write_report.Goals as goal
 

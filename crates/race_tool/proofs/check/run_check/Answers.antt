@@ -2,7 +2,7 @@
 use Rattle.std.proofs.lemmas.Grind.{common_steps}
 use Rattle.std.proofs.Common.{inr, refl, rules, arith}
 use Rattle.race_records.specs.Devices.{unread, written}
-use Rattle.race_edges.specs.Traces.{IsClean, IsRacy, IsIllegal}
+use Rattle.race_verdict.specs.Traces.{IsClean, IsRacy, IsIllegal}
 use Rattle.race_text.specs.Fault.{trace_causes}
 use Rattle.race_tool.specs.Finding.{IsFinding, report_of, status_of}
 use Rattle.race_text.specs.Text.{IsTextOf}

@@ -9,8 +9,8 @@ use Rattle.race_legal.proofs.Fronts.{take_next}
 use Rattle.race_legal.proofs.RangeLemmas.{in_range}
 use Rattle.race_clock.specs.StandsFor as clock
 use Rattle.race_clock.proofs.NextFrom.{allowed_last}
-use Rattle.race_edges.specs.Traces.{capacities}
-use Rattle.race_edges.proofs.RaceLists.{free_from_none, listed_some}
+use Rattle.race_verdict.specs.Traces.{capacities}
+use Rattle.race_verdict.proofs.RaceLists.{free_from_none, listed_some}
 use Rattle.race_tool.specs.Variables.{AreKept}
 use Rattle.race_tool.proofs.VariableSteps.{kept_other}
 use Rattle.race_tool.proofs.ClockedSteps.{is_next, var_declared, stamp_has_clock, is_touch, told_at_end}

@@ -3,7 +3,7 @@ use Rattle.race_records.specs.declared.kind.Kind.{Kind}
 use Rattle.race_records.specs.Declarations.{count_of}
 use Rattle.race_legal.specs.StandsFor as legal
 use Rattle.race_clock.specs.StandsFor as clock
-use Rattle.race_edges.specs.Traces.{capacities}
+use Rattle.race_verdict.specs.Traces.{capacities}
 use Rattle.race_tool.specs.Variables.{AreKept}
 use Rattle.race_tool.proofs.clocked.judge_by_clocks.Given as goal
 

@@ -2,7 +2,7 @@ use Rattle.std.proofs.Common.{◌∙◌, Option, sym, subst}
 use Rattle.std.proofs.lemmas.Option.{none-some}
 use Rattle.race_legal.specs.declared.listing.Illegal.{Illegal}
 use Rattle.race_legal.specs.Judged.{IsJudged}
-use Rattle.race_edges.specs.Traces.{capacities}
+use Rattle.race_verdict.specs.Traces.{capacities}
 use Rattle.race_tool.proofs.edges_found.find_broken.Goals as goal
 
 -- an illegal trace isn't judged legal

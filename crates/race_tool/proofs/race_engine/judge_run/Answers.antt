@@ -3,7 +3,7 @@ use Rattle.std.specs.Io.KnownBytes.{Appends}
 use Rattle.race_records.specs.Devices.{written}
 use Rattle.race_records.specs.Page.{IsCutOff}
 use Rattle.race_hub.specs.declared.ending.End.{End}
-use Rattle.race_edges.specs.Verdicts.{verdict_of}
+use Rattle.race_verdict.specs.Verdicts.{verdict_of}
 use Rattle.race_report.specs.Report.{report}
 use Rattle.race_report.proofs.PrintableLemmas.{races_are_of}
 use Rattle.race_tool.specs.Race.{status_of_verdict}

@@ -1,6 +1,6 @@
 use Rattle.std.proofs.Common.{List, ℕ, Result, sym, subst, arith}
 use Rattle.race_records.specs.Devices.{written}
-use Rattle.race_edges.specs.Traces.{IsClean, IsRacy}
+use Rattle.race_verdict.specs.Traces.{IsClean, IsRacy}
 use Rattle.race_text.specs.declared.cause.TextFault.{TextFault}
 use Rattle.race_script.specs.Program.{ProgramState}
 use Rattle.race_tool.specs.Outcome.{IsProgramWhere, WritesJudgedRun, WritesJudgedFront}

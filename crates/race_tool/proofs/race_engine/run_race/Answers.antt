@@ -1,7 +1,7 @@
 -- What was written of what was read is right for the whole input.
 use Rattle.std.proofs.Common.{inr, refl, arith}
 use Rattle.race_records.specs.Devices.{unread, written}
-use Rattle.race_edges.specs.Traces.{IsClean, IsRacy}
+use Rattle.race_verdict.specs.Traces.{IsClean, IsRacy}
 use Rattle.race_script.specs.Text.{IsTextOf}
 use Rattle.race_script.specs.Fault.{program_causes}
 use Rattle.race_tool.specs.Picks.{picks_asked}

@@ -2,7 +2,7 @@ use Rattle.std.proofs.Common.{◌++◌, subst}
 use Rattle.race_records.specs.Declarations.{DeclsState}
 use Rattle.race_records.specs.Page.{Printing}
 use Rattle.race_records.proofs.PageLemmas.{breaks_off_before, prints_behind}
-use Rattle.race_edges.specs.Verdicts.{verdict_of}
+use Rattle.race_verdict.specs.Verdicts.{verdict_of}
 use Rattle.race_report.specs.Report.{report}
 use Rattle.race_tool.specs.Report.{end_line}
 use Rattle.race_tool.proofs.race_printing.print_judged.Goals as goal

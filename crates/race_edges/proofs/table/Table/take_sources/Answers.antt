@@ -2,7 +2,7 @@ use Rattle.std.proofs.Common.{◌≡◌, ℕ, ◌-◌, zero, true, false, subst,
 use Rattle.race_records.specs.declared.event.Event.{Event}
 use Rattle.race_edges.specs.Synchronized.{source_at}
 use Rattle.race_edges.specs.TableState.{row_of, with_row, taken}
-use Rattle.race_edges.specs.Traces.{capacities}
+use Rattle.race_verdict.specs.Traces.{capacities}
 use Rattle.race_edges.proofs.JudgeSteps.{said_from}
 use Rattle.race_edges.proofs.RowLemmas.{taken_down}
 use Rattle.race_edges.proofs.table.Table.take_sources.Goals as goal

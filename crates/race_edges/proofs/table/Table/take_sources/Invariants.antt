@@ -1,7 +1,7 @@
 use Rattle.std.proofs.Common.{◌≡◌, length}
 use Rattle.race_edges.specs.Synchronized.{source_at}
 use Rattle.race_edges.specs.TableState.{taken}
-use Rattle.race_edges.specs.Traces.{capacities}
+use Rattle.race_verdict.specs.Traces.{capacities}
 use Rattle.race_edges.proofs.table.Table.take_sources.Given as goal
 
 abbrev pub invariant-loop-from : goal.invariant-loop-from

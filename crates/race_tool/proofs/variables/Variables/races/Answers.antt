@@ -1,8 +1,8 @@
 use Rattle.std.proofs.lemmas.Grind.{common_steps}
 use Rattle.std.proofs.Common.{◌≡◌, ◌++◌, ◌∷◌, [], ◌<◌, List, Some, length, take, get_or, sym, ap, ◌∙◌, subst, append-nil, arith}
 use Rattle.std.proofs.lemmas.List.{get_or_default}
-use Rattle.race_edges.specs.declared.races.Race.{Race}
-use Rattle.race_edges.specs.Answers.{races_of}
+use Rattle.race_verdict.specs.declared.races.Race.{Race}
+use Rattle.race_verdict.specs.Races.{races_of}
 use Rattle.race_access.specs.Kept.{Kept}
 use Rattle.race_tool.specs.Variables.{nothing_kept, races_from}
 use Rattle.race_tool.proofs.VariableSteps.{races_next, races_some, races_none}

@@ -1,5 +1,5 @@
 use Rattle.std.proofs.Common.{◌≡◌, take}
-use Rattle.race_edges.specs.Answers.{races_of}
+use Rattle.race_verdict.specs.Races.{races_of}
 use Rattle.race_tool.specs.Variables.{races_from}
 use Rattle.race_tool.proofs.variables.Variables.races.Given as goal
 

@@ -1,11 +1,11 @@
--- What the judge's answers say of a list of events.
-use Rattle.std.specs.Prelude.{ℕ, ◌≡◌, List, map, Option, Some, None}
-use Rattle.std.specs.List.{filter_map}
+-- What a list of races says of a list of events. (The Go Memory Model, "Memory Model": data race)
+use Rattle.std.specs.Prelude.{ℕ, ◌≡◌, ◌<◌, List, length, map, Option, Some, None}
+use Rattle.std.specs.List.{filter_map, slice_index_or}
 use Rattle.race_records.specs.declared.event.Event.{Event}
 use Rattle.race_model.specs.Race.{IsRace, IsReportedRace}
 use Rattle.race_model.specs.Verdict.{AreReportedRaces}
 use Rattle.race_model.specs.Verdict as model
-use Rattle.race_edges.specs.declared.races.Race.{Race}
+use Rattle.race_verdict.specs.declared.races.Race.{Race}
 
 -- the race as the model has it
 abbrev pub race_of : Race → model.Race
@@ -15,6 +15,10 @@ race_of r = record { var = r.var; first = r.first; second = r.second }
 abbrev pub IsFound : (ℕ → ℕ) → List Event → ℕ → Option Race → Type 0
 IsFound caps events x None = (i j : ℕ) → ¬ IsRace caps events x i j
 IsFound caps events x (Some r) = (r.var ≡ x) × IsReportedRace caps events x r.first r.second
+
+-- what is noted of each variable is right
+abbrev pub AreFound : (ℕ → ℕ) → List Event → List (Option Race) → Type 0
+AreFound caps events found = (x : ℕ) → x < length found → IsFound caps events x (slice_index_or found x None)
 
 -- the races that are noted, in rising order of their variables
 abbrev pub races_of : List (Option Race) → List Race

@@ -8,9 +8,8 @@ use Rattle.race_records.specs.declared.event.Event.{Event}
 use Rattle.race_model.specs.Race.{IsRace, IsDataRaceFree, IsReportedRace}
 use Rattle.race_model.specs.Verdict.{AreReportedRaces}
 use Rattle.race_model.specs.Verdict as model
-use Rattle.race_edges.specs.declared.races.Race.{Race}
-use Rattle.race_edges.specs.Answers.{race_of, IsFound, races_of, AreRaces}
-use Rattle.race_edges.proofs.FoundSteps.{AreFound}
+use Rattle.race_verdict.specs.declared.races.Race.{Race}
+use Rattle.race_verdict.specs.Races.{race_of, IsFound, AreFound, races_of, AreRaces}
 
 -- the race that is noted at index k is on variable n + k
 abbrev pub AreNumbered : ℕ → List (Option Race) → Type 0

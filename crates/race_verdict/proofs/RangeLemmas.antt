@@ -7,13 +7,14 @@ use Rattle.race_records.specs.declared.event.Event.{Event}
 use Rattle.race_records.specs.declared.event.Op.{Op}
 use Rattle.race_records.specs.declared.event.Op.TheVariants.{Go, Read, Write, Meet}
 use Rattle.race_records.specs.declared.kind.Kind.{Kind}
-use Rattle.race_records.specs.Declarations.{counts_of}
+use Rattle.race_records.specs.Declarations.{count_of, counts_of}
 use Rattle.race_records.specs.Events.{TraceState, IsTrace, fits}
 use Rattle.race_records.specs.Parts.{op_is_in_range}
 use Rattle.race_legal.specs.ReplayState.{IsInRange}
 use Rattle.race_legal.proofs.RangeLemmas.{range_from_fits}
 use Rattle.race_model.specs.Events.{partner, gives, accesses}
-use Rattle.race_edges.specs.Partners.{accessed}
+use Rattle.race_model.specs.Race.{IsAccessOf, IsRace}
+use Rattle.race_verdict.specs.Accesses.{accessed}
 
 -- each event of a trace is in range of its declarations
 pub range_in_trace : (trace : TraceState) (i : ℕ) (e : Event) → IsTrace trace → slice_get trace.events i ≡ Some e
@@ -46,3 +47,11 @@ accessed_below o n x below is = by (accessed o) (sym (accesses_is o x) ∙ is) b
     by : (a : Option ℕ) → gives a x ≡ true → IfSome a (λ y. y < n) → x < n
     by None is below = cc
     by (Some y) is below = subst (λ x. x < n) (eqb-true y x is) below
+
+-- a race is on a declared variable
+pub race_declared : (caps : ℕ → ℕ) (trace : TraceState) (x i j : ℕ) → IsTrace trace → IsRace caps trace.events x i j
+    → x < count_of Kind.Var trace.decls.declarations
+race_declared caps trace x i j holds race = go race.conflict.1
+  where
+    go : IsAccessOf trace.events x i → x < count_of Kind.Var trace.decls.declarations
+    go (e, at, is) = accessed_below e.op _ x (accessed_in_range (counts_of trace.decls.declarations) e.op (range_in_trace trace i e holds at).1) is

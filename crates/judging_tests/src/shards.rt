@@ -1,0 +1,4 @@
+//! What race_shards does that no contract says.
+mod blocks;
+mod gates;
+mod verdicts;

@@ -1,0 +1,73 @@
+//! What a gate sees of the shards' work.
+
+use crate::rows::traced;
+use crate::shards::verdicts::DECLARED;
+use race_records::Trace;
+use race_shards::{Gate, Judge};
+use std::alloc::Global;
+use std::sync::Wait;
+use std::sync::atomic::{AtomicU64, Ordering};
+use std::test::Fail;
+use std::thread::Threads;
+
+// A gate at which so many shards wait for each other in each block, each for at most 100,000,000 turns: a shard that is
+// refused its thread would be waited for without end.
+#[derive(Drop)]
+struct Meeting {
+    shards: u64,
+    here: AtomicU64,
+    met: AtomicU64,
+}
+
+impl Meeting {
+    fn new(shards: u64) -> Meeting {
+        Meeting {
+            shards,
+            here: AtomicU64::new(0),
+            met: AtomicU64::new(0),
+        }
+    }
+}
+
+impl Gate for Meeting {
+    // Who comes as number n belongs to block n / shards, whose last comes as number (n / shards + 1) * shards - 1.
+    fn enter(&self, _shard: usize) {
+        let before = self.here.fetch_add(1, Ordering::SeqCst);
+        for _ in 0..100_000_000u32 {
+            let here = self.here.load(Ordering::SeqCst);
+            if here.checked_div(self.shards) > before.checked_div(self.shards) {
+                self.met.fetch_add(1, Ordering::SeqCst);
+                return;
+            }
+        }
+    }
+}
+
+static TWO_BLOCKS: [&str; 5] = [
+    "go main a p",
+    "write main y 1 p",
+    "write main x 1 p",
+    "write a x 2 p",
+    "write a y 2 p",
+];
+
+// How many times a shard met all others in two blocks.
+fn met<R: Threads + Wait>(
+    rt: &R,
+    alloc: Global,
+    trace: &Trace,
+    shards: usize,
+) -> Result<u64, Fail> {
+    let gate = Meeting::new(shards as u64);
+    let _verdict = Judge::judge(rt, alloc, trace, shards, 3, &gate)?;
+    Ok(gate.met.load(Ordering::SeqCst))
+}
+
+#[test]
+fn two_shards(rt: HostRuntime) -> Result<(), Fail> {
+    let trace = traced(rt.alloc(), DECLARED, &TWO_BLOCKS)?;
+    for &(shards, want) in &[(2, 4), (4, 8)] {
+        assert_eq!(rt; met(&rt, rt.alloc(), &trace, shards)?, want, "{shards}");
+    }
+    Ok(())
+}

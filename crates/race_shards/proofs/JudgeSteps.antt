@@ -1,0 +1,301 @@
+-- A judge takes a block.
+use Rattle.std.proofs.Common.{◌≡◌, ℕ, ◌+◌, ◌<◌, ◌≤◌, false, List, [], ◌∷◌, ◌++◌, All, Option, Some, None, take, drop, length, slice_get, refl, sym, ap, ◌∙◌, ◌-◌, subst, inl, inr, arith}
+use Rattle.std.proofs.Common.{append_assoc, append-nil, length-append, length-drop, true, ◌==◌, eqb-true, Result, Err, slice_index_or}
+use Rattle.std.proofs.lemmas.Option.{slice_get_within}
+use Rattle.std.proofs.lemmas.Bool.{cases_lt}
+use Rattle.std.proofs.lemmas.List.{take-append-drop, take-append-le, length-take-le, get_or_append_left, get_or-append_right}
+use Rattle.race_records.specs.declared.event.Event.{Event}
+use Rattle.race_records.specs.declared.kind.Kind.{Kind}
+use Rattle.race_records.specs.Declarations.{Declaration, count_of, counts_of, capacity_of}
+use Rattle.race_model.specs.Legal.{broken, IsLegal, IsIllegalAt}
+use Rattle.race_model.proofs.Indexes.{append_at_old, at_below}
+use Rattle.race_model.proofs.LegalSteps.{illegal_push}
+use Rattle.race_legal.specs.declared.listing.Illegal.{Illegal}
+use Rattle.race_legal.specs.Rules.{number_of}
+use Rattle.race_legal.specs.ReplayState.{ReplayState, IsInRange, counts_in}
+use Rattle.race_legal.specs.StandsFor as legal
+use Rattle.race_legal.proofs.Fronts.{take_next}
+use Rattle.race_legal.proofs.RangeLemmas.{range_from_fits}
+use Rattle.race_records.specs.Events.{TraceState, IsTrace}
+use Rattle.race_shards.specs.declared.fault.JudgeFault.{JudgeFault}
+use Rattle.race_shards.specs.declared.judge.Judge.TheInside.{Inside}
+use Rattle.std.specs.Option.{is_some}
+use Rattle.std.proofs.Math.Seq.{take-add}
+use Rattle.std.proofs.lemmas.List.Elements.{All-take, All-drop}
+use Rattle.race_model.specs.Verdict.{Verdict, IsVerdict}
+use Rattle.race_verdict.specs.declared.races.Race.{Race}
+use Rattle.race_verdict.specs.Races.{AreRaces, races_of}
+use Rattle.race_shards.specs.Telling.{told_below, HavePlaces}
+use Rattle.race_shards.proofs.TellSteps.{have_places, told_races}
+use Rattle.race_shards.specs.Shards.{ShardState, ShardStandsFor, ShardsStandFor, AllTake, AreNextBlock}
+use Rattle.race_shards.specs.Judging.{JudgeState, StandsFor, IsSound, CanTake, GoesOn, Tells, AreFed, IsJudged, Accepts, Judges, CanJudge}
+
+-- a judge as its callers see it, from its inside
+abbrev pub seen : {A : Type 0} → Inside A → JudgeState
+seen inside = record {
+  failed = inside.failed;
+  len = inside.len;
+  illegal = inside.illegal;
+  vars = inside.vars;
+  count = inside.count;
+  replay = inside.replay;
+  shards = inside.shards.items;
+}
+
+-- a list that is illegal stays so, whatever follows
+pub illegal_more : (caps : ℕ → ℕ) (past more : List Event) (i n : ℕ) → IsIllegalAt caps past i n → IsIllegalAt caps (past ++ more) i n
+illegal_more caps past more i n (e, at, is, legal) =
+    let less : i < length past = slice_get_within past i e at in
+    let front : take i (past ++ more) ≡ take i past = take-append-le i past more (omega arith) in (
+      e,
+      append_at_old past more i e at,
+      subst (λ es. broken caps es e ≡ Some n) (sym front) is,
+      subst (IsLegal caps) (sym front) legal,
+    )
+
+-- no event is accepted
+pub accepts_none : (k : ReplayState) (block : List Event) → Accepts k (take 0 block) None k
+accepts_none k block declarations past S = subst (legal.StandsFor declarations k) (sym (append-nil past)) S
+
+-- and one more
+pub accepts_more : (old mid new : ReplayState) (block : List Event) (i : ℕ) (e : Event) → slice_get block i ≡ Some e
+    → Accepts old (take i block) None mid → legal.GoesOn mid new e → Accepts old (take (i + 1) block) None new
+accepts_more old mid new block i e here before then declarations past S =
+    subst (legal.StandsFor declarations new) (append_assoc past (take i block) (e ∷ []) ∙ ap (λ front. past ++ front) (sym (take_next block i e here)))
+    (then declarations (past ++ take i block) (before declarations past S))
+
+-- or it breaks a rule
+pub accepts_not : (old mid new : ReplayState) (block : List Event) (i : ℕ) (e : Event) (illegal : Illegal) → slice_get block i ≡ Some e
+    → Accepts old (take i block) None mid → legal.ForEachPast mid (λ past. illegal.at ≡ length past)
+    → legal.IsLeastBroken mid e (Some (number_of illegal.rule)) → Accepts old block (Some illegal) new
+accepts_not old mid new block i e illegal here before at least declarations past S =
+    let front = past ++ take i block in
+    let stands = before declarations past S in
+    let whole : (front ++ e ∷ []) ++ drop (i + 1) block ≡ past ++ block =
+    ap (λ xs. xs ++ drop (i + 1) block) (append_assoc past (take i block) (e ∷ []) ∙ ap (λ xs. past ++ xs) (sym (take_next block i e here)))
+    ∙ append_assoc past (take (i + 1) block) (drop (i + 1) block) ∙ ap (λ xs. past ++ xs) (take-append-drop (i + 1) block) in
+    subst (λ es. IsIllegalAt (capacity_of declarations) es illegal.at (number_of illegal.rule)) whole
+    (subst (λ n. IsIllegalAt (capacity_of declarations) ((front ++ e ∷ []) ++ drop (i + 1) block) n (number_of illegal.rule)) (sym (at declarations front stands))
+    (illegal_push (capacity_of declarations) front (drop (i + 1) block) e (number_of illegal.rule) stands.legal (least declarations front stands)))
+
+-- shards that stand for a list take a block that keeps it legal
+pub take_block : (declarations : List Declaration) (n : ℕ) (past block : List Event) (old new : List ShardState) → ShardsStandFor declarations n old past
+    → AllTake old block new → IsLegal (capacity_of declarations) (past ++ block) → ShardsStandFor declarations n new (past ++ block)
+take_block declarations n past block old new stand all legal k t at =
+    go (at_below old k (let less = slice_get_within new k t at in let same = all.all in omega (arith, less, same)))
+  where
+    go : ((s : ShardState) × (slice_get old k ≡ Some s)) → ShardStandsFor declarations n k t (past ++ block)
+    go (s, was) = all.each k s t was at declarations n k past (stand k s was) legal
+
+-- where the block breaks no rule, the shards may take it
+pub next_block : (old new : ReplayState) (shards : List ShardState) (block : List Event) → CanJudge old shards block → Accepts old block None new
+    → AreNextBlock shards block
+next_block old new shards block can accepts = record {
+  declarations = can.declarations;
+  n = can.n;
+  past = can.past;
+  stand = can.fed.stand;
+  follows = record {
+    range = subst (λ (counts : Kind → ℕ). All (IsInRange counts) block) can.fed.replayed.counts can.range;
+    legal = (accepts can.declarations can.past can.fed.replayed).legal;
+    room = let room = can.room in let len = can.fed.replayed.len in omega (arith, room, len);
+  };
+}
+
+-- and where they did, replay and shards go on
+pub judges_legal : (old new : ReplayState) (shards shards_now : List ShardState) (block : List Event) → Accepts old block None new
+    → AllTake shards block shards_now → Judges old shards block None new shards_now
+judges_legal old new shards shards_now block accepts all declarations n past fed =
+    let replay = accepts declarations past fed.replayed in
+    record {
+      replayed = replay;
+      all = all.all ∙ fed.all;
+      some = fed.some;
+      stand = take_block declarations n past block shards shards_now fed.stand all replay.legal;
+    }
+
+pub judges_illegal : (old new : ReplayState) (shards shards_now : List ShardState) (block : List Event) (illegal : Illegal)
+    → Accepts old block (Some illegal) new → Judges old shards block (Some illegal) new shards_now
+judges_illegal old new shards shards_now block illegal accepts declarations n past fed = accepts declarations past fed.replayed
+
+-- two lists in range are so together
+range_both : (P : Event → Type 0) (past block : List Event) → All P past → All P block → All P (past ++ block)
+range_both P past block all more i d less = elim (cases_lt i (length past)) [
+  | inl front ↦ subst P (sym (get_or_append_left past block d i front)) (all i d front)
+  | inr back ↦
+      subst P (sym (get_or-append_right past block (length past) i d refl back)) (more (i - length past) d (omega (arith, less, back, length-append past block)))
+]
+
+-- a judge that stands for a list can judge the next block
+pub can_judge : (j : JudgeState) (block : List Event) → IsSound j → j.failed ≡ false → j.illegal ≡ None → CanTake j block → CanJudge j.replay j.shards block
+can_judge j block sound well legal can =
+    let some = sound well in
+    let fed : AreFed some.declarations j.count j.replay j.shards some.past =
+    subst (IsJudged some.declarations j.count j.replay j.shards some.past) legal some.stands.judged in
+    record {
+      declarations = some.declarations;
+      n = j.count;
+      past = some.past;
+      fed = fed;
+      range = (can well).0;
+      room = let room = (can well).1 in let len = some.stands.len in let same = fed.replayed.len in omega (arith, room, len, same);
+    }
+
+module _ (old : JudgeState) (block : List Event) (can : CanTake old block) where
+  -- a judge whose verdict is settled, or that is handed nothing, counts the events
+  abbrev pub counted : JudgeState
+  counted = record {
+    failed = old.failed;
+    len = old.len + length block;
+    illegal = old.illegal;
+    vars = old.vars;
+    count = old.count;
+    replay = old.replay;
+    shards = old.shards;
+  }
+
+  range_on : (declarations : List Declaration) (past : List Event) → StandsFor declarations old past → All (IsInRange (counts_of declarations)) (past ++ block)
+  range_on declarations past S =
+      range_both (IsInRange (counts_of declarations)) past block S.range
+      (subst (λ (counts : Kind → ℕ). All (IsInRange counts) block) S.counts (can S.sound).0)
+
+  len_on : (declarations : List Declaration) (past : List Event) → StandsFor declarations old past → length (past ++ block) ≡ old.len + length block
+  len_on declarations past S = let len = S.len in omega (arith, len, length-append past block)
+
+  pub counts_on : (old.illegal ≡ None → block ≡ []) → GoesOn old block counted
+  counts_on only declarations past S = record {
+    sound = S.sound;
+    len = len_on declarations past S;
+    range = range_on declarations past S;
+    vars = S.vars;
+    counts = S.counts;
+    judged = go old.illegal refl S.judged;
+  }
+    where
+      go : (illegal : Option Illegal) → old.illegal ≡ illegal → IsJudged declarations old.count old.replay old.shards past illegal
+          → IsJudged declarations old.count old.replay old.shards (past ++ block) illegal
+      go None is fed = subst (λ xs. AreFed declarations old.count old.replay old.shards (past ++ xs)) (sym (only is))
+          (subst (AreFed declarations old.count old.replay old.shards) (sym (append-nil past)) fed)
+      go (Some illegal) is broken = illegal_more (capacity_of declarations) past block illegal.at (number_of illegal.rule) broken
+
+  -- a judge that judged the block
+  abbrev pub judged : Option Illegal → ReplayState → List ShardState → JudgeState
+  judged illegal replay shards = record {
+    failed = old.failed;
+    len = old.len + length block;
+    illegal = illegal;
+    vars = old.vars;
+    count = old.count;
+    replay = replay;
+    shards = shards;
+  }
+
+  pub judges_on : (illegal : Option Illegal) (replay : ReplayState) (shards : List ShardState) → old.illegal ≡ None
+      → Judges old.replay old.shards block illegal replay shards → counts_in replay ≡ counts_in old.replay → GoesOn old block (judged illegal replay shards)
+  judges_on illegal replay shards going judges same declarations past S = record {
+    sound = S.sound;
+    len = len_on declarations past S;
+    range = range_on declarations past S;
+    vars = S.vars;
+    counts = same ∙ S.counts;
+    judged = judges declarations old.count past (subst (IsJudged declarations old.count old.replay old.shards past) going S.judged);
+  }
+
+-- so it stays sound
+pub sound_on : (old new : JudgeState) (block : List Event) → IsSound old → old.failed ≡ false → GoesOn old block new → IsSound new
+sound_on old new block sound well goes now =
+    let some = sound well in
+    record { declarations = some.declarations; past = some.past ++ block; stands = goes some.declarations some.past some.stands }
+
+-- before the first event
+pub stands_first : (declarations : List Declaration) (vars count : ℕ) (replay : ReplayState) (shards : List ShardState) → 0 < count
+    → vars ≡ count_of Kind.Var declarations → legal.StandsFor declarations replay [] → length shards ≡ count → ShardsStandFor declarations count shards []
+    → StandsFor declarations (record { failed = false; len = 0; illegal = None; vars = vars; count = count; replay = replay; shards = shards }) []
+stands_first declarations vars count replay shards some declared S all stand = record {
+  sound = refl;
+  len = refl;
+  range = λ i d less. absurd (omega (arith, less));
+  vars = declared;
+  counts = S.counts;
+  judged = record { replayed = S; all = all; some = some; stand = stand };
+}
+
+module _ (j : JudgeState) (going : j.illegal ≡ None) where
+  fed_of : (declarations : List Declaration) (past : List Event) → StandsFor declarations j past → AreFed declarations j.count j.replay j.shards past
+  fed_of declarations past S = subst (IsJudged declarations j.count j.replay j.shards past) going S.judged
+
+  some_of : (declarations : List Declaration) (past : List Event) → StandsFor declarations j past → 0 < length j.shards
+  some_of declarations past S = let fed = fed_of declarations past S in let some = fed.some in let all = fed.all in omega (arith, some, all)
+
+  stand_of : (declarations : List Declaration) (past : List Event) → StandsFor declarations j past → ShardsStandFor declarations (length j.shards) j.shards past
+  stand_of declarations past S =
+      let fed = fed_of declarations past S in
+      subst (λ n. ShardsStandFor declarations n j.shards past) (sym fed.all) fed.stand
+
+  -- there is a shard, and a place for each variable
+  pub has_shard : IsSound j → j.failed ≡ false → 0 < length j.shards
+  has_shard sound well = let S = sound well in some_of S.declarations S.past S.stands
+
+  pub places_of : IsSound j → j.failed ≡ false → HavePlaces j.shards j.vars
+  places_of sound well =
+      let S = sound well in
+      subst (HavePlaces j.shards) (sym S.stands.vars)
+      (have_places S.declarations j.shards S.past (some_of S.declarations S.past S.stands) (stand_of S.declarations S.past S.stands))
+
+  races_are : (declarations : List Declaration) (past : List Event) → StandsFor declarations j past → (races : List Race) → races ≡ races_of (told_below j.shards j.vars)
+      → AreRaces (capacity_of declarations) past races
+  races_are declarations past S races is =
+      subst (AreRaces (capacity_of declarations) past) (sym (is ∙ ap (λ n. races_of (told_below j.shards n)) S.vars))
+      (told_races declarations j.shards past (some_of declarations past S) (stand_of declarations past S) S.range)
+
+  -- a verdict that is right wherever these are the races is the judge's
+  pub tells_races : (verdict : Verdict) (races : List Race) → races ≡ races_of (told_below j.shards j.vars)
+      → ((caps : ℕ → ℕ) (events : List Event) → IsLegal caps events → AreRaces caps events races → IsVerdict caps events verdict) → Tells j verdict
+  tells_races verdict races is right declarations past S =
+      right (capacity_of declarations) past (fed_of declarations past S).replayed.legal (races_are declarations past S races is)
+
+  -- and as many shards as were asked for
+  pub count_of_shards : IsSound j → j.failed ≡ false → length j.shards ≡ j.count
+  count_of_shards sound well = let S = sound well in (fed_of S.declarations S.past S.stands).all
+
+-- no event breaks a rule where none is told
+pub none_of : (o : Option Illegal) → is_some o ≡ false → o ≡ None
+none_of None is = refl
+none_of (Some illegal) is = cc
+
+-- where one is told, or the block is empty, there is nothing to judge
+pub settled : (o : Option Illegal) (block : List Event) → is_some o ≡ true → o ≡ None → block ≡ []
+settled None block some none = cc
+settled (Some illegal) block some none = cc
+
+pub empty_of : (block : List Event) → (length block == 0) ≡ true → block ≡ []
+empty_of [] is = refl
+empty_of (e ∷ block) is = let none : length (e ∷ block) ≡ 0 = eqb-true (length (e ∷ block)) 0 is in absurd (omega (arith, none))
+
+pub same_fault : (a b : JudgeFault) → ◌≡◌ {A = Result (Unit {0}) JudgeFault} (Err a) (Err b) → a ≡ b
+same_fault a b e = cc
+
+module _ (trace : TraceState) (holds : IsTrace trace) where
+  in_range_all : All (IsInRange (counts_of trace.decls.declarations)) trace.events
+  in_range_all k d less = range_from_fits trace.decls (slice_index_or trace.events k d) (holds.fit k d less)
+
+  -- a judge of a front of a trace can take a block behind it
+  pub can_take : (j : JudgeState) (at n : ℕ) → StandsFor trace.decls.declarations j (take at trace.events) → at ≤ length trace.events
+      → n ≤ length trace.events - at → CanTake j (take n (drop at trace.events))
+  can_take j at n S inside short well = (
+    subst (λ (counts : Kind → ℕ). All (IsInRange counts) (take n (drop at trace.events))) (sym S.counts)
+        (All-take (IsInRange (counts_of trace.decls.declarations)) n (drop at trace.events)
+        (All-drop (IsInRange (counts_of trace.decls.declarations)) at trace.events in_range_all)),
+    (let len : length (take at trace.events) ≡ j.len = S.len in
+        let front : length (take at trace.events) ≡ at = length-take-le at trace.events inside in
+        let rest : length (drop at trace.events) ≡ length trace.events - at = length-drop at trace.events in
+        let block : length (take n (drop at trace.events)) ≡ n = length-take-le n (drop at trace.events) (omega (arith, rest, short)) in
+        let limited = holds.limited in
+        omega (arith, len, front, block, short, inside, limited)),
+  )
+
+  -- and stands for a longer front then
+  pub stands_on : (j new : JudgeState) (at n : ℕ) → StandsFor trace.decls.declarations j (take at trace.events) → GoesOn j (take n (drop at trace.events)) new
+      → StandsFor trace.decls.declarations new (take (at + n) trace.events)
+  stands_on j new at n S goes =
+      subst (StandsFor trace.decls.declarations new) (sym (take-add at n trace.events)) (goes trace.decls.declarations (take at trace.events) S)

@@ -1,0 +1,35 @@
+-- The races that shards tell.
+use Rattle.std.specs.Prelude.{ℕ, ◌≡◌, ◌<◌, ◌/◌, ◌%◌, zero, suc, List, [], ◌∷◌, ◌++◌, length, Option, Some, None, slice_get}
+use Rattle.std.specs.Option.{option_map}
+use Rattle.race_access.specs.Kept.{Kept}
+use Rattle.race_verdict.specs.declared.races.Race.{Race}
+use Rattle.race_shards.specs.Variables.{kept_of}
+use Rattle.race_shards.specs.Shards.{ShardState}
+
+-- a race on x
+abbrev pub race_with : ℕ → ℕ × ℕ → Race
+race_with x p = record { var = x; first = p.0; second = p.1 }
+
+-- the race of variable x, where it has one
+abbrev pub race_of : ℕ → Kept → Option Race
+race_of x kept = option_map (race_with x) kept.pair
+
+-- what the shard to which x belongs tells of it
+abbrev pub race_in : ℕ → Option ShardState → Option Race
+race_in x None = None
+race_in x (Some s) = race_of x (kept_of s.variables x)
+
+abbrev pub race_told : List ShardState → ℕ → Option Race
+race_told shards x = race_in x (slice_get shards (x % length shards))
+
+-- what is told of the variables below n
+abbrev pub told_below : List ShardState → ℕ → List (Option Race)
+told_below shards zero = []
+told_below shards (suc n) = told_below shards n ++ race_told shards n ∷ []
+
+-- the shard to which x belongs has a place for it
+abbrev pub HavePlace : List ShardState → ℕ → Type 0
+HavePlace shards x = (s : ShardState) → slice_get shards (x % length shards) ≡ Some s → x / s.variables.count < length s.variables.kept
+
+abbrev pub HavePlaces : List ShardState → ℕ → Type 0
+HavePlaces shards vars = (x : ℕ) → x < vars → HavePlace shards x

@@ -1,0 +1,37 @@
+//! The races that the shards tell.
+ghost use Rattle.std.specs.Prelude.{◌≡◌, ◌<◌, length, IfOk};
+ghost use Rattle.race_verdict.specs.Races.{races_of};
+ghost use Rattle.race_shards.specs.Telling.{HavePlace, HavePlaces, race_told, told_below, race_with};
+ghost use Rattle.std.specs.Option.{option_map};
+
+use crate::shard::Shard;
+use race_verdict::{Race, RaceList};
+use std::alloc::{AllocError, Allocator};
+
+// The race of a variable, from the shard to which it belongs.
+fn raced<A: Allocator + Copy>(shards: &[Shard<A>], var: u32) -> Option<(u32, u32)>
+    requires some { 0 < length shards.now }
+    requires place { HavePlace shards.now var }
+    ensures { option_map (race_with var) result ≡ race_told shards.now var }
+{
+    shards[var as usize % shards.len()].raced(var)
+}
+
+/// The race of each variable that has one, in rising order of the variables.
+pub(crate) fn races<A: Allocator + Copy, B: Allocator>(
+    alloc: B,
+    shards: &[Shard<A>],
+    vars: u32,
+) -> Result<RaceList<B>, AllocError>
+    requires some { 0 < length shards.now }
+    requires places { HavePlaces shards.now vars }
+    ensures { IfOk result (λ races. races ≡ races_of (told_below shards.now vars)) }
+{
+    let mut races = RaceList::new(alloc);
+    for var in 0..vars {
+        if let Some((first, second)) = raced(shards, var) {
+            races.push(Race { var, first, second })?;
+        }
+    }
+    Ok(races)
+}

@@ -1,0 +1,10 @@
+-- Accesses of variables.
+use Rattle.std.specs.Prelude.{ℕ, Option, Some, None}
+use Rattle.race_records.specs.declared.event.Op.{Op}
+use Rattle.race_records.specs.declared.event.Op.TheVariants.{Read, Write}
+
+-- the variable that the operation accesses
+abbrev pub accessed : Op → Option ℕ
+accessed (Read x v) = Some x
+accessed (Write x v) = Some x
+accessed _ = None

@@ -1,0 +1,4 @@
+pub mod Accesses
+pub mod Races
+pub mod Traces
+pub mod Verdicts

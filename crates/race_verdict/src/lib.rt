@@ -1,0 +1,8 @@
+//! The verdict on a trace: an event breaks a rule, or there is no race, or these are its races.
+#![tactic(auto)]
+
+mod races;
+mod verdict;
+
+pub use races::{Race, RaceList};
+pub use verdict::Verdict;

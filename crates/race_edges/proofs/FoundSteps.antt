@@ -2,7 +2,6 @@
 use Rattle.std.proofs.Common.{◌≡◌, ◌⊎◌, ℕ, ◌+◌, ◌<◌, ◌≤◌, Bool, true, false, List, [], ◌∷◌, ◌++◌, length, replicate, Option, Some, None}
 use Rattle.std.proofs.Common.{IfSome, is_some, get_or, set, if◌then◌else◌, refl, sym, ◌∙◌, subst, inl, inr, arith, IsTrue, eqb-true, eq-eqb}
 use Rattle.std.proofs.Common.{length-append}
-use Rattle.std.specs.List.{slice_index_or}
 use Rattle.std.specs.Option.{option_map}
 use Rattle.std.proofs.lemmas.Bool.{cases_eq, cases_lt}
 use Rattle.std.proofs.lemmas.List.{get_or-set_same, get_or-set_other, get_or-replicate, length-set, length-replicate}

@@ -8,7 +8,6 @@ use Rattle.race_records.specs.Declarations.{count_of, counts_of}
 use Rattle.race_records.specs.Events.{TraceState, IsTrace}
 use Rattle.race_model.specs.Events.{At, partner}
 use Rattle.race_model.specs.Order.{IsSource}
-use Rattle.race_model.specs.Race.{IsAccessOf, IsRace}
 use Rattle.race_model.proofs.Indexes.{take_at_old}
 use Rattle.race_legal.proofs.Fronts.{take_next}
 use Rattle.race_verdict.specs.declared.races.Race.{Race}
@@ -18,7 +17,7 @@ use Rattle.race_edges.proofs.IsTable.{IsTable}
 use Rattle.race_edges.specs.Partners.{HasPlace, found_after}
 use Rattle.race_verdict.specs.Accesses.{accessed}
 use Rattle.race_verdict.specs.Races.{AreFound}
-use Rattle.race_verdict.proofs.RangeLemmas.{range_in_trace, partner_in_range, accessed_in_range, accessed_below}
+use Rattle.race_verdict.proofs.RangeLemmas.{range_in_trace, partner_in_range, accessed_in_range}
 use Rattle.race_model.proofs.SynchronizedTests.{source_is}
 use Rattle.race_edges.proofs.SynchronizedLemmas.{source_at_is}
 use Rattle.race_edges.proofs.TableSteps.{table_step}

@@ -1,8 +1,7 @@
 //! The synchronization edges of a trace, a line for each.
-ghost use Rattle.std.specs.Prelude.{◌≡◌, All, OnOk, OnErr, IfErr};
-ghost use Rattle.std.specs.Io.KnownBytes.{Appends};
-ghost use Rattle.race_records.specs.Devices.{written, sink_failures, one_more};
-ghost use Rattle.race_records.specs.Page.{Printing, IsCutOff};
+ghost use Rattle.std.specs.Prelude.{All};
+ghost use Rattle.race_records.specs.Page.{Printing};
+ghost use Rattle.race_text.specs.Output.{Writes};
 ghost use Rattle.race_report.specs.Printable.{IsEdgeOf};
 ghost use Rattle.race_report.specs.Report as spec;
 
@@ -23,12 +22,7 @@ pub fn write_edges<W: Write, A: Allocator>(
     sink: &mut Sink<W>,
 ) -> Result<(), WriteFault>
     requires { All (IsEdgeOf trace.now) edges.now }
-    ensures ok { OnOk result (Appends (written W.contents sink.old) (written W.contents sink.new)
-        (spec.edges_text trace.now edges.now)) }
-    ensures sent { IfErr result (λ fault. IsCutOff (written W.contents sink.old)
-        (written W.contents sink.new) fault.sent (spec.edges_text trace.now edges.now)) }
-    ensures calm { OnOk result (sink_failures sink.new ≡ sink_failures sink.old) }
-    ensures failed { OnErr result (sink_failures sink.new ≡ one_more (sink_failures sink.old)) }
+    ensures { Writes W.contents result sink.old sink.new (spec.edges_text trace.now edges.now) }
 {
     let mut page = Page::new();
     match print_edges(&mut page, sink, trace, edges) {

@@ -1,8 +1,7 @@
 //! The line of a text fault.
-ghost use Rattle.std.specs.Prelude.{◌≡◌, OnOk, OnErr, IfErr};
-ghost use Rattle.std.specs.Io.KnownBytes.{Appends};
-ghost use Rattle.race_records.specs.Devices.{written, sink_failures, one_more};
-ghost use Rattle.race_records.specs.Page.{Printing, IsCutOff};
+ghost use Rattle.std.specs.Prelude.{◌≡◌};
+ghost use Rattle.race_records.specs.Page.{Printing};
+ghost use Rattle.race_text.specs.Output.{Writes};
 ghost use Rattle.race_report.specs.Causes.{cause_text};
 ghost use Rattle.race_report.specs.Report as spec;
 
@@ -15,12 +14,7 @@ use std::io::Write;
 ///
 /// A write that fails or takes no byte ends it: then exactly the first `sent` bytes are out.
 pub fn write_text_fault<W: Write>(fault: &TextFault, sink: &mut Sink<W>) -> Result<(), WriteFault>
-    ensures ok { OnOk result (Appends (written W.contents sink.old) (written W.contents sink.new)
-        (spec.fault_line fault.now)) }
-    ensures sent { IfErr result (λ told. IsCutOff (written W.contents sink.old)
-        (written W.contents sink.new) told.sent (spec.fault_line fault.now)) }
-    ensures calm { OnOk result (sink_failures sink.new ≡ sink_failures sink.old) }
-    ensures failed { OnErr result (sink_failures sink.new ≡ one_more (sink_failures sink.old)) }
+    ensures { Writes W.contents result sink.old sink.new (spec.fault_line fault.now) }
 {
     let mut page = Page::new();
     match print_fault(&mut page, sink, *fault) {

@@ -1,10 +1,9 @@
 //! The report of a verdict.
-ghost use Rattle.std.specs.Prelude.{◌≡◌, ◌<◌, ◌+◌, [], ◌∷◌, All, map, length, slice_get, Some, IfSome, OnOk, OnErr, IfErr, count_by};
-ghost use Rattle.std.specs.Io.KnownBytes.{Appends};
-ghost use Rattle.race_records.specs.Devices.{written, sink_failures, one_more};
-ghost use Rattle.race_records.specs.Page.{Printing, IsCutOff};
+ghost use Rattle.std.specs.Prelude.{◌≡◌, ◌<◌, ◌+◌, [], ◌∷◌, All, map, length, slice_get, Some, IfSome, count_by};
+ghost use Rattle.race_records.specs.Page.{Printing};
 ghost use Rattle.race_model.specs.Events.{count, is_access};
 ghost use Rattle.race_legal.specs.Rules.{number_of};
+ghost use Rattle.race_text.specs.Output.{Writes};
 ghost use Rattle.race_text.specs.Text.{goroutine_name, place_text};
 ghost use Rattle.race_verdict.specs.Races.{race_of};
 ghost use Rattle.race_verdict.specs.Verdicts.{verdict_of};
@@ -13,9 +12,9 @@ ghost use Rattle.race_report.specs.Report as spec;
 
 use crate::rule::text_of;
 use itoa::Buffer;
-use race_edges::{Race, RaceList, Verdict};
 use race_legal::Illegal;
 use race_records::{Named, Op, Page, Sink, Trace, WriteFault};
+use race_verdict::{Race, RaceList, Verdict};
 use std::alloc::Allocator;
 use std::io::Write;
 
@@ -30,12 +29,7 @@ pub fn write_report<W: Write, A: Allocator, B: Allocator>(
     sink: &mut Sink<W>,
 ) -> Result<(), WriteFault>
     requires { RacesAreOf trace.now verdict.now }
-    ensures ok { OnOk result (Appends (written W.contents sink.old) (written W.contents sink.new)
-        (spec.report trace.now (verdict_of verdict.now))) }
-    ensures sent { IfErr result (λ fault. IsCutOff (written W.contents sink.old)
-        (written W.contents sink.new) fault.sent (spec.report trace.now (verdict_of verdict.now))) }
-    ensures calm { OnOk result (sink_failures sink.new ≡ sink_failures sink.old) }
-    ensures failed { OnErr result (sink_failures sink.new ≡ one_more (sink_failures sink.old)) }
+    ensures { Writes W.contents result sink.old sink.new (spec.report trace.now (verdict_of verdict.now)) }
 {
     let mut page = Page::new();
     match print_report(&mut page, sink, trace, verdict) {

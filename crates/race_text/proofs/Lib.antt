@@ -26,6 +26,7 @@ pub mod NamesAgain
 pub mod EventsAgain
 pub mod WritingLemmas
 pub mod PieceLemmas
+pub mod OutputLemmas
 pub mod ShortLemmas
 pub mod ReaderLemmas
 pub mod ParseLemmas

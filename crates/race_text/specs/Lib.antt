@@ -13,3 +13,4 @@ pub mod Common
 pub mod Laws
 pub mod Examples
 pub mod Writing
+pub mod Output

@@ -1,9 +1,10 @@
 //! A trace's text, written.
-ghost use Rattle.std.specs.Prelude.{◌≡◌, ◌<◌, [], ◌∷◌, ◌++◌, true, length, take, All, IsTrue, IfSome, OnOk, OnErr, IfErr};
+ghost use Rattle.std.specs.Prelude.{◌≡◌, ◌<◌, [], ◌∷◌, ◌++◌, true, length, take, All, IsTrue, IfSome, IfErr};
 ghost use Rattle.std.specs.Io.KnownBytes.{Appends};
-ghost use Rattle.race_records.specs.Devices.{written, sink_failures, one_more};
+ghost use Rattle.race_records.specs.Devices.{written};
 ghost use Rattle.race_records.specs.Events.{fits};
 ghost use Rattle.race_records.specs.Page.{Printing};
+ghost use Rattle.race_text.specs.Output.{Writes};
 ghost use Rattle.race_text.specs.Text as text;
 ghost use Rattle.race_text.specs.Writing as spec;
 ghost use Rattle.race_text.specs.Writing.{body, declarations_text, declaration_text, events_text};
@@ -27,15 +28,11 @@ pub fn write_trace<W: Write, A: Allocator>(
     trace: &Trace<A>,
     sink: &mut Sink<W>,
 ) -> Result<(), WriteFault>
-    ensures ok { OnOk result (Appends (written W.contents sink.old) (written W.contents sink.new)
-        (text.text trace.now)) }
-    ensures sent { IfErr result (λ fault. Appends (written W.contents sink.old)
-        (written W.contents sink.new) (take fault.sent (text.text trace.now))) }
-    ensures short { IfErr result (λ fault. fault.sent < length (text.text trace.now)) }
+    ensures written { Writes W.contents result sink.old sink.new (text.text trace.now) }
 
-    // A fault is one failure more of the writer, and without one the count stays.
-    ensures calm { OnOk result (sink_failures sink.new ≡ sink_failures sink.old) }
-    ensures failed { OnErr result (sink_failures sink.new ≡ one_more (sink_failures sink.old)) }
+    // The text is short enough for all its bytes to be counted.
+    ensures exact { IfErr result (λ fault. Appends (written W.contents sink.old) (written W.contents sink.new)
+        (take fault.sent (text.text trace.now)) × (fault.sent < length (text.text trace.now))) }
 {
     let mut page = Page::new();
     match print_trace(&mut page, sink, trace.decls(), trace.events()) {

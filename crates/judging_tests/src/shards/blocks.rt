@@ -1,10 +1,13 @@
 //! A judge that is fed block by block.
 
+ghost use Rattle.std.specs.Prelude.{[]};
+ghost use Rattle.race_shards.specs.Judging.{StandsFor};
+
 use crate::rows::traced;
-use crate::shards::verdicts::{DECLARED, Told, TWO_RACES, told};
+use crate::shards::verdicts::{DECLARED, Told, said_by};
 use race_legal::{Illegal, Rule};
 use race_records::Trace;
-use race_shards::{Gate, Judge};
+use race_shards::{Gate, Judge, JudgeFault};
 use race_verdict::{Race, Verdict};
 use std::alloc::Global;
 use std::sync::Wait;
@@ -49,10 +52,14 @@ impl Gate for Counting {
     }
 }
 
-// Events, the indexes at which their blocks end, what is said of them, and in how many blocks each shard begins.
-type Row = (&'static [&'static str], &'static [usize], Told<'static>, u64);
+// Whether event 4 breaks a rule.
+#[derive(Clone, Copy)]
+enum Events {
+    Legal,
+    Broken,
+}
 
-static EVENTS: [&str; 6] = [
+static LEGAL: [&str; 6] = [
     "go main a p",
     "write main z 1 p",
     "write a z 2 p",
@@ -61,7 +68,6 @@ static EVENTS: [&str; 6] = [
     "write a x 2 p",
 ];
 
-// Event 4 breaks a rule.
 static BROKEN: [&str; 6] = [
     "go main a p",
     "write main z 1 p",
@@ -71,10 +77,11 @@ static BROKEN: [&str; 6] = [
     "write a x 2 p",
 ];
 
-const BREAKS: Told<'static> = Told::Illegal(Illegal {
-    at: 4,
-    rule: Rule::StaleRead,
-});
+const ON_X: Race = Race {
+    var: 0,
+    first: 4,
+    second: 5,
+};
 
 const ON_Z: Race = Race {
     var: 2,
@@ -82,28 +89,42 @@ const ON_Z: Race = Race {
     second: 2,
 };
 
+const BREAKS: Illegal = Illegal {
+    at: 4,
+    rule: Rule::StaleRead,
+};
+
+// Events, the indexes at which their blocks end, what is said of them, and in how many blocks each shard begins.
+type Row = (Events, &'static [usize], Told<'static>, u64);
+
 static ROWS: [Row; 7] = [
-    (&EVENTS, &[6], Told::Races(&TWO_RACES), 1),
-    (&EVENTS, &[2, 4, 6], Told::Races(&TWO_RACES), 3),
+    (Events::Legal, &[6], Told::Races(&[ON_X, ON_Z]), 1),
+    (Events::Legal, &[2, 4, 6], Told::Races(&[ON_X, ON_Z]), 3),
     // Nothing begins in an empty block.
-    (&EVENTS, &[0, 2, 2, 2, 6, 6], Told::Races(&TWO_RACES), 2),
-    (&EVENTS, &[0, 0], Told::Races(&[]), 0),
-    // A judge that isn't fed the last events says nothing of them.
-    (&EVENTS, &[3], Told::Races(&[ON_Z]), 1),
+    (
+        Events::Legal,
+        &[0, 2, 2, 2, 6, 6],
+        Told::Races(&[ON_X, ON_Z]),
+        2,
+    ),
+    (Events::Legal, &[0, 0], Told::Races(&[]), 0),
+    // Of events that it isn't fed a judge says nothing.
+    (Events::Legal, &[3], Told::Races(&[ON_Z]), 1),
     // Nothing begins in the block of an illegal event, nor behind it.
-    (&BROKEN, &[2, 5, 6], BREAKS, 1),
-    (&BROKEN, &[6], BREAKS, 0),
+    (Events::Broken, &[2, 5, 6], Told::Illegal(BREAKS), 1),
+    (Events::Broken, &[6], Told::Illegal(BREAKS), 0),
 ];
 
-// Feeds the trace in blocks that end at these indexes, and gives the verdict with how many events were taken.
-fn fed<R: Threads + Wait>(
+// Feeds the trace in blocks that end at these indexes.
+fn feed_each<R: Threads + Wait>(
     rt: &R,
-    alloc: Global,
+    judge: &mut Judge,
     trace: &Trace,
     ends: &[usize],
     gate: &Counting,
-) -> Result<(Verdict, usize), Fail> {
-    let mut judge = Judge::new(alloc, trace.decls(), 2)?;
+) -> Result<(), JudgeFault>
+    requires { StandsFor trace.now.decls.declarations judge.old [] }
+{
     let mut at = 0;
     for end in ends {
         if at <= *end && *end <= trace.len() {
@@ -111,18 +132,37 @@ fn fed<R: Threads + Wait>(
             at = *end;
         }
     }
+    Ok(())
+}
+
+// The verdict of two shards, and how many events were taken.
+fn fed<R: Threads + Wait>(
+    rt: &R,
+    alloc: Global,
+    trace: &Trace,
+    ends: &[usize],
+    gate: &Counting,
+) -> Result<(Verdict, usize), JudgeFault> {
+    let mut judge = Judge::new(alloc, trace.decls(), 2)?;
+    feed_each(rt, &mut judge, trace, ends, gate)?;
     let taken = judge.len();
     Ok((judge.finish()?, taken))
 }
 
+fn events_of(events: Events) -> &'static [&'static str] {
+    match events {
+        Events::Legal => &LEGAL,
+        Events::Broken => &BROKEN,
+    }
+}
+
 fn is_told<R: Threads + Wait>(rt: &R, alloc: Global, row: &Row) -> Result<bool, Fail> {
     let &(events, ends, want, begins) = row;
-    let trace = traced(alloc, DECLARED, events)?;
+    let trace = traced(alloc, DECLARED, events_of(events))?;
     let gate = Counting::new();
     let (verdict, taken) = fed(rt, alloc, &trace, ends, &gate)?;
-    Ok(told(&verdict) == want
-        && ends.last() == Some(&taken)
-        && gate.counts() == [begins, begins, 0])
+    let is_whole = ends.last() == Some(&taken) && gate.counts() == [begins, begins, 0];
+    Ok(is_whole && said_by(&verdict) == want)
 }
 
 #[test]

@@ -18,7 +18,7 @@ pub(crate) enum Told<'a> {
 }
 
 /// What the verdict says: a clean trace has no race.
-pub(crate) fn told(verdict: &Verdict) -> Told<'_> {
+pub(crate) fn said_by(verdict: &Verdict) -> Told<'_> {
     match verdict {
         Verdict::Illegal(illegal) => Told::Illegal(*illegal),
         Verdict::Clean => Told::Races(&[]),
@@ -29,25 +29,12 @@ pub(crate) fn told(verdict: &Verdict) -> Told<'_> {
 /// Two goroutines and three variables.
 pub(crate) static DECLARED: &str = "gotrace 1\ngoroutine a\nvar x\nvar y\nvar z\n";
 
-/// The races of x and z, of which that on z comes first.
-pub(crate) static TWO_RACES: [Race; 2] = [
-    Race {
-        var: 0,
-        first: 4,
-        second: 5,
-    },
-    Race {
-        var: 2,
-        first: 1,
-        second: 2,
-    },
-];
-
-/// Events, and what is said of them.
-pub(crate) type Row = (&'static [&'static str], Told<'static>);
+// Events, and what is said of them.
+type Row = (&'static [&'static str], Told<'static>);
 
 static ROWS: [Row; 4] = [
     (&[], Told::Races(&[])),
+    // The race on z comes first, and that on x is told first.
     (
         &[
             "go main a p",
@@ -57,9 +44,20 @@ static ROWS: [Row; 4] = [
             "write main x 1 p",
             "write a x 2 p",
         ],
-        Told::Races(&TWO_RACES),
+        Told::Races(&[
+            Race {
+                var: 0,
+                first: 4,
+                second: 5,
+            },
+            Race {
+                var: 2,
+                first: 1,
+                second: 2,
+            },
+        ]),
     ),
-    // Each writes what it alone writes.
+    // Each writes what it alone reads or writes, or what was written before its start.
     (
         &[
             "write main x 1 p",
@@ -86,12 +84,31 @@ static ROWS: [Row; 4] = [
     ),
 ];
 
-// Whether the judge says so, whichever it is.
-fn is_told<R: Threads + Wait>(rt: &R, alloc: Global, trace: &Trace, want: Told<'_>) -> Result<bool, Fail> {
-    for shards in [1, 2, 3, 64] {
-        for block in [1, 2, 65_536] {
-            let verdict = Judge::judge(rt, alloc, trace, shards, block, &OpenGate)?;
-            if told(&verdict) != want {
+static SHARDS: [usize; 4] = [1, 2, 3, 64];
+
+static BLOCKS: [usize; 3] = [1, 2, 65_536];
+
+// Whether the judge says so by so many shards and blocks of so many events.
+fn is_said_by<R: Threads + Wait>(
+    rt: &R,
+    alloc: Global,
+    trace: &Trace,
+    (shards, block): (usize, usize),
+    want: Told<'_>,
+) -> Result<bool, Fail> {
+    let verdict = Judge::judge(rt, alloc, trace, shards, block, &OpenGate)?;
+    Ok(said_by(&verdict) == want)
+}
+
+fn is_told<R: Threads + Wait>(
+    rt: &R,
+    alloc: Global,
+    trace: &Trace,
+    want: Told<'_>,
+) -> Result<bool, Fail> {
+    for shards in &SHARDS {
+        for block in &BLOCKS {
+            if !is_said_by(rt, alloc, trace, (*shards, *block), want)? {
                 return Ok(false);
             }
         }
@@ -99,11 +116,17 @@ fn is_told<R: Threads + Wait>(rt: &R, alloc: Global, trace: &Trace, want: Told<'
     Ok(true)
 }
 
+// Whether the judge says so of the row's events, whichever shards and blocks it has.
+fn is_row_told<R: Threads + Wait>(rt: &R, alloc: Global, row: &Row) -> Result<bool, Fail> {
+    let &(events, want) = row;
+    let trace = traced(alloc, DECLARED, events)?;
+    is_told(rt, alloc, &trace, want)
+}
+
 #[test]
 fn the_verdict_is_the_same_for_every_number_of_shards(rt: HostRuntime) -> Result<(), Fail> {
-    for (at, (events, want)) in ROWS.iter().enumerate() {
-        let trace = traced(rt.alloc(), DECLARED, *events)?;
-        assert!(rt; is_told(&rt, rt.alloc(), &trace, *want)?, "{at}");
+    for (at, row) in ROWS.iter().enumerate() {
+        assert!(rt; is_row_told(&rt, rt.alloc(), row)?, "{at}");
     }
     Ok(())
 }
@@ -118,12 +141,24 @@ static LIMITS: [(usize, usize, JudgeFault); 6] = [
     (64, 65_537, JudgeFault::BadBlock),
 ];
 
+fn fault_of<R: Threads + Wait>(
+    rt: &R,
+    alloc: Global,
+    trace: &Trace,
+    shards: usize,
+    block: usize,
+) -> Option<JudgeFault> {
+    Judge::judge(rt, alloc, trace, shards, block, &OpenGate).err()
+}
+
 #[test]
 fn numbers_out_of_their_limits_are_refused(rt: HostRuntime) -> Result<(), Fail> {
     let trace = traced(rt.alloc(), DECLARED, &[])?;
     for &(shards, block, fault) in &LIMITS {
-        let answer = Judge::judge(&rt, rt.alloc(), &trace, shards, block, &OpenGate);
-        assert_eq!(rt; answer.err(), Some(fault), "{shards} {block}");
+        assert_eq!(rt;
+            fault_of(&rt, rt.alloc(), &trace, shards, block),
+            Some(fault)
+        );
     }
     Ok(())
 }

@@ -144,16 +144,27 @@ fn is_same(one: &Verdict, other: &Verdict) -> bool {
     }
 }
 
-// Whether the judge agrees with this verdict for each number of shards. Three traces in a row meet each of them with each block.
+// Whether the judge with so many shards agrees with this verdict.
+fn agrees_by(
+    rt: &impl Runtime,
+    trace: &Trace,
+    plain: &Verdict,
+    shards: usize,
+    block: usize,
+) -> Result<bool, Fail> {
+    let verdict = Judge::judge(rt, rt.alloc(), trace, shards, block, &OpenGate)?;
+    Ok(is_same(plain, &verdict))
+}
+
+static SHARDS: [usize; 5] = [1, 2, 3, 7, 64];
+
+static BLOCKS: [usize; 3] = [1, 5, 65_536];
+
+// Whether it agrees with each number of shards. Three traces in a row meet each number with each block.
 fn agrees(rt: &impl Runtime, trace: &Trace, plain: &Verdict, round: u32) -> Result<bool, Fail> {
-    for shards in [1, 2, 3, 7, 64] {
-        let block = match round.wrapping_add(shards as u32) % 3 {
-            0 => 1,
-            1 => 5,
-            _ => 65_536,
-        };
-        let verdict = Judge::judge(rt, rt.alloc(), trace, shards, block, &OpenGate)?;
-        if !is_same(plain, &verdict) {
+    for shards in &SHARDS {
+        let block = BLOCKS[(round as usize).wrapping_add(*shards) % 3];
+        if !agrees_by(rt, trace, plain, *shards, block)? {
             return Ok(false);
         }
     }

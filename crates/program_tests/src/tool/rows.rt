@@ -181,13 +181,17 @@ static TWO_LINES: Told<'static> = (
     status::RACES,
 );
 
+static SHARDS: [usize; 4] = [1, 2, 3, 64];
+
+static BLOCKS: [usize; 3] = [1, 2, 65_536];
+
 // Whether the report of the text is the same for every number of shards and every block.
 fn is_told_by_shards(rt: &impl Runtime, text: &[u8], want: Told<'_>) -> Result<bool, Fail> {
-    for shards in [1, 2, 3, 64] {
-        for block in [1, 2, 65_536] {
+    for shards in &SHARDS {
+        for block in &BLOCKS {
             let options = CheckOptions {
-                shards,
-                block,
+                shards: *shards,
+                block: *block,
                 plain: false,
             };
             if !tells(rt, Engine::Check(&options), text, want)? {

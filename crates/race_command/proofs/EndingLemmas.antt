@@ -11,10 +11,11 @@ use Rattle.race_records.specs.declared.sink.Sink.{Sink}
 use Rattle.race_command.specs.declared.command.Request.{Request}
 use Rattle.race_tool.specs.declared.check.CheckOptions.{CheckOptions}
 use Rattle.race_tool.specs.declared.run_engine.RunOptions.{RunOptions}
+use Rattle.race_tool.specs.Engines.{Judges}
 use Rattle.race_tool.specs.Outcome.{are_in_limits}
 use Rattle.race_tool.specs.Run.{is_run_limit}
 use Rattle.race_tool.specs.Picks.{picks_asked}
-use Rattle.race_command.specs.Ending.{Does, Declines, Ends, Judges, answer_without_words}
+use Rattle.race_command.specs.Ending.{Does, Declines, Ends, answer_without_words}
 use Rattle.race_command.specs.Request.{is_in_limits}
 
 -- the options of a run that is to be judged are in their limits

@@ -35,7 +35,7 @@ Statuses:
   1   an event that breaks a rule of traces; its number, and the rule
   2   not a trace; the line at fault and why
   3   usage, or more events than --plain takes (2,000)
-  4   memory was refused
+  4   memory or a thread was refused
   5   reading or writing failed";
 
 pub(crate) const EDGES_ABOUT: &str =
@@ -143,6 +143,6 @@ Statuses:
   13  none, and a goroutine asked what can't be, as to start another a second time
   2   not a program; the line at fault and why
   3   usage, or more events than --plain takes (2,000)
-  4   memory was refused
+  4   memory or a thread was refused
   5   reading or writing failed
   15  the run could not be recorded, or what was recorded isn't a run of the program";

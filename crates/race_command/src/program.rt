@@ -17,6 +17,8 @@ use std::env::Args;
 use std::io;
 use std::io::{Read, Write};
 use std::process::ExitCode;
+use std::sync::Wait;
+use std::thread::Threads;
 
 /// Does what the words ask for, and says on standard error what no report says.
 ///
@@ -24,7 +26,10 @@ use std::process::ExitCode;
 /// `run_edges`, a run with that of `run_run`, a judged run with that of `run_race`. Help and the
 /// version end with 0, or with 5 where they can't be printed. Words that are at fault or aren't text
 /// end with 3, of which a line on standard error tells, and want of memory for them with 4.
-pub fn run<T: AllocGlobal + Print + Eprint, R: Read, W: Write>(
+///
+/// A check and a judged run by several shards start threads and wait for them. So what is promised holds
+/// where the call returns, and it returns if its reads, writes and threads do.
+pub fn run<T: AllocGlobal + Print + Eprint + Threads + Wait, R: Read, W: Write>(
     rt: &T,
     args: io::Result<Args>,
     source: &mut Source<R>,
@@ -60,7 +65,7 @@ fn words_of(alloc: Global, args: io::Result<Args>) -> io::Result<Vec<String>>
 }
 
 // Does what the words ask for.
-fn answer_words<T: AllocGlobal + Print + Eprint, R: Read, W: Write>(
+fn answer_words<T: AllocGlobal + Print + Eprint + Threads + Wait, R: Read, W: Write>(
     rt: &T,
     words: io::Result<Vec<String>>,
     source: &mut Source<R>,
@@ -78,7 +83,7 @@ fn answer_words<T: AllocGlobal + Print + Eprint, R: Read, W: Write>(
 }
 
 // Does what was asked for, or says why nothing is done.
-fn answer_request<T: AllocGlobal + Print + Eprint, R: Read, W: Write>(
+fn answer_request<T: AllocGlobal + Print + Eprint + Threads + Wait, R: Read, W: Write>(
     rt: &T,
     request: Result<Request, Error>,
     source: &mut Source<R>,

@@ -3,22 +3,14 @@ use Rattle.std.proofs.Common.{◌≡◌, ◌≢◌, ℕ, zero, suc, ◌+◌, ◌
 use Rattle.std.proofs.Common.{None, Result, Ok, Err, IfOk, IfErr, IsErrAnd, OnOk, refl, sym, ap, subst, ◌∙◌, arith, append-nil}
 use Rattle.std.proofs.Common.{length-append}
 use Rattle.std.proofs.KnownBytes.{Consumes-nil, Consumes-trans, Consumes-kept}
-use Rattle.std.proofs.lemmas.Option.{none-some}
 use Rattle.std.specs.Io.KnownBytes.{Consumes, Keeps}
-use Rattle.race_records.specs.declared.source.Source.{Source}
-use Rattle.race_records.specs.declared.sink.Sink.{Sink}
-use Rattle.race_records.specs.Devices.{unread, source_failures, more_by, one_more}
-use Rattle.race_records.specs.Events.{TraceState}
+use Rattle.race_records.specs.Devices.{more_by, one_more}
 use Rattle.race_text.specs.declared.cause.TextCause.{TextCause}
 use Rattle.race_text.specs.declared.cause.TextFault.{TextFault}
 use Rattle.race_text.specs.Lines.{Causes, first_fault}
 use Rattle.race_text.specs.Fed.{ended_after, ended_fault}
-use Rattle.race_text.specs.Fault.{text_fault, trace_causes}
 use Rattle.race_text.proofs.FedLemmas.{ended_fault_stays}
-use Rattle.race_text.proofs.TextFine.{text_has_no_fault}
-use Rattle.race_tool.specs.Finding.{IsTextWhere}
-use Rattle.race_tool.specs.Input.{Reads, IsInput, IsReadBy, IsReadable, ReadsBy, ReadsAs, ReadsFine, FeedsMore}
-use Rattle.race_tool.specs.Outcome.{IsRightFor, IsRightBy, AreTextWhere, WritesText, ReadsAndWrites, ReadsTextWhere, WritesFrontOf, FailsToWriteText}
+use Rattle.race_tool.specs.Input.{IsInput, IsReadBy, ReadsBy, ReadsFine, FeedsMore}
 
 -- so many blocks were read and fed to a reader, which stands for them, and no line that a newline ends is at fault
 pub record IsFed (causes : Causes) (start now : Option (List ℕ)) (StandsFor : List ℕ → Type 0) (turns : ℕ) : Type 0 where
@@ -126,23 +118,6 @@ pub itself : (bytes : List ℕ) (to_end : Bool) → IsInput bytes to_end bytes
 itself bytes true = refl
 itself bytes false = ([], sym (append-nil bytes))
 
-pub is_readable : (before after : Option (List ℕ)) (text : Result TraceState TextFault) → ReadsAs before after text → IsReadable text
-is_readable before after text r = (r.bytes, r.is_so r.bytes (itself r.bytes r.to_end))
-
--- a trace was read to its end
-pub reads_text : (Holds : TraceState → Type 0) (before after : Option (List ℕ)) (text : Result TraceState TextFault)
-    → ReadsAs before after text → AreTextWhere Holds text
-    → ReadsTextWhere Holds before after
-reads_text Holds before after (Ok trace) r holds = by r.to_end r.all r.read (holds r.bytes (r.is_so r.bytes (itself r.bytes r.to_end)))
-  where
-    by : (to_end : Bool) → IsTrue to_end → Reads trace_causes before after r.bytes to_end → IsTextWhere Holds r.bytes → ReadsTextWhere Holds before after
-    by true all read is = record { bytes = r.bytes; read = record { consumed = read.consumed; at_end = read.stops.0 }; text = is }
-    by false all read is = cc
-reads_text Holds before after (Err told) r holds =
-    let is = r.is_so r.bytes (itself r.bytes r.to_end) in
-    let w = holds r.bytes is in
-    absurd (none-some told (sym (ap text_fault w.text.printed ∙ text_has_no_fault w.trace w.text.has_text) ∙ is))
-
 -- an error that goes on as the answer of another type
 abbrev err : {X E : Type 0} → E → Result X E
 err e = Err e
@@ -170,35 +145,10 @@ module _ {X Y E : Type 0} (r : Result Y E) (e g : E) (is : IsErrAnd r (λ f. f �
       by (Ok y) is other = absurd is
       by (Err f) is other = other (ap (λ (x : E). Err x) (is ∙ ap or_else same))
 
--- what was written of what was read
-module _ {V F : Type 0} (IsText : V → List ℕ → Type 0) (causes : Causes) (IsRight : List ℕ → F → Type 0) (text_of : F → List ℕ) (before after : Option (List ℕ))
-    (text : Result V TextFault) (read : ReadsBy IsText causes before after text) where
-  pub reads_and_writes : (status_for : F → ℕ) (output output_now : Option (List ℕ)) (status : ℕ)
-      → WritesText (IsRightBy IsText causes IsRight text) text_of status_for output output_now status
-      → ReadsAndWrites causes IsRight text_of status_for before after output output_now status
-  reads_and_writes status_for output output_now status w = record {
-    bytes = read.bytes;
-    to_end = read.to_end;
-    read = read.read;
-    reported = record { finding = w.finding; right = λ whole is. w.right whole (read.is_so whole is); printed = w.printed; status_is = w.status_is };
-  }
-
-  pub front_for : {W : Type 0} (contents : W → Option (List ℕ)) (sink sink_now : Sink W)
-      → WritesFrontOf (IsRightBy IsText causes IsRight text) text_of contents sink sink_now
-      → WritesFrontOf (IsRightFor IsRight read.bytes read.to_end) text_of contents sink sink_now
-  front_for contents sink sink_now w =
-      record { finding = w.finding; right = λ whole is. w.right whole (read.is_so whole is); sent = w.sent; cut_off = w.cut_off; failed = w.failed }
-
-pub fails_to_write : {V F R W : Type 0} (IsText : V → List ℕ → Type 0) (causes : Causes) (IsRight : List ℕ → F → Type 0) (text_of : F → List ℕ)
-    (remaining : R → Option (List ℕ)) (contents : W → Option (List ℕ))
-    (source source_now : Source R) (sink sink_now : Sink W) (text : Result V TextFault)
-    → ReadsBy IsText causes (unread remaining source) (unread remaining source_now) text
-    → source_failures source_now ≡ source_failures source → WritesFrontOf (IsRightBy IsText causes IsRight text) text_of contents sink sink_now
-    → FailsToWriteText causes IsRight text_of remaining contents source source_now sink sink_now
-fails_to_write IsText causes IsRight text_of remaining contents source source_now sink sink_now text read calm w = record {
-  bytes = read.bytes;
-  to_end = read.to_end;
-  read = read.read;
-  calm = calm;
-  front = front_for IsText causes IsRight text_of (unread remaining source) (unread remaining source_now) text read contents sink sink_now w;
-}
+-- an error is the same whatever else could be answered
+pub err_again : {X Y E : Type 0} (e g : E) → err {X = X} e ≡ Err g → err {X = Y} e ≡ Err g
+err_again {X} {Y} {E} e g same = ap (λ (f : E). err {X = Y} f) (ap or_else same)
+  where
+    or_else : Result X E → E
+    or_else (Ok x) = e
+    or_else (Err f) = f

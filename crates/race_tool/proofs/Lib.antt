@@ -1,6 +1,5 @@
-pub mod VariableSteps
-pub mod ClockedSteps
 pub mod InputLemmas
+pub mod EngineLemmas
 pub mod PrintableLemmas
 pub mod StatusLemmas
 pub mod OneReport
@@ -8,3 +7,4 @@ pub mod EachIsJudged
 pub mod ListingLemmas
 pub mod RunLemmas
 pub mod RaceLemmas
+pub mod PromiseLemmas

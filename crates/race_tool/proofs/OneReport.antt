@@ -79,7 +79,7 @@ module _ (t u : TraceState) (same : recorded t ≡ recorded u) where
   race_same race = λ j. concat (codes "race on " ∷ var_name (declarations_same j) race.var ∷ codes ": "
       ∷ (access_same race.first j ++ codes ", " ∷ (access_same race.second j ++ newline ∷ [])))
 
-  report_same : (verdict : Verdict) → report t verdict ≡ report u verdict
+  pub report_same : (verdict : Verdict) → report t verdict ≡ report u verdict
   unfolding clean_line
   report_same (Illegal index rule) = refl
   report_same Clean = λ j. concat (codes "clean: " ∷ decimal (length_same j) ∷ codes " events, " ∷ decimal (accesses_same j) ∷ codes " accesses" ∷ newline ∷ [])

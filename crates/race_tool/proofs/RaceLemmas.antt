@@ -1,35 +1,55 @@
 -- What is found of a judged run, by what is known of its parts.
-use Rattle.std.proofs.Common.{ℕ, ◌≡◌, ◌≢◌, List, Bool, Option, Some, None, Ok, Err, refl, sym, subst, ◌∙◌, arith}
+use Rattle.std.proofs.Common.{ℕ, ◌≡◌, ◌≢◌, ◌<◌, ◌≤◌, ◌++◌, List, map, length, Bool, Option, Some, None, refl, sym, ap, subst, ◌∙◌, arith}
 use Rattle.std.specs.Prelude.{option_map}
+use Rattle.race_records.specs.declared.event.Event.{Event}
+use Rattle.race_records.specs.Declarations.{DeclsState, capacity_of}
 use Rattle.race_records.specs.Events.{TraceState}
-use Rattle.std.specs.Io.KnownBytes.{Appends}
-use Rattle.race_records.specs.declared.sink.Sink.{Sink}
-use Rattle.race_records.specs.Page.{IsCutOff}
-use Rattle.race_records.specs.Devices.{written, sink_failures, one_more}
-use Rattle.race_model.specs.Verdict.{Verdict, Illegal, Clean, Races}
+use Rattle.race_records.specs.TraceEquality.{placed, Recorded, recorded}
+use Rattle.race_model.specs.Verdict.{Verdict, IsVerdict, Illegal, Clean, Races}
 use Rattle.race_model.proofs.Uniqueness.{illegal_not_legal}
+use Rattle.race_edges.specs.declared.fault.TheConstants.{MAX_PLAIN_EVENTS}
 use Rattle.race_verdict.specs.declared.verdict.Verdict.{Verdict as Judged}
 use Rattle.race_verdict.specs.Traces.{capacities, IsClean, IsRacy}
 use Rattle.race_verdict.specs.Verdicts.{verdict_of}
-use Rattle.race_text.specs.declared.cause.TextFault.{TextFault}
 use Rattle.race_hub.specs.declared.ending.End.{End}
 use Rattle.race_hub.specs.Recording.{RecordingState}
+use Rattle.race_script.specs.Fault.{text_fault}
 use Rattle.race_script.specs.Program.{ProgramState}
-use Rattle.race_report.specs.Report.{fault_line}
+use Rattle.race_script.proofs.TextFine.{text_has_no_fault}
+use Rattle.race_report.specs.Report.{report}
+use Rattle.race_report.proofs.PrintableLemmas.{races_are_of}
+use Rattle.race_tool.specs.declared.race_found.JudgedRun.{JudgedRun as Found}
 use Rattle.race_tool.specs.declared.status.TheConstants as status
 use Rattle.race_tool.specs.Finding.{IsVerdictOn}
-use Rattle.race_tool.specs.Outcome.{WritesJudgedRun, WritesJudgedFront, WritesVerdict, WritesVerdictFront}
-use Rattle.race_tool.specs.Race.{NoProgram, Ran, HasRunWhere, verdict_status}
-use Rattle.race_tool.specs.Run.{IsRunOf, status_of_end}
-use Rattle.race_tool.proofs.StatusLemmas.{is_clean, is_racy}
+use Rattle.race_tool.specs.Outcome.{IsOfAFinding}
+use Rattle.race_tool.specs.Race.{JudgedRun, NoProgram, Ran, HasRunWhere, IsJudgedRun, verdict_text, verdict_status, judged_status}
+use Rattle.race_tool.specs.Recorded.{trace_of, judged_run_of, CanBePrinted}
+use Rattle.race_tool.specs.Report.{end_line}
+use Rattle.race_tool.specs.Run.{status_of_end, IsProgramWhere}
+use Rattle.race_tool.proofs.OneReport.{report_same}
+use Rattle.race_tool.proofs.RunLemmas.{trace_stays, end_own}
+use Rattle.race_tool.proofs.StatusLemmas.{is_clean, is_racy, small, large}
 
--- what the judge answers, by its cases
-module _ {A : Type 0} (plain : Bool) (trace : TraceState) (judged : Option (Judged A)) (right : IsVerdictOn plain trace (option_map verdict_of judged)) where
-  pub right_verdict : (verdict : Judged A) → judged ≡ Some verdict → IsVerdictOn plain trace (Some (verdict_of verdict))
-  right_verdict verdict is = subst (λ (o : Option (Judged A)). IsVerdictOn plain trace (option_map verdict_of o)) is right
+-- a verdict on a trace is one on each that has the same declarations and events
+pub verdict_stays : (plain : Bool) (t u : TraceState) (verdict : Option Verdict) → t.decls ≡ u.decls → t.events ≡ u.events
+    → IsVerdictOn plain t verdict → IsVerdictOn plain u verdict
+verdict_stays plain t u None decls_are events_are (plainly, over) =
+    (plainly, subst (λ (es : List Event). MAX_PLAIN_EVENTS < length es) events_are over)
+verdict_stays plain t u (Some verdict) decls_are events_are (short, right) = (
+  λ wanted. subst (λ (es : List Event). length es ≤ MAX_PLAIN_EVENTS) events_are (short wanted),
+  subst (λ (d : DeclsState). IsVerdict (capacity_of d.declarations) u.events verdict) decls_are
+      (subst (λ (es : List Event). IsVerdict (capacities t) es verdict) events_are right),
+)
 
-  pub no_verdict : judged ≡ None → IsVerdictOn plain trace None
-  no_verdict is = subst (λ (o : Option (Judged A)). IsVerdictOn plain trace (option_map verdict_of o)) is right
+-- and has the same report
+module _ (r : RecordingState) (trace : TraceState) (decls_are : trace.decls ≡ r.decls) (events_are : trace.events ≡ r.events) where
+  same_record : recorded trace ≡ recorded (trace_of r)
+  same_record = (λ i. record { declarations = (decls_are i).declarations; events = map (placed (decls_are i).places) (events_are i) })
+
+  pub same_report : (verdict : Verdict) (end : End) → end ≡ r.end
+      → report trace verdict ++ end_line trace.decls.declarations end ≡ verdict_text r (trace_of r) (Some verdict)
+  same_report verdict end is =
+      λ i. report_same trace (trace_of r) same_record verdict i ++ end_line (decls_are i).declarations (is i)
 
 -- no end has the status of races
 no_end_races : (end : End) → status_of_end end ≡ status.RACES → ⊥
@@ -47,68 +67,57 @@ no_end_is_illegal End.Limit is = absurd (omega (arith, is))
 no_end_is_illegal (End.Bad g) is = absurd (omega (arith, is))
 
 -- no event of a run breaks a rule
-pub never_illegal : (plain : Bool) (r : RecordingState) (output output_now : Option (List ℕ)) (answer : ℕ) → WritesVerdict plain r output output_now answer
-    → answer ≢ status.ILLEGAL
-never_illegal plain r output output_now answer w is = by w.verdict w.right (sym w.status_is ∙ is)
-  where
-    by : (verdict : Option Verdict) → IsVerdictOn plain w.trace verdict → verdict_status r verdict ≡ status.ILLEGAL → ⊥
-    by None right is = absurd (omega (arith, is))
-    by (Some (Illegal index rule)) right is = illegal_not_legal (capacities w.trace) w.trace.events index rule right.1 w.is_of.legal
-    by (Some Clean) right is = no_end_is_illegal r.end is
-    by (Some (Races races)) right is = absurd (omega (arith, is))
-
-module _ (limit : ℕ) (picks : List ℕ) (plain : Bool) (program : ProgramState) (r : RecordingState) (run : IsRunOf limit picks program r) where
-  -- its report was written
-  pub writes_judged : (output output_now : Option (List ℕ)) (status : ℕ) → WritesVerdict plain r output output_now status
-      → WritesJudgedRun limit picks plain (Ok program) output output_now status
-  writes_judged output output_now status w = record {
-    finding = Ran program r w.trace w.verdict;
-    right = λ bytes is. (is, run, w.is_of, w.right);
-    printed = w.printed;
-    status_is = w.status_is;
-  }
-
-  -- or a front of it
-  pub writes_judged_front : {W : Type 0} (contents : W → Option (List ℕ)) (sink sink_now : Sink W) → WritesVerdictFront plain r contents sink sink_now
-      → WritesJudgedFront limit picks plain (Ok program) contents sink sink_now
-  writes_judged_front contents sink sink_now w = record {
-    finding = Ran program r w.trace w.verdict;
-    right = λ bytes is. (is, run, w.is_of, w.right);
-    sent = w.sent;
-    cut_off = w.cut_off;
-    failed = w.failed;
-  }
+module _ (limit : ℕ) (picks : List ℕ) (plain : Bool) (bytes : List ℕ) where
+  pub never_illegal : (judged : JudgedRun) → IsJudgedRun limit picks plain bytes judged → judged_status judged ≢ status.ILLEGAL
+  never_illegal (NoProgram fault) right is = absurd (omega (arith, is))
+  never_illegal (Ran program r trace None) right is = absurd (omega (arith, is))
+  never_illegal (Ran program r trace (Some (Illegal index rule))) right is =
+      illegal_not_legal (capacities trace) trace.events index rule right.3.1 right.2.legal
+  never_illegal (Ran program r trace (Some Clean)) right is = no_end_is_illegal r.end is
+  never_illegal (Ran program r trace (Some (Races races))) right is = absurd (omega (arith, is))
 
   -- with CLEAN its trace has no race
-  pub clean_run : (output output_now : Option (List ℕ)) (answer : ℕ) → WritesVerdict plain r output output_now answer → answer ≡ status.CLEAN
-      → HasRunWhere limit picks IsClean program
-  clean_run output output_now answer w is = by w.verdict w.right (sym w.status_is ∙ is)
-    where
-      by : (verdict : Option Verdict) → IsVerdictOn plain w.trace verdict → verdict_status r verdict ≡ status.CLEAN → HasRunWhere limit picks IsClean program
-      by None right is = absurd (omega (arith, is))
-      by (Some (Illegal index rule)) right is = absurd (omega (arith, is))
-      by (Some Clean) right is = record { recording = r; trace = w.trace; run = run; is_of = w.is_of; holds = is_clean w.trace right.1 }
-      by (Some (Races races)) right is = absurd (omega (arith, is))
+  pub clean_run : (judged : JudgedRun) → IsJudgedRun limit picks plain bytes judged → judged_status judged ≡ status.CLEAN
+      → IsProgramWhere (HasRunWhere limit picks IsClean) bytes
+  clean_run (NoProgram fault) right is = absurd (omega (arith, is))
+  clean_run (Ran program r trace None) right is = absurd (omega (arith, is))
+  clean_run (Ran program r trace (Some (Illegal index rule))) right is = absurd (omega (arith, is))
+  clean_run (Ran program r trace (Some Clean)) right is = record {
+    program = program;
+    text_is = right.0;
+    holds = record { recording = r; trace = trace; run = right.1; is_of = right.2; holds = is_clean trace right.3.1 };
+  }
+  clean_run (Ran program r trace (Some (Races races))) right is = absurd (omega (arith, is))
 
   -- with RACES it has one
-  pub racy_run : (output output_now : Option (List ℕ)) (answer : ℕ) → WritesVerdict plain r output output_now answer → answer ≡ status.RACES
-      → HasRunWhere limit picks IsRacy program
-  racy_run output output_now answer w is = by w.verdict w.right (sym w.status_is ∙ is)
-    where
-      by : (verdict : Option Verdict) → IsVerdictOn plain w.trace verdict → verdict_status r verdict ≡ status.RACES → HasRunWhere limit picks IsRacy program
-      by None right is = absurd (omega (arith, is))
-      by (Some (Illegal index rule)) right is = absurd (omega (arith, is))
-      by (Some Clean) right is = absurd (no_end_races r.end is)
-      by (Some (Races races)) right is = record { recording = r; trace = w.trace; run = run; is_of = w.is_of; holds = is_racy w.trace races right.1 }
+  pub racy_run : (judged : JudgedRun) → IsJudgedRun limit picks plain bytes judged → judged_status judged ≡ status.RACES
+      → IsProgramWhere (HasRunWhere limit picks IsRacy) bytes
+  racy_run (NoProgram fault) right is = absurd (omega (arith, is))
+  racy_run (Ran program r trace None) right is = absurd (omega (arith, is))
+  racy_run (Ran program r trace (Some (Illegal index rule))) right is = absurd (omega (arith, is))
+  racy_run (Ran program r trace (Some Clean)) right is = absurd (no_end_races r.end is)
+  racy_run (Ran program r trace (Some (Races races))) right is = record {
+    program = program;
+    text_is = right.0;
+    holds = record { recording = r; trace = trace; run = right.1; is_of = right.2; holds = is_racy trace races right.3.1 };
+  }
 
--- a program's fault was written, or a front of its line
-module _ (limit : ℕ) (picks : List ℕ) (plain : Bool) (fault : TextFault) where
-  pub writes_judged_fault : (output output_now : Option (List ℕ)) → Appends output output_now (fault_line fault)
-      → WritesJudgedRun limit picks plain (Err fault) output output_now status.TEXT_FAULT
-  writes_judged_fault output output_now printed = record { finding = NoProgram fault; right = λ bytes is. is; printed = printed; status_is = refl }
+  -- a right one can be printed
+  pub can_be_printed : {A : Type 0} (found : Found A) → IsJudgedRun limit picks plain bytes (judged_run_of found) → CanBePrinted found
+  can_be_printed (Found.NoProgram fault) right = tt
+  can_be_printed (Found.Ran program r None) right = tt
+  can_be_printed (Found.Ran program r (Some verdict)) right = λ trace decls_are events_are.
+      races_are_of trace verdict (trace_stays (trace_of r) trace (sym decls_are) (sym events_are) right.2.has_text.is_trace)
+      (verdict_stays plain (trace_of r) trace (Some (verdict_of verdict)) (sym decls_are) (sym events_are) right.3).1
 
-  pub writes_judged_fault_front : {W : Type 0} (contents : W → Option (List ℕ)) (sink sink_now : Sink W) (sent : ℕ)
-      → IsCutOff (written contents sink) (written contents sink_now) sent (fault_line fault) → sink_failures sink_now ≡ one_more (sink_failures sink)
-      → WritesJudgedFront limit picks plain (Err fault) contents sink sink_now
-  writes_judged_fault_front contents sink sink_now sent cut failed =
-      record { finding = NoProgram fault; right = λ bytes is. is; sent = sent; cut_off = cut; failed = failed }
+-- the text of a program has no fault
+pub no_fault_where : (Holds : ProgramState → Type 0) (bytes : List ℕ) → IsProgramWhere Holds bytes → text_fault bytes ≡ None
+no_fault_where Holds bytes w = ap text_fault w.text_is.printed ∙ text_has_no_fault w.program w.text_is.program
+
+-- the status of a judged run
+pub judged_own : (judged : JudgedRun) → IsOfAFinding (judged_status judged)
+judged_own (NoProgram fault) = small status.TEXT_FAULT (omega arith)
+judged_own (Ran program r trace None) = small status.USAGE (omega arith)
+judged_own (Ran program r trace (Some (Illegal index rule))) = small status.ILLEGAL (omega arith)
+judged_own (Ran program r trace (Some Clean)) = end_own r.end
+judged_own (Ran program r trace (Some (Races races))) = large status.RACES (omega arith)

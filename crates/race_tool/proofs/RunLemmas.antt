@@ -1,21 +1,16 @@
 -- What a run is, by what is known of its parts.
-use Rattle.std.proofs.Common.{ℕ, ◌≡◌, ◌≢◌, ◌⊎◌, inl, inr, ◌+◌, ◌<◌, ◌++◌, List, [], ◌∷◌, length, map, take, Bool}
-use Rattle.std.proofs.Common.{true, false, IsTrue, Option, Some, Result, Ok, Err, IfOk, IfErr, refl, sym, ap}
-use Rattle.std.proofs.Common.{subst, ◌∙◌}
-use Rattle.std.proofs.Common.{arith, length-append, slice_get}
-use Rattle.std.proofs.lemmas.List.{map-append, take_all, take-append-drop, length-take-le}
-use Rattle.std.specs.Prelude.{drop}
+use Rattle.std.proofs.Common.{ℕ, ◌≡◌, ◌⊎◌, inl, inr, ◌+◌, ◌≤◌, ◌++◌, List, [], ◌∷◌, length, map, take, All}
+use Rattle.std.proofs.Common.{IsTrue, Some, Result, Ok, Err, IfOk, IfErr, refl, sym, ap, subst, ◌∙◌, arith, slice_get}
+use Rattle.std.proofs.lemmas.List.{map-append, take_all}
 use Rattle.race_legal.proofs.Fronts.{take_next}
-use Rattle.std.specs.Io.KnownBytes.{Appends}
-use Rattle.race_records.specs.declared.sink.Sink.{Sink}
 use Rattle.race_records.specs.declared.event.Event.{Event}
+use Rattle.race_records.specs.declared.trace.TheConstants.{MAX_EVENTS}
 use Rattle.race_records.specs.Declarations.{DeclsState, IsWellFormed, capacity_of}
-use Rattle.race_records.specs.Events.{TraceState, IsTrace}
-use Rattle.race_records.specs.Page.{IsCutOff, count_of_bytes}
+use Rattle.race_records.specs.Events.{TraceState, IsTrace, fits, op_is_limited}
 use Rattle.race_model.specs.Legal.{IsLegal}
-use Rattle.race_records.specs.declared.source.Source.{Source}
-use Rattle.race_records.specs.Devices.{unread, written, source_failures, sink_failures, one_more}
-use Rattle.race_text.specs.declared.cause.TextFault.{TextFault}
+use Rattle.race_text.specs.Text.{text}
+use Rattle.race_text.proofs.WritingLemmas.{printed_is}
+use Rattle.race_hub.specs.declared.ending.End.{End}
 use Rattle.race_hub.specs.declared.request.Request.{Request}
 use Rattle.race_hub.specs.Hub.{HubState}
 use Rattle.race_hub.specs.Opening.{IsOpening}
@@ -23,17 +18,12 @@ use Rattle.race_hub.specs.Recording.{RecordingState, AreParts, HasEnded}
 use Rattle.race_script.specs.Certificate.{IsCertified}
 use Rattle.race_script.specs.Program.{ProgramState}
 use Rattle.race_script.specs.Run.{ScriptState, Asks}
-use Rattle.race_script.specs.Text.{IsTextOf}
 use Rattle.race_record.specs.Serial.{IsSerial, IsTurnedAway}
-use Rattle.race_report.specs.Report.{fault_line}
-use Rattle.race_tool.specs.declared.input.ReadFault.{ReadFault}
 use Rattle.race_tool.specs.declared.status.TheConstants as status
-use Rattle.race_script.specs.Fault.{program_causes}
-use Rattle.race_tool.specs.Input.{Reads, ReadsBy, ReadsFine, ReadsMany}
-use Rattle.race_tool.specs.Outcome.{status_of_fault, FailsToRead, GivesUpReading}
-use Rattle.race_tool.specs.Outcome.{IsProgramWhere, ReadsProgramOf, WritesRun, WritesRunFront, WritesTrace, WritesTraceFront}
-use Rattle.race_tool.specs.Run.{scripts_of, IsRunOf, IsUncertified, IsRefusedRun, IsTraceOf, NoProgram, Ran}
-use Rattle.race_tool.proofs.InputLemmas.{itself}
+use Rattle.race_tool.specs.Outcome.{IsOfAFinding}
+use Rattle.race_tool.specs.Recorded.{trace_of}
+use Rattle.race_tool.specs.Run.{scripts_of, status_of_end, IsRunOf, IsUncertified, IsRefusedRun, IsTraceOf, Run, NoProgram, Ran, run_status}
+use Rattle.race_tool.proofs.StatusLemmas.{small, middle}
 
 -- so many scripts are made
 abbrev pub AreScripts : List (List Request) → ℕ → List ScriptState → Type 0
@@ -98,110 +88,43 @@ module _ (program : ProgramState) (limit : ℕ) (picks : List ℕ) (decls : Decl
 pub none_out : {R : Type 0} (decls : DeclsState) (limit : ℕ) (boxes : List R) (hub : HubState R) → IsOpening decls limit boxes hub → length hub.out ≡ 0
 none_out decls limit boxes hub opens = ap (λ h. length h.out) opens.hub_is
 
--- a program was read to its end
-pub reads_program : (Holds : ProgramState → Type 0) (before after : Option (List ℕ)) (text : Result ProgramState TextFault)
-    → ReadsBy IsTextOf program_causes before after text → IsProgramWhere Holds text → ReadsProgramOf Holds before after
-reads_program Holds before after (Ok program) r holds = by r.to_end r.all r.read (r.is_so r.bytes (itself r.bytes r.to_end))
-  where
-    by : (to_end : Bool) → IsTrue to_end → Reads program_causes before after r.bytes to_end → IsTextOf program r.bytes → ReadsProgramOf Holds before after
-    by true all read is =
-        record { bytes = r.bytes; read = record { consumed = read.consumed; at_end = read.stops.0 }; is = program; text_is = is; holds = holds }
-    by false all read is = cc
-reads_program Holds before after (Err fault) r holds = elim holds [ ]
-
--- the recording's trace, once its declarations and events were looked at
-pub trace_of : (r : RecordingState) (trace : TraceState) (decls : DeclsState) → trace.decls ≡ r.decls → trace.events ≡ r.events
-    → IsLegal (capacity_of r.decls.declarations) r.events → AreParts r.logs r.events → decls ≡ trace.decls → IsWellFormed decls → IsTrace trace
-    → IsTraceOf r trace
-trace_of r trace decls decls_are events_are legal parts same well_formed is_trace = record {
-  decls = decls_are;
-  events = events_are;
-  has_text = record { well_formed = subst IsWellFormed same well_formed; is_trace = is_trace };
-  legal = subst (λ (d : DeclsState). IsLegal (capacity_of d.declarations) trace.events) (sym decls_are)
-      (subst (λ (es : List Event). IsLegal (capacity_of r.decls.declarations) es) (sym events_are) legal);
-  parts = subst (λ (es : List Event). AreParts r.logs es) (sym events_are) parts;
+-- what holds of every trace goes by its declarations and events
+pub trace_stays : (t u : TraceState) → t.decls ≡ u.decls → t.events ≡ u.events → IsTrace t → IsTrace u
+trace_stays t u decls_are events_are is = record {
+  fit = subst (λ (es : List Event). All (λ e. IsTrue (fits u.decls e)) es) events_are
+      (subst (λ (d : DeclsState). All (λ e. IsTrue (fits d e)) t.events) decls_are is.fit);
+  values = subst (λ (es : List Event). All (λ e. IsTrue (op_is_limited e.op)) es) events_are is.values;
+  limited = subst (λ (es : List Event). length es ≤ MAX_EVENTS) events_are is.limited;
 }
 
--- a front of the text is out
-pub cut_short : (start now : Option (List ℕ)) (n : ℕ) (bytes : List ℕ) → Appends start now (take n bytes) → n < length bytes
-    → IsCutOff start now (count_of_bytes (length (take n bytes))) bytes
-cut_short start now n bytes appended less =
-    let front : length (take n bytes) ≡ n = length-take-le n bytes (omega (arith, less)) in
-    let whole : length (take n bytes) + length (drop n bytes) ≡ length bytes =
-    sym (length-append (take n bytes) (drop n bytes)) ∙ ap length (take-append-drop n bytes) in
-    record {
-      out = take n bytes;
-      rest = drop n bytes;
-      split = sym (take-append-drop n bytes);
-      short = omega (arith, front, whole, less);
-      appended = appended;
-      counted = refl;
-    }
+-- the recording's trace, once its declarations and events were looked at
+pub is_trace_of : (r : RecordingState) (trace : TraceState) (decls : DeclsState) → trace.decls ≡ r.decls → trace.events ≡ r.events
+    → IsLegal (capacity_of r.decls.declarations) r.events → AreParts r.logs r.events → decls ≡ trace.decls → IsWellFormed decls → IsTrace trace
+    → IsTraceOf r (trace_of r)
+is_trace_of r trace decls decls_are events_are legal parts same well_formed is_trace = record {
+  decls = refl;
+  events = refl;
+  has_text = record {
+    well_formed = subst IsWellFormed (same ∙ decls_are) well_formed;
+    is_trace = trace_stays trace (trace_of r) decls_are events_are is_trace;
+  };
+  legal = legal;
+  parts = parts;
+}
 
-module _ (limit : ℕ) (picks : List ℕ) (program : ProgramState) (r : RecordingState) (run : IsRunOf limit picks program r) where
-  -- its trace was written
-  pub writes_run : (output output_now : Option (List ℕ)) (status : ℕ)
-      → WritesTrace r output output_now status → WritesRun limit picks (Ok program) output output_now status
-  writes_run output output_now status w = record {
-    finding = Ran program r w.trace;
-    right = λ bytes is. (is, run, w.is_of);
-    printed = w.printed;
-    status_is = w.status_is;
-  }
+-- it has the text of each trace that has the same declarations and events
+pub same_text : (r : RecordingState) (trace : TraceState) → trace.decls ≡ r.decls → trace.events ≡ r.events → text trace ≡ text (trace_of r)
+same_text r trace decls_are events_are =
+    sym (printed_is trace trace.decls trace.events refl refl) ∙ printed_is (trace_of r) trace.decls trace.events decls_are events_are
 
-  -- or a front of it
-  pub writes_run_front : {W : Type 0} (contents : W → Option (List ℕ)) (sink sink_now : Sink W) → WritesTraceFront r contents sink sink_now
-      → WritesRunFront limit picks (Ok program) contents sink sink_now
-  writes_run_front contents sink sink_now w = record {
-    finding = Ran program r w.trace;
-    right = λ bytes is. (is, run, w.is_of);
-    sent = w.sent;
-    cut_off = w.cut_off;
-    failed = w.failed;
-  }
+-- a status of a run
+pub end_own : (end : End) → IsOfAFinding (status_of_end end)
+end_own End.Main = small status.CLEAN (omega arith)
+end_own End.Fault = middle status.FAILED (omega arith) (omega arith)
+end_own End.Deadlock = middle status.DEADLOCK (omega arith) (omega arith)
+end_own End.Limit = middle status.LIMIT (omega arith) (omega arith)
+end_own (End.Bad g) = middle status.BAD_REQUEST (omega arith) (omega arith)
 
--- a program's fault was written, or a front of its line
-module _ (limit : ℕ) (picks : List ℕ) (fault : TextFault) where
-  pub writes_fault : (output output_now : Option (List ℕ)) → Appends output output_now (fault_line fault)
-      → WritesRun limit picks (Err fault) output output_now status.TEXT_FAULT
-  writes_fault output output_now printed = record { finding = NoProgram fault; right = λ bytes is. is; printed = printed; status_is = refl }
-
-  pub writes_fault_front : {W : Type 0} (contents : W → Option (List ℕ)) (sink sink_now : Sink W) (sent : ℕ)
-      → IsCutOff (written contents sink) (written contents sink_now) sent (fault_line fault) → sink_failures sink_now ≡ one_more (sink_failures sink)
-      → WritesRunFront limit picks (Err fault) contents sink sink_now
-  writes_fault_front contents sink sink_now sent cut failed =
-      record { finding = NoProgram fault; right = λ bytes is. is; sent = sent; cut_off = cut; failed = failed }
-
--- the status of an input that wasn't read is none of a run
-pub unread_is_no_run : {X : Type 0} (fault : ReadFault) (answer : ℕ) → answer ≡ status_of_fault fault → answer ≢ status.REFUSED → answer ≢ status.DEVICE → X
-unread_is_no_run ReadFault.Failed answer is granted served = absurd (served is)
-unread_is_no_run ReadFault.Endless answer is granted served = absurd (served is)
-unread_is_no_run ReadFault.OutOfMemory answer is granted served = absurd (granted is)
-
-pub unread_is_recorded : {X : Type 0} (fault : ReadFault) (answer : ℕ) → answer ≡ status_of_fault fault → answer ≡ status.MISMATCH → X
-unread_is_recorded ReadFault.Failed answer is mismatch = let e : status.DEVICE ≡ status.MISMATCH = sym is ∙ mismatch in absurd (omega (arith, e))
-unread_is_recorded ReadFault.Endless answer is mismatch = let e : status.DEVICE ≡ status.MISMATCH = sym is ∙ mismatch in absurd (omega (arith, e))
-unread_is_recorded ReadFault.OutOfMemory answer is mismatch = let e : status.REFUSED ≡ status.MISMATCH = sym is ∙ mismatch in absurd (omega (arith, e))
-
-module _ {R W Y : Type 0} (remaining : R → Option (List ℕ)) (source source_now : Source R) (sink : Sink W) where
-  -- it says how reading failed
-  pub unread_device : {X : Type 0} (fault : ReadFault) (answer : ℕ) → answer ≡ status_of_fault fault
-      → (◌≡◌ {A = Result Y ReadFault} (Err fault) (Err ReadFault.Failed) → ReadsFine program_causes (unread remaining source) (unread remaining source_now))
-      → (◌≡◌ {A = Result Y ReadFault} (Err fault) (Err ReadFault.Failed) → source_failures source_now ≡ one_more (source_failures source))
-      → (◌≡◌ {A = Result Y ReadFault} (Err fault) (Err ReadFault.Endless) → ReadsMany program_causes remaining source source_now)
-      → (◌≢◌ {A = Result Y ReadFault} (Err fault) (Err ReadFault.Failed) → source_failures source_now ≡ source_failures source)
-      → answer ≡ status.DEVICE
-      → FailsToRead program_causes remaining source source_now sink sink ⊎ GivesUpReading program_causes remaining source source_now sink sink ⊎ X
-  unread_device ReadFault.Failed answer is fine failed many calm device = inl (record { fine = fine refl; failed = failed refl; unwritten = refl })
-  unread_device ReadFault.Endless answer is fine failed many calm device =
-      inr (inl (record { many = many refl; calm = calm (λ e. cc); unwritten = refl }))
-  unread_device ReadFault.OutOfMemory answer is fine failed many calm device =
-      let e : status.REFUSED ≡ status.DEVICE = sym is ∙ device in absurd (omega (arith, e))
-
-  -- or that memory was refused
-  pub unread_calm : (fault : ReadFault) (answer : ℕ) → answer ≡ status_of_fault fault
-      → (◌≢◌ {A = Result Y ReadFault} (Err fault) (Err ReadFault.Failed) → source_failures source_now ≡ source_failures source)
-      → answer ≢ status.DEVICE → source_failures source_now ≡ source_failures source
-  unread_calm ReadFault.Failed answer is calm served = absurd (served is)
-  unread_calm ReadFault.Endless answer is calm served = absurd (served is)
-  unread_calm ReadFault.OutOfMemory answer is calm served = calm (λ e. cc)
+pub run_own : (run : Run) → IsOfAFinding (run_status run)
+run_own (NoProgram fault) = small status.TEXT_FAULT (omega arith)
+run_own (Ran program r trace) = end_own r.end

@@ -1,13 +1,17 @@
--- What the status of a right finding says of the bytes.
-use Rattle.std.proofs.Common.{◌≡◌, ℕ, Bool, List, [], ◌∷◌, refl}
+-- What the status of a right finding of a trace says of the bytes.
+use Rattle.std.proofs.Common.{◌≡◌, ◌<◌, ℕ, Bool, List, [], ◌∷◌, None, refl, ap, ◌∙◌, arith}
 use Rattle.race_model.specs.Reorder.{own_order}
 use Rattle.race_model.specs.Verdict.{Race, Illegal, Clean, Races}
 use Rattle.race_records.specs.Events.{TraceState}
 use Rattle.race_model.proofs.OwnOrder.{own_is_reordering}
 use Rattle.race_model.proofs.ReorderLemmas.{same_finds}
+use Rattle.race_text.specs.Fault.{text_fault}
+use Rattle.race_text.proofs.TextFine.{text_has_no_fault}
 use Rattle.race_tool.specs.declared.status.TheConstants as status
 use Rattle.race_verdict.specs.Traces.{capacities, HasVerdict, IsClean, IsRacy, IsIllegal}
 use Rattle.race_tool.specs.Finding.{Finding, Faulty, TooLong, Judged, IsFinding, IsTextWhere, status_of}
+use Rattle.race_tool.specs.Listing.{Listing, NoTrace, TooMany, Broken, Listed, listing_status}
+use Rattle.race_tool.specs.Outcome.{IsOfAFinding}
 
 -- clean: no race, so each read finds the same write in every reordering
 pub is_clean : (trace : TraceState) → HasVerdict trace Clean → IsClean trace
@@ -54,3 +58,45 @@ illegal_text plain (Judged trace Clean) bytes right is = cc
 illegal_text plain (Judged trace (Races races)) bytes right is = cc
 illegal_text plain (Faulty fault) bytes right is = cc
 illegal_text plain (TooLong events) bytes right is = cc
+
+-- the text of a trace has no fault
+pub no_fault_where : (Holds : TraceState → Type 0) (bytes : List ℕ) → IsTextWhere Holds bytes → text_fault bytes ≡ None
+no_fault_where Holds bytes w = ap text_fault w.text.printed ∙ text_has_no_fault w.trace w.text.has_text
+
+-- a status below 4, between 5 and 15 or above 15 tells of something that was found
+module _ (n : ℕ) where
+  pub small : n < 4 → IsOfAFinding n
+  small less = record {
+    granted = λ is. absurd (omega (arith, is, less));
+    served = λ is. absurd (omega (arith, is, less));
+    recorded = λ is. absurd (omega (arith, is, less));
+  }
+
+  pub middle : 5 < n → n < 15 → IsOfAFinding n
+  middle more less = record {
+    granted = λ is. absurd (omega (arith, is, more));
+    served = λ is. absurd (omega (arith, is, more));
+    recorded = λ is. absurd (omega (arith, is, less));
+  }
+
+  pub large : 15 < n → IsOfAFinding n
+  large more = record {
+    granted = λ is. absurd (omega (arith, is, more));
+    served = λ is. absurd (omega (arith, is, more));
+    recorded = λ is. absurd (omega (arith, is, more));
+  }
+
+-- so do those of a finding
+pub finding_own : (finding : Finding) → IsOfAFinding (status_of finding)
+finding_own (Faulty fault) = small status.TEXT_FAULT (omega arith)
+finding_own (TooLong events) = small status.USAGE (omega arith)
+finding_own (Judged trace (Illegal index rule)) = small status.ILLEGAL (omega arith)
+finding_own (Judged trace Clean) = small status.CLEAN (omega arith)
+finding_own (Judged trace (Races races)) = large status.RACES (omega arith)
+
+-- of a listing
+pub listing_own : (listing : Listing) → IsOfAFinding (listing_status listing)
+listing_own (NoTrace fault) = small status.TEXT_FAULT (omega arith)
+listing_own (TooMany events) = small status.USAGE (omega arith)
+listing_own (Broken trace index rule) = small status.ILLEGAL (omega arith)
+listing_own (Listed trace edges) = small status.CLEAN (omega arith)

@@ -52,14 +52,6 @@ module _ {V : Type 0} (IsText : V → List ℕ → Type 0) (causes : Causes) whe
 abbrev pub IsReadAs : List ℕ → Result TraceState TextFault → Type 0
 IsReadAs bytes text = IsReadBy IsTextOf trace_causes bytes text
 
--- some bytes are read so
-abbrev pub IsReadable : Result TraceState TextFault → Type 0
-IsReadable text = (bytes : List ℕ) × IsReadAs bytes text
-
--- the input was read as a trace
-abbrev pub ReadsAs : Option (List ℕ) → Option (List ℕ) → Result TraceState TextFault → Type 0
-ReadsAs before after text = ReadsBy IsTextOf trace_causes before after text
-
 -- the bytes were read, and they were all that was left
 pub record ReadsAll (before after : Option (List ℕ)) (bytes : List ℕ) : Type 0 where
   pub consumed : Consumes before after bytes

@@ -1,12 +1,13 @@
 pub mod Input
 pub mod Report
-pub mod Variables
 pub mod Finding
 pub mod Findings
 pub mod Listing
 pub mod Listings
 pub mod Run
 pub mod Race
+pub mod Recorded
 pub mod Picks
 pub mod Outcome
+pub mod Engines
 pub mod Laws

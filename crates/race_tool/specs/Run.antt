@@ -85,3 +85,9 @@ status_of_end (End.Bad g) = status.BAD_REQUEST
 abbrev pub run_status : Run → ℕ
 run_status (NoProgram fault) = status.TEXT_FAULT
 run_status (Ran program r trace) = status_of_end r.end
+
+-- the bytes are the text of a program of which this holds
+pub record IsProgramWhere (Holds : ProgramState → Type 0) (bytes : List ℕ) : Type 0 where
+  pub program : ProgramState
+  pub text_is : IsTextOf program bytes
+  pub holds : Holds program

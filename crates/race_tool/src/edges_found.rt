@@ -1,21 +1,24 @@
 //! What there is to list of a list of bytes.
-ghost use Rattle.std.specs.Prelude.{◌≡◌, ◌≤◌, length, IfOk, OnOk, OnErr, IfErr};
-ghost use Rattle.std.specs.Io.KnownBytes.{Appends};
-ghost use Rattle.race_records.specs.Devices.{written, sink_failures, one_more};
-ghost use Rattle.race_records.specs.Page.{IsCutOff};
+ghost use Rattle.std.specs.Prelude.{◌≡◌, ◌≤◌, length, IfOk};
+ghost use Rattle.race_text.specs.Fault.{trace_causes};
+ghost use Rattle.race_text.specs.Output.{Writes};
+ghost use Rattle.race_text.specs.Text.{IsTextOf};
 ghost use Rattle.race_edges.specs.declared.fault.TheConstants.{MAX_PLAIN_EVENTS};
 ghost use Rattle.race_verdict.specs.Traces.{IsIllegal};
+ghost use Rattle.race_tool.specs.Engines.{Never};
 ghost use Rattle.race_tool.specs.Listing as spec;
 ghost use Rattle.race_tool.specs.Listings.{listing_of, IsListingOn, CanBeListed};
-ghost use Rattle.race_tool.specs.Outcome.{IsRightOn};
+ghost use Rattle.race_tool.specs.Outcome.{Finds};
 
 use crate::printing::write_too_long;
 use crate::status;
-use race_edges::{Edge, EdgeFault, Verdict, edges};
+use race_edges::{Edge, EdgeFault, edges};
 use race_legal::{Illegal, legal};
+use race_record::RecordFault;
 use race_records::{Sink, Trace, WriteFault};
 use race_report::{write_edges, write_report, write_text_fault};
 use race_text::TextFault;
+use race_verdict::Verdict;
 use std::alloc::{AllocError, Allocator};
 use std::io::Write;
 
@@ -36,11 +39,14 @@ pub(crate) enum Found<A: Allocator> {
 pub(crate) fn find_edges<A: Allocator + Copy>(
     alloc: A,
     text: Result<Trace<A>, TextFault>,
-) -> Result<Found<A>, AllocError>
-    ensures { IfOk result (λ found. IsRightOn spec.IsListing text (listing_of found)) }
+) -> Result<Found<A>, RecordFault>
+    ensures { Finds IsTextOf trace_causes (λ bytes found. spec.IsListing bytes (listing_of found)) Never text result }
 {
     match text {
-        Ok(trace) => find_edges_of(alloc, trace),
+        Ok(trace) => match find_edges_of(alloc, trace) {
+            Ok(found) => Ok(found),
+            Err(_) => Err(RecordFault::OutOfMemory),
+        },
         Err(fault) => Ok(Found::NoTrace(fault)),
     }
 }
@@ -91,12 +97,7 @@ pub(crate) fn write_found<W: Write, A: Allocator>(
     sink: &mut Sink<W>,
 ) -> Result<(), WriteFault>
     requires { CanBeListed found.now }
-    ensures ok { OnOk result (Appends (written W.contents sink.old) (written W.contents sink.new)
-        (spec.listing_text (listing_of found.now))) }
-    ensures sent { IfErr result (λ fault. IsCutOff (written W.contents sink.old)
-        (written W.contents sink.new) fault.sent (spec.listing_text (listing_of found.now))) }
-    ensures calm { OnOk result (sink_failures sink.new ≡ sink_failures sink.old) }
-    ensures failed { OnErr result (sink_failures sink.new ≡ one_more (sink_failures sink.old)) }
+    ensures { Writes W.contents result sink.old sink.new (spec.listing_text (listing_of found.now)) }
 {
     match found {
         Found::NoTrace(fault) => write_text_fault(fault, sink),

@@ -1,16 +1,24 @@
 //! What there is to say of a list of bytes.
 ghost use Rattle.std.specs.Prelude.{◌≡◌, IfOk, option_map};
 ghost use Rattle.race_verdict.specs.Verdicts.{verdict_of};
+ghost use Rattle.race_text.specs.Fault.{trace_causes};
+ghost use Rattle.race_text.specs.Text.{IsTextOf};
+ghost use Rattle.race_tool.specs.Engines.{Never};
 ghost use Rattle.race_tool.specs.Finding as spec;
 ghost use Rattle.race_tool.specs.Findings.{finding_of, IsFindingOn};
-ghost use Rattle.race_tool.specs.Outcome.{IsRightOn};
+ghost use Rattle.race_tool.specs.Outcome.{Finds};
 
-use crate::clocked::judge_by_clocks;
+use crate::check::CheckOptions;
 use crate::status;
-use race_edges::{EdgeFault, Verdict, plain_judge};
+use race_edges::{EdgeFault, plain_judge};
+use race_record::RecordFault;
 use race_records::Trace;
+use race_shards::{Judge, OpenGate};
 use race_text::TextFault;
+use race_verdict::Verdict;
 use std::alloc::{AllocError, Allocator};
+use std::sync::Wait;
+use std::thread::Threads;
 
 /// What there is to say of a list of bytes.
 #[derive(Drop)]
@@ -23,45 +31,56 @@ pub(crate) enum Finding<A: Allocator> {
     Judged(Trace<A>, Verdict<A>),
 }
 
-/// Finds what there is to say of what was read, by the plain judge or by clocks.
-pub(crate) fn find<A: Allocator + Copy>(
+/// Finds what there is to say of what was read, by the plain judge or by shards.
+pub(crate) fn find<T: Threads + Wait, A: Allocator + Copy + Send>(
+    rt: &T,
     alloc: A,
     text: Result<Trace<A>, TextFault>,
-    plain: bool,
-) -> Result<Finding<A>, AllocError>
-    ensures { IfOk result (λ finding. IsRightOn (spec.IsFinding plain) text (finding_of finding)) }
+    options: &CheckOptions,
+) -> Result<Finding<A>, RecordFault>
+    ensures { Finds IsTextOf trace_causes (λ bytes found. spec.IsFinding options.now.plain bytes (finding_of found))
+        Never text result }
 {
     match text {
-        Ok(trace) => find_verdict(alloc, trace, plain),
+        Ok(trace) => match find_verdict(rt, alloc, trace, options) {
+            Ok(finding) => Ok(finding),
+            Err(_) => Err(RecordFault::OutOfMemory),
+        },
         Err(fault) => Ok(Finding::Faulty(fault)),
     }
 }
 
 // What there is to say of a trace.
-fn find_verdict<A: Allocator + Copy>(
+fn find_verdict<T: Threads + Wait, A: Allocator + Copy + Send>(
+    rt: &T,
     alloc: A,
     trace: Trace<A>,
-    plain: bool,
+    options: &CheckOptions,
 ) -> Result<Finding<A>, AllocError>
-    ensures { IfOk result (λ finding. IsFindingOn plain trace (finding_of finding)) }
+    ensures { IfOk result (λ finding. IsFindingOn options.now.plain trace (finding_of finding)) }
 {
-    match judge(alloc, &trace, plain)? {
+    match judge(rt, alloc, &trace, options)? {
         Some(verdict) => Ok(Finding::Judged(trace, verdict)),
         None => Ok(Finding::TooLong(trace.len())),
     }
 }
 
-/// The verdict on a trace, by the plain judge or by clocks. None where there are more events than the
+/// The verdict on a trace, by the plain judge or by shards. None where there are more events than the
 /// plain judge takes.
-pub(crate) fn judge<A: Allocator + Copy, B: Allocator>(
+pub(crate) fn judge<T: Threads + Wait, A: Allocator + Copy + Send, B: Allocator>(
+    rt: &T,
     alloc: A,
     trace: &Trace<B>,
-    plain: bool,
+    options: &CheckOptions,
 ) -> Result<Option<Verdict<A>>, AllocError>
-    ensures { IfOk result (λ verdict. spec.IsVerdictOn plain trace.now (option_map verdict_of verdict)) }
+    ensures { IfOk result (λ verdict. spec.IsVerdictOn options.now.plain trace.now (option_map verdict_of verdict)) }
 {
-    if !plain {
-        return Ok(Some(judge_by_clocks(alloc, trace)?));
+    if !options.plain {
+        let shards = options.shards;
+        return match Judge::judge(rt, alloc, trace, shards, options.block, &OpenGate) {
+            Ok(verdict) => Ok(Some(verdict)),
+            Err(_) => Err(AllocError),
+        };
     }
     match plain_judge(alloc, trace) {
         Ok(verdict) => Ok(Some(verdict)),

@@ -3,12 +3,11 @@ ghost use Rattle.std.specs.Prelude.{◌≡◌, ◌≢◌, [], length, vec_len, I
 ghost use Rattle.std.specs.Io.KnownBytes.{Keeps};
 ghost use Rattle.race_records.specs.Devices.{unread, source_reads, source_failures, one_more};
 ghost use Rattle.race_text.specs.declared.cause.TextCause.{TextCause as Cause};
-ghost use Rattle.race_text.specs.Fault.{trace_causes};
-ghost use Rattle.race_tool.specs.Input.{ReadsAs, ReadsBy, ReadsFine, ReadsMany, FeedsMore};
+ghost use Rattle.race_tool.specs.Input.{ReadsBy, ReadsFine, ReadsMany, FeedsMore};
 
 use crate::pieces::PieceReader;
-use race_records::{Source, Trace};
-use race_text::{LineReader, TextCause, TextFault};
+use race_records::Source;
+use race_text::{TextCause, TextFault};
 use std::alloc::{AllocError, Allocator};
 use std::io::Read;
 use thiserror::Error;
@@ -34,26 +33,6 @@ pub(crate) enum ReadFault {
     /// A growth was refused.
     #[error("out of memory")]
     OutOfMemory,
-}
-
-/// Reads a trace in blocks. It stops at the end of the input, or of the block that ends the first
-/// faulty line.
-pub(crate) fn read_trace<R: Read, A: Allocator + Copy>(
-    alloc: A,
-    source: &mut Source<R>,
-) -> Result<Result<Trace<A>, TextFault>, ReadFault>
-    ensures ok { IfOk result (λ text.
-        ReadsAs (unread R.remaining source.old) (unread R.remaining source.new) text) }
-    ensures calm { result ≢ Err ReadFault.Failed
-        → source_failures source.new ≡ source_failures source.old }
-    ensures failed { result ≡ Err ReadFault.Failed
-        → source_failures source.new ≡ one_more (source_failures source.old) }
-    ensures fine { result ≡ Err ReadFault.Failed
-        → ReadsFine trace_causes (unread R.remaining source.old) (unread R.remaining source.new) }
-    ensures endless { result ≡ Err ReadFault.Endless
-        → ReadsMany trace_causes R.remaining source.old source.new }
-{
-    read_text(alloc, source, LineReader::new(alloc))
 }
 
 /// Reads a text in blocks by a reader to which nothing was fed. It stops at the end of the input, or

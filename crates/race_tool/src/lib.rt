@@ -2,24 +2,24 @@
 #![tactic(auto)]
 
 mod check;
-mod clocked;
 mod edges_engine;
 mod edges_found;
+mod engine;
 mod finding;
 mod input;
 pub mod laws;
 mod pieces;
 mod printing;
 mod race_engine;
+mod race_found;
 mod race_printing;
 mod recorded;
 mod run_engine;
+mod run_found;
 pub mod status;
-mod variables;
 
-pub use check::{CheckOptions, MAX_BLOCK, MAX_SHARDS, run_check};
-#[doc(hidden)]
-pub use clocked::judge_by_clocks;
+pub use check::{CheckOptions, run_check};
 pub use edges_engine::run_edges;
 pub use race_engine::run_race;
+pub use race_shards::{MAX_BLOCK, MAX_SHARDS};
 pub use run_engine::{RunOptions, run_run};

@@ -1,8 +1,6 @@
 //! What an engine prints: a report, or that there are too many events.
-ghost use Rattle.std.specs.Prelude.{◌≡◌, OnOk, OnErr, IfErr};
-ghost use Rattle.std.specs.Io.KnownBytes.{Appends};
-ghost use Rattle.race_records.specs.Devices.{written, sink_failures, one_more};
-ghost use Rattle.race_records.specs.Page.{Printing, IsCutOff};
+ghost use Rattle.race_records.specs.Page.{Printing};
+ghost use Rattle.race_text.specs.Output.{Writes};
 ghost use Rattle.race_tool.specs.Finding.{report_of};
 ghost use Rattle.race_tool.specs.Findings.{finding_of, IsPrintable};
 ghost use Rattle.race_tool.specs.Report.{too_long_line};
@@ -20,12 +18,7 @@ pub(crate) fn write_finding<W: Write, A: Allocator>(
     sink: &mut Sink<W>,
 ) -> Result<(), WriteFault>
     requires { IsPrintable finding.now }
-    ensures ok { OnOk result (Appends (written W.contents sink.old) (written W.contents sink.new)
-        (report_of (finding_of finding.now))) }
-    ensures sent { IfErr result (λ fault. IsCutOff (written W.contents sink.old)
-        (written W.contents sink.new) fault.sent (report_of (finding_of finding.now))) }
-    ensures calm { OnOk result (sink_failures sink.new ≡ sink_failures sink.old) }
-    ensures failed { OnErr result (sink_failures sink.new ≡ one_more (sink_failures sink.old)) }
+    ensures { Writes W.contents result sink.old sink.new (report_of (finding_of finding.now)) }
 {
     match finding {
         Finding::Faulty(fault) => write_text_fault(fault, sink),
@@ -36,12 +29,7 @@ pub(crate) fn write_finding<W: Write, A: Allocator>(
 
 // Writes that there are more events than are judged.
 pub(crate) fn write_too_long<W: Write>(events: usize, sink: &mut Sink<W>) -> Result<(), WriteFault>
-    ensures ok { OnOk result (Appends (written W.contents sink.old) (written W.contents sink.new)
-        (too_long_line events)) }
-    ensures sent { IfErr result (λ fault. IsCutOff (written W.contents sink.old)
-        (written W.contents sink.new) fault.sent (too_long_line events)) }
-    ensures calm { OnOk result (sink_failures sink.new ≡ sink_failures sink.old) }
-    ensures failed { OnErr result (sink_failures sink.new ≡ one_more (sink_failures sink.old)) }
+    ensures { Writes W.contents result sink.old sink.new (too_long_line events) }
 {
     let mut page = Page::new();
     match print_too_long(&mut page, sink, events) {

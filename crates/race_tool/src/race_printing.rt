@@ -1,18 +1,17 @@
 //! What is printed of a judged run: the report of its trace, and how it ended.
-ghost use Rattle.std.specs.Prelude.{◌≡◌, ◌++◌, OnOk, OnErr, IfErr};
-ghost use Rattle.std.specs.Io.KnownBytes.{Appends};
-ghost use Rattle.race_records.specs.Devices.{written, sink_failures, one_more};
-ghost use Rattle.race_records.specs.Page.{Printing, IsCutOff};
+ghost use Rattle.std.specs.Prelude.{◌≡◌, ◌++◌};
+ghost use Rattle.race_records.specs.Page.{Printing};
+ghost use Rattle.race_text.specs.Output.{Writes};
 ghost use Rattle.race_verdict.specs.Verdicts.{verdict_of};
 ghost use Rattle.race_text.specs.Text.{goroutine_name};
 ghost use Rattle.race_report.specs.Printable.{RacesAreOf};
 ghost use Rattle.race_report.specs.Report.{report};
 ghost use Rattle.race_tool.specs.Report as spec;
 
-use race_edges::Verdict;
 use race_hub::End;
 use race_records::{Decls, Kind, Named, Page, Sink, Trace, WriteFault};
 use race_report::print_report;
+use race_verdict::Verdict;
 use std::alloc::Allocator;
 use std::io::Write;
 
@@ -24,13 +23,8 @@ pub(crate) fn write_judged<W: Write, A: Allocator, B: Allocator>(
     sink: &mut Sink<W>,
 ) -> Result<(), WriteFault>
     requires { RacesAreOf trace.now verdict.now }
-    ensures ok { OnOk result (Appends (written W.contents sink.old) (written W.contents sink.new)
-        (report trace.now (verdict_of verdict.now) ++ spec.end_line trace.now.decls.declarations end)) }
-    ensures sent { IfErr result (λ fault. IsCutOff (written W.contents sink.old)
-        (written W.contents sink.new) fault.sent
-        (report trace.now (verdict_of verdict.now) ++ spec.end_line trace.now.decls.declarations end)) }
-    ensures calm { OnOk result (sink_failures sink.new ≡ sink_failures sink.old) }
-    ensures failed { OnErr result (sink_failures sink.new ≡ one_more (sink_failures sink.old)) }
+    ensures { Writes W.contents result sink.old sink.new
+        (report trace.now (verdict_of verdict.now) ++ spec.end_line trace.now.decls.declarations end) }
 {
     let mut page = Page::new();
     match print_judged(&mut page, sink, trace, verdict, end) {

@@ -1,24 +1,29 @@
 //! A program's run on one thread.
-ghost use Rattle.std.specs.Prelude.{◌≡◌, true, Err, IfOk, IfErr};
+ghost use Rattle.std.specs.Prelude.{◌≡◌, Err, IfOk, IfErr};
 ghost use Rattle.race_script.specs.Certificate.{IsCertified};
-ghost use Rattle.race_tool.specs.Run.{is_run_limit, scripts_of, IsRunOf, IsRefusedRun};
+ghost use Rattle.race_tool.specs.Picks as picks;
+ghost use Rattle.race_tool.specs.Recorded.{trace_of};
+ghost use Rattle.race_tool.specs.Run.{scripts_of, IsRunOf, IsRefusedRun, IsTraceOf};
 
+use crate::run_engine::{RunOptions, picks_asked};
 use race_hub::{Hub, Recording};
 use race_record::{RecordFault, record_serial};
 use race_records::Kind;
 use race_script::{Program, Script, certify};
 use std::alloc::{AllocError, Allocator};
 
-/// Records a run of the program, of at most so many events, by these picks, and holds it against the program.
+/// Records a run of the program, of at most as many events and by the picks that are asked for, and holds
+/// it against the program.
 pub(crate) fn record_program<A: Allocator + Copy + Send>(
     alloc: A,
     program: &Program<A>,
-    limit: u32,
-    picks: &[u64],
+    options: &RunOptions<A>,
 ) -> Result<Recording<A>, RecordFault>
-    requires { is_run_limit limit ≡ true }
-    ensures ok { IfOk result (λ recording. IsRunOf limit picks.now program.now recording) }
-    ensures mismatch { result ≡ Err RecordFault.Mismatch → IsRefusedRun limit picks.now program.now }
+    ensures ok { IfOk result (λ recording.
+        IsRunOf options.now.limit (picks.picks_asked options.now) program.now recording) }
+    ensures trace { IfOk result (λ recording. IsTraceOf recording (trace_of recording)) }
+    ensures mismatch { result ≡ Err RecordFault.Mismatch
+        → IsRefusedRun options.now.limit (picks.picks_asked options.now) program.now }
 {
     let Ok(decls) = program.decls().copy() else {
         return Err(RecordFault::OutOfMemory);
@@ -26,8 +31,9 @@ pub(crate) fn record_program<A: Allocator + Copy + Send>(
     let Ok(scripts) = scripts(alloc, program) else {
         return Err(RecordFault::OutOfMemory);
     };
-    match Hub::new(alloc, decls, limit, scripts) {
-        Ok(hub) => certified(program, record_serial(hub, picks)?),
+    match Hub::new(alloc, decls, options.limit, scripts) {
+        Ok(hub) => certified(program, record_serial(hub, picks_asked(options))?),
+        // There is a script for each goroutine, and the engines have tested the limit.
         Err(_) => Err(RecordFault::OutOfMemory),
     }
 }
@@ -39,9 +45,13 @@ fn certified<A: Allocator>(
 ) -> Result<Recording<A>, RecordFault>
     ensures same { IfOk result (λ r. r ≡ recording) }
     ensures run { IfOk result (λ r. IsCertified program.now r) }
+    ensures trace { IfOk result (λ r. IsTraceOf r (trace_of r)) }
     ensures mismatch { IfErr result (λ fault. fault ≡ RecordFault.Mismatch) }
     ensures none { IfErr result (λ _. IsCertified program.now recording → ⊥) }
 {
+    let trace = recording.trace();
+    // A proof knows that the trace has a text once its parts are looked at.
+    let (_decls, _events) = (trace.decls(), trace.events());
     match certify(program, &recording) {
         Ok(()) => Ok(recording),
         Err(_) => Err(RecordFault::Mismatch),

@@ -1,33 +1,15 @@
 //! The engine of `gorace run`: a program's text in, the trace of a run of it out.
-ghost use Rattle.std.specs.Prelude.{◌≡◌, ◌≢◌, ◌⊎◌, true, false};
-ghost use Rattle.race_records.specs.Devices.{unread, written, source_failures, sink_failures};
-ghost use Rattle.race_script.specs.Fault.{program_causes};
-ghost use Rattle.race_tool.specs.Outcome.{
-  IsProgramWhere,
-  ReadsAndRuns,
-  ReadsProgramOf,
-  WritesRun,
-  WritesRunFront,
-  WritesTrace,
-  WritesTraceFront,
-  FailsToRead,
-  GivesUpReading,
-  FailsToWriteRun,
-};
-ghost use Rattle.race_tool.specs.Run as spec;
+ghost use Rattle.std.specs.Prelude.{◌≡◌, true, false};
+ghost use Rattle.race_tool.specs.Engines.{Runs};
 ghost use Rattle.race_tool.specs.Picks as picks;
+ghost use Rattle.race_tool.specs.Run as spec;
 ghost use Rattle.race_tool.specs.declared.status.TheConstants as status;
 
-use crate::check::status_of_fault;
-use crate::input::read_text;
-use crate::recorded::record_program;
+use crate::engine::{Engine, answer};
+use crate::run_found::{Run, find_run};
 use crate::status;
-use race_hub::{End, Recording};
-use race_record::RecordFault;
-use race_records::{MAX_EVENTS, Sink, Source};
-use race_report::write_text_fault;
-use race_script::{Program, ProgramReader};
-use race_text::{TextFault, write_trace};
+use race_records::{MAX_EVENTS, Sink, Source, WriteFault};
+use race_script::ProgramReader;
 use std::alloc::{Allocator, Global};
 use std::io::{Read, Write};
 
@@ -55,49 +37,28 @@ pub fn run_run<T, R: Read, W: Write, A: Allocator + Copy + Send>(
     sink: &mut Sink<W>,
     options: &RunOptions<A>,
 ) -> u8
-    // One clause or two for each ending, and so more than are usual.
     // The limit is out of its limits: nothing is read, and nothing is written.
     ensures usage { spec.is_run_limit options.now.limit ≡ false → result ≡ status.USAGE }
     ensures untouched { spec.is_run_limit options.now.limit ≡ false
         → (source.new ≡ source.old) × (sink.new ≡ sink.old) }
 
-    // Otherwise, unless memory, a device or a recording was wanting: the input was read to its end, or
-    // to the end of the block that ends its first faulty line, the trace of a run of its program or
-    // that fault was written, and the status is that of the run's end, or the fault's.
-    ensures ran { spec.is_run_limit options.now.limit ≡ true
-        → result ≢ status.REFUSED → result ≢ status.DEVICE → result ≢ status.MISMATCH
-        → ReadsAndRuns options.now.limit (picks.picks_asked options.now)
-        (unread R.remaining source.old) (unread R.remaining source.new)
-        (written W.contents sink.old) (written W.contents sink.new) result }
-
-    // Memory was refused: nothing is written.
-    ensures refused { result ≡ status.REFUSED → sink.new ≡ sink.old }
-
-    // Of a run of the program nothing was recorded, or what isn't a run of it; nothing is written.
-    ensures mismatch { result ≡ status.MISMATCH
-        → (sink.new ≡ sink.old)
-        × ReadsProgramOf (spec.IsRefusedRun options.now.limit (picks.picks_asked options.now))
-        (unread R.remaining source.old) (unread R.remaining source.new) }
-
-    // A device failed, which its count shows, or reading was given up.
-    ensures device { result ≡ status.DEVICE
-        → FailsToRead program_causes R.remaining source.old source.new sink.old sink.new
-        ⊎ GivesUpReading program_causes R.remaining source.old source.new sink.old sink.new
-        ⊎ FailsToWriteRun options.now.limit (picks.picks_asked options.now)
-        R.remaining W.contents source.old source.new sink.old sink.new }
-
-    // With every other status no device failed.
-    ensures calm { result ≢ status.DEVICE
-        → (source_failures source.new ≡ source_failures source.old)
-        × (sink_failures sink.new ≡ sink_failures sink.old) }
+    // Otherwise the trace of a run of the program was written and the status is that of its end, or the
+    // fault of the text was, unless memory, a device or a recording was wanting.
+    ensures runs { spec.is_run_limit options.now.limit ≡ true
+        → Runs options.now.limit (picks.picks_asked options.now)
+        R.remaining W.contents source.old source.new sink.old sink.new result }
 {
     if !is_run_limit(options.limit) {
         return status::USAGE;
     }
-    match read_text(alloc, source, ProgramReader::new(alloc)) {
-        Ok(text) => run_text(alloc, text, options, sink),
-        Err(fault) => status_of_fault(fault),
-    }
+    let engine = Running { alloc, options };
+    answer(
+        &engine,
+        |text| find_run(alloc, text, options),
+        alloc,
+        source,
+        sink,
+    )
 }
 
 // Whether a run may have so many events.
@@ -117,64 +78,40 @@ pub(crate) fn picks_asked<A: Allocator>(options: &RunOptions<A>) -> &[u64]
     }
 }
 
-// Runs what was read, and writes what there is to say of it.
-fn run_text<W: Write, A: Allocator + Copy + Send>(
+// What is a run's own.
+#[derive(Drop)]
+struct Running<'a, A: Allocator + Copy> {
     alloc: A,
-    text: Result<Program<A>, TextFault>,
-    options: &RunOptions<A>,
-    sink: &mut Sink<W>,
-) -> u8
-    requires { spec.is_run_limit options.now.limit ≡ true }
-    ensures ran { result ≢ status.REFUSED → result ≢ status.DEVICE → result ≢ status.MISMATCH
-        → WritesRun options.now.limit (picks.picks_asked options.now) text
-        (written W.contents sink.old) (written W.contents sink.new) result }
-    ensures refused { result ≡ status.REFUSED → sink.new ≡ sink.old }
-    ensures mismatch { result ≡ status.MISMATCH → (sink.new ≡ sink.old)
-        × IsProgramWhere (spec.IsRefusedRun options.now.limit (picks.picks_asked options.now)) text }
-    ensures device { result ≡ status.DEVICE
-        → WritesRunFront options.now.limit (picks.picks_asked options.now) text W.contents sink.old sink.new }
-    ensures calm { result ≢ status.DEVICE → sink_failures sink.new ≡ sink_failures sink.old }
-{
-    match text {
-        Ok(program) => match record_program(alloc, &program, options.limit, picks_asked(options)) {
-            Ok(recording) => write_run(&recording, sink),
-            Err(RecordFault::OutOfMemory) => status::REFUSED,
-            Err(RecordFault::Mismatch) => status::MISMATCH,
-        },
-        Err(fault) => match write_text_fault(&fault, sink) {
-            Ok(()) => status::TEXT_FAULT,
-            Err(_) => status::DEVICE,
-        },
-    }
+    options: &'a RunOptions<A>,
 }
 
-// Writes the recording's trace.
-fn write_run<W: Write, A: Allocator>(recording: &Recording<A>, sink: &mut Sink<W>) -> u8
-    ensures written { result ≢ status.DEVICE → WritesTrace recording.now
-        (written W.contents sink.old) (written W.contents sink.new) result }
-    ensures refused { result ≢ status.REFUSED }
-    ensures mismatch { result ≢ status.MISMATCH }
-    ensures device { result ≡ status.DEVICE → WritesTraceFront recording.now W.contents sink.old sink.new }
-    ensures calm { result ≢ status.DEVICE → sink_failures sink.new ≡ sink_failures sink.old }
-{
-    let trace = recording.trace();
-    // A proof knows that the trace has a text once its parts are looked at.
-    let (_decls, _events) = (trace.decls(), trace.events());
-    match write_trace(trace, sink) {
-        Ok(()) => status_of_end(recording.end()),
-        Err(_) => status::DEVICE,
-    }
-}
+impl<A: Allocator + Copy> Engine for Running<'_, A> {
+    ghost use Rattle.race_tool.specs.Recorded.{run_of};
+    ghost use Rattle.race_tool.specs.Run.{IsProgramWhere, IsRefusedRun, IsRun, run_text, run_status};
 
-// The status of an end.
-pub(crate) fn status_of_end(end: End) -> u8
-    ensures { result ≡ spec.status_of_end end }
-{
-    match end {
-        End::Main => status::CLEAN,
-        End::Fault => status::FAILED,
-        End::Deadlock => status::DEADLOCK,
-        End::Limit => status::LIMIT,
-        End::Bad(_) => status::BAD_REQUEST,
+    type Reader = ProgramReader<A>;
+
+    type Found = Run<A>;
+
+    ghost is_right = { λ engine bytes found.
+        IsRun engine.options.now.limit (picks.picks_asked engine.options.now) bytes (run_of found) };
+
+    ghost is_unrecorded = { λ engine.
+        IsProgramWhere (IsRefusedRun engine.options.now.limit (picks.picks_asked engine.options.now)) };
+
+    ghost text_of = { λ found. run_text (run_of found) };
+
+    ghost status_for = { λ found. run_status (run_of found) };
+
+    fn reader(&self) -> ProgramReader<A> {
+        ProgramReader::new(self.alloc)
+    }
+
+    fn write<W: Write>(&self, found: &Run<A>, sink: &mut Sink<W>) -> Result<(), WriteFault> {
+        found.write(sink)
+    }
+
+    fn status(&self, found: &Run<A>) -> u8 {
+        found.status()
     }
 }

@@ -16,7 +16,7 @@ pub const TEXT_FAULT: u8 = 2;
 /// judged, of which a line tells.
 pub const USAGE: u8 = 3;
 
-/// Memory was refused.
+/// Memory or a thread was refused.
 pub const REFUSED: u8 = 4;
 
 /// A read or a write failed, or reading was given up after 2^32 reads.

@@ -1,3 +1,6 @@
+ghost use Rattle.race_model.specs.Legal.{IsLegal};
+ghost use Rattle.race_verdict.specs.Traces.{capacities};
+
 use crate::rows::traced;
 use race_clock::{Clock, Stamper};
 use race_legal::legal;
@@ -130,12 +133,11 @@ static TABLES: [(&[&str], &[Known]); 7] = [
     ),
 ];
 
-// The stamps of the trace, and none where an event breaks a rule.
-fn stamps(alloc: Global, trace: &Trace) -> Result<Vec<Known>, AllocError> {
+// The stamps of a legal trace.
+fn stamps(alloc: Global, trace: &Trace) -> Result<Vec<Known>, AllocError>
+    requires { IsLegal (capacities trace.now) trace.now.events }
+{
     let mut stamps = Vec::new(alloc);
-    if legal(alloc, trace)?.is_some() {
-        return Ok(stamps);
-    }
     let mut stamper = Stamper::new(alloc, trace.decls())?;
     for at in 0..trace.len() {
         let event = trace.event(at);
@@ -148,10 +150,13 @@ fn stamps(alloc: Global, trace: &Trace) -> Result<Vec<Known>, AllocError> {
     Ok(stamps)
 }
 
-// Whether the accesses of these events have these stamps.
+// Whether the events are legal, and their accesses have these stamps.
 fn are_stamped(alloc: Global, lines: &[&str], known: &[Known]) -> Result<bool, Fail> {
     let trace = traced(alloc, DECLARED, lines)?;
-    Ok(stamps(alloc, &trace)?.as_slice() == known)
+    match legal(alloc, &trace)? {
+        Some(_) => Ok(false),
+        None => Ok(stamps(alloc, &trace)?.as_slice() == known),
+    }
 }
 
 #[test]

@@ -1,33 +1,10 @@
-use Rattle.std.proofs.Common.{◌++◌}
-use Rattle.race_records.specs.declared.sink.WriteFault.{WriteFault}
-use Rattle.race_records.specs.Page.{IsCutOff}
-use Rattle.race_records.proofs.PageLemmas.{flushed, cut_off, broken_off, IfErr-map}
-use Rattle.race_verdict.specs.Verdicts.{verdict_of}
-use Rattle.race_report.specs.Report.{report}
-use Rattle.race_tool.specs.Report.{end_line}
+use Rattle.race_text.proofs.OutputLemmas.{writes_flushed, writes_broken}
 use Rattle.race_tool.proofs.race_printing.write_judged.Goals as goal
 
-pub returns-in-Ok-clause-ok : goal.returns-in-Ok-clause-ok
-returns-in-Ok-clause-ok g c =
-    let text = report c.args.trace.now (verdict_of c.args.verdict.now) ++ end_line c.args.trace.now.decls.declarations c.args.end in
-    flushed (g.W.Write.contents c.args.sink.now.writer) (g.W.Write.contents c.print_judged.new.sink.writer) c.new-page.result c.print_judged.new.page text
-    c.new-page.ensures.waiting c.new-page.ensures.sent c.flush.result (g.W.Write.contents c.flush.new.sink.writer) c.flush.new.self c.in-Ok.ensures.ok
-    c.flush.ensures.empty c.flush.ensures.ok
+pub returns-in-Ok : goal.returns-in-Ok
+returns-in-Ok g c =
+    writes_flushed c.new-page.result c.new-page.ensures.waiting c.new-page.ensures.sent c.in-Ok.ensures c.flush.result c.flush.new.sink c.flush.new.self
+    c.flush.ensures.empty c.flush.ensures.ok c.flush.ensures.sent c.flush.ensures.calm c.flush.ensures.failed
 
-pub returns-in-Ok-clause-sent : goal.returns-in-Ok-clause-sent
-returns-in-Ok-clause-sent g c =
-    let start = g.W.Write.contents c.args.sink.now.writer in
-    let middle = g.W.Write.contents c.print_judged.new.sink.writer in
-    let now = g.W.Write.contents c.flush.new.sink.writer in
-    let text = report c.args.trace.now (verdict_of c.args.verdict.now) ++ end_line c.args.trace.now.decls.declarations c.args.end in
-    IfErr-map c.flush.result _ (λ (fault : WriteFault). IsCutOff start now fault.sent text)
-    (λ (fault : WriteFault) cuts.
-    cut_off start middle c.new-page.result c.print_judged.new.page text
-    c.new-page.ensures.waiting c.new-page.ensures.sent now fault.sent c.in-Ok.ensures.ok cuts)
-    c.flush.ensures.sent
-
-pub returns-in-Err-clause-sent : goal.returns-in-Err-clause-sent
-returns-in-Err-clause-sent g c =
-    broken_off (g.W.Write.contents c.args.sink.now.writer) (g.W.Write.contents c.print_judged.new.sink.writer) c.new-page.result c.in-Err.fault.sent
-    (report c.args.trace.now (verdict_of c.args.verdict.now) ++ end_line c.args.trace.now.decls.declarations c.args.end) c.new-page.ensures.waiting
-    c.new-page.ensures.sent c.in-Err.ensures.sent
+pub returns-in-Err : goal.returns-in-Err
+returns-in-Err g c = writes_broken c.new-page.result c.new-page.ensures.waiting c.new-page.ensures.sent c.in-Err.ensures

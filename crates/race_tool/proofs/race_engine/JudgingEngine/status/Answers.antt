@@ -1,0 +1,8 @@
+use Rattle.std.proofs.Common.{sym, subst}
+use Rattle.race_tool.specs.Outcome.{IsOfAFinding}
+use Rattle.race_tool.specs.Recorded.{judged_run_of}
+use Rattle.race_tool.proofs.RaceLemmas.{judged_own}
+use Rattle.race_tool.proofs.race_engine.JudgingEngine.status.Goals as goal
+
+pub returns-clause-of_a_finding : goal.returns-clause-of_a_finding
+returns-clause-of_a_finding g c = subst IsOfAFinding (sym c.status.ensures) (judged_own (judged_run_of c.args.found.now))

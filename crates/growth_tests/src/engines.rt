@@ -73,12 +73,12 @@ fn run<R: Threads + Wait, A: Allocator + Copy + Send>(
 type Ending = (Engine, u8, usize);
 
 #[derive(Clone, Copy)]
-struct Row<'a, R> {
-    rt: &'a R,
+struct Row<T> {
+    rt: T,
     ending: Ending,
 }
 
-impl<R: Threads + Wait> Growing for Row<'_, R> {
+impl<R: Threads + Wait> Growing for Row<&R> {
     fn reply(self, heap: &RefusingHeap<Global>, nth: u64) -> Reply {
         let (engine, status, len) = self.ending;
         let mut output = [0; 128];

@@ -1,5 +1,6 @@
 //! The calls of race_shards. Where threads work, the growth that is refused may be that of a start.
-ghost use Rattle.std.specs.Prelude.{◌≡◌, ◌<◌, true};
+ghost use Rattle.std.specs.Prelude.{◌≡◌, ◌<◌, [], true};
+ghost use Rattle.race_shards.specs.Judging.{StandsFor};
 
 use crate::calls::{Growing, Reply, assert_each, refused_if, right_if};
 use crate::traced::traced;
@@ -20,11 +21,11 @@ enum Call {
     Judge,
 }
 
-// A goroutine, and two variables with a race.
-static DECLARED: &[u8] = b"gotrace 1\ngoroutine w\nvar x\nvar y\n";
+// A goroutine, two variables with a race, and a mutex.
+static DECLARED: &[u8] = b"gotrace 1\ngoroutine w\nvar x\nvar y\nmutex m\n";
 
 static EVENTS: &[u8] =
-    b"go main w p\nwrite main x 1 p\nread w x 1 p\nwrite main y 1 p\nwrite w y 2 p\n";
+    b"go main w p\nwrite main x 1 p\nread w x 1 p\nwrite main y 1 p\nwrite w y 2 p\nlock w m p\nunlock w m p\n";
 
 fn is_wanting(fault: JudgeFault) -> bool {
     matches!(fault, JudgeFault::NoThread | JudgeFault::OutOfMemory)
@@ -48,36 +49,76 @@ fn has_failed<R: Threads + Wait, A: Allocator + Copy + Send>(rt: &R, mut judge: 
         && judge.finish().err() == Some(JudgeFault::Failed)
 }
 
+// Feeds the judge all events. What it answers, where it refuses them.
+fn fed<R: Threads + Wait, A: Allocator + Copy + Send>(
+    rt: &R,
+    mut judge: Judge<A>,
+    trace: &Trace<A>,
+) -> Result<Judge<A>, Reply>
+    requires { StandsFor trace.now.decls.declarations judge [] }
+{
+    match judge.feed(rt, trace.events(), &OpenGate) {
+        Ok(()) => Ok(judge),
+        Err(fault) => Err(refused_if(is_wanting(fault) && has_failed(rt, judge))),
+    }
+}
+
 /// A call by so many shards.
 #[derive(Clone, Copy)]
-struct Row<'a, R> {
-    rt: &'a R,
+struct Row<T> {
+    rt: T,
     call: Call,
     shards: usize,
 }
 
-impl<R: Threads + Wait> Row<'_, R> {
-    fn fed(self, heap: &RefusingHeap<Global>, nth: u64, trace: &Trace<&RefusingHeap<Global>>) -> Reply
-        requires { 0 < nth }
-    {
-        let Ok(mut judge) = Judge::new(heap, trace.decls(), self.shards) else {
-            return Reply::Wrong;
-        };
-        if let Call::Feed = self.call {
-            heap.refuse(nth);
-        }
-        match judge.feed(self.rt, trace.events(), &OpenGate) {
-            Ok(()) => {}
-            Err(fault) => return refused_if(is_wanting(fault) && has_failed(self.rt, judge)),
-        }
-        if let Call::Finish = self.call {
-            heap.refuse(nth);
-        }
-        judged(judge.finish())
+// A growth is refused once the judge is made.
+fn feeds<R: Threads + Wait>(
+    rt: &R,
+    heap: &RefusingHeap<Global>,
+    nth: u64,
+    trace: &Trace<&RefusingHeap<Global>>,
+    shards: usize,
+) -> Reply
+    requires { 0 < nth }
+{
+    let Ok(judge) = Judge::new(heap, trace.decls(), shards) else {
+        return Reply::Wrong;
+    };
+    heap.refuse(nth);
+    match fed(rt, judge, trace) {
+        Ok(judge) => right_if(judge.len() == 7),
+        Err(reply) => reply,
     }
 }
 
-impl<R: Threads + Wait> Growing for Row<'_, R> {
+// A growth is refused once it is fed.
+fn finishes<R: Threads + Wait>(
+    rt: &R,
+    heap: &RefusingHeap<Global>,
+    nth: u64,
+    trace: &Trace<&RefusingHeap<Global>>,
+    shards: usize,
+) -> Reply
+    requires { 0 < nth }
+{
+    let Ok(judge) = Judge::new(heap, trace.decls(), shards) else {
+        return Reply::Wrong;
+    };
+    let Ok(judge) = fed(rt, judge, trace) else {
+        return Reply::Wrong;
+    };
+    heap.refuse(nth);
+    judged(judge.finish())
+}
+
+fn made<A: Allocator + Copy>(heap: A, trace: &Trace<A>, shards: usize) -> Reply {
+    match Judge::new(heap, trace.decls(), shards) {
+        Ok(judge) => right_if(judge.is_empty()),
+        Err(fault) => refused_if(fault == JudgeFault::OutOfMemory),
+    }
+}
+
+impl<R: Threads + Wait> Growing for Row<&R> {
     fn reply(self, heap: &RefusingHeap<Global>, nth: u64) -> Reply {
         let Some(trace) = traced(heap, DECLARED, EVENTS) else {
             return Reply::Wrong;
@@ -85,30 +126,28 @@ impl<R: Threads + Wait> Growing for Row<'_, R> {
         match self.call {
             Call::New => {
                 heap.refuse(nth);
-                match Judge::new(heap, trace.decls(), self.shards) {
-                    Ok(judge) => right_if(judge.is_empty()),
-                    Err(fault) => refused_if(fault == JudgeFault::OutOfMemory),
-                }
+                made(heap, &trace, self.shards)
             }
+            Call::Feed => feeds(self.rt, heap, nth, &trace, self.shards),
+            Call::Finish => finishes(self.rt, heap, nth, &trace, self.shards),
             Call::Judge => {
                 heap.refuse(nth);
                 judged(Judge::judge(self.rt, heap, &trace, self.shards, 2, &OpenGate))
             }
-            Call::Feed | Call::Finish => self.fed(heap, nth, &trace),
         }
     }
 }
 
-// A judge takes what its replay takes, a list of its shards, and for each shard what a stamper takes and one list for its
-// variables. The first unlock, send or second reader would make it grow in a block, and here nothing does; the list of
-// races is made at the end.
+// A judge takes six lists for its replay (four for goroutines and variables, two for locks), one for its shards, and for
+// each shard the clocks of its goroutines, a list for its locks, and what is kept of its variables. The first unlock of a
+// mutex makes each shard's stamper grow, and at the end there is the list of races.
 static CALLS: [(Call, usize, u64); 6] = [
-    (Call::New, 1, 7),
-    (Call::New, 2, 9),
-    (Call::Feed, 1, 0),
-    (Call::Feed, 2, 0),
+    (Call::New, 1, 10),
+    (Call::New, 2, 13),
+    (Call::Feed, 1, 1),
+    (Call::Feed, 2, 2),
     (Call::Finish, 2, 1),
-    (Call::Judge, 2, 10),
+    (Call::Judge, 2, 16),
 ];
 
 #[test]

@@ -1,6 +1,5 @@
 //! A judge that is fed block by block.
-
-ghost use Rattle.std.specs.Prelude.{[]};
+ghost use Rattle.std.specs.Prelude.{◌≤◌, []};
 ghost use Rattle.race_shards.specs.Judging.{StandsFor};
 
 use crate::rows::traced;
@@ -115,6 +114,21 @@ static ROWS: [Row; 7] = [
     (Events::Broken, &[6], Told::Illegal(BREAKS), 0),
 ];
 
+// Where the block ends that begins here, and is to end there.
+fn end_from(at: usize, end: usize, len: usize) -> usize
+    requires { at ≤ len }
+    ensures later { at ≤ result }
+    ensures inside { result ≤ len }
+{
+    if end < at {
+        at
+    } else if end > len {
+        len
+    } else {
+        end
+    }
+}
+
 // Feeds the trace in blocks that end at these indexes.
 fn feed_each<R: Threads + Wait>(
     rt: &R,
@@ -125,12 +139,12 @@ fn feed_each<R: Threads + Wait>(
 ) -> Result<(), JudgeFault>
     requires { StandsFor trace.now.decls.declarations judge.old [] }
 {
+    let events = trace.events();
     let mut at = 0;
     for end in ends {
-        if at <= *end && *end <= trace.len() {
-            judge.feed(rt, &trace.events()[at..*end], gate)?;
-            at = *end;
-        }
+        let to = end_from(at, *end, events.len());
+        judge.feed(rt, &events[at..to], gate)?;
+        at = to;
     }
     Ok(())
 }

@@ -6,7 +6,9 @@ use std::alloc::Global;
 use std::env::Args;
 use std::io;
 use std::process::ExitCode;
+use std::sync::Wait;
 use std::test::Fail;
+use std::thread::Threads;
 
 /// The words of a command line, the input, the status, and what is written.
 type Row = (&'static str, &'static str, u8, &'static str);
@@ -22,7 +24,7 @@ fn args_of(alloc: Global, line: &str) -> Result<Args, Fail> {
 
 // How the program ends on the input, and what it writes.
 fn ended(
-    rt: &(impl AllocGlobal + Print + Eprint),
+    rt: &(impl AllocGlobal + Print + Eprint + Threads + Wait),
     args: io::Result<Args>,
     input: &str,
 ) -> (ExitCode, Vec<u8>) {
@@ -35,7 +37,7 @@ fn ended(
 
 // Whether the program ends so by the words of the line on the input, and writes the report.
 fn ends_so(
-    rt: &(impl AllocGlobal + Print + Eprint),
+    rt: &(impl AllocGlobal + Print + Eprint + Threads + Wait),
     line: &str,
     input: &str,
     answer: u8,
@@ -286,7 +288,7 @@ static FAILURES: [(io::ErrorKind, u8); 2] = [
 ];
 
 fn ends_without_words(
-    rt: &(impl AllocGlobal + Print + Eprint),
+    rt: &(impl AllocGlobal + Print + Eprint + Threads + Wait),
     kind: io::ErrorKind,
     answer: u8,
 ) -> bool {

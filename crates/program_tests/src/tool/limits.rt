@@ -125,7 +125,7 @@ fn is_told(rt: &impl Runtime, row: &Row) -> Result<bool, Fail> {
 #[test]
 fn both_engines_tell_of_traces_up_to_each_limit(rt: HostRuntime) -> Result<(), Fail> {
     for row in &LONG_ROWS {
-        assert!(rt; is_told(rt.alloc(), row)?, "{}", row.check.0);
+        assert!(rt; is_told(&rt, row)?, "{}", row.check.0);
     }
     Ok(())
 }

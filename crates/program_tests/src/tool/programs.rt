@@ -149,7 +149,7 @@ fn rounds(rt: &impl Runtime) -> Result<(Option<u32>, u32, u32, u32), AllocError>
 
 #[test]
 fn both_judges_agree_on_the_runs_of_programs(rt: HostRuntime) -> Result<(), Fail> {
-    let (wrong, racy, other, found) = rounds(rt.alloc())?;
+    let (wrong, racy, other, found) = rounds(&rt)?;
     assert!(rt;
         wrong.is_none() && racy >= 100 && other >= 100 && found == (1 << 18) - 1,
         "program {wrong:?}: {racy} with a race, {other} without, words {found}"

@@ -1,5 +1,7 @@
 //! Programs, the reports of their runs with their ends, and the statuses.
-use crate::tool::engines::{Engine, Runtime, Told, is_cut_off, judge, leaves_unread, tells, text_of};
+use crate::tool::engines::{
+    Engine, Runtime, Told, is_cut_off, judge, leaves_unread, tells, text_of,
+};
 use crate::tool::runs::{MOST, Row, options};
 use race_tool::{CheckOptions, MAX_BLOCK, MAX_SHARDS, RunOptions, status};
 use std::alloc::Global;
@@ -95,7 +97,12 @@ static ROWS: [Row<'static>; 12] = [
     ),
 ];
 
-fn both_tell(rt: &impl Runtime, run: &RunOptions, text: &[u8], told: Told<'_>) -> Result<bool, Fail> {
+fn both_tell(
+    rt: &impl Runtime,
+    run: &RunOptions,
+    text: &[u8],
+    told: Told<'_>,
+) -> Result<bool, Fail> {
     let (plain, by_clocks) = (judge(true), judge(false));
     let (plain, by_clocks) = (Engine::Race(run, &plain), Engine::Race(run, &by_clocks));
     Ok(tells(rt, plain, text, told)? && tells(rt, by_clocks, text, told)?)
@@ -112,7 +119,7 @@ fn is_judged(rt: &impl Runtime, row: &Row<'_>) -> Result<bool, Fail> {
 #[test]
 fn a_run_is_judged_and_says_how_it_ended(rt: HostRuntime) -> Result<(), Fail> {
     for row in &ROWS {
-        assert!(rt; is_judged(rt.alloc(), row)?, "{}", row.0);
+        assert!(rt; is_judged(&rt, row)?, "{}", row.0);
     }
     Ok(())
 }
@@ -157,7 +164,7 @@ fn is_long_run(rt: &impl Runtime, limit: u32, plain: bool, told: Told<'_>) -> Re
 #[test]
 fn a_run_that_is_too_long_for_the_plain_judge_has_no_end(rt: HostRuntime) -> Result<(), Fail> {
     for &(limit, plain, told) in &LONG {
-        assert!(rt; is_long_run(rt.alloc(), limit, plain, told)?, "{told:?}");
+        assert!(rt; is_long_run(&rt, limit, plain, told)?, "{told:?}");
     }
     Ok(())
 }
@@ -186,7 +193,7 @@ fn is_unread(rt: &impl Runtime, (limit, shards, block): (u32, usize, usize)) -> 
 #[test]
 fn an_option_out_of_its_limits_leaves_a_program_unread(rt: HostRuntime) -> Result<(), Fail> {
     for options in &OPTIONS {
-        assert!(rt; is_unread(rt.alloc(), *options)?, "{options:?}");
+        assert!(rt; is_unread(&rt, *options)?, "{options:?}");
     }
     Ok(())
 }
@@ -200,6 +207,6 @@ fn a_writer_that_fails_ends_a_judged_run(rt: HostRuntime) -> Result<(), Fail> {
     };
     let check = CheckOptions::default();
     let engine = Engine::Race(&run, &check);
-    assert!(rt; is_cut_off(&(), rt.alloc(), engine, text.as_slice(), true, b"clean"));
+    assert!(rt; is_cut_off(&rt, engine, text.as_slice(), true, b"clean"));
     Ok(())
 }

@@ -39,8 +39,8 @@ fn ends_so(rt: &impl Runtime, engine: Engine<'_>, row: &Row<'_>, step: usize, fa
 fn a_read_fails_only_before_the_first_faulty_line_has_ended(rt: HostRuntime) {
     let by_clocks = judge(false);
     for row in &FAILING {
-        let is_right = ends_so(rt.alloc(), Engine::Check(&by_clocks), row, 1_000, true)
-            && ends_so(rt.alloc(), Engine::Edges, row, 1_000, true);
+        let is_right = ends_so(&rt, Engine::Check(&by_clocks), row, 1_000, true)
+            && ends_so(&rt, Engine::Edges, row, 1_000, true);
         assert!(rt; is_right, "at {:?}", row.0);
     }
 }
@@ -83,7 +83,7 @@ fn is_read_so(
 #[test]
 fn a_text_is_read_up_to_the_block_with_its_first_faulty_line(rt: HostRuntime) -> Result<(), Fail> {
     for row in &LONG {
-        assert!(rt; is_read_so(rt.alloc(), row)?, "with {}", row.0);
+        assert!(rt; is_read_so(&rt, row)?, "with {}", row.0);
     }
     Ok(())
 }
@@ -108,6 +108,6 @@ fn is_racy_by(rt: &impl Runtime, step: usize) -> bool {
 #[test]
 fn a_byte_at_a_time_gives_the_report(rt: HostRuntime) {
     for &step in &[1, 2, 7] {
-        assert!(rt; is_racy_by(rt.alloc(), step), "by {step}");
+        assert!(rt; is_racy_by(&rt, step), "by {step}");
     }
 }

@@ -1,5 +1,7 @@
 //! Traces with their reports and statuses, by both judges, and with their edges.
-use crate::tool::engines::{Engine, Runtime, Told, answer, ended, is_cut_off, judge, tells, text_of};
+use crate::tool::engines::{
+    Engine, Runtime, Told, answer, ended, is_cut_off, judge, tells, text_of,
+};
 use crate::tool::{channels, locks};
 use race_records::{Sink, Source};
 use race_tool::{CheckOptions, status};
@@ -166,7 +168,7 @@ fn table(number: usize) -> (&'static str, &'static [Row]) {
 fn each_trace_is_judged(rt: HostRuntime) -> Result<(), Fail> {
     for number in 0..7usize {
         let (first, rows) = table(number);
-        let wrong = first_misjudged(rt.alloc(), first, rows)?;
+        let wrong = first_misjudged(&rt, first, rows)?;
         assert!(rt; wrong.is_none(), "row {wrong:?} of table {number}");
     }
     Ok(())
@@ -223,7 +225,7 @@ fn is_at_fault(rt: &impl Runtime, text: &[u8], report: &[u8]) -> bool {
 #[test]
 fn a_text_ends_with_a_newline(rt: HostRuntime) {
     for &(text, report) in &CUT {
-        assert!(rt; is_at_fault(rt.alloc(), text, report), "{text:?}");
+        assert!(rt; is_at_fault(&rt, text, report), "{text:?}");
     }
 }
 
@@ -231,12 +233,7 @@ fn a_text_ends_with_a_newline(rt: HostRuntime) {
 fn first_mislisted(rt: &impl Runtime, rows: &[(&str, &str)]) -> Result<Option<usize>, Fail> {
     for (at, &(trace, edges)) in rows.iter().enumerate() {
         let text = text_of(rt.alloc(), trace)?;
-        if !tells(
-            rt,
-            Engine::Edges,
-            text.as_slice(),
-            (edges, status::CLEAN),
-        )? {
+        if !tells(rt, Engine::Edges, text.as_slice(), (edges, status::CLEAN))? {
             return Ok(Some(at));
         }
     }
@@ -262,7 +259,7 @@ fn listed(number: usize) -> &'static [(&'static str, &'static str)] {
 #[test]
 fn the_edges_are_listed(rt: HostRuntime) -> Result<(), Fail> {
     for number in 0..3usize {
-        let wrong = first_mislisted(rt.alloc(), listed(number))?;
+        let wrong = first_mislisted(&rt, listed(number))?;
         assert!(rt; wrong.is_none(), "row {wrong:?} of table {number}");
     }
     Ok(())
@@ -306,11 +303,7 @@ fn options_out_of_their_limits_leave_the_input_unread(rt: HostRuntime) {
                 block,
                 plain,
             };
-            assert_eq!(rt;
-                left_by(&rt, rt.alloc(), &options),
-                want,
-                "{shards} {block}"
-            );
+            assert_eq!(rt; left_by(&rt, &options), want, "{shards} {block}");
         }
     }
 }
@@ -320,7 +313,7 @@ fn a_failed_write_leaves_a_front_of_the_report(rt: HostRuntime) {
     let options = CheckOptions::default();
     for &fails in &[false, true] {
         let engine = Engine::Check(&options);
-        let is_cut = is_cut_off(&rt, rt.alloc(), engine, b"gotrace 1\n", fails, b"clean");
+        let is_cut = is_cut_off(&rt, engine, b"gotrace 1\n", fails, b"clean");
         assert!(rt; is_cut, "{fails}");
     }
 }

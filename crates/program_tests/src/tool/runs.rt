@@ -1,5 +1,7 @@
 //! Programs, the traces of their runs, and the statuses.
-use crate::tool::engines::{Engine, Runtime, SlowReader, ended, is_cut_off, leaves_unread, tells, text_of};
+use crate::tool::engines::{
+    Engine, Runtime, SlowReader, ended, is_cut_off, leaves_unread, tells, text_of,
+};
 use race_tool::{RunOptions, status};
 use std::alloc::Global;
 use std::test::Fail;
@@ -39,12 +41,7 @@ fn is_run(rt: &impl Runtime, row: &Row<'_>) -> Result<bool, Fail> {
     let &(program, limit, picks, trace, status) = row;
     let text = text_of(rt.alloc(), program)?;
     let options = options(rt.alloc(), limit, picks)?;
-    tells(
-        rt,
-        Engine::Run(&options),
-        text.as_slice(),
-        (trace, status),
-    )
+    tells(rt, Engine::Run(&options), text.as_slice(), (trace, status))
 }
 
 // Each would send or receive over c.
@@ -169,7 +166,7 @@ static ROWS: [Row<'static>; 17] = [
 #[test]
 fn each_program_has_its_trace(rt: HostRuntime) -> Result<(), Fail> {
     for row in &ROWS {
-        assert!(rt; is_run(rt.alloc(), row)?, "{}", row.0);
+        assert!(rt; is_run(&rt, row)?, "{}", row.0);
     }
     Ok(())
 }
@@ -183,7 +180,7 @@ fn is_unread(rt: &impl Runtime, limit: u32) -> Result<bool, Fail> {
 #[test]
 fn a_limit_out_of_its_limits_leaves_the_input_unread(rt: HostRuntime) -> Result<(), Fail> {
     for &limit in &[0, MOST + 1] {
-        assert!(rt; is_unread(rt.alloc(), limit)?, "{limit}");
+        assert!(rt; is_unread(&rt, limit)?, "{limit}");
     }
     Ok(())
 }
@@ -211,7 +208,7 @@ fn ends_so(rt: &impl Runtime, bytes: &[u8], status: u8, reads: u64) -> bool {
 #[test]
 fn a_reader_that_fails_ends_a_run(rt: HostRuntime) {
     for &(text, status, reads) in &FAILING {
-        assert!(rt; ends_so(rt.alloc(), text, status, reads), "{text:?}");
+        assert!(rt; ends_so(&rt, text, status, reads), "{text:?}");
     }
 }
 
@@ -223,6 +220,6 @@ fn a_writer_that_fails_ends_a_run(rt: HostRuntime) -> Result<(), Fail> {
         picks: None,
     };
     let engine = Engine::Run(&options);
-    assert!(rt; is_cut_off(&(), rt.alloc(), engine, text.as_slice(), true, b"gotra"));
+    assert!(rt; is_cut_off(&rt, engine, text.as_slice(), true, b"gotra"));
     Ok(())
 }

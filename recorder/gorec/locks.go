@@ -1,0 +1,146 @@
+package gorec
+
+import (
+	"sync"
+	"unsafe"
+
+	"gorace.local/recorder/wire"
+)
+
+// A lock is told by its address; calls of locks are done without mu.
+type lock struct {
+	p       unsafe.Pointer
+	id      uint32
+	held    bool
+	readers int
+}
+
+var locks = map[unsafe.Pointer]*lock{}
+
+// Kinds of a lock.
+const (
+	mutex   = 0
+	rwmutex = 1
+)
+
+// lockAt has the lock mu.
+func lockAt(p unsafe.Pointer, kind uint8, s *Site) *lock {
+	l := locks[p]
+	if l == nil {
+		l = &lock{p: p, id: declare(wire.DeclareLock, kind, 0, s)}
+		locks[p] = l
+	}
+	return l
+}
+
+func locked(p unsafe.Pointer, kind uint8, s *Site) {
+	if off {
+		return
+	}
+	g := current(s)
+	mu.Lock()
+	l := lockAt(p, kind, s)
+	l.held = true
+	g.note(wire.Lock, l.id, s)
+	mu.Unlock()
+}
+
+func unlocking(p unsafe.Pointer, kind uint8, s *Site) {
+	if off {
+		return
+	}
+	g := current(s)
+	mu.Lock()
+	l := lockAt(p, kind, s)
+	if l.held {
+		l.held = false
+		g.note(wire.Unlock, l.id, s)
+	} else {
+		g.note(wire.FaultUnlock, l.id, s)
+	}
+	mu.Unlock()
+}
+
+func readLocked(p unsafe.Pointer, s *Site) {
+	if off {
+		return
+	}
+	g := current(s)
+	mu.Lock()
+	l := lockAt(p, rwmutex, s)
+	l.readers++
+	g.note(wire.ReadLock, l.id, s)
+	mu.Unlock()
+}
+
+func readUnlocking(p unsafe.Pointer, s *Site) {
+	if off {
+		return
+	}
+	g := current(s)
+	mu.Lock()
+	l := lockAt(p, rwmutex, s)
+	if l.readers > 0 {
+		l.readers--
+		g.note(wire.ReadUnlock, l.id, s)
+	} else {
+		g.note(wire.FaultReadUnlock, l.id, s)
+	}
+	mu.Unlock()
+}
+
+// MutexAt is a sync.Mutex at a place where it is used; its methods are those of the mutex.
+type MutexAt struct {
+	m *sync.Mutex
+	s *Site
+}
+
+func Mutex(m *sync.Mutex, s *Site) MutexAt { return MutexAt{m, s} }
+
+func (x MutexAt) Lock()   { x.m.Lock(); locked(unsafe.Pointer(x.m), mutex, x.s) }
+func (x MutexAt) Unlock() { unlocking(unsafe.Pointer(x.m), mutex, x.s); x.m.Unlock() }
+
+func (x MutexAt) TryLock() bool {
+	ok := x.m.TryLock()
+	if ok {
+		locked(unsafe.Pointer(x.m), mutex, x.s)
+	}
+	return ok
+}
+
+// RWMutexAt is a sync.RWMutex at a place where it is used.
+type RWMutexAt struct {
+	m *sync.RWMutex
+	s *Site
+}
+
+func RWMutex(m *sync.RWMutex, s *Site) RWMutexAt { return RWMutexAt{m, s} }
+
+func (x RWMutexAt) Lock()    { x.m.Lock(); locked(unsafe.Pointer(x.m), rwmutex, x.s) }
+func (x RWMutexAt) Unlock()  { unlocking(unsafe.Pointer(x.m), rwmutex, x.s); x.m.Unlock() }
+func (x RWMutexAt) RLock()   { x.m.RLock(); readLocked(unsafe.Pointer(x.m), x.s) }
+func (x RWMutexAt) RUnlock() { readUnlocking(unsafe.Pointer(x.m), x.s); x.m.RUnlock() }
+
+func (x RWMutexAt) TryLock() bool {
+	ok := x.m.TryLock()
+	if ok {
+		locked(unsafe.Pointer(x.m), rwmutex, x.s)
+	}
+	return ok
+}
+
+func (x RWMutexAt) TryRLock() bool {
+	ok := x.m.TryRLock()
+	if ok {
+		readLocked(unsafe.Pointer(x.m), x.s)
+	}
+	return ok
+}
+
+// RLocker is a Locker whose calls are recorded.
+func (x RWMutexAt) RLocker() sync.Locker { return &readLocker{x} }
+
+type readLocker struct{ at RWMutexAt }
+
+func (r *readLocker) Lock()   { r.at.RLock() }
+func (r *readLocker) Unlock() { r.at.RUnlock() }

@@ -1,0 +1,90 @@
+package gorec
+
+// Range begins a loop over a slice: the slice, the index, and the loop's own variables.
+func Range[T any](a []T) ([]T, int, T) {
+	var value T
+	return a, 0, value
+}
+
+func RangeKey[T any](a []T) ([]T, int, int, T) {
+	var value T
+	return a, 0, 0, value
+}
+
+// RangeChannel begins a loop over a channel: the channel, and the loop's own variable.
+func RangeChannel[T any](c <-chan T) (<-chan T, T) {
+	var value T
+	return c, value
+}
+
+// Appended is a slice that is appended to.
+type Appended[S ~[]E, E any] struct {
+	a S
+	s *Site
+}
+
+func AppendTo[S ~[]E, E any](a S, s *Site) Appended[S, E] { return Appended[S, E]{a, s} }
+
+// Append appends. Where the elements fit they are written; else those that are copied are
+// read, and new memory is nobody else's yet.
+func (x Appended[S, E]) Append(values ...E) S {
+	if alone() {
+		return append(x.a, values...)
+	}
+	g := current(x.s)
+	mu.Lock()
+	n := len(x.a)
+	if n+len(values) > cap(x.a) {
+		for i := range x.a {
+			readAll(g, &x.a[i], x.s)
+		}
+		r := append(x.a, values...)
+		mu.Unlock()
+		return r
+	}
+	r := append(x.a, values...)
+	for i := n; i < len(r); i++ {
+		wroteAll(g, &r[i], x.s)
+	}
+	mu.Unlock()
+	return r
+}
+
+// AppendAll appends a slice's elements, which are read.
+func (x Appended[S, E]) AppendAll(values []E) S { return x.Append(Elements(values, x.s)...) }
+
+// Elements reads the elements of a slice.
+func Elements[S ~[]E, E any](a S, s *Site) S {
+	if len(a) == 0 || alone() {
+		return a
+	}
+	g := current(s)
+	mu.Lock()
+	for i := range a {
+		readAll(g, &a[i], s)
+	}
+	mu.Unlock()
+	return a
+}
+
+// Copy is copy, in one step.
+func Copy[T any](s *Site, to, from []T) int {
+	if alone() {
+		return copy(to, from)
+	}
+	g := current(s)
+	mu.Lock()
+	n := len(from)
+	if len(to) < n {
+		n = len(to)
+	}
+	for i := 0; i < n; i++ {
+		readAll(g, &from[i], s)
+	}
+	copy(to, from)
+	for i := 0; i < n; i++ {
+		wroteAll(g, &to[i], s)
+	}
+	mu.Unlock()
+	return n
+}

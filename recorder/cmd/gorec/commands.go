@@ -175,7 +175,7 @@ func (o *options) buildOnly(args []string) error {
 		return err
 	}
 	defer os.RemoveAll(dir)
-	_, err = o.build(args, dir, o.out, false)
+	_, err = o.build(args, dir, o.out, o.tests)
 	return err
 }
 

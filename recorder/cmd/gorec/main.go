@@ -14,7 +14,7 @@ const usage = `gorec records a run of a Go program as a trace, and has gorace ju
 
   gorec run   [-o TRACE] [-seed N] [-force] [-gorace CMD] [-all] PACKAGE [ARGS]
   gorec test  [the same] PACKAGE [FLAGS, as -test.v]
-  gorec build [-force] -o PROGRAM PACKAGE    PROGRAM, and PROGRAM.sites beside it
+  gorec build [-force] [-tests] -o PROGRAM PACKAGE    PROGRAM, and PROGRAM.sites beside it
   gorec trace [-all] LOG SITES               writes the trace of a log to standard output
   gorec show  PACKAGE DIR                    writes the instrumented source to DIR/src
 
@@ -29,7 +29,7 @@ const unusable = 3
 // options are the flags of all commands.
 type options struct {
 	out, log, judge, seed string
-	all, force            bool
+	all, force, tests     bool
 }
 
 func main() {
@@ -59,6 +59,7 @@ func command(name string, args []string) error {
 	flags.StringVar(&o.judge, "gorace", "", "the command that judges")
 	flags.StringVar(&o.seed, "seed", "", "of the yields that let runs differ; 0 for none")
 	flags.BoolVar(&o.all, "all", false, "keep what one goroutine alone uses")
+	flags.BoolVar(&o.tests, "tests", false, "build the package's tests")
 	flags.BoolVar(&o.force, "force", false, "go on without what can't be recorded")
 	if err := flags.Parse(args); err != nil {
 		return err

@@ -15,8 +15,9 @@ func main() {
 		wg.Add(1)
 		go func() {
 			defer wg.Done()
+			name := s
 			mu.Lock()
-			seen[s] = true
+			seen[name] = true
 			mu.Unlock()
 		}()
 	}

@@ -18,7 +18,10 @@ func main() {
 		total++
 		wg.Done()
 	}()
-	go wg.Done()
+	go func() {
+		time.Sleep(10 * time.Millisecond)
+		wg.Done()
+	}()
 	wg.Wait()
 	time.Sleep(100 * time.Millisecond)
 	fmt.Println(total)

@@ -16,6 +16,9 @@ type location struct {
 	base uint64 // bits that are written as 0
 	id   uint32
 
+	// a write was recorded before it was done
+	unsettled bool
+
 	// the last write that has a record
 	writer, epoch, site uint32
 }
@@ -140,8 +143,11 @@ func (g *G) read(p unsafe.Pointer, size, offset uintptr, s *Site) {
 	if bits != l.bits {
 		l.base ^= bits ^ l.bits
 		l.bits = bits
-		write(wire.Record{Op: wire.Unseen, Site: s.ID, Object: l.id})
+		if !l.unsettled {
+			write(wire.Record{Op: wire.Unseen, Site: s.ID, Object: l.id})
+		}
 	}
+	l.unsettled = false
 	write(wire.Record{Op: wire.Read, Goroutine: g.id, Object: l.id, Site: s.ID, Value: bits ^ l.base})
 }
 
@@ -159,7 +165,7 @@ func (g *G) wrote(p unsafe.Pointer, size, offset uintptr, s *Site) {
 		l.bits = bits
 		return
 	}
-	l.bits = bits
+	l.bits, l.unsettled = bits, false
 	l.writer, l.epoch, l.site = g.id, g.epoch, s.ID
 	write(wire.Record{Op: wire.Write, Goroutine: g.id, Object: l.id, Site: s.ID, Value: bits ^ l.base})
 }

@@ -77,7 +77,8 @@ func record(t *testing.T, program, seed, status string) string {
 }
 
 // verdict is what a program's head tells: the variables that race in each run, those that
-// may, and the status that the program ends with.
+// may, and the status that the program ends with. A variable that has the name of the place
+// where it is met first has several, with | between them.
 type verdict struct {
 	races, perhaps []string
 	status         string
@@ -124,14 +125,11 @@ func (v verdict) check(report string) error {
 	}
 	found := map[string]bool{}
 	for _, m := range raced.FindAllStringSubmatch(report, -1) {
-		name := m[1]
-		if !has(v.races, name) && !has(v.perhaps, name) {
-			name = number.ReplaceAllString(name, "")
+		known := entry(v.races, m[1])
+		if known == "" && entry(v.perhaps, m[1]) == "" {
+			return fmt.Errorf("a race on %s", m[1])
 		}
-		if !has(v.races, name) && !has(v.perhaps, name) {
-			return fmt.Errorf("a race on %s", name)
-		}
-		found[name] = true
+		found[known] = true
 	}
 	for _, name := range v.races {
 		if !found[name] {
@@ -141,11 +139,14 @@ func (v verdict) check(report string) error {
 	return nil
 }
 
-func has(list []string, s string) bool {
-	for _, x := range list {
-		if x == s {
-			return true
+// entry is the one of a list that a variable's name stands for.
+func entry(list []string, name string) string {
+	for _, e := range list {
+		for _, n := range strings.Split(e, "|") {
+			if n == name || n == number.ReplaceAllString(name, "") {
+				return e
+			}
 		}
 	}
-	return false
+	return ""
 }

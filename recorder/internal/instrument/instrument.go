@@ -51,8 +51,8 @@ func Packages(packages []*load.Package, dir string) (*Copy, error) {
 		}
 	}
 	if t.loose > 0 {
-		t.Notes = append(t.Notes, fmt.Sprintf("%d calls in keys or values of maps with keys of interface types "+
-			"come behind the record of the map's use", t.loose))
+		t.Notes = append(t.Notes, fmt.Sprintf("%d calls in the keys and values of maps with keys of interface types, "+
+			"or in arguments, come behind the record of the use that they stand in", t.loose))
 	}
 	sort.Strings(t.Refused)
 	t.Sites = *t.table

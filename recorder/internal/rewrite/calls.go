@@ -56,6 +56,10 @@ func (r *rewriter) call(e *ast.CallExpr) {
 func (r *rewriter) arguments(e *ast.CallExpr, f *types.Func) {
 	foreign := f != nil && f.Pkg() != nil && !r.own[f.Pkg().Path()]
 	for i, a := range e.Args {
+		end, ok := r.behind[a]
+		if ok {
+			r.insert(a.Pos(), "gorec.Then(")
+		}
 		switch {
 		case foreign && r.isChan(a):
 			s := r.site(a, r.name(a))
@@ -65,6 +69,7 @@ func (r *rewriter) arguments(e *ast.CallExpr, f *types.Func) {
 		default:
 			r.value(a)
 		}
+		r.insert(a.End(), end)
 	}
 }
 

@@ -44,10 +44,10 @@ func (r *rewriter) value(e ast.Expr) {
 	case *ast.CompositeLit:
 		r.literal(e)
 	case *ast.FuncLit:
-		outer := r.within
-		r.within = e
+		outer, postponed := r.within, r.postponed
+		r.within, r.postponed = e, false
 		r.block(e.Body)
-		r.within = outer
+		r.within, r.postponed = outer, postponed
 	case *ast.TypeAssertExpr:
 		r.value(e.X)
 	}

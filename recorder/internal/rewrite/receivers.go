@@ -10,10 +10,9 @@ import (
 // becomes a value of the recorder's that has the same methods.
 func (r *rewriter) receiver(e *ast.SelectorExpr) {
 	m := r.info.Selections[e].Obj().(*types.Func)
-	if r.syncMethod(e, m) || r.contentMethod(e, m) {
-		return
+	if !r.syncMethod(e, m) {
+		r.plainReceiver(e, m)
 	}
-	r.plainReceiver(e, m)
 }
 
 func (r *rewriter) plainReceiver(e *ast.SelectorExpr, m *types.Func) {

@@ -21,18 +21,20 @@ type Result struct {
 	Sites   string   // one more file: the package's sites, and the function main
 	Refused []string // what can't be recorded, each with its place
 	Missed  []string // calls whose accesses aren't recorded
-	Loose   int      // calls made behind the record of the map's use that they stand in
+	Loose   int      // calls made behind the record of what they stand in
 }
 
 // rewriter is the work on one file.
 type rewriter struct {
 	editor
 	*shared
-	file    *ast.File
-	generic int             // depth of generic functions
-	fresh   int             // for names
-	keep    map[string]bool // package functions that still have to be used
-	within  ast.Node        // the function
+	file      *ast.File
+	generic   int                 // depth of generic functions
+	fresh     int                 // for names
+	keep      map[string]bool     // package functions that still have to be used
+	within    ast.Node            // the function
+	behind    map[ast.Expr]string // what stands behind an argument
+	postponed bool                // a call is changed that is made later
 }
 
 // shared is the work on a package.
@@ -51,7 +53,7 @@ type shared struct {
 func Package(p *load.Package, own map[string]bool, table *sites.Table) Result {
 	s := &shared{p: p, info: p.Info, facts: factsOf(p), own: own, table: table}
 	for i, f := range p.Files {
-		r := &rewriter{shared: s, file: f, keep: map[string]bool{}}
+		r := &rewriter{shared: s, file: f, keep: map[string]bool{}, behind: map[ast.Expr]string{}}
 		r.src = p.Sources[i]
 		r.start = p.Fset.File(f.Pos()).Pos(0)
 		s.result.Files = append(s.result.Files, r.rewriteFile())

@@ -32,7 +32,7 @@ func (r *rewriter) statement(s ast.Stmt, inBlock bool) {
 	case *ast.GoStmt:
 		r.goStatement(s)
 	case *ast.DeferStmt:
-		r.call(s.Call)
+		r.postpone(func() { r.call(s.Call) })
 	case *ast.ReturnStmt:
 		r.returnStatement(s)
 	case *ast.BlockStmt:
@@ -165,7 +165,8 @@ func (r *rewriter) startedArguments(c *ast.CallExpr) (before, args string) {
 			continue
 		}
 		if f != nil && f.Pkg() != nil && !r.own[f.Pkg().Path()] {
-			text = r.render(a, func() { r.arguments(&ast.CallExpr{Fun: c.Fun, Args: c.Args[i : i+1]}, f) })
+			one := &ast.CallExpr{Fun: c.Fun, Args: c.Args[i : i+1]}
+			text = r.render(a, func() { r.postpone(func() { r.arguments(one, f) }) })
 		}
 		name := r.newName("a")
 		before += name + " := " + text + "; "
@@ -191,4 +192,13 @@ func (r *rewriter) startedBuiltin(s *ast.GoStmt, call, args string) (string, str
 		r.refuse(s, "go "+call, "start a function literal that does it")
 	}
 	return call, args
+}
+
+// postpone changes a call that is made later than it is evaluated. What it reads and writes
+// by itself isn't recorded, since that would be here.
+func (r *rewriter) postpone(change func()) {
+	outer := r.postponed
+	r.postponed = true
+	change()
+	r.postponed = outer
 }

@@ -35,12 +35,16 @@ func channelAt(p unsafe.Pointer, g *G, s *Site) *channel {
 	if p == nil {
 		return nil
 	}
+	if s.channel != nil && s.channel.p == p {
+		return s.channel
+	}
 	c := channels[p]
 	if c == nil {
 		c = &channel{p: p, foreign: true}
 		channels[p] = c
 		g.lose(wire.LostChannel, s)
 	}
+	s.channel = c
 	return c
 }
 
@@ -80,10 +84,38 @@ func Chan[T any](c chan<- T) Sender[T] { return Sender[T]{c} }
 func (x Sender[T]) Send(v T, s *Site) {
 	if off {
 		x.c <- v
-		return
+	} else if !x.sendNow(v, s) {
+		cases := [1]communication{x.Case(v)}
+		communicate(s, false, cases[:])
 	}
-	cases := [1]communication{x.Case(v)}
-	communicate(s, false, cases[:])
+}
+
+// sendNow sends where nothing has to be waited for.
+func (x Sender[T]) sendNow(v T, s *Site) bool {
+	g := current(s)
+	mu.Lock()
+	defer mu.Unlock()
+	ch := channelAt(pointerTo(&x.c), g, s)
+	switch {
+	case ch == nil || ch.foreign || ch.closed:
+		return false
+	case ch.buffered < ch.capacity:
+		x.c <- v
+		g.sent(ch, s)
+		ch.serve()
+		return true
+	case ch.capacity > 0:
+		return false
+	}
+	taker := longest(&ch.takers, g)
+	if taker == nil {
+		return false
+	}
+	sent := v // so that v itself needn't have an address
+	taker.self.fill(unsafe.Pointer(&sent), true)
+	meet(ch, g, s, taker.waiter.g, taker.waiter.s)
+	taker.finish()
+	return true
 }
 
 // Receive is <-c, ReceiveOK v, ok = <-c.
@@ -97,10 +129,40 @@ func ReceiveOK[T any](c <-chan T, s *Site) (T, bool) {
 		v, ok := <-c
 		return v, ok
 	}
+	if v, ok := receiveNow(c, s); ok {
+		return v, true
+	}
 	r := CaseReceive(c)
 	cases := [1]communication{r}
 	communicate(s, false, cases[:])
 	return r.Value, r.OK
+}
+
+// receiveNow receives a value where nothing has to be waited for.
+func receiveNow[T any](c <-chan T, s *Site) (v T, ok bool) {
+	g := current(s)
+	mu.Lock()
+	defer mu.Unlock()
+	ch := channelAt(pointerTo(&c), g, s)
+	switch {
+	case ch == nil || ch.foreign || ch.done != nil:
+		return v, false
+	case ch.buffered > 0:
+		v = <-c
+		g.received(ch, s)
+		ch.serve()
+		return v, true
+	case ch.capacity > 0 || ch.closed:
+		return v, false
+	}
+	sender := longest(&ch.senders, g)
+	if sender == nil {
+		return v, false
+	}
+	v = *(*T)(sender.self.value())
+	meet(ch, sender.waiter.g, sender.waiter.s, g, s)
+	sender.finish()
+	return v, true
 }
 
 // Close is close(c).

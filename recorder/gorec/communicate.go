@@ -86,7 +86,8 @@ func (g *G) trySend(s *Site, c communication) (did, panics bool) {
 	if taker == nil {
 		return false, false
 	}
-	meet(g, s, c, taker.waiter.g, taker.waiter.s, taker.self)
+	taker.self.fill(c.value(), true)
+	meet(ch, g, s, taker.waiter.g, taker.waiter.s)
 	taker.finish()
 	return true, false
 }
@@ -117,7 +118,8 @@ func (g *G) tryReceive(s *Site, c communication) bool {
 	if sender == nil {
 		return false
 	}
-	meet(sender.waiter.g, sender.waiter.s, sender.self, g, s, c)
+	c.fill(sender.self.value(), true)
+	meet(ch, sender.waiter.g, sender.waiter.s, g, s)
 	sender.finish()
 	return true
 }
@@ -128,6 +130,11 @@ func (g *G) send(s *Site, c communication) {
 	if did, _ := c.try(); !did {
 		panic("gorec: a channel isn't as recorded")
 	}
+	g.sent(ch, s)
+}
+
+// sent has the lock: a value was put into the buffer.
+func (g *G) sent(ch *channel, s *Site) {
 	ch.buffered++
 	ch.sent++
 	g.numbered(wire.Send, ch.id, ch.sent, s)
@@ -139,15 +146,18 @@ func (g *G) receive(s *Site, c communication) {
 	if did, _ := c.try(); !did {
 		panic("gorec: a channel isn't as recorded")
 	}
+	g.received(ch, s)
+}
+
+// received has the lock: a value was taken out of the buffer.
+func (g *G) received(ch *channel, s *Site) {
 	ch.buffered--
 	ch.received++
 	g.numbered(wire.Receive, ch.id, ch.received, s)
 }
 
-// meet has the lock: a value goes over an unbuffered channel.
-func meet(sender *G, at *Site, send communication, receiver *G, to *Site, take communication) {
-	ch := send.state().channel
-	take.fill(send.value(), true)
+// meet has the lock: a value went over an unbuffered channel.
+func meet(ch *channel, sender *G, at *Site, receiver *G, to *Site) {
 	ch.sent++
 	sender.epoch++
 	receiver.epoch++
@@ -172,7 +182,7 @@ func longest(queue *[]*operation, g *G) *operation {
 func (o *operation) finish() {
 	o.waiter.done = true
 	o.waiter.which = o.index
-	o.waiter.wake <- struct{}{}
+	o.waiter.g.wake <- struct{}{}
 }
 
 // serve has the lock. It does for those who wait what has become possible.

@@ -19,6 +19,7 @@ type G struct {
 	random uint32
 	epoch  uint32 // grows with each operation that may order something
 	cache  readCache
+	wake   chan struct{} // lets it go on where it waits for others
 }
 
 //go:linkname getLabel runtime/pprof.runtime_getProfLabel
@@ -31,7 +32,7 @@ func getg() uintptr
 
 var (
 	goroutines    uint32
-	mainGoroutine = &G{}
+	mainGoroutine = &G{wake: make(chan struct{}, 1)}
 	nowhere       = &Site{}
 )
 
@@ -85,7 +86,7 @@ func adopt(parent *G, s *Site) *G {
 func newGoroutine() *G {
 	goroutines++
 	live = !sealed
-	return &G{id: goroutines, random: seed*2654435761 + goroutines*40503 | 1}
+	return &G{id: goroutines, random: seed*2654435761 + goroutines*40503 | 1, wake: make(chan struct{}, 1)}
 }
 
 // Go starts f.

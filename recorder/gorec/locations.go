@@ -185,7 +185,7 @@ type cachedRead struct {
 
 const (
 	smallestCache = 1 << 5
-	largestCache  = 1 << 15
+	largestCache  = 1 << 17
 )
 
 func (g *G) entry(p unsafe.Pointer) *cachedRead {
@@ -197,7 +197,9 @@ func (g *G) entry(p unsafe.Pointer) *cachedRead {
 		}
 		*c = readCache{entries: make([]cachedRead, size)}
 	}
-	return &c.entries[hash(p)&uintptr(len(c.entries)-1)]
+	// neighbours in memory stand beside one another in the cache
+	h := uintptr(p) >> 3
+	return &c.entries[(h^h>>15)&uintptr(len(c.entries)-1)]
 }
 
 // hasRead: a read of p at s has a record, which stands for this one too.

@@ -25,11 +25,15 @@ const (
 
 // lockAt has the lock mu.
 func lockAt(p unsafe.Pointer, kind uint8, s *Site) *lock {
+	if s.lock != nil && s.lock.p == p {
+		return s.lock
+	}
 	l := locks[p]
 	if l == nil {
 		l = &lock{p: p, id: declare(wire.DeclareLock, kind, 0, s)}
 		locks[p] = l
 	}
+	s.lock = l
 	return l
 }
 

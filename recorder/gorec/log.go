@@ -20,8 +20,10 @@ import (
 // Site is a place in the source, and the name of what is used there.
 type Site struct {
 	ID      uint32
-	layout  *layout
 	generic bool
+	layout  *layout  // of the type, unless that differs from use to use
+	channel *channel // the last one that was used here
+	lock    *lock
 }
 
 // Generic makes a site of a generic function, where a type isn't the same at each use.

@@ -33,7 +33,6 @@ type operation struct {
 type waiter struct {
 	g      *G
 	s      *Site
-	wake   chan struct{}
 	done   bool
 	panics bool // it sends on a channel that was closed
 	which  int
@@ -196,7 +195,7 @@ func (g *G) noteDefault(s *Site, cases []communication) {
 
 // enqueue has the lock.
 func enqueue(g *G, s *Site, cases []communication) *waiter {
-	w := &waiter{g: g, s: s, wake: make(chan struct{}, 1)}
+	w := &waiter{g: g, s: s}
 	for _, c := range cases {
 		o := c.state()
 		o.waiter = w
@@ -215,13 +214,13 @@ func enqueue(g *G, s *Site, cases []communication) *waiter {
 // make one possible, by trying again from time to time.
 func (w *waiter) sleep(cases []communication, poll bool) int {
 	if !poll {
-		<-w.wake
+		<-w.g.wake
 	}
 	pause := 5 * time.Microsecond
 	for poll {
 		t := time.NewTimer(pause)
 		select {
-		case <-w.wake:
+		case <-w.g.wake:
 			poll = false
 		case <-t.C:
 			i, done, panics := w.again(cases)
@@ -232,7 +231,7 @@ func (w *waiter) sleep(cases []communication, poll bool) int {
 				return i
 			}
 			if done {
-				<-w.wake
+				<-w.g.wake
 				poll = false
 			}
 		}

@@ -98,6 +98,15 @@ func Into(f func([]byte) (int, error), s *Site) func([]byte) (int, error) {
 	}
 }
 
+// IntoAt is Into for ReadAt.
+func IntoAt(f func([]byte, int64) (int, error), s *Site) func([]byte, int64) (int, error) {
+	return func(b []byte, at int64) (int, error) {
+		n, err := f(b, at)
+		filled(b, n, s)
+		return n, err
+	}
+}
+
 // Into2 is Into for io.ReadFull and those like it.
 func Into2[R any](f func(R, []byte) (int, error), s *Site) func(R, []byte) (int, error) {
 	return func(r R, b []byte) (int, error) {

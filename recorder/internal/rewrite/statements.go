@@ -38,6 +38,7 @@ func (r *rewriter) statement(s ast.Stmt, inBlock bool) {
 	case *ast.BlockStmt:
 		r.block(s)
 	case *ast.LabeledStmt:
+		r.labeled = s.Stmt
 		r.statement(s.Stmt, true)
 	case *ast.DeclStmt:
 		if g, ok := s.Decl.(*ast.GenDecl); ok && g.Tok == token.VAR {

@@ -73,8 +73,12 @@ var wholeCalls = map[string]string{
 	"sort.Strings":                    "Sorts",
 }
 
-// sortCalls are functions that one of the recorder's takes the place of.
-var sortCalls = map[string]string{"sort.Slice": "SortSlice", "sort.SliceStable": "SortSliceStable"}
+// replacedCalls are functions that one of the recorder's takes the place of.
+var replacedCalls = map[string]string{
+	"reflect.Copy":     "ReflectCopy",
+	"sort.Slice":       "SortSlice",
+	"sort.SliceStable": "SortSliceStable",
+}
 
 // missingPackages have functions that read or write what they are handed by reflection, or
 // by means that the recorder doesn't know.

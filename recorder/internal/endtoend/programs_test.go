@@ -14,17 +14,45 @@ const programs = root + "/testdata/programs"
 
 var seeds = []string{"1", "2", "3"}
 
-// TestPrograms runs each example program at each seed, and compares the races with those
-// that the head of its main.go tells. No trace is illegal.
-func TestPrograms(t *testing.T) {
+// batch has traces that are judged at once, each with what its report has to be.
+type batch struct {
+	traces map[string]string // by the run's name
+	checks map[string]func(report string) error
+	behind []func() error
+}
+
+func (b *batch) add(run, trace string, check func(string) error) {
+	b.traces[run] = trace
+	b.checks[run] = check
+}
+
+// TestRecordings records the example programs at each seed, and what the page for beginners
+// records. Each race that a program tells at its head is found, and no other; no trace is
+// illegal; and the page's commands print what the page says.
+func TestRecordings(t *testing.T) {
 	requireJudge(t)
+	b := &batch{traces: map[string]string{}, checks: map[string]func(string) error{}}
+	addPrograms(t, b)
+	addPage(t, b)
+	for run, report := range judgeAll(t, b.traces) {
+		if err := b.checks[run](report); err != nil {
+			t.Errorf("%s: %v\n%s", run, err, report)
+		}
+	}
+	for _, check := range b.behind {
+		if err := check(); err != nil {
+			t.Error(err)
+		}
+	}
+}
+
+func addPrograms(t *testing.T, b *batch) {
+	t.Helper()
 	entries, err := os.ReadDir(programs)
 	if err != nil {
 		t.Fatal(err)
 	}
 	dir := t.TempDir()
-	traces := map[string]string{} // by the run's name
-	verdicts := map[string]verdict{}
 	for _, e := range entries {
 		if !e.IsDir() {
 			continue
@@ -32,14 +60,7 @@ func TestPrograms(t *testing.T) {
 		want := readVerdict(t, filepath.Join(programs, e.Name(), "main.go"))
 		build(t, "./"+e.Name(), filepath.Join(dir, e.Name()))
 		for _, seed := range seeds {
-			run := e.Name() + "." + seed
-			traces[run] = record(t, filepath.Join(dir, e.Name()), seed, want.status)
-			verdicts[run] = want
-		}
-	}
-	for run, report := range judgeAll(t, traces) {
-		if err := verdicts[run].check(report); err != nil {
-			t.Errorf("%s: %v\n%s", run, err, report)
+			b.add(e.Name()+"."+seed, record(t, filepath.Join(dir, e.Name()), seed, want.status), want.check)
 		}
 	}
 }

@@ -140,14 +140,19 @@ type Atomic[T any] struct {
 
 // with does f in one step.
 func (x Atomic[T]) with(f func() int) {
+	inOneStep(x.s, f, func(g *G, what int) { g.atomic(x.p, 0, what, x.s) })
+}
+
+// inOneStep does f, and notes what it did.
+func inOneStep(s *Site, f func() int, note func(g *G, what int)) {
 	if off {
 		f()
 		return
 	}
-	g := current(x.s)
+	g := current(s)
 	mu.Lock()
 	defer mu.Unlock()
-	g.atomic(x.p, 0, f(), x.s)
+	note(g, f())
 }
 
 func (x Atomic[T]) Load() (r T) {

@@ -116,10 +116,6 @@ func Into2[R any](f func(R, []byte) (int, error), s *Site) func(R, []byte) (int,
 	}
 }
 
-// most is the number of a slice's elements that are recorded at each end, where a function
-// of the standard library works on it.
-const most = 256
-
 func filled(b []byte, n int, s *Site) {
 	if alone() || n <= 0 || n > len(b) {
 		return
@@ -132,20 +128,4 @@ func filled(b []byte, n int, s *Site) {
 		}
 	}
 	mu.Unlock()
-}
-
-// Handed is a slice whose elements a function of the standard library reads.
-func Handed[S ~[]E, E any](a S, s *Site) S {
-	if len(a) == 0 || alone() {
-		return a
-	}
-	g := current(s)
-	mu.Lock()
-	for i := range a {
-		if i < most || i >= len(a)-most {
-			readAll(g, &a[i], s)
-		}
-	}
-	mu.Unlock()
-	return a
 }

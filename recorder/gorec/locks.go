@@ -37,59 +37,43 @@ func lockAt(p unsafe.Pointer, kind uint8, s *Site) *lock {
 	return l
 }
 
-func locked(p unsafe.Pointer, kind uint8, s *Site) {
+// locked is a Lock or an RLock that has returned.
+func locked(p unsafe.Pointer, kind uint8, op wire.Op, s *Site) {
 	if off {
 		return
 	}
 	g := current(s)
 	mu.Lock()
 	l := lockAt(p, kind, s)
-	l.held = true
-	g.note(wire.Lock, l.id, s)
+	if op == wire.Lock {
+		l.held = true
+	} else {
+		l.readers++
+	}
+	g.note(op, l.id, s)
 	mu.Unlock()
 }
 
-func unlocking(p unsafe.Pointer, kind uint8, s *Site) {
+// unlocking is an Unlock or an RUnlock that is about to be called. One that is going to fail
+// is a fault.
+func unlocking(p unsafe.Pointer, kind uint8, op wire.Op, s *Site) {
 	if off {
 		return
 	}
 	g := current(s)
 	mu.Lock()
 	l := lockAt(p, kind, s)
-	if l.held {
+	switch {
+	case op == wire.Unlock && !l.held:
+		op = wire.FaultUnlock
+	case op == wire.Unlock:
 		l.held = false
-		g.note(wire.Unlock, l.id, s)
-	} else {
-		g.note(wire.FaultUnlock, l.id, s)
-	}
-	mu.Unlock()
-}
-
-func readLocked(p unsafe.Pointer, s *Site) {
-	if off {
-		return
-	}
-	g := current(s)
-	mu.Lock()
-	l := lockAt(p, rwmutex, s)
-	l.readers++
-	g.note(wire.ReadLock, l.id, s)
-	mu.Unlock()
-}
-
-func readUnlocking(p unsafe.Pointer, s *Site) {
-	if off {
-		return
-	}
-	g := current(s)
-	mu.Lock()
-	l := lockAt(p, rwmutex, s)
-	if l.readers > 0 {
+	case l.readers == 0:
+		op = wire.FaultReadUnlock
+	default:
 		l.readers--
-		g.note(wire.ReadUnlock, l.id, s)
-	} else {
-		g.note(wire.FaultReadUnlock, l.id, s)
 	}
+	g.note(op, l.id, s)
 	mu.Unlock()
 }
 
@@ -101,13 +85,13 @@ type MutexAt struct {
 
 func Mutex(m *sync.Mutex, s *Site) MutexAt { return MutexAt{m, s} }
 
-func (x MutexAt) Lock()   { x.m.Lock(); locked(unsafe.Pointer(x.m), mutex, x.s) }
-func (x MutexAt) Unlock() { unlocking(unsafe.Pointer(x.m), mutex, x.s); x.m.Unlock() }
+func (x MutexAt) Lock()   { x.m.Lock(); locked(unsafe.Pointer(x.m), mutex, wire.Lock, x.s) }
+func (x MutexAt) Unlock() { unlocking(unsafe.Pointer(x.m), mutex, wire.Unlock, x.s); x.m.Unlock() }
 
 func (x MutexAt) TryLock() bool {
 	ok := x.m.TryLock()
 	if ok {
-		locked(unsafe.Pointer(x.m), mutex, x.s)
+		locked(unsafe.Pointer(x.m), mutex, wire.Lock, x.s)
 	}
 	return ok
 }
@@ -120,15 +104,18 @@ type RWMutexAt struct {
 
 func RWMutex(m *sync.RWMutex, s *Site) RWMutexAt { return RWMutexAt{m, s} }
 
-func (x RWMutexAt) Lock()    { x.m.Lock(); locked(unsafe.Pointer(x.m), rwmutex, x.s) }
-func (x RWMutexAt) Unlock()  { unlocking(unsafe.Pointer(x.m), rwmutex, x.s); x.m.Unlock() }
-func (x RWMutexAt) RLock()   { x.m.RLock(); readLocked(unsafe.Pointer(x.m), x.s) }
-func (x RWMutexAt) RUnlock() { readUnlocking(unsafe.Pointer(x.m), x.s); x.m.RUnlock() }
+func (x RWMutexAt) Lock()   { x.m.Lock(); locked(unsafe.Pointer(x.m), rwmutex, wire.Lock, x.s) }
+func (x RWMutexAt) Unlock() { unlocking(unsafe.Pointer(x.m), rwmutex, wire.Unlock, x.s); x.m.Unlock() }
+func (x RWMutexAt) RLock()  { x.m.RLock(); locked(unsafe.Pointer(x.m), rwmutex, wire.ReadLock, x.s) }
+func (x RWMutexAt) RUnlock() {
+	unlocking(unsafe.Pointer(x.m), rwmutex, wire.ReadUnlock, x.s)
+	x.m.RUnlock()
+}
 
 func (x RWMutexAt) TryLock() bool {
 	ok := x.m.TryLock()
 	if ok {
-		locked(unsafe.Pointer(x.m), rwmutex, x.s)
+		locked(unsafe.Pointer(x.m), rwmutex, wire.Lock, x.s)
 	}
 	return ok
 }
@@ -136,7 +123,7 @@ func (x RWMutexAt) TryLock() bool {
 func (x RWMutexAt) TryRLock() bool {
 	ok := x.m.TryRLock()
 	if ok {
-		readLocked(unsafe.Pointer(x.m), x.s)
+		locked(unsafe.Pointer(x.m), rwmutex, wire.ReadLock, x.s)
 	}
 	return ok
 }

@@ -70,16 +70,33 @@ func (x Appended[S, E]) AppendAll(values []E) S { return x.Append(Elements(value
 
 // Elements reads the elements of a slice.
 func Elements[S ~[]E, E any](a S, s *Site) S {
+	readElements(a, len(a), s)
+	return a
+}
+
+// Handed is a slice whose elements a function of the standard library reads.
+func Handed[S ~[]E, E any](a S, s *Site) S {
+	readElements(a, most, s)
+	return a
+}
+
+// most is the number of a slice's elements that are recorded at each end, where a function
+// of the standard library works on it.
+const most = 256
+
+// readElements reads as many elements at each end as are wanted.
+func readElements[E any](a []E, wanted int, s *Site) {
 	if len(a) == 0 || alone() {
-		return a
+		return
 	}
 	g := current(s)
 	mu.Lock()
 	for i := range a {
-		readAll(g, &a[i], s)
+		if i < wanted || i >= len(a)-wanted {
+			readAll(g, &a[i], s)
+		}
 	}
 	mu.Unlock()
-	return a
 }
 
 // Copy is copy, in one step.

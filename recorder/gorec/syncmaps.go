@@ -20,21 +20,15 @@ var lastStores = map[syncMapKey]uint32{}
 
 // do does an operation of a key in one step.
 func (x SyncMapAt) do(k any, f func() int) {
-	if off {
-		f()
-		return
-	}
-	g := current(x.s)
-	mu.Lock()
-	defer mu.Unlock()
-	what := f()
-	key := syncMapKey{x.m, k}
-	if what&loads != 0 {
-		g.acquire(lastStores[key], x.s)
-	}
-	if what&stores != 0 {
-		lastStores[key] = g.release(x.s)
-	}
+	inOneStep(x.s, f, func(g *G, what int) {
+		key := syncMapKey{x.m, k}
+		if what&loads != 0 {
+			g.acquire(lastStores[key], x.s)
+		}
+		if what&stores != 0 {
+			lastStores[key] = g.release(x.s)
+		}
+	})
 }
 
 func (x SyncMapAt) Load(k any) (v any, ok bool) {

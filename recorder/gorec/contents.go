@@ -122,6 +122,7 @@ func filled(b []byte, n int, s *Site) {
 	}
 	g := current(s)
 	mu.Lock()
+	g.takeIn(s)
 	for i := range b[:n] {
 		if i < most || i >= n-most {
 			wroteAll(g, &b[i], s)

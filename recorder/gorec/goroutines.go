@@ -20,6 +20,10 @@ type G struct {
 	epoch  uint32 // grows with each operation that may order something
 	cache  readCache
 	wake   chan struct{} // lets it go on where it waits for others
+
+	foreign bool   // code without the recorder started it
+	taken   uint32 // the newest order of sentOut that it is behind
+	joined  uint32 // the epoch up to which others are behind it
 }
 
 //go:linkname getLabel runtime/pprof.runtime_getProfLabel
@@ -42,6 +46,11 @@ func current(s *Site) *G {
 	if g != nil && g.g == getg() && !g.over {
 		if seed != 0 {
 			g.yield()
+		}
+		if g.foreign {
+			mu.Lock()
+			g.takeSent(s) // it may have been asked anew
+			mu.Unlock()
 		}
 		return g
 	}
@@ -74,9 +83,12 @@ func adopt(parent *G, s *Site) *G {
 	mu.Lock()
 	g := newGoroutine()
 	g.g = getg()
+	g.foreign = true
+	adopted = append(adopted, g)
 	g.lose(wire.LostGoroutine, s)
 	parent.epoch++
 	write(wire.Record{Op: wire.Go, Kind: wire.GoForeign, Goroutine: parent.id, Other: g.id})
+	g.takeSent(s)
 	mu.Unlock()
 	setLabel(unsafe.Pointer(g))
 	return g

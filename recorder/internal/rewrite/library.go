@@ -80,6 +80,8 @@ func (r *rewriter) methodCall(e *ast.CallExpr, sel *ast.SelectorExpr, f *types.F
 		r.contentCall(e, sel, f, hasWord(reads, f.Name()))
 	case path != "":
 		r.value(sel)
+	case outTypes[typ] && strings.HasPrefix(f.Name(), "Write"):
+		r.wrapReceiver(sel, "Out", r.site(e, name))
 	case isMap && hasWord(writesMap, f.Name()):
 		r.wrapReceiver(sel, "WriteMap", r.site(e, name))
 	case isMap:

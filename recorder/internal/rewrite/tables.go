@@ -42,6 +42,9 @@ const (
 // streamMethods are methods of Readers and Writers of any type.
 const streamMethods = "Write WriteString WriteByte WriteRune Read ReadByte ReadRune ReadString ReadBytes ReadFrom WriteTo"
 
+// outTypes are those of files and connections, by which goroutines may meet.
+var outTypes = words(`os.File net.Conn net.TCPConn net.UDPConn net.UnixConn io.PipeWriter`)
+
 // streamFunctions use the Readers and Writers that they are handed.
 var streamFunctions = words(`fmt.Fprint fmt.Fprintf fmt.Fprintln fmt.Fscan fmt.Fscanf fmt.Fscanln io.Copy io.CopyN
 	io.CopyBuffer io.ReadAll io.ReadAtLeast io.ReadFull io.WriteString io/ioutil.ReadAll encoding/binary.Read
@@ -62,15 +65,28 @@ var encodeFunctions = words(`encoding/json.Marshal encoding/json.MarshalIndent e
 
 // wholeCalls are functions that a function of the recorder's goes round.
 var wholeCalls = map[string]string{
-	"encoding/json.Unmarshal":         "Fills2",
-	"encoding/xml.Unmarshal":          "Fills2",
-	"(*encoding/json.Decoder).Decode": "Fills",
-	"(*encoding/xml.Decoder).Decode":  "Fills",
-	"(*encoding/gob.Decoder).Decode":  "Fills",
-	"io.ReadFull":                     "Into2",
-	"sort.Float64s":                   "Sorts",
-	"sort.Ints":                       "Sorts",
-	"sort.Strings":                    "Sorts",
+	"encoding/json.Unmarshal":           "Fills2",
+	"encoding/xml.Unmarshal":            "Fills2",
+	"(*encoding/json.Decoder).Decode":   "Fills",
+	"(*encoding/xml.Decoder).Decode":    "Fills",
+	"(*encoding/gob.Decoder).Decode":    "Fills",
+	"io.ReadFull":                       "Into2",
+	"io.ReadAll":                        "Ask1",
+	"io/ioutil.ReadAll":                 "Ask1",
+	"net/http.Get":                      "Ask1",
+	"net/http.Head":                     "Ask1",
+	"net/http.Post":                     "Ask3",
+	"net/http.PostForm":                 "Ask2",
+	"(*net/http.Client).Do":             "Ask1",
+	"(*net/http.Client).Get":            "Ask1",
+	"(*net/http.Client).Head":           "Ask1",
+	"(*net/http.Client).Post":           "Ask3",
+	"(*net/http.Client).PostForm":       "Ask2",
+	"(*net/http.Server).Shutdown":       "AskError",
+	"(*net/http/httptest.Server).Close": "Ask",
+	"sort.Float64s":                     "Sorts",
+	"sort.Ints":                         "Sorts",
+	"sort.Strings":                      "Sorts",
 }
 
 // replacedCalls are functions that one of the recorder's takes the place of.

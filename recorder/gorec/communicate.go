@@ -41,13 +41,19 @@ func (g *G) try(s *Site, cases []communication) (index int, panics bool) {
 			did = g.tryReceive(s, cases[i])
 		}
 		if did {
-			if w := cases[i].state().waiter; w != nil {
-				w.done = true
-			}
+			cases[i].state().claim()
 			return i, panics
 		}
 	}
 	return none, false
+}
+
+// claim is called before what may serve others is done, so that nobody serves the same
+// waiter.
+func (o *operation) claim() {
+	if o.waiter != nil {
+		o.waiter.done = true
+	}
 }
 
 func (g *G) tryForeign(s *Site, c communication) (did, panics bool) {
@@ -78,6 +84,7 @@ func (g *G) trySend(s *Site, c communication) (did, panics bool) {
 		if ch.buffered == ch.capacity {
 			return false, false
 		}
+		c.state().claim()
 		g.send(s, c)
 		ch.serve()
 		return true, false
@@ -96,6 +103,7 @@ func (g *G) tryReceive(s *Site, c communication) bool {
 	ch := c.state().channel
 	switch {
 	case ch.capacity > 0 && ch.buffered > 0:
+		c.state().claim()
 		g.receive(s, c)
 		ch.serve()
 		return true
@@ -108,6 +116,7 @@ func (g *G) tryReceive(s *Site, c communication) bool {
 		if !did || ok {
 			return false
 		}
+		c.state().claim()
 		ch.done.ended()
 		g.note(wire.ReceiveClosed, ch.id, s)
 		return true

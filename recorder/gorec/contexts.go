@@ -14,6 +14,8 @@ type doneChannel struct {
 	channel  *channel
 	timer    *G
 	children []*doneChannel
+	by       *G // who is about to cancel it, at a place
+	at       *Site
 }
 
 // newDone follows a context that the program makes; nil is none.
@@ -57,11 +59,23 @@ func (d *doneChannel) close(g *G, s *Site) {
 	}
 }
 
-// ended has the lock: the context was found done, and no cancel of the program did it. It
-// was its timer, or a parent that isn't recorded.
+// cancels has the lock: g is about to cancel the context.
+func (d *doneChannel) cancels(g *G, s *Site) {
+	if d.by == nil {
+		d.by, d.at = g, s
+	}
+	for _, c := range d.children {
+		c.cancels(g, s)
+	}
+}
+
+// ended has the lock: the context was found done, and its close has no record yet. It was
+// who cancels it, or its timer, or a parent that isn't recorded.
 func (d *doneChannel) ended() {
 	switch {
 	case d.channel.closed:
+	case d.by != nil:
+		d.close(d.by, d.at)
 	case d.timer != nil:
 		d.close(d.timer, nowhere)
 	default:
@@ -69,15 +83,21 @@ func (d *doneChannel) ended() {
 	}
 }
 
+// canceler cancels without the lock, since that may call methods of the program; and before
+// those who wait go on, so that they find an Err.
 func (d *doneChannel) canceler(f context.CancelFunc, s *Site) context.CancelFunc {
+	if d == nil {
+		return f
+	}
 	return func() {
 		g := current(s)
 		mu.Lock()
-		if d != nil {
-			d.close(g, s)
-		}
+		d.cancels(g, s)
 		mu.Unlock()
 		f()
+		mu.Lock()
+		d.close(g, s)
+		mu.Unlock()
 	}
 }
 

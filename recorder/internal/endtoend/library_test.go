@@ -16,9 +16,10 @@ import (
 var library = flag.Bool("library", true, "run the tests of Go's own packages, recorded")
 
 // packages are those of Go's own library that stand as user code in a module of their own.
-var packages = strings.Fields(`container/heap container/list container/ring encoding/ascii85 encoding/base32 encoding/base64
-	encoding/binary encoding/csv encoding/gob encoding/hex encoding/xml hash/crc64 hash/fnv html image image/color math/cmplx
-	net/mail net/url text/scanner text/tabwriter text/template/parse unicode/utf8`)
+var packages = strings.Fields(`container/heap container/list container/ring encoding/ascii85 encoding/asn1 encoding/base32
+	encoding/base64 encoding/binary encoding/csv encoding/gob encoding/hex encoding/xml go/ast go/constant go/scanner go/token
+	hash/crc64 hash/fnv html image image/color math/cmplx mime/quotedprintable net/mail net/url testing/iotest text/scanner
+	text/tabwriter text/template/parse unicode/utf8`)
 
 // TestLibrary builds packages of Go's library with the recorder's calls, and runs their tests
 // recorded: each passes or fails as in a plain copy.

@@ -1,12 +1,15 @@
 package endtoend
 
 import (
+	"flag"
 	"os"
 	"os/exec"
 	"path/filepath"
 	"strings"
 	"testing"
 )
+
+var detector = flag.Bool("detector", false, "run the example programs with Go's own race detector too")
 
 // missedByDetector are programs of which Go's detector often or always misses the race,
 // since it keeps four accesses of a word, and one clock for a channel of empty structs.
@@ -15,6 +18,9 @@ var missedByDetector = map[string]bool{"counter": true, "semaphore2": true, "loo
 // TestGoDetectorAgrees runs the example programs with Go's own race detector: it tells no
 // race where none is, and, in one of a few runs, one where one is.
 func TestGoDetectorAgrees(t *testing.T) {
+	if !*detector {
+		t.Skip("no -detector")
+	}
 	cgo, _ := exec.Command("go", "env", "CGO_ENABLED").Output()
 	if _, err := exec.LookPath("gcc"); err != nil || strings.TrimSpace(string(cgo)) != "1" {
 		t.Skip("no cgo, which -race needs")

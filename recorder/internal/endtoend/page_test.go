@@ -15,6 +15,9 @@ const page = root + "/../docs/GETTING_STARTED.md"
 // block is one of the page's: a file, or commands with their outputs.
 type block struct{ kind, text string }
 
+// counts differ from run to run: a goroutine may not have come to its end where main does.
+var counts = regexp.MustCompile(`\d+ (events|records|accesses)`)
+
 func readPage(t *testing.T) []block {
 	t.Helper()
 	b, err := os.ReadFile(page)
@@ -115,7 +118,8 @@ func addPage(t *testing.T, b *batch) {
 		})
 	}
 	b.behind = append(b.behind, func() error {
-		if got := newReader(t, traces).follow(t, input); got != want {
+		got := newReader(t, traces).follow(t, input)
+		if counts.ReplaceAllString(got, "N $1") != counts.ReplaceAllString(want, "N $1") {
 			return fmt.Errorf("the page says\n%s\nbut its commands print\n%s", want, got)
 		}
 		return nil

@@ -31,7 +31,7 @@ func judgeUnproved(t *testing.T, traces map[string]string) map[string]string {
 	for _, part := range strings.Split("\n"+string(out), "\n== ")[1:] {
 		name, report, _ := strings.Cut(part, "\n")
 		if _, asked := traces[name]; asked {
-			reports[name] = report
+			reports[name] = strings.TrimRight(report, "\n") + "\n"
 		}
 	}
 	for name := range traces {

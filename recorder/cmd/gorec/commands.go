@@ -31,6 +31,12 @@ func (o *options) run(args []string, test bool) error {
 	defer os.RemoveAll(dir)
 	program := filepath.Join(dir, "program")
 	words := packageWords(args)
+	runDir := ""
+	if test {
+		if runDir, err = testDir(args[0]); err != nil {
+			return err
+		}
+	}
 	copy, err := o.build(args[:words], dir, program, test)
 	if err != nil {
 		return err
@@ -38,16 +44,19 @@ func (o *options) run(args []string, test bool) error {
 	if o.log == "" {
 		o.log = filepath.Join(dir, "log")
 	}
-	cmd := exec.Command(program, args[words:]...)
-	if test {
-		cmd.Dir = testDir(args[0])
-	}
-	if err := o.record(cmd); err != nil {
-		return err
-	}
 	if o.out == "" {
 		o.out = filepath.Join(dir, "run.gotrace")
 	}
+	cmd := exec.Command(program, args[words:]...)
+	cmd.Dir = runDir
+	if err := o.record(cmd); err != nil {
+		return err
+	}
+	return o.report(judge, copy)
+}
+
+// report makes the trace of the log, has it judged, and explains the report.
+func (o *options) report(judge []string, copy *instrument.Copy) error {
 	summary, err := o.writeTrace(copy.Sites)
 	if err != nil {
 		return err
@@ -68,12 +77,18 @@ func packageWords(args []string) int {
 }
 
 // testDir is where the tests of a package run.
-func testDir(pkg string) string {
-	out, err := exec.Command("go", "list", "-f", "{{.Dir}}", pkg).Output()
+func testDir(pkg string) (string, error) {
+	cmd := exec.Command("go", "list", "-f", "{{.Dir}}", pkg)
+	cmd.Stderr = os.Stderr
+	out, err := cmd.Output()
 	if err != nil {
-		return ""
+		return "", fmt.Errorf("go list: %v", err)
 	}
-	return strings.TrimSpace(string(out))
+	dirs := strings.Fields(string(out))
+	if len(dirs) != 1 {
+		return "", fmt.Errorf("%s is %d packages; name one", pkg, len(dirs))
+	}
+	return dirs[0], nil
 }
 
 // build instruments and builds, unless something can't be recorded.

@@ -91,19 +91,24 @@ func (f *facts) node(n, function ast.Node) {
 			f.point(n.X)
 		}
 	case *ast.SelectorExpr:
-		s := f.info.Selections[n]
-		if s == nil || s.Kind() != types.MethodVal {
-			return
-		}
-		if m, ok := s.Obj().(*types.Func); ok && hasPointerReceiver(m) && !isPointer(f.info.TypeOf(n.X)) && !ofSync(m) {
-			f.point(n.X)
-		}
+		f.method(n)
 	case *ast.ReturnStmt:
 		if len(n.Results) > 0 {
 			for _, v := range f.results[function] {
 				f.written[v] = true
 			}
 		}
+	}
+}
+
+// method: one with a pointer receiver takes the address of what it is called on.
+func (f *facts) method(n *ast.SelectorExpr) {
+	s := f.info.Selections[n]
+	if s == nil || s.Kind() != types.MethodVal {
+		return
+	}
+	if m, ok := s.Obj().(*types.Func); ok && hasPointerReceiver(m) && !isPointer(f.info.TypeOf(n.X)) && !ofSync(m) {
+		f.point(n.X)
 	}
 }
 

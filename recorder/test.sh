@@ -8,6 +8,10 @@ if ! command -v go >/dev/null; then
     echo 'recorder/test.sh: no Go on the PATH' >&2
     exit 127
 fi
+if [ -z "${HOME:-}${XDG_CACHE_HOME:-}${GOCACHE:-}" ]; then
+    GOCACHE=$(mktemp -d)
+    export GOCACHE
+fi
 judge=${1:-unproved}
 if [ "$judge" = unproved ]; then
     if ! command -v rt >/dev/null; then

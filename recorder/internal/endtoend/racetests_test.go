@@ -16,8 +16,6 @@ var raceTests = flag.String("racetests", "", "the folder runtime/race/testdata o
 // expected are the tests of Go's race detector whose verdict gorec doesn't share; the README
 // explains each.
 var expected = map[string]bool{
-	"TestNoRaceIOFile":            true,
-	"TestNoRaceIOHttp":            true,
 	"TestRaceChanCloseSend":       true,
 	"TestRaceChanSendClose":       true,
 	"TestRaceChanSendSelectClose": true,

@@ -11,7 +11,7 @@ import (
 func main() {
 	n := 0
 	go func() { n++ }()
-	time.Sleep(20 * time.Millisecond)
+	time.Sleep(300 * time.Millisecond)
 	n++
 	os.Exit(3)
 }

@@ -9,7 +9,7 @@ func main() {
 	n := 0
 	go func() { n++ }()
 	n++
-	time.Sleep(20 * time.Millisecond)
+	time.Sleep(300 * time.Millisecond)
 	var m map[string]int
 	m["a"] = 1
 }

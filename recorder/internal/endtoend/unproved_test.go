@@ -21,7 +21,8 @@ func judgeUnproved(t *testing.T, traces map[string]string) map[string]string {
 			t.Fatal(err)
 		}
 	}
-	cmd := exec.Command("rt", "try", "--cases", dir, "--", "check")
+	// The interpreter, which rt try runs too, can't run a program with arguments: one step ends it.
+	cmd := exec.Command("rt", "try", "--steps", "1", "--cases", dir, "--", "check")
 	cmd.Dir = root + "/../crates/gorace"
 	out, err := cmd.Output()
 	if _, ended := err.(*exec.ExitError); err != nil && !ended {

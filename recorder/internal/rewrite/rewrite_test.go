@@ -24,7 +24,7 @@ import ("bytes"; "context"; "encoding/json"; "fmt"; "io"; "math/rand"; "net/http
 	"runtime/pprof"; "sort"; "strings"; "sync"; "sync/atomic"; "time")
 
 var _ = []any{json.Marshal, fmt.Println, reflect.ValueOf, pprof.Do, sort.Ints, strings.Join, atomic.AddInt64, time.After,
-	context.TODO, signal.Notify}
+	context.Background, signal.Notify}
 
 type pair struct{ c, d int }
 type thing struct { a int; b pair }

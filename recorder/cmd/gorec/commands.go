@@ -1,0 +1,252 @@
+package main
+
+import (
+	"errors"
+	"fmt"
+	"io"
+	"os"
+	"os/exec"
+	"os/signal"
+	"path/filepath"
+	"sort"
+	"strings"
+	"syscall"
+
+	"gorace.local/recorder/internal/instrument"
+	"gorace.local/recorder/internal/load"
+	"gorace.local/recorder/internal/sites"
+	"gorace.local/recorder/internal/trace"
+)
+
+// run records a run of a program or of a package's tests, and has it judged.
+func (o *options) run(args []string, test bool) error {
+	judge, err := findJudge(o.judge)
+	if err != nil {
+		return err
+	}
+	dir, err := os.MkdirTemp("", "gorec")
+	if err != nil {
+		return err
+	}
+	defer os.RemoveAll(dir)
+	program := filepath.Join(dir, "program")
+	words := packageWords(args)
+	runDir := ""
+	if test {
+		if runDir, err = testDir(args[0]); err != nil {
+			return err
+		}
+	}
+	copy, err := o.build(args[:words], dir, program, test)
+	if err != nil {
+		return err
+	}
+	if o.log == "" {
+		o.log = filepath.Join(dir, "log")
+	}
+	if o.out == "" {
+		o.out = filepath.Join(dir, "run.gotrace")
+	}
+	cmd := exec.Command(program, args[words:]...)
+	cmd.Dir = runDir
+	if err := o.record(cmd); err != nil {
+		return err
+	}
+	return o.report(judge, copy)
+}
+
+// report makes the trace of the log, has it judged, and explains the report.
+func (o *options) report(judge []string, copy *instrument.Copy) error {
+	summary, err := o.writeTrace(copy.Sites)
+	if err != nil {
+		return err
+	}
+	fmt.Fprintln(os.Stderr, "gorec: "+summary.Counts())
+	report, err := askJudge(judge, o.out)
+	explain(os.Stdout, report, summary, copy)
+	return err
+}
+
+// packageWords is how many words name the program: one, or several files.
+func packageWords(args []string) int {
+	n := 1
+	for n < len(args) && strings.HasSuffix(args[n-1], ".go") && strings.HasSuffix(args[n], ".go") {
+		n++
+	}
+	return n
+}
+
+// testDir is where the tests of a package run.
+func testDir(pkg string) (string, error) {
+	cmd := exec.Command("go", "list", "-f", "{{.Dir}}", pkg)
+	cmd.Stderr = os.Stderr
+	out, err := cmd.Output()
+	if err != nil {
+		return "", fmt.Errorf("go list: %v", err)
+	}
+	dirs := strings.Fields(string(out))
+	if len(dirs) != 1 {
+		return "", fmt.Errorf("%s is %d packages; name one", pkg, len(dirs))
+	}
+	return dirs[0], nil
+}
+
+// build instruments and builds, unless something can't be recorded.
+func (o *options) build(args []string, dir, program string, test bool) (*instrument.Copy, error) {
+	copy, err := o.instrument(args, dir, test)
+	if err != nil {
+		return nil, err
+	}
+	program, err = filepath.Abs(program)
+	if err != nil {
+		return nil, err
+	}
+	return copy, copy.Build(program, test)
+}
+
+func (o *options) instrument(args []string, dir string, test bool) (*instrument.Copy, error) {
+	packages, err := load.Packages(args, test)
+	if err != nil {
+		return nil, err
+	}
+	dir, err = filepath.Abs(dir)
+	if err != nil {
+		return nil, err
+	}
+	copy, err := instrument.Packages(packages, dir)
+	if err != nil {
+		return nil, err
+	}
+	for _, line := range append(copy.Notes, copy.Refused...) {
+		fmt.Fprintln(os.Stderr, "gorec: "+line)
+	}
+	if n := len(copy.Refused); n > 0 && !o.force {
+		return nil, fmt.Errorf("nothing was run: %s can't be recorded (-force goes on without)", places(n))
+	}
+	if copy.Main == "" {
+		return nil, errors.New("there is no package main, or no package with tests")
+	}
+	return copy, nil
+}
+
+func places(n int) string {
+	if n == 1 {
+		return "one place"
+	}
+	return fmt.Sprintf("%d places", n)
+}
+
+// record runs a program; its trace is judged however it ends.
+func (o *options) record(cmd *exec.Cmd) error {
+	cmd.Stdin, cmd.Stdout, cmd.Stderr = os.Stdin, os.Stdout, os.Stderr
+	cmd.Env = append(os.Environ(), "GOREC_LOG="+o.log)
+	if o.seed != "" {
+		cmd.Env = append(cmd.Env, "GOREC_SEED="+o.seed)
+	}
+	interrupts := make(chan os.Signal, 1)
+	signal.Notify(interrupts, os.Interrupt, syscall.SIGTERM)
+	if err := cmd.Start(); err != nil {
+		return err
+	}
+	stop := showProgress(o.log)
+	ended := make(chan error, 1)
+	go func() { ended <- cmd.Wait() }()
+	for {
+		select {
+		case s := <-interrupts:
+			if s == syscall.SIGTERM { // ^C reaches the program by itself
+				cmd.Process.Signal(s)
+			}
+		case err := <-ended:
+			stop()
+			if err != nil {
+				fmt.Fprintln(os.Stderr, "gorec: the program ended with "+err.Error())
+			}
+			return nil
+		}
+	}
+}
+
+func (o *options) writeTrace(table sites.Table) (*trace.Summary, error) {
+	log, err := trace.Open(o.log)
+	if err != nil {
+		return nil, fmt.Errorf("the program left no log: %v", err)
+	}
+	defer log.Close()
+	f, err := os.Create(o.out)
+	if err != nil {
+		return nil, err
+	}
+	summary, err := trace.Write(log.Records(), table, o.all, f)
+	if err != nil {
+		return nil, err
+	}
+	return summary, f.Close()
+}
+
+func (o *options) buildOnly(args []string) error {
+	dir, err := os.MkdirTemp("", "gorec")
+	if err != nil {
+		return err
+	}
+	defer os.RemoveAll(dir)
+	_, err = o.build(args, dir, o.out, o.tests)
+	return err
+}
+
+// trace writes the trace of a log to standard output, and what is to be known of it to
+// standard error.
+func (o *options) trace(path, sitesPath string) error {
+	table, err := sites.Read(sitesPath)
+	if err != nil {
+		return err
+	}
+	log, err := trace.Open(path)
+	if err != nil {
+		return err
+	}
+	defer log.Close()
+	summary, err := trace.Write(log.Records(), table, o.all, os.Stdout)
+	if err != nil {
+		return err
+	}
+	fmt.Fprintln(os.Stderr, "gorec: "+summary.Counts())
+	tell(os.Stderr, summary, nil)
+	return nil
+}
+
+// show writes the instrumented source.
+func (o *options) show(pkg, dir string) error {
+	_, err := o.instrument([]string{pkg}, dir, false)
+	return err
+}
+
+// tell writes what the trace hasn't, and last where it is cut off.
+func tell(w io.Writer, s *trace.Summary, missed map[string]int) {
+	line := s.Losses()
+	if len(missed) > 0 {
+		if line != "" {
+			line += "; "
+		}
+		line += "not recorded is what these calls read and write: " + listed(missed)
+	}
+	if line != "" {
+		fmt.Fprintln(w, "gorec: "+line)
+	}
+	if s.Cut != "" {
+		fmt.Fprintf(w, "gorec: the trace is cut off behind %d events: %s\n", s.Events, s.Cut)
+	}
+}
+
+// listed names each call with its number of places.
+func listed(missed map[string]int) string {
+	var names []string
+	for name, n := range missed {
+		if n > 1 {
+			name += fmt.Sprintf(" (%d places)", n)
+		}
+		names = append(names, name)
+	}
+	sort.Strings(names)
+	return strings.Join(names, ", ")
+}

@@ -1,0 +1,194 @@
+package gorec
+
+import (
+	"unsafe"
+
+	"gorace.local/recorder/wire"
+)
+
+// Channels stay Go's own: what has a buffer keeps its values in it, and what is closed is
+// closed. Who waits, waits here, and whoever makes an operation possible does it for who
+// waits, as Go's own channels do. A channel that the program didn't make, or that it gave to
+// code without the recorder, is foreign: its operations are done and not written.
+type channel struct {
+	p        unsafe.Pointer
+	id       uint32
+	capacity int
+	buffered int // values in the buffer
+	closed   bool
+	foreign  bool
+	order    uint32 // of a foreign one: what comes before each receive, as a timer's start
+	done     *doneChannel
+	sent     uint64
+	received uint64
+	senders  []*operation // who waits
+	takers   []*operation
+}
+
+var channels = map[unsafe.Pointer]*channel{}
+
+// pointerTo is the pointer that a channel is.
+func pointerTo[C any](c *C) unsafe.Pointer { return *(*unsafe.Pointer)(unsafe.Pointer(c)) }
+
+// channelAt has the lock; it is nil for a nil channel.
+func channelAt(p unsafe.Pointer, g *G, s *Site) *channel {
+	if p == nil {
+		return nil
+	}
+	if s.channel != nil && s.channel.p == p {
+		return s.channel
+	}
+	c := channels[p]
+	if c == nil {
+		c = &channel{p: p, foreign: true}
+		channels[p] = c
+		g.lose(wire.LostChannel, s)
+	}
+	s.channel = c
+	return c
+}
+
+// Made is a channel that the program made.
+func Made[C ~chan T, T any](c C, s *Site) C {
+	if off {
+		return c
+	}
+	mu.Lock()
+	p := pointerTo(&c)
+	channels[p] = &channel{p: p, capacity: cap(c), id: declare(wire.DeclareChan, 0, uint64(cap(c)), s)}
+	mu.Unlock()
+	return c
+}
+
+// Lent is a channel that goes to code without the recorder.
+func Lent[C any](c C, s *Site) C {
+	if off {
+		return c
+	}
+	g := current(s)
+	mu.Lock()
+	if ch := channelAt(pointerTo(&c), g, s); ch != nil && ch.done == nil && !ch.foreign {
+		ch.foreign = true
+		g.lose(wire.LostChannel, s)
+	}
+	mu.Unlock()
+	return c
+}
+
+// Sender is a channel that is sent on.
+type Sender[T any] struct{ c chan<- T }
+
+func Chan[T any](c chan<- T) Sender[T] { return Sender[T]{c} }
+
+// Send is c <- v.
+func (x Sender[T]) Send(v T, s *Site) {
+	if off {
+		x.c <- v
+	} else if !x.sendNow(v, s) {
+		cases := [1]communication{x.Case(v)}
+		communicate(s, false, cases[:])
+	}
+}
+
+// sendNow sends where nothing has to be waited for.
+func (x Sender[T]) sendNow(v T, s *Site) bool {
+	g := current(s)
+	mu.Lock()
+	defer mu.Unlock()
+	ch := channelAt(pointerTo(&x.c), g, s)
+	switch {
+	case ch == nil || ch.foreign || ch.closed:
+		return false
+	case ch.buffered < ch.capacity:
+		x.c <- v
+		g.sent(ch, s)
+		ch.serve()
+		return true
+	case ch.capacity > 0:
+		return false
+	}
+	taker := longest(&ch.takers, g)
+	if taker == nil {
+		return false
+	}
+	sent := v // so that v itself needn't have an address
+	taker.self.fill(unsafe.Pointer(&sent), true)
+	meet(ch, g, s, taker.waiter.g, taker.waiter.s)
+	taker.finish()
+	return true
+}
+
+// Receive is <-c, ReceiveOK v, ok = <-c.
+func Receive[T any](c <-chan T, s *Site) T {
+	v, _ := ReceiveOK(c, s)
+	return v
+}
+
+func ReceiveOK[T any](c <-chan T, s *Site) (T, bool) {
+	if off {
+		v, ok := <-c
+		return v, ok
+	}
+	if v, ok := receiveNow(c, s); ok {
+		return v, true
+	}
+	r := CaseReceive(c)
+	cases := [1]communication{r}
+	communicate(s, false, cases[:])
+	return r.Value, r.OK
+}
+
+// receiveNow receives a value where nothing has to be waited for.
+func receiveNow[T any](c <-chan T, s *Site) (v T, ok bool) {
+	g := current(s)
+	mu.Lock()
+	defer mu.Unlock()
+	ch := channelAt(pointerTo(&c), g, s)
+	switch {
+	case ch == nil || ch.foreign || ch.done != nil:
+		return v, false
+	case ch.buffered > 0:
+		v = <-c
+		g.received(ch, s)
+		ch.serve()
+		return v, true
+	case ch.capacity > 0 || ch.closed:
+		return v, false
+	}
+	sender := longest(&ch.senders, g)
+	if sender == nil {
+		return v, false
+	}
+	v = *(*T)(sender.self.value())
+	meet(ch, sender.waiter.g, sender.waiter.s, g, s)
+	sender.finish()
+	return v, true
+}
+
+// Close is close(c).
+func Close[T any](c chan<- T, s *Site) {
+	if off {
+		close(c)
+		return
+	}
+	g := current(s)
+	mu.Lock()
+	ch := channelAt(pointerTo(&c), g, s)
+	switch {
+	case ch == nil:
+		g.note(wire.FaultClose, 0, s)
+	case ch.closed:
+		g.note(wire.FaultClose, ch.id, s)
+	case ch.foreign:
+		ch.closed = true
+	default:
+		close(c)
+		ch.closed = true
+		g.note(wire.Close, ch.id, s)
+		ch.serve()
+		mu.Unlock()
+		return
+	}
+	mu.Unlock()
+	close(c) // that of a foreign channel, or a panic
+}

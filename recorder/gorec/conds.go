@@ -1,0 +1,93 @@
+package gorec
+
+import (
+	"sync"
+	"unsafe"
+)
+
+// CondAt is a sync.Cond at a place where it is used. Who waits, waits here, so that it is
+// known whom a Signal lets go on.
+type CondAt struct {
+	c *sync.Cond
+	s *Site
+}
+
+func Cond(c *sync.Cond, s *Site) CondAt { return CondAt{c, s} }
+
+type sleeper struct {
+	wake  chan struct{}
+	order uint32 // of the Signal
+}
+
+type condition struct {
+	p     unsafe.Pointer
+	queue []*sleeper
+}
+
+var conditions = map[unsafe.Pointer]*condition{}
+
+// conditionAt has the lock.
+func conditionAt(c *sync.Cond) *condition {
+	p := unsafe.Pointer(c)
+	x := conditions[p]
+	if x == nil {
+		x = &condition{p: p}
+		conditions[p] = x
+	}
+	return x
+}
+
+func (x CondAt) Wait() {
+	if off {
+		x.c.Wait()
+		return
+	}
+	g := current(x.s)
+	w := &sleeper{wake: make(chan struct{}, 1)}
+	mu.Lock()
+	c := conditionAt(x.c)
+	c.queue = append(c.queue, w)
+	mu.Unlock()
+	Locker(x.c.L, x.s).Unlock()
+	<-w.wake
+	mu.Lock()
+	g.acquire(w.order, x.s)
+	mu.Unlock()
+	Locker(x.c.L, x.s).Lock()
+}
+
+func (x CondAt) Signal() {
+	if off {
+		x.c.Signal()
+		return
+	}
+	x.wake(1)
+}
+
+func (x CondAt) Broadcast() {
+	if off {
+		x.c.Broadcast()
+		return
+	}
+	x.wake(1 << 30)
+}
+
+// wake lets the first n of those who wait go on.
+func (x CondAt) wake(n int) {
+	g := current(x.s)
+	mu.Lock()
+	defer mu.Unlock()
+	c := conditionAt(x.c)
+	if n > len(c.queue) {
+		n = len(c.queue)
+	}
+	if n == 0 {
+		return
+	}
+	order := g.release(x.s)
+	for _, w := range c.queue[:n] {
+		w.order = order
+		w.wake <- struct{}{}
+	}
+	c.queue = c.queue[n:]
+}

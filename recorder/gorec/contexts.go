@@ -1,0 +1,147 @@
+package gorec
+
+import (
+	"context"
+	"time"
+
+	"gorace.local/recorder/wire"
+)
+
+// doneChannel is a context's Done: a channel of capacity 0 that cancel closes, first that of
+// the context and then that of each one made from it. One with a deadline is closed by a
+// goroutine of its own, which is started where the context is made.
+type doneChannel struct {
+	channel  *channel
+	timer    *G
+	children []*doneChannel
+	by       *G // who is about to cancel it, at a place
+	at       *Site
+}
+
+// newDone follows a context that the program makes; nil is none.
+func newDone(parent, ctx context.Context, deadline bool, s *Site) *doneChannel {
+	above, done := parent.Done(), ctx.Done()
+	g := current(s)
+	mu.Lock()
+	defer mu.Unlock()
+	if done == nil {
+		return nil
+	}
+	ch := &channel{p: pointerTo(&done), id: declare(wire.DeclareChan, 0, 0, s)}
+	d := &doneChannel{channel: ch}
+	ch.done = d
+	channels[ch.p] = ch
+	if deadline {
+		d.timer = newGoroutine()
+		g.epoch++
+		write(wire.Record{Op: wire.Go, Goroutine: g.id, Other: d.timer.id, Site: s.ID})
+	}
+	if up := channels[pointerTo(&above)]; up != nil && up.done != nil {
+		up.done.children = append(up.done.children, d)
+		if up.closed { // canceled at birth
+			d.close(g, s)
+		} else if d.timer == nil {
+			d.timer = up.done.timer
+		}
+	}
+	return d
+}
+
+// close has the lock.
+func (d *doneChannel) close(g *G, s *Site) {
+	if !d.channel.closed {
+		d.channel.closed = true
+		g.note(wire.Close, d.channel.id, s)
+		d.channel.serve()
+	}
+	for _, c := range d.children {
+		c.close(g, s)
+	}
+}
+
+// cancels has the lock: g is about to cancel the context.
+func (d *doneChannel) cancels(g *G, s *Site) {
+	if d.by == nil {
+		d.by, d.at = g, s
+	}
+	for _, c := range d.children {
+		c.cancels(g, s)
+	}
+}
+
+// ended has the lock: the context was found done, and its close has no record yet. It was
+// who cancels it, or its timer, or a parent that isn't recorded.
+func (d *doneChannel) ended() {
+	switch {
+	case d.channel.closed:
+	case d.by != nil:
+		d.close(d.by, d.at)
+	case d.timer != nil:
+		d.close(d.timer, nowhere)
+	default:
+		d.close(mainGoroutine, nowhere)
+	}
+}
+
+// canceler cancels without the lock, since that may call methods of the program; and before
+// those who wait go on, so that they find an Err.
+func (d *doneChannel) canceler(f context.CancelFunc, s *Site) context.CancelFunc {
+	if d == nil {
+		return f
+	}
+	return func() {
+		g := current(s)
+		mu.Lock()
+		d.cancels(g, s)
+		mu.Unlock()
+		f()
+		mu.Lock()
+		d.close(g, s)
+		mu.Unlock()
+	}
+}
+
+// WithCancel, WithTimeout and WithDeadline are those of package context.
+func WithCancel(parent context.Context, s *Site) (context.Context, context.CancelFunc) {
+	ctx, cancel := context.WithCancel(parent)
+	if off {
+		return ctx, cancel
+	}
+	return ctx, newDone(parent, ctx, false, s).canceler(cancel, s)
+}
+
+func WithTimeout(parent context.Context, d time.Duration, s *Site) (context.Context, context.CancelFunc) {
+	return WithDeadline(parent, time.Now().Add(d), s)
+}
+
+func WithDeadline(parent context.Context, at time.Time, s *Site) (context.Context, context.CancelFunc) {
+	ctx, cancel := context.WithDeadline(parent, at)
+	if off {
+		return ctx, cancel
+	}
+	return ctx, newDone(parent, ctx, true, s).canceler(cancel, s)
+}
+
+// ContextAt is a context whose Err is asked for: an error comes behind what ended it.
+type ContextAt struct {
+	context.Context
+	s *Site
+}
+
+func Context(ctx context.Context, s *Site) ContextAt { return ContextAt{ctx, s} }
+
+func (x ContextAt) Err() error {
+	err := x.Context.Err()
+	if err == nil || off {
+		return err
+	}
+	done := x.Context.Done()
+	g := current(x.s)
+	mu.Lock()
+	defer mu.Unlock()
+	if ch := channels[pointerTo(&done)]; ch != nil && ch.done != nil {
+		ch.done.ended()
+		g.note(wire.ReceiveClosed, ch.id, x.s)
+	}
+	return err
+}

@@ -1,0 +1,101 @@
+package gorec
+
+// Goroutines also meet in files, sockets and HTTP, by means of the standard library. As in
+// Go's own detector, what a goroutine did before it wrote to any of them comes before what
+// another one does behind a read of any of them.
+
+var (
+	sentOut = map[uint32]uint32{} // goroutines: the order of their last write
+	adopted []*G                  // those that code without the recorder started
+)
+
+// sendOut has the lock: g is about to write, or to ask a server.
+func (g *G) sendOut(s *Site) { sentOut[g.id] = g.release(s) }
+
+// takeIn has the lock: g has read, or was answered. Besides what was written, what the
+// goroutines of the standard library did so far comes before, since a handler's return
+// isn't seen.
+func (g *G) takeIn(s *Site) {
+	g.takeSent(s)
+	for _, h := range adopted {
+		if h != g && !h.over && h.epoch != h.joined {
+			g.acquire(h.release(s), s)
+			h.joined = h.epoch
+		}
+	}
+}
+
+// takeSent has the lock.
+func (g *G) takeSent(s *Site) {
+	newest := g.taken
+	for id, order := range sentOut {
+		if order > g.taken && id != g.id {
+			g.acquire(order, s)
+		}
+		if order > newest {
+			newest = order
+		}
+	}
+	g.taken = newest
+}
+
+// Out is a file or a connection that is written to.
+func Out[T any](w T, s *Site) T {
+	if !off {
+		g := current(s)
+		mu.Lock()
+		g.sendOut(s)
+		mu.Unlock()
+	}
+	return w
+}
+
+// cross is what stands round a call that may wait for other goroutines.
+func cross(s *Site) (back func()) {
+	if off {
+		return func() {}
+	}
+	Out(0, s)
+	return func() {
+		g := current(s)
+		mu.Lock()
+		g.takeIn(s)
+		mu.Unlock()
+	}
+}
+
+// Ask to Ask3 are functions that ask a server, or wait for one.
+func Ask(f func(), s *Site) func() {
+	return func() {
+		defer cross(s)()
+		f()
+	}
+}
+
+func AskError[A any](f func(A) error, s *Site) func(A) error {
+	return func(a A) error {
+		defer cross(s)()
+		return f(a)
+	}
+}
+
+func Ask1[A, R any](f func(A) (R, error), s *Site) func(A) (R, error) {
+	return func(a A) (R, error) {
+		defer cross(s)()
+		return f(a)
+	}
+}
+
+func Ask2[A, B, R any](f func(A, B) (R, error), s *Site) func(A, B) (R, error) {
+	return func(a A, b B) (R, error) {
+		defer cross(s)()
+		return f(a, b)
+	}
+}
+
+func Ask3[A, B, C, R any](f func(A, B, C) (R, error), s *Site) func(A, B, C) (R, error) {
+	return func(a A, b B, c C) (R, error) {
+		defer cross(s)()
+		return f(a, b, c)
+	}
+}

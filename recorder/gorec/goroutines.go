@@ -1,0 +1,164 @@
+package gorec
+
+import (
+	"runtime"
+	"unsafe"
+
+	"gorace.local/recorder/wire"
+)
+
+// G is a goroutine. A pointer to it is the goroutine's profiler label: labels are handed
+// on to each goroutine that is started, so one that code without the recorder starts is
+// known by a g of its own and another one's label. The first words make it an empty set of
+// labels, for a profiler that reads them.
+type G struct {
+	label  [4]uintptr
+	g      uintptr
+	id     uint32
+	over   bool
+	random uint32
+	epoch  uint32 // grows with each operation that may order something
+	cache  readCache
+	wake   chan struct{} // lets it go on where it waits for others
+
+	foreign bool   // code without the recorder started it
+	taken   uint32 // the newest order of sentOut that it is behind
+	joined  uint32 // the epoch up to which others are behind it
+}
+
+//go:linkname getLabel runtime/pprof.runtime_getProfLabel
+func getLabel() unsafe.Pointer
+
+//go:linkname setLabel runtime/pprof.runtime_setProfLabel
+func setLabel(unsafe.Pointer)
+
+func getg() uintptr
+
+var (
+	goroutines    uint32
+	mainGoroutine = &G{wake: make(chan struct{}, 1)}
+	nowhere       = &Site{}
+)
+
+// current is the goroutine that runs; s is where it is met.
+func current(s *Site) *G {
+	g := (*G)(getLabel())
+	if g != nil && g.g == getg() && !g.over {
+		if seed != 0 {
+			g.yield()
+		}
+		if g.foreign {
+			mu.Lock()
+			g.takeSent(s) // it may have been asked anew
+			mu.Unlock()
+		}
+		return g
+	}
+	return adopt(g, s)
+}
+
+// alone: there is no second goroutine yet, or no log. What main does before there is one
+// comes before all that others do.
+func alone() bool { return !live && (off || sealed || getg() == mainGoroutine.g) }
+
+// yield lets others go on now and then, so that runs differ.
+func (g *G) yield() {
+	x := g.random
+	x ^= x << 13
+	x ^= x >> 17
+	x ^= x << 5
+	g.random = x
+	if x>>8&63 == 0 {
+		runtime.Gosched()
+	}
+}
+
+// adopt names a goroutine that was started by code without the recorder. Its go is
+// written here, later than it was: what its nearest recorded forebear did in between is
+// ordered before it.
+func adopt(parent *G, s *Site) *G {
+	if parent == nil {
+		parent = mainGoroutine
+	}
+	mu.Lock()
+	g := newGoroutine()
+	g.g = getg()
+	g.foreign = true
+	adopted = append(adopted, g)
+	g.lose(wire.LostGoroutine, s)
+	parent.epoch++
+	write(wire.Record{Op: wire.Go, Kind: wire.GoForeign, Goroutine: parent.id, Other: g.id})
+	g.takeSent(s)
+	mu.Unlock()
+	setLabel(unsafe.Pointer(g))
+	return g
+}
+
+// newGoroutine has the lock.
+func newGoroutine() *G {
+	goroutines++
+	live = !sealed
+	return &G{id: goroutines, random: seed*2654435761 + goroutines*40503 | 1, wake: make(chan struct{}, 1)}
+}
+
+// Go starts f.
+func Go(s *Site, f func()) {
+	g := start(s)
+	go g.run(s, f)
+	if seed != 0 && g.random>>9&1 == 0 {
+		runtime.Gosched()
+	}
+}
+
+func start(s *Site) *G {
+	starter := current(s)
+	mu.Lock()
+	g := newGoroutine()
+	starter.epoch++
+	write(wire.Record{Op: wire.Go, Goroutine: starter.id, Other: g.id, Site: s.ID})
+	mu.Unlock()
+	return g
+}
+
+func (g *G) run(s *Site, f func()) {
+	g.g = getg()
+	setLabel(unsafe.Pointer(g))
+	defer g.exit(s)
+	f()
+}
+
+func (g *G) exit(s *Site) {
+	mu.Lock()
+	g.note(wire.Exit, 0, s)
+	g.over = true
+	mu.Unlock()
+}
+
+// Later is f for time.AfterFunc: it runs as a goroutine that is started here.
+func Later(f func(), s *Site) func() {
+	if off {
+		return f
+	}
+	g := start(s)
+	used := false
+	return func() {
+		mu.Lock()
+		first := !used
+		used = true
+		mu.Unlock()
+		if first {
+			g.run(s, f)
+		} else {
+			f() // a timer that was set again: adopted
+		}
+	}
+}
+
+// Main runs the function main.
+func Main(s *Site, f func()) {
+	f()
+	mu.Lock()
+	mainGoroutine.note(wire.Exit, 0, s)
+	sealed, live = true, false
+	mu.Unlock()
+}

@@ -1,0 +1,217 @@
+package gorec
+
+import (
+	"reflect"
+	"unsafe"
+
+	"gorace.local/recorder/wire"
+)
+
+// A location is told by its address. The table keeps it alive, so its address is never
+// given to another one; and since an address that is in the table escapes, it is never
+// one of a stack.
+type location struct {
+	p    unsafe.Pointer
+	bits uint64 // what it held last
+	base uint64 // bits that are written as 0
+	id   uint32
+
+	// a write was recorded before it was done
+	unsettled bool
+
+	// the last write that has a record
+	writer, epoch, site uint32
+}
+
+var (
+	locations = make([]location, 1<<12)
+	met       int
+)
+
+// locate has the lock; what it answers is good until the next call.
+func locate(p unsafe.Pointer) *location {
+	mask := uintptr(len(locations) - 1)
+	for i := hash(p) & mask; ; i = (i + 1) & mask {
+		l := &locations[i]
+		if l.p == p {
+			return l
+		}
+		if l.p == nil {
+			if met*2 >= len(locations) {
+				growLocations()
+				return locate(p)
+			}
+			met++
+			l.p = p
+			return l
+		}
+	}
+}
+
+func hash(p unsafe.Pointer) uintptr {
+	h := uintptr(p)
+	return (h ^ h>>17) * 0x9e3779b97f4a7c15 >> 20
+}
+
+func growLocations() {
+	old := locations
+	locations = make([]location, 2*len(old))
+	met = 0
+	for i := range old {
+		if old[i].p != nil {
+			*locate(old[i].p) = old[i]
+		}
+	}
+}
+
+// A layout lists the locations that a value of a type has.
+type layout struct {
+	single uintptr // the size of a type that is one location, else 0
+	leaves []leaf
+}
+
+type leaf struct{ offset, size uintptr }
+
+var layouts = map[reflect.Type]*layout{}
+
+// layoutOf has the lock.
+func layoutOf(t reflect.Type) *layout {
+	l := layouts[t]
+	if l == nil {
+		l = &layout{}
+		l.add(t, 0)
+		if len(l.leaves) == 1 && l.leaves[0].offset == 0 {
+			l.single = l.leaves[0].size
+		}
+		layouts[t] = l
+	}
+	return l
+}
+
+func (l *layout) add(t reflect.Type, offset uintptr) {
+	if p := t.PkgPath(); p == "sync" || p == "sync/atomic" {
+		return // used by their methods, which are recorded as what they are
+	}
+	switch t.Kind() {
+	case reflect.Struct:
+		for i := 0; i < t.NumField(); i++ {
+			if f := t.Field(i); f.Name != "_" {
+				l.add(f.Type, offset+f.Offset)
+			}
+		}
+	case reflect.Array:
+		for i := 0; i < t.Len(); i++ {
+			l.add(t.Elem(), offset+uintptr(i)*t.Elem().Size())
+		}
+	default:
+		if t.Size() > 0 {
+			l.leaves = append(l.leaves, leaf{offset, t.Size()})
+		}
+	}
+}
+
+func bitsOf(p unsafe.Pointer, size uintptr) uint64 {
+	switch size {
+	case 8:
+		return *(*uint64)(p)
+	case 4:
+		return uint64(*(*uint32)(p))
+	case 2:
+		return uint64(*(*uint16)(p))
+	case 1:
+		return uint64(*(*uint8)(p))
+	}
+	h := uint64(0)
+	for ; size >= 8; size -= 8 {
+		h = (h ^ *(*uint64)(p)) * 0x9e3779b97f4a7c15
+		h ^= h >> 29
+		p = unsafe.Add(p, 8)
+	}
+	return h
+}
+
+// read has the lock. The values of a location are its bits, but for those of the base: what
+// it holds at first is 0, whoever put it there, and what code without the recorder wrote
+// since makes no stale read.
+func (g *G) read(p unsafe.Pointer, size, offset uintptr, s *Site) {
+	bits := bitsOf(p, size)
+	l := locate(p)
+	if l.id == 0 {
+		l.id = declare(wire.DeclareVar, wire.VarMemory, uint64(offset), s)
+		l.base, l.bits = bits, bits
+	}
+	if bits != l.bits {
+		l.base ^= bits ^ l.bits
+		l.bits = bits
+		if !l.unsettled {
+			write(wire.Record{Op: wire.Unseen, Site: s.ID, Object: l.id})
+		}
+	}
+	l.unsettled = false
+	write(wire.Record{Op: wire.Read, Goroutine: g.id, Object: l.id, Site: s.ID, Value: bits ^ l.base})
+}
+
+// wrote has the lock, and the new bits are there. A write at the same place as g's last one,
+// with nothing between them that orders g before others, races with whatever that one races
+// with. It has no record, and its bits go to the base.
+func (g *G) wrote(p unsafe.Pointer, size, offset uintptr, s *Site) {
+	bits := bitsOf(p, size)
+	l := locate(p)
+	switch {
+	case l.id == 0:
+		l.id = declare(wire.DeclareVar, wire.VarMemory, uint64(offset), s)
+	case l.site == s.ID && l.writer == g.id && l.epoch == g.epoch:
+		l.base ^= bits ^ l.bits
+		l.bits = bits
+		return
+	}
+	l.bits, l.unsettled = bits, false
+	l.writer, l.epoch, l.site = g.id, g.epoch, s.ID
+	write(wire.Record{Op: wire.Write, Goroutine: g.id, Object: l.id, Site: s.ID, Value: bits ^ l.base})
+}
+
+// A readCache has the reads of a goroutine that need no second record: those of the same
+// location at the same place, with nothing between that orders the goroutine before others.
+// It is looked up without the lock, and grows with the misses.
+type readCache struct {
+	entries []cachedRead
+	misses  int
+}
+
+type cachedRead struct {
+	p           unsafe.Pointer
+	site, epoch uint32
+}
+
+const (
+	smallestCache = 1 << 5
+	largestCache  = 1 << 17
+)
+
+func (g *G) entry(p unsafe.Pointer) *cachedRead {
+	c := &g.cache
+	if c.misses >= len(c.entries) && len(c.entries) < largestCache {
+		size := 2 * len(c.entries)
+		if size == 0 {
+			size = smallestCache
+		}
+		*c = readCache{entries: make([]cachedRead, size)}
+	}
+	// neighbours in memory stand beside one another in the cache
+	h := uintptr(p) >> 3
+	return &c.entries[(h^h>>15)&uintptr(len(c.entries)-1)]
+}
+
+// hasRead: a read of p at s has a record, which stands for this one too.
+func (g *G) hasRead(p unsafe.Pointer, s *Site) bool {
+	if s.generic {
+		return false
+	}
+	e := g.entry(p)
+	if e.p == p && e.site == s.ID && e.epoch == g.epoch {
+		return true
+	}
+	g.cache.misses++
+	e.p, e.site, e.epoch = p, s.ID, g.epoch
+	return false
+}

@@ -1,0 +1,137 @@
+package gorec
+
+import (
+	"sync"
+	"unsafe"
+
+	"gorace.local/recorder/wire"
+)
+
+// A lock is told by its address; calls of locks are done without mu.
+type lock struct {
+	p       unsafe.Pointer
+	id      uint32
+	held    bool
+	readers int
+}
+
+var locks = map[unsafe.Pointer]*lock{}
+
+// Kinds of a lock.
+const (
+	mutex   = 0
+	rwmutex = 1
+)
+
+// lockAt has the lock mu.
+func lockAt(p unsafe.Pointer, kind uint8, s *Site) *lock {
+	if s.lock != nil && s.lock.p == p {
+		return s.lock
+	}
+	l := locks[p]
+	if l == nil {
+		l = &lock{p: p, id: declare(wire.DeclareLock, kind, 0, s)}
+		locks[p] = l
+	}
+	s.lock = l
+	return l
+}
+
+// locked is a Lock or an RLock that has returned.
+func locked(p unsafe.Pointer, kind uint8, op wire.Op, s *Site) {
+	if off {
+		return
+	}
+	g := current(s)
+	mu.Lock()
+	l := lockAt(p, kind, s)
+	if op == wire.Lock {
+		l.held = true
+	} else {
+		l.readers++
+	}
+	g.note(op, l.id, s)
+	mu.Unlock()
+}
+
+// unlocking is an Unlock or an RUnlock that is about to be called. One that is going to fail
+// is a fault.
+func unlocking(p unsafe.Pointer, kind uint8, op wire.Op, s *Site) {
+	if off {
+		return
+	}
+	g := current(s)
+	mu.Lock()
+	l := lockAt(p, kind, s)
+	switch {
+	case op == wire.Unlock && !l.held:
+		op = wire.FaultUnlock
+	case op == wire.Unlock:
+		l.held = false
+	case l.readers == 0:
+		op = wire.FaultReadUnlock
+	default:
+		l.readers--
+	}
+	g.note(op, l.id, s)
+	mu.Unlock()
+}
+
+// MutexAt is a sync.Mutex at a place where it is used; its methods are those of the mutex.
+type MutexAt struct {
+	m *sync.Mutex
+	s *Site
+}
+
+func Mutex(m *sync.Mutex, s *Site) MutexAt { return MutexAt{m, s} }
+
+func (x MutexAt) Lock()   { x.m.Lock(); locked(unsafe.Pointer(x.m), mutex, wire.Lock, x.s) }
+func (x MutexAt) Unlock() { unlocking(unsafe.Pointer(x.m), mutex, wire.Unlock, x.s); x.m.Unlock() }
+
+func (x MutexAt) TryLock() bool {
+	ok := x.m.TryLock()
+	if ok {
+		locked(unsafe.Pointer(x.m), mutex, wire.Lock, x.s)
+	}
+	return ok
+}
+
+// RWMutexAt is a sync.RWMutex at a place where it is used.
+type RWMutexAt struct {
+	m *sync.RWMutex
+	s *Site
+}
+
+func RWMutex(m *sync.RWMutex, s *Site) RWMutexAt { return RWMutexAt{m, s} }
+
+func (x RWMutexAt) Lock()   { x.m.Lock(); locked(unsafe.Pointer(x.m), rwmutex, wire.Lock, x.s) }
+func (x RWMutexAt) Unlock() { unlocking(unsafe.Pointer(x.m), rwmutex, wire.Unlock, x.s); x.m.Unlock() }
+func (x RWMutexAt) RLock()  { x.m.RLock(); locked(unsafe.Pointer(x.m), rwmutex, wire.ReadLock, x.s) }
+func (x RWMutexAt) RUnlock() {
+	unlocking(unsafe.Pointer(x.m), rwmutex, wire.ReadUnlock, x.s)
+	x.m.RUnlock()
+}
+
+func (x RWMutexAt) TryLock() bool {
+	ok := x.m.TryLock()
+	if ok {
+		locked(unsafe.Pointer(x.m), rwmutex, wire.Lock, x.s)
+	}
+	return ok
+}
+
+func (x RWMutexAt) TryRLock() bool {
+	ok := x.m.TryRLock()
+	if ok {
+		locked(unsafe.Pointer(x.m), rwmutex, wire.ReadLock, x.s)
+	}
+	return ok
+}
+
+// RLocker is a Locker whose calls are recorded.
+func (x RWMutexAt) RLocker() sync.Locker { return &readLocker{x} }
+
+type readLocker struct{ at RWMutexAt }
+
+func (r *readLocker) Lock()   { r.at.RLock() }
+func (r *readLocker) Unlock() { r.at.RUnlock() }

@@ -1,0 +1,145 @@
+// Package gorec records what the goroutines of a program do. Calls of it are put into a
+// copy of the program by the tool gorec. Nothing here is proved.
+//
+// There is one lock, mu. Every operation that takes effect at once is done, and its record
+// written, while it is held; so the records stand in an order in which the operations did
+// happen one after another. What can wait never waits with mu held.
+package gorec
+
+import (
+	"os"
+	"strconv"
+	"sync"
+	"syscall"
+	"time"
+	"unsafe"
+
+	"gorace.local/recorder/wire"
+)
+
+// Site is a place in the source, and the name of what is used there.
+type Site struct {
+	ID      uint32
+	generic bool
+	layout  *layout  // of the type, unless that differs from use to use
+	channel *channel // the last one that was used here
+	lock    *lock
+}
+
+// Generic makes a site of a generic function, where a type isn't the same at each use.
+func Generic(id uint32) Site { return Site{ID: id, generic: true} }
+
+// room is the number of records of a log: those of the longest trace, and declarations.
+const room = 1<<24 + 1<<22
+
+// spare records are kept for those that follow one another without a break.
+const spare = 64
+
+var (
+	mu      sync.Mutex
+	records []wire.Record
+	written int
+	objects uint32
+	seed    uint32 // of the yields that let runs differ; 0: none
+
+	// off: this run has no log. sealed: nothing more is written.
+	// live: accesses are written, since there is a second goroutine and room for records.
+	// They are read without mu, which is harmless: each changes once before there is a
+	// second goroutine, and behind that only so that less is written.
+	off    = true
+	sealed = true
+	live   = false
+)
+
+func init() {
+	mainGoroutine.g = getg()
+	setLabel(unsafe.Pointer(mainGoroutine))
+	path := os.Getenv("GOREC_LOG")
+	if path == "" {
+		return
+	}
+	os.Unsetenv("GOREC_LOG") // a process that this one starts is another run
+	seed = uint32(time.Now().UnixNano()>>10)<<1 | 1
+	if n, err := strconv.ParseUint(os.Getenv("GOREC_SEED"), 10, 32); err == nil {
+		seed = uint32(n)
+	}
+	mainGoroutine.random = seed
+	if err := openLog(path); err != nil {
+		os.Stderr.WriteString("gorec: no log: " + err.Error() + "\n")
+		os.Exit(3)
+	}
+	off, sealed = false, false
+}
+
+func openLog(path string) error {
+	f, err := os.OpenFile(path, os.O_RDWR|os.O_CREATE|os.O_TRUNC, 0o644)
+	if err != nil {
+		return err
+	}
+	defer f.Close()
+	if err := f.Truncate(room * wire.Size); err != nil {
+		return err
+	}
+	b, err := syscall.Mmap(int(f.Fd()), 0, room*wire.Size, syscall.PROT_READ|syscall.PROT_WRITE, syscall.MAP_SHARED)
+	if err != nil {
+		return err
+	}
+	records = unsafe.Slice((*wire.Record)(unsafe.Pointer(&b[0])), room)
+	written = 1
+	records[0].Value = wire.Magic
+	records[0].Goroutine = 1
+	return nil
+}
+
+// write has the lock.
+func write(r wire.Record) {
+	if sealed {
+		return
+	}
+	if written == len(records)-spare {
+		sealed, live = true, false
+		r = wire.Record{Op: wire.Full}
+	}
+	records[written] = r
+	written++
+	records[0].Goroutine = uint32(written) // what is counted is whole
+}
+
+// note has the lock. It writes an operation of g that may order what g did, so that an
+// access of g isn't the same behind it as before.
+func (g *G) note(op wire.Op, object uint32, s *Site) {
+	g.epoch++
+	write(wire.Record{Op: op, Goroutine: g.id, Object: object, Site: s.ID})
+}
+
+// numbered is a note with a value.
+func (g *G) numbered(op wire.Op, object uint32, value uint64, s *Site) {
+	g.epoch++
+	write(wire.Record{Op: op, Goroutine: g.id, Object: object, Value: value, Site: s.ID})
+}
+
+// declare has the lock; it makes an object of a kind.
+func declare(op wire.Op, kind uint8, value uint64, s *Site) uint32 {
+	objects++
+	write(wire.Record{Op: op, Kind: kind, Object: objects, Site: s.ID, Value: value})
+	return objects
+}
+
+// release has the lock: what g did comes before each acquire of the answer.
+func (g *G) release(s *Site) uint32 {
+	objects++
+	g.note(wire.Release, objects, s)
+	return objects
+}
+
+// acquire has the lock.
+func (g *G) acquire(order uint32, s *Site) {
+	if order != 0 {
+		g.note(wire.Acquire, order, s)
+	}
+}
+
+// lose has the lock: something that isn't recorded was met.
+func (g *G) lose(kind uint8, s *Site) {
+	write(wire.Record{Op: wire.Lost, Kind: kind, Goroutine: g.id, Site: s.ID})
+}

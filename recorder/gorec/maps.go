@@ -1,0 +1,176 @@
+package gorec
+
+import (
+	"unsafe"
+
+	"gorace.local/recorder/wire"
+)
+
+// A map is one variable, which a look-up reads and a change writes; its value is the
+// count of changes.
+type mapState struct {
+	p       unsafe.Pointer
+	id      uint32
+	changes uint64
+}
+
+var mapStates = map[unsafe.Pointer]*mapState{}
+
+// touchMap has the lock.
+func (g *G) touchMap(p unsafe.Pointer, change bool, s *Site) {
+	if p == nil {
+		return
+	}
+	m := mapStates[p]
+	if m == nil {
+		m = &mapState{p: p, id: declare(wire.DeclareVar, wire.VarMap, 0, s)}
+		mapStates[p] = m
+	}
+	op := wire.Read
+	if change {
+		m.changes++
+		op = wire.Write
+	}
+	write(wire.Record{Op: op, Goroutine: g.id, Object: m.id, Site: s.ID, Value: m.changes})
+}
+
+// Mapping is a map at a place where it is used.
+type Mapping[K comparable, V any] struct {
+	m map[K]V
+	s *Site
+}
+
+func Map[K comparable, V any](m map[K]V, s *Site) Mapping[K, V] { return Mapping[K, V]{m, s} }
+
+// touch has the lock.
+func (x Mapping[K, V]) touch(g *G, change bool) {
+	g.touchMap(*(*unsafe.Pointer)(unsafe.Pointer(&x.m)), change, x.s)
+}
+
+// Get is m[k], Lookup v, ok = m[k].
+func (x Mapping[K, V]) Get(k K) V {
+	v, _ := x.Lookup(k)
+	return v
+}
+
+func (x Mapping[K, V]) Lookup(k K) (V, bool) {
+	if alone() {
+		v, ok := x.m[k]
+		return v, ok
+	}
+	g := current(x.s)
+	mu.Lock()
+	defer mu.Unlock() // a key that can't be hashed panics
+	v, ok := x.m[k]
+	x.touch(g, false)
+	return v, ok
+}
+
+func (x Mapping[K, V]) Set(k K, v V) {
+	if alone() {
+		x.m[k] = v
+		return
+	}
+	g := current(x.s)
+	mu.Lock()
+	defer mu.Unlock()
+	x.m[k] = v
+	x.touch(g, true)
+}
+
+func (x Mapping[K, V]) Delete(k K) {
+	if alone() {
+		delete(x.m, k)
+		return
+	}
+	g := current(x.s)
+	mu.Lock()
+	defer mu.Unlock()
+	delete(x.m, k)
+	x.touch(g, true)
+}
+
+func (x Mapping[K, V]) Len() int {
+	if alone() {
+		return len(x.m)
+	}
+	g := current(x.s)
+	mu.Lock()
+	defer mu.Unlock()
+	x.touch(g, false)
+	return len(x.m)
+}
+
+// Element is an element of a map that is changed: m[k] op= v reads it, then sets it.
+type Element[K comparable, V any] struct {
+	x Mapping[K, V]
+	k K
+}
+
+func (x Mapping[K, V]) At(k K) Element[K, V] { return Element[K, V]{x, k} }
+func (e Element[K, V]) Get() V               { return e.x.Get(e.k) }
+func (e Element[K, V]) Set(v V)              { e.x.Set(e.k, v) }
+func (e Element[K, V]) To() Target[V]        { return Target[V]{set: e.Set} }
+
+// Counted is a map of numbers whose element is changed by one.
+type Counted[K comparable, V number] struct{ x Mapping[K, V] }
+
+func Counts[K comparable, V number](m map[K]V, s *Site) Counted[K, V] {
+	return Counted[K, V]{Map(m, s)}
+}
+func (c Counted[K, V]) Increment(k K) { c.x.Set(k, c.x.Get(k)+1) }
+func (c Counted[K, V]) Decrement(k K) { c.x.Set(k, c.x.Get(k)-1) }
+
+// Iteration is a loop over a map's keys at its begin; those deleted meanwhile are left out.
+type Iteration[K comparable, V any] struct {
+	x    Mapping[K, V]
+	keys []K
+}
+
+func (x Mapping[K, V]) Iterate() Iteration[K, V] {
+	if alone() {
+		return x.iteration()
+	}
+	g := current(x.s)
+	mu.Lock()
+	defer mu.Unlock()
+	x.touch(g, false)
+	return x.iteration()
+}
+
+// IterateVariables has variables of the loop's own too.
+func (x Mapping[K, V]) IterateVariables() (Iteration[K, V], int, K, V) {
+	var key K
+	var value V
+	return x.Iterate(), 0, key, value
+}
+
+func (x Mapping[K, V]) iteration() Iteration[K, V] {
+	keys := make([]K, 0, len(x.m))
+	for k := range x.m {
+		keys = append(keys, k)
+	}
+	return Iteration[K, V]{x, keys}
+}
+
+func (it Iteration[K, V]) Len() int { return len(it.keys) }
+
+func (it Iteration[K, V]) Next(i int) (K, V, bool) {
+	v, ok := it.x.Lookup(it.keys[i])
+	return it.keys[i], v, ok
+}
+
+// ReadMap and WriteMap are a map that is about to be read or changed: for keys of interface
+// types, which Go 1.19 doesn't take for comparable. Not in one step with what follows.
+func ReadMap[M any](m M, s *Site) M  { return aboutMap(m, false, s) }
+func WriteMap[M any](m M, s *Site) M { return aboutMap(m, true, s) }
+
+func aboutMap[M any](m M, change bool, s *Site) M {
+	if !alone() {
+		g := current(s)
+		mu.Lock()
+		g.touchMap(*(*unsafe.Pointer)(unsafe.Pointer(&m)), change, s)
+		mu.Unlock()
+	}
+	return m
+}

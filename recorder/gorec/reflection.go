@@ -1,0 +1,213 @@
+package gorec
+
+import (
+	"fmt"
+	"reflect"
+	"unsafe"
+)
+
+// accessValue has the lock. It reads or writes all locations of a value that has an address.
+func (g *G) accessValue(v reflect.Value, change bool, s *Site) {
+	if !v.CanAddr() {
+		return
+	}
+	p := unsafe.Pointer(v.UnsafeAddr())
+	for _, f := range layoutOf(v.Type()).leaves {
+		if change {
+			g.wrote(unsafe.Add(p, f.offset), f.size, f.offset, s)
+		} else {
+			g.read(unsafe.Add(p, f.offset), f.size, f.offset, s)
+		}
+	}
+}
+
+// Reflected is a reflect.Value of which a method is called that reads or writes.
+func Reflected(v reflect.Value, change bool, s *Site) reflect.Value {
+	if alone() || !v.IsValid() {
+		return v
+	}
+	g := current(s)
+	mu.Lock()
+	g.accessValue(v, change, s)
+	if change && v.CanAddr() {
+		for _, f := range layoutOf(v.Type()).leaves {
+			locate(unsafe.Add(unsafe.Pointer(v.UnsafeAddr()), f.offset)).unsettled = true
+		}
+	}
+	mu.Unlock()
+	return v
+}
+
+// ReflectCopy is reflect.Copy, in one step.
+func ReflectCopy(to, from reflect.Value, s *Site) int {
+	if alone() {
+		return reflect.Copy(to, from)
+	}
+	g := current(s)
+	mu.Lock()
+	defer mu.Unlock()
+	if from.Kind() == reflect.Slice {
+		for i := 0; i < from.Len() && i < to.Len(); i++ {
+			g.accessValue(from.Index(i), false, s)
+		}
+	}
+	n := reflect.Copy(to, from)
+	for i := 0; i < n; i++ {
+		g.accessValue(to.Index(i), true, s)
+	}
+	return n
+}
+
+// ReflectedMap is a reflect.Value whose map is read or changed.
+func ReflectedMap(v reflect.Value, change bool, s *Site) reflect.Value {
+	if alone() || !v.IsValid() || v.Kind() != reflect.Map {
+		return v
+	}
+	g := current(s)
+	mu.Lock()
+	g.touchMap(v.UnsafePointer(), change, s)
+	mu.Unlock()
+	return v
+}
+
+// walk follows what a function of the standard library finds behind a value.
+type walk struct {
+	g       *G
+	s       *Site
+	deep    bool // pointers are followed wherever they stand
+	fill    bool // what changed, unrecorded, was written by the function
+	left    int  // so many values more
+	visited map[unsafe.Pointer]bool
+}
+
+// Shown is a value that a function as fmt.Println prints: what it points to, and what its
+// slices and maps hold, is read.
+func Shown[T any](v T, s *Site) T {
+	if !alone() {
+		walkAll(&walk{s: s}, v)
+	}
+	return v
+}
+
+// Encoded is a value that a function as json.Marshal reads, behind pointers too.
+func Encoded[T any](v T, s *Site) T {
+	if !alone() {
+		walkAll(&walk{s: s, deep: true}, v)
+	}
+	return v
+}
+
+// Fills is a function as Decode, which writes what its argument points to; Fills2 is one as
+// json.Unmarshal.
+func Fills(f func(any) error, s *Site) func(any) error {
+	return func(v any) error {
+		err := f(v)
+		if !alone() {
+			walkAll(&walk{s: s, deep: true, fill: true}, v)
+		}
+		return err
+	}
+}
+
+func Fills2[A any](f func(A, any) error, s *Site) func(A, any) error {
+	return func(a A, v any) error {
+		err := f(a, v)
+		if !alone() {
+			walkAll(&walk{s: s, deep: true, fill: true}, v)
+		}
+		return err
+	}
+}
+
+// walkAll has the lock while it walks.
+func walkAll(w *walk, v any) {
+	w.g = current(w.s)
+	w.left = 10000
+	w.visited = map[unsafe.Pointer]bool{}
+	mu.Lock()
+	defer mu.Unlock()
+	w.value(reflect.ValueOf(v), 0)
+}
+
+func (w *walk) value(v reflect.Value, depth int) {
+	if w.left--; w.left < 0 || !v.IsValid() || printsItself(v) {
+		return
+	}
+	switch v.Kind() {
+	case reflect.Interface:
+		w.value(v.Elem(), depth)
+	case reflect.Pointer:
+		w.pointer(v, depth)
+	case reflect.Slice:
+		for i := 0; i < v.Len() && w.left > 0; i++ {
+			w.access(v.Index(i))
+			w.value(v.Index(i), depth+1)
+		}
+	case reflect.Array:
+		for i := 0; i < v.Len() && w.left > 0; i++ {
+			w.value(v.Index(i), depth+1)
+		}
+	case reflect.Struct:
+		for i := 0; i < v.NumField(); i++ {
+			w.value(v.Field(i), depth+1)
+		}
+	case reflect.Map:
+		w.mapping(v, depth)
+	}
+}
+
+// printsItself: a value's own methods, which are recorded by themselves, print it.
+func printsItself(v reflect.Value) bool {
+	if !v.CanInterface() {
+		return false
+	}
+	switch v.Interface().(type) {
+	case error, fmt.Stringer, fmt.Formatter:
+		return v.Kind() != reflect.Interface
+	}
+	return v.Type().PkgPath() == "sync" || v.Type().PkgPath() == "sync/atomic"
+}
+
+func (w *walk) pointer(v reflect.Value, depth int) {
+	p := v.UnsafePointer()
+	if p == nil || w.visited[p] || depth > 0 && !w.deep {
+		return
+	}
+	w.visited[p] = true
+	switch v.Elem().Kind() {
+	case reflect.Struct, reflect.Map, reflect.Slice, reflect.Array:
+	default:
+		if !w.deep {
+			return // printed as an address
+		}
+	}
+	w.access(v.Elem())
+	w.value(v.Elem(), depth+1)
+}
+
+func (w *walk) mapping(v reflect.Value, depth int) {
+	w.g.touchMap(v.UnsafePointer(), w.fill, w.s)
+	for it := v.MapRange(); it.Next() && w.left > 0; {
+		w.value(it.Key(), depth+1)
+		w.value(it.Value(), depth+1)
+	}
+}
+
+// access has the lock. Behind a function that fills, what changed was written.
+func (w *walk) access(v reflect.Value) {
+	if !w.fill {
+		w.g.accessValue(v, false, w.s)
+		return
+	}
+	if !v.CanAddr() {
+		return
+	}
+	p := unsafe.Pointer(v.UnsafeAddr())
+	for _, f := range layoutOf(v.Type()).leaves {
+		q := unsafe.Add(p, f.offset)
+		bits := bitsOf(q, f.size)
+		if l := locate(q); l.id != 0 && l.bits != bits || l.id == 0 && bits != 0 {
+			w.g.wrote(q, f.size, f.offset, w.s)
+		}
+	}
+}

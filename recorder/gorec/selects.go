@@ -1,0 +1,275 @@
+package gorec
+
+import (
+	"reflect"
+	"time"
+	"unsafe"
+
+	"gorace.local/recorder/wire"
+)
+
+// communication is a send or a receive that is asked for: *Taking[T] or *Giving[T].
+type communication interface {
+	state() *operation
+	pointer() unsafe.Pointer
+	try() (did, ok bool)
+	wait()                          // does it by Go's own means; panics where the channel is closed
+	value() unsafe.Pointer          // of a send
+	fill(p unsafe.Pointer, ok bool) // of a receive: nil is the zero value
+	plain() reflect.SelectCase
+	took(v reflect.Value, ok bool)
+}
+
+// operation is what the recorder keeps of one.
+type operation struct {
+	channel *channel
+	send    bool
+	waiter  *waiter
+	index   int // among the cases
+	self    communication
+}
+
+// waiter is a goroutine that waits for the first of its cases.
+type waiter struct {
+	g      *G
+	s      *Site
+	done   bool
+	panics bool // it sends on a channel that was closed
+	which  int
+}
+
+// Taking is a receive.
+type Taking[T any] struct {
+	operation
+	c     <-chan T
+	Value T
+	OK    bool
+}
+
+// CaseReceive is a receive of a select.
+func CaseReceive[T any](c <-chan T) *Taking[T] {
+	r := &Taking[T]{c: c}
+	r.self = r
+	return r
+}
+
+func (r *Taking[T]) state() *operation       { return &r.operation }
+func (r *Taking[T]) pointer() unsafe.Pointer { return pointerTo(&r.c) }
+func (r *Taking[T]) wait()                   { r.Value, r.OK = <-r.c }
+func (r *Taking[T]) value() unsafe.Pointer   { return nil }
+
+func (r *Taking[T]) try() (did, ok bool) {
+	select {
+	case r.Value, r.OK = <-r.c:
+		return true, r.OK
+	default:
+		return false, false
+	}
+}
+
+func (r *Taking[T]) fill(p unsafe.Pointer, ok bool) {
+	if p != nil {
+		r.Value = *(*T)(p)
+	}
+	r.OK = ok
+}
+
+func (r *Taking[T]) plain() reflect.SelectCase {
+	return reflect.SelectCase{Dir: reflect.SelectRecv, Chan: reflect.ValueOf(r.c)}
+}
+
+func (r *Taking[T]) took(v reflect.Value, ok bool) {
+	r.OK = ok
+	if v.IsValid() {
+		reflect.ValueOf(&r.Value).Elem().Set(v)
+	}
+}
+
+// Giving is a send.
+type Giving[T any] struct {
+	operation
+	c chan<- T
+	v T
+}
+
+// Case is a send of a select.
+func (x Sender[T]) Case(v T) *Giving[T] {
+	r := &Giving[T]{c: x.c, v: v}
+	r.send = true
+	r.self = r
+	return r
+}
+
+func (r *Giving[T]) state() *operation         { return &r.operation }
+func (r *Giving[T]) pointer() unsafe.Pointer   { return pointerTo(&r.c) }
+func (r *Giving[T]) wait()                     { r.c <- r.v }
+func (r *Giving[T]) value() unsafe.Pointer     { return unsafe.Pointer(&r.v) }
+func (r *Giving[T]) fill(unsafe.Pointer, bool) {}
+func (r *Giving[T]) took(reflect.Value, bool)  {}
+
+func (r *Giving[T]) plain() reflect.SelectCase {
+	return reflect.SelectCase{Dir: reflect.SelectSend, Chan: reflect.ValueOf(r.c), Send: reflect.ValueOf(&r.v).Elem()}
+}
+
+func (r *Giving[T]) try() (did, ok bool) {
+	select {
+	case r.c <- r.v:
+		return true, true
+	default:
+		return false, false
+	}
+}
+
+// Select answers which case was chosen, -1 for the default.
+func Select(s *Site, hasDefault bool, cases ...communication) int {
+	if off {
+		return plainSelect(hasDefault, cases)
+	}
+	return communicate(s, hasDefault, cases)
+}
+
+// communicate does one of the cases; none of the channels is known to be ready.
+func communicate(s *Site, hasDefault bool, cases []communication) int {
+	g := current(s)
+	mu.Lock()
+	poll := false
+	for i, c := range cases {
+		o := c.state()
+		o.index = i
+		o.channel = channelAt(c.pointer(), g, s)
+		if o.channel != nil && (o.channel.foreign || o.channel.done != nil) {
+			poll = true
+		}
+	}
+	if len(cases) == 1 && !hasDefault && poll && cases[0].state().channel.foreign {
+		mu.Unlock()
+		waitForeign(g, s, cases[0])
+		return 0
+	}
+	i, panics := g.try(s, cases)
+	if i == none && hasDefault {
+		g.noteDefault(s, cases)
+		mu.Unlock()
+		return -1
+	}
+	if i != none {
+		mu.Unlock()
+		if panics {
+			cases[i].wait()
+		}
+		return i
+	}
+	w := enqueue(g, s, cases)
+	mu.Unlock()
+	return w.sleep(cases, poll)
+}
+
+// waitForeign does a lone operation on a foreign channel, which is waited for by Go's means.
+func waitForeign(g *G, s *Site, c communication) {
+	c.wait()
+	mu.Lock()
+	g.acquire(c.state().channel.order, s)
+	mu.Unlock()
+}
+
+// noteDefault has the lock. More cases than a line of a trace takes aren't written.
+func (g *G) noteDefault(s *Site, cases []communication) {
+	if len(cases) > 16 {
+		return
+	}
+	write(wire.Record{Op: wire.Default, Goroutine: g.id, Site: s.ID, Count: uint16(len(cases))})
+	for _, c := range cases {
+		r := wire.Record{Op: wire.Case}
+		if c.state().send {
+			r.Kind = 1
+		}
+		if ch := c.state().channel; ch != nil {
+			r.Object = ch.id
+			if ch.foreign {
+				r.Count = 1
+			}
+		}
+		write(r)
+	}
+}
+
+// enqueue has the lock.
+func enqueue(g *G, s *Site, cases []communication) *waiter {
+	w := &waiter{g: g, s: s}
+	for _, c := range cases {
+		o := c.state()
+		o.waiter = w
+		switch {
+		case o.channel == nil || o.channel.foreign:
+		case o.send:
+			o.channel.senders = append(o.channel.senders, o)
+		default:
+			o.channel.takers = append(o.channel.takers, o)
+		}
+	}
+	return w
+}
+
+// sleep returns once a case was done, by others or, where code without the recorder may
+// make one possible, by trying again from time to time.
+func (w *waiter) sleep(cases []communication, poll bool) int {
+	if !poll {
+		<-w.g.wake
+	}
+	pause := 5 * time.Microsecond
+	for poll {
+		t := time.NewTimer(pause)
+		select {
+		case <-w.g.wake:
+			poll = false
+		case <-t.C:
+			i, done, panics := w.again(cases)
+			if i != none {
+				if panics {
+					cases[i].wait()
+				}
+				return i
+			}
+			if done {
+				<-w.g.wake
+				poll = false
+			}
+		}
+		t.Stop()
+		if pause += pause / 4; pause > time.Millisecond {
+			pause = time.Millisecond
+		}
+	}
+	if w.panics {
+		cases[w.which].wait()
+	}
+	return w.which
+}
+
+// again tries the cases once more; done says that another goroutine did one meanwhile.
+func (w *waiter) again(cases []communication) (i int, done, panics bool) {
+	mu.Lock()
+	defer mu.Unlock()
+	if w.done {
+		return none, true, false
+	}
+	i, panics = w.g.try(w.s, cases)
+	return i, false, panics
+}
+
+// plainSelect is a select of a run without a log.
+func plainSelect(hasDefault bool, cases []communication) int {
+	var all []reflect.SelectCase
+	for _, c := range cases {
+		all = append(all, c.plain())
+	}
+	if hasDefault {
+		all = append(all, reflect.SelectCase{Dir: reflect.SelectDefault})
+	}
+	i, v, ok := reflect.Select(all)
+	if i == len(cases) {
+		return -1
+	}
+	cases[i].took(v, ok)
+	return i
+}

@@ -1,0 +1,72 @@
+package gorec
+
+import (
+	"reflect"
+	"sort"
+)
+
+// Sorts is a function that sorts a slice in one step, by reading and writing its elements.
+func Sorts[E any](f func([]E), s *Site) func([]E) {
+	return func(a []E) {
+		if alone() {
+			f(a)
+			return
+		}
+		g := current(s)
+		mu.Lock()
+		defer mu.Unlock()
+		for i := range a {
+			readAll(g, &a[i], s)
+		}
+		f(a)
+		for i := range a {
+			wroteAll(g, &a[i], s)
+		}
+	}
+}
+
+// SortSlice and SortSliceStable are those of package sort. What less reads is recorded
+// where it stands.
+func SortSlice(x any, less func(i, j int) bool, s *Site) {
+	if alone() {
+		sort.Slice(x, less)
+		return
+	}
+	sort.Sort(newSwapping(x, less, s))
+}
+
+func SortSliceStable(x any, less func(i, j int) bool, s *Site) {
+	if alone() {
+		sort.SliceStable(x, less)
+		return
+	}
+	sort.Stable(newSwapping(x, less, s))
+}
+
+// swapping sorts a slice as package sort does, whose algorithms for slices and for
+// interfaces are the same, but for the records of its swaps.
+type swapping struct {
+	elements reflect.Value
+	swap     func(i, j int)
+	less     func(i, j int) bool
+	g        *G
+	s        *Site
+}
+
+func newSwapping(x any, less func(i, j int) bool, s *Site) swapping {
+	return swapping{reflect.ValueOf(x), reflect.Swapper(x), less, current(s), s}
+}
+
+func (x swapping) Len() int           { return x.elements.Len() }
+func (x swapping) Less(i, j int) bool { return x.less(i, j) }
+
+func (x swapping) Swap(i, j int) {
+	mu.Lock()
+	defer mu.Unlock()
+	a, b := x.elements.Index(i), x.elements.Index(j)
+	x.g.accessValue(a, false, x.s)
+	x.g.accessValue(b, false, x.s)
+	x.swap(i, j)
+	x.g.accessValue(a, true, x.s)
+	x.g.accessValue(b, true, x.s)
+}

@@ -1,0 +1,63 @@
+package gorec
+
+import "sync"
+
+// SyncMapAt is a sync.Map at a place where it is used: a write of a key comes before each
+// operation that finds it.
+type SyncMapAt struct {
+	m *sync.Map
+	s *Site
+}
+
+func SyncMap(m *sync.Map, s *Site) SyncMapAt { return SyncMapAt{m, s} }
+
+type syncMapKey struct {
+	m *sync.Map
+	k any
+}
+
+var lastStores = map[syncMapKey]uint32{}
+
+// do does an operation of a key in one step.
+func (x SyncMapAt) do(k any, f func() int) {
+	inOneStep(x.s, f, func(g *G, what int) {
+		key := syncMapKey{x.m, k}
+		if what&loads != 0 {
+			g.acquire(lastStores[key], x.s)
+		}
+		if what&stores != 0 {
+			lastStores[key] = g.release(x.s)
+		}
+	})
+}
+
+func (x SyncMapAt) Load(k any) (v any, ok bool) {
+	x.do(k, func() int { v, ok = x.m.Load(k); return loads })
+	return v, ok
+}
+
+func (x SyncMapAt) Store(k, v any) {
+	x.do(k, func() int { x.m.Store(k, v); return stores })
+}
+
+func (x SyncMapAt) LoadOrStore(k, v any) (actual any, loaded bool) {
+	x.do(k, func() int { actual, loaded = x.m.LoadOrStore(k, v); return swapped(!loaded) })
+	return actual, loaded
+}
+
+func (x SyncMapAt) LoadAndDelete(k any) (v any, loaded bool) {
+	x.do(k, func() int { v, loaded = x.m.LoadAndDelete(k); return swapped(loaded) })
+	return v, loaded
+}
+
+func (x SyncMapAt) Delete(k any) {
+	x.do(k, func() int { x.m.Delete(k); return loads | stores })
+}
+
+// Range finds each key that it visits.
+func (x SyncMapAt) Range(f func(k, v any) bool) {
+	x.m.Range(func(k, v any) bool {
+		x.do(k, func() int { return loads })
+		return f(k, v)
+	})
+}

@@ -1,0 +1,145 @@
+package gorec
+
+import (
+	"reflect"
+	"unsafe"
+)
+
+// layoutAt has the lock.
+func layoutAt[T any](p *T, s *Site) *layout {
+	if s.layout != nil {
+		return s.layout
+	}
+	l := layoutOf(reflect.TypeOf(p).Elem())
+	if !s.generic {
+		s.layout = l
+	}
+	return l
+}
+
+// readAll has the lock.
+func readAll[T any](g *G, p *T, s *Site) {
+	l := layoutAt(p, s)
+	if l.single != 0 {
+		g.read(unsafe.Pointer(p), l.single, 0, s)
+		return
+	}
+	for _, f := range l.leaves {
+		g.read(unsafe.Add(unsafe.Pointer(p), f.offset), f.size, f.offset, s)
+	}
+}
+
+// wroteAll has the lock.
+func wroteAll[T any](g *G, p *T, s *Site) {
+	l := layoutAt(p, s)
+	if l.single != 0 {
+		g.wrote(unsafe.Pointer(p), l.single, 0, s)
+		return
+	}
+	for _, f := range l.leaves {
+		g.wrote(unsafe.Add(unsafe.Pointer(p), f.offset), f.size, f.offset, s)
+	}
+}
+
+// Read is the value at p.
+func Read[T any](p *T, s *Site) T {
+	_ = *p // nil panics without the lock
+	if alone() {
+		return *p
+	}
+	g := current(s)
+	if g.hasRead(unsafe.Pointer(p), s) {
+		return *p
+	}
+	mu.Lock()
+	v := *p
+	readAll(g, p, s)
+	mu.Unlock()
+	return v
+}
+
+func set[T any](p *T, v T, s *Site) {
+	_ = *p
+	if alone() {
+		*p = v
+		return
+	}
+	g := current(s)
+	mu.Lock()
+	*p = v
+	wroteAll(g, p, s)
+	mu.Unlock()
+}
+
+// New is what a composite literal made; what isn't zero was written.
+func New[T any](p *T, s *Site) *T {
+	if alone() {
+		return p
+	}
+	g := current(s)
+	mu.Lock()
+	for _, f := range layoutAt(p, s).leaves {
+		if q := unsafe.Add(unsafe.Pointer(p), f.offset); bitsOf(q, f.size) != 0 {
+			g.wrote(q, f.size, f.offset, s)
+		}
+	}
+	mu.Unlock()
+	return p
+}
+
+// Target is what is assigned to. Set takes a value as an assignment does, with the
+// conversion to T that an argument of the same call couldn't have.
+type Target[T any] struct {
+	p   *T
+	s   *Site
+	set func(T)
+}
+
+// To is a recorded location, Plain one that isn't recorded, and Blank the blank one.
+func To[T any](p *T, s *Site) Target[T] { return Target[T]{p: p, s: s} }
+func Plain[T any](p *T) Target[T]       { return Target[T]{p: p} }
+func Blank() Target[any]                { return Target[any]{set: func(any) {}} }
+
+// Set assigns.
+func (t Target[T]) Set(v T) {
+	switch {
+	case t.set != nil:
+		t.set(v)
+	case t.s == nil:
+		*t.p = v
+	default:
+		set(t.p, v, t.s)
+	}
+}
+
+// Targets2 to Targets4 are assigned to at once, from left to right.
+type Targets2[A, B any] struct {
+	a Target[A]
+	b Target[B]
+}
+
+type Targets3[A, B, C any] struct {
+	Targets2[A, B]
+	c Target[C]
+}
+
+type Targets4[A, B, C, D any] struct {
+	Targets3[A, B, C]
+	d Target[D]
+}
+
+func To2[A, B any](a Target[A], b Target[B]) Targets2[A, B] { return Targets2[A, B]{a, b} }
+
+func To3[A, B, C any](a Target[A], b Target[B], c Target[C]) Targets3[A, B, C] {
+	return Targets3[A, B, C]{To2(a, b), c}
+}
+
+func To4[A, B, C, D any](a Target[A], b Target[B], c Target[C], d Target[D]) Targets4[A, B, C, D] {
+	return Targets4[A, B, C, D]{To3(a, b, c), d}
+}
+
+func (t Targets2[A, B]) Set(a A, b B) { t.a.Set(a); t.b.Set(b) }
+
+func (t Targets3[A, B, C]) Set(a A, b B, c C) { t.Targets2.Set(a, b); t.c.Set(c) }
+
+func (t Targets4[A, B, C, D]) Set(a A, b B, c C, d D) { t.Targets3.Set(a, b, c); t.d.Set(d) }

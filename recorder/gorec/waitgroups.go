@@ -1,0 +1,98 @@
+package gorec
+
+import (
+	"sync"
+	"unsafe"
+
+	"gorace.local/recorder/wire"
+)
+
+// WaitGroupAt is a sync.WaitGroup at a place where it is used.
+type WaitGroupAt struct {
+	w *sync.WaitGroup
+	s *Site
+}
+
+func WaitGroup(w *sync.WaitGroup, s *Site) WaitGroupAt { return WaitGroupAt{w, s} }
+
+// A group's Wait comes behind each Done since the last Wait that returned, also where the
+// count was 0 between. An Add that finds the count 0 has to come before a Wait (package
+// sync): it reads a variable that the first to wait writes, as in Go's own detector.
+type group struct {
+	p        unsafe.Pointer
+	count    int
+	waiting  int
+	returned bool     // a Wait returned behind the dones
+	dones    []uint32 // orders
+	misuse   uint32   // the variable
+}
+
+var groups = map[unsafe.Pointer]*group{}
+
+func groupAt(w *sync.WaitGroup) *group {
+	p := unsafe.Pointer(w)
+	x := groups[p]
+	if x == nil {
+		x = &group{p: p}
+		groups[p] = x
+	}
+	return x
+}
+
+// use has the lock.
+func (x *group) use(g *G, op wire.Op, s *Site) {
+	if !live {
+		return
+	}
+	if x.misuse == 0 {
+		x.misuse = declare(wire.DeclareVar, wire.VarGroup, 0, s)
+	}
+	write(wire.Record{Op: op, Goroutine: g.id, Object: x.misuse, Site: s.ID})
+}
+
+func (x WaitGroupAt) Add(n int) {
+	if off {
+		x.w.Add(n)
+		return
+	}
+	g := current(x.s)
+	mu.Lock()
+	w := groupAt(x.w)
+	if n > 0 && w.count == 0 {
+		w.use(g, wire.Read, x.s)
+		if w.returned {
+			w.dones, w.returned = nil, false
+		}
+	}
+	w.count += n
+	if n < 0 {
+		w.dones = append(w.dones, g.release(x.s))
+	}
+	mu.Unlock()
+	x.w.Add(n)
+}
+
+func (x WaitGroupAt) Done() { x.Add(-1) }
+
+func (x WaitGroupAt) Wait() {
+	if off {
+		x.w.Wait()
+		return
+	}
+	g := current(x.s)
+	mu.Lock()
+	w := groupAt(x.w)
+	if w.count > 0 && w.waiting == 0 {
+		w.use(g, wire.Write, x.s)
+	}
+	w.waiting++
+	mu.Unlock()
+	x.w.Wait()
+	mu.Lock()
+	w.waiting--
+	w.returned = true
+	for _, done := range w.dones {
+		g.acquire(done, x.s)
+	}
+	mu.Unlock()
+}

@@ -1,0 +1,69 @@
+// Package endtoend has tests of the tool gorec as its users run it. Traces are judged by
+// gorace, which the flag -judge names.
+package endtoend
+
+import (
+	"flag"
+	"os"
+	"os/exec"
+	"path/filepath"
+	"strings"
+	"testing"
+)
+
+var judgeFlag = flag.String("judge", "", "the command gorace; or 'unproved', which builds it before any proof, by rt try in crates/gorace")
+
+const root = "../.." // the recorder's folder
+
+// requireJudge skips a test where there is none.
+func requireJudge(t *testing.T) {
+	t.Helper()
+	if *judgeFlag == "" {
+		t.Skip("no -judge")
+	}
+}
+
+// gorec is the tool, built once.
+var gorec string
+
+func TestMain(m *testing.M) {
+	flag.Parse()
+	dir, err := os.MkdirTemp("", "gorec-test")
+	if err != nil {
+		panic(err)
+	}
+	gorec = filepath.Join(dir, "gorec")
+	build := exec.Command("go", "build", "-o", gorec, "./cmd/gorec")
+	build.Dir = root
+	if out, err := build.CombinedOutput(); err != nil {
+		panic(string(out))
+	}
+	status := m.Run()
+	os.RemoveAll(dir)
+	os.Exit(status)
+}
+
+// judgeAll has gorace check each of the traces, and answers the reports by the same names.
+func judgeAll(t *testing.T, traces map[string]string) map[string]string {
+	t.Helper()
+	if *judgeFlag == "unproved" {
+		return judgeUnproved(t, traces)
+	}
+	reports := map[string]string{}
+	words := strings.Fields(*judgeFlag)
+	for name, path := range traces {
+		in, err := os.Open(path)
+		if err != nil {
+			t.Fatal(err)
+		}
+		cmd := exec.Command(words[0], append(words[1:], "check")...)
+		cmd.Stdin = in
+		out, err := cmd.Output()
+		in.Close()
+		if _, ended := err.(*exec.ExitError); err != nil && !ended {
+			t.Fatal(err)
+		}
+		reports[name] = string(out)
+	}
+	return reports
+}

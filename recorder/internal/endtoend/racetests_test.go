@@ -1,0 +1,139 @@
+package endtoend
+
+import (
+	"flag"
+	"os"
+	"os/exec"
+	"path/filepath"
+	"regexp"
+	"sort"
+	"strings"
+	"testing"
+)
+
+var raceTests = flag.String("racetests", "", "the folder runtime/race/testdata of a Go distribution, whose tests are then compared")
+
+// expected are the tests of Go's race detector whose verdict gorec doesn't share; the README
+// explains each.
+var expected = map[string]bool{
+	"TestRaceChanCloseSend":       true,
+	"TestRaceChanSendClose":       true,
+	"TestRaceChanSendSelectClose": true,
+	"TestRaceMutexOverwrite":      true,
+}
+
+// TestGoRaceTests runs each of the tests of Go's own race detector alone at five seeds:
+// those that are named TestRace have a race, and TestNoRace none.
+func TestGoRaceTests(t *testing.T) {
+	requireJudge(t)
+	if *raceTests == "" {
+		t.Skip("no -racetests")
+	}
+	dir := t.TempDir()
+	names := copyRaceTests(t, dir)
+	program := filepath.Join(dir, "tests")
+	cmd := exec.Command(gorec, "build", "-force", "-tests", "-o", program, ".")
+	cmd.Dir = dir
+	if out, err := cmd.CombinedOutput(); err != nil {
+		t.Fatalf("%v\n%s", err, out)
+	} else {
+		t.Logf("%s", out)
+	}
+	raced := map[string]bool{}
+	judged := 0
+	for _, name := range names {
+		traces := map[string]string{}
+		for _, seed := range []string{"1", "2", "3", "4", "5"} {
+			traces[name+"."+seed] = recordTest(t, dir, program, name, seed)
+		}
+		for run, report := range judgeAll(t, traces) {
+			judged++
+			switch {
+			case strings.Contains("\n"+report, "\nraces: "):
+				raced[name] = raced[name] || races(report)
+			case !strings.HasPrefix(report, "clean: "):
+				t.Errorf("%s: %s", run, report)
+			}
+		}
+	}
+	compare(t, names, raced)
+	t.Logf("%d tests, %d traces", len(names), judged)
+}
+
+func compare(t *testing.T, names []string, raced map[string]bool) {
+	same := 0
+	for _, name := range names {
+		wanted := strings.HasPrefix(name, "TestRace")
+		switch {
+		case raced[name] == wanted:
+			same++
+		case expected[name]:
+			t.Logf("%s: race %v, as the README explains", name, raced[name])
+		default:
+			t.Errorf("%s: race %v", name, raced[name])
+		}
+	}
+	t.Logf("%d of %d tests have Go's verdict", same, len(names))
+}
+
+// races: a race of the report isn't that of the package's initialization (the variable x
+// of regression_test.go), which each run has.
+func races(report string) bool {
+	for _, line := range strings.Split(report, "\n") {
+		if strings.HasPrefix(line, "race on ") && !strings.HasPrefix(line, "race on l_x: ") {
+			return true
+		}
+	}
+	return false
+}
+
+// copyRaceTests makes a module of the tests but for those with cgo, and names the tests.
+func copyRaceTests(t *testing.T, dir string) []string {
+	t.Helper()
+	files, err := filepath.Glob(filepath.Join(*raceTests, "*_test.go"))
+	if err != nil || len(files) == 0 {
+		t.Fatalf("no tests in %s", *raceTests)
+	}
+	test := regexp.MustCompile(`(?m)^func (Test(?:No)?Race\w*)\(`)
+	var names []string
+	for _, f := range files {
+		b, err := os.ReadFile(f)
+		if err != nil {
+			t.Fatal(err)
+		}
+		if strings.Contains(filepath.Base(f), "cgo") {
+			continue
+		}
+		for _, m := range test.FindAllStringSubmatch(string(b), -1) {
+			names = append(names, m[1])
+		}
+		if err := os.WriteFile(filepath.Join(dir, filepath.Base(f)), b, 0o644); err != nil {
+			t.Fatal(err)
+		}
+	}
+	if err := os.WriteFile(filepath.Join(dir, "go.mod"), []byte("module example.com/racetests\n\ngo 1.19\n"), 0o644); err != nil {
+		t.Fatal(err)
+	}
+	sort.Strings(names)
+	return names
+}
+
+// recordTest runs one test, which may end in any way, and answers the file with its trace.
+func recordTest(t *testing.T, dir, program, name, seed string) string {
+	t.Helper()
+	log := filepath.Join(dir, "log")
+	cmd := exec.Command(program, "-test.run", "^"+name+"$", "-test.timeout", "20s")
+	cmd.Dir = dir
+	cmd.Env = append(os.Environ(), "GOREC_LOG="+log, "GOREC_SEED="+seed)
+	cmd.Run()
+	text, err := exec.Command(gorec, "trace", log, program+".sites").Output()
+	os.Remove(log)
+	if err != nil {
+		t.Fatalf("%s: %v", name, err)
+	}
+	path := filepath.Join(dir, "trace."+seed)
+	if err := os.WriteFile(path, text, 0o644); err != nil {
+		t.Fatal(err)
+	}
+	return path
+}

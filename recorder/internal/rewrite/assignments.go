@@ -1,0 +1,246 @@
+package rewrite
+
+import (
+	"fmt"
+	"go/ast"
+	"go/token"
+	"strings"
+)
+
+// operators have the recorder's names.
+var operators = map[token.Token]string{
+	token.ADD_ASSIGN: "Add", token.SUB_ASSIGN: "Sub", token.MUL_ASSIGN: "Mul", token.QUO_ASSIGN: "Quo",
+	token.REM_ASSIGN: "Rem", token.AND_ASSIGN: "And", token.OR_ASSIGN: "Or", token.XOR_ASSIGN: "Xor",
+	token.AND_NOT_ASSIGN: "AndNot",
+}
+
+func (r *rewriter) assign(s *ast.AssignStmt, inBlock bool) {
+	switch {
+	case s.Tok != token.ASSIGN && s.Tok != token.DEFINE:
+		r.operation(s, inBlock)
+	case !r.assignsRecorded(s):
+		if s.Tok == token.ASSIGN {
+			for _, e := range s.Lhs {
+				r.address(e)
+			}
+		}
+		r.rightSide(s)
+	case s.Tok == token.DEFINE:
+		r.redeclare(s)
+	case len(s.Lhs) == 1:
+		r.assignOne(s)
+	default:
+		r.assignSeveral(s)
+	}
+}
+
+// isNew: a := declares e.
+func (r *rewriter) isNew(e ast.Expr, tok token.Token) bool {
+	id, ok := e.(*ast.Ident)
+	return ok && tok == token.DEFINE && r.info.Defs[id] != nil
+}
+
+func (r *rewriter) assignsRecorded(s *ast.AssignStmt) bool {
+	for _, e := range s.Lhs {
+		if !r.isNew(e, s.Tok) && (r.isRecorded(e) || r.mapElement(e) != nil) {
+			return true
+		}
+	}
+	return false
+}
+
+// rightSide changes the values that are assigned.
+func (r *rewriter) rightSide(s *ast.AssignStmt) {
+	if len(s.Lhs) == 2 && len(s.Rhs) == 1 {
+		r.okValue(s.Rhs[0])
+	} else {
+		r.values(s.Rhs)
+	}
+}
+
+func (r *rewriter) replaceToken(s *ast.AssignStmt, text string) {
+	r.replace(s.TokPos, s.TokPos+token.Pos(len(s.Tok.String())), text)
+}
+
+// assignOne is x = e.
+func (r *rewriter) assignOne(s *ast.AssignStmt) {
+	x := r.mapElement(s.Lhs[0])
+	switch {
+	case x != nil && r.isLoose(x.X):
+		r.changeLoose(x, s.Rhs[0])
+	case x != nil:
+		site := r.site(s, r.name(x.X))
+		r.insert(s.Pos(), "gorec.Map(")
+		r.value(x.X)
+		r.replace(x.Lbrack, x.Lbrack+1, ", "+site+").Set(")
+		r.value(x.Index)
+		r.replace(x.Rbrack, x.Rbrack+1, ",")
+		r.replaceToken(s, "")
+		r.value(s.Rhs[0])
+		r.insert(s.End(), ")")
+	default:
+		l := s.Lhs[0]
+		site := r.locationSite(s, l)
+		r.wrap(l, "gorec.To(&", func() { r.address(l) }, ", "+site)
+		r.replaceToken(s, ").Set(")
+		r.value(s.Rhs[0])
+		r.insert(s.End(), ")")
+	}
+}
+
+// changeLoose records a change of a map with keys of an interface type.
+func (r *rewriter) changeLoose(x *ast.IndexExpr, values ...ast.Expr) {
+	r.result.Loose += r.countCalls(append(values, x.Index)...)
+	r.looseMap("WriteMap", x.X)
+	r.value(x.Index)
+	r.values(values)
+}
+
+// redeclare is a := of which some variables are new, and some are there and recorded.
+func (r *rewriter) redeclare(s *ast.AssignStmt) {
+	after := ""
+	for _, e := range s.Lhs {
+		id := e.(*ast.Ident)
+		if id.Name == "_" || r.isNew(e, s.Tok) || !r.isRecorded(e) {
+			continue
+		}
+		v := r.newName("v")
+		site := r.locationSite(e, e)
+		r.replace(e.Pos(), e.End(), v)
+		after += "; gorec.To(&" + id.Name + ", " + site + ").Set(" + v + ")"
+	}
+	r.rightSide(s)
+	r.insert(s.End(), after)
+}
+
+// assignSeveral is x, y = e.
+func (r *rewriter) assignSeveral(s *ast.AssignStmt) {
+	if len(s.Lhs) > 4 {
+		r.refuse(s, "an assignment to more than four at once", "write it as several")
+		return
+	}
+	r.insert(s.Pos(), fmt.Sprintf("gorec.To%d(", len(s.Lhs)))
+	for _, e := range s.Lhs {
+		r.oneOfSeveral(e)
+	}
+	r.replaceToken(s, ").Set(")
+	two := len(s.Lhs) == 2 && len(s.Rhs) == 1
+	if x := r.mapElement(s.Rhs[0]); two && x != nil && r.isLoose(x.X) {
+		r.refuse(s, "v, ok of a map with keys of an interface type, to variables that are recorded",
+			"assign to new variables first")
+	}
+	if a, ok := unparen(s.Rhs[0]).(*ast.TypeAssertExpr); two && ok {
+		r.assertion(s, a)
+	} else {
+		r.rightSide(s)
+	}
+	r.insert(s.End(), ")")
+}
+
+// oneOfSeveral is one of several left sides.
+func (r *rewriter) oneOfSeveral(e ast.Expr) {
+	id, isName := e.(*ast.Ident)
+	x := r.mapElement(e)
+	switch {
+	case isName && id.Name == "_":
+		r.replace(e.Pos(), e.End(), "gorec.Blank()")
+	case x != nil:
+		if r.isLoose(x.X) {
+			r.refuse(e, "an assignment of several, one to a map with keys of an interface type", "write it as several")
+		}
+		r.mapIndex(x, e, "At(")
+		r.insert(e.End(), ".To()")
+	case r.isRecorded(e):
+		site := r.locationSite(e, e)
+		r.wrap(e, "gorec.To(&", func() { r.address(e) }, ", "+site+")")
+	default:
+		r.wrap(e, "gorec.Plain(&", func() { r.address(e) }, ")")
+	}
+}
+
+// assertion makes v, ok of a type assertion two arguments.
+func (r *rewriter) assertion(s *ast.AssignStmt, a *ast.TypeAssertExpr) {
+	v, ok := r.newName("v"), r.newName("ok")
+	r.wrap(s.Rhs[0], "func() ("+r.source(a.Type)+", bool) { "+v+", "+ok+" := ", func() { r.value(a) },
+		"; return "+v+", "+ok+" }()")
+}
+
+// increment is x++ and x--.
+func (r *rewriter) increment(s *ast.IncDecStmt) {
+	method := "Increment"
+	if s.Tok == token.DEC {
+		method = "Decrement"
+	}
+	x := r.mapElement(s.X)
+	switch {
+	case x != nil && r.isLoose(x.X):
+		r.changeLoose(x)
+	case x != nil:
+		site := r.site(s, r.name(x.X))
+		r.insert(s.Pos(), "gorec.Counts(")
+		r.value(x.X)
+		r.replace(x.Lbrack, x.Lbrack+1, ", "+site+")."+method+"(")
+		r.value(x.Index)
+		r.replace(x.Rbrack, x.Rbrack+1, ")")
+		r.replace(s.TokPos, s.TokPos+2, "")
+	case !r.isRecorded(s.X):
+		r.address(s.X)
+	default:
+		site := r.locationSite(s, s.X)
+		r.insert(s.Pos(), "gorec."+method+"(&")
+		r.address(s.X)
+		r.replace(s.TokPos, s.TokPos+2, ", "+site+")")
+	}
+}
+
+// operation is x op= e.
+func (r *rewriter) operation(s *ast.AssignStmt, inBlock bool) {
+	l, e := s.Lhs[0], s.Rhs[0]
+	x := r.mapElement(l)
+	switch {
+	case x != nil && r.isLoose(x.X):
+		r.changeLoose(x, e)
+	case x != nil:
+		r.mapOperation(s, x, inBlock)
+	case !r.isRecorded(l):
+		r.address(l)
+		r.value(e)
+	case operators[s.Tok] != "":
+		site := r.locationSite(s, l)
+		r.wrap(l, "gorec."+operators[s.Tok]+"(&", func() { r.address(l) }, "")
+		r.replaceToken(s, ", "+site+").By(")
+		r.value(e)
+		r.insert(s.End(), ")")
+	default:
+		r.shift(s, inBlock)
+	}
+}
+
+// mapOperation is m[k] op= e.
+func (r *rewriter) mapOperation(s *ast.AssignStmt, x *ast.IndexExpr, inBlock bool) {
+	if !inBlock {
+		r.refuse(s, "op= of an element of a map outside a list of statements", "put it before the statement")
+	}
+	v := r.newName("e")
+	r.insert(s.Pos(), "{"+v+" := ")
+	r.mapIndex(x, s, "At(")
+	r.replaceToken(s, "; "+v+".Set("+v+".Get() "+operator(s.Tok)+" (")
+	r.value(s.Rhs[0])
+	r.insert(s.End(), "))}")
+}
+
+// shift is x <<= e and x >>= e, whose right side has a type of its own.
+func (r *rewriter) shift(s *ast.AssignStmt, inBlock bool) {
+	if !inBlock {
+		r.refuse(s, s.Tok.String()+" outside a list of statements", "put it before the statement")
+	}
+	v := r.newName("e")
+	site := r.locationSite(s, s.Lhs[0])
+	r.insert(s.Pos(), "{"+v+" := &")
+	r.address(s.Lhs[0])
+	r.replaceToken(s, "; gorec.To("+v+", "+site+").Set(gorec.Read("+v+", "+site+") "+operator(s.Tok)+" (")
+	r.value(s.Rhs[0])
+	r.insert(s.End(), "))}")
+}
+
+func operator(t token.Token) string { return strings.TrimSuffix(t.String(), "=") }

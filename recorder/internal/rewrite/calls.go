@@ -1,0 +1,163 @@
+package rewrite
+
+import (
+	"go/ast"
+	"go/types"
+	"strings"
+)
+
+// callee is the function or method that is called, if it is known.
+func (r *rewriter) callee(e *ast.CallExpr) *types.Func {
+	f := unparen(e.Fun)
+	if x, ok := f.(*ast.IndexExpr); ok {
+		f = x.X
+	}
+	switch f := f.(type) {
+	case *ast.Ident:
+		o, _ := r.info.Uses[f].(*types.Func)
+		return o
+	case *ast.SelectorExpr:
+		o, _ := r.info.Uses[f.Sel].(*types.Func)
+		return o
+	}
+	return nil
+}
+
+// comma is what a further argument begins with.
+func (r *rewriter) comma(e *ast.CallExpr) string {
+	if len(e.Args) == 0 {
+		return ""
+	}
+	last := e.Args[len(e.Args)-1].End()
+	if strings.Contains(string(r.src[last-r.start:e.Rparen-r.start]), ",") {
+		return ""
+	}
+	return ", "
+}
+
+func (r *rewriter) call(e *ast.CallExpr) {
+	if tv := r.info.Types[e.Fun]; tv.IsType() {
+		r.conversion(e, tv.Type)
+		return
+	} else if tv.IsBuiltin() {
+		r.builtin(e)
+		return
+	}
+	f := r.callee(e)
+	sel, _ := unparen(e.Fun).(*ast.SelectorExpr)
+	if f != nil && f.Pkg() != nil && sel != nil && r.libraryCall(e, sel, f) {
+		return
+	}
+	r.value(e.Fun)
+	r.arguments(e, f)
+}
+
+// arguments changes those of a call; channels that go to code without the recorder are lent.
+func (r *rewriter) arguments(e *ast.CallExpr, f *types.Func) {
+	foreign := f != nil && f.Pkg() != nil && !r.own[f.Pkg().Path()]
+	for i, a := range e.Args {
+		end, ok := r.behind[a]
+		if ok {
+			r.insert(a.Pos(), "gorec.Then(")
+		}
+		switch {
+		case foreign && r.isChan(a):
+			s := r.site(a, r.name(a))
+			r.wrap(a, "gorec.Lent(", func() { r.value(a) }, ", "+s+")")
+		case foreign:
+			r.foreignArgument(e, f, i)
+		default:
+			r.value(a)
+		}
+		r.insert(a.End(), end)
+	}
+}
+
+// conversion changes T(x); a string of bytes or runes reads them.
+func (r *rewriter) conversion(e *ast.CallExpr, t types.Type) {
+	a := e.Args[0]
+	if !isSlice(r.typeOf(a)) || !isString(t) || r.isConstant(a) {
+		r.values(e.Args)
+		return
+	}
+	s := r.site(e, r.name(a)+"_elem")
+	r.wrap(a, "gorec.Elements(", func() { r.value(a) }, ", "+s+")")
+}
+
+// libraryCall changes a call of a function of the standard library that the recorder knows.
+func (r *rewriter) libraryCall(e *ast.CallExpr, sel *ast.SelectorExpr, f *types.Func) bool {
+	full := f.FullName()
+	switch {
+	case f.Pkg().Path() == "sync/atomic" && !hasReceiver(f) && len(e.Args) > 0:
+		r.atomicFunction(sel, f, r.name(e.Args[0]))
+		r.values(e.Args)
+	case full == "time.AfterFunc" && len(e.Args) == 2:
+		r.value(e.Args[0])
+		r.wrapArgument(e.Args[1], "Later", r.site(e, ""))
+	case full == "context.WithCancel" || full == "context.WithTimeout" || full == "context.WithDeadline":
+		s := r.site(e, "done")
+		r.keepUse(sel)
+		r.replace(sel.Pos(), sel.End(), "gorec."+f.Name())
+		r.values(e.Args)
+		r.replace(e.Rparen, e.Rparen+1, r.comma(e)+s+")")
+	case timerCalls[full] != "":
+		s := r.site(e, "timer")
+		r.wrap(e, "gorec."+timerCalls[full]+"(", func() { r.values(e.Args) }, ", "+s+")")
+	case r.testingCall(e, sel, full):
+	case f.Pkg().Path() == "reflect" && (f.Name() == "Select" || f.Name() == "Send" || f.Name() == "Recv"):
+		r.refuse(e, full+" isn't recorded", "use a channel's own operations")
+		r.values(e.Args)
+	case full == "runtime/pprof.Do" || full == "runtime/pprof.SetGoroutineLabels":
+		r.refuse(e, full+": the recorder keeps goroutines by their labels", "leave the labels out of the run that is recorded")
+		r.values(e.Args)
+	case f.Pkg().Path() == "sync" && !hasReceiver(f) && f.Name() != "NewCond":
+		r.refuse(e, full+" isn't recorded, and what it orders would be told as races", "use a sync.Once")
+		r.values(e.Args)
+	default:
+		return r.tabledCall(e, sel, f)
+	}
+	return true
+}
+
+// timerCalls answer a timer or its channel.
+var timerCalls = map[string]string{
+	"time.After":     "TimerChannel",
+	"time.Tick":      "TimerChannel",
+	"time.NewTimer":  "NewTimer",
+	"time.NewTicker": "NewTicker",
+}
+
+// testingCall changes what package testing orders.
+func (r *rewriter) testingCall(e *ast.CallExpr, sel *ast.SelectorExpr, full string) bool {
+	switch full {
+	case "(*testing.T).Run":
+		s := r.site(e, "test")
+		r.wrap(e, "gorec.Ran(", func() {
+			r.value(sel.X)
+			r.value(e.Args[0])
+			r.wrapArgument(e.Args[1], "Subtest", s)
+		}, ", "+s+")")
+	case "(*testing.T).Parallel":
+		r.insert(e.Pos(), "gorec.Parallel(")
+		r.value(sel.X)
+		r.replace(e.Lparen, e.Rparen+1, ", "+r.site(e, "test")+")")
+	case "(*testing.common).Cleanup", "(testing.TB).Cleanup":
+		r.value(sel.X)
+		r.wrapArgument(e.Args[0], "Cleanup", r.site(e, "test"))
+	default:
+		return false
+	}
+	return true
+}
+
+// wrapArgument puts a call of the recorder round an argument.
+func (r *rewriter) wrapArgument(a ast.Expr, call, site string) {
+	r.wrap(a, "gorec."+call+"(", func() { r.value(a) }, ", "+site+")")
+}
+
+// keepUse keeps an import used.
+func (r *rewriter) keepUse(sel *ast.SelectorExpr) {
+	if id, ok := sel.X.(*ast.Ident); ok {
+		r.keep[id.Name+"."+sel.Sel.Name] = true
+	}
+}

@@ -1,0 +1,229 @@
+package rewrite
+
+import (
+	"go/ast"
+	"go/types"
+	"strings"
+)
+
+// tabledCall changes a call of a function whose accesses the recorder knows.
+func (r *rewriter) tabledCall(e *ast.CallExpr, sel *ast.SelectorExpr, f *types.Func) bool {
+	full := f.FullName()
+	switch {
+	case wholeCalls[full] != "":
+		r.wholeCall(e, sel, f, wholeCalls[full], r.lastName(e))
+	case readMethod(f) != "" && !r.own[f.Pkg().Path()]:
+		r.wholeCall(e, sel, f, readMethod(f), r.name(e.Args[0])+"_elem")
+	case replacedCalls[full] != "":
+		r.keepUse(sel)
+		r.replace(sel.Pos(), sel.End(), "gorec."+replacedCalls[full])
+		r.values(e.Args)
+		r.insert(e.Rparen, r.comma(e)+r.site(e, r.name(e.Args[0])+"_elem"))
+	case hasReceiver(f) && r.info.Selections[sel] != nil:
+		r.methodCall(e, sel, f)
+		r.arguments(e, f)
+	default:
+		return false
+	}
+	return true
+}
+
+// wholeCall puts a function of the recorder's round the one that is called.
+func (r *rewriter) wholeCall(e *ast.CallExpr, sel *ast.SelectorExpr, f *types.Func, call, name string) {
+	s := r.site(e, name)
+	r.insert(sel.Pos(), "gorec."+call+"(")
+	if hasReceiver(f) {
+		r.methodCall(e, sel, f)
+	}
+	r.insert(sel.End(), ", "+s+")")
+	r.arguments(e, f)
+}
+
+// lastName is what a call's last argument is called.
+func (r *rewriter) lastName(e *ast.CallExpr) string {
+	if len(e.Args) == 0 {
+		return ""
+	}
+	return r.name(e.Args[len(e.Args)-1])
+}
+
+// readMethod is what goes round f where it is Read or ReadAt of a Reader.
+func readMethod(f *types.Func) string {
+	sig := f.Type().(*types.Signature)
+	if sig.Recv() == nil || sig.Params().Len() == 0 || sig.Results().Len() != 2 ||
+		!types.Identical(sig.Params().At(0).Type(), types.NewSlice(types.Typ[types.Byte])) {
+		return ""
+	}
+	switch {
+	case f.Name() == "Read" && sig.Params().Len() == 1:
+		return "Into"
+	case f.Name() == "ReadAt" && sig.Params().Len() == 2:
+		return "IntoAt"
+	}
+	return ""
+}
+
+// methodCall changes the X of a call of X.M, where M may read or write what X holds.
+func (r *rewriter) methodCall(e *ast.CallExpr, sel *ast.SelectorExpr, f *types.Func) {
+	typ := receiverType(f)
+	path, _ := r.promotion(sel)
+	name := r.name(sel.X) + strings.ReplaceAll(path, ".", "_")
+	reads, isContent := contentTypes[typ]
+	writesMap, isMap := mapTypes[typ]
+	switch {
+	case r.postponed:
+		r.value(sel)
+		if isContent {
+			r.result.Missed = append(r.result.Missed, "deferred "+f.FullName())
+		}
+	case isContent:
+		r.contentCall(e, sel, f, hasWord(reads, f.Name()))
+	case path != "":
+		r.value(sel)
+	case outTypes[typ] && strings.HasPrefix(f.Name(), "Write"):
+		r.wrapReceiver(sel, "Out", r.site(e, name))
+	case isMap && hasWord(writesMap, f.Name()):
+		r.wrapReceiver(sel, "WriteMap", r.site(e, name))
+	case isMap:
+		r.wrapReceiver(sel, "ReadMap", r.site(e, name))
+	case typ == "reflect.Value":
+		r.reflectCall(e, sel, f)
+	case isInterface(r.typeOf(sel.X)) && hasWord(streamMethods, f.Name()):
+		r.wrapReceiver(sel, "Stream", r.site(e, name))
+	default:
+		r.value(sel)
+	}
+}
+
+func (r *rewriter) wrapReceiver(sel *ast.SelectorExpr, call, more string) {
+	r.wrap(sel.X, "gorec."+call+"(", func() { r.value(sel.X) }, ", "+more+")")
+}
+
+func (r *rewriter) reflectCall(e *ast.CallExpr, sel *ast.SelectorExpr, f *types.Func) {
+	call, change := "", "false, "
+	switch name := f.Name(); {
+	case hasWord(reflectReads, name):
+		call = "Reflected"
+	case hasWord(reflectWrites, name):
+		call, change = "Reflected", "true, "
+	case hasWord(reflectReadsMap, name):
+		call = "ReflectedMap"
+	case hasWord(reflectWritesMap, name):
+		call, change = "ReflectedMap", "true, "
+	}
+	if call == "" || isPointer(r.typeOf(sel.X)) {
+		r.value(sel)
+		return
+	}
+	r.wrapReceiver(sel, call, change+r.site(e, r.name(sel.X)))
+}
+
+// contentCall records what a call reads or writes of its object. That comes behind what the
+// arguments do: behind the last of them that is more than a value.
+func (r *rewriter) contentCall(e *ast.CallExpr, sel *ast.SelectorExpr, f *types.Func, reads bool) {
+	path, last := r.promotion(sel)
+	s := r.site(e, r.name(sel.X)+strings.ReplaceAll(path, ".", "_"))
+	call, change := "Writes", "true"
+	if reads {
+		call, change = "Reads", "false"
+	}
+	i := r.lastCalling(e.Args)
+	if i < 0 {
+		r.use(sel, call, s)
+		return
+	}
+	if !isSimple(sel.X) || r.tupleOf(e.Args) > 0 {
+		r.result.Loose++
+		r.use(sel, call, s)
+		return
+	}
+	object := r.source(sel.X) + path
+	if path == "" && !isPointer(r.typeOf(sel.X)) || path != "" && !isPointer(last) {
+		object = "&" + object
+	}
+	r.plainReceiver(sel, f)
+	r.behind[e.Args[i]] = ", " + object + ", " + change + ", " + s + ")"
+}
+
+// lastCalling is the last argument in which something is called, or -1.
+func (r *rewriter) lastCalling(args []ast.Expr) int {
+	for i := len(args) - 1; i >= 0; i-- {
+		if r.calls(args[i]) {
+			return i
+		}
+	}
+	return -1
+}
+
+// isSimple: to evaluate e twice does nothing more.
+func isSimple(e ast.Expr) bool {
+	switch e := unparen(e).(type) {
+	case *ast.Ident:
+		return true
+	case *ast.SelectorExpr:
+		return isSimple(e.X)
+	}
+	return false
+}
+
+// foreignArgument changes an argument of a call of code without the recorder, which may read
+// or write what it leads to.
+func (r *rewriter) foreignArgument(e *ast.CallExpr, f *types.Func, i int) {
+	a, full := e.Args[i], f.FullName()
+	t := r.typeOf(a)
+	spread := e.Ellipsis.IsValid() && i == len(e.Args)-1
+	call := ""
+	switch {
+	case r.isConstant(a) || !leads(t):
+	case r.postponed || r.calls(e.Args[i+1:]...):
+		if showFunctions[full] || encodeFunctions[full] || streamFunctions[full] {
+			r.result.Missed = append(r.result.Missed, full)
+		}
+	case streamFunctions[full] && i < 2 && !isSlice(t) && !spread:
+		call = "Stream"
+	case showFunctions[full] && spread, isSlice(t) && readsElements(f):
+		call = "Handed"
+	case showFunctions[full]:
+		call = "Shown"
+	case encodeFunctions[full]:
+		call = "Encoded"
+	case missingPackages[f.Pkg().Path()] && wholeCalls[full] == "" && receiverType(f) != "reflect.Value":
+		r.result.Missed = append(r.result.Missed, full)
+	}
+	if call == "" {
+		r.value(a)
+		return
+	}
+	r.wrapArgument(a, call, r.site(a, r.name(a)))
+}
+
+// leads: from a value of the type a function may come to memory.
+func leads(t types.Type) bool {
+	switch t := under(t).(type) {
+	case *types.Pointer, *types.Slice, *types.Map, *types.Interface:
+		return true
+	case *types.Array:
+		return leads(t.Elem())
+	case *types.Struct:
+		for i := 0; i < t.NumFields(); i++ {
+			if leads(t.Field(i).Type()) {
+				return true
+			}
+		}
+	}
+	return false
+}
+
+// readsElements: a function of the standard library reads the elements of slices.
+func readsElements(f *types.Func) bool {
+	top, _, _ := strings.Cut(f.Pkg().Path(), "/")
+	if !readingPackages[top] {
+		return false
+	}
+	for _, begin := range otherNames {
+		if strings.HasPrefix(f.Name(), begin) {
+			return false
+		}
+	}
+	return true
+}

@@ -1,0 +1,104 @@
+package rewrite
+
+import (
+	"go/ast"
+	"go/types"
+	"strings"
+)
+
+// name is what a location is called in a report.
+func (r *rewriter) name(e ast.Expr) string {
+	switch e := unparen(e).(type) {
+	case *ast.Ident:
+		return e.Name
+	case *ast.SelectorExpr:
+		if s := r.info.Selections[e]; s != nil {
+			if n, ok := pointee(s.Recv()).(*types.Named); ok {
+				return n.Obj().Name() + "_" + e.Sel.Name
+			}
+		}
+		return r.name(e.X) + "_" + e.Sel.Name
+	case *ast.IndexExpr:
+		return r.name(e.X) + "_elem"
+	case *ast.StarExpr:
+		return r.name(e.X) + "_at"
+	case *ast.UnaryExpr:
+		return r.name(e.X)
+	case *ast.CallExpr:
+		return r.name(e.Fun)
+	}
+	return "x"
+}
+
+// target is the name of the variable or field that a channel is made for, from its line.
+func (r *rewriter) target(e ast.Expr) string {
+	at := int(e.Pos() - r.start)
+	begin := at
+	for begin > 0 && r.src[begin-1] != '\n' {
+		begin--
+	}
+	line := strings.TrimSpace(strings.TrimRight(string(r.src[begin:at]), ":= "))
+	if j := strings.LastIndexAny(line, " \t,{(."); j >= 0 {
+		line = line[j+1:]
+	}
+	if line == "" || line == "return" {
+		return "c"
+	}
+	return line
+}
+
+// largestFields is the number of locations of a type whose fields have names in reports.
+const largestFields = 64
+
+var sizes = types.SizesFor("gc", "amd64") // as arm64's
+
+// fieldNames has the fields of a struct by their offsets, those of inner ones too.
+func fieldNames(t types.Type) map[uint64]string {
+	if _, ok := under(t).(*types.Struct); !ok || hasParameter(t) {
+		return nil
+	}
+	names := map[uint64]string{}
+	addFields(names, t, 0, "")
+	return names
+}
+
+func addFields(names map[uint64]string, t types.Type, offset int64, prefix string) {
+	s, ok := under(t).(*types.Struct)
+	if !ok || len(names) > largestFields {
+		if _, known := names[uint64(offset)]; !known {
+			names[uint64(offset)] = strings.TrimPrefix(prefix, "_")
+		}
+		return
+	}
+	var fields []*types.Var
+	for i := 0; i < s.NumFields(); i++ {
+		fields = append(fields, s.Field(i))
+	}
+	for i, at := range sizes.Offsetsof(fields) {
+		addFields(names, fields[i].Type(), offset+at, prefix+"_"+fields[i].Name())
+	}
+}
+
+// hasParameter: the size of t may depend on a type parameter.
+func hasParameter(t types.Type) bool {
+	switch t := t.(type) {
+	case *types.TypeParam:
+		return true
+	case *types.Named:
+		for i := 0; i < t.TypeArgs().Len(); i++ {
+			if hasParameter(t.TypeArgs().At(i)) {
+				return true
+			}
+		}
+		return hasParameter(t.Underlying())
+	case *types.Struct:
+		for i := 0; i < t.NumFields(); i++ {
+			if hasParameter(t.Field(i).Type()) {
+				return true
+			}
+		}
+	case *types.Array:
+		return hasParameter(t.Elem())
+	}
+	return false
+}

@@ -1,0 +1,231 @@
+package rewrite
+
+import (
+	"go/ast"
+	"go/token"
+	"go/types"
+)
+
+// loop is a range statement that is changed: to a loop over an index, in which each step
+// reads what it visits.
+type loop struct {
+	*rewriter
+	s          *ast.RangeStmt
+	define     bool
+	key, value string // the names of the loop's variables, where it has them
+	// shared variables are those of the whole loop, as before Go 1.22, and recorded
+	sharedKey, sharedValue bool
+}
+
+func (r *rewriter) rangeStatement(s *ast.RangeStmt) {
+	l := &loop{rewriter: r, s: s, define: s.Tok == token.DEFINE}
+	l.key, l.sharedKey = l.variable(s.Key)
+	l.value, l.sharedValue = l.variable(s.Value)
+	switch t := under(r.typeOf(s.X)).(type) {
+	case *types.Slice:
+		l.overSlice()
+	case *types.Chan:
+		l.overChannel()
+	case *types.Map:
+		if r.isLoose(s.X) {
+			l.overLooseMap()
+		} else {
+			l.overMap()
+		}
+	default:
+		switch {
+		case !l.sharedKey && !l.sharedValue:
+			l.plain()
+		case isString(t):
+			l.overString()
+		case isArray(pointee(t)) && r.labeled != s:
+			l.overArray()
+		default:
+			l.refuse(s, "a captured variable of a labeled range over "+t.String(), "copy it in the loop: x := x")
+			l.plain()
+		}
+	}
+}
+
+// variable is a loop's variable: a name, or any left side where the loop assigns.
+func (l *loop) variable(e ast.Expr) (name string, shared bool) {
+	if e == nil || identifier(e) == "_" {
+		return "", false
+	}
+	if !l.define {
+		return "=", false
+	}
+	return identifier(e), l.isRecorded(e) && !l.facts.perIteration
+}
+
+// plain is a loop over an array, a string or a number, or over a slice's indexes.
+func (l *loop) plain() {
+	if isArray(l.typeOf(l.s.X)) && l.value == "" {
+		l.address(l.s.X)
+	} else {
+		l.rewriter.value(l.s.X)
+	}
+	text := ""
+	if !l.define {
+		text = l.afresh()
+	}
+	l.body(text)
+}
+
+// overArray loops over a slice of a copy of the array.
+func (l *loop) overArray() {
+	array := l.newName("x")
+	text := l.render(l.s.X, func() { l.rewriter.value(l.s.X) })
+	l.insert(l.s.For, "{"+array+" := "+text+"; ")
+	l.replace(l.s.For+3, l.s.X.End(), "")
+	l.indexed("gorec.RangeKey("+array+"[:]", "", "")
+	l.insert(l.s.End(), "}")
+}
+
+func (l *loop) overString() {
+	text := l.render(l.s.X, func() { l.rewriter.value(l.s.X) })
+	l.replace(l.s.For+3, l.s.X.End(), "")
+	l.indexed("gorec.RangeString("+text, ".Index", ".Rune")
+}
+
+// indexed is the head and the body of a loop over what a call begins with: elements, or
+// records with a key and a value.
+func (l *loop) indexed(begin, key, value string) {
+	a, i := l.newName("a"), l.newName("i")
+	l.insert(l.s.X.End(), " "+a+", "+i+", "+blankUnless(l.sharedKey, l.key)+", "+blankUnless(l.sharedValue, l.value)+
+		" := "+begin+"); "+i+" < len("+a+"); "+i+"++")
+	element := a + "[" + i + "]"
+	from := i
+	if key != "" {
+		from = element + key
+	}
+	l.body(l.give(l.s.Key, l.key, l.sharedKey, from) + l.give(l.s.Value, l.value, l.sharedValue, element+value) + " ")
+}
+
+// afresh makes the loop's left sides new variables where they are recorded, and answers
+// what assigns those to the left sides.
+func (l *loop) afresh() string {
+	text := ""
+	recorded := false
+	for _, e := range []ast.Expr{l.s.Key, l.s.Value} {
+		if e != nil && identifier(e) != "_" && (l.isRecorded(e) || l.mapElement(e) != nil) {
+			recorded = true
+		}
+	}
+	if !recorded {
+		return ""
+	}
+	for _, e := range []ast.Expr{l.s.Key, l.s.Value} {
+		if e == nil || identifier(e) == "_" {
+			continue
+		}
+		v := l.newName("v")
+		text += l.set(e, v)
+		l.replace(e.Pos(), e.End(), v)
+	}
+	l.replace(l.s.TokPos, l.s.TokPos+1, ":=")
+	return text
+}
+
+// body puts text before the body, which has a scope of its own inside of the variables'.
+func (l *loop) body(text string) {
+	if text == "" {
+		l.block(l.s.Body)
+		return
+	}
+	l.insert(l.s.Body.Lbrace+1, text+" {")
+	l.block(l.s.Body)
+	l.insert(l.s.Body.Rbrace, "}")
+}
+
+// give sets one of the loop's variables at the begin of the body.
+func (l *loop) give(e ast.Expr, name string, shared bool, from string) string {
+	switch {
+	case name == "":
+		return ""
+	case !l.define:
+		return l.set(e, from)
+	case shared:
+		return " gorec.To(&" + name + ", " + l.locationSite(e, e) + ").Set(" + from + ");"
+	}
+	return " " + name + " := " + from + "; _ = " + name + ";"
+}
+
+// head replaces what stands between for and the range's operand.
+func (l *loop) head(text string) {
+	l.replace(l.s.For+3, l.s.X.Pos(), " "+text)
+	l.rewriter.value(l.s.X)
+}
+
+func (l *loop) overSlice() {
+	if l.value == "" && (l.key == "" || l.define && !l.sharedKey) {
+		l.plain()
+		return
+	}
+	a, i := l.newName("a"), l.newName("i")
+	head := a + ", " + i + ", _ := gorec.Range("
+	switch {
+	case l.sharedKey && l.sharedValue:
+		head = a + ", " + i + ", " + l.key + ", " + l.value + " := gorec.RangeKey("
+	case l.sharedKey:
+		head = a + ", " + i + ", " + l.key + ", _ := gorec.RangeKey("
+	case l.sharedValue:
+		head = a + ", " + i + ", " + l.value + " := gorec.Range("
+	}
+	l.head(head)
+	l.insert(l.s.X.End(), "); "+i+" < len("+a+"); "+i+"++")
+	text := l.give(l.s.Key, l.key, l.sharedKey, i)
+	if l.value != "" {
+		site := l.siteOfElement()
+		text += l.give(l.s.Value, l.value, l.sharedValue, "gorec.Read(&"+a+"["+i+"], "+site+")")
+	}
+	l.body(text + " ")
+}
+
+func (l *loop) siteOfElement() string { return l.site(l.s.X, l.name(l.s.X)+"_elem") }
+
+func (l *loop) overChannel() {
+	c := l.newName("c")
+	head, end := c+" := ", ""
+	if l.sharedKey {
+		head, end = c+", "+l.key+" := gorec.RangeChannel(", ")"
+	}
+	l.head(head)
+	l.insert(l.s.X.End(), end+"; ; ")
+	v, ok := l.newName("v"), l.newName("ok")
+	l.body(" " + v + ", " + ok + " := gorec.ReceiveOK(" + c + ", " + l.site(l.s, "") + "); if !" + ok +
+		" { break }; _ = " + v + ";" + l.give(l.s.Key, l.key, l.sharedKey, v))
+}
+
+func (l *loop) overMap() {
+	it, i := l.newName("m"), l.newName("i")
+	head, method := it+", "+i, ".Iterate(), 0; "
+	if l.sharedKey || l.sharedValue {
+		head, method = head+", "+blankUnless(l.sharedKey, l.key)+", "+blankUnless(l.sharedValue, l.value), ".IterateVariables(); "
+	}
+	site := l.site(l.s.X, l.name(l.s.X))
+	l.head(head + " := gorec.Map(")
+	l.insert(l.s.X.End(), ", "+site+")"+method+i+" < "+it+".Len(); "+i+"++")
+	k, v, ok := l.newName("k"), l.newName("v"), l.newName("ok")
+	l.body(" " + k + ", " + v + ", " + ok + " := " + it + ".Next(" + i + "); if !" + ok + " { continue }; _, _ = " +
+		k + ", " + v + ";" + l.give(l.s.Key, l.key, l.sharedKey, k) + l.give(l.s.Value, l.value, l.sharedValue, v))
+}
+
+func blankUnless(shared bool, name string) string {
+	if shared {
+		return name
+	}
+	return "_"
+}
+
+func (l *loop) overLooseMap() {
+	if l.sharedKey || l.sharedValue {
+		l.refuse(l.s, "a captured variable of a range over a map with keys of an interface type", "copy it in the loop: x := x")
+	}
+	l.looseMap("ReadMap", l.s.X)
+	text := ""
+	if !l.define {
+		text = l.afresh()
+	}
+	l.body(text)
+}

@@ -1,0 +1,176 @@
+// Package rewrite puts calls of the recorder into a program's source. Calls are put round
+// expressions at their offsets in the text, so lines, comments and directives stay where
+// they are; each source text appears once, so nothing is evaluated twice.
+package rewrite
+
+import (
+	"fmt"
+	"go/ast"
+	"go/token"
+	"go/types"
+	"sort"
+	"strings"
+
+	"gorace.local/recorder/internal/load"
+	"gorace.local/recorder/internal/sites"
+)
+
+// Result is a package with the recorder's calls.
+type Result struct {
+	Files   []string // in the order of the package's files
+	Sites   string   // one more file: the package's sites, and the function main
+	Refused []string // what can't be recorded, each with its place
+	Missed  []string // calls whose accesses aren't recorded
+	Loose   int      // calls made behind the record of what they stand in
+}
+
+// rewriter is the work on one file.
+type rewriter struct {
+	editor
+	*shared
+	file      *ast.File
+	generic   int                 // depth of generic functions
+	fresh     int                 // for names
+	keep      map[string]bool     // package functions that still have to be used
+	within    ast.Node            // the function
+	behind    map[ast.Expr]string // what stands behind an argument
+	labeled   ast.Stmt            // the last statement with a label
+	postponed bool                // a call is changed that is made later
+}
+
+// shared is the work on a package.
+type shared struct {
+	p        *load.Package
+	info     *types.Info
+	facts    *facts
+	own      map[string]bool // paths of the packages that are recorded
+	table    *sites.Table    // of all packages
+	local    []string        // the package's own array of sites
+	mainSite string
+	result   Result
+}
+
+// Package rewrites a package; own has the paths of the packages that are rewritten.
+func Package(p *load.Package, own map[string]bool, table *sites.Table) Result {
+	s := &shared{p: p, info: p.Info, facts: factsOf(p), own: own, table: table}
+	for i, f := range p.Files {
+		r := &rewriter{shared: s, file: f, keep: map[string]bool{}, behind: map[ast.Expr]string{}}
+		r.src = p.Sources[i]
+		r.start = p.Fset.File(f.Pos()).Pos(0)
+		s.result.Files = append(s.result.Files, r.rewriteFile())
+	}
+	s.result.Sites = s.sitesFile()
+	return s.result
+}
+
+func (s *shared) sitesFile() string {
+	text := "package " + s.p.Name + "\n\nimport \"gorace.local/recorder/gorec\"\n\nvar gorec_s = [...]gorec.Site{" +
+		strings.Join(s.local, ", ") + "}\n"
+	if s.mainSite != "" {
+		text += "\nfunc main() { gorec.Main(" + s.mainSite + ", gorec_main) }\n"
+	}
+	return text
+}
+
+func (r *rewriter) rewriteFile() string {
+	end := r.p.Fset.File(r.file.Pos()).Pos(len(r.src))
+	r.insert(r.file.Name.End(), "; import \"gorace.local/recorder/gorec\"")
+	for _, d := range r.file.Decls {
+		switch d := d.(type) {
+		case *ast.GenDecl:
+			if d.Tok == token.VAR {
+				r.variables(d)
+			}
+		case *ast.FuncDecl:
+			r.function(d)
+		}
+	}
+	r.insert(end, "\nvar _ gorec.Site\n")
+	var keep []string
+	for k := range r.keep {
+		keep = append(keep, k)
+	}
+	sort.Strings(keep)
+	for _, k := range keep {
+		r.insert(end, "\nvar _ = "+k+"\n")
+	}
+	return r.text(r.start, end, r.edits)
+}
+
+func (r *rewriter) function(d *ast.FuncDecl) {
+	if isGeneric(d) {
+		r.generic++
+		defer func() { r.generic-- }()
+	}
+	if r.isTest(d) {
+		r.insert(d.Body.Lbrace+1, "defer gorec.Test("+r.site(d, "test")+")();")
+	}
+	if r.p.Name == "main" && d.Recv == nil && d.Name.Name == "main" {
+		r.replace(d.Name.Pos(), d.Name.End(), "gorec_main")
+		r.mainSite = r.site(d, "")
+	}
+	r.within = d
+	r.block(d.Body)
+}
+
+func isGeneric(d *ast.FuncDecl) bool {
+	if d.Type.TypeParams != nil {
+		return true
+	}
+	if d.Recv == nil || len(d.Recv.List) == 0 {
+		return false
+	}
+	t := d.Recv.List[0].Type
+	if s, ok := t.(*ast.StarExpr); ok {
+		t = s.X
+	}
+	switch t.(type) {
+	case *ast.IndexExpr, *ast.IndexListExpr:
+		return true
+	}
+	return false
+}
+
+func (r *rewriter) isTest(d *ast.FuncDecl) bool {
+	params := d.Type.Params.List
+	return d.Recv == nil && d.Body != nil && strings.HasPrefix(d.Name.Name, "Test") && len(params) == 1 &&
+		r.typeOf(params[0].Type).String() == "*testing.T"
+}
+
+// place is a line of the source, relative to the module.
+func (r *rewriter) place(pos token.Pos) string {
+	p := r.p.Fset.Position(pos)
+	return fmt.Sprintf("%s:%d", strings.TrimPrefix(strings.TrimPrefix(p.Filename, r.p.Root()), "/"), p.Line)
+}
+
+// site is the text of a new site's address.
+func (r *rewriter) site(n ast.Node, name string) string {
+	return r.siteOf(n, sites.Site{Name: name})
+}
+
+// locationSite is one where a location is read or written.
+func (r *rewriter) locationSite(n ast.Node, e ast.Expr) string {
+	return r.siteOf(n, sites.Site{Name: r.name(e), Fields: fieldNames(r.typeOf(e))})
+}
+
+func (r *rewriter) siteOf(n ast.Node, s sites.Site) string {
+	s.Place = r.place(n.Pos())
+	id := r.table.Add(s)
+	if r.generic > 0 {
+		r.local = append(r.local, fmt.Sprintf("gorec.Generic(%d)", id))
+	} else {
+		r.local = append(r.local, fmt.Sprintf("{ID: %d}", id))
+	}
+	return fmt.Sprintf("&gorec_s[%d]", len(r.local)-1)
+}
+
+// refuse tells what can't be recorded at a place, and what to do.
+func (r *rewriter) refuse(n ast.Node, what, instead string) {
+	r.result.Refused = append(r.result.Refused, r.place(n.Pos())+": "+what+"; "+instead)
+}
+
+// newName is a name that the program doesn't have.
+func (r *rewriter) newName(s string) string {
+	r.fresh++
+	return fmt.Sprintf("gorec_%s%d", s, r.fresh)
+}

@@ -1,0 +1,205 @@
+package rewrite
+
+import (
+	"go/ast"
+	"go/token"
+)
+
+func (r *rewriter) block(b *ast.BlockStmt) {
+	if b != nil {
+		r.statements(b.List)
+	}
+}
+
+func (r *rewriter) statements(l []ast.Stmt) {
+	for _, s := range l {
+		r.statement(s, true)
+	}
+}
+
+// statement changes a statement; inBlock says that it stands in a list of statements.
+func (r *rewriter) statement(s ast.Stmt, inBlock bool) {
+	switch s := s.(type) {
+	case nil:
+	case *ast.ExprStmt:
+		r.value(s.X)
+	case *ast.SendStmt:
+		r.sendStatement(s)
+	case *ast.IncDecStmt:
+		r.increment(s)
+	case *ast.AssignStmt:
+		r.assign(s, inBlock)
+	case *ast.GoStmt:
+		r.goStatement(s)
+	case *ast.DeferStmt:
+		r.postpone(func() { r.call(s.Call) })
+	case *ast.ReturnStmt:
+		r.returnStatement(s)
+	case *ast.BlockStmt:
+		r.block(s)
+	case *ast.LabeledStmt:
+		r.labeled = s.Stmt
+		r.statement(s.Stmt, true)
+	case *ast.DeclStmt:
+		if g, ok := s.Decl.(*ast.GenDecl); ok && g.Tok == token.VAR {
+			r.variables(g)
+		}
+	case *ast.SelectStmt:
+		r.selectStatement(s)
+	case *ast.RangeStmt:
+		r.rangeStatement(s)
+	default:
+		r.branching(s)
+	}
+}
+
+// branching changes if, for and switch.
+func (r *rewriter) branching(s ast.Stmt) {
+	switch s := s.(type) {
+	case *ast.IfStmt:
+		r.statement(s.Init, false)
+		r.value(s.Cond)
+		r.block(s.Body)
+		r.statement(s.Else, true)
+	case *ast.ForStmt:
+		r.statement(s.Init, false)
+		r.value(s.Cond)
+		r.statement(s.Post, false)
+		r.block(s.Body)
+	case *ast.SwitchStmt:
+		r.statement(s.Init, false)
+		r.value(s.Tag)
+		for _, c := range s.Body.List {
+			r.values(c.(*ast.CaseClause).List)
+			r.statements(c.(*ast.CaseClause).Body)
+		}
+	case *ast.TypeSwitchStmt:
+		r.statement(s.Init, false)
+		switch a := s.Assign.(type) {
+		case *ast.ExprStmt:
+			r.value(a.X)
+		case *ast.AssignStmt:
+			r.value(a.Rhs[0])
+		}
+		for _, c := range s.Body.List {
+			r.statements(c.(*ast.CaseClause).Body)
+		}
+	}
+}
+
+// variables changes what a declaration's variables begin with. That they are set comes
+// before anything captures them.
+func (r *rewriter) variables(g *ast.GenDecl) {
+	for _, spec := range g.Specs {
+		v := spec.(*ast.ValueSpec)
+		if len(v.Names) == 2 && len(v.Values) == 1 {
+			r.okValue(v.Values[0])
+		} else {
+			r.values(v.Values)
+		}
+	}
+}
+
+// returnStatement writes the named results that more than one goroutine may come to, and
+// reads them.
+func (r *rewriter) returnStatement(s *ast.ReturnStmt) {
+	r.values(s.Results)
+	results := r.facts.results[r.within]
+	if len(results) != 1 || !r.facts.shared(results[0]) || results[0].Name() == "_" {
+		return
+	}
+	name := results[0].Name()
+	at := r.site(s, name)
+	if len(s.Results) == 0 {
+		r.insert(s.End(), " gorec.Read(&"+name+", "+at+")")
+		return
+	}
+	r.replace(s.Pos(), s.Results[0].Pos(), "{ gorec.To(&"+name+", "+at+").Set(")
+	r.insert(s.End(), "); return gorec.Read(&"+name+", "+at+") }")
+}
+
+// goStatement evaluates the function and the arguments, and starts the goroutine with them.
+func (r *rewriter) goStatement(s *ast.GoStmt) {
+	c := s.Call
+	site := r.site(s, "")
+	if f, ok := unparen(c.Fun).(*ast.FuncLit); ok && len(c.Args) == 0 && f.Type.Results == nil {
+		r.replace(s.Go, c.Fun.Pos(), "gorec.Go("+site+", ")
+		r.value(c.Fun)
+		r.replace(c.Fun.End(), c.End(), ")")
+		return
+	}
+	before, call := r.startedFunction(c)
+	first, args := r.startedArguments(c)
+	if c.Ellipsis.IsValid() {
+		args += "..."
+	}
+	if r.info.Types[c.Fun].IsBuiltin() {
+		call, args = r.startedBuiltin(s, call, args)
+	}
+	r.replace(s.Pos(), s.End(), "{"+before+first+"gorec.Go("+site+", func() { "+call+"("+args+") })}")
+}
+
+// startedFunction is the function of a go statement, evaluated where it has to be.
+func (r *rewriter) startedFunction(c *ast.CallExpr) (before, call string) {
+	f := r.callee(c)
+	isFunction := f != nil && !hasReceiver(f) && !ofSync(f)
+	if isFunction || r.info.Types[c.Fun].IsBuiltin() {
+		return "", r.source(c.Fun)
+	}
+	call = r.newName("f")
+	return call + " := " + r.render(c.Fun, func() { r.value(c.Fun) }) + "; ", call
+}
+
+// startedArguments is the evaluation of the arguments, and what stands for them.
+func (r *rewriter) startedArguments(c *ast.CallExpr) (before, args string) {
+	if n := r.tupleOf(c.Args); n > 0 {
+		for i := 0; i < n; i++ {
+			args += commaBefore(args) + r.newName("a")
+		}
+		return args + " := " + r.render(c.Args[0], func() { r.value(c.Args[0]) }) + "; ", args
+	}
+	f := r.callee(c)
+	for i, a := range c.Args {
+		text := r.render(a, func() { r.value(a) })
+		if r.isConstant(a) {
+			args += commaBefore(args) + text
+			continue
+		}
+		if f != nil && f.Pkg() != nil && !r.own[f.Pkg().Path()] {
+			one := &ast.CallExpr{Fun: c.Fun, Args: c.Args[i : i+1]}
+			text = r.render(a, func() { r.postpone(func() { r.arguments(one, f) }) })
+		}
+		name := r.newName("a")
+		before += name + " := " + text + "; "
+		args += commaBefore(args) + name
+	}
+	return before, args
+}
+
+func commaBefore(args string) string {
+	if args == "" {
+		return ""
+	}
+	return ", "
+}
+
+// startedBuiltin is a builtin function that a goroutine is started with.
+func (r *rewriter) startedBuiltin(s *ast.GoStmt, call, args string) (string, string) {
+	switch call {
+	case "close":
+		return "gorec.Close", args + ", " + r.site(s, "")
+	case "panic", "print", "println", "recover":
+	default:
+		r.refuse(s, "go "+call, "start a function literal that does it")
+	}
+	return call, args
+}
+
+// postpone changes a call that is made later than it is evaluated. What it reads and writes
+// by itself isn't recorded, since that would be here.
+func (r *rewriter) postpone(change func()) {
+	outer := r.postponed
+	r.postponed = true
+	change()
+	r.postponed = outer
+}

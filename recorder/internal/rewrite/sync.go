@@ -1,0 +1,124 @@
+package rewrite
+
+import (
+	"go/ast"
+	"go/types"
+	"strings"
+)
+
+// syncTypes are the types whose methods the recorder has, by their packages and names.
+var syncTypes = map[string]struct{ use, methods string }{
+	"sync.Mutex":          {"Mutex", "Lock Unlock TryLock"},
+	"sync.RWMutex":        {"RWMutex", "Lock Unlock TryLock RLock RUnlock TryRLock RLocker"},
+	"sync.Locker":         {"Locker", "Lock Unlock"},
+	"sync.Once":           {"Once", "Do"},
+	"sync.WaitGroup":      {"WaitGroup", "Add Done Wait"},
+	"sync.Cond":           {"Cond", "Wait Signal Broadcast"},
+	"sync.Pool":           {"Pool", "Get Put"},
+	"sync.Map":            {"SyncMap", "Load Store LoadOrStore LoadAndDelete Delete Range"},
+	"sync/atomic.Int32":   {"AtomicInt32", "Load Store Add Swap CompareAndSwap"},
+	"sync/atomic.Int64":   {"AtomicInt64", "Load Store Add Swap CompareAndSwap"},
+	"sync/atomic.Uint32":  {"AtomicUint32", "Load Store Add Swap CompareAndSwap"},
+	"sync/atomic.Uint64":  {"AtomicUint64", "Load Store Add Swap CompareAndSwap"},
+	"sync/atomic.Uintptr": {"AtomicUintptr", "Load Store Add Swap CompareAndSwap"},
+	"sync/atomic.Bool":    {"AtomicBool", "Load Store Swap CompareAndSwap"},
+	"sync/atomic.Value":   {"AtomicValue", "Load Store Swap CompareAndSwap"},
+	"sync/atomic.Pointer": {"AtomicPointer", "Load Store Swap CompareAndSwap"},
+}
+
+// receiverType is the package and name of the type that declares a method.
+func receiverType(m *types.Func) string {
+	recv := m.Type().(*types.Signature).Recv()
+	if recv == nil {
+		return ""
+	}
+	n, ok := pointee(recv.Type()).(*types.Named)
+	if !ok || n.Obj().Pkg() == nil {
+		return ""
+	}
+	return n.Obj().Pkg().Path() + "." + n.Obj().Name()
+}
+
+func hasWord(words, word string) bool {
+	for _, w := range strings.Fields(words) {
+		if w == word {
+			return true
+		}
+	}
+	return false
+}
+
+// syncMethod changes the X of X.M where M is of package sync, sync/atomic or context.
+func (r *rewriter) syncMethod(e *ast.SelectorExpr, m *types.Func) bool {
+	name := receiverType(m)
+	known, ok := syncTypes[name]
+	switch {
+	case ok && hasWord(known.methods, m.Name()):
+		path, _ := r.promotion(e)
+		r.use(e, known.use, r.site(e, r.name(e.X)+strings.ReplaceAll(path, ".", "_")))
+	case ofSync(m):
+		r.refuse(e, m.FullName()+" isn't recorded, and what it orders would be told as races",
+			"use a method of the README's table")
+		r.plainReceiver(e, m)
+	case isLockerMethod(m):
+		r.use(e, "Locker", r.site(e, r.name(e.X)))
+	case m.FullName() == "(context.Context).Err" && isInterface(r.typeOf(e.X)):
+		r.use(e, "Context", r.site(e, r.name(e.X)))
+	default:
+		return false
+	}
+	return true
+}
+
+// isLockerMethod: m is Lock or Unlock of an interface that has both.
+func isLockerMethod(m *types.Func) bool {
+	recv := m.Type().(*types.Signature).Recv()
+	if recv == nil || m.Name() != "Lock" && m.Name() != "Unlock" {
+		return false
+	}
+	if _, ok := recv.Type().(*types.TypeParam); ok {
+		return false
+	}
+	iface, ok := under(recv.Type()).(*types.Interface)
+	if !ok {
+		return false
+	}
+	found := 0
+	for i := 0; i < iface.NumMethods(); i++ {
+		f := iface.Method(i)
+		sig := f.Type().(*types.Signature)
+		if (f.Name() == "Lock" || f.Name() == "Unlock") && sig.Params().Len() == 0 && sig.Results().Len() == 0 {
+			found++
+		}
+	}
+	return found == 2
+}
+
+// atomicKinds are the functions of package atomic by the begins of their names.
+var atomicKinds = []struct{ begin, call string }{
+	{"Load", "AtomicLoad"},
+	{"Store", "AtomicStore"},
+	{"Add", "AtomicChange"},
+	{"Swap", "AtomicChange"},
+	{"CompareAndSwap", "AtomicCompareAndSwap"},
+}
+
+// functionValue changes a function of another package that isn't called.
+func (r *rewriter) functionValue(e *ast.SelectorExpr, f *types.Func) {
+	if f.Pkg() != nil && f.Pkg().Path() == "sync/atomic" {
+		r.atomicFunction(e, f, "")
+	}
+}
+
+// atomicFunction puts a function of the recorder round one of package atomic; name is what
+// the location is called.
+func (r *rewriter) atomicFunction(e *ast.SelectorExpr, f *types.Func, name string) {
+	for _, k := range atomicKinds {
+		if strings.HasPrefix(f.Name(), k.begin) {
+			s := r.site(e, name)
+			r.wrap(e, "gorec."+k.call+"(", func() {}, ", "+s+")")
+			return
+		}
+	}
+	r.refuse(e, f.FullName()+" isn't recorded", "use a function of the README's table")
+}

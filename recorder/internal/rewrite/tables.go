@@ -1,0 +1,116 @@
+package rewrite
+
+import "strings"
+
+// contentTypes are the types of the standard library of which the recorder follows what an
+// object holds, with the methods that only read it; the others write it.
+var contentTypes = map[string]string{
+	"bytes.Buffer":          "Bytes String Len Cap Available",
+	"bytes.Reader":          "Len Size ReadAt",
+	"strings.Builder":       "String Len Cap",
+	"strings.Reader":        "Len Size ReadAt",
+	"bufio.Reader":          "Size Buffered",
+	"bufio.Writer":          "Size Buffered Available",
+	"bufio.Scanner":         "Text Bytes Err",
+	"container/list.List":   "Len Front Back",
+	"container/ring.Ring":   "Len Next Prev Move Do",
+	"encoding/csv.Reader":   "FieldPos InputOffset",
+	"encoding/csv.Writer":   "Error",
+	"encoding/json.Decoder": "InputOffset",
+	"encoding/json.Encoder": "",
+	"encoding/xml.Decoder":  "InputOffset InputPos",
+	"encoding/xml.Encoder":  "",
+	"math/rand.Rand":        "",
+	"text/tabwriter.Writer": "",
+}
+
+// mapTypes are maps with methods of their own, and the methods that change them.
+var mapTypes = map[string]string{
+	"net/http.Header":          "Set Add Del",
+	"net/textproto.MIMEHeader": "Set Add Del",
+	"net/url.Values":           "Set Add Del",
+}
+
+// Methods of a reflect.Value, by what they do with the location that it has.
+const (
+	reflectReads     = "Bool Bytes Complex Float Int Interface IsNil Len Pointer String Uint"
+	reflectWrites    = "Set SetBool SetBytes SetCap SetComplex SetFloat SetInt SetLen SetPointer SetString SetUint"
+	reflectReadsMap  = "Len MapIndex MapKeys MapRange"
+	reflectWritesMap = "SetMapIndex"
+)
+
+// streamMethods are methods of Readers and Writers of any type.
+const streamMethods = "Write WriteString WriteByte WriteRune Read ReadByte ReadRune ReadString ReadBytes ReadFrom WriteTo"
+
+// outTypes are those of files and connections, by which goroutines may meet.
+var outTypes = words(`os.File net.Conn net.TCPConn net.UDPConn net.UnixConn io.PipeWriter`)
+
+// streamFunctions use the Readers and Writers that they are handed.
+var streamFunctions = words(`fmt.Fprint fmt.Fprintf fmt.Fprintln fmt.Fscan fmt.Fscanf fmt.Fscanln io.Copy io.CopyN
+	io.CopyBuffer io.ReadAll io.ReadAtLeast io.ReadFull io.WriteString io/ioutil.ReadAll encoding/binary.Read
+	encoding/binary.Write encoding/json.Compact encoding/json.HTMLEscape encoding/json.Indent
+	(*text/template.Template).Execute (*text/template.Template).ExecuteTemplate
+	(*html/template.Template).Execute (*html/template.Template).ExecuteTemplate`)
+
+// showFunctions print what their last arguments hold.
+var showFunctions = words(`fmt.Print fmt.Printf fmt.Println fmt.Sprint fmt.Sprintf fmt.Sprintln fmt.Fprint fmt.Fprintf
+	fmt.Fprintln fmt.Errorf log.Print log.Printf log.Println log.Fatal log.Fatalf log.Fatalln log.Panic log.Panicf
+	log.Panicln (*log.Logger).Print (*log.Logger).Printf (*log.Logger).Println (*log.Logger).Fatal
+	(*log.Logger).Fatalf (*testing.common).Log (*testing.common).Logf (*testing.common).Error
+	(*testing.common).Errorf (*testing.common).Fatal (*testing.common).Fatalf`)
+
+// encodeFunctions read all that their arguments lead to, as do the methods Encode.
+var encodeFunctions = words(`encoding/json.Marshal encoding/json.MarshalIndent encoding/xml.Marshal reflect.DeepEqual
+	(*encoding/json.Encoder).Encode (*encoding/xml.Encoder).Encode (*encoding/gob.Encoder).Encode`)
+
+// wholeCalls are functions that a function of the recorder's goes round.
+var wholeCalls = map[string]string{
+	"encoding/json.Unmarshal":           "Fills2",
+	"encoding/xml.Unmarshal":            "Fills2",
+	"(*encoding/json.Decoder).Decode":   "Fills",
+	"(*encoding/xml.Decoder).Decode":    "Fills",
+	"(*encoding/gob.Decoder).Decode":    "Fills",
+	"io.ReadFull":                       "Into2",
+	"io.ReadAll":                        "Ask1",
+	"io/ioutil.ReadAll":                 "Ask1",
+	"net/http.Get":                      "Ask1",
+	"net/http.Head":                     "Ask1",
+	"net/http.Post":                     "Ask3",
+	"net/http.PostForm":                 "Ask2",
+	"(*net/http.Client).Do":             "Ask1",
+	"(*net/http.Client).Get":            "Ask1",
+	"(*net/http.Client).Head":           "Ask1",
+	"(*net/http.Client).Post":           "Ask3",
+	"(*net/http.Client).PostForm":       "Ask2",
+	"(*net/http.Server).Shutdown":       "AskError",
+	"(*net/http/httptest.Server).Close": "Ask",
+	"sort.Float64s":                     "Sorts",
+	"sort.Ints":                         "Sorts",
+	"sort.Strings":                      "Sorts",
+}
+
+// replacedCalls are functions that one of the recorder's takes the place of.
+var replacedCalls = map[string]string{
+	"reflect.Copy":     "ReflectCopy",
+	"sort.Slice":       "SortSlice",
+	"sort.SliceStable": "SortSliceStable",
+}
+
+// missingPackages have functions that read or write what they are handed by reflection, or
+// by means that the recorder doesn't know.
+var missingPackages = words(`encoding/asn1 encoding/binary encoding/gob encoding/json encoding/xml database/sql flag
+	html/template text/template`)
+
+// readingPackages have functions that read the elements of slices that they are handed, but
+// for those whose names begin with one of otherNames.
+var readingPackages = words(`bufio bytes crypto encoding hash io net os path regexp strconv strings unicode`)
+
+var otherNames = strings.Fields("Append Buffer Decode Encode Fill New Next Put Read Shuffle Sort Sum XOR")
+
+func words(text string) map[string]bool {
+	m := map[string]bool{}
+	for _, w := range strings.Fields(text) {
+		m[w] = true
+	}
+	return m
+}

@@ -1,0 +1,216 @@
+package trace
+
+import (
+	"fmt"
+	"strings"
+
+	"gorace.local/recorder/internal/sites"
+	"gorace.local/recorder/wire"
+)
+
+// The limits of a trace (docs/FORMATS.md).
+const (
+	maxGoroutines = 1024
+	maxKind       = 65535
+	maxEvents     = 1 << 24
+	longestName   = 48 // so that a number fits behind it
+)
+
+// names gives each thing a name of its own.
+type names map[string]int
+
+func (n names) take(s string) string {
+	s = nameWord(s)
+	n[s]++
+	count := n[s]
+	if count == 1 {
+		return s
+	}
+	for ; ; count++ {
+		t := fmt.Sprintf("%s_%d", s, count)
+		if n[t] == 0 {
+			n[t] = 1
+			n[s] = count
+			return t
+		}
+	}
+}
+
+// nameWord is a name without what a name of a trace can't have.
+func nameWord(s string) string {
+	b := []byte(s)
+	for i, c := range b {
+		if c != '_' && (c < '0' || c > '9') && (c < 'a' || c > 'z') && (c < 'A' || c > 'Z') {
+			b[i] = '_'
+		}
+	}
+	s = string(b)
+	if s == "" || s == "nil" || s == "main" {
+		s += "_"
+	}
+	if len(s) > longestName {
+		s = s[:longestName]
+	}
+	return s
+}
+
+// declarer writes the declarations, up to where a limit is exceeded.
+type declarer struct {
+	*lender
+	table    sites.Table
+	names    names
+	text     strings.Builder
+	channels map[uint32]string // for the go of those that have another's name
+	counts   map[wire.Op]int
+	end      int // the record at which the trace is cut off
+	cut      string
+}
+
+func declare(l *lender, table sites.Table) *declarer {
+	d := &declarer{
+		lender:   l,
+		table:    table,
+		names:    names{"main": 1},
+		channels: map[uint32]string{},
+		counts:   map[wire.Op]int{},
+		end:      len(l.records),
+	}
+	for g := uint32(1); g <= l.started; g++ {
+		d.names[d.goroutine(g)] = 1
+	}
+	for i := range l.records {
+		if d.end < i {
+			break
+		}
+		d.record(i)
+	}
+	return d
+}
+
+func (l *lender) goroutine(g uint32) string {
+	if g == 0 {
+		return "main"
+	}
+	return fmt.Sprintf("g%d", l.numbers[g])
+}
+
+func (d *declarer) cutAt(i int, why string) {
+	if i < d.end {
+		d.end, d.cut = i, why
+	}
+}
+
+// room counts one more of a kind.
+func (d *declarer) room(i int, op wire.Op, what string) bool {
+	if d.counts[op] == maxKind {
+		d.cutAt(i, "more than 65,535 "+what)
+		return false
+	}
+	d.counts[op]++
+	return true
+}
+
+func (d *declarer) record(i int) {
+	r := &d.records[i]
+	switch r.Op {
+	case wire.Go:
+		d.declareGoroutine(i, r)
+	case wire.DeclareVar, wire.DeclareChan, wire.DeclareLock, wire.DeclareOnce, wire.Release:
+		if d.keep(r.Object) {
+			d.object(i, r)
+		}
+	case wire.AtomicRead, wire.AtomicWrite:
+		o := &d.objects[r.Object]
+		if i < d.begin || !o.mixed() || o.atomics[r.Goroutine] != "" || !d.room(i, wire.DeclareVar, "variables") {
+			return
+		}
+		name := d.names.take(d.variableName(o) + "_atomic_" + d.goroutine(r.Goroutine))
+		o.atomics[r.Goroutine] = name
+		fmt.Fprintf(&d.text, "var %s\n", name)
+	}
+}
+
+func (d *declarer) declareGoroutine(i int, r *wire.Record) {
+	switch {
+	case !d.alive[r.Other]:
+	case i >= d.lender.end:
+		d.cutAt(i, "more than 1,024 goroutines at once, or that nothing joins")
+	case d.lent[r.Other]:
+		if d.room(i, wire.DeclareChan, "channels") {
+			name := d.names.take("go")
+			d.channels[r.Other] = name
+			fmt.Fprintf(&d.text, "chan %s 0\n", name)
+		}
+	default:
+		d.counts[wire.Go]++
+		fmt.Fprintf(&d.text, "goroutine %s\n", d.goroutine(r.Other))
+	}
+}
+
+// object declares what is used by several.
+func (d *declarer) object(i int, r *wire.Record) {
+	o := &d.objects[r.Object]
+	switch o.op {
+	case wire.DeclareVar:
+		if d.room(i, o.op, "variables") {
+			d.line(o, "var", d.variableName(o), "")
+		}
+	case wire.DeclareChan:
+		if o.value > maxKind {
+			o.value = maxKind // the same as long as not more is sent
+		}
+		if d.room(i, o.op, "channels") {
+			d.line(o, "chan", d.table[o.site].Name, fmt.Sprintf(" %d", o.value))
+		}
+	case wire.DeclareLock:
+		if d.room(i, o.op, "locks") {
+			d.line(o, [...]string{"mutex", "rwmutex"}[o.kind], d.table[o.site].Name, "")
+		}
+	case wire.DeclareOnce:
+		if d.room(i, o.op, "onces") {
+			d.line(o, "once", d.table[o.site].Name, "")
+		}
+	case wire.Release:
+		d.order(i, o)
+	}
+}
+
+func (d *declarer) line(o *object, word, name, more string) {
+	o.name = d.names.take(name)
+	fmt.Fprintf(&d.text, "%s %s%s\n", word, o.name, more)
+}
+
+// order declares what stands for an order: a channel, a once or a lock, as long as there are.
+func (d *declarer) order(i int, o *object) {
+	name := d.table[o.site].Name + "_order"
+	switch {
+	case d.counts[wire.DeclareChan] < maxKind:
+		o.word = wire.DeclareChan
+		d.line(o, "chan", name, " 0")
+	case d.counts[wire.DeclareOnce] < maxKind:
+		o.word = wire.DeclareOnce
+		d.line(o, "once", name, "")
+	case d.counts[wire.DeclareLock] < maxKind:
+		o.word = wire.DeclareLock
+		d.line(o, "rwmutex", name, "")
+	default:
+		d.cutAt(i, "more atomic writes, Dones and the like than channels, onces and locks")
+		return
+	}
+	d.counts[o.word]++
+}
+
+// variableName is the name at a variable's first site, and that of its field.
+func (d *declarer) variableName(o *object) string {
+	site := d.table[o.site]
+	if o.kind != wire.VarMemory {
+		return site.Name
+	}
+	if field := site.Fields[o.value]; field != "" {
+		return site.Name + "_" + field
+	}
+	if o.value != 0 {
+		return fmt.Sprintf("%s_at%d", site.Name, o.value)
+	}
+	return site.Name
+}

@@ -1,0 +1,220 @@
+package trace
+
+import (
+	"bufio"
+	"io"
+	"strconv"
+	"strings"
+
+	"gorace.local/recorder/wire"
+)
+
+// words are those of the events that have a record each.
+var words = map[wire.Op]string{
+	wire.Read: "read", wire.Write: "write", wire.AtomicRead: "read", wire.AtomicWrite: "write",
+	wire.Send: "send", wire.Receive: "recv", wire.Meet: "meet", wire.ReceiveClosed: "recvclosed", wire.Close: "close",
+	wire.Lock: "lock", wire.Unlock: "unlock", wire.ReadLock: "rlock", wire.ReadUnlock: "runlock",
+	wire.OnceBegin: "oncebegin", wire.OnceEnd: "onceend", wire.OnceDone: "oncedone",
+}
+
+// releases and acquires are what stands for an order, by the declaration that it has.
+var (
+	releases = map[wire.Op][]string{
+		wire.DeclareChan: {"close"}, wire.DeclareOnce: {"oncebegin", "onceend"}, wire.DeclareLock: {"lock", "unlock"},
+	}
+	acquires = map[wire.Op][]string{
+		wire.DeclareChan: {"recvclosed"}, wire.DeclareOnce: {"oncedone"}, wire.DeclareLock: {"rlock", "runlock"},
+	}
+	faults = map[wire.Op]string{
+		wire.FaultSend: "send:", wire.FaultClose: "close:", wire.FaultUnlock: "unlock:", wire.FaultReadUnlock: "runlock:",
+	}
+)
+
+// printer writes the events.
+type printer struct {
+	*declarer
+	out        *bufio.Writer
+	goroutines []string
+	starts     map[string][]Start
+	events     int
+	fault      string // the last record, unless something follows it
+	line       []byte
+}
+
+// print writes the trace: header, declarations, events.
+func (d *declarer) print(out io.Writer) (*printer, error) {
+	p := &printer{
+		declarer:   d,
+		out:        bufio.NewWriterSize(out, 1<<20),
+		goroutines: make([]string, d.started+1),
+		starts:     map[string][]Start{},
+	}
+	for g := range p.goroutines {
+		p.goroutines[g] = d.goroutine(uint32(g))
+	}
+	p.out.WriteString("gotrace 1\n")
+	p.out.WriteString(d.text.String())
+	for i := 0; i < d.end; i++ {
+		p.print(i)
+		if p.events >= maxEvents {
+			d.cutAt(i+1, "more than 16,777,216 events")
+			break
+		}
+	}
+	if p.fault != "" && d.end == len(d.records) {
+		p.out.WriteString(p.fault)
+		p.events++
+	}
+	return p, p.out.Flush()
+}
+
+// print writes the events of a record.
+func (p *printer) print(i int) {
+	r := &p.records[i]
+	switch r.Op {
+	case wire.Go:
+		p.start(r)
+	case wire.Exit:
+		// where names are lent, who exits may go on under another's go
+		if p.alive[r.Goroutine] && !p.isLending() {
+			p.event("exit", r, "")
+		}
+	case wire.Default:
+		p.takeDefault(i, r)
+	case wire.Release, wire.Acquire:
+		if p.keep(r.Object) {
+			p.order(r)
+		}
+	case wire.FaultSend, wire.FaultClose, wire.FaultUnlock, wire.FaultReadUnlock:
+		if p.keep(r.Object) {
+			p.fault = "fault " + p.goroutines[r.Goroutine] + " " + faults[r.Op] + p.objectName(r.Object) + " " +
+				p.table[r.Site].Place + "\n"
+		}
+	case wire.Read, wire.Write, wire.AtomicRead, wire.AtomicWrite:
+		if p.kept(i) {
+			p.access(r)
+		}
+	default:
+		if p.kept(i) {
+			p.event(words[r.Op], r, p.objects[r.Object].name)
+		}
+	}
+}
+
+func (p *printer) isLending() bool { return p.living() > maxGoroutines }
+
+// access writes an access. Where atomic operations come to the location too, each goroutine
+// that does them has a variable of its own, which they read or write; a plain access does so
+// with all of them. So two atomic operations don't race, and one with a plain access does.
+func (p *printer) access(r *wire.Record) {
+	o := &p.objects[r.Object]
+	if r.Op == wire.AtomicRead || r.Op == wire.AtomicWrite {
+		p.valued(words[r.Op], r, o.atomics[r.Goroutine], 0)
+		return
+	}
+	if o.several && o.written || p.all {
+		p.valued(words[r.Op], r, o.name, r.Value^o.base)
+	}
+	if o.mixed() {
+		for g, name := range o.atomics {
+			if g != r.Goroutine && name != "" {
+				p.valued(words[r.Op], r, name, 0)
+			}
+		}
+	}
+}
+
+// start writes a go; of a goroutine with another's name, that its go comes before it.
+func (p *printer) start(r *wire.Record) {
+	if !p.alive[r.Other] {
+		return
+	}
+	name := p.goroutines[r.Other]
+	if c := p.channels[r.Other]; c != "" {
+		p.event("close", r, c)
+		p.event("recvclosed", &wire.Record{Op: wire.ReceiveClosed, Goroutine: r.Other, Site: r.Site}, c)
+	} else {
+		p.event("go", r, name)
+	}
+	s := Start{By: p.goroutines[r.Goroutine], Place: p.table[r.Site].Place, Event: p.events}
+	if r.Kind == wire.GoForeign {
+		s.Place = "a place that isn't recorded"
+	}
+	p.starts[name] = append(p.starts[name], s)
+}
+
+func (p *printer) objectName(id uint32) string {
+	if id == 0 {
+		return "nil"
+	}
+	return p.objects[id].name
+}
+
+// takeDefault writes the cases on channels that are kept.
+func (p *printer) takeDefault(i int, r *wire.Record) {
+	var cases []string
+	for k := 1; k <= int(r.Count); k++ {
+		c := &p.records[i+k]
+		if c.Count == 1 || !p.keep(c.Object) {
+			continue
+		}
+		direction := "recv:"
+		if c.Kind == 1 {
+			direction = "send:"
+		}
+		cases = append(cases, direction+p.objectName(c.Object))
+	}
+	if p.alive[r.Goroutine] && len(cases) > 0 {
+		p.event("default", r, strings.Join(cases, ","))
+	}
+}
+
+func (p *printer) order(r *wire.Record) {
+	o := &p.objects[r.Object]
+	ops := acquires[o.word]
+	if r.Op == wire.Release {
+		ops = releases[o.word]
+	}
+	for _, op := range ops {
+		p.event(op, r, o.name)
+	}
+}
+
+// event writes an event: a word, its goroutines, what else, and its places.
+func (p *printer) event(word string, r *wire.Record, what string) {
+	p.startLine(word, r)
+	if what != "" {
+		p.line = append(append(p.line, ' '), what...)
+	}
+	switch r.Op {
+	case wire.Send, wire.Receive, wire.Meet:
+		p.line = strconv.AppendUint(append(p.line, ' '), r.Value, 10)
+	}
+	p.finish(r)
+}
+
+// valued writes a read or a write.
+func (p *printer) valued(word string, r *wire.Record, name string, value uint64) {
+	p.startLine(word, r)
+	p.line = append(append(p.line, ' '), name...)
+	p.line = strconv.AppendUint(append(p.line, ' '), value, 10)
+	p.finish(r)
+}
+
+func (p *printer) startLine(word string, r *wire.Record) {
+	p.fault = "" // something follows: it was recovered from
+	p.events++
+	p.line = append(p.line[:0], word...)
+	p.line = append(append(p.line, ' '), p.goroutines[r.Goroutine]...)
+	if r.Op == wire.Meet {
+		p.line = append(append(p.line, ' '), p.goroutines[r.Other]...)
+	}
+}
+
+func (p *printer) finish(r *wire.Record) {
+	p.line = append(append(p.line, ' '), p.table[r.Site].Place...)
+	if r.Op == wire.Meet {
+		p.line = append(append(p.line, ' '), p.table[r.OtherSite].Place...)
+	}
+	p.out.Write(append(p.line, '\n'))
+}

@@ -1,0 +1,174 @@
+package trace
+
+import "gorace.local/recorder/wire"
+
+// A trace has at most 1,024 names of goroutines. A goroutine that has ended lends its name
+// to one that is started later where all that the first did happens before the go of the
+// second: that it then stands before the second in one goroutine adds nothing. For this the
+// edges are followed here once more, by vector clocks; a mistake in them would add order.
+
+type clock []uint32
+
+func (c clock) join(d clock) clock {
+	for len(c) < len(d) {
+		c = append(c, 0)
+	}
+	for i, n := range d {
+		if n > c[i] {
+			c[i] = n
+		}
+	}
+	return c
+}
+
+func (c clock) copy() clock { return append(clock(nil), c...) }
+
+// pairing is what is known of a channel, a lock, a once or an order.
+type pairing struct {
+	sends, receives map[uint64]clock // of a channel, by number
+	all, last       clock            // unlocks; a close, a once's end, a release
+	readers         clock
+}
+
+// lender gives each goroutine a name's number.
+type lender struct {
+	*survey
+	numbers []int  // of the goroutines
+	lent    []bool // the goroutine's number had been another's
+	clocks  []clock
+	counts  []uint32 // events of a number
+	free    []int    // numbers of which the goroutine has ended
+	pairs   map[uint32]*pairing
+	end     int // the record at which no number was left
+}
+
+// lend numbers the goroutines that are alive.
+func lend(s *survey) *lender {
+	l := &lender{
+		survey:  s,
+		numbers: make([]int, s.started+1),
+		lent:    make([]bool, s.started+1),
+		clocks:  make([]clock, s.started+1),
+		counts:  []uint32{0},
+		pairs:   map[uint32]*pairing{},
+		end:     len(s.records),
+	}
+	for g := range l.numbers {
+		l.numbers[g] = g
+	}
+	if s.living() <= maxGoroutines {
+		return l
+	}
+	for i := range s.records {
+		r := &s.records[i]
+		switch {
+		case r.Op == wire.Go:
+			if !l.start(r) {
+				l.end = i
+				return l
+			}
+		case r.Op == wire.Exit:
+			if s.alive[r.Goroutine] && r.Goroutine != 0 {
+				l.free = append(l.free, l.numbers[r.Goroutine])
+				l.clocks[r.Goroutine] = nil
+			}
+		case s.kept(i):
+			l.follow(r)
+		}
+	}
+	return l
+}
+
+// start numbers a goroutine; false is that no number is left.
+func (l *lender) start(r *wire.Record) bool {
+	if !l.alive[r.Other] {
+		return true
+	}
+	c := l.tick(r.Goroutine)
+	number := -1
+	for j, n := range l.free {
+		if n < len(c) && c[n] >= l.counts[n] {
+			number = n
+			l.free = append(l.free[:j], l.free[j+1:]...)
+			l.lent[r.Other] = true
+			break
+		}
+	}
+	if number < 0 {
+		if len(l.counts) == maxGoroutines {
+			return false
+		}
+		number = len(l.counts)
+		l.counts = append(l.counts, 0)
+	}
+	l.numbers[r.Other] = number
+	l.clocks[r.Other] = c.copy()
+	return true
+}
+
+func (l *lender) tick(g uint32) clock {
+	n := l.numbers[g]
+	l.counts[n]++
+	for len(l.clocks[g]) <= n {
+		l.clocks[g] = append(l.clocks[g], 0)
+	}
+	l.clocks[g][n] = l.counts[n]
+	return l.clocks[g]
+}
+
+func (l *lender) join(g uint32, c clock) { l.clocks[g] = l.clocks[g].join(c) }
+
+func (l *lender) pairing(id uint32) *pairing {
+	p := l.pairs[id]
+	if p == nil {
+		p = &pairing{sends: map[uint64]clock{}, receives: map[uint64]clock{}}
+		l.pairs[id] = p
+	}
+	return p
+}
+
+// follow adds the edges of an event.
+func (l *lender) follow(r *wire.Record) {
+	c := l.tick(r.Goroutine)
+	switch r.Op {
+	case wire.Send, wire.Receive:
+		l.followBuffer(r, c)
+	case wire.Meet:
+		d := l.tick(r.Other)
+		sender := c.copy()
+		l.join(r.Goroutine, d)
+		l.join(r.Other, sender)
+	case wire.Close, wire.OnceEnd, wire.Release:
+		l.pairing(r.Object).last = c.copy()
+	case wire.ReceiveClosed, wire.OnceDone, wire.Acquire, wire.ReadLock:
+		l.join(r.Goroutine, l.pairing(r.Object).last)
+	case wire.Lock:
+		p := l.pairing(r.Object)
+		l.join(r.Goroutine, p.all)
+		l.join(r.Goroutine, p.readers)
+		p.readers = nil
+	case wire.Unlock:
+		p := l.pairing(r.Object)
+		p.last = c.copy()
+		p.all = p.all.join(c)
+	case wire.ReadUnlock:
+		p := l.pairing(r.Object)
+		p.readers = p.readers.join(c)
+	}
+}
+
+// followBuffer: from send number k to receive number k, and from that to send k + capacity.
+func (l *lender) followBuffer(r *wire.Record, c clock) {
+	p := l.pairing(r.Object)
+	if r.Op == wire.Receive {
+		p.receives[r.Value] = c.copy()
+		l.join(r.Goroutine, p.sends[r.Value])
+		delete(p.sends, r.Value)
+		return
+	}
+	p.sends[r.Value] = c.copy()
+	if capacity := l.objects[r.Object].value; r.Value > capacity {
+		l.join(r.Goroutine, p.receives[r.Value-capacity])
+		delete(p.receives, r.Value-capacity)
+	}
+}

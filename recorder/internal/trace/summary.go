@@ -1,0 +1,130 @@
+package trace
+
+import (
+	"fmt"
+	"io"
+	"sort"
+	"strings"
+
+	"gorace.local/recorder/internal/sites"
+	"gorace.local/recorder/wire"
+)
+
+// Start is where a goroutine was started, before the event that is counted from 1.
+type Start struct {
+	By, Place string
+	Event     int
+}
+
+// Count is how many there are in a trace, and how many were met.
+type Count struct{ Kept, Met int }
+
+// Summary is what is known of a trace beside it.
+type Summary struct {
+	Records, Events                        int
+	Goroutines, Variables, Channels, Locks Count
+	Starts                                 map[string][]Start // by the goroutine's name
+	Cut                                    string             // why the trace is cut off, and where
+	unseen                                 map[string]int     // places and names of reads that found unrecorded writes
+	losses                                 [wire.Losses]map[string]int
+}
+
+// Write writes the trace of a log. What one goroutine alone does with a variable, a channel,
+// a lock or a once is left out, unless all is wanted.
+func Write(records []wire.Record, table sites.Table, all bool, out io.Writer) (*Summary, error) {
+	d := declare(lend(newSurvey(records, all)), table)
+	p, err := d.print(out)
+	if err != nil {
+		return nil, err
+	}
+	s := &Summary{Records: len(records), Events: p.events, Starts: p.starts, unseen: map[string]int{}}
+	s.count(d)
+	for i := range s.losses {
+		s.losses[i] = map[string]int{}
+	}
+	for i := range records {
+		s.look(&records[i], d)
+	}
+	if d.cut != "" {
+		s.Cut = d.cut
+		if d.end < len(records) {
+			s.Cut += fmt.Sprintf(", at %s", table[records[d.end].Site].Place)
+		}
+	}
+	return s, nil
+}
+
+func (s *Summary) count(d *declarer) {
+	s.Goroutines = Count{d.counts[wire.Go] + 1, int(d.started) + 1}
+	s.Variables.Kept = d.counts[wire.DeclareVar]
+	s.Channels.Kept = d.counts[wire.DeclareChan]
+	s.Locks.Kept = d.counts[wire.DeclareLock]
+	for i := range d.objects {
+		switch d.objects[i].op {
+		case wire.DeclareVar:
+			s.Variables.Met++
+		case wire.DeclareChan, wire.Release:
+			s.Channels.Met++
+		case wire.DeclareLock:
+			s.Locks.Met++
+		}
+	}
+}
+
+func (s *Summary) look(r *wire.Record, d *declarer) {
+	switch r.Op {
+	case wire.Unseen:
+		s.unseen[d.table[r.Site].Place+" ("+d.variableName(&d.objects[r.Object])+")"]++
+	case wire.Lost:
+		s.losses[r.Kind][d.table[r.Site].Place]++
+	case wire.Full:
+		d.cut = "the log has no room for more records"
+	}
+}
+
+// Counts is one line about the trace.
+func (s *Summary) Counts() string {
+	return fmt.Sprintf("%d events of %d records; goroutines %d of %d, variables %d of %d, channels %d of %d, locks %d of %d",
+		s.Events, s.Records, s.Goroutines.Kept, s.Goroutines.Met, s.Variables.Kept, s.Variables.Met,
+		s.Channels.Kept, s.Channels.Met, s.Locks.Kept, s.Locks.Met)
+}
+
+// Losses is one line about what the trace hasn't, or is empty.
+func (s *Summary) Losses() string {
+	var parts []string
+	for _, l := range []struct {
+		counts map[string]int
+		what   string
+	}{
+		{s.unseen, "reads found writes by code that isn't recorded, whose races aren't told"},
+		{s.losses[wire.LostGoroutine], "goroutines were started by code that isn't recorded, so races with them may be missed"},
+		{s.losses[wire.LostChannel], "channels are used by code that isn't recorded, so races may be told that they order"},
+		{s.losses[wire.LostLocker], "lockers are of types that aren't recorded, so races may be told that they order"},
+	} {
+		if n := total(l.counts); n > 0 {
+			parts = append(parts, fmt.Sprintf("%d %s (%s)", n, l.what, first(l.counts)))
+		}
+	}
+	return strings.Join(parts, "; ")
+}
+
+func total(counts map[string]int) int {
+	n := 0
+	for _, c := range counts {
+		n += c
+	}
+	return n
+}
+
+// first names up to three of the places.
+func first(counts map[string]int) string {
+	var places []string
+	for p := range counts {
+		places = append(places, p)
+	}
+	sort.Strings(places)
+	if len(places) > 3 {
+		places = append(places[:3], "..")
+	}
+	return strings.Join(places, ", ")
+}

@@ -1,0 +1,186 @@
+package trace
+
+import "gorace.local/recorder/wire"
+
+// object is what is known of a variable, a channel, a lock, a once or an order.
+type object struct {
+	op    wire.Op // its declaration, or Release
+	kind  uint8
+	site  uint32
+	value uint64
+
+	user    int64 // the first goroutine that uses it, -1 for none
+	several bool  // more than one does
+	written bool
+	base    uint64 // the value that a variable has when the first goroutine is started
+
+	atomics       map[uint32]string // the goroutines with atomic operations on it: their variables
+	atomicWritten bool
+
+	name string
+	word wire.Op // for an order: the declaration of what stands for it
+}
+
+// survey is what is known of a log before it is written.
+type survey struct {
+	records []wire.Record
+	all     bool // nothing is left out
+	objects []object
+	started uint32 // the number of goroutines beside main
+	begin   int    // the first go: what stands before happens before all that others do
+	alive   []bool // goroutines that do something that is kept, or start one that does
+}
+
+func newSurvey(records []wire.Record, all bool) *survey {
+	s := &survey{records: records, all: all, objects: []object{{user: -1}}}
+	for !all && s.begin < len(records) && records[s.begin].Op != wire.Go {
+		s.begin++
+	}
+	for i := range records {
+		s.look(i)
+	}
+	s.findAlive()
+	return s
+}
+
+func (s *survey) object(id uint32) *object {
+	for int(id) >= len(s.objects) {
+		s.objects = append(s.objects, object{user: -1})
+	}
+	return &s.objects[id]
+}
+
+// use notes that a goroutine uses an object.
+func (s *survey) use(id, goroutine uint32) *object {
+	o := s.object(id)
+	if o.user < 0 {
+		o.user = int64(goroutine)
+	} else if o.user != int64(goroutine) {
+		o.several = true
+	}
+	return o
+}
+
+// isAccess: a read or a write, which is left out before the first go.
+func isAccess(op wire.Op) bool {
+	return op == wire.Read || op == wire.Write || op == wire.AtomicRead || op == wire.AtomicWrite
+}
+
+func (s *survey) look(i int) {
+	r := &s.records[i]
+	if i < s.begin && isAccess(r.Op) {
+		s.object(r.Object).base = r.Value
+		return
+	}
+	switch r.Op {
+	case wire.DeclareVar, wire.DeclareChan, wire.DeclareLock, wire.DeclareOnce:
+		o := s.object(r.Object)
+		o.op, o.kind, o.site, o.value = r.Op, r.Kind, r.Site, r.Value
+	case wire.Go:
+		if r.Other > s.started {
+			s.started = r.Other
+		}
+	case wire.Write:
+		s.use(r.Object, r.Goroutine).written = true
+	case wire.AtomicRead, wire.AtomicWrite:
+		o := s.object(r.Object)
+		if o.atomics == nil {
+			o.atomics = map[uint32]string{}
+		}
+		o.atomics[r.Goroutine] = ""
+		o.atomicWritten = o.atomicWritten || r.Op == wire.AtomicWrite
+	case wire.Release:
+		o := s.use(r.Object, r.Goroutine)
+		o.op, o.site = wire.Release, r.Site
+	case wire.Meet:
+		s.use(r.Object, r.Goroutine)
+		s.use(r.Object, r.Other)
+	case wire.Default:
+		for k := 1; k <= int(r.Count); k++ {
+			if id := s.records[i+k].Object; id != 0 {
+				s.use(id, r.Goroutine)
+			}
+		}
+	case wire.Exit, wire.Case, wire.Unseen, wire.Lost, wire.Full:
+	default:
+		s.use(r.Object, r.Goroutine)
+	}
+}
+
+// mixed: atomic operations of one goroutine and plain accesses of another come to a
+// variable, and one of them writes.
+func (o *object) mixed() bool {
+	if len(o.atomics) == 0 || o.user < 0 || !o.written && !o.atomicWritten {
+		return false
+	}
+	_, only := o.atomics[uint32(o.user)]
+	return o.several || len(o.atomics) > 1 || !only
+}
+
+// keep: what one goroutine alone does, and what is only read, is left out.
+func (s *survey) keep(id uint32) bool {
+	if id == 0 {
+		return true
+	}
+	o := &s.objects[id]
+	switch {
+	case o.op == wire.None:
+		return false
+	case s.all:
+		return true
+	case o.op == wire.DeclareVar:
+		return o.several && o.written || o.mixed()
+	}
+	return o.several
+}
+
+// kept: the record i becomes an event that orders, reads or writes.
+func (s *survey) kept(i int) bool {
+	r := &s.records[i]
+	switch r.Op {
+	case wire.Read, wire.Write:
+		return i >= s.begin && s.keep(r.Object)
+	case wire.AtomicRead, wire.AtomicWrite:
+		return i >= s.begin && s.objects[r.Object].mixed()
+	case wire.Send, wire.Receive, wire.Meet, wire.ReceiveClosed, wire.Close, wire.Lock, wire.Unlock, wire.ReadLock,
+		wire.ReadUnlock, wire.OnceBegin, wire.OnceEnd, wire.OnceDone, wire.Release, wire.Acquire:
+		return s.keep(r.Object)
+	}
+	return false
+}
+
+func (s *survey) findAlive() {
+	s.alive = make([]bool, s.started+1)
+	s.alive[0] = true
+	for i := len(s.records) - 1; i >= 0; i-- {
+		r := &s.records[i]
+		switch {
+		case r.Op == wire.Go:
+			if s.all || s.alive[r.Other] {
+				s.alive[r.Other], s.alive[r.Goroutine] = true, true
+			}
+		case r.Op == wire.Meet && s.kept(i):
+			s.alive[r.Goroutine], s.alive[r.Other] = true, true
+		case s.kept(i) || s.isFault(r) || s.all && r.Op == wire.Exit:
+			s.alive[r.Goroutine] = true
+		}
+	}
+}
+
+func (s *survey) isFault(r *wire.Record) bool {
+	switch r.Op {
+	case wire.FaultSend, wire.FaultClose, wire.FaultUnlock, wire.FaultReadUnlock:
+		return s.keep(r.Object)
+	}
+	return false
+}
+
+func (s *survey) living() int {
+	n := 0
+	for _, a := range s.alive {
+		if a {
+			n++
+		}
+	}
+	return n
+}

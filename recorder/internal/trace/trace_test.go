@@ -1,0 +1,139 @@
+package trace
+
+import (
+	"fmt"
+	"strings"
+	"testing"
+
+	"gorace.local/recorder/internal/sites"
+	"gorace.local/recorder/wire"
+)
+
+var table = sites.Table{{Place: "-"}, {Place: "a.go:1", Name: "x"}, {Place: "a.go:2", Name: "x"}, {Place: "a.go:3", Name: "mu"}}
+
+func written(t *testing.T, records []wire.Record) (string, *Summary) {
+	t.Helper()
+	var b strings.Builder
+	s, err := Write(records, table, false, &b)
+	if err != nil {
+		t.Fatal(err)
+	}
+	return b.String(), s
+}
+
+func TestWhatOneGoroutineUsesIsLeftOut(t *testing.T) {
+	text, _ := written(t, []wire.Record{
+		{Op: wire.DeclareVar, Object: 1, Site: 1},
+		{Op: wire.Write, Object: 1, Site: 1, Value: 5}, // before the first go
+		{Op: wire.Go, Other: 1, Site: 1},
+		{Op: wire.DeclareVar, Object: 2, Site: 2},
+		{Op: wire.Write, Object: 2, Goroutine: 1, Site: 2, Value: 3}, // by one alone
+		{Op: wire.Read, Object: 1, Goroutine: 1, Site: 2, Value: 5},
+		{Op: wire.Write, Object: 1, Site: 1, Value: 4},
+		{Op: wire.Exit, Goroutine: 1, Site: 1},
+	})
+	want := `gotrace 1
+var x
+goroutine g1
+go main g1 a.go:1
+read g1 x 0 a.go:2
+write main x 1 a.go:1
+exit g1 a.go:1
+`
+	if text != want {
+		t.Errorf("got\n%s", text)
+	}
+}
+
+func TestAtomicsBesidePlainAccesses(t *testing.T) {
+	text, _ := written(t, []wire.Record{
+		{Op: wire.Go, Other: 1, Site: 1},
+		{Op: wire.DeclareVar, Object: 1, Site: 1},
+		{Op: wire.AtomicWrite, Object: 1, Goroutine: 1, Site: 1},
+		{Op: wire.Read, Object: 1, Site: 2},
+	})
+	want := `gotrace 1
+goroutine g1
+var x
+var x_atomic_g1
+go main g1 a.go:1
+write g1 x_atomic_g1 0 a.go:1
+read main x_atomic_g1 0 a.go:2
+`
+	if text != want {
+		t.Errorf("got\n%s", text)
+	}
+}
+
+// joined are goroutines that each lock, and are waited for before the next one starts.
+func joined(n uint32) []wire.Record {
+	records := []wire.Record{{Op: wire.DeclareLock, Object: 1, Site: 3}, {Op: wire.Lock, Object: 1, Site: 3}, {Op: wire.Unlock, Object: 1, Site: 3}}
+	for g := uint32(1); g <= n; g++ {
+		records = append(records,
+			wire.Record{Op: wire.Go, Other: g, Site: 1},
+			wire.Record{Op: wire.Lock, Object: 1, Goroutine: g, Site: 3},
+			wire.Record{Op: wire.Unlock, Object: 1, Goroutine: g, Site: 3},
+			wire.Record{Op: wire.Release, Object: 1 + g, Goroutine: g, Site: 1},
+			wire.Record{Op: wire.Exit, Goroutine: g, Site: 1},
+			wire.Record{Op: wire.Acquire, Object: 1 + g, Site: 1})
+	}
+	return records
+}
+
+func TestNamesAreLentOn(t *testing.T) {
+	text, s := written(t, joined(2000))
+	if s.Cut != "" || s.Goroutines.Kept != 2 || s.Goroutines.Met != 2001 {
+		t.Errorf("%+v, cut off: %s", s.Goroutines, s.Cut)
+	}
+	if got := strings.Count(text, "\ngoroutine "); got != 1 {
+		t.Errorf("%d goroutines are declared", got)
+	}
+	if got := len(s.Starts["g1"]); got != 2000 {
+		t.Errorf("%d starts of g1", got)
+	}
+}
+
+func TestTooManyGoroutinesAreCutOff(t *testing.T) {
+	var records []wire.Record
+	for _, r := range joined(1100) {
+		if r.Op != wire.Acquire { // nothing joins them
+			records = append(records, r)
+		}
+	}
+	_, s := written(t, records)
+	if !strings.HasPrefix(s.Cut, "more than 1,024 goroutines") || !strings.HasSuffix(s.Cut, "at a.go:1") {
+		t.Errorf("cut off: %q", s.Cut)
+	}
+	if s.Goroutines.Kept != maxGoroutines {
+		t.Errorf("%d goroutines", s.Goroutines.Kept)
+	}
+}
+
+func TestAFaultIsTheLastEvent(t *testing.T) {
+	records := []wire.Record{
+		{Op: wire.DeclareChan, Object: 1, Site: 1},
+		{Op: wire.Go, Other: 1, Site: 1},
+		{Op: wire.Close, Object: 1, Goroutine: 1, Site: 1},
+		{Op: wire.FaultClose, Object: 1, Site: 2},
+	}
+	text, _ := written(t, records)
+	if !strings.HasSuffix(text, "fault main close:x a.go:2\n") {
+		t.Errorf("got\n%s", text)
+	}
+	text, _ = written(t, append(records, wire.Record{Op: wire.Exit, Goroutine: 1, Site: 1})) // it was recovered from
+	if strings.Contains(text, "fault") {
+		t.Errorf("got\n%s", text)
+	}
+}
+
+func TestNames(t *testing.T) {
+	n := names{"main": 1}
+	var got []string
+	for _, s := range []string{"x", "x", "a.b", "nil", "main", "", "x_2", strings.Repeat("y", 90)} {
+		got = append(got, n.take(s))
+	}
+	want := "[x x_2 a_b nil_ main_ _ x_2_2 " + strings.Repeat("y", longestName) + "]"
+	if fmt.Sprint(got) != want {
+		t.Errorf("got %v", got)
+	}
+}

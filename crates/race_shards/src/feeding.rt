@@ -47,7 +47,7 @@ struct Fed<'b, A: Allocator> {
 impl<'b, A: Allocator> Promise<Result<Shard<A>, AllocError>> for Fed<'b, A> {
     ghost use Rattle.std.specs.Prelude.{IfOk};
     ghost use Rattle.race_shards.specs.Limits.{IsRefused};
-ghost use Rattle.race_shards.specs.Shards.{Takes};
+    ghost use Rattle.race_shards.specs.Shards.{Takes};
 
     ghost kept_by = { λ p r. IfOk r (λ after. Takes p.shard.value p.block.now after) };
 }

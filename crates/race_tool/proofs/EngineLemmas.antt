@@ -1,19 +1,16 @@
 -- What an engine promises, by how it ends.
-use Rattle.std.proofs.Common.{ℕ, ◌≡◌, ◌≢◌, ◌⊎◌, inl, inr, Bool, true, false, IsTrue, List, [], Option, Some, None, Result, Ok, Err}
-use Rattle.std.proofs.Common.{refl, sym, ap, subst, ◌∙◌, arith, append-nil}
+use Rattle.std.proofs.Common.{ℕ, ◌≡◌, inl, inr, Bool, true, false, IsTrue, List, [], Option, Some, None, Result, Ok, Err}
+use Rattle.std.proofs.Common.{refl, sym, ap, ◌∙◌, arith, append-nil}
 use Rattle.std.proofs.lemmas.Option.{none-some}
 use Rattle.race_records.specs.declared.sink.Sink.{Sink}
-use Rattle.race_records.specs.declared.sink.WriteFault.{WriteFault}
 use Rattle.race_records.specs.declared.source.Source.{Source}
-use Rattle.race_records.specs.Devices.{unread, written, source_failures, one_more}
+use Rattle.race_records.specs.Devices.{unread, written, source_failures}
 use Rattle.race_text.specs.declared.cause.TextFault.{TextFault}
 use Rattle.race_text.specs.Lines.{Causes, first_fault}
-use Rattle.race_text.specs.Output.{Writes}
 use Rattle.race_text.proofs.FedLemmas.{ended_fault_stays}
-use Rattle.race_tool.specs.declared.input.ReadFault.{ReadFault}
 use Rattle.race_tool.specs.declared.status.TheConstants as status
-use Rattle.race_tool.specs.Input.{Reads, ReadsBy, ReadsFine, ReadsMany}
-use Rattle.race_tool.specs.Outcome.{status_of_fault, IsOfAFinding, IsRightFor, IsRightBy, IsTextOnly, ReadsAndWrites, ReadsWhere, Answers}
+use Rattle.race_tool.specs.Input.{Reads, ReadsBy}
+use Rattle.race_tool.specs.Outcome.{IsOfAFinding, IsTextOnly, ReadsAndWrites, ReadsWhere, Answers}
 use Rattle.race_tool.proofs.InputLemmas.{itself}
 
 module _ {F R W : Type 0} (causes : Causes) (IsRight : List ℕ → F → Type 0) (text_of : F → List ℕ) (status_for : F → ℕ) (IsUnrecorded : List ℕ → Type 0)

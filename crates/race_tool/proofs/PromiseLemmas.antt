@@ -23,9 +23,11 @@ module _ {R W : Type 0} (remaining : R → Option (List ℕ)) (contents : W → 
   checks plain answers = record {
     answers = answers;
     clean = λ is. reads_where trace_causes (IsFinding plain) report_of status_of Never remaining contents source source_now sink sink_now answer
-        answers status.CLEAN is (small status.CLEAN (omega arith)) (IsTextWhere IsClean) (no_fault_where IsClean) (λ found bytes right same. clean_text plain found bytes right same);
+        answers status.CLEAN is (small status.CLEAN (omega arith)) (IsTextWhere IsClean) (no_fault_where IsClean)
+        (λ found bytes right same. clean_text plain found bytes right same);
     races = λ is. reads_where trace_causes (IsFinding plain) report_of status_of Never remaining contents source source_now sink sink_now answer
-        answers status.RACES is (large status.RACES (omega arith)) (IsTextWhere IsRacy) (no_fault_where IsRacy) (λ found bytes right same. racy_text plain found bytes right same);
+        answers status.RACES is (large status.RACES (omega arith)) (IsTextWhere IsRacy) (no_fault_where IsRacy)
+        (λ found bytes right same. racy_text plain found bytes right same);
     illegal = λ is. reads_where trace_causes (IsFinding plain) report_of status_of Never remaining contents source source_now sink sink_now answer
         answers status.ILLEGAL is (small status.ILLEGAL (omega arith)) (IsTextWhere IsIllegal) (no_fault_where IsIllegal)
         (λ found bytes right same. illegal_text plain found bytes right same);

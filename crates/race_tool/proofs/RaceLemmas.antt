@@ -1,14 +1,12 @@
 -- What is found of a judged run, by what is known of its parts.
-use Rattle.std.proofs.Common.{ℕ, ◌≡◌, ◌≢◌, ◌<◌, ◌≤◌, ◌++◌, List, map, length, Bool, Option, Some, None, refl, sym, ap, subst, ◌∙◌, arith}
-use Rattle.std.specs.Prelude.{option_map}
+use Rattle.std.proofs.Common.{ℕ, ◌≡◌, ◌≢◌, ◌<◌, ◌≤◌, ◌++◌, List, map, length, Bool, Option, Some, None, sym, ap, subst, ◌∙◌, arith}
 use Rattle.race_records.specs.declared.event.Event.{Event}
 use Rattle.race_records.specs.Declarations.{DeclsState, capacity_of}
 use Rattle.race_records.specs.Events.{TraceState}
-use Rattle.race_records.specs.TraceEquality.{placed, Recorded, recorded}
+use Rattle.race_records.specs.TraceEquality.{placed, recorded}
 use Rattle.race_model.specs.Verdict.{Verdict, IsVerdict, Illegal, Clean, Races}
 use Rattle.race_model.proofs.Uniqueness.{illegal_not_legal}
 use Rattle.race_edges.specs.declared.fault.TheConstants.{MAX_PLAIN_EVENTS}
-use Rattle.race_verdict.specs.declared.verdict.Verdict.{Verdict as Judged}
 use Rattle.race_verdict.specs.Traces.{capacities, IsClean, IsRacy}
 use Rattle.race_verdict.specs.Verdicts.{verdict_of}
 use Rattle.race_hub.specs.declared.ending.End.{End}
@@ -22,7 +20,7 @@ use Rattle.race_tool.specs.declared.race_found.JudgedRun.{JudgedRun as Found}
 use Rattle.race_tool.specs.declared.status.TheConstants as status
 use Rattle.race_tool.specs.Finding.{IsVerdictOn}
 use Rattle.race_tool.specs.Outcome.{IsOfAFinding}
-use Rattle.race_tool.specs.Race.{JudgedRun, NoProgram, Ran, HasRunWhere, IsJudgedRun, verdict_text, verdict_status, judged_status}
+use Rattle.race_tool.specs.Race.{JudgedRun, NoProgram, Ran, HasRunWhere, IsJudgedRun, verdict_text, judged_status}
 use Rattle.race_tool.specs.Recorded.{trace_of, judged_run_of, CanBePrinted}
 use Rattle.race_tool.specs.Report.{end_line}
 use Rattle.race_tool.specs.Run.{status_of_end, IsProgramWhere}

@@ -1,8 +1,6 @@
-use Rattle.std.proofs.Common.{List, ℕ, Option, IfSome, ap, subst, sym, ◌∙◌, length}
-use Rattle.race_verdict.specs.declared.verdict.Verdict.{Verdict}
+use Rattle.std.proofs.Common.{List, ℕ, ap, subst, ◌∙◌, length}
 use Rattle.race_verdict.specs.Verdicts.{verdict_of}
 use Rattle.race_text.specs.Output.{Writes}
-use Rattle.race_tool.specs.Recorded.{RacesAreOfRun}
 use Rattle.race_tool.specs.Report.{too_long_line}
 use Rattle.race_tool.proofs.RaceLemmas.{same_report}
 use Rattle.race_tool.proofs.race_found.write_verdict.Goals as goal
@@ -15,7 +13,8 @@ returns-in-Some g c =
     let is = c.in-Some.is in
     rw is
     (subst (λ (l : List ℕ). Writes g.W.Write.contents c.write_judged.result c.args.sink.now c.write_judged.new.sink l)
-    (same_report c.args.recording.now c.trace-trace.result.now c.trace-trace.ensures.decls c.trace-trace.ensures.events (verdict_of c.in-Some.verdict) c.end.result c.end.ensures)
+    (same_report c.args.recording.now c.trace-trace.result.now c.trace-trace.ensures.decls c.trace-trace.ensures.events
+    (verdict_of c.in-Some.verdict) c.end.result c.end.ensures)
     c.write_judged.ensures)
 
 pub returns-in-None : goal.returns-in-None

@@ -22,7 +22,8 @@ loop-end-preserved g c =
     let to = c.end_from-to.result in
     let same : length c.events-events.result.now ≡ length trace.events = ap length c.events-events.ensures.events in
     let goes : GoesOn c.loop-end.judge (take (to - at) (drop at trace.events)) c.feed.new.self =
-    subst (λ (es : List Event). GoesOn c.loop-end.judge (take (to - at) (drop at es)) c.feed.new.self) c.events-events.ensures.events c.in_ok-feed.ensures.goes_on in
+    subst (λ (es : List Event). GoesOn c.loop-end.judge (take (to - at) (drop at es)) c.feed.new.self)
+    c.events-events.ensures.events c.in_ok-feed.ensures.goes_on in
     let behind : at + (to - at) ≡ to = omega (arith, c.end_from-to.ensures.later) in
     record {
       inside = omega (arith, c.end_from-to.ensures.inside, same);

@@ -1,7 +1,5 @@
 use Rattle.std.proofs.Common.{List, ℕ, subst}
 use Rattle.race_text.specs.Output.{Writes}
-use Rattle.race_tool.specs.Recorded.{run_of}
-use Rattle.race_tool.specs.Run.{run_text}
 use Rattle.race_tool.proofs.RunLemmas.{same_text}
 use Rattle.race_tool.proofs.run_found.Run.write.Goals as goal
 

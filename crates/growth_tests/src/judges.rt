@@ -50,10 +50,10 @@ fn has_failed<R: Threads + Wait, A: Allocator + Copy + Send>(rt: &R, mut judge: 
 }
 
 // Feeds the judge all events. What it answers, where it refuses them.
-fn fed<R: Threads + Wait, A: Allocator + Copy + Send>(
+fn fed<R: Threads + Wait, A: Allocator + Copy + Send, B: Allocator>(
     rt: &R,
     mut judge: Judge<A>,
-    trace: &Trace<A>,
+    trace: &Trace<B>,
 ) -> Result<Judge<A>, Reply>
     requires { StandsFor trace.now.decls.declarations judge [] }
 {

@@ -76,8 +76,8 @@ pub(crate) fn judge<T: Threads + Wait, A: Allocator + Copy + Send, B: Allocator>
     ensures { IfOk result (λ verdict. spec.IsVerdictOn options.now.plain trace.now (option_map verdict_of verdict)) }
 {
     if !options.plain {
-        let shards = options.shards;
-        return match Judge::judge(rt, alloc, trace, shards, options.block, &OpenGate) {
+        let block = block_of(options);
+        return match Judge::judge(rt, alloc, trace, options.shards, block, &OpenGate) {
             Ok(verdict) => Ok(Some(verdict)),
             Err(_) => Err(AllocError),
         };
@@ -88,6 +88,16 @@ pub(crate) fn judge<T: Threads + Wait, A: Allocator + Copy + Send, B: Allocator>
         Err(EdgeFault::OutOfMemory) => Err(AllocError),
         // An illegal trace has a verdict.
         Err(EdgeFault::Illegal) => unreachable!(),
+    }
+}
+
+// How many events the shards are handed at a time. One shard starts no thread for a block, so it is handed few: it finds
+// them in the cache, where the test of legality has left them.
+fn block_of(options: &CheckOptions) -> usize {
+    if options.shards == 1 {
+        options.block.min(2_048)
+    } else {
+        options.block
     }
 }
 

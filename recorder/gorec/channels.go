@@ -21,8 +21,8 @@ type channel struct {
 	done     *doneChannel
 	sent     uint64
 	received uint64
-	senders  []*operation // who waits
-	takers   []*operation
+	senders  queue // who waits
+	takers   queue
 }
 
 var channels = map[unsafe.Pointer]*channel{}
@@ -68,7 +68,7 @@ func Lent[C any](c C, s *Site) C {
 	g := current(s)
 	mu.Lock()
 	if ch := channelAt(pointerTo(&c), g, s); ch != nil && ch.done == nil && !ch.foreign {
-		ch.foreign = true
+		ch.lend()
 		g.lose(wire.LostChannel, s)
 	}
 	mu.Unlock()
@@ -84,21 +84,32 @@ func Chan[T any](c chan<- T) Sender[T] { return Sender[T]{c} }
 func (x Sender[T]) Send(v T, s *Site) {
 	if off {
 		x.c <- v
-	} else if !x.sendNow(v, s) {
-		cases := [1]communication{x.Case(v)}
-		communicate(s, false, cases[:])
+		return
+	}
+	g := current(s)
+	mu.Lock()
+	ch := channelAt(pointerTo(&x.c), g, s)
+	switch {
+	case !ch.isPlain() || ch.closed:
+		mu.Unlock()
+		communicate(s, false, []communication{x.Case(v)})
+	case x.sendNow(ch, v, g, s):
+		mu.Unlock()
+	default:
+		r := x.own(v, g)
+		w := r.waitAlone(ch, g, s)
+		mu.Unlock()
+		w.sleep(false)
+		r.forget()
 	}
 }
 
-// sendNow sends where nothing has to be waited for.
-func (x Sender[T]) sendNow(v T, s *Site) bool {
-	g := current(s)
-	mu.Lock()
-	defer mu.Unlock()
-	ch := channelAt(pointerTo(&x.c), g, s)
+// isPlain has the lock: nobody but the program itself sends on the channel or closes it.
+func (ch *channel) isPlain() bool { return ch != nil && !ch.foreign && ch.done == nil }
+
+// sendNow has the lock. It sends where nothing has to be waited for; the channel is plain.
+func (x Sender[T]) sendNow(ch *channel, v T, g *G, s *Site) bool {
 	switch {
-	case ch == nil || ch.foreign || ch.closed:
-		return false
 	case ch.buffered < ch.capacity:
 		x.c <- v
 		g.sent(ch, s)
@@ -107,7 +118,7 @@ func (x Sender[T]) sendNow(v T, s *Site) bool {
 	case ch.capacity > 0:
 		return false
 	}
-	taker := longest(&ch.takers, g)
+	taker := ch.takers.longest(g)
 	if taker == nil {
 		return false
 	}
@@ -124,29 +135,37 @@ func Receive[T any](c <-chan T, s *Site) T {
 	return v
 }
 
-func ReceiveOK[T any](c <-chan T, s *Site) (T, bool) {
+func ReceiveOK[T any](c <-chan T, s *Site) (v T, ok bool) {
 	if off {
-		v, ok := <-c
+		v, ok = <-c
 		return v, ok
 	}
-	if v, ok := receiveNow(c, s); ok {
-		return v, true
-	}
-	r := CaseReceive(c)
-	cases := [1]communication{r}
-	communicate(s, false, cases[:])
-	return r.Value, r.OK
-}
-
-// receiveNow receives a value where nothing has to be waited for.
-func receiveNow[T any](c <-chan T, s *Site) (v T, ok bool) {
 	g := current(s)
 	mu.Lock()
-	defer mu.Unlock()
 	ch := channelAt(pointerTo(&c), g, s)
+	if ch.isPlain() {
+		if v, ok = receiveNow(ch, c, g, s); ok {
+			mu.Unlock()
+			return v, true
+		}
+	}
+	if !ch.isPlain() || ch.closed {
+		mu.Unlock()
+		r := CaseReceive(c)
+		communicate(s, false, []communication{r})
+		return r.Value, r.OK
+	}
+	r := ownReceive(c, g)
+	w := r.waitAlone(ch, g, s)
+	mu.Unlock()
+	w.sleep(false)
+	return r.forget()
+}
+
+// receiveNow has the lock. It receives a value where nothing has to be waited for; the
+// channel is plain.
+func receiveNow[T any](ch *channel, c <-chan T, g *G, s *Site) (v T, ok bool) {
 	switch {
-	case ch == nil || ch.foreign || ch.done != nil:
-		return v, false
 	case ch.buffered > 0:
 		v = <-c
 		g.received(ch, s)
@@ -155,7 +174,7 @@ func receiveNow[T any](c <-chan T, s *Site) (v T, ok bool) {
 	case ch.capacity > 0 || ch.closed:
 		return v, false
 	}
-	sender := longest(&ch.senders, g)
+	sender := ch.senders.longest(g)
 	if sender == nil {
 		return v, false
 	}

@@ -48,14 +48,6 @@ func (g *G) try(s *Site, cases []communication) (index int, panics bool) {
 	return none, false
 }
 
-// claim is called before what may serve others is done, so that nobody serves the same
-// waiter.
-func (o *operation) claim() {
-	if o.waiter != nil {
-		o.waiter.done = true
-	}
-}
-
 func (g *G) tryForeign(s *Site, c communication) (did, panics bool) {
 	if did, panics = carefully(c); did && !panics && !c.state().send {
 		g.acquire(c.state().channel.order, s)
@@ -89,7 +81,7 @@ func (g *G) trySend(s *Site, c communication) (did, panics bool) {
 		ch.serve()
 		return true, false
 	}
-	taker := longest(&ch.takers, g)
+	taker := ch.takers.longest(g)
 	if taker == nil {
 		return false, false
 	}
@@ -123,7 +115,7 @@ func (g *G) tryReceive(s *Site, c communication) bool {
 	case ch.capacity > 0:
 		return false
 	}
-	sender := longest(&ch.senders, g)
+	sender := ch.senders.longest(g)
 	if sender == nil {
 		return false
 	}
@@ -174,26 +166,6 @@ func meet(ch *channel, sender *G, at *Site, receiver *G, to *Site) {
 		Site: at.ID, OtherSite: to.ID})
 }
 
-// longest is who has waited longest, not g itself.
-func longest(queue *[]*operation, g *G) *operation {
-	for len(*queue) > 0 && (*queue)[0].waiter.done {
-		*queue = (*queue)[1:]
-	}
-	for _, o := range *queue {
-		if !o.waiter.done && o.waiter.g != g {
-			return o
-		}
-	}
-	return nil
-}
-
-// finish lets go on who waits for o, which was done.
-func (o *operation) finish() {
-	o.waiter.done = true
-	o.waiter.which = o.index
-	o.waiter.g.wake <- struct{}{}
-}
-
 // serve has the lock. It does for those who wait what has become possible.
 func (ch *channel) serve() {
 	for ch.serveOne() {
@@ -202,27 +174,27 @@ func (ch *channel) serve() {
 
 func (ch *channel) serveOne() bool {
 	if ch.buffered > 0 {
-		if o := longest(&ch.takers, nil); o != nil {
+		if o := ch.takers.longest(nil); o != nil {
 			o.waiter.g.receive(o.waiter.s, o.self)
 			o.finish()
 			return true
 		}
 	}
 	if ch.closed {
-		if o := longest(&ch.senders, nil); o != nil {
+		if o := ch.senders.longest(nil); o != nil {
 			o.waiter.panics = true
 			o.waiter.g.note(wire.FaultSend, ch.id, o.waiter.s)
 			o.finish()
 			return true
 		}
-		if o := longest(&ch.takers, nil); o != nil {
+		if o := ch.takers.longest(nil); o != nil {
 			o.self.fill(nil, false)
 			o.waiter.g.note(wire.ReceiveClosed, ch.id, o.waiter.s)
 			o.finish()
 			return true
 		}
 	} else if ch.buffered < ch.capacity {
-		if o := longest(&ch.senders, nil); o != nil {
+		if o := ch.senders.longest(nil); o != nil {
 			o.waiter.g.send(o.waiter.s, o.self)
 			o.finish()
 			return true

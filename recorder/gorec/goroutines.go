@@ -20,6 +20,11 @@ type G struct {
 	epoch  uint32 // grows with each operation that may order something
 	cache  readCache
 	wake   chan struct{} // lets it go on where it waits for others
+	waiter waiter
+
+	// a lone send and a lone receive that wait
+	ownSend, ownReceive communication
+	alone               [1]communication
 
 	foreign bool   // code without the recorder started it
 	taken   uint32 // the newest order of sentOut that it is behind
@@ -36,7 +41,7 @@ func getg() uintptr
 
 var (
 	goroutines    uint32
-	mainGoroutine = &G{wake: make(chan struct{}, 1)}
+	mainGoroutine = &G{wake: make(chan struct{}, 2)}
 	nowhere       = &Site{}
 )
 
@@ -98,7 +103,7 @@ func adopt(parent *G, s *Site) *G {
 func newGoroutine() *G {
 	goroutines++
 	live = !sealed
-	return &G{id: goroutines, random: seed*2654435761 + goroutines*40503 | 1, wake: make(chan struct{}, 1)}
+	return &G{id: goroutines, random: seed*2654435761 + goroutines*40503 | 1, wake: make(chan struct{}, 2)}
 }
 
 // Go starts f.

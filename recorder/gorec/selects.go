@@ -2,7 +2,6 @@ package gorec
 
 import (
 	"reflect"
-	"time"
 	"unsafe"
 
 	"gorace.local/recorder/wire"
@@ -20,24 +19,6 @@ type communication interface {
 	took(v reflect.Value, ok bool)
 }
 
-// operation is what the recorder keeps of one.
-type operation struct {
-	channel *channel
-	send    bool
-	waiter  *waiter
-	index   int // among the cases
-	self    communication
-}
-
-// waiter is a goroutine that waits for the first of its cases.
-type waiter struct {
-	g      *G
-	s      *Site
-	done   bool
-	panics bool // it sends on a channel that was closed
-	which  int
-}
-
 // Taking is a receive.
 type Taking[T any] struct {
 	operation
@@ -51,6 +32,24 @@ func CaseReceive[T any](c <-chan T) *Taking[T] {
 	r := &Taking[T]{c: c}
 	r.self = r
 	return r
+}
+
+// ownReceive is the receive that g has for those that stand alone, so that none is made
+// each time.
+func ownReceive[T any](c <-chan T, g *G) *Taking[T] {
+	r, ok := g.ownReceive.(*Taking[T])
+	if !ok {
+		r = CaseReceive(c)
+		g.ownReceive = r
+	}
+	r.c = c
+	return r
+}
+
+// forget is what was received, which r doesn't keep alive.
+func (r *Taking[T]) forget() (v T, ok bool) {
+	r.Value, v = v, r.Value
+	return v, r.OK
 }
 
 func (r *Taking[T]) state() *operation       { return &r.operation }
@@ -98,6 +97,22 @@ func (x Sender[T]) Case(v T) *Giving[T] {
 	r.send = true
 	r.self = r
 	return r
+}
+
+// own is the send that g has for those that stand alone.
+func (x Sender[T]) own(v T, g *G) *Giving[T] {
+	r, ok := g.ownSend.(*Giving[T])
+	if !ok {
+		r = x.Case(v)
+		g.ownSend = r
+	}
+	r.c, r.v = x.c, v
+	return r
+}
+
+func (r *Giving[T]) forget() {
+	var zero T
+	r.v = zero
 }
 
 func (r *Giving[T]) state() *operation         { return &r.operation }
@@ -159,9 +174,9 @@ func communicate(s *Site, hasDefault bool, cases []communication) int {
 		}
 		return i
 	}
-	w := enqueue(g, s, cases)
+	w := g.wait(s, cases, poll)
 	mu.Unlock()
-	return w.sleep(cases, poll)
+	return w.sleep(poll)
 }
 
 // waitForeign does a lone operation on a foreign channel, which is waited for by Go's means.
@@ -191,70 +206,6 @@ func (g *G) noteDefault(s *Site, cases []communication) {
 		}
 		write(r)
 	}
-}
-
-// enqueue has the lock.
-func enqueue(g *G, s *Site, cases []communication) *waiter {
-	w := &waiter{g: g, s: s}
-	for _, c := range cases {
-		o := c.state()
-		o.waiter = w
-		switch {
-		case o.channel == nil || o.channel.foreign:
-		case o.send:
-			o.channel.senders = append(o.channel.senders, o)
-		default:
-			o.channel.takers = append(o.channel.takers, o)
-		}
-	}
-	return w
-}
-
-// sleep returns once a case was done, by others or, where code without the recorder may
-// make one possible, by trying again from time to time.
-func (w *waiter) sleep(cases []communication, poll bool) int {
-	if !poll {
-		<-w.g.wake
-	}
-	pause := 5 * time.Microsecond
-	for poll {
-		t := time.NewTimer(pause)
-		select {
-		case <-w.g.wake:
-			poll = false
-		case <-t.C:
-			i, done, panics := w.again(cases)
-			if i != none {
-				if panics {
-					cases[i].wait()
-				}
-				return i
-			}
-			if done {
-				<-w.g.wake
-				poll = false
-			}
-		}
-		t.Stop()
-		if pause += pause / 4; pause > time.Millisecond {
-			pause = time.Millisecond
-		}
-	}
-	if w.panics {
-		cases[w.which].wait()
-	}
-	return w.which
-}
-
-// again tries the cases once more; done says that another goroutine did one meanwhile.
-func (w *waiter) again(cases []communication) (i int, done, panics bool) {
-	mu.Lock()
-	defer mu.Unlock()
-	if w.done {
-		return none, true, false
-	}
-	i, panics = w.g.try(w.s, cases)
-	return i, false, panics
 }
 
 // plainSelect is a select of a run without a log.

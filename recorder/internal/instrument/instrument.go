@@ -132,7 +132,7 @@ func writeFile(path string, b []byte) error {
 func (t *tree) addRuntime() error {
 	to := filepath.Join(t.Dir, "src", "gorace.local", "recorder")
 	return fs.WalkDir(recorder.Runtime, ".", func(path string, d fs.DirEntry, err error) error {
-		if err != nil || d.IsDir() {
+		if err != nil || d.IsDir() || strings.HasSuffix(path, "_test.go") {
 			return err
 		}
 		b, err := recorder.Runtime.ReadFile(path)

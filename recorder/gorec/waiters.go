@@ -1,0 +1,188 @@
+package gorec
+
+import "time"
+
+// Who has to wait for a channel waits in its queues, until whoever makes the operation
+// possible has done it.
+
+// operation is what the recorder keeps of a send or a receive that is asked for.
+type operation struct {
+	channel *channel
+	send    bool
+	index   int // among the cases
+	self    communication
+	waiter  *waiter
+
+	queue          *queue // where it waits, nil for nowhere
+	next, previous *operation
+}
+
+// queue has operations that wait on a channel, first the one that has waited longest.
+type queue struct{ first, last *operation }
+
+func (q *queue) add(o *operation) {
+	o.queue, o.next, o.previous = q, nil, q.last
+	if q.last == nil {
+		q.first = o
+	} else {
+		q.last.next = o
+	}
+	q.last = o
+}
+
+func (o *operation) leaveQueue() {
+	q := o.queue
+	if q == nil {
+		return
+	}
+	if o.previous == nil {
+		q.first = o.next
+	} else {
+		o.previous.next = o.next
+	}
+	if o.next == nil {
+		q.last = o.previous
+	} else {
+		o.next.previous = o.previous
+	}
+	o.queue, o.next, o.previous = nil, nil, nil
+}
+
+// longest is who has waited longest, not g itself.
+func (q *queue) longest(g *G) *operation {
+	for o := q.first; o != nil; o = o.next {
+		if o.waiter.g != g {
+			return o
+		}
+	}
+	return nil
+}
+
+// waiter is a goroutine that waits for the first of its cases. Each goroutine has one, which
+// no queue knows once a case was done.
+type waiter struct {
+	g      *G
+	s      *Site
+	cases  []communication
+	which  int // the case that was done
+	done   bool
+	panics bool // it sends on a channel that was closed
+	polls  bool // it tries by itself, since code without the recorder may make a case possible
+}
+
+// wait has the lock: g waits for one of its cases.
+func (g *G) wait(s *Site, cases []communication, polls bool) *waiter {
+	w := &g.waiter
+	*w = waiter{g: g, s: s, cases: cases, polls: polls}
+	for _, c := range cases {
+		o := c.state()
+		o.waiter = w
+		switch {
+		case o.channel == nil || o.channel.foreign:
+		case o.send:
+			o.channel.senders.add(o)
+		default:
+			o.channel.takers.add(o)
+		}
+	}
+	return w
+}
+
+// waitAlone has the lock: g waits for one operation on a plain channel.
+func (o *operation) waitAlone(ch *channel, g *G, s *Site) *waiter {
+	o.channel = ch
+	g.alone[0] = o.self
+	return g.wait(s, g.alone[:], false)
+}
+
+// leave has the lock: a case is done, so nobody does another one.
+func (w *waiter) leave() {
+	w.done = true
+	for _, c := range w.cases {
+		c.state().leaveQueue()
+	}
+}
+
+// claim is called before what may serve others is done, so that nobody serves the same
+// waiter.
+func (o *operation) claim() {
+	if o.waiter != nil {
+		o.waiter.leave()
+	}
+}
+
+// finish lets go on who waits for o, which was done.
+func (o *operation) finish() {
+	o.waiter.which = o.index
+	o.waiter.leave()
+	o.waiter.g.wake <- struct{}{}
+}
+
+// lend has the lock: the channel becomes one that code without the recorder uses, so who
+// waits for it has to try by itself.
+func (ch *channel) lend() {
+	ch.foreign = true
+	for _, q := range [...]*queue{&ch.senders, &ch.takers} {
+		for o := q.first; o != nil; o = o.next {
+			if !o.waiter.polls {
+				o.waiter.polls = true
+				o.waiter.g.wake <- struct{}{}
+			}
+		}
+	}
+}
+
+// sleep returns once a case was done: by others, or by trying again from time to time.
+func (w *waiter) sleep(polls bool) int {
+	if !polls {
+		<-w.g.wake
+		polls = w.polls // a channel was lent
+	}
+	if polls {
+		if i, did := w.poll(); did {
+			return i
+		}
+	}
+	if w.panics {
+		w.cases[w.which].wait()
+	}
+	return w.which
+}
+
+// poll tries the cases until one was done; did says that this goroutine did it.
+func (w *waiter) poll() (i int, did bool) {
+	for pause := 5 * time.Microsecond; ; pause += pause / 4 {
+		if pause > time.Millisecond {
+			pause = time.Millisecond
+		}
+		t := time.NewTimer(pause)
+		select {
+		case <-w.g.wake:
+			t.Stop()
+			return none, false
+		case <-t.C:
+		}
+		i, done, panics := w.again()
+		switch {
+		case panics:
+			w.cases[i].wait()
+			return i, true
+		case i != none:
+			return i, true
+		case done:
+			<-w.g.wake
+			return none, false
+		}
+	}
+}
+
+// again tries the cases once more; done says that another goroutine did one meanwhile.
+func (w *waiter) again() (i int, done, panics bool) {
+	mu.Lock()
+	defer mu.Unlock()
+	if w.done {
+		return none, true, false
+	}
+	i, panics = w.g.try(w.s, w.cases)
+	return i, false, panics
+}

@@ -1,0 +1,44 @@
+package gorec
+
+import "testing"
+
+// waiting has three goroutines that wait on one channel, the second on another one too.
+func waiting(one, other *channel) []*G {
+	take := func(ch *channel) communication {
+		r := CaseReceive[int](nil)
+		r.channel = ch
+		return r
+	}
+	gs := []*G{{}, {}, {}}
+	for i, g := range gs {
+		cases := []communication{take(one)}
+		if i == 1 {
+			cases = append(cases, take(other))
+		}
+		g.wait(nowhere, cases, false)
+	}
+	return gs
+}
+
+func TestQueues(t *testing.T) {
+	one, other := &channel{}, &channel{}
+	gs := waiting(one, other)
+	if o := one.takers.longest(nil); o.waiter.g != gs[0] {
+		t.Error("not who has waited longest")
+	}
+	if o := one.takers.longest(gs[0]); o.waiter.g != gs[1] {
+		t.Error("not the first of the others")
+	}
+	gs[1].waiter.leave()
+	if one.takers.longest(gs[0]).waiter.g != gs[2] || one.takers.last.waiter.g != gs[2] {
+		t.Error("the queue without its middle is wrong")
+	}
+	if other.takers.first != nil || other.takers.last != nil {
+		t.Error("who was served on one channel is kept by another")
+	}
+	gs[2].waiter.leave()
+	gs[0].waiter.leave()
+	if one.takers.first != nil || one.takers.last != nil {
+		t.Error("the empty queue isn't")
+	}
+}

@@ -25,6 +25,8 @@ type Copy struct {
 	Refused []string // what can't be recorded
 	Notes   []string // what is recorded in part
 	Missed  map[string]int
+
+	oldLoops []string // packages whose loops have one variable each, with a newer Go
 }
 
 // tree is the work on a copy.
@@ -79,6 +81,9 @@ func (t *tree) add(p *load.Package) error {
 	if !p.Recorded() {
 		t.Notes = append(t.Notes, "package "+p.ImportPath+" has cgo and isn't recorded")
 		return nil
+	}
+	if p.NewToolchain() && !p.IterationVariables() {
+		t.oldLoops = append(t.oldLoops, path)
 	}
 	result := rewrite.Package(p, t.own, t.table)
 	t.Refused = append(t.Refused, result.Refused...)
@@ -145,11 +150,14 @@ func (t *tree) addRuntime() error {
 
 // Build builds the copy as a program, or as one of tests.
 func (c *Copy) Build(program string, test bool) error {
-	words := []string{"build", "-trimpath", "-o", program, c.Main}
+	words := []string{"build"}
 	if test {
-		words = []string{"test", "-trimpath", "-vet=off", "-c", "-o", program, c.Main}
+		words = []string{"test", "-vet=off", "-c"}
 	}
-	cmd := exec.Command("go", words...)
+	for _, path := range c.oldLoops { // a GOPATH has no go lines
+		words = append(words, "-gcflags="+path+"=-lang=go1.21")
+	}
+	cmd := exec.Command("go", append(words, "-trimpath", "-o", program, c.Main)...)
 	cmd.Dir = c.Dir
 	cmd.Stdout, cmd.Stderr = os.Stderr, os.Stderr
 	cmd.Env = append(os.Environ(), "GOFLAGS=", "GO111MODULE=off", "GOWORK=off", "GOPATH="+c.Dir)

@@ -43,6 +43,8 @@ type Package struct {
 	Sources [][]byte
 	Info    *types.Info
 	Types   *types.Package
+
+	Toolchain string // the version of the command go, as go1.22.1
 }
 
 // Recorded: packages with cgo are copied as they are.
@@ -54,6 +56,10 @@ func Packages(args []string, test bool) ([]*Package, error) {
 	listed, err := list(args, test)
 	if err != nil {
 		return nil, err
+	}
+	version, err := exec.Command("go", "env", "GOVERSION").Output()
+	if err != nil {
+		return nil, fmt.Errorf("go env: %v", err)
 	}
 	exports := map[string]string{}
 	var own []*Listed
@@ -68,7 +74,7 @@ func Packages(args []string, test bool) ([]*Package, error) {
 	}
 	var packages []*Package
 	for _, l := range own {
-		p := &Package{Listed: l, Fset: token.NewFileSet()}
+		p := &Package{Listed: l, Fset: token.NewFileSet(), Toolchain: strings.TrimSpace(string(version))}
 		packages = append(packages, p)
 		if !p.Recorded() {
 			continue
@@ -172,11 +178,16 @@ func (p *Package) check(exports map[string]string) error {
 
 // IterationVariables: the package's loops have variables of each iteration, as from Go 1.22.
 func (p *Package) IterationVariables() bool {
-	if p.Module == nil {
-		return false
-	}
+	return p.NewToolchain() && (p.Module == nil || isFrom22(p.Module.GoVersion))
+}
+
+// NewToolchain: the command go gives loops variables of each iteration, unless a module's go
+// line is older.
+func (p *Package) NewToolchain() bool { return isFrom22(strings.TrimPrefix(p.Toolchain, "go")) }
+
+func isFrom22(version string) bool {
 	var major, minor int
-	fmt.Sscanf(p.Module.GoVersion, "%d.%d", &major, &minor)
+	fmt.Sscanf(version, "%d.%d", &major, &minor)
 	return major > 1 || minor >= 22
 }
 

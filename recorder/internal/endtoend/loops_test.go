@@ -1,0 +1,72 @@
+package endtoend
+
+import (
+	"os"
+	"os/exec"
+	"path/filepath"
+	"testing"
+)
+
+// loops prints what closures find in the variables of each form of loop.
+const loops = `package main
+
+import "fmt"
+
+func main() {
+	var found []func() int
+	for i := 0; i < 3; i++ {
+		found = append(found, func() int { return i })
+	}
+	for i, v := range []int{5, 6, 7} {
+		found = append(found, func() int { return 10*i + v })
+	}
+	for i, v := range [2]int{8, 9} {
+		found = append(found, func() int { return 10*i + v })
+	}
+	for i, r := range "ab" {
+		found = append(found, func() int { return 10*i + int(r) })
+	}
+	for k, v := range map[int]int{1: 2} {
+		found = append(found, func() int { return 10*k + v })
+	}
+	c := make(chan int, 2)
+	c <- 3
+	c <- 4
+	close(c)
+	for v := range c {
+		found = append(found, func() int { return v })
+	}
+	go func() {}()
+	for _, f := range found {
+		fmt.Println(f())
+	}
+}
+`
+
+// TestLoopVariables: loops have variables of the whole loop or of each iteration, as the
+// module's go line and the version of Go say.
+func TestLoopVariables(t *testing.T) {
+	for _, line := range []string{"1.19", "1.22"} {
+		dir := t.TempDir()
+		for name, text := range map[string]string{"main.go": loops, "go.mod": "module example.com/loops\n\ngo " + line + "\n"} {
+			if err := os.WriteFile(filepath.Join(dir, name), []byte(text), 0o644); err != nil {
+				t.Fatal(err)
+			}
+		}
+		plain := exec.Command("go", "run", ".")
+		plain.Dir = dir
+		want, err := plain.Output()
+		if err != nil {
+			t.Logf("go line %s: %v", line, err) // newer than Go is
+			continue
+		}
+		run(t, dir, gorec, "build", "-o", "recorded", ".")
+		recorded := exec.Command("./recorded")
+		recorded.Dir = dir
+		recorded.Env = append(os.Environ(), "GOREC_LOG="+filepath.Join(dir, "log"))
+		got, err := recorded.Output()
+		if err != nil || string(got) != string(want) {
+			t.Errorf("go line %s: %v\n%sbut plain\n%s", line, err, got, want)
+		}
+	}
+}

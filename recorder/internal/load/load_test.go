@@ -1,0 +1,31 @@
+package load
+
+import "testing"
+
+// The Go specification gives each iteration variables of its own since Go 1.22, where the
+// module's go line says so.
+func TestIterationVariables(t *testing.T) {
+	for _, c := range []struct {
+		toolchain, line string
+		want            bool
+	}{
+		{"go1.19.8", "1.19", false},
+		{"go1.19.8", "1.22", false},
+		{"go1.22.0", "1.21", false},
+		{"go1.22.0", "1.22", true},
+		{"go1.23.5", "1.22.1", true},
+		{"go1.23.5", "", false},
+		{"go2.0", "2.0", true},
+	} {
+		p := &Package{Listed: &Listed{Module: &Module{GoVersion: c.line}}, Toolchain: c.toolchain}
+		if got := p.IterationVariables(); got != c.want {
+			t.Errorf("%s, go line %s: %v", c.toolchain, c.line, got)
+		}
+	}
+	for toolchain, want := range map[string]bool{"go1.21.13": false, "go1.22.12": true} {
+		p := &Package{Listed: &Listed{}, Toolchain: toolchain}
+		if p.IterationVariables() != want {
+			t.Errorf("%s without a module: %v", toolchain, !want)
+		}
+	}
+}

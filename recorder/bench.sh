@@ -1,16 +1,18 @@
 #!/bin/sh
-# Times the programs of testdata/bench: plain, with Go's own detector, and recorded. Seconds of
-# CPU, the least of three runs; records of the log, events of the trace and its bytes an event.
+# Times the programs of testdata/bench: plain, with Go's own detector, and recorded: ./bench.sh
+# [RUNS]. Seconds of CPU, the least of three runs, or of RUNS; records of the log, events of the
+# trace and its bytes an event.
 set -eu
+runs=${1:-3}
 cd "$(dirname "$0")"
 work=$(mktemp -d)
 trap 'rm -rf "$work"' EXIT
 go build -o "$work/gorec" ./cmd/gorec
 cd testdata/bench
 
-# The least CPU time of three runs of a program.
+# The least CPU time of a program's runs.
 least() {
-    for _ in 1 2 3; do
+    for _ in $(seq "$runs"); do
         { /usr/bin/env time -f '%U %S' "$@" >/dev/null; } 2>&1 | tail -1
     done | awk '{ t = $1 + $2; if (NR == 1 || t < m) m = t } END { printf "%.2f", m }'
 }

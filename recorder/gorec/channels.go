@@ -122,10 +122,9 @@ func (x Sender[T]) sendNow(ch *channel, v T, g *G, s *Site) bool {
 	if taker == nil {
 		return false
 	}
-	sent := v // so that v itself needn't have an address
-	taker.self.fill(unsafe.Pointer(&sent), true)
-	meet(ch, g, s, taker.waiter.g, taker.waiter.s)
-	taker.finish()
+	r := x.own(v, g)
+	taker.take(r.value(), g, s)
+	r.forget()
 	return true
 }
 
@@ -179,8 +178,7 @@ func receiveNow[T any](ch *channel, c <-chan T, g *G, s *Site) (v T, ok bool) {
 		return v, false
 	}
 	v = *(*T)(sender.self.value())
-	meet(ch, sender.waiter.g, sender.waiter.s, g, s)
-	sender.finish()
+	sender.give(g, s)
 	return v, true
 }
 

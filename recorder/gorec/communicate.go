@@ -1,6 +1,10 @@
 package gorec
 
-import "gorace.local/recorder/wire"
+import (
+	"unsafe"
+
+	"gorace.local/recorder/wire"
+)
 
 // none: no case can be done.
 const none = -2
@@ -85,9 +89,7 @@ func (g *G) trySend(s *Site, c communication) (did, panics bool) {
 	if taker == nil {
 		return false, false
 	}
-	taker.self.fill(c.value(), true)
-	meet(ch, g, s, taker.waiter.g, taker.waiter.s)
-	taker.finish()
+	taker.take(c.value(), g, s)
 	return true, false
 }
 
@@ -120,8 +122,7 @@ func (g *G) tryReceive(s *Site, c communication) bool {
 		return false
 	}
 	c.fill(sender.self.value(), true)
-	meet(ch, sender.waiter.g, sender.waiter.s, g, s)
-	sender.finish()
+	sender.give(g, s)
 	return true
 }
 
@@ -155,6 +156,19 @@ func (g *G) received(ch *channel, s *Site) {
 	ch.buffered--
 	ch.received++
 	g.numbered(wire.Receive, ch.id, ch.received, s)
+}
+
+// take has the lock: who waits with o takes the value at p, which g sends.
+func (o *operation) take(p unsafe.Pointer, g *G, s *Site) {
+	o.self.fill(p, true)
+	meet(o.channel, g, s, o.waiter.g, o.waiter.s)
+	o.finish()
+}
+
+// give has the lock: g has taken the value that who waits with o sends.
+func (o *operation) give(g *G, s *Site) {
+	meet(o.channel, o.waiter.g, o.waiter.s, g, s)
+	o.finish()
 }
 
 // meet has the lock: a value went over an unbuffered channel.

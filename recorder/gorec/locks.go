@@ -54,6 +54,14 @@ func locked(p unsafe.Pointer, kind uint8, op wire.Op, s *Site) {
 	mu.Unlock()
 }
 
+// tried is a TryLock or a TryRLock that has returned.
+func tried(ok bool, p unsafe.Pointer, kind uint8, op wire.Op, s *Site) bool {
+	if ok {
+		locked(p, kind, op, s)
+	}
+	return ok
+}
+
 // unlocking is an Unlock or an RUnlock that is about to be called. One that is going to fail
 // is a fault.
 func unlocking(p unsafe.Pointer, kind uint8, op wire.Op, s *Site) {
@@ -89,11 +97,7 @@ func (x MutexAt) Lock()   { x.m.Lock(); locked(unsafe.Pointer(x.m), mutex, wire.
 func (x MutexAt) Unlock() { unlocking(unsafe.Pointer(x.m), mutex, wire.Unlock, x.s); x.m.Unlock() }
 
 func (x MutexAt) TryLock() bool {
-	ok := x.m.TryLock()
-	if ok {
-		locked(unsafe.Pointer(x.m), mutex, wire.Lock, x.s)
-	}
-	return ok
+	return tried(x.m.TryLock(), unsafe.Pointer(x.m), mutex, wire.Lock, x.s)
 }
 
 // RWMutexAt is a sync.RWMutex at a place where it is used.
@@ -113,19 +117,11 @@ func (x RWMutexAt) RUnlock() {
 }
 
 func (x RWMutexAt) TryLock() bool {
-	ok := x.m.TryLock()
-	if ok {
-		locked(unsafe.Pointer(x.m), rwmutex, wire.Lock, x.s)
-	}
-	return ok
+	return tried(x.m.TryLock(), unsafe.Pointer(x.m), rwmutex, wire.Lock, x.s)
 }
 
 func (x RWMutexAt) TryRLock() bool {
-	ok := x.m.TryRLock()
-	if ok {
-		locked(unsafe.Pointer(x.m), rwmutex, wire.ReadLock, x.s)
-	}
-	return ok
+	return tried(x.m.TryRLock(), unsafe.Pointer(x.m), rwmutex, wire.ReadLock, x.s)
 }
 
 // RLocker is a Locker whose calls are recorded.

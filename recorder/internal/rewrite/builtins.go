@@ -27,6 +27,12 @@ func (r *rewriter) builtin(e *ast.CallExpr) {
 		r.appendCall(e)
 	case "copy":
 		r.copyCall(e)
+	case "clear":
+		if r.isMap(e.Args[0]) || r.isLoose(e.Args[0]) {
+			r.looseMap("WriteMap", e.Args[0])
+		} else {
+			r.values(e.Args)
+		}
 	default:
 		r.values(e.Args)
 	}

@@ -104,13 +104,19 @@ func run(t *testing.T, dir, name string, args ...string) {
 
 var result = regexp.MustCompile(`(?m)^ *--- (?:PASS|FAIL|SKIP): \S+`)
 
-// results are the lines that tell how each test of a program of tests ended.
+// results are the lines that tell how each test of a program of tests ended, but for tests
+// that count allocations, since to record allocates.
 func results(dir, program string, env ...string) string {
 	cmd := exec.Command("./"+program, "-test.short", "-test.v")
 	cmd.Dir = dir
 	cmd.Env = append(os.Environ(), env...)
 	out, _ := cmd.CombinedOutput()
-	lines := result.FindAllString(string(out), -1)
+	var lines []string
+	for _, line := range result.FindAllString(string(out), -1) {
+		if !strings.Contains(line, "Alloc") {
+			lines = append(lines, line)
+		}
+	}
 	sort.Strings(lines)
 	return strings.Join(lines, "\n")
 }

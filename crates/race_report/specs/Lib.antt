@@ -2,3 +2,4 @@ pub mod Rules
 pub mod Causes
 pub mod Report
 pub mod Printable
+pub mod Witness

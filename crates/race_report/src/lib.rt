@@ -1,12 +1,14 @@
-//! The printed text: the report of a verdict, the lines of edges, the line of a text fault.
+//! The printed text: the report of a verdict, the lines of edges, those of a witness, the line of a text fault.
 #![tactic(auto)]
 
 mod edge_lines;
 mod fault;
 mod rule;
 mod verdict;
+mod witness_lines;
 
 pub use edge_lines::write_edges;
 pub use fault::write_text_fault;
 pub use race_records::WriteFault;
 pub use verdict::{print_report, write_report};
+pub use witness_lines::write_witness;

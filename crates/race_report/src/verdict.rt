@@ -224,7 +224,8 @@ fn access_words<A: Allocator>(trace: &Trace<A>, index: usize) -> AccessWords<'_>
     }
 }
 
-fn access_word(op: &Op) -> &'static str
+/// What an access does, in a word.
+pub(crate) fn access_word(op: &Op) -> &'static str
     ensures { result.now ≡ spec.access_word op.now }
 {
     match op {

@@ -57,26 +57,33 @@ illegal_more caps past more i n (e, at, is, legal) =
 pub accepts_none : (k : ReplayState) (block : List Event) → Accepts k (take 0 block) None k
 accepts_none k block declarations past S = subst (legal.StandsFor declarations k) (sym (append-nil past)) S
 
--- and one more
-pub accepts_more : (old mid new : ReplayState) (block : List Event) (i : ℕ) (e : Event) → slice_get block i ≡ Some e
-    → Accepts old (take i block) None mid → legal.GoesOn mid new e → Accepts old (take (i + 1) block) None new
-accepts_more old mid new block i e here before then declarations past S =
-    subst (legal.StandsFor declarations new) (append_assoc past (take i block) (e ∷ []) ∙ ap (λ front. past ++ front) (sym (take_next block i e here)))
-    (then declarations (past ++ take i block) (before declarations past S))
+-- an event breaks a rule
+pub accepts_not : (old new : ReplayState) (e : Event) (illegal : Illegal) → legal.ForEachPast old (λ past. illegal.at ≡ length past)
+    → legal.IsLeastBroken old e (Some (number_of illegal.rule)) → Accepts old (e ∷ []) (Some illegal) new
+accepts_not old new e illegal at least declarations past S =
+    subst (λ es. IsIllegalAt (capacity_of declarations) es illegal.at (number_of illegal.rule)) (append-nil (past ++ e ∷ []))
+    (subst (λ n. IsIllegalAt (capacity_of declarations) ((past ++ e ∷ []) ++ []) n (number_of illegal.rule)) (sym (at declarations past S))
+    (illegal_push (capacity_of declarations) past [] e (number_of illegal.rule) S.legal (least declarations past S)))
 
--- or it breaks a rule
-pub accepts_not : (old mid new : ReplayState) (block : List Event) (i : ℕ) (e : Event) (illegal : Illegal) → slice_get block i ≡ Some e
-    → Accepts old (take i block) None mid → legal.ForEachPast mid (λ past. illegal.at ≡ length past)
-    → legal.IsLeastBroken mid e (Some (number_of illegal.rule)) → Accepts old block (Some illegal) new
-accepts_not old mid new block i e illegal here before at least declarations past S =
-    let front = past ++ take i block in
-    let stands = before declarations past S in
-    let whole : (front ++ e ∷ []) ++ drop (i + 1) block ≡ past ++ block =
-    ap (λ xs. xs ++ drop (i + 1) block) (append_assoc past (take i block) (e ∷ []) ∙ ap (λ xs. past ++ xs) (sym (take_next block i e here)))
-    ∙ append_assoc past (take (i + 1) block) (drop (i + 1) block) ∙ ap (λ xs. past ++ xs) (take-append-drop (i + 1) block) in
-    subst (λ es. IsIllegalAt (capacity_of declarations) es illegal.at (number_of illegal.rule)) whole
-    (subst (λ n. IsIllegalAt (capacity_of declarations) ((front ++ e ∷ []) ++ drop (i + 1) block) n (number_of illegal.rule)) (sym (at declarations front stands))
-    (illegal_push (capacity_of declarations) front (drop (i + 1) block) e (number_of illegal.rule) stands.legal (least declarations front stands)))
+module _ (old mid new : ReplayState) (block : List Event) (i : ℕ) (e : Event) (here : slice_get block i ≡ Some e)
+    (before : Accepts old (take i block) None mid) where
+  front : (past : List Event) → (past ++ take i block) ++ e ∷ [] ≡ past ++ take (i + 1) block
+  front past = append_assoc past (take i block) (e ∷ []) ∙ ap (λ front. past ++ front) (sym (take_next block i e here))
+
+  -- one event more is accepted
+  pub accepts_more : Accepts mid (e ∷ []) None new → Accepts old (take (i + 1) block) None new
+  accepts_more then declarations past S =
+      subst (legal.StandsFor declarations new) (front past) (then declarations (past ++ take i block) (before declarations past S))
+
+  -- or breaks a rule, and so one of the block does
+  pub breaks : (illegal : Illegal) → Accepts mid (e ∷ []) (Some illegal) new → Accepts old block (Some illegal) new
+  breaks illegal then declarations past S =
+      let whole : (past ++ take (i + 1) block) ++ drop (i + 1) block ≡ past ++ block =
+      append_assoc past (take (i + 1) block) (drop (i + 1) block) ∙ ap (λ xs. past ++ xs) (take-append-drop (i + 1) block) in
+      subst (λ es. IsIllegalAt (capacity_of declarations) es illegal.at (number_of illegal.rule)) whole
+      (illegal_more (capacity_of declarations) (past ++ take (i + 1) block) (drop (i + 1) block) illegal.at (number_of illegal.rule)
+      (subst (λ es. IsIllegalAt (capacity_of declarations) es illegal.at (number_of illegal.rule)) (front past)
+      (then declarations (past ++ take i block) (before declarations past S))))
 
 -- shards that stand for a list take a block that keeps it legal
 pub take_block : (declarations : List Declaration) (n : ℕ) (past block : List Event) (old new : List ShardState) → ShardsStandFor declarations n old past
@@ -276,7 +283,7 @@ pub same_fault : (a b : JudgeFault) → ◌≡◌ {A = Result (Unit {0}) JudgeFa
 same_fault a b e = cc
 
 module _ (trace : TraceState) (holds : IsTrace trace) where
-  in_range_all : All (IsInRange (counts_of trace.decls.declarations)) trace.events
+  pub in_range_all : All (IsInRange (counts_of trace.decls.declarations)) trace.events
   in_range_all k d less = range_from_fits trace.decls (slice_index_or trace.events k d) (holds.fit k d less)
 
   -- a judge of a front of a trace can take a block behind it

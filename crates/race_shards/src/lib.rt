@@ -1,17 +1,25 @@
 //! Judging by threads: the verdict on a list of events that comes in blocks, from shards that share the variables
-//! among them.
+//! among them. And the witness of a race: an order of the accesses in which the two stand side by side.
 #![tactic(auto)]
 
 mod accepting;
+mod alone;
 mod fault;
 mod feeding;
 mod gate;
 mod judge;
+pub mod laws;
+mod order;
+mod pair;
 mod shard;
 mod telling;
 mod variables;
+mod walking;
 mod whole;
+mod witnessing;
 
-pub use fault::{JudgeFault, MAX_BLOCK, MAX_SHARDS};
+pub use alone::judge_alone;
+pub use fault::{JudgeFault, MAX_BLOCK, MAX_SHARDS, WitnessFault};
 pub use gate::{Gate, OpenGate};
 pub use judge::Judge;
+pub use witnessing::witness;

@@ -1,0 +1,54 @@
+//! The judge of a whole trace on one thread.
+//!
+//! Each event goes to the shard as soon as it was found legal: it is read once, and no block stands between.
+ghost use Rattle.std.specs.Prelude.{◌≡◌, [], ◌∷◌, IfOk};
+ghost use Rattle.race_legal.specs.ReplayState.{counts_in};
+ghost use Rattle.race_verdict.specs.Traces.{HasVerdict};
+ghost use Rattle.race_verdict.specs.Verdicts.{verdict_of};
+ghost use Rattle.race_shards.specs.Judging.{CanJudge, Judges};
+
+use crate::accepting::accept_next;
+use crate::shard::Shard;
+use crate::telling::races;
+use race_legal::{Illegal, Replay};
+use race_records::{Event, Kind, Trace};
+use race_verdict::Verdict;
+use std::alloc::{AllocError, Allocator};
+
+/// The verdict on a trace, by one shard on the caller's thread: as [`Judge::judge`](crate::Judge::judge) gives it, and a
+/// little sooner than with one shard there, since no block of events is gone through twice. Nothing is waited for.
+pub fn judge_alone<A: Allocator + Copy, B: Allocator>(
+    alloc: A,
+    trace: &Trace<B>,
+) -> Result<Verdict<A>, AllocError>
+    ensures { IfOk result (λ verdict. HasVerdict trace.now (verdict_of verdict)) }
+{
+    let mut replay = Replay::new(alloc, trace.decls())?;
+    let mut shard = Shard::new(alloc, trace.decls(), 0, 1)?;
+    if let Some(illegal) = judge_each(&mut replay, &mut shard, trace.events())? {
+        return Ok(Verdict::Illegal(illegal));
+    }
+    let mut shards = Vec::with_capacity(alloc, 1)?;
+    shards.push(shard)?;
+    let vars = trace.decls().count(Kind::Var);
+    Ok(Verdict::of_races(races(alloc, shards.as_slice(), vars)?))
+}
+
+// Judges the events one by one. The first that breaks a rule is told, and the rest isn't looked at.
+fn judge_each<A: Allocator + Copy>(
+    replay: &mut Replay<A>,
+    shard: &mut Shard<A>,
+    events: &[Event],
+) -> Result<Option<Illegal>, AllocError>
+    requires { CanJudge replay.old (shard.old ∷ []) events.now }
+    ensures { IfOk result (λ illegal.
+        Judges replay.old (shard.old ∷ []) events.now illegal replay.new (shard.new ∷ [])) }
+{
+    for event in events {
+        if let Some(illegal) = accept_next(replay, event)? {
+            return Ok(Some(illegal));
+        }
+        shard.take(event)?;
+    }
+    Ok(None)
+}

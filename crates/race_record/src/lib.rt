@@ -2,7 +2,11 @@
 #![tactic(auto)]
 
 mod fault;
+mod finished;
 mod serial;
+mod shared;
+mod workers;
 
 pub use fault::RecordFault;
 pub use serial::record_serial;
+pub use workers::{MAX_WORKERS, record};

@@ -1,0 +1,178 @@
+//! What the workers share under the lock, and what each does there.
+ghost use Rattle.std.specs.Prelude.{◌≡◌, ◌≢◌, ◌⊎◌, [], Bool, None};
+ghost use Rattle.race_hub.specs.Hub.{end_of};
+ghost use Rattle.race_hub.specs.Job.{JobState};
+ghost use Rattle.race_hub.specs.Fires.{IsFired};
+ghost use Rattle.race_hub.specs.Submits.{Takes, Submits};
+
+use race_hub::{Hub, Job, Routine, SubmitFault};
+use race_records::Op;
+use rand_core::{Rng, SeedableRng};
+use rand_xoshiro::SplitMix64;
+use std::alloc::Allocator;
+
+/// Why all workers leave although the hub hasn't ended.
+#[derive(Clone, Copy)]
+pub(crate) enum Stop {
+    /// A worker could not be started.
+    NoThread,
+    /// A growth was refused.
+    OutOfMemory,
+    /// The hub didn't take a job back.
+    Stray,
+}
+
+/// What stands under the lock: the hub, the pick of its next event, where the picks behind it come from, and why all
+/// workers leave, if they are to.
+pub(crate) struct Shared<R, A: Allocator> {
+    hub: Hub<R, A>,
+    pick: u64,
+    picks: SplitMix64,
+    stop: Option<Stop>,
+}
+
+impl<R: Drop, A: Allocator> Drop for Shared<R, A> {
+    fn drop(self) {
+        let Shared {
+            hub: _,
+            pick: _,
+            picks: _,
+            stop: _,
+        } = self;
+    }
+}
+
+/// What a worker is to do next.
+pub(crate) enum Turn<R, A: Allocator> {
+    /// Let this goroutine go on, while it doesn't hold the lock.
+    Run(Job<R, A>),
+    /// Come again: an event happened. Whether two goroutines are ready since, of which another worker may take one.
+    Fired(bool),
+    /// Wait until a job is back.
+    Wait,
+    /// Leave: the hub has ended, or all are to leave.
+    Leave,
+}
+
+// Whether two goroutines go on behind the operation.
+fn lets_two_go_on(op: &Op) -> bool {
+    match op {
+        Op::Go(_) => true,
+        Op::Meet(_, _, _) => true,
+        _ => false,
+    }
+}
+
+impl<R: Routine, A: Allocator + Copy> Shared<R, A> {
+    /// The hub with the picks of this seed.
+    pub(crate) fn new(hub: Hub<R, A>, seed: u64) -> Shared<R, A>
+        ensures hub { result.hub ≡ hub }
+        ensures stop { result.stop ≡ None }
+    {
+        let mut picks = SplitMix64::seed_from_u64(seed);
+        let pick = picks.next_u64();
+        Shared {
+            hub,
+            pick,
+            picks,
+            stop: None,
+        }
+    }
+
+    /// Makes one step of the hub, if there is one to make: whoever has been ready longest is taken, or else the choice of the
+    /// next pick happens.
+    pub(crate) fn step(&mut self) -> Turn<R, A>
+        ensures run { (job : JobState R) → result ≡ Turn.Run job
+            → (end_of self.old.hub ≡ None) × Takes self.old.hub job self.new.hub }
+        ensures fired { (two : Bool) → result ≡ Turn.Fired two → IsFired self.old.pick self.old.hub self.new.hub }
+        ensures idle { (two : Bool) → result ≡ Turn.Fired two → self.old.hub.ready ≡ [] }
+        ensures wait { result ≡ Turn.Wait → (self.new.hub ≡ self.old.hub) × (end_of self.old.hub ≡ None) }
+        ensures leave { result ≡ Turn.Leave
+            → (self.new.hub ≡ self.old.hub) × ((end_of self.old.hub ≢ None) ⊎ (self.new.stop ≢ None)) }
+    {
+        if self.stop.is_some() {
+            return Turn::Leave;
+        }
+        match self.hub.take() {
+            Some(job) => Turn::Run(job),
+            None => self.fire_next(),
+        }
+    }
+
+    // The choice of the next pick happens, if there is one; each event uses up a pick.
+    fn fire_next(&mut self) -> Turn<R, A>
+        ensures run { (job : JobState R) → result ≢ Turn.Run job }
+        ensures fired { (two : Bool) → result ≡ Turn.Fired two → IsFired self.old.pick self.old.hub self.new.hub }
+        ensures wait { result ≡ Turn.Wait → (self.new.hub ≡ self.old.hub) × (end_of self.old.hub ≡ None) }
+        ensures leave { result ≡ Turn.Leave
+            → (self.new.hub ≡ self.old.hub) × ((end_of self.old.hub ≢ None) ⊎ (self.new.stop ≢ None)) }
+    {
+        match self.hub.fire(self.pick) {
+            Ok(true) => {
+                self.pick = self.picks.next_u64();
+                Turn::Fired(self.let_two_go_on())
+            }
+            Ok(false) => if self.hub.end().is_some() {
+                Turn::Leave
+            } else {
+                Turn::Wait
+            },
+            Err(_) => {
+                self.leave_for(Stop::OutOfMemory);
+                Turn::Leave
+            }
+        }
+    }
+
+    // Whether two goroutines go on behind the last event.
+    fn let_two_go_on(&self) -> bool {
+        let trace = self.hub.trace();
+        let len = trace.len();
+        len > 0 && lets_two_go_on(&trace.event(len - 1).op)
+    }
+
+    /// Puts back a job that was taken and has asked since.
+    pub(crate) fn put_back(&mut self, job: Job<R, A>)
+        ensures { Submits self.old.hub job self.new.hub ⊎ ((self.new.hub ≡ self.old.hub) × (self.new.stop ≢ None)) }
+    {
+        match self.hub.submit(job) {
+            Ok(()) => {}
+            // It has ended the hub.
+            Err(SubmitFault::BadRequest) => {}
+            Err(SubmitFault::OutOfMemory(_)) => self.leave_for(Stop::OutOfMemory),
+            Err(SubmitFault::Stray(_)) => self.leave_for(Stop::Stray),
+        }
+    }
+
+    /// The hub, and why all workers left it, if that was not its end.
+    pub(crate) fn into_parts(self) -> (Hub<R, A>, Option<Stop>)
+        ensures hub { result.0 ≡ self.hub }
+        ensures stop { result.1 ≡ self.stop }
+    {
+        let Shared {
+            hub,
+            pick: _,
+            picks: _,
+            stop,
+        } = self;
+        (hub, stop)
+    }
+
+    /// All workers are to leave. That one could not be started is told before all else, and want of memory before a stray job.
+    pub(crate) fn leave_for(&mut self, why: Stop)
+        ensures hub { self.new.hub ≡ self.old.hub }
+        ensures stop { self.new.stop ≢ None }
+    {
+        self.stop = Some(first_of(self.stop, why));
+    }
+}
+
+// Which of two is told.
+fn first_of(known: Option<Stop>, why: Stop) -> Stop {
+    match (known, why) {
+        (Some(Stop::NoThread), _) => Stop::NoThread,
+        (_, Stop::NoThread) => Stop::NoThread,
+        (Some(Stop::OutOfMemory), _) => Stop::OutOfMemory,
+        (_, why) => why,
+    }
+}

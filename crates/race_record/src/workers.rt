@@ -1,0 +1,187 @@
+//! A recording on several threads.
+ghost use Rattle.std.specs.Prelude.{◌≡◌, ◌↔◌, length, false, Err, IfOk, IsTrue};
+ghost use Rattle.race_record.specs.Recorded as spec;
+ghost use Rattle.race_record.specs.Recorded.{IsRecordingOf};
+
+use crate::RecordFault;
+use crate::finished::finished;
+use crate::shared::{Shared, Stop, Turn};
+use race_hub::{Hub, Job, Recording, Routine};
+use race_records::Decls;
+use std::alloc::Allocator;
+use std::sync::{Condvar, Mutex, Wait};
+use std::thread;
+use std::thread::Threads;
+
+/// How many workers there may be at most.
+pub const MAX_WORKERS: usize = 16;
+
+// A definition cites this number, so it is written down twice.
+const _: () = prove!(MAX_WORKERS == 16);
+
+/// Runs the hub to its end on so many threads: each takes the goroutine that has been ready longest and lets it go on up to
+/// its next request, which it puts back; where nobody is ready the choice of the next pick happens. The picks are those of the
+/// seed, and each event uses up one.
+///
+/// Each take, each firing and each putting back happens under one lock, and a goroutine goes on with no lock held. Nothing is
+/// known of what comes out of a lock but its type, so it isn't said which recording comes, nor that its trace begins with the
+/// hub's, that the routines asked what it says that they asked, or that a mismatch has its cause.
+///
+/// No job of the hub is out when it starts.
+pub fn record<T: Threads + Wait + Sync, R: Routine, A: Allocator + Copy + Send>(
+    rt: &T,
+    hub: Hub<R, A>,
+    workers: usize,
+    seed: u64,
+) -> Result<Recording<A>, RecordFault>
+    requires back { length hub.out ≡ 0 }
+    ensures workers { (result ≡ Err RecordFault.BadWorkers) ↔ (spec.are_workers workers ≡ false) }
+    ensures recording { IfOk result (λ recording. IsRecordingOf hub recording) }
+{
+    if !are_workers(workers) {
+        return Err(RecordFault::BadWorkers);
+    }
+    match recorded(rt, hub, workers, seed) {
+        Ok(recording) => Ok(recording),
+        Err(Fault::NoThread) => Err(RecordFault::NoThread),
+        Err(Fault::OutOfMemory) => Err(RecordFault::OutOfMemory),
+        Err(Fault::Mismatch) => Err(RecordFault::Mismatch),
+    }
+}
+
+// Whether there may be so many workers.
+fn are_workers(workers: usize) -> bool
+    ensures { result ≡ spec.are_workers workers }
+{
+    1 <= workers && workers <= MAX_WORKERS
+}
+
+// Why so many workers recorded nothing.
+#[derive(Clone, Copy)]
+enum Fault {
+    NoThread,
+    OutOfMemory,
+    Mismatch,
+}
+
+// Runs the hub to its end on so many threads, of which there is one at least.
+fn recorded<T: Threads + Wait + Sync, R: Routine, A: Allocator + Copy + Send>(
+    rt: &T,
+    hub: Hub<R, A>,
+    workers: usize,
+    seed: u64,
+) -> Result<Recording<A>, Fault>
+    ensures { IfOk result (λ recording. IsRecordingOf hub recording) }
+{
+    // Of what comes out of a lock nothing is known but its type. So what is declared, and the limit, are kept before it.
+    let Ok(decls) = hub.trace().decls().copy() else {
+        return Err(Fault::OutOfMemory);
+    };
+    let limit = hub.limit();
+    let (hub, stop) = run_to_end(rt, hub, workers, seed);
+    match stop {
+        Some(Stop::NoThread) => return Err(Fault::NoThread),
+        Some(Stop::OutOfMemory) => return Err(Fault::OutOfMemory),
+        // A hub with a job that is out gives no recording.
+        Some(Stop::Stray) => {}
+        None => {}
+    }
+    if !is_same(&hub, &decls, limit) {
+        return Err(Fault::Mismatch);
+    }
+    match finished(hub) {
+        Ok(recording) => Ok(recording),
+        Err(_) => Err(Fault::Mismatch),
+    }
+}
+
+// Whether the hub declares the same, in the same order, and has this limit.
+fn is_same<R, A: Allocator>(hub: &Hub<R, A>, decls: &Decls<A>, limit: u32) -> bool
+    ensures declarations { IsTrue result → hub.now.decls.declarations ≡ decls.now.declarations }
+    ensures limit { IsTrue result → hub.now.limit ≡ limit }
+{
+    hub.trace().decls() == decls && hub.limit() == limit
+}
+
+// The hub, once all workers have left.
+fn run_to_end<T: Threads + Wait + Sync, R: Routine, A: Allocator + Copy + Send>(
+    rt: &T,
+    hub: Hub<R, A>,
+    workers: usize,
+    seed: u64,
+) -> (Hub<R, A>, Option<Stop>) {
+    let shared = Mutex::new(Shared::new(hub, seed));
+    let moved = Condvar::new();
+    work_all(rt, &shared, &moved, workers);
+    shared.into_inner().into_parts()
+}
+
+// The workers, of whom the caller is one; returns when all have left.
+fn work_all<T: Threads + Wait + Sync, R: Routine, A: Allocator + Copy + Send>(
+    rt: &T,
+    shared: &Mutex<Shared<R, A>>,
+    moved: &Condvar,
+    workers: usize,
+) {
+    thread::scope(thread::scope_env(), rt, |scope| {
+        for _ in 1..workers {
+            if scope.spawn(move || work(rt, shared, moved)).is_err() {
+                shared.lock(rt).leave_for(Stop::NoThread);
+                break;
+            }
+        }
+        work(rt, shared, moved);
+    });
+}
+
+// One worker: takes, lets go on, puts back and fires, until the hub has ended or all are to leave.
+//
+// Who waits is woken where a second goroutine is ready, and at the end. That is enough: who is awake either has a job, with
+// which it comes again, or looks itself what is to be done.
+fn work<T: Wait, R: Routine, A: Allocator + Copy>(
+    rt: &T,
+    shared: &Mutex<Shared<R, A>>,
+    moved: &Condvar,
+) {
+    for _ in rt.forever() {
+        let mut guard = shared.lock(rt);
+        match guard.step() {
+            Turn::Run(job) => {
+                drop(guard);
+                go_on(rt, shared, job);
+            }
+            Turn::Fired(two) => {
+                drop(guard);
+                if two {
+                    moved.notify_one();
+                }
+            }
+            Turn::Wait => {
+                let guard = moved.wait(rt, guard);
+                drop(guard);
+            }
+            Turn::Leave => {
+                drop(guard);
+                moved.notify_all();
+                break;
+            }
+        }
+    }
+}
+
+// Lets the goroutine go on up to its next request, with no lock held, and puts it back.
+fn go_on<T: Wait, R: Routine, A: Allocator + Copy>(
+    rt: &T,
+    shared: &Mutex<Shared<R, A>>,
+    job: Job<R, A>,
+) {
+    let mut job = job;
+    let refused = job.turn().is_err();
+    let mut guard = shared.lock(rt);
+    if refused {
+        // The hub counts the job as out for ever.
+        guard.leave_for(Stop::OutOfMemory);
+    } else {
+        guard.put_back(job);
+    }
+}

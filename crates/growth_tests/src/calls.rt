@@ -64,7 +64,7 @@ fn run<C: Growing>(alloc: Global, call: C, nth: u64) -> Outcome
 // How often the call answers want of memory until a run meets no refusal, or none where a run is wrong.
 fn refusals<C: Growing>(alloc: Global, call: C) -> Option<u64> {
     let mut refusals = 0u64;
-    for nth in 1..64u64 {
+    for nth in 1..96u64 {
         match run(alloc, call, nth) {
             Outcome::Refused => refusals = refusals.saturating_add(1),
             Outcome::DoneWithout => {}

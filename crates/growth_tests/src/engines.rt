@@ -2,7 +2,9 @@
 
 use crate::calls::{Growing, Reply, assert_each, refused_if, right_if};
 use race_records::{Sink, Source};
-use race_tool::{CheckOptions, RunOptions, run_check, run_edges, run_race, run_run, status};
+use race_tool::{
+    CheckOptions, RunOptions, run_check, run_edges, run_race, run_run, run_witness, status,
+};
 use refusing_heap::RefusingHeap;
 use std::alloc::{Allocator, Global};
 use std::sync::Wait;
@@ -20,17 +22,19 @@ enum Judging {
 enum Engine {
     Check(Judging),
     Edges,
-    Run,
-    Race(Judging),
+    /// By so many workers, or without any by picks.
+    Run(Option<usize>),
+    Race(Option<usize>, Judging),
+    Witness,
 }
 
 // A goroutine, a variable and a race.
 static TRACE: &[u8] =
     b"gotrace 1\ngoroutine w\nvar x\ngo main w p\nwrite main x 1 p\nread w x 1 p\n";
 
-// A run of this has the trace up to its third event.
+// The first three events of each run of this are those of the trace, with the read before the write or behind it.
 static PROGRAM: &[u8] =
-    b"goprogram 1\ngoroutine w\nvar x\nbody main\ngo w p\nwrite x 1 p\nexit p\nbody w\nread x p\nexit p\n";
+    b"goprogram 1\ngoroutine w\nvar x\nbody main\ngo w p\nwrite x 1 p\nrecv nil p\nexit p\nbody w\nread x p\nrecv nil p\nexit p\n";
 
 fn options(judging: Judging) -> CheckOptions {
     match judging {
@@ -45,8 +49,22 @@ fn options(judging: Judging) -> CheckOptions {
     }
 }
 
+fn run_options<A: Allocator>(alloc: A, workers: Option<usize>) -> RunOptions<A> {
+    let usual = RunOptions {
+        limit: 3,
+        ..RunOptions::default()
+    };
+    match workers {
+        Some(workers) => RunOptions { workers, ..usual },
+        None => RunOptions {
+            picks: Some(Vec::new(alloc)),
+            ..usual
+        },
+    }
+}
+
 // The status.
-fn run<R: Threads + Wait, A: Allocator + Copy + Send>(
+fn run<R: Threads + Wait + Sync, A: Allocator + Copy + Send>(
     rt: &R,
     alloc: A,
     engine: Engine,
@@ -55,17 +73,18 @@ fn run<R: Threads + Wait, A: Allocator + Copy + Send>(
     let mut trace = Source::new(TRACE);
     let mut program = Source::new(PROGRAM);
     let mut sink = Sink::new(output);
-    let run = RunOptions {
-        limit: 3,
-        picks: None,
-    };
     match engine {
         Engine::Check(judging) => run_check(rt, alloc, &mut trace, &mut sink, &options(judging)),
         Engine::Edges => run_edges(alloc, &mut trace, &mut sink),
-        Engine::Run => run_run(rt, alloc, &mut program, &mut sink, &run),
-        Engine::Race(judging) => {
-            run_race(rt, alloc, &mut program, &mut sink, &run, &options(judging))
+        Engine::Run(workers) => {
+            let run = run_options(alloc, workers);
+            run_run(rt, alloc, &mut program, &mut sink, &run)
         }
+        Engine::Race(workers, judging) => {
+            let (run, check) = (run_options(alloc, workers), options(judging));
+            run_race(rt, alloc, &mut program, &mut sink, &run, &check)
+        }
+        Engine::Witness => run_witness(alloc, &mut trace, &mut sink, "x"),
     }
 }
 
@@ -78,7 +97,7 @@ struct Row<T> {
     ending: Ending,
 }
 
-impl<R: Threads + Wait> Growing for Row<&R> {
+impl<R: Threads + Wait + Sync> Growing for Row<&R> {
     fn reply(self, heap: &RefusingHeap<Global>, nth: u64) -> Reply {
         let (engine, status, len) = self.ending;
         let mut output = [0; 128];
@@ -95,15 +114,26 @@ impl<R: Threads + Wait> Growing for Row<&R> {
 
 // The judge by one shard takes eight lists: four of the replay, for goroutines and variables, the list of shards, one for
 // the shard's clocks, one for what is kept of its variables, and the races. A second shard takes two of its own. A judged
-// run takes what the run takes, and then what its judge does.
-static ENGINES: [(Ending, u64); 7] = [
+// run takes what the run takes, and then what its judge does. Workers take a copy of the declarations besides. A witness
+// takes four lists more for another replay, one for the clocks of each of three walks, and one for its order.
+static ENGINES: [(Ending, u64); 11] = [
     ((Engine::Check(Judging::Shards(1)), status::RACES, 75), 23),
     ((Engine::Check(Judging::Shards(2)), status::RACES, 75), 25),
     ((Engine::Check(Judging::Plain), status::RACES, 75), 26),
     ((Engine::Edges, status::CLEAN, 25), 21),
-    ((Engine::Run, status::LIMIT, TRACE.len()), 47),
-    ((Engine::Race(Judging::Shards(1)), status::RACES, 86), 55),
-    ((Engine::Race(Judging::Plain), status::RACES, 86), 58),
+    ((Engine::Run(None), status::LIMIT, TRACE.len()), 47),
+    ((Engine::Run(Some(1)), status::LIMIT, TRACE.len()), 60),
+    ((Engine::Run(Some(2)), status::LIMIT, TRACE.len()), 60),
+    (
+        (Engine::Race(None, Judging::Shards(1)), status::RACES, 86),
+        55,
+    ),
+    (
+        (Engine::Race(Some(2), Judging::Shards(2)), status::RACES, 86),
+        70,
+    ),
+    ((Engine::Race(None, Judging::Plain), status::RACES, 86), 58),
+    ((Engine::Witness, status::CLEAN, 46), 31),
 ];
 
 #[test]

@@ -5,7 +5,7 @@ ghost use Rattle.race_shards.specs.Judging.{StandsFor};
 use crate::calls::{Growing, Reply, assert_each, refused_if, right_if};
 use crate::traced::traced;
 use race_records::Trace;
-use race_shards::{Judge, JudgeFault, OpenGate};
+use race_shards::{Judge, JudgeFault, OpenGate, judge_alone};
 use race_verdict::Verdict;
 use refusing_heap::RefusingHeap;
 use std::alloc::{Allocator, Global};
@@ -19,6 +19,7 @@ enum Call {
     Feed,
     Finish,
     Judge,
+    JudgeAlone,
 }
 
 // A goroutine, two variables with a race, and a mutex.
@@ -118,6 +119,13 @@ fn made<A: Allocator + Copy>(heap: A, trace: &Trace<A>, shards: usize) -> Reply 
     }
 }
 
+fn judged_alone<A: Allocator + Copy>(heap: A, trace: &Trace<A>) -> Reply {
+    match judge_alone(heap, trace) {
+        Ok(verdict) => judged(Ok(verdict)),
+        Err(_) => judged::<A>(Err(JudgeFault::OutOfMemory)),
+    }
+}
+
 impl<R: Threads + Wait> Growing for Row<&R> {
     fn reply(self, heap: &RefusingHeap<Global>, nth: u64) -> Reply {
         let Some(trace) = traced(heap, DECLARED, EVENTS) else {
@@ -134,6 +142,10 @@ impl<R: Threads + Wait> Growing for Row<&R> {
                 heap.refuse(nth);
                 judged(Judge::judge(self.rt, heap, &trace, self.shards, 2, &OpenGate))
             }
+            Call::JudgeAlone => {
+                heap.refuse(nth);
+                judged_alone(heap, &trace)
+            }
         }
     }
 }
@@ -141,13 +153,14 @@ impl<R: Threads + Wait> Growing for Row<&R> {
 // A judge takes six lists for its replay (four for goroutines and variables, two for locks), one for its shards, and for
 // each shard the clocks of its goroutines, a list for its locks, and what is kept of its variables. The first unlock of a
 // mutex makes each shard's stamper grow, and at the end there is the list of races.
-static CALLS: [(Call, usize, u64); 6] = [
+static CALLS: [(Call, usize, u64); 7] = [
     (Call::New, 1, 10),
     (Call::New, 2, 13),
     (Call::Feed, 1, 1),
     (Call::Feed, 2, 2),
     (Call::Finish, 2, 1),
     (Call::Judge, 2, 16),
+    (Call::JudgeAlone, 1, 12),
 ];
 
 #[test]

@@ -33,3 +33,5 @@ mod stamps;
 mod texts;
 #[cfg(test)]
 mod traced;
+#[cfg(test)]
+mod witnesses;

@@ -1,16 +1,22 @@
-//! The call of race_record.
+//! The calls of race_record.
 
 use crate::calls::{Growing, Reply, assert_each, refused_if, right_if};
 use crate::programs::parse;
-use race_hub::{End, Hub};
-use race_record::{RecordFault, record_serial};
+use race_hub::{End, Hub, Recording};
+use race_record::{RecordFault, record, record_serial};
 use race_records::Kind;
 use race_script::{Program, Script};
 use refusing_heap::RefusingHeap;
 use std::alloc::{Allocator, Global};
+use std::sync::Wait;
+use std::thread::Threads;
 
+/// The recording by so many workers, or without any by no picks.
 #[derive(Clone, Copy)]
-struct RecordSerial;
+struct Records<T> {
+    rt: T,
+    workers: Option<usize>,
+}
 
 fn scripts_of<A: Allocator + Copy + Send>(
     alloc: A,
@@ -34,33 +40,36 @@ fn hub_of<A: Allocator + Copy + Send>(alloc: A) -> Option<Hub<Script<A>, A>> {
     }
 }
 
-// None where a job is out.
-fn record<A: Allocator + Copy + Send>(hub: Hub<Script<A>, A>) -> Reply {
-    if hub.out() != 0 {
-        return Reply::Wrong;
-    }
-    match record_serial(hub, &[]) {
+fn replied<A: Allocator>(answer: Result<Recording<A>, RecordFault>) -> Reply {
+    match answer {
         Ok(recording) => right_if(recording.end() == End::Main && recording.trace().len() == 2),
         Err(fault) => refused_if(fault == RecordFault::OutOfMemory),
     }
 }
 
-impl Growing for RecordSerial {
+impl<R: Threads + Wait + Sync> Growing for Records<&R> {
     fn reply(self, heap: &RefusingHeap<Global>, nth: u64) -> Reply {
-        match hub_of(heap) {
-            Some(hub) => {
-                heap.refuse(nth);
-                record(hub)
-            }
-            None => Reply::Wrong,
+        let Some(hub) = hub_of(heap) else {
+            return Reply::Wrong;
+        };
+        heap.refuse(nth);
+        if hub.out() != 0 {
+            return Reply::Wrong;
+        }
+        match self.workers {
+            Some(workers) => replied(record(self.rt, hub, workers, 0)),
+            None => replied(record_serial(hub, &[])),
         }
     }
 }
 
-// The log, the requests and what stands behind them, who is through, and the trace.
-static CALLS: [(RecordSerial, u64); 1] = [(RecordSerial, 5)];
+// The log, the requests and what stands behind them, who is through, and the trace. Workers take a copy of the
+// declarations before.
+static CALLS: [(Option<usize>, u64); 3] = [(None, 5), (Some(1), 17), (Some(2), 17)];
 
 #[test]
 fn recordings(rt: HostRuntime) {
-    assert_each(&rt, &CALLS);
+    for &(workers, want) in &CALLS {
+        assert_each(&rt, &[(Records { rt: &rt, workers }, want)]);
+    }
 }

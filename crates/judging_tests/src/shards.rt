@@ -2,3 +2,4 @@
 mod blocks;
 mod gates;
 mod verdicts;
+mod witnesses;

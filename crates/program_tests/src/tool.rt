@@ -10,3 +10,5 @@ mod races;
 mod reading;
 mod rows;
 mod runs;
+mod shown;
+mod witnesses;

@@ -13,15 +13,14 @@ use Rattle.race_tool.specs.declared.check.CheckOptions.{CheckOptions}
 use Rattle.race_tool.specs.declared.run_engine.RunOptions.{RunOptions}
 use Rattle.race_tool.specs.Engines.{Judges}
 use Rattle.race_tool.specs.Outcome.{are_in_limits}
-use Rattle.race_tool.specs.Run.{is_run_limit}
-use Rattle.race_tool.specs.Picks.{picks_asked}
+use Rattle.race_tool.specs.Options.{are_run_limits, picks_asked}
 use Rattle.race_command.specs.Ending.{Does, Declines, Ends, answer_without_words}
 use Rattle.race_command.specs.Request.{is_in_limits}
 
 -- the options of a run that is to be judged are in their limits
 pub both_in_limits : {request : Result Request Error} {asked : Request} {run : RunOptions Global} {check : CheckOptions}
     → request ≡ Ok asked → asked ≡ Request.Race run check
-    → IfOk request (λ asked. IsTrue (is_in_limits asked)) → is_run_limit run.limit && are_in_limits check ≡ true
+    → IfOk request (λ asked. IsTrue (is_in_limits asked)) → are_run_limits run && are_in_limits check ≡ true
 both_in_limits is race limits = subst (λ r. IsTrue (is_in_limits r)) race (subst (λ r. IfOk r (λ asked. IsTrue (is_in_limits asked))) is limits)
 
 module _ {R W : Type 0} (remaining : R → Option (List ℕ)) (contents : W → Option (List ℕ))

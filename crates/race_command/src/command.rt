@@ -1,15 +1,16 @@
 //! The command line: what it asks for.
 ghost use Rattle.std.specs.Prelude.{◌≤◌, IsTrue, IfOk, IfSome};
 ghost use Rattle.race_tool.specs.Outcome.{are_in_limits};
-ghost use Rattle.race_tool.specs.Run.{is_run_limit};
+ghost use Rattle.race_tool.specs.Options.{are_run_limits};
 ghost use Rattle.race_command.specs.Request.{is_in_limits};
 
 use crate::help;
 use crate::number::{number_in, picks_in};
+use crate::showing::{shown_variable, witness};
 use clap::error::ErrorKind;
 use clap::{Arg, ArgAction, ArgMatches, Command, Error};
 use race_records::MAX_EVENTS;
-use race_tool::{CheckOptions, MAX_BLOCK, MAX_SHARDS, RunOptions};
+use race_tool::{CheckOptions, MAX_BLOCK, MAX_SHARDS, MAX_WORKERS, RunOptions};
 use std::alloc::{AllocError, Global};
 use std::convert::AsStr;
 
@@ -24,6 +25,8 @@ pub(crate) enum Request {
     Run(RunOptions),
     /// Run the program on standard input, and judge the run.
     Race(RunOptions, CheckOptions),
+    /// Show the race on the variable of this name of the trace on standard input.
+    Witness(String),
 }
 
 /// A command that has numbers for options.
@@ -79,6 +82,9 @@ fn request_in(alloc: Global, matches: &ArgMatches<'_>) -> Result<Request, Error>
         let check = check_options(alloc, Numbered::Race, given)?;
         return Ok(Request::Race(run_options(alloc, Numbered::Race, given)?, check));
     }
+    if let Some(given) = matches.subcommand_matches("witness") {
+        return Ok(Request::Witness(shown_variable(alloc, given)?));
+    }
     match matches.subcommand_matches("edges") {
         Some(_) => Ok(Request::Edges),
         None => Err(no_command(alloc)?),
@@ -98,7 +104,8 @@ fn gorace<'a>(alloc: Global) -> Result<Command<'a>, AllocError> {
     let command = with_subcommand(command, check(alloc))?;
     let command = with_subcommand(command, Ok(edges(alloc)))?;
     let command = with_subcommand(command, run(alloc))?;
-    with_subcommand(command, race(alloc))
+    let command = with_subcommand(command, race(alloc))?;
+    with_subcommand(command, witness(alloc))
 }
 
 // The command, with this one below it.
@@ -157,26 +164,39 @@ fn with_check_options<'a>(alloc: Global, command: Command<'a>) -> Result<Command
             alloc,
             "block",
             "N",
-            "How many events the shards are handed at a time, 1 to 65536 [default: 65536]",
+            "How many events several shards are handed at a time, 1 to 65536 [default: 65536]",
         ))?
         .arg(plain)
 }
 
 // The command, with the options that say how a program is run.
 fn with_run_options<'a>(alloc: Global, command: Command<'a>) -> Result<Command<'a>, AllocError> {
+    let picks = option(
+        alloc,
+        "picks",
+        "LIST",
+        "Numbers with commas between them, which say what happens next, on one thread",
+    );
     command
+        .arg(option(
+            alloc,
+            "workers",
+            "N",
+            "How many workers run the goroutines, each past the first a thread of its own, 1 to 16 [default: 1]",
+        ))?
+        .arg(option(
+            alloc,
+            "seed",
+            "N",
+            "What the workers' picks start from, which say what happens next [default: 0]",
+        ))?
         .arg(option(
             alloc,
             "limit",
             "N",
             "How many events the run may have, 1 to 16777216 [default: 16777216]",
         ))?
-        .arg(option(
-            alloc,
-            "picks",
-            "LIST",
-            "Numbers with commas between them, which say what happens next",
-        ))
+        .arg(picks.conflicts_with("workers")?.conflicts_with("seed")?)
 }
 
 // The option of this name, and what its value is called.
@@ -209,11 +229,14 @@ fn run_options(
     command: Numbered,
     given: &ArgMatches<'_>,
 ) -> Result<RunOptions, Error>
-    ensures { IfOk result (λ options. IsTrue (is_run_limit options.limit)) }
+    ensures { IfOk result (λ options. IsTrue (are_run_limits options)) }
 {
-    let limit = limited(alloc, command, given, "limit", MAX_EVENTS)?.unwrap_or(MAX_EVENTS);
+    let usual: RunOptions = RunOptions::default();
+    let limit = limited(alloc, command, given, "limit", MAX_EVENTS)?;
     Ok(RunOptions {
-        limit: limit as u32,
+        workers: limited(alloc, command, given, "workers", MAX_WORKERS)?.unwrap_or(usual.workers),
+        seed: seed(alloc, command, given)?.unwrap_or(usual.seed),
+        limit: limit.unwrap_or(usual.limit as usize) as u32,
         picks: picks(alloc, command, given)?,
     })
 }
@@ -233,6 +256,20 @@ fn picks(
             let text = format!(in alloc;
                 "--picks takes numbers with commas between them, not '{word}'"
             )?;
+            Err(command.refuse(alloc, text.as_str())?)
+        }
+    }
+}
+
+// The number that is given for the seed.
+fn seed(alloc: Global, command: Numbered, given: &ArgMatches<'_>) -> Result<Option<u64>, Error> {
+    let Some(word) = given.get_str("seed") else {
+        return Ok(None);
+    };
+    match number_in(word, 0, u64::MAX) {
+        Some(seed) => Ok(Some(seed)),
+        None => {
+            let text = format!(in alloc; "--seed takes a number, not '{word}'")?;
             Err(command.refuse(alloc, text.as_str())?)
         }
     }

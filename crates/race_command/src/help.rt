@@ -60,6 +60,35 @@ Statuses:
   4   memory was refused
   5   reading or writing failed";
 
+pub(crate) const WITNESS_ABOUT: &str =
+    "Reads a trace from standard input and shows the race on a variable";
+
+pub(crate) const WITNESS_USAGE: &str = "gorace witness VAR < TRACE";
+
+pub(crate) const WITNESS_HELP: &str = "\
+A check names two accesses of a variable that race. This writes all accesses of
+the trace in an order in which these two stand side by side, the second before
+the first, and their count. Of the trace of 'gorace check --help' it shows on x
+
+  3 read w x
+  2 write main x
+  witness: 2 accesses
+
+An order shows a race if each access stands behind all that happen before it:
+'gorace edges' lists what that comes from, and what one goroutine does in order.
+In front stand the accesses that happen before either of the two, then the two,
+then all others. It isn't said that a run of the program takes this order, or
+that reads which come later in it find the values that they found.
+
+Statuses:
+  0   the accesses are written
+  14  the name is that of no variable with a race
+  1   an event that breaks a rule of traces; its number, and the rule
+  2   not a trace; the line at fault and why
+  3   usage
+  4   memory was refused
+  5   reading or writing failed";
+
 pub(crate) const RUN_ABOUT: &str =
     "Reads a program from standard input, runs it, and writes the trace";
 
@@ -87,7 +116,11 @@ A goroutine goes on to its next step as soon as it has done one. Where several
 could do their steps next, a pick says which: they stand in the order in which
 they came to their steps, a meet where its sender stands, and a pick is a number
 modulo their count. Each event uses up a pick; behind the last one they are 0.
-With --picks 0,0,0,1 main reads before w exits; else w exits first.
+With --picks 0,0,0,1 main reads before w exits; with --picks 0 w exits first.
+
+Without --picks workers run the goroutines, each on a thread, and the picks come
+from the --seed. One worker gives the same run for the same seed; with several
+no two runs need be alike, since it matters which of them comes first.
 
 'gorace race' runs a program in the same way, and judges the run.
 
@@ -99,7 +132,7 @@ Statuses:
   13  a goroutine asked what can't be, as to start another a second time
   2   not a program; the line at fault and why
   3   usage
-  4   memory was refused
+  4   memory or a thread was refused
   5   reading or writing failed
   15  the run could not be recorded, or what was recorded isn't a run of the program";
 
@@ -132,7 +165,7 @@ Here the write and the read race, for nothing orders them:
 
 The last line is 'end: main', 'end: fault', 'end: deadlock', 'end: limit', or
 'end: bad NAME' of a goroutine that asked what can't be. One run is judged:
-another, by other picks, may have races that this one hasn't.
+another, by other picks or another seed, may have races that this one hasn't.
 
 Statuses:
   66  data races, however the run ended

@@ -5,5 +5,6 @@ mod command;
 mod help;
 mod number;
 mod program;
+mod showing;
 
 pub use program::run;

@@ -11,7 +11,7 @@ use crate::command::{Request, parse};
 use clap::Error;
 use clap::error::ErrorKind;
 use race_records::{Sink, Source};
-use race_tool::{run_check, run_edges, run_race, run_run, status};
+use race_tool::{run_check, run_edges, run_race, run_run, run_witness, status};
 use std::alloc::Global;
 use std::env::Args;
 use std::io;
@@ -23,20 +23,21 @@ use std::thread::Threads;
 /// Does what the words ask for, and says on standard error what no report says.
 ///
 /// A check ends with the status that `run_check` answers, a listing of edges with that of
-/// `run_edges`, a run with that of `run_run`, a judged run with that of `run_race`. Help and the
+/// `run_edges`, a run with that of `run_run`, a judged run with that of `run_race`, a witness with that of
+/// `run_witness`. Help and the
 /// version end with 0, or with 5 where they can't be printed. Words that are at fault or aren't text
 /// end with 3, of which a line on standard error tells, and want of memory for them with 4.
 ///
-/// A check and a judged run by several shards start threads and wait for them. So what is promised holds
-/// where the call returns, and it returns if its reads, writes and threads do.
-pub fn run<T: AllocGlobal + Print + Eprint + Threads + Wait, R: Read, W: Write>(
+/// Several shards and several workers are threads, for which the call waits. So what is promised holds
+/// where it returns, and it returns if its reads, writes and threads do.
+pub fn run<T: AllocGlobal + Print + Eprint + Threads + Wait + Sync, R: Read, W: Write>(
     rt: &T,
     args: io::Result<Args>,
     source: &mut Source<R>,
     sink: &mut Sink<W>,
 ) -> ExitCode
-    // The input is checked, its edges are listed, it is run, or it is run and judged, or the words ask
-    // for none of these, and nothing is read or written.
+    // The input is checked, its edges are listed, a race of it is shown, it is run, or it is run and judged,
+    // or the words ask for none of these, and nothing is read or written.
     ensures words { IfOk args (λ words.
         Ends R.remaining W.contents source.old source.new sink.old sink.new (exit_status result)) }
 
@@ -65,7 +66,7 @@ fn words_of(alloc: Global, args: io::Result<Args>) -> io::Result<Vec<String>>
 }
 
 // Does what the words ask for.
-fn answer_words<T: AllocGlobal + Print + Eprint + Threads + Wait, R: Read, W: Write>(
+fn answer_words<T: AllocGlobal + Print + Eprint + Threads + Wait + Sync, R: Read, W: Write>(
     rt: &T,
     words: io::Result<Vec<String>>,
     source: &mut Source<R>,
@@ -83,7 +84,7 @@ fn answer_words<T: AllocGlobal + Print + Eprint + Threads + Wait, R: Read, W: Wr
 }
 
 // Does what was asked for, or says why nothing is done.
-fn answer_request<T: AllocGlobal + Print + Eprint + Threads + Wait, R: Read, W: Write>(
+fn answer_request<T: AllocGlobal + Print + Eprint + Threads + Wait + Sync, R: Read, W: Write>(
     rt: &T,
     request: Result<Request, Error>,
     source: &mut Source<R>,
@@ -101,6 +102,7 @@ fn answer_request<T: AllocGlobal + Print + Eprint + Threads + Wait, R: Read, W: 
             Request::Edges => run_edges(rt.alloc(), source, sink),
             Request::Run(options) => run_run(rt, rt.alloc(), source, sink, &options),
             Request::Race(run, check) => run_race(rt, rt.alloc(), source, sink, &run, &check),
+            Request::Witness(name) => run_witness(rt.alloc(), source, sink, name.as_str()),
         },
         Err(error) => print(rt, &error),
     }

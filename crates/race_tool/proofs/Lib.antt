@@ -5,6 +5,8 @@ pub mod StatusLemmas
 pub mod OneReport
 pub mod EachIsJudged
 pub mod ListingLemmas
+pub mod OptionLemmas
 pub mod RunLemmas
 pub mod RaceLemmas
 pub mod PromiseLemmas
+pub mod WitnessLemmas

@@ -33,7 +33,7 @@ module _ {R W : Type 0} (remaining : R → Option (List ℕ)) (contents : W → 
         (λ found bytes right same. illegal_text plain found bytes right same);
   }
 
-  pub judges : (limit : ℕ) (picks : List ℕ) (plain : Bool)
+  pub judges : (limit : ℕ) (picks : Option (List ℕ)) (plain : Bool)
       → Answers program_causes (IsJudgedRun limit picks plain) judged_text judged_status (IsProgramWhere (IsRefusedRun limit picks))
       remaining contents source source_now sink sink_now answer
       → Judges limit picks plain remaining contents source source_now sink sink_now answer

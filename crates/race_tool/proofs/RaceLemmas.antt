@@ -4,6 +4,7 @@ use Rattle.race_records.specs.declared.event.Event.{Event}
 use Rattle.race_records.specs.Declarations.{DeclsState, capacity_of}
 use Rattle.race_records.specs.Events.{TraceState}
 use Rattle.race_records.specs.TraceEquality.{placed, recorded}
+use Rattle.race_model.specs.Legal.{IsLegal}
 use Rattle.race_model.specs.Verdict.{Verdict, IsVerdict, Illegal, Clean, Races}
 use Rattle.race_model.proofs.Uniqueness.{illegal_not_legal}
 use Rattle.race_edges.specs.declared.fault.TheConstants.{MAX_PLAIN_EVENTS}
@@ -23,7 +24,7 @@ use Rattle.race_tool.specs.Outcome.{IsOfAFinding}
 use Rattle.race_tool.specs.Race.{JudgedRun, NoProgram, Ran, HasRunWhere, IsJudgedRun, verdict_text, judged_status}
 use Rattle.race_tool.specs.Recorded.{trace_of, judged_run_of, CanBePrinted}
 use Rattle.race_tool.specs.Report.{end_line}
-use Rattle.race_tool.specs.Run.{status_of_end, IsProgramWhere}
+use Rattle.race_tool.specs.Run.{status_of_end, IsProgramWhere, IsRunOf, IsTraceOf}
 use Rattle.race_tool.proofs.OneReport.{report_same}
 use Rattle.race_tool.proofs.RunLemmas.{trace_stays, end_own}
 use Rattle.race_tool.proofs.StatusLemmas.{is_clean, is_racy, small, large}
@@ -64,13 +65,19 @@ no_end_is_illegal End.Deadlock is = absurd (omega (arith, is))
 no_end_is_illegal End.Limit is = absurd (omega (arith, is))
 no_end_is_illegal (End.Bad g) is = absurd (omega (arith, is))
 
+-- the trace of a run is legal
+legal_run : {limit : ℕ} {picks : Option (List ℕ)} {program : ProgramState} (r : RecordingState) (trace : TraceState) → IsTraceOf r trace
+    → IsRunOf limit picks program r → IsLegal (capacities trace) trace.events
+legal_run r trace is_of run = subst (λ (d : DeclsState). IsLegal (capacity_of d.declarations) trace.events) (sym is_of.decls)
+    (subst (λ (es : List Event). IsLegal (capacity_of r.decls.declarations) es) (sym is_of.events) run.recording.legal)
+
 -- no event of a run breaks a rule
-module _ (limit : ℕ) (picks : List ℕ) (plain : Bool) (bytes : List ℕ) where
+module _ (limit : ℕ) (picks : Option (List ℕ)) (plain : Bool) (bytes : List ℕ) where
   pub never_illegal : (judged : JudgedRun) → IsJudgedRun limit picks plain bytes judged → judged_status judged ≢ status.ILLEGAL
   never_illegal (NoProgram fault) right is = absurd (omega (arith, is))
   never_illegal (Ran program r trace None) right is = absurd (omega (arith, is))
   never_illegal (Ran program r trace (Some (Illegal index rule))) right is =
-      illegal_not_legal (capacities trace) trace.events index rule right.3.1 right.2.legal
+      illegal_not_legal (capacities trace) trace.events index rule right.3.1 (legal_run r trace right.2 right.1)
   never_illegal (Ran program r trace (Some Clean)) right is = no_end_is_illegal r.end is
   never_illegal (Ran program r trace (Some (Races races))) right is = absurd (omega (arith, is))
 

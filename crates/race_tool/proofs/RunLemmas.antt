@@ -1,23 +1,24 @@
 -- What a run is, by what is known of its parts.
 use Rattle.std.proofs.Common.{ℕ, ◌≡◌, ◌⊎◌, inl, inr, ◌+◌, ◌≤◌, ◌++◌, List, [], ◌∷◌, length, map, take, All}
-use Rattle.std.proofs.Common.{IsTrue, Some, Result, Ok, Err, IfOk, IfErr, refl, sym, ap, subst, ◌∙◌, arith, slice_get}
+use Rattle.std.proofs.Common.{IsTrue, Option, Some, None, Result, Ok, Err, IfOk, IfErr, refl, sym, ap, subst, ◌∙◌, arith, slice_get}
+use Rattle.std.specs.Prelude.{IfSome}
 use Rattle.std.proofs.lemmas.List.{map-append, take_all}
 use Rattle.race_legal.proofs.Fronts.{take_next}
 use Rattle.race_records.specs.declared.event.Event.{Event}
 use Rattle.race_records.specs.declared.trace.TheConstants.{MAX_EVENTS}
-use Rattle.race_records.specs.Declarations.{DeclsState, IsWellFormed, capacity_of}
+use Rattle.race_records.specs.Declarations.{DeclsState, IsWellFormed}
 use Rattle.race_records.specs.Events.{TraceState, IsTrace, fits, op_is_limited}
-use Rattle.race_model.specs.Legal.{IsLegal}
 use Rattle.race_text.specs.Text.{text}
 use Rattle.race_text.proofs.WritingLemmas.{printed_is}
 use Rattle.race_hub.specs.declared.ending.End.{End}
 use Rattle.race_hub.specs.declared.request.Request.{Request}
 use Rattle.race_hub.specs.Hub.{HubState}
 use Rattle.race_hub.specs.Opening.{IsOpening}
-use Rattle.race_hub.specs.Recording.{RecordingState, AreParts, HasEnded}
+use Rattle.race_hub.specs.Recording.{RecordingState}
 use Rattle.race_script.specs.Certificate.{IsCertified}
 use Rattle.race_script.specs.Program.{ProgramState}
 use Rattle.race_script.specs.Run.{ScriptState, Asks}
+use Rattle.race_record.specs.Recorded.{IsRecordingOf}
 use Rattle.race_record.specs.Serial.{IsSerial, IsTurnedAway}
 use Rattle.race_tool.specs.declared.status.TheConstants as status
 use Rattle.race_tool.specs.Outcome.{IsOfAFinding}
@@ -46,43 +47,41 @@ pub all_scripts : (program : ProgramState) (n : ℕ) (scripts : List ScriptState
 all_scripts program n scripts count so =
     so ∙ ap (map (λ body. record { whole = body; position = 0 })) (take_all n program.bodies (omega (arith, count)))
 
-module _ (program : ProgramState) (limit : ℕ) (picks : List ℕ) (decls : DeclsState) (scripts : List ScriptState) (hub : HubState ScriptState)
+module _ (program : ProgramState) (limit : ℕ) (picks : Option (List ℕ)) (decls : DeclsState) (scripts : List ScriptState) (hub : HubState ScriptState)
     (decls_are : decls ≡ program.decls) (scripts_are : scripts ≡ scripts_of program) (opens : IsOpening decls limit scripts hub) where
   opens_program : IsOpening program.decls limit (scripts_of program) hub
   opens_program = subst (λ d. IsOpening d limit (scripts_of program) hub) decls_are (subst (λ s. IsOpening decls limit s hub) scripts_are opens)
 
-  -- the recording is one of a run of the program
-  is_run_of : (r : RecordingState) → IsSerial Asks picks hub r → r.decls ≡ hub.decls → HasEnded hub.limit r → IsCertified program r
-      → IsRunOf limit picks program r
-  is_run_of r serial same ended certified = record {
-    hub = hub;
-    opens = opens_program;
-    serial = serial;
-    decls = same ∙ ap (λ (h : HubState ScriptState). h.decls) opens.hub_is ∙ decls_are;
-    certified = certified;
-    ended = subst (λ n. HasEnded n r) (ap (λ (h : HubState ScriptState). h.limit) opens.hub_is) ended;
-  }
-
-  is_refused : IsTurnedAway Asks picks hub ⊎ IsUncertified picks program hub → IsRefusedRun limit picks program
-  is_refused refused = record { hub = hub; opens = opens_program; refused = refused }
-
   -- nothing was recorded
-  pub turned_away : IsTurnedAway Asks picks hub → IsRefusedRun limit picks program
-  turned_away away = is_refused (inl away)
+  pub turned_away : IfSome picks (λ list. IsTurnedAway Asks list hub) → IsRefusedRun limit picks program
+  turned_away away = record { hub = hub; opens = opens_program; refused = by picks away }
+    where
+      by : (o : Option (List ℕ)) → IfSome o (λ list. IsTurnedAway Asks list hub) → IfSome o (λ list. IsTurnedAway Asks list hub ⊎ IsUncertified list program hub)
+      by (Some list) is = inl is
+      by None is = tt
 
   -- what was recorded was held against the program
-  module _ (r : RecordingState) (serial : IsSerial Asks picks hub r) where
-    pub certified_run : {E : Type 0} (answer : Result RecordingState E) → r.decls ≡ hub.decls → HasEnded hub.limit r
+  module _ (r : RecordingState) (serial : IfSome picks (λ list. IsSerial Asks list hub r)) where
+    pub certified_run : {E : Type 0} (answer : Result RecordingState E) → IsRecordingOf hub r
         → IfOk answer (λ s. s ≡ r) → IfOk answer (λ s. IsCertified program s) → IfOk answer (λ s. IsRunOf limit picks program s)
-    certified_run (Ok s) same ended is certified =
-        subst (λ (x : RecordingState). IsRunOf limit picks program x) (sym is)
-        (is_run_of r serial same ended (subst (λ (x : RecordingState). IsCertified program x) is certified))
-    certified_run (Err e) same ended is certified = tt
+    certified_run (Ok s) recording is certified =
+        subst (λ (x : RecordingState). IsRunOf limit picks program x) (sym is) record {
+          hub = hub;
+          opens = opens_program;
+          recording = recording;
+          serial = serial;
+          certified = subst (λ (x : RecordingState). IsCertified program x) is certified;
+        }
+    certified_run (Err e) recording is certified = tt
 
     pub uncertified_run : {E : Type 0} (answer : Result RecordingState E) (e : E) → IfErr answer (λ _. IsCertified program r → ⊥) → answer ≡ Err e
         → IsRefusedRun limit picks program
     uncertified_run (Ok s) e none is = absurd (cc is)
-    uncertified_run (Err f) e none is = is_refused (inr (r, serial, none))
+    uncertified_run (Err f) e none is = record { hub = hub; opens = opens_program; refused = by picks serial }
+      where
+        by : (o : Option (List ℕ)) → IfSome o (λ list. IsSerial Asks list hub r) → IfSome o (λ list. IsTurnedAway Asks list hub ⊎ IsUncertified list program hub)
+        by (Some list) is = inr (r, is, none)
+        by None is = tt
 
 -- from a new hub no job is out
 pub none_out : {R : Type 0} (decls : DeclsState) (limit : ℕ) (boxes : List R) (hub : HubState R) → IsOpening decls limit boxes hub → length hub.out ≡ 0
@@ -99,17 +98,14 @@ trace_stays t u decls_are events_are is = record {
 
 -- the recording's trace, once its declarations and events were looked at
 pub is_trace_of : (r : RecordingState) (trace : TraceState) (decls : DeclsState) → trace.decls ≡ r.decls → trace.events ≡ r.events
-    → IsLegal (capacity_of r.decls.declarations) r.events → AreParts r.logs r.events → decls ≡ trace.decls → IsWellFormed decls → IsTrace trace
-    → IsTraceOf r (trace_of r)
-is_trace_of r trace decls decls_are events_are legal parts same well_formed is_trace = record {
+    → decls ≡ trace.decls → IsWellFormed decls → IsTrace trace → IsTraceOf r (trace_of r)
+is_trace_of r trace decls decls_are events_are same well_formed is_trace = record {
   decls = refl;
   events = refl;
   has_text = record {
     well_formed = subst IsWellFormed (same ∙ decls_are) well_formed;
     is_trace = trace_stays trace (trace_of r) decls_are events_are is_trace;
   };
-  legal = legal;
-  parts = parts;
 }
 
 -- it has the text of each trace that has the same declarations and events

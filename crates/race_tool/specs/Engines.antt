@@ -31,15 +31,15 @@ abbrev pub Lists : {R W : Type 0} → (R → Option (List ℕ)) → (W → Optio
 Lists remaining contents source source_now sink sink_now answer =
     Answers trace_causes IsListing listing_text listing_status Never remaining contents source source_now sink sink_now answer
 
--- a program was run, with at most so many events and by these picks
-abbrev pub Runs : {R W : Type 0} → ℕ → List ℕ → (R → Option (List ℕ)) → (W → Option (List ℕ)) → Source R → Source R → Sink W → Sink W → ℕ → Type 0
+-- a program was run, with at most so many events, by these picks or without any by workers
+abbrev pub Runs : {R W : Type 0} → ℕ → Option (List ℕ) → (R → Option (List ℕ)) → (W → Option (List ℕ)) → Source R → Source R → Sink W → Sink W → ℕ → Type 0
 Runs limit picks remaining contents source source_now sink sink_now answer =
     Answers program_causes (IsRun limit picks) run_text run_status (IsProgramWhere (IsRefusedRun limit picks))
     remaining contents source source_now sink sink_now answer
 
--- a program was run, and the run was judged, by the plain judge or not. No event of a run breaks a rule. With CLEAN a run by the picks has no
--- data race (that main returned in it, `answers` says); with RACES one has
-pub record Judges {R W : Type 0} (limit : ℕ) (picks : List ℕ) (plain : Bool) (remaining : R → Option (List ℕ))
+-- a program was run, and the run was judged, by the plain judge or not. No event of a run breaks a rule. With CLEAN a run (by the picks, if there
+-- are any) has no data race (that main returned in it, `answers` says); with RACES one has
+pub record Judges {R W : Type 0} (limit : ℕ) (picks : Option (List ℕ)) (plain : Bool) (remaining : R → Option (List ℕ))
     (contents : W → Option (List ℕ)) (source source_now : Source R) (sink sink_now : Sink W) (answer : ℕ) : Type 0 where
   pub answers : Answers program_causes (IsJudgedRun limit picks plain) judged_text judged_status (IsProgramWhere (IsRefusedRun limit picks))
       remaining contents source source_now sink sink_now answer

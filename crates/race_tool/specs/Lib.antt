@@ -7,7 +7,9 @@ pub mod Listings
 pub mod Run
 pub mod Race
 pub mod Recorded
-pub mod Picks
+pub mod Options
 pub mod Outcome
 pub mod Engines
 pub mod Laws
+pub mod Witness
+pub mod Witnesses

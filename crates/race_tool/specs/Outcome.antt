@@ -6,12 +6,12 @@ use Rattle.race_records.specs.declared.sink.Sink.{Sink}
 use Rattle.race_records.specs.Devices.{unread, written, source_failures, sink_failures, one_more}
 use Rattle.race_records.specs.Page.{IsCutOff}
 use Rattle.race_tool.specs.declared.check.CheckOptions.{CheckOptions}
+use Rattle.race_tool.specs.declared.engine.NoFinding.{NoFinding}
 use Rattle.race_shards.specs.declared.fault.TheConstants.{MAX_SHARDS, MAX_BLOCK}
 use Rattle.race_tool.specs.declared.input.ReadFault.{ReadFault}
 use Rattle.race_tool.specs.declared.status.TheConstants as status
 use Rattle.race_text.specs.declared.cause.TextFault.{TextFault}
 use Rattle.race_text.specs.Lines.{Causes}
-use Rattle.race_record.specs.declared.fault.RecordFault.{RecordFault}
 use Rattle.race_tool.specs.Input.{Reads, ReadsAll, ReadsFine, ReadsMany, IsInput, IsReadBy}
 
 -- each option is in its limits
@@ -47,9 +47,9 @@ IsTextOnly IsText Holds (Err fault) = ⊥
 
 -- what was found of what was read: it is right, or of a text whose this holds nothing was recorded
 pub record Finds {V F : Type 0} (IsText : V → List ℕ → Type 0) (causes : Causes) (IsRight : List ℕ → F → Type 0)
-    (IsUnrecorded : List ℕ → Type 0) (text : Result V TextFault) (found : Result F RecordFault) : Type 0 where
+    (IsUnrecorded : List ℕ → Type 0) (text : Result V TextFault) (found : Result F NoFinding) : Type 0 where
   pub ok : IfOk found (λ f. IsRightBy IsText causes IsRight text f)
-  pub mismatch : found ≡ Err RecordFault.Mismatch → IsTextOnly IsText IsUnrecorded text
+  pub mismatch : found ≡ Err NoFinding.Unrecorded → IsTextOnly IsText IsUnrecorded text
 
 -- the text of a right finding was written, and the status is the finding's
 pub record WritesText {F : Type 0} (IsRight : F → Type 0) (text : F → List ℕ)

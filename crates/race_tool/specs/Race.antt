@@ -23,7 +23,7 @@ pub data JudgedRun : Type 0 where
   Ran : (program : ProgramState) (recording : RecordingState) (trace : TraceState) (verdict : Option Verdict) → JudgedRun
 
 -- the finding is right for the bytes, where the plain judge is wanted or not
-abbrev pub IsJudgedRun : ℕ → List ℕ → Bool → List ℕ → JudgedRun → Type 0
+abbrev pub IsJudgedRun : ℕ → Option (List ℕ) → Bool → List ℕ → JudgedRun → Type 0
 IsJudgedRun limit picks plain bytes (NoProgram fault) = text_fault bytes ≡ Some fault
 IsJudgedRun limit picks plain bytes (Ran program r trace verdict) =
     IsTextOf program bytes × IsRunOf limit picks program r × IsTraceOf r trace × IsVerdictOn plain trace verdict
@@ -53,8 +53,8 @@ abbrev pub judged_status : JudgedRun → ℕ
 judged_status (NoProgram fault) = status.TEXT_FAULT
 judged_status (Ran program r trace verdict) = verdict_status r verdict
 
--- a run of the program by these picks has a trace of which this holds
-pub record HasRunWhere (limit : ℕ) (picks : List ℕ) (Holds : TraceState → Type 0) (program : ProgramState) : Type 0 where
+-- a run of the program, by the picks if there are any, has a trace of which this holds
+pub record HasRunWhere (limit : ℕ) (picks : Option (List ℕ)) (Holds : TraceState → Type 0) (program : ProgramState) : Type 0 where
   pub recording : RecordingState
   pub trace : TraceState
   pub run : IsRunOf limit picks program recording

@@ -1,20 +1,19 @@
 -- What a run finds of a list of bytes, what it prints of it, and with which status.
-use Rattle.std.specs.Prelude.{ℕ, ◌≡◌, ◌&&◌, ◌⊎◌, nat_le, Bool, List, map, Some}
+use Rattle.std.specs.Prelude.{ℕ, ◌≡◌, ◌&&◌, ◌⊎◌, nat_le, Bool, List, map, Option, Some, IfSome}
 use Rattle.race_records.specs.declared.trace.TheConstants.{MAX_EVENTS}
-use Rattle.race_records.specs.Declarations.{capacity_of}
 use Rattle.race_records.specs.Events.{TraceState}
-use Rattle.race_model.specs.Legal.{IsLegal}
 use Rattle.race_text.specs.declared.cause.TextFault.{TextFault}
 use Rattle.race_text.specs.Text.{HasText, text}
 use Rattle.race_hub.specs.declared.ending.End.{End}
 use Rattle.race_hub.specs.Hub.{HubState}
 use Rattle.race_hub.specs.Opening.{IsOpening}
-use Rattle.race_hub.specs.Recording.{RecordingState, AreParts, HasEnded}
+use Rattle.race_hub.specs.Recording.{RecordingState}
 use Rattle.race_script.specs.Certificate.{IsCertified}
 use Rattle.race_script.specs.Fault.{text_fault}
 use Rattle.race_script.specs.Program.{ProgramState}
 use Rattle.race_script.specs.Run.{ScriptState, Asks}
 use Rattle.race_script.specs.Text.{IsTextOf}
+use Rattle.race_record.specs.Recorded.{IsRecordingOf}
 use Rattle.race_record.specs.Serial.{IsSerial, IsTurnedAway}
 use Rattle.race_report.specs.Report.{fault_line}
 use Rattle.race_tool.specs.declared.status.TheConstants as status
@@ -34,37 +33,34 @@ pub data Run : Type 0 where
 abbrev pub scripts_of : ProgramState → List ScriptState
 scripts_of program = map (λ body. record { whole = body; position = 0 }) program.bodies
 
--- the recording to which a hub of the program's scripts comes by these picks: it declares the same, follows the program, and has ended
--- as it says. That its trace is legal, and each log its goroutine's part of it, IsTraceOf says
-pub record IsRunOf (limit : ℕ) (picks : List ℕ) (program : ProgramState) (r : RecordingState) : Type 0 where
+-- a recording of a hub of the program's scripts, which follows the program. With picks it is the one to which the hub comes by them on
+-- one thread; without, workers made it, and nothing says which of the program's runs they record
+pub record IsRunOf (limit : ℕ) (picks : Option (List ℕ)) (program : ProgramState) (r : RecordingState) : Type 0 where
   pub hub : HubState ScriptState
   pub opens : IsOpening program.decls limit (scripts_of program) hub
-  pub serial : IsSerial Asks picks hub r
-  pub decls : r.decls ≡ program.decls
+  pub recording : IsRecordingOf hub r
+  pub serial : IfSome picks (λ list. IsSerial Asks list hub r)
   pub certified : IsCertified program r
-  pub ended : HasEnded limit r
 
 -- what was recorded of the hub by these picks isn't a run of the program
 abbrev pub IsUncertified : List ℕ → ProgramState → HubState ScriptState → Type 0
 IsUncertified picks program hub = (r : RecordingState) × IsSerial Asks picks hub r × (IsCertified program r → ⊥)
 
 -- of a run of the program by these picks there is no recording, since a log isn't its goroutine's part of the trace, or what was
--- recorded isn't a run of the program
-pub record IsRefusedRun (limit : ℕ) (picks : List ℕ) (program : ProgramState) : Type 0 where
+-- recorded isn't a run of the program. Without picks nothing is said of why there is none
+pub record IsRefusedRun (limit : ℕ) (picks : Option (List ℕ)) (program : ProgramState) : Type 0 where
   pub hub : HubState ScriptState
   pub opens : IsOpening program.decls limit (scripts_of program) hub
-  pub refused : IsTurnedAway Asks picks hub ⊎ IsUncertified picks program hub
+  pub refused : IfSome picks (λ list. IsTurnedAway Asks list hub ⊎ IsUncertified list program hub)
 
--- the trace is the recording's: it has a text, it is legal, and each log is its goroutine's part of it
+-- the trace is the recording's, and has a text
 pub record IsTraceOf (r : RecordingState) (trace : TraceState) : Type 0 where
   pub decls : trace.decls ≡ r.decls
   pub events : trace.events ≡ r.events
   pub has_text : HasText trace
-  pub legal : IsLegal (capacity_of trace.decls.declarations) trace.events
-  pub parts : AreParts r.logs trace.events
 
 -- the finding is right for the bytes
-abbrev pub IsRun : ℕ → List ℕ → List ℕ → Run → Type 0
+abbrev pub IsRun : ℕ → Option (List ℕ) → List ℕ → Run → Type 0
 IsRun limit picks bytes (NoProgram fault) = text_fault bytes ≡ Some fault
 IsRun limit picks bytes (Ran program r trace) = IsTextOf program bytes × IsRunOf limit picks program r × IsTraceOf r trace
 

@@ -21,7 +21,7 @@ use std::thread::Threads;
 pub struct CheckOptions {
     /// How many shards share the variables among them, 1 to 64.
     pub shards: usize,
-    /// How many events the shards are handed at a time, 1 to 65,536.
+    /// How many events several shards are handed at a time, 1 to 65,536. One shard is handed each as it comes.
     pub block: usize,
     /// Whether the plain judge is wanted, which takes at most 2,000 events.
     pub plain: bool,

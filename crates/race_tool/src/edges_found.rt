@@ -10,11 +10,11 @@ ghost use Rattle.race_tool.specs.Listing as spec;
 ghost use Rattle.race_tool.specs.Listings.{listing_of, IsListingOn, CanBeListed};
 ghost use Rattle.race_tool.specs.Outcome.{Finds};
 
+use crate::engine::NoFinding;
 use crate::printing::write_too_long;
 use crate::status;
 use race_edges::{Edge, EdgeFault, edges};
 use race_legal::{Illegal, legal};
-use race_record::RecordFault;
 use race_records::{Sink, Trace, WriteFault};
 use race_report::{write_edges, write_report, write_text_fault};
 use race_text::TextFault;
@@ -39,13 +39,13 @@ pub(crate) enum Found<A: Allocator> {
 pub(crate) fn find_edges<A: Allocator + Copy>(
     alloc: A,
     text: Result<Trace<A>, TextFault>,
-) -> Result<Found<A>, RecordFault>
+) -> Result<Found<A>, NoFinding>
     ensures { Finds IsTextOf trace_causes (λ bytes found. spec.IsListing bytes (listing_of found)) Never text result }
 {
     match text {
         Ok(trace) => match find_edges_of(alloc, trace) {
             Ok(found) => Ok(found),
-            Err(_) => Err(RecordFault::OutOfMemory),
+            Err(_) => Err(NoFinding::Refused),
         },
         Err(fault) => Ok(Found::NoTrace(fault)),
     }

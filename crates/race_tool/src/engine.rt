@@ -5,11 +5,19 @@ ghost use Rattle.race_tool.specs.Outcome.{status_of_fault, Answers, Finds};
 use crate::input::{ReadFault, read_text};
 use crate::pieces::PieceReader;
 use crate::status;
-use race_record::RecordFault;
 use race_records::{Sink, Source, WriteFault};
 use race_text::TextFault;
 use std::alloc::Allocator;
 use std::io::{Read, Write};
+
+/// Why there is nothing to say of what was read.
+#[derive(Clone, Copy)]
+pub(crate) enum NoFinding {
+    /// Memory or a thread was refused.
+    Refused,
+    /// Nothing was recorded, or what isn't a run of the program.
+    Unrecorded,
+}
 
 /// What is an engine's own: what it reads, and what it writes of what is found.
 pub(crate) trait Engine {
@@ -57,9 +65,7 @@ pub(crate) fn answer<E: Engine, F, R: Read, W: Write, A: Allocator>(
     sink: &mut Sink<W>,
 ) -> u8
 where
-    F: FnOnce(
-        Result<<E::Reader as PieceReader>::Whole, TextFault>,
-    ) -> Result<E::Found, RecordFault>,
+    F: FnOnce(Result<<E::Reader as PieceReader>::Whole, TextFault>) -> Result<E::Found, NoFinding>,
     requires can { F.IsAlwaysCallable find }
     requires finds { (text : _) (found : _) → F.post find text found
         → Finds E.Reader.is_text_of E.Reader.causes (E.is_right engine.now) (E.is_unrecorded engine.now) text found }
@@ -72,8 +78,8 @@ where
                 Ok(()) => engine.status(&found),
                 Err(_) => status::DEVICE,
             },
-            Err(RecordFault::OutOfMemory) => status::REFUSED,
-            Err(RecordFault::Mismatch) => status::MISMATCH,
+            Err(NoFinding::Refused) => status::REFUSED,
+            Err(NoFinding::Unrecorded) => status::MISMATCH,
         },
         Err(fault) => status_of_fault(fault),
     }

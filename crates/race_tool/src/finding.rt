@@ -1,5 +1,6 @@
 //! What there is to say of a list of bytes.
 ghost use Rattle.std.specs.Prelude.{◌≡◌, IfOk, option_map};
+ghost use Rattle.race_verdict.specs.Traces.{HasVerdict};
 ghost use Rattle.race_verdict.specs.Verdicts.{verdict_of};
 ghost use Rattle.race_text.specs.Fault.{trace_causes};
 ghost use Rattle.race_text.specs.Text.{IsTextOf};
@@ -9,11 +10,11 @@ ghost use Rattle.race_tool.specs.Findings.{finding_of, IsFindingOn};
 ghost use Rattle.race_tool.specs.Outcome.{Finds};
 
 use crate::check::CheckOptions;
+use crate::engine::NoFinding;
 use crate::status;
 use race_edges::{EdgeFault, plain_judge};
-use race_record::RecordFault;
 use race_records::Trace;
-use race_shards::{Judge, OpenGate};
+use race_shards::{Judge, OpenGate, judge_alone};
 use race_text::TextFault;
 use race_verdict::Verdict;
 use std::alloc::{AllocError, Allocator};
@@ -37,14 +38,14 @@ pub(crate) fn find<T: Threads + Wait, A: Allocator + Copy + Send>(
     alloc: A,
     text: Result<Trace<A>, TextFault>,
     options: &CheckOptions,
-) -> Result<Finding<A>, RecordFault>
+) -> Result<Finding<A>, NoFinding>
     ensures { Finds IsTextOf trace_causes (λ bytes found. spec.IsFinding options.now.plain bytes (finding_of found))
         Never text result }
 {
     match text {
         Ok(trace) => match find_verdict(rt, alloc, trace, options) {
             Ok(finding) => Ok(finding),
-            Err(_) => Err(RecordFault::OutOfMemory),
+            Err(_) => Err(NoFinding::Refused),
         },
         Err(fault) => Ok(Finding::Faulty(fault)),
     }
@@ -76,11 +77,7 @@ pub(crate) fn judge<T: Threads + Wait, A: Allocator + Copy + Send, B: Allocator>
     ensures { IfOk result (λ verdict. spec.IsVerdictOn options.now.plain trace.now (option_map verdict_of verdict)) }
 {
     if !options.plain {
-        let block = block_of(options);
-        return match Judge::judge(rt, alloc, trace, options.shards, block, &OpenGate) {
-            Ok(verdict) => Ok(Some(verdict)),
-            Err(_) => Err(AllocError),
-        };
+        return Ok(Some(judge_by_shards(rt, alloc, trace, options)?));
     }
     match plain_judge(alloc, trace) {
         Ok(verdict) => Ok(Some(verdict)),
@@ -91,13 +88,21 @@ pub(crate) fn judge<T: Threads + Wait, A: Allocator + Copy + Send, B: Allocator>
     }
 }
 
-// How many events the shards are handed at a time. One shard starts no thread for a block, so it is handed few: it finds
-// them in the cache, where the test of legality has left them.
-fn block_of(options: &CheckOptions) -> usize {
+// The verdict on a trace by shards; one works alone, and wants no blocks.
+fn judge_by_shards<T: Threads + Wait, A: Allocator + Copy + Send, B: Allocator>(
+    rt: &T,
+    alloc: A,
+    trace: &Trace<B>,
+    options: &CheckOptions,
+) -> Result<Verdict<A>, AllocError>
+    ensures { IfOk result (λ verdict. HasVerdict trace.now (verdict_of verdict)) }
+{
     if options.shards == 1 {
-        options.block.min(2_048)
-    } else {
-        options.block
+        return judge_alone(alloc, trace);
+    }
+    match Judge::judge(rt, alloc, trace, options.shards, options.block, &OpenGate) {
+        Ok(verdict) => Ok(verdict),
+        Err(_) => Err(AllocError),
     }
 }
 

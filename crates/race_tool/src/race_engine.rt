@@ -2,14 +2,13 @@
 ghost use Rattle.std.specs.Prelude.{◌≡◌, ◌&&◌, true, false};
 ghost use Rattle.race_tool.specs.Engines.{Judges};
 ghost use Rattle.race_tool.specs.Outcome.{are_in_limits};
-ghost use Rattle.race_tool.specs.Picks.{picks_asked};
-ghost use Rattle.race_tool.specs.Run.{is_run_limit};
+ghost use Rattle.race_tool.specs.Options.{are_run_limits, picks_asked};
 ghost use Rattle.race_tool.specs.declared.status.TheConstants as status;
 
 use crate::check::CheckOptions;
 use crate::engine::{Engine, answer};
 use crate::race_found::{JudgedRun, find_judged_run};
-use crate::run_engine::{RunOptions, is_run_limit};
+use crate::run_engine::RunOptions;
 use crate::status;
 use race_records::{Sink, Source, WriteFault};
 use race_script::ProgramReader;
@@ -18,9 +17,9 @@ use std::io::{Read, Write};
 use std::sync::Wait;
 use std::thread::Threads;
 
-/// Runs a program on one thread and judges the run: reads the program's text in blocks, and writes the
-/// report of the run's trace and the line of its end. It stops reading behind the block that ends the
-/// first faulty line.
+/// Runs a program, by its picks on one thread or else by workers, and judges the run: reads the program's
+/// text in blocks, and writes the report of the run's trace and the line of its end. It stops reading
+/// behind the block that ends the first faulty line.
 ///
 /// The answer is a status. 66 says that the run has data races; without any it tells how the run ended: 0
 /// main returned, 10 a goroutine failed, 11 nobody can go on, 12 the limit is reached, 13 a goroutine
@@ -28,9 +27,10 @@ use std::thread::Threads;
 /// more events than the plain judge takes, of which alone a line is written then; 4 memory or a thread
 /// was refused; 5 a device failed; 15 nothing was recorded, or what isn't a run of the program.
 ///
-/// Where there are several shards, each past the first judges on a thread of its own, for which it waits.
-/// So what is promised holds where it returns, and it returns if its reads, writes and threads do.
-pub fn run_race<T: Threads + Wait, R: Read, W: Write, A: Allocator + Copy + Send>(
+/// Each worker and each shard past the first is a thread of its own, workers wait for one another, and the
+/// call for all. So what is promised holds where it returns; which run workers record isn't said, nor that
+/// it is the same twice.
+pub fn run_race<T: Threads + Wait + Sync, R: Read, W: Write, A: Allocator + Copy + Send>(
     rt: &T,
     alloc: A,
     source: &mut Source<R>,
@@ -39,17 +39,17 @@ pub fn run_race<T: Threads + Wait, R: Read, W: Write, A: Allocator + Copy + Send
     check: &CheckOptions,
 ) -> u8
     // An option is out of its limits: nothing is read, and nothing is written.
-    ensures usage { is_run_limit run.now.limit && are_in_limits check.now ≡ false → result ≡ status.USAGE }
-    ensures untouched { is_run_limit run.now.limit && are_in_limits check.now ≡ false
+    ensures usage { are_run_limits run.now && are_in_limits check.now ≡ false → result ≡ status.USAGE }
+    ensures untouched { are_run_limits run.now && are_in_limits check.now ≡ false
         → (source.new ≡ source.old) × (sink.new ≡ sink.old) }
 
     // Otherwise the report of a run of the program and the line of its end were written, or the fault of
     // the text, and the status is theirs, unless memory, a thread, a device or a recording was wanting.
-    ensures judges { is_run_limit run.now.limit && are_in_limits check.now ≡ true
+    ensures judges { are_run_limits run.now && are_in_limits check.now ≡ true
         → Judges run.now.limit (picks_asked run.now) check.now.plain
         R.remaining W.contents source.old source.new sink.old sink.new result }
 {
-    if !is_run_limit(run.limit) || !check.are_in_limits() {
+    if !run.are_in_limits() || !check.are_in_limits() {
         return status::USAGE;
     }
     let engine = Judging {

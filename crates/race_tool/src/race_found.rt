@@ -5,12 +5,13 @@ ghost use Rattle.race_script.specs.Fault.{program_causes};
 ghost use Rattle.race_script.specs.Text.{IsTextOf};
 ghost use Rattle.race_text.specs.Output.{Writes};
 ghost use Rattle.race_tool.specs.Outcome.{Finds};
-ghost use Rattle.race_tool.specs.Picks.{picks_asked};
+ghost use Rattle.race_tool.specs.Options.{picks_asked};
 ghost use Rattle.race_tool.specs.Race as spec;
 ghost use Rattle.race_tool.specs.Recorded.{trace_of, judged_run_of, RacesAreOfRun, CanBePrinted};
 ghost use Rattle.race_tool.specs.Run.{IsProgramWhere, IsRefusedRun};
 
 use crate::check::CheckOptions;
+use crate::engine::NoFinding;
 use crate::finding::judge;
 use crate::printing::write_too_long;
 use crate::race_printing::write_judged;
@@ -19,7 +20,6 @@ use crate::run_engine::RunOptions;
 use crate::run_found::status_of_end;
 use crate::status;
 use race_hub::{End, Recording};
-use race_record::RecordFault;
 use race_records::{Sink, WriteFault};
 use race_report::write_text_fault;
 use race_script::Program;
@@ -41,22 +41,22 @@ pub(crate) enum JudgedRun<A: Allocator> {
 }
 
 /// Runs what was read, and judges the run.
-pub(crate) fn find_judged_run<T: Threads + Wait, A: Allocator + Copy + Send>(
+pub(crate) fn find_judged_run<T: Threads + Wait + Sync, A: Allocator + Copy + Send>(
     rt: &T,
     alloc: A,
     text: Result<Program<A>, TextFault>,
     run: &RunOptions<A>,
     check: &CheckOptions,
-) -> Result<JudgedRun<A>, RecordFault>
+) -> Result<JudgedRun<A>, NoFinding>
     ensures { Finds IsTextOf program_causes (λ bytes found.
         spec.IsJudgedRun run.now.limit (picks_asked run.now) check.now.plain bytes (judged_run_of found))
         (IsProgramWhere (IsRefusedRun run.now.limit (picks_asked run.now))) text result }
 {
     match text {
-        Ok(program) => match record_program(alloc, &program, run) {
+        Ok(program) => match record_program(rt, alloc, &program, run) {
             Ok(recording) => match judge(rt, alloc, recording.trace(), check) {
                 Ok(verdict) => Ok(JudgedRun::Ran(program, recording, verdict)),
-                Err(_) => Err(RecordFault::OutOfMemory),
+                Err(_) => Err(NoFinding::Refused),
             },
             Err(fault) => Err(fault),
         },

@@ -1,40 +1,80 @@
-//! A program's run on one thread.
-ghost use Rattle.std.specs.Prelude.{◌≡◌, Err, IfOk, IfErr};
+//! A program's run.
+ghost use Rattle.std.specs.Prelude.{◌≡◌, length, Err, IfOk, IfErr, IfSome};
 ghost use Rattle.race_script.specs.Certificate.{IsCertified};
-ghost use Rattle.race_tool.specs.Picks as picks;
+ghost use Rattle.race_record.specs.Recorded.{IsRecordingOf};
+ghost use Rattle.race_record.specs.Serial.{IsSerial, IsTurnedAway};
+ghost use Rattle.race_tool.specs.Options.{picks_asked};
 ghost use Rattle.race_tool.specs.Recorded.{trace_of};
 ghost use Rattle.race_tool.specs.Run.{scripts_of, IsRunOf, IsRefusedRun, IsTraceOf};
 
-use crate::run_engine::{RunOptions, picks_asked};
-use race_hub::{Hub, Recording};
-use race_record::{RecordFault, record_serial};
+use crate::engine::NoFinding;
+use crate::run_engine::RunOptions;
+use race_hub::{Hub, Recording, Routine};
+use race_record::{RecordFault, record, record_serial};
 use race_records::Kind;
 use race_script::{Program, Script, certify};
 use std::alloc::{AllocError, Allocator};
+use std::sync::Wait;
+use std::thread::Threads;
 
-/// Records a run of the program, of at most as many events and by the picks that are asked for, and holds
-/// it against the program.
-pub(crate) fn record_program<A: Allocator + Copy + Send>(
+/// Records a run of the program, of at most as many events as are asked for, and holds it against the program.
+pub(crate) fn record_program<T: Threads + Wait + Sync, A: Allocator + Copy + Send>(
+    rt: &T,
     alloc: A,
     program: &Program<A>,
     options: &RunOptions<A>,
-) -> Result<Recording<A>, RecordFault>
+) -> Result<Recording<A>, NoFinding>
     ensures ok { IfOk result (λ recording.
-        IsRunOf options.now.limit (picks.picks_asked options.now) program.now recording) }
+        IsRunOf options.now.limit (picks_asked options.now) program.now recording) }
     ensures trace { IfOk result (λ recording. IsTraceOf recording (trace_of recording)) }
-    ensures mismatch { result ≡ Err RecordFault.Mismatch
-        → IsRefusedRun options.now.limit (picks.picks_asked options.now) program.now }
+    ensures unrecorded { result ≡ Err NoFinding.Unrecorded
+        → IsRefusedRun options.now.limit (picks_asked options.now) program.now }
 {
     let Ok(decls) = program.decls().copy() else {
-        return Err(RecordFault::OutOfMemory);
+        return Err(NoFinding::Refused);
     };
     let Ok(scripts) = scripts(alloc, program) else {
-        return Err(RecordFault::OutOfMemory);
+        return Err(NoFinding::Refused);
     };
     match Hub::new(alloc, decls, options.limit, scripts) {
-        Ok(hub) => certified(program, record_serial(hub, picks_asked(options))?),
+        Ok(hub) => match recorded(rt, hub, options) {
+            Ok(recording) => certified(program, recording),
+            Err(fault) => Err(no_finding(fault)),
+        },
         // There is a script for each goroutine, and the engines have tested the limit.
-        Err(_) => Err(RecordFault::OutOfMemory),
+        Err(_) => Err(NoFinding::Refused),
+    }
+}
+
+// The recording of the hub: by the picks on one thread, or else by workers.
+fn recorded<T: Threads + Wait + Sync, R: Routine, A: Allocator + Copy + Send>(
+    rt: &T,
+    hub: Hub<R, A>,
+    options: &RunOptions<A>,
+) -> Result<Recording<A>, RecordFault>
+    requires back { length hub.out ≡ 0 }
+    ensures recording { IfOk result (λ recording. IsRecordingOf hub recording) }
+    ensures serial { IfOk result (λ recording.
+        IfSome (picks_asked options.now) (λ picks. IsSerial R.asks picks hub recording)) }
+    ensures mismatch { result ≡ Err RecordFault.Mismatch
+        → IfSome (picks_asked options.now) (λ picks. IsTurnedAway R.asks picks hub) }
+{
+    match &options.picks {
+        Some(picks) => record_serial(hub, picks.as_slice()),
+        None => record(rt, hub, options.workers, options.seed),
+    }
+}
+
+// What the fault comes to for an engine.
+fn no_finding(fault: RecordFault) -> NoFinding
+    ensures { result ≡ NoFinding.Unrecorded → fault ≡ RecordFault.Mismatch }
+{
+    match fault {
+        RecordFault::Mismatch => NoFinding::Unrecorded,
+        RecordFault::OutOfMemory => NoFinding::Refused,
+        RecordFault::NoThread => NoFinding::Refused,
+        // The engines have tested the number of workers.
+        RecordFault::BadWorkers => NoFinding::Refused,
     }
 }
 
@@ -42,11 +82,11 @@ pub(crate) fn record_program<A: Allocator + Copy + Send>(
 fn certified<A: Allocator>(
     program: &Program<A>,
     recording: Recording<A>,
-) -> Result<Recording<A>, RecordFault>
+) -> Result<Recording<A>, NoFinding>
     ensures same { IfOk result (λ r. r ≡ recording) }
     ensures run { IfOk result (λ r. IsCertified program.now r) }
     ensures trace { IfOk result (λ r. IsTraceOf r (trace_of r)) }
-    ensures mismatch { IfErr result (λ fault. fault ≡ RecordFault.Mismatch) }
+    ensures unrecorded { IfErr result (λ why. why ≡ NoFinding.Unrecorded) }
     ensures none { IfErr result (λ _. IsCertified program.now recording → ⊥) }
 {
     let trace = recording.trace();
@@ -54,7 +94,7 @@ fn certified<A: Allocator>(
     let (_decls, _events) = (trace.decls(), trace.events());
     match certify(program, &recording) {
         Ok(()) => Ok(recording),
-        Err(_) => Err(RecordFault::Mismatch),
+        Err(_) => Err(NoFinding::Unrecorded),
     }
 }
 

@@ -4,21 +4,23 @@ ghost use Rattle.race_script.specs.Fault.{program_causes};
 ghost use Rattle.race_script.specs.Text.{IsTextOf};
 ghost use Rattle.race_text.specs.Output.{Writes};
 ghost use Rattle.race_tool.specs.Outcome.{Finds};
-ghost use Rattle.race_tool.specs.Picks.{picks_asked};
+ghost use Rattle.race_tool.specs.Options.{picks_asked};
 ghost use Rattle.race_tool.specs.Recorded.{run_of};
 ghost use Rattle.race_tool.specs.Run as spec;
 
+use crate::engine::NoFinding;
 use crate::recorded::record_program;
 use crate::run_engine::RunOptions;
 use crate::status;
 use race_hub::{End, Recording};
-use race_record::RecordFault;
 use race_records::{Sink, WriteFault};
 use race_report::write_text_fault;
 use race_script::Program;
 use race_text::{TextFault, write_trace};
 use std::alloc::Allocator;
 use std::io::Write;
+use std::sync::Wait;
+use std::thread::Threads;
 
 /// What there is to say of a list of bytes that is run.
 #[derive(Drop)]
@@ -30,17 +32,18 @@ pub(crate) enum Run<A: Allocator> {
 }
 
 /// Runs what was read.
-pub(crate) fn find_run<A: Allocator + Copy + Send>(
+pub(crate) fn find_run<T: Threads + Wait + Sync, A: Allocator + Copy + Send>(
+    rt: &T,
     alloc: A,
     text: Result<Program<A>, TextFault>,
     options: &RunOptions<A>,
-) -> Result<Run<A>, RecordFault>
+) -> Result<Run<A>, NoFinding>
     ensures { Finds IsTextOf program_causes
         (λ bytes found. spec.IsRun options.now.limit (picks_asked options.now) bytes (run_of found))
         (spec.IsProgramWhere (spec.IsRefusedRun options.now.limit (picks_asked options.now))) text result }
 {
     match text {
-        Ok(program) => match record_program(alloc, &program, options) {
+        Ok(program) => match record_program(rt, alloc, &program, options) {
             Ok(recording) => Ok(Run::Ran(program, recording)),
             Err(fault) => Err(fault),
         },

@@ -1,6 +1,6 @@
 //! The statuses that the engines answer.
 
-/// The trace is legal and has no race; of a listing, its edges are out; of a run, main returned.
+/// The trace is legal and has no race; of a listing, its edges are out; of a witness, it is; of a run, main returned.
 pub const CLEAN: u8 = 0;
 
 /// The trace is legal and has races. Go's own race detector exits with it too.
@@ -34,6 +34,9 @@ pub const LIMIT: u8 = 12;
 /// A run ended since a goroutine asked what can't be.
 pub const BAD_REQUEST: u8 = 13;
 
+/// The variable whose race is asked for has none, or the name is that of no variable.
+pub const NO_RACE: u8 = 14;
+
 /// A run is not recorded, since what a goroutine asked and was told isn't its part of the trace; or what
 /// was recorded isn't a run of the program.
 pub const MISMATCH: u8 = 15;
@@ -51,5 +54,6 @@ const _: () = prove!(
         && DEADLOCK == 11
         && LIMIT == 12
         && BAD_REQUEST == 13
+        && NO_RACE == 14
         && MISMATCH == 15
 );

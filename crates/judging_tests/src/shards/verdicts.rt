@@ -3,7 +3,7 @@
 use crate::rows::traced;
 use race_legal::{Illegal, Rule};
 use race_records::Trace;
-use race_shards::{Judge, JudgeFault, OpenGate};
+use race_shards::{Judge, JudgeFault, OpenGate, judge_alone};
 use race_verdict::{Race, Verdict};
 use std::alloc::Global;
 use std::sync::Wait;
@@ -116,11 +116,15 @@ fn is_told<R: Threads + Wait>(
     Ok(true)
 }
 
-// Whether the judge says so of the row's events, whichever shards and blocks it has.
+fn is_told_alone(alloc: Global, trace: &Trace, want: Told<'_>) -> Result<bool, Fail> {
+    Ok(said_by(&judge_alone(alloc, trace)?) == want)
+}
+
+// Whether the judge says so of the row's events, whichever shards and blocks it has, and alone.
 fn is_row_told<R: Threads + Wait>(rt: &R, alloc: Global, row: &Row) -> Result<bool, Fail> {
     let &(events, want) = row;
     let trace = traced(alloc, DECLARED, events)?;
-    is_told(rt, alloc, &trace, want)
+    Ok(is_told(rt, alloc, &trace, want)? && is_told_alone(alloc, &trace, want)?)
 }
 
 #[test]

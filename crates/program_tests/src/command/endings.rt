@@ -24,7 +24,7 @@ fn args_of(alloc: Global, line: &str) -> Result<Args, Fail> {
 
 // How the program ends on the input, and what it writes.
 fn ended(
-    rt: &(impl AllocGlobal + Print + Eprint + Threads + Wait),
+    rt: &(impl AllocGlobal + Print + Eprint + Threads + Wait + Sync),
     args: io::Result<Args>,
     input: &str,
 ) -> (ExitCode, Vec<u8>) {
@@ -37,7 +37,7 @@ fn ended(
 
 // Whether the program ends so by the words of the line on the input, and writes the report.
 fn ends_so(
-    rt: &(impl AllocGlobal + Print + Eprint + Threads + Wait),
+    rt: &(impl AllocGlobal + Print + Eprint + Threads + Wait + Sync),
     line: &str,
     input: &str,
     answer: u8,
@@ -118,7 +118,7 @@ fn plain_asks_for_the_plain_judge(rt: HostRuntime) -> Result<(), Fail> {
     Ok(())
 }
 
-static ROWS: [Row; 50] = [
+static ROWS: [Row; 62] = [
     // The options are taken, or refused, and then nothing is written.
     ("gorace check --shards 0", TRACE, status::USAGE, ""),
     ("gorace check --shards 1", TRACE, status::CLEAN, NO_EVENTS),
@@ -163,7 +163,35 @@ static ROWS: [Row; 50] = [
     ),
     ("gorace run --picks 1,,2", PROGRAM, status::USAGE, ""),
     ("gorace run --picks 01", PROGRAM, status::USAGE, ""),
-    ("gorace run --workers 1", PROGRAM, status::USAGE, ""),
+    ("gorace run --workers 1", PROGRAM, status::CLEAN, RUN),
+    (
+        "gorace run --workers 16 --seed 18446744073709551615",
+        PROGRAM,
+        status::CLEAN,
+        RUN,
+    ),
+    ("gorace run --workers 0", PROGRAM, status::USAGE, ""),
+    ("gorace run --workers 17", PROGRAM, status::USAGE, ""),
+    (
+        "gorace run --seed 18446744073709551616",
+        PROGRAM,
+        status::USAGE,
+        "",
+    ),
+    // Picks are for one thread.
+    (
+        "gorace run --picks 0 --workers 1",
+        PROGRAM,
+        status::USAGE,
+        "",
+    ),
+    ("gorace race --seed 0 --picks 0", PROGRAM, status::USAGE, ""),
+    (
+        "gorace race --workers 2 --seed 1 --shards 2",
+        PROGRAM,
+        status::CLEAN,
+        JUDGED_RUN,
+    ),
     (
         "gorace race --plain --limit=2 --picks=3,0",
         PROGRAM,
@@ -264,6 +292,21 @@ static ROWS: [Row; 50] = [
         status::USAGE,
         "",
     ),
+    (
+        "gorace witness x",
+        "gotrace 1\ngoroutine w\nvar x\ngo main w m:1\nwrite main x 1 m:2\nread w x 1 w:1\n",
+        status::CLEAN,
+        "3 read w x\n2 write main x\nwitness: 2 accesses\n",
+    ),
+    (
+        "gorace witness y",
+        "gotrace 1\ngoroutine w\nvar x\ngo main w m:1\nwrite main x 1 m:2\nread w x 1 w:1\n",
+        status::NO_RACE,
+        "no such race\n",
+    ),
+    ("gorace witness", "gotrace 1\n", status::USAGE, ""),
+    ("gorace witness x y", "gotrace 1\n", status::USAGE, ""),
+    ("gorace witness --help", "gotrace 1\n", status::CLEAN, ""),
     ("gorace run --picks x", "", status::USAGE, ""),
     ("gorace edges --plain", "gotrace 1\n", status::USAGE, ""),
     ("gorace edges --help", "gotrace 1\n", status::CLEAN, ""),
@@ -288,7 +331,7 @@ static FAILURES: [(io::ErrorKind, u8); 2] = [
 ];
 
 fn ends_without_words(
-    rt: &(impl AllocGlobal + Print + Eprint + Threads + Wait),
+    rt: &(impl AllocGlobal + Print + Eprint + Threads + Wait + Sync),
     kind: io::ErrorKind,
     answer: u8,
 ) -> bool {

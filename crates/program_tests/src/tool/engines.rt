@@ -1,6 +1,8 @@
 //! The engines on bytes, and what they tell.
 use race_records::{Sink, Source};
-use race_tool::{CheckOptions, RunOptions, run_check, run_edges, run_race, run_run, status};
+use race_tool::{
+    CheckOptions, RunOptions, run_check, run_edges, run_race, run_run, run_witness, status,
+};
 use std::alloc::{AllocError, AllocGlobal, Global};
 use std::io;
 use std::io::{Read, Write};
@@ -9,9 +11,9 @@ use std::test::Fail;
 use std::thread::Threads;
 
 /// A runtime by which each engine can be run.
-pub(crate) trait Runtime: AllocGlobal + Threads + Wait {}
+pub(crate) trait Runtime: AllocGlobal + Threads + Wait + Sync {}
 
-impl<T: AllocGlobal + Threads + Wait> Runtime for T {}
+impl<T: AllocGlobal + Threads + Wait + Sync> Runtime for T {}
 
 /// An engine with its options.
 #[derive(Clone, Copy)]
@@ -20,6 +22,7 @@ pub(crate) enum Engine<'a> {
     Edges,
     Run(&'a RunOptions),
     Race(&'a RunOptions, &'a CheckOptions),
+    Witness(&'a str),
 }
 
 /// The plain judge's options, or those of the judge by clocks.
@@ -58,6 +61,7 @@ pub(crate) fn answer<R: Read, W: Write>(
         Engine::Edges => run_edges(rt.alloc(), source, sink),
         Engine::Run(options) => run_run(rt, rt.alloc(), source, sink, options),
         Engine::Race(run, check) => run_race(rt, rt.alloc(), source, sink, run, check),
+        Engine::Witness(var) => run_witness(rt.alloc(), source, sink, var),
     }
 }
 

@@ -121,9 +121,13 @@ fn tried(trace: &mut Trace, replay: &mut Replay, event: Event) -> Result<bool, F
     Ok(true)
 }
 
-// A legal trace: of so many events that are tried those that a replay accepts. And a bit for each
-// kind of operation in it.
-fn recorded(alloc: Global, numbers: &mut Numbers, tries: u32) -> Result<(Trace, u32), Fail> {
+/// A legal trace: of so many events that are tried those that a replay accepts. And a bit for each
+/// kind of operation in it.
+pub(crate) fn recorded(
+    alloc: Global,
+    numbers: &mut Numbers,
+    tries: u32,
+) -> Result<(Trace, u32), Fail> {
     let mut trace = Trace::new(declared(alloc)?);
     let mut replay = Replay::new(alloc, trace.decls())?;
     let mut kinds = 0u32;

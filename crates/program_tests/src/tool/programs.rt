@@ -82,6 +82,7 @@ fn options(alloc: Global, numbers: &mut Numbers) -> Result<RunOptions, AllocErro
     Ok(RunOptions {
         limit: 100,
         picks: Some(picks),
+        ..RunOptions::default()
     })
 }
 

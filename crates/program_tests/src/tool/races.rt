@@ -19,7 +19,7 @@ static ROWS: [Row<'static>; 12] = [
     (
         "goprogram 1 / goroutine w / chan c 0 / var x / body main / go w m:1 / recv c m:2 / read x m:3 / exit m:4 / body w / write x 8 w:1 / send c 1 w:2 / exit w:3",
         MOST,
-        None,
+        Some(&[0]),
         "clean: 6 events, 2 accesses / end: main",
         status::CLEAN,
     ),
@@ -47,7 +47,7 @@ static ROWS: [Row<'static>; 12] = [
     (
         "goprogram 1 / goroutine w / goroutine v / body main / go w m:1 / recv nil m:2 / exit m:3 / body w / go v w:1 / go v w:2 / exit w:3 / body v / exit v:1",
         MOST,
-        None,
+        Some(&[0]),
         "clean: 2 events, 0 accesses / end: bad w",
         status::BAD_REQUEST,
     ),
@@ -62,21 +62,21 @@ static ROWS: [Row<'static>; 12] = [
     (
         "goprogram 1 / goroutine w / var x / body main / go w m:1 / write x 1 m:2 / recv nil m:3 / exit m:4 / body w / write x 2 w:1 / exit w:2",
         MOST,
-        None,
+        Some(&[0]),
         "race on x: write by main at m:2 (event 2), write by w at w:1 (event 3) / races: 1 / end: deadlock",
         status::RACES,
     ),
     (
         "goprogram 1 / goroutine w / var x / body main / go w m:1 / write x 1 m:2 / exit m:3 / body w / write x 2 w:1 / exit w:2",
         3,
-        None,
+        Some(&[0]),
         "race on x: write by main at m:2 (event 2), write by w at w:1 (event 3) / races: 1 / end: limit",
         status::RACES,
     ),
     (
         "goprogram 1 / goroutine w / var x / body main / go w m:1 / write x 1 m:2 / recv nil m:3 / exit m:4 / body w / write x 2 w:1 / go w w:2 / exit w:3",
         MOST,
-        None,
+        Some(&[0]),
         "race on x: write by main at m:2 (event 2), write by w at w:1 (event 3) / races: 1 / end: bad w",
         status::RACES,
     ),
@@ -157,7 +157,7 @@ static LONG: [(u32, bool, Told<'static>); 3] = [
 
 fn is_long_run(rt: &impl Runtime, limit: u32, plain: bool, told: Told<'_>) -> Result<bool, Fail> {
     let text = writes(rt.alloc(), 2_000)?;
-    let (run, check) = (RunOptions { limit, picks: None }, judge(plain));
+    let (run, check) = (options(rt.alloc(), limit, None)?, judge(plain));
     tells(rt, Engine::Race(&run, &check), text.as_slice(), told)
 }
 
@@ -169,19 +169,27 @@ fn a_run_that_is_too_long_for_the_plain_judge_has_no_end(rt: HostRuntime) -> Res
     Ok(())
 }
 
-// A limit of events, shards and a block, one of which is out of its limits.
-static OPTIONS: [(u32, usize, usize); 6] = [
-    (0, 1, 1),
-    (MOST + 1, 1, 1),
-    (1, 0, 1),
-    (1, MAX_SHARDS + 1, 1),
-    (1, 1, 0),
-    (1, 1, MAX_BLOCK + 1),
+/// A limit of events, workers, shards and a block.
+type Limits = (u32, usize, usize, usize);
+
+// One of them is out of its limits.
+static OPTIONS: [Limits; 8] = [
+    (0, 1, 1, 1),
+    (MOST + 1, 1, 1, 1),
+    (1, 0, 1, 1),
+    (1, 17, 1, 1),
+    (1, 1, 0, 1),
+    (1, 1, MAX_SHARDS + 1, 1),
+    (1, 1, 1, 0),
+    (1, 1, 1, MAX_BLOCK + 1),
 ];
 
-fn is_unread(rt: &impl Runtime, (limit, shards, block): (u32, usize, usize)) -> Result<bool, Fail> {
+fn is_unread(rt: &impl Runtime, (limit, workers, shards, block): Limits) -> Result<bool, Fail> {
     let text = writes(rt.alloc(), 1)?;
-    let run = RunOptions { limit, picks: None };
+    let run = RunOptions {
+        workers,
+        ..options(rt.alloc(), limit, None)?
+    };
     let check = CheckOptions {
         shards,
         block,
@@ -201,10 +209,7 @@ fn an_option_out_of_its_limits_leaves_a_program_unread(rt: HostRuntime) -> Resul
 #[test]
 fn a_writer_that_fails_ends_a_judged_run(rt: HostRuntime) -> Result<(), Fail> {
     let text = writes(rt.alloc(), 1)?;
-    let run = RunOptions {
-        limit: MOST,
-        picks: None,
-    };
+    let run = RunOptions::default();
     let check = CheckOptions::default();
     let engine = Engine::Race(&run, &check);
     assert!(rt; is_cut_off(&rt, engine, text.as_slice(), true, b"clean"));

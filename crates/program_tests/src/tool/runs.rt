@@ -26,14 +26,16 @@ pub(crate) fn options(
     limit: u32,
     picks: Option<&[u64]>,
 ) -> Result<RunOptions, Fail> {
+    let usual = RunOptions::default();
     let Some(picks) = picks else {
-        return Ok(RunOptions { limit, picks: None });
+        return Ok(RunOptions { limit, ..usual });
     };
     let mut list = Vec::new(alloc);
     list.extend_from_slice(picks)?;
     Ok(RunOptions {
         limit,
         picks: Some(list),
+        ..usual
     })
 }
 
@@ -44,14 +46,20 @@ fn is_run(rt: &impl Runtime, row: &Row<'_>) -> Result<bool, Fail> {
     tells(rt, Engine::Run(&options), text.as_slice(), (trace, status))
 }
 
+// W waits for nil behind its send.
+const STAYS: &str =
+    "goprogram 1 / goroutine w / chan c 0 / body main / go w m:1 / recv c m:2 / exit m:3 / body w / send c 1 w:1 / recv nil w:2 / exit w:3";
+
+const STAYS_TRACE: &str =
+    "gotrace 1 / goroutine w / chan c 0 / go main w m:1 / meet w main c 1 w:1 m:2 / exit main m:3";
+
 // Each would send or receive over c.
 const TWO_SELECTS: &str =
     "goprogram 1 / goroutine w / chan c 0 / body main / go w m:1 / select send:c:5,recv:c block m:2 / exit m:3 / body w / select recv:c,send:c:6 block w:1 / exit w:2";
 
-static ROWS: [Row<'static>; 17] = [
+static ROWS: [Row<'static>; 16] = [
     // A program runs to its end.
     (HANDOFF, MOST, Some(&[0]), HANDOFF_TRACE, status::CLEAN),
-    (HANDOFF, MOST, None, HANDOFF_TRACE, status::CLEAN),
     (
         HANDOFF,
         MOST,
@@ -59,13 +67,7 @@ static ROWS: [Row<'static>; 17] = [
         HANDOFF_OTHER_TRACE,
         status::CLEAN,
     ),
-    (
-        "goprogram 1 / goroutine w / chan c 0 / body main / go w m:1 / recv c m:2 / exit m:3 / body w / send c 1 w:1 / recv nil w:2 / exit w:3",
-        MOST,
-        Some(&[0]),
-        "gotrace 1 / goroutine w / chan c 0 / go main w m:1 / meet w main c 1 w:1 m:2 / exit main m:3",
-        status::CLEAN,
-    ),
+    (STAYS, MOST, Some(&[0]), STAYS_TRACE, status::CLEAN),
     (
         "goprogram 1 / goroutine w / chan c 0 / chan d 0 / body main / go w m:1 / recv c m:2 / send d 1 m:3 / exit m:4 / body w / recv d w:1 / send c 1 w:2 / exit w:3",
         MOST,
@@ -171,16 +173,54 @@ fn each_program_has_its_trace(rt: HostRuntime) -> Result<(), Fail> {
     Ok(())
 }
 
-fn is_unread(rt: &impl Runtime, limit: u32) -> Result<bool, Fail> {
-    let text = text_of(rt.alloc(), HANDOFF)?;
-    let options = RunOptions { limit, picks: None };
-    Ok(leaves_unread(rt, Engine::Run(&options), text.as_slice()))
+// Whether so many workers write the one trace of a run, by the seed.
+fn is_run_by(rt: &impl Runtime, workers: usize, seed: u64) -> Result<bool, Fail> {
+    let text = text_of(rt.alloc(), STAYS)?;
+    let options = RunOptions {
+        workers,
+        seed,
+        ..RunOptions::default()
+    };
+    let told = (STAYS_TRACE, status::CLEAN);
+    tells(rt, Engine::Run(&options), text.as_slice(), told)
 }
 
 #[test]
-fn a_limit_out_of_its_limits_leaves_the_input_unread(rt: HostRuntime) -> Result<(), Fail> {
-    for &limit in &[0, MOST + 1] {
-        assert!(rt; is_unread(&rt, limit)?, "{limit}");
+fn workers_write_a_trace(rt: HostRuntime) -> Result<(), Fail> {
+    for workers in [1, 2, 16] {
+        for seed in 0..10 {
+            assert!(rt;
+                is_run_by(&rt, workers, seed)?,
+                "{workers} workers, seed {seed}"
+            );
+        }
+    }
+    Ok(())
+}
+
+// A limit of events and a number of workers, one of which is out of its limits. A list of picks changes nothing in that.
+static OPTIONS: [(u32, usize); 4] = [(0, 1), (MOST + 1, 1), (1, 0), (1, 17)];
+
+fn is_unread(rt: &impl Runtime, (limit, workers): (u32, usize)) -> Result<bool, Fail> {
+    let text = text_of(rt.alloc(), HANDOFF)?;
+    let by_workers = RunOptions {
+        workers,
+        ..options(rt.alloc(), limit, None)?
+    };
+    let by_picks = RunOptions {
+        workers,
+        ..options(rt.alloc(), limit, Some(&[0]))?
+    };
+    Ok(
+        leaves_unread(rt, Engine::Run(&by_workers), text.as_slice())
+            && leaves_unread(rt, Engine::Run(&by_picks), text.as_slice()),
+    )
+}
+
+#[test]
+fn an_option_out_of_its_limits_leaves_the_input_unread(rt: HostRuntime) -> Result<(), Fail> {
+    for options in &OPTIONS {
+        assert!(rt; is_unread(&rt, *options)?, "{options:?}");
     }
     Ok(())
 }
@@ -192,10 +232,7 @@ static FAILING: [(&[u8], u8, u64); 2] = [
 ];
 
 fn ends_so(rt: &impl Runtime, bytes: &[u8], status: u8, reads: u64) -> bool {
-    let options = RunOptions {
-        limit: MOST,
-        picks: None,
-    };
+    let options = RunOptions::default();
     let reader = SlowReader {
         bytes,
         step: usize::MAX,
@@ -215,10 +252,7 @@ fn a_reader_that_fails_ends_a_run(rt: HostRuntime) {
 #[test]
 fn a_writer_that_fails_ends_a_run(rt: HostRuntime) -> Result<(), Fail> {
     let text = text_of(rt.alloc(), HANDOFF)?;
-    let options = RunOptions {
-        limit: MOST,
-        picks: None,
-    };
+    let options = RunOptions::default();
     let engine = Engine::Run(&options);
     assert!(rt; is_cut_off(&rt, engine, text.as_slice(), true, b"gotra"));
     Ok(())

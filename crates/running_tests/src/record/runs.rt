@@ -134,13 +134,13 @@ fn scripts(alloc: Global, program: &Program) -> Result<Vec<Script>, AllocError> 
     Ok(scripts)
 }
 
-fn opened(alloc: Global, program: &Program, limit: u32) -> Result<Hub<Script>, Fail> {
+pub(crate) fn opened(alloc: Global, program: &Program, limit: u32) -> Result<Hub<Script>, Fail> {
     let scripts = scripts(alloc, program)?;
     Ok(Hub::new(alloc, program.decls().copy()?, limit, scripts)?)
 }
 
 // The hub of the program before its first event.
-fn hub_of(alloc: Global, text: &[u8], limit: u32) -> Result<Hub<Script>, Fail> {
+pub(crate) fn hub_of(alloc: Global, text: &[u8], limit: u32) -> Result<Hub<Script>, Fail> {
     let program = parse_program(alloc, text)?;
     opened(alloc, &program, limit)
 }
@@ -207,9 +207,9 @@ fn fault_of(hub: Hub<Script>) -> Option<RecordFault> {
     record_serial(hub, &[]).err()
 }
 
-const WRITES: &[u8] = b"goprogram 1\nvar x\nbody main\nwrite x 5 m:1\nexit m:2\n";
+pub(crate) const WRITES: &[u8] = b"goprogram 1\nvar x\nbody main\nwrite x 5 m:1\nexit m:2\n";
 
-const EXITS: &[u8] = b"goprogram 1\nvar x\nbody main\nexit m:2\n";
+pub(crate) const EXITS: &[u8] = b"goprogram 1\nvar x\nbody main\nexit m:2\n";
 
 // Why a hub isn't recorded in which main of another goes on in place of its own.
 fn exchanged(alloc: Global) -> Result<Option<RecordFault>, Fail> {

@@ -1,5 +1,5 @@
 use Rattle.std.proofs.Common.{Err, ap}
-use Rattle.race_record.specs.declared.fault.RecordFault.{RecordFault}
+use Rattle.race_tool.specs.declared.engine.NoFinding.{NoFinding}
 use Rattle.race_tool.proofs.EngineLemmas.{answers_unrecorded}
 use Rattle.race_tool.proofs.InputLemmas.{itself}
 use Rattle.race_tool.proofs.engine.answer.Goals as goal
@@ -13,6 +13,6 @@ write-requires g c =
 
 pub returns-in-Ok : goal.returns-in-Ok
 returns-in-Ok g c =
-    let finds = c.requires.finds c.in-Ok.text _ c.in-Err-Mismatch.ensures in
+    let finds = c.requires.finds c.in-Ok.text _ c.in-Err-Unrecorded.ensures in
     answers_unrecorded _ _ _ _ _ _ _ _ _ _ _ c.in-Ok.text c.in-Ok.ensures.ok (c.in-Ok.ensures.calm (λ e. cc))
-    (finds.mismatch (ap (λ (fault : RecordFault). Err fault) c.in-Err-Mismatch.field-0-is))
+    (finds.mismatch (ap (λ (why : NoFinding). Err why) c.in-Err-Unrecorded.field-0-is))

@@ -1,5 +1,5 @@
 use Rattle.race_script.specs.Fault.{program_causes}
-use Rattle.race_tool.specs.Picks.{picks_asked}
+use Rattle.race_tool.specs.Options.{picks_asked}
 use Rattle.race_tool.specs.Race.{IsJudgedRun, judged_text, judged_status}
 use Rattle.race_tool.specs.Recorded.{judged_run_of}
 use Rattle.race_tool.specs.Run.{IsProgramWhere, IsRefusedRun}

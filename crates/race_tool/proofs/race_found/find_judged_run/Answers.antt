@@ -1,14 +1,14 @@
 use Rattle.std.proofs.Common.{List, ℕ, Result, sym, subst}
 use Rattle.std.specs.Prelude.{option_map}
 use Rattle.race_verdict.specs.Verdicts.{verdict_of}
-use Rattle.race_record.specs.declared.fault.RecordFault.{RecordFault}
 use Rattle.race_script.specs.Fault.{program_causes}
 use Rattle.race_script.specs.Program.{ProgramState}
 use Rattle.race_script.specs.Text.{IsTextOf}
 use Rattle.race_text.specs.declared.cause.TextFault.{TextFault}
 use Rattle.race_tool.specs.Input.{IsReadBy}
 use Rattle.race_tool.specs.Outcome.{IsTextOnly}
-use Rattle.race_tool.specs.Picks.{picks_asked}
+use Rattle.race_tool.specs.declared.engine.NoFinding.{NoFinding}
+use Rattle.race_tool.specs.Options.{picks_asked}
 use Rattle.race_tool.specs.Recorded.{trace_of}
 use Rattle.race_tool.specs.Run.{IsProgramWhere, IsRefusedRun}
 use Rattle.race_tool.proofs.InputLemmas.{err_again}
@@ -38,6 +38,6 @@ returns-in-Err-record_program g c =
           (λ (bytes : List ℕ) (text : IsTextOf c.in-Ok.program bytes). record {
             program = c.in-Ok.program;
             text_is = text;
-            holds = c.in-Err-record_program.ensures.mismatch (err_again c.in-Err-record_program.fault RecordFault.Mismatch is);
+            holds = c.in-Err-record_program.ensures.unrecorded (err_again c.in-Err-record_program.fault NoFinding.Unrecorded is);
           });
     }

@@ -1,5 +1,5 @@
 use Rattle.race_script.specs.Fault.{program_causes}
-use Rattle.race_tool.specs.Picks.{picks_asked}
+use Rattle.race_tool.specs.Options.{picks_asked}
 use Rattle.race_tool.specs.Recorded.{run_of}
 use Rattle.race_tool.specs.Run.{IsProgramWhere, IsRefusedRun, IsRun, run_text, run_status}
 use Rattle.race_tool.proofs.EngineLemmas.{answers_as}

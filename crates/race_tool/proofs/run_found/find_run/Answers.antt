@@ -1,12 +1,12 @@
 use Rattle.std.proofs.Common.{List, ℕ, Result, sym, subst}
-use Rattle.race_record.specs.declared.fault.RecordFault.{RecordFault}
 use Rattle.race_script.specs.Fault.{program_causes}
 use Rattle.race_script.specs.Program.{ProgramState}
 use Rattle.race_script.specs.Text.{IsTextOf}
 use Rattle.race_text.specs.declared.cause.TextFault.{TextFault}
 use Rattle.race_tool.specs.Input.{IsReadBy}
 use Rattle.race_tool.specs.Outcome.{IsTextOnly}
-use Rattle.race_tool.specs.Picks.{picks_asked}
+use Rattle.race_tool.specs.declared.engine.NoFinding.{NoFinding}
+use Rattle.race_tool.specs.Options.{picks_asked}
 use Rattle.race_tool.specs.Run.{IsProgramWhere, IsRefusedRun}
 use Rattle.race_tool.proofs.InputLemmas.{err_again}
 use Rattle.race_tool.proofs.run_found.find_run.Goals as goal
@@ -32,6 +32,6 @@ returns-in-Err-record_program g c =
           (λ (bytes : List ℕ) (text : IsTextOf c.in-Ok.program bytes). record {
             program = c.in-Ok.program;
             text_is = text;
-            holds = c.in-Err-record_program.ensures.mismatch (err_again c.in-Err-record_program.fault RecordFault.Mismatch is);
+            holds = c.in-Err-record_program.ensures.unrecorded (err_again c.in-Err-record_program.fault NoFinding.Unrecorded is);
           });
     }

@@ -1,4 +1,4 @@
-use Rattle.race_tool.specs.Picks.{picks_asked}
+use Rattle.race_tool.specs.Options.{picks_asked}
 use Rattle.race_tool.proofs.RaceLemmas.{can_be_printed}
 use Rattle.race_tool.proofs.race_engine.JudgingEngine.write.Goals as goal
 

@@ -5,6 +5,8 @@ use race_access::VarState;
 use race_clock::{Clock, Stamp};
 use refusing_heap::RefusingHeap;
 use std::alloc::{Allocator, Global};
+use std::sync::Wait;
+use std::thread::Threads;
 
 /// What the goroutines, which know nothing of one another, do with a variable.
 #[derive(Clone, Copy)]
@@ -50,7 +52,12 @@ fn races_on<A: Allocator + Copy>(state: &mut VarState<A>, clock: &Clock<A>) -> b
 }
 
 impl Growing for Call {
-    fn reply(self, heap: &RefusingHeap<Global>, nth: u64) -> Reply {
+    fn reply<T: Threads + Wait + Sync>(
+        self,
+        _rt: &T,
+        heap: &RefusingHeap<Global>,
+        nth: u64,
+    ) -> Reply {
         let mut state = VarState::new(heap);
         let clock = Clock::new(heap);
         heap.refuse(nth);

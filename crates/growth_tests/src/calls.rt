@@ -4,6 +4,8 @@ ghost use Rattle.std.specs.Prelude.{◌<◌};
 use refusing_heap::RefusingHeap;
 use std::alloc::{AllocGlobal, Global};
 use std::process::Abort;
+use std::sync::Wait;
+use std::thread::Threads;
 
 /// What a call answered.
 #[derive(Clone, Copy, PartialEq, Eq)]
@@ -30,8 +32,9 @@ pub(crate) fn refused_if(is_as_before: bool) -> Reply {
 
 /// A call with what it works on.
 pub(crate) trait Growing: Copy {
-    /// Makes the value, lets growth `nth` from there on be refused, and makes the one call.
-    fn reply(self, heap: &RefusingHeap<Global>, nth: u64) -> Reply
+    /// Makes the value, lets growth `nth` from there on be refused, and makes the one call, by this runtime where it starts
+    /// threads.
+    fn reply<T: Threads + Wait + Sync>(self, rt: &T, heap: &RefusingHeap<Global>, nth: u64) -> Reply
         requires { 0 < nth };
 }
 
@@ -48,11 +51,11 @@ enum Outcome {
     Wrong,
 }
 
-fn run<C: Growing>(alloc: Global, call: C, nth: u64) -> Outcome
+fn run<T: AllocGlobal + Threads + Wait + Sync, C: Growing>(rt: &T, call: C, nth: u64) -> Outcome
     requires { 0 < nth }
 {
-    let heap = RefusingHeap::new(alloc);
-    let reply = call.reply(&heap, nth);
+    let heap = RefusingHeap::new(rt.alloc());
+    let reply = call.reply(rt, &heap, nth);
     match (heap.has_refused(), reply) {
         (true, Reply::OutOfMemory) => Outcome::Refused,
         (true, Reply::Right) => Outcome::DoneWithout,
@@ -62,10 +65,10 @@ fn run<C: Growing>(alloc: Global, call: C, nth: u64) -> Outcome
 }
 
 // How often the call answers want of memory until a run meets no refusal, or none where a run is wrong.
-fn refusals<C: Growing>(alloc: Global, call: C) -> Option<u64> {
+fn refusals<T: AllocGlobal + Threads + Wait + Sync, C: Growing>(rt: &T, call: C) -> Option<u64> {
     let mut refusals = 0u64;
     for nth in 1..96u64 {
-        match run(alloc, call, nth) {
+        match run(rt, call, nth) {
             Outcome::Refused => refusals = refusals.saturating_add(1),
             Outcome::DoneWithout => {}
             Outcome::Done => return Some(refusals),
@@ -76,9 +79,12 @@ fn refusals<C: Growing>(alloc: Global, call: C) -> Option<u64> {
 }
 
 /// Asserts how often each call answers want of memory.
-pub(crate) fn assert_each<C: Growing>(rt: &(impl Abort + AllocGlobal), calls: &[(C, u64)]) {
+pub(crate) fn assert_each<T: Abort + AllocGlobal + Threads + Wait + Sync, C: Growing>(
+    rt: &T,
+    calls: &[(C, u64)],
+) {
     for (index, (call, want)) in calls.iter().enumerate() {
-        let is_right = refusals(rt.alloc(), *call) == Some(*want);
+        let is_right = refusals(rt, *call) == Some(*want);
         assert!(rt; is_right, "call {index}");
     }
 }

@@ -4,6 +4,8 @@ use crate::calls::{Growing, Reply, assert_each, refused_if, right_if};
 use race_clock::Clock;
 use refusing_heap::RefusingHeap;
 use std::alloc::{AllocError, Allocator, Global};
+use std::sync::Wait;
+use std::thread::Threads;
 
 /// A call on a clock that has no counts: of this goroutine, or of a clock that counts it.
 #[derive(Clone, Copy)]
@@ -21,7 +23,12 @@ fn reply_of<A: Allocator>(answer: Result<(), AllocError>, clock: &Clock<A>, who:
 }
 
 impl Growing for Call {
-    fn reply(self, heap: &RefusingHeap<Global>, nth: u64) -> Reply {
+    fn reply<T: Threads + Wait + Sync>(
+        self,
+        _rt: &T,
+        heap: &RefusingHeap<Global>,
+        nth: u64,
+    ) -> Reply {
         let mut clock = Clock::new(heap);
         let mut other = Clock::new(heap);
         match self {

@@ -92,17 +92,21 @@ fn run<R: Threads + Wait + Sync, A: Allocator + Copy + Send>(
 type Ending = (Engine, u8, usize);
 
 #[derive(Clone, Copy)]
-struct Row<T> {
-    rt: T,
+struct Row {
     ending: Ending,
 }
 
-impl<R: Threads + Wait + Sync> Growing for Row<&R> {
-    fn reply(self, heap: &RefusingHeap<Global>, nth: u64) -> Reply {
+impl Growing for Row {
+    fn reply<T: Threads + Wait + Sync>(
+        self,
+        rt: &T,
+        heap: &RefusingHeap<Global>,
+        nth: u64,
+    ) -> Reply {
         let (engine, status, len) = self.ending;
         let mut output = [0; 128];
         heap.refuse(nth);
-        let ended = run(self.rt, heap, engine, output.as_mut_slice());
+        let ended = run(rt, heap, engine, output.as_mut_slice());
         let written = output.iter().position(|byte| *byte == 0).unwrap_or(128);
         if ended == status::REFUSED {
             refused_if(written == 0)
@@ -139,6 +143,6 @@ static ENGINES: [(Ending, u64); 11] = [
 #[test]
 fn engines(rt: HostRuntime) {
     for &(ending, want) in &ENGINES {
-        assert_each(&rt, &[(Row { rt: &rt, ending }, want)]);
+        assert_each(&rt, &[(Row { ending }, want)]);
     }
 }

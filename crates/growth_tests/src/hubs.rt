@@ -9,6 +9,8 @@ use race_hub::{Hub, HubFault, Job, SubmitFault};
 use race_records::{Decls, Op};
 use refusing_heap::RefusingHeap;
 use std::alloc::{Allocator, Global};
+use std::sync::Wait;
+use std::thread::Threads;
 
 /// The event of a firing.
 #[derive(Clone, Copy)]
@@ -241,7 +243,12 @@ impl Row {
 }
 
 impl Growing for Row {
-    fn reply(self, heap: &RefusingHeap<Global>, nth: u64) -> Reply {
+    fn reply<T: Threads + Wait + Sync>(
+        self,
+        _rt: &T,
+        heap: &RefusingHeap<Global>,
+        nth: u64,
+    ) -> Reply {
         match self {
             Row(Call::New, script) => made(heap, script, nth),
             _ => self.beside_a_twin(heap, nth),

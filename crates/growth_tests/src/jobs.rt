@@ -5,6 +5,8 @@ use crate::played::{Asks, Move, Script, are_jobs_alike, asked, played};
 use race_hub::{Ask, Job, Request};
 use refusing_heap::RefusingHeap;
 use std::alloc::{AllocError, Allocator, Global};
+use std::sync::Wait;
+use std::thread::Threads;
 
 /// A turn of main, which writes again and again how often its box was called.
 #[derive(Clone, Copy)]
@@ -62,7 +64,12 @@ fn turn<A: Allocator>(job: &mut Job<Asks, A>, twin: &Job<Asks, A>, wanted: &Requ
 }
 
 impl Growing for Call {
-    fn reply(self, heap: &RefusingHeap<Global>, nth: u64) -> Reply {
+    fn reply<T: Threads + Wait + Sync>(
+        self,
+        _rt: &T,
+        heap: &RefusingHeap<Global>,
+        nth: u64,
+    ) -> Reply {
         match (job_of(heap, self), job_of(heap, self)) {
             (Some(mut job), Some(twin)) => {
                 heap.refuse(nth);

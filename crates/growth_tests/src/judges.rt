@@ -66,8 +66,7 @@ fn fed<R: Threads + Wait, A: Allocator + Copy + Send, B: Allocator>(
 
 /// A call by so many shards.
 #[derive(Clone, Copy)]
-struct Row<T> {
-    rt: T,
+struct Row {
     call: Call,
     shards: usize,
 }
@@ -126,8 +125,13 @@ fn judged_alone<A: Allocator + Copy>(heap: A, trace: &Trace<A>) -> Reply {
     }
 }
 
-impl<R: Threads + Wait> Growing for Row<&R> {
-    fn reply(self, heap: &RefusingHeap<Global>, nth: u64) -> Reply {
+impl Growing for Row {
+    fn reply<T: Threads + Wait + Sync>(
+        self,
+        rt: &T,
+        heap: &RefusingHeap<Global>,
+        nth: u64,
+    ) -> Reply {
         let Some(trace) = traced(heap, DECLARED, EVENTS) else {
             return Reply::Wrong;
         };
@@ -136,11 +140,11 @@ impl<R: Threads + Wait> Growing for Row<&R> {
                 heap.refuse(nth);
                 made(heap, &trace, self.shards)
             }
-            Call::Feed => feeds(self.rt, heap, nth, &trace, self.shards),
-            Call::Finish => finishes(self.rt, heap, nth, &trace, self.shards),
+            Call::Feed => feeds(rt, heap, nth, &trace, self.shards),
+            Call::Finish => finishes(rt, heap, nth, &trace, self.shards),
             Call::Judge => {
                 heap.refuse(nth);
-                judged(Judge::judge(self.rt, heap, &trace, self.shards, 2, &OpenGate))
+                judged(Judge::judge(rt, heap, &trace, self.shards, 2, &OpenGate))
             }
             Call::JudgeAlone => {
                 heap.refuse(nth);
@@ -166,11 +170,7 @@ static CALLS: [(Call, usize, u64); 7] = [
 #[test]
 fn judges(rt: HostRuntime) {
     for &(call, shards, want) in &CALLS {
-        let row = Row {
-            rt: &rt,
-            call,
-            shards,
-        };
+        let row = Row { call, shards };
         assert_each(&rt, &[(row, want)]);
     }
 }

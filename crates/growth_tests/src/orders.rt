@@ -6,6 +6,8 @@ use race_edges::{EdgeFault, Verdict, edges, plain_judge};
 use race_records::Trace;
 use refusing_heap::RefusingHeap;
 use std::alloc::{Allocator, Global};
+use std::sync::Wait;
+use std::thread::Threads;
 
 /// A call of race_edges.
 #[derive(Clone, Copy)]
@@ -35,7 +37,12 @@ fn judged<A: Allocator + Copy>(heap: A, trace: &Trace<A>) -> Reply {
 }
 
 impl Growing for Call {
-    fn reply(self, heap: &RefusingHeap<Global>, nth: u64) -> Reply {
+    fn reply<T: Threads + Wait + Sync>(
+        self,
+        _rt: &T,
+        heap: &RefusingHeap<Global>,
+        nth: u64,
+    ) -> Reply {
         match traced(heap, DECLARED, EVENTS) {
             Some(trace) => {
                 heap.refuse(nth);

@@ -7,6 +7,8 @@ use race_script::{Program, ProgramReader, Script, parse_program};
 use race_text::{TextCause, TextFault};
 use refusing_heap::RefusingHeap;
 use std::alloc::{Allocator, Global};
+use std::sync::Wait;
+use std::thread::Threads;
 
 /// A call of race_script.
 #[derive(Clone, Copy)]
@@ -101,7 +103,12 @@ fn scripted(heap: &RefusingHeap<Global>, nth: u64) -> Reply
 }
 
 impl Growing for Call {
-    fn reply(self, heap: &RefusingHeap<Global>, nth: u64) -> Reply {
+    fn reply<T: Threads + Wait + Sync>(
+        self,
+        _rt: &T,
+        heap: &RefusingHeap<Global>,
+        nth: u64,
+    ) -> Reply {
         match self {
             Call::Parse => parsed(heap, nth),
             Call::Feed => fed(heap, nth),

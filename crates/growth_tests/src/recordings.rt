@@ -13,8 +13,7 @@ use std::thread::Threads;
 
 /// The recording by so many workers, or without any by no picks.
 #[derive(Clone, Copy)]
-struct Records<T> {
-    rt: T,
+struct Records {
     workers: Option<usize>,
 }
 
@@ -47,8 +46,13 @@ fn replied<A: Allocator>(answer: Result<Recording<A>, RecordFault>) -> Reply {
     }
 }
 
-impl<R: Threads + Wait + Sync> Growing for Records<&R> {
-    fn reply(self, heap: &RefusingHeap<Global>, nth: u64) -> Reply {
+impl Growing for Records {
+    fn reply<T: Threads + Wait + Sync>(
+        self,
+        rt: &T,
+        heap: &RefusingHeap<Global>,
+        nth: u64,
+    ) -> Reply {
         let Some(hub) = hub_of(heap) else {
             return Reply::Wrong;
         };
@@ -57,7 +61,7 @@ impl<R: Threads + Wait + Sync> Growing for Records<&R> {
             return Reply::Wrong;
         }
         match self.workers {
-            Some(workers) => replied(record(self.rt, hub, workers, 0)),
+            Some(workers) => replied(record(rt, hub, workers, 0)),
             None => replied(record_serial(hub, &[])),
         }
     }
@@ -70,6 +74,6 @@ static CALLS: [(Option<usize>, u64); 3] = [(None, 5), (Some(1), 17), (Some(2), 1
 #[test]
 fn recordings(rt: HostRuntime) {
     for &(workers, want) in &CALLS {
-        assert_each(&rt, &[(Records { rt: &rt, workers }, want)]);
+        assert_each(&rt, &[(Records { workers }, want)]);
     }
 }

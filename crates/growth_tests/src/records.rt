@@ -5,6 +5,8 @@ use crate::traced::traced;
 use race_records::{DeclFault, Decls, Event, Kind, Named, Op, PushFault, Trace};
 use refusing_heap::RefusingHeap;
 use std::alloc::{AllocError, Allocator, Global};
+use std::sync::Wait;
+use std::thread::Threads;
 
 // A goroutine, two variables, three places and four events, which fill their tables.
 static DECLARED: &[u8] = b"gotrace 1\ngoroutine w\nvar x\nvar z\n";
@@ -80,7 +82,12 @@ fn add<A: Allocator + Copy>(decls: &mut Decls<A>, addition: Addition) -> Result<
 struct OneMore(Start, Addition, u32);
 
 impl Growing for OneMore {
-    fn reply(self, heap: &RefusingHeap<Global>, nth: u64) -> Reply {
+    fn reply<T: Threads + Wait + Sync>(
+        self,
+        _rt: &T,
+        heap: &RefusingHeap<Global>,
+        nth: u64,
+    ) -> Reply {
         let OneMore(start, addition, number) = self;
         match started(heap, start) {
             Some(mut decls) => {
@@ -158,7 +165,12 @@ fn copy<A: Allocator + Copy>(trace: &Trace<A>) -> Reply {
 }
 
 impl Growing for Call {
-    fn reply(self, heap: &RefusingHeap<Global>, nth: u64) -> Reply {
+    fn reply<T: Threads + Wait + Sync>(
+        self,
+        _rt: &T,
+        heap: &RefusingHeap<Global>,
+        nth: u64,
+    ) -> Reply {
         match traced(heap, DECLARED, EVENTS) {
             Some(mut trace) => {
                 heap.refuse(nth);

@@ -8,6 +8,8 @@ use race_legal::{Broken, Replay, legal};
 use race_records::{Event, Trace};
 use refusing_heap::RefusingHeap;
 use std::alloc::{Allocator, Global};
+use std::sync::Wait;
+use std::thread::Threads;
 
 /// A call of race_legal.
 #[derive(Clone, Copy)]
@@ -63,7 +65,12 @@ fn judged<A: Allocator + Copy>(heap: A, trace: &Trace<A>) -> Reply {
 struct Row(Call, &'static [u8]);
 
 impl Growing for Row {
-    fn reply(self, heap: &RefusingHeap<Global>, nth: u64) -> Reply {
+    fn reply<T: Threads + Wait + Sync>(
+        self,
+        _rt: &T,
+        heap: &RefusingHeap<Global>,
+        nth: u64,
+    ) -> Reply {
         let Row(call, events) = self;
         match traced(heap, DECLARED, events) {
             Some(trace) => match call {

@@ -11,6 +11,8 @@ use race_legal::legal;
 use race_records::{Event, Kind, Trace};
 use refusing_heap::RefusingHeap;
 use std::alloc::{Allocator, Global};
+use std::sync::Wait;
+use std::thread::Threads;
 
 /// What main's clock knows of main and of the last goroutine, and that one's of main.
 type Known = (u32, u32, u32);
@@ -110,7 +112,12 @@ fn stepped(
 struct Row(Call, &'static [u8]);
 
 impl Growing for Row {
-    fn reply(self, heap: &RefusingHeap<Global>, nth: u64) -> Reply {
+    fn reply<T: Threads + Wait + Sync>(
+        self,
+        _rt: &T,
+        heap: &RefusingHeap<Global>,
+        nth: u64,
+    ) -> Reply {
         let Row(call, events) = self;
         match traced(heap, DECLARED, events) {
             Some(trace) => match call {

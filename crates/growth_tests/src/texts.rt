@@ -7,6 +7,8 @@ use race_records::{Decls, Trace};
 use race_text::{LineReader, TextCause, TextFault, parse_trace, read_declaration};
 use refusing_heap::RefusingHeap;
 use std::alloc::{Allocator, Global};
+use std::sync::Wait;
+use std::thread::Threads;
 
 /// A call of race_text.
 #[derive(Clone, Copy)]
@@ -110,7 +112,12 @@ fn declared(heap: &RefusingHeap<Global>, start: Start, nth: u64) -> Reply
 }
 
 impl Growing for Call {
-    fn reply(self, heap: &RefusingHeap<Global>, nth: u64) -> Reply {
+    fn reply<T: Threads + Wait + Sync>(
+        self,
+        _rt: &T,
+        heap: &RefusingHeap<Global>,
+        nth: u64,
+    ) -> Reply {
         match self {
             Call::Parse => parsed(heap, nth),
             Call::Feed => fed(heap, nth),

@@ -6,6 +6,8 @@ use race_shards::{WitnessFault, witness};
 use race_verdict::Race;
 use refusing_heap::RefusingHeap;
 use std::alloc::Global;
+use std::sync::Wait;
+use std::thread::Threads;
 
 // A goroutine, two variables with a race, and a mutex.
 static DECLARED: &[u8] = b"gotrace 1\ngoroutine w\nvar x\nvar y\nmutex m\n";
@@ -26,7 +28,12 @@ static ORDER: [u32; 4] = [2, 1, 3, 4];
 struct Showing;
 
 impl Growing for Showing {
-    fn reply(self, heap: &RefusingHeap<Global>, nth: u64) -> Reply {
+    fn reply<T: Threads + Wait + Sync>(
+        self,
+        _rt: &T,
+        heap: &RefusingHeap<Global>,
+        nth: u64,
+    ) -> Reply {
         let Some(trace) = traced(heap, DECLARED, EVENTS) else {
             return Reply::Wrong;
         };

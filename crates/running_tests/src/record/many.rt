@@ -24,8 +24,8 @@ const LIMIT: u32 = 3;
 
 const DEADLOCK: u32 = 4;
 
-// Readers beside a writer.
-const READERS: &[u8] =
+/// Readers beside a writer.
+pub(crate) const READERS: &[u8] =
     b"goprogram 1\ngoroutine u\ngoroutine v\nrwmutex r\nvar x\nbody main\ngo u m:1\ngo v m:2\nlock r m:3\nwrite x 1 m:4\nunlock r m:5\nexit m:6\nbody u\nrlock r u:1\nread x u:2\nrunlock r u:3\nexit u:4\nbody v\nrlock r v:1\nread x v:2\nrunlock r v:3\nexit v:4\n";
 
 static ROWS: [Row; 11] = [

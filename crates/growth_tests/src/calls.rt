@@ -1,5 +1,6 @@
 //! A call that takes memory, of which each growth is refused in turn.
 ghost use Rattle.std.specs.Prelude.{◌<◌};
+ghost use Rattle.std.specs.Thread.{IsSync};
 
 use refusing_heap::RefusingHeap;
 use std::alloc::{AllocGlobal, Global};
@@ -35,7 +36,9 @@ pub(crate) trait Growing: Copy {
     /// Makes the value, lets growth `nth` from there on be refused, and makes the one call, by this runtime where it starts
     /// threads.
     fn reply<T: Threads + Wait + Sync>(self, rt: &T, heap: &RefusingHeap<Global>, nth: u64) -> Reply
-        requires { 0 < nth };
+        requires nth { 0 < nth }
+        // A method isn't told it of its type parameter.
+        requires sync { IsSync T.row };
 }
 
 /// How a run went in which one growth of the call was to be refused.

@@ -1,9 +1,10 @@
 //! What the workers share under the lock, and what each does there.
-ghost use Rattle.std.specs.Prelude.{◌≡◌, ◌≢◌, ◌⊎◌, [], Bool, None};
+ghost use Rattle.std.specs.Prelude.{◌≡◌, ◌≢◌, ◌≤◌, ◌⊎◌, [], Bool, Some, None, IfSome};
 ghost use Rattle.race_hub.specs.Hub.{end_of};
 ghost use Rattle.race_hub.specs.Job.{JobState};
 ghost use Rattle.race_hub.specs.Fires.{IsFired};
 ghost use Rattle.race_hub.specs.Submits.{Takes, Submits};
+ghost use Rattle.race_record.specs.Stops.{rank};
 
 use race_hub::{Hub, Job, Routine, SubmitFault};
 use race_records::Op;
@@ -167,8 +168,12 @@ impl<R: Routine, A: Allocator + Copy> Shared<R, A> {
     }
 }
 
-// Which of two is told.
-fn first_of(known: Option<Stop>, why: Stop) -> Stop {
+// Which of two is told: the first in the order of faults.
+fn first_of(known: Option<Stop>, why: Stop) -> Stop
+    ensures one { (result ≡ why) ⊎ (known ≡ Some result) }
+    ensures before { IfSome known (λ other. rank result ≤ rank other) }
+    ensures first { rank result ≤ rank why }
+{
     match (known, why) {
         (Some(Stop::NoThread), _) => Stop::NoThread,
         (_, Stop::NoThread) => Stop::NoThread,

@@ -5,6 +5,7 @@ mod asks;
 mod certificate;
 mod course;
 mod form;
+mod header;
 pub mod laws;
 mod offers;
 mod parse;

@@ -3,22 +3,11 @@ use Rattle.std.specs.Str.{bytes_eq}
 use Rattle.race_script.specs.Fault.{end_cause}
 use Rattle.race_script.specs.Reader.{ReadState, draft_read, lines_by, IsRead, IsReadBy}
 use Rattle.race_script.specs.Text.{header}
-use Rattle.race_script.proofs.ReadLemmas.{end_header, end_other, end_behind}
+use Rattle.race_script.proofs.ReadLemmas.{end_header, end_behind}
 use Rattle.race_script.proofs.reader.Reader.end_cause.Goals as goal
 
-pub returns-then-eq : goal.returns-then-eq
-returns-then-eq g c =
-    let s = c.args.self.now in
-    let header_is : s.has_header ≡ false = ap (λ (x : ReadState). x.has_header) (sym c.self.view_is) ∙ (let h = c.if-not-self.true in cc) in
-    let same : bytes_eq c.args.last.now header ≡ true = search rules in
-    sym (ap (λ b. end_cause (lines_by b (draft_read s)) c.args.last.now) header_is ∙ end_header c.args.last.now same)
-
-pub returns-else-eq : goal.returns-else-eq
-returns-else-eq g c =
-    let s = c.args.self.now in
-    let header_is : s.has_header ≡ false = ap (λ (x : ReadState). x.has_header) (sym c.self.view_is) ∙ (let h = c.if-not-self.true in cc) in
-    let other : bytes_eq c.args.last.now header ≡ false = search rules in
-    sym (ap (λ b. end_cause (lines_by b (draft_read s)) c.args.last.now) header_is ∙ end_other c.args.last.now other)
+pub returns-then-not-self : goal.returns-then-not-self
+returns-then-not-self g c = ?
 
 pub returns-then-not-is_empty : goal.returns-then-not-is_empty
 returns-then-not-is_empty g c =

@@ -52,7 +52,7 @@ header_says Version.Two = refl
 
 pub empty_has_text : (version : Version) → HasText (begun (nothing_in version))
 empty_has_text version = record {
-  well_formed = empty_well_formed version;
+  well_formed = empty_well_formed;
   is_trace = no_events (nothing_in version);
 }
 

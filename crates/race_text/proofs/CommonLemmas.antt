@@ -75,8 +75,8 @@ module _ (ds : List Declaration) (bytes verbs whos deeds rest : List ℕ) (verb 
       → SaysObject ds (PartKind.Object Kind.Goroutine) verbs goroutine whos → goroutine_of (Part.Object goroutine) ≡ Some who
       → SaysDeed ds verb whos op deeds → SaysPlace deeds place rest → SaysEvent ds bytes (occurrence who op (place, None)) rest
   says_event op place v g is_who d p = record {
-    says =
-        v.says ds
+    says = λ version.
+        v.says version ds
         ∙ ap (option_and_then (λ (first : ReadPart). option_and_then (λ who. event_of ds verb who first.1) (goroutine_of first.0))) g.says
         ∙ ap (option_and_then (λ who. event_of ds verb who (words_in whos))) is_who
         ∙ ap (option_and_then (λ (read : ReadOp). option_map (occurrence who read.0) (last_places (has_two_places verb) read.1))) d.says

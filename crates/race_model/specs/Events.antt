@@ -4,7 +4,7 @@ use Rattle.race_records.specs.declared.event.Event.{Event}
 use Rattle.race_records.specs.declared.event.Op.{Op}
 use Rattle.race_records.specs.declared.event.Op.TheVariants.{Go, Exit, Read, Write, Send}
 use Rattle.race_records.specs.declared.event.Op.TheVariants.{Recv, Meet, Close, Lock, Unlock}
-use Rattle.race_records.specs.declared.event.Op.TheVariants.{RLock, RUnlock, OnceBegin}
+use Rattle.race_records.specs.declared.event.Op.TheVariants.{RLock, RUnlock, TryLock, TryRLock, OnceBegin}
 use Rattle.race_records.specs.declared.event.Op.TheVariants.{OnceEnd, Fault}
 
 -- e is the event at index i of the list; indexes count from 0
@@ -86,9 +86,10 @@ abbrev pub closes : ℕ → Op → Bool
 closes c (Close d) = d == c
 closes c _ = false
 
--- a Lock of l; an RLock is none
+-- a Lock of l, or a TryLock that locked it, which is equivalent to one ("Locks"); an RLock is none, and neither is a failed try
 abbrev pub locks : ℕ → Op → Bool
 locks l (Lock m) = m == l
+locks l (TryLock m) = m == l
 locks l _ = false
 
 -- an Unlock of l; an RUnlock is none
@@ -96,9 +97,10 @@ abbrev pub unlocks : ℕ → Op → Bool
 unlocks l (Unlock m) = m == l
 unlocks l _ = false
 
--- an RLock of l
+-- an RLock of l, or a TryRLock that locked it for reading, which is equivalent to one
 abbrev pub rlocks : ℕ → Op → Bool
 rlocks l (RLock m) = m == l
+rlocks l (TryRLock m) = m == l
 rlocks l _ = false
 
 -- an RUnlock of l

@@ -11,7 +11,7 @@ use Rattle.race_records.specs.declared.event.Cause.TheVariants.{SendClosed, Clos
 use Rattle.race_records.specs.declared.event.Op.{Op}
 use Rattle.race_records.specs.declared.event.Op.TheVariants.{Go, Exit, Read, Write, Send, Recv, Meet}
 use Rattle.race_records.specs.declared.event.Op.TheVariants.{RecvClosed, Close, Default, Lock, Unlock, RLock}
-use Rattle.race_records.specs.declared.event.Op.TheVariants.{RUnlock, OnceBegin, OnceEnd, OnceDone, Fault}
+use Rattle.race_records.specs.declared.event.Op.TheVariants.{RUnlock, TryLock, TryRLock, TryFail, OnceBegin, OnceEnd, OnceDone, Fault}
 use Rattle.race_model.specs.Events.{At, gives, sends, receives, count}
 use Rattle.race_model.specs.State.{over, started, runs, last_value, is_closed, buffered, front, is_held, is_read_held, is_begun, is_ended, innermost}
 
@@ -67,6 +67,12 @@ op_rules caps past g (Unlock l) = (15, not (is_held l past)) ∷ []
 op_rules caps past g (RLock l) = (13, is_held l past) ∷ []
 -- 16: the lock isn't locked for reading
 op_rules caps past g (RUnlock l) = (16, not (is_read_held l past)) ∷ []
+-- 13 and 14: what hinders a Lock hinders a TryLock that succeeds
+op_rules caps past g (TryLock l) = (13, is_held l past) ∷ (14, is_read_held l past) ∷ []
+-- 13: so with an RLock and a TryRLock that succeeds
+op_rules caps past g (TryRLock l) = (13, is_held l past) ∷ []
+-- a try may fail at any time, even where the lock is free
+op_rules caps past g (TryFail l) = []
 -- 17: the function of the once has begun before
 op_rules caps past g (OnceBegin o) = (17, is_begun o past) ∷ []
 -- 18: the function in which the goroutine runs is that of no once, or of another one

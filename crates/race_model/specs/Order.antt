@@ -4,7 +4,7 @@
 use Rattle.std.specs.Prelude.{ℕ, ◌≡◌, ◌<◌, ◌+◌, ◌⊎◌, IsTrue, List, take}
 use Rattle.race_records.specs.declared.event.Event.{Event}
 use Rattle.race_records.specs.declared.event.Op.{Op}
-use Rattle.race_records.specs.declared.event.Op.TheVariants.{Go, Send, Recv, Meet, RecvClosed, Lock, RLock, OnceDone}
+use Rattle.race_records.specs.declared.event.Op.TheVariants.{Go, Send, Recv, Meet, RecvClosed, Lock, RLock, TryLock, TryRLock, OnceDone}
 use Rattle.race_model.specs.Events.{At, TakesPart, sends, receives, closes, locks, unlocks, runlocks, once_ends, count, IsKth}
 
 -- the begin of goroutine g's part in the event at index i, and its end, which the memory model calls its completion
@@ -46,6 +46,9 @@ IsSource caps past i s (RecvClosed c) = IsTrue (closes c s)
 IsSource caps past i s (Lock l) = IsBeforeLock past i s l
 -- the last Unlock of a lock that stands before an RLock, before that RLock
 IsSource caps past i s (RLock l) = IsLastUnlock past i s l
+-- a TryLock that succeeds counts as a Lock, and a TryRLock that succeeds as an RLock; a try that fails has no edge at all
+IsSource caps past i s (TryLock l) = IsBeforeLock past i s l
+IsSource caps past i s (TryRLock l) = IsLastUnlock past i s l
 -- the end of a once's function before each return that finds it ended
 IsSource caps past i s (OnceDone o) = IsTrue (once_ends o s)
 IsSource caps past i s _ = ⊥

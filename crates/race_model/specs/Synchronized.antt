@@ -2,7 +2,7 @@
 use Rattle.std.specs.Prelude.{ℕ, ◌+◌, ◌==◌, ◌&&◌, ◌||◌, Bool, false, List, take}
 use Rattle.race_records.specs.declared.event.Event.{Event}
 use Rattle.race_records.specs.declared.event.Op.{Op}
-use Rattle.race_records.specs.declared.event.Op.TheVariants.{Go, Send, Recv, Meet, RecvClosed, Lock, RLock, OnceDone}
+use Rattle.race_records.specs.declared.event.Op.TheVariants.{Go, Send, Recv, Meet, RecvClosed, Lock, RLock, TryLock, TryRLock, OnceDone}
 use Rattle.race_model.specs.Events.{sends, receives, closes, locks, unlocks, runlocks, once_ends, count}
 
 -- in one event, in which goroutine who does o, g's begin is synchronized before h's end
@@ -18,5 +18,7 @@ is_source caps past i s (Send c v) = receives c s && (count (receives c) (take i
 is_source caps past i s (RecvClosed c) = closes c s
 is_source caps past i s (Lock l) = unlocks l s || (runlocks l s && (count (locks l) (take i past) == count (locks l) past))
 is_source caps past i s (RLock l) = unlocks l s && (count (unlocks l) (take i past) + 1 == count (unlocks l) past)
+is_source caps past i s (TryLock l) = unlocks l s || (runlocks l s && (count (locks l) (take i past) == count (locks l) past))
+is_source caps past i s (TryRLock l) = unlocks l s && (count (unlocks l) (take i past) + 1 == count (unlocks l) past)
 is_source caps past i s (OnceDone o) = once_ends o s
 is_source caps past i s _ = false

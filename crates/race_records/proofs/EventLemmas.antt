@@ -11,7 +11,8 @@ use Rattle.race_records.specs.declared.trace.PushFault.{PushFault}
 use Rattle.race_records.specs.declared.trace.PushFault.TheVariants.{BadNumber, WrongKind, Full}
 use Rattle.race_records.specs.declared.trace.TheConstants.{MAX_EVENTS}
 use Rattle.race_records.specs.Declarations.{Declaration, DeclsState, is_known, with_place}
-use Rattle.race_records.specs.Events.{TraceState, IsTrace, is_in_range, lock_fits, fits, op_is_limited, push_fault}
+use Rattle.race_records.specs.declared.version.Version.{Version}
+use Rattle.race_records.specs.Events.{TraceState, IsTrace, is_in_range, is_right_kind, fits, op_is_limited, push_fault}
 
 -- what no fault means for an event
 pub record IsAllowedEvent (trace : TraceState) (e : Event) : Type 0 where
@@ -21,9 +22,9 @@ pub record IsAllowedEvent (trace : TraceState) (e : Event) : Type 0 where
 pub allowed_from_no_push_fault : (trace : TraceState) (e : Event) → push_fault trace e ≡ None → IsAllowedEvent trace e
 unfolding push_fault fits
 allowed_from_no_push_fault trace e h =
-    by (is_in_range trace.decls e) refl (lock_fits trace.decls.declarations e.op) refl (nat_le MAX_EVENTS (length trace.events)) refl h
+    by (is_in_range trace.decls e) refl (is_right_kind trace.decls e.op) refl (nat_le MAX_EVENTS (length trace.events)) refl h
   where
-    by : (b : Bool) → is_in_range trace.decls e ≡ b → (suits : Bool) → lock_fits trace.decls.declarations e.op ≡ suits
+    by : (b : Bool) → is_in_range trace.decls e ≡ b → (suits : Bool) → is_right_kind trace.decls e.op ≡ suits
         → (full : Bool) → nat_le MAX_EVENTS (length trace.events) ≡ full
         → ◌≡◌ {A = Option PushFault} (if not b then Some BadNumber else (if not suits then Some WrongKind else (if full then Some Full else None))) None
         → IsAllowedEvent trace e
@@ -48,10 +49,11 @@ push_is_trace trace e events spare holds value none is =
     }
 
 -- with more places, an event that fitted still fits
-fits-more_places : (ds : List Declaration) (places more : List (List ℕ)) (e : Event) → length places ≤ length more
-    → fits (record { declarations = ds; places = places }) e ≡ true → fits (record { declarations = ds; places = more }) e ≡ true
+fits-more_places : (version : Version) (ds : List Declaration) (places more : List (List ℕ)) (e : Event) → length places ≤ length more
+    → fits (record { version = version; declarations = ds; places = places }) e ≡ true
+    → fits (record { version = version; declarations = ds; places = more }) e ≡ true
 unfolding fits
-fits-more_places ds places more e grown h = grind (arith, nat_tests)
+fits-more_places version ds places more e grown h = grind (arith, nat_tests)
 
 -- a second place of an event that fits is in range
 pub place_in_range : (decls : DeclsState) (e : Event) → IsTrue (fits decls e) → e.place < length decls.places
@@ -66,7 +68,7 @@ pub with_place_is_trace : (trace : TraceState) (word : List ℕ) (decls : DeclsS
     → IsTrace (record { decls = decls; events = trace.events; spare = trace.spare })
 with_place_is_trace trace word decls holds is = record {
   fit = λ k d within. subst (λ (x : DeclsState). IsTrue (fits x (get_or trace.events k d))) (sym is) (fits-more_places
-      trace.decls.declarations trace.decls.places _ (get_or trace.events k d) (grown (is_known trace.decls.places word)) (holds.fit k d within));
+      trace.decls.version trace.decls.declarations trace.decls.places _ (get_or trace.events k d) (grown (is_known trace.decls.places word)) (holds.fit k d within));
   values = holds.values;
   limited = holds.limited;
 }

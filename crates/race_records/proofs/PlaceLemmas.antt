@@ -57,7 +57,7 @@ allowed_from_no_place_fault places word new h = by (is_place word) refl (is_know
 
 -- the table with a new place
 pub place_well_formed : (decls : DeclsState) (word : List ℕ) → IsWellFormed decls → is_known decls.places word ≡ false → IsAllowedPlace decls.places word
-    → IsWellFormed (record { declarations = decls.declarations; places = decls.places ++ word ∷ [] })
+    → IsWellFormed (record { version = decls.version; declarations = decls.declarations; places = decls.places ++ word ∷ [] })
 place_well_formed decls word holds new allowed = record {
   names = holds.names;
   not_main = holds.not_main;
@@ -77,6 +77,6 @@ pub with_place_well_formed : (decls : DeclsState) (word : List ℕ) → IsWellFo
 with_place_well_formed decls word holds none = by (is_known decls.places word) refl
   where
     by : (b : Bool) → is_known decls.places word ≡ b
-        → IsWellFormed (record { declarations = decls.declarations; places = if b then decls.places else decls.places ++ word ∷ [] })
+        → IsWellFormed (record { version = decls.version; declarations = decls.declarations; places = if b then decls.places else decls.places ++ word ∷ [] })
     by true e = holds
     by false e = place_well_formed decls word holds e (allowed_from_no_place_fault decls.places word e none)

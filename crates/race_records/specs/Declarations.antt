@@ -12,6 +12,7 @@ use Rattle.race_records.specs.declared.declarations.DeclFault.{DeclFault}
 use Rattle.race_records.specs.declared.declarations.DeclFault.TheVariants.{BadName, Taken, TooMany, BadCapacity}
 use Rattle.race_records.specs.declared.kind.TheConstants.{MAX_GOROUTINES, MAX_OBJECTS, MAX_CAPACITY}
 use Rattle.race_records.specs.declared.declarations.TheConstants.{MAX_PLACES}
+use Rattle.race_records.specs.declared.version.Version.{Version}
 use Rattle.race_records.specs.Name.{main, is_name, is_place}
 
 -- a name, and what it is declared as
@@ -19,8 +20,9 @@ pub record Declaration : Type 0 where
   pub name : List ℕ
   pub object : Object
 
--- a `Decls` as its callers see it: the declarations in order, and the places in the order in which they came
+-- a `Decls` as its callers see it: the version of the text that it is for, the declarations in order, and the places in the order in which they came
 pub record DeclsState : Type 0 where
+  pub version : Version
   pub declarations : List Declaration
   pub places : List (List ℕ)
 
@@ -155,7 +157,11 @@ decl_fault ds object word =
 -- the state with one more declaration, at the end
 abbrev pub with_declaration : DeclsState → List ℕ → Object → DeclsState
 with_declaration decls word object =
-    record { declarations = decls.declarations ++ record { name = word; object = object } ∷ []; places = decls.places }
+    record {
+      version = decls.version;
+      declarations = decls.declarations ++ record { name = word; object = object } ∷ [];
+      places = decls.places;
+    }
 
 -- the place is in the table
 abbrev pub is_known : List (List ℕ) → List ℕ → Bool
@@ -175,7 +181,11 @@ place_number places word = position_or_len (bytes_eq word) places
 -- the state with the place at the end of the table, unless it is known
 abbrev pub with_place : DeclsState → List ℕ → DeclsState
 with_place decls word =
-    record { declarations = decls.declarations; places = if is_known decls.places word then decls.places else decls.places ++ word ∷ [] }
+    record {
+      version = decls.version;
+      declarations = decls.declarations;
+      places = if is_known decls.places word then decls.places else decls.places ++ word ∷ [];
+    }
 
 -- what holds of every `Decls`
 pub record IsWellFormed (decls : DeclsState) : Type 0 where

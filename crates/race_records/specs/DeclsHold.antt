@@ -19,7 +19,7 @@ pub record AreNumbered (names : List Row) (indexes : IndexesState) : Type 0 wher
 
 module _ {A : Type 0} where
   abbrev pub decls_state : Inside A → DeclsState
-  decls_state decls = record { declarations = declarations_of decls.names; places = decls.places }
+  decls_state decls = record { version = decls.version; declarations = declarations_of decls.names; places = decls.places }
 
   pub record DeclsHold (decls : Inside A) : Type 0 where
     pub numbered : AreNumbered decls.names decls.indexes

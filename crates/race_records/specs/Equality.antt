@@ -1,4 +1,4 @@
--- What `==` of two `Decls` tests, and that it holds just where the lists of declarations are equal.
+-- What `==` of two `Decls` tests, and that it holds just where the versions and the lists of declarations are equal.
 use Rattle.std.proofs.Common.{◌≡◌, ◌==◌, ◌&&◌, Bool, true, false, List, Decides, refl, sym, ap, true≢false}
 use Rattle.std.proofs.lemmas.Bool.Decides.{Decides-eqb}
 use Rattle.std.proofs.lemmas.Slice.Eq.{bytes_eq-Decides, slice_eq-Decides}
@@ -7,6 +7,7 @@ use Rattle.std.specs.Cmp.Lexicographic.{pointwise}
 use Rattle.std.specs.Cmp.{IsPartialEquivalence, partial_equiv_from_equiv, decided, on_per, booleans_Decides}
 use Rattle.std.specs.Str.{bytes_eq}
 use Rattle.race_records.specs.declared.kind.Object.{Object}
+use Rattle.race_records.specs.declared.version.Version.{Version}
 use Rattle.race_records.specs.Declarations.{Declaration, DeclsState}
 
 -- the two are declared alike
@@ -18,9 +19,36 @@ same_object (Object.Lock a) (Object.Lock b) = beq a b
 same_object Object.Once Object.Once = true
 same_object _ _ = false
 
--- what `==` of two `Decls` tests: the same names, declared alike, in the same order
+-- what a `Decls` declares, and the version of the text that it is for: places don't count
+pub record Declared : Type 0 where
+  pub version : Version
+  pub declarations : List Declaration
+
+abbrev pub declared : DeclsState → Declared
+declared decls = record { version = decls.version; declarations = decls.declarations }
+
+-- the versions are the same
+abbrev pub same_version : Version → Version → Bool
+same_version Version.One Version.One = true
+same_version Version.Two Version.Two = true
+same_version _ _ = false
+
+-- the same names, declared alike, in the same order
 abbrev pub same_declarations : List Declaration → List Declaration → Bool
 same_declarations ds es = pointwise (λ (d e : Declaration). bytes_eq d.name e.name && same_object d.object e.object) ds es
+
+-- what `==` of two `Decls` tests
+abbrev pub same_declared : Declared → Declared → Bool
+same_declared d e = same_version d.version e.version && same_declarations d.declarations e.declarations
+
+abbrev pub same_decls : DeclsState → DeclsState → Bool
+same_decls d e = same_declared (declared d) (declared e)
+
+-- equal versions are the same, and those alone
+pub same_version-Decides : (a b : Version) → Decides (same_version a b) (a ≡ b)
+same_version-Decides Version.One Version.One = (λ _. refl, λ _. refl)
+same_version-Decides Version.Two Version.Two = (λ _. refl, λ _. refl)
+same_version-Decides _ _ = (λ e. absurd (true≢false (sym e)), λ e. cc)
 
 -- equal objects are declared alike, and those alone
 pub same_object-Decides : (a b : Object) → Decides (same_object a b) (a ≡ b)
@@ -44,5 +72,14 @@ pub same_declarations-Decides : (ds es : List Declaration) → Decides (same_dec
 same_declarations-Decides ds es = slice_eq-Decides {E = λ (d e : Declaration). bytes_eq d.name e.name
     && same_object d.object e.object} same_declaration-Decides ds es (same_declarations ds es) refl
 
-pub same_declarations_laws : IsPartialEquivalence (λ (d e : DeclsState). same_declarations d.declarations e.declarations)
-same_declarations_laws = on_per (λ (d : DeclsState). d.declarations) (partial_equiv_from_equiv (decided same_declarations same_declarations-Decides))
+pub same_declared-Decides : (d e : Declared) → Decides (same_declared d e) (d ≡ e)
+same_declared-Decides d e = by (same_version d.version e.version) (same_declarations d.declarations e.declarations)
+    (same_version-Decides d.version e.version) (same_declarations-Decides d.declarations e.declarations)
+  where
+    by : (b c : Bool) → Decides b (d.version ≡ e.version) → Decides c (d.declarations ≡ e.declarations) → Decides (b && c) (d ≡ e)
+    by true true p q = (λ _ i. record { version = p.0 refl i; declarations = q.0 refl i }, λ _. refl)
+    by false c p q = (λ h. absurd (true≢false (sym h)), λ h. absurd (true≢false (sym (p.1 (ap (λ (x : Declared). x.version) h)))))
+    by true false p q = (λ h. absurd (true≢false (sym h)), λ h. absurd (true≢false (sym (q.1 (ap (λ (x : Declared). x.declarations) h)))))
+
+pub same_decls_laws : IsPartialEquivalence same_decls
+same_decls_laws = on_per declared (partial_equiv_from_equiv (decided same_declared same_declared-Decides))

@@ -9,7 +9,8 @@ use Rattle.race_records.specs.declared.trace.PushFault.{PushFault}
 use Rattle.race_records.specs.declared.trace.PushFault.TheVariants.{BadNumber, WrongKind, Full}
 use Rattle.race_records.specs.declared.trace.TheConstants.{MAX_EVENTS}
 use Rattle.race_records.specs.Declarations.{Declaration, DeclsState, count_of, counts_of, is_rw}
-use Rattle.race_records.specs.Parts.{says, has_two_places, op_is_in_range, part_is_limited, rwmutex_of}
+use Rattle.race_records.specs.declared.version.Version.{Version}
+use Rattle.race_records.specs.Parts.{says, has_verb, has_two_places, op_is_in_range, part_is_limited, rwmutex_of}
 
 -- the numbers that the operation names are declared, each of its kind
 abbrev pub op_fits : List Declaration → Op → Bool
@@ -30,9 +31,17 @@ is_in_range decls e =
 abbrev pub lock_fits : List Declaration → Op → Bool
 lock_fits ds op = option_map_or (is_rw ds) (rwmutex_of op) true
 
--- all numbers of the event are in range and of the right kind
+-- the version has the operation
+abbrev pub has_op : Version → Op → Bool
+has_op version op = has_verb version (says op).0
+
+-- the operation is one of the declarations' version, and its lock is an rwmutex where it wants one
+abbrev pub is_right_kind : DeclsState → Op → Bool
+is_right_kind decls op = has_op decls.version op && lock_fits decls.declarations op
+
+-- all numbers of the event are in range, and it is of the right kind
 unfoldable pub fits : DeclsState → Event → Bool
-fits decls e = is_in_range decls e && lock_fits decls.declarations e.op
+fits decls e = is_in_range decls e && is_right_kind decls e.op
 
 -- each value of the operation is a u64, and it has at most 16 cases
 abbrev pub op_is_limited : Op → Bool
@@ -48,7 +57,7 @@ pub record TraceState : Type 0 where
 unfoldable pub push_fault : TraceState → Event → Option PushFault
 push_fault trace e =
     if not (is_in_range trace.decls e) then Some BadNumber
-    else (if not (lock_fits trace.decls.declarations e.op) then Some WrongKind
+    else (if not (is_right_kind trace.decls e.op) then Some WrongKind
     else (if nat_le MAX_EVENTS (length trace.events) then Some Full else None))
 
 -- what holds of every `Trace`: each event fits its declarations, each value is a u64, no event has too many cases, and there are not too many events

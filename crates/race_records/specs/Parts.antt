@@ -5,7 +5,7 @@ use Rattle.std.specs.Option.{option_map, option_map_or}
 use Rattle.race_records.specs.declared.event.Op.{Op}
 use Rattle.race_records.specs.declared.event.Op.TheVariants.{Go, Exit, Read, Write, Send, Recv, Meet}
 use Rattle.race_records.specs.declared.event.Op.TheVariants.{RecvClosed, Close, Default, Lock, Unlock, RLock}
-use Rattle.race_records.specs.declared.event.Op.TheVariants.{RUnlock, OnceBegin, OnceEnd, OnceDone, Fault}
+use Rattle.race_records.specs.declared.event.Op.TheVariants.{RUnlock, TryLock, TryRLock, TryFail, OnceBegin, OnceEnd, OnceDone, Fault}
 use Rattle.race_records.specs.declared.event.Cause.{Cause}
 use Rattle.race_records.specs.declared.event.Cause.TheVariants.{SendClosed, CloseClosed, CloseNil, UnlockFree, RUnlockFree}
 use Rattle.race_records.specs.declared.cases.Case.{Case}
@@ -15,6 +15,7 @@ use Rattle.race_records.specs.declared.kind.Named.{Named}
 use Rattle.race_records.specs.declared.parts.Part.{Part}
 use Rattle.race_records.specs.declared.parts.PartKind.{PartKind}
 use Rattle.race_records.specs.declared.parts.Verb.{Verb}
+use Rattle.race_records.specs.declared.version.Version.{Version}
 use Rattle.race_records.specs.Declarations.{Declaration, kind_of_named, is_named, number_of, counts_of}
 
 -- what the operation says
@@ -33,10 +34,46 @@ says (Lock l) = (Verb.Lock, Part.Object (Named.Lock l) ∷ [])
 says (Unlock l) = (Verb.Unlock, Part.Object (Named.Lock l) ∷ [])
 says (RLock l) = (Verb.RLock, Part.Object (Named.Lock l) ∷ [])
 says (RUnlock l) = (Verb.RUnlock, Part.Object (Named.Lock l) ∷ [])
+says (TryLock l) = (Verb.TryLock, Part.Object (Named.Lock l) ∷ [])
+says (TryRLock l) = (Verb.TryRLock, Part.Object (Named.Lock l) ∷ [])
+says (TryFail l) = (Verb.TryFail, Part.Object (Named.Lock l) ∷ [])
 says (OnceBegin o) = (Verb.OnceBegin, Part.Object (Named.Once o) ∷ [])
 says (OnceEnd o) = (Verb.OnceEnd, Part.Object (Named.Once o) ∷ [])
 says (OnceDone o) = (Verb.OnceDone, Part.Object (Named.Once o) ∷ [])
 says (Fault cause) = (Verb.Fault, Part.Cause cause ∷ [])
+
+-- the version that brought each word
+abbrev pub since : Verb → Version
+since Verb.Go = Version.One
+since Verb.Exit = Version.One
+since Verb.Read = Version.One
+since Verb.Write = Version.One
+since Verb.Send = Version.One
+since Verb.Recv = Version.One
+since Verb.Meet = Version.One
+since Verb.RecvClosed = Version.One
+since Verb.Close = Version.One
+since Verb.Default = Version.One
+since Verb.Lock = Version.One
+since Verb.Unlock = Version.One
+since Verb.RLock = Version.One
+since Verb.RUnlock = Version.One
+since Verb.TryLock = Version.Two
+since Verb.TryRLock = Version.Two
+since Verb.TryFail = Version.Two
+since Verb.OnceBegin = Version.One
+since Verb.OnceEnd = Version.One
+since Verb.OnceDone = Version.One
+since Verb.Fault = Version.One
+
+-- what came with a version is in it and in each later one
+abbrev pub is_in : Version → Version → Bool
+is_in Version.One came = elim came [ Version.One ↦ true | Version.Two ↦ false ]
+is_in Version.Two came = true
+
+-- the version has the word
+abbrev pub has_verb : Version → Verb → Bool
+has_verb version verb = is_in version (since verb)
 
 -- the event has a second place
 abbrev pub has_two_places : Verb → Bool
@@ -89,6 +126,9 @@ op_by Verb.Lock parts = option_map Lock (object_alone Kind.Lock parts)
 op_by Verb.Unlock parts = option_map Unlock (object_alone Kind.Lock parts)
 op_by Verb.RLock parts = option_map RLock (object_alone Kind.Lock parts)
 op_by Verb.RUnlock parts = option_map RUnlock (object_alone Kind.Lock parts)
+op_by Verb.TryLock parts = option_map TryLock (object_alone Kind.Lock parts)
+op_by Verb.TryRLock parts = option_map TryRLock (object_alone Kind.Lock parts)
+op_by Verb.TryFail parts = option_map TryFail (object_alone Kind.Lock parts)
 op_by Verb.OnceBegin parts = option_map OnceBegin (object_alone Kind.Once parts)
 op_by Verb.OnceEnd parts = option_map OnceEnd (object_alone Kind.Once parts)
 op_by Verb.OnceDone parts = option_map OnceDone (object_alone Kind.Once parts)
@@ -110,6 +150,9 @@ part_kinds Verb.Lock = PartKind.Object Kind.Lock ∷ []
 part_kinds Verb.Unlock = PartKind.Object Kind.Lock ∷ []
 part_kinds Verb.RLock = PartKind.RwMutex ∷ []
 part_kinds Verb.RUnlock = PartKind.RwMutex ∷ []
+part_kinds Verb.TryLock = PartKind.Object Kind.Lock ∷ []
+part_kinds Verb.TryRLock = PartKind.RwMutex ∷ []
+part_kinds Verb.TryFail = PartKind.Object Kind.Lock ∷ []
 part_kinds Verb.OnceBegin = PartKind.Object Kind.Once ∷ []
 part_kinds Verb.OnceEnd = PartKind.Object Kind.Once ∷ []
 part_kinds Verb.OnceDone = PartKind.Object Kind.Once ∷ []
@@ -165,6 +208,7 @@ op_is_in_range counts op = list_all (part_is_in_range counts) (says op).1
 abbrev pub rwmutex_of : Op → Option ℕ
 rwmutex_of (RLock l) = Some l
 rwmutex_of (RUnlock l) = Some l
+rwmutex_of (TryRLock l) = Some l
 rwmutex_of (Fault (RUnlockFree l)) = Some l
 rwmutex_of _ = None
 

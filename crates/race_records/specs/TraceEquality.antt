@@ -10,13 +10,12 @@ use Rattle.race_records.specs.declared.event.Event.{Event}
 use Rattle.race_records.specs.declared.event.Op.{Op}
 use Rattle.race_records.specs.declared.event.Op.TheVariants.{Go, Exit, Read, Write, Send, Recv, Meet}
 use Rattle.race_records.specs.declared.event.Op.TheVariants.{RecvClosed, Close, Default, Lock, Unlock, RLock}
-use Rattle.race_records.specs.declared.event.Op.TheVariants.{RUnlock, OnceBegin, OnceEnd, OnceDone, Fault}
+use Rattle.race_records.specs.declared.event.Op.TheVariants.{RUnlock, TryLock, TryRLock, TryFail, OnceBegin, OnceEnd, OnceDone, Fault}
 use Rattle.race_records.specs.declared.event.Cause.{Cause}
 use Rattle.race_records.specs.declared.event.Cause.TheVariants.{SendClosed, CloseClosed, CloseNil, UnlockFree, RUnlockFree}
 use Rattle.race_records.specs.Cases.{same_cases, same_cases-Decides}
-use Rattle.race_records.specs.Declarations.{Declaration}
 use Rattle.race_records.specs.Events.{TraceState}
-use Rattle.race_records.specs.Equality.{same_declarations, same_declarations-Decides}
+use Rattle.race_records.specs.Equality.{Declared, declared, same_declared, same_declared-Decides}
 
 -- an event with the texts of its places
 pub record PlacedEvent : Type 0 where
@@ -27,7 +26,7 @@ pub record PlacedEvent : Type 0 where
 
 -- what a trace records: places that no event uses don't count, nor does the order of places
 pub record Recorded : Type 0 where
-  pub declarations : List Declaration
+  pub declared : Declared
   pub events : List PlacedEvent
 
 abbrev pub placed : List (List ℕ) → Event → PlacedEvent
@@ -38,7 +37,7 @@ abbrev pub placed_events : TraceState → List PlacedEvent
 placed_events trace = map (placed trace.decls.places) trace.events
 
 abbrev pub recorded : TraceState → Recorded
-recorded trace = record { declarations = trace.decls.declarations; events = placed_events trace }
+recorded trace = record { declared = declared trace.decls; events = placed_events trace }
 
 -- the causes of a fault are the same
 abbrev pub same_cause : Cause → Cause → Bool
@@ -65,6 +64,9 @@ same_op (Lock l) (Lock m) = l == m
 same_op (Unlock l) (Unlock m) = l == m
 same_op (RLock l) (RLock m) = l == m
 same_op (RUnlock l) (RUnlock m) = l == m
+same_op (TryLock l) (TryLock m) = l == m
+same_op (TryRLock l) (TryRLock m) = l == m
+same_op (TryFail l) (TryFail m) = l == m
 same_op (OnceBegin o) (OnceBegin p) = o == p
 same_op (OnceEnd o) (OnceEnd p) = o == p
 same_op (OnceDone o) (OnceDone p) = o == p
@@ -82,7 +84,7 @@ same_placed d e = (d.who == e.who) && same_op d.op e.op && same_text d.place e.p
 
 -- what `==` of two `Trace`s tests
 abbrev pub same_recorded : Recorded → Recorded → Bool
-same_recorded a b = same_declarations a.declarations b.declarations && pointwise same_placed a.events b.events
+same_recorded a b = same_declared a.declared b.declared && pointwise same_placed a.events b.events
 
 both : {P Q : Type 0} {m n : Bool} → Decides m P → Decides n Q → Decides (m && n) (P × Q)
 both {m = m} {n = n} p q = by m n p q
@@ -125,6 +127,9 @@ same_op-Decides (Lock l) (Lock m) = (λ e. ap Lock ((Decides-eqb l m).0 e), λ e
 same_op-Decides (Unlock l) (Unlock m) = (λ e. ap Unlock ((Decides-eqb l m).0 e), λ e. (Decides-eqb l m).1 cc)
 same_op-Decides (RLock l) (RLock m) = (λ e. ap RLock ((Decides-eqb l m).0 e), λ e. (Decides-eqb l m).1 cc)
 same_op-Decides (RUnlock l) (RUnlock m) = (λ e. ap RUnlock ((Decides-eqb l m).0 e), λ e. (Decides-eqb l m).1 cc)
+same_op-Decides (TryLock l) (TryLock m) = (λ e. ap TryLock ((Decides-eqb l m).0 e), λ e. (Decides-eqb l m).1 cc)
+same_op-Decides (TryRLock l) (TryRLock m) = (λ e. ap TryRLock ((Decides-eqb l m).0 e), λ e. (Decides-eqb l m).1 cc)
+same_op-Decides (TryFail l) (TryFail m) = (λ e. ap TryFail ((Decides-eqb l m).0 e), λ e. (Decides-eqb l m).1 cc)
 same_op-Decides (OnceBegin o) (OnceBegin p) = (λ e. ap OnceBegin ((Decides-eqb o p).0 e), λ e. (Decides-eqb o p).1 cc)
 same_op-Decides (OnceEnd o) (OnceEnd p) = (λ e. ap OnceEnd ((Decides-eqb o p).0 e), λ e. (Decides-eqb o p).1 cc)
 same_op-Decides (OnceDone o) (OnceDone p) = (λ e. ap OnceDone ((Decides-eqb o p).0 e), λ e. (Decides-eqb o p).1 cc)
@@ -146,10 +151,10 @@ same_placed-Decides d e =
 pub same_recorded-Decides : (a b : Recorded) → Decides (same_recorded a b) (a ≡ b)
 same_recorded-Decides a b =
     decides_by (same_recorded a b)
-    (both (same_declarations-Decides a.declarations b.declarations)
+    (both (same_declared-Decides a.declared b.declared)
     (slice_eq-Decides {E = same_placed} same_placed-Decides a.events b.events (pointwise same_placed a.events b.events) refl))
-    (λ h i. record { declarations = h.0 i; events = h.1 i })
-    (λ h. (ap (λ (x : Recorded). x.declarations) h, ap (λ (x : Recorded). x.events) h))
+    (λ h i. record { declared = h.0 i; events = h.1 i })
+    (λ h. (ap (λ (x : Recorded). x.declared) h, ap (λ (x : Recorded). x.events) h))
 
 abbrev pub same_traces : TraceState → TraceState → Bool
 same_traces a b = same_recorded (recorded a) (recorded b)

@@ -11,7 +11,7 @@ ghost use Rattle.race_records.specs.Refusal.{Refuses, AllowsUnless};
 use crate::indexes::Indexes;
 use crate::names::{Names, Slot};
 use crate::places::Places;
-use crate::{Kind, Named, Object, as_text, is_name, is_place};
+use crate::{Kind, Named, Object, Version, as_text, is_name, is_place};
 use std::alloc::{AllocError, Allocator, Global};
 use std::marker::Model;
 use thiserror::Error;
@@ -42,12 +42,13 @@ pub enum DeclFault {
     OutOfMemory,
 }
 
-/// A list of declarations in order, and a table of places.
+/// A list of declarations in order, a table of places, and the version of the text that they are for.
 ///
 /// The number of an object is the count of objects of its kind that were declared before it;
 /// goroutines count from 1, since `main` is 0 and isn't declared. All kinds share one table of
 /// names. Each look-up costs the same however many names and places there are.
 pub struct Decls<A: Allocator = Global> {
+    version: Version,
     names: Names<A>,
     indexes: Indexes<A>,
     places: Places<A>,
@@ -56,6 +57,7 @@ pub struct Decls<A: Allocator = Global> {
 impl<A: Allocator> Drop for Decls<A> {
     fn drop(self) {
         let Decls {
+            version: _,
             names: _,
             indexes: _,
             places: _,
@@ -76,14 +78,38 @@ impl<A: Allocator> Model for Decls<A> {
 }
 
 impl<A: Allocator> Decls<A> {
-    /// No declaration and no place. Takes no memory.
+    /// No declaration and no place, for a text of version 1. Takes no memory.
     pub fn new(alloc: A) -> Decls<A>
     where
         A: Copy,
+        ensures version { result.version ≡ Version.One }
+        ensures declarations { result.declarations ≡ [] }
+        ensures places { result.places ≡ [] }
+    {
+        Decls::of_version(Version::One, alloc)
+    }
+
+    /// No declaration and no place, for a text of version 2. Takes no memory.
+    pub fn new_version2(alloc: A) -> Decls<A>
+    where
+        A: Copy,
+        ensures version { result.version ≡ Version.Two }
+        ensures declarations { result.declarations ≡ [] }
+        ensures places { result.places ≡ [] }
+    {
+        Decls::of_version(Version::Two, alloc)
+    }
+
+    // No declaration and no place.
+    fn of_version(version: Version, alloc: A) -> Decls<A>
+    where
+        A: Copy,
+        ensures version { result.version ≡ version }
         ensures declarations { result.declarations ≡ [] }
         ensures places { result.places ≡ [] }
     {
         Decls {
+            version,
             names: Names::new(alloc),
             indexes: Indexes::new(alloc),
             places: Places::new(alloc),
@@ -94,6 +120,13 @@ impl<A: Allocator> Decls<A> {
         ensures well_formed { spec.IsWellFormed self.now }
     {
         self.places.allocator()
+    }
+
+    /// The version of the text that the declarations are for.
+    pub fn version(&self) -> Version
+        ensures { result ≡ self.now.version }
+    {
+        self.version
     }
 
     /// How many declarations there are.
@@ -419,11 +452,12 @@ impl<A: Allocator + Copy> Decls<A> {
         Ok(number)
     }
 
-    /// An equal one, with the same places. Fails for want of memory alone.
+    /// An equal one, with the same version and places. Fails for want of memory alone.
     pub fn copy(&self) -> Result<Decls<A>, AllocError>
         ensures { IfOk result (λ copy. copy ≡ self.now) }
     {
         Ok(Decls {
+            version: self.version,
             names: self.names.copy()?,
             indexes: self.indexes.copy()?,
             places: self.places.copy()?,
@@ -431,19 +465,19 @@ impl<A: Allocator + Copy> Decls<A> {
     }
 }
 
-/// Equal where the declarations are; places don't count.
+/// Equal where the versions and the declarations are; places don't count.
 impl<A: Allocator> PartialEq for Decls<A> {
     ghost use Rattle.std.specs.Prelude.{◌≡◌, ◌↔◌, IsTrue};
-    ghost use Rattle.race_records.specs.Equality.{same_declarations, same_declarations_laws};
+    ghost use Rattle.race_records.specs.Equality.{declared, same_decls, same_decls_laws};
 
-    ghost eq = { λ d e. same_declarations d.declarations e.declarations };
+    ghost eq = { same_decls };
 
-    ghost laws = { same_declarations_laws };
+    ghost laws = { same_decls_laws };
 
     fn eq(&self, other: &Decls<A>) -> bool
-        ensures eq { result ≡ same_declarations self.now.declarations other.now.declarations }
-        ensures same { IsTrue result ↔ (self.now.declarations ≡ other.now.declarations) }
+        ensures eq { result ≡ same_decls self.now other.now }
+        ensures same { IsTrue result ↔ (declared self.now ≡ declared other.now) }
     {
-        self.names.declare_alike(&other.names)
+        self.version == other.version && self.names.declare_alike(&other.names)
     }
 }

@@ -50,6 +50,12 @@ pub enum Op {
     RLock(u32),
     /// Unlocked the rwmutex of this number from reading (`RUnlock`).
     RUnlock(u32),
+    /// Locked the mutex or the rwmutex of this number by a try that succeeded (`TryLock`). Of version 2.
+    TryLock(u32),
+    /// Locked the rwmutex of this number for reading by a try that succeeded (`TryRLock`). Of version 2.
+    TryRLock(u32),
+    /// Tried to lock the mutex or the rwmutex of this number, or to lock it for reading, without success. Of version 2.
+    TryFail(u32),
     /// Began to run the function of the once of this number.
     OnceBegin(u32),
     /// Ended the function of the once of this number.

@@ -10,13 +10,13 @@ use std::alloc::Allocator;
 
 impl<A: Allocator> Decls<A> {
     /// Whether all numbers of the event are declared, each of the kind that it stands for, a
-    /// second place is there exactly where its operation has one, and a lock is an rwmutex where
-    /// the operation wants one.
+    /// second place is there exactly where its operation has one, the version has the operation, and
+    /// a lock is an rwmutex where the operation wants one.
     #[tactic(auto, unfolding(crate::specs::Events::fits))]
     pub fn fits(&self, event: &Event) -> bool
         ensures { result ≡ events.fits self.now event.now }
     {
-        self.is_in_range(event) && self.lock_fits(&event.op)
+        self.is_in_range(event) && self.is_right_kind(&event.op)
     }
 
     // Whether all numbers of the event are in range, and a second place is there exactly where its
@@ -31,8 +31,17 @@ impl<A: Allocator> Decls<A> {
             && self.second_place_fits(verb.has_two_places(), event.place2)
     }
 
+    // Whether the operation is one of this version, and its lock is an rwmutex where it wants one.
+    pub(crate) fn is_right_kind(&self, op: &Op) -> bool
+        requires { IsTrue (events.op_fits self.now.declarations op.now) }
+        ensures { result ≡ events.is_right_kind self.now op.now }
+    {
+        let (verb, _parts) = says(op);
+        self.version().has(verb) && self.lock_fits(op)
+    }
+
     // Whether the lock is an rwmutex, where the operation wants one.
-    pub(crate) fn lock_fits(&self, op: &Op) -> bool
+    fn lock_fits(&self, op: &Op) -> bool
         requires { IsTrue (events.op_fits self.now.declarations op.now) }
         ensures { result ≡ events.lock_fits self.now.declarations op.now }
     {

@@ -18,6 +18,7 @@ mod shorts;
 mod sink;
 mod source;
 mod trace;
+mod version;
 
 pub use cases::{Case, Cases, CasesFull, Dir, MAX_CASES};
 pub use declarations::{DeclFault, Decls, MAX_PLACES};
@@ -40,3 +41,4 @@ pub use shorts::{Short, Shorts};
 pub use sink::{Sink, WriteFault};
 pub use source::Source;
 pub use trace::{MAX_EVENTS, PushFault, Trace};
+pub use version::Version;

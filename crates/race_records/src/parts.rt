@@ -3,7 +3,7 @@ ghost use Rattle.std.specs.Prelude.{◌≡◌, ◌≤◌, [], ◌∷◌, length,
 ghost use Rattle.race_records.specs.Parts as spec;
 ghost use Rattle.race_records.specs.Events.{op_is_limited};
 
-use crate::{Cases, Cause, Kind, Named, Op};
+use crate::{Cases, Cause, Kind, Named, Op, Version};
 use arrayvec::ArrayVec;
 
 /// The words of operations.
@@ -37,6 +37,12 @@ pub enum Verb {
     RLock,
     /// An rwmutex is unlocked from reading.
     RUnlock,
+    /// A mutex or an rwmutex is locked by a try.
+    TryLock,
+    /// An rwmutex is locked for reading by a try.
+    TryRLock,
+    /// A try to lock, or to lock for reading, fails.
+    TryFail,
     /// The function of a once begins.
     OnceBegin,
     /// The function of a once ends.
@@ -53,6 +59,35 @@ impl Verb {
         ensures { result ≡ spec.has_two_places self }
     {
         matches!(self, Verb::Meet)
+    }
+
+    /// The version that brought the word.
+    pub fn since(self) -> Version
+        ensures { result ≡ spec.since self }
+    {
+        match self {
+            Verb::Go => Version::One,
+            Verb::Exit => Version::One,
+            Verb::Read => Version::One,
+            Verb::Write => Version::One,
+            Verb::Send => Version::One,
+            Verb::Recv => Version::One,
+            Verb::Meet => Version::One,
+            Verb::RecvClosed => Version::One,
+            Verb::Close => Version::One,
+            Verb::Default => Version::One,
+            Verb::Lock => Version::One,
+            Verb::Unlock => Version::One,
+            Verb::RLock => Version::One,
+            Verb::RUnlock => Version::One,
+            Verb::TryLock => Version::Two,
+            Verb::TryRLock => Version::Two,
+            Verb::TryFail => Version::Two,
+            Verb::OnceBegin => Version::One,
+            Verb::OnceEnd => Version::One,
+            Verb::OnceDone => Version::One,
+            Verb::Fault => Version::One,
+        }
     }
 }
 
@@ -114,6 +149,9 @@ pub fn says(op: &Op) -> (Verb, Parts)
         Op::Unlock(l) => (Verb::Unlock, one(Part::Object(Named::Lock(*l)))),
         Op::RLock(l) => (Verb::RLock, one(Part::Object(Named::Lock(*l)))),
         Op::RUnlock(l) => (Verb::RUnlock, one(Part::Object(Named::Lock(*l)))),
+        Op::TryLock(l) => (Verb::TryLock, one(Part::Object(Named::Lock(*l)))),
+        Op::TryRLock(l) => (Verb::TryRLock, one(Part::Object(Named::Lock(*l)))),
+        Op::TryFail(l) => (Verb::TryFail, one(Part::Object(Named::Lock(*l)))),
         Op::OnceBegin(o) => (Verb::OnceBegin, one(Part::Object(Named::Once(*o)))),
         Op::OnceEnd(o) => (Verb::OnceEnd, one(Part::Object(Named::Once(*o)))),
         Op::OnceDone(o) => (Verb::OnceDone, one(Part::Object(Named::Once(*o)))),
@@ -169,6 +207,7 @@ pub fn rwmutex_of(op: &Op) -> Option<u32>
     match op {
         Op::RLock(lock) => Some(*lock),
         Op::RUnlock(lock) => Some(*lock),
+        Op::TryRLock(lock) => Some(*lock),
         Op::Fault(Cause::RUnlockFree(lock)) => Some(*lock),
         _ => None,
     }
@@ -195,6 +234,9 @@ pub fn op_by(verb: Verb, parts: &[Part]) -> Option<Op>
         Verb::Unlock => object_alone(Kind::Lock, parts).map(Op::Unlock),
         Verb::RLock => object_alone(Kind::Lock, parts).map(Op::RLock),
         Verb::RUnlock => object_alone(Kind::Lock, parts).map(Op::RUnlock),
+        Verb::TryLock => object_alone(Kind::Lock, parts).map(Op::TryLock),
+        Verb::TryRLock => object_alone(Kind::Lock, parts).map(Op::TryRLock),
+        Verb::TryFail => object_alone(Kind::Lock, parts).map(Op::TryFail),
         Verb::OnceBegin => object_alone(Kind::Once, parts).map(Op::OnceBegin),
         Verb::OnceEnd => object_alone(Kind::Once, parts).map(Op::OnceEnd),
         Verb::OnceDone => object_alone(Kind::Once, parts).map(Op::OnceDone),
@@ -309,6 +351,9 @@ pub fn part_kinds(verb: Verb) -> &'static [PartKind]
         Verb::Unlock => &LOCK,
         Verb::RLock => &RW_MUTEX,
         Verb::RUnlock => &RW_MUTEX,
+        Verb::TryLock => &LOCK,
+        Verb::TryRLock => &RW_MUTEX,
+        Verb::TryFail => &LOCK,
         Verb::OnceBegin => &ONCE,
         Verb::OnceEnd => &ONCE,
         Verb::OnceDone => &ONCE,

@@ -21,8 +21,8 @@ pub enum PushFault {
     /// A number isn't declared, or the second place is wrongly there or missing.
     #[error("a number is out of range")]
     BadNumber,
-    /// The lock isn't an rwmutex, and the operation wants one.
-    #[error("the lock is of the wrong kind")]
+    /// The operation isn't one of the declarations' version, or it wants an rwmutex and the lock isn't one.
+    #[error("the operation or its lock is of the wrong kind")]
     WrongKind,
     /// The trace has as many events as a trace can have.
     #[error("the trace is full")]
@@ -127,7 +127,7 @@ impl<A: Allocator> Trace<A> {
         if !self.decls.is_in_range(event) {
             return Some(PushFault::BadNumber);
         }
-        if !self.decls.lock_fits(&event.op) {
+        if !self.decls.is_right_kind(&event.op) {
             return Some(PushFault::WrongKind);
         }
         if self.events.len() >= MAX_EVENTS {

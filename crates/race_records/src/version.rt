@@ -1,0 +1,27 @@
+//! The versions of texts.
+ghost use Rattle.std.specs.Prelude.{◌≡◌};
+ghost use Rattle.race_records.specs.Parts as spec;
+
+use crate::Verb;
+
+/// The version of a trace's or a program's text, which says what operations it may have.
+#[derive(Clone, Copy, Debug, PartialEq, Eq)]
+pub enum Version {
+    /// The first one.
+    One,
+    /// With tries to lock.
+    Two,
+}
+
+impl Version {
+    /// Whether the version has the word.
+    pub fn has(self, verb: Verb) -> bool
+        ensures { result ≡ spec.has_verb self verb }
+    {
+        match (self, verb.since()) {
+            (Version::One, Version::Two) => false,
+            (Version::One, Version::One) => true,
+            (Version::Two, _) => true,
+        }
+    }
+}

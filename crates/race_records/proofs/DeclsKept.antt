@@ -9,6 +9,7 @@ use Rattle.std.proofs.lemmas.Option.{none-some, slice_get_within}
 use Rattle.std.proofs.Math.Seq.{take-append_seam}
 use Rattle.race_records.specs.declared.kind.Kind.{Kind}
 use Rattle.race_records.specs.declared.kind.Object.{Object}
+use Rattle.race_records.specs.declared.version.Version.{Version}
 use Rattle.race_records.specs.Name.{main, is_name}
 use Rattle.race_records.specs.Declarations.{Declaration, DeclsState, IsWellFormed, with_declaration}
 use Rattle.race_records.specs.Declarations.{is_of_kind, kind_of, of_kind, count_of, limit_of}
@@ -58,7 +59,7 @@ empty_numbered = record {
     nowhere : Leads {X = Declaration} [] [] []
     nowhere = record { to = λ n i at. refl; sized = refl }
 
-pub empty_well_formed : IsWellFormed (record { declarations = []; places = [] })
+pub empty_well_formed : {version : Version} → IsWellFormed (record { version = version; declarations = []; places = [] })
 empty_well_formed = record {
   names = λ k d h. absurd (omega arith);
   not_main = λ k d h. absurd (omega arith);
@@ -149,12 +150,14 @@ module _ {A : Type 0} (decls : Inside A) (holds : DeclsHold decls) (name : List 
     (object : Object) (allowed : IsAllowed (declarations_of decls.names) object name)
     (number : ℕ) (is : number ≡ count_of (kind_of object) (declarations_of decls.names)) where
   pub push_holds : (next : Inside A) → next.names ≡ decls.names ++ row name (record { object = object; number = number }) ∷ []
-      → next.indexes ≡ with_index (kind_of object) (length decls.names) decls.indexes → next.places ≡ decls.places → DeclsHold next
-  push_holds next names indexes places = record {
+      → next.indexes ≡ with_index (kind_of object) (length decls.names) decls.indexes → next.places ≡ decls.places → next.version ≡ decls.version
+      → DeclsHold next
+  push_holds next names indexes places version = record {
     numbered = subst (λ (p : List Row × IndexesState). AreNumbered p.0 p.1) (λ i. (sym names i, sym indexes i))
         (push_numbered decls.names decls.indexes holds.numbered name object number is);
     well_formed = subst IsWellFormed
         (λ i. record {
+          version = sym version i;
           declarations = (sym (map-append declaration_of decls.names (row name (record { object = object; number = number }) ∷ []))
               ∙ ap declarations_of (sym names)) i;
           places = sym places i;

@@ -4,7 +4,7 @@ use Rattle.std.proofs.lemmas.Option.{none-some, same_Some}
 use Rattle.race_records.specs.declared.event.Op.{Op}
 use Rattle.race_records.specs.declared.event.Op.TheVariants.{Go, Exit, Read, Write, Send, Recv, Meet}
 use Rattle.race_records.specs.declared.event.Op.TheVariants.{RecvClosed, Close, Default, Lock, Unlock, RLock}
-use Rattle.race_records.specs.declared.event.Op.TheVariants.{RUnlock, OnceBegin, OnceEnd, OnceDone, Fault}
+use Rattle.race_records.specs.declared.event.Op.TheVariants.{RUnlock, TryLock, TryRLock, TryFail, OnceBegin, OnceEnd, OnceDone, Fault}
 use Rattle.race_records.specs.declared.kind.Kind.{Kind}
 use Rattle.race_records.specs.declared.kind.Named.{Named}
 use Rattle.race_records.specs.Declarations.{is_named, number_of}
@@ -111,6 +111,9 @@ op_by_says verb parts op e = by verb e
     by Verb.Unlock e = alone Unlock Verb.Unlock Kind.Lock (λ n. refl) e
     by Verb.RLock e = alone RLock Verb.RLock Kind.Lock (λ n. refl) e
     by Verb.RUnlock e = alone RUnlock Verb.RUnlock Kind.Lock (λ n. refl) e
+    by Verb.TryLock e = alone TryLock Verb.TryLock Kind.Lock (λ n. refl) e
+    by Verb.TryRLock e = alone TryRLock Verb.TryRLock Kind.Lock (λ n. refl) e
+    by Verb.TryFail e = alone TryFail Verb.TryFail Kind.Lock (λ n. refl) e
     by Verb.OnceBegin e = alone OnceBegin Verb.OnceBegin Kind.Once (λ n. refl) e
     by Verb.OnceEnd e = alone OnceEnd Verb.OnceEnd Kind.Once (λ n. refl) e
     by Verb.OnceDone e = alone OnceDone Verb.OnceDone Kind.Once (λ n. refl) e
@@ -132,6 +135,9 @@ op_is_there Verb.Lock (Part.Object (Named.Lock l) ∷ []) e = (Lock l, refl)
 op_is_there Verb.Unlock (Part.Object (Named.Lock l) ∷ []) e = (Unlock l, refl)
 op_is_there Verb.RLock (Part.Object (Named.Lock l) ∷ []) e = (RLock l, refl)
 op_is_there Verb.RUnlock (Part.Object (Named.Lock l) ∷ []) e = (RUnlock l, refl)
+op_is_there Verb.TryLock (Part.Object (Named.Lock l) ∷ []) e = (TryLock l, refl)
+op_is_there Verb.TryRLock (Part.Object (Named.Lock l) ∷ []) e = (TryRLock l, refl)
+op_is_there Verb.TryFail (Part.Object (Named.Lock l) ∷ []) e = (TryFail l, refl)
 op_is_there Verb.OnceBegin (Part.Object (Named.Once o) ∷ []) e = (OnceBegin o, refl)
 op_is_there Verb.OnceEnd (Part.Object (Named.Once o) ∷ []) e = (OnceEnd o, refl)
 op_is_there Verb.OnceDone (Part.Object (Named.Once o) ∷ []) e = (OnceDone o, refl)

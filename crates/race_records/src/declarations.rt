@@ -478,6 +478,9 @@ impl<A: Allocator> PartialEq for Decls<A> {
         ensures eq { result ≡ same_decls self.now other.now }
         ensures same { IsTrue result ↔ (declared self.now ≡ declared other.now) }
     {
-        self.version == other.version && self.names.declare_alike(&other.names)
+        if !self.version.is_same(other.version) {
+            return false;
+        }
+        self.names.declare_alike(&other.names)
     }
 }

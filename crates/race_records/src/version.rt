@@ -1,6 +1,7 @@
 //! The versions of texts.
 ghost use Rattle.std.specs.Prelude.{◌≡◌};
 ghost use Rattle.race_records.specs.Parts as spec;
+ghost use Rattle.race_records.specs.Equality.{same_version};
 
 use crate::Verb;
 
@@ -23,5 +24,11 @@ impl Version {
             (Version::One, Version::One) => true,
             (Version::Two, _) => true,
         }
+    }
+
+    pub(crate) fn is_same(self, other: Version) -> bool
+        ensures { result ≡ same_version self other }
+    {
+        self == other
     }
 }

@@ -1,17 +1,16 @@
 use Rattle.std.proofs.Common.{◌≡◌, sym, ap, ◌∙◌, true≢false}
 use Rattle.std.proofs.lemmas.Bool.Decides.{same_from_decides}
-use Rattle.race_records.specs.Declarations.{DeclsState}
-use Rattle.race_records.specs.Equality.{same_declarations-Decides}
+use Rattle.race_records.specs.Equality.{declared, same_declared-Decides}
 use Rattle.race_records.specs.TraceEquality.{Recorded, recorded, same_traces, same_recorded-Decides}
 use Rattle.race_records.proofs.alike.TracePartialEq.eq.Goals as goal
 
 pub returns-then-eq-clause-same : goal.returns-then-eq-clause-same
 returns-then-eq-clause-same g c =
-    let here = ap (λ (d : DeclsState). d.declarations) c.decls.ensures.decls in
-    let there = ap (λ (d : DeclsState). d.declarations) c.decls-2.ensures.decls in
-    let same : c.args.self.now.decls.declarations ≡ c.args.other.now.decls.declarations =
-    sym here ∙ (same_declarations-Decides _ _).0 (sym c.eq.ensures ∙ c.if-eq.true) ∙ there in (
-      λ h i. record { declarations = same i; events = c.are_events_alike.ensures.0 h i },
+    let here = ap declared c.decls.ensures.decls in
+    let there = ap declared c.decls-2.ensures.decls in
+    let same : declared c.args.self.now.decls ≡ declared c.args.other.now.decls =
+    sym here ∙ (same_declared-Decides _ _).0 (sym c.eq.ensures ∙ c.if-eq.true) ∙ there in (
+      λ h i. record { declared = same i; events = c.are_events_alike.ensures.0 h i },
       λ e. c.are_events_alike.ensures.1 (ap (λ (r : Recorded). r.events) e),
     )
 
@@ -24,8 +23,8 @@ returns-then-eq-clause-eq g c =
 
 pub returns-else-eq-clause-same : goal.returns-else-eq-clause-same
 returns-else-eq-clause-same g c =
-    let here = ap (λ (d : DeclsState). d.declarations) c.decls.ensures.decls in
-    let there = ap (λ (d : DeclsState). d.declarations) c.decls-2.ensures.decls in (
+    let here = ap declared c.decls.ensures.decls in
+    let there = ap declared c.decls-2.ensures.decls in (
       λ h. absurd (true≢false (sym h ∙ c.if-eq.false)),
-      λ e. c.eq.ensures ∙ (same_declarations-Decides _ _).1 (here ∙ ap (λ (r : Recorded). r.declarations) e ∙ sym there),
+      λ e. c.eq.ensures ∙ (same_declared-Decides _ _).1 (here ∙ ap (λ (r : Recorded). r.declared) e ∙ sym there),
     )

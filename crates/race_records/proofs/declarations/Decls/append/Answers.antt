@@ -22,4 +22,4 @@ invariant_of-self-in-Ok g c =
     let is : c.count-number.result ≡ count_of (kind_of c.args.object) (declarations_of c.self.inside.names) =
     c.count-number.ensures.count ∙ (λ i. count_of (c.kind-kind.ensures i) (sym c.self.view_is i).declarations) in
     push_holds c.self.inside c.self.invariant name c.args.object (allowed_from_no_fault _ c.args.object name at_fields) c.count-number.result is _
-    c.in-Ok.ensures.ok (c.in_ok-push.ensures.ok ∙ (λ i. with_index (c.kind-kind.ensures i) (c.len.ensures i) c.self.inside.indexes)) refl
+    c.in-Ok.ensures.ok (c.in_ok-push.ensures.ok ∙ (λ i. with_index (c.kind-kind.ensures i) (c.len.ensures i) c.self.inside.indexes)) refl refl

@@ -2,7 +2,6 @@ use Rattle.std.proofs.Common.{◌≡◌, ℕ, List, None, false, sym, subst, ◌
 use Rattle.std.specs.Str.{bytes_eq}
 use Rattle.race_records.specs.Declarations.{DeclsState, IsWellFormed, is_known, place_fault}
 use Rattle.race_records.specs.DeclsHold.{decls_state}
-use Rattle.race_records.specs.Rows.{declarations_of}
 use Rattle.race_records.proofs.PlaceLemmas.{allowed_from_no_place_fault, place_well_formed}
 use Rattle.race_records.proofs.TextLemmas.{position-absent, position_or_len-absent}
 use Rattle.race_records.proofs.declarations.Decls.append_place.Goals as goal
@@ -24,7 +23,7 @@ invariant_of-self-2 g c =
     let allowed = subst (λ (d : DeclsState). place_fault d.places text ≡ None) (sym c.self.view_is) c.requires.allowed in
     record {
       numbered = c.self.invariant.numbered;
-      well_formed = subst (λ (places : List (List ℕ)). IsWellFormed (record { declarations = declarations_of c.self.inside.names; places = places }))
+      well_formed = subst (λ (places : List (List ℕ)). IsWellFormed (record { version = decls.version; declarations = decls.declarations; places = places }))
           (sym c.in_ok-push.ensures.ok) (place_well_formed decls text c.self.invariant.well_formed new
           (allowed_from_no_place_fault decls.places text new allowed));
     }

@@ -18,6 +18,7 @@ returns-in-Some-clause-same g c =
     let known = list_any-found (bytes_eq text) c.self.inside.places c.in-Some.index (sym c.index_of.ensures ∙ c.in-Some.is) in
     let decls = c.args.self.now in
     λ i. record {
+      version = decls.version;
       declarations = decls.declarations;
       places = if ((λ j. is_known (sym c.self.view_is j).places text) ∙ known) i then decls.places else decls.places ++ text ∷ [];
     }

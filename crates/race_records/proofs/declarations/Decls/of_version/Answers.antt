@@ -1,5 +1,5 @@
 use Rattle.race_records.proofs.DeclsKept.{empty_numbered, empty_well_formed}
-use Rattle.race_records.proofs.declarations.Decls.new.Goals as goal
+use Rattle.race_records.proofs.declarations.Decls.of_version.Goals as goal
 
 pub invariant_of-result : goal.invariant_of-result
 invariant_of-result g c =

@@ -166,8 +166,7 @@ fn is_before_lock<A: Allocator>(
     ensures { result ≡ spec.is_before_lock lock source.now (slice_index_or numbers.now from 0)
         (slice_index_or numbers.now to 0) }
 {
-    is_unlock(lock, source)
-        || (is_runlock(lock, source) && numbers.get(from) == numbers.get(to))
+    is_unlock(lock, source) || (is_runlock(lock, source) && numbers.get(from) == numbers.get(to))
 }
 
 // The last unlock before a lock for reading.

@@ -1,7 +1,7 @@
 -- What is printed of a line of a body says it again.
 use Rattle.std.proofs.Common.{◌≡◌, ℕ, Bool, true, false, nat_lt, if◌then◌else◌, List, [], ◌∷◌, ◌++◌}
 use Rattle.std.proofs.Common.{map, codes, Option, Some, None, IfSome, refl, sym, ap, subst, ◌∙◌, ◌&&◌}
-use Rattle.std.proofs.Common.{◌^◌, arith}
+use Rattle.std.proofs.Common.{◌^◌, arith, is_some}
 use Rattle.std.proofs.lemmas.Bool.Decides.{nat_tests}
 use Rattle.std.specs.Option.{option_map_or}
 use Rattle.std.specs.Str.{bytes_eq}
@@ -178,3 +178,13 @@ module _ (decls : DeclsState) (holds : IsWellFormed decls) where
           let same : i ≡ asked_at (Ask.Select is.0 is.1) i.place = ap (λ ask. asked_at ask i.place) is.2 in
           subst (λ (x : Instruction). (IsSaidLine (declared decls) (said_line ds (Asks x)) (Asks x)) × (has_bad_byte (said_line ds (Asks x)) ≡ false)) (sym same)
           (selected_line is.0 is.1 i.place (subst (λ (x : Instruction). SaidFits (declared decls) (Asks x)) same fits))
+
+-- the word of an ask is known in the versions that have it alone
+pub ask_known : (version : Version) (ds : List Declaration) (place : List ℕ) (ask : Ask)
+    → is_some (line_word_in version (first_word (ask_words ds place ask))) ≡ has_ask version ask
+unfolding line_word word_named
+ask_known Version.One ds place (Ask.TryLock l) = refl
+ask_known Version.Two ds place (Ask.TryLock l) = refl
+ask_known Version.One ds place (Ask.TryRLock l) = refl
+ask_known Version.Two ds place (Ask.TryRLock l) = refl
+ask_known version ds place _ = refl

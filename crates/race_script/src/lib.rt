@@ -4,6 +4,7 @@
 mod asks;
 mod certificate;
 mod course;
+pub mod examples;
 mod form;
 mod header;
 pub mod laws;

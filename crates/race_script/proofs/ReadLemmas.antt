@@ -286,8 +286,8 @@ nothing_read version = record { has_header = true; decls = nothing_in version; e
 
 pub nothing_is_read : (version : Version) → IsRead (nothing_read version)
 nothing_is_read version = record {
-  sound = record { well_formed = empty_well_formed version; ended = refl; unended = tt; places = refl; few = omega arith };
-  seen_is = seen_declared (nothing_in version) (empty_well_formed version);
+  sound = record { well_formed = empty_well_formed; ended = refl; unended = tt; places = refl; few = omega arith };
+  seen_is = seen_declared (nothing_in version) empty_well_formed;
 }
 
 pub nothing_lines_read : (version : Version) → lines (draft_read (nothing_read version)) ≡ header version ∷ []
@@ -296,14 +296,14 @@ nothing_lines_read version = refl
 
 -- what was read where the header alone was
 pub record IsBegun (s : ReadState) (version : Version) : Type 0 where
-  pub header : s.has_header ≡ true
+  pub first : s.has_header ≡ true
   pub decls : s.decls ≡ nothing_in version
   pub ended : s.ended ≡ []
   pub unended : s.unended ≡ None
 
 module _ (s : ReadState) (version : Version) (is : IsBegun s version) where
   is_nothing : s ≡ nothing_read version
-  is_nothing = λ k. record { has_header = is.header k; decls = is.decls k; ended = is.ended k; unended = is.unended k }
+  is_nothing = λ k. record { has_header = is.first k; decls = is.decls k; ended = is.ended k; unended = is.unended k }
 
   pub header_read : IsRead s
   header_read = subst IsRead (sym is_nothing) (nothing_is_read version)

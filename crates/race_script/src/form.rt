@@ -86,11 +86,15 @@ pub const BODY_WORDS: [(&[u8], LineWord); 17] = [
 pub(crate) fn line_word_in(version: Version, word: &[u8]) -> Option<LineWord>
     ensures { result ≡ spec.line_word_in version word.now }
 {
-    let found = line_word(word)?;
-    if has_line_word(version, found) {
-        Some(found)
-    } else {
-        None
+    match line_word(word) {
+        None => None,
+        Some(found) => {
+            if has_line_word(version, found) {
+                Some(found)
+            } else {
+                None
+            }
+        }
     }
 }
 

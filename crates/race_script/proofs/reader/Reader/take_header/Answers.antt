@@ -10,20 +10,20 @@ returns-in-None-clause-taken g c = header_told c.args.line.now (sym c.in-None.en
 pub returns-in-Some-One-clause-taken : goal.returns-in-Some-One-clause-taken
 returns-in-Some-One-clause-taken g c =
     let e = subst IsEmpty (sym c.self.view_is) (subst (λ b. IsReadBy b c.args.self.now) c.requires.header c.requires.reading) in
-    header_taken _ Version.One (record { header = refl; decls = e.decls; ended = e.ended; unended = e.unended })
+    header_taken _ Version.One (record { first = refl; decls = e.decls; ended = e.ended; unended = e.unended })
     c.args.line.now (sym c.in-Some-One.ensures ∙ ap Some c.in-Some-One.field-0-is)
 
 pub returns-in-Some-One-clause-reading : goal.returns-in-Some-One-clause-reading
 returns-in-Some-One-clause-reading g c =
     let e = subst IsEmpty (sym c.self.view_is) (subst (λ b. IsReadBy b c.args.self.now) c.requires.header c.requires.reading) in
-    header_read _ Version.One (record { header = refl; decls = e.decls; ended = e.ended; unended = e.unended })
+    header_read _ Version.One (record { first = refl; decls = e.decls; ended = e.ended; unended = e.unended })
 
 pub returns-in-Some-Two-clause-taken : goal.returns-in-Some-Two-clause-taken
 returns-in-Some-Two-clause-taken g c =
     let e = subst IsEmpty (sym c.self.view_is) (subst (λ b. IsReadBy b c.args.self.now) c.requires.header c.requires.reading) in
     let new = c.new_version2.ensures in
     header_taken _ Version.Two (record {
-      header = refl;
+      first = refl;
       decls = λ i. record { version = new.version i; declarations = new.declarations i; places = new.places i };
       ended = e.ended;
       unended = e.unended;
@@ -35,7 +35,7 @@ returns-in-Some-Two-clause-reading g c =
     let e = subst IsEmpty (sym c.self.view_is) (subst (λ b. IsReadBy b c.args.self.now) c.requires.header c.requires.reading) in
     let new = c.new_version2.ensures in
     header_read _ Version.Two (record {
-      header = refl;
+      first = refl;
       decls = λ i. record { version = new.version i; declarations = new.declarations i; places = new.places i };
       ended = e.ended;
       unended = e.unended;

@@ -86,8 +86,7 @@ abbrev pub closes : ℕ → Op → Bool
 closes c (Close d) = d == c
 closes c _ = false
 
--- a Lock of l, or a TryLock that succeeded; an RLock is none, and neither is a failed try. ("Locks": "A successful call to l.TryLock
--- (or l.TryRLock) is equivalent to a call to l.Lock (or l.RLock).")
+-- a Lock of l, or a TryLock that succeeded ("Locks": "is equivalent to a call to l.Lock"); an RLock is none, and neither is a failed try
 abbrev pub locks : ℕ → Op → Bool
 locks l (Lock m) = m == l
 locks l (TryLock m) = m == l

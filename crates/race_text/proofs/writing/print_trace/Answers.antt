@@ -1,4 +1,4 @@
-use Rattle.std.proofs.Common.{◌≡◌, ◌++◌, ℕ, List, Err, ap, ◌∙◌, subst}
+use Rattle.std.proofs.Common.{◌++◌, ℕ, List, Err, ap, ◌∙◌, subst}
 use Rattle.race_records.specs.Page.{Printing}
 use Rattle.race_records.proofs.PageLemmas.{prints_behind, breaks_off_before}
 use Rattle.race_text.specs.Text.{header, ended}

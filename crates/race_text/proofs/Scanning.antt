@@ -1,5 +1,5 @@
 -- Bytes without a fault are some trace's text: line by line, each is taken into a trace.
-use Rattle.std.proofs.Common.{◌≡◌, ℕ, ◌*◌, ◌<◌, ◌≤◌, Bool, true, false, not, nat_le, ◌==◌, if◌then◌else◌, List, [], ◌∷◌}
+use Rattle.std.proofs.Common.{◌≡◌, ℕ, ◌*◌, ◌<◌, ◌≤◌, Bool, true, false, nat_le, ◌==◌, if◌then◌else◌, List, [], ◌∷◌}
 use Rattle.std.proofs.Common.{◌++◌, length, Option, Some, None, refl, sym, ap, subst, ◌∙◌, arith, true≢false, append-nil}
 use Rattle.std.proofs.Common.{append_assoc}
 use Rattle.std.proofs.lemmas.Bool.Decides.{nat_tests}
@@ -110,6 +110,10 @@ scanned (line ∷ part ∷ others) t read some none =
           ∙ ap (λ l. front ++ l) (append_assoc line (10 ∷ []) (join_with_byte 10 parts)),
     )
 
+-- a line with its newline, in front of what follows
+one_line : (line rest : List ℕ) → flat_map ended (line ∷ []) ++ rest ≡ line ++ 10 ∷ rest
+one_line line rest = ap (λ l. l ++ rest) (append-nil (ended line)) ∙ append_assoc line (10 ∷ []) rest
+
 -- the trace that a header begins
 abbrev empty_trace : Version → TraceState
 empty_trace version = begun (nothing_in version)
@@ -141,5 +145,5 @@ faultless_is_text bytes none = by (parts_of bytes) refl none
         let rest = scanned parts (empty_trace said.0) (empty_is_read said.0) (omega arith)
         (ap (λ ls. fault_after trace_causes ls parts) (header_lines said.0 ∙ (λ i. sym first i ∷ [])) ∙ split.1) in
         let printed = sym (join_with_byte-slice_split 10 bytes) ∙ ap (join_with_byte 10) e ∙ (λ i. first i ++ 10 ∷ join_with_byte 10 parts)
-        ∙ sym (rest.2 ∙ ap (λ ls. flat_map ended ls ++ join_with_byte 10 parts) (header_lines said.0)) in
+        ∙ sym (one_line (header said.0) (join_with_byte 10 parts)) ∙ sym (rest.2 ∙ ap (λ ls. flat_map ended ls ++ join_with_byte 10 parts) (header_lines said.0)) in
         (rest.0, record { has_text = rest.1; printed = printed })

@@ -106,7 +106,7 @@ event_fits decls o fitting =
     let less = both.0 in
     let who_fits : nat_lt o.who (count_of Kind.Goroutine decls.declarations) ≡ true = grind (arith, nat_tests, who) in
     let place_fits : nat_lt (place_number decls.places o.place) (length (with_places decls o).places) ≡ true = grind (arith, nat_tests, less) in
-    λ i. (who_fits i && fitting.op i && place_fits i && both.1 i) && fitting.has i && fitting.lock i
+    λ i. (who_fits i && fitting.op i && place_fits i && both.1 i) && (fitting.has i && fitting.lock i)
 
 -- what is refused with room for it is refused for memory
 pub memory_alone : {T E : Type 0} (r : Result T E) (e m : E) → IsOkUnless r m → r ≡ Err e → e ≡ m

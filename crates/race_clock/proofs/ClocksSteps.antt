@@ -8,7 +8,7 @@ use Rattle.race_records.specs.declared.event.Event.{Event}
 use Rattle.race_records.specs.declared.event.Op.{Op}
 use Rattle.race_records.specs.declared.event.Op.TheVariants.{Go, Read, Write, Send, Recv}
 use Rattle.race_records.specs.declared.event.Op.TheVariants.{Meet, RecvClosed, Close, Lock}
-use Rattle.race_records.specs.declared.event.Op.TheVariants.{Unlock, RLock, RUnlock, OnceEnd}
+use Rattle.race_records.specs.declared.event.Op.TheVariants.{Unlock, RLock, RUnlock, TryLock, TryRLock, OnceEnd}
 use Rattle.race_records.specs.declared.event.Op.TheVariants.{OnceDone}
 use Rattle.race_model.specs.Events.{is_access, partner, gives, takes_part, count, sends, receives, closes, locks, unlocks, runlocks, once_ends}
 use Rattle.race_model.specs.Order.{Begin, SynchronizedInside, IsSource, Reaches}
@@ -48,6 +48,8 @@ module _ (caps : ℕ → ℕ) (k : ClocksState) (past : List Event) (S : ClocksS
   handed_counts (RecvClosed c) within room = hands_closed caps past c (channel_of k.channels c) (S.all_channels c within)
   handed_counts (Lock l) within room = hands_lock caps past l (lock_of k.locks l) (S.all_locks l within)
   handed_counts (RLock l) within room = hands_rlock caps past l (lock_of k.locks l) (S.all_locks l within)
+  handed_counts (TryLock l) within room = hands_lock caps past l (lock_of k.locks l) (S.all_locks l within)
+  handed_counts (TryRLock l) within room = hands_rlock caps past l (lock_of k.locks l) (S.all_locks l within)
   handed_counts (OnceDone o) within room = S.all_ends o within
   handed_counts o within room = from_none caps past (λ i s. IsSource caps past i s o) (knows []) (λ i s at is. is) (λ h. refl)
 
@@ -153,17 +155,23 @@ module _ (caps : ℕ → ℕ) (k : ClocksState) (past : List Event) (S : ClocksS
     channels_next c b o is less room own =
         channel_same caps past c (channel_of k.channels c) (S.all_channels c less) e (ap (sends c) is) (ap (receives c) is) (ap (closes c) is)
 
-    locks_next : (l : ℕ) (b : List ℕ) (o : Op) → e.op ≡ o → l < length k.locks → CountsAt caps (past ++ e ∷ []) (length past) e.who (knows b)
-        → StandsForLock caps (past ++ e ∷ []) l (lock_of (locks_after k.locks o b) l)
-    locks_next l b (Lock m) is less own = elim (cases_eq m l) [
+    -- behind a lock of m
+    lock_next : (l m : ℕ) → locks l e.op ≡ (m == l) → unlocks l e.op ≡ false → runlocks l e.op ≡ false → l < length k.locks
+        → StandsForLock caps (past ++ e ∷ []) l (lock_of (set k.locks m (lock_locked (lock_of k.locks m))) l)
+    lock_next l m is no_unlock no_runlock less = elim (cases_eq m l) [
       | inl same ↦
           subst (λ m. StandsForLock caps (past ++ e ∷ []) l (lock_of (set k.locks m (lock_locked (lock_of k.locks m))) l)) (sym same)
           (subst (StandsForLock caps (past ++ e ∷ []) l) (sym (get_or-set_same k.locks l (lock_locked (lock_of k.locks l)) no_lock less))
-          (lock_lock caps past l (lock_of k.locks l) (S.all_locks l less) e (ap (unlocks l) is) (ap (locks l) is ∙ eq-eqb m l same)))
+          (lock_lock caps past l (lock_of k.locks l) (S.all_locks l less) e no_unlock (is ∙ eq-eqb m l same)))
       | inr differ ↦
           subst (StandsForLock caps (past ++ e ∷ []) l) (sym (get_or-set_other k.locks m l (lock_locked (lock_of k.locks m)) no_lock (λ e. differ (sym e))))
-          (lock_same caps past l (lock_of k.locks l) (S.all_locks l less) e (ap (unlocks l) is) (ap (locks l) is ∙ ne_eqb m l differ) (ap (runlocks l) is))
+          (lock_same caps past l (lock_of k.locks l) (S.all_locks l less) e no_unlock (is ∙ ne_eqb m l differ) no_runlock)
     ]
+
+    locks_next : (l : ℕ) (b : List ℕ) (o : Op) → e.op ≡ o → l < length k.locks → CountsAt caps (past ++ e ∷ []) (length past) e.who (knows b)
+        → StandsForLock caps (past ++ e ∷ []) l (lock_of (locks_after k.locks o b) l)
+    locks_next l b (Lock m) is less own = lock_next l m (ap (locks l) is) (ap (unlocks l) is) (ap (runlocks l) is) less
+    locks_next l b (TryLock m) is less own = lock_next l m (ap (locks l) is) (ap (unlocks l) is) (ap (runlocks l) is) less
     locks_next l b (Unlock m) is less own = elim (cases_eq m l) [
       | inl same ↦
           subst (λ m. StandsForLock caps (past ++ e ∷ []) l (lock_of (set k.locks m (lock_unlocked (lock_of k.locks m) b)) l)) (sym same)
@@ -211,6 +219,7 @@ module _ (caps : ℕ → ℕ) (k : ClocksState) (past : List Event) (S : ClocksS
 
     length_locks : (o : Op) (b : List ℕ) → length (locks_after k.locks o b) ≡ length k.locks
     length_locks (Lock l) b = length-set k.locks l (lock_locked (lock_of k.locks l))
+    length_locks (TryLock l) b = length-set k.locks l (lock_locked (lock_of k.locks l))
     length_locks (Unlock l) b = length-set k.locks l (lock_unlocked (lock_of k.locks l) b)
     length_locks (RUnlock l) b = length-set k.locks l (lock_read_unlocked (lock_of k.locks l) b)
     length_locks _ b = refl

@@ -5,7 +5,8 @@ use Rattle.std.proofs.lemmas.List.Sums.{count_by-le-length}
 use Rattle.std.proofs.lemmas.Bool.{not-false}
 use Rattle.race_records.specs.declared.event.Event.{Event}
 use Rattle.race_records.specs.declared.event.Op.{Op}
-use Rattle.race_records.specs.declared.event.Op.TheVariants.{Go, Send, Recv, Meet, RecvClosed, Close, Lock, Unlock, RLock, RUnlock, OnceEnd, OnceDone}
+use Rattle.race_records.specs.declared.event.Op.TheVariants.{Go, Send, Recv, Meet, RecvClosed, Close, Lock, Unlock, RLock, RUnlock}
+use Rattle.race_records.specs.declared.event.Op.TheVariants.{TryLock, TryRLock, OnceEnd, OnceDone}
 use Rattle.race_records.specs.declared.kind.Kind.{Kind}
 use Rattle.race_records.specs.declared.trace.TheConstants.{MAX_EVENTS}
 use Rattle.race_records.specs.Declarations.{Declaration, count_of, counts_of, capacity_of}
@@ -97,6 +98,8 @@ module _ (declarations : List Declaration) (k : StamperState) (past : List Event
       go (Unlock l) is = below l _ _ _ S.all_locks is
       go (RLock l) is = below l _ _ _ S.all_locks is
       go (RUnlock l) is = below l _ _ _ S.all_locks is
+      go (TryLock l) is = below l _ _ _ S.all_locks is
+      go (TryRLock l) is = below l _ _ _ S.all_locks is
       go (OnceEnd o) is = below o _ _ _ S.all_onces is
       go (OnceDone o) is = below o _ _ _ S.all_onces is
       go _ is = tt

@@ -3,7 +3,7 @@ use Rattle.std.proofs.Common.{◌≡◌, ℕ, ◌+◌, List, [], ◌∷◌, ◌+
 use Rattle.std.proofs.lemmas.List.{length-set}
 use Rattle.race_records.specs.declared.event.Event.{Event}
 use Rattle.race_records.specs.declared.event.Op.{Op}
-use Rattle.race_records.specs.declared.event.Op.TheVariants.{Send, Recv, Close, Lock, Unlock, RUnlock, OnceEnd}
+use Rattle.race_records.specs.declared.event.Op.TheVariants.{Send, Recv, Close, Lock, Unlock, RUnlock, TryLock, OnceEnd}
 use Rattle.race_records.specs.Declarations.{Declaration, capacity_of}
 use Rattle.race_model.specs.Events.{is_access}
 use Rattle.race_clock.specs.ClocksState.{ClocksState, clock_of, channel_of, lock_of, end_of, begin_of, channel_sent}
@@ -24,6 +24,7 @@ length_channels_after k who _ = λ i. length k.channels
 
 length_locks_after : (k : ClocksState) (who : ℕ) (o : Op) → length (after k who o).locks ≡ length k.locks
 length_locks_after k who (Lock l) = length-set k.locks l (lock_locked (lock_of k.locks l))
+length_locks_after k who (TryLock l) = length-set k.locks l (lock_locked (lock_of k.locks l))
 length_locks_after k who (Unlock l) = length-set k.locks l (lock_unlocked (lock_of k.locks l) (begin_of k who))
 length_locks_after k who (RUnlock l) = length-set k.locks l (lock_read_unlocked (lock_of k.locks l) (begin_of k who))
 length_locks_after k who _ = λ i. length k.locks

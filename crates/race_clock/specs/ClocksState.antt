@@ -4,7 +4,7 @@ use Rattle.std.specs.List.{slice_index_or}
 use Rattle.race_records.specs.declared.event.Op.{Op}
 use Rattle.race_records.specs.declared.event.Op.TheVariants.{Go, Read, Write, Send, Recv}
 use Rattle.race_records.specs.declared.event.Op.TheVariants.{Meet, RecvClosed, Close, Lock}
-use Rattle.race_records.specs.declared.event.Op.TheVariants.{Unlock, RLock, RUnlock, OnceEnd}
+use Rattle.race_records.specs.declared.event.Op.TheVariants.{Unlock, RLock, RUnlock, TryLock, TryRLock, TryFail, OnceEnd}
 use Rattle.race_records.specs.declared.event.Op.TheVariants.{OnceDone}
 use Rattle.race_clock.specs.ClockState.{joined, padded, with_count}
 
@@ -84,6 +84,9 @@ handed k (Send c v) = if is_used_up (channel_of k.channels c) then front (channe
 handed k (RecvClosed c) = (channel_of k.channels c).closed
 handed k (Lock l) = joined (lock_of k.locks l).unlocks (lock_of k.locks l).runlocks
 handed k (RLock l) = (lock_of k.locks l).last
+handed k (TryLock l) = joined (lock_of k.locks l).unlocks (lock_of k.locks l).runlocks
+handed k (TryRLock l) = (lock_of k.locks l).last
+handed k (TryFail l) = []
 handed k (OnceDone o) = end_of k.ends o
 handed k _ = []
 
@@ -133,6 +136,9 @@ abbrev pub locks_after : List LockState → Op → List ℕ → List LockState
 locks_after ls (Lock l) b = slice_set ls l (lock_locked (lock_of ls l))
 locks_after ls (Unlock l) b = slice_set ls l (lock_unlocked (lock_of ls l) b)
 locks_after ls (RUnlock l) b = slice_set ls l (lock_read_unlocked (lock_of ls l) b)
+locks_after ls (TryLock l) b = slice_set ls l (lock_locked (lock_of ls l))
+locks_after ls (TryRLock l) b = ls
+locks_after ls (TryFail l) b = ls
 locks_after ls _ b = ls
 
 abbrev pub ends_after : List (List ℕ) → Op → List ℕ → List (List ℕ)

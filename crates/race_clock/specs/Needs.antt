@@ -1,7 +1,8 @@
 -- What a step needs of the next operation: not needed to understand a contract.
 use Rattle.std.specs.Prelude.{ℕ, ◌≢◌, ◌<◌, ◌+◌, ◌^◌, length}
 use Rattle.race_records.specs.declared.event.Op.{Op}
-use Rattle.race_records.specs.declared.event.Op.TheVariants.{Go, Send, Recv, Meet, RecvClosed, Close, Lock, Unlock, RLock, RUnlock, OnceEnd, OnceDone}
+use Rattle.race_records.specs.declared.event.Op.TheVariants.{Go, Send, Recv, Meet, RecvClosed, Close, Lock, Unlock, RLock, RUnlock}
+use Rattle.race_records.specs.declared.event.Op.TheVariants.{TryLock, TryRLock, OnceEnd, OnceDone}
 use Rattle.race_clock.specs.ClocksState.{ClocksState, parts_of}
 
 -- there is a clock for each number that the operation names
@@ -16,6 +17,8 @@ OpHasClocks k (Lock l) = l < length k.locks
 OpHasClocks k (Unlock l) = l < length k.locks
 OpHasClocks k (RLock l) = l < length k.locks
 OpHasClocks k (RUnlock l) = l < length k.locks
+OpHasClocks k (TryLock l) = l < length k.locks
+OpHasClocks k (TryRLock l) = l < length k.locks
 OpHasClocks k (OnceEnd o) = o < length k.ends
 OpHasClocks k (OnceDone o) = o < length k.ends
 OpHasClocks k _ = Unit {0}

@@ -172,10 +172,16 @@ impl<A: Allocator + Copy> Clocks<A> {
             Op::Unlock(lock) => self.unlock(who, *lock),
             Op::RLock(lock) => self.read_lock(who, *lock),
             Op::RUnlock(lock) => self.read_unlock(who, *lock),
+            Op::TryLock(lock) => self.lock(who, *lock),
+            Op::TryRLock(lock) => self.read_lock(who, *lock),
             Op::OnceEnd(once) => self.end_once(who, *once),
             Op::OnceDone(once) => self.find_done(who, *once),
             // These hand nothing over.
             Op::Default(_) => {
+                self.pass(who);
+                Ok(())
+            }
+            Op::TryFail(_) => {
                 self.pass(who);
                 Ok(())
             }

@@ -1,18 +1,18 @@
--- The numbers of a receive and a send tell whether one is a source of the other.
-use Rattle.std.proofs.Common.{◌≡◌, ◌∙◌, ℕ, ◌+◌, ◌<◌, ◌==◌, ◌&&◌, true, List, take, Some, None, IsTrue, sym, ap, arith, eqb-true}
+-- The numbers of two events tell whether one is a source of the other.
+use Rattle.std.proofs.Common.{◌≡◌, ◌∙◌, ℕ, ◌+◌, ◌<◌, ◌==◌, ◌&&◌, ◌||◌, Bool, true, false, List, take, Some, None, IsTrue, refl, sym, ap, arith, eqb-true}
 use Rattle.std.proofs.lemmas.Bool.Decides.{nat_tests}
 use Rattle.std.proofs.lemmas.List.{take-take}
 use Rattle.std.proofs.lemmas.Option.{slice_get_within}
 use Rattle.std.specs.List.{slice_index_or}
 use Rattle.race_records.specs.declared.event.Event.{Event}
 use Rattle.race_records.specs.declared.event.Op.{Op}
-use Rattle.race_records.specs.declared.event.Op.TheVariants.{Send, Recv}
+use Rattle.race_records.specs.declared.event.Op.TheVariants.{Send, Recv, Unlock, RUnlock}
 use Rattle.race_records.specs.declared.kind.Kind.{Kind}
 use Rattle.race_records.specs.Parts.{op_is_in_range}
-use Rattle.race_model.specs.Events.{At, sends, receives, count}
+use Rattle.race_model.specs.Events.{At, sends, receives, locks, unlocks, runlocks, count}
 use Rattle.race_edges.specs.Numbers.{counts, AreNumbers}
 use Rattle.race_model.specs.Synchronized.{is_source}
-use Rattle.race_edges.specs.Synchronized.{source_at}
+use Rattle.race_edges.specs.Synchronized.{source_at, is_before_lock, is_last_unlock}
 use Rattle.race_edges.proofs.SynchronizedLemmas.{source_at_is}
 
 -- the channel of a send is in range
@@ -23,6 +23,16 @@ chan_in_range kinds c v is = grind (arith, nat_tests)
 receive_counts : (c : ℕ) (o : Op) → receives c o ≡ true → counts o ≡ receives c
 receive_counts c (Recv d v) is = ap receives (eqb-true d c is)
 receive_counts c _ is = cc
+
+-- an unlock has its number among the unlocks of its lock
+unlock_counts : (l : ℕ) (o : Op) → unlocks l o ≡ true → counts o ≡ unlocks l
+unlock_counts l (Unlock m) is = ap unlocks (eqb-true m l is)
+unlock_counts l _ is = cc
+
+-- a runlock has its number among the locks of its lock
+runlock_counts : (l : ℕ) (o : Op) → runlocks l o ≡ true → counts o ≡ locks l
+runlock_counts l (RUnlock m) is = ap locks (eqb-true m l is)
+runlock_counts l _ is = cc
 
 -- the number of the event at an index
 number_is : (events : List Event) (numbers : List ℕ) → AreNumbers events numbers → (i : ℕ) (e : Event) → At events i e
@@ -51,3 +61,37 @@ module _ (caps : ℕ → ℕ) (events : List Event) (numbers : List ℕ) (are : 
 
       second : slice_index_or numbers to 0 ≡ count (sends c) (take to events)
       second = number_is events numbers are to e ate ∙ ap (λ o. count (counts o) (take to events)) is
+
+  -- the two numbers, among those of one kind
+  first_is : (kind : Op → Bool) → counts s.op ≡ kind → slice_index_or numbers from 0 ≡ count kind (take from (take to events))
+  first_is kind is = number_is events numbers are from s ats ∙ (λ i. count (is i) (sym front i))
+
+  second_is : (kind : Op → Bool) (o : Op) → e.op ≡ o → counts o ≡ kind → slice_index_or numbers to 0 ≡ count kind (take to events)
+  second_is kind o is numbered = number_is events numbers are to e ate ∙ ap (λ o. count (counts o) (take to events)) is
+      ∙ ap (λ kind. count kind (take to events)) numbered
+
+  -- each unlock before a lock, and each runlock behind which there is no lock
+  pub told_lock : (l : ℕ) (o : Op) → e.op ≡ o → counts o ≡ locks l
+      → is_source caps (take to events) from s.op o ≡ is_before_lock l s.op (count (locks l) (take from (take to events))) (count (locks l) (take to events))
+      → is_before_lock l s.op (slice_index_or numbers from 0) (slice_index_or numbers to 0) ≡ source_at caps events from to
+  told_lock l o is numbered tests = go (runlocks l s.op) refl ∙ sym tests ∙ sym (here o is)
+    where
+      go : (b : Bool) → runlocks l s.op ≡ b → is_before_lock l s.op (slice_index_or numbers from 0) (slice_index_or numbers to 0)
+          ≡ is_before_lock l s.op (count (locks l) (take from (take to events))) (count (locks l) (take to events))
+      go true read = λ i. is_before_lock l s.op (first_is (locks l) (runlock_counts l s.op read) i) (second_is (locks l) o is numbered i)
+      go false other =
+          ap (λ b. unlocks l s.op || (b && (slice_index_or numbers from 0 == slice_index_or numbers to 0))) other
+          ∙ sym (ap (λ b. unlocks l s.op || (b && (count (locks l) (take from (take to events)) == count (locks l) (take to events)))) other)
+
+  -- the last unlock before a read lock
+  pub told_read_lock : (l : ℕ) (o : Op) → e.op ≡ o → counts o ≡ unlocks l
+      → is_source caps (take to events) from s.op o ≡ is_last_unlock l s.op (count (unlocks l) (take from (take to events))) (count (unlocks l) (take to events))
+      → is_last_unlock l s.op (slice_index_or numbers from 0) (slice_index_or numbers to 0) ≡ source_at caps events from to
+  told_read_lock l o is numbered tests = go (unlocks l s.op) refl ∙ sym tests ∙ sym (here o is)
+    where
+      go : (b : Bool) → unlocks l s.op ≡ b → is_last_unlock l s.op (slice_index_or numbers from 0) (slice_index_or numbers to 0)
+          ≡ is_last_unlock l s.op (count (unlocks l) (take from (take to events))) (count (unlocks l) (take to events))
+      go true unlock = λ i. is_last_unlock l s.op (first_is (unlocks l) (unlock_counts l s.op unlock) i) (second_is (unlocks l) o is numbered i)
+      go false other =
+          ap (λ b. b && (slice_index_or numbers from 0 + 1 == slice_index_or numbers to 0)) other
+          ∙ sym (ap (λ b. b && (count (unlocks l) (take from (take to events)) + 1 == count (unlocks l) (take to events))) other)

@@ -2,7 +2,8 @@
 use Rattle.std.proofs.Common.{◌≡◌, ◌⊎◌, ◌∙◌, ℕ, false, List, Some, refl, ap, inl, inr, IsTrue, take, slice_get, None}
 use Rattle.race_records.specs.declared.event.Event.{Event}
 use Rattle.race_records.specs.declared.event.Op.{Op}
-use Rattle.race_records.specs.declared.event.Op.TheVariants.{Go, Send, Recv, Meet, RecvClosed, Close, Lock, Unlock, RLock, RUnlock, OnceEnd, OnceDone}
+use Rattle.race_records.specs.declared.event.Op.TheVariants.{Go, Send, Recv, Meet, RecvClosed, Close, Lock, Unlock, RLock, RUnlock}
+use Rattle.race_records.specs.declared.event.Op.TheVariants.{TryLock, TryRLock, OnceEnd, OnceDone}
 use Rattle.race_model.specs.Events.{At, partner, sends, receives, closes, unlocks, runlocks, once_ends}
 use Rattle.race_model.specs.Order.{SynchronizedInside, IsSource}
 use Rattle.race_model.specs.Synchronized.{is_source}
@@ -48,6 +49,9 @@ source_can_be caps past i s (RecvClosed c) is = close_can_be c s is
 source_can_be caps past i s (Lock l) (inl is) = unlock_can_be l s is
 source_can_be caps past i s (Lock l) (inr (is, number)) = runlock_can_be l s is
 source_can_be caps past i s (RLock l) (k, (is, number), sum) = unlock_can_be l s is
+source_can_be caps past i s (TryLock l) (inl is) = unlock_can_be l s is
+source_can_be caps past i s (TryLock l) (inr (is, number)) = runlock_can_be l s is
+source_can_be caps past i s (TryRLock l) (k, (is, number), sum) = unlock_can_be l s is
 source_can_be caps past i s (OnceDone o) is = once_end_can_be o s is
 source_can_be caps past i s _ never = absurd never
 

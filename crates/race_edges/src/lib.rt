@@ -3,6 +3,7 @@
 
 mod fault;
 mod judge;
+mod kinds;
 mod listing;
 mod numbers;
 mod races;

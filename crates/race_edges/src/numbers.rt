@@ -1,10 +1,11 @@
 //! The numbers by which operations are matched: how many of the kind that it counts stand before each
-//! on its object. A send counts sends and a receive receives; a Lock and an RUnlock count Locks, an
-//! Unlock and an RLock count Unlocks.
+//! on its object. A send counts sends and a receive receives; a lock, tried or not, and an RUnlock
+//! count locks, an Unlock and a lock for reading, tried or not, count Unlocks.
 ghost use Rattle.std.specs.Prelude.{◌≡◌, ◌<◌, length, IfOk};
 ghost use Rattle.std.specs.List.{slice_index_or};
 ghost use Rattle.race_edges.specs.Numbers as spec;
 
+use crate::kinds::{is_lock, is_receive, is_send, is_unlock};
 use race_records::{Event, Op, Trace};
 use std::alloc::{AllocError, Allocator};
 use std::marker::Model;
@@ -64,13 +65,28 @@ fn number_at(events: &[Event], index: usize) -> u32
 fn counts(op: &Op, earlier: &Op) -> bool
     ensures { result ≡ spec.counts op.now earlier.now }
 {
-    match (op, earlier) {
-        (Op::Send(chan, _), Op::Send(other, _)) => other == chan,
-        (Op::Recv(chan, _), Op::Recv(other, _)) => other == chan,
-        (Op::Lock(lock), Op::Lock(other)) => other == lock,
-        (Op::RUnlock(lock), Op::Lock(other)) => other == lock,
-        (Op::Unlock(lock), Op::Unlock(other)) => other == lock,
-        (Op::RLock(lock), Op::Unlock(other)) => other == lock,
-        _ => false,
+    match op {
+        Op::Send(chan, _) => is_send(*chan, earlier),
+        Op::Recv(chan, _) => is_receive(*chan, earlier),
+        Op::Lock(lock) => is_lock(*lock, earlier),
+        Op::TryLock(lock) => is_lock(*lock, earlier),
+        Op::RUnlock(lock) => is_lock(*lock, earlier),
+        Op::Unlock(lock) => is_unlock(*lock, earlier),
+        Op::RLock(lock) => is_unlock(*lock, earlier),
+        Op::TryRLock(lock) => is_unlock(*lock, earlier),
+        // The others need no number.
+        Op::Go(_) => false,
+        Op::Exit => false,
+        Op::Read(_, _) => false,
+        Op::Write(_, _) => false,
+        Op::Meet(_, _, _) => false,
+        Op::RecvClosed(_) => false,
+        Op::Close(_) => false,
+        Op::Default(_) => false,
+        Op::TryFail(_) => false,
+        Op::OnceBegin(_) => false,
+        Op::OnceEnd(_) => false,
+        Op::OnceDone(_) => false,
+        Op::Fault(_) => false,
     }
 }

@@ -1,12 +1,14 @@
 //! What each operation brings to the order. The list of edges and the judge go by these tests, so
 //! that an operation has its arms here, and in numbers where it is matched by its number.
 ghost use Rattle.std.specs.Prelude.{◌≡◌, ◌<◌, length};
+ghost use Rattle.std.specs.List.{slice_index_or};
 ghost use Rattle.race_model.specs.Events as model;
 ghost use Rattle.race_model.specs.Synchronized.{joins};
 ghost use Rattle.race_edges.specs.Synchronized as spec;
 ghost use Rattle.race_edges.specs.Numbers.{AreNumbers};
 ghost use Rattle.race_verdict.specs.Traces.{capacities};
 
+use crate::kinds::{is_close, is_once_end, is_receive, is_runlock, is_send, is_unlock};
 use crate::numbers::Numbers;
 use race_records::{Op, Trace};
 use std::alloc::Allocator;
@@ -30,6 +32,9 @@ pub(crate) fn partner(op: &Op) -> Option<u32>
         Op::Unlock(_) => None,
         Op::RLock(_) => None,
         Op::RUnlock(_) => None,
+        Op::TryLock(_) => None,
+        Op::TryRLock(_) => None,
+        Op::TryFail(_) => None,
         Op::OnceBegin(_) => None,
         Op::OnceEnd(_) => None,
         Op::OnceDone(_) => None,
@@ -60,6 +65,9 @@ pub(crate) fn joins(who: u32, op: &Op, from: u32, to: u32) -> bool
         Op::Unlock(_) => false,
         Op::RLock(_) => false,
         Op::RUnlock(_) => false,
+        Op::TryLock(_) => false,
+        Op::TryRLock(_) => false,
+        Op::TryFail(_) => false,
         Op::OnceBegin(_) => false,
         Op::OnceEnd(_) => false,
         Op::OnceDone(_) => false,
@@ -86,6 +94,9 @@ pub(crate) fn can_be_source(op: &Op) -> bool
         Op::Unlock(_) => true,
         Op::RLock(_) => false,
         Op::RUnlock(_) => true,
+        Op::TryLock(_) => false,
+        Op::TryRLock(_) => false,
+        Op::TryFail(_) => false,
         Op::OnceBegin(_) => false,
         Op::OnceEnd(_) => true,
         Op::OnceDone(_) => false,
@@ -127,17 +138,13 @@ pub(crate) fn is_source<A: Allocator, B: Allocator>(
         Op::RecvClosed(chan) => is_close(*chan, &source.op),
         Op::Close(_) => false,
         Op::Default(_) => false,
-        // Each unlock before each later lock, and each unlock from reading before the next lock.
-        Op::Lock(lock) => {
-            is_unlock(*lock, &source.op)
-                || (is_runlock(*lock, &source.op) && numbers.get(from) == numbers.get(to))
-        }
+        Op::Lock(lock) => is_before_lock(*lock, &source.op, numbers, from, to),
         Op::Unlock(_) => false,
-        // The last unlock before a lock for reading.
-        Op::RLock(lock) => {
-            is_unlock(*lock, &source.op) && numbers.get(from) as u64 + 1 == numbers.get(to) as u64
-        }
+        Op::RLock(lock) => is_last_unlock(*lock, &source.op, numbers, from, to),
         Op::RUnlock(_) => false,
+        Op::TryLock(lock) => is_before_lock(*lock, &source.op, numbers, from, to),
+        Op::TryRLock(lock) => is_last_unlock(*lock, &source.op, numbers, from, to),
+        Op::TryFail(_) => false,
         Op::OnceBegin(_) => false,
         Op::OnceEnd(_) => false,
         // The end of a once's function before each return that finds it ended.
@@ -146,56 +153,34 @@ pub(crate) fn is_source<A: Allocator, B: Allocator>(
     }
 }
 
-fn is_send(chan: u32, op: &Op) -> bool
-    ensures { result ≡ model.sends chan op.now }
+// Each unlock before each later lock, and each unlock from reading before the next lock.
+fn is_before_lock<A: Allocator>(
+    lock: u32,
+    source: &Op,
+    numbers: &Numbers<A>,
+    from: usize,
+    to: usize,
+) -> bool
+    requires from { from < length numbers.now }
+    requires to { to < length numbers.now }
+    ensures { result ≡ spec.is_before_lock lock source.now (slice_index_or numbers.now from 0)
+        (slice_index_or numbers.now to 0) }
 {
-    match op {
-        Op::Send(other, _) => *other == chan,
-        _ => false,
-    }
+    is_unlock(lock, source) || (is_runlock(lock, source) && numbers.get(from) == numbers.get(to))
 }
 
-fn is_receive(chan: u32, op: &Op) -> bool
-    ensures { result ≡ model.receives chan op.now }
+// The last unlock before a lock for reading.
+fn is_last_unlock<A: Allocator>(
+    lock: u32,
+    source: &Op,
+    numbers: &Numbers<A>,
+    from: usize,
+    to: usize,
+) -> bool
+    requires from { from < length numbers.now }
+    requires to { to < length numbers.now }
+    ensures { result ≡ spec.is_last_unlock lock source.now (slice_index_or numbers.now from 0)
+        (slice_index_or numbers.now to 0) }
 {
-    match op {
-        Op::Recv(other, _) => *other == chan,
-        _ => false,
-    }
-}
-
-fn is_close(chan: u32, op: &Op) -> bool
-    ensures { result ≡ model.closes chan op.now }
-{
-    match op {
-        Op::Close(other) => *other == chan,
-        _ => false,
-    }
-}
-
-fn is_unlock(lock: u32, op: &Op) -> bool
-    ensures { result ≡ model.unlocks lock op.now }
-{
-    match op {
-        Op::Unlock(other) => *other == lock,
-        _ => false,
-    }
-}
-
-fn is_runlock(lock: u32, op: &Op) -> bool
-    ensures { result ≡ model.runlocks lock op.now }
-{
-    match op {
-        Op::RUnlock(other) => *other == lock,
-        _ => false,
-    }
-}
-
-fn is_once_end(once: u32, op: &Op) -> bool
-    ensures { result ≡ model.once_ends once op.now }
-{
-    match op {
-        Op::OnceEnd(other) => *other == once,
-        _ => false,
-    }
+    is_unlock(lock, source) && numbers.get(from) as u64 + 1 == numbers.get(to) as u64
 }

@@ -5,7 +5,7 @@ use Rattle.race_records.specs.declared.event.Event.{Event}
 use Rattle.race_records.specs.declared.kind.Kind.{Kind}
 use Rattle.race_records.specs.declared.trace.TheConstants.{MAX_EVENTS}
 use Rattle.race_records.specs.Declarations.{Declaration, DeclsState, count_of, counts_of}
-use Rattle.race_records.specs.Events.{op_fits, second_place_fits, lock_fits, fits}
+use Rattle.race_records.specs.Events.{op_fits, second_place_fits, is_right_kind, fits}
 use Rattle.race_records.specs.Parts.{says, has_two_places}
 use Rattle.race_legal.specs.ReplayState.{ReplayState, IsInRange, counts_in}
 use Rattle.race_legal.specs.StandsFor.{StandsFor}
@@ -15,7 +15,7 @@ pub range_from_fits : (decls : DeclsState) (e : Event) → IsTrue (fits decls e)
 unfolding fits
 range_from_fits decls e fit = by (nat_lt e.who (count_of Kind.Goroutine decls.declarations)) refl (op_fits decls.declarations e.op) refl
     (nat_lt e.place (length decls.places)) (second_place_fits (length decls.places) (has_two_places (says e.op).0) e.place2)
-    (lock_fits decls.declarations e.op) fit
+    (is_right_kind decls e.op) fit
   where
     by : (b : Bool) → nat_lt e.who (count_of Kind.Goroutine decls.declarations) ≡ b → (c : Bool) → op_fits decls.declarations e.op ≡ c → (p q r : Bool)
         → IsTrue (b && c && p && q && r) → IsInRange (counts_of decls.declarations) e

@@ -15,7 +15,7 @@ use Rattle.race_records.specs.declared.event.Cause.TheVariants.{SendClosed, Clos
 use Rattle.race_records.specs.declared.event.Op.{Op}
 use Rattle.race_records.specs.declared.event.Op.TheVariants.{Go, Exit, Read, Write, Send, Recv, Meet}
 use Rattle.race_records.specs.declared.event.Op.TheVariants.{RecvClosed, Close, Default, Lock, Unlock, RLock}
-use Rattle.race_records.specs.declared.event.Op.TheVariants.{RUnlock, OnceBegin, OnceEnd, OnceDone, Fault}
+use Rattle.race_records.specs.declared.event.Op.TheVariants.{RUnlock, TryLock, TryRLock, TryFail, OnceBegin, OnceEnd, OnceDone, Fault}
 use Rattle.race_records.specs.Declarations.{Declaration, capacity_of}
 use Rattle.race_records.specs.Parts.{op_is_in_range, chan_is_in_range, case_is_in_range, named_is_in_range, failed_at}
 use Rattle.race_model.specs.Events.{starts, is_exit, is_fault, gives, receives, sends, closes, locks, unlocks, rlocks, runlocks, once_begins, once_ends}
@@ -122,6 +122,10 @@ module _ (declarations : List Declaration) (k : ReplayState) (past : List Event)
       ap (λ b. (13, b) ∷ []) (is_held_is declarations k past S l less)
   op_rules_is who (RUnlock l) runs is =
       let less : l < counts_in k Kind.Lock = grind (arith, nat_tests) in ap (λ b. (16, not b) ∷ []) (is_read_held_is declarations k past S l less)
+  op_rules_is who (TryLock l) runs is = let less : l < counts_in k Kind.Lock = grind (arith, nat_tests) in lock_rules_is who l less
+  op_rules_is who (TryRLock l) runs is = let less : l < counts_in k Kind.Lock = grind (arith, nat_tests) in
+      ap (λ b. (13, b) ∷ []) (is_held_is declarations k past S l less)
+  op_rules_is who (TryFail l) runs is = refl
   op_rules_is who (OnceBegin p) runs is = let less : p < counts_in k Kind.Once = grind (arith, nat_tests) in
       ap (λ b. (17, b) ∷ []) (is_begun_is declarations k past S p less)
   op_rules_is who (OnceEnd p) runs is = ap (λ o. (18, not (gives o p)) ∷ []) (innermost_is declarations k past S who runs)

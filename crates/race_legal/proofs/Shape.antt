@@ -3,7 +3,8 @@ use Rattle.std.proofs.Common.{◌≡◌, ℕ, ◌+◌, ◌-◌, true, false, Lis
 use Rattle.std.proofs.lemmas.List.{length-set}
 use Rattle.race_records.specs.declared.event.Event.{Event}
 use Rattle.race_records.specs.declared.event.Op.{Op}
-use Rattle.race_records.specs.declared.event.Op.TheVariants.{Go, Exit, Write, Send, Recv, Close, Lock, Unlock, RLock, RUnlock, OnceBegin, OnceEnd}
+use Rattle.race_records.specs.declared.event.Op.TheVariants.{Go, Exit, Write, Send, Recv, Close, Lock, Unlock, RLock, RUnlock}
+use Rattle.race_records.specs.declared.event.Op.TheVariants.{TryLock, TryRLock, TryFail, OnceBegin, OnceEnd}
 use Rattle.race_records.specs.declared.kind.Kind.{Kind}
 use Rattle.race_legal.specs.ReplayState.{GoroutinesState, ChannelsState, LocksState}
 use Rattle.race_legal.specs.ReplayState.{OncesState, ReplayState, counts_in, stack_in}
@@ -59,6 +60,9 @@ length-held t (Lock l) = length-set t.held l true
 length-held t (Unlock l) = length-set t.held l false
 length-held t (RLock l) = refl
 length-held t (RUnlock l) = refl
+length-held t (TryLock l) = length-set t.held l true
+length-held t (TryRLock l) = refl
+length-held t (TryFail l) = refl
 length-held t _ = refl
 
 length-readers : (t : LocksState) (o : Op) → length (locks_after t o).readers ≡ length t.readers
@@ -66,6 +70,9 @@ length-readers t (Lock l) = refl
 length-readers t (Unlock l) = refl
 length-readers t (RLock l) = length-set t.readers l (readers_in t l + 1)
 length-readers t (RUnlock l) = length-set t.readers l (readers_in t l - 1)
+length-readers t (TryLock l) = refl
+length-readers t (TryRLock l) = length-set t.readers l (readers_in t l + 1)
+length-readers t (TryFail l) = refl
 length-readers t _ = refl
 
 length-begun : (t : OncesState) (o : Op) → length (onces_after t o).begun ≡ length t.begun

@@ -2,7 +2,8 @@
 use Rattle.std.specs.Prelude.{ℕ, ◌+◌, ◌-◌, ◌==◌, ◌||◌, ◌&&◌, Bool, true, false, List, [], ◌∷◌, ◌++◌, length, drop, take, slice_set}
 use Rattle.race_records.specs.declared.event.Event.{Event}
 use Rattle.race_records.specs.declared.event.Op.{Op}
-use Rattle.race_records.specs.declared.event.Op.TheVariants.{Go, Exit, Write, Send, Recv, Close, Lock, Unlock, RLock, RUnlock, OnceBegin, OnceEnd}
+use Rattle.race_records.specs.declared.event.Op.TheVariants.{Go, Exit, Write, Send, Recv, Close, Lock, Unlock, RLock, RUnlock}
+use Rattle.race_records.specs.declared.event.Op.TheVariants.{TryLock, TryRLock, TryFail, OnceBegin, OnceEnd}
 use Rattle.race_model.specs.Events.{is_exit, is_fault}
 use Rattle.race_legal.specs.ReplayState.{GoroutinesState, ChannelsState, LocksState, OncesState, ReplayState, stack_in, queue_in, readers_in}
 
@@ -74,12 +75,15 @@ with_held t l held = record { held = slice_set t.held l held; readers = t.reader
 abbrev pub with_readers : LocksState → ℕ → ℕ → LocksState
 with_readers t l readers = record { held = t.held; readers = slice_set t.readers l readers }
 
--- a Lock locks, an Unlock unlocks; with an RLock one more reads, with an RUnlock one less
+-- a Lock and a TryLock lock, an Unlock unlocks; with an RLock and a TryRLock one more reads, with an RUnlock one less; a TryFail changes nothing
 abbrev pub locks_after : LocksState → Op → LocksState
 locks_after t (Lock l) = with_held t l true
 locks_after t (Unlock l) = with_held t l false
 locks_after t (RLock l) = with_readers t l (readers_in t l + 1)
 locks_after t (RUnlock l) = with_readers t l (readers_in t l - 1)
+locks_after t (TryLock l) = with_held t l true
+locks_after t (TryRLock l) = with_readers t l (readers_in t l + 1)
+locks_after t (TryFail l) = t
 locks_after t _ = t
 
 -- the function of the once began

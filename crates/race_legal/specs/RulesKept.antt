@@ -9,7 +9,7 @@ use Rattle.race_records.specs.declared.event.Event.{Event}
 use Rattle.race_records.specs.declared.event.Op.{Op}
 use Rattle.race_records.specs.declared.event.Op.TheVariants.{Go, Exit, Read, Write, Send, Recv, Meet}
 use Rattle.race_records.specs.declared.event.Op.TheVariants.{RecvClosed, Close, Default, Lock, Unlock, RLock}
-use Rattle.race_records.specs.declared.event.Op.TheVariants.{RUnlock, OnceBegin, OnceEnd, OnceDone, Fault}
+use Rattle.race_records.specs.declared.event.Op.TheVariants.{RUnlock, TryLock, TryRLock, TryFail, OnceBegin, OnceEnd, OnceDone, Fault}
 use Rattle.race_model.specs.Events.{gives}
 use Rattle.race_model.specs.Legal.{least_broken}
 use Rattle.race_legal.specs.ReplayState.{GoroutinesState, ChannelsState, LocksState, ReplayState, started_in, runs_in}
@@ -69,6 +69,9 @@ op_rules_in k who (Lock l) = lock_rules k.locks l
 op_rules_in k who (Unlock l) = (15, not (held_in k.locks l)) ∷ []
 op_rules_in k who (RLock l) = (13, held_in k.locks l) ∷ []
 op_rules_in k who (RUnlock l) = (16, not (read_held_in k.locks l)) ∷ []
+op_rules_in k who (TryLock l) = lock_rules k.locks l
+op_rules_in k who (TryRLock l) = (13, held_in k.locks l) ∷ []
+op_rules_in k who (TryFail l) = []
 op_rules_in k who (OnceBegin o) = (17, begun_in k.onces o) ∷ []
 op_rules_in k who (OnceEnd o) = (18, not (gives (innermost_in k.goroutines who) o)) ∷ []
 op_rules_in k who (OnceDone o) = (19, not (ended_in k.onces o)) ∷ []

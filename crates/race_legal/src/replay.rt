@@ -280,6 +280,10 @@ impl<A: Allocator> Replay<A> {
             Op::Unlock(lock) => rule_if(Rule::NotHeld, !self.locks.is_held(*lock)),
             Op::RLock(lock) => rule_if(Rule::Held, self.locks.is_held(*lock)),
             Op::RUnlock(lock) => rule_if(Rule::NotReadHeld, !self.locks.is_read_held(*lock)),
+            Op::TryLock(lock) => self.locks.broken_by_lock(*lock),
+            Op::TryRLock(lock) => rule_if(Rule::Held, self.locks.is_held(*lock)),
+            // A try may fail where the lock is free too.
+            Op::TryFail(_) => None,
             Op::OnceBegin(once) => rule_if(Rule::OnceAgain, self.onces.is_begun(*once)),
             Op::OnceEnd(once) => rule_if(
                 Rule::OnceNotInner,
@@ -325,6 +329,8 @@ impl<A: Allocator> Replay<A> {
             Op::Unlock(lock) => self.locks.unlock(lock),
             Op::RLock(lock) => self.locks.lock_for_reading(lock),
             Op::RUnlock(lock) => self.locks.unlock_from_reading(lock),
+            Op::TryLock(lock) => self.locks.lock(lock),
+            Op::TryRLock(lock) => self.locks.lock_for_reading(lock),
             Op::OnceBegin(once) => {
                 self.goroutines.enter(event.who, once)?;
                 self.onces.begin(once);
@@ -339,6 +345,7 @@ impl<A: Allocator> Replay<A> {
             Op::Meet(_, _, _) => {}
             Op::RecvClosed(_) => {}
             Op::Default(_) => {}
+            Op::TryFail(_) => {}
             Op::OnceDone(_) => {}
         }
         self.len += 1;

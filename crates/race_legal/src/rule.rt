@@ -32,9 +32,9 @@ pub enum Rule {
     NotDrained,
     /// The channel was closed before ("Close").
     CloseOfClosed,
-    /// The lock is held (`Lock`, `RLock`).
+    /// The lock is held (`Lock`, `RLock`, `TryLock`, `TryRLock`).
     Held,
-    /// The lock is held for reading (`Lock`).
+    /// The lock is held for reading (`Lock`, `TryLock`).
     ReadHeld,
     /// The lock isn't held (`Unlock`).
     NotHeld,

@@ -1,12 +1,13 @@
-use Rattle.std.proofs.lemmas.Grind.{common_steps, elements}
-use Rattle.std.proofs.Common.{◌∙◌, ◌<◌, ◌+◌, ◌==◌, IsTrue, sym, ap, subst, rules, arith}
+use Rattle.std.proofs.lemmas.Grind.{elements}
+use Rattle.std.proofs.Common.{◌∙◌, ◌<◌, ◌+◌, ◌==◌, IsTrue, refl, sym, ap, subst, rules, arith}
 use Rattle.race_records.specs.declared.event.Op.{Op}
+use Rattle.race_records.specs.declared.event.Op.TheVariants.{Lock, RLock, TryLock, TryRLock}
 use Rattle.race_records.specs.declared.kind.Kind.{Kind}
 use Rattle.race_records.specs.Declarations.{DeclsState, count_of, counts_of, capacity_of}
 use Rattle.race_records.specs.Parts.{op_is_in_range}
 use Rattle.race_legal.proofs.RangeLemmas.{range_from_fits}
 use Rattle.race_verdict.specs.Traces.{capacities}
-use Rattle.race_edges.proofs.NumberLemmas.{chan_in_range, told_send}
+use Rattle.race_edges.proofs.NumberLemmas.{chan_in_range, told_send, told_lock, told_read_lock}
 use Rattle.race_edges.proofs.synchronized.is_source.Goals as goal
 
 pub capacity-requires : goal.capacity-requires
@@ -29,14 +30,37 @@ returns-then-is_receive g c =
 pub returns-in-RecvClosed : goal.returns-in-RecvClosed
 returns-in-RecvClosed g c = search rules steps 100000
 
-pub returns-then-is_unlock-2 : goal.returns-then-is_unlock-2
-returns-then-is_unlock-2 g c = grind (arith, common_steps) steps 1000000
+pub returns-in-Lock : goal.returns-in-Lock
+returns-in-Lock g c =
+    let trace = c.args.trace.now in
+    c.is_before_lock.ensures
+    ∙ told_lock (capacities trace) trace.events c.args.numbers.now c.requires.numbers c.args.from c.args.to c.requires.earlier
+    c.event-source.result.now c.event-target.result.now c.event-source.ensures.event c.event-target.ensures.event
+    c.in-Lock.lock (Lock c.in-Lock.lock) c.in-Lock.is refl refl
 
-pub returns-else-is_runlock : goal.returns-else-is_runlock
-returns-else-is_runlock g c = search rules steps 300000
+pub returns-in-RLock : goal.returns-in-RLock
+returns-in-RLock g c =
+    let trace = c.args.trace.now in
+    c.is_last_unlock.ensures
+    ∙ told_read_lock (capacities trace) trace.events c.args.numbers.now c.requires.numbers c.args.from c.args.to c.requires.earlier
+    c.event-source.result.now c.event-target.result.now c.event-source.ensures.event c.event-target.ensures.event
+    c.in-RLock.lock (RLock c.in-RLock.lock) c.in-RLock.is refl refl
+
+pub returns-in-TryLock : goal.returns-in-TryLock
+returns-in-TryLock g c =
+    let trace = c.args.trace.now in
+    c.is_before_lock-in-TryLock.ensures
+    ∙ told_lock (capacities trace) trace.events c.args.numbers.now c.requires.numbers c.args.from c.args.to c.requires.earlier
+    c.event-source.result.now c.event-target.result.now c.event-source.ensures.event c.event-target.ensures.event
+    c.in-TryLock.lock (TryLock c.in-TryLock.lock) c.in-TryLock.is refl refl
+
+pub returns-in-TryRLock : goal.returns-in-TryRLock
+returns-in-TryRLock g c =
+    let trace = c.args.trace.now in
+    c.is_last_unlock-in-TryRLock.ensures
+    ∙ told_read_lock (capacities trace) trace.events c.args.numbers.now c.requires.numbers c.args.from c.args.to c.requires.earlier
+    c.event-source.result.now c.event-target.result.now c.event-source.ensures.event c.event-target.ensures.event
+    c.in-TryRLock.lock (TryRLock c.in-TryRLock.lock) c.in-TryRLock.is refl refl
 
 pub returns-then-is_send : goal.returns-then-is_send
 returns-then-is_send g c = grind (arith, elements) steps 1000000
-
-pub returns-then-is_runlock : goal.returns-then-is_runlock
-returns-then-is_runlock g c = grind (arith, common_steps) steps 1000000

@@ -32,6 +32,12 @@ is_held-requires-in-RLock c = grind (arith, common_steps) steps 300000
 pub is_read_held-requires : goal.is_read_held-requires
 is_read_held-requires c = grind (arith, common_steps) steps 300000
 
+pub broken_by_lock-requires-in-TryLock : goal.broken_by_lock-requires-in-TryLock
+broken_by_lock-requires-in-TryLock c = grind (arith, common_steps) steps 300000
+
+pub is_held-requires-in-TryRLock : goal.is_held-requires-in-TryRLock
+is_held-requires-in-TryRLock c = grind (arith, common_steps) steps 300000
+
 pub is_begun-requires : goal.is_begun-requires
 is_begun-requires c = grind (arith, common_steps) steps 300000
 

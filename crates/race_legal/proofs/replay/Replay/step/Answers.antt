@@ -6,7 +6,7 @@ use Rattle.race_legal.proofs.replay.Replay.step.Goals as goal
 use Rattle.race_legal.proofs.replay.Replay.step.Goals.{in-Go, in-Exit, in-Read, in-Write}
 use Rattle.race_legal.proofs.replay.Replay.step.Goals.{in-Send+in_ok-send-in-Send, in-Recv, in-Meet}
 use Rattle.race_legal.proofs.replay.Replay.step.Goals.{in-RecvClosed, in-Close, in-Default, in-Lock}
-use Rattle.race_legal.proofs.replay.Replay.step.Goals.{in-Unlock, in-RLock, in-RUnlock}
+use Rattle.race_legal.proofs.replay.Replay.step.Goals.{in-Unlock, in-RLock, in-RUnlock, in-TryLock, in-TryRLock, in-TryFail}
 use Rattle.race_legal.proofs.replay.Replay.step.Goals.{in-OnceBegin+in_ok-enter-in-OnceBegin, in-OnceEnd}
 use Rattle.race_legal.proofs.replay.Replay.step.Goals.{in-OnceDone, in-Fault}
 
@@ -27,6 +27,9 @@ returns g c = elim c.match-event.branch [
   | in-Unlock w ↦ rw (w.self-inside-is, w.unlock.ensures, ← c.self.view_is, w.in-Unlock.is) (simp (and-false, or-false))
   | in-RLock w ↦ rw (w.self-inside-is, w.lock_for_reading.ensures, ← c.self.view_is, w.in-RLock.is) (simp (and-false, or-false))
   | in-RUnlock w ↦ rw (w.self-inside-is, w.unlock_from_reading.ensures, ← c.self.view_is, w.in-RUnlock.is) (simp (and-false, or-false))
+  | in-TryLock w ↦ rw (w.self-inside-is, w.lock-in-TryLock.ensures, ← c.self.view_is, w.in-TryLock.is) (simp (and-false, or-false))
+  | in-TryRLock w ↦ rw (w.self-inside-is, w.lock_for_reading-in-TryRLock.ensures, ← c.self.view_is, w.in-TryRLock.is) (simp (and-false, or-false))
+  | in-TryFail w ↦ rw (w.self-inside-is, ← c.self.view_is, w.in-TryFail.is) (simp (and-false, or-false))
   | in-OnceBegin+in_ok-enter-in-OnceBegin w ↦
       rw (w.self-inside-is, w.enter.ensures, w.in_ok-enter-in-OnceBegin.was, w.begin.ensures, ← c.self.view_is, w.in-OnceBegin.is)
       (simp (and-false, or-false))
@@ -43,6 +46,12 @@ lock_for_reading-requires-clause-row c = grind (arith, common_steps) steps 30000
 
 pub lock_for_reading-requires-clause-room : goal.lock_for_reading-requires-clause-room
 lock_for_reading-requires-clause-room c = grind (arith, common_steps) steps 300000
+
+pub lock_for_reading-requires-in-TryRLock-clause-row : goal.lock_for_reading-requires-in-TryRLock-clause-row
+lock_for_reading-requires-in-TryRLock-clause-row c = grind (arith, common_steps) steps 300000
+
+pub lock_for_reading-requires-in-TryRLock-clause-room : goal.lock_for_reading-requires-in-TryRLock-clause-room
+lock_for_reading-requires-in-TryRLock-clause-room c = grind (arith, common_steps) steps 300000
 
 pub unlock_from_reading-requires : goal.unlock_from_reading-requires
 unlock_from_reading-requires c = grind (arith, common_steps) steps 300000

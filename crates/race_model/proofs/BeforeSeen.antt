@@ -4,7 +4,7 @@ use Rattle.std.proofs.lemmas.Option.{slice_get_within}
 use Rattle.std.proofs.lemmas.List.{length-take-le}
 use Rattle.race_records.specs.declared.event.Event.{Event}
 use Rattle.race_records.specs.declared.event.Op.{Op}
-use Rattle.race_records.specs.declared.event.Op.TheVariants.{Go, Meet, Read, Write, Send, Recv, RecvClosed, Lock, RLock, OnceDone}
+use Rattle.race_records.specs.declared.event.Op.TheVariants.{Go, Meet, Read, Write, Send, Recv, RecvClosed, Lock, RLock, TryLock, TryRLock, OnceDone}
 use Rattle.race_model.specs.Events.{At, accesses, is_access}
 use Rattle.race_model.specs.Order.{Point, Begin, End, SynchronizedInside, IsSource, SynchronizedBefore, Step, Reaches, one_step, then_step, HappensBefore}
 use Rattle.race_model.specs.Race.{Conflict, IsRace}
@@ -29,6 +29,9 @@ access_no_source caps past i (Read x w) (RecvClosed c) is u = cc
 access_no_source caps past i (Read x w) (Lock l) is (inl u) = cc
 access_no_source caps past i (Read x w) (Lock l) is (inr u) = (let no = u.0 in cc)
 access_no_source caps past i (Read x w) (RLock l) is u = (let no = u.1.0 in cc)
+access_no_source caps past i (Read x w) (TryLock l) is (inl u) = cc
+access_no_source caps past i (Read x w) (TryLock l) is (inr u) = (let no = u.0 in cc)
+access_no_source caps past i (Read x w) (TryRLock l) is u = (let no = u.1.0 in cc)
 access_no_source caps past i (Read x w) (OnceDone o) is u = cc
 access_no_source caps past i (Read x w) _ is u = u
 access_no_source caps past i (Write x w) (Send c v) is u = (let no = u.1.0 in cc)
@@ -37,6 +40,9 @@ access_no_source caps past i (Write x w) (RecvClosed c) is u = cc
 access_no_source caps past i (Write x w) (Lock l) is (inl u) = cc
 access_no_source caps past i (Write x w) (Lock l) is (inr u) = (let no = u.0 in cc)
 access_no_source caps past i (Write x w) (RLock l) is u = (let no = u.1.0 in cc)
+access_no_source caps past i (Write x w) (TryLock l) is (inl u) = cc
+access_no_source caps past i (Write x w) (TryLock l) is (inr u) = (let no = u.0 in cc)
+access_no_source caps past i (Write x w) (TryRLock l) is u = (let no = u.1.0 in cc)
 access_no_source caps past i (Write x w) (OnceDone o) is u = cc
 access_no_source caps past i (Write x w) _ is u = u
 access_no_source caps past i _ o is u = cc

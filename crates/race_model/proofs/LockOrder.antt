@@ -7,7 +7,7 @@ use Rattle.std.proofs.lemmas.Bool.Decides.{nat_tests}
 use Rattle.std.proofs.lemmas.Option.{none-some, same_Some, slice_get_within}
 use Rattle.race_records.specs.declared.event.Event.{Event}
 use Rattle.race_records.specs.declared.event.Op.{Op}
-use Rattle.race_records.specs.declared.event.Op.TheVariants.{Lock, Unlock, RLock, OnceBegin, OnceEnd, OnceDone}
+use Rattle.race_records.specs.declared.event.Op.TheVariants.{Lock, Unlock, RLock, TryLock, TryRLock, OnceBegin, OnceEnd, OnceDone}
 use Rattle.race_model.specs.Events.{At, gives, locks, unlocks, rlocks, once_ends, count, IsKth}
 use Rattle.race_model.specs.State.{is_held, is_ended, unended_once, innermost}
 use Rattle.race_model.specs.Legal.{IsLegal}
@@ -26,17 +26,21 @@ held_less l past is = ltb-true (count (unlocks l) past) (count (locks l) past) i
 free_most : (l : ℕ) (past : List Event) → is_held l past ≡ false → count (locks l) past ≤ count (unlocks l) past
 free_most l past is = grind (arith, nat_tests)
 
+-- so it is of the lock of an equal number
+free_as : (l m : ℕ) (past : List Event) → IsTrue (m == l) → is_held m past ≡ false → count (locks l) past ≤ count (unlocks l) past
+free_as l m past same free = subst (λ m. count (locks m) past ≤ count (unlocks m) past) (eqb-true m l same) (free_most m past free)
+
 -- what is locked was free, also for reading, and what is unlocked was locked
 was_free : (caps : ℕ → ℕ) (l : ℕ) (past : List Event) (g : ℕ) (o : Op) → IsTrue (locks l o)
     → RulesKept caps past g o → count (locks l) past ≤ count (unlocks l) past
-was_free caps l past g (Lock m) same kept =
-    subst (λ m. count (locks m) past ≤ count (unlocks m) past) (eqb-true m l same) (free_most m past (kept 0 (13, is_held m past) refl))
+was_free caps l past g (Lock m) same kept = free_as l m past same (kept 0 (13, is_held m past) refl)
+was_free caps l past g (TryLock m) same kept = free_as l m past same (kept 0 (13, is_held m past) refl)
 was_free caps l past g _ same kept = cc
 
 was_free_to_read : (caps : ℕ → ℕ) (l : ℕ) (past : List Event) (g : ℕ) (o : Op) → IsTrue (rlocks l o) → RulesKept caps past g o
     → count (locks l) past ≤ count (unlocks l) past
-was_free_to_read caps l past g (RLock m) same kept =
-    subst (λ m. count (locks m) past ≤ count (unlocks m) past) (eqb-true m l same) (free_most m past (kept 0 (13, is_held m past) refl))
+was_free_to_read caps l past g (RLock m) same kept = free_as l m past same (kept 0 (13, is_held m past) refl)
+was_free_to_read caps l past g (TryRLock m) same kept = free_as l m past same (kept 0 (13, is_held m past) refl)
 was_free_to_read caps l past g _ same kept = cc
 
 was_held : (caps : ℕ → ℕ) (l : ℕ) (past : List Event) (g : ℕ) (o : Op) → IsTrue (unlocks l o)
@@ -45,17 +49,23 @@ was_held caps l past g (Unlock m) same kept =
     subst (λ m. count (unlocks m) past < count (locks m) past) (eqb-true m l same) (held_less m past (not-false _ (kept 0 (15, not (is_held m past)) refl)))
 was_held caps l past g _ same kept = cc
 
--- so they go on taking turns
-turns_by : (caps : ℕ → ℕ) (l : ℕ) (past : List Event) (g : ℕ) (o : Op) → RulesKept caps past g o → TakeTurns l past
-    → (count (unlocks l) past + as_number (unlocks l o) ≤ count (locks l) past + as_number (locks l o))
-    × (count (locks l) past + as_number (locks l o) ≤ count (unlocks l) past + as_number (unlocks l o) + 1)
-turns_by caps l past g (Lock m) kept (low, high) = go (m == l) refl
+-- so they go on taking turns when m is locked
+turns_by_lock : (l m : ℕ) (past : List Event) → is_held m past ≡ false → TakeTurns l past
+    → (count (unlocks l) past + 0 ≤ count (locks l) past + as_number (m == l)) × (count (locks l) past + as_number (m == l) ≤ count (unlocks l) past + 0 + 1)
+turns_by_lock l m past free (low, high) = go (m == l) refl
   where
     go : (b : Bool) → (m == l) ≡ b
         → (count (unlocks l) past + 0 ≤ count (locks l) past + as_number b) × (count (locks l) past + as_number b ≤ count (unlocks l) past + 0 + 1)
     go false other = (omega (arith, low), omega (arith, high))
-    go true same = let free : count (locks l) past ≤ count (unlocks l) past = was_free caps l past g (Lock m) same kept in
-        (omega (arith, low), omega (arith, free))
+    go true same = let most : count (locks l) past ≤ count (unlocks l) past = free_as l m past same free in
+        (omega (arith, low), omega (arith, most))
+
+-- and by each operation that breaks no rule
+turns_by : (caps : ℕ → ℕ) (l : ℕ) (past : List Event) (g : ℕ) (o : Op) → RulesKept caps past g o → TakeTurns l past
+    → (count (unlocks l) past + as_number (unlocks l o) ≤ count (locks l) past + as_number (locks l o))
+    × (count (locks l) past + as_number (locks l o) ≤ count (unlocks l) past + as_number (unlocks l o) + 1)
+turns_by caps l past g (Lock m) kept turns = turns_by_lock l m past (kept 0 (13, is_held m past) refl) turns
+turns_by caps l past g (TryLock m) kept turns = turns_by_lock l m past (kept 0 (13, is_held m past) refl) turns
 turns_by caps l past g (Unlock m) kept (low, high) = go (m == l) refl
   where
     go : (b : Bool) → (m == l) ≡ b

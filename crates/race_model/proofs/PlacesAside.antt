@@ -13,7 +13,7 @@ use Rattle.race_records.specs.declared.event.Cause.{Cause}
 use Rattle.race_records.specs.declared.event.Cause.TheVariants.{SendClosed, CloseClosed, CloseNil, UnlockFree, RUnlockFree}
 use Rattle.race_records.specs.declared.event.Op.{Op}
 use Rattle.race_records.specs.declared.event.Op.TheVariants.{Go, Exit, Read, Write, Send, Recv, Meet}
-use Rattle.race_records.specs.declared.event.Op.TheVariants.{RecvClosed, Close, Default, Lock, Unlock, RLock}
+use Rattle.race_records.specs.declared.event.Op.TheVariants.{RecvClosed, Close, Default, Lock, Unlock, RLock, TryLock, TryRLock, TryFail}
 use Rattle.race_records.specs.declared.event.Op.TheVariants.{RUnlock, OnceBegin, OnceEnd, OnceDone, Fault}
 use Rattle.race_model.specs.Events.{At, operations, TakesPart, partner, gives, starts, is_exit, writes, accesses, count, sends}
 use Rattle.race_model.specs.Events.{receives, closes, locks, unlocks, rlocks, runlocks, once_begins, once_ends, is_fault, has}
@@ -69,6 +69,10 @@ source_alike es fs same caps i s (RecvClosed c) is = is
 source_alike es fs same caps i s (Lock l) (inl is) = inl is
 source_alike es fs same caps i s (Lock l) (inr (is, n)) = inr (is, sym (fronts_alike es fs same i (locks l)) ∙ n ∙ kinds_alike es fs same (locks l))
 source_alike es fs same caps i s (RLock l) (k, (is, n), sum) =
+    (k, (is, sym (fronts_alike es fs same i (unlocks l)) ∙ n), sum ∙ kinds_alike es fs same (unlocks l))
+source_alike es fs same caps i s (TryLock l) (inl is) = inl is
+source_alike es fs same caps i s (TryLock l) (inr (is, n)) = inr (is, sym (fronts_alike es fs same i (locks l)) ∙ n ∙ kinds_alike es fs same (locks l))
+source_alike es fs same caps i s (TryRLock l) (k, (is, n), sum) =
     (k, (is, sym (fronts_alike es fs same i (unlocks l)) ∙ n), sum ∙ kinds_alike es fs same (unlocks l))
 source_alike es fs same caps i s (OnceDone o) is = is
 source_alike es fs same caps i s _ never = absurd never
@@ -177,6 +181,9 @@ module _ (es fs : List Event) (same : operations es ≡ operations fs) where
   op_rules_alike caps g (Unlock l) = λ i. (15, not (held_alike l i)) ∷ []
   op_rules_alike caps g (RLock l) = λ i. (13, held_alike l i) ∷ []
   op_rules_alike caps g (RUnlock l) = λ i. (16, not (read_held_alike l i)) ∷ []
+  op_rules_alike caps g (TryLock l) = λ i. (13, held_alike l i) ∷ (14, read_held_alike l i) ∷ []
+  op_rules_alike caps g (TryRLock l) = λ i. (13, held_alike l i) ∷ []
+  op_rules_alike caps g (TryFail l) = refl
   op_rules_alike caps g (OnceBegin o) = λ i. (17, has_alike (once_begins o) i) ∷ []
   op_rules_alike caps g (OnceEnd o) = λ i. (18, not (gives (innermost_alike g i) o)) ∷ []
   op_rules_alike caps g (OnceDone o) = λ i. (19, not (has_alike (once_ends o) i)) ∷ []

@@ -4,9 +4,9 @@ use Rattle.std.proofs.Common.{List, refl, sym, ap, inl, inr, true≢false, IsTru
 use Rattle.std.proofs.Common.{eq-eqb, take}
 use Rattle.race_records.specs.declared.event.Event.{Event}
 use Rattle.race_records.specs.declared.event.Op.{Op}
-use Rattle.race_records.specs.declared.event.Op.TheVariants.{Go, Send, Recv, Meet, RecvClosed, Lock, RLock, OnceDone}
+use Rattle.race_records.specs.declared.event.Op.TheVariants.{Go, Send, Recv, Meet, RecvClosed, Lock, RLock, TryLock, TryRLock, OnceDone}
 use Rattle.race_model.specs.Events.{sends, receives, locks, unlocks, runlocks, count}
-use Rattle.race_model.specs.Order.{SynchronizedInside, IsSource}
+use Rattle.race_model.specs.Order.{SynchronizedInside, IsSource, IsBeforeLock, IsLastUnlock}
 use Rattle.race_model.specs.Synchronized.{joins, is_source}
 
 -- both tests pass exactly where both numbers are equal
@@ -34,6 +34,22 @@ joins_is who (Meet r c v) g h =
     (both_equal who g r h) (both_equal r g who h)
 joins_is who _ g h = ((λ is. cc), (λ never. absurd never))
 
+before_lock_is : (past : List Event) (i : ℕ) (s : Op) (l : ℕ)
+    → IsTrue (unlocks l s || (runlocks l s && (count (locks l) (take i past) == count (locks l) past))) ↔ IsBeforeLock past i s l
+before_lock_is past i s l =
+    either_holds (unlocks l s) (runlocks l s && (count (locks l) (take i past) == count (locks l) past))
+    (IsTrue (unlocks l s)) (IsTrue (runlocks l s) × (count (locks l) (take i past) ≡ count (locks l) past))
+    ((λ is. is), (λ is. is))
+    (with_equal (runlocks l s) (count (locks l) (take i past)) (count (locks l) past))
+
+last_unlock_is : (past : List Event) (i : ℕ) (s : Op) (l : ℕ)
+    → IsTrue (unlocks l s && (count (unlocks l) (take i past) + 1 == count (unlocks l) past)) ↔ IsLastUnlock past i s l
+last_unlock_is past i s l =
+    let both = with_equal (unlocks l s) (count (unlocks l) (take i past) + 1) (count (unlocks l) past) in (
+      (λ is. (count (unlocks l) (take i past), ((both.0 is).0, refl), (both.0 is).1)),
+      (λ (k, (is, number), sum). both.1 (is, ap (λ n. n + 1) number ∙ sum)),
+    )
+
 pub source_is : (caps : ℕ → ℕ) (past : List Event) (i : ℕ) (s o : Op) → IsTrue (is_source caps past i s o) ↔ IsSource caps past i s o
 source_is caps past i s (Recv c v) = with_equal (sends c s) (count (sends c) (take i past)) (count (receives c) past)
 source_is caps past i s (Send c v) =
@@ -42,15 +58,9 @@ source_is caps past i s (Send c v) =
       (λ (k, (is, number), sum). both.1 (is, ap (λ n. n + caps c) number ∙ sum)),
     )
 source_is caps past i s (RecvClosed c) = ((λ is. is), (λ is. is))
-source_is caps past i s (Lock l) =
-    either_holds (unlocks l s) (runlocks l s && (count (locks l) (take i past) == count (locks l) past))
-    (IsTrue (unlocks l s)) (IsTrue (runlocks l s) × (count (locks l) (take i past) ≡ count (locks l) past))
-    ((λ is. is), (λ is. is))
-    (with_equal (runlocks l s) (count (locks l) (take i past)) (count (locks l) past))
-source_is caps past i s (RLock l) =
-    let both = with_equal (unlocks l s) (count (unlocks l) (take i past) + 1) (count (unlocks l) past) in (
-      (λ is. (count (unlocks l) (take i past), ((both.0 is).0, refl), (both.0 is).1)),
-      (λ (k, (is, number), sum). both.1 (is, ap (λ n. n + 1) number ∙ sum)),
-    )
+source_is caps past i s (Lock l) = before_lock_is past i s l
+source_is caps past i s (RLock l) = last_unlock_is past i s l
+source_is caps past i s (TryLock l) = before_lock_is past i s l
+source_is caps past i s (TryRLock l) = last_unlock_is past i s l
 source_is caps past i s (OnceDone o) = ((λ is. is), (λ is. is))
 source_is caps past i s _ = ((λ is. cc), (λ never. absurd never))

@@ -154,7 +154,7 @@ module _ (decls : DeclsState) (holds : IsWellFormed decls) (line : List ℕ) whe
             (asked.0, is.parts) is.says (ask_words_are ds i.place i.ask)));
         says = (λ k. said_by ds (has.named k) (arguments (has.behind k))) ∙ ap (option_map Asks) says;
         declares = ap (λ ws. declared_as (word_named first) (arguments ws)) has.behind ∙ first_is.declares words;
-        fits = (is.fits, is.form);
+        fits = (is.fits, is.form, had);
         cause_is = λ d same. clean_cause (LineWord.Asks word) words has d same
             ∙ (λ k. or_else (words_cause (same k).declarations (ask_fields asked.0) asked.1)
             (option_and_then (said_cause d) (asks_by (same k).declarations asked)))
@@ -171,7 +171,7 @@ module _ (decls : DeclsState) (holds : IsWellFormed decls) (line : List ℕ) whe
         line_is = joined words has.behind ∙ (λ k. line_of (word.text k ∷ is.text k)) ∙ ap (λ ask. line_of (ask_words ds i.place ask)) (sym is.asks);
         says = (λ k. said_by ds (has.named k) (arguments (has.behind k))) ∙ ap (option_map Asks) says;
         declares = ap (λ ws. declared_as (word_named first) (arguments ws)) has.behind ∙ word.declares words;
-        fits = (is.fits, is.form);
+        fits = (is.fits, is.form, ap (has_ask decls.version) is.asks);
         cause_is = λ d same. clean_cause LineWord.Selects words has d same
             ∙ (λ k. or_else (select_cause (same k).declarations (select_words words))
             (option_and_then (said_cause d) (said_by (same k).declarations (Some LineWord.Selects) words)))

@@ -264,6 +264,10 @@ is_header line h = by (version_said line) refl h
     by (Some version) e h = (version, said_header line version e)
     by None e h = absurd (none-some TextCause.BadHeader (sym h))
 
+-- a line with its newline, before other bytes
+one_line : (line rest : List ℕ) → line ++ 10 ∷ rest ≡ flat_map ended (line ∷ []) ++ rest
+one_line line rest = sym (append_assoc line (10 ∷ []) rest) ∙ ap (λ l. l ++ rest) (sym (append-nil (ended line)))
+
 pub faultless_is_text : (bytes : List ℕ) → text_fault bytes ≡ None → IsProgramText bytes
 unfolding first_fault draft_text
 faultless_is_text bytes none = by (parts_of bytes) refl none
@@ -284,6 +288,7 @@ faultless_is_text bytes none = by (parts_of bytes) refl none
         (ap (λ ls. fault_after program_causes ls parts) (nothing_lines_read version ∙ (λ i. sym first i ∷ [])) ∙ split.1) in
         let program = whole_program rest.0 rest.1 rest.2 in
         let printed = sym (join_with_byte-slice_split 10 bytes) ∙ ap (join_with_byte 10) e ∙ (λ i. first i ++ 10 ∷ join_with_byte 10 parts)
+        ∙ one_line (header version) (join_with_byte 10 parts)
         ∙ sym (rest.3 ∙ ap (λ ls. flat_map ended ls ++ join_with_byte 10 parts) (nothing_lines_read version))
         ∙ ap (λ x. flat_map ended (lines x)) program.1 in
         (program_read rest.0, record { program = program.0; printed = printed })

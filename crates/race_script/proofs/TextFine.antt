@@ -44,6 +44,7 @@ use Rattle.race_text.proofs.TextFine.{here, no_cause}
 use Rattle.race_text.proofs.TextFine.{within as within_all}
 use Rattle.race_text.proofs.TextLaws.{IsDeclarationLine}
 use Rattle.race_text.proofs.TraceLemmas.{clean_line}
+use Rattle.race_text.proofs.WordTable.{word_of_version}
 use Rattle.race_script.specs.Fault.{word_cause, may_begin}
 use Rattle.race_script.specs.Form.{line_word_in}
 use Rattle.race_script.specs.Program.{asks_of, request_fits, is_body_of, instruction, spelled}
@@ -256,11 +257,11 @@ module _ (decls : DeclsState) (holds : IsWellFormed decls) where
       let line = subst (λ x. IsDeclarationLine x (declaration_line x)) at (declaration_lines decls holds (length before) d less) in
       let first = first_word (words_of (declaration_line d)) in
       let args = arguments (words_of (declaration_line d)) in
-      let text = sym (clean_line (seen_so_far before 0) (declaration_line d) line.clean) ∙ no_cause decls holds before after d is in
+      let text = sym (clean_line decls.version (seen_so_far before 0) (declaration_line d) line.clean) ∙ no_cause decls holds before after d is decls.version in
       cause_behind (nothing_but decls.version before) (declaration_line d) (seen_by_lines decls.version before (lines_of_prefix before (d ∷ after) is))
       ∙ ap (λ b. if b then Some TextCause.BadByte else word_cause (nothing_but decls.version before) (line_word_in decls.version first) args) line.clean
       ∙ ap (λ w. word_cause (nothing_but decls.version before) w args) (noun_word_in decls.version first _ line.named)
-      ∙ ap (λ w. text_cause (seen_so_far before 0) w args) (sym line.named)
+      ∙ ap (λ w. text_cause (seen_so_far before 0) w args) (sym (word_of_version decls.version first _ line.named refl))
       ∙ text
 
   declared_fine : (before after : List Declaration) → before ++ after ≡ decls.declarations

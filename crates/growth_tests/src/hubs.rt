@@ -18,6 +18,7 @@ enum Happening {
     Write,
     Send,
     OnceBegin,
+    TryLock,
     Meet,
 }
 
@@ -70,6 +71,12 @@ const MAIN_WRITES: Script = Script {
 
 const MAIN_SENDS: Script = Script {
     main: &[Plain::Send(0, 7)],
+    others: &[],
+    moves: &[Move::Ask],
+};
+
+const MAIN_TRIES: Script = Script {
+    main: &[Plain::TryLock(0)],
     others: &[],
     moves: &[Move::Ask],
 };
@@ -200,6 +207,7 @@ fn op_of(happening: Happening) -> Op {
         Happening::Write => Op::Write(0, 1),
         Happening::Send => Op::Send(0, 7),
         Happening::OnceBegin => Op::OnceBegin(0),
+        Happening::TryLock => Op::TryLock(0),
         Happening::Meet => Op::Meet(1, 1, 7),
     }
 }
@@ -256,7 +264,7 @@ impl Growing for Row {
     }
 }
 
-static CALLS: [(Row, u64); 9] = [
+static CALLS: [(Row, u64); 10] = [
     // The replay's lists, the five boxes and their logs' places in lists that grow twice, who is ready
     // and who is out.
     (Row(Call::New, QUIET), 17),
@@ -266,6 +274,7 @@ static CALLS: [(Row, u64); 9] = [
     (Row(Call::Submit, FOUR_WAIT), 2),
     // Who is through, and the trace.
     (Row(Call::Fire(Happening::Write), MAIN_WRITES), 2),
+    (Row(Call::Fire(Happening::TryLock), MAIN_TRIES), 2),
     // The channel's queue too, and the goroutine's onces.
     (Row(Call::Fire(Happening::Send), MAIN_SENDS), 3),
     (Row(Call::Fire(Happening::OnceBegin), MAIN_BEGINS), 3),

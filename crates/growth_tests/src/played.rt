@@ -11,6 +11,7 @@ pub(crate) enum Plain {
     Write(u32, u64),
     Send(u32, u64),
     Recv(Option<u32>),
+    TryLock(u32),
     Do(u32),
 }
 
@@ -20,6 +21,7 @@ fn ask_of(plain: Plain) -> Ask {
         Plain::Write(var, value) => Ask::Write(var, value),
         Plain::Send(chan, value) => Ask::Send(Some(chan), value),
         Plain::Recv(chan) => Ask::Recv(chan),
+        Plain::TryLock(lock) => Ask::TryLock(lock),
         Plain::Do(once) => Ask::Do(once),
     }
 }
@@ -82,7 +84,7 @@ static OBJECTS: [(&str, Object); 9] = [
 
 /// Goroutines, an object of each kind, and a place.
 pub(crate) fn declared<A: Allocator + Copy>(heap: A) -> Option<Decls<A>> {
-    let mut decls = Decls::new(heap);
+    let mut decls = Decls::new_version2(heap);
     let mut is_declared = decls.add_place("p").is_ok();
     for (name, object) in &OBJECTS {
         is_declared &= decls.declare(*name, *object).is_ok();

@@ -20,7 +20,7 @@ enum Call {
 }
 
 // A goroutine, a variable, a channel, an rwmutex, a once.
-static DECLARED: &[u8] = b"gotrace 1\ngoroutine w\nvar x\nchan c 2\nrwmutex l\nonce o\n";
+static DECLARED: &[u8] = b"gotrace 2\ngoroutine w\nvar x\nchan c 2\nrwmutex l\nonce o\n";
 
 fn new<A: Allocator + Copy>(heap: A, trace: &Trace<A>) -> Reply {
     match Replay::new(heap, trace.decls()) {
@@ -91,11 +91,14 @@ impl Growing for Row {
 
 // A replay has three lists for goroutines, one for variables, three for channels, two for locks
 // and two for onces. A value that is sent makes it grow, and a once whose function begins.
-static CALLS: [(Row, u64); 6] = [
+static CALLS: [(Row, u64); 9] = [
     (Row(Call::New, b"send main c 7 p\n"), 11),
     (Row(Call::Accept, b"write main x 7 p\n"), 0),
     (Row(Call::Accept, b"send main c 7 p\n"), 1),
     (Row(Call::Accept, b"lock main l p\n"), 0),
+    (Row(Call::Accept, b"trylock main l p\n"), 0),
+    (Row(Call::Accept, b"tryrlock main l p\n"), 0),
+    (Row(Call::Accept, b"tryfail main l p\n"), 0),
     (Row(Call::Accept, b"oncebegin main o p\n"), 1),
     (Row(Call::Legal, b"send main c 7 p\n"), 12),
 ];

@@ -27,7 +27,7 @@ enum Call {
 
 // Eight goroutines beside main, a variable, a channel, a mutex, a once.
 static DECLARED: &[u8] =
-    b"gotrace 1\ngoroutine w1\ngoroutine w2\ngoroutine w3\ngoroutine w4\ngoroutine w5\ngoroutine w6\ngoroutine w7\ngoroutine w8\nvar x\nchan c 2\nmutex m\nonce o\n";
+    b"gotrace 2\ngoroutine w1\ngoroutine w2\ngoroutine w3\ngoroutine w4\ngoroutine w5\ngoroutine w6\ngoroutine w7\ngoroutine w8\nvar x\nchan c 2\nmutex m\nonce o\n";
 
 // The last goroutine: its count is the first that doesn't stand in a clock itself.
 const LAST: u32 = 8;
@@ -134,7 +134,7 @@ impl Growing for Row {
 
 // A write counts those of main's events that come before it, and who is started has seen its start and
 // all before it.
-static CALLS: [(Row, u64); 8] = [
+static CALLS: [(Row, u64); 10] = [
     // The list of nine goroutines grows to four, to eight and to sixteen; the clock of the last has a
     // count behind the eight in place; channels, locks and onces are a list each.
     (Row(Call::New, b""), 7),
@@ -149,6 +149,21 @@ static CALLS: [(Row, u64); 8] = [
     // Nothing was unlocked: main's clock alone is copied, and it stands in place.
     (
         Row(Call::Step((0, 0, 0)), b"write main x 7 p\nlock main m p\n"),
+        0,
+    ),
+    // A try costs no more, whatever it comes to.
+    (
+        Row(
+            Call::Step((0, 0, 0)),
+            b"write main x 7 p\ntrylock main m p\n",
+        ),
+        0,
+    ),
+    (
+        Row(
+            Call::Step((0, 0, 0)),
+            b"write main x 7 p\ntryfail main m p\n",
+        ),
         0,
     ),
     // The clocks of the mutex' unlocks, which are made at the first.

@@ -4,4 +4,5 @@ mod feeding;
 mod locks;
 mod reading;
 mod texts;
+mod tries;
 mod writing;

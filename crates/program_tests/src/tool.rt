@@ -11,4 +11,5 @@ mod reading;
 mod rows;
 mod runs;
 mod shown;
+mod tries;
 mod witnesses;

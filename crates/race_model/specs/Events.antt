@@ -86,7 +86,7 @@ abbrev pub closes : ℕ → Op → Bool
 closes c (Close d) = d == c
 closes c _ = false
 
--- a Lock of l, or a TryLock that locked it, which is equivalent to one ("Locks"); an RLock is none, and neither is a failed try
+-- a Lock of l, or a TryLock that succeeded ("Locks": "is equivalent to a call to l.Lock"); an RLock is none, and neither is a failed try
 abbrev pub locks : ℕ → Op → Bool
 locks l (Lock m) = m == l
 locks l (TryLock m) = m == l
@@ -97,7 +97,7 @@ abbrev pub unlocks : ℕ → Op → Bool
 unlocks l (Unlock m) = m == l
 unlocks l _ = false
 
--- an RLock of l, or a TryRLock that locked it for reading, which is equivalent to one
+-- an RLock of l, or a TryRLock that succeeded
 abbrev pub rlocks : ℕ → Op → Bool
 rlocks l (RLock m) = m == l
 rlocks l (TryRLock m) = m == l

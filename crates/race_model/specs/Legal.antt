@@ -67,11 +67,11 @@ op_rules caps past g (Unlock l) = (15, not (is_held l past)) ∷ []
 op_rules caps past g (RLock l) = (13, is_held l past) ∷ []
 -- 16: the lock isn't locked for reading
 op_rules caps past g (RUnlock l) = (16, not (is_read_held l past)) ∷ []
--- 13 and 14: what hinders a Lock hinders a TryLock that succeeds
+-- 13 and 14: a TryLock that succeeded is as a Lock
 op_rules caps past g (TryLock l) = (13, is_held l past) ∷ (14, is_read_held l past) ∷ []
--- 13: so with an RLock and a TryRLock that succeeds
+-- 13: a TryRLock that succeeded is as an RLock
 op_rules caps past g (TryRLock l) = (13, is_held l past) ∷ []
--- a try may fail at any time, even where the lock is free
+-- none: a try may fail "even when the mutex l is unlocked" (The Go Memory Model, "Locks")
 op_rules caps past g (TryFail l) = []
 -- 17: the function of the once has begun before
 op_rules caps past g (OnceBegin o) = (17, is_begun o past) ∷ []

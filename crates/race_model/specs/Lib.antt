@@ -12,3 +12,4 @@ pub mod Laws
 pub mod Examples
 pub mod LockExamples
 pub mod OnceExamples
+pub mod TryExamples

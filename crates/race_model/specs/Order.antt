@@ -46,7 +46,8 @@ IsSource caps past i s (RecvClosed c) = IsTrue (closes c s)
 IsSource caps past i s (Lock l) = IsBeforeLock past i s l
 -- the last Unlock of a lock that stands before an RLock, before that RLock
 IsSource caps past i s (RLock l) = IsLastUnlock past i s l
--- a TryLock that succeeds counts as a Lock, and a TryRLock that succeeds as an RLock; a try that fails has no edge at all
+-- a TryLock that succeeded is as a Lock, and a TryRLock that succeeded as an RLock; a TryFail has no edge. ("An unsuccessful call has no
+-- synchronizing effect at all.")
 IsSource caps past i s (TryLock l) = IsBeforeLock past i s l
 IsSource caps past i s (TryRLock l) = IsLastUnlock past i s l
 -- the end of a once's function before each return that finds it ended

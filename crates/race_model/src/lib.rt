@@ -7,3 +7,4 @@ pub mod examples;
 pub mod laws;
 pub mod lock_examples;
 pub mod once_examples;
+pub mod try_examples;

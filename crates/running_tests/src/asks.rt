@@ -1,7 +1,7 @@
 //! Boxes that ask what a table says, and hubs of them.
 
 use race_hub::{Answer, Ask, Hub, Offer, Offers, Request, Routine};
-use race_records::{Decls, Object};
+use race_records::{DeclFault, Decls, Object};
 use std::alloc::{AllocError, Global};
 use std::test::Fail;
 
@@ -15,6 +15,10 @@ pub(crate) enum Plain {
     Send(u32, u64),
     Recv(Option<u32>),
     Close(Option<u32>),
+    Lock(u32),
+    RLock(u32),
+    TryLock(u32),
+    TryRLock(u32),
     Do(u32),
     EndDo(u32),
     /// The offers in order: the value that one sends, or none where it receives; and whether it has a default.
@@ -42,6 +46,10 @@ pub(crate) fn ask_of(plain: Plain) -> Ask {
         Plain::Send(chan, value) => Ask::Send(Some(chan), value),
         Plain::Recv(chan) => Ask::Recv(chan),
         Plain::Close(chan) => Ask::Close(chan),
+        Plain::Lock(lock) => Ask::Lock(lock),
+        Plain::RLock(lock) => Ask::RLock(lock),
+        Plain::TryLock(lock) => Ask::TryLock(lock),
+        Plain::TryRLock(lock) => Ask::TryRLock(lock),
         Plain::Do(once) => Ask::Do(once),
         Plain::EndDo(once) => Ask::EndDo(once),
         Plain::Select(wanted, has_default) => Ask::Select(offers(wanted), has_default),
@@ -76,12 +84,24 @@ impl Routine for Asks {
     }
 }
 
-/// Goroutine w, an object and a place.
-pub(crate) fn declared(alloc: Global, object: Object) -> Result<Decls, Fail> {
-    let mut decls = Decls::new(alloc);
+fn declare(decls: &mut Decls, object: Object) -> Result<(), DeclFault> {
     decls.declare("w", Object::Goroutine)?;
     decls.declare("x", object)?;
     decls.add_place("p")?;
+    Ok(())
+}
+
+/// Goroutine w, an object and a place.
+pub(crate) fn declared(alloc: Global, object: Object) -> Result<Decls, Fail> {
+    let mut decls = Decls::new(alloc);
+    declare(&mut decls, object)?;
+    Ok(decls)
+}
+
+/// The same of version 2.
+pub(crate) fn declared_of_version2(alloc: Global, object: Object) -> Result<Decls, Fail> {
+    let mut decls = Decls::new_version2(alloc);
+    declare(&mut decls, object)?;
     Ok(decls)
 }
 

@@ -4,3 +4,4 @@ mod boxes;
 mod hubs;
 mod search;
 mod selects;
+mod tries;

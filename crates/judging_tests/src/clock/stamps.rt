@@ -13,9 +13,9 @@ use std::test::Fail;
 type Known = ((u32, u32, u32, bool), [u32; 3]);
 
 static DECLARED: &str =
-    "gotrace 1\ngoroutine a\ngoroutine b\nvar x\nchan c 1\nchan d 0\nmutex m\nrwmutex r\nonce o\n";
+    "gotrace 2\ngoroutine a\ngoroutine b\nvar x\nchan c 1\nchan d 0\nmutex m\nrwmutex r\nonce o\n";
 
-static TABLES: [(&[&str], &[Known]); 7] = [
+static TABLES: [(&[&str], &[Known]); 9] = [
     // A value of a buffered channel brings what its send's begin had seen, and not what the send itself has.
     (
         &[
@@ -94,6 +94,43 @@ static TABLES: [(&[&str], &[Known]); 7] = [
             "read b x 0 p",
             "runlock b r p",
             "lock main r p",
+            "write main x 1 p",
+        ],
+        &[((5, 2, 3, false), [2, 0, 2]), ((8, 0, 4, true), [3, 3, 4])],
+    ),
+    // A try that succeeds has seen the unlock, and one that fails hasn't.
+    (
+        &[
+            "go main a p",
+            "lock main m p",
+            "write main x 1 p",
+            "unlock main m p",
+            "trylock a m p",
+            "write a x 2 p",
+            "unlock a m p",
+            "tryfail main m p",
+            "read main x 2 p",
+            "trylock main m p",
+            "write main x 3 p",
+        ],
+        &[
+            ((2, 0, 3, true), [2, 0, 0]),
+            ((5, 1, 3, true), [4, 2, 0]),
+            ((8, 0, 6, false), [5, 0, 0]),
+            ((10, 0, 8, true), [7, 4, 0]),
+        ],
+    ),
+    // Tries to lock for reading are as RLocks.
+    (
+        &[
+            "go main a p",
+            "go main b p",
+            "tryrlock a r p",
+            "runlock a r p",
+            "tryrlock b r p",
+            "read b x 0 p",
+            "runlock b r p",
+            "trylock main r p",
             "write main x 1 p",
         ],
         &[((5, 2, 3, false), [2, 0, 2]), ((8, 0, 4, true), [3, 3, 4])],

@@ -84,6 +84,45 @@ pub(crate) static RWMUTEX: [Row; 18] = [
     ("fault w runlock:m p", None, Said::Lock(false, false)),
 ];
 
+// Tries of the rwmutex.
+pub(crate) static TRIES: [Row; 19] = [
+    ("go main w p", None, Said::Lock(false, false)),
+    ("trylock main m p", None, Said::Lock(true, false)),
+    ("trylock w m p", Some(Rule::Held), Said::Lock(true, false)),
+    ("tryrlock w m p", Some(Rule::Held), Said::Lock(true, false)),
+    ("tryfail w m p", None, Said::Lock(true, false)),
+    ("unlock main m p", None, Said::Lock(false, false)),
+    ("tryfail main m p", None, Said::Lock(false, false)),
+    ("tryrlock main m p", None, Said::Lock(false, true)),
+    ("tryrlock w m p", None, Said::Lock(false, true)),
+    (
+        "trylock w m p",
+        Some(Rule::ReadHeld),
+        Said::Lock(false, true),
+    ),
+    ("tryfail w m p", None, Said::Lock(false, true)),
+    ("runlock main m p", None, Said::Lock(false, true)),
+    ("runlock main m p", None, Said::Lock(false, false)),
+    (
+        "runlock w m p",
+        Some(Rule::NotReadHeld),
+        Said::Lock(false, false),
+    ),
+    ("exit w p", None, Said::Lock(false, false)),
+    (
+        "tryfail w m p",
+        Some(Rule::NotRunning),
+        Said::Lock(false, false),
+    ),
+    ("trylock main m p", None, Said::Lock(true, false)),
+    ("exit main p", None, Said::Lock(true, false)),
+    (
+        "tryfail main m p",
+        Some(Rule::AfterEnd),
+        Said::Lock(true, false),
+    ),
+];
+
 // Goroutine w runs the function of once o, and in it that of once q.
 pub(crate) static NESTED_ONCES: [Row; 19] = [
     ("go main w p", None, Said::Once(false, false, None)),

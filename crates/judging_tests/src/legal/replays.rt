@@ -35,10 +35,10 @@ enum Subject {
 }
 
 static DECLARED: &str =
-    "gotrace 1\ngoroutine w\nvar x\nchan c 1\nchan d 0\nchan e 2\nmutex l\nrwmutex m\nonce o\nonce q\n";
+    "gotrace 2\ngoroutine w\nvar x\nchan c 1\nchan d 0\nchan e 2\nmutex l\nrwmutex m\nonce o\nonce q\n";
 
 // What is asked behind each row of each table, and the first row that breaks a rule.
-static TABLES: [(Subject, u32, Rule); 10] = [
+static TABLES: [(Subject, u32, Rule); 11] = [
     (Subject::Goroutine, 0, Rule::NotRunning),
     (Subject::Chan(1), 0, Rule::NotRunning),
     (Subject::Chan(0), 1, Rule::BufferEmpty),
@@ -49,6 +49,7 @@ static TABLES: [(Subject, u32, Rule); 10] = [
     (Subject::Lock(1), 1, Rule::NotReadHeld),
     (Subject::Once(0), 1, Rule::OnceNotDone),
     (Subject::Once(1), 3, Rule::OnceNotInner),
+    (Subject::Lock(1), 2, Rule::Held),
 ];
 
 fn rows_of(table: usize) -> &'static [Row] {
@@ -62,7 +63,8 @@ fn rows_of(table: usize) -> &'static [Row] {
         6 => &locks::MUTEX,
         7 => &locks::RWMUTEX,
         8 => &locks::NESTED_ONCES,
-        _ => &locks::ONCES_SIDE_BY_SIDE,
+        9 => &locks::ONCES_SIDE_BY_SIDE,
+        _ => &locks::TRIES,
     }
 }
 

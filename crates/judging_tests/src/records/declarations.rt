@@ -1,4 +1,4 @@
-use race_records::{DeclFault, Decls, Kind, Named, Object, is_name, is_place};
+use race_records::{DeclFault, Decls, Kind, Named, Object, Version, is_name, is_place};
 use std::alloc::Global;
 use std::test::Fail;
 
@@ -67,6 +67,13 @@ pub(crate) fn add(decls: &mut Decls, addition: Addition) -> Result<u32, DeclFaul
 // Declarations to which all this is added.
 pub(crate) fn declared(alloc: Global, additions: &[Addition]) -> Result<Decls, DeclFault> {
     let mut decls = Decls::new(alloc);
+    add_all(&mut decls, additions)?;
+    Ok(decls)
+}
+
+/// The same of version 2.
+pub(crate) fn declared_of_version2(alloc: Global, additions: &[Addition]) -> Result<Decls, Fail> {
+    let mut decls = Decls::new_version2(alloc);
     add_all(&mut decls, additions)?;
     Ok(decls)
 }
@@ -330,5 +337,22 @@ fn equal_by_declarations_alone(rt: HostRuntime) -> Result<(), Fail> {
         let answer = is_equal_with(&decls, &ADDED[..count])?;
         assert_eq!(rt; answer, equal, "{count}");
     }
+    Ok(())
+}
+
+// The versions of declarations and of their copy, and whether they are equal to that and to those of version 1.
+fn versions(one: &Decls, two: &Decls) -> Result<(Version, Version, bool, bool), Fail> {
+    let copy = two.copy()?;
+    let is_equal = are_equal(two, &copy);
+    Ok((two.version(), copy.version(), is_equal, are_equal(two, one)))
+}
+
+#[test]
+fn declarations_have_a_version(rt: HostRuntime) -> Result<(), Fail> {
+    let one = declared(rt.alloc(), &SEVEN)?;
+    let two = declared_of_version2(rt.alloc(), &SEVEN)?;
+    assert_eq!(rt; one.version(), Version::One);
+    let of_two = versions(&one, &two)?;
+    assert_eq!(rt; of_two, (Version::Two, Version::Two, true, false));
     Ok(())
 }

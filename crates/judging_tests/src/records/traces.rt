@@ -1,4 +1,4 @@
-use crate::records::declarations::{Addition, declared};
+use crate::records::declarations::{Addition, declared, declared_of_version2};
 use race_records::{Case, Cases, CasesFull, Cause, DeclFault, Dir, Event, Op, PushFault, Trace};
 use std::alloc::Global;
 use std::mem::size_of;
@@ -150,6 +150,56 @@ fn takes_events_that_fit(rt: HostRuntime) -> Result<(), Fail> {
     let mut trace = started(rt.alloc(), &EACH)?;
     push_all(&rt, &mut trace);
     assert_eq!(rt; last(&trace), Some((13, &Op::OnceDone(0))));
+    Ok(())
+}
+
+// Tries, and why a trace of version 2 refuses them, and one of version 1.
+fn tries() -> [(Op, Option<PushFault>, PushFault); 8] {
+    let refused = PushFault::BadNumber;
+    let wrong = PushFault::WrongKind;
+    [
+        (Op::TryLock(0), None, wrong),
+        (Op::TryLock(1), None, wrong),
+        (Op::TryRLock(1), None, wrong),
+        (Op::TryRLock(0), Some(wrong), wrong),
+        (Op::TryRLock(2), Some(refused), refused),
+        (Op::TryFail(0), None, wrong),
+        (Op::TryFail(1), None, wrong),
+        (Op::TryFail(2), Some(refused), refused),
+    ]
+}
+
+// Whether the declarations say of each of them whether it fits.
+fn are_fitting(trace: &Trace, is_version2: bool) -> bool {
+    for (op, fault, _) in tries() {
+        let fits = trace.decls().fits(&event(0, op, 0, None));
+        if fits != (is_version2 && fault.is_none()) {
+            return false;
+        }
+    }
+    true
+}
+
+// Tests what is answered to each of them.
+fn push_tries(rt: &impl Abort, one: &mut Trace, two: &mut Trace) {
+    for (op, fault, _) in tries() {
+        let answer = push(two, event(0, op, 0, None));
+        assert_eq!(rt; answer, fault);
+    }
+    for (op, _, fault) in tries() {
+        let answer = push(one, event(0, op, 0, None));
+        assert_eq!(rt; answer, Some(fault));
+    }
+}
+
+#[test]
+fn takes_tries_in_version_2_alone(rt: HostRuntime) -> Result<(), Fail> {
+    let mut one = started(rt.alloc(), &EACH)?;
+    let mut two = Trace::new(declared_of_version2(rt.alloc(), &EACH)?);
+    assert!(rt; are_fitting(&one, false) && are_fitting(&two, true));
+    push_tries(&rt, &mut one, &mut two);
+    assert_eq!(rt; last(&one), None);
+    assert_eq!(rt; last(&two), Some((5, &Op::TryFail(1))));
     Ok(())
 }
 

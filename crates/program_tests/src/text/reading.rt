@@ -2,7 +2,7 @@
 ghost use Rattle.std.specs.Prelude.{◌<◌, length};
 
 use crate::text::writing::is_written_as;
-use crate::text::{channels, locks};
+use crate::text::{channels, locks, tries};
 use race_records::{Case, Cases, Cause, Decls, Dir, Op, Trace};
 use race_text::TextCause::{BadNumber, Taken, WrongCount};
 use race_text::{TextCause, parse_trace, read_declaration, read_number, split_words};
@@ -61,7 +61,8 @@ fn text(number: usize) -> (&'static [u8], usize) {
         0 => (PLAIN, 4),
         1 => (SELECTS, 5),
         2 => (channels::TEXT, 7),
-        _ => (locks::TEXT, 12),
+        3 => (locks::TEXT, 12),
+        _ => (tries::TEXT, 6),
     }
 }
 
@@ -70,7 +71,8 @@ fn row(number: usize, at: usize) -> Row {
         0 => plain(at),
         1 => selects(at),
         2 => channels::event(at),
-        _ => locks::event(at),
+        3 => locks::event(at),
+        _ => tries::event(at),
     }
 }
 
@@ -118,7 +120,7 @@ fn first_wrong(alloc: Global, number: usize) -> Result<Option<usize>, Fail> {
 
 #[test]
 fn reads_each_operation(rt: HostRuntime) -> Result<(), Fail> {
-    for number in 0..4usize {
+    for number in 0..5usize {
         assert_eq!(rt; first_wrong(rt.alloc(), number)?, None, "text {number}");
     }
     Ok(())

@@ -1,5 +1,5 @@
 //! Texts that are none of a trace: the first fault of each, and the least cause of each line.
-use crate::text::{channels, locks};
+use crate::text::{channels, locks, tries};
 use race_text::TextCause::{
     BadByte, BadHeader, BadName, BadNumber, LateDeclaration, NoNewline, Taken, TooMany, Unknown,
     UnknownWord, WrongCount, WrongKind,
@@ -74,12 +74,13 @@ fn fault_behind(alloc: Global, before: &[u8], line: &[u8]) -> Result<Option<Text
     Ok(fault_of(alloc, bytes.as_slice()))
 }
 
-static TEXTS: [(&[u8], u64, TextCause); 17] = [
+static TEXTS: [(&[u8], u64, TextCause); 18] = [
     (b"", 1, BadHeader),
     (b"\n", 1, BadHeader),
     (b"gotrace 1", 1, NoNewline),
-    (b"gotrace 2", 1, BadHeader),
-    (b"gotrace 2\n", 1, BadHeader),
+    (b"gotrace 2", 1, NoNewline),
+    (b"gotrace 3", 1, BadHeader),
+    (b"gotrace 3\n", 1, BadHeader),
     (b"gotrace 1\r\n", 1, BadHeader),
     (b"gotrace 1\nvar x\nwrite main x 01 p\n", 3, BadNumber),
     (b"gotrace 1\nvar x\nwrite main  x 1 p\n", 3, WrongCount),
@@ -133,7 +134,9 @@ fn table(number: usize) -> (&'static [u8], u64, &'static [Line]) {
         2 => (channels::BEFORE_SELECTS, 6, &channels::SELECTS),
         3 => (locks::BEFORE, 7, &locks::LINES),
         4 => (locks::BEFORE, 7, &locks::DECLARED),
-        _ => (locks::EVENT_BEFORE, 4, &locks::LATE),
+        5 => (locks::EVENT_BEFORE, 4, &locks::LATE),
+        6 => (tries::BEFORE, 6, &tries::LINES),
+        _ => (tries::BEFORE_VERSION_1, 6, &tries::UNKNOWN),
     }
 }
 
@@ -150,7 +153,7 @@ fn first_wrong(alloc: Global, number: usize) -> Result<Option<usize>, Fail> {
 
 #[test]
 fn tells_the_least_cause_of_a_line(rt: HostRuntime) -> Result<(), Fail> {
-    for number in 0..6usize {
+    for number in 0..8usize {
         assert_eq!(rt; first_wrong(rt.alloc(), number)?, None, "table {number}");
     }
     Ok(())

@@ -12,7 +12,7 @@ use std::alloc::Global;
 use std::test::Fail;
 
 // How many operations there are.
-const KINDS: u32 = 18;
+const KINDS: u32 = 21;
 
 // A trace has no more events than this.
 const MOST_EVENTS: usize = 200;
@@ -63,7 +63,10 @@ fn op(numbers: &mut Numbers, kind: u32) -> Op {
         14 => Op::OnceBegin(0),
         15 => Op::OnceEnd(0),
         16 => Op::OnceDone(0),
-        _ => Op::Fault(cause(numbers)),
+        17 => Op::Fault(cause(numbers)),
+        18 => Op::TryLock(numbers.below(2)),
+        19 => Op::TryRLock(1),
+        _ => Op::TryFail(numbers.below(2)),
     }
 }
 
@@ -82,7 +85,7 @@ static OBJECTS: [(&str, Object); 11] = [
 ];
 
 fn declared(alloc: Global) -> Result<Decls, Fail> {
-    let mut decls = Decls::new(alloc);
+    let mut decls = Decls::new_version2(alloc);
     for &(name, object) in &OBJECTS {
         decls.declare(name, object)?;
     }

@@ -7,10 +7,10 @@ use std::test::Fail;
 
 // What a program declares, and the steps with which main begins.
 const FRONT: &str =
-    "goprogram 1\ngoroutine a\ngoroutine b\nvar x\nvar y\nchan c 0\nchan d 2\nmutex m\nrwmutex l\nonce o\nbody main\ngo a p:1\ngo b p:2\n";
+    "goprogram 2\ngoroutine a\ngoroutine b\nvar x\nvar y\nchan c 0\nchan d 2\nmutex m\nrwmutex l\nonce o\nbody main\ngo a p:1\ngo b p:2\n";
 
 // What the bodies are made of.
-static STEPS: [&str; 18] = [
+static STEPS: [&str; 20] = [
     "read x p:3\n",
     "read y p:4\n",
     "write x 1 p:5\n",
@@ -29,10 +29,12 @@ static STEPS: [&str; 18] = [
     "select recv:c,send:d:7 default p:28\n",
     "select recv:c,recv:d block p:29\n",
     "select - default p:30\n",
+    "trylock m p:32\nread x p:33\n",
+    "tryrlock l p:34\nread y p:35\n",
 ];
 
 // The words of events.
-static WORDS: [&str; 18] = [
+static WORDS: [&str; 21] = [
     "go ",
     "exit ",
     "read ",
@@ -51,12 +53,15 @@ static WORDS: [&str; 18] = [
     "onceend ",
     "oncedone ",
     "fault ",
+    "trylock ",
+    "tryrlock ",
+    "tryfail ",
 ];
 
 // Puts so many steps and an exit behind the text.
 fn add_body(text: &mut Vec<u8>, numbers: &mut Numbers, steps: u32) -> Result<(), AllocError> {
     for _ in 0..steps {
-        let step = STEPS[numbers.below(18) as usize];
+        let step = STEPS[numbers.below(20) as usize];
         text.extend_from_slice(step.as_bytes())?;
     }
     text.extend_from_slice(b"exit p:31\n")
@@ -110,7 +115,7 @@ fn has_a_verdict(answer: u8) -> bool {
 fn words(trace: &[u8]) -> u32 {
     let mut found = 0u32;
     for line in trace.split(|byte| *byte == b'\n') {
-        for word in 0..18u32 {
+        for word in 0..21u32 {
             if line.starts_with(WORDS[word as usize].as_bytes()) {
                 found |= 1u32.wrapping_shl(word);
             }
@@ -152,7 +157,7 @@ fn rounds(rt: &impl Runtime) -> Result<(Option<u32>, u32, u32, u32), AllocError>
 fn both_judges_agree_on_the_runs_of_programs(rt: HostRuntime) -> Result<(), Fail> {
     let (wrong, racy, other, found) = rounds(&rt)?;
     assert!(rt;
-        wrong.is_none() && racy >= 100 && other >= 100 && found == (1 << 18) - 1,
+        wrong.is_none() && racy >= 100 && other >= 100 && found == (1 << 21) - 1,
         "program {wrong:?}: {racy} with a race, {other} without, words {found}"
     );
     Ok(())

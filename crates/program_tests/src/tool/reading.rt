@@ -12,7 +12,7 @@ static FAILING: [Row<'static>; 4] = [
     (b"gotrace 1\nvar x\n", status::DEVICE, b"", 2, 1),
     (b"gotrace 1\njump", status::DEVICE, b"", 2, 1),
     (
-        b"gotrace 2\n",
+        b"gotrace 3\n",
         status::TEXT_FAULT,
         b"line 1: bad header\n",
         1,

@@ -2,7 +2,7 @@
 use crate::tool::engines::{
     Engine, Runtime, Told, answer, ended, is_cut_off, judge, tells, text_of,
 };
-use crate::tool::{channels, locks};
+use crate::tool::{channels, locks, tries};
 use race_records::{Sink, Source};
 use race_tool::{CheckOptions, status};
 use std::alloc::Global;
@@ -160,13 +160,15 @@ fn table(number: usize) -> (&'static str, &'static [Row]) {
         3 => (channels::DECLARED, &channels::ENDS),
         4 => ("", &locks::JUDGED),
         5 => (locks::DECLARED, &locks::EVENTS),
-        _ => (locks::TWO_ONCES, &locks::NESTED),
+        6 => (locks::TWO_ONCES, &locks::NESTED),
+        7 => ("", &tries::JUDGED),
+        _ => (tries::DECLARED, &tries::EVENTS),
     }
 }
 
 #[test]
 fn each_trace_is_judged(rt: HostRuntime) -> Result<(), Fail> {
-    for number in 0..7usize {
+    for number in 0..9usize {
         let (first, rows) = table(number);
         let wrong = first_misjudged(&rt, first, rows)?;
         assert!(rt; wrong.is_none(), "row {wrong:?} of table {number}");
@@ -252,13 +254,14 @@ fn listed(number: usize) -> &'static [(&'static str, &'static str)] {
     match number {
         0 => &GOES,
         1 => &channels::EDGES,
-        _ => &locks::EDGES,
+        2 => &locks::EDGES,
+        _ => &tries::EDGES,
     }
 }
 
 #[test]
 fn the_edges_are_listed(rt: HostRuntime) -> Result<(), Fail> {
-    for number in 0..3usize {
+    for number in 0..4usize {
         let wrong = first_mislisted(&rt, listed(number))?;
         assert!(rt; wrong.is_none(), "row {wrong:?} of table {number}");
     }

@@ -57,7 +57,10 @@ const STAYS_TRACE: &str =
 const TWO_SELECTS: &str =
     "goprogram 1 / goroutine w / chan c 0 / body main / go w m:1 / select send:c:5,recv:c block m:2 / exit m:3 / body w / select recv:c,send:c:6 block w:1 / exit w:2";
 
-static ROWS: [Row<'static>; 16] = [
+// Main tries a free lock twice.
+const TRIES: &str = "goprogram 2 / mutex l / body main / trylock l m:1 / trylock l m:2 / exit m:3";
+
+static ROWS: [Row<'static>; 23] = [
     // A program runs to its end.
     (HANDOFF, MOST, Some(&[0]), HANDOFF_TRACE, status::CLEAN),
     (
@@ -140,6 +143,59 @@ static ROWS: [Row<'static>; 16] = [
         Some(&[0]),
         "gotrace 1",
         status::DEADLOCK,
+    ),
+    // A try that could succeed has two choices, and another one.
+    (
+        TRIES,
+        MOST,
+        Some(&[0]),
+        "gotrace 2 / mutex l / trylock main l m:1 / tryfail main l m:2 / exit main m:3",
+        status::CLEAN,
+    ),
+    (
+        TRIES,
+        MOST,
+        Some(&[1, 0]),
+        "gotrace 2 / mutex l / tryfail main l m:1 / trylock main l m:2 / exit main m:3",
+        status::CLEAN,
+    ),
+    // Another reader is no hindrance to a reader, and one is to a writer.
+    (
+        "goprogram 2 / rwmutex l / body main / rlock l m:1 / tryrlock l m:2 / trylock l m:3 / runlock l m:4 / runlock l m:5 / trylock l m:6 / tryrlock l m:7 / exit m:8",
+        MOST,
+        Some(&[0]),
+        "gotrace 2 / rwmutex l / rlock main l m:1 / tryrlock main l m:2 / tryfail main l m:3 / runlock main l m:4 / runlock main l m:5 / trylock main l m:6 / tryfail main l m:7 / exit main m:8",
+        status::CLEAN,
+    ),
+    // A run's version is its program's.
+    (
+        "goprogram 2 / body main / exit m:1",
+        MOST,
+        None,
+        "gotrace 2 / exit main m:1",
+        status::CLEAN,
+    ),
+    // Version 1 has no tries, and a mutex can't be locked for reading.
+    (
+        "goprogram 1 / mutex l / body main / trylock l m:1 / exit m:2",
+        MOST,
+        None,
+        "line 4: unknown word",
+        status::TEXT_FAULT,
+    ),
+    (
+        "goprogram 1 / rwmutex l / body main / tryrlock l m:1 / exit m:2",
+        MOST,
+        None,
+        "line 4: unknown word",
+        status::TEXT_FAULT,
+    ),
+    (
+        "goprogram 2 / mutex l / body main / tryrlock l m:1 / exit m:2",
+        MOST,
+        None,
+        "line 4: wrong kind",
+        status::TEXT_FAULT,
     ),
     // A text that is no program isn't run.
     (
@@ -228,7 +284,7 @@ fn an_option_out_of_its_limits_leaves_the_input_unread(rt: HostRuntime) -> Resul
 // Texts whose reader fails behind them, and the status and the number of reads.
 static FAILING: [(&[u8], u8, u64); 2] = [
     (b"goprogram 1\nbody main\n", status::DEVICE, 2),
-    (b"goprogram 2\n", status::TEXT_FAULT, 1),
+    (b"goprogram 3\n", status::TEXT_FAULT, 1),
 ];
 
 fn ends_so(rt: &impl Runtime, bytes: &[u8], status: u8, reads: u64) -> bool {

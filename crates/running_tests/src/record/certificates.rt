@@ -29,7 +29,11 @@ const DEFAULT: &[u8] = b"goprogram 1\nchan c 0\nbody main\nselect send:c:5 defau
 const SELECTS: &[u8] =
     b"goprogram 1\ngoroutine w\nchan c 0\nbody main\ngo w m:1\nselect recv:c block m:2\nexit m:3\nbody w\nsend c 5 w:1\nexit w:2\n";
 
-static ROWS: [Row; 19] = [
+// An rwmutex that is held is tried.
+const TRIED: &[u8] =
+    b"goprogram 2\nrwmutex l\nbody main\nlock l m:1\ntrylock l m:2\nunlock l m:3\ntrylock l m:4\nexit m:5\n";
+
+static ROWS: [Row; 23] = [
     (HANDOFF, 99, HANDOFF, None),
     // Another value, another place, another variable's name.
     (
@@ -69,6 +73,27 @@ static ROWS: [Row; 19] = [
         2,
         b"goprogram 1\ngoroutine w\nchan c 0\nvar x\nbody main\ngo w m:1\nrecv c m:2\nread x m:9\nexit m:4\nbody w\nwrite x 8 w:1\nexit w:2\n",
         None,
+    ),
+    (TRIED, 99, TRIED, None),
+    // A failed try may be one of either kind, and a try that locked isn't.
+    (
+        TRIED,
+        99,
+        b"goprogram 2\nrwmutex l\nbody main\nlock l m:1\ntryrlock l m:2\nunlock l m:3\ntrylock l m:4\nexit m:5\n",
+        None,
+    ),
+    (
+        TRIED,
+        99,
+        b"goprogram 2\nrwmutex l\nbody main\nlock l m:1\ntrylock l m:2\nunlock l m:3\ntryrlock l m:4\nexit m:5\n",
+        Some((0, 3)),
+    ),
+    // The same steps under another version.
+    (
+        b"goprogram 2\nbody main\nexit m:1\n",
+        99,
+        b"goprogram 1\nbody main\nexit m:1\n",
+        Some((0, 0)),
     ),
     (WAITS, 99, WAITS, None),
     (

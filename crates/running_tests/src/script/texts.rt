@@ -12,10 +12,13 @@ use std::alloc::Global;
 type Row = (&'static [u8], Option<(u64, TextCause)>);
 
 // A row for each cause, and the disorders of bodies.
-static ROWS: [Row; 41] = [
+static ROWS: [Row; 50] = [
     (b"", Some((1, BadHeader))),
     (b"gotrace 1\n", Some((1, BadHeader))),
-    (b"goprogram 2\n", Some((1, BadHeader))),
+    (b"goprogram 2\n", Some((2, BadBlock))),
+    (b"goprogram 2", Some((1, NoNewline))),
+    (b"goprogram 3\n", Some((1, BadHeader))),
+    (b"gotrace 2\n", Some((1, BadHeader))),
     (b"goprogram 1", Some((1, NoNewline))),
     (b"goprogram 1\n", Some((2, BadBlock))),
     (b"goprogram 1\nbody main\nexit p", Some((3, NoNewline))),
@@ -114,6 +117,32 @@ static ROWS: [Row; 41] = [
     (
         b"goprogram 1\nchan c 1\nbody main\nclose nil p\nclose c p\nsend nil 3 p\nexit p\n",
         None,
+    ),
+    // Tries are words of version 2 alone.
+    (
+        b"goprogram 2\nmutex m\nrwmutex l\nbody main\ntrylock m p\ntrylock l p\ntryrlock l p\nexit p\n",
+        None,
+    ),
+    (
+        b"goprogram 1\nmutex m\nbody main\ntrylock m p\nexit p\n",
+        Some((4, UnknownWord)),
+    ),
+    (
+        b"goprogram 1\nrwmutex l\nbody main\ntryrlock l p\nexit p\n",
+        Some((4, UnknownWord)),
+    ),
+    (
+        b"goprogram 2\nmutex m\nbody main\ntryrlock m p\n",
+        Some((4, WrongKind)),
+    ),
+    // A failure is no word of a program.
+    (
+        b"goprogram 2\nmutex m\nbody main\ntryfail m p\n",
+        Some((4, UnknownWord)),
+    ),
+    (
+        b"goprogram 2\nmutex m\nbody main\ntrylock m 1 p\n",
+        Some((4, WrongCount)),
     ),
     (b"goprogram 1\nbody main \n", Some((2, WrongCount))),
     (b"goprogram 1\n\n", Some((2, UnknownWord))),

@@ -1,0 +1,126 @@
+//! What tries to lock make, and which of them a hub refuses.
+
+use crate::asks::{Asks, Plain, box_of, boxes_of, declared, declared_of_version2};
+use crate::turns::{ask, go_on};
+use race_hub::{Answer, End, Hub};
+use race_records::{Object, Op};
+use std::alloc::{AllocError, Global};
+use std::test::Fail;
+
+/// What a try came to.
+#[derive(Clone, Copy, PartialEq, Eq)]
+enum Made {
+    Locked,
+    ReadLocked,
+    Failed,
+}
+
+/// What main asks, of which the last is a try of the rwmutex; the pick by which that happens, what it made, and what main is told.
+type Row = (&'static [Plain], u64, Made, Answer);
+
+static FREE: [Plain; 1] = [Plain::TryLock(0)];
+
+static FREE_TO_READ: [Plain; 1] = [Plain::TryRLock(0)];
+
+static HELD: [Plain; 2] = [Plain::Lock(0), Plain::TryLock(0)];
+
+static HELD_TO_READ: [Plain; 2] = [Plain::Lock(0), Plain::TryRLock(0)];
+
+static READ_HELD: [Plain; 2] = [Plain::RLock(0), Plain::TryLock(0)];
+
+static BESIDE_A_READER: [Plain; 2] = [Plain::RLock(0), Plain::TryRLock(0)];
+
+static TRIED: [Plain; 2] = [Plain::TryLock(0), Plain::TryLock(0)];
+
+// A try that could succeed has two choices, so that pick 2 is pick 0 again; another one has one.
+static ROWS: [Row; 16] = [
+    (&FREE, 0, Made::Locked, Answer::Tried(true)),
+    (&FREE, 1, Made::Failed, Answer::Tried(false)),
+    (&FREE, 2, Made::Locked, Answer::Tried(true)),
+    (&FREE_TO_READ, 0, Made::ReadLocked, Answer::Tried(true)),
+    (&FREE_TO_READ, 1, Made::Failed, Answer::Tried(false)),
+    (&FREE_TO_READ, 2, Made::ReadLocked, Answer::Tried(true)),
+    (&HELD, 0, Made::Failed, Answer::Tried(false)),
+    (&HELD, 1, Made::Failed, Answer::Tried(false)),
+    (&HELD_TO_READ, 0, Made::Failed, Answer::Tried(false)),
+    (&HELD_TO_READ, 1, Made::Failed, Answer::Tried(false)),
+    (&READ_HELD, 0, Made::Failed, Answer::Tried(false)),
+    (&READ_HELD, 1, Made::Failed, Answer::Tried(false)),
+    (&BESIDE_A_READER, 0, Made::ReadLocked, Answer::Tried(true)),
+    (&BESIDE_A_READER, 1, Made::Failed, Answer::Tried(false)),
+    (&TRIED, 0, Made::Failed, Answer::Tried(false)),
+    (&TRIED, 1, Made::Failed, Answer::Tried(false)),
+];
+
+// A hub of version 2 with a mutex, or an rwmutex, in which main asks these.
+fn hub_of(alloc: Global, rw: bool, main: &'static [Plain]) -> Result<Hub<Asks>, Fail> {
+    let boxes = boxes_of(alloc, box_of(main), box_of(&[]))?;
+    let decls = declared_of_version2(alloc, Object::Lock(rw))?;
+    Ok(Hub::new(alloc, decls, 8, boxes)?)
+}
+
+fn last_made(hub: &Hub<Asks>) -> Option<Made> {
+    let len = hub.trace().len();
+    if len == 0 {
+        return None;
+    }
+    match hub.trace().event(len - 1).op {
+        Op::TryLock(0) => Some(Made::Locked),
+        Op::TryRLock(0) => Some(Made::ReadLocked),
+        Op::TryFail(0) => Some(Made::Failed),
+        _ => None,
+    }
+}
+
+// So many asks go on by their first choices, and the next one by the pick.
+fn play(hub: &mut Hub<Asks>, before: usize, pick: u64) -> Result<bool, AllocError> {
+    for _ in 0..before {
+        if !go_on(hub)? {
+            return Ok(false);
+        }
+    }
+    Ok(ask(hub)? && hub.fire(pick)?)
+}
+
+fn comes(alloc: Global, row: &Row) -> Result<bool, Fail> {
+    let &(main, pick, made, answer) = row;
+    let mut hub = hub_of(alloc, true, main)?;
+    let is_played = play(&mut hub, main.len().saturating_sub(1), pick)?;
+    let is_made = last_made(&hub) == Some(made);
+    let told = hub.take().map(|job| job.answer());
+    Ok(is_played && is_made && told == Some(answer))
+}
+
+#[test]
+fn a_try_that_could_succeed_has_two_choices(rt: HostRuntime) -> Result<(), Fail> {
+    for (at, row) in ROWS.iter().enumerate() {
+        assert!(rt; comes(rt.alloc(), row)?, "row {at}");
+    }
+    Ok(())
+}
+
+// How a hub of version 1 with an rwmutex ends where main asks this.
+fn end_in_version1(alloc: Global, main: &'static [Plain]) -> Result<Option<End>, Fail> {
+    let boxes = boxes_of(alloc, box_of(main), box_of(&[]))?;
+    let mut hub = Hub::new(alloc, declared(alloc, Object::Lock(true))?, 8, boxes)?;
+    let _asked = ask(&mut hub)?;
+    Ok(hub.end())
+}
+
+fn end_of(alloc: Global, rw: bool, main: &'static [Plain]) -> Result<Option<End>, Fail> {
+    let mut hub = hub_of(alloc, rw, main)?;
+    let _asked = ask(&mut hub)?;
+    Ok(hub.end())
+}
+
+#[test]
+fn a_try_wants_version_2_and_its_kind_of_lock(rt: HostRuntime) -> Result<(), Fail> {
+    let bad = Some(End::Bad(0));
+    for &tried in &[&FREE, &FREE_TO_READ] {
+        assert_eq!(rt; end_in_version1(rt.alloc(), tried)?, bad);
+        assert_eq!(rt; end_of(rt.alloc(), true, tried)?, None);
+    }
+    assert_eq!(rt; end_of(rt.alloc(), false, &FREE)?, None);
+    assert_eq!(rt; end_of(rt.alloc(), false, &FREE_TO_READ)?, bad);
+    Ok(())
+}

@@ -1,6 +1,7 @@
 -- What is kept of a variable's accesses.
-use Rattle.std.specs.Prelude.{ℕ, ◌≡◌, ◌<◌, ◌≤◌, ◌⊎◌, max, nat_le, Bool, true, false, List, [], ◌∷◌, length, Option, Some, None}
+use Rattle.std.specs.Prelude.{ℕ, ◌≡◌, ◌<◌, ◌≤◌, ◌⊎◌, max, nat_le, Bool, true, false, List, [], ◌∷◌, length, Option, Some, None, AllPairs}
 use Rattle.std.specs.List.{Contains}
+use Rattle.std.specs.List.Sorted.{IsPartitionPoint}
 use Rattle.race_access.specs.declared.access.Access.{Access}
 use Rattle.race_clock.specs.ClockState.{knows}
 use Rattle.race_clock.specs.declared.stamp.Stamp.{Stamp}
@@ -45,6 +46,14 @@ candidates_by false kept = kept.write ∷ []
 -- the kept accesses with which an access can race: a Read with the Write alone
 abbrev pub candidates : Stamp → Kept → List Access
 candidates stamp kept = candidates_by stamp.write kept
+
+-- they stand in rising order of their goroutines, so that there is one at most of each
+abbrev pub AreRising : List Access → Type 0
+AreRising reads = AllPairs (λ d e. d.who < e.who) reads
+
+-- before the place stand those of lower goroutines alone, and none of them from there on
+abbrev pub IsPlaceOf : List Access → ℕ → ℕ → Type 0
+IsPlaceOf reads who place = (place ≤ length reads) × IsPartitionPoint (λ e. e.who < who) (λ e. who ≤ e.who) reads place
 
 -- what may be kept behind an access: itself, nothing that wasn't kept before, and all that it doesn't know
 pub record KeepsRead (old new : List Access) (access : Access) (clock : List ℕ) : Type 0 where

@@ -1,5 +1,5 @@
 //! What is kept of a variable's accesses.
-ghost use Rattle.std.specs.Prelude.{◌≡◌, ◌≤◌, ◌∷◌, [], false, length, vec_capacity, OnOk, OnErr, IsTrue};
+ghost use Rattle.std.specs.Prelude.{◌≡◌, ◌≤◌, ◌∷◌, [], false, not, filter, length, vec_capacity, IfOk, OnOk, OnErr, IsTrue};
 ghost use Rattle.std.specs.Option.{is_some};
 ghost use Rattle.race_access.specs.Kept as spec;
 ghost use Rattle.race_access.specs.KeptOf.{kept_of};
@@ -126,8 +126,10 @@ impl<A: Allocator + Copy> Accesses<A> {
         clock: &Clock<B>,
     ) -> Result<(), AllocError>
         requires unraced { is_some (kept_of self.old).pair ≡ false }
+        requires rising { spec.AreRising (kept_of self.old).reads }
         ensures ok { OnOk result
             (spec.IsKeptOn (kept_of self.old) (kept_of self.new) stamp.now clock.now) }
+        ensures rising { spec.AreRising (kept_of self.new).reads }
         ensures unchanged { OnErr result (kept_of self.new ≡ kept_of self.old) }
         ensures write { IsTrue stamp.now.write → result ≡ Ok tt }
     {
@@ -144,9 +146,7 @@ impl<A: Allocator + Copy> Accesses<A> {
                     return Ok(());
                 }
                 let write = *write;
-                let mut reads = Vec::with_capacity(alloc, 4)?;
-                reads.push(*read)?;
-                reads.push(access)?;
+                let reads = beside(alloc, *read, access, clock)?;
                 *self = Accesses::Many { write, reads };
                 Ok(())
             }
@@ -163,19 +163,19 @@ impl<A: Allocator + Copy> Accesses<A> {
     }
 }
 
-// Where the goroutine's Read is, or is to be: Reads stand in rising order of their goroutines.
+// Where the goroutine's Read is, or is to be.
 fn place_of(reads: &[Access], who: u32) -> usize
-    ensures { result ≤ length reads.now }
+    requires { spec.AreRising reads.now }
+    ensures { spec.IsPlaceOf reads.now who result }
 {
-    match reads.binary_search_by_key(&who, |read| read.who) {
-        Ok(place) => place,
-        Err(place) => place,
-    }
+    reads.partition_point(|read| read.who < who)
 }
 
 // Drops what the clock knows before memory is taken. Where one is dropped there is room.
 fn drop_known<A: Allocator, B: Allocator>(reads: &mut Vec<Access, A>, clock: &Clock<B>)
     ensures kept { spec.DropsKnown reads.old.items reads.new.items clock.now }
+    ensures full { vec_capacity reads.old ≤ length reads.old.items → reads.new.items ≡ filter (λ e. not (spec.is_known clock.now e)) reads.old.items }
+    ensures rising { spec.AreRising reads.old.items → spec.AreRising reads.new.items }
     ensures capacity { vec_capacity reads.new ≡ vec_capacity reads.old }
 {
     if reads.len() == reads.capacity() {
@@ -189,7 +189,9 @@ fn keep_read<A: Allocator, B: Allocator>(
     access: Access,
     clock: &Clock<B>,
 ) -> Result<(), AllocError>
+    requires { spec.AreRising reads.old.items }
     ensures ok { OnOk result (spec.KeepsRead reads.old.items reads.new.items access clock.now) }
+    ensures rising { spec.AreRising reads.new.items }
     ensures unchanged { OnErr result (reads.new.items ≡ reads.old.items) }
 {
     let place = place_of(reads, access.who);
@@ -201,4 +203,20 @@ fn keep_read<A: Allocator, B: Allocator>(
     let place = place_of(reads, access.who);
     reads.insert(place, access)?;
     Ok(())
+}
+
+// A Read beside the only other one.
+fn beside<A: Allocator, B: Allocator>(
+    alloc: A,
+    read: Access,
+    access: Access,
+    clock: &Clock<B>,
+) -> Result<Vec<Access, A>, AllocError>
+    ensures ok { IfOk result (λ reads. spec.KeepsRead (read ∷ []) reads.items access clock.now) }
+    ensures rising { IfOk result (λ reads. spec.AreRising reads.items) }
+{
+    let mut reads = Vec::with_capacity(alloc, 4)?;
+    reads.push(read)?;
+    keep_read(&mut reads, access, clock)?;
+    Ok(reads)
 }

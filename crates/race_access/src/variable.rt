@@ -8,6 +8,7 @@ ghost use Rattle.std.specs.Prelude.{◌≡◌, List, [], true, OnOk, OnErr, IsTr
 ghost use Rattle.std.specs.Option.{is_some};
 ghost use Rattle.race_access.specs.Touches.{Touch, IsReported};
 ghost use Rattle.race_access.specs.TouchHolds.{StandsFor, GoesOn};
+ghost use Rattle.race_access.specs.Kept.{AreRising};
 
 use crate::access::Access;
 use crate::accesses::Accesses;
@@ -33,6 +34,10 @@ impl<A: Allocator> Model for VarState<A> {
     ghost use Rattle.race_access.specs.KeptOf.{kept_of};
 
     ghost view = { λ v. kept_of v.accesses };
+
+    ghost use Rattle.race_access.specs.Kept.{AreRising};
+
+    ghost invariant = { λ v. AreRising (kept_of v.accesses).reads };
 }
 
 impl<A: Allocator + Copy> VarState<A> {
@@ -55,6 +60,9 @@ impl<A: Allocator + Copy> VarState<A> {
         ensures goes_on { OnOk result (GoesOn self.old self.new
             (record { stamp = stamp.now; clock = clock.now })) }
         ensures unchanged { OnErr result (self.new ≡ self.old) }
+
+        // What is kept: one Read at most of each goroutine.
+        ensures rising { AreRising self.new.reads }
 
         // What takes no memory.
         ensures raced { is_some self.old.pair ≡ true → (result ≡ Ok tt) × (self.new ≡ self.old) }

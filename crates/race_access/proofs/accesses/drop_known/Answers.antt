@@ -1,7 +1,9 @@
-use Rattle.std.proofs.Common.{◌≡◌, not, rules}
+use Rattle.std.proofs.Common.{◌≡◌, ◌<◌, not, rules, sym, subst}
 use Rattle.std.specs.List.{filter}
 use Rattle.std.proofs.lemmas.Fn.{filter_same}
-use Rattle.race_access.specs.Kept.{is_known}
+use Rattle.std.proofs.lemmas.List.Kept.{AllPairs-filter}
+use Rattle.race_access.specs.declared.access.Access.{Access}
+use Rattle.race_access.specs.Kept.{is_known, AreRising}
 use Rattle.race_access.proofs.KeepSteps.{drops_by_filter, known_or_kept}
 use Rattle.race_access.proofs.accesses.drop_known.Goals as goal
 
@@ -10,3 +12,13 @@ returns-then-len-capacity-clause-kept g c =
     let left : c.retain.new.self.items ≡ filter (λ e. not (is_known c.args.clock.now e)) c.args.reads.now.items =
     filter_same _ (λ e. not (is_known c.args.clock.now e)) _ (λ x b f k. search rules) _ _ c.retain.ensures.filtered in
     rw left (drops_by_filter (λ e. not (is_known c.args.clock.now e)) c.args.reads.now.items c.args.clock.now (known_or_kept c.args.clock.now))
+
+pub returns-then-len-capacity-clause-full : goal.returns-then-len-capacity-clause-full
+returns-then-len-capacity-clause-full g c = λ _.
+    filter_same _ (λ e. not (is_known c.args.clock.now e)) _ (λ x b f k. search rules) _ _ c.retain.ensures.filtered
+
+pub returns-then-len-capacity-clause-rising : goal.returns-then-len-capacity-clause-rising
+returns-then-len-capacity-clause-rising g c = λ rising.
+    let left : c.retain.new.self.items ≡ filter (λ e. not (is_known c.args.clock.now e)) c.args.reads.now.items =
+    filter_same _ (λ e. not (is_known c.args.clock.now e)) _ (λ x b f k. search rules) _ _ c.retain.ensures.filtered in
+    subst AreRising (sym left) (AllPairs-filter (λ (d e : Access). d.who < e.who) (λ e. not (is_known c.args.clock.now e)) c.args.reads.now.items rising)

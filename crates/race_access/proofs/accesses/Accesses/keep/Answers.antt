@@ -12,36 +12,6 @@ in_err : {T E : Type 0} (r : Result T E) (P : Type 0) → P → OnErr r P
 in_err (Ok _) P p = tt
 in_err (Err _) P p = p
 
-pub returns-in_err-reads-in-Few-clause-ok : goal.returns-in_err-reads-in-Few-clause-ok
-returns-in_err-reads-in-Few-clause-ok g c = IfOk-from_err _ _ c.from_residual.ensures.0
-
-pub returns-in_err-reads-in-Few-clause-unchanged : goal.returns-in_err-reads-in-Few-clause-unchanged
-returns-in_err-reads-in-Few-clause-unchanged g c = in_err _ _ (ap (λ kept. kept_of kept) (sym c.in-Few.is))
-
-pub returns-in_err-reads-in-Few-clause-write : goal.returns-in_err-reads-in-Few-clause-write
-returns-in_err-reads-in-Few-clause-write g c = λ write. absurd (true≢false (sym write ∙ c.if-stamp.false))
-
-pub returns-in_err-push-in-Few-clause-ok : goal.returns-in_err-push-in-Few-clause-ok
-returns-in_err-push-in-Few-clause-ok g c = IfOk-from_err _ _ c.from_residual-in_err-push-in-Few.ensures.0
-
-pub returns-in_err-push-in-Few-clause-unchanged : goal.returns-in_err-push-in-Few-clause-unchanged
-returns-in_err-push-in-Few-clause-unchanged g c = in_err _ _ (ap (λ kept. kept_of kept) (sym c.in-Few.is))
-
-pub returns-in_err-push-in-Few-clause-write : goal.returns-in_err-push-in-Few-clause-write
-returns-in_err-push-in-Few-clause-write g c = λ write. absurd (true≢false (sym write ∙ c.if-stamp.false))
-
-pub returns-in_err-push-in-Few-2-clause-ok : goal.returns-in_err-push-in-Few-2-clause-ok
-returns-in_err-push-in-Few-2-clause-ok g c = IfOk-from_err _ _ c.from_residual-in_err-push-in-Few-2.ensures.0
-
-pub returns-in_err-push-in-Few-2-clause-unchanged : goal.returns-in_err-push-in-Few-2-clause-unchanged
-returns-in_err-push-in-Few-2-clause-unchanged g c = in_err _ _ (ap (λ kept. kept_of kept) (sym c.in-Few.is))
-
-pub returns-in_err-push-in-Few-2-clause-write : goal.returns-in_err-push-in-Few-2-clause-write
-returns-in_err-push-in-Few-2-clause-write g c = λ write. absurd (true≢false (sym write ∙ c.if-stamp.false))
-
-pub returns-in_ok-push-in-Few-2-clause-write : goal.returns-in_ok-push-in-Few-2-clause-write
-returns-in_ok-push-in-Few-2-clause-write g c = λ _. refl
-
 pub returns-else-stamp-2-clause-ok : goal.returns-else-stamp-2-clause-ok
 returns-else-stamp-2-clause-ok c = grind (arith, common_steps) steps 300000
 
@@ -56,11 +26,3 @@ returns-in-Raced-clause-ok c = grind (arith, common_steps) steps 300000
 
 pub returns-in-Raced-clause-unchanged : goal.returns-in-Raced-clause-unchanged
 returns-in-Raced-clause-unchanged g c = tt
-
-pub returns-in_ok-push-in-Few-2-clause-ok : goal.returns-in_ok-push-in-Few-2-clause-ok
-returns-in_ok-push-in-Few-2-clause-ok g c =
-    let one = c.in_ok-push-in-Few.ensures.items ∙ ap (λ (reads : List Access). reads ++ c.in-Few.read ∷ []) c.in_ok-reads-in-Few.ensures.items in
-    let both : c.push-in-Few.new.self.items ≡ c.in-Few.read ∷ access_of c.args.stamp.now ∷ [] =
-    c.in_ok-push-in-Few-2.ensures.items ∙ ap (λ (reads : List Access). reads ++ c.of-access.result ∷ []) one
-    ∙ ap (λ (access : Access). c.in-Few.read ∷ access ∷ []) c.of-access.ensures in
-    (refl, rw c.if-stamp.false (rw c.in-Few.is (rw both (refl, keeps_both c.args.clock.now c.in-Few.read (access_of c.args.stamp.now)))))

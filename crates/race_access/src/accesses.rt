@@ -91,6 +91,7 @@ impl<A: Allocator> Accesses<A> {
     }
 
     /// The greatest index of an access that races with the next one.
+    #[inline(always)]
     pub(crate) fn partner<B: Allocator>(&self, stamp: &Stamp, clock: &Clock<B>) -> Option<u32>
         ensures { spec.IsGreatestUnknown clock.now (spec.candidates stamp.now (kept_of self.now))
             result }
@@ -117,6 +118,7 @@ impl<A: Allocator> Accesses<A> {
 
 impl<A: Allocator + Copy> Accesses<A> {
     /// Keeps an access that races with none.
+    #[inline(always)]
     pub(crate) fn keep<B: Allocator>(
         &mut self,
         alloc: A,

@@ -50,6 +50,7 @@ impl<A: Allocator + Copy> VarState<A> {
     }
 
     /// Takes the next access of the variable, with the clock of its goroutine behind it.
+    #[inline(always)]
     pub fn touch<B: Allocator>(&mut self, stamp: &Stamp, clock: &Clock<B>) -> Result<(), AllocError>
         ensures goes_on { OnOk result (GoesOn self.old self.new
             (record { stamp = stamp.now; clock = clock.now })) }

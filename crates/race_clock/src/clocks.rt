@@ -142,6 +142,7 @@ impl<A: Allocator + Copy> Clocks<A> {
     }
 
     // What an operation changes.
+    #[inline(always)]
     pub(crate) fn take(&mut self, who: u32, op: &Op) -> Result<(), AllocError>
         requires range { HasClocks self.old who op.now }
         requires apart { IsApart who op.now }
@@ -196,6 +197,7 @@ impl<A: Allocator + Copy> Clocks<A> {
         }
     }
 
+    #[inline(always)]
     fn access(&mut self, who: u32, var: u32, value: u64)
         requires range { who < length self.old.slots }
         requires counts { parts_of self.old who + 1 < 2 ^ 32 }
@@ -204,6 +206,7 @@ impl<A: Allocator + Copy> Clocks<A> {
         self.slots[who as usize].access(who);
     }
 
+    #[inline(always)]
     #[tactic(auto, using(crate::proofs::JoinLemmas::joined_nothing))]
     fn pass(&mut self, who: u32)
         requires range { who < length self.old.slots }
@@ -233,6 +236,7 @@ impl<A: Allocator + Copy> Clocks<A> {
         Ok(())
     }
 
+    #[inline(always)]
     #[tactic(auto, using(crate::proofs::JoinLemmas::fill_opened))]
     fn send(&mut self, who: u32, chan: u32, value: u64) -> Result<(), AllocError>
         requires range { who < length self.old.slots }
@@ -251,6 +255,7 @@ impl<A: Allocator + Copy> Clocks<A> {
         Ok(())
     }
 
+    #[inline(always)]
     fn lock(&mut self, who: u32, lock: u32) -> Result<(), AllocError>
         requires range { who < length self.old.slots }
         requires locks { lock < length self.old.locks }
@@ -266,6 +271,7 @@ impl<A: Allocator + Copy> Clocks<A> {
         Ok(())
     }
 
+    #[inline(always)]
     #[tactic(auto, using(crate::proofs::JoinLemmas::joined_nothing))]
     fn unlock(&mut self, who: u32, lock: u32) -> Result<(), AllocError>
         requires range { who < length self.old.slots }
@@ -283,6 +289,7 @@ impl<A: Allocator + Copy> Clocks<A> {
         Ok(())
     }
 
+    #[inline(always)]
     fn meet(&mut self, who: u32, receiver: u32, chan: u32, value: u64) -> Result<(), AllocError>
         requires range { who < length self.old.slots }
         requires other { receiver < length self.old.slots }
@@ -306,6 +313,7 @@ impl<A: Allocator + Copy> Clocks<A> {
         Ok(())
     }
 
+    #[inline(always)]
     #[tactic(auto, using(crate::proofs::JoinLemmas::fill_opened))]
     fn receive(&mut self, who: u32, chan: u32, value: u64) -> Result<(), AllocError>
         requires range { who < length self.old.slots }

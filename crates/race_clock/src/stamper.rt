@@ -48,6 +48,7 @@ impl<A: Allocator + Copy> Stamper<A> {
     ///
     /// The event is in range of the declarations, breaks no rule behind the events that were taken, and these are fewer
     /// than 2^24: a `Replay` that accepts it beside the stamper says so.
+    #[inline(always)]
     pub fn step(&mut self, event: &Event) -> Result<Option<Stamp>, AllocError>
         requires { IsNext self.old event.now }
         ensures goes_on { OnOk result (GoesOn self.old self.new event.now) }

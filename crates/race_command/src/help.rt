@@ -15,7 +15,8 @@ pub(crate) const CHECK_USAGE: &str = "gorace check [OPTIONS] < TRACE";
 pub(crate) const CHECK_HELP: &str = "\
 A trace is a text: a header, declarations, and the events of a run in order.
 Each event says what was done, then by which goroutine, and ends with its place
-in the source; a meet ends with two, the sender's and the receiver's.
+in the source; a meet ends with two, the sender's and the receiver's. The header
+is 'gotrace 1', or 'gotrace 2' where tries to lock are to be in it.
 
   gotrace 1
   goroutine w
@@ -96,7 +97,8 @@ pub(crate) const RUN_USAGE: &str = "gorace run [OPTIONS] < PROGRAM";
 
 pub(crate) const RUN_HELP: &str = "\
 A program is a text: a header, declarations, and for main and each goroutine a
-body of steps, of which the last is its exit. Each step ends with its place.
+body of steps, of which the last is its exit. Each step ends with its place. The
+header is 'goprogram 1', or 'goprogram 2' where it has tries to lock.
 
   goprogram 1
   goroutine w
@@ -114,8 +116,8 @@ body of steps, of which the last is its exit. Each step ends with its place.
 
 A goroutine goes on to its next step as soon as it has done one. Where several
 could do their steps next, a pick says which: they stand in the order in which
-they came to their steps, a meet where its sender stands, and a pick is a number
-modulo their count. Each event uses up a pick; behind the last one they are 0.
+they came to their steps, a meet where its sender stands, a try that could succeed
+twice, its success first; and a pick is a number modulo their count. Each event uses up a pick; behind the last one they are 0.
 With --picks 0,0,0,1 main reads before w exits; with --picks 0 w exits first.
 
 Without --picks workers run the goroutines, each on a thread, and the picks come

@@ -204,6 +204,7 @@ impl<A: Allocator> Replay<A> {
     ///
     /// The event's goroutines and objects are in range of the declarations that the replay was made for, and fewer than
     /// 2^24 events were accepted before.
+    #[inline(always)]
     #[tactic(auto, using(crate::proofs::ReplayLemmas::broken_is))]
     pub fn accept(&mut self, event: &Event) -> Result<(), Broken>
         requires range { IsInRange (counts_in self.old) event.now }
@@ -226,6 +227,7 @@ impl<A: Allocator> Replay<A> {
     }
 
     // The least rule that the event breaks.
+    #[inline(always)]
     fn first_broken(&self, event: &Event) -> Option<Rule>
         requires { IsInRange (counts_in self.now) event.now }
         ensures { option_map number_of result ≡ broken_in self.now event.now }
@@ -251,6 +253,7 @@ impl<A: Allocator> Replay<A> {
     }
 
     // The least of the rules on the operation alone that it breaks.
+    #[inline(always)]
     fn broken_by(&self, who: u32, op: &Op) -> Option<Rule>
         requires who { who < counts_in self.now Kind.Goroutine }
         requires op { IsTrue (op_is_in_range (counts_in self.now) op.now) }
@@ -309,6 +312,7 @@ impl<A: Allocator> Replay<A> {
     }
 
     // What the event changes, unless there is no memory for it.
+    #[inline(always)]
     fn step(&mut self, event: &Event) -> Result<(), AllocError>
         requires range { IsInRange (counts_in self.old) event.now }
         requires room { self.old.len < MAX_EVENTS }

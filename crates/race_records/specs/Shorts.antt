@@ -1,5 +1,5 @@
 -- A table of short names that are found by their bytes alone: what it may say of the table of all names.
-use Rattle.std.specs.Prelude.{◌≡◌, ◌<◌, ℕ, nat_le, if◌then◌else◌, List, length, drop, get_or, All, Option, Some, None}
+use Rattle.std.specs.Prelude.{◌≡◌, ◌<◌, ◌≤◌, ◌*◌, ℕ, max, nat_le, if◌then◌else◌, List, length, drop, get_or, All, Option, Some, None}
 use Rattle.std.specs.Int.{from_le_bytes, w64}
 use Rattle.race_records.specs.declared.shorts.Key.{Key}
 use Rattle.race_records.specs.declared.shorts.Short.{Short}
@@ -31,3 +31,7 @@ IsNoted rows short = (name : List ℕ) → AreBytes name → short_key name ≡ 
 
 abbrev pub AreNoted : List Row → List Short → Type 0
 AreNoted rows shorts = All (IsNoted rows) shorts
+
+-- for so many noted names there are not more slots than the smallest table has, or than four for each
+abbrev pub AreFew : ℕ → ℕ → Type 0
+AreFew slots noted = slots ≤ max 1_024 (4 * noted)

@@ -64,6 +64,11 @@ impl<A: Allocator> Model for Shorts<A> {
     ghost Value = { List Short };
 
     ghost view = { λ s. s.slots.items };
+
+    ghost use Rattle.std.specs.Prelude.{length};
+    ghost use Rattle.race_records.specs.Shorts.{AreFew};
+
+    ghost invariant = { λ s. AreFew (length s.slots.items) s.noted };
 }
 
 impl<A: Allocator> Shorts<A> {
@@ -98,8 +103,8 @@ impl<A: Allocator> Shorts<A> {
         let Some(key) = key_of(name) else {
             return;
         };
-        self.make_room();
         self.noted = self.noted.saturating_add(1);
+        self.make_room();
         put(
             &mut self.slots,
             Short {
@@ -111,13 +116,13 @@ impl<A: Allocator> Shorts<A> {
         );
     }
 
-    // Twice as many slots where half of them is taken, unless memory is refused.
+    // Twice as many slots where more than half of them are taken, unless memory is refused.
     fn make_room(&mut self)
     where
         A: Copy,
         ensures { (rows : List Row) → AreNoted rows self.old → AreNoted rows self.new }
     {
-        if self.slots.len() >= MAX_SLOTS || self.noted < self.slots.len() / 2 {
+        if self.slots.len() >= MAX_SLOTS || self.noted <= self.slots.len() / 2 {
             return;
         }
         let count = self
@@ -241,7 +246,8 @@ fn has_key(short: &Short, key: Key) -> bool
 
 // Puts a name into one of its slots, if one of them is blank.
 fn put<A: Allocator>(slots: &mut Vec<Short, A>, short: Short)
-    ensures { (rows : List Row) → AreNoted rows slots.old.items → IsNoted rows short → AreNoted rows slots.new.items }
+    ensures len { length slots.new.items ≡ length slots.old.items }
+    ensures noted { (rows : List Row) → AreNoted rows slots.old.items → IsNoted rows short → AreNoted rows slots.new.items }
 {
     if let Some(i) = free_slot(slots.as_slice(), &short) {
         slots[i] = short;
@@ -269,7 +275,8 @@ fn free_slot(slots: &[Short], short: &Short) -> Option<usize>
 
 // Puts each of these names into one of its slots.
 fn put_each<A: Allocator>(slots: &mut Vec<Short, A>, from: &[Short])
-    ensures { (rows : List Row) → AreNoted rows from.now → AreNoted rows slots.old.items → AreNoted rows slots.new.items }
+    ensures len { length slots.new.items ≡ length slots.old.items }
+    ensures noted { (rows : List Row) → AreNoted rows from.now → AreNoted rows slots.old.items → AreNoted rows slots.new.items }
 {
     for at in 0..from.len() {
         put(slots, from[at]);

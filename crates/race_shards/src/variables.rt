@@ -82,6 +82,7 @@ impl<A: Allocator + Copy> Variables<A> {
     }
 
     /// Takes the next access, with the clock of its goroutine behind it, where it is one of the shard's variables.
+    #[inline(always)]
     pub(crate) fn touch<B: Allocator>(
         &mut self,
         stamp: &Stamp,

@@ -28,7 +28,7 @@ use Rattle.race_tool.specs.Finding.{Finding, Faulty, TooLong, Judged, IsFinding,
 -- two traces that record the same
 module _ (t u : TraceState) (same : recorded t ≡ recorded u) where
   declarations_same : t.decls.declarations ≡ u.decls.declarations
-  declarations_same = ap (λ (r : Recorded). r.declarations) same
+  declarations_same = ap (λ (r : Recorded). r.declared.declarations) same
 
   events_same : placed_events t ≡ placed_events u
   events_same = ap (λ (r : Recorded). r.events) same

@@ -2,6 +2,7 @@
 use Rattle.std.proofs.Common.{ℕ, ◌≡◌, ◌≢◌, ◌<◌, ◌≤◌, ◌++◌, List, map, length, Bool, Option, Some, None, sym, ap, subst, ◌∙◌, arith}
 use Rattle.race_records.specs.declared.event.Event.{Event}
 use Rattle.race_records.specs.Declarations.{DeclsState, capacity_of}
+use Rattle.race_records.specs.Equality.{declared}
 use Rattle.race_records.specs.Events.{TraceState}
 use Rattle.race_records.specs.TraceEquality.{placed, recorded}
 use Rattle.race_model.specs.Legal.{IsLegal}
@@ -43,7 +44,7 @@ verdict_stays plain t u (Some verdict) decls_are events_are (short, right) = (
 -- and has the same report
 module _ (r : RecordingState) (trace : TraceState) (decls_are : trace.decls ≡ r.decls) (events_are : trace.events ≡ r.events) where
   same_record : recorded trace ≡ recorded (trace_of r)
-  same_record = (λ i. record { declarations = (decls_are i).declarations; events = map (placed (decls_are i).places) (events_are i) })
+  same_record = (λ i. record { declared = declared (decls_are i); events = map (placed (decls_are i).places) (events_are i) })
 
   pub same_report : (verdict : Verdict) (end : End) → end ≡ r.end
       → report trace verdict ++ end_line trace.decls.declarations end ≡ verdict_text r (trace_of r) (Some verdict)

@@ -7,4 +7,4 @@ use Rattle.race_records.proofs.shorts.Shorts.note.Goals as goal
 pub returns : goal.returns
 returns g c = λ rows noted named.
     let short = short_noted rows c.args.name.now _ (λ i. Fits-lt-pow (c.type_inv.name i)) (sym c.key_of.ensures ∙ c.in-Some.is) named in
-    c.put.ensures rows (subst (AreNoted rows) (sym c.self.view_is) (c.make_room.ensures rows noted)) short
+    c.put.ensures.noted rows (subst (AreNoted rows) (sym c.self-2.view_is) (c.make_room.ensures rows (subst (AreNoted rows) (sym c.self.view_is) noted))) short

@@ -14,18 +14,31 @@ use Rattle.race_records.specs.declared.kind.Named.{Named}
 use Rattle.race_records.specs.declared.parts.Part.{Part}
 use Rattle.race_records.specs.declared.parts.PartKind.{PartKind}
 use Rattle.race_records.specs.declared.parts.Verb.{Verb}
+use Rattle.race_records.specs.declared.version.Version.{Version}
 use Rattle.race_records.specs.Declarations.{Declaration}
 use Rattle.race_records.specs.Name.{is_place, is_place_byte}
 use Rattle.race_records.specs.declared.name.TheConstants.{MAX_PLACE_LEN}
 use lib.Count.{count_trailing_zeros}
 use Rattle.race_records.specs.Parts.{op_by, part_kinds, has_two_places}
 use Rattle.race_text.specs.Words.{parts_of}
-use Rattle.race_text.specs.Form.{first_word}
+use Rattle.race_text.specs.declared.form.Word.{Word}
+use Rattle.race_text.specs.Form.{has_word, word_named, first_word}
 use Rattle.race_text.specs.Reading.{ReadPart, ReadParts, ReadOp, occurrence, parts_on}
 use Rattle.race_text.specs.Reading.{goroutine_of, with_no_rest, last_place, op_before, op_in}
-use Rattle.race_text.specs.Reading.{last_places, event_of}
-use Rattle.race_text.specs.Common.{IsMarked, words_in, SaysVerb, SaysObject, SaysValue, SaysDeed, SaysPlace, SaysEvent, value_kinds, value_parts}
+use Rattle.race_text.specs.Reading.{last_places, event_of, event_by, event_in}
+use Rattle.race_text.specs.Common.{IsMarked, words_in, CutsWord, SaysVerb, SaysObject, SaysValue, SaysDeed, SaysPlace, SaysEvent, value_kinds, value_parts}
 use Rattle.race_text.proofs.MarkLemmas.{first_part_is, within_line, word_is_seen, cuts_last}
+use Rattle.race_text.proofs.WordTable.{word_of_version}
+
+-- a word of each version is one of the line
+pub says_verb : (bytes : List ℕ) (len : ℕ) (rest : List ℕ) (verb : Verb) → CutsWord bytes len rest → word_named (take len bytes) ≡ Some (Word.Does verb)
+    → ((version : Version) → has_word version (Word.Does verb) ≡ true) → SaysVerb bytes verb rest
+says_verb bytes len rest verb cut named each = record {
+  says = λ version ds.
+      ap (event_in version ds) cut.words
+      ∙ ap (λ w. event_by ds w (words_in rest)) (word_of_version version (take len bytes) (Word.Does verb) named (each version));
+  behind = cut.behind;
+}
 
 is_a_place : (w : List ℕ) → 0 < length w → length w ≤ 128 → list_all is_place_byte w ≡ true → is_place w ≡ true
 is_a_place w some few seen =
@@ -75,8 +88,8 @@ module _ (ds : List Declaration) (bytes verbs whos deeds rest : List ℕ) (verb 
       → SaysObject ds (PartKind.Object Kind.Goroutine) verbs goroutine whos → goroutine_of (Part.Object goroutine) ≡ Some who
       → SaysDeed ds verb whos op deeds → SaysPlace deeds place rest → SaysEvent ds bytes (occurrence who op (place, None)) rest
   says_event op place v g is_who d p = record {
-    says =
-        v.says ds
+    says = λ version.
+        v.says version ds
         ∙ ap (option_and_then (λ (first : ReadPart). option_and_then (λ who. event_of ds verb who first.1) (goroutine_of first.0))) g.says
         ∙ ap (option_and_then (λ who. event_of ds verb who (words_in whos))) is_who
         ∙ ap (option_and_then (λ (read : ReadOp). option_map (occurrence who read.0) (last_places (has_two_places verb) read.1))) d.says

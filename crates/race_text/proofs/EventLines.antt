@@ -10,12 +10,12 @@ use Rattle.race_records.specs.declared.kind.Kind.{Kind}
 use Rattle.race_records.specs.declared.parts.Verb.{Verb}
 use Rattle.race_records.specs.declared.parts.Part.{Part}
 use Rattle.race_records.specs.Declarations.{Declaration, DeclsState, IsWellFormed, count_of}
-use Rattle.race_records.specs.Events.{op_fits, lock_fits, op_is_limited}
-use Rattle.race_records.specs.Parts.{says, has_two_places, part_kinds, part_fits, part_is_limited}
+use Rattle.race_records.specs.Events.{op_fits, has_op, lock_fits, op_is_limited}
+use Rattle.race_records.specs.Parts.{says, has_verb, has_two_places, part_kinds, part_fits, part_is_limited}
 use Rattle.race_text.specs.declared.form.Word.{Word}
 use Rattle.race_text.specs.Words.{words_of, has_bad_byte}
 use Rattle.race_text.specs.Text.{line_of, op_words, goroutine_name, place_words}
-use Rattle.race_text.specs.Form.{word_named, first_word, arguments}
+use Rattle.race_text.specs.Form.{word_named, word_in, first_word, arguments}
 use Rattle.race_text.specs.Fault.{seen_so_far, room_cause, word_cause, declaration_in, declared_as, is_event_line, is_event_word}
 use Rattle.race_text.specs.Reading.{Occurrence, event_by, event_in}
 use Rattle.race_text.specs.Writing.{verb_text, said_words}
@@ -24,7 +24,7 @@ use Rattle.race_text.proofs.EventWords.{is_said, said_fine}
 use Rattle.race_text.proofs.PartWords.{texts_are, parts_fit, parts_are_limited, parts_are_wanted, words_clean}
 use Rattle.race_text.proofs.PlaceWords.{ArePlaces, places_clean}
 use Rattle.race_text.proofs.WantedParts.{are_wanted, wanted_by_op}
-use Rattle.race_text.proofs.WordTable.{word_spelled, word_is_seen}
+use Rattle.race_text.proofs.WordTable.{word_spelled, word_is_seen, word_of_table}
 
 -- the words of an event are those that its operation says
 pub op_words_are : (ds : List Declaration) (who : List ℕ) (places : List (List ℕ)) (op : Op)
@@ -33,16 +33,19 @@ op_words_are ds who places (Go h) = refl
 op_words_are ds who places _ = refl
 
 -- what holds of a line that says an event
-pub record IsEventLine (ds : List Declaration) (line : List ℕ) (o : Occurrence) : Type 0 where
-  pub line_is : line ≡ line_of (op_words ds (goroutine_name ds o.who) (place_words o.place o.place2) o.op)
+pub record IsEventLine (decls : DeclsState) (line : List ℕ) (o : Occurrence) : Type 0 where
+  pub line_is :
+      line ≡ line_of (op_words decls.declarations (goroutine_name decls.declarations o.who) (place_words o.place o.place2) o.op)
   pub cause_is : (events : ℕ)
-      → word_cause (seen_so_far ds events) (word_named (first_word (words_of line))) (arguments (words_of line)) ≡ room_cause (seen_so_far ds events) None
+      → word_cause (seen_so_far decls.declarations events) (word_in decls.version (first_word (words_of line))) (arguments (words_of line))
+      ≡ room_cause (seen_so_far decls.declarations events) None
   pub is_event : is_event_line line ≡ true
   pub declares : declaration_in line ≡ None
   pub places : ArePlaces (has_two_places (says o.op).0) (o.place, o.place2)
-  pub who : o.who < count_of Kind.Goroutine ds
-  pub op : op_fits ds o.op ≡ true
-  pub lock : lock_fits ds o.op ≡ true
+  pub who : o.who < count_of Kind.Goroutine decls.declarations
+  pub op : op_fits decls.declarations o.op ≡ true
+  pub has : has_op decls.version o.op ≡ true
+  pub lock : lock_fits decls.declarations o.op ≡ true
   pub value : op_is_limited o.op ≡ true
   pub clean : has_bad_byte line ≡ false
 
@@ -54,11 +57,15 @@ module _ (decls : DeclsState) (holds : IsWellFormed decls) (line first : List �
   joined : line ≡ line_of (first ∷ args)
   joined = sym (join_with_byte-slice_split 32 line) ∙ ap line_of words
 
-  by_word : (word : Option Word) → word_named first ≡ word → event_by ds word args ≡ Some o → IsEventLine ds line o
+  by_word : (word : Option Word) → word_in decls.version first ≡ word → event_by ds word args ≡ Some o → IsEventLine decls line o
   by_word None named h = absurd (none-some o h)
   by_word (Some (Word.Declares noun)) named h = absurd (none-some o h)
-  by_word (Some (Word.Does verb)) named h =
+  by_word (Some (Word.Does verb)) known h =
       let is = is_said decls holds verb args o h in
+      let of_table = word_of_table decls.version first (Word.Does verb) known in
+      let named = of_table.0 in
+      let known_line : word_in decls.version (first_word (words_of line)) ≡ Some (Word.Does verb) =
+      ap (λ ws. word_in decls.version (first_word ws)) words ∙ known in
       let named_line : word_named (first_word (words_of line)) ≡ Some (Word.Does verb) = ap (λ ws. word_named (first_word ws)) words ∙ named in
       let places = place_words o.place o.place2 in
       let all_clean = places_clean (has_two_places verb) (o.place, o.place2) is.places_are in
@@ -74,12 +81,13 @@ module _ (decls : DeclsState) (holds : IsWellFormed decls) (line first : List �
             ∙ (λ i. line_of (verb_text verb ∷ is.who_is.text i ∷ texts_are decls holds (part_kinds verb) is.ws is.parts is.are i ++ places))
             ∙ (λ i. line_of (said_words ds (goroutine_name ds o.who) places (sym is.says_is i).0 (sym is.says_is i).1))
             ∙ ap line_of (sym (op_words_are ds (goroutine_name ds o.who) places o.op));
-        cause_is = λ events. (λ i. word_cause (seen_so_far ds events) (named_line i) (arguments (words i))) ∙ said_fine decls holds verb args o events is;
+        cause_is = λ events. (λ i. word_cause (seen_so_far ds events) (known_line i) (arguments (words i))) ∙ said_fine decls holds verb args o events is;
         is_event = ap is_event_word named_line;
         declares = λ i. declared_as (named_line i) (arguments (words i));
         places = subst (λ (s : Verb × List Part). ArePlaces (has_two_places s.0) (o.place, o.place2)) (sym is.says_is) is.places_are;
         who = grind (arith, nat_tests, who);
         op = ap (λ (s : Verb × List Part). list_all (part_fits ds) s.1) is.says_is ∙ parts_fit decls holds (part_kinds verb) is.ws is.parts is.are;
+        has = ap (λ (s : Verb × List Part). has_verb decls.version s.0) is.says_is ∙ of_table.1;
         lock =
             sym (wanted_by_op ds o.op) ∙ ap (λ (s : Verb × List Part). are_wanted ds (part_kinds s.0) s.1) is.says_is
             ∙ parts_are_wanted decls holds (part_kinds verb) is.ws is.parts is.are;
@@ -88,10 +96,10 @@ module _ (decls : DeclsState) (holds : IsWellFormed decls) (line first : List �
       }
 
 -- a line that says an event is one
-pub event_line : (decls : DeclsState) (line : List ℕ) (o : Occurrence) → IsWellFormed decls → event_in decls.declarations (words_of line) ≡ Some o
-    → IsEventLine decls.declarations line o
+pub event_line : (decls : DeclsState) (line : List ℕ) (o : Occurrence) → IsWellFormed decls
+    → event_in decls.version decls.declarations (words_of line) ≡ Some o → IsEventLine decls line o
 event_line decls line o holds h = by (words_of line) refl h
   where
-    by : (ws : List (List ℕ)) → words_of line ≡ ws → event_in decls.declarations ws ≡ Some o → IsEventLine decls.declarations line o
+    by : (ws : List (List ℕ)) → words_of line ≡ ws → event_in decls.version decls.declarations ws ≡ Some o → IsEventLine decls line o
     by [] e h = absurd (none-some o h)
-    by (first ∷ args) e h = by_word decls holds line first args e o (word_named first) refl h
+    by (first ∷ args) e h = by_word decls holds line first args e o (word_in decls.version first) refl h

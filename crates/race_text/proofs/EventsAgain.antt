@@ -15,7 +15,7 @@ use Rattle.race_records.specs.declared.parts.Part.{Part}
 use Rattle.race_records.specs.declared.parts.PartKind.{PartKind}
 use Rattle.race_records.specs.Name.{is_place, is_place_byte}
 use Rattle.race_records.specs.Declarations.{Declaration, DeclsState, IsWellFormed, count_of}
-use Rattle.race_records.specs.Events.{fits, op_fits, lock_fits, op_is_limited, second_place_fits}
+use Rattle.race_records.specs.Events.{fits, op_fits, has_op, lock_fits, op_is_limited, second_place_fits}
 use Rattle.race_records.specs.Parts.{says, has_two_places, part_fits, part_is_limited, part_kinds}
 use Rattle.race_records.proofs.PartLaws.{says_again}
 use Rattle.race_text.specs.declared.form.Word.{Word}
@@ -36,7 +36,7 @@ use Rattle.race_text.proofs.PlacesAdded.{is_fit}
 use Rattle.race_text.proofs.NumberLemmas.{number-some}
 use Rattle.race_text.proofs.WordLemmas.{both, name_is_visible}
 use Rattle.race_text.proofs.WordsAgain.{AreVisible, words_again}
-use Rattle.race_text.proofs.WordTable.{verb_again, word_is_seen}
+use Rattle.race_text.proofs.WordTable.{verb_again, verb_known, word_is_seen}
 
 -- what an event's line says
 abbrev pub said : DeclsState → Event → Occurrence
@@ -98,9 +98,9 @@ module _ (decls : DeclsState) (holds : IsWellFormed decls) where
 
   -- so the line of an event says it
   op_again : (who : ℕ) (places : Places) → who < count_of Kind.Goroutine ds → (op : Op) → ArePlaces (has_two_places (says op).0) places → op_fits ds op ≡ true
-      → lock_fits ds op ≡ true → op_is_limited op ≡ true
-      → event_in ds (words_of (line_of (op_words ds (goroutine_name ds who) (place_words places.0 places.1) op))) ≡ Some (occurrence who op places)
-  op_again who places who_less op are fit lock low =
+      → has_op decls.version op ≡ true → lock_fits ds op ≡ true → op_is_limited op ≡ true
+      → event_in decls.version ds (words_of (line_of (op_words ds (goroutine_name ds who) (place_words places.0 places.1) op))) ≡ Some (occurrence who op places)
+  op_again who places who_less op are fit has lock low =
       let verb = (says op).0 in
       let parts = (says op).1 in
       let goroutine = Part.Object (Named.Goroutine who) in
@@ -109,13 +109,14 @@ module _ (decls : DeclsState) (holds : IsWellFormed decls) where
       let first = part_again (PartKind.Object Kind.Goroutine) goroutine refl (grind (arith, nat_tests, who_less)) refl in
       let others = parts_again [] (part_kinds verb) parts last (wanted_by_op ds op ∙ lock) fit low (places_visible (has_two_places verb) places are) in
       let visible : AreVisible (verb_text verb ∷ args) = (word_is_seen (verb_text verb) (Word.Does verb) (verb_again verb), (first.1, others.1)) in
-      ap (λ ws. event_in ds (words_of (line_of ws))) (op_words_are ds (goroutine_name ds who) last op)
-      ∙ ap (event_in ds) (words_again (verb_text verb) args visible)
-      ∙ ap (λ w. event_by ds w args) (verb_again verb)
+      ap (λ ws. event_in decls.version ds (words_of (line_of ws))) (op_words_are ds (goroutine_name ds who) last op)
+      ∙ ap (event_in decls.version ds) (words_again (verb_text verb) args visible)
+      ∙ ap (λ w. event_by ds w args) (verb_known decls.version verb has)
       ∙ said_by ds verb (goroutine_name ds who) (map (part_text ds) parts ++ last) who parts op places first.0 others.0 (says_again op) are
 
-  pub event_again : (e : Event) → fits decls e ≡ true → op_is_limited e.op ≡ true → event_in ds (words_of (event_line decls e)) ≡ Some (said decls e)
+  pub event_again : (e : Event) → fits decls e ≡ true → op_is_limited e.op ≡ true
+      → event_in decls.version ds (words_of (event_line decls e)) ≡ Some (said decls e)
   event_again e fit low =
       let is = is_fit decls e fit in
       let places = places_again (has_two_places (says e.op).0) e.place e.place2 is.place is.second in
-      op_again e.who (place_text decls.places e.place, second_text decls.places e.place2) is.who e.op places is.op is.lock low
+      op_again e.who (place_text decls.places e.place, second_text decls.places e.place2) is.who e.op places is.op is.has is.lock low

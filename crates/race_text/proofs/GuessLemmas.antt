@@ -13,6 +13,7 @@ is_known_at decls n word at = any_passes_from_place (bytes_eq word) decls.places
 
 pub adds_nothing : (decls : DeclsState) (n : ℕ) (word : List ℕ) → slice_get decls.places n ≡ Some word → with_place decls word ≡ decls
 adds_nothing decls n word at = λ i. record {
+  version = decls.version;
   declarations = decls.declarations;
   places = if is_known_at decls n word at i then decls.places else decls.places ++ word ∷ [];
 }

@@ -1,6 +1,7 @@
 pub mod CutLemmas
 pub mod LaneLemmas
 pub mod WordTable
+pub mod HeaderLemmas
 pub mod UsedNames
 pub mod WantedParts
 pub mod CaseWords

@@ -1,5 +1,5 @@
 -- A text that is read part by part: what is left of it, and its first fault.
-use Rattle.std.proofs.Common.{◌≡◌, ◌≢◌, ◌⊎◌, inl, inr, ℕ, ◌+◌, ◌<◌, ◌≤◌, ◌==◌, ◌&&◌, nat_lt, Bool, true, false, not}
+use Rattle.std.proofs.Common.{◌≡◌, ◌≢◌, ◌⊎◌, inl, inr, ℕ, ◌+◌, ◌<◌, ◌≤◌, ◌==◌, ◌&&◌, nat_lt, Bool, true, false}
 use Rattle.std.proofs.Common.{if◌then◌else◌, List, [], ◌∷◌, ◌++◌, length, Option, Some, None, refl, sym}
 use Rattle.std.proofs.Common.{ap, subst, ◌∙◌, arith, append-nil, append_assoc}
 use Rattle.std.proofs.lemmas.Bool.Decides.{nat_tests}
@@ -7,15 +7,15 @@ use Rattle.std.proofs.lemmas.List.{length-append}
 use Rattle.std.proofs.lemmas.List.Splits.{join_with_byte-slice_split, length-slice_split}
 use Rattle.std.proofs.lemmas.Option.{none-some, same_Some}
 use Rattle.std.specs.List.{join_with_byte}
-use Rattle.std.specs.Str.{bytes_eq}
+use Rattle.race_records.specs.declared.version.Version.{Version}
 use Rattle.race_records.specs.Declarations.{DeclsState}
 use Rattle.race_records.specs.Events.{TraceState}
 use Rattle.race_text.specs.declared.cause.TextCause.{TextCause}
 use Rattle.race_text.specs.declared.cause.TextFault.{TextFault}
 use Rattle.race_text.specs.Words.{parts_of}
-use Rattle.race_text.specs.Text.{header, lines}
+use Rattle.race_text.specs.Text.{lines}
 use Rattle.race_text.specs.Lines.{Causes, or_later, fault_after}
-use Rattle.race_text.specs.Fault.{cause, end_cause}
+use Rattle.race_text.specs.Fault.{version_said, header_cause, cause, end_cause}
 use Rattle.race_text.specs.Reader.{lines_read}
 use Rattle.race_text.proofs.WordLemmas.{both}
 
@@ -99,11 +99,11 @@ module _ (causes : Causes) where
 -- a part that no newline ends is at fault where it is a line
 unended : (before : List (List ℕ)) (last : List ℕ) → cause before last false ≡ None → ⊥
 unfolding cause
-unended [] last h = by (bytes_eq last header) h
+unended [] last h = by (version_said last) h
   where
-    by : (b : Bool) → (if not b then Some TextCause.BadHeader else Some TextCause.NoNewline) ≡ None → ⊥
-    by true h = none-some TextCause.NoNewline (sym h)
-    by false h = none-some TextCause.BadHeader (sym h)
+    by : (v : Option Version) → header_cause v false ≡ None → ⊥
+    by (Some version) h = none-some TextCause.NoNewline (sym h)
+    by None h = none-some TextCause.BadHeader (sym h)
 unended (first ∷ before) last h = none-some TextCause.NoNewline (sym h)
 
 pub end_empty : (before : List (List ℕ)) (last : List ℕ) → end_cause before last ≡ None → (length last ≡ 0) × (0 < length before)
@@ -138,13 +138,13 @@ end_first last = by (length last == 0)
     by true = refl
     by false = refl
 
-pub end_header : (last : List ℕ) → bytes_eq last header ≡ true → end_cause [] last ≡ Some TextCause.NoNewline
+pub end_header : (last : List ℕ) (version : Version) → version_said last ≡ Some version → end_cause [] last ≡ Some TextCause.NoNewline
 unfolding cause
-end_header last h = end_first last ∙ ap (λ b. if not b then Some TextCause.BadHeader else Some TextCause.NoNewline) h
+end_header last version h = end_first last ∙ ap (λ v. header_cause v false) h
 
-pub end_other : (last : List ℕ) → bytes_eq last header ≡ false → end_cause [] last ≡ Some TextCause.BadHeader
+pub end_other : (last : List ℕ) → version_said last ≡ None → end_cause [] last ≡ Some TextCause.BadHeader
 unfolding cause
-end_other last h = end_first last ∙ ap (λ b. if not b then Some TextCause.BadHeader else Some TextCause.NoNewline) h
+end_other last h = end_first last ∙ ap (λ v. header_cause v false) h
 
 -- an end without a cause stands behind the header
 pub header_before_end : (has_header : Bool) (decls : DeclsState) (trace : Option TraceState) (last : List ℕ)

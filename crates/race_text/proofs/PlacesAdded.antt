@@ -14,7 +14,7 @@ use Rattle.race_records.specs.declared.declarations.TheConstants.{MAX_PLACES}
 use Rattle.race_records.specs.declared.kind.Kind.{Kind}
 use Rattle.race_records.specs.Name.{is_place}
 use Rattle.race_records.specs.Declarations.{DeclsState, is_known, place_number, with_place, place_fault, IsWellFormed, count_of}
-use Rattle.race_records.specs.Events.{TraceState, IsTrace, fits, is_in_range, lock_fits, op_fits, second_place_fits}
+use Rattle.race_records.specs.Events.{TraceState, IsTrace, fits, is_in_range, is_right_kind, has_op, lock_fits, op_fits, second_place_fits}
 use Rattle.race_records.specs.Parts.{says, has_two_places}
 use Rattle.race_records.proofs.EventLemmas.{with_place_is_trace}
 use Rattle.race_records.proofs.ListLemmas.{slice_get-push_within, slice_get-push_last}
@@ -138,6 +138,7 @@ pub record IsFit (decls : DeclsState) (e : Event) : Type 0 where
   pub op : op_fits decls.declarations e.op ≡ true
   pub place : e.place < length decls.places
   pub second : second_place_fits (length decls.places) (has_two_places (says e.op).0) e.place2 ≡ true
+  pub has : has_op decls.version e.op ≡ true
   pub lock : lock_fits decls.declarations e.op ≡ true
 
 pub is_fit : (decls : DeclsState) (e : Event) → fits decls e ≡ true → IsFit decls e
@@ -147,11 +148,12 @@ is_fit decls e h =
     let op = op_fits decls.declarations e.op in
     let place = nat_lt e.place (length decls.places) in
     let second = second_place_fits (length decls.places) (has_two_places (says e.op).0) e.place2 in
-    let a = both (is_in_range decls e) (lock_fits decls.declarations e.op) h in
+    let a = both (is_in_range decls e) (is_right_kind decls e.op) h in
+    let right = both (has_op decls.version e.op) (lock_fits decls.declarations e.op) a.1 in
     let b = both (who && op && place) second a.0 in
     let c = both (who && op) place b.0 in
     let d = both who op c.0 in
-    record { who = grind (arith, nat_tests, d.0); op = d.1; place = grind (arith, nat_tests, c.1); second = b.1; lock = a.1 }
+    record { who = grind (arith, nat_tests, d.0); op = d.1; place = grind (arith, nat_tests, c.1); second = b.1; has = right.0; lock = right.1 }
 
 -- the words of the places of those before
 pub words_stay : (decls : DeclsState) (o : Occurrence) (e : Event) → fits decls e ≡ true

@@ -1,11 +1,10 @@
 -- The header, and lines that declare.
-use Rattle.std.proofs.Common.{◌≡◌, ◌≢◌, ℕ, ◌≤◌, length, Bool, true, false, not, if◌then◌else◌, List, [], ◌∷◌}
+use Rattle.std.proofs.Common.{◌≡◌, ◌≢◌, ℕ, ◌≤◌, length, Bool, true, false, if◌then◌else◌, List, [], ◌∷◌}
 use Rattle.std.proofs.Common.{◌++◌, Option, Some, None, Result, Ok, Err, IfOk, refl, sym, ap, subst, ◌∙◌, arith}
 use Rattle.std.proofs.Common.{true≢false}
 use Rattle.std.proofs.lemmas.List.Splits.{join_with_byte-slice_split}
 use Rattle.std.proofs.lemmas.Option.{none-some}
-use Rattle.std.proofs.lemmas.Slice.Eq.{bytes_eq-Decides}
-use Rattle.std.specs.Str.{bytes_eq}
+use Rattle.race_records.specs.declared.version.Version.{Version}
 use Rattle.race_records.specs.Declarations.{Declaration, DeclsState, decl_fault, with_declaration}
 use Rattle.race_records.specs.Events.{TraceState, IsTrace}
 use Rattle.race_records.specs.Refusal.{Refuses, AllowsUnless}
@@ -16,58 +15,61 @@ use Rattle.race_text.specs.declared.form.Word.{Word}
 use Rattle.race_text.specs.Words.{words_of, has_bad_byte}
 use Rattle.race_text.specs.Text.{header, line_of, declaration_line, lines, HasText}
 use Rattle.race_text.specs.Form.{word_named, first_word, arguments}
-use Rattle.race_text.specs.Fault.{seen, seen_so_far, cause, trace_causes, word_cause, declaration, declaration_in, is_event_line, is_event_word}
+use Rattle.race_text.specs.Fault.{seen, seen_so_far, version_said, header_cause, cause, trace_causes, word_cause}
+use Rattle.race_text.specs.Fault.{declaration, declaration_in, is_event_line, is_event_word}
 use Rattle.race_text.specs.Lines.{GoesOn}
 use Rattle.race_text.specs.Writing.{noun_text, number_words}
 use Rattle.race_records.specs.Nouns.{object_says}
 use Rattle.race_text.specs.Declaring.{is_declaration_line, is_declaration_word, declaration_cause, with_declared, with_declaration_in}
 use Rattle.race_text.specs.Taking.{state_of, IsRead, TakesLine, begun}
-use Rattle.race_text.specs.Reader.{trace_read, lines_read, IsReading, TakesIfDeclared, TakesDeclaration}
+use Rattle.race_text.specs.Reader.{nothing_in, trace_read, lines_read, IsReading, TakesIfDeclared, TakesDeclaration}
 use Rattle.race_text.proofs.DeclarationLemmas.{declaration_cause-words, declaration_in-words, is_there, declared_there, spelled_there}
-use Rattle.race_text.proofs.WordTable.{word_spelled, object_words_are}
+use Rattle.race_text.proofs.HeaderLemmas.{said_by_header}
+use Rattle.race_text.proofs.WordTable.{word_spelled, declares_in, object_words_are}
 use Rattle.race_text.proofs.TraceLemmas.{cause_behind, clean_line, lines_declaration, seen_declaration, no_word}
-
-abbrev empty : DeclsState
-empty = record { declarations = []; places = [] }
 
 -- a trace without events
 pub no_events : (decls : DeclsState) → IsTrace (begun decls)
 no_events decls = record { fit = λ i d less. absurd (omega (arith, less)); values = λ i d less. absurd (omega (arith, less)); limited = omega arith }
 
 -- the first line
-pub header_told : (line : List ℕ) → bytes_eq line header ≡ false → cause [] line true ≡ Some TextCause.BadHeader
+pub header_told : (line : List ℕ) → version_said line ≡ None → cause [] line true ≡ Some TextCause.BadHeader
 unfolding cause
-header_told line h = ap (λ b. if not b then Some TextCause.BadHeader else None) h
+header_told line h = ap (λ v. header_cause v true) h
 
-header_fine : (line : List ℕ) → bytes_eq line header ≡ true → cause [] line true ≡ None
+header_fine : (line : List ℕ) (version : Version) → version_said line ≡ Some version → cause [] line true ≡ None
 unfolding cause
-header_fine line h = ap (λ b. if not b then Some TextCause.BadHeader else None) h
+header_fine line version h = ap (λ v. header_cause v true) h
 
-pub header_lines : lines (begun empty) ≡ header ∷ []
+pub header_lines : (version : Version) → lines (begun (nothing_in version)) ≡ header version ∷ []
 unfolding lines
-header_lines = refl
+header_lines version = refl
 
-pub header_says : seen (header ∷ []) ≡ seen_so_far [] 0
+pub header_says : (version : Version) → seen (header version ∷ []) ≡ seen_so_far [] 0
 unfolding seen word_named
-header_says = refl
+header_says Version.One = refl
+header_says Version.Two = refl
 
-pub header_taken : (decls : DeclsState) (trace : Option TraceState) (line : List ℕ) → IsReading false decls trace → bytes_eq line header ≡ true
-    → GoesOn trace_causes [] line (lines_read true decls trace)
-header_taken decls trace line reading h = record {
-  no_cause = header_fine line h;
-  lines = (λ i. lines (trace_read (reading.0 i) (reading.1 i))) ∙ header_lines ∙ (λ i. sym ((bytes_eq-Decides line header).0 h) i ∷ []);
-}
-
-pub empty_has_text : HasText (begun empty)
-empty_has_text = record {
+pub empty_has_text : (version : Version) → HasText (begun (nothing_in version))
+empty_has_text version = record {
   well_formed = empty_well_formed;
-  is_trace = no_events empty;
+  is_trace = no_events (nothing_in version);
 }
 
-pub header_reading : (decls : DeclsState) (trace : Option TraceState) → IsReading false decls trace → IsReading true decls trace
-header_reading decls trace reading =
-    subst (λ (p : DeclsState × Option TraceState). IsReading true p.0 p.1) (λ i. (sym reading.0 i, sym reading.1 i))
-    (record { has_text = empty_has_text; seen_is = ap seen header_lines ∙ header_says; few_places = omega arith })
+pub empty_is_read : (version : Version) → IsRead (begun (nothing_in version))
+empty_is_read version =
+    record { has_text = empty_has_text version; seen_is = ap seen (header_lines version) ∙ header_says version; few_places = omega arith }
+
+module _ (version : Version) (decls : DeclsState) (trace : Option TraceState) (none : decls ≡ nothing_in version) (no_trace : trace ≡ None) where
+  pub header_taken : (line : List ℕ) → version_said line ≡ Some version → GoesOn trace_causes [] line (lines_read true decls trace)
+  header_taken line h = record {
+    no_cause = header_fine line version h;
+    lines = (λ i. lines (trace_read (none i) (no_trace i))) ∙ header_lines version ∙ (λ i. sym (said_by_header line version h) i ∷ []);
+  }
+
+  pub header_reading : IsReading true decls trace
+  header_reading =
+      subst (λ (p : DeclsState × Option TraceState). IsReading true p.0 p.1) (λ i. (sym none i, sym no_trace i)) (empty_is_read version)
 
 -- a line that declares, and is not refused
 pub record IsDeclaration (ds : List Declaration) (line : List ℕ) : Type 0 where
@@ -111,7 +113,8 @@ declaration_of_line ds line h none = by (words_of line) refl h
 -- a declaration that was read, or refused
 module _ (old new : DeclsState) (line : List ℕ) (read : IsRead (begun old)) (clean : has_bad_byte line ≡ false) where
   pub cause_of_line : is_declaration_line line ≡ true → cause (lines (begun old)) line true ≡ declaration_cause old.declarations line
-  cause_of_line h = cause_behind (begun old) line read ∙ clean_line (state_of (begun old)) line clean
+  cause_of_line h = cause_behind (begun old) line read ∙ clean_line old.version (state_of (begun old)) line clean
+      ∙ ap (λ w. word_cause (state_of (begun old)) w (arguments (words_of line))) (declares_in old.version (first_word (words_of line)) h)
       ∙ sym (ap (λ b. if b then word_cause (seen_so_far old.declarations 0) (word_named (first_word (words_of line))) (arguments (words_of line)) else None) h)
 
   pub taken_declaration : is_declaration_line line ≡ true → declaration_cause old.declarations line ≡ None → new ≡ with_declaration_in old line

@@ -1,14 +1,13 @@
 -- Bytes without a fault are some trace's text: line by line, each is taken into a trace.
-use Rattle.std.proofs.Common.{◌≡◌, ℕ, ◌*◌, ◌<◌, ◌≤◌, Bool, true, false, not, nat_le, ◌==◌, if◌then◌else◌, List, [], ◌∷◌}
+use Rattle.std.proofs.Common.{◌≡◌, ℕ, ◌*◌, ◌<◌, ◌≤◌, Bool, true, false, nat_le, ◌==◌, if◌then◌else◌, List, [], ◌∷◌}
 use Rattle.std.proofs.Common.{◌++◌, length, Option, Some, None, refl, sym, ap, subst, ◌∙◌, arith, true≢false, append-nil}
 use Rattle.std.proofs.Common.{append_assoc}
 use Rattle.std.proofs.lemmas.Bool.Decides.{nat_tests}
 use Rattle.std.proofs.lemmas.Grind.{flat_map-append}
 use Rattle.std.proofs.lemmas.List.Splits.{join_with_byte-slice_split, length-slice_split}
 use Rattle.std.proofs.lemmas.Option.{none-some}
-use Rattle.std.proofs.lemmas.Slice.Eq.{bytes_eq-Decides}
 use Rattle.std.specs.List.{flat_map, join_with_byte}
-use Rattle.std.specs.Str.{bytes_eq}
+use Rattle.race_records.specs.declared.version.Version.{Version}
 use Rattle.race_records.specs.declared.event.Event.{Event}
 use Rattle.race_records.specs.declared.trace.TheConstants.{MAX_EVENTS}
 use Rattle.race_records.specs.Declarations.{Declaration, with_declaration}
@@ -17,14 +16,16 @@ use Rattle.race_text.specs.declared.cause.TextCause.{TextCause}
 use Rattle.race_text.specs.Words.{parts_of, words_of, has_bad_byte}
 use Rattle.race_text.specs.Text.{header, ended, lines, text}
 use Rattle.race_text.specs.Lines.{fault_after, first_fault}
-use Rattle.race_text.specs.Fault.{seen, seen_so_far, line_cause, cause, trace_causes, text_fault}
+use Rattle.race_text.specs.Fault.{seen, seen_so_far, version_said, header_cause, line_cause, cause, trace_causes, text_fault}
 use Rattle.race_text.specs.Declaring.{is_declaration_line, with_declared}
 use Rattle.race_text.specs.Text.{HasText, IsTraceText}
 use Rattle.race_text.specs.Reading.{Occurrence, event_in}
+use Rattle.race_text.specs.Reader.{nothing_in}
 use Rattle.race_text.specs.Taking.{state_of, IsRead, begun, with_places, event_of}
 use Rattle.race_text.proofs.EventLines.{event_line as event_line_of}
+use Rattle.race_text.proofs.HeaderLemmas.{said_by_header}
 use Rattle.race_text.proofs.ParseLemmas.{none_step, none_end, end_empty, no_bytes}
-use Rattle.race_text.proofs.ReaderLemmas.{header_lines, header_says, empty_has_text, no_events, declaration_of_line, cause_of_line, taken_declaration}
+use Rattle.race_text.proofs.ReaderLemmas.{header_lines, empty_is_read, no_events, declaration_of_line, cause_of_line, taken_declaration}
 use Rattle.race_text.proofs.TraceLemmas.{cause_behind, bad_byte_is_told, no_event_is_told, event_cause, event_taken}
 
 -- a trace with one more line
@@ -37,7 +38,7 @@ module _ (t : TraceState) (read : IsRead t) (line : List ℕ) (none : cause (lin
   abbrev ds : List Declaration
   ds = t.decls.declarations
 
-  with_event : (o : Occurrence) → event_in ds (words_of line) ≡ Some o → IsNext t line
+  with_event : (o : Occurrence) → event_in t.decls.version ds (words_of line) ≡ Some o → IsNext t line
   with_event o says =
       let is = event_line_of t.decls line o read.has_text.well_formed says in
       let next : TraceState = record { decls = with_places t.decls o; events = t.events ++ event_of t.decls o ∷ []; spare = 0 } in
@@ -53,7 +54,7 @@ module _ (t : TraceState) (read : IsRead t) (line : List ℕ) (none : cause (lin
   is_clean = by (has_bad_byte line) refl
     where
       by : (b : Bool) → has_bad_byte line ≡ b → b ≡ false
-      by true bad = absurd (none-some TextCause.BadByte (sym (sym (cause_behind t line read ∙ bad_byte_is_told (state_of t) line bad) ∙ none)))
+      by true bad = absurd (none-some TextCause.BadByte (sym (sym (cause_behind t line read ∙ bad_byte_is_told t.decls.version (state_of t) line bad) ∙ none)))
       by false e = refl
 
   lines_begun : t.events ≡ [] → lines (begun t.decls) ≡ lines t
@@ -74,19 +75,19 @@ module _ (t : TraceState) (read : IsRead t) (line : List ℕ) (none : cause (lin
       let taken = taken_declaration t.decls new line before is_clean declares fine (sym (ap (with_declared t.decls) is.is)) in
       record { next = begun new; read = taken.is_read; lines_are = taken.lines ∙ ap (λ ls. ls ++ line ∷ []) same }
 
-  told_none : line_cause (seen_so_far ds (length t.events)) line ≡ None
+  told_none : line_cause t.decls.version (seen_so_far ds (length t.events)) line ≡ None
   told_none = sym (cause_behind t line read) ∙ none
 
   with_line : IsNext t line
-  with_line = by (event_in ds (words_of line)) refl (is_declaration_line line) refl t.events refl
+  with_line = by (event_in t.decls.version ds (words_of line)) refl (is_declaration_line line) refl t.events refl
     where
-      by : (o : Option Occurrence) → event_in ds (words_of line) ≡ o → (b : Bool) → is_declaration_line line ≡ b → (es : List Event) → t.events ≡ es
+      by : (o : Option Occurrence) → event_in t.decls.version ds (words_of line) ≡ o → (b : Bool) → is_declaration_line line ≡ b → (es : List Event) → t.events ≡ es
           → IsNext t line
       by (Some o) says b declares es are = with_event o says
-      by None says false declares es are = absurd (no_event_is_told ds (length t.events) line says (λ h. absurd (true≢false (sym h ∙ declares))) told_none)
+      by None says false declares es are = absurd (no_event_is_told t.decls.version ds (length t.events) line says (λ h. absurd (true≢false (sym h ∙ declares))) told_none)
       by None says true declares [] are = with_declared_line are declares
       by None says true declares (e ∷ es) are =
-          absurd (no_event_is_told ds (length t.events) line says (λ _. let l = ap length are in omega (arith, l)) told_none)
+          absurd (no_event_is_told t.decls.version ds (length t.events) line says (λ _. let l = ap length are in omega (arith, l)) told_none)
 
 -- the parts that are left, behind the lines of a trace
 scanned : (parts : List (List ℕ)) (t : TraceState) → IsRead t → 0 < length parts → fault_after trace_causes (lines t) parts ≡ None
@@ -109,21 +110,22 @@ scanned (line ∷ part ∷ others) t read some none =
           ∙ ap (λ l. front ++ l) (append_assoc line (10 ∷ []) (join_with_byte 10 parts)),
     )
 
--- the trace that the header begins
-abbrev empty_trace : TraceState
-empty_trace = begun (record { declarations = []; places = [] })
+-- a line with its newline, in front of what follows
+one_line : (line rest : List ℕ) → flat_map ended (line ∷ []) ++ rest ≡ line ++ 10 ∷ rest
+one_line line rest = ap (λ l. l ++ rest) (append-nil (ended line)) ∙ append_assoc line (10 ∷ []) rest
 
-empty_is_read : IsRead empty_trace
-empty_is_read = record { has_text = empty_has_text; seen_is = ap seen header_lines ∙ header_says; few_places = omega arith }
+-- the trace that a header begins
+abbrev empty_trace : Version → TraceState
+empty_trace version = begun (nothing_in version)
 
--- the first line is the header
-is_header : (line : List ℕ) → cause [] line true ≡ None → line ≡ header
+-- the first line is a header
+is_header : (line : List ℕ) → cause [] line true ≡ None → (version : Version) × (line ≡ header version)
 unfolding cause
-is_header line h = by (bytes_eq line header) refl h
+is_header line h = by (version_said line) refl h
   where
-    by : (b : Bool) → bytes_eq line header ≡ b → (if not b then Some TextCause.BadHeader else None) ≡ None → line ≡ header
-    by true e h = (bytes_eq-Decides line header).0 e
-    by false e h = absurd (none-some TextCause.BadHeader (sym h))
+    by : (v : Option Version) → version_said line ≡ v → header_cause v true ≡ None → (version : Version) × (line ≡ header version)
+    by (Some version) e h = (version, said_by_header line version e)
+    by None e h = absurd (none-some TextCause.BadHeader (sym h))
 
 pub faultless_is_text : (bytes : List ℕ) → text_fault bytes ≡ None → IsTraceText bytes
 unfolding first_fault text
@@ -138,9 +140,10 @@ faultless_is_text bytes none = by (parts_of bytes) refl none
     by (line ∷ part ∷ others) e h =
         let parts = part ∷ others in
         let split = none_step trace_causes [] line parts (omega arith) h in
-        let first = is_header line split.0 in
-        let rest = scanned parts empty_trace empty_is_read (omega arith)
-        (ap (λ ls. fault_after trace_causes ls parts) (header_lines ∙ (λ i. sym first i ∷ [])) ∙ split.1) in
+        let said = is_header line split.0 in
+        let first = said.1 in
+        let rest = scanned parts (empty_trace said.0) (empty_is_read said.0) (omega arith)
+        (ap (λ ls. fault_after trace_causes ls parts) (header_lines said.0 ∙ (λ i. sym first i ∷ [])) ∙ split.1) in
         let printed = sym (join_with_byte-slice_split 10 bytes) ∙ ap (join_with_byte 10) e ∙ (λ i. first i ++ 10 ∷ join_with_byte 10 parts)
-        ∙ sym (rest.2 ∙ ap (λ ls. flat_map ended ls ++ join_with_byte 10 parts) header_lines) in
+        ∙ sym (one_line (header said.0) (join_with_byte 10 parts)) ∙ sym (rest.2 ∙ ap (λ ls. flat_map ended ls ++ join_with_byte 10 parts) (header_lines said.0)) in
         (rest.0, record { has_text = rest.1; printed = printed })

@@ -38,6 +38,7 @@ use Rattle.race_text.specs.Text.{dir_text, case_text, cases_text, place_text, se
 use Rattle.race_text.specs.Text.{event_line}
 use Rattle.race_text.specs.Writing.{declarations_text, events_text, body}
 use Rattle.race_text.proofs.NamesAgain.{stands_at}
+use Rattle.race_text.proofs.HeaderLemmas.{header_len}
 use Rattle.race_text.proofs.WritingLemmas.{ended_more, line_of_2, text_is}
 
 -- what holds of all elements holds of the one at an index
@@ -264,6 +265,6 @@ text_short t is_trace holds =
     let sum = kinds_sum ds in
     let few = is_trace.limited in
     let len : length (text t) ≡ 10 + (length (declarations_text ds) + length (events_text t.decls t.events)) =
-    ap length (text_is t) ∙ length-append (ended header) (body t.decls t.events)
-    ∙ ap (λ n. 10 + n) (length-append (declarations_text ds) (events_text t.decls t.events)) in
+    ap length (text_is t) ∙ length-append (ended (header t.decls.version)) (body t.decls t.events)
+    ∙ (λ i. header_len t.decls.version i + length-append (declarations_text ds) (events_text t.decls t.events) i) in
     omega (arith, declared, happened, a, b, c, d, e, sum, few, len)

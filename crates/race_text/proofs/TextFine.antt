@@ -14,6 +14,7 @@ use Rattle.race_records.specs.declared.event.Event.{Event}
 use Rattle.race_records.specs.declared.kind.Named.{Named}
 use Rattle.race_records.specs.declared.kind.Object.{Object}
 use Rattle.race_records.specs.declared.trace.TheConstants.{MAX_EVENTS}
+use Rattle.race_records.specs.declared.version.Version.{Version}
 use Rattle.race_records.specs.Name.{main, is_name}
 use Rattle.race_records.specs.Declarations.{Declaration, DeclsState, IsWellFormed, kind_of}
 use Rattle.race_records.specs.Declarations.{is_of_kind, of_kind, count_of, limit_of, is_too_wide}
@@ -22,16 +23,21 @@ use Rattle.race_records.specs.Events.{TraceState}
 use Rattle.race_text.specs.declared.cause.TextCause.{TextCause}
 use Rattle.race_text.specs.declared.cause.TextFault.{TextFault}
 use Rattle.race_text.specs.Text.{header, declaration_line, event_line, lines, text}
-use Rattle.race_text.specs.Form.{arguments}
+use Rattle.race_text.specs.declared.form.Word.{Word}
+use Rattle.race_text.specs.Words.{words_of}
+use Rattle.race_records.specs.Nouns.{object_says}
+use Rattle.race_text.specs.Form.{first_word, arguments}
 use Rattle.race_text.specs.Lines.{fault_after, first_fault}
-use Rattle.race_text.specs.Fault.{Seen, seen, seen_so_far, line_cause, word_cause, cause, end_cause, trace_causes, text_fault}
+use Rattle.race_text.specs.Fault.{Seen, seen, seen_so_far, header_cause, line_cause, word_cause, cause, end_cause, trace_causes, text_fault}
 use Rattle.race_text.specs.Text.{HasText, IsTraceText}
 use Rattle.race_text.proofs.DeclarationLemmas.{fault_by, said_fine}
+use Rattle.race_text.proofs.HeaderLemmas.{version_again}
 use Rattle.race_text.proofs.NamesAgain.{differ}
 use Rattle.race_text.proofs.ParseLemmas.{AreFine, fine_both, fine_lines, only_memory}
 use Rattle.race_text.proofs.ReaderLemmas.{header_says}
 use Rattle.race_text.proofs.TextLaws.{declaration_again, is_no_event, event_at, lines_again}
 use Rattle.race_text.proofs.TraceLemmas.{clean_line, seen_declaration, seen_event}
+use Rattle.race_text.proofs.WordTable.{word_of_version}
 
 no_end_cause : (before : List (List ℕ)) → 0 < length before → end_cause before [] ≡ None
 no_end_cause before some = by (nat_lt 0 (length before)) (grind (arith, nat_tests, some))
@@ -107,31 +113,40 @@ module _ (decls : DeclsState) (holds : IsWellFormed decls) (before after : List 
       by true true c e _ h _ _ = absurd (true≢false h)
       by false b c e h _ _ _ = absurd (true≢false (sym h))
 
-  -- so no cause holds at its line
-  pub no_cause : line_cause (seen_so_far before 0) (declaration_line d) ≡ None
-  no_cause =
+  -- so no cause holds at its line, in any version
+  pub no_cause : (version : Version) → line_cause version (seen_so_far before 0) (declaration_line d) ≡ None
+  no_cause version =
       let line = declaration_again d form narrow in
-      clean_line (seen_so_far before 0) (declaration_line d) line.clean
-      ∙ (λ j. word_cause (seen_so_far before 0) (line.named j) (arguments (line.words j)))
+      let known = word_of_version version (first_word (words_of (declaration_line d))) (Word.Declares (object_says d.object).0) line.named refl in
+      clean_line version (seen_so_far before 0) (declaration_line d) line.clean
+      ∙ (λ j. word_cause (seen_so_far before 0) (known j) (arguments (line.words j)))
       ∙ said_fine before d.name d.object allowed
 
 -- the cause of a line behind the header and others
-cause_by_seen : (others : List (List ℕ)) (line : List ℕ) (s : Seen) → seen (header ∷ others) ≡ s → cause (header ∷ others) line true ≡ line_cause s line
+cause_by_seen : (version : Version) (others : List (List ℕ)) (line : List ℕ) (s : Seen) → seen (header version ∷ others) ≡ s
+    → cause (header version ∷ others) line true ≡ line_cause version s line
 unfolding cause
-cause_by_seen others line s is = ap (λ x. line_cause x line) is
+cause_by_seen version others line s is =
+    ap (option_and_then (λ v. line_cause v (seen (header version ∷ others)) line)) (version_again version) ∙ ap (λ x. line_cause version x line) is
 
 module _ (t : TraceState) (has : HasText t) where
   abbrev declared : List Declaration
   declared = t.decls.declarations
 
+  abbrev version : Version
+  version = t.decls.version
+
+  abbrev first : List ℕ
+  first = header version
+
   abbrev print : Event → List ℕ
   print e = event_line t.decls e
 
-  declarations_fine : (before after : List Declaration) → before ++ after ≡ declared → seen (header ∷ map declaration_line before) ≡ seen_so_far before 0
-      → AreFine trace_causes (header ∷ map declaration_line before) (map declaration_line after)
-      × (seen (header ∷ map declaration_line declared) ≡ seen_so_far declared 0)
+  declarations_fine : (before after : List Declaration) → before ++ after ≡ declared → seen (first ∷ map declaration_line before) ≡ seen_so_far before 0
+      → AreFine trace_causes (first ∷ map declaration_line before) (map declaration_line after)
+      × (seen (first ∷ map declaration_line declared) ≡ seen_so_far declared 0)
   declarations_fine before [] is says =
-      (tt, subst (λ (ds : List Declaration). seen (header ∷ map declaration_line ds) ≡ seen_so_far ds 0) (sym (append-nil before) ∙ is) says)
+      (tt, subst (λ (ds : List Declaration). seen (first ∷ map declaration_line ds) ≡ seen_so_far ds 0) (sym (append-nil before) ∙ is) says)
   declarations_fine before (d ∷ after) is says =
       let at = here t.decls has.well_formed before after d is in
       let less = within t.decls has.well_formed before after d is in
@@ -140,18 +155,18 @@ module _ (t : TraceState) (has : HasText t) where
       let line = declaration_again d name narrow in
       let more = map-append declaration_line before (d ∷ []) in
       let rest = declarations_fine (before ++ d ∷ []) after (append_assoc before (d ∷ []) after ∙ is)
-      (ap (λ ls. seen (header ∷ ls)) more
-      ∙ seen_declaration (header ∷ map declaration_line before) (declaration_line d) before d says line.declares (is_no_event d (declaration_line d) line)) in (
+      (ap (λ ls. seen (first ∷ ls)) more
+      ∙ seen_declaration (first ∷ map declaration_line before) (declaration_line d) before d says line.declares (is_no_event d (declaration_line d) line)) in (
         (
-          cause_by_seen (map declaration_line before) (declaration_line d) (seen_so_far before 0) says ∙ no_cause t.decls has.well_formed before after d is,
-          subst (λ ls. AreFine trace_causes (header ∷ ls) (map declaration_line after)) more rest.0,
+          cause_by_seen version (map declaration_line before) (declaration_line d) (seen_so_far before 0) says ∙ no_cause t.decls has.well_formed before after d is version,
+          subst (λ ls. AreFine trace_causes (first ∷ ls) (map declaration_line after)) more rest.0,
         ),
         rest.1,
       )
 
   events_fine : (done rest : List Event) → done ++ rest ≡ t.events
-      → seen (header ∷ map declaration_line declared ++ map print done) ≡ seen_so_far declared (length done)
-      → AreFine trace_causes (header ∷ map declaration_line declared ++ map print done) (map print rest)
+      → seen (first ∷ map declaration_line declared ++ map print done) ≡ seen_so_far declared (length done)
+      → AreFine trace_causes (first ∷ map declaration_line declared ++ map print done) (map print rest)
   events_fine done [] is says = tt
   events_fine done (e ∷ rest) is says =
       let at : get_or t.events (length done) e ≡ e = ap (λ l. get_or l (length done) e) (sym is) ∙ get_or-append_seam done e rest e in
@@ -162,35 +177,35 @@ module _ (t : TraceState) (has : HasText t) where
       let limited = has.is_trace.limited in
       let room : nat_le MAX_EVENTS (length done) ≡ false = grind (arith, nat_tests, less, limited) in
       let head = map declaration_line declared ++ map print done in
-      let fine : line_cause (seen_so_far declared (length done)) (print (get_or t.events (length done) e)) ≡ None =
-      clean_line (seen_so_far declared (length done)) (print (get_or t.events (length done) e)) line.clean
+      let fine : line_cause version (seen_so_far declared (length done)) (print (get_or t.events (length done) e)) ≡ None =
+      clean_line version (seen_so_far declared (length done)) (print (get_or t.events (length done) e)) line.clean
       ∙ line.cause_is (length done) ∙ ap (λ b. if b then Some TextCause.TooMany else None) room in
       let more : map declaration_line declared ++ map print (done ++ e ∷ []) ≡ head ++ print e ∷ [] =
       ap (λ l. map declaration_line declared ++ l) (map-append print done (e ∷ []))
       ∙ sym (append_assoc (map declaration_line declared) (map print done) (print e ∷ [])) in
-      let told : seen (header ∷ head ++ print e ∷ []) ≡ seen_so_far declared (length done + 1) =
-      ap (λ l. seen (header ∷ head ++ l ∷ [])) (sym same)
-      ∙ seen_event (header ∷ head) (print (get_or t.events (length done) e)) declared (length done) says line.declares line.is_event in
+      let told : seen (first ∷ head ++ print e ∷ []) ≡ seen_so_far declared (length done + 1) =
+      ap (λ l. seen (first ∷ head ++ l ∷ [])) (sym same)
+      ∙ seen_event (first ∷ head) (print (get_or t.events (length done) e)) declared (length done) says line.declares line.is_event in
       let next = events_fine (done ++ e ∷ []) rest (append_assoc done (e ∷ []) rest ∙ is)
-      (ap (λ ls. seen (header ∷ ls)) more ∙ told ∙ ap (seen_so_far declared) (sym (length-append done (e ∷ [])))) in (
-        ap (λ l. cause (header ∷ head) l true) (sym same)
-            ∙ cause_by_seen head (print (get_or t.events (length done) e)) (seen_so_far declared (length done)) says ∙ fine,
-        subst (λ ls. AreFine trace_causes (header ∷ ls) (map print rest)) more next,
+      (ap (λ ls. seen (first ∷ ls)) more ∙ told ∙ ap (seen_so_far declared) (sym (length-append done (e ∷ [])))) in (
+        ap (λ l. cause (first ∷ head) l true) (sym same)
+            ∙ cause_by_seen version head (print (get_or t.events (length done) e)) (seen_so_far declared (length done)) says ∙ fine,
+        subst (λ ls. AreFine trace_causes (first ∷ ls) (map print rest)) more next,
       )
 
-  header_fine : cause [] header true ≡ None
+  header_fine : cause [] first true ≡ None
   unfolding cause
-  header_fine = refl
+  header_fine = ap (λ v. header_cause v true) (version_again version)
 
   lines_fine : AreFine trace_causes [] (lines t)
   unfolding lines
   lines_fine =
-      let first = declarations_fine [] declared refl header_says in
-      let none_done : header ∷ map declaration_line declared ++ [] ≡ header ∷ map declaration_line declared =
-      append-nil (header ∷ map declaration_line declared) in (
+      let declared_fine = declarations_fine [] declared refl (header_says version) in
+      let none_done : first ∷ map declaration_line declared ++ [] ≡ first ∷ map declaration_line declared =
+      append-nil (first ∷ map declaration_line declared) in (
         header_fine,
-        fine_both trace_causes (header ∷ []) (map declaration_line declared) (map print t.events) first.0
-            (subst (λ ls. AreFine trace_causes ls (map print t.events)) none_done (events_fine [] t.events refl (ap seen none_done ∙ first.1))),
+        fine_both trace_causes (first ∷ []) (map declaration_line declared) (map print t.events) declared_fine.0
+            (subst (λ ls. AreFine trace_causes ls (map print t.events)) none_done (events_fine [] t.events refl (ap seen none_done ∙ declared_fine.1))),
       )
 
   some_lines : 0 < length (lines t)

@@ -9,6 +9,7 @@ use Rattle.std.specs.Fmt.{decimal}
 use Rattle.std.specs.List.{filter_map, cons_option, AllByRecursion}
 use Rattle.std.specs.Option.{option_and_then}
 use Rattle.race_records.specs.declared.event.Event.{Event}
+use Rattle.race_records.specs.declared.version.Version.{Version}
 use Rattle.race_records.specs.Name.{is_name}
 use Rattle.race_records.specs.Declarations.{Declaration, is_too_wide}
 use Rattle.race_records.specs.Nouns.{object_says, number_limit}
@@ -20,7 +21,7 @@ use Rattle.race_records.specs.TraceEquality.{PlacedEvent, placed, placed_events,
 use Rattle.race_text.specs.declared.form.Word.{Word}
 use Rattle.race_text.specs.Words.{parts_of, words_of, has_bad_byte}
 use Rattle.race_text.specs.Text.{header, line_of, second_text, declaration_line, event_line, lines, text}
-use Rattle.race_text.specs.Form.{word_named, first_word, arguments}
+use Rattle.race_text.specs.Form.{word_named, word_in, first_word, arguments}
 use Rattle.race_text.specs.Fault.{declaration_in, declared_as, is_event_line, is_event_word}
 use Rattle.race_text.specs.Text.{HasText}
 use Rattle.race_text.specs.Reading.{Occurrence, event_by, event_in}
@@ -30,8 +31,9 @@ use Rattle.race_text.proofs.DeclarationLemmas.{small_limit, said_again}
 use Rattle.race_text.proofs.NumberLemmas.{number-some}
 use Rattle.race_text.proofs.EventLines.{IsEventLine, event_line as event_line_of}
 use Rattle.race_text.proofs.EventsAgain.{said, event_again}
+use Rattle.race_text.proofs.HeaderLemmas.{same_version}
 use Rattle.race_text.proofs.PlacesAdded.{is_fit}
-use Rattle.race_text.proofs.WordTable.{word_is_seen, object_words_are, noun_again}
+use Rattle.race_text.proofs.WordTable.{word_is_seen, word_of_version, object_words_are, noun_again}
 use Rattle.race_text.proofs.WordLemmas.{name_is_visible}
 use Rattle.race_text.proofs.WordsAgain.{AreVisible, words_again, visible_line_clean, parts_again}
 
@@ -69,10 +71,13 @@ declaration_again d form narrow =
     }
 
 -- it says no event
-pub says_no_event : (ds : List Declaration) (d : Declaration) (line : List ℕ) → IsDeclarationLine d line → event_in ds (words_of line) ≡ None
-says_no_event ds d line is =
-    ap (event_in ds) is.words ∙ ap (λ w. event_by ds w (d.name ∷ number_words (object_says d.object).1))
-    (sym (ap (λ ws. word_named (first_word ws)) is.words) ∙ is.named)
+pub says_no_event : (version : Version) (ds : List Declaration) (d : Declaration) (line : List ℕ) → IsDeclarationLine d line
+    → event_in version ds (words_of line) ≡ None
+says_no_event version ds d line is =
+    let noun = (object_says d.object).0 in
+    let named : word_named (noun_text noun) ≡ Some (Word.Declares noun) = noun_again noun in
+    ap (event_in version ds) is.words ∙ ap (λ w. event_by ds w (d.name ∷ number_words (object_says d.object).1))
+    (word_of_version version (noun_text noun) (Word.Declares noun) named refl)
 
 pub is_no_event : (d : Declaration) (line : List ℕ) → IsDeclarationLine d line → is_event_line line ≡ false
 is_no_event d line is = ap is_event_word is.named
@@ -110,7 +115,20 @@ second_at places false (Some n) fit = absurd (true≢false (sym fit))
 abbrev recorded_as : Occurrence → PlacedEvent
 recorded_as o = record { who = o.who; op = o.op; place = Some o.place; place2 = o.place2 }
 
+header_scanned : (version : Version)
+    → (declaration_in (header version) ≡ None) × ((v : Version) (ds : List Declaration) → event_in v ds (words_of (header version)) ≡ None)
+unfolding word_named word_in
+header_scanned Version.One = (refl, λ v ds. refl)
+header_scanned Version.Two = (refl, λ v ds. refl)
+
+header_clean : (version : Version) → has_bad_byte (header version) ≡ false
+header_clean Version.One = refl
+header_clean Version.Two = refl
+
 module _ (t : TraceState) (has : HasText t) where
+  abbrev version : Version
+  version = t.decls.version
+
   abbrev ds : List Declaration
   ds = t.decls.declarations
 
@@ -118,21 +136,17 @@ module _ (t : TraceState) (has : HasText t) where
   declaration_at i d less = declaration_again (get_or ds i d) (has.well_formed.names i d less) (has.well_formed.capacities i d less)
 
   says_at : (i : ℕ) (e : Event) → i < length t.events
-      → event_in ds (words_of (event_line t.decls (get_or t.events i e))) ≡ Some (said t.decls (get_or t.events i e))
+      → event_in version ds (words_of (event_line t.decls (get_or t.events i e))) ≡ Some (said t.decls (get_or t.events i e))
   says_at i e less = event_again t.decls has.well_formed (get_or t.events i e) (has.is_trace.fit i e less) (has.is_trace.values i e less)
 
-  pub event_at : (i : ℕ) (e : Event) → i < length t.events → IsEventLine ds (event_line t.decls (get_or t.events i e)) (said t.decls (get_or t.events i e))
+  pub event_at : (i : ℕ) (e : Event) → i < length t.events → IsEventLine t.decls (event_line t.decls (get_or t.events i e)) (said t.decls (get_or t.events i e))
   event_at i e less = event_line_of t.decls (event_line t.decls (get_or t.events i e)) (said t.decls (get_or t.events i e)) has.well_formed (says_at i e less)
-
-  header_scanned : (declaration_in header ≡ None) × (event_in ds (words_of header) ≡ None)
-  unfolding word_named
-  header_scanned = (refl, refl)
 
   -- no line has a bad byte, so the text is cut into its lines again
   lines_clean : AllByRecursion (λ l. has_bad_byte l ≡ false) (lines t)
   unfolding lines
   lines_clean = (
-    refl,
+    header_clean version,
     joined_each (λ l. has_bad_byte l ≡ false) (map declaration_line ds) (map (event_line t.decls) t.events)
         (each_line (λ l. has_bad_byte l ≡ false) declaration_line ds (λ i d less. (declaration_at i d less).clean))
         (each_line (λ l. has_bad_byte l ≡ false) (event_line t.decls) t.events (λ i e less. (event_at i e less).clean)),
@@ -146,7 +160,7 @@ module _ (t : TraceState) (has : HasText t) where
   declarations_again : filter_map declaration_in (lines t) ≡ ds
   unfolding lines
   declarations_again =
-      (λ j. cons_option (header_scanned.0 j) (filter_map declaration_in (map declaration_line ds ++ map (event_line t.decls) t.events)))
+      (λ j. cons_option ((header_scanned version).0 j) (filter_map declaration_in (map declaration_line ds ++ map (event_line t.decls) t.events)))
       ∙ filter_map-append declaration_in (map declaration_line ds) (map (event_line t.decls) t.events)
       ∙ (λ j. scan_some declaration_in declaration_line (λ d. d) ds (λ i d less. (declaration_at i d less).declares) j
       ++ scan_none declaration_in (event_line t.decls) t.events (λ i e less. (event_at i e less).declares) j)
@@ -156,14 +170,14 @@ module _ (t : TraceState) (has : HasText t) where
       map-id [] = refl
       map-id (d ∷ ds) = ap (λ l. d ∷ l) (map-id ds)
 
-  events_again : filter_map (λ l. event_in ds (words_of l)) (lines t) ≡ map (said t.decls) t.events
+  events_again : filter_map (λ l. event_in version ds (words_of l)) (lines t) ≡ map (said t.decls) t.events
   unfolding lines
   events_again =
-      (λ j. cons_option (header_scanned.1 j) (filter_map (λ l. event_in ds (words_of l)) (map declaration_line ds ++ map (event_line t.decls) t.events)))
-      ∙ filter_map-append (λ l. event_in ds (words_of l)) (map declaration_line ds) (map (event_line t.decls) t.events)
-      ∙ (λ j. scan_none (λ l. event_in ds (words_of l)) declaration_line ds
-      (λ i d less. says_no_event ds (get_or ds i d) (declaration_line (get_or ds i d)) (declaration_at i d less)) j
-      ++ scan_some (λ l. event_in ds (words_of l)) (event_line t.decls) (said t.decls) t.events says_at j)
+      (λ j. cons_option ((header_scanned version).1 version ds j) (filter_map (λ l. event_in version ds (words_of l)) (map declaration_line ds ++ map (event_line t.decls) t.events)))
+      ∙ filter_map-append (λ l. event_in version ds (words_of l)) (map declaration_line ds) (map (event_line t.decls) t.events)
+      ∙ (λ j. scan_none (λ l. event_in version ds (words_of l)) declaration_line ds
+      (λ i d less. says_no_event version ds (get_or ds i d) (declaration_line (get_or ds i d)) (declaration_at i d less)) j
+      ++ scan_some (λ l. event_in version ds (words_of l)) (event_line t.decls) (said t.decls) t.events says_at j)
 
   recorded_again : (events : List Event) → ((i : ℕ) (e : Event) → i < length events → fits t.decls (get_or events i e) ≡ true)
       → map recorded_as (map (said t.decls) events) ≡ map (placed t.decls.places) events
@@ -181,8 +195,12 @@ module _ (t : TraceState) (has : HasText t) where
             place2 = second_at t.decls.places (has_two_places (says e.op).0) e.place2 is.second j;
           }
 
-  pub placed_again : map recorded_as (filter_map (λ l. event_in ds (words_of l)) (lines t)) ≡ placed_events t
+  pub placed_again : map recorded_as (filter_map (λ l. event_in version ds (words_of l)) (lines t)) ≡ placed_events t
   placed_again = ap (map recorded_as) events_again ∙ recorded_again t.events (λ i e less. has.is_trace.fit i e less)
+
+first_line : (t : TraceState) → header t.decls.version ≡ first_word (lines t)
+unfolding lines
+first_line t = refl
 
 -- equal texts come from equal traces
 pub equal_texts : (t u : TraceState) → HasText t → HasText u → text t ≡ text u → recorded t ≡ recorded u
@@ -190,7 +208,10 @@ equal_texts t u has other same =
     let cut : lines t ≡ lines u = append_cancel_right (lines t) (lines u) ([] ∷ []) (sym (lines_again t has) ∙ ap parts_of same ∙ lines_again u other) in
     let declared : t.decls.declarations ≡ u.decls.declarations = sym (declarations_again t has)
     ∙ ap (filter_map declaration_in) cut ∙ declarations_again u other in
+    let first : header t.decls.version ≡ header u.decls.version = first_line t ∙ ap first_word cut ∙ sym (first_line u) in
+    let version : t.decls.version ≡ u.decls.version = same_version t.decls.version u.decls.version first in
     λ j. record {
-      declarations = declared j;
-      events = (sym (placed_again t has) ∙ (λ k. map recorded_as (filter_map (λ l. event_in (declared k) (words_of l)) (cut k))) ∙ placed_again u other) j;
+      declared = record { version = version j; declarations = declared j };
+      events = (sym (placed_again t has) ∙ (λ k. map recorded_as (filter_map (λ l. event_in (version k) (declared k) (words_of l)) (cut k)))
+          ∙ placed_again u other) j;
     }

@@ -9,25 +9,29 @@ use Rattle.std.proofs.lemmas.List.Elements.{filter_map-append}
 use Rattle.std.proofs.lemmas.List.Sums.{sum_by-append}
 use Rattle.std.proofs.lemmas.Option.{none-some}
 use Rattle.std.specs.List.{filter_map, cons_option, count_by}
+use Rattle.std.specs.Option.{option_and_then}
 use Rattle.race_records.specs.declared.event.Event.{Event}
 use Rattle.race_records.specs.declared.trace.PushFault.{PushFault}
 use Rattle.race_records.specs.declared.trace.TheConstants.{MAX_EVENTS}
+use Rattle.race_records.specs.declared.version.Version.{Version}
 use Rattle.race_records.specs.Declarations.{Declaration, DeclsState, place_number, with_declaration, IsWellFormed, count_of, limit_of}
 use Rattle.race_records.specs.declared.kind.Kind.{Kind}
 use Rattle.race_records.specs.Nouns.{kind_of_noun}
-use Rattle.race_records.specs.Events.{TraceState, IsTrace, fits, is_in_range, lock_fits, push_fault}
+use Rattle.race_records.specs.Events.{TraceState, IsTrace, fits, is_in_range, is_right_kind, push_fault}
 use Rattle.race_records.specs.Parts.{says, has_two_places}
 use Rattle.race_records.proofs.EventLemmas.{push_is_trace}
 use Rattle.race_text.specs.declared.cause.TextCause.{TextCause}
 use Rattle.race_text.specs.declared.form.Word.{Word}
 use Rattle.race_text.specs.Words.{words_of, has_bad_byte}
-use Rattle.race_text.specs.Form.{word_named, fields_of, kind_declared, first_word, arguments}
+use Rattle.race_text.specs.Form.{word_named, as_had, word_in, fields_of, kind_declared, first_word, arguments}
 use Rattle.race_text.specs.Declaring.{is_declaration_word, is_declaration_line}
 use Rattle.race_text.specs.Text.{header, declaration_line, event_line, op_words, goroutine_name, line_of, lines, HasText}
 use Rattle.race_text.specs.Fault.{Seen, seen, seen_so_far, declaration_in, is_event_line, or_else, fields_cause, room_cause, line_cause, cause, word_cause}
 use Rattle.race_text.specs.Reading.{Occurrence, event_by, event_in}
 use Rattle.race_text.specs.Taking.{state_of, IsRead, begun, IsFitting, with_places, event_of, AppendsEvent, IsFull, TakesLine, TakesOrTells}
 use Rattle.race_text.proofs.EventWords.{event_is_there}
+use Rattle.race_text.proofs.HeaderLemmas.{version_again}
+use Rattle.race_text.proofs.WordTable.{declares_named}
 use Rattle.race_text.proofs.EventLines.{IsEventLine, event_line as event_line_of}
 use Rattle.race_text.proofs.PlacesAdded.{words_are_there, words_stay, places_grow, places_well_formed, places_are_trace, both_fit}
 
@@ -43,19 +47,19 @@ events_stay t o holds = map_same (event_line (with_places t.decls o)) (event_lin
     (words_stay t.decls o e (holds.fit k d within)))
 
 -- the line of the event that is appended
-event_line_is : (decls : DeclsState) (line : List ℕ) (o : Occurrence) → IsEventLine decls.declarations line o
+event_line_is : (decls : DeclsState) (line : List ℕ) (o : Occurrence) → IsEventLine decls line o
     → event_line (with_places decls o) (event_of decls o) ≡ line
 event_line_is decls line o is =
     ap (λ places. line_of (op_words decls.declarations (goroutine_name decls.declarations o.who) places o.op)) (words_are_there decls o) ∙ sym is.line_is
 
-lines_event : (old new : TraceState) (line : List ℕ) (o : Occurrence) → IsTrace old → IsEventLine old.decls.declarations line o → AppendsEvent old new o
+lines_event : (old new : TraceState) (line : List ℕ) (o : Occurrence) → IsTrace old → IsEventLine old.decls line o → AppendsEvent old new o
     → lines new ≡ lines old ++ line ∷ []
 unfolding lines
 lines_event old new line o holds is added =
     let decls = with_places old.decls o in
     let e = event_of old.decls o in
-    let before = header ∷ map declaration_line old.decls.declarations in
-    (λ i. (header ∷ map declaration_line (added.decls i).declarations) ++ map (event_line (added.decls i)) (added.events i))
+    let before = header old.decls.version ∷ map declaration_line old.decls.declarations in
+    (λ i. (header (added.decls i).version ∷ map declaration_line (added.decls i).declarations) ++ map (event_line (added.decls i)) (added.events i))
     ∙ ap (λ l. before ++ l) (map-append (event_line decls) old.events (e ∷ []))
     ∙ (λ i. before ++ (events_stay old o holds i ++ event_line_is old.decls line o is i ∷ []))
     ∙ sym (append_assoc before (map (event_line old.decls) old.events) (line ∷ []))
@@ -88,9 +92,10 @@ pub lines_declaration : (decls : DeclsState) (line : List ℕ) (d : Declaration)
     → lines (begun (with_declaration decls d.name d.object)) ≡ lines (begun decls) ++ line ∷ []
 unfolding lines
 lines_declaration decls line d is =
-    ap (λ l. (header ∷ l) ++ []) (map-append declaration_line decls.declarations (d ∷ []))
-    ∙ append-nil _ ∙ (λ i. (header ∷ map declaration_line decls.declarations) ++ sym is i ∷ [])
-    ∙ ap (λ l. l ++ line ∷ []) (sym (append-nil (header ∷ map declaration_line decls.declarations)))
+    let first = header decls.version in
+    ap (λ l. (first ∷ l) ++ []) (map-append declaration_line decls.declarations (d ∷ []))
+    ∙ append-nil _ ∙ (λ i. (first ∷ map declaration_line decls.declarations) ++ sym is i ∷ [])
+    ∙ ap (λ l. l ++ line ∷ []) (sym (append-nil (first ∷ map declaration_line decls.declarations)))
 
 -- the event fits with its places
 pub event_fits : (decls : DeclsState) (o : Occurrence) → IsFitting decls o → fits (with_places decls o) (event_of decls o) ≡ true
@@ -101,7 +106,7 @@ event_fits decls o fitting =
     let less = both.0 in
     let who_fits : nat_lt o.who (count_of Kind.Goroutine decls.declarations) ≡ true = grind (arith, nat_tests, who) in
     let place_fits : nat_lt (place_number decls.places o.place) (length (with_places decls o).places) ≡ true = grind (arith, nat_tests, less) in
-    λ i. (who_fits i && fitting.op i && place_fits i && both.1 i) && fitting.lock i
+    λ i. (who_fits i && fitting.op i && place_fits i && both.1 i) && (fitting.has i && fitting.lock i)
 
 -- what is refused with room for it is refused for memory
 pub memory_alone : {T E : Type 0} (r : Result T E) (e m : E) → IsOkUnless r m → r ≡ Err e → e ≡ m
@@ -112,7 +117,7 @@ pub event_has_room : (t : TraceState) (e : Event) → fits t.decls e ≡ true �
 unfolding push_fault fits
 event_has_room t e fit room =
     let full : nat_le MAX_EVENTS (length t.events) ≡ false = grind (arith, nat_tests) in
-    by (is_in_range t.decls e) (lock_fits t.decls.declarations e.op) fit (nat_le MAX_EVENTS (length t.events)) full
+    by (is_in_range t.decls e) (is_right_kind t.decls e.op) fit (nat_le MAX_EVENTS (length t.events)) full
   where
     by : (a b : Bool) → (a && b) ≡ true → (c : Bool) → c ≡ false
         → ◌≡◌ {A = Option PushFault} (if not a then Some PushFault.BadNumber else
@@ -135,37 +140,40 @@ is_there None h = absurd (h refl)
 is_there (Some x) h = refl
 
 -- the cause of a line behind others is told by what they say
-pub cause_behind : (t : TraceState) (line : List ℕ) → IsRead t → cause (lines t) line true ≡ line_cause (state_of t) line
+pub cause_behind : (t : TraceState) (line : List ℕ) → IsRead t → cause (lines t) line true ≡ line_cause t.decls.version (state_of t) line
 unfolding lines cause
-cause_behind t line read = ap (λ s. line_cause s line) read.seen_is
+cause_behind t line read =
+    ap (option_and_then (λ version. line_cause version (seen (lines t)) line)) (version_again t.decls.version)
+    ∙ ap (λ s. line_cause t.decls.version s line) read.seen_is
 
-pub bad_byte_is_told : (s : Seen) (line : List ℕ) → has_bad_byte line ≡ true → line_cause s line ≡ Some TextCause.BadByte
+pub bad_byte_is_told : (version : Version) (s : Seen) (line : List ℕ) → has_bad_byte line ≡ true → line_cause version s line ≡ Some TextCause.BadByte
 unfolding line_cause
-bad_byte_is_told s line bad =
-    ap (λ b. if b then Some TextCause.BadByte else word_cause s (word_named (first_word (words_of line))) (arguments (words_of line))) bad
+bad_byte_is_told version s line bad =
+    ap (λ b. if b then Some TextCause.BadByte else word_cause s (word_in version (first_word (words_of line))) (arguments (words_of line))) bad
 
-pub clean_line : (s : Seen) (line : List ℕ) → has_bad_byte line ≡ false
-    → line_cause s line ≡ word_cause s (word_named (first_word (words_of line))) (arguments (words_of line))
+pub clean_line : (version : Version) (s : Seen) (line : List ℕ) → has_bad_byte line ≡ false
+    → line_cause version s line ≡ word_cause s (word_in version (first_word (words_of line))) (arguments (words_of line))
 unfolding line_cause
-clean_line s line clean = ap (λ b. if b then Some TextCause.BadByte else word_cause s
-    (word_named (first_word (words_of line))) (arguments (words_of line))) clean
+clean_line version s line clean = ap (λ b. if b then Some TextCause.BadByte else word_cause s
+    (word_in version (first_word (words_of line))) (arguments (words_of line))) clean
 
 -- an event that a line says fits
-pub fitting : (decls : DeclsState) (line : List ℕ) (o : Occurrence) → IsEventLine decls.declarations line o → IsFitting decls o
+pub fitting : (decls : DeclsState) (line : List ℕ) (o : Occurrence) → IsEventLine decls line o → IsFitting decls o
 fitting decls line o is = record {
   place = is.places.first;
   second = is.places.second;
   two = is.places.count;
   who = is.who;
   op = is.op;
+  has = is.has;
   lock = is.lock;
   value = is.value;
 }
 
 -- an event that was appended, or refused
-module _ (old new : TraceState) (line : List ℕ) (o : Occurrence) (read : IsRead old) (is : IsEventLine old.decls.declarations line o) where
+module _ (old new : TraceState) (line : List ℕ) (o : Occurrence) (read : IsRead old) (is : IsEventLine old.decls line o) where
   pub event_cause : cause (lines old) line true ≡ room_cause (state_of old) None
-  event_cause = cause_behind old line read ∙ clean_line (state_of old) line is.clean ∙ is.cause_is (length old.events)
+  event_cause = cause_behind old line read ∙ clean_line old.decls.version (state_of old) line is.clean ∙ is.cause_is (length old.events)
 
   room_is : (b : Bool) → nat_le MAX_EVENTS (length old.events) ≡ b → cause (lines old) line true ≡ (if b then Some TextCause.TooMany else None)
   room_is b e = event_cause ∙ ap (λ c. if c then Some TextCause.TooMany else None) e
@@ -256,25 +264,29 @@ pub no_word : word_named [] ≡ None
 unfolding word_named
 no_word = refl
 
-pub no_event_is_told : (ds : List Declaration) (events : ℕ) (line : List ℕ) → event_in ds (words_of line) ≡ None
+no_word_in : (version : Version) → word_in version [] ≡ None
+unfolding word_in
+no_word_in version = ap (option_and_then (as_had version)) no_word
+
+pub no_event_is_told : (version : Version) (ds : List Declaration) (events : ℕ) (line : List ℕ) → event_in version ds (words_of line) ≡ None
     → (is_declaration_line line ≡ true → 0 < events)
-    → line_cause (seen_so_far ds events) line ≡ None → ⊥
-no_event_is_told ds events line none behind h =
-    cases (has_bad_byte line) refl (λ clean. by (words_of line) none behind (sym (clean_line (seen_so_far ds events) line clean) ∙ h))
+    → line_cause version (seen_so_far ds events) line ≡ None → ⊥
+no_event_is_told version ds events line none behind h =
+    cases (has_bad_byte line) refl (λ clean. by (words_of line) none behind (sym (clean_line version (seen_so_far ds events) line clean) ∙ h))
   where
     cases : (b : Bool) → has_bad_byte line ≡ b → (has_bad_byte line ≡ false → ⊥) → ⊥
-    cases true bad rest = none-some TextCause.BadByte (sym h ∙ bad_byte_is_told (seen_so_far ds events) line bad)
+    cases true bad rest = none-some TextCause.BadByte (sym h ∙ bad_byte_is_told version (seen_so_far ds events) line bad)
     cases false clean rest = rest clean
 
-    by : (ws : List (List ℕ)) → event_in ds ws ≡ None → (is_declaration_word (word_named (first_word ws)) ≡ true → 0 < events)
-        → word_cause (seen_so_far ds events) (word_named (first_word ws)) (arguments ws) ≡ None → ⊥
-    by [] none behind h = none-some TextCause.UnknownWord (sym (sym (ap (λ w. word_cause (seen_so_far ds events) w []) no_word) ∙ h))
-    by (first ∷ args) none behind h = no_event ds events (word_named first) args none behind h
+    by : (ws : List (List ℕ)) → event_in version ds ws ≡ None → (is_declaration_word (word_named (first_word ws)) ≡ true → 0 < events)
+        → word_cause (seen_so_far ds events) (word_in version (first_word ws)) (arguments ws) ≡ None → ⊥
+    by [] none behind h = none-some TextCause.UnknownWord (sym (sym (ap (λ w. word_cause (seen_so_far ds events) w []) (no_word_in version)) ∙ h))
+    by (first ∷ args) none behind h = no_event ds events (word_in version first) args none (λ d. behind (declares_named version first d)) h
 
 -- a line that says an event of these declarations, under another name
 pub says_event : (lent decls : DeclsState) (line : List ℕ) (o : Occurrence) → IsWellFormed lent → lent ≡ decls
-    → event_in lent.declarations (words_of line) ≡ Some o → IsEventLine decls.declarations line o
-says_event lent decls line o holds is h = subst (λ (d : DeclsState). IsEventLine d.declarations line o) is (event_line_of lent line o holds h)
+    → event_in lent.version lent.declarations (words_of line) ≡ Some o → IsEventLine decls line o
+says_event lent decls line o holds is h = subst (λ (d : DeclsState). IsEventLine d line o) is (event_line_of lent line o holds h)
 
 -- where a fact fails only without events, there is one
 pub behind_events : (events : List Event) (count : ℕ) (b : Bool) → count ≡ length events → (events ≡ [] → b ≡ false) → b ≡ true → 0 < count

@@ -6,16 +6,17 @@ use Rattle.race_records.specs.declared.cases.Case.{Case}
 use Rattle.race_records.specs.declared.event.Cause.{Cause}
 use Rattle.race_records.specs.declared.parts.Part.{Part}
 use Rattle.race_records.specs.declared.parts.PartKind.{PartKind}
+use Rattle.race_records.specs.declared.version.Version.{Version}
 use Rattle.race_records.specs.Name.{is_name, is_place, is_place_byte}
 use Rattle.race_records.specs.Declarations.{Declaration, DeclsState, IsWellFormed}
 use Rattle.race_text.specs.declared.form.Word.{Word}
 use Rattle.race_text.specs.Words.{number}
-use Rattle.race_text.specs.Form.{word_named, first_word}
+use Rattle.race_text.specs.Form.{word_in, first_word}
 use Rattle.race_text.specs.Reading.{as_wanted, named_in, cases_in, failure_in, with_rest, first_part, first_place, event_by, event_in}
 use Rattle.race_text.proofs.CaseWords.{is_cases, cases_visible}
 use Rattle.race_text.proofs.FailureWords.{is_failure, failure_again}
 use Rattle.race_text.proofs.CleanLemmas.{place_is_visible, number_is_visible}
-use Rattle.race_text.proofs.WordTable.{word_is_seen}
+use Rattle.race_text.proofs.WordTable.{word_is_seen, word_of_table}
 use Rattle.race_text.proofs.FoundLemmas.{unnamed_is_absent}
 use Rattle.race_text.proofs.WordLemmas.{name_is_visible}
 
@@ -61,10 +62,11 @@ pub unseen_place : (ws : List (List ℕ)) → list_all is_place_byte (first_word
 unseen_place [] h = refl
 unseen_place (w ∷ ws) h = ap (λ b. if b then Some (w, ws) else None) (is_false (is_place w) (list_all is_place_byte w) (place_is_visible w) h)
 
-pub unseen_event : (ds : List Declaration) (ws : List (List ℕ)) → list_all is_place_byte (first_word ws) ≡ false → event_in ds ws ≡ None
-unseen_event ds [] h = refl
-unseen_event ds (w ∷ ws) h = by (word_named w) refl
+pub unseen_event : (version : Version) (ds : List Declaration) (ws : List (List ℕ)) → list_all is_place_byte (first_word ws) ≡ false
+    → event_in version ds ws ≡ None
+unseen_event version ds [] h = refl
+unseen_event version ds (w ∷ ws) h = by (word_in version w) refl
   where
-    by : (o : Option Word) → word_named w ≡ o → event_by ds o ws ≡ None
+    by : (o : Option Word) → word_in version w ≡ o → event_by ds o ws ≡ None
     by None e = refl
-    by (Some word) e = absurd (true≢false (sym (word_is_seen w word e) ∙ h))
+    by (Some word) e = absurd (true≢false (sym (word_is_seen w word (word_of_table version w word e).0) ∙ h))

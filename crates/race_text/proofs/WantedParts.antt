@@ -1,7 +1,7 @@
 -- The parts of an operation are what is wanted just where its lock is an rwmutex that has to be one.
 use Rattle.std.proofs.Common.{◌≡◌, ◌&&◌, Bool, true, false, List, [], ◌∷◌, refl}
 use Rattle.race_records.specs.declared.event.Op.{Op}
-use Rattle.race_records.specs.declared.event.Op.TheVariants.{RLock, RUnlock, Fault}
+use Rattle.race_records.specs.declared.event.Op.TheVariants.{RLock, RUnlock, TryRLock, Fault}
 use Rattle.race_records.specs.declared.parts.Part.{Part}
 use Rattle.race_records.specs.declared.parts.PartKind.{PartKind}
 use Rattle.race_records.specs.Declarations.{Declaration, is_rw}
@@ -31,5 +31,6 @@ and_true false = refl
 pub wanted_by_op : (ds : List Declaration) (op : Op) → are_wanted ds (part_kinds (says op).0) (says op).1 ≡ lock_fits ds op
 wanted_by_op ds (RLock l) = and_true (is_rw ds l)
 wanted_by_op ds (RUnlock l) = and_true (is_rw ds l)
+wanted_by_op ds (TryRLock l) = and_true (is_rw ds l)
 wanted_by_op ds (Fault cause) = and_true (lock_fits ds (Fault cause))
 wanted_by_op ds _ = refl

@@ -1,17 +1,21 @@
 -- The table of words, and its way back.
-use Rattle.std.proofs.Common.{◌≡◌, ℕ, Bool, true, false, if◌then◌else◌, List, [], ◌∷◌, map, Some, refl, sym, ◌∙◌}
+use Rattle.std.proofs.Common.{◌≡◌, ℕ, Bool, true, false, if◌then◌else◌, List, [], ◌∷◌, map, Option, Some, None, refl, sym, ap, ◌∙◌, true≢false}
 use Rattle.std.proofs.lemmas.Option.{none-some, same_Some}
 use Rattle.std.proofs.lemmas.Slice.Eq.{bytes_eq-Decides}
 use Rattle.std.specs.List.{list_all}
+use Rattle.std.specs.Option.{option_and_then}
 use Rattle.std.specs.Str.{bytes_eq}
 use Rattle.race_records.specs.declared.kind.Object.{Object}
 use Rattle.race_records.specs.declared.nouns.Noun.{Noun}
 use Rattle.race_records.specs.declared.parts.Verb.{Verb}
+use Rattle.race_records.specs.declared.version.Version.{Version}
 use Rattle.race_records.specs.Name.{is_place_byte}
 use Rattle.race_records.specs.Nouns.{object_says}
+use Rattle.race_records.specs.Parts.{since, has_verb, is_in}
 use Rattle.race_text.specs.declared.form.Word.{Word}
 use Rattle.race_text.specs.declared.form.TheConstants.{WORDS}
-use Rattle.race_text.specs.Form.{lookup, word_named}
+use Rattle.race_text.specs.Declaring.{is_declaration_word}
+use Rattle.race_text.specs.Form.{lookup, word_named, has_word, as_had, word_in}
 use Rattle.race_text.specs.Text.{object_words}
 use Rattle.race_text.specs.Writing.{noun_text, number_words, verb_text}
 use Rattle.race_text.proofs.WordLemmas.{both}
@@ -54,6 +58,61 @@ pub noun_again : (noun : Noun) → word_named (noun_text noun) ≡ Some (Word.De
 unfolding word_named
 noun_again Noun.Goroutine = refl
 noun_again _ = refl
+
+-- a word of a version is one of the table, which the version has
+pub word_of_table : (version : Version) (w : List ℕ) (word : Word) → word_in version w ≡ Some word
+    → (word_named w ≡ Some word) × (has_word version word ≡ true)
+unfolding word_in
+word_of_table version w word h = by (word_named w) h
+  where
+    if_had : (found : Word) (b : Bool) → has_word version found ≡ b → (if b then Some found else None) ≡ Some word
+        → (Some found ≡ Some word) × (has_word version word ≡ true)
+    if_had found true e h = (h, ap (has_word version) (sym (same_Some found word h)) ∙ e)
+    if_had found false e h = absurd (none-some word h)
+
+    by : (o : Option Word) → option_and_then (as_had version) o ≡ Some word → (o ≡ Some word) × (has_word version word ≡ true)
+    by None h = absurd (none-some word h)
+    by (Some found) h = if_had found (has_word version found) refl h
+
+-- and what the version has of the table is one of its words
+pub word_of_version : (version : Version) (w : List ℕ) (word : Word) → word_named w ≡ Some word → has_word version word ≡ true
+    → word_in version w ≡ Some word
+unfolding word_in
+word_of_version version w word named had = ap (option_and_then (as_had version)) named ∙ ap (λ b. if b then Some word else None) had
+
+-- each version has a word that declares
+pub declares_in : (version : Version) (w : List ℕ) → is_declaration_word (word_named w) ≡ true → word_in version w ≡ word_named w
+declares_in version w h = by (word_named w) refl h
+  where
+    by : (o : Option Word) → word_named w ≡ o → is_declaration_word o ≡ true → word_in version w ≡ word_named w
+    by None e h = absurd (true≢false (sym h))
+    by (Some (Word.Declares noun)) e h = word_of_version version w (Word.Declares noun) e refl ∙ sym e
+    by (Some (Word.Does verb)) e h = absurd (true≢false (sym h))
+
+-- a word that declares in a version does so at all
+pub declares_named : (version : Version) (w : List ℕ) → is_declaration_word (word_in version w) ≡ true → is_declaration_word (word_named w) ≡ true
+declares_named version w h = by (word_in version w) refl h
+  where
+    by : (o : Option Word) → word_in version w ≡ o → is_declaration_word o ≡ true → is_declaration_word (word_named w) ≡ true
+    by None e h = absurd (true≢false (sym h))
+    by (Some word) e h = ap is_declaration_word (word_of_table version w word e).0 ∙ h
+
+-- what is spelled is found again in the versions that have it, and in no other
+pub noun_known : (version : Version) (noun : Noun) → word_in version (noun_text noun) ≡ Some (Word.Declares noun)
+noun_known version noun = word_of_version version (noun_text noun) (Word.Declares noun) (noun_again noun) refl
+
+pub verb_known : (version : Version) (verb : Verb) → has_verb version verb ≡ true → word_in version (verb_text verb) ≡ Some (Word.Does verb)
+verb_known version verb had = word_of_version version (verb_text verb) (Word.Does verb) (verb_again verb) had
+
+pub verb_unknown : (version : Version) (verb : Verb) → has_verb version verb ≡ false → word_in version (verb_text verb) ≡ None
+unfolding word_in
+verb_unknown version verb lacks =
+    ap (option_and_then (as_had version)) (verb_again verb) ∙ ap (λ b. if b then Some (Word.Does verb) else None) lacks
+
+-- each version has what the first one had
+pub early : (version : Version) (verb : Verb) → since verb ≡ Version.One → has_verb version verb ≡ true
+early Version.One verb e = ap (is_in Version.One) e
+early Version.Two verb e = refl
 
 -- the words of a declaration are what it says
 pub object_words_are : (name : List ℕ) (object : Object)

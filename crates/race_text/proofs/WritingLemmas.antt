@@ -75,17 +75,18 @@ event_text decls e word who place place2 verb parts spelled verb_is parts_are na
     ∙ (λ i. (sym spelled i ++ 32 ∷ who) ++ (parts_text ds parts ++ place_end place place2)))
 
 -- the text of a trace, as it is printed
-pub text_is : (t : TraceState) → text t ≡ ended header ++ body t.decls t.events
+pub text_is : (t : TraceState) → text t ≡ ended (header t.decls.version) ++ body t.decls t.events
 unfolding text lines
 text_is t =
     let ds = t.decls.declarations in
     let line = λ (e : Event). event_line t.decls e in
-    flat_map-cons ended header (map declaration_line ds ++ map line t.events)
-    ∙ ap (λ l. ended header ++ l) (flat_map-append ended (map declaration_line ds) (map line t.events)
+    flat_map-cons ended (header t.decls.version) (map declaration_line ds ++ map line t.events)
+    ∙ ap (λ l. ended (header t.decls.version) ++ l) (flat_map-append ended (map declaration_line ds) (map line t.events)
     ∙ (λ j. flat_map-map ended declaration_line ds j ++ flat_map-map ended line t.events j))
 
-pub printed_is : (t : TraceState) (decls : DeclsState) (events : List Event) → decls ≡ t.decls → events ≡ t.events → ended header ++ body decls events ≡ text t
-printed_is t decls events d e = (λ i. ended header ++ body (d i) (e i)) ∙ sym (text_is t)
+pub printed_is : (t : TraceState) (decls : DeclsState) (events : List Event) → decls ≡ t.decls → events ≡ t.events
+    → ended (header decls.version) ++ body decls events ≡ text t
+printed_is t decls events d e = (λ i. ended (header (d i).version) ++ body (d i) (e i)) ∙ sym (text_is t)
 
 -- what an event that fits says of its goroutine, its place and its parts
 module _ (decls : DeclsState) (e : Event) (fit : IsTrue (fits decls e)) where

@@ -10,6 +10,7 @@ use Rattle.race_records.specs.declared.kind.Named.{Named}
 use Rattle.race_records.specs.declared.parts.Part.{Part}
 use Rattle.race_records.specs.declared.parts.PartKind.{PartKind}
 use Rattle.race_records.specs.declared.parts.Verb.{Verb}
+use Rattle.race_records.specs.declared.version.Version.{Version}
 use Rattle.race_records.specs.Name.{is_place_byte}
 use Rattle.race_records.specs.Declarations.{Declaration}
 use Rattle.race_records.specs.Parts.{part_kinds, has_two_places}
@@ -48,9 +49,9 @@ pub record CutsWord (bytes : List ℕ) (len : ℕ) (rest : List ℕ) : Type 0 wh
   pub words : words_in bytes ≡ take len bytes ∷ words_in rest
   pub behind : parts_behind bytes ≡ parts_behind rest
 
--- the line is an event of this word, and what it says stands in front of the rest
+-- the line is an event of this word, which each version has, and what it says stands in front of the rest
 pub record SaysVerb (bytes : List ℕ) (verb : Verb) (rest : List ℕ) : Type 0 where
-  pub says : (ds : List Declaration) → event_in ds (words_in bytes) ≡ event_behind ds verb (words_in rest)
+  pub says : (version : Version) (ds : List Declaration) → event_in version ds (words_in bytes) ≡ event_behind ds verb (words_in rest)
   pub behind : parts_behind bytes ≡ parts_behind rest
 
 -- an object is wanted
@@ -126,9 +127,9 @@ event_at who op place = record { who = who; op = op; place = place; place2 = Non
 abbrev pub EndsLine : List ℕ → List ℕ → Type 0
 EndsLine bytes rest = parts_of bytes ≡ line_in bytes ∷ parts_of rest
 
--- the line says this event
+-- the line says this event in each version
 pub record SaysEvent (ds : List Declaration) (bytes : List ℕ) (o : Occurrence) (rest : List ℕ) : Type 0 where
-  pub says : event_in ds (words_in bytes) ≡ Some o
+  pub says : (version : Version) → event_in version ds (words_in bytes) ≡ Some o
   pub ends : EndsLine bytes rest
 
 -- the lines go on with the one in front where the bytes behind it are told, and else they are the same

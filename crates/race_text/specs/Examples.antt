@@ -15,6 +15,14 @@ fine = codes "gotrace 1\ngoroutine w\nvar x\nwrite main x 7 a.go:1\ngo main w a.
 abbrev pub no_newline : List ℕ
 no_newline = codes "gotrace 1"
 
+-- the second header alone, without a newline
+abbrev pub no_newline_2 : List ℕ
+no_newline_2 = codes "gotrace 2"
+
+-- a header of no version
+abbrev pub no_version : List ℕ
+no_version = codes "gotrace 3\n"
+
 -- a value with a leading zero
 abbrev pub leading_zero : List ℕ
 leading_zero = codes "gotrace 1\nvar x\nwrite main x 01 p\n"
@@ -46,3 +54,23 @@ wrong_kind = codes "gotrace 1\ngoroutine a\nvar x\nread x a 0 p\n"
 -- a mutex where an rwmutex is wanted
 abbrev pub mutex_for_rwmutex : List ℕ
 mutex_for_rwmutex = codes "gotrace 1\ngoroutine a\nmutex m\nrwmutex l\nonce o\nrlock main m p\n"
+
+-- tries, under the header of version 2
+abbrev pub tries : List ℕ
+tries = codes "gotrace 2\nmutex m\nrwmutex l\ntrylock main m p\ntryfail main m q\ntryrlock main l r\n"
+
+-- a try to lock, under that of version 1
+abbrev pub early_try : List ℕ
+early_try = codes "gotrace 1\nmutex m\ntrylock main m p\n"
+
+-- a try to lock for reading
+abbrev pub early_try_to_read : List ℕ
+early_try_to_read = codes "gotrace 1\nrwmutex l\ntryrlock main l p\n"
+
+-- a failed try
+abbrev pub early_failure : List ℕ
+early_failure = codes "gotrace 1\nmutex m\ntryfail main m p\n"
+
+-- a try to lock a mutex for reading
+abbrev pub mutex_tried_for_rwmutex : List ℕ
+mutex_tried_for_rwmutex = codes "gotrace 2\nmutex m\ntryrlock main m p\n"

@@ -3,7 +3,7 @@ use Rattle.std.specs.Prelude.{ℕ, ◌-◌, ◌==◌, ◌&&◌, ◌^◌, Bool, t
 use Rattle.std.specs.Prelude.{nat_lt, List, [], ◌∷◌, length, count_by, fold, Option, Some, None}
 use Rattle.std.specs.Prelude.{is_some, is_none}
 use Rattle.std.specs.List.{filter_map, zip}
-use Rattle.std.specs.Option.{option_map}
+use Rattle.std.specs.Option.{option_and_then, option_map}
 use Rattle.std.specs.Str.{bytes_eq}
 use Rattle.std.specs.Str.Parse.{digits_value}
 use Rattle.race_records.specs.declared.cases.TheConstants.{MAX_CASES}
@@ -12,6 +12,7 @@ use Rattle.race_records.specs.declared.kind.Named.{Named}
 use Rattle.race_records.specs.declared.kind.Object.{Object}
 use Rattle.race_records.specs.declared.parts.PartKind.{PartKind}
 use Rattle.race_records.specs.declared.trace.TheConstants.{MAX_EVENTS}
+use Rattle.race_records.specs.declared.version.Version.{Version}
 use Rattle.race_records.specs.Name.{is_name, is_place}
 use Rattle.race_records.specs.Declarations.{Declaration, find_name, count_of, limit_of}
 use Rattle.race_records.specs.Nouns.{object_by}
@@ -23,7 +24,7 @@ use Rattle.race_text.specs.Words.{words_of, has_bad_byte, number}
 use Rattle.race_text.specs.Lines.{Causes, first_fault}
 use Rattle.race_text.specs.Select.{no_cases, nil, close_nil, pieces_of, SpelledCase, case_spelled, SpelledFailure, failure_spelled, kind_tried}
 use Rattle.race_text.specs.Text.{header}
-use Rattle.race_text.specs.Form.{word_named, fields_of, is_wanted, kind_declared, first_word, arguments}
+use Rattle.race_text.specs.Form.{word_named, word_in, fields_of, is_wanted, kind_declared, first_word, arguments}
 
 -- the place of a cause in the order in which a line is tested. Two never come of a trace's line: a block is of a program's
 -- text, and memory is told by calls alone
@@ -90,7 +91,8 @@ is_event_word (Some word) = is_none (kind_declared word)
 abbrev pub is_event_line : List ℕ → Bool
 is_event_line line = is_event_word (word_named (first_word (words_of line)))
 
--- what the lines before say together. Each is looked at alone, whether it is at fault or not
+-- what the lines before say together. Each is looked at alone, whether it is at fault or not, as one that begins with a word
+-- that its version lacks: no line behind it is judged
 unfoldable pub seen : List (List ℕ) → Seen
 seen before = seen_so_far (filter_map declaration_in before) (count_by is_event_line before)
 
@@ -169,18 +171,30 @@ word_cause s (Some word) words =
     if not (length words == length (fields_of word)) then Some TextCause.WrongCount
     else or_else (fields_cause s.declarations (fields_of word) words) (room_cause s (kind_declared word))
 
--- the least cause of a line behind the first
-unfoldable pub line_cause : Seen → List ℕ → Option TextCause
-line_cause s line =
+-- the least cause of a line behind the first, in a text of this version
+unfoldable pub line_cause : Version → Seen → List ℕ → Option TextCause
+line_cause version s line =
     if has_bad_byte line then Some TextCause.BadByte
-    else word_cause s (word_named (first_word (words_of line))) (arguments (words_of line))
+    else word_cause s (word_in version (first_word (words_of line))) (arguments (words_of line))
 
--- the least cause of a line that stands after others, and ends with a newline or not
+-- the version that the first line says, where it is a header
+abbrev pub version_said : List ℕ → Option Version
+version_said line =
+    if bytes_eq line (header Version.One) then Some Version.One
+    else (if bytes_eq line (header Version.Two) then Some Version.Two else None)
+
+-- the cause of the first line, by the version that it says
+abbrev pub header_cause : Option Version → Bool → Option TextCause
+header_cause None newline = Some TextCause.BadHeader
+header_cause (Some version) newline = if newline then None else Some TextCause.NoNewline
+
+-- the least cause of a line that stands after others, and ends with a newline or not. Where the first line is no header, no line
+-- behind it is judged
 unfoldable pub cause : List (List ℕ) → List ℕ → Bool → Option TextCause
-cause [] line newline =
-    if not (bytes_eq line header) then Some TextCause.BadHeader
-    else (if newline then None else Some TextCause.NoNewline)
-cause (first ∷ before) line newline = if newline then line_cause (seen (first ∷ before)) line else Some TextCause.NoNewline
+cause [] line newline = header_cause (version_said line) newline
+cause (first ∷ before) line newline =
+    if newline then option_and_then (λ version. line_cause version (seen (first ∷ before)) line) (version_said first)
+    else Some TextCause.NoNewline
 
 -- the cause of the last part of a text, behind these lines. It is a line only where it has a byte, or is the first
 abbrev pub end_cause : List (List ℕ) → List ℕ → Option TextCause

@@ -1,12 +1,14 @@
--- The words that a line may begin with, and what each wants behind it.
+-- The words that a line may begin with, which versions have them, and what each wants behind it.
 use Rattle.std.specs.Prelude.{ℕ, Bool, true, false, if◌then◌else◌, List, [], ◌∷◌, ◌++◌, map, Option, Some, None}
+use Rattle.std.specs.Option.{option_and_then}
 use Rattle.std.specs.Str.{bytes_eq}
 use Rattle.race_records.specs.declared.kind.Kind.{Kind}
 use Rattle.race_records.specs.declared.kind.Named.{Named}
 use Rattle.race_records.specs.declared.parts.PartKind.{PartKind}
+use Rattle.race_records.specs.declared.version.Version.{Version}
 use Rattle.race_records.specs.Declarations.{Declaration, is_named, is_rw}
 use Rattle.race_records.specs.Nouns.{number_limit, kind_of_noun}
-use Rattle.race_records.specs.Parts.{part_kinds, has_two_places}
+use Rattle.race_records.specs.Parts.{has_verb, part_kinds, has_two_places}
 use Rattle.race_text.specs.declared.form.Word.{Word}
 use Rattle.race_text.specs.declared.form.Field.{Field}
 use Rattle.race_text.specs.declared.form.TheConstants.{WORDS}
@@ -16,9 +18,22 @@ abbrev pub lookup : List (List ℕ × Word) → List ℕ → Option Word
 lookup [] w = None
 lookup (entry ∷ entries) w = if bytes_eq w entry.0 then Some entry.1 else lookup entries w
 
--- what the first word of a line says that the line is, by the table of words in src/form.rt
+-- what a word says that a line is which begins with it, by the table of the words of all versions in src/form.rt
 unfoldable pub word_named : List ℕ → Option Word
 word_named w = lookup (map (λ entry. (entry.0.now, entry.1)) WORDS) w
+
+-- the version has the word: each has all nouns
+abbrev pub has_word : Version → Word → Bool
+has_word version (Word.Declares noun) = true
+has_word version (Word.Does verb) = has_verb version verb
+
+-- this word, where the version has it
+abbrev pub as_had : Version → Word → Option Word
+as_had version word = if has_word version word then Some word else None
+
+-- what the first word of a line says that the line is, in a text of this version
+unfoldable pub word_in : Version → List ℕ → Option Word
+word_in version w = option_and_then (as_had version) (word_named w)
 
 -- a number, where there is a limit of it
 abbrev pub number_fields : Option ℕ → List Field

@@ -1,20 +1,21 @@
 -- The laws of trace text, which functions of src/laws.rt that do nothing have as their contracts.
-use Rattle.std.specs.Prelude.{◌≡◌, ℕ, List, ◌∷◌, ◌++◌, Some, None}
+use Rattle.std.specs.Prelude.{◌≡◌, ℕ, true, false, List, ◌∷◌, ◌++◌, Some, None}
 use Rattle.race_records.specs.declared.event.Op.{Op}
 use Rattle.race_records.specs.declared.kind.Object.{Object}
 use Rattle.race_records.specs.declared.nouns.Noun.{Noun}
 use Rattle.race_records.specs.declared.parts.Verb.{Verb}
+use Rattle.race_records.specs.declared.version.Version.{Version}
 use Rattle.race_records.specs.Declarations.{Declaration}
 use Rattle.race_records.specs.Events.{TraceState}
 use Rattle.race_records.specs.Nouns.{object_says}
-use Rattle.race_records.specs.Parts.{says}
+use Rattle.race_records.specs.Parts.{says, has_verb}
 use Rattle.race_records.specs.TraceEquality.{recorded}
 use Rattle.race_text.specs.declared.cause.TextFault.{TextFault}
 use Rattle.race_text.specs.declared.form.Word.{Word}
-use Rattle.race_text.specs.Form.{word_named}
+use Rattle.race_text.specs.Form.{word_in}
 use Rattle.race_text.specs.Writing.{noun_text, number_words, verb_text, said_words}
-use Rattle.race_text.specs.Text.{object_words, op_words, text, HasText, IsTextOf, IsTraceText}
-use Rattle.race_text.specs.Fault.{trace_causes, text_fault}
+use Rattle.race_text.specs.Text.{header, object_words, op_words, text, HasText, IsTextOf, IsTraceText}
+use Rattle.race_text.specs.Fault.{version_said, trace_causes, text_fault}
 use Rattle.race_text.specs.Fed.{ended_fault}
 
 -- every trace whose text the bytes are records what t records; that t is one isn't said
@@ -22,14 +23,17 @@ abbrev pub IsOnlyTraceOf : List ℕ → TraceState → Type 0
 IsOnlyTraceOf bytes t = (u : TraceState) → IsTextOf u bytes → recorded u ≡ recorded t
 
 -- each line that is printed has the words of the table from which the code reads and prints: those of what its declaration
--- or its operation says; and each word of a declaration or of an operation is known as itself
+-- or its operation says; each word of a declaration is known as itself, and so is each word of an operation in the versions
+-- that have it, and in no other; and each header says its version
 pub record LinesFollowTheTables : Type 0 where
   pub declarations : (name : List ℕ) (object : Object)
       → object_words name object ≡ noun_text (object_says object).0 ∷ name ∷ number_words (object_says object).1
   pub events : (ds : List Declaration) (who : List ℕ) (places : List (List ℕ)) (op : Op)
       → op_words ds who places op ≡ said_words ds who places (says op).0 (says op).1
-  pub noun_known : (noun : Noun) → word_named (noun_text noun) ≡ Some (Word.Declares noun)
-  pub verb_known : (verb : Verb) → word_named (verb_text verb) ≡ Some (Word.Does verb)
+  pub noun_known : (version : Version) (noun : Noun) → word_in version (noun_text noun) ≡ Some (Word.Declares noun)
+  pub verb_known : (version : Version) (verb : Verb) → has_verb version verb ≡ true → word_in version (verb_text verb) ≡ Some (Word.Does verb)
+  pub verb_unknown : (version : Version) (verb : Verb) → has_verb version verb ≡ false → word_in version (verb_text verb) ≡ None
+  pub header_known : (version : Version) → version_said (header version) ≡ Some version
 
 -- the text of a trace has no fault
 abbrev pub TextsHaveNoFault : Type 0
@@ -39,7 +43,7 @@ TextsHaveNoFault = (t : TraceState) → HasText t → text_fault (text t) ≡ No
 abbrev pub FaultlessBytesAreTexts : Type 0
 FaultlessBytesAreTexts = (bytes : List ℕ) → text_fault bytes ≡ None → IsTraceText bytes
 
--- traces with equal texts record the same: declarations, and events with the texts of their places
+-- traces with equal texts record the same: their version, declarations, and events with the texts of their places
 abbrev pub EqualTextsAreOfEqualTraces : Type 0
 EqualTextsAreOfEqualTraces = (t u : TraceState) → HasText t → HasText u → text t ≡ text u → recorded t ≡ recorded u
 

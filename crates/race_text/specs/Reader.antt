@@ -1,5 +1,6 @@
 -- How far a trace is read, line by line.
 use Rattle.std.specs.Prelude.{◌≡◌, ◌≢◌, ℕ, ◌<◌, Bool, true, false, List, [], length, Option, Some, None, Result, Ok, Err}
+use Rattle.race_records.specs.declared.version.Version.{Version}
 use Rattle.race_records.specs.Declarations.{DeclsState}
 use Rattle.race_records.specs.Events.{TraceState}
 use Rattle.race_text.specs.declared.cause.TextCause.{TextCause}
@@ -7,6 +8,10 @@ use Rattle.race_text.specs.Text.{lines}
 use Rattle.race_text.specs.Fault.{cause}
 use Rattle.race_text.specs.Declaring.{is_declaration_line}
 use Rattle.race_text.specs.Taking.{IsRead, TakesLine, begun}
+
+-- nothing is declared, in a text of this version
+abbrev pub nothing_in : Version → DeclsState
+nothing_in version = record { version = version; declarations = []; places = [] }
 
 -- the trace that is read so far: declarations alone, until the first event
 abbrev pub trace_read : DeclsState → Option TraceState → TraceState
@@ -18,9 +23,9 @@ abbrev pub lines_read : Bool → DeclsState → Option TraceState → List (List
 lines_read false decls trace = []
 lines_read true decls trace = lines (trace_read decls trace)
 
--- what holds between two lines
+-- what holds between two lines. The version is that of the first line, once that is read
 abbrev pub IsReading : Bool → DeclsState → Option TraceState → Type 0
-IsReading false decls trace = (decls ≡ record { declarations = []; places = [] }) × (trace ≡ None)
+IsReading false decls trace = (decls ≡ nothing_in Version.One) × (trace ≡ None)
 IsReading true decls None = IsRead (begun decls)
 IsReading true decls (Some trace) = IsRead trace × (0 < length trace.events)
 

@@ -14,13 +14,14 @@ use Rattle.race_records.specs.declared.kind.Named.{Named}
 use Rattle.race_records.specs.declared.parts.Part.{Part}
 use Rattle.race_records.specs.declared.parts.PartKind.{PartKind}
 use Rattle.race_records.specs.declared.parts.Verb.{Verb}
+use Rattle.race_records.specs.declared.version.Version.{Version}
 use Rattle.race_records.specs.Name.{is_place}
 use Rattle.race_records.specs.Declarations.{Declaration, find_name, number_of}
 use Rattle.race_records.specs.Parts.{op_by, part_kinds, has_two_places}
 use Rattle.race_text.specs.declared.event.Draft.{Draft}
 use Rattle.race_text.specs.declared.form.Word.{Word}
 use Rattle.race_text.specs.Words.{parts_left, number}
-use Rattle.race_text.specs.Form.{word_named, is_wanted}
+use Rattle.race_text.specs.Form.{word_in, is_wanted}
 use Rattle.race_text.specs.Select.{no_cases, nil, close_nil, pieces_of, SpelledCase, case_spelled, SpelledFailure, failure_spelled, kind_tried, cause_by}
 
 -- an event with its places as they are spelled
@@ -198,7 +199,7 @@ event_by ds None words = None
 event_by ds (Some (Word.Declares object)) words = None
 event_by ds (Some (Word.Does verb)) words = event_behind ds verb words
 
--- what a line says, by its words
-abbrev pub event_in : List Declaration → List (List ℕ) → Option Occurrence
-event_in ds [] = None
-event_in ds (first ∷ words) = event_by ds (word_named first) words
+-- what a line says, by its words, in a text of this version
+abbrev pub event_in : Version → List Declaration → List (List ℕ) → Option Occurrence
+event_in version ds [] = None
+event_in version ds (first ∷ words) = event_by ds (word_in version first) words

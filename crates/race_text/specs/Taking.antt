@@ -6,7 +6,7 @@ use Rattle.race_records.specs.declared.kind.Kind.{Kind}
 use Rattle.race_records.specs.declared.trace.TheConstants.{MAX_EVENTS}
 use Rattle.race_records.specs.Name.{is_place}
 use Rattle.race_records.specs.Declarations.{DeclsState, count_of, place_number, with_place}
-use Rattle.race_records.specs.Events.{TraceState, op_fits, lock_fits, op_is_limited}
+use Rattle.race_records.specs.Events.{TraceState, op_fits, has_op, lock_fits, op_is_limited}
 use Rattle.race_records.specs.Parts.{says, has_two_places}
 use Rattle.race_text.specs.declared.cause.TextCause.{TextCause}
 use Rattle.race_text.specs.Text.{HasText, lines}
@@ -27,14 +27,15 @@ pub record IsRead (t : TraceState) : Type 0 where
 abbrev pub begun : DeclsState → TraceState
 begun decls = record { decls = decls; events = []; spare = 0 }
 
--- the numbers of an event are declared, its lock is an rwmutex where its operation wants one, its places have a place's form,
--- and there are two just where its operation wants two
+-- the numbers of an event are declared, its operation is one of the version, its lock is an rwmutex where its operation wants
+-- one, its places have a place's form, and there are two just where its operation wants two
 pub record IsFitting (decls : DeclsState) (o : Occurrence) : Type 0 where
   pub place : is_place o.place ≡ true
   pub second : IfSome o.place2 (λ place. is_place place ≡ true)
   pub two : has_two_places (says o.op).0 ≡ is_some o.place2
   pub who : o.who < count_of Kind.Goroutine decls.declarations
   pub op : op_fits decls.declarations o.op ≡ true
+  pub has : has_op decls.version o.op ≡ true
   pub lock : lock_fits decls.declarations o.op ≡ true
   pub value : op_is_limited o.op ≡ true
 
@@ -45,7 +46,7 @@ second_places decls (Some place) = (with_place decls place).places
 
 -- the state with these
 abbrev pub with_second : DeclsState → Option (List ℕ) → DeclsState
-with_second decls place2 = record { declarations = decls.declarations; places = second_places decls place2 }
+with_second decls place2 = record { version = decls.version; declarations = decls.declarations; places = second_places decls place2 }
 
 -- the state with an event's places, one after the other
 abbrev pub with_places : DeclsState → Occurrence → DeclsState

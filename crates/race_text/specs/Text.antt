@@ -7,19 +7,21 @@ use Rattle.race_records.specs.declared.event.Event.{Event}
 use Rattle.race_records.specs.declared.event.Op.{Op}
 use Rattle.race_records.specs.declared.event.Op.TheVariants.{Go, Exit, Read, Write, Send, Recv, Meet}
 use Rattle.race_records.specs.declared.event.Op.TheVariants.{RecvClosed, Close, Default, Lock, Unlock, RLock}
-use Rattle.race_records.specs.declared.event.Op.TheVariants.{RUnlock, OnceBegin, OnceEnd, OnceDone, Fault}
+use Rattle.race_records.specs.declared.event.Op.TheVariants.{RUnlock, TryLock, TryRLock, TryFail, OnceBegin, OnceEnd, OnceDone, Fault}
 use Rattle.race_records.specs.declared.event.Cause.{Cause}
 use Rattle.race_records.specs.declared.event.Cause.TheVariants.{SendClosed, CloseClosed, CloseNil, UnlockFree, RUnlockFree}
 use Rattle.race_records.specs.declared.cases.Case.{Case}
 use Rattle.race_records.specs.declared.cases.Dir.{Dir}
 use Rattle.race_records.specs.declared.kind.Named.{Named}
 use Rattle.race_records.specs.declared.kind.Object.{Object}
+use Rattle.race_records.specs.declared.version.Version.{Version}
 use Rattle.race_records.specs.Declarations.{Declaration, DeclsState, IsWellFormed, name_of}
 use Rattle.race_records.specs.Events.{TraceState, IsTrace}
 
--- the first line
-abbrev pub header : List ℕ
-header = codes "gotrace 1"
+-- the first line, which says the version
+abbrev pub header : Version → List ℕ
+header Version.One = codes "gotrace 1"
+header Version.Two = codes "gotrace 2"
 
 -- words with single spaces between them
 abbrev pub line_of : List (List ℕ) → List ℕ
@@ -114,6 +116,9 @@ op_words ds who places (Lock l) = codes "lock" ∷ who ∷ lock_name ds l ∷ pl
 op_words ds who places (Unlock l) = codes "unlock" ∷ who ∷ lock_name ds l ∷ places
 op_words ds who places (RLock l) = codes "rlock" ∷ who ∷ lock_name ds l ∷ places
 op_words ds who places (RUnlock l) = codes "runlock" ∷ who ∷ lock_name ds l ∷ places
+op_words ds who places (TryLock l) = codes "trylock" ∷ who ∷ lock_name ds l ∷ places
+op_words ds who places (TryRLock l) = codes "tryrlock" ∷ who ∷ lock_name ds l ∷ places
+op_words ds who places (TryFail l) = codes "tryfail" ∷ who ∷ lock_name ds l ∷ places
 op_words ds who places (OnceBegin o) = codes "oncebegin" ∷ who ∷ once_name ds o ∷ places
 op_words ds who places (OnceEnd o) = codes "onceend" ∷ who ∷ once_name ds o ∷ places
 op_words ds who places (OnceDone o) = codes "oncedone" ∷ who ∷ once_name ds o ∷ places
@@ -125,9 +130,9 @@ event_line decls e =
     line_of (op_words decls.declarations (goroutine_name decls.declarations e.who)
     (place_words (place_text decls.places e.place) (second_text decls.places e.place2)) e.op)
 
--- the header, a line for each declaration and a line for each event
+-- the header of its version, a line for each declaration and a line for each event
 unfoldable pub lines : TraceState → List (List ℕ)
-lines t = header ∷ map declaration_line t.decls.declarations ++ map (event_line t.decls) t.events
+lines t = header t.decls.version ∷ map declaration_line t.decls.declarations ++ map (event_line t.decls) t.events
 
 -- each line is ended by a newline
 abbrev pub ended : List ℕ → List ℕ

@@ -11,7 +11,7 @@ ghost use Rattle.race_text.specs.Reading as spec;
 
 use crate::cut::{cut_at, cut_word};
 use crate::fields::is_wanted;
-use crate::form::{Word, word_named};
+use crate::form::{Word, word_in};
 use crate::number::read_number;
 use crate::select::{case_spelled, cause_by, failure_spelled, kind_tried};
 use race_records::{
@@ -37,11 +37,11 @@ pub struct Draft<'a> {
 pub(crate) fn read_event<'a, A: Allocator>(decls: &Decls<A>, line: &'a [u8]) -> Option<Draft<'a>>
     requires { IsWellFormed decls.now }
     ensures { option_map spec.drafted result
-        ≡ spec.event_in decls.now.declarations (words_of line.now) }
+        ≡ spec.event_in decls.now.version decls.now.declarations (words_of line.now) }
 {
     match cut_word(line) {
         None => None,
-        Some((end, rest)) => match word_named(&line[..end]) {
+        Some((end, rest)) => match word_in(decls.version(), &line[..end]) {
             None => None,
             Some(word) => match word {
                 Word::Declares(_) => None,

@@ -14,6 +14,19 @@ pub fn a_trace_has_no_fault()
 pub fn the_header_comes_first()
     ensures empty { text_fault [] ≡ Some (text.fault_at 1 TextCause.BadHeader) }
     ensures no_newline { text_fault text.no_newline ≡ Some (text.fault_at 1 TextCause.NoNewline) }
+    ensures second { text_fault text.no_newline_2 ≡ Some (text.fault_at 1 TextCause.NoNewline) }
+    ensures other { text_fault text.no_version ≡ Some (text.fault_at 1 TextCause.BadHeader) }
+{}
+
+/// Tries to lock are events in version 2, and their words are unknown in version 1.
+pub fn tries_are_of_version_two()
+    ensures two { text_fault text.tries ≡ None }
+    ensures lock { text_fault text.early_try ≡ Some (text.fault_at 3 TextCause.UnknownWord) }
+    ensures rlock { text_fault text.early_try_to_read
+        ≡ Some (text.fault_at 3 TextCause.UnknownWord) }
+    ensures failure { text_fault text.early_failure ≡ Some (text.fault_at 3 TextCause.UnknownWord) }
+    ensures rwmutex { text_fault text.mutex_tried_for_rwmutex
+        ≡ Some (text.fault_at 3 TextCause.WrongKind) }
 {}
 
 /// Each word has one spelling, and single spaces stand between words.

@@ -6,7 +6,7 @@ ghost use Rattle.race_text.specs.Fault as spec;
 use crate::cause::TextCause;
 use crate::cut::{cut_at, has_bad_byte};
 use crate::fields::fields_cause;
-use crate::form::{Word, fields_of, kind_declared, word_named};
+use crate::form::{Word, fields_of, kind_declared, word_in};
 use race_records::{Decls, Kind, MAX_EVENTS};
 use std::alloc::Allocator;
 
@@ -17,13 +17,14 @@ pub(crate) fn line_cause<A: Allocator>(
     events: usize,
     line: &[u8],
 ) -> Option<TextCause>
-    ensures { result ≡ spec.line_cause (spec.seen_so_far decls.now.declarations events) line.now }
+    ensures { result ≡ spec.line_cause decls.now.version
+        (spec.seen_so_far decls.now.declarations events) line.now }
 {
     if has_bad_byte(line) {
         return Some(TextCause::BadByte);
     }
     let (first, rest) = cut_at(line, b' ');
-    match word_named(first) {
+    match word_in(decls.version(), first) {
         None => Some(TextCause::UnknownWord),
         Some(word) => word_cause(decls, events, word, rest),
     }

@@ -1,9 +1,10 @@
-//! The words that a line may begin with, and what each wants behind it.
-ghost use Rattle.std.specs.Prelude.{◌≡◌, ◌++◌, ◌∷◌, [], length, map, take, Some, IfSome};
+//! The words that a line may begin with, which versions have them, and what each wants behind it.
+ghost use Rattle.std.specs.Prelude.{◌≡◌, ◌++◌, ◌∷◌, [], length, map, take, true, Some, IfSome};
+ghost use Rattle.race_records.specs.Parts.{since};
 ghost use Rattle.race_text.specs.Form as spec;
 
 use arrayvec::ArrayVec;
-use race_records::{Kind, Noun, PartKind, Verb, part_kinds};
+use race_records::{Kind, Noun, PartKind, Verb, Version, part_kinds};
 
 /// What the first word of a line says that the line is.
 #[derive(Clone, Copy, PartialEq, Eq)]
@@ -14,8 +15,9 @@ pub enum Word {
     Does(Verb),
 }
 
-/// The words that a line may begin with, the common ones first: they are looked for in this order.
-pub const WORDS: [(&[u8], Word); 24] = [
+/// The words that a line may begin with in any version, the common ones first: they are looked for
+/// in this order.
+pub const WORDS: [(&[u8], Word); 27] = [
     (b"read", Word::Does(Verb::Read)),
     (b"write", Word::Does(Verb::Write)),
     (b"lock", Word::Does(Verb::Lock)),
@@ -34,6 +36,9 @@ pub const WORDS: [(&[u8], Word); 24] = [
     (b"oncedone", Word::Does(Verb::OnceDone)),
     (b"default", Word::Does(Verb::Default)),
     (b"fault", Word::Does(Verb::Fault)),
+    (b"trylock", Word::Does(Verb::TryLock)),
+    (b"tryrlock", Word::Does(Verb::TryRLock)),
+    (b"tryfail", Word::Does(Verb::TryFail)),
     (b"goroutine", Word::Declares(Noun::Goroutine)),
     (b"var", Word::Declares(Noun::Var)),
     (b"chan", Word::Declares(Noun::Chan)),
@@ -61,7 +66,7 @@ impl Default for Field {
     }
 }
 
-/// What the first word of a line says that the line is.
+/// What a word says that a line is which begins with it, in whichever version that has it.
 #[inline(always)]
 #[tactic(auto, unfolding(crate::specs::Form::word_named))]
 pub fn word_named(word: &[u8]) -> Option<Word>
@@ -73,11 +78,43 @@ pub fn word_named(word: &[u8]) -> Option<Word>
     }
 }
 
-// A common word, told by its bytes without a look into the table.
+/// What the first word of a line says that the line is, in a text of this version.
+#[inline(always)]
+#[tactic(auto, unfolding(crate::specs::Form::word_in, crate::specs::Form::word_named))]
+pub fn word_in(version: Version, word: &[u8]) -> Option<Word>
+    ensures { result ≡ spec.word_in version word.now }
+{
+    match common_word(word) {
+        Some(found) => Some(found),
+        None => match lookup(&WORDS, word) {
+            None => None,
+            Some(found) => {
+                if has_word(version, found) {
+                    Some(found)
+                } else {
+                    None
+                }
+            }
+        },
+    }
+}
+
+// Whether the version has the word.
+fn has_word(version: Version, word: Word) -> bool
+    ensures { result ≡ spec.has_word version word }
+{
+    match word {
+        Word::Declares(_) => true,
+        Word::Does(verb) => version.has(verb),
+    }
+}
+
+// A common word, told by its bytes without a look into the table. Each version has it.
 #[inline(always)]
 #[tactic(auto, unfolding(crate::specs::Form::word_named))]
 pub(crate) fn common_word(word: &[u8]) -> Option<Word>
-    ensures { IfSome result (λ found. spec.word_named word.now ≡ Some found) }
+    ensures named { IfSome result (λ found. spec.word_named word.now ≡ Some found) }
+    ensures each { IfSome result (λ found. (version : Version) → spec.has_word version found ≡ true) }
 {
     match word {
         [b'r', b'e', b'a', ..] => verb_spelled(word, b"read", Verb::Read),
@@ -94,11 +131,13 @@ pub(crate) fn common_word(word: &[u8]) -> Option<Word>
     }
 }
 
-// The verb, where the word is its spelling. A loop over bytes, as the spelling is constant and short.
+// The verb of version 1, where the word is its spelling. A loop over bytes, as the spelling is constant and short.
 #[inline(always)]
 fn verb_spelled(word: &[u8], spelling: &[u8], verb: Verb) -> Option<Word>
-    requires { spec.word_named spelling.now ≡ Some (Word.Does verb) }
-    ensures { IfSome result (λ found. spec.word_named word.now ≡ Some found) }
+    requires named { spec.word_named spelling.now ≡ Some (Word.Does verb) }
+    requires early { since verb ≡ Version.One }
+    ensures named { IfSome result (λ found. spec.word_named word.now ≡ Some found) }
+    ensures each { IfSome result (λ found. (version : Version) → spec.has_word version found ≡ true) }
 {
     if word.len() != spelling.len() {
         return None;

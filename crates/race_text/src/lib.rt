@@ -11,6 +11,7 @@ mod fields;
 mod finder;
 mod form;
 mod guesses;
+mod header;
 mod lanes;
 pub mod laws;
 mod line_reader;
@@ -37,7 +38,7 @@ pub use fields::{fields_cause, has_too_many_pieces, lesser, used_name_cause};
 #[doc(hidden)]
 pub use finder::{has_count, word_cause};
 #[doc(hidden)]
-pub use form::{Field, Word, word_named};
+pub use form::{Field, Word, word_in, word_named};
 #[doc(hidden)]
 pub use guesses::{Guess, Guesses};
 pub use line_reader::LineReader;

@@ -11,8 +11,9 @@ use crate::cause::TextCause;
 use crate::cut::has_bad_byte;
 use crate::declaration::read_declaration;
 use crate::guesses::Guesses;
+use crate::header::version_said;
 use crate::taking::{take_common, take_event};
-use race_records::{Decls, Trace};
+use race_records::{Decls, Trace, Version};
 use std::alloc::Allocator;
 use std::mem;
 
@@ -22,7 +23,7 @@ pub struct Reader<A: Allocator> {
     pub alloc: A,
     /// Whether the header was read.
     pub has_header: bool,
-    /// The declarations, until the first event.
+    /// The declarations, until the first event. They are of the version that the header says.
     pub decls: Decls<A>,
     /// The trace, from the first event on.
     pub trace: Option<Trace<A>>,
@@ -122,10 +123,10 @@ impl<A: Allocator + Copy> Reader<A> {
                 Some(TextCause::NoNewline)
             };
         }
-        if last == b"gotrace 1".as_slice() {
-            return Some(TextCause::NoNewline);
+        match version_said(last) {
+            None => Some(TextCause::BadHeader),
+            Some(_) => Some(TextCause::NoNewline),
         }
-        Some(TextCause::BadHeader)
     }
 
     // The trace that was read. Takes no memory.
@@ -160,11 +161,18 @@ impl<A: Allocator + Copy> Reader<A> {
         ensures reading { OnOk result
             (spec.IsReading self.new.has_header self.new.decls self.new.trace) }
     {
-        if line == b"gotrace 1".as_slice() {
-            self.has_header = true;
-            return Ok(());
+        match version_said(line) {
+            None => Err(TextCause::BadHeader),
+            Some(Version::One) => {
+                self.has_header = true;
+                Ok(())
+            }
+            Some(Version::Two) => {
+                self.decls = Decls::new_version2(self.alloc);
+                self.has_header = true;
+                Ok(())
+            }
         }
-        Err(TextCause::BadHeader)
     }
 
     // Takes a line before which no event stands.

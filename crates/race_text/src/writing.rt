@@ -13,6 +13,7 @@ ghost use Rattle.race_records.specs.Declarations.{count_of};
 ghost use Rattle.std.specs.List.{list_all};
 ghost use Rattle.std.specs.Option.{option_map};
 
+use crate::header::header_line;
 use itoa::Buffer;
 use race_records::{
     Case, Cases, Cause, Decls, Dir, Event, Kind, Named, Noun, Page, Part, Sink, Trace, Verb,
@@ -50,9 +51,9 @@ fn print_trace<W: Write, A: Allocator>(
 ) -> Result<(), WriteFault>
     requires { All (λ e. IsTrue (fits decls.now e)) events.now }
     ensures { Printing W.contents result sink.old sink.new page.old page.new
-        (text.ended text.header ++ body decls.now events.now) }
+        (text.ended (text.header decls.now.version) ++ body decls.now events.now) }
 {
-    match page.put(sink, b"gotrace 1\n") {
+    match page.put(sink, header_line(decls.version())) {
         Ok(()) => print_body(page, sink, decls, events),
         Err(fault) => Err(fault),
     }
@@ -216,6 +217,9 @@ fn verb_text(verb: Verb) -> &'static str
         Verb::Unlock => "unlock",
         Verb::RLock => "rlock",
         Verb::RUnlock => "runlock",
+        Verb::TryLock => "trylock",
+        Verb::TryRLock => "tryrlock",
+        Verb::TryFail => "tryfail",
         Verb::OnceBegin => "oncebegin",
         Verb::OnceEnd => "onceend",
         Verb::OnceDone => "oncedone",

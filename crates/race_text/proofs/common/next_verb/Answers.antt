@@ -1,7 +1,16 @@
+use Rattle.std.proofs.Common.{Some, sym, ap, ◌∙◌}
+use Rattle.race_text.specs.Form.{has_word}
+use Rattle.race_text.proofs.CommonLemmas.{says_verb}
 use Rattle.race_text.proofs.common.next_verb.Goals as goal
 
 pub next_word-requires : goal.next_word-requires
 next_word-requires c = c.requires
+
+pub returns-in-Does-clause-says : goal.returns-in-Does-clause-says
+returns-in-Does-clause-says c =
+    says_verb c.args.front.bytes.now c.in_ok-len.len c.in_ok-len.behind.bytes.now c.in-Does.verb c.in_ok-len.ensures.cut
+    (c.in_ok-verb.ensures.named ∙ ap Some c.in-Does.is)
+    (λ version. ap (has_word version) (sym c.in-Does.is) ∙ c.in_ok-verb.ensures.each version)
 
 pub returns-in-Does-clause-marked : goal.returns-in-Does-clause-marked
 returns-in-Does-clause-marked c = c.in_ok-len.ensures.marked

@@ -4,4 +4,4 @@ use Rattle.race_text.proofs.UnseenLemmas.{unseen_event}
 use Rattle.race_text.proofs.event.read_event.Goals as goal
 
 pub returns-in-None : goal.returns-in-None
-returns-in-None g c = sym (unseen_event c.args.decls.now.declarations (words_of c.args.line.now) c.in-None.ensures)
+returns-in-None g c = sym (unseen_event c.args.decls.now.version c.args.decls.now.declarations (words_of c.args.line.now) c.in-None.ensures)

@@ -1,6 +1,14 @@
 use Rattle.race_text.proofs.EventLines.{op_words_are}
-use Rattle.race_text.proofs.WordTable.{object_words_are, noun_again, verb_again}
+use Rattle.race_text.proofs.HeaderLemmas.{version_again}
+use Rattle.race_text.proofs.WordTable.{object_words_are, noun_known, verb_known, verb_unknown}
 use Rattle.race_text.proofs.laws.lines_follow_the_tables.Goals as goal
 
 pub returns : goal.returns
-returns c = record { declarations = object_words_are; events = op_words_are; noun_known = noun_again; verb_known = verb_again }
+returns c = record {
+  declarations = object_words_are;
+  events = op_words_are;
+  noun_known = noun_known;
+  verb_known = verb_known;
+  verb_unknown = verb_unknown;
+  header_known = version_again;
+}

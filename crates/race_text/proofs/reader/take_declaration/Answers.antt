@@ -6,7 +6,7 @@ use Rattle.race_text.proofs.reader.take_declaration.Goals as goal
 
 pub returns-then-has_bad_byte : goal.returns-then-has_bad_byte
 returns-then-has_bad_byte g c = λ _. cause_behind (begun c.args.decls.now) c.args.line.now c.requires
-    ∙ bad_byte_is_told (state_of (begun c.args.decls.now)) c.args.line.now (sym c.has_bad_byte.ensures ∙ c.if-has_bad_byte.true)
+    ∙ bad_byte_is_told c.args.decls.now.version (state_of (begun c.args.decls.now)) c.args.line.now (sym c.has_bad_byte.ensures ∙ c.if-has_bad_byte.true)
 
 pub returns : goal.returns
 returns g c =

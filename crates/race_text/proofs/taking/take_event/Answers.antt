@@ -12,7 +12,7 @@ append-requires-clause-fits g c =
 
 pub unwrap-requires : goal.unwrap-requires
 unwrap-requires g c = is_there c.line_cause.result (λ none.
-    no_event_is_told c.decls-decls.result.now.declarations c.len-count.result c.args.line.now (sym c.in-None.ensures)
+    no_event_is_told c.decls-decls.result.now.version c.decls-decls.result.now.declarations c.len-count.result c.args.line.now (sym c.in-None.ensures)
     (behind_events c.args.trace.now.events c.len-count.result _ c.len-count.ensures.len c.requires.ready) (sym c.line_cause.ensures ∙ none))
 
 pub returns-in-Some-clause-taken : goal.returns-in-Some-clause-taken
@@ -26,7 +26,8 @@ returns-in-Some-clause-grown g c = event_grown c.args.trace.now c.append.new.tra
 
 pub returns-in-None-clause-taken : goal.returns-in-None-clause-taken
 returns-in-None-clause-taken g c = λ _. cause_behind c.args.trace.now c.args.line.now c.requires.read
-    ∙ (λ i. line_cause (seen_so_far (sym c.decls-decls.ensures.decls i).declarations (sym c.len-count.ensures.len i)) c.args.line.now)
+    ∙ (λ i. line_cause (sym c.decls-decls.ensures.decls i).version
+    (seen_so_far (sym c.decls-decls.ensures.decls i).declarations (sym c.len-count.ensures.len i)) c.args.line.now)
     ∙ sym c.line_cause.ensures ∙ c.unwrap.ensures
 
 pub returns-in-None-clause-grown : goal.returns-in-None-clause-grown

@@ -1,6 +1,4 @@
 use Rattle.std.proofs.Common.{◌≡◌, ◌==◌, length, true, false, sym, ap, ◌∙◌, rules}
-use Rattle.std.specs.Str.{bytes_eq}
-use Rattle.race_text.specs.Text.{header}
 use Rattle.race_text.specs.Fault.{end_cause}
 use Rattle.race_text.specs.Reader.{trace_read, lines_read}
 use Rattle.race_text.proofs.ParseLemmas.{end_behind, end_header, end_other}
@@ -18,12 +16,12 @@ returns-else-is_empty g c =
     sym (ap (λ b. end_cause (lines_read b c.args.self.now.decls c.args.self.now.trace) c.args.last.now) c.if-self.true
     ∙ end_behind (trace_read c.args.self.now.decls c.args.self.now.trace) c.args.last.now false some)
 
-pub returns-then-eq : goal.returns-then-eq
-returns-then-eq g c =
-    let same : bytes_eq c.args.last.now header ≡ true = search rules in
-    sym (ap (λ b. end_cause (lines_read b c.args.self.now.decls c.args.self.now.trace) c.args.last.now) c.if-self.false ∙ end_header c.args.last.now same)
+pub returns-in-Some : goal.returns-in-Some
+returns-in-Some g c =
+    sym (ap (λ b. end_cause (lines_read b c.args.self.now.decls c.args.self.now.trace) c.args.last.now) c.if-self.false
+    ∙ end_header c.args.last.now _ (sym c.in-Some.ensures))
 
-pub returns : goal.returns
-returns g c =
-    let other : bytes_eq c.args.last.now header ≡ false = search rules in
-    sym (ap (λ b. end_cause (lines_read b c.args.self.now.decls c.args.self.now.trace) c.args.last.now) c.if-self.false ∙ end_other c.args.last.now other)
+pub returns-in-None : goal.returns-in-None
+returns-in-None g c =
+    sym (ap (λ b. end_cause (lines_read b c.args.self.now.decls c.args.self.now.trace) c.args.last.now) c.if-self.false
+    ∙ end_other c.args.last.now (sym c.in-None.ensures))

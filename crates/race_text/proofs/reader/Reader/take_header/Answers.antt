@@ -1,22 +1,39 @@
-use Rattle.std.proofs.Common.{◌≡◌, true, false, rules, subst}
-use Rattle.std.specs.Str.{bytes_eq}
-use Rattle.race_text.specs.Text.{header}
-use Rattle.race_text.specs.Reader.{IsReading}
+use Rattle.std.proofs.Common.{◌≡◌, false, sym, subst, ap, ◌∙◌, Some}
+use Rattle.race_records.specs.declared.version.Version.{Version}
+use Rattle.race_text.specs.Reader.{nothing_in, IsReading}
 use Rattle.race_text.proofs.ReaderLemmas.{header_told, header_taken, header_reading}
 use Rattle.race_text.proofs.reader.Reader.take_header.Goals as goal
 
-pub returns-then-eq-clause-taken : goal.returns-then-eq-clause-taken
-returns-then-eq-clause-taken g c =
+pub returns-in-None-clause-taken : goal.returns-in-None-clause-taken
+returns-in-None-clause-taken g c = header_told c.args.line.now (sym c.in-None.ensures)
+
+pub returns-in-Some-One-clause-taken : goal.returns-in-Some-One-clause-taken
+returns-in-Some-One-clause-taken g c =
     let reading = subst (λ b. IsReading b c.args.self.now.decls c.args.self.now.trace) c.requires.header c.requires.reading in
-    let same : bytes_eq c.args.line.now header ≡ true = search rules in
-    header_taken c.args.self.now.decls c.args.self.now.trace c.args.line.now reading same
+    header_taken Version.One c.args.self.now.decls c.args.self.now.trace reading.0 reading.1
+    c.args.line.now (sym c.in-Some-One.ensures ∙ ap Some c.in-Some-One.field-0-is)
 
-pub returns-then-eq-clause-reading : goal.returns-then-eq-clause-reading
-returns-then-eq-clause-reading g c =
-    header_reading c.args.self.now.decls c.args.self.now.trace
-    (subst (λ b. IsReading b c.args.self.now.decls c.args.self.now.trace) c.requires.header c.requires.reading)
+pub returns-in-Some-One-clause-reading : goal.returns-in-Some-One-clause-reading
+returns-in-Some-One-clause-reading g c =
+    let reading = subst (λ b. IsReading b c.args.self.now.decls c.args.self.now.trace) c.requires.header c.requires.reading in
+    header_reading Version.One c.args.self.now.decls c.args.self.now.trace reading.0 reading.1
 
-pub returns-clause-taken : goal.returns-clause-taken
-returns-clause-taken g c =
-    let other : bytes_eq c.args.line.now header ≡ false = search rules in
-    header_told c.args.line.now other
+module _ (g : _) (c : goal.After-self-in-Some-Two-1 g) where
+  nothing : c.new_version2.result ≡ nothing_in Version.Two
+  nothing = λ i. record {
+    version = c.new_version2.ensures.version i;
+    declarations = c.new_version2.ensures.declarations i;
+    places = c.new_version2.ensures.places i;
+  }
+
+  reading : IsReading false c.args.self.now.decls c.args.self.now.trace
+  reading = subst (λ b. IsReading b c.args.self.now.decls c.args.self.now.trace) c.requires.header c.requires.reading
+
+pub returns-in-Some-Two-clause-taken : goal.returns-in-Some-Two-clause-taken
+returns-in-Some-Two-clause-taken g c =
+    header_taken Version.Two c.new_version2.result c.args.self.now.trace (nothing g c) (reading g c).1
+    c.args.line.now (sym c.in-Some-Two.ensures ∙ ap Some c.in-Some-Two.field-0-is)
+
+pub returns-in-Some-Two-clause-reading : goal.returns-in-Some-Two-clause-reading
+returns-in-Some-Two-clause-reading g c =
+    header_reading Version.Two c.new_version2.result c.args.self.now.trace (nothing g c) (reading g c).1

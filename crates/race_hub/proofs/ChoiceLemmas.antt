@@ -5,13 +5,14 @@ use Rattle.std.proofs.Common.{flat_map, length}
 use Rattle.std.proofs.Common.{All}
 use Rattle.std.proofs.Common.{Option, Some, None, is_none, refl, sym, ap, ◌∙◌, subst, inl, inr, arith, slice_get, eqb-true, eq-eqb, true≢false}
 use Rattle.std.specs.List.{range_with_len}
+use Rattle.std.proofs.lemmas.Bool.Decides.{nat_tests}
 use Rattle.std.proofs.lemmas.Option.{none-some, slice_get_within, get_or_from_slice_get}
 use Rattle.std.proofs.lemmas.List.Elements.{filter_passes}
 use Rattle.race_records.specs.declared.event.Event.{Event}
 use Rattle.race_records.specs.declared.event.Op.{Op}
 use Rattle.race_records.specs.declared.event.Cause.TheVariants.{SendClosed, CloseClosed, UnlockFree, RUnlockFree}
 use Rattle.race_records.specs.declared.event.Op.TheVariants.{Send, Recv, Meet, RecvClosed, Close, Default, Unlock, RUnlock}
-use Rattle.race_records.specs.declared.event.Op.TheVariants.{OnceBegin, OnceDone, Fault}
+use Rattle.race_records.specs.declared.event.Op.TheVariants.{TryLock, TryRLock, TryFail, OnceBegin, OnceDone, Fault}
 use Rattle.race_model.specs.State.{is_closed, front, is_held, is_read_held, is_begun, last_value}
 use Rattle.race_model.specs.Legal.{broken, rules}
 use Rattle.race_model.proofs.Indexes.{at_below}
@@ -131,6 +132,10 @@ select_told past g k offers has_default false op test is = by (slice_get offers 
     by None there is = absurd (none-some op is)
     by (Some o) there is = chosen_told offers has_default k g o op there (offered_alone past g o op is)
 
+-- of two ways the one that isn't the first
+second_way : (k : ℕ) → (k == 0) ≡ false → k < 2 → k ≡ 1
+second_way k later less = grind (arith, nat_tests)
+
 module _ (past : List Event) (g k : ℕ) where
   sent_told : (c v : ℕ) (closed : Bool) → k ≡ 0 → HasTold (Ask.Send (Some c) v) k g (cond closed (Fault (SendClosed c)) (Send c v))
   sent_told c v true first = record { told = None; row = (first, inr ((c, refl, refl), refl)) }
@@ -151,6 +156,14 @@ module _ (past : List Event) (g k : ℕ) where
   runlocked_told : (l : ℕ) (held : Bool) → k ≡ 0 → HasTold (Ask.RUnlock l) k g (cond held (RUnlock l) (Fault (RUnlockFree l)))
   runlocked_told l true first = record { told = Some Answer.Unit; row = (first, inl (refl, refl)) }
   runlocked_told l false first = record { told = None; row = (first, inr (refl, refl)) }
+
+  tried_told : (l : ℕ) (first : Bool) → (k == 0) ≡ first → k < 2 → HasTold (Ask.TryLock l) k g (cond first (TryLock l) (TryFail l))
+  tried_told l true first less = record { told = Some (Answer.Tried true); row = inl (eqb-true k 0 first, refl, refl) }
+  tried_told l false first less = record { told = Some (Answer.Tried false); row = inr (second_way k first less, refl, refl) }
+
+  rtried_told : (l : ℕ) (first : Bool) → (k == 0) ≡ first → k < 2 → HasTold (Ask.TryRLock l) k g (cond first (TryRLock l) (TryFail l))
+  rtried_told l true first less = record { told = Some (Answer.Tried true); row = inl (eqb-true k 0 first, refl, refl) }
+  rtried_told l false first less = record { told = Some (Answer.Tried false); row = inr (second_way k first less, refl, refl) }
 
   did_told : (o : ℕ) (begun : Bool) → k ≡ 0 → HasTold (Ask.Do o) k g (cond begun (OnceDone o) (OnceBegin o))
   did_told o true first = record { told = Some Answer.AlreadyDone; row = (first, inr (refl, refl)) }
@@ -179,6 +192,8 @@ module _ (past : List Event) (g k : ℕ) where
       subst (HasTold (Ask.RLock l) k g) (some_is is) (record { told = Some Answer.Unit; row = (omega (arith, less), refl, refl) })
   lone_told (Ask.Unlock l) op less is = subst (HasTold (Ask.Unlock l) k g) (some_is is) (unlocked_told l (is_held l past) (omega (arith, less)))
   lone_told (Ask.RUnlock l) op less is = subst (HasTold (Ask.RUnlock l) k g) (some_is is) (runlocked_told l (is_read_held l past) (omega (arith, less)))
+  lone_told (Ask.TryLock l) op less is = subst (HasTold (Ask.TryLock l) k g) (some_is is) (tried_told l (k == 0) refl less)
+  lone_told (Ask.TryRLock l) op less is = subst (HasTold (Ask.TryRLock l) k g) (some_is is) (rtried_told l (k == 0) refl less)
   lone_told (Ask.Do o) op less is = subst (HasTold (Ask.Do o) k g) (some_is is) (did_told o (is_begun o past) (omega (arith, less)))
   lone_told (Ask.EndDo o) op less is =
       subst (HasTold (Ask.EndDo o) k g) (some_is is) (record { told = Some Answer.Unit; row = (omega (arith, less), refl, refl) })

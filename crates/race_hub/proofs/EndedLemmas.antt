@@ -113,6 +113,8 @@ turn_stays past ws vs g (Ask.Lock l) is = is
 turn_stays past ws vs g (Ask.Unlock l) is = is
 turn_stays past ws vs g (Ask.RLock l) is = is
 turn_stays past ws vs g (Ask.RUnlock l) is = is
+turn_stays past ws vs g (Ask.TryLock l) is = is
+turn_stays past ws vs g (Ask.TryRLock l) is = is
 turn_stays past ws vs g (Ask.Do o) is = is
 turn_stays past ws vs g (Ask.EndDo o) is = is
 

@@ -6,10 +6,10 @@ use Rattle.std.proofs.lemmas.Bool.Decides.{nat_tests}
 use Rattle.race_records.specs.declared.event.Event.{Event}
 use Rattle.race_records.specs.declared.event.Op.{Op}
 use Rattle.race_records.specs.declared.event.Op.TheVariants.{Go, Exit, Read, Write, Send, Recv, Meet, RecvClosed, Close, Lock, Unlock, RLock, RUnlock}
-use Rattle.race_records.specs.declared.event.Op.TheVariants.{OnceBegin, OnceEnd, OnceDone, Fault, Default}
+use Rattle.race_records.specs.declared.event.Op.TheVariants.{TryLock, TryRLock, TryFail, OnceBegin, OnceEnd, OnceDone, Fault, Default}
 use Rattle.race_records.specs.declared.kind.Kind.{Kind}
 use Rattle.race_records.specs.Declarations.{DeclsState, capacity_of, count_of}
-use Rattle.race_records.specs.Events.{fits, is_in_range, lock_fits, op_fits}
+use Rattle.race_records.specs.Events.{fits, is_in_range, is_right_kind, op_fits}
 use Rattle.race_model.specs.State.{started}
 use Rattle.race_model.specs.Legal.{broken, rules}
 use Rattle.race_model.proofs.ChannelOrder.{rules_kept}
@@ -54,7 +54,7 @@ below m n is = grind (arith, nat_tests)
 op_is_in_range_by : (decls : DeclsState) (e : Event) → IsTrue (fits decls e) → op_fits decls.declarations e.op ≡ true
 unfolding fits
 op_is_in_range_by decls e is =
-    second _ _ _ _ (both_true (is_in_range decls e) (lock_fits decls.declarations e.op) is).0
+    second _ _ _ _ (both_true (is_in_range decls e) (is_right_kind decls e.op) is).0
 
 go_in_range : (decls : DeclsState) (e : Event) (h : ℕ) → IsTrue (fits decls e) → e.op ≡ Go h → h < count_of Kind.Goroutine decls.declarations
 go_in_range decls e h is goes =
@@ -81,6 +81,9 @@ module _ {R : Type 0} (h : HubState R) where
   box_of e (Unlock l) is boxes count fit legal = tt
   box_of e (RLock l) is boxes count fit legal = tt
   box_of e (RUnlock l) is boxes count fit legal = tt
+  box_of e (TryLock l) is boxes count fit legal = tt
+  box_of e (TryRLock l) is boxes count fit legal = tt
+  box_of e (TryFail l) is boxes count fit legal = tt
   box_of e (OnceBegin o) is boxes count fit legal = tt
   box_of e (OnceEnd o) is boxes count fit legal = tt
   box_of e (OnceDone o) is boxes count fit legal = tt

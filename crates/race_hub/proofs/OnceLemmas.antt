@@ -11,7 +11,7 @@ use Rattle.std.proofs.lemmas.Option.{none-some, slice_get_within, get_or_from_sl
 use Rattle.race_records.specs.declared.event.Event.{Event}
 use Rattle.race_records.specs.declared.event.Op.{Op}
 use Rattle.race_records.specs.declared.event.Op.TheVariants.{Go, Exit, Read, Write, Send, Recv, Meet, RecvClosed, Close, Lock, Unlock, RLock, RUnlock}
-use Rattle.race_records.specs.declared.event.Op.TheVariants.{OnceBegin, OnceEnd, OnceDone, Fault, Default}
+use Rattle.race_records.specs.declared.event.Op.TheVariants.{TryLock, TryRLock, TryFail, OnceBegin, OnceEnd, OnceDone, Fault, Default}
 use Rattle.race_model.specs.Events.{starts, is_exit, is_fault, has, has_exited, count}
 use Rattle.race_model.specs.State.{over, started, runs}
 use Rattle.race_model.specs.Legal.{broken, rules, actors_run, receiver_runs, IsLegal}
@@ -126,6 +126,10 @@ row_leaves (Ask.Unlock l) k op told (z, inl (o, t)) = by_row op _ told _ o t ref
 row_leaves (Ask.Unlock l) k op told (z, inr (o, t)) = by_row op _ told _ o t refl
 row_leaves (Ask.RUnlock l) k op told (z, inl (o, t)) = by_row op _ told _ o t refl
 row_leaves (Ask.RUnlock l) k op told (z, inr (o, t)) = by_row op _ told _ o t refl
+row_leaves (Ask.TryLock l) k op told (inl (z, o, t)) = by_row op _ told _ o t refl
+row_leaves (Ask.TryLock l) k op told (inr (z, o, t)) = by_row op _ told _ o t refl
+row_leaves (Ask.TryRLock l) k op told (inl (z, o, t)) = by_row op _ told _ o t refl
+row_leaves (Ask.TryRLock l) k op told (inr (z, o, t)) = by_row op _ told _ o t refl
 row_leaves (Ask.Do o) k op told (z, inl (d, t)) = by_row op _ told _ d t refl
 row_leaves (Ask.Do o) k op told (z, inr (d, t)) = by_row op _ told _ d t refl
 row_leaves (Ask.EndDo o) k op told (z, d, t) = by_row op _ told _ d t refl
@@ -149,6 +153,9 @@ done_leaves g (Lock l) = refl
 done_leaves g (Unlock l) = refl
 done_leaves g (RLock l) = refl
 done_leaves g (RUnlock l) = refl
+done_leaves g (TryLock l) = refl
+done_leaves g (TryRLock l) = refl
+done_leaves g (TryFail l) = refl
 done_leaves g (OnceBegin o) = refl
 done_leaves g (OnceEnd o) = refl
 done_leaves g (OnceDone o) = refl
@@ -308,6 +315,9 @@ starts_is g (Lock l) = refl
 starts_is g (Unlock l) = refl
 starts_is g (RLock l) = refl
 starts_is g (RUnlock l) = refl
+starts_is g (TryLock l) = refl
+starts_is g (TryRLock l) = refl
+starts_is g (TryFail l) = refl
 starts_is g (OnceBegin o) = refl
 starts_is g (OnceEnd o) = refl
 starts_is g (OnceDone o) = refl
@@ -328,6 +338,9 @@ starts_go g (Lock l) is = absurd cc
 starts_go g (Unlock l) is = absurd cc
 starts_go g (RLock l) is = absurd cc
 starts_go g (RUnlock l) is = absurd cc
+starts_go g (TryLock l) is = absurd cc
+starts_go g (TryRLock l) is = absurd cc
+starts_go g (TryFail l) is = absurd cc
 starts_go g (OnceBegin o) is = absurd cc
 starts_go g (OnceEnd o) is = absurd cc
 starts_go g (OnceDone o) is = absurd cc

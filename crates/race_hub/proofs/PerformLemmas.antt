@@ -13,7 +13,7 @@ use Rattle.std.proofs.lemmas.List.Edits.{length-remove}
 use Rattle.race_records.specs.declared.event.Event.{Event}
 use Rattle.race_records.specs.declared.event.Op.{Op}
 use Rattle.race_records.specs.declared.event.Op.TheVariants.{Go, Exit, Read, Write, Send, Recv, Meet, RecvClosed, Close, Lock, Unlock, RLock, RUnlock}
-use Rattle.race_records.specs.declared.event.Op.TheVariants.{OnceBegin, OnceEnd, OnceDone, Fault, Default}
+use Rattle.race_records.specs.declared.event.Op.TheVariants.{TryLock, TryRLock, TryFail, OnceBegin, OnceEnd, OnceDone, Fault, Default}
 use Rattle.race_records.specs.declared.kind.Kind.{Kind}
 use Rattle.race_records.specs.declared.trace.PushFault.TheVariants.{BadNumber, WrongKind, Full}
 use Rattle.race_records.specs.declared.trace.TheConstants.{MAX_EVENTS}
@@ -195,6 +195,9 @@ module _ {R : Type 0} where
   boxes_other (Unlock l) boxes g not = refl
   boxes_other (RLock l) boxes g not = refl
   boxes_other (RUnlock l) boxes g not = refl
+  boxes_other (TryLock l) boxes g not = refl
+  boxes_other (TryRLock l) boxes g not = refl
+  boxes_other (TryFail l) boxes g not = refl
   boxes_other (OnceBegin o) boxes g not = refl
   boxes_other (OnceEnd o) boxes g not = refl
   boxes_other (OnceDone o) boxes g not = refl

@@ -14,7 +14,7 @@ use Rattle.race_records.specs.declared.event.Op.{Op}
 use Rattle.race_records.specs.declared.event.Op.TheVariants.{Go, Exit, Read, Lock, RLock}
 use Rattle.race_records.specs.declared.event.Op.TheVariants.{OnceEnd, Send, Recv, Meet}
 use Rattle.race_records.specs.declared.event.Op.TheVariants.{RecvClosed, Close, Default}
-use Rattle.race_records.specs.declared.event.Op.TheVariants.{Unlock, RUnlock}
+use Rattle.race_records.specs.declared.event.Op.TheVariants.{Unlock, RUnlock, TryLock, TryRLock, TryFail}
 use Rattle.race_records.specs.declared.event.Op.TheVariants.{OnceBegin, OnceDone, Fault}
 use Rattle.race_model.specs.Events.{gives, sends, receives, count}
 use Rattle.race_model.specs.State.{over, runs, is_closed, buffered, front, sent, is_held, is_read_held, is_begun, is_ended, innermost, started, last_value}
@@ -151,6 +151,15 @@ module _ (caps : ℕ → ℕ) (past : List Event) (g place : ℕ) where
   runlock_row l false is = head (over past) (runs g past) true (op_rules caps past g (Fault (RUnlockFree l)))
       (one 23 (not (not (is_read_held l past))) ∙ ap (λ b. not (not (not b))) is)
 
+  -- a failed try stands under the two rules on every event alone
+  try_row : (l : ℕ) (first : Bool) → fits (cond first (TryLock l) (TryFail l)) ≡ and_acts (not first || (not (is_held l past) && not (is_read_held l past)))
+  try_row l true = head (over past) (runs g past) _ (op_rules caps past g (TryLock l)) (two 13 14 (is_held l past) (is_read_held l past))
+  try_row l false = head (over past) (runs g past) true [] refl
+
+  tryr_row : (l : ℕ) (first : Bool) → fits (cond first (TryRLock l) (TryFail l)) ≡ and_acts (not first || not (is_held l past))
+  tryr_row l true = head (over past) (runs g past) _ (op_rules caps past g (TryRLock l)) (one 13 (is_held l past))
+  tryr_row l false = head (over past) (runs g past) true [] refl
+
   do_row : (o : ℕ) (begun : Bool) → is_begun o past ≡ begun → fits (cond begun (OnceDone o) (OnceBegin o)) ≡ and_acts (not begun || is_ended o past)
   do_row o true is = head (over past) (runs g past) _ (op_rules caps past g (OnceDone o)) (one 19 (not (is_ended o past)) ∙ twice (is_ended o past))
   do_row o false is = head (over past) (runs g past) true (op_rules caps past g (OnceBegin o)) (one 17 (is_begun o past) ∙ ap not is)
@@ -206,6 +215,8 @@ module _ (caps : ℕ → ℕ) (past : List Event) (g place : ℕ) where
   row_goes_on (Ask.RLock l) k = head (over past) (runs g past) _ (op_rules caps past g (RLock l)) (one 13 (is_held l past))
   row_goes_on (Ask.Unlock l) k = unlock_row l (is_held l past) refl
   row_goes_on (Ask.RUnlock l) k = runlock_row l (is_read_held l past) refl
+  row_goes_on (Ask.TryLock l) k = try_row l (k == 0)
+  row_goes_on (Ask.TryRLock l) k = tryr_row l (k == 0)
   row_goes_on (Ask.Do o) k = do_row o (is_begun o past) refl
   row_goes_on (Ask.EndDo o) k = head (over past) (runs g past) _ (op_rules caps past g (OnceEnd o))
       (one 18 (not (gives (innermost g past) o)) ∙ twice (gives (innermost g past) o))

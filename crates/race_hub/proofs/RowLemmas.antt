@@ -1,5 +1,5 @@
 -- The tests of Told give an answer exactly where a row of the table holds.
-use Rattle.std.proofs.Common.{◌≡◌, ℕ, ◌==◌, ◌↔◌, ◌&&◌, ◌⊎◌, ◌≤◌, if◌then◌else◌, Bool, true, false, List}
+use Rattle.std.proofs.Common.{◌≡◌, ℕ, ◌+◌, ◌<◌, ◌==◌, ◌↔◌, ◌&&◌, ◌⊎◌, cond, if◌then◌else◌, Bool, true, false, List}
 use Rattle.std.proofs.Common.{length, map, slice_get, Option, Some, None, option_map, inl, inr, refl, sym, subst}
 use Rattle.std.proofs.Common.{ap, ◌∙◌}
 use Rattle.std.proofs.Common.{arith}
@@ -12,14 +12,17 @@ use Rattle.race_records.specs.declared.event.Op.{Op}
 use Rattle.race_records.specs.declared.event.Op.TheVariants.{Go, Exit, Read, Write, Send}
 use Rattle.race_records.specs.declared.event.Op.TheVariants.{Recv, RecvClosed, Close, Default}
 use Rattle.race_records.specs.declared.event.Op.TheVariants.{Lock, Unlock, RLock, RUnlock}
+use Rattle.race_records.specs.declared.event.Op.TheVariants.{TryLock, TryRLock, TryFail}
 use Rattle.race_records.specs.declared.event.Op.TheVariants.{OnceBegin}
 use Rattle.race_records.specs.declared.event.Op.TheVariants.{OnceEnd, OnceDone, Fault}
 use Rattle.race_hub.specs.declared.request.Answer.{Answer}
 use Rattle.race_hub.specs.declared.request.Ask.{Ask}
 use Rattle.race_hub.specs.declared.request.Offer.{Offer}
 use Rattle.race_hub.specs.Offers.{case_of}
-use Rattle.race_hub.specs.Table.{offers_of, plain_answer, IsOffered, IsOfferedFault, IsChosen, IsDefault, IsRow}
-use Rattle.race_hub.specs.Told.{told_if, told_sender, told_receiver, told_closer, told_by, chosen, told_plain, told_offer, told_selector, told_at}
+use Rattle.race_hub.specs.Table.{plain_answer, IsOffered, IsOfferedFault, IsChosen, IsDefault, IsRow}
+use Rattle.race_hub.specs.Choices.{ways}
+use Rattle.race_hub.specs.Told.{told_if, told_sender, told_receiver, told_closer, told_trier, told_rtrier, told_by, chosen, told_plain, told_offer}
+use Rattle.race_hub.specs.Told.{told_selector, told_at}
 
 -- where the number is the one that is wanted
 told_same : (n : ℕ) (a : Option Answer) → told_if (n == n) a ≡ Some a
@@ -88,14 +91,18 @@ row_of_told (Ask.Do o) (OnceDone p) told e = let q = wanted p o (Some Answer.Alr
 row_of_told (Ask.EndDo o) (OnceEnd p) told e = let q = wanted p o (Some Answer.Unit) told e in (refl, ap OnceEnd q.0, q.1)
 row_of_told _ _ told e = absurd cc
 
--- it doesn't ask to select
+-- it asks neither to select nor to try
 abbrev IsPlain : Ask → Type 0
 IsPlain (Ask.Select offers has_default) = ⊥
+IsPlain (Ask.TryLock l) = ⊥
+IsPlain (Ask.TryRLock l) = ⊥
 IsPlain _ = Unit {0}
 
 -- where a row holds, the tests give its answer
 told_of_row : (ask : Ask) (k : ℕ) (op : Op) (told : Option Answer) → IsPlain ask → IsRow ask k op told → told_by ask op ≡ Some told
 told_of_row (Ask.Select offers has_default) k op told plain row = absurd plain
+told_of_row (Ask.TryLock l) k op told plain row = absurd plain
+told_of_row (Ask.TryRLock l) k op told plain row = absurd plain
 told_of_row (Ask.Go h) k op told plain (z, o, t) = ap (told_by (Ask.Go h)) o ∙ told_same h (Some Answer.Unit) ∙ ap Some (sym t)
 told_of_row Ask.Exit k op told plain (z, o, t) = ap (told_by Ask.Exit) o ∙ ap Some (sym t)
 told_of_row (Ask.Read x) k op told plain (z, v, o, t) = ap (told_by (Ask.Read x)) o ∙ told_same x (Some (Answer.Value v)) ∙ ap Some (sym t)
@@ -126,14 +133,40 @@ guarded : (b : Bool) (row : Option (Option Answer)) (told : Option Answer) → (
 guarded true row told e = (refl, e)
 guarded false row told e = absurd cc
 
--- a row of an ask that is no select holds by way 0
+-- a row of an ask that is no select and no try holds by way 0
 row_by_way : (ask : Ask) (k : ℕ) (op : Op) (told : Option Answer) → (k == 0) ≡ true → IsRow ask 0 op told → IsRow ask k op told
 row_by_way ask k op told w row = subst (λ n. IsRow ask n op told) (sym ((Decides-eqb k 0).0 w)) row
 
 -- and by no other
 way_of_row : (ask : Ask) (k : ℕ) (op : Op) (told : Option Answer) → IsPlain ask → IsRow ask k op told → (k == 0) ≡ true
 way_of_row (Ask.Select offers has_default) k op told plain row = absurd plain
+way_of_row (Ask.TryLock l) k op told plain row = absurd plain
+way_of_row (Ask.TryRLock l) k op told plain row = absurd plain
 way_of_row _ k op told plain row = (Decides-eqb k 0).1 row.0
+
+-- Tries.
+
+trier_row : (l k : ℕ) (op : Op) (told : Option Answer) → told_trier l k op ≡ Some told → IsRow (Ask.TryLock l) k op told
+trier_row l k (TryLock m) told e =
+    let p = wanted_two k 0 m l (Some (Answer.Tried true)) told e in inl (p.0, ap TryLock p.1, p.2)
+trier_row l k (TryFail m) told e =
+    let p = wanted_two k 1 m l (Some (Answer.Tried false)) told e in inr (p.0, ap TryFail p.1, p.2)
+trier_row l k _ told e = absurd cc
+
+trier_told : (l k : ℕ) (op : Op) (told : Option Answer) → IsRow (Ask.TryLock l) k op told → told_trier l k op ≡ Some told
+trier_told l k op told (inl (z, o, t)) = (λ i. told_trier l (z i) (o i)) ∙ told_same_two 0 l (Some (Answer.Tried true)) ∙ ap Some (sym t)
+trier_told l k op told (inr (z, o, t)) = (λ i. told_trier l (z i) (o i)) ∙ told_same_two 1 l (Some (Answer.Tried false)) ∙ ap Some (sym t)
+
+rtrier_row : (l k : ℕ) (op : Op) (told : Option Answer) → told_rtrier l k op ≡ Some told → IsRow (Ask.TryRLock l) k op told
+rtrier_row l k (TryRLock m) told e =
+    let p = wanted_two k 0 m l (Some (Answer.Tried true)) told e in inl (p.0, ap TryRLock p.1, p.2)
+rtrier_row l k (TryFail m) told e =
+    let p = wanted_two k 1 m l (Some (Answer.Tried false)) told e in inr (p.0, ap TryFail p.1, p.2)
+rtrier_row l k _ told e = absurd cc
+
+rtrier_told : (l k : ℕ) (op : Op) (told : Option Answer) → IsRow (Ask.TryRLock l) k op told → told_rtrier l k op ≡ Some told
+rtrier_told l k op told (inl (z, o, t)) = (λ i. told_rtrier l (z i) (o i)) ∙ told_same_two 0 l (Some (Answer.Tried true)) ∙ ap Some (sym t)
+rtrier_told l k op told (inr (z, o, t)) = (λ i. told_rtrier l (z i) (o i)) ∙ told_same_two 1 l (Some (Answer.Tried false)) ∙ ap Some (sym t)
 
 -- Selects.
 
@@ -244,21 +277,18 @@ pub row_at : (ask : Ask) (k : ℕ) (op : Op) (told : Option Answer) (r : Option 
     → (r ≡ Some told) ↔ IsRow ask k op told
 row_at (Ask.Select offers has_default) k op told r is =
     (λ e. selector_row offers has_default k op told (sym is ∙ e), λ row. is ∙ selector_told offers has_default k op told row)
+row_at (Ask.TryLock l) k op told r is = (λ e. trier_row l k op told (sym is ∙ e), λ row. is ∙ trier_told l k op told row)
+row_at (Ask.TryRLock l) k op told r is = (λ e. rtrier_row l k op told (sym is ∙ e), λ row. is ∙ rtrier_told l k op told row)
 row_at ask k op told r is = plain_at ask k op told r tt is
 
--- what holds by some way holds by the way of an offer, or by the one behind them
-pub record HoldsBefore (ask : Ask) (op : Op) (told : Option Answer) : Type 0 where
-  pub way : ℕ
-  pub few : way ≤ length (offers_of ask)
-  pub row : IsRow ask way op told
-
-plain_before : (ask : Ask) (k : ℕ) (op : Op) (told : Option Answer) → IsPlain ask → IsRow ask k op told → HoldsBefore ask op told
-plain_before ask k op told plain row = record { way = 0; few = omega arith; row = row_of_told ask op told (told_of_row ask k op told plain row) }
-
-pub holds_before : (ask : Ask) (k : ℕ) (op : Op) (told : Option Answer) → IsRow ask k op told → HoldsBefore ask op told
-holds_before (Ask.Select offers has_default) k op told (inl (o, there, rest)) =
-    let within = slice_get_within offers k o there in
-    record { way = k; few = omega (arith, within); row = inl (o, there, rest) }
-holds_before (Ask.Select offers has_default) k op told (inr (has, behind, o, t)) =
-    record { way = k; few = omega (arith, behind); row = inr (has, behind, o, t) }
-holds_before ask k op told row = plain_before ask k op told tt row
+-- a row holds by one of the ways of its ask
+pub way_within : (ask : Ask) (k : ℕ) (op : Op) (told : Option Answer) → IsRow ask k op told → k < ways ask
+way_within (Ask.Select offers has_default) k op told (inl (o, there, rest)) =
+    let within = slice_get_within offers k o there in omega (arith, within)
+way_within (Ask.Select offers has_default) k op told (inr (has, behind, o, t)) =
+    subst (λ b. k < length offers + cond b 1 0) (sym has) (omega (arith, behind))
+way_within (Ask.TryLock l) k op told (inl (z, o, t)) = omega (arith, z)
+way_within (Ask.TryLock l) k op told (inr (z, o, t)) = omega (arith, z)
+way_within (Ask.TryRLock l) k op told (inl (z, o, t)) = omega (arith, z)
+way_within (Ask.TryRLock l) k op told (inr (z, o, t)) = omega (arith, z)
+way_within _ k op told row = let z = row.0 in omega (arith, z)

@@ -6,7 +6,7 @@ use Rattle.race_records.specs.declared.event.Cause.TheVariants.{SendClosed, Clos
 use Rattle.race_records.specs.declared.event.Event.{Event}
 use Rattle.race_records.specs.declared.event.Op.{Op}
 use Rattle.race_records.specs.declared.event.Op.TheVariants.{Go, Exit, Read, Write, Send, Recv, Meet, RecvClosed, Close, Default, Lock, Unlock, RLock, RUnlock}
-use Rattle.race_records.specs.declared.event.Op.TheVariants.{OnceBegin, OnceEnd, OnceDone, Fault}
+use Rattle.race_records.specs.declared.event.Op.TheVariants.{TryLock, TryRLock, TryFail, OnceBegin, OnceEnd, OnceDone, Fault}
 use Rattle.race_model.specs.State.{last_value, is_closed, front, is_held, is_read_held, is_begun}
 use Rattle.race_model.specs.Legal.{broken}
 use Rattle.race_hub.specs.declared.choice.Choice.{Choice}
@@ -47,12 +47,17 @@ op_of past (Ask.Lock l) k = Some (Lock l)
 op_of past (Ask.Unlock l) k = Some (cond (is_held l past) (Unlock l) (Fault (UnlockFree l)))
 op_of past (Ask.RLock l) k = Some (RLock l)
 op_of past (Ask.RUnlock l) k = Some (cond (is_read_held l past) (RUnlock l) (Fault (RUnlockFree l)))
+-- a try takes the lock by way 0, and not by another
+op_of past (Ask.TryLock l) k = Some (cond (k == 0) (TryLock l) (TryFail l))
+op_of past (Ask.TryRLock l) k = Some (cond (k == 0) (TryRLock l) (TryFail l))
 op_of past (Ask.Do o) k = Some (cond (is_begun o past) (OnceDone o) (OnceBegin o))
 op_of past (Ask.EndDo o) k = Some (OnceEnd o)
 
--- in how many ways a request can go on: a select by each offer, and by its default
+-- in how many ways a request can go on: a select by each offer, and by its default; a try with the lock and without
 abbrev pub ways : Ask → ℕ
 ways (Ask.Select offers has_default) = length offers + cond has_default 1 0
+ways (Ask.TryLock l) = 2
+ways (Ask.TryRLock l) = 2
 ways _ = 1
 
 -- the operation in which a sender's offer meets the offer of the receiver r

@@ -3,6 +3,7 @@ use Rattle.std.specs.Prelude.{ℕ, ◌≡◌, List, [], ◌∷◌, Option, Some,
 use Rattle.race_records.specs.declared.event.Event.{Event}
 use Rattle.race_records.specs.declared.event.Op.TheVariants.{Go, Meet}
 use Rattle.race_records.specs.declared.kind.Object.{Object}
+use Rattle.race_records.specs.declared.version.Version.{Version}
 use Rattle.race_records.specs.Declarations.{DeclsState}
 use Rattle.race_hub.specs.declared.request.Answer.{Answer}
 use Rattle.race_hub.specs.declared.request.Ask.{Ask}
@@ -16,6 +17,7 @@ use Rattle.race_hub.specs.Kept.{IsKept}
 -- goroutine w, an unbuffered channel c and a place p
 abbrev pub w_and_c : DeclsState
 w_and_c = record {
+  version = Version.One;
   declarations = record { name = 119 ∷ []; object = Object.Goroutine } ∷ record { name = 99 ∷ []; object = Object.Chan 0 } ∷ [];
   places = (112 ∷ []) ∷ [];
 }

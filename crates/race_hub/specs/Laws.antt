@@ -1,9 +1,10 @@
 -- The laws of the table and of the choices, which functions of src/laws.rt that do nothing have as their contracts.
-use Rattle.std.specs.Prelude.{ℕ, ◌≡◌, ◌&&◌, not, true, false, List, [], ◌∷◌, Some, None}
+use Rattle.std.specs.Prelude.{ℕ, ◌≡◌, ◌&&◌, not, true, false, List, [], ◌∷◌, Option, Some, None}
 use Rattle.race_records.specs.declared.event.Cause.TheVariants.{SendClosed, CloseClosed, CloseNil, UnlockFree, RUnlockFree}
 use Rattle.race_records.specs.declared.event.Event.{Event}
 use Rattle.race_records.specs.declared.event.Op.TheVariants.{Go, Exit, Read, Write, Send, Recv, Meet, RecvClosed, Close, Default, Lock, Unlock, RLock, RUnlock}
-use Rattle.race_records.specs.declared.event.Op.TheVariants.{OnceBegin, OnceEnd, OnceDone, Fault}
+use Rattle.race_records.specs.declared.event.Op.TheVariants.{TryLock, TryRLock, TryFail, OnceBegin, OnceEnd, OnceDone, Fault}
+use Rattle.race_records.specs.declared.version.Version.{Version}
 use Rattle.race_model.specs.State.{over, runs}
 use Rattle.race_model.specs.Examples.{does}
 use Rattle.race_hub.specs.declared.request.Answer.{Answer}
@@ -14,7 +15,7 @@ use Rattle.race_hub.specs.Table.{done_by, IsRow}
 use Rattle.race_hub.specs.Choices.{choice, choices, event_of, is_legal_next, lone_event, meet_event}
 use Rattle.race_hub.specs.Possible.{goes_on, meet_goes_on}
 use Rattle.race_hub.specs.Rows.{capacities, waits, alone, HasWay, HasRow, Stays, sends_on, receives_from, three_started, one_meets_main}
-use Rattle.race_hub.specs.Rows.{sends_or_receives, receives_or_sends}
+use Rattle.race_hub.specs.Rows.{sends_or_receives, receives_or_sends, HasBothWays, FailsAlone, is_sound_in}
 
 -- the table has a row for a start and one for an exit, and in a run without events each goes on by it
 pub record RowsOfGoroutines : Type 0 where
@@ -65,6 +66,41 @@ pub record RowsOfLocks : Type 0 where
   pub unlock_free : HasRow [] (Ask.Unlock 0) (Fault (UnlockFree 0)) None
   pub runlock : HasRow (does 0 (RLock 0) ∷ []) (Ask.RUnlock 0) (RUnlock 0) (Some Answer.Unit)
   pub runlock_free : HasRow [] (Ask.RUnlock 0) (Fault (RUnlockFree 0)) None
+
+-- a try of a lock that can be taken has two choices, the lock and then the failure, and another has the failure alone; one that took the lock holds
+-- it, and one that failed doesn't
+pub record RowsOfTries : Type 0 where
+  pub free : HasBothWays [] (Ask.TryLock 0) (TryLock 0) (TryFail 0)
+  pub held : FailsAlone (does 0 (Lock 0) ∷ []) (Ask.TryLock 0) (TryFail 0)
+  pub read_held : FailsAlone (does 0 (RLock 0) ∷ []) (Ask.TryLock 0) (TryFail 0)
+  pub taken : FailsAlone (does 0 (TryLock 0) ∷ []) (Ask.TryLock 0) (TryFail 0)
+  pub taken_for_reading : FailsAlone (does 0 (TryRLock 0) ∷ []) (Ask.TryLock 0) (TryFail 0)
+  pub missed : HasBothWays (does 0 (TryFail 0) ∷ []) (Ask.TryLock 0) (TryLock 0) (TryFail 0)
+  pub unlocked : HasBothWays (does 0 (TryLock 0) ∷ does 0 (Unlock 0) ∷ []) (Ask.TryLock 0) (TryLock 0) (TryFail 0)
+  pub reader : HasBothWays [] (Ask.TryRLock 0) (TryRLock 0) (TryFail 0)
+  pub second_reader : HasBothWays (does 0 (RLock 0) ∷ []) (Ask.TryRLock 0) (TryRLock 0) (TryFail 0)
+  pub reader_fails : FailsAlone (does 0 (Lock 0) ∷ []) (Ask.TryRLock 0) (TryFail 0)
+  pub lock_waits : Stays (does 0 (TryLock 0) ∷ []) (Ask.Lock 0)
+  pub reader_waits : Stays (does 0 (TryLock 0) ∷ []) (Ask.RLock 0)
+  pub unlock : HasRow (does 0 (TryLock 0) ∷ []) (Ask.Unlock 0) (Unlock 0) (Some Answer.Unit)
+  pub unlock_missed : HasRow (does 0 (TryFail 0) ∷ []) (Ask.Unlock 0) (Fault (UnlockFree 0)) None
+  pub runlock : HasRow (does 0 (TryRLock 0) ∷ []) (Ask.RUnlock 0) (RUnlock 0) (Some Answer.Unit)
+  -- neither way has the row of the other, nor that of a plain lock
+  pub not_behind : (told : Option Answer) → IsRow (Ask.TryLock 0) 1 (TryLock 0) told → ⊥
+  pub not_first : (told : Option Answer) → IsRow (Ask.TryLock 0) 0 (TryFail 0) told → ⊥
+  pub not_for_reading : (k : ℕ) (told : Option Answer) → IsRow (Ask.TryLock 0) k (TryRLock 0) told → ⊥
+  pub not_plain : (k : ℕ) (told : Option Answer) → IsRow (Ask.TryLock 0) k (Lock 0) told → ⊥
+
+-- a try is sound in version 2 alone, and one to lock for reading where the lock is an rwmutex
+pub record SoundTries : Type 0 where
+  pub try_lock : is_sound_in Version.Two (Ask.TryLock 0) ≡ true
+  pub try_lock_before : is_sound_in Version.One (Ask.TryLock 0) ≡ false
+  pub lock_before : is_sound_in Version.One (Ask.Lock 0) ≡ true
+  pub try_rlock : is_sound_in Version.Two (Ask.TryRLock 1) ≡ true
+  pub try_rlock_of_mutex : is_sound_in Version.Two (Ask.TryRLock 0) ≡ false
+  pub try_rlock_before : is_sound_in Version.One (Ask.TryRLock 1) ≡ false
+  pub undeclared : is_sound_in Version.Two (Ask.TryLock 2) ≡ false
+  pub undeclared_for_reading : is_sound_in Version.Two (Ask.TryRLock 2) ≡ false
 
 -- the function of a once is run once, and who comes while it runs waits
 pub record RowsOfOnces : Type 0 where

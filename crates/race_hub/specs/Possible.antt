@@ -50,6 +50,9 @@ goes_on caps past g (Ask.Select offers has_default) k =
 -- neither a writer nor a reader has the lock
 goes_on caps past g (Ask.Lock l) k = not (is_held l past) && not (is_read_held l past)
 goes_on caps past g (Ask.RLock l) k = not (is_held l past)
+-- a try takes the lock where a lock could, and always goes on without it
+goes_on caps past g (Ask.TryLock l) k = not (k == 0) || (not (is_held l past) && not (is_read_held l past))
+goes_on caps past g (Ask.TryRLock l) k = not (k == 0) || not (is_held l past)
 -- where nothing is locked this is a fault
 goes_on caps past g (Ask.Unlock l) k = true
 goes_on caps past g (Ask.RUnlock l) k = true
@@ -80,6 +83,8 @@ ask_is_in_range counts (Ask.Lock l) = nat_lt l (counts Kind.Lock)
 ask_is_in_range counts (Ask.Unlock l) = nat_lt l (counts Kind.Lock)
 ask_is_in_range counts (Ask.RLock l) = nat_lt l (counts Kind.Lock)
 ask_is_in_range counts (Ask.RUnlock l) = nat_lt l (counts Kind.Lock)
+ask_is_in_range counts (Ask.TryLock l) = nat_lt l (counts Kind.Lock)
+ask_is_in_range counts (Ask.TryRLock l) = nat_lt l (counts Kind.Lock)
 ask_is_in_range counts (Ask.Do o) = nat_lt o (counts Kind.Once)
 ask_is_in_range counts (Ask.EndDo o) = nat_lt o (counts Kind.Once)
 

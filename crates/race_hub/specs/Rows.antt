@@ -1,12 +1,15 @@
 -- Small waiting lists whose choices, events and answers are computed. (The Go Programming Language Specification, "Send
 -- statements", "Receive operator",
 -- "Close", "Select statements"; package sync)
-use Rattle.std.specs.Prelude.{ℕ, ◌≡◌, ◌+◌, false, List, [], ◌∷◌, Option, Some, None}
+use Rattle.std.specs.Prelude.{ℕ, ◌≡◌, ◌+◌, Bool, true, false, List, [], ◌∷◌, Option, Some, None}
 use Rattle.race_records.specs.declared.cases.Case.{Case}
 use Rattle.race_records.specs.declared.cases.Dir.{Dir}
 use Rattle.race_records.specs.declared.event.Event.{Event}
 use Rattle.race_records.specs.declared.event.Op.{Op}
 use Rattle.race_records.specs.declared.event.Op.TheVariants.{Go, Meet}
+use Rattle.race_records.specs.declared.kind.Object.{Object}
+use Rattle.race_records.specs.declared.version.Version.{Version}
+use Rattle.race_records.specs.Declarations.{DeclsState}
 use Rattle.race_model.specs.Examples.{does}
 use Rattle.race_hub.specs.declared.request.Answer.{Answer}
 use Rattle.race_hub.specs.declared.request.Ask.{Ask}
@@ -14,6 +17,7 @@ use Rattle.race_hub.specs.declared.request.Offer.{Offer}
 use Rattle.race_hub.specs.declared.request.Waiter.{Waiter}
 use Rattle.race_hub.specs.Table.{IsRow}
 use Rattle.race_hub.specs.Choices.{choice, choices, event_of}
+use Rattle.race_hub.specs.Submits.{is_sound}
 
 -- as many values fit into a channel as its number says: channel 0 is unbuffered
 abbrev pub capacities : ℕ → ℕ
@@ -33,13 +37,38 @@ pub record HasWay (past : List Event) (ask : Ask) (k : ℕ) (op : Op) (told : Op
   pub event : event_of past (alone ask) (choice 0 k 0 0) ≡ Some (record { who = 0; op = op; place = 5; place2 = None })
   pub row : IsRow ask k op told
 
--- so it has by the one way of an ask that is no select
+-- so it has by the one way of an ask that is no select and no try
 abbrev pub HasRow : List Event → Ask → Op → Option Answer → Type 0
 HasRow past ask op told = HasWay past ask 0 op told
 
 -- after the events past it has no choice
 abbrev pub Stays : List Event → Ask → Type 0
 Stays past ask = choices capacities past (alone ask) ≡ []
+
+-- after the events past the try of main alone has two choices, the lock first: by that one it makes the operation and is told that the lock was taken,
+-- and by the other it fails
+pub record HasBothWays (past : List Event) (ask : Ask) (taken missed : Op) : Type 0 where
+  pub both : choices capacities past (alone ask) ≡ choice 0 0 0 0 ∷ choice 0 1 0 0 ∷ []
+  pub taken_event : event_of past (alone ask) (choice 0 0 0 0) ≡ Some (record { who = 0; op = taken; place = 5; place2 = None })
+  pub taken_row : IsRow ask 0 taken (Some (Answer.Tried true))
+  pub missed_event : event_of past (alone ask) (choice 0 1 0 0) ≡ Some (record { who = 0; op = missed; place = 5; place2 = None })
+  pub missed_row : IsRow ask 1 missed (Some (Answer.Tried false))
+
+-- it has the failure alone
+abbrev pub FailsAlone : List Event → Ask → Op → Type 0
+FailsAlone past ask missed = HasWay past ask 1 missed (Some (Answer.Tried false))
+
+-- mutex 0 and rwmutex 1, and as many places as main's request needs
+abbrev pub two_locks : Version → DeclsState
+two_locks version = record {
+  version = version;
+  declarations = record { name = 108 ∷ []; object = Object.Lock false } ∷ record { name = 109 ∷ []; object = Object.Lock true } ∷ [];
+  places = (97 ∷ []) ∷ (98 ∷ []) ∷ (99 ∷ []) ∷ (100 ∷ []) ∷ (101 ∷ []) ∷ (102 ∷ []) ∷ [];
+}
+
+-- main's request is sound in a hub of that version with these locks
+abbrev pub is_sound_in : Version → Ask → Bool
+is_sound_in version ask = is_sound (two_locks version) (waits 0 ask)
 
 -- main started three goroutines
 abbrev pub three_started : List Event

@@ -6,7 +6,10 @@ use Rattle.std.specs.Prelude.{None, is_none, is_some}
 use Rattle.std.specs.List.{list_any, position_or_len}
 use Rattle.std.specs.Option.{option_map_or}
 use Rattle.race_records.specs.declared.event.Event.{Event}
+use Rattle.race_records.specs.declared.parts.Verb.{Verb}
+use Rattle.race_records.specs.declared.version.Version.{Version}
 use Rattle.race_records.specs.Declarations.{DeclsState, is_rw}
+use Rattle.race_records.specs.Parts.{has_verb}
 use Rattle.race_model.specs.Events.{gives}
 use Rattle.race_model.specs.State.{started, innermost}
 use Rattle.race_hub.specs.declared.request.Ask.{Ask}
@@ -20,15 +23,23 @@ use Rattle.race_hub.specs.Hub.{HubState, end_of}
 abbrev pub rwmutex_asked : Ask → Option ℕ
 rwmutex_asked (Ask.RLock l) = Some l
 rwmutex_asked (Ask.RUnlock l) = Some l
+rwmutex_asked (Ask.TryRLock l) = Some l
 rwmutex_asked _ = None
 
 -- where the ask wants an rwmutex, its lock is one
 abbrev pub lock_suits : DeclsState → Ask → Bool
 lock_suits decls ask = option_map_or (is_rw decls.declarations) (rwmutex_asked ask) true
 
--- all that the request names is declared, and of the right kind, its place too
+-- the version has the ask: a try, where it has the word
+abbrev pub has_ask : Version → Ask → Bool
+has_ask version (Ask.TryLock l) = has_verb version Verb.TryLock
+has_ask version (Ask.TryRLock l) = has_verb version Verb.TryRLock
+has_ask version _ = true
+
+-- the version has the request, and all that it names is declared, and of the right kind, its place too
 abbrev pub is_sound : DeclsState → Waiter → Bool
-is_sound decls w = is_declared decls.declarations w && (lock_suits decls w.asked.ask && nat_lt w.asked.place (length decls.places))
+is_sound decls w =
+    is_declared decls.declarations w && (has_ask decls.version w.asked.ask && (lock_suits decls w.asked.ask && nat_lt w.asked.place (length decls.places)))
 
 -- the ask is to start h
 abbrev pub asks_to_start : ℕ → Ask → Bool

@@ -1,12 +1,12 @@
 -- The table of requests: what a goroutine that asks does in an event, and what it is told. (The Go Programming Language
 -- Specification, "Go statements",
 -- "Send statements", "Receive operator", "Close", "Select statements", "Run-time panics"; package sync)
-use Rattle.std.specs.Prelude.{ℕ, ◌≡◌, ◌==◌, ◌⊎◌, cond, Bool, true, Option, Some, None, List, [], ◌∷◌, length, map, slice_get}
+use Rattle.std.specs.Prelude.{ℕ, ◌≡◌, ◌==◌, ◌⊎◌, cond, Bool, true, false, Option, Some, None, List, [], ◌∷◌, length, map, slice_get}
 use Rattle.race_records.specs.declared.event.Cause.TheVariants.{SendClosed, CloseClosed, CloseNil, UnlockFree, RUnlockFree}
 use Rattle.race_records.specs.declared.event.Event.{Event}
 use Rattle.race_records.specs.declared.event.Op.{Op}
 use Rattle.race_records.specs.declared.event.Op.TheVariants.{Go, Exit, Read, Write, Send, Recv, Meet, RecvClosed, Close, Default, Lock, Unlock, RLock, RUnlock}
-use Rattle.race_records.specs.declared.event.Op.TheVariants.{OnceBegin, OnceEnd, OnceDone, Fault}
+use Rattle.race_records.specs.declared.event.Op.TheVariants.{TryLock, TryRLock, TryFail, OnceBegin, OnceEnd, OnceDone, Fault}
 use Rattle.race_hub.specs.declared.request.Answer.{Answer}
 use Rattle.race_hub.specs.declared.request.Ask.{Ask}
 use Rattle.race_hub.specs.declared.request.Offer.{Offer}
@@ -56,7 +56,8 @@ abbrev pub IsDefault : List Offer → Bool → ℕ → Op → Option Answer → 
 IsDefault offers has_default k op told =
     (has_default ≡ true) × (k ≡ length offers) × (op ≡ Default (map case_of offers)) × (told ≡ Some Answer.DefaultTaken)
 
--- a row of the table: who asks does the operation, by its way k, and is told that; nothing after an exit and a fault. Only a select has another way than 0
+-- a row of the table: who asks does the operation, by its way k, and is told that; nothing after an exit and a fault. Only a select
+-- and a try have another way than 0: a try takes the lock by way 0, and not by way 1
 abbrev pub IsRow : Ask → ℕ → Op → Option Answer → Type 0
 IsRow (Ask.Go h) k op told = (k ≡ 0) × (op ≡ Go h) × (told ≡ Some Answer.Unit)
 IsRow Ask.Exit k op told = (k ≡ 0) × (op ≡ Exit) × (told ≡ None)
@@ -75,6 +76,10 @@ IsRow (Ask.Lock l) k op told = (k ≡ 0) × (op ≡ Lock l) × (told ≡ Some An
 IsRow (Ask.RLock l) k op told = (k ≡ 0) × (op ≡ RLock l) × (told ≡ Some Answer.Unit)
 IsRow (Ask.Unlock l) k op told = (k ≡ 0) × (((op ≡ Unlock l) × (told ≡ Some Answer.Unit)) ⊎ ((op ≡ Fault (UnlockFree l)) × (told ≡ None)))
 IsRow (Ask.RUnlock l) k op told = (k ≡ 0) × (((op ≡ RUnlock l) × (told ≡ Some Answer.Unit)) ⊎ ((op ≡ Fault (RUnlockFree l)) × (told ≡ None)))
+IsRow (Ask.TryLock l) k op told =
+    ((k ≡ 0) × (op ≡ TryLock l) × (told ≡ Some (Answer.Tried true))) ⊎ ((k ≡ 1) × (op ≡ TryFail l) × (told ≡ Some (Answer.Tried false)))
+IsRow (Ask.TryRLock l) k op told =
+    ((k ≡ 0) × (op ≡ TryRLock l) × (told ≡ Some (Answer.Tried true))) ⊎ ((k ≡ 1) × (op ≡ TryFail l) × (told ≡ Some (Answer.Tried false)))
 IsRow (Ask.Do o) k op told = (k ≡ 0) × (((op ≡ OnceBegin o) × (told ≡ Some Answer.Run)) ⊎ ((op ≡ OnceDone o) × (told ≡ Some Answer.AlreadyDone)))
 IsRow (Ask.EndDo o) k op told = (k ≡ 0) × (op ≡ OnceEnd o) × (told ≡ Some Answer.Unit)
 

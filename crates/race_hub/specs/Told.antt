@@ -1,11 +1,12 @@
 -- The rows of Table as tests: they give an answer exactly where IsRow holds, as proofs/RowLemmas shows.
-use Rattle.std.specs.Prelude.{ℕ, if◌then◌else◌, ◌==◌, ◌&&◌, Bool, List, length, map, slice_get, Option, Some, None, option_map}
+use Rattle.std.specs.Prelude.{ℕ, if◌then◌else◌, ◌==◌, ◌&&◌, Bool, true, false, List, length, map, slice_get, Option, Some, None, option_map}
 use Rattle.race_records.specs.Cases.{same_cases}
 use Rattle.race_records.specs.declared.event.Cause.TheVariants.{SendClosed, CloseClosed, CloseNil, UnlockFree, RUnlockFree}
 use Rattle.race_records.specs.declared.event.Op.{Op}
 use Rattle.race_records.specs.declared.event.Op.TheVariants.{Go, Exit, Read, Write, Send}
 use Rattle.race_records.specs.declared.event.Op.TheVariants.{Recv, RecvClosed, Close, Default}
 use Rattle.race_records.specs.declared.event.Op.TheVariants.{Lock, Unlock, RLock, RUnlock}
+use Rattle.race_records.specs.declared.event.Op.TheVariants.{TryLock, TryRLock, TryFail}
 use Rattle.race_records.specs.declared.event.Op.TheVariants.{OnceBegin}
 use Rattle.race_records.specs.declared.event.Op.TheVariants.{OnceEnd, OnceDone, Fault}
 use Rattle.race_hub.specs.declared.request.Answer.{Answer}
@@ -36,7 +37,19 @@ told_closer (Some c) (Fault (CloseClosed d)) = told_if (d == c) None
 told_closer None (Fault CloseNil) = Some None
 told_closer _ _ = None
 
--- what is told who asks, but to select, and did the operation, by whatever way; None where no row has both
+-- to try to lock, by the way k: the lock is taken by way 0, and not by way 1
+abbrev pub told_trier : ℕ → ℕ → Op → Option (Option Answer)
+told_trier l k (TryLock m) = told_if ((k == 0) && (m == l)) (Some (Answer.Tried true))
+told_trier l k (TryFail m) = told_if ((k == 1) && (m == l)) (Some (Answer.Tried false))
+told_trier _ _ _ = None
+
+-- to try to lock for reading
+abbrev pub told_rtrier : ℕ → ℕ → Op → Option (Option Answer)
+told_rtrier l k (TryRLock m) = told_if ((k == 0) && (m == l)) (Some (Answer.Tried true))
+told_rtrier l k (TryFail m) = told_if ((k == 1) && (m == l)) (Some (Answer.Tried false))
+told_rtrier _ _ _ = None
+
+-- what is told who asks, but to select or to try, and did the operation, by whatever way; None where no row has both
 abbrev pub told_by : Ask → Op → Option (Option Answer)
 told_by (Ask.Go h) (Go g) = told_if (g == h) (Some Answer.Unit)
 told_by Ask.Exit Exit = Some None
@@ -76,7 +89,9 @@ told_selector offers has_default k (Default cases) =
     told_if ((has_default && (k == length offers)) && same_cases cases (map case_of offers)) (Some Answer.DefaultTaken)
 told_selector offers has_default k op = elim (slice_get offers k) [ None ↦ None | Some o ↦ told_offer k o op ]
 
--- the same by the way k; only a select has another than 0
+-- the same by the way k; only a select and a try have another than 0
 abbrev pub told_at : Ask → ℕ → Op → Option (Option Answer)
 told_at (Ask.Select offers has_default) k op = told_selector offers has_default k op
+told_at (Ask.TryLock l) k op = told_trier l k op
+told_at (Ask.TryRLock l) k op = told_rtrier l k op
 told_at ask k op = if k == 0 then told_by ask op else None

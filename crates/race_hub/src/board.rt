@@ -14,6 +14,7 @@ ghost use Rattle.race_hub.specs.Waiting as list;
 use crate::meet::offer_at;
 use crate::possible::is_default_way;
 use crate::receivers::Receivers;
+use crate::table::way_count;
 use crate::{
     Ask, Board, Choice, Found, Offer, Offers, Waiter, can_go_on, can_meet, find, lone_event,
     meet_event, pick_choice,
@@ -182,7 +183,7 @@ impl<'a, A: Allocator, B: Allocator> WaitingList<'a, A, B> {
         requires { place < length self.now.waiting }
         ensures { result ≡ spec.ways_at self.now.waiting place }
     {
-        ways(&self.at(place as usize).asked.ask)
+        way_count(&self.at(place as usize).asked.ask)
     }
 
     // Whether the tuple makes an event, and the event breaks no rule.
@@ -321,16 +322,6 @@ fn is_rendezvous(capacity: u32, closed: bool) -> bool
     ensures { result ≡ ((capacity == 0) && not closed) }
 {
     capacity == 0 && !closed
-}
-
-// In how many ways who asks can go on.
-fn ways(ask: &Ask) -> u32
-    ensures { result ≡ spec.ways ask.now }
-{
-    match ask {
-        Ask::Select(offers, has_default) => offers.len() as u32 + u32::from(*has_default),
-        _ => 1,
-    }
 }
 
 // The ask's way of this number is its default.

@@ -15,8 +15,10 @@ ghost use Rattle.race_hub.specs.Laws.{
   RowsOfReceives,
   RowsOfSelects,
   RowsOfSends,
+  RowsOfTries,
   RowsOfVariables,
   SelectsMeet,
+  SoundTries,
 };
 
 /// The table has a row for a start and one for an exit, and in a run without events each goes on by it.
@@ -47,6 +49,16 @@ pub fn rows_of_closes()
 /// A lock waits for whoever holds it, readers share it, and an unlock of what isn't locked fails.
 pub fn rows_of_locks()
     ensures { RowsOfLocks }
+{}
+
+/// A try of a lock that can be taken has two choices, the lock and then the failure, and another has the failure alone.
+pub fn rows_of_tries()
+    ensures { RowsOfTries }
+{}
+
+/// A try is sound in version 2 alone, and one to lock for reading where the lock is an rwmutex.
+pub fn sound_tries()
+    ensures { SoundTries }
 {}
 
 /// The function of a once is run once, and who comes while it runs waits.

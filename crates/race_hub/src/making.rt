@@ -1,8 +1,9 @@
 //! Which event a waiting request makes alone, after the events so far.
-ghost use Rattle.std.specs.Prelude.{ℕ, ◌≡◌, cond, Option, Some, None, IsTrue};
+ghost use Rattle.std.specs.Prelude.{ℕ, ◌≡◌, ◌==◌, cond, Option, Some, None, IsTrue};
 ghost use Rattle.std.specs.List.{list_all};
 ghost use Rattle.race_records.specs.declared.event.Cause.TheVariants.{SendClosed, CloseClosed, UnlockFree, RUnlockFree};
-ghost use Rattle.race_records.specs.declared.event.Op.TheVariants.{Send, Recv, RecvClosed, Close, Unlock, RUnlock, OnceBegin, OnceDone, Fault};
+ghost use Rattle.race_records.specs.declared.event.Op.TheVariants.{Send, Recv, RecvClosed, Close, Unlock, RUnlock, TryLock, TryRLock, TryFail};
+ghost use Rattle.race_records.specs.declared.event.Op.TheVariants.{OnceBegin, OnceDone, Fault};
 ghost use Rattle.race_records.specs.Parts.{chan_is_in_range};
 ghost use Rattle.race_legal.specs.ReplayState.{counts_in};
 ghost use Rattle.race_legal.specs.StandsFor.{ForEachPast};
@@ -80,6 +81,28 @@ fn do_op(once: u32, begun: bool) -> Op
     }
 }
 
+// A try to lock, which takes the lock by its first way.
+fn try_op(lock: u32, way: u32) -> Op
+    ensures { result ≡ cond (way == 0) (TryLock lock) (TryFail lock) }
+{
+    if way == 0 {
+        Op::TryLock(lock)
+    } else {
+        Op::TryFail(lock)
+    }
+}
+
+// A try to lock for reading, which takes the lock by its first way.
+fn tryr_op(lock: u32, way: u32) -> Op
+    ensures { result ≡ cond (way == 0) (TryRLock lock) (TryFail lock) }
+{
+    if way == 0 {
+        Op::TryRLock(lock)
+    } else {
+        Op::TryFail(lock)
+    }
+}
+
 // A send on the channel; on nil there is none.
 fn lone_send<A: Allocator>(replay: &Replay<A>, chan: Option<u32>, value: u64) -> Option<Op>
     requires { IsTrue (chan_is_in_range (counts_in replay.now Kind.Chan) chan) }
@@ -154,13 +177,15 @@ fn lone_op<A: Allocator>(replay: &Replay<A>, ask: &Ask, way: u32) -> Option<Op>
         Ask::Unlock(lock) => Some(unlock_op(*lock, replay.is_held(*lock))),
         Ask::RLock(lock) => Some(Op::RLock(*lock)),
         Ask::RUnlock(lock) => Some(runlock_op(*lock, replay.is_read_held(*lock))),
+        Ask::TryLock(lock) => Some(try_op(*lock, way)),
+        Ask::TryRLock(lock) => Some(tryr_op(*lock, way)),
         Ask::Do(once) => Some(do_op(*once, replay.is_begun(*once))),
         Ask::EndDo(once) => Some(Op::OnceEnd(*once)),
     }
 }
 
-/// The event that the waiting request makes alone by its way of this number, if it can make one. Only of a select the
-/// number is looked at: other requests have one way.
+/// The event that the waiting request makes alone by its way of this number, if it can make one. Only of a select and of
+/// a try the number is looked at: other requests have one way.
 pub fn lone_event<A: Allocator>(replay: &Replay<A>, waiter: &Waiter, way: u32) -> Option<Event>
     requires { IsTrue (ask_is_in_range (counts_in replay.now) waiter.now.asked.ask) }
     ensures { ForEachPast replay.now (λ past. result ≡ spec.lone_event past waiter.now way) }

@@ -40,6 +40,13 @@ fn takes_value(closed: bool, capacity: u32, buffered: usize) -> bool
     closed || (capacity > 0 && buffered != capacity as usize)
 }
 
+// By its first way a try goes on only where the lock can be taken, and by the other always.
+fn try_can(way: u32, free: bool) -> bool
+    ensures { result ≡ (not (way == 0) || free) }
+{
+    way != 0 || free
+}
+
 // There is no number.
 fn is_absent(found: Option<u32>) -> bool
     ensures { result ≡ is_none found }
@@ -252,6 +259,11 @@ fn ask_can<A: Allocator, B: Allocator>(
         Ask::Select(offers, has_default) => selector_can(replay, decls, offers, *has_default, way),
         Ask::Lock(lock) => neither(replay.is_held(*lock), replay.is_read_held(*lock)),
         Ask::RLock(lock) => !replay.is_held(*lock),
+        Ask::TryLock(lock) => try_can(
+            way,
+            neither(replay.is_held(*lock), replay.is_read_held(*lock)),
+        ),
+        Ask::TryRLock(lock) => try_can(way, !replay.is_held(*lock)),
         Ask::Do(once) => only_if(replay.is_begun(*once), replay.is_ended(*once)),
         Ask::EndDo(once) => is_number(replay.innermost(who), *once),
         // These go on always: some of them as a fault.

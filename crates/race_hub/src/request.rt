@@ -39,6 +39,10 @@ pub enum Ask {
     RLock(u32),
     /// Unlock the rwmutex of this number from reading.
     RUnlock(u32),
+    /// Lock the mutex or the rwmutex of this number if that can be done at once.
+    TryLock(u32),
+    /// Lock the rwmutex of this number for reading if that can be done at once.
+    TryRLock(u32),
     /// Run the function of the once of this number, unless that was done.
     Do(u32),
     /// End the function of the once of this number.
@@ -63,6 +67,8 @@ impl Ask {
             Ask::Unlock(lock) => Ask::Unlock(*lock),
             Ask::RLock(lock) => Ask::RLock(*lock),
             Ask::RUnlock(lock) => Ask::RUnlock(*lock),
+            Ask::TryLock(lock) => Ask::TryLock(*lock),
+            Ask::TryRLock(lock) => Ask::TryRLock(*lock),
             Ask::Do(once) => Ask::Do(*once),
             Ask::EndDo(once) => Ask::EndDo(*once),
         }
@@ -109,6 +115,8 @@ pub enum Answer {
     Run,
     /// The function of the once had run.
     AlreadyDone,
+    /// Whether the lock was taken.
+    Tried(bool),
 }
 
 /// One step of a goroutine's log.

@@ -15,7 +15,7 @@ ghost use Rattle.race_hub.specs.Submits as spec;
 use crate::possible::is_number;
 use crate::{Ask, Offer, Offers, Waiter};
 use race_legal::Replay;
-use race_records::{Decls, Kind};
+use race_records::{Decls, Kind, Verb};
 use std::alloc::Allocator;
 
 // The channel is declared, or it is nil.
@@ -68,6 +68,8 @@ fn names_declared<A: Allocator>(decls: &Decls<A>, ask: &Ask) -> bool
         Ask::Unlock(lock) => *lock < decls.count(Kind::Lock),
         Ask::RLock(lock) => *lock < decls.count(Kind::Lock),
         Ask::RUnlock(lock) => *lock < decls.count(Kind::Lock),
+        Ask::TryLock(lock) => *lock < decls.count(Kind::Lock),
+        Ask::TryRLock(lock) => *lock < decls.count(Kind::Lock),
         Ask::Do(once) => *once < decls.count(Kind::Once),
         Ask::EndDo(once) => *once < decls.count(Kind::Once),
     }
@@ -81,18 +83,32 @@ fn lock_suits<A: Allocator>(decls: &Decls<A>, ask: &Ask) -> bool
     match ask {
         Ask::RLock(lock) => decls.is_rw(*lock),
         Ask::RUnlock(lock) => decls.is_rw(*lock),
+        Ask::TryRLock(lock) => decls.is_rw(*lock),
         _ => true,
     }
 }
 
-/// Whether all that the request names is declared, and of the right kind, its place too.
+// The version of the declarations has the ask.
+fn is_known<A: Allocator>(decls: &Decls<A>, ask: &Ask) -> bool
+    ensures { result ≡ spec.has_ask decls.now.version ask.now }
+{
+    match ask {
+        Ask::TryLock(_) => decls.version().has(Verb::TryLock),
+        Ask::TryRLock(_) => decls.version().has(Verb::TryRLock),
+        _ => true,
+    }
+}
+
+/// Whether the version has the request, and all that it names is declared, and of the right kind, its place too.
 pub(crate) fn is_sound<A: Allocator>(decls: &Decls<A>, waiter: &Waiter) -> bool
     ensures { result ≡ spec.is_sound decls.now waiter.now }
 {
     if waiter.who >= decls.count(Kind::Goroutine) || !names_declared(decls, &waiter.asked.ask) {
         return false;
     }
-    lock_suits(decls, &waiter.asked.ask) && waiter.asked.place < decls.place_count()
+    is_known(decls, &waiter.asked.ask)
+        && lock_suits(decls, &waiter.asked.ask)
+        && waiter.asked.place < decls.place_count()
 }
 
 // Whether one of these asks to start the goroutine.

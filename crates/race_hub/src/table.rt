@@ -1,6 +1,7 @@
 //! The rows of the table: what a goroutine is told, and which event a step of its log fits.
 ghost use Rattle.std.specs.Prelude.{ℕ, ◌≡◌, ◌≤◌, ◌↔◌, if◌then◌else◌, length, Option, Some, None, IsTrue, option_map};
 ghost use Rattle.race_hub.specs.declared.request.Answer.{Answer};
+ghost use Rattle.race_hub.specs.Choices.{ways};
 ghost use Rattle.race_hub.specs.Table as spec;
 ghost use Rattle.race_hub.specs.Table.{offers_of, done_by, IsRow, Fits, CanMake};
 ghost use Rattle.race_hub.specs.Told.{told_if, told_sender, told_receiver, told_closer, told_by, chosen, told_offer, told_selector, told_at};
@@ -83,6 +84,28 @@ fn tells_runlocker(lock: u32, done: &Op) -> Option<Option<Answer>>
     }
 }
 
+// What is told who tries to lock, by its way of this number.
+fn tells_trier(lock: u32, way: u32, done: &Op) -> Option<Option<Answer>>
+    ensures { result ≡ told_at (Ask.TryLock lock) way done.now }
+{
+    match done {
+        Op::TryLock(taken) => tells(way == 0 && *taken == lock, Some(Answer::Tried(true))),
+        Op::TryFail(missed) => tells(way == 1 && *missed == lock, Some(Answer::Tried(false))),
+        _ => None,
+    }
+}
+
+// What is told who tries to lock for reading, by its way of this number.
+fn tells_rtrier(lock: u32, way: u32, done: &Op) -> Option<Option<Answer>>
+    ensures { result ≡ told_at (Ask.TryRLock lock) way done.now }
+{
+    match done {
+        Op::TryRLock(taken) => tells(way == 0 && *taken == lock, Some(Answer::Tried(true))),
+        Op::TryFail(missed) => tells(way == 1 && *missed == lock, Some(Answer::Tried(false))),
+        _ => None,
+    }
+}
+
 // What is told who asks to run the function of a once.
 fn tells_doer(once: u32, done: &Op) -> Option<Option<Answer>>
     ensures { result ≡ told_by (Ask.Do once) done.now }
@@ -132,7 +155,7 @@ fn tells_selector(offers: &Offers, has_default: bool, way: u32, done: &Op) -> Op
     tells_offer(way, offers.get(way as usize), done)
 }
 
-// What is told who asks, but to select, and did that.
+// What is told who asks, but to select or to try, and did that.
 fn tells_by(ask: &Ask, done: &Op) -> Option<Option<Answer>>
     ensures { result ≡ told_by ask.now done.now }
 {
@@ -172,6 +195,8 @@ fn tells_by(ask: &Ask, done: &Op) -> Option<Option<Answer>>
             _ => None,
         },
         Ask::Select(_, _) => None,
+        Ask::TryLock(_) => None,
+        Ask::TryRLock(_) => None,
     }
 }
 
@@ -179,10 +204,12 @@ fn tells_by(ask: &Ask, done: &Op) -> Option<Option<Answer>>
 fn tells_at(ask: &Ask, way: u32, done: &Op) -> Option<Option<Answer>>
     ensures { result ≡ told_at ask.now way done.now }
 {
-    if let Ask::Select(offers, has_default) = ask {
-        return tells_selector(offers, *has_default, way, done);
+    match ask {
+        Ask::Select(offers, has_default) => tells_selector(offers, *has_default, way, done),
+        Ask::TryLock(lock) => tells_trier(*lock, way, done),
+        Ask::TryRLock(lock) => tells_rtrier(*lock, way, done),
+        _ => if way == 0 { tells_by(ask, done) } else { None },
     }
-    if way == 0 { tells_by(ask, done) } else { None }
 }
 
 // What is told who asks and did its part of an event with this operation.
@@ -245,12 +272,24 @@ pub(crate) fn offer_count(ask: &Ask) -> u32
     }
 }
 
+/// In how many ways who asks can go on.
+pub(crate) fn way_count(ask: &Ask) -> u32
+    ensures count { result ≡ ways ask.now }
+    ensures few { result ≤ 17 }
+{
+    match ask {
+        Ask::Select(offers, has_default) => offers.len() as u32 + u32::from(*has_default),
+        Ask::TryLock(_) => 2,
+        Ask::TryRLock(_) => 2,
+        _ => 1,
+    }
+}
+
 // Whether by some way the table has a row that tells that.
 fn is_told_by_some_way(who: u32, step: &Step, op: &Op) -> bool
     ensures { IsTrue result ↔ ((k : ℕ) × IsRow step.now.asked.ask k (done_by who op.now) step.now.told) }
 {
-    // By its default, as an ask without offers, it goes on by the way behind them.
-    for way in 0..offer_count(&step.asked.ask) + 1 {
+    for way in 0..way_count(&step.asked.ask) {
         if is_told(answer_of(who, &step.asked.ask, way, op), step.told) {
             return true;
         }
@@ -272,7 +311,7 @@ pub fn fits_step(who: u32, step: &Step, event: &Event) -> bool
 pub fn can_make(who: u32, ask: &Ask, op: &Op) -> bool
     ensures { IsTrue result ↔ CanMake who ask.now op.now }
 {
-    for way in 0..offer_count(ask) + 1 {
+    for way in 0..way_count(ask) {
         if answer_of(who, ask, way, op).is_some() {
             return true;
         }

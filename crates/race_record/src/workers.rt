@@ -1,5 +1,6 @@
 //! A recording on several threads.
 ghost use Rattle.std.specs.Prelude.{◌≡◌, ◌↔◌, length, false, Err, IfOk, IsTrue};
+ghost use Rattle.race_records.specs.Equality.{declared};
 ghost use Rattle.race_record.specs.Recorded as spec;
 ghost use Rattle.race_record.specs.Recorded.{IsRecordingOf};
 
@@ -95,9 +96,9 @@ fn recorded<T: Threads + Wait + Sync, R: Routine, A: Allocator + Copy + Send>(
     }
 }
 
-// Whether the hub declares the same, in the same order, and has this limit.
+// Whether the hub has the same version, declares the same, in the same order, and has this limit.
 fn is_same<R, A: Allocator>(hub: &Hub<R, A>, decls: &Decls<A>, limit: u32) -> bool
-    ensures declarations { IsTrue result → hub.now.decls.declarations ≡ decls.now.declarations }
+    ensures declared { IsTrue result → declared hub.now.decls ≡ declared decls.now }
     ensures limit { IsTrue result → hub.now.limit ≡ limit }
 {
     hub.trace().decls() == decls && hub.limit() == limit

@@ -49,3 +49,11 @@ lone_select-requires g c =
 pub returns-in-Select : goal.returns-in-Select
 returns-in-Select g c D past S =
     c.lone_select.ensures D past S ∙ sym (ap (λ (a : Ask). op_of past a c.args.way) c.in-Select.is)
+
+pub returns-in-TryLock : goal.returns-in-TryLock
+returns-in-TryLock g c D past S =
+    ap (λ (o : Op). Some o) c.try_op.ensures ∙ sym (ap (λ (a : Ask). op_of past a c.args.way) c.in-TryLock.is)
+
+pub returns-in-TryRLock : goal.returns-in-TryRLock
+returns-in-TryRLock g c D past S =
+    ap (λ (o : Op). Some o) c.tryr_op.ensures ∙ sym (ap (λ (a : Ask). op_of past a c.args.way) c.in-TryRLock.is)

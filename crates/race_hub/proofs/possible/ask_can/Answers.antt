@@ -54,3 +54,18 @@ returns-in-Select g c past S =
     let D = c.args.decls.now.declarations in
     c.selector_can.ensures past c.args.who S
     ∙ sym (ap (λ (a : Ask). goes_on (capacity_of D) past c.args.who a c.args.way) c.in-Select.is)
+
+pub returns-in-TryLock : goal.returns-in-TryLock
+returns-in-TryLock g c past S =
+    let D = c.args.decls.now.declarations in
+    c.try_can.ensures
+    ∙ (λ i. not (c.args.way == 0)
+    || (c.neither-in-TryLock.ensures
+    ∙ (λ j. not (c.is_held-in-TryLock.ensures D past S j) && not (c.is_read_held-in-TryLock.ensures D past S j))) i)
+    ∙ sym (ap (λ (a : Ask). goes_on (capacity_of D) past c.args.who a c.args.way) c.in-TryLock.is)
+
+pub returns-in-TryRLock : goal.returns-in-TryRLock
+returns-in-TryRLock g c past S =
+    let D = c.args.decls.now.declarations in
+    c.try_can-in-TryRLock.ensures ∙ (λ i. not (c.args.way == 0) || not (c.is_held-in-TryRLock.ensures D past S i))
+    ∙ sym (ap (λ (a : Ask). goes_on (capacity_of D) past c.args.who a c.args.way) c.in-TryRLock.is)

@@ -5,7 +5,7 @@ use Rattle.race_records.specs.declared.event.Op.{Op}
 use Rattle.race_hub.specs.declared.request.Answer.{Answer}
 use Rattle.race_hub.specs.declared.request.Ask.{Ask}
 use Rattle.race_hub.specs.Table.{IsRow, done_by}
-use Rattle.race_hub.proofs.RowLemmas.{holds_before}
+use Rattle.race_hub.proofs.RowLemmas.{way_within}
 use Rattle.race_hub.proofs.table.can_make.Goals as goal
 
 -- where there is an answer there is a row
@@ -34,6 +34,6 @@ pub returns : goal.returns
 returns c = (
   λ none. absurd (true≢false (sym none)),
   λ row.
-      let before = holds_before c.args.ask.now row.0 (done_by c.args.who c.args.op.now) row.1 row.2 in
-      absurd (c.loop-way.invariant before.way row.1 (omega (arith, before.few, c.offer_count-way-end.ensures.count, c.loop-way-test.false)) before.row),
+      let within = way_within c.args.ask.now row.0 (done_by c.args.who c.args.op.now) row.1 row.2 in
+      absurd (c.loop-way.invariant row.0 row.1 (omega (arith, within, c.way_count-way-end.ensures.count, c.loop-way-test.false)) row.2),
 )

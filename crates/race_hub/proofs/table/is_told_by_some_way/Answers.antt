@@ -2,7 +2,7 @@
 use Rattle.std.proofs.Common.{◌≡◌, inl, inr, true≢false, refl, sym, subst, ◌∙◌, arith}
 use Rattle.std.proofs.lemmas.Bool.{cases_lt}
 use Rattle.race_hub.specs.Table.{done_by, IsRow}
-use Rattle.race_hub.proofs.RowLemmas.{holds_before}
+use Rattle.race_hub.proofs.RowLemmas.{way_within}
 use Rattle.race_hub.proofs.table.is_told_by_some_way.Goals as goal
 
 pub loop-way-preserved : goal.loop-way-preserved
@@ -24,6 +24,6 @@ pub returns : goal.returns
 returns c = (
   λ no. absurd (true≢false (sym no)),
   λ row.
-      let before = holds_before c.args.step.now.asked.ask row.0 (done_by c.args.who c.args.op.now) c.args.step.now.told row.1 in
-      absurd (c.loop-way.invariant before.way (omega (arith, before.few, c.offer_count-way-end.ensures.count, c.loop-way-test.false)) before.row),
+      let within = way_within c.args.step.now.asked.ask row.0 (done_by c.args.who c.args.op.now) c.args.step.now.told row.1 in
+      absurd (c.loop-way.invariant row.0 (omega (arith, within, c.way_count-way-end.ensures.count, c.loop-way-test.false)) row.1),
 )

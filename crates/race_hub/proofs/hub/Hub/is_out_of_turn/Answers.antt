@@ -1,7 +1,7 @@
 use Rattle.std.proofs.Common.{◌&&◌, IsTrue, sym, subst, ◌∙◌, ap, nat_lt, length}
 use Rattle.race_hub.specs.Hub.{HubState}
 use Rattle.race_hub.specs.HubHolds.{hub_state}
-use Rattle.race_hub.specs.Submits.{is_sound, is_out_of_turn, lock_suits}
+use Rattle.race_hub.specs.Submits.{is_sound, is_out_of_turn, has_ask, lock_suits}
 use Rattle.race_hub.specs.Waiting.{is_declared}
 use Rattle.race_hub.proofs.FiringLemmas.{both_true}
 use Rattle.race_hub.proofs.WaitingLemmas.{who_is_in_range, ask_is}
@@ -13,7 +13,7 @@ is_out_of_turn-requires-clause-who g c =
     let w = c.args.waiter.now in
     let sound = subst (λ h. IsTrue (is_sound h.decls w)) (sym c.self.view_is) c.requires in
     let declared = (both_true (is_declared old.decls.declarations w)
-    (lock_suits old.decls w.asked.ask && nat_lt w.asked.place (length old.decls.places)) sound).0 in
+    (has_ask old.decls.version w.asked.ask && (lock_suits old.decls w.asked.ask && nat_lt w.asked.place (length old.decls.places))) sound).0 in
     who_is_in_range old.decls.declarations c.self.inside.replay old.events c.self.invariant.0.stands w declared
 
 pub is_out_of_turn-requires-clause-range : goal.is_out_of_turn-requires-clause-range
@@ -22,7 +22,7 @@ is_out_of_turn-requires-clause-range g c =
     let w = c.args.waiter.now in
     let sound = subst (λ h. IsTrue (is_sound h.decls w)) (sym c.self.view_is) c.requires in
     let declared = (both_true (is_declared old.decls.declarations w)
-    (lock_suits old.decls w.asked.ask && nat_lt w.asked.place (length old.decls.places)) sound).0 in
+    (has_ask old.decls.version w.asked.ask && (lock_suits old.decls w.asked.ask && nat_lt w.asked.place (length old.decls.places))) sound).0 in
     ask_is old.decls.declarations c.self.inside.replay old.events c.self.invariant.0.stands w declared
 
 pub returns : goal.returns

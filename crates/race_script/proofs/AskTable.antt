@@ -5,16 +5,19 @@ use Rattle.std.proofs.Common.{subst, ◌∙◌}
 use Rattle.std.proofs.lemmas.Option.{none-some, same_Some}
 use Rattle.std.proofs.lemmas.Slice.Eq.{bytes_eq-Decides}
 use Rattle.std.specs.List.{list_all}
+use Rattle.std.specs.Option.{option_and_then}
 use Rattle.std.specs.Str.{bytes_eq}
 use Rattle.race_records.specs.declared.kind.Kind.{Kind}
 use Rattle.race_records.specs.declared.kind.Named.{Named}
 use Rattle.race_records.specs.declared.parts.Part.{Part}
 use Rattle.race_records.specs.declared.parts.PartKind.{PartKind}
+use Rattle.race_records.specs.declared.version.Version.{Version}
 use Rattle.race_records.specs.Declarations.{Declaration, counts_of, is_rw, is_named, number_of}
 use Rattle.race_records.specs.Name.{is_place_byte}
 use Rattle.race_records.specs.Parts.{object_alone, object_value, suit, part_fits, part_is_limited}
 use Rattle.race_hub.specs.declared.request.Ask.{Ask}
 use Rattle.race_hub.specs.declared.request.Offer.{Offer}
+use Rattle.race_hub.specs.Submits.{has_ask}
 use Rattle.race_text.specs.declared.form.Word.{Word}
 use Rattle.race_text.specs.Fault.{declared_as}
 use Rattle.race_text.specs.Form.{word_named}
@@ -25,7 +28,8 @@ use Rattle.race_records.specs.declared.nouns.Noun.{Noun}
 use Rattle.race_script.specs.declared.form.AskWord.{AskWord}
 use Rattle.race_script.specs.declared.form.LineWord.{LineWord}
 use Rattle.race_script.specs.declared.form.TheConstants.{BODY_WORDS}
-use Rattle.race_script.specs.Form.{lookup, noun_or, line_word, ask_kinds, value_alone, if_none, ask_by}
+use Rattle.race_script.specs.Form.{lookup, noun_or, line_word, has_ask_word, has_line_word, as_had, line_word_in, word_on_nil, ask_kinds, value_alone}
+use Rattle.race_script.specs.Form.{if_none, ask_by}
 use Rattle.race_script.specs.Program.{ask_fits}
 use Rattle.race_script.specs.Text.{ask_words}
 
@@ -50,6 +54,8 @@ ask_says (Ask.Lock l) = Some (AskWord.Lock, Part.Object (Named.Lock l) ∷ [])
 ask_says (Ask.Unlock l) = Some (AskWord.Unlock, Part.Object (Named.Lock l) ∷ [])
 ask_says (Ask.RLock l) = Some (AskWord.RLock, Part.Object (Named.Lock l) ∷ [])
 ask_says (Ask.RUnlock l) = Some (AskWord.RUnlock, Part.Object (Named.Lock l) ∷ [])
+ask_says (Ask.TryLock l) = Some (AskWord.TryLock, Part.Object (Named.Lock l) ∷ [])
+ask_says (Ask.TryRLock l) = Some (AskWord.TryRLock, Part.Object (Named.Lock l) ∷ [])
 ask_says (Ask.Do o) = Some (AskWord.Do, Part.Object (Named.Once o) ∷ [])
 ask_says (Ask.EndDo o) = Some (AskWord.EndDo, Part.Object (Named.Once o) ∷ [])
 
@@ -84,6 +90,8 @@ front_words AskWord.Lock = codes "lock" ∷ []
 front_words AskWord.Unlock = codes "unlock" ∷ []
 front_words AskWord.RLock = codes "rlock" ∷ []
 front_words AskWord.RUnlock = codes "runlock" ∷ []
+front_words AskWord.TryLock = codes "trylock" ∷ []
+front_words AskWord.TryRLock = codes "tryrlock" ∷ []
 front_words AskWord.Do = codes "do" ∷ []
 front_words AskWord.EndDo = codes "enddo" ∷ []
 
@@ -192,6 +200,8 @@ ask_by_says word parts ask e = by word e
     by AskWord.Unlock e = alone Ask.Unlock AskWord.Unlock Kind.Lock (λ n. refl) e
     by AskWord.RLock e = alone Ask.RLock AskWord.RLock Kind.Lock (λ n. refl) e
     by AskWord.RUnlock e = alone Ask.RUnlock AskWord.RUnlock Kind.Lock (λ n. refl) e
+    by AskWord.TryLock e = alone Ask.TryLock AskWord.TryLock Kind.Lock (λ n. refl) e
+    by AskWord.TryRLock e = alone Ask.TryRLock AskWord.TryRLock Kind.Lock (λ n. refl) e
     by AskWord.Do e = alone Ask.Do AskWord.Do Kind.Once (λ n. refl) e
     by AskWord.EndDo e = alone Ask.EndDo AskWord.EndDo Kind.Once (λ n. refl) e
 
@@ -211,6 +221,8 @@ ask_is_there AskWord.Lock (Part.Object (Named.Lock n) ∷ []) e = (Ask.Lock n, r
 ask_is_there AskWord.Unlock (Part.Object (Named.Lock n) ∷ []) e = (Ask.Unlock n, refl)
 ask_is_there AskWord.RLock (Part.Object (Named.Lock n) ∷ []) e = (Ask.RLock n, refl)
 ask_is_there AskWord.RUnlock (Part.Object (Named.Lock n) ∷ []) e = (Ask.RUnlock n, refl)
+ask_is_there AskWord.TryLock (Part.Object (Named.Lock n) ∷ []) e = (Ask.TryLock n, refl)
+ask_is_there AskWord.TryRLock (Part.Object (Named.Lock n) ∷ []) e = (Ask.TryRLock n, refl)
 ask_is_there AskWord.Do (Part.Object (Named.Once n) ∷ []) e = (Ask.Do n, refl)
 ask_is_there AskWord.EndDo (Part.Object (Named.Once n) ∷ []) e = (Ask.EndDo n, refl)
 ask_is_there _ _ e = absurd (true≢false (sym e))
@@ -251,8 +263,48 @@ fits_are ds (Ask.Lock l) = one (nat_lt l (counts_of ds Kind.Lock))
 fits_are ds (Ask.Unlock l) = one (nat_lt l (counts_of ds Kind.Lock))
 fits_are ds (Ask.RLock l) = locked (nat_lt l (counts_of ds Kind.Lock)) (is_rw ds l)
 fits_are ds (Ask.RUnlock l) = locked (nat_lt l (counts_of ds Kind.Lock)) (is_rw ds l)
+fits_are ds (Ask.TryLock l) = one (nat_lt l (counts_of ds Kind.Lock))
+fits_are ds (Ask.TryRLock l) = locked (nat_lt l (counts_of ds Kind.Lock)) (is_rw ds l)
 fits_are ds (Ask.Do o) = one (nat_lt o (counts_of ds Kind.Once))
 fits_are ds (Ask.EndDo o) = one (nat_lt o (counts_of ds Kind.Once))
+
+-- a version has an ask just where it has its word
+pub had_by_word : (version : Version) (ask : Ask) → IfSome (ask_says ask) (λ said. has_ask version ask ≡ has_ask_word version said.0)
+had_by_word version (Ask.Send None v) = refl
+had_by_word version (Ask.Send (Some c) v) = refl
+had_by_word version (Ask.Recv None) = refl
+had_by_word version (Ask.Recv (Some c)) = refl
+had_by_word version (Ask.Close None) = refl
+had_by_word version (Ask.Close (Some c)) = refl
+had_by_word version (Ask.Select offers has_default) = tt
+had_by_word version _ = refl
+
+-- each version has what can be asked of nil
+pub has_on_nil : (version : Version) (word other : AskWord) → word_on_nil word ≡ Some other → has_ask_word version other ≡ true
+has_on_nil version AskWord.Send other h = ap (has_ask_word version) (sym (same_Some AskWord.SendNil other h))
+has_on_nil version AskWord.Recv other h = ap (has_ask_word version) (sym (same_Some AskWord.RecvNil other h))
+has_on_nil version AskWord.Close other h = ap (has_ask_word version) (sym (same_Some AskWord.CloseNil other h))
+has_on_nil version _ other h = absurd (none-some other h)
+
+-- a word that is found is one of the version
+pub found_is_had : (version : Version) (w : List ℕ) (word : LineWord) → line_word_in version w ≡ Some word
+    → (line_word w ≡ Some word) × (has_line_word version word ≡ true)
+found_is_had version w word h = by (line_word w) refl h
+  where
+    had : (found : LineWord) (b : Bool) → has_line_word version found ≡ b → line_word w ≡ Some found → (if b then Some found else None) ≡ Some word
+        → (line_word w ≡ Some word) × (has_line_word version word ≡ true)
+    had found true has is h = let same = same_Some found word h in (is ∙ ap Some same, ap (has_line_word version) (sym same) ∙ has)
+    had found false has is h = absurd (none-some word h)
+
+    by : (o : Option LineWord) → line_word w ≡ o → option_and_then (as_had version) o ≡ Some word
+        → (line_word w ≡ Some word) × (has_line_word version word ≡ true)
+    by (Some found) is h = had found (has_line_word version found) refl is h
+    by None is h = absurd (none-some word h)
+
+-- and a word that the version has is found
+pub had_is_found : (version : Version) (w : List ℕ) (word : LineWord) → line_word w ≡ Some word → has_line_word version word ≡ true
+    → line_word_in version w ≡ Some word
+had_is_found version w word is has = ap (option_and_then (as_had version)) is ∙ ap (λ b. if b then Some word else None) has
 
 -- the bytes of the first word of a line
 abbrev pub first_text : LineWord → List ℕ
@@ -273,6 +325,8 @@ first_text (LineWord.Asks AskWord.Lock) = codes "lock"
 first_text (LineWord.Asks AskWord.Unlock) = codes "unlock"
 first_text (LineWord.Asks AskWord.RLock) = codes "rlock"
 first_text (LineWord.Asks AskWord.RUnlock) = codes "runlock"
+first_text (LineWord.Asks AskWord.TryLock) = codes "trylock"
+first_text (LineWord.Asks AskWord.TryRLock) = codes "tryrlock"
 first_text (LineWord.Asks AskWord.Do) = codes "do"
 first_text (LineWord.Asks AskWord.EndDo) = codes "enddo"
 
@@ -334,6 +388,11 @@ noun_word w noun h = by (word_named w) refl h
 pub noun_line_word : (w : List ℕ) (noun : Noun) → word_named w ≡ Some (Word.Declares noun) → line_word w ≡ Some (LineWord.Declares noun)
 unfolding line_word
 noun_line_word w noun h = ap (λ o. noun_or o (lookup table w)) h
+
+-- in each version
+pub noun_word_in : (version : Version) (w : List ℕ) (noun : Noun) → word_named w ≡ Some (Word.Declares noun)
+    → line_word_in version w ≡ Some (LineWord.Declares noun)
+noun_word_in version w noun h = had_is_found version w (LineWord.Declares noun) (noun_line_word w noun h) refl
 
 -- the words of lines of bodies are found
 pub begins_again : line_word (codes "body") ≡ Some LineWord.Begins

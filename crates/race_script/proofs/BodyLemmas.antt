@@ -109,6 +109,8 @@ ends_within depth onces (Ask.Lock l ∷ asks) deep h = let rest = ends_within de
 ends_within depth onces (Ask.Unlock l ∷ asks) deep h = let rest = ends_within depth onces asks deep h in omega (arith, rest)
 ends_within depth onces (Ask.RLock l ∷ asks) deep h = let rest = ends_within depth onces asks deep h in omega (arith, rest)
 ends_within depth onces (Ask.RUnlock l ∷ asks) deep h = let rest = ends_within depth onces asks deep h in omega (arith, rest)
+ends_within depth onces (Ask.TryLock l ∷ asks) deep h = let rest = ends_within depth onces asks deep h in omega (arith, rest)
+ends_within depth onces (Ask.TryRLock l ∷ asks) deep h = let rest = ends_within depth onces asks deep h in omega (arith, rest)
 
 abbrev begins : Option Ask → Bool
 begins o = option_map_or is_do o false

@@ -5,8 +5,7 @@ use Rattle.std.proofs.Common.{eq-eqb}
 use Rattle.std.proofs.lemmas.Bool.Decides.{nat_tests}
 use Rattle.std.proofs.lemmas.Option.{slice_get_within}
 use Rattle.race_records.proofs.ListLemmas.{slice_get-within}
-use Rattle.race_records.specs.Declarations.{Declaration}
-use Rattle.race_records.specs.Equality.{same_declarations, same_declarations-Decides}
+use Rattle.race_records.specs.Equality.{Declared, declared, same_declared, same_declared-Decides}
 use Rattle.race_hub.specs.declared.request.Request.{Request}
 use Rattle.race_hub.specs.Part.{part_of}
 use Rattle.race_hub.specs.Recording.{RecordingState}
@@ -16,17 +15,17 @@ use Rattle.race_script.specs.Course.{IsStop}
 use Rattle.race_script.specs.Program.{ProgramState, spelled}
 use Rattle.race_script.proofs.CourseLemmas.{runs_or_stuck}
 
--- the test says that something else is declared
-pub others_declared : (ds es : List Declaration) → true ≡ not (same_declarations ds es) → ds ≡ es → ⊥
-others_declared ds es told same = by (same_declarations ds es) told ((same_declarations-Decides ds es).1 same)
+-- the test says that the version is another, or that something else is declared
+pub others_declared : (d e : Declared) → true ≡ not (same_declared d e) → d ≡ e → ⊥
+others_declared d e told same = by (same_declared d e) told ((same_declared-Decides d e).1 same)
   where
     by : (b : Bool) → true ≡ not b → b ≡ true → ⊥
     by true told is = true≢false told
     by false told is = true≢false (sym is)
 
 -- or that the same is
-pub same_declared : (ds es : List Declaration) → false ≡ not (same_declarations ds es) → ds ≡ es
-same_declared ds es told = (same_declarations-Decides ds es).0 (by (same_declarations ds es) told)
+pub alike_declared : (d e : Declared) → false ≡ not (same_declared d e) → d ≡ e
+alike_declared d e told = (same_declared-Decides d e).0 (by (same_declared d e) told)
   where
     by : (b : Bool) → false ≡ not b → b ≡ true
     by true told = refl
@@ -53,13 +52,13 @@ module _ (p : ProgramState) (r : RecordingState) where
           let other : h ≡ g → ⊥ = λ same. true≢false (sym (eq-eqb h g same) ∙ test) in
           below h body (omega (arith, less, other)) at
 
-  pub all_run : (n : ℕ) → r.decls.declarations ≡ p.decls.declarations → length p.bodies ≤ n → RunBelow n → IsCertified p r
+  pub all_run : (n : ℕ) → declared r.decls ≡ declared p.decls → length p.bodies ≤ n → RunBelow n → IsCertified p r
   all_run n same few below = record {
     declarations = same;
     runs = λ g body at. let within = slice_get_within p.bodies g body at in below g body (omega (arith, within, few)) at;
   }
 
-  pub one_is_stuck : (g step : ℕ) → r.decls.declarations ≡ p.decls.declarations → RunBelow g → g < length p.bodies → Stops g (Some step)
+  pub one_is_stuck : (g step : ℕ) → declared r.decls ≡ declared p.decls → RunBelow g → g < length p.bodies → Stops g (Some step)
       → IsStuck p r (record { g = g; step = step })
   one_is_stuck g step same below within own =
       let found = slice_get-within p.bodies g within in

@@ -19,3 +19,4 @@ pub mod TextFine
 pub mod LineCount
 pub mod SaidAgain
 pub mod Scanning
+pub mod ExampleRows

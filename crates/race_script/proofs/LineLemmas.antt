@@ -14,7 +14,9 @@ use Rattle.std.specs.Option.{option_and_then, option_map, option_map_or}
 use Rattle.std.specs.Str.{bytes_eq}
 use Rattle.race_records.specs.declared.kind.Kind.{Kind}
 use Rattle.race_records.specs.Declarations.{Declaration, DeclsState, IsWellFormed, count_of}
+use Rattle.race_records.specs.Equality.{Declared, declared}
 use Rattle.race_records.specs.Name.{is_place}
+use Rattle.race_hub.specs.Submits.{has_ask}
 use Rattle.race_text.specs.declared.cause.TextCause.{TextCause}
 use Rattle.race_text.specs.Fault.{or_else, declaration_in, declared_as}
 use Rattle.race_text.specs.Form.{word_named, first_word, arguments}
@@ -26,28 +28,30 @@ use Rattle.race_script.specs.declared.form.AskWord.{AskWord}
 use Rattle.race_script.specs.declared.form.LineWord.{LineWord}
 use Rattle.race_script.specs.Bodies.{is_exit}
 use Rattle.race_script.specs.Fault.{words_cause, asked_cause, said_cause, word_cause, line_cause, cause}
-use Rattle.race_script.specs.Form.{line_word, word_on_nil, AskedWords, on_nil, ask_fields, begin_fields}
+use Rattle.race_script.specs.Form.{has_ask_word, line_word_in, word_on_nil, AskedWords, on_nil, ask_fields, begin_fields}
 use Rattle.race_script.specs.Offers.{select_words, select_cause}
-use Rattle.race_script.specs.Program.{Instruction, Draft, ask_fits, bodies_of}
+use Rattle.race_script.specs.Program.{Instruction, Draft, ask_fits, declared_by, bodies_of}
 use Rattle.race_script.specs.Reader.{HasWords}
-use Rattle.race_script.specs.Reading.{asked_in, selected_in, begun_in, asks_by, said_by, said_in, with_instruction, with_said, nothing_said, all_said, seen}
+use Rattle.race_script.specs.Reading.{version_in, asked_in, selected_in, begun_in, asks_by, said_by, said_in, with_instruction}
+use Rattle.race_script.specs.Reading.{with_said, nothing_said, all_said, declared_in, seen}
 use Rattle.race_script.specs.Text.{header, Said, Begins, Asks, ask_words, said_line, saids, lines}
-use Rattle.race_script.proofs.AskTable.{ask_says, so_it_says, ask_words_are, front_words, body_word, first_text, has_front, found_has_front}
+use Rattle.race_script.proofs.AskTable.{ask_says, so_it_says, ask_words_are, front_words, body_word, first_text, has_front}
+use Rattle.race_script.proofs.AskTable.{found_has_front, had_by_word, has_on_nil, found_is_had}
 use Rattle.race_script.proofs.SaidLines.{are_asked, is_begun}
 use Rattle.race_script.proofs.SelectLines.{are_selected}
 
--- what is said fits the declarations
-abbrev pub SaidFits : List Declaration → Said → Type 0
-SaidFits ds (Begins g) = g < count_of Kind.Goroutine ds
-SaidFits ds (Asks i) = (ask_fits ds i.ask ≡ true) × (is_place i.place ≡ true)
+-- what is said fits the declarations and their version
+abbrev pub SaidFits : Declared → Said → Type 0
+SaidFits w (Begins g) = g < count_of Kind.Goroutine w.declarations
+SaidFits w (Asks i) = (ask_fits w.declarations i.ask ≡ true) × (is_place i.place ≡ true) × (has_ask w.version i.ask ≡ true)
 
 -- what holds of a line that says it
-pub record IsSaidLine (ds : List Declaration) (line : List ℕ) (said : Said) : Type 0 where
-  pub line_is : line ≡ said_line ds said
-  pub says : said_in ds line ≡ Some said
+pub record IsSaidLine (w : Declared) (line : List ℕ) (said : Said) : Type 0 where
+  pub line_is : line ≡ said_line w.declarations said
+  pub says : said_in w line ≡ Some said
   pub declares : declaration_in line ≡ None
-  pub fits : SaidFits ds said
-  pub cause_is : (d : Draft) → d.declarations ≡ ds → line_cause d line ≡ said_cause d said
+  pub fits : SaidFits w said
+  pub cause_is : (d : Draft) → declared_by d ≡ w → line_cause d line ≡ said_cause d said
 
 -- the words in front of an ask's, by the word of the table
 nil_again : (word : AskWord) (words : List (List ℕ)) (asked : AskedWords) → on_nil word words ≡ asked
@@ -90,24 +94,28 @@ module _ (decls : DeclsState) (holds : IsWellFormed decls) (line : List ℕ) whe
   joined : (words : List (List ℕ)) → words_of line ≡ first ∷ words → line ≡ line_of (first ∷ words)
   joined words behind = sym (join_with_byte-slice_split 32 line) ∙ ap line_of behind
 
-  pub clean_cause : (word : LineWord) (words : List (List ℕ)) → HasWords line word words → (d : Draft) → line_cause d line ≡ word_cause d (Some word) words
+  pub clean_cause : (word : LineWord) (words : List (List ℕ)) → HasWords decls.version line word words → (d : Draft) → declared_by d ≡ declared decls
+      → line_cause d line ≡ word_cause d (Some word) words
   unfolding line_cause
-  clean_cause word words has d =
-      ap (λ b. if b then Some TextCause.BadByte else word_cause d (line_word first) (arguments (words_of line))) has.clean
-      ∙ (λ k. word_cause d (has.named k) (arguments (has.behind k)))
+  clean_cause word words has d same =
+      ap (λ b. if b then Some TextCause.BadByte else word_cause d (line_word_in d.version first) (arguments (words_of line))) has.clean
+      ∙ (λ k. word_cause d (line_word_in (same k).version first) (arguments (has.behind k)))
+      ∙ ap (λ w. word_cause d w words) has.named
 
   -- a line that begins a body
-  pub begins_line : (words : List (List ℕ)) (g : ℕ) → HasWords line LineWord.Begins words → begun_in ds words ≡ Some g → IsSaidLine ds line (Begins g)
+  pub begins_line : (words : List (List ℕ)) (g : ℕ) → HasWords decls.version line LineWord.Begins words → begun_in ds words ≡ Some g
+      → IsSaidLine (declared decls) line (Begins g)
   begins_line words g has says =
       let is = is_begun decls holds words g says in
-      let word = body_word first LineWord.Begins has.named refl in
+      let word = body_word first LineWord.Begins (found_is_had decls.version first LineWord.Begins has.named).0 refl in
       record {
         line_is = joined words has.behind ∙ (λ k. line_of (word.text k ∷ is.text k));
         says = (λ k. said_by ds (has.named k) (arguments (has.behind k))) ∙ ap (option_map Begins) says;
         declares = ap (λ ws. declared_as (word_named first) (arguments ws)) has.behind ∙ word.declares words;
         fits = is.less;
-        cause_is = λ d same. clean_cause LineWord.Begins words has d
-            ∙ (λ k. or_else (words_cause (same k) begin_fields words) (option_and_then (said_cause d) (said_by (same k) (Some LineWord.Begins) words)))
+        cause_is = λ d same. clean_cause LineWord.Begins words has d same
+            ∙ (λ k. or_else (words_cause (same k).declarations begin_fields words)
+            (option_and_then (said_cause d) (said_by (same k).declarations (Some LineWord.Begins) words)))
             ∙ (λ k. or_else (is.fine k) (option_and_then (said_cause d) (option_map Begins (says k))));
       }
 
@@ -119,13 +127,26 @@ module _ (decls : DeclsState) (holds : IsWellFormed decls) (line : List ℕ) whe
     | inr other ↦ (λ k. text k ∷ other.1 k) ∙ ap (λ fs. fs ++ asked.1) (nil_front word asked.0 other.0)
   ]
 
-  pub asks_line : (word : AskWord) (words : List (List ℕ)) (i : Instruction) → HasWords line (LineWord.Asks word) words
-      → asked_in ds (on_nil word words).0 (on_nil word words).1 ≡ Some i → IsSaidLine ds line (Asks i)
+  -- what is asked is of the version, as its word is
+  ask_is_had : (word : AskWord) (words : List (List ℕ)) (asked : AskedWords) → on_nil word words ≡ asked
+      → has_ask_word decls.version word ≡ true → has_ask_word decls.version asked.0 ≡ true
+  ask_is_had word words asked h has = elim (nil_again word words asked h) [
+    | inl same ↦ ap (has_ask_word decls.version) (sym same.0) ∙ has
+    | inr other ↦ has_on_nil decls.version word asked.0 other.0
+  ]
+
+  pub asks_line : (word : AskWord) (words : List (List ℕ)) (i : Instruction) → HasWords decls.version line (LineWord.Asks word) words
+      → asked_in ds (on_nil word words).0 (on_nil word words).1 ≡ Some i → IsSaidLine (declared decls) line (Asks i)
   asks_line word words i has says =
       let asked = on_nil word words in
       let is = are_asked decls holds asked.0 asked.1 i says in
-      let first_is = body_word first (LineWord.Asks word) has.named refl in
-      let front = front_is word asked words refl first_is.text (found_has_front first (LineWord.Asks word) has.named) in
+      let found = found_is_had decls.version first (LineWord.Asks word) has.named in
+      let first_is = body_word first (LineWord.Asks word) found.0 refl in
+      let front = front_is word asked words refl first_is.text (found_has_front first (LineWord.Asks word) found.0) in
+      let had : has_ask decls.version i.ask ≡ true =
+      so_it_says (λ said. has_ask decls.version i.ask ≡ has_ask_word decls.version said.0) (ask_says i.ask)
+      (asked.0, is.parts) is.says (had_by_word decls.version i.ask)
+      ∙ ask_is_had word words asked refl found.1 in
       record {
         line_is = joined words has.behind ∙ ap line_of front ∙ (λ k. line_of (front_words asked.0 ++ is.text k))
             ∙ ap line_of (sym (so_it_says (λ said. ask_words ds i.place i.ask ≡ front_words said.0
@@ -134,63 +155,72 @@ module _ (decls : DeclsState) (holds : IsWellFormed decls) (line : List ℕ) whe
         says = (λ k. said_by ds (has.named k) (arguments (has.behind k))) ∙ ap (option_map Asks) says;
         declares = ap (λ ws. declared_as (word_named first) (arguments ws)) has.behind ∙ first_is.declares words;
         fits = (is.fits, is.form);
-        cause_is = λ d same. clean_cause (LineWord.Asks word) words has d
-            ∙ (λ k. or_else (words_cause (same k) (ask_fields asked.0) asked.1) (option_and_then (said_cause d) (asks_by (same k) asked)))
+        cause_is = λ d same. clean_cause (LineWord.Asks word) words has d same
+            ∙ (λ k. or_else (words_cause (same k).declarations (ask_fields asked.0) asked.1)
+            (option_and_then (said_cause d) (asks_by (same k).declarations asked)))
             ∙ (λ k. or_else (is.fine k) (option_and_then (said_cause d) (option_map Asks (says k))));
       }
 
   -- a line that asks by a select
-  pub selects_line : (words : List (List ℕ)) (i : Instruction) → HasWords line LineWord.Selects words → selected_in ds (select_words words) ≡ Some i
-      → IsSaidLine ds line (Asks i)
+  pub selects_line : (words : List (List ℕ)) (i : Instruction) → HasWords decls.version line LineWord.Selects words
+      → selected_in ds (select_words words) ≡ Some i → IsSaidLine (declared decls) line (Asks i)
   selects_line words i has says =
       let is = are_selected decls holds words i says in
-      let word = body_word first LineWord.Selects has.named refl in
+      let word = body_word first LineWord.Selects (found_is_had decls.version first LineWord.Selects has.named).0 refl in
       record {
         line_is = joined words has.behind ∙ (λ k. line_of (word.text k ∷ is.text k)) ∙ ap (λ ask. line_of (ask_words ds i.place ask)) (sym is.asks);
         says = (λ k. said_by ds (has.named k) (arguments (has.behind k))) ∙ ap (option_map Asks) says;
         declares = ap (λ ws. declared_as (word_named first) (arguments ws)) has.behind ∙ word.declares words;
         fits = (is.fits, is.form);
-        cause_is = λ d same. clean_cause LineWord.Selects words has d
-            ∙ (λ k. or_else (select_cause (same k) (select_words words)) (option_and_then (said_cause d) (said_by (same k) (Some LineWord.Selects) words)))
+        cause_is = λ d same. clean_cause LineWord.Selects words has d same
+            ∙ (λ k. or_else (select_cause (same k).declarations (select_words words))
+            (option_and_then (said_cause d) (said_by (same k).declarations (Some LineWord.Selects) words)))
             ∙ (λ k. or_else (is.fine k) (option_and_then (said_cause d) (option_map Asks (says k))));
       }
 
 -- the program with one more instruction, which ends the body or not
 abbrev pub grown : Draft → Instruction → List Instruction → Bool → Draft
 grown d i body b =
-    if b then record { declarations = d.declarations; ended = d.ended ++ (body ++ i ∷ []) ∷ []; unended = None }
-    else record { declarations = d.declarations; ended = d.ended; unended = Some (body ++ i ∷ []) }
+    if b then record { version = d.version; declarations = d.declarations; ended = d.ended ++ (body ++ i ∷ []) ∷ []; unended = None }
+    else record { version = d.version; declarations = d.declarations; ended = d.ended; unended = Some (body ++ i ∷ []) }
 
--- what more is said keeps the declarations
-pub said_keeps : (d : Draft) (said : Said) → (with_said d said).declarations ≡ d.declarations
+-- what more is said keeps the version and the declarations
+pub said_keeps : (d : Draft) (said : Said) → declared_by (with_said d said) ≡ declared_by d
 said_keeps d (Begins g) = refl
 said_keeps d (Asks i) = by d.unended
   where
-    ended : (body : List Instruction) (b : Bool) → (grown d i body b).declarations ≡ d.declarations
+    ended : (body : List Instruction) (b : Bool) → declared_by (grown d i body b) ≡ declared_by d
     ended body true = refl
     ended body false = refl
 
-    by : (o : Option (List Instruction)) → (with_instruction d i o).declarations ≡ d.declarations
+    by : (o : Option (List Instruction)) → declared_by (with_instruction d i o) ≡ declared_by d
     by None = refl
     by (Some body) = ended body (is_exit i.ask)
 
-pub all_keep : (d : Draft) (ss : List Said) → (fold with_said d ss).declarations ≡ d.declarations
+pub all_keep : (d : Draft) (ss : List Said) → declared_by (fold with_said d ss) ≡ declared_by d
 all_keep d [] = refl
 all_keep d (s ∷ ss) = all_keep (with_said d s) ss ∙ said_keeps d s
 
+-- the lines of a program are of its version, and so they are with one more
+version_stays : (d : Draft) (line : List ℕ) → version_in (lines d ++ line ∷ []) ≡ version_in (lines d)
+unfolding lines
+version_stays d line = refl
+
 -- what the lines say with one more of a body
-pub seen_said : (before : List (List ℕ)) (line : List ℕ) (d : Draft) (said : Said) → seen before ≡ d → declaration_in line ≡ None
-    → said_in d.declarations line ≡ Some said → seen (before ++ line ∷ []) ≡ with_said d said
+pub seen_said : (line : List ℕ) (d : Draft) (said : Said) → seen (lines d) ≡ d → declaration_in line ≡ None
+    → said_in (declared_by d) line ≡ Some said → seen (lines d ++ line ∷ []) ≡ with_said d said
 unfolding seen
-seen_said before line d said is none says =
-    let old = filter_map declaration_in before in
-    let declared : filter_map declaration_in (before ++ line ∷ []) ≡ old =
-    filter_map-append declaration_in before (line ∷ []) ∙ (λ k. old ++ cons_option (none k) []) ∙ append-nil old in
-    let same : old ≡ d.declarations = sym (all_keep (nothing_said old) (filter_map (said_in old) before)) ∙ ap (λ (x : Draft). x.declarations) is in
+seen_said line d said is none says =
+    let before = lines d in
+    let old = declared_in before in
+    let declarations = filter_map declaration_in before in
+    let kept : filter_map declaration_in (before ++ line ∷ []) ≡ declarations =
+    filter_map-append declaration_in before (line ∷ []) ∙ (λ k. declarations ++ cons_option (none k) []) ∙ append-nil declarations in
+    let same : old ≡ declared_by d = sym (all_keep (nothing_said old) (filter_map (said_in old) before)) ∙ ap declared_by is in
     let one : filter_map (said_in old) (before ++ line ∷ []) ≡ filter_map (said_in old) before ++ said ∷ [] =
     filter_map-append (said_in old) before (line ∷ [])
-    ∙ (λ k. filter_map (said_in old) before ++ cons_option ((ap (λ ds. said_in ds line) same ∙ says) k) []) in
-    ap (λ ds. all_said ds (before ++ line ∷ [])) declared
+    ∙ (λ k. filter_map (said_in old) before ++ cons_option ((ap (λ w. said_in w line) same ∙ says) k) []) in
+    (λ k. all_said (record { version = version_stays d line k; declarations = kept k }) (before ++ line ∷ []))
     ∙ ap (fold with_said (nothing_said old)) one
     ∙ fold-append with_said (nothing_said old) (filter_map (said_in old) before) (said ∷ [])
     ∙ ap (λ x. with_said x said) is
@@ -239,8 +269,9 @@ pub lines_said : (d : Draft) (said : Said) → said_cause d said ≡ None → li
 unfolding lines
 lines_said d said none =
     let ds = d.declarations in
-    let before = header ∷ map declaration_line ds in
-    (λ k. header ∷ map declaration_line (said_keeps d said k) ++ map (said_line (said_keeps d said k)) (saids 0 (bodies_of (with_said d said))))
+    let before = header d.version ∷ map declaration_line ds in
+    (λ k. header (said_keeps d said k).version ∷ map declaration_line (said_keeps d said k).declarations
+    ++ map (said_line (said_keeps d said k).declarations) (saids 0 (bodies_of (with_said d said))))
     ∙ ap (λ l. before ++ map (said_line ds) l) (said_last d said none)
     ∙ ap (λ l. before ++ l) (map-append (said_line ds) (saids 0 (bodies_of d)) (said ∷ []))
     ∙ sym (append_assoc before (map (said_line ds) (saids 0 (bodies_of d))) (said_line ds said ∷ []))

@@ -7,7 +7,7 @@ use Rattle.race_records.specs.declared.event.Cause.{Cause}
 use Rattle.race_records.specs.declared.event.Cause.TheVariants.{SendClosed, CloseClosed, CloseNil, UnlockFree, RUnlockFree}
 use Rattle.race_records.specs.declared.event.Op.{Op}
 use Rattle.race_records.specs.declared.event.Op.TheVariants.{Go, Exit, Read, Write, Send, Recv, Meet, RecvClosed, Close, Default, Lock, Unlock, RLock, RUnlock}
-use Rattle.race_records.specs.declared.event.Op.TheVariants.{OnceBegin, OnceEnd, OnceDone, Fault}
+use Rattle.race_records.specs.declared.event.Op.TheVariants.{TryLock, TryRLock, TryFail, OnceBegin, OnceEnd, OnceDone, Fault}
 use Rattle.race_hub.specs.declared.request.Answer.{Answer}
 use Rattle.race_hub.specs.declared.request.Ask.{Ask}
 use Rattle.race_hub.specs.declared.request.Offer.{Offer}
@@ -57,6 +57,10 @@ told_made (Ask.Unlock l) k op a (way, inl (did, told)) = ap Some (sym did)
 told_made (Ask.Unlock l) k op a (way, inr (did, told)) = absurd cc
 told_made (Ask.RUnlock l) k op a (way, inl (did, told)) = ap Some (sym did)
 told_made (Ask.RUnlock l) k op a (way, inr (did, told)) = absurd cc
+told_made (Ask.TryLock l) k op a (inl (way, did, told)) = same_told (Ask.TryLock l) a (Answer.Tried true) op told (ap Some (sym did))
+told_made (Ask.TryLock l) k op a (inr (way, did, told)) = same_told (Ask.TryLock l) a (Answer.Tried false) op told (ap Some (sym did))
+told_made (Ask.TryRLock l) k op a (inl (way, did, told)) = same_told (Ask.TryRLock l) a (Answer.Tried true) op told (ap Some (sym did))
+told_made (Ask.TryRLock l) k op a (inr (way, did, told)) = same_told (Ask.TryRLock l) a (Answer.Tried false) op told (ap Some (sym did))
 told_made (Ask.Do o) k op a (way, inl (did, told)) = same_told (Ask.Do o) a Answer.Run op told (ap Some (sym did))
 told_made (Ask.Do o) k op a (way, inr (did, told)) = same_told (Ask.Do o) a Answer.AlreadyDone op told (ap Some (sym did))
 told_made (Ask.EndDo o) k op a row = ap Some (sym row.1)
@@ -87,6 +91,10 @@ untold_made (Ask.Unlock l) k op fault (way, inl (did, told)) fails = absurd cc
 untold_made (Ask.Unlock l) k op fault (way, inr (did, told)) fails = failed fault op (UnlockFree l) fails did
 untold_made (Ask.RUnlock l) k op fault (way, inl (did, told)) fails = absurd cc
 untold_made (Ask.RUnlock l) k op fault (way, inr (did, told)) fails = failed fault op (RUnlockFree l) fails did
+untold_made (Ask.TryLock l) k op fault (inl (way, did, told)) fails = absurd cc
+untold_made (Ask.TryLock l) k op fault (inr (way, did, told)) fails = absurd cc
+untold_made (Ask.TryRLock l) k op fault (inl (way, did, told)) fails = absurd cc
+untold_made (Ask.TryRLock l) k op fault (inr (way, did, told)) fails = absurd cc
 untold_made (Ask.Do o) k op fault (way, inl (did, told)) fails = absurd cc
 untold_made (Ask.Do o) k op fault (way, inr (did, told)) fails = absurd cc
 untold_made (Ask.EndDo o) k op fault row fails = absurd cc
@@ -113,6 +121,9 @@ done_or_meet g (Lock l) = inl refl
 done_or_meet g (Unlock l) = inl refl
 done_or_meet g (RLock l) = inl refl
 done_or_meet g (RUnlock l) = inl refl
+done_or_meet g (TryLock l) = inl refl
+done_or_meet g (TryRLock l) = inl refl
+done_or_meet g (TryFail l) = inl refl
 done_or_meet g (OnceBegin o) = inl refl
 done_or_meet g (OnceEnd o) = inl refl
 done_or_meet g (OnceDone o) = inl refl

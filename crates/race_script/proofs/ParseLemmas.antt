@@ -1,26 +1,25 @@
 -- A program's text whose last part has no cause: nothing is left, and all bodies have ended.
-use Rattle.std.proofs.Common.{◌≡◌, ℕ, ◌<◌, ◌==◌, ◌&&◌, nat_lt, Bool, true, false, not}
-use Rattle.std.proofs.Common.{if◌then◌else◌, List, [], ◌∷◌, length, Some, None, refl, sym}
+use Rattle.std.proofs.Common.{◌≡◌, ℕ, ◌<◌, ◌==◌, ◌&&◌, nat_lt, Bool, true, false}
+use Rattle.std.proofs.Common.{if◌then◌else◌, List, [], ◌∷◌, length, Option, Some, None, refl, sym}
 use Rattle.std.proofs.Common.{arith}
 use Rattle.std.proofs.lemmas.Bool.Decides.{nat_tests}
 use Rattle.std.proofs.lemmas.Option.{none-some}
-use Rattle.std.specs.Str.{bytes_eq}
+use Rattle.race_records.specs.declared.version.Version.{Version}
 use Rattle.race_text.specs.declared.cause.TextCause.{TextCause}
 use Rattle.race_text.proofs.WordLemmas.{both}
-use Rattle.race_script.specs.Fault.{cause, end_cause, is_whole}
+use Rattle.race_script.specs.Fault.{header_cause, cause, end_cause, is_whole}
 use Rattle.race_script.specs.Program.{Draft}
 use Rattle.race_script.specs.Reader.{lines_by}
-use Rattle.race_script.specs.Reading.{seen}
-use Rattle.race_script.specs.Text.{header}
+use Rattle.race_script.specs.Reading.{version_said, seen}
 
 -- a part that no newline ends is at fault where it is a line
 unended : (before : List (List ℕ)) (last : List ℕ) → cause before last false ≡ None → ⊥
 unfolding cause
-unended [] last h = by (bytes_eq last header) h
+unended [] last h = by (version_said last) h
   where
-    by : (b : Bool) → (if not b then Some TextCause.BadHeader else Some TextCause.NoNewline) ≡ None → ⊥
-    by true h = none-some TextCause.NoNewline (sym h)
-    by false h = none-some TextCause.BadHeader (sym h)
+    by : (o : Option Version) → header_cause o false ≡ None → ⊥
+    by (Some version) h = none-some TextCause.NoNewline (sym h)
+    by None h = none-some TextCause.BadHeader (sym h)
 unended (first ∷ before) last h = none-some TextCause.NoNewline (sym h)
 
 -- where nothing is wrong at the end, no byte is left, and all bodies have ended

@@ -1,17 +1,20 @@
 -- One more line that is read: of a body, or a declaration, or the header.
 use Rattle.std.proofs.Common.{◌≡◌, ◌≢◌, ℕ, suc, ◌<◌, ◌==◌, ◌&&◌, Bool, true, false, true≢false, not, nat_lt}
-use Rattle.std.proofs.Common.{if◌then◌else◌, is_none, List, [], ◌∷◌, ◌++◌, length, map, get_or, Option}
+use Rattle.std.proofs.Common.{if◌then◌else◌, is_none, List, [], ◌∷◌, ◌++◌, length, map, get_or, unwrap_or, Option}
 use Rattle.std.proofs.Common.{Some, None, Result, Ok, Err, IfOk, IfSome, MatchResult, fold, refl, sym, ap}
 use Rattle.std.proofs.Common.{subst, ◌∙◌, arith, append-nil}
 use Rattle.std.proofs.lemmas.Bool.Decides.{nat_tests}
 use Rattle.std.proofs.lemmas.List.{length-append, length-map, map-append}
+use Rattle.std.proofs.lemmas.Option.{none-some, same_Some}
 use Rattle.std.proofs.lemmas.Slice.Eq.{bytes_eq-Decides}
 use Rattle.std.specs.List.{filter_map, cons_option, list_all}
 use Rattle.std.specs.Option.{option_and_then, option_map_or}
 use Rattle.std.specs.Str.{bytes_eq}
 use Rattle.race_records.specs.declared.kind.Kind.{Kind}
 use Rattle.race_records.specs.declared.nouns.Noun.{Noun}
+use Rattle.race_records.specs.declared.version.Version.{Version}
 use Rattle.race_records.specs.Declarations.{Declaration, DeclsState, IsWellFormed, count_of, with_declaration}
+use Rattle.race_records.specs.Equality.{Declared, declared}
 use Rattle.race_records.specs.Refusal.{Refuses, AllowsUnless}
 use Rattle.race_records.proofs.DeclFaultLemmas.{allowed_from_no_fault}
 use Rattle.race_records.proofs.DeclsKept.{empty_well_formed, push_well_formed}
@@ -23,6 +26,7 @@ use Rattle.race_text.specs.Fault.{or_else, seen_so_far, declaration_in}
 use Rattle.race_text.specs.Fault.{word_cause as text_cause}
 use Rattle.race_text.specs.Form.{word_named, first_word, arguments}
 use Rattle.race_text.specs.Lines.{GoesOn}
+use Rattle.race_text.specs.Reader.{nothing_in}
 use Rattle.race_text.specs.Text.{declaration_line}
 use Rattle.race_text.specs.Words.{words_of, has_bad_byte}
 use Rattle.race_text.proofs.ReaderLemmas.{declaration_of_line}
@@ -30,31 +34,31 @@ use Rattle.race_text.proofs.TextLaws.{IsDeclarationLine, declaration_again}
 use Rattle.race_text.proofs.WordLemmas.{both}
 use Rattle.race_script.specs.declared.form.AskWord.{AskWord}
 use Rattle.race_script.specs.declared.form.LineWord.{LineWord}
-use Rattle.race_script.specs.Fault.{words_cause, said_cause, word_cause, line_cause, cause, end_cause, program_causes, is_whole}
-use Rattle.race_script.specs.Form.{line_word, on_nil, ask_fields, begin_fields}
+use Rattle.race_script.specs.Fault.{words_cause, said_cause, word_cause, line_cause, header_cause, cause, end_cause, program_causes, is_whole}
+use Rattle.race_script.specs.Form.{line_word, line_word_in, on_nil, ask_fields, begin_fields}
 use Rattle.race_script.specs.Offers.{select_words, select_cause}
 use Rattle.race_script.specs.Program.{Instruction, Draft, IsProgram, draft_of, is_body_of, spelled, bodies_of, places_of}
 use Rattle.race_script.specs.Reader.{UnendedState, ReadState, draft_read, spelled_unended, lines_by, lines_read}
-use Rattle.race_script.specs.Reader.{program_read, IsUnended, IsRead, IsEmpty, IsReadBy, HasWords, TakesSaid}
+use Rattle.race_script.specs.Reader.{program_read, IsUnended, IsRead, IsReadBy, HasWords, TakesSaid}
 use Rattle.race_script.specs.Reader.{TakesLine, TakesOrTells}
-use Rattle.race_script.specs.Reading.{said_by, asks_by, said_in, with_said, nothing_said, all_said, seen}
+use Rattle.race_script.specs.Reading.{version_said, said_by, asks_by, said_in, with_said, nothing_said, all_said, declared_in, seen}
 use Rattle.std.specs.List.{flat_map}
 use Rattle.race_text.specs.Text.{ended}
 use Rattle.race_script.proofs.ParseLemmas.{header_before_end, end_empty}
 use Rattle.race_script.specs.Text.{header, Said, lines, draft_text, program_text}
-use Rattle.race_script.proofs.AskTable.{noun_word, noun_line_word}
+use Rattle.race_script.proofs.AskTable.{noun_word, noun_word_in, found_is_had}
 use Rattle.race_script.proofs.LineLemmas.{IsSaidLine, clean_cause, seen_said, lines_said, cause_behind}
 
 -- lines that declare say nothing of bodies, and all that is declared
 pub all_declared : (ds : List Declaration) → ((i : ℕ) (d : Declaration) → i < length ds → IsDeclarationLine (get_or ds i d) (declaration_line (get_or ds i d)))
-    → (filter_map declaration_in (map declaration_line ds) ≡ ds) × ((es : List Declaration) → filter_map (said_in es) (map declaration_line ds) ≡ [])
-all_declared [] each = (refl, λ es. refl)
+    → (filter_map declaration_in (map declaration_line ds) ≡ ds) × ((w : Declared) → filter_map (said_in w) (map declaration_line ds) ≡ [])
+all_declared [] each = (refl, λ w. refl)
 all_declared (d ∷ ds) each =
     let is = each 0 d (omega arith) in
     let rest = all_declared ds (λ i e less. each (suc i) e (omega (arith, less))) in (
       (λ k. cons_option (is.declares k) (rest.0 k)),
-      λ es k. cons_option (ap (λ w. said_by es w (arguments (words_of (declaration_line d))))
-          (noun_line_word (first_word (words_of (declaration_line d))) _ is.named) k) (rest.1 es k),
+      λ w k. cons_option (ap (λ o. said_by w.declarations o (arguments (words_of (declaration_line d))))
+          (noun_word_in w.version (first_word (words_of (declaration_line d))) _ is.named) k) (rest.1 w k),
     )
 
 pub declaration_lines : (decls : DeclsState) → IsWellFormed decls
@@ -62,32 +66,64 @@ pub declaration_lines : (decls : DeclsState) → IsWellFormed decls
     → IsDeclarationLine (get_or decls.declarations i d) (declaration_line (get_or decls.declarations i d))
 declaration_lines decls holds i d less = declaration_again (get_or decls.declarations i d) (holds.names i d less) (holds.capacities i d less)
 
-header_scanned : (ds : List Declaration) → (declaration_in header ≡ None) × (said_in ds header ≡ None)
+header_scanned : (ds : List Declaration) (version : Version)
+    → (declaration_in (header version) ≡ None) × (said_in (record { version = version; declarations = ds }) (header version) ≡ None)
 unfolding word_named line_word
-header_scanned ds = (refl, refl)
+header_scanned ds Version.One = (refl, refl)
+header_scanned ds Version.Two = (refl, refl)
+
+-- a header says its version
+pub header_said : (version : Version) → version_said (header version) ≡ Some version
+header_said Version.One = refl
+header_said Version.Two = refl
+
+header_version : (version : Version) → unwrap_or (version_said (header version)) Version.One ≡ version
+header_version version = ap (λ o. unwrap_or o Version.One) (header_said version)
+
+-- and what says a version is its header
+pub said_header : (line : List ℕ) (version : Version) → version_said line ≡ Some version → line ≡ header version
+said_header line version h = by (bytes_eq line (header Version.One)) (bytes_eq line (header Version.Two)) refl refl h
+  where
+    by : (a b : Bool) → bytes_eq line (header Version.One) ≡ a → bytes_eq line (header Version.Two) ≡ b
+        → (if a then Some Version.One else (if b then Some Version.Two else None)) ≡ Some version → line ≡ header version
+    by true b e f h = (bytes_eq-Decides line (header Version.One)).0 e ∙ ap header (same_Some Version.One version h)
+    by false true e f h = (bytes_eq-Decides line (header Version.Two)).0 f ∙ ap header (same_Some Version.Two version h)
+    by false false e f h = absurd (none-some version h)
+
+-- the program of this version of which nothing is told but what is declared
+abbrev pub nothing_but : Version → List Declaration → Draft
+nothing_but version ds = nothing_said (record { version = version; declarations = ds })
 
 -- what the lines say before a body begins
-pub seen_by_lines : (ds : List Declaration) → ((i : ℕ) (d : Declaration) → i < length ds → IsDeclarationLine (get_or ds i d) (declaration_line (get_or ds i d)))
-    → seen (lines (nothing_said ds)) ≡ nothing_said ds
+pub seen_by_lines : (version : Version) (ds : List Declaration)
+    → ((i : ℕ) (d : Declaration) → i < length ds → IsDeclarationLine (get_or ds i d) (declaration_line (get_or ds i d)))
+    → seen (lines (nothing_but version ds)) ≡ nothing_but version ds
 unfolding seen lines
-seen_by_lines ds are =
+seen_by_lines version ds are =
+    let w : Declared = record { version = version; declarations = ds } in
     let each = all_declared ds are in
-    let none : header ∷ map declaration_line ds ++ [] ≡ header ∷ map declaration_line ds = append-nil (header ∷ map declaration_line ds) in
-    ap (λ ls. all_said (filter_map declaration_in ls) ls) none
-    ∙ ap (λ es. all_said es (header ∷ map declaration_line ds))
-    ((λ k. cons_option ((header_scanned ds).0 k) (filter_map declaration_in (map declaration_line ds))) ∙ each.0)
-    ∙ ap (λ ss. fold with_said (nothing_said ds) ss)
-    ((λ k. cons_option ((header_scanned ds).1 k) (filter_map (said_in ds) (map declaration_line ds))) ∙ each.1 ds)
+    let first = header version in
+    let none : first ∷ map declaration_line ds ++ [] ≡ first ∷ map declaration_line ds = append-nil (first ∷ map declaration_line ds) in
+    ap (λ ls. all_said (declared_in ls) ls) none
+    ∙ (λ k. all_said (record {
+      version = header_version version k;
+      declarations = ((λ j. cons_option ((header_scanned ds version).0 j) (filter_map declaration_in (map declaration_line ds))) ∙ each.0) k;
+    }) (first ∷ map declaration_line ds))
+    ∙ ap (λ ss. fold with_said (nothing_said w) ss)
+    ((λ k. cons_option ((header_scanned ds version).1 k) (filter_map (said_in w) (map declaration_line ds))) ∙ each.1 w)
 
-pub seen_declared : (decls : DeclsState) → IsWellFormed decls → seen (lines (nothing_said decls.declarations)) ≡ nothing_said decls.declarations
-seen_declared decls holds = seen_by_lines decls.declarations (declaration_lines decls holds)
+pub seen_declared : (decls : DeclsState) → IsWellFormed decls
+    → seen (lines (nothing_but decls.version decls.declarations)) ≡ nothing_but decls.version decls.declarations
+seen_declared decls holds = seen_by_lines decls.version decls.declarations (declaration_lines decls holds)
 
-pub lines_declared : (ds : List Declaration) (e : Declaration) → lines (nothing_said (ds ++ e ∷ [])) ≡ lines (nothing_said ds) ++ declaration_line e ∷ []
+pub lines_declared : (version : Version) (ds : List Declaration) (e : Declaration)
+    → lines (nothing_but version (ds ++ e ∷ [])) ≡ lines (nothing_but version ds) ++ declaration_line e ∷ []
 unfolding lines
-lines_declared ds e =
-    append-nil (header ∷ map declaration_line (ds ++ e ∷ []))
-    ∙ ap (λ l. header ∷ l) (map-append declaration_line ds (e ∷ []))
-    ∙ ap (λ l. l ++ declaration_line e ∷ []) (sym (append-nil (header ∷ map declaration_line ds)))
+lines_declared version ds e =
+    let first = header version in
+    append-nil (first ∷ map declaration_line (ds ++ e ∷ []))
+    ∙ ap (λ l. first ∷ l) (map-append declaration_line ds (e ∷ []))
+    ∙ ap (λ l. l ++ declaration_line e ∷ []) (sym (append-nil (first ∷ map declaration_line ds)))
 
 module _ (old : ReadState) (read : IsRead old) (line : List ℕ) where
   abbrev d : Draft
@@ -100,10 +136,10 @@ module _ (old : ReadState) (read : IsRead old) (line : List ℕ) where
   told_by_line told h = cause_behind d line read.seen_is ∙ h
 
   -- what a line of a body says
-  pub said_told : (said : Said) (told : TextCause) → IsSaidLine ds line said → said_cause d said ≡ Some told → cause (lines d) line true ≡ Some told
+  pub said_told : (said : Said) (told : TextCause) → IsSaidLine (declared old.decls) line said → said_cause d said ≡ Some told → cause (lines d) line true ≡ Some told
   said_told said told is h = told_by_line told (is.cause_is d refl ∙ h)
 
-  pub said_taken : (said : Said) (new : ReadState) → IsSaidLine ds line said → TakesSaid old said new → TakesLine old line new
+  pub said_taken : (said : Said) (new : ReadState) → IsSaidLine (declared old.decls) line said → TakesSaid old said new → TakesLine old line new
   said_taken said new is takes =
       let after : lines (draft_read new) ≡ lines d ++ line ∷ [] =
       ap lines takes.draft ∙ lines_said d said takes.no_cause ∙ ap (λ l. lines d ++ l ∷ []) (sym is.line_is) in
@@ -112,52 +148,53 @@ module _ (old : ReadState) (read : IsRead old) (line : List ℕ) where
         goes = record { no_cause = cause_behind d line read.seen_is ∙ is.cause_is d refl ∙ takes.no_cause; lines = after };
         read = record {
           sound = takes.sound;
-          seen_is = ap seen after ∙ seen_said (lines d) line d said read.seen_is is.declares is.says ∙ sym takes.draft;
+          seen_is = ap seen after ∙ seen_said line d said read.seen_is is.declares is.says ∙ sym takes.draft;
         };
       }
 
-  pub said_answered : (said : Said) (r : Result (Unit {0}) TextCause) (new : ReadState) → IsSaidLine ds line said
+  pub said_answered : (said : Said) (r : Result (Unit {0}) TextCause) (new : ReadState) → IsSaidLine (declared old.decls) line said
       → MatchResult r (λ _. TakesSaid old said new) (λ told. told ≢ TextCause.OutOfMemory → said_cause d said ≡ Some told) → TakesOrTells old line r new
   said_answered said (Ok u) new is takes = said_taken said new is takes
   said_answered said (Err told) new is tells = λ other. said_told said told is (tells other)
 
   -- the words behind the first
-  pub begin_told : (words : List (List ℕ)) (told : TextCause) → HasWords line LineWord.Begins words → words_cause ds begin_fields words ≡ Some told
+  pub begin_told : (words : List (List ℕ)) (told : TextCause) → HasWords old.decls.version line LineWord.Begins words → words_cause ds begin_fields words ≡ Some told
       → cause (lines d) line true ≡ Some told
   begin_told words told has h =
-      told_by_line told (clean_cause old.decls read.sound.well_formed line LineWord.Begins words has d
+      told_by_line told (clean_cause old.decls read.sound.well_formed line LineWord.Begins words has d refl
       ∙ ap (λ c. or_else c (option_and_then (said_cause d) (said_by ds (Some LineWord.Begins) words))) h)
 
-  pub asks_told : (word : AskWord) (words : List (List ℕ)) (told : TextCause) → HasWords line (LineWord.Asks word) words
+  pub asks_told : (word : AskWord) (words : List (List ℕ)) (told : TextCause) → HasWords old.decls.version line (LineWord.Asks word) words
       → words_cause ds (ask_fields (on_nil word words).0) (on_nil word words).1 ≡ Some told → cause (lines d) line true ≡ Some told
   asks_told word words told has h =
-      told_by_line told (clean_cause old.decls read.sound.well_formed line (LineWord.Asks word) words has d
+      told_by_line told (clean_cause old.decls read.sound.well_formed line (LineWord.Asks word) words has d refl
       ∙ ap (λ c. or_else c (option_and_then (said_cause d) (asks_by ds (on_nil word words)))) h)
 
-  pub selects_told : (words : List (List ℕ)) (told : TextCause) → HasWords line LineWord.Selects words → select_cause ds (select_words words) ≡ Some told
+  pub selects_told : (words : List (List ℕ)) (told : TextCause) → HasWords old.decls.version line LineWord.Selects words → select_cause ds (select_words words) ≡ Some told
       → cause (lines d) line true ≡ Some told
   selects_told words told has h =
-      told_by_line told (clean_cause old.decls read.sound.well_formed line LineWord.Selects words has d
+      told_by_line told (clean_cause old.decls read.sound.well_formed line LineWord.Selects words has d refl
       ∙ ap (λ c. or_else c (option_and_then (said_cause d) (said_by ds (Some LineWord.Selects) words))) h)
 
   pub bad_byte_told : has_bad_byte line ≡ true → cause (lines d) line true ≡ Some TextCause.BadByte
   unfolding line_cause
   bad_byte_told bad = told_by_line TextCause.BadByte
-      (ap (λ b. if b then Some TextCause.BadByte else word_cause d (line_word (first_word (words_of line))) (arguments (words_of line))) bad)
+      (ap (λ b. if b then Some TextCause.BadByte else word_cause d (line_word_in d.version (first_word (words_of line))) (arguments (words_of line))) bad)
 
-  pub unknown_told : has_bad_byte line ≡ false → line_word (first_word (words_of line)) ≡ None → cause (lines d) line true ≡ Some TextCause.UnknownWord
+  pub unknown_told : has_bad_byte line ≡ false → line_word_in old.decls.version (first_word (words_of line)) ≡ None
+      → cause (lines d) line true ≡ Some TextCause.UnknownWord
   unfolding line_cause
   unknown_told clean none = told_by_line TextCause.UnknownWord
-      (ap (λ b. if b then Some TextCause.BadByte else word_cause d (line_word (first_word (words_of line))) (arguments (words_of line))) clean
+      (ap (λ b. if b then Some TextCause.BadByte else word_cause d (line_word_in d.version (first_word (words_of line))) (arguments (words_of line))) clean
       ∙ ap (λ w. word_cause d w (arguments (words_of line))) none)
 
   -- a line that declares
-  module _ (noun : Noun) (words : List (List ℕ)) (has : HasWords line (LineWord.Declares noun) words) where
+  module _ (noun : Noun) (words : List (List ℕ)) (has : HasWords old.decls.version line (LineWord.Declares noun) words) where
     pub declares_cause : cause (lines d) line true ≡ text_cause (seen_so_far ds (length (bodies_of d))) (Some (Word.Declares noun)) words
-    declares_cause = cause_behind d line read.seen_is ∙ clean_cause old.decls read.sound.well_formed line (LineWord.Declares noun) words has d
+    declares_cause = cause_behind d line read.seen_is ∙ clean_cause old.decls read.sound.well_formed line (LineWord.Declares noun) words has d refl
 
     named : word_named (first_word (words_of line)) ≡ Some (Word.Declares noun)
-    named = noun_word (first_word (words_of line)) noun has.named
+    named = noun_word (first_word (words_of line)) noun (found_is_had old.decls.version (first_word (words_of line)) (LineWord.Declares noun) has.named).0
 
     declares : is_declaration_line line ≡ true
     declares = ap is_declaration_word named
@@ -188,16 +225,22 @@ module _ (old : ReadState) (read : IsRead old) (line : List ℕ) where
           let decls_is : new.decls ≡ more = decls_are ∙ ap (with_declared old.decls) is.is in
           let holds : IsWellFormed more = push_well_formed old.decls read.sound.well_formed is.d.name is.d.object
           (allowed_from_no_fault ds is.d.object is.d.name is.fine) in
-          let before : d ≡ nothing_said ds =
-          λ k. record { declarations = ds; ended = map (spelled old.decls.places) (nothing.0 k); unended = spelled_unended old.decls.places (nothing.1 k) } in
-          let after : draft_read new ≡ nothing_said more.declarations =
+          let before : d ≡ nothing_but old.decls.version ds =
           λ k. record {
+            version = old.decls.version;
+            declarations = ds;
+            ended = map (spelled old.decls.places) (nothing.0 k);
+            unended = spelled_unended old.decls.places (nothing.1 k);
+          } in
+          let after : draft_read new ≡ nothing_but old.decls.version more.declarations =
+          λ k. record {
+            version = (decls_is k).version;
             declarations = (decls_is k).declarations;
             ended = map (spelled (decls_is k).places) ((ended ∙ nothing.0) k);
             unended = spelled_unended (decls_is k).places ((unended ∙ nothing.1) k);
           } in
           let lines_are : lines (draft_read new) ≡ lines d ++ line ∷ [] =
-          ap lines after ∙ lines_declared ds is.d ∙ (λ k. lines (sym before k) ++ sym is.text k ∷ []) in
+          ap lines after ∙ lines_declared old.decls.version ds is.d ∙ (λ k. lines (sym before k) ++ sym is.text k ∷ []) in
           record {
             header = header;
             goes = record { no_cause = first_cause ∙ fine; lines = lines_are };
@@ -238,55 +281,52 @@ module _ (old : ReadState) (read : IsRead old) (line : List ℕ) where
               first_cause ∙ is ∙ ap Some same
 
 -- the header
-abbrev pub nothing_read : ReadState
-nothing_read = record { has_header = true; decls = record { declarations = []; places = [] }; ended = []; unended = None }
+abbrev pub nothing_read : Version → ReadState
+nothing_read version = record { has_header = true; decls = nothing_in version; ended = []; unended = None }
 
-pub nothing_is_read : IsRead nothing_read
-nothing_is_read = record {
+pub nothing_is_read : (version : Version) → IsRead (nothing_read version)
+nothing_is_read version = record {
   sound = record { well_formed = empty_well_formed; ended = refl; unended = tt; places = refl; few = omega arith };
-  seen_is = seen_declared (record { declarations = []; places = [] }) empty_well_formed;
+  seen_is = seen_declared (nothing_in version) empty_well_formed;
 }
 
-pub nothing_lines_read : lines (draft_read nothing_read) ≡ header ∷ []
+pub nothing_lines_read : (version : Version) → lines (draft_read (nothing_read version)) ≡ header version ∷ []
 unfolding lines
-nothing_lines_read = refl
+nothing_lines_read version = refl
 
-module _ (s : ReadState) (empty : IsEmpty s) (header_is : s.has_header ≡ true) where
-  is_nothing : s ≡ nothing_read
-  is_nothing = λ k. record { has_header = header_is k; decls = empty.decls k; ended = empty.ended k; unended = empty.unended k }
+-- what was read where the header alone was
+pub record IsBegun (s : ReadState) (version : Version) : Type 0 where
+  pub first : s.has_header ≡ true
+  pub decls : s.decls ≡ nothing_in version
+  pub ended : s.ended ≡ []
+  pub unended : s.unended ≡ None
+
+module _ (s : ReadState) (version : Version) (is : IsBegun s version) where
+  is_nothing : s ≡ nothing_read version
+  is_nothing = λ k. record { has_header = is.first k; decls = is.decls k; ended = is.ended k; unended = is.unended k }
 
   pub header_read : IsRead s
-  header_read = subst IsRead (sym is_nothing) nothing_is_read
+  header_read = subst IsRead (sym is_nothing) (nothing_is_read version)
 
-  pub header_taken : (line : List ℕ) → bytes_eq line header ≡ true → GoesOn program_causes [] line (lines (draft_read s))
+  pub header_taken : (line : List ℕ) → version_said line ≡ Some version → GoesOn program_causes [] line (lines (draft_read s))
   unfolding cause
-  header_taken line same = record {
-    no_cause = ap (λ b. if not b then Some TextCause.BadHeader else None) same;
-    lines = ap (λ x. lines (draft_read x)) is_nothing ∙ nothing_lines_read ∙ (λ k. sym ((bytes_eq-Decides line header).0 same) k ∷ []);
+  header_taken line says = record {
+    no_cause = ap (λ o. header_cause o true) says;
+    lines = ap (λ x. lines (draft_read x)) is_nothing ∙ nothing_lines_read version ∙ (λ k. sym (said_header line version says) k ∷ []);
   }
 
-pub header_told : (line : List ℕ) → bytes_eq line header ≡ false → cause [] line true ≡ Some TextCause.BadHeader
+pub header_told : (line : List ℕ) → version_said line ≡ None → cause [] line true ≡ Some TextCause.BadHeader
 unfolding cause
-header_told line h = ap (λ b. if not b then Some TextCause.BadHeader else None) h
+header_told line h = ap (λ o. header_cause o true) h
 
 -- the end
-pub end_header : (last : List ℕ) → bytes_eq last header ≡ true → end_cause [] last ≡ Some TextCause.NoNewline
+pub end_header : (last : List ℕ) (o : Option Version) → version_said last ≡ o → end_cause [] last ≡ header_cause o false
 unfolding cause end_cause
-end_header last h = by (length last == 0)
+end_header last o h = by (length last == 0)
   where
-    by : (b : Bool) → (if b && nat_lt 0 0 then (if is_whole (seen []) then None else Some TextCause.BadBlock) else cause [] last false)
-        ≡ Some TextCause.NoNewline
-    by true = ap (λ b. if not b then Some TextCause.BadHeader else Some TextCause.NoNewline) h
-    by false = ap (λ b. if not b then Some TextCause.BadHeader else Some TextCause.NoNewline) h
-
-pub end_other : (last : List ℕ) → bytes_eq last header ≡ false → end_cause [] last ≡ Some TextCause.BadHeader
-unfolding cause end_cause
-end_other last h = by (length last == 0)
-  where
-    by : (b : Bool) → (if b && nat_lt 0 0 then (if is_whole (seen []) then None else Some TextCause.BadBlock) else cause [] last false)
-        ≡ Some TextCause.BadHeader
-    by true = ap (λ b. if not b then Some TextCause.BadHeader else Some TextCause.NoNewline) h
-    by false = ap (λ b. if not b then Some TextCause.BadHeader else Some TextCause.NoNewline) h
+    by : (b : Bool) → (if b && nat_lt 0 0 then (if is_whole (seen []) then None else Some TextCause.BadBlock) else cause [] last false) ≡ header_cause o false
+    by true = ap (λ o. header_cause o false) h
+    by false = ap (λ o. header_cause o false) h
 
 some_line : (d : Draft) → nat_lt 0 (length (lines d)) ≡ true
 unfolding lines
@@ -318,7 +358,12 @@ whole_program s read whole = by s.unended refl
     by (Some u) e two = absurd (true≢false (sym two.0 ∙ ap (λ o. is_none (spelled_unended s.decls.places o)) e))
     by None e two =
         let same : draft_read s ≡ draft_of (program_read s) =
-        λ k. record { declarations = s.decls.declarations; ended = map (spelled s.decls.places) s.ended; unended = spelled_unended s.decls.places (e k) } in
+        λ k. record {
+          version = s.decls.version;
+          declarations = s.decls.declarations;
+          ended = map (spelled s.decls.places) s.ended;
+          unended = spelled_unended s.decls.places (e k);
+        } in
         let len = length-map s.ended (spelled s.decls.places) in
         let count : length (map (spelled s.decls.places) s.ended) ≡ count_of Kind.Goroutine s.decls.declarations = grind (arith, nat_tests, two.1) in
         let few = read.sound.well_formed.places_limited in

@@ -1,17 +1,20 @@
 -- What is printed of a line of a body says it again.
 use Rattle.std.proofs.Common.{◌≡◌, ℕ, Bool, true, false, nat_lt, if◌then◌else◌, List, [], ◌∷◌, ◌++◌}
 use Rattle.std.proofs.Common.{map, codes, Option, Some, None, IfSome, refl, sym, ap, subst, ◌∙◌, ◌&&◌}
-use Rattle.std.proofs.Common.{◌^◌, arith}
+use Rattle.std.proofs.Common.{◌^◌, arith, is_some}
 use Rattle.std.proofs.lemmas.Bool.Decides.{nat_tests}
 use Rattle.std.specs.Option.{option_map_or}
 use Rattle.std.specs.Str.{bytes_eq}
 use Rattle.race_records.specs.declared.kind.Kind.{Kind}
 use Rattle.race_records.specs.declared.kind.Named.{Named}
 use Rattle.race_records.specs.declared.parts.PartKind.{PartKind}
+use Rattle.race_records.specs.declared.version.Version.{Version}
 use Rattle.race_records.specs.Declarations.{Declaration, DeclsState, IsWellFormed, counts_of}
+use Rattle.race_records.specs.Equality.{declared}
 use Rattle.race_records.specs.Name.{is_name}
 use Rattle.race_hub.specs.declared.request.Ask.{Ask}
 use Rattle.race_hub.specs.declared.request.Offer.{Offer}
+use Rattle.race_hub.specs.Submits.{has_ask}
 use Rattle.race_text.specs.Form.{word_named, first_word}
 use Rattle.race_text.specs.Select.{nil}
 use Rattle.race_text.specs.Text.{line_of, goroutine_name, chan_name}
@@ -23,13 +26,14 @@ use Rattle.race_text.proofs.WordLemmas.{both}
 use Rattle.race_text.proofs.WordsAgain.{AreVisible, words_again, visible_line_clean}
 use Rattle.race_script.specs.declared.form.AskWord.{AskWord}
 use Rattle.race_script.specs.declared.form.LineWord.{LineWord}
-use Rattle.race_script.specs.Form.{line_word, word_on_nil, AskedWords, on_nil}
+use Rattle.race_script.specs.Form.{line_word, has_ask_word, has_line_word, line_word_in, word_on_nil, AskedWords, on_nil}
 use Rattle.race_script.specs.Offers.{offers_text, mode_text}
 use Rattle.race_script.specs.Program.{Instruction, ask_fits}
 use Rattle.race_script.specs.Reader.{HasWords}
 use Rattle.race_script.specs.Reading.{asked_at, asked_in}
 use Rattle.race_script.specs.Text.{Said, Begins, Asks, ask_words, said_line}
-use Rattle.race_script.proofs.AskTable.{SaidAsk, ask_says, so_it_says, selects_alone, ask_words_are, front_words, body_word, begins_again, selects_again}
+use Rattle.race_script.proofs.AskTable.{SaidAsk, ask_says, so_it_says, selects_alone, ask_words_are, front_words, body_word}
+use Rattle.race_script.proofs.AskTable.{had_by_word, had_is_found, begins_again, selects_again}
 use Rattle.race_script.proofs.LineLemmas.{SaidFits, IsSaidLine, begins_line, asks_line, selects_line}
 use Rattle.race_script.proofs.SaidLines.{asked_again, begun_again}
 use Rattle.race_script.proofs.SelectLines.{selected_again}
@@ -54,6 +58,7 @@ record IsFront (word : AskWord) (args : List (List ℕ)) : Type 0 where
   rest : List (List ℕ)
   words : front_words word ++ args ≡ first ∷ rest
   known : line_word first ≡ Some (LineWord.Asks table)
+  had : (version : Version) → has_ask_word version table ≡ has_ask_word version word
   cut : on_nil table rest ≡ (word, args)
   visible : AreVisible args → AreVisible rest
 
@@ -66,6 +71,7 @@ alone word first args is known cut = record {
   rest = args;
   words = ap (λ (ws : List (List ℕ)). ws ++ args) is;
   known = known;
+  had = λ version. refl;
   cut = cut;
   visible = λ v. v;
 }
@@ -84,17 +90,17 @@ module _ (decls : DeclsState) (holds : IsWellFormed decls) where
   front_again (Ask.Read x) place fits = alone AskWord.Read (codes "read") _ refl refl (plain AskWord.Read _ refl)
   front_again (Ask.Write x w) place fits = alone AskWord.Write (codes "write") _ refl refl (plain AskWord.Write _ refl)
   front_again (Ask.Send None w) place fits =
-      record { table = AskWord.Send; first = codes "send"; rest = _; words = refl; known = refl; cut = refl; visible = λ v. (refl, v) }
+      record { table = AskWord.Send; first = codes "send"; rest = _; words = refl; known = refl; had = λ version. refl; cut = refl; visible = λ v. (refl, v) }
   front_again (Ask.Send (Some c) w) place fits =
       let less = both (nat_lt c (counts_of ds Kind.Chan)) true (both (nat_lt c (counts_of ds Kind.Chan) && true) (nat_lt w (2 ^ 64)) fits).0 in
       alone AskWord.Send (codes "send") _ refl refl (named AskWord.Send (chan_name ds c) _ (chan_is_name c less.0))
   front_again (Ask.Recv None) place fits =
-      record { table = AskWord.Recv; first = codes "recv"; rest = _; words = refl; known = refl; cut = refl; visible = λ v. (refl, v) }
+      record { table = AskWord.Recv; first = codes "recv"; rest = _; words = refl; known = refl; had = λ version. refl; cut = refl; visible = λ v. (refl, v) }
   front_again (Ask.Recv (Some c)) place fits =
       let less = both (nat_lt c (counts_of ds Kind.Chan)) true (both (nat_lt c (counts_of ds Kind.Chan) && true) true fits).0 in
       alone AskWord.Recv (codes "recv") _ refl refl (named AskWord.Recv (chan_name ds c) _ (chan_is_name c less.0))
   front_again (Ask.Close None) place fits =
-      record { table = AskWord.Close; first = codes "close"; rest = _; words = refl; known = refl; cut = refl; visible = λ v. (refl, v) }
+      record { table = AskWord.Close; first = codes "close"; rest = _; words = refl; known = refl; had = λ version. refl; cut = refl; visible = λ v. (refl, v) }
   front_again (Ask.Close (Some c)) place fits =
       let less = both (nat_lt c (counts_of ds Kind.Chan)) true (both (nat_lt c (counts_of ds Kind.Chan) && true) true fits).0 in
       alone AskWord.Close (codes "close") _ refl refl (named AskWord.Close (chan_name ds c) _ (chan_is_name c less.0))
@@ -103,23 +109,25 @@ module _ (decls : DeclsState) (holds : IsWellFormed decls) where
   front_again (Ask.Unlock l) place fits = alone AskWord.Unlock (codes "unlock") _ refl refl (plain AskWord.Unlock _ refl)
   front_again (Ask.RLock l) place fits = alone AskWord.RLock (codes "rlock") _ refl refl (plain AskWord.RLock _ refl)
   front_again (Ask.RUnlock l) place fits = alone AskWord.RUnlock (codes "runlock") _ refl refl (plain AskWord.RUnlock _ refl)
+  front_again (Ask.TryLock l) place fits = alone AskWord.TryLock (codes "trylock") _ refl refl (plain AskWord.TryLock _ refl)
+  front_again (Ask.TryRLock l) place fits = alone AskWord.TryRLock (codes "tryrlock") _ refl refl (plain AskWord.TryRLock _ refl)
   front_again (Ask.Do o) place fits = alone AskWord.Do (codes "do") _ refl refl (plain AskWord.Do _ refl)
   front_again (Ask.EndDo o) place fits = alone AskWord.EndDo (codes "enddo") _ refl refl (plain AskWord.EndDo _ refl)
 
   -- words that can be seen are those of their line
-  has_words : (first : List ℕ) (rest : List (List ℕ)) (word : LineWord) → line_word first ≡ Some word
-      → AreVisible (first ∷ rest) → HasWords (line_of (first ∷ rest)) word rest
-  has_words first rest word known visible =
+  has_words : (first : List ℕ) (rest : List (List ℕ)) (word : LineWord) → line_word first ≡ Some word → has_line_word decls.version word ≡ true
+      → AreVisible (first ∷ rest) → HasWords decls.version (line_of (first ∷ rest)) word rest
+  has_words first rest word known has visible =
       let again = words_again first rest visible in
       record {
         clean = visible_line_clean (first ∷ rest) visible;
-        named = ap (λ ws. line_word (first_word ws)) again ∙ known;
+        named = ap (λ ws. line_word_in decls.version (first_word ws)) again ∙ had_is_found decls.version first word known has;
         behind = again ∙ ap (λ ws. first_word ws ∷ rest) (sym again);
       }
 
   -- what is printed of an ask of the table says it
-  asked_line : (i : Instruction) (said : SaidAsk) → ask_says i.ask ≡ Some said → SaidFits ds (Asks i)
-      → (IsSaidLine ds (said_line ds (Asks i)) (Asks i)) × (has_bad_byte (said_line ds (Asks i)) ≡ false)
+  asked_line : (i : Instruction) (said : SaidAsk) → ask_says i.ask ≡ Some said → SaidFits (declared decls) (Asks i)
+      → (IsSaidLine (declared decls) (said_line ds (Asks i)) (Asks i)) × (has_bad_byte (said_line ds (Asks i)) ≡ false)
   asked_line i said says fits =
       let args = map (part_text ds) said.1 ++ i.place ∷ [] in
       let again = asked_again decls holds i said says fits.0 fits.1 in
@@ -130,37 +138,53 @@ module _ (decls : DeclsState) (holds : IsWellFormed decls) where
       let line : said_line ds (Asks i) ≡ line_of (is.first ∷ is.rest) = ap line_of (words ∙ is.words) in
       let reads : asked_in ds (on_nil is.table is.rest).0 (on_nil is.table is.rest).1 ≡ Some i =
       ap (λ (a : AskedWords). asked_in ds a.0 a.1) is.cut ∙ again.0 in
+      let had : has_ask_word decls.version is.table ≡ true =
+      is.had decls.version
+      ∙ sym (so_it_says (λ said. has_ask decls.version i.ask ≡ has_ask_word decls.version said.0) (ask_says i.ask) said says (had_by_word decls.version i.ask))
+      ∙ fits.2 in
       let whole = asks_line decls holds (line_of (is.first ∷ is.rest)) is.table is.rest i
-      (has_words is.first is.rest (LineWord.Asks is.table) is.known visible) reads in
-      (subst (λ l. IsSaidLine ds l (Asks i)) (sym line) whole, ap has_bad_byte line ∙ visible_line_clean (is.first ∷ is.rest) visible)
+      (has_words is.first is.rest (LineWord.Asks is.table) is.known had visible) reads in
+      (subst (λ l. IsSaidLine (declared decls) l (Asks i)) (sym line) whole, ap has_bad_byte line ∙ visible_line_clean (is.first ∷ is.rest) visible)
 
   -- and of a select
-  selected_line : (offers : List Offer) (has_default : Bool) (place : List ℕ) → SaidFits ds (Asks (asked_at (Ask.Select offers has_default) place))
-      → (IsSaidLine ds (said_line ds (Asks (asked_at (Ask.Select offers has_default) place))) (Asks (asked_at (Ask.Select offers has_default) place)))
+  selected_line : (offers : List Offer) (has_default : Bool) (place : List ℕ) → SaidFits (declared decls) (Asks (asked_at (Ask.Select offers has_default) place))
+      → (IsSaidLine (declared decls) (said_line ds (Asks (asked_at (Ask.Select offers has_default) place))) (Asks (asked_at (Ask.Select offers has_default) place)))
       × (has_bad_byte (said_line ds (Asks (asked_at (Ask.Select offers has_default) place))) ≡ false)
   selected_line offers has_default place fits =
       let i = asked_at (Ask.Select offers has_default) place in
       let args = offers_text ds offers ∷ mode_text has_default ∷ place ∷ [] in
       let again = selected_again decls holds offers has_default place fits.0 fits.1 in
       let visible : AreVisible (codes "select" ∷ args) = (refl, again.1) in (
-        selects_line decls holds (said_line ds (Asks i)) args i (has_words (codes "select") args LineWord.Selects selects_again visible) again.0,
+        selects_line decls holds (said_line ds (Asks i)) args i (has_words (codes "select") args LineWord.Selects selects_again refl visible) again.0,
         visible_line_clean (codes "select" ∷ args) visible,
       )
 
-  pub said_again : (said : Said) → SaidFits ds said → (IsSaidLine ds (said_line ds said) said) × (has_bad_byte (said_line ds said) ≡ false)
+  pub said_again : (said : Said) → SaidFits (declared decls) said
+      → (IsSaidLine (declared decls) (said_line ds said) said) × (has_bad_byte (said_line ds said) ≡ false)
   said_again (Begins g) less =
       let again = begun_again decls holds g less in
       let visible : AreVisible (codes "body" ∷ goroutine_name ds g ∷ []) = (refl, again.1) in (
         begins_line decls holds (said_line ds (Begins g)) (goroutine_name ds g ∷ []) g
-            (has_words (codes "body") (goroutine_name ds g ∷ []) LineWord.Begins begins_again visible) again.0,
+            (has_words (codes "body") (goroutine_name ds g ∷ []) LineWord.Begins begins_again refl visible) again.0,
         visible_line_clean (codes "body" ∷ goroutine_name ds g ∷ []) visible,
       )
   said_again (Asks i) fits = by (ask_says i.ask) refl
     where
-      by : (o : Option SaidAsk) → ask_says i.ask ≡ o → (IsSaidLine ds (said_line ds (Asks i)) (Asks i)) × (has_bad_byte (said_line ds (Asks i)) ≡ false)
+      by : (o : Option SaidAsk) → ask_says i.ask ≡ o
+          → (IsSaidLine (declared decls) (said_line ds (Asks i)) (Asks i)) × (has_bad_byte (said_line ds (Asks i)) ≡ false)
       by (Some said) e = asked_line i said e fits
       by None e =
           let is = selects_alone i.ask e in
           let same : i ≡ asked_at (Ask.Select is.0 is.1) i.place = ap (λ ask. asked_at ask i.place) is.2 in
-          subst (λ (x : Instruction). (IsSaidLine ds (said_line ds (Asks x)) (Asks x)) × (has_bad_byte (said_line ds (Asks x)) ≡ false)) (sym same)
-          (selected_line is.0 is.1 i.place (subst (λ (x : Instruction). SaidFits ds (Asks x)) same fits))
+          subst (λ (x : Instruction). (IsSaidLine (declared decls) (said_line ds (Asks x)) (Asks x)) × (has_bad_byte (said_line ds (Asks x)) ≡ false)) (sym same)
+          (selected_line is.0 is.1 i.place (subst (λ (x : Instruction). SaidFits (declared decls) (Asks x)) same fits))
+
+-- the word of an ask is known in the versions that have it alone
+pub ask_known : (version : Version) (ds : List Declaration) (place : List ℕ) (ask : Ask)
+    → is_some (line_word_in version (first_word (ask_words ds place ask))) ≡ has_ask version ask
+unfolding line_word word_named
+ask_known Version.One ds place (Ask.TryLock l) = refl
+ask_known Version.Two ds place (Ask.TryLock l) = refl
+ask_known Version.One ds place (Ask.TryRLock l) = refl
+ask_known Version.Two ds place (Ask.TryRLock l) = refl
+ask_known version ds place _ = refl

@@ -7,16 +7,17 @@ use Rattle.std.proofs.lemmas.Grind.{flat_map-append}
 use Rattle.std.proofs.lemmas.List.{reverse-reverse}
 use Rattle.std.proofs.lemmas.List.Splits.{join_with_byte-slice_split, length-slice_split}
 use Rattle.std.proofs.lemmas.Option.{none-some}
-use Rattle.std.proofs.lemmas.Slice.Eq.{bytes_eq-Decides}
 use Rattle.std.specs.List.{flat_map, join_with_byte}
 use Rattle.std.specs.Prelude.{reverse}
-use Rattle.std.specs.Str.{bytes_eq}
 use Rattle.race_records.specs.declared.declarations.DeclFault.{DeclFault}
 use Rattle.race_records.specs.declared.declarations.TheConstants.{MAX_PLACES}
 use Rattle.race_records.specs.declared.nouns.Noun.{Noun}
+use Rattle.race_records.specs.declared.version.Version.{Version}
 use Rattle.race_records.specs.Declarations.{Declaration, is_known, place_fault, place_number, with_place}
+use Rattle.race_records.specs.Equality.{declared}
 use Rattle.race_records.specs.Name.{is_place}
 use Rattle.race_records.specs.Nouns.{kind_of_noun}
+use Rattle.race_hub.specs.Submits.{has_ask}
 use Rattle.race_text.specs.declared.cause.TextCause.{TextCause}
 use Rattle.race_text.specs.declared.form.Word.{Word}
 use Rattle.race_text.specs.Declaring.{with_declaration_in}
@@ -31,18 +32,19 @@ use Rattle.race_script.specs.declared.form.LineWord.{LineWord}
 use Rattle.race_script.specs.declared.program.TheConstants.{MAX_STEPS}
 use Rattle.race_script.specs.Bodies.{is_exit, after_ask}
 use Rattle.race_script.specs.Fault.{words_cause, has_no_room, may_follow, may_begin}
-use Rattle.race_script.specs.Fault.{said_cause, asked_cause, cause, program_causes}
+use Rattle.race_script.specs.Fault.{said_cause, asked_cause, header_cause, cause, program_causes}
 use Rattle.race_script.specs.Fault.{text_fault, is_whole}
-use Rattle.race_script.specs.Form.{line_word, on_nil, ask_fields, begin_fields}
+use Rattle.race_script.specs.Form.{line_word, line_word_in, on_nil, ask_fields, begin_fields}
 use Rattle.race_script.specs.Offers.{select_words, select_cause}
 use Rattle.race_script.specs.Program.{Instruction, Draft, ask_fits, bodies_of}
 use Rattle.race_script.specs.Reader.{UnendedState, ReadState, draft_read, spelled_unended, program_read, IsRead, HasWords, TakesLine}
+use Rattle.race_script.specs.Reading.{version_said}
 use Rattle.race_script.specs.Text.{header, Said, Begins, Asks, lines, draft_text, IsProgramText}
 use Rattle.race_script.proofs.LineLemmas.{IsSaidLine, cause_behind, begins_line, asks_line, selects_line}
 use Rattle.race_script.proofs.ParseLemmas.{end_empty}
 use Rattle.race_script.proofs.ReadLemmas.{begin_told, asks_told, selects_told, bad_byte_told, unknown_told, declares_cause}
 use Rattle.race_script.proofs.ReadLemmas.{first_cause, declared_taken, said_taken, whole_program, nothing_read}
-use Rattle.race_script.proofs.ReadLemmas.{nothing_is_read, nothing_lines_read}
+use Rattle.race_script.proofs.ReadLemmas.{nothing_is_read, nothing_lines_read, said_header}
 use Rattle.race_script.proofs.SaidLines.{begun_is_there, is_begun, asked_is_there}
 use Rattle.race_script.proofs.SelectLines.{selected_is_there}
 use Rattle.race_script.proofs.TakingLemmas.{begin_taken, asked_cause_is, ended_taken, more_taken}
@@ -64,9 +66,9 @@ not_full places word form h = by (is_place word) form (is_known places word) (na
     by true e false false h = refl
     by false e b c h = absurd (true≢false (sym e))
 
-no_word : line_word [] ≡ None
+no_word : (version : Version) → line_word_in version [] ≡ None
 unfolding line_word word_named
-no_word = refl
+no_word version = refl
 
 module _ (s : ReadState) (header_is : s.has_header ≡ true) (read : IsRead s) (line : List ℕ) (none : cause (lines (draft_read s)) line true ≡ None) where
   abbrev d : Draft
@@ -78,13 +80,13 @@ module _ (s : ReadState) (header_is : s.has_header ≡ true) (read : IsRead s) (
   not_told : (told : TextCause) → cause (lines d) line true ≡ Some told → ⊥
   not_told told h = none-some told (sym none ∙ h)
 
-  said_fine : (said : Said) → IsSaidLine ds line said → said_cause d said ≡ None
+  said_fine : (said : Said) → IsSaidLine (declared s.decls) line said → said_cause d said ≡ None
   said_fine said is = sym (cause_behind d line read.seen_is ∙ is.cause_is d refl) ∙ none
 
-  with_begin : (words : List (List ℕ)) → HasWords line LineWord.Begins words → IsNext s line
+  with_begin : (words : List (List ℕ)) → HasWords s.decls.version line LineWord.Begins words → IsNext s line
   with_begin words has = by (words_cause ds begin_fields words) refl
     where
-      begun : (g : ℕ) → IsSaidLine ds line (Begins g) → (b : Bool) → may_begin d g ≡ b
+      begun : (g : ℕ) → IsSaidLine (declared s.decls) line (Begins g) → (b : Bool) → may_begin d g ≡ b
           → (if b then None else Some TextCause.BadBlock) ≡ None → may_begin d g ≡ true
       begun g is true e h = e
       begun g is false e h = absurd (none-some TextCause.BadBlock (sym h))
@@ -102,8 +104,9 @@ module _ (s : ReadState) (header_is : s.has_header ≡ true) (read : IsRead s) (
                 (begin_taken s read.sound there.0 (is_begun s.decls read.sound.well_formed words there.0 there.1).less may new refl refl refl refl);
           }
 
-  with_asked : (i : Instruction) → IsSaidLine ds line (Asks i) → ask_fits ds i.ask ≡ true → is_place i.place ≡ true → IsNext s line
-  with_asked i is fits form = by s.unended refl
+  with_asked : (i : Instruction) → IsSaidLine (declared s.decls) line (Asks i) → ask_fits ds i.ask ≡ true → is_place i.place ≡ true
+      → has_ask s.decls.version i.ask ≡ true → IsNext s line
+  with_asked i is fits form known = by s.unended refl
     where
       fine : said_cause d (Asks i) ≡ None
       fine = said_fine (Asks i) is
@@ -129,7 +132,7 @@ module _ (s : ReadState) (header_is : s.has_header ≡ true) (read : IsRead s) (
           record {
             next = new;
             takes = said_taken s read line (Asks i) new is
-                (ended_taken s read.sound u is_left i fits form few room follows new refl refl exit refl refl);
+                (ended_taken s read.sound u is_left i fits form known few room follows new refl refl exit refl refl);
           }
       goes u is_left few room follows false other None e h = absurd (true≢false (sym h))
       goes u is_left few room follows false other (Some inside) e h =
@@ -145,7 +148,7 @@ module _ (s : ReadState) (header_is : s.has_header ≡ true) (read : IsRead s) (
           record {
             next = new;
             takes = said_taken s read line (Asks i) new is
-                (more_taken s read.sound u is_left i fits form few room follows new refl refl
+                (more_taken s read.sound u is_left i fits form known few room follows new refl refl
                 (reverse inside) other (e ∙ ap Some (sym (reverse-reverse inside))) refl refl);
           }
 
@@ -156,7 +159,7 @@ module _ (s : ReadState) (header_is : s.has_header ≡ true) (read : IsRead s) (
           goes u e (grind (arith, nat_tests, three.0)) (not_full s.decls.places i.place form three.1)
           three.2 (is_exit i.ask) refl (after_ask (reverse u.onces) i.ask) refl three.2
 
-  with_asks : (word : AskWord) (words : List (List ℕ)) → HasWords line (LineWord.Asks word) words → IsNext s line
+  with_asks : (word : AskWord) (words : List (List ℕ)) → HasWords s.decls.version line (LineWord.Asks word) words → IsNext s line
   with_asks word words has = by (words_cause ds (ask_fields (on_nil word words).0) (on_nil word words).1) refl
     where
       by : (o : Option TextCause) → words_cause ds (ask_fields (on_nil word words).0) (on_nil word words).1 ≡ o → IsNext s line
@@ -164,9 +167,9 @@ module _ (s : ReadState) (header_is : s.has_header ≡ true) (read : IsRead s) (
       by None e =
           let there = asked_is_there ds (on_nil word words).0 (on_nil word words).1 e in
           let is = asks_line s.decls read.sound.well_formed line word words there.0 has there.1 in
-          with_asked there.0 is is.fits.0 is.fits.1
+          with_asked there.0 is is.fits.0 is.fits.1 is.fits.2
 
-  with_selects : (words : List (List ℕ)) → HasWords line LineWord.Selects words → IsNext s line
+  with_selects : (words : List (List ℕ)) → HasWords s.decls.version line LineWord.Selects words → IsNext s line
   with_selects words has = by (select_cause ds (select_words words)) refl
     where
       by : (o : Option TextCause) → select_cause ds (select_words words) ≡ o → IsNext s line
@@ -174,9 +177,9 @@ module _ (s : ReadState) (header_is : s.has_header ≡ true) (read : IsRead s) (
       by None e =
           let there = selected_is_there ds (select_words words) e in
           let is = selects_line s.decls read.sound.well_formed line words there.0 has there.1 in
-          with_asked there.0 is is.fits.0 is.fits.1
+          with_asked there.0 is is.fits.0 is.fits.1 is.fits.2
 
-  with_declared : (noun : Noun) (words : List (List ℕ)) → HasWords line (LineWord.Declares noun) words → IsNext s line
+  with_declared : (noun : Noun) (words : List (List ℕ)) → HasWords s.decls.version line (LineWord.Declares noun) words → IsNext s line
   with_declared noun words has = by (length (bodies_of d)) refl
     where
       by : (n : ℕ) → length (bodies_of d) ≡ n → IsNext s line
@@ -194,28 +197,28 @@ module _ (s : ReadState) (header_is : s.has_header ≡ true) (read : IsRead s) (
   with_line = clean (has_bad_byte line) refl
     where
       by_word : has_bad_byte line ≡ false → (first : List ℕ) (args : List (List ℕ))
-          → words_of line ≡ first ∷ args → (o : Option LineWord) → line_word first ≡ o → IsNext s line
-      by_word fine first args e None h = absurd (not_told TextCause.UnknownWord (unknown_told s read line fine (ap (λ ws. line_word (first_word ws)) e ∙ h)))
+          → words_of line ≡ first ∷ args → (o : Option LineWord) → line_word_in s.decls.version first ≡ o → IsNext s line
+      by_word fine first args e None h = absurd (not_told TextCause.UnknownWord (unknown_told s read line fine (ap (λ ws. line_word_in s.decls.version (first_word ws)) e ∙ h)))
       by_word fine first args e (Some (LineWord.Declares noun)) h =
           with_declared noun args (record {
             clean = fine;
-            named = ap (λ ws. line_word (first_word ws)) e ∙ h;
+            named = ap (λ ws. line_word_in s.decls.version (first_word ws)) e ∙ h;
             behind = e ∙ ap (λ ws. first_word ws ∷ args) (sym e);
           })
       by_word fine first args e (Some LineWord.Begins) h =
-          with_begin args (record { clean = fine; named = ap (λ ws. line_word (first_word ws)) e ∙ h; behind = e ∙ ap (λ ws. first_word ws ∷ args) (sym e) })
+          with_begin args (record { clean = fine; named = ap (λ ws. line_word_in s.decls.version (first_word ws)) e ∙ h; behind = e ∙ ap (λ ws. first_word ws ∷ args) (sym e) })
       by_word fine first args e (Some (LineWord.Asks word)) h =
           with_asks word args (record {
             clean = fine;
-            named = ap (λ ws. line_word (first_word ws)) e ∙ h;
+            named = ap (λ ws. line_word_in s.decls.version (first_word ws)) e ∙ h;
             behind = e ∙ ap (λ ws. first_word ws ∷ args) (sym e);
           })
       by_word fine first args e (Some LineWord.Selects) h =
-          with_selects args (record { clean = fine; named = ap (λ ws. line_word (first_word ws)) e ∙ h; behind = e ∙ ap (λ ws. first_word ws ∷ args) (sym e) })
+          with_selects args (record { clean = fine; named = ap (λ ws. line_word_in s.decls.version (first_word ws)) e ∙ h; behind = e ∙ ap (λ ws. first_word ws ∷ args) (sym e) })
 
       words : has_bad_byte line ≡ false → (ws : List (List ℕ)) → words_of line ≡ ws → IsNext s line
-      words fine [] e = absurd (not_told TextCause.UnknownWord (unknown_told s read line fine (ap (λ ws. line_word (first_word ws)) e ∙ no_word)))
-      words fine (first ∷ args) e = by_word fine first args e (line_word first) refl
+      words fine [] e = absurd (not_told TextCause.UnknownWord (unknown_told s read line fine (ap (λ ws. line_word_in s.decls.version (first_word ws)) e ∙ no_word s.decls.version)))
+      words fine (first ∷ args) e = by_word fine first args e (line_word_in s.decls.version first) refl
 
       clean : (b : Bool) → has_bad_byte line ≡ b → IsNext s line
       clean true bad = absurd (not_told TextCause.BadByte (bad_byte_told s read line bad))
@@ -252,14 +255,14 @@ scanned (line ∷ part ∷ others) s header read some none =
           ∙ ap (λ l. front ++ l) (append_assoc line (10 ∷ []) (join_with_byte 10 parts)),
     )
 
--- the first line is the header
-is_header : (line : List ℕ) → cause [] line true ≡ None → line ≡ header
+-- the first line is a header
+is_header : (line : List ℕ) → cause [] line true ≡ None → (version : Version) × (line ≡ header version)
 unfolding cause
-is_header line h = by (bytes_eq line header) refl h
+is_header line h = by (version_said line) refl h
   where
-    by : (b : Bool) → bytes_eq line header ≡ b → (if not b then Some TextCause.BadHeader else None) ≡ None → line ≡ header
-    by true e h = (bytes_eq-Decides line header).0 e
-    by false e h = absurd (none-some TextCause.BadHeader (sym h))
+    by : (o : Option Version) → version_said line ≡ o → header_cause o true ≡ None → (version : Version) × (line ≡ header version)
+    by (Some version) e h = (version, said_header line version e)
+    by None e h = absurd (none-some TextCause.BadHeader (sym h))
 
 pub faultless_is_text : (bytes : List ℕ) → text_fault bytes ≡ None → IsProgramText bytes
 unfolding first_fault draft_text
@@ -274,11 +277,13 @@ faultless_is_text bytes none = by (parts_of bytes) refl none
     by (line ∷ part ∷ others) e h =
         let parts = part ∷ others in
         let split = none_step program_causes [] line parts (omega arith) h in
-        let first = is_header line split.0 in
-        let rest = scanned parts nothing_read refl nothing_is_read (omega arith)
-        (ap (λ ls. fault_after program_causes ls parts) (nothing_lines_read ∙ (λ i. sym first i ∷ [])) ∙ split.1) in
+        let is = is_header line split.0 in
+        let version = is.0 in
+        let first = is.1 in
+        let rest = scanned parts (nothing_read version) refl (nothing_is_read version) (omega arith)
+        (ap (λ ls. fault_after program_causes ls parts) (nothing_lines_read version ∙ (λ i. sym first i ∷ [])) ∙ split.1) in
         let program = whole_program rest.0 rest.1 rest.2 in
         let printed = sym (join_with_byte-slice_split 10 bytes) ∙ ap (join_with_byte 10) e ∙ (λ i. first i ++ 10 ∷ join_with_byte 10 parts)
-        ∙ sym (rest.3 ∙ ap (λ ls. flat_map ended ls ++ join_with_byte 10 parts) nothing_lines_read)
+        ∙ sym (rest.3 ∙ ap (λ ls. flat_map ended ls ++ join_with_byte 10 parts) (nothing_lines_read version))
         ∙ ap (λ x. flat_map ended (lines x)) program.1 in
         (program_read rest.0, record { program = program.0; printed = printed })

@@ -23,6 +23,7 @@ use Rattle.race_records.specs.Refusal.{Refuses, AllowsUnless}
 use Rattle.race_text.specs.Declaring.{cause_of}
 use Rattle.race_hub.specs.declared.request.Ask.{Ask}
 use Rattle.race_hub.specs.declared.request.Request.{Request}
+use Rattle.race_hub.specs.Submits.{has_ask}
 use Rattle.race_text.specs.declared.cause.TextCause.{TextCause}
 use Rattle.race_text.proofs.CauseLemmas.{and_then_some}
 use Rattle.race_text.proofs.PlacesAdded.{place_is_there, place_stays, place_grows}
@@ -92,7 +93,7 @@ module _ (decls : DeclsState) (word : List ℕ) where
 
   request_stays : (r : Request) → request_fits decls r ≡ true → (request_fits more r ≡ true) × (instruction more.places r ≡ instruction decls.places r)
   request_stays r h =
-      let two = both (ask_fits decls.declarations r.ask) (nat_lt r.place (length decls.places)) h in
+      let two = both (has_ask decls.version r.ask && ask_fits decls.declarations r.ask) (nat_lt r.place (length decls.places)) h in
       let less : r.place < length decls.places = grind (arith, nat_tests, two.1) in
       let grows = (place_grows decls word).0 in
       let within : nat_lt r.place (length more.places) ≡ true = grind (arith, nat_tests, less, grows) in (
@@ -196,7 +197,7 @@ module _ (s : ReadState) (sound : IsSound s) (u : UnendedState) (is : s.unended 
       ∙ (λ k. if (ap (nat_le MAX_STEPS) len ∙ full) k || (ap (λ places. has_no_room places i.place) sound.places ∙ no_room) k then Some TextCause.TooMany
       else (if (ap (λ o. may_follow o i.ask) asked_open ∙ follows) k then None else Some TextCause.BadBlock))
 
-  module _ (few : length u.requests < MAX_STEPS) (room : place_fault s.decls.places i.place ≡ None)
+  module _ (known : has_ask s.decls.version i.ask ≡ true) (few : length u.requests < MAX_STEPS) (room : place_fault s.decls.places i.place ≡ None)
       (follows : may_follow (Some (reverse u.onces)) i.ask ≡ true) where
     no_cause : said_cause d (Asks i) ≡ None
     no_cause = asked_cause_is false false true (grind (arith, nat_tests, few)) (room_is s.decls.places i.place form room) follows
@@ -214,7 +215,7 @@ module _ (s : ReadState) (sound : IsSound s) (u : UnendedState) (is : s.unended 
     request_there =
         let within = slice_get_within grown_decls.places request.place i.place (place_is_there s.decls i.place) in
         let less : nat_lt request.place (length grown_decls.places) ≡ true = grind (arith, nat_tests, within) in
-        λ k. fits k && less k
+        λ k. known k && fits k && less k
 
     spelled_more : spelled grown_decls.places requests ≡ body ++ i ∷ []
     spelled_more = map-append (instruction grown_decls.places) u.requests (request ∷ []) ∙ (λ k. stay.1 k ++ request_is k ∷ [])
@@ -269,11 +270,13 @@ module _ (s : ReadState) (sound : IsSound s) (u : UnendedState) (is : s.unended 
       ended_taken exit ended none =
           finish true exit
           ((λ k. record {
+            version = (decls_are k).version;
             declarations = (decls_are k).declarations;
             ended = map (spelled (decls_are k).places) (ended k);
             unended = spelled_unended (decls_are k).places (none k);
           })
           ∙ (λ k. record {
+            version = s.decls.version;
             declarations = s.decls.declarations;
             ended = (map-append (spelled grown_decls.places) s.ended (requests ∷ []) ∙ (λ j. ended_stay.1 j ++ spelled_more j ∷ [])) k;
             unended = None;
@@ -296,11 +299,12 @@ module _ (s : ReadState) (sound : IsSound s) (u : UnendedState) (is : s.unended 
       more_taken inside other entered ended left =
           finish false other
           ((λ k. record {
+            version = (decls_are k).version;
             declarations = (decls_are k).declarations;
             ended = map (spelled (decls_are k).places) (ended k);
             unended = spelled_unended (decls_are k).places (left k);
           })
-          ∙ (λ k. record { declarations = s.decls.declarations; ended = ended_stay.1 k; unended = Some (spelled_more k) }))
+          ∙ (λ k. record { version = s.decls.version; declarations = s.decls.declarations; ended = ended_stay.1 k; unended = Some (spelled_more k) }))
           ((λ k. list_all (is_body_of (decls_are k)) (ended k)) ∙ ended_stay.0)
           (subst (λ (p : DeclsState × Option UnendedState). IfSome p.1 (IsUnended p.0)) (λ k. (sym decls_are k, sym left k)) (record {
             fit = all_fit;
@@ -317,8 +321,10 @@ begin_taken s sound g less may new header decls ended left =
     let d = draft_read s in
     let two = both (is_none d.unended) (length d.ended == g) may in
     let same : length d.ended ≡ g = grind (arith, nat_tests, two.1) in
-    let after : draft_read new ≡ record { declarations = d.declarations; ended = d.ended; unended = Some [] } =
+    let begun : Draft = record { version = d.version; declarations = d.declarations; ended = d.ended; unended = Some [] } in
+    let after : draft_read new ≡ begun =
     λ k. record {
+      version = (decls k).version;
       declarations = (decls k).declarations;
       ended = map (spelled (decls k).places) (ended k);
       unended = spelled_unended (decls k).places (left k);
@@ -326,7 +332,7 @@ begin_taken s sound g less may new header decls ended left =
     let none : bodies_of d ≡ d.ended = not_begun d.unended two.0 d in
     let all : flat_map (λ x. x) (d.ended ++ [] ∷ []) ≡ flat_map (λ x. x) (bodies_of d) =
     flat_map-append (λ x. x) d.ended ([] ∷ []) ∙ append-nil (flat_map (λ x. x) d.ended) ∙ ap (flat_map (λ x. x)) (sym none) in
-    let places : places_of (record { declarations = d.declarations; ended = d.ended; unended = Some [] }) ≡ places_of d =
+    let places : places_of begun ≡ places_of d =
     ap (fold (λ (places : List (List ℕ)) (i : Instruction). with_place places i.place) []) all in
     record {
       header = header;

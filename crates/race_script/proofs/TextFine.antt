@@ -10,9 +10,12 @@ use Rattle.std.specs.List.{list_all, flat_map, AllByRecursion}
 use Rattle.std.specs.Option.{option_map_or}
 use Rattle.race_records.specs.declared.declarations.TheConstants.{MAX_PLACES}
 use Rattle.race_records.specs.declared.kind.Kind.{Kind}
+use Rattle.race_records.specs.declared.version.Version.{Version}
 use Rattle.race_records.specs.Declarations.{Declaration, DeclsState, IsWellFormed, count_of}
+use Rattle.race_records.specs.Equality.{Declared, declared}
 use Rattle.race_records.specs.Name.{is_place}
 use Rattle.race_hub.specs.declared.request.Request.{Request}
+use Rattle.race_hub.specs.Submits.{has_ask}
 use Rattle.race_text.specs.declared.cause.TextCause.{TextCause}
 use Rattle.race_text.specs.declared.cause.TextFault.{TextFault}
 use Rattle.race_text.specs.Lines.{fault_after, first_fault}
@@ -23,9 +26,9 @@ use Rattle.race_text.proofs.WordLemmas.{both}
 use Rattle.race_text.proofs.WordsAgain.{parts_again}
 use Rattle.race_script.specs.declared.program.TheConstants.{MAX_STEPS}
 use Rattle.race_script.specs.Bodies.{is_exit, after_ask, onces_after, ends, is_body}
-use Rattle.race_script.specs.Fault.{said_cause, line_cause, cause, program_causes, text_fault, is_whole, has_no_room, may_follow}
-use Rattle.race_script.specs.Program.{Instruction, Draft, ProgramState, IsProgram, draft_of, with_place, places_of, ask_fits}
-use Rattle.race_script.specs.Reading.{with_said, nothing_said, seen}
+use Rattle.race_script.specs.Fault.{said_cause, line_cause, header_cause, cause, program_causes, text_fault, is_whole, has_no_room, may_follow}
+use Rattle.race_script.specs.Program.{Instruction, Draft, ProgramState, IsProgram, draft_of, declared_by, with_place, places_of, ask_fits}
+use Rattle.race_script.specs.Reading.{with_said, seen}
 use Rattle.race_script.specs.Text.{header, Said, Asks, said_line, saids, lines, draft_text, program_text, IsProgramText}
 use Rattle.std.specs.Option.{option_and_then}
 use Rattle.std.proofs.Math.ListN.{get_or-append}
@@ -42,10 +45,10 @@ use Rattle.race_text.proofs.TextFine.{within as within_all}
 use Rattle.race_text.proofs.TextLaws.{IsDeclarationLine}
 use Rattle.race_text.proofs.TraceLemmas.{clean_line}
 use Rattle.race_script.specs.Fault.{word_cause, may_begin}
-use Rattle.race_script.specs.Form.{line_word}
+use Rattle.race_script.specs.Form.{line_word_in}
 use Rattle.race_script.specs.Program.{asks_of, request_fits, is_body_of, instruction, spelled}
-use Rattle.race_script.proofs.AskTable.{noun_line_word}
-use Rattle.race_script.proofs.ReadLemmas.{declaration_lines, seen_by_lines, seen_declared, lines_declared, end_behind}
+use Rattle.race_script.proofs.AskTable.{noun_word_in}
+use Rattle.race_script.proofs.ReadLemmas.{declaration_lines, header_said, nothing_but, seen_by_lines, seen_declared, lines_declared, end_behind}
 use Rattle.race_script.proofs.TakingLemmas.{asks_spelled}
 use Rattle.race_records.specs.Declarations.{is_known}
 use Rattle.race_script.specs.Program.{asked_by}
@@ -57,7 +60,7 @@ use Rattle.race_script.proofs.LineLemmas.{grown, SaidFits, IsSaidLine, said_keep
 -- each of what is said may stand behind the others
 abbrev Stand : Draft → List Said → Type 0
 Stand d [] = Unit
-Stand d (s ∷ ss) = SaidFits d.declarations s × (said_cause d s ≡ None) × Stand (with_said d s) ss
+Stand d (s ∷ ss) = SaidFits (declared_by d) s × (said_cause d s ≡ None) × Stand (with_said d s) ss
 
 -- lines of bodies behind others
 record IsWalked (d : Draft) (ss : List Said) : Type 0 where
@@ -66,20 +69,20 @@ record IsWalked (d : Draft) (ss : List Said) : Type 0 where
   seen_is : seen (lines (fold with_said d ss)) ≡ fold with_said d ss
   clean : AllByRecursion (λ l. has_bad_byte l ≡ false) (map (said_line d.declarations) ss)
 
-walked : (decls : DeclsState) → IsWellFormed decls → (d : Draft) → decls.declarations ≡ d.declarations
+walked : (decls : DeclsState) → IsWellFormed decls → (d : Draft) → declared decls ≡ declared_by d
     → seen (lines d) ≡ d → (ss : List Said) → Stand d ss → IsWalked d ss
 walked decls holds d same is [] stand = record { fine = tt; lines_are = sym (append-nil (lines d)); seen_is = is; clean = tt }
 walked decls holds d same is (s ∷ ss) stand =
-    let both_are : (IsSaidLine d.declarations (said_line d.declarations s) s) × (has_bad_byte (said_line d.declarations s) ≡ false) =
-    subst (λ ds. (IsSaidLine ds (said_line ds s) s) × (has_bad_byte (said_line ds s) ≡ false)) same
-    (said_again decls holds s (subst (λ ds. SaidFits ds s) (sym same) stand.0)) in
+    let both_are : (IsSaidLine (declared_by d) (said_line d.declarations s) s) × (has_bad_byte (said_line d.declarations s) ≡ false) =
+    subst (λ w. (IsSaidLine w (said_line w.declarations s) s) × (has_bad_byte (said_line w.declarations s) ≡ false)) same
+    (said_again decls holds s (subst (λ w. SaidFits w s) (sym same) stand.0)) in
     let line = both_are.0 in
     let next = with_said d s in
-    let keeps : next.declarations ≡ d.declarations = said_keeps d s in
+    let keeps : declared_by next ≡ declared_by d = said_keeps d s in
     let after : lines next ≡ lines d ++ said_line d.declarations s ∷ [] = lines_said d s stand.1 in
-    let seen_next : seen (lines next) ≡ next = ap seen after ∙ seen_said (lines d) (said_line d.declarations s) d s is line.declares line.says in
+    let seen_next : seen (lines next) ≡ next = ap seen after ∙ seen_said (said_line d.declarations s) d s is line.declares line.says in
     let rest = walked decls holds next (same ∙ sym keeps) seen_next ss stand.2 in
-    let others : map (said_line next.declarations) ss ≡ map (said_line d.declarations) ss = ap (λ ds. map (said_line ds) ss) keeps in
+    let others : map (said_line next.declarations) ss ≡ map (said_line d.declarations) ss = ap (λ (w : Declared). map (said_line w.declarations) ss) keeps in
     record {
       fine = (
         cause_behind d (said_line d.declarations s) is ∙ line.cause_is d refl ∙ stand.1,
@@ -113,16 +116,16 @@ room_left places i few = by (is_known places i.place) few
     by false few = let more = length-append places (i.place ∷ []) in grind (arith, nat_tests, few, more)
 
 -- the instructions fit, and their places have a place's form
-abbrev FitAll : List Declaration → List Instruction → Type 0
-FitAll ds [] = Unit
-FitAll ds (i ∷ is) = ((ask_fits ds i.ask ≡ true) × (is_place i.place ≡ true)) × FitAll ds is
+abbrev FitAll : Declared → List Instruction → Type 0
+FitAll w [] = Unit
+FitAll w (i ∷ is) = SaidFits w (Asks i) × FitAll w is
 
-module _ (ds : List Declaration) where
+module _ (w : Declared) where
   abbrev within : List (List Instruction) → List Instruction → Draft
-  within done body = record { declarations = ds; ended = done; unended = Some body }
+  within done body = record { version = w.version; declarations = w.declarations; ended = done; unended = Some body }
 
   abbrev behind : List (List Instruction) → Draft
-  behind done = record { declarations = ds; ended = done; unended = None }
+  behind done = record { version = w.version; declarations = w.declarations; ended = done; unended = None }
 
   -- what follows a body stands behind it
   record Follows (d : Draft) (ss : List Said) (last : Draft) : Type 0 where
@@ -134,7 +137,7 @@ module _ (ds : List Declaration) where
   said_stays done body i b e = ap (grown (within done body) i body) e
 
   body_stands : (done : List (List Instruction)) (more : List Said) (left : List Instruction) (last : Draft) (rest body : List Instruction) (onces : List ℕ)
-      → onces_after [] (asked_by body) ≡ Some onces → ends onces (asked_by rest) ≡ true → FitAll ds rest → length body + length rest ≤ MAX_STEPS
+      → onces_after [] (asked_by body) ≡ Some onces → ends onces (asked_by rest) ≡ true → FitAll w rest → length body + length rest ≤ MAX_STEPS
       → length (fold step (fold step (places_of (within done body)) rest) left) ≤ MAX_PLACES
       → Follows (behind (done ++ (body ++ rest) ∷ [])) more last → Follows (within done body) (map Asks rest ++ more) last
   body_stands done more left last [] body onces h e fit few places follows = absurd (true≢false (sym e))
@@ -198,7 +201,7 @@ module _ (ds : List Declaration) where
   -- a body that is a goroutine's
   record IsGood (body : List Instruction) : Type 0 where
     nest : ends [] (asked_by body) ≡ true
-    fit : FitAll ds body
+    fit : FitAll w body
     few : length body ≤ MAX_STEPS
 
   abbrev AllGood : List (List Instruction) → Type 0
@@ -213,7 +216,7 @@ module _ (ds : List Declaration) where
       ap (fold step []) (flat_map-append (λ x. x) done (b ∷ []) ∙ ap (λ l. flat_map (λ x. x) done ++ l) (append-nil b))
       ∙ fold-append step [] (flat_map (λ x. x) done) b
 
-  bodies_stand : (rest done : List (List Instruction)) → AllGood rest → length done + length rest ≤ count_of Kind.Goroutine ds
+  bodies_stand : (rest done : List (List Instruction)) → AllGood rest → length done + length rest ≤ count_of Kind.Goroutine w.declarations
       → length (fold step (places_of (behind done)) (flat_map (λ x. x) rest)) ≤ MAX_PLACES
       → Follows (behind done) (saids (length done) rest) (behind (done ++ rest))
   bodies_stand [] done good few places = record { stand = tt; ends_as = ap behind (sym (append-nil done)) }
@@ -245,7 +248,7 @@ module _ (decls : DeclsState) (holds : IsWellFormed decls) where
       subst (λ x. IsDeclarationLine x (declaration_line x)) same (declaration_lines decls holds i d (omega (arith, len, less)))
 
   one_fine : (before after : List Declaration) (d : Declaration) → before ++ d ∷ after ≡ decls.declarations
-      → cause (lines (nothing_said before)) (declaration_line d) true ≡ None
+      → cause (lines (nothing_but decls.version before)) (declaration_line d) true ≡ None
   unfolding line_cause
   one_fine before after d is =
       let at = here decls holds before after d is in
@@ -254,18 +257,18 @@ module _ (decls : DeclsState) (holds : IsWellFormed decls) where
       let first = first_word (words_of (declaration_line d)) in
       let args = arguments (words_of (declaration_line d)) in
       let text = sym (clean_line (seen_so_far before 0) (declaration_line d) line.clean) ∙ no_cause decls holds before after d is in
-      cause_behind (nothing_said before) (declaration_line d) (seen_by_lines before (lines_of_prefix before (d ∷ after) is))
-      ∙ ap (λ b. if b then Some TextCause.BadByte else word_cause (nothing_said before) (line_word first) args) line.clean
-      ∙ ap (λ w. word_cause (nothing_said before) w args) (noun_line_word first _ line.named)
+      cause_behind (nothing_but decls.version before) (declaration_line d) (seen_by_lines decls.version before (lines_of_prefix before (d ∷ after) is))
+      ∙ ap (λ b. if b then Some TextCause.BadByte else word_cause (nothing_but decls.version before) (line_word_in decls.version first) args) line.clean
+      ∙ ap (λ w. word_cause (nothing_but decls.version before) w args) (noun_word_in decls.version first _ line.named)
       ∙ ap (λ w. text_cause (seen_so_far before 0) w args) (sym line.named)
       ∙ text
 
   declared_fine : (before after : List Declaration) → before ++ after ≡ decls.declarations
-      → AreFine program_causes (lines (nothing_said before)) (map declaration_line after)
+      → AreFine program_causes (lines (nothing_but decls.version before)) (map declaration_line after)
   declared_fine before [] is = tt
   declared_fine before (d ∷ after) is = (
     one_fine before after d is,
-    subst (λ ls. AreFine program_causes ls (map declaration_line after)) (lines_declared before d)
+    subst (λ ls. AreFine program_causes ls (map declaration_line after)) (lines_declared decls.version before d)
         (declared_fine (before ++ d ∷ []) after (append_assoc before (d ∷ []) after ∙ is)),
   )
 
@@ -279,33 +282,41 @@ clean_both : (xs ys : List (List ℕ)) → AllByRecursion (λ l. has_bad_byte l 
 clean_both [] ys h k = k
 clean_both (x ∷ xs) ys h k = (h.0, clean_both xs ys h.1 k)
 
-header_fine : cause [] header true ≡ None
+header_fine : (version : Version) → cause [] (header version) true ≡ None
 unfolding cause
-header_fine = refl
+header_fine version = ap (λ o. header_cause o true) (header_said version)
 
-header_lines : lines (nothing_said []) ≡ header ∷ []
+header_lines : (version : Version) → lines (nothing_but version []) ≡ header version ∷ []
 unfolding lines
-header_lines = refl
+header_lines version = refl
 
-nothing_lines : (ds : List Declaration) → lines (nothing_said ds) ≡ header ∷ map declaration_line ds
+nothing_lines : (version : Version) (ds : List Declaration) → lines (nothing_but version ds) ≡ header version ∷ map declaration_line ds
 unfolding lines
-nothing_lines ds = append-nil (header ∷ map declaration_line ds)
+nothing_lines version ds = append-nil (header version ∷ map declaration_line ds)
+
+header_clean : (version : Version) → has_bad_byte (header version) ≡ false
+header_clean Version.One = refl
+header_clean Version.Two = refl
 
 module _ (p : ProgramState) (is : IsProgram p) where
-  abbrev declared : List Declaration
-  declared = p.decls.declarations
+  abbrev version : Version
+  version = p.decls.version
+
+  abbrev ds : List Declaration
+  ds = p.decls.declarations
 
   abbrev bodies : List (List Instruction)
   bodies = map (spelled p.decls.places) p.bodies
 
-  fit_all : (body : List Request) → list_all (request_fits p.decls) body ≡ true → FitAll declared (spelled p.decls.places body)
+  fit_all : (body : List Request) → list_all (request_fits p.decls) body ≡ true → FitAll (declared p.decls) (spelled p.decls.places body)
   fit_all [] h = tt
   fit_all (r ∷ rs) h =
       let two = both (request_fits p.decls r) (list_all (request_fits p.decls) rs) h in
-      let parts = both (ask_fits declared r.ask) (nat_lt r.place (length p.decls.places)) two.0 in
-      ((parts.0, place_again p.decls is.well_formed r.place (grind (arith, nat_tests, parts.1))), fit_all rs two.1)
+      let parts = both (has_ask version r.ask && ask_fits ds r.ask) (nat_lt r.place (length p.decls.places)) two.0 in
+      let fits = both (has_ask version r.ask) (ask_fits ds r.ask) parts.0 in
+      ((fits.1, place_again p.decls is.well_formed r.place (grind (arith, nat_tests, parts.1)), fits.0), fit_all rs two.1)
 
-  good : (bs : List (List Request)) → list_all (is_body_of p.decls) bs ≡ true → AllGood declared (map (spelled p.decls.places) bs)
+  good : (bs : List (List Request)) → list_all (is_body_of p.decls) bs ≡ true → AllGood (declared p.decls) (map (spelled p.decls.places) bs)
   good [] h = tt
   good (b ∷ bs) h =
       let two = both (is_body_of p.decls b) (list_all (is_body_of p.decls) bs) h in
@@ -315,34 +326,34 @@ module _ (p : ProgramState) (is : IsProgram p) where
       let low : length b ≤ MAX_STEPS = grind (arith, nat_tests, three.1) in
       (record { nest = ap (ends []) (asks_spelled p.decls.places b) ∙ fits.1; fit = fit_all b fits.0; few = omega (arith, len, low) }, good bs two.1)
 
-  len_bodies : length bodies ≡ count_of Kind.Goroutine declared
+  len_bodies : length bodies ≡ count_of Kind.Goroutine ds
   len_bodies = length-map p.bodies (spelled p.decls.places) ∙ is.count
 
-  stand_all : Follows declared (nothing_said declared) (saids 0 bodies) (draft_of p)
-  stand_all = bodies_stand declared bodies [] (good p.bodies is.bodies) (let n = len_bodies in omega (arith, n)) is.few_places
+  stand_all : Follows (declared p.decls) (nothing_but version ds) (saids 0 bodies) (draft_of p)
+  stand_all = bodies_stand (declared p.decls) bodies [] (good p.bodies is.bodies) (let n = len_bodies in omega (arith, n)) is.few_places
 
-  all_walked : IsWalked (nothing_said declared) (saids 0 bodies)
-  all_walked = walked p.decls is.well_formed (nothing_said declared) refl (seen_declared p.decls is.well_formed) (saids 0 bodies) stand_all.stand
+  all_walked : IsWalked (nothing_but version ds) (saids 0 bodies)
+  all_walked = walked p.decls is.well_formed (nothing_but version ds) refl (seen_declared p.decls is.well_formed) (saids 0 bodies) stand_all.stand
 
   seen_is_draft : seen (lines (draft_of p)) ≡ draft_of p
   seen_is_draft = ap (λ d. seen (lines d)) (sym stand_all.ends_as) ∙ all_walked.seen_is ∙ stand_all.ends_as
 
-  lines_are_all : lines (draft_of p) ≡ header ∷ map declaration_line declared ++ map (said_line declared) (saids 0 bodies)
-  lines_are_all = ap lines (sym stand_all.ends_as) ∙ all_walked.lines_are ∙ ap (λ l. l ++ map (said_line declared) (saids 0 bodies)) (nothing_lines declared)
+  lines_are_all : lines (draft_of p) ≡ header version ∷ map declaration_line ds ++ map (said_line ds) (saids 0 bodies)
+  lines_are_all = ap lines (sym stand_all.ends_as) ∙ all_walked.lines_are ∙ ap (λ l. l ++ map (said_line ds) (saids 0 bodies)) (nothing_lines version ds)
 
   all_clean : AllByRecursion (λ l. has_bad_byte l ≡ false) (lines (draft_of p))
   all_clean = subst (λ ls. AllByRecursion (λ l. has_bad_byte l ≡ false) ls) (sym lines_are_all) (
-    refl,
-    clean_both (map declaration_line declared) (map (said_line declared) (saids 0 bodies))
-        (declared_clean p.decls is.well_formed declared (declaration_lines p.decls is.well_formed)) all_walked.clean,
+    header_clean version,
+    clean_both (map declaration_line ds) (map (said_line ds) (saids 0 bodies))
+        (declared_clean p.decls is.well_formed ds (declaration_lines p.decls is.well_formed)) all_walked.clean,
   )
 
   all_fine : AreFine program_causes [] (lines (draft_of p))
   all_fine = subst (λ ls. AreFine program_causes [] ls) (sym lines_are_all) (
-    header_fine,
-    fine_both program_causes (header ∷ []) (map declaration_line declared) (map (said_line declared) (saids 0 bodies))
-        (subst (λ ls. AreFine program_causes ls (map declaration_line declared)) header_lines (declared_fine p.decls is.well_formed [] declared refl))
-        (subst (λ ls. AreFine program_causes ls (map (said_line declared) (saids 0 bodies))) (nothing_lines declared) all_walked.fine),
+    header_fine version,
+    fine_both program_causes (header version ∷ []) (map declaration_line ds) (map (said_line ds) (saids 0 bodies))
+        (subst (λ ls. AreFine program_causes ls (map declaration_line ds)) (header_lines version) (declared_fine p.decls is.well_formed [] ds refl))
+        (subst (λ ls. AreFine program_causes ls (map (said_line ds) (saids 0 bodies))) (nothing_lines version ds) all_walked.fine),
   )
 
   pub lines_again : parts_of (program_text p) ≡ lines (draft_of p) ++ [] ∷ []
@@ -353,7 +364,7 @@ module _ (p : ProgramState) (is : IsProgram p) where
   unfolding first_fault
   text_has_no_fault =
       let whole : is_whole (draft_of p) ≡ true = let n = len_bodies in
-      let same : (length bodies == count_of Kind.Goroutine declared) ≡ true = grind (arith, nat_tests, n) in same in
+      let same : (length bodies == count_of Kind.Goroutine ds) ≡ true = grind (arith, nat_tests, n) in same in
       ap (fault_after program_causes []) lines_again
       ∙ fine_lines program_causes [] (lines (draft_of p)) (end_behind (draft_of p) [] true true seen_is_draft refl whole) all_fine
 

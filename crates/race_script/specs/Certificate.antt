@@ -6,6 +6,7 @@ use Rattle.std.specs.Option.{option_map}
 use Rattle.race_records.specs.declared.event.Event.{Event}
 use Rattle.race_records.specs.declared.event.Op.{Op}
 use Rattle.race_records.specs.declared.event.Op.TheVariants.{OnceDone}
+use Rattle.race_records.specs.Equality.{declared}
 use Rattle.race_hub.specs.declared.request.Ask.{Ask}
 use Rattle.race_hub.specs.declared.request.Request.{Request}
 use Rattle.race_hub.specs.declared.request.Waiter.{Waiter}
@@ -63,22 +64,23 @@ waiting_of g waiting = option_map (λ w. w.asked) (find (λ w. w.who == g) waiti
 abbrev pub Runs : ProgramState → RecordingState → ℕ → List Request → Type 0
 Runs p r g body = IsRun (spelled p.decls.places body) r.decls.places g (part_of g r.events) (waiting_of g r.waiting)
 
--- the recording is a run of the program: the same is declared, in the same order, and each goroutine runs its body
+-- the recording is a run of the program: the version is the same, the same is declared, in the same order, and each goroutine runs
+-- its body
 pub record IsCertified (p : ProgramState) (r : RecordingState) : Type 0 where
-  pub declarations : r.decls.declarations ≡ p.decls.declarations
+  pub declarations : declared r.decls ≡ declared p.decls
   pub runs : (g : ℕ) (body : List Request) → slice_get p.bodies g ≡ Some body → Runs p r g body
 
 -- it isn't, since at this step of this goroutine's body the goroutine is stuck, while each of a lower number runs its own
 pub record IsStuck (p : ProgramState) (r : RecordingState) (at : NotARun) : Type 0 where
-  pub declarations : r.decls.declarations ≡ p.decls.declarations
+  pub declarations : declared r.decls ≡ declared p.decls
   pub lower : (g : ℕ) (body : List Request) → g < at.g → slice_get p.bodies g ≡ Some body → Runs p r g body
   pub body : List Request
   pub whose : slice_get p.bodies at.g ≡ Some body
   pub stuck : IsStuckAt (spelled p.decls.places body) r.decls.places at.g (part_of at.g r.events) (waiting_of at.g r.waiting) at.step
 
--- it isn't, since something else is declared, which is told of main and its first step
+-- it isn't, since the version is another or something else is declared, which is told of main and its first step
 pub record DeclaresOther (p : ProgramState) (r : RecordingState) (at : NotARun) : Type 0 where
-  pub declarations : r.decls.declarations ≡ p.decls.declarations → ⊥
+  pub declarations : declared r.decls ≡ declared p.decls → ⊥
   pub main : at.g ≡ 0
   pub first : at.step ≡ 0
 

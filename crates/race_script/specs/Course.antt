@@ -7,7 +7,7 @@ use Rattle.race_records.specs.declared.event.Cause.{Cause}
 use Rattle.race_records.specs.declared.event.Event.{Event}
 use Rattle.race_records.specs.declared.event.Op.{Op}
 use Rattle.race_records.specs.declared.event.Op.TheVariants.{Go, Exit, Read, Write, Send, Recv, RecvClosed, Close, Default, Lock, Unlock, RLock, RUnlock}
-use Rattle.race_records.specs.declared.event.Op.TheVariants.{OnceBegin, OnceEnd, OnceDone, Fault}
+use Rattle.race_records.specs.declared.event.Op.TheVariants.{TryLock, TryRLock, TryFail, OnceBegin, OnceEnd, OnceDone, Fault}
 use Rattle.race_hub.specs.declared.request.Answer.{Answer}
 use Rattle.race_hub.specs.declared.request.Ask.{Ask}
 use Rattle.race_hub.specs.declared.request.Offer.{Offer}
@@ -32,6 +32,8 @@ same_ask (Ask.Lock l) (Ask.Lock m) = l == m
 same_ask (Ask.Unlock l) (Ask.Unlock m) = l == m
 same_ask (Ask.RLock l) (Ask.RLock m) = l == m
 same_ask (Ask.RUnlock l) (Ask.RUnlock m) = l == m
+same_ask (Ask.TryLock l) (Ask.TryLock m) = l == m
+same_ask (Ask.TryRLock l) (Ask.TryRLock m) = l == m
 same_ask (Ask.Do o) (Ask.Do p) = o == p
 same_ask (Ask.EndDo o) (Ask.EndDo p) = o == p
 same_ask _ _ = false
@@ -40,6 +42,11 @@ same_ask _ _ = false
 abbrev pub value_in : Answer → Option ℕ
 value_in (Answer.Value v) = Some v
 value_in _ = None
+
+-- whether the lock was taken, as the answer tells
+abbrev pub tried_in : Answer → Option Bool
+tried_in (Answer.Tried taken) = Some taken
+tried_in _ = None
 
 -- what was done by who received that value, or found the channel closed
 abbrev pub received : ℕ → Option ℕ → Op
@@ -71,6 +78,8 @@ made_by (Ask.Lock l) told = Some (Lock l)
 made_by (Ask.Unlock l) told = Some (Unlock l)
 made_by (Ask.RLock l) told = Some (RLock l)
 made_by (Ask.RUnlock l) told = Some (RUnlock l)
+made_by (Ask.TryLock l) told = option_map (λ taken. if taken then TryLock l else TryFail l) (tried_in told)
+made_by (Ask.TryRLock l) told = option_map (λ taken. if taken then TryRLock l else TryFail l) (tried_in told)
 made_by (Ask.Do o) told = Some (if is_done told then OnceDone o else OnceBegin o)
 made_by (Ask.EndDo o) told = Some (OnceEnd o)
 

@@ -3,9 +3,9 @@ use Rattle.std.specs.Prelude.{ℕ, ◌==◌, ◌&&◌, ◌||◌, Bool, true, fal
 use Rattle.std.specs.Prelude.{nat_le, nat_lt, List, [], ◌∷◌, length, Option, Some, None}
 use Rattle.std.specs.Prelude.{is_some, is_none}
 use Rattle.std.specs.Option.{option_and_then}
-use Rattle.std.specs.Str.{bytes_eq}
 use Rattle.race_records.specs.declared.declarations.TheConstants.{MAX_PLACES}
 use Rattle.race_records.specs.declared.kind.Kind.{Kind}
+use Rattle.race_records.specs.declared.version.Version.{Version}
 use Rattle.race_records.specs.Declarations.{Declaration, count_of, is_known}
 use Rattle.race_hub.specs.declared.request.Ask.{Ask}
 use Rattle.race_text.specs.declared.cause.TextCause.{TextCause}
@@ -20,11 +20,11 @@ use Rattle.race_text.specs.Words.{words_of, has_bad_byte}
 use Rattle.race_script.specs.declared.form.LineWord.{LineWord}
 use Rattle.race_script.specs.declared.program.TheConstants.{MAX_STEPS}
 use Rattle.race_script.specs.Bodies.{is_exit, after_ask, onces_after}
-use Rattle.race_script.specs.Form.{line_word, AskedWords, on_nil, ask_fields, begin_fields}
+use Rattle.race_script.specs.Form.{line_word_in, AskedWords, on_nil, ask_fields, begin_fields}
 use Rattle.race_script.specs.Offers.{select_words, select_cause}
 use Rattle.race_script.specs.Program.{Instruction, Draft, asked_by, bodies_of, places_of}
-use Rattle.race_script.specs.Reading.{said_by, asks_by, seen}
-use Rattle.race_script.specs.Text.{header, Said, Begins, Asks}
+use Rattle.race_script.specs.Reading.{version_said, said_by, asks_by, seen}
+use Rattle.race_script.specs.Text.{Said, Begins, Asks}
 
 -- the least cause of the words behind the first, by what they have to be: of how many there are, and of each
 abbrev pub words_cause : List Declaration → List Field → List (List ℕ) → Option TextCause
@@ -75,13 +75,16 @@ word_cause d (Some LineWord.Selects) words =
 unfoldable pub line_cause : Draft → List ℕ → Option TextCause
 line_cause d line =
     if has_bad_byte line then Some TextCause.BadByte
-    else word_cause d (line_word (first_word (words_of line))) (arguments (words_of line))
+    else word_cause d (line_word_in d.version (first_word (words_of line))) (arguments (words_of line))
+
+-- the cause of the first line, by the version that it says
+abbrev pub header_cause : Option Version → Bool → Option TextCause
+header_cause None newline = Some TextCause.BadHeader
+header_cause (Some version) newline = if newline then None else Some TextCause.NoNewline
 
 -- the least cause of a line that stands after others, and ends with a newline or not
 unfoldable pub cause : List (List ℕ) → List ℕ → Bool → Option TextCause
-cause [] line newline =
-    if not (bytes_eq line header) then Some TextCause.BadHeader
-    else (if newline then None else Some TextCause.NoNewline)
+cause [] line newline = header_cause (version_said line) newline
 cause (first ∷ before) line newline = if newline then line_cause (seen (first ∷ before)) line else Some TextCause.NoNewline
 
 -- each goroutine's body has ended

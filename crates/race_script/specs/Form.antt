@@ -1,11 +1,13 @@
 -- The words that a line of a program may begin with, and what each wants behind it.
-use Rattle.std.specs.Prelude.{ℕ, if◌then◌else◌, List, [], ◌∷◌, ◌++◌, map, Option, Some, None, option_map}
-use Rattle.std.specs.Option.{option_map_or}
+use Rattle.std.specs.Prelude.{ℕ, Bool, true, if◌then◌else◌, List, [], ◌∷◌, ◌++◌, map, Option, Some, None, option_map}
+use Rattle.std.specs.Option.{option_and_then, option_map_or}
 use Rattle.std.specs.Str.{bytes_eq}
 use Rattle.race_records.specs.declared.kind.Kind.{Kind}
 use Rattle.race_records.specs.declared.parts.Part.{Part}
 use Rattle.race_records.specs.declared.parts.PartKind.{PartKind}
-use Rattle.race_records.specs.Parts.{object_alone, object_value}
+use Rattle.race_records.specs.declared.parts.Verb.{Verb}
+use Rattle.race_records.specs.declared.version.Version.{Version}
+use Rattle.race_records.specs.Parts.{has_verb, object_alone, object_value}
 use Rattle.race_hub.specs.declared.request.Ask.{Ask}
 use Rattle.race_text.specs.declared.form.Field.{Field}
 use Rattle.race_text.specs.declared.form.Word.{Word}
@@ -25,9 +27,29 @@ abbrev pub noun_or : Option Word → Option LineWord → Option LineWord
 noun_or (Some (Word.Declares noun)) other = Some (LineWord.Declares noun)
 noun_or _ other = other
 
--- what the first word of a line says that the line is: as in a trace where it declares, and else by the table of words in src/form.rt
+-- what the first word of a line says that the line is in some version: as in a trace where it declares, and else by the table of
+-- words in src/form.rt
 unfoldable pub line_word : List ℕ → Option LineWord
 line_word w = noun_or (word_named w) (lookup (map (λ entry. (entry.0.now, entry.1)) BODY_WORDS) w)
+
+-- the version has the word of an ask: that of a try, where it has the word of one that succeeds
+abbrev pub has_ask_word : Version → AskWord → Bool
+has_ask_word version AskWord.TryLock = has_verb version Verb.TryLock
+has_ask_word version AskWord.TryRLock = has_verb version Verb.TryRLock
+has_ask_word version _ = true
+
+-- the version has lines of this kind
+abbrev pub has_line_word : Version → LineWord → Bool
+has_line_word version (LineWord.Asks word) = has_ask_word version word
+has_line_word version _ = true
+
+-- the word, where the version has it
+abbrev pub as_had : Version → LineWord → Option LineWord
+as_had version word = if has_line_word version word then Some word else None
+
+-- what the first word of a line says that the line is in a text of the version
+abbrev pub line_word_in : Version → List ℕ → Option LineWord
+line_word_in version w = option_and_then (as_had version) (line_word w)
 
 -- what is asked of nil by this word, where it may be
 abbrev pub word_on_nil : AskWord → Option AskWord
@@ -61,6 +83,8 @@ ask_kinds AskWord.Lock = PartKind.Object Kind.Lock ∷ []
 ask_kinds AskWord.Unlock = PartKind.Object Kind.Lock ∷ []
 ask_kinds AskWord.RLock = PartKind.RwMutex ∷ []
 ask_kinds AskWord.RUnlock = PartKind.RwMutex ∷ []
+ask_kinds AskWord.TryLock = PartKind.Object Kind.Lock ∷ []
+ask_kinds AskWord.TryRLock = PartKind.RwMutex ∷ []
 ask_kinds AskWord.Do = PartKind.Object Kind.Once ∷ []
 ask_kinds AskWord.EndDo = PartKind.Object Kind.Once ∷ []
 
@@ -98,5 +122,7 @@ ask_by AskWord.Lock parts = option_map Ask.Lock (object_alone Kind.Lock parts)
 ask_by AskWord.Unlock parts = option_map Ask.Unlock (object_alone Kind.Lock parts)
 ask_by AskWord.RLock parts = option_map Ask.RLock (object_alone Kind.Lock parts)
 ask_by AskWord.RUnlock parts = option_map Ask.RUnlock (object_alone Kind.Lock parts)
+ask_by AskWord.TryLock parts = option_map Ask.TryLock (object_alone Kind.Lock parts)
+ask_by AskWord.TryRLock parts = option_map Ask.TryRLock (object_alone Kind.Lock parts)
 ask_by AskWord.Do parts = option_map Ask.Do (object_alone Kind.Once parts)
 ask_by AskWord.EndDo parts = option_map Ask.EndDo (object_alone Kind.Once parts)

@@ -1,12 +1,19 @@
 -- The laws of program text, which functions of src/laws.rt that do nothing have as their contracts.
-use Rattle.std.specs.Prelude.{◌≡◌, ℕ, List, ◌++◌, Some, None}
+use Rattle.std.specs.Prelude.{◌≡◌, ℕ, List, ◌++◌, Some, None, is_some}
+use Rattle.race_records.specs.declared.version.Version.{Version}
+use Rattle.race_records.specs.Declarations.{Declaration}
+use Rattle.race_hub.specs.declared.request.Ask.{Ask}
+use Rattle.race_hub.specs.Submits.{has_ask}
 use Rattle.race_text.specs.declared.cause.TextFault.{TextFault}
 use Rattle.race_text.specs.Fed.{ended_fault}
+use Rattle.race_text.specs.Form.{first_word}
 use Rattle.race_script.specs.Fault.{program_causes, text_fault}
+use Rattle.race_script.specs.Form.{line_word_in}
 use Rattle.race_script.specs.Program.{ProgramState, IsProgram, draft_of}
-use Rattle.race_script.specs.Text.{program_text, IsTextOf, IsProgramText}
+use Rattle.race_script.specs.Reading.{version_said}
+use Rattle.race_script.specs.Text.{header, ask_words, program_text, IsTextOf, IsProgramText}
 
--- every program whose text the bytes are is the same as p, with the texts of its places; that p is one isn't said
+-- every program whose text the bytes are is the same as p, with its version and the texts of its places; that p is one isn't said
 abbrev pub IsOnlyProgramOf : List ℕ → ProgramState → Type 0
 IsOnlyProgramOf bytes p = (q : ProgramState) → IsTextOf q bytes → draft_of q ≡ draft_of p
 
@@ -18,9 +25,15 @@ TextsHaveNoFault = (p : ProgramState) → IsProgram p → text_fault (program_te
 abbrev pub FaultlessBytesAreTexts : Type 0
 FaultlessBytesAreTexts = (bytes : List ℕ) → text_fault bytes ≡ None → IsProgramText bytes
 
--- programs with equal texts are equal: the declarations, and the bodies with the texts of their places
+-- programs with equal texts are equal: the version, the declarations, and the bodies with the texts of their places
 abbrev pub EqualTextsAreOfEqualPrograms : Type 0
 EqualTextsAreOfEqualPrograms = (p q : ProgramState) → IsProgram p → IsProgram q → program_text p ≡ program_text q → draft_of p ≡ draft_of q
+
+-- each header says its version; and the word with which an ask is printed is one of a version just where the version has the ask
+pub record WordsFollowTheVersion : Type 0 where
+  pub header_known : (version : Version) → version_said (header version) ≡ Some version
+  pub asks_known : (version : Version) (ds : List Declaration) (place : List ℕ) (ask : Ask)
+      → is_some (line_word_in version (first_word (ask_words ds place ask))) ≡ has_ask version ask
 
 -- the first fault of the lines that are ended is the whole text's, whatever follows
 abbrev pub EndedFaultsStay : Type 0

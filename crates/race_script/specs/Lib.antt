@@ -10,3 +10,4 @@ pub mod Reading
 pub mod Fault
 pub mod Reader
 pub mod Laws
+pub mod Examples

@@ -4,17 +4,19 @@ use Rattle.std.specs.List.{list_all, flat_map}
 use Rattle.std.specs.Option.{option_map_or}
 use Rattle.race_records.specs.declared.declarations.TheConstants.{MAX_PLACES}
 use Rattle.race_records.specs.declared.kind.Kind.{Kind}
+use Rattle.race_records.specs.declared.version.Version.{Version}
 use Rattle.race_records.specs.Declarations.{Declaration, DeclsState, IsWellFormed, count_of, counts_of, is_known, is_rw}
+use Rattle.race_records.specs.Equality.{Declared}
 use Rattle.race_hub.specs.declared.request.Ask.{Ask}
 use Rattle.race_hub.specs.declared.request.Offer.{Offer}
 use Rattle.race_hub.specs.declared.request.Request.{Request}
 use Rattle.race_hub.specs.Possible.{ask_is_in_range}
-use Rattle.race_hub.specs.Submits.{rwmutex_asked}
+use Rattle.race_hub.specs.Submits.{has_ask, rwmutex_asked}
 use Rattle.race_text.specs.Text.{place_text}
 use Rattle.race_script.specs.declared.program.TheConstants.{MAX_STEPS}
 use Rattle.race_script.specs.Bodies.{is_body}
 
--- a `Program` as its callers see it: the declarations with the table of places, and the body of each goroutine
+-- a `Program` as its callers see it: the declarations with the version and the table of places, and the body of each goroutine
 pub record ProgramState : Type 0 where
   pub decls : DeclsState
   pub bodies : List (List Request)
@@ -26,9 +28,14 @@ pub record Instruction : Type 0 where
 
 -- a program as far as it is told, with its places as they are spelled: the bodies that have ended, and the one that has not
 pub record Draft : Type 0 where
+  pub version : Version
   pub declarations : List Declaration
   pub ended : List (List Instruction)
   pub unended : Option (List Instruction)
+
+-- its version, and what it declares
+abbrev pub declared_by : Draft → Declared
+declared_by d = record { version = d.version; declarations = d.declarations }
 
 -- what a body's requests ask
 abbrev pub asks_of : List Request → List Ask
@@ -54,9 +61,9 @@ ask_is_limited _ = true
 abbrev pub ask_fits : List Declaration → Ask → Bool
 ask_fits ds ask = ask_is_in_range (counts_of ds) ask && option_map_or (is_rw ds) (rwmutex_asked ask) true && ask_is_limited ask
 
--- so it is with the request, and its place is in the table
+-- the version has what is requested, it fits the declarations, and its place is in the table
 abbrev pub request_fits : DeclsState → Request → Bool
-request_fits decls r = ask_fits decls.declarations r.ask && nat_lt r.place (length decls.places)
+request_fits decls r = has_ask decls.version r.ask && ask_fits decls.declarations r.ask && nat_lt r.place (length decls.places)
 
 -- the requests are a body: each fits, they nest and end as a body's do, and there are not too many
 abbrev pub is_body_of : DeclsState → List Request → Bool
@@ -72,7 +79,12 @@ spelled places body = map (instruction places) body
 
 -- the program with its places as they are spelled
 abbrev pub draft_of : ProgramState → Draft
-draft_of p = record { declarations = p.decls.declarations; ended = map (spelled p.decls.places) p.bodies; unended = None }
+draft_of p = record {
+  version = p.decls.version;
+  declarations = p.decls.declarations;
+  ended = map (spelled p.decls.places) p.bodies;
+  unended = None;
+}
 
 -- the bodies, the one that has not ended last
 abbrev pub bodies_of : Draft → List (List Instruction)

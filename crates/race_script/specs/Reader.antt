@@ -3,16 +3,18 @@ use Rattle.std.specs.Prelude.{◌≡◌, ◌≢◌, ℕ, ◌≤◌, Result, Ok, 
 use Rattle.std.specs.List.{list_all}
 use Rattle.std.specs.Option.{option_map}
 use Rattle.race_records.specs.declared.kind.Kind.{Kind}
+use Rattle.race_records.specs.declared.version.Version.{Version}
 use Rattle.race_records.specs.Declarations.{DeclsState, IsWellFormed, count_of}
 use Rattle.race_hub.specs.declared.request.Request.{Request}
 use Rattle.race_script.specs.declared.program.TheConstants.{MAX_STEPS}
 use Rattle.race_text.specs.declared.cause.TextCause.{TextCause}
 use Rattle.race_text.specs.Form.{first_word}
 use Rattle.race_text.specs.Lines.{GoesOn}
+use Rattle.race_text.specs.Reader.{nothing_in}
 use Rattle.race_text.specs.Words.{words_of, has_bad_byte}
 use Rattle.race_script.specs.declared.form.LineWord.{LineWord}
 use Rattle.race_script.specs.Bodies.{is_exit, after_ask, onces_after}
-use Rattle.race_script.specs.Form.{line_word}
+use Rattle.race_script.specs.Form.{line_word_in}
 use Rattle.race_script.specs.Fault.{cause, program_causes, said_cause, may_follow}
 use Rattle.race_script.specs.Program.{Instruction, Draft, ProgramState, asks_of, request_fits, is_body_of, spelled, bodies_of, places_of}
 use Rattle.race_script.specs.Reading.{seen, with_said}
@@ -23,7 +25,7 @@ pub record UnendedState : Type 0 where
   pub requests : List Request
   pub onces : List ℕ
 
--- what was read: the header or not, the declarations with the places, the bodies that have ended, and the one that has not
+-- what was read: the header or not, the declarations with the version and the places, the bodies that have ended, and the one that has not
 pub record ReadState : Type 0 where
   pub has_header : Bool
   pub decls : DeclsState
@@ -36,6 +38,7 @@ spelled_unended places unended = option_map (λ u. spelled places u.requests) un
 
 abbrev pub draft_read : ReadState → Draft
 draft_read s = record {
+  version = s.decls.version;
   declarations = s.decls.declarations;
   ended = map (spelled s.decls.places) s.ended;
   unended = spelled_unended s.decls.places s.unended;
@@ -70,7 +73,7 @@ pub record IsRead (s : ReadState) : Type 0 where
 
 -- nothing was read
 pub record IsEmpty (s : ReadState) : Type 0 where
-  pub decls : s.decls ≡ record { declarations = []; places = [] }
+  pub decls : s.decls ≡ nothing_in Version.One
   pub ended : s.ended ≡ []
   pub unended : s.unended ≡ None
 
@@ -86,10 +89,10 @@ IsReading s = IsReadBy s.has_header s
 abbrev pub program_read : ReadState → ProgramState
 program_read s = record { decls = s.decls; bodies = s.ended }
 
--- the line has these words behind one of this kind, and no bad byte
-pub record HasWords (line : List ℕ) (word : LineWord) (words : List (List ℕ)) : Type 0 where
+-- in a text of the version the line has these words behind one of this kind, and no bad byte
+pub record HasWords (version : Version) (line : List ℕ) (word : LineWord) (words : List (List ℕ)) : Type 0 where
   pub clean : has_bad_byte line ≡ false
-  pub named : line_word (first_word (words_of line)) ≡ Some word
+  pub named : line_word_in version (first_word (words_of line)) ≡ Some word
   pub behind : words_of line ≡ first_word (words_of line) ∷ words
 
 -- what the line says is taken, and no cause holds of it

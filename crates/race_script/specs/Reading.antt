@@ -1,11 +1,14 @@
 -- What the lines of a program say, each looked at alone, and together.
-use Rattle.std.specs.Prelude.{ℕ, List, [], ◌∷◌, ◌++◌, fold, Option, Some, None, if◌then◌else◌}
+use Rattle.std.specs.Prelude.{ℕ, List, [], ◌∷◌, ◌++◌, fold, unwrap_or, Option, Some, None, if◌then◌else◌}
 use Rattle.std.specs.Borrow.{Bor}
 use Rattle.std.specs.List.{filter_map}
 use Rattle.std.specs.Option.{option_and_then, option_map}
+use Rattle.std.specs.Str.{bytes_eq}
 use Rattle.race_records.specs.declared.kind.Kind.{Kind}
 use Rattle.race_records.specs.declared.parts.PartKind.{PartKind}
+use Rattle.race_records.specs.declared.version.Version.{Version}
 use Rattle.race_records.specs.Declarations.{Declaration}
+use Rattle.race_records.specs.Equality.{Declared}
 use Rattle.race_records.specs.Name.{is_place}
 use Rattle.race_hub.specs.declared.request.Ask.{Ask}
 use Rattle.race_text.specs.Fault.{declaration_in}
@@ -15,10 +18,21 @@ use Rattle.race_text.specs.Words.{words_of}
 use Rattle.race_script.specs.declared.form.AskWord.{AskWord}
 use Rattle.race_script.specs.declared.form.LineWord.{LineWord}
 use Rattle.race_script.specs.Bodies.{is_exit}
-use Rattle.race_script.specs.Form.{line_word, AskedWords, on_nil, ask_kinds, ask_by}
+use Rattle.race_script.specs.Form.{line_word_in, AskedWords, on_nil, ask_kinds, ask_by}
 use Rattle.race_script.specs.Offers.{SelectWords, select_words, select_in}
 use Rattle.race_script.specs.Program.{Instruction, Draft}
-use Rattle.race_script.specs.Text.{Said, Begins, Asks}
+use Rattle.race_script.specs.Text.{header, Said, Begins, Asks}
+
+-- the version that the first line says, where it is a header
+abbrev pub version_said : List ℕ → Option Version
+version_said line =
+    if bytes_eq line (header Version.One) then Some Version.One
+    else (if bytes_eq line (header Version.Two) then Some Version.Two else None)
+
+-- the version of the lines, by the first of them: version 1 where that is no header, and no line behind it counts
+abbrev pub version_in : List (List ℕ) → Version
+version_in [] = Version.One
+version_in (first ∷ others) = unwrap_or (version_said first) Version.One
 
 -- what is asked at a place
 abbrev pub asked_at : Ask → List ℕ → Instruction
@@ -61,30 +75,34 @@ said_by ds (Some (LineWord.Asks word)) words = asks_by ds (on_nil word words)
 said_by ds (Some LineWord.Selects) words = option_map Asks (selected_in ds (select_words words))
 said_by ds _ words = None
 
--- what a line says of the bodies
-abbrev pub said_in : List Declaration → List ℕ → Option Said
-said_in ds line = said_by ds (line_word (first_word (words_of line))) (arguments (words_of line))
+-- what a line says of the bodies, in a text of this version with these declarations
+abbrev pub said_in : Declared → List ℕ → Option Said
+said_in d line = said_by d.declarations (line_word_in d.version (first_word (words_of line))) (arguments (words_of line))
 
 -- the program with one more instruction in the body that has not ended: an exit ends it
 abbrev pub with_instruction : Draft → Instruction → Option (List Instruction) → Draft
 with_instruction d i None = d
 with_instruction d i (Some body) =
-    if is_exit i.ask then record { declarations = d.declarations; ended = d.ended ++ (body ++ i ∷ []) ∷ []; unended = None }
-    else record { declarations = d.declarations; ended = d.ended; unended = Some (body ++ i ∷ []) }
+    if is_exit i.ask then record { version = d.version; declarations = d.declarations; ended = d.ended ++ (body ++ i ∷ []) ∷ []; unended = None }
+    else record { version = d.version; declarations = d.declarations; ended = d.ended; unended = Some (body ++ i ∷ []) }
 
 -- the program with what one more line says
 abbrev pub with_said : Draft → Said → Draft
-with_said d (Begins g) = record { declarations = d.declarations; ended = d.ended; unended = Some [] }
+with_said d (Begins g) = record { version = d.version; declarations = d.declarations; ended = d.ended; unended = Some [] }
 with_said d (Asks i) = with_instruction d i d.unended
 
--- the program of which nothing but this is declared
-abbrev pub nothing_said : List Declaration → Draft
-nothing_said ds = record { declarations = ds; ended = []; unended = None }
+-- the program of which nothing is told but its version and what is declared
+abbrev pub nothing_said : Declared → Draft
+nothing_said d = record { version = d.version; declarations = d.declarations; ended = []; unended = None }
 
 -- what lines say of the bodies, in order
-abbrev pub all_said : List Declaration → List (List ℕ) → Draft
-all_said ds lines = fold with_said (nothing_said ds) (filter_map (said_in ds) lines)
+abbrev pub all_said : Declared → List (List ℕ) → Draft
+all_said d lines = fold with_said (nothing_said d) (filter_map (said_in d) lines)
+
+-- the version of the lines, and what they declare
+abbrev pub declared_in : List (List ℕ) → Declared
+declared_in lines = record { version = version_in lines; declarations = filter_map declaration_in lines }
 
 -- what the lines before say together, whether one is at fault or not
 unfoldable pub seen : List (List ℕ) → Draft
-seen before = all_said (filter_map declaration_in before) before
+seen before = all_said (declared_in before) before

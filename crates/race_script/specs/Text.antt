@@ -2,15 +2,17 @@
 use Rattle.std.specs.Prelude.{◌≡◌, ℕ, ◌+◌, List, [], ◌∷◌, ◌++◌, map, codes}
 use Rattle.std.specs.Fmt.{decimal}
 use Rattle.std.specs.List.{flat_map}
+use Rattle.race_records.specs.declared.version.Version.{Version}
 use Rattle.race_records.specs.Declarations.{Declaration}
 use Rattle.race_hub.specs.declared.request.Ask.{Ask}
 use Rattle.race_text.specs.Text.{line_of, declaration_line, goroutine_name, var_name, chan_text, lock_name, once_name, ended}
 use Rattle.race_script.specs.Offers.{offers_text, mode_text}
 use Rattle.race_script.specs.Program.{Instruction, Draft, ProgramState, IsProgram, bodies_of, draft_of}
 
--- the first line
-abbrev pub header : List ℕ
-header = codes "goprogram 1"
+-- the first line, by the version
+abbrev pub header : Version → List ℕ
+header Version.One = codes "goprogram 1"
+header Version.Two = codes "goprogram 2"
 
 -- what a line of a body says: it begins the body of a goroutine, or asks
 pub data Said : Type 0 where
@@ -31,6 +33,8 @@ ask_words ds place (Ask.Lock l) = codes "lock" ∷ lock_name ds l ∷ place ∷ 
 ask_words ds place (Ask.Unlock l) = codes "unlock" ∷ lock_name ds l ∷ place ∷ []
 ask_words ds place (Ask.RLock l) = codes "rlock" ∷ lock_name ds l ∷ place ∷ []
 ask_words ds place (Ask.RUnlock l) = codes "runlock" ∷ lock_name ds l ∷ place ∷ []
+ask_words ds place (Ask.TryLock l) = codes "trylock" ∷ lock_name ds l ∷ place ∷ []
+ask_words ds place (Ask.TryRLock l) = codes "tryrlock" ∷ lock_name ds l ∷ place ∷ []
 ask_words ds place (Ask.Do o) = codes "do" ∷ once_name ds o ∷ place ∷ []
 ask_words ds place (Ask.EndDo o) = codes "enddo" ∷ once_name ds o ∷ place ∷ []
 
@@ -49,7 +53,7 @@ saids g (body ∷ bodies) = Begins g ∷ map Asks body ++ saids (g + 1) bodies
 
 -- the header, a line for each declaration, and the lines of the bodies
 unfoldable pub lines : Draft → List (List ℕ)
-lines d = header ∷ map declaration_line d.declarations ++ map (said_line d.declarations) (saids 0 (bodies_of d))
+lines d = header d.version ∷ map declaration_line d.declarations ++ map (said_line d.declarations) (saids 0 (bodies_of d))
 
 -- the text of a program with its places as they are spelled
 unfoldable pub draft_text : Draft → List ℕ

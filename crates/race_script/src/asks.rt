@@ -77,6 +77,8 @@ pub fn ask_by(word: AskWord, parts: &[Part]) -> Option<Ask>
         AskWord::Unlock => object_alone(Kind::Lock, parts).map(Ask::Unlock),
         AskWord::RLock => object_alone(Kind::Lock, parts).map(Ask::RLock),
         AskWord::RUnlock => object_alone(Kind::Lock, parts).map(Ask::RUnlock),
+        AskWord::TryLock => object_alone(Kind::Lock, parts).map(Ask::TryLock),
+        AskWord::TryRLock => object_alone(Kind::Lock, parts).map(Ask::TryRLock),
         AskWord::Do => object_alone(Kind::Once, parts).map(Ask::Do),
         AskWord::EndDo => object_alone(Kind::Once, parts).map(Ask::EndDo),
     }

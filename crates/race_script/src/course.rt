@@ -1,8 +1,9 @@
 //! A goroutine's body, and how the steps of its log go along it.
-ghost use Rattle.std.specs.Prelude.{ℕ, ◌≡◌, ◌<◌, ◌↔◌, IsTrue, Some, length, slice_get};
+ghost use Rattle.std.specs.Prelude.{ℕ, ◌≡◌, ◌<◌, ◌↔◌, if◌then◌else◌, IsTrue, Some, length, slice_get};
 ghost use Rattle.std.specs.Option.{option_copied};
 ghost use Rattle.race_records.specs.Declarations.{capacity_of};
 ghost use Rattle.race_records.specs.declared.event.Event.{Event as EventValue};
+ghost use Rattle.race_records.specs.declared.event.Op.TheVariants.{TryLock, TryRLock, TryFail};
 ghost use Rattle.race_model.specs.Legal.{IsLegal};
 ghost use Rattle.race_hub.specs.Table.{Fits};
 ghost use Rattle.race_text.specs.Text as text;
@@ -146,6 +147,8 @@ fn made_by(ask: &Ask, answer: Answer) -> Option<Op>
         Ask::Unlock(lock) => Some(Op::Unlock(*lock)),
         Ask::RLock(lock) => Some(Op::RLock(*lock)),
         Ask::RUnlock(lock) => Some(Op::RUnlock(*lock)),
+        Ask::TryLock(lock) => tried_in(answer).map(|taken| try_op(*lock, taken)),
+        Ask::TryRLock(lock) => tried_in(answer).map(|taken| tryr_op(*lock, taken)),
         Ask::Do(once) => if is_done(answer) {
             Some(Op::OnceDone(*once))
         } else {
@@ -187,6 +190,38 @@ fn received(chan: u32, got: Option<u64>) -> Op
     match got {
         Some(value) => Op::Recv(chan, value),
         None => Op::RecvClosed(chan),
+    }
+}
+
+// Whether the lock was taken, as the answer tells.
+fn tried_in(answer: Answer) -> Option<bool>
+    ensures { result ≡ course.tried_in answer }
+{
+    match answer {
+        Answer::Tried(taken) => Some(taken),
+        _ => None,
+    }
+}
+
+// What was done by who tried to lock.
+fn try_op(lock: u32, taken: bool) -> Op
+    ensures { result ≡ (if taken then TryLock lock else TryFail lock) }
+{
+    if taken {
+        Op::TryLock(lock)
+    } else {
+        Op::TryFail(lock)
+    }
+}
+
+// What was done by who tried to lock for reading.
+fn tryr_op(lock: u32, taken: bool) -> Op
+    ensures { result ≡ (if taken then TryRLock lock else TryFail lock) }
+{
+    if taken {
+        Op::TryRLock(lock)
+    } else {
+        Op::TryFail(lock)
     }
 }
 

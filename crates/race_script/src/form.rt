@@ -4,7 +4,7 @@ ghost use Rattle.race_text.specs.Words.{parts_left};
 ghost use Rattle.race_script.specs.Form as spec;
 
 use arrayvec::ArrayVec;
-use race_records::{Kind, Noun, PartKind};
+use race_records::{Kind, Noun, PartKind, Verb, Version};
 use race_text::{Field, Word, cut_at, word_named};
 
 /// The words of asks. What is asked of a nil channel has words of its own.
@@ -38,6 +38,10 @@ pub enum AskWord {
     RLock,
     /// An rwmutex is unlocked from reading.
     RUnlock,
+    /// A mutex or an rwmutex is locked, if that can be done at once. Of version 2.
+    TryLock,
+    /// An rwmutex is locked for reading, if that can be done at once. Of version 2.
+    TryRLock,
     /// The function of a once is run, unless that was done.
     Do,
     /// The function of a once ends.
@@ -57,8 +61,8 @@ pub enum LineWord {
     Selects,
 }
 
-/// The words that a line of a body may begin with.
-pub const BODY_WORDS: [(&[u8], LineWord); 15] = [
+/// The words that a line of a body may begin with, of all versions.
+pub const BODY_WORDS: [(&[u8], LineWord); 17] = [
     (b"body", LineWord::Begins),
     (b"go", LineWord::Asks(AskWord::Go)),
     (b"exit", LineWord::Asks(AskWord::Exit)),
@@ -72,13 +76,42 @@ pub const BODY_WORDS: [(&[u8], LineWord); 15] = [
     (b"unlock", LineWord::Asks(AskWord::Unlock)),
     (b"rlock", LineWord::Asks(AskWord::RLock)),
     (b"runlock", LineWord::Asks(AskWord::RUnlock)),
+    (b"trylock", LineWord::Asks(AskWord::TryLock)),
+    (b"tryrlock", LineWord::Asks(AskWord::TryRLock)),
     (b"do", LineWord::Asks(AskWord::Do)),
     (b"enddo", LineWord::Asks(AskWord::EndDo)),
 ];
 
-// What the first word of a line says that the line is.
+// What the first word of a line says that the line is in a text of the version.
+pub(crate) fn line_word_in(version: Version, word: &[u8]) -> Option<LineWord>
+    ensures { result ≡ spec.line_word_in version word.now }
+{
+    match line_word(word) {
+        None => None,
+        Some(found) => {
+            if has_line_word(version, found) {
+                Some(found)
+            } else {
+                None
+            }
+        }
+    }
+}
+
+// Whether the version has lines of this kind.
+fn has_line_word(version: Version, word: LineWord) -> bool
+    ensures { result ≡ spec.has_line_word version word }
+{
+    match word {
+        LineWord::Asks(AskWord::TryLock) => version.has(Verb::TryLock),
+        LineWord::Asks(AskWord::TryRLock) => version.has(Verb::TryRLock),
+        _ => true,
+    }
+}
+
+// What the first word of a line says that the line is in some version.
 #[tactic(auto, unfolding(crate::specs::Form::line_word))]
-pub(crate) fn line_word(word: &[u8]) -> Option<LineWord>
+fn line_word(word: &[u8]) -> Option<LineWord>
     ensures { result ≡ spec.line_word word.now }
 {
     match word_named(word) {
@@ -166,6 +199,8 @@ pub fn ask_kinds(word: AskWord) -> &'static [PartKind]
         AskWord::Unlock => &LOCK,
         AskWord::RLock => &RW_MUTEX,
         AskWord::RUnlock => &RW_MUTEX,
+        AskWord::TryLock => &LOCK,
+        AskWord::TryRLock => &RW_MUTEX,
         AskWord::Do => &ONCE,
         AskWord::EndDo => &ONCE,
     }

@@ -4,6 +4,7 @@ ghost use Rattle.race_script.specs.Laws.{
   EqualTextsAreOfEqualPrograms,
   FaultlessBytesAreTexts,
   TextsHaveNoFault,
+  WordsFollowTheVersion,
 };
 
 /// The text of a program has no fault.
@@ -19,6 +20,11 @@ pub fn faultless_bytes_are_texts()
 /// Equal texts come from equal programs.
 pub fn equal_texts_are_of_equal_programs()
     ensures { EqualTextsAreOfEqualPrograms }
+{}
+
+/// A header says its version, and the words of asks are known in the versions that have the asks alone.
+pub fn words_follow_the_version()
+    ensures { WordsFollowTheVersion }
 {}
 
 /// The first fault of the lines that are ended is the whole text's, whatever follows.

@@ -4,7 +4,9 @@
 mod asks;
 mod certificate;
 mod course;
+pub mod examples;
 mod form;
+mod header;
 pub mod laws;
 mod offers;
 mod parse;

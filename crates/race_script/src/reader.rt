@@ -4,6 +4,7 @@ ghost use Rattle.std.specs.Prelude.{true, false, Some, None, Ok, is_some, IfOk, 
 ghost use Rattle.std.specs.Prelude.{MatchResult, OnOk};
 ghost use Rattle.race_records.specs.Declarations.{IsWellFormed};
 ghost use Rattle.race_records.specs.Name.{is_place};
+ghost use Rattle.race_hub.specs.Submits.{has_ask};
 ghost use Rattle.race_text.specs.Lines.{GoesOn};
 ghost use Rattle.race_text.specs.Words.{parts_left};
 ghost use Rattle.race_script.specs.Bodies as bodies;
@@ -15,12 +16,13 @@ ghost use Rattle.race_script.specs.Text.{Asks};
 ghost use Rattle.race_script.specs.Reader as spec;
 
 use crate::asks::{asked_in, begun_in, words_cause};
-use crate::form::{AskWord, LineWord, ask_fields, line_word, on_nil};
+use crate::form::{AskWord, LineWord, ask_fields, line_word_in, on_nil};
+use crate::header::version_said;
 use crate::offers::{select_cause, select_words, selected_in};
 use crate::program::{MAX_STEPS, Program};
 use crate::script::is_exit;
 use race_hub::{Ask, Request};
-use race_records::{Decls, Kind, Noun, PartKind, as_text};
+use race_records::{Decls, Kind, Noun, PartKind, Version, as_text};
 use race_text::{
     Field, TextCause, Word, cause_of, cut_at, has_bad_byte, read_declaration, word_cause,
 };
@@ -107,7 +109,7 @@ impl<A: Allocator + Copy> Reader<A> {
             return Err(TextCause::BadByte);
         }
         let (first, rest) = cut_at(line, b' ');
-        match line_word(first) {
+        match line_word_in(self.decls.version(), first) {
             None => Err(TextCause::UnknownWord),
             Some(LineWord::Declares(noun)) => self.take_declaration(noun, line, rest),
             Some(LineWord::Begins) => self.take_begin(line, rest),
@@ -137,10 +139,9 @@ impl<A: Allocator + Copy> Reader<A> {
         ensures { result ≡ fault.end_cause (spec.lines_read self.now) last.now }
     {
         if !self.has_header {
-            return if last == b"goprogram 1".as_slice() {
-                Some(TextCause::NoNewline)
-            } else {
-                Some(TextCause::BadHeader)
+            return match version_said(last) {
+                None => Some(TextCause::BadHeader),
+                Some(_) => Some(TextCause::NoNewline),
             };
         }
         if !last.is_empty() {
@@ -186,11 +187,18 @@ impl<A: Allocator + Copy> Reader<A> {
             (λ told. fault.cause [] line.now true ≡ Some told) }
         ensures reading { OnOk result (spec.IsReading self.new) }
     {
-        if line == b"goprogram 1".as_slice() {
-            self.has_header = true;
-            return Ok(());
+        match version_said(line) {
+            None => Err(TextCause::BadHeader),
+            Some(Version::One) => {
+                self.has_header = true;
+                Ok(())
+            }
+            Some(Version::Two) => {
+                self.decls = Decls::new_version2(self.alloc);
+                self.has_header = true;
+                Ok(())
+            }
         }
-        Err(TextCause::BadHeader)
     }
 
     // How many bodies have begun.
@@ -212,7 +220,7 @@ impl<A: Allocator + Copy> Reader<A> {
     ) -> Result<(), TextCause>
         requires header { self.old.has_header ≡ true }
         requires read { spec.IsRead self.old }
-        requires words { spec.HasWords line.now (LineWord.Declares noun) (parts_left 32 rest) }
+        requires words { spec.HasWords self.old.decls.version line.now (LineWord.Declares noun) (parts_left 32 rest) }
         ensures taken { spec.TakesOrTells self.old line.now result self.new }
     {
         let begun = self.begun();
@@ -229,7 +237,7 @@ impl<A: Allocator + Copy> Reader<A> {
     fn take_begin(&mut self, line: &[u8], rest: Option<&[u8]>) -> Result<(), TextCause>
         requires header { self.old.has_header ≡ true }
         requires read { spec.IsRead self.old }
-        requires words { spec.HasWords line.now LineWord.Begins (parts_left 32 rest) }
+        requires words { spec.HasWords self.old.decls.version line.now LineWord.Begins (parts_left 32 rest) }
         ensures taken { spec.TakesOrTells self.old line.now result self.new }
     {
         if let Some(cause) = words_cause(&self.decls, &BEGIN_FIELDS, rest) {
@@ -259,7 +267,7 @@ impl<A: Allocator + Copy> Reader<A> {
     ) -> Result<(), TextCause>
         requires header { self.old.has_header ≡ true }
         requires read { spec.IsRead self.old }
-        requires words { spec.HasWords line.now (LineWord.Asks word) (parts_left 32 rest) }
+        requires words { spec.HasWords self.old.decls.version line.now (LineWord.Asks word) (parts_left 32 rest) }
         ensures taken { spec.TakesOrTells self.old line.now result self.new }
     {
         let (word, rest) = on_nil(word, rest);
@@ -275,7 +283,7 @@ impl<A: Allocator + Copy> Reader<A> {
     fn take_select(&mut self, line: &[u8], rest: Option<&[u8]>) -> Result<(), TextCause>
         requires header { self.old.has_header ≡ true }
         requires read { spec.IsRead self.old }
-        requires words { spec.HasWords line.now LineWord.Selects (parts_left 32 rest) }
+        requires words { spec.HasWords self.old.decls.version line.now LineWord.Selects (parts_left 32 rest) }
         ensures taken { spec.TakesOrTells self.old line.now result self.new }
     {
         let words = select_words(rest);
@@ -290,6 +298,7 @@ impl<A: Allocator + Copy> Reader<A> {
     fn add(&mut self, ask: Ask, place: &[u8]) -> Result<(), TextCause>
         requires header { self.old.has_header ≡ true }
         requires sound { spec.IsSound self.old }
+        requires known { has_ask self.old.decls.version ask ≡ true }
         requires fits { program.ask_fits self.old.decls.declarations ask ≡ true }
         requires form { is_place place.now ≡ true }
         ensures { MatchResult result

@@ -2,20 +2,19 @@ use Rattle.std.proofs.lemmas.Grind.{common_steps}
 use Rattle.std.proofs.Common.{◌≡◌, not, false, inl, inr, refl, sym, ap, subst, ◌∙◌, arith, true≢false}
 use Rattle.race_records.specs.declared.kind.Kind.{Kind}
 use Rattle.race_records.specs.Declarations.{DeclsState, count_of}
-use Rattle.race_records.specs.Equality.{same_declarations}
+use Rattle.race_records.specs.Equality.{Declared, declared, same_decls}
 use Rattle.race_records.specs.Events.{TraceState}
 use Rattle.race_hub.specs.Recording.{RecordingState}
 use Rattle.race_script.specs.Certificate.{IsStuck}
 use Rattle.race_script.specs.Program.{ProgramState}
-use Rattle.race_script.proofs.CertifyLemmas.{others_declared, same_declared, Stops, one_runs, all_run, one_is_stuck, stuck_is_uncertified}
+use Rattle.race_script.proofs.CertifyLemmas.{others_declared, alike_declared, Stops, one_runs, all_run, one_is_stuck, stuck_is_uncertified}
 use Rattle.race_script.proofs.certificate.certify.Goals as goal
 
 module _ (g : _) (c : goal.Then-ne g) where
-  others : c.args.recording.now.decls.declarations ≡ c.args.program.now.decls.declarations → ⊥
+  others : declared c.args.recording.now.decls ≡ declared c.args.program.now.decls → ⊥
   others same =
-      others_declared c.decls.result.now.declarations c.decls-2.result.now.declarations c.if-ne.ensures
-      (ap (λ (d : DeclsState). d.declarations) (c.decls.ensures.decls ∙ c.trace.ensures.decls) ∙ same
-      ∙ ap (λ (d : DeclsState). d.declarations) (sym c.decls-2.ensures.decls))
+      others_declared (declared c.decls.result.now) (declared c.decls-2.result.now) c.if-ne.ensures
+      (ap declared (c.decls.ensures.decls ∙ c.trace.ensures.decls) ∙ same ∙ ap declared (sym c.decls-2.ensures.decls))
 
 pub returns-then-ne-clause-run : goal.returns-then-ne-clause-run
 returns-then-ne-clause-run g c = (λ e. absurd (true≢false (sym e)), λ certified. absurd (others g c certified.declarations))
@@ -24,26 +23,24 @@ pub returns-then-ne-clause-leaves : goal.returns-then-ne-clause-leaves
 returns-then-ne-clause-leaves g c = inl (record { declarations = others g c; main = refl; first = refl })
 
 -- what is known where the same is declared
-declared : (p : ProgramState) (r : RecordingState) (traced : TraceState) (own others : DeclsState)
-    → own ≡ traced.decls → traced.decls ≡ r.decls → others ≡ p.decls
-    → false ≡ not (same_declarations own.declarations others.declarations) → r.decls.declarations ≡ p.decls.declarations
-declared p r traced own others is was are told =
-    ap (λ (d : DeclsState). d.declarations) (sym (is ∙ was)) ∙ same_declared own.declarations others.declarations told
-    ∙ ap (λ (d : DeclsState). d.declarations) are
+both_declare : (p : ProgramState) (r : RecordingState) (traced : TraceState) (own others : DeclsState)
+    → own ≡ traced.decls → traced.decls ≡ r.decls → others ≡ p.decls → false ≡ not (same_decls own others) → declared r.decls ≡ declared p.decls
+both_declare p r traced own others is was are told =
+    ap declared (sym (is ∙ was)) ∙ alike_declared (declared own) (declared others) told ∙ ap declared are
 
 pub stuck_at-requires-clause-recorded : goal.stuck_at-requires-clause-recorded
 stuck_at-requires-clause-recorded g c =
-    let same = declared c.args.program.now c.args.recording.now c.trace.result.now c.decls.result.now c.decls-2.result.now c.decls.ensures.decls
+    let same = both_declare c.args.program.now c.args.recording.now c.trace.result.now c.decls.result.now c.decls-2.result.now c.decls.ensures.decls
     c.trace.ensures.decls c.decls-2.ensures.decls c.if-ne.ensures in
     let count = c.count-g-end.ensures.count ∙ ap (λ (d : DeclsState). count_of Kind.Goroutine d.declarations) c.decls-3.ensures.decls
-    ∙ ap (count_of Kind.Goroutine) (sym same) in
+    ∙ ap (λ (d : Declared). count_of Kind.Goroutine d.declarations) (sym same) in
     let less = c.loop-g-test.true in
     omega (arith, less, count)
 
 module _ (g : _) (c : goal.In-Some g) where
   stuck : IsStuck c.args.program.now c.args.recording.now (record { g = c.loop-g.g; step = c.in-Some.step })
   stuck =
-      let same = declared c.args.program.now c.args.recording.now c.trace.result.now c.decls.result.now c.decls-2.result.now c.decls.ensures.decls
+      let same = both_declare c.args.program.now c.args.recording.now c.trace.result.now c.decls.result.now c.decls-2.result.now c.decls.ensures.decls
       c.trace.ensures.decls c.decls-2.ensures.decls c.if-ne.ensures in
       let count = c.count-g-end.ensures.count ∙ ap (λ (d : DeclsState). count_of Kind.Goroutine d.declarations) c.decls-3.ensures.decls in
       let bodies = c.decls-3.ensures.program.count in
@@ -67,7 +64,7 @@ loop-g-preserved g c =
 
 pub returns-clause-run : goal.returns-clause-run
 returns-clause-run g c =
-    let same = declared c.args.program.now c.args.recording.now c.trace.result.now c.decls.result.now c.decls-2.result.now c.decls.ensures.decls
+    let same = both_declare c.args.program.now c.args.recording.now c.trace.result.now c.decls.result.now c.decls-2.result.now c.decls.ensures.decls
     c.trace.ensures.decls c.decls-2.ensures.decls c.if-ne.ensures in
     let count = c.count-g-end.ensures.count ∙ ap (λ (d : DeclsState). count_of Kind.Goroutine d.declarations) c.decls-3.ensures.decls in
     let bodies = c.decls-3.ensures.program.count in

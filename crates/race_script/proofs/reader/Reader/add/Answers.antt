@@ -67,7 +67,7 @@ returns-then-not-exits g c =
     c.in-Ok.ensures.number ∙ (λ k. place_number (decls k).places (c.as_text.ensures k)) in
     let pushed = c.in_ok-push.ensures in
     let other = sym c.is_exit-exits.ensures ∙ c.if-not-exits.true in
-    more_taken s c.requires.sound u is (asked_at c.args.ask c.args.place.now) c.requires.fits c.requires.form (omega (arith, less, len)) room pushed.follows _
+    more_taken s c.requires.sound u is (asked_at c.args.ask c.args.place.now) c.requires.fits c.requires.form c.requires.known (omega (arith, less, len)) room pushed.follows _
     (ap (λ (x : ReadState). x.has_header) c.self.view_is ∙ c.requires.header)
     (c.in-Ok.ensures.added ∙ (λ k. with_place (decls k) (c.as_text.ensures k)))
     c.push.new.self.onces.items other (pushed.entered other)
@@ -94,7 +94,7 @@ returns-in-Ok-push g c =
     c.in-Ok.ensures.number ∙ (λ k. place_number (decls k).places (c.as_text.ensures k)) in
     let pushed = c.in_ok-push.ensures in
     let exit = sym c.is_exit-exits.ensures ∙ c.if-not-exits.false in
-    ended_taken s c.requires.sound u is (asked_at c.args.ask c.args.place.now) c.requires.fits c.requires.form (omega (arith, less, len)) room pushed.follows _
+    ended_taken s c.requires.sound u is (asked_at c.args.ask c.args.place.now) c.requires.fits c.requires.form c.requires.known (omega (arith, less, len)) room pushed.follows _
     (ap (λ (x : ReadState). x.has_header) c.self.view_is ∙ c.requires.header)
     (c.in-Ok.ensures.added ∙ (λ k. with_place (decls k) (c.as_text.ensures k)))
     exit

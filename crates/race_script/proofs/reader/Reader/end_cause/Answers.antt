@@ -1,24 +1,20 @@
 use Rattle.std.proofs.Common.{◌≡◌, ◌==◌, length, true, false, sym, ap, subst, ◌∙◌, refl, rules}
-use Rattle.std.specs.Str.{bytes_eq}
 use Rattle.race_script.specs.Fault.{end_cause}
 use Rattle.race_script.specs.Reader.{ReadState, draft_read, lines_by, IsRead, IsReadBy}
-use Rattle.race_script.specs.Text.{header}
-use Rattle.race_script.proofs.ReadLemmas.{end_header, end_other, end_behind}
+use Rattle.race_script.proofs.ReadLemmas.{end_header, end_behind}
 use Rattle.race_script.proofs.reader.Reader.end_cause.Goals as goal
 
-pub returns-then-eq : goal.returns-then-eq
-returns-then-eq g c =
+pub returns-in-None : goal.returns-in-None
+returns-in-None g c =
     let s = c.args.self.now in
     let header_is : s.has_header ≡ false = ap (λ (x : ReadState). x.has_header) (sym c.self.view_is) ∙ (let h = c.if-not-self.true in cc) in
-    let same : bytes_eq c.args.last.now header ≡ true = search rules in
-    sym (ap (λ b. end_cause (lines_by b (draft_read s)) c.args.last.now) header_is ∙ end_header c.args.last.now same)
+    sym (ap (λ b. end_cause (lines_by b (draft_read s)) c.args.last.now) header_is ∙ end_header c.args.last.now _ (sym c.in-None.ensures))
 
-pub returns-else-eq : goal.returns-else-eq
-returns-else-eq g c =
+pub returns-in-Some : goal.returns-in-Some
+returns-in-Some g c =
     let s = c.args.self.now in
     let header_is : s.has_header ≡ false = ap (λ (x : ReadState). x.has_header) (sym c.self.view_is) ∙ (let h = c.if-not-self.true in cc) in
-    let other : bytes_eq c.args.last.now header ≡ false = search rules in
-    sym (ap (λ b. end_cause (lines_by b (draft_read s)) c.args.last.now) header_is ∙ end_other c.args.last.now other)
+    sym (ap (λ b. end_cause (lines_by b (draft_read s)) c.args.last.now) header_is ∙ end_header c.args.last.now _ (sym c.in-Some.ensures))
 
 pub returns-then-not-is_empty : goal.returns-then-not-is_empty
 returns-then-not-is_empty g c =

@@ -1,5 +1,6 @@
 use Rattle.std.proofs.Common.{◌≡◌, List, ℕ, Option, Bor, Some, None, true, is_some, sym, ap, refl, ◌∙◌, option_map}
 use Rattle.std.proofs.lemmas.Option.{none-some}
+use Rattle.race_records.specs.Equality.{declared}
 use Rattle.race_hub.specs.declared.request.Ask.{Ask}
 use Rattle.race_text.specs.Words.{parts_left}
 use Rattle.race_script.specs.Fault.{words_cause}
@@ -8,8 +9,8 @@ use Rattle.race_script.specs.Program.{Instruction}
 use Rattle.race_script.specs.Reading.{asked_read, asked_in}
 use Rattle.race_script.specs.Text.{Asks}
 use Rattle.race_script.proofs.ReadLemmas.{asks_told, said_answered}
-use Rattle.race_script.proofs.SaidLines.{asked_is_there, are_asked}
-use Rattle.race_script.proofs.LineLemmas.{asks_line}
+use Rattle.race_script.proofs.SaidLines.{asked_is_there}
+use Rattle.race_script.proofs.LineLemmas.{IsSaidLine, asks_line}
 use Rattle.race_script.proofs.reader.Reader.take_asks.Goals as goal
 
 -- what gives an instruction is there
@@ -27,6 +28,11 @@ module _ (g : _) (c : goal.After-add-arg-1 g) where
   read =
       (λ k. asked_in (sym c.self.view_is k).decls.declarations (sym c.on_nil-word.ensures k).0 (sym c.on_nil-word.ensures k).1)
       ∙ sym c.asked_in.ensures ∙ ap (option_map asked_read) c.unwrap-ask.ensures
+
+  line_says : IsSaidLine (declared c.args.self.now.decls) c.args.line.now (Asks asked)
+  line_says =
+      asks_line c.args.self.now.decls c.requires.read.sound.well_formed c.args.line.now c.args.word (parts_left 32 c.args.rest)
+      asked c.requires.words read
 
 pub returns-in-Some : goal.returns-in-Some
 returns-in-Some g c = record {
@@ -50,15 +56,14 @@ unwrap-ask-requires g c =
     let there = asked_is_there ds word words none in
     there_is c.asked_in.result there.0 (c.asked_in.ensures ∙ there.1)
 
+pub add-requires-clause-known : goal.add-requires-clause-known
+add-requires-clause-known g c = (line_says g c).fits.2
+
 pub add-requires-clause-fits : goal.add-requires-clause-fits
-add-requires-clause-fits g c =
-    let cut = on_nil c.args.word (parts_left 32 c.args.rest) in
-    (are_asked c.args.self.now.decls c.requires.read.sound.well_formed cut.0 cut.1 (asked g c) (read g c)).fits
+add-requires-clause-fits g c = (line_says g c).fits.0
 
 pub add-requires-clause-form : goal.add-requires-clause-form
-add-requires-clause-form g c =
-    let cut = on_nil c.args.word (parts_left 32 c.args.rest) in
-    (are_asked c.args.self.now.decls c.requires.read.sound.well_formed cut.0 cut.1 (asked g c) (read g c)).form
+add-requires-clause-form g c = (line_says g c).fits.1
 
 pub returns : goal.returns
 returns g c =

@@ -1,26 +1,42 @@
-use Rattle.std.proofs.Common.{◌≡◌, true, false, sym, subst, refl, rules}
-use Rattle.std.specs.Str.{bytes_eq}
-use Rattle.race_script.specs.Reader.{IsEmpty, IsReadBy}
-use Rattle.race_script.specs.Text.{header}
+use Rattle.std.proofs.Common.{◌≡◌, Some, refl, sym, ap, subst, ◌∙◌}
+use Rattle.race_records.specs.declared.version.Version.{Version}
+use Rattle.race_script.specs.Reader.{ReadState, IsEmpty, IsReadBy}
 use Rattle.race_script.proofs.ReadLemmas.{header_read, header_taken, header_told}
 use Rattle.race_script.proofs.reader.Reader.take_header.Goals as goal
 
-module _ (g : _) (c : goal.After-self-1 g) where
-  empty : IsEmpty c.args.self.now
-  empty = subst (λ b. IsReadBy b c.args.self.now) c.requires.header c.requires.reading
+pub returns-in-None-clause-taken : goal.returns-in-None-clause-taken
+returns-in-None-clause-taken g c = header_told c.args.line.now (sym c.in-None.ensures)
 
-pub returns-then-eq-clause-taken : goal.returns-then-eq-clause-taken
-returns-then-eq-clause-taken g c =
-    let e = subst IsEmpty (sym c.self.view_is) (empty g c) in
-    let same : bytes_eq c.args.line.now header ≡ true = search rules in
-    header_taken _ (record { decls = e.decls; ended = e.ended; unended = e.unended }) refl c.args.line.now same
+pub returns-in-Some-One-clause-taken : goal.returns-in-Some-One-clause-taken
+returns-in-Some-One-clause-taken g c =
+    let e = subst IsEmpty (sym c.self.view_is) (subst (λ b. IsReadBy b c.args.self.now) c.requires.header c.requires.reading) in
+    header_taken _ Version.One (record { first = refl; decls = e.decls; ended = e.ended; unended = e.unended })
+    c.args.line.now (sym c.in-Some-One.ensures ∙ ap Some c.in-Some-One.field-0-is)
 
-pub returns-then-eq-clause-reading : goal.returns-then-eq-clause-reading
-returns-then-eq-clause-reading g c =
-    let e = subst IsEmpty (sym c.self.view_is) (empty g c) in
-    header_read _ (record { decls = e.decls; ended = e.ended; unended = e.unended }) refl
+pub returns-in-Some-One-clause-reading : goal.returns-in-Some-One-clause-reading
+returns-in-Some-One-clause-reading g c =
+    let e = subst IsEmpty (sym c.self.view_is) (subst (λ b. IsReadBy b c.args.self.now) c.requires.header c.requires.reading) in
+    header_read _ Version.One (record { first = refl; decls = e.decls; ended = e.ended; unended = e.unended })
 
-pub returns-clause-taken : goal.returns-clause-taken
-returns-clause-taken g c =
-    let other : bytes_eq c.args.line.now header ≡ false = search rules in
-    header_told c.args.line.now other
+pub returns-in-Some-Two-clause-taken : goal.returns-in-Some-Two-clause-taken
+returns-in-Some-Two-clause-taken g c =
+    let e = subst IsEmpty (sym c.self.view_is) (subst (λ b. IsReadBy b c.args.self.now) c.requires.header c.requires.reading) in
+    let new = c.new_version2.ensures in
+    header_taken _ Version.Two (record {
+      first = refl;
+      decls = λ i. record { version = new.version i; declarations = new.declarations i; places = new.places i };
+      ended = e.ended;
+      unended = e.unended;
+    })
+    c.args.line.now (sym c.in-Some-Two.ensures ∙ ap Some c.in-Some-Two.field-0-is)
+
+pub returns-in-Some-Two-clause-reading : goal.returns-in-Some-Two-clause-reading
+returns-in-Some-Two-clause-reading g c =
+    let e = subst IsEmpty (sym c.self.view_is) (subst (λ b. IsReadBy b c.args.self.now) c.requires.header c.requires.reading) in
+    let new = c.new_version2.ensures in
+    header_read _ Version.Two (record {
+      first = refl;
+      decls = λ i. record { version = new.version i; declarations = new.declarations i; places = new.places i };
+      ended = e.ended;
+      unended = e.unended;
+    })

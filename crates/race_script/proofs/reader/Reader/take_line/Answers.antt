@@ -4,7 +4,7 @@ use Rattle.race_text.specs.declared.cause.TextCause.{TextCause}
 use Rattle.race_text.specs.Form.{first_word}
 use Rattle.race_text.specs.Lines.{GoesOn}
 use Rattle.race_script.specs.Fault.{cause, program_causes}
-use Rattle.race_script.specs.Form.{line_word}
+use Rattle.race_script.specs.Form.{line_word_in}
 use Rattle.race_script.specs.Reader.{ReadState, draft_read, lines_read, lines_by, IsRead, IsReading, IsReadBy, TakesOrTells}
 use Rattle.race_script.specs.Text.{lines}
 use Rattle.race_script.proofs.ReadLemmas.{bad_byte_told, unknown_told}
@@ -37,7 +37,8 @@ returns-in-None-clause-taken g c = λ _.
     let s = c.args.self.now in
     let header_is : s.has_header ≡ true = ap (λ (x : ReadState). x.has_header) (sym c.self.view_is) ∙ c.if-not-self.false in
     let read : IsRead s = subst (λ b. IsReadBy b s) header_is c.requires in
-    let none = ap (λ ws. line_word (first_word ws)) c.cut_at.ensures ∙ sym c.line_word.ensures ∙ c.in-None.is in
+    let none = (λ k. line_word_in ((ap (λ (x : ReadState). x.decls.version) (sym c.self.view_is) ∙ sym c.version.ensures) k) (first_word (c.cut_at.ensures k)))
+    ∙ sym c.line_word_in.ensures ∙ c.in-None.is in
     ap (λ b. cause (lines_by b (draft_read s)) c.args.line.now true) header_is
     ∙ unknown_told s read c.args.line.now (sym c.has_bad_byte.ensures ∙ c.if-has_bad_byte.false) none
 

@@ -1,5 +1,6 @@
 use Rattle.std.proofs.Common.{◌≡◌, ℕ, List, Option, Bor, Some, None, true, is_some, sym, ap, refl, ◌∙◌, option_map}
 use Rattle.std.proofs.lemmas.Option.{none-some}
+use Rattle.race_records.specs.Equality.{declared}
 use Rattle.race_hub.specs.declared.request.Ask.{Ask}
 use Rattle.race_text.specs.Words.{parts_left}
 use Rattle.race_script.specs.Offers.{select_words, select_cause}
@@ -7,8 +8,8 @@ use Rattle.race_script.specs.Program.{Instruction}
 use Rattle.race_script.specs.Reading.{asked_read, selected_in}
 use Rattle.race_script.specs.Text.{Asks}
 use Rattle.race_script.proofs.ReadLemmas.{selects_told, said_answered}
-use Rattle.race_script.proofs.SelectLines.{selected_is_there, are_selected}
-use Rattle.race_script.proofs.LineLemmas.{selects_line}
+use Rattle.race_script.proofs.SelectLines.{selected_is_there}
+use Rattle.race_script.proofs.LineLemmas.{IsSaidLine, selects_line}
 use Rattle.race_script.proofs.reader.Reader.take_select.Goals as goal
 
 -- what gives an instruction is there
@@ -44,11 +45,18 @@ module _ (g : _) (c : goal.After-add-arg-1 g) where
       (λ k. selected_in (sym c.self.view_is k).decls.declarations (sym c.select_words-words.ensures k))
       ∙ sym c.selected_in.ensures ∙ ap (option_map asked_read) c.unwrap-ask.ensures
 
+  line_says : IsSaidLine (declared c.args.self.now.decls) c.args.line.now (Asks asked)
+  line_says =
+      selects_line c.args.self.now.decls c.requires.read.sound.well_formed c.args.line.now (parts_left 32 c.args.rest) asked c.requires.words read
+
+pub add-requires-clause-known : goal.add-requires-clause-known
+add-requires-clause-known g c = (line_says g c).fits.2
+
 pub add-requires-clause-fits : goal.add-requires-clause-fits
-add-requires-clause-fits g c = (are_selected c.args.self.now.decls c.requires.read.sound.well_formed (parts_left 32 c.args.rest) (asked g c) (read g c)).fits
+add-requires-clause-fits g c = (line_says g c).fits.0
 
 pub add-requires-clause-form : goal.add-requires-clause-form
-add-requires-clause-form g c = (are_selected c.args.self.now.decls c.requires.read.sound.well_formed (parts_left 32 c.args.rest) (asked g c) (read g c)).form
+add-requires-clause-form g c = (line_says g c).fits.1
 
 pub returns : goal.returns
 returns g c =

@@ -171,7 +171,7 @@ module _ (decls : DeclsState) where
       let chan = sent_in_range (counts_of decls.declarations) w.asked.ask k met.chan met.value sound.range met.sends in
       subst (λ op. IsTrue (fits decls (record { who = w.who; op = op; place = w.asked.place; place2 = Some r.asked.place }))) (sym met.op_is)
       (event_fits w.who w.asked.place (Some r.asked.place) (Meet r.who met.chan met.value) sound.who
-      (two_hold _ _ other.who chan) sound.place other.place refl (in_first decls.version) refl))
+      (two_hold _ _ other.who chan) sound.place other.place (in_first decls.version) refl))
     where
       two_hold : (a b : Bool) → a ≡ true → b ≡ true → (a && (b && true)) ≡ true
       two_hold a b p q = rw (p, q) refl

@@ -18,7 +18,7 @@ use Rattle.race_records.specs.declared.kind.Kind.{Kind}
 use Rattle.race_records.specs.declared.trace.PushFault.TheVariants.{BadNumber, WrongKind, Full}
 use Rattle.race_records.specs.declared.trace.TheConstants.{MAX_EVENTS}
 use Rattle.race_records.specs.Declarations.{DeclsState, capacity_of, counts_of}
-use Rattle.race_records.specs.Events.{TraceState, fits, push_fault, is_in_range, lock_fits}
+use Rattle.race_records.specs.Events.{TraceState, fits, push_fault, is_in_range, is_right_kind}
 use Rattle.race_model.specs.Events.{starts, is_exit, is_fault, has_exited}
 use Rattle.race_model.specs.State.{started}
 use Rattle.race_model.proofs.Indexes.{take_at_old}
@@ -57,7 +57,7 @@ pub fit_is_in_range : (decls : DeclsState) (k : ReplayState) (past : List Event)
     → IsInRange (counts_in k) e
 unfolding fits
 fit_is_in_range decls k past e stands is =
-    let range = (both_true (is_in_range decls e) (lock_fits decls.declarations e.op) is).0 in
+    let range = (both_true (is_in_range decls e) (is_right_kind decls e.op) is).0 in
     subst (λ counts. IsInRange counts e) (sym stands.counts) (
       below e.who (counts_of decls.declarations Kind.Goroutine)
           (first _ _ _ _ range),
@@ -77,8 +77,8 @@ fit_is_in_range decls k past e stands is =
 pub fit_is_taken : (trace : TraceState) (e : Event) → IsTrue (fits trace.decls e) → length trace.events < MAX_EVENTS → push_fault trace e ≡ None
 unfolding fits push_fault
 fit_is_taken trace e is less =
-    let parts = both_true (is_in_range trace.decls e) (lock_fits trace.decls.declarations e.op) is in
-    by (is_in_range trace.decls e) (lock_fits trace.decls.declarations e.op) (nat_le MAX_EVENTS (length trace.events)) parts.0 parts.1
+    let parts = both_true (is_in_range trace.decls e) (is_right_kind trace.decls e.op) is in
+    by (is_in_range trace.decls e) (is_right_kind trace.decls e.op) (nat_le MAX_EVENTS (length trace.events)) parts.0 parts.1
     (grind (arith, nat_tests))
   where
     by : (a b c : Bool) → a ≡ true → b ≡ true → c ≡ false

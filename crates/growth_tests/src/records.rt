@@ -37,8 +37,12 @@ static NAMES: [(&str, Option<Named>); 9] = [
 fn is_as_declared<A: Allocator>(decls: &Decls<A>) -> bool {
     decls.len() == 7
         && decls.place_count() == 3
-        && COUNTS.iter().all(|(kind, count)| decls.count(*kind) == *count)
-        && NAMES.iter().all(|(name, named)| decls.find(*name) == *named)
+        && COUNTS
+            .iter()
+            .all(|(kind, count)| decls.count(*kind) == *count)
+        && NAMES
+            .iter()
+            .all(|(name, named)| decls.find(*name) == *named)
 }
 
 fn is_as_traced<A: Allocator>(trace: &Trace<A>) -> bool {

@@ -27,11 +27,7 @@ pub(crate) static JUDGED: [Row; 12] = [
         "race on x: read by c at c:1 (event 4), write by main at m:6 (event 9) / races: 1",
         status::RACES,
     ),
-    (
-        NINE_READERS,
-        "clean: 28 events, 10 accesses",
-        status::CLEAN,
-    ),
+    (NINE_READERS, "clean: 28 events, 10 accesses", status::CLEAN),
     (
         EIGHT_MEET,
         "race on x: read by r9 at r9:1 (event 18), write by main at m:20 (event 27) / races: 1",

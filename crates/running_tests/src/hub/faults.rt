@@ -19,10 +19,7 @@ static TEXTS: [(Fault, &str); 7] = [
     ),
     (Fault::Hub(HubFault::BadLimit), "the limit is out of range"),
     (Fault::Hub(HubFault::OutOfMemory), "out of memory"),
-    (
-        Fault::Mismatch(Mismatch::NotEnded),
-        "the run has not ended",
-    ),
+    (Fault::Mismatch(Mismatch::NotEnded), "the run has not ended"),
     (Fault::Mismatch(Mismatch::Out(1)), "a job is out"),
     (
         Fault::Mismatch(Mismatch::Log(1)),

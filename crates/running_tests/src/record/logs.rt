@@ -32,10 +32,7 @@ const LIMITED: Row = Row {
     other: &[Plain::Write(0, 5)],
     picks: &[0, 1],
     logs: (
-        (
-            &[(Plain::Go(1), Some(Answer::Unit))],
-            Some(Plain::Read(0)),
-        ),
+        (&[(Plain::Go(1), Some(Answer::Unit))], Some(Plain::Read(0))),
         (&[(Plain::Write(0, 5), Some(Answer::Unit))], None),
     ),
 };

@@ -18,7 +18,9 @@ type G struct {
 	over   bool
 	random uint32
 	epoch  uint32 // grows with each operation that may order something
-	cache  readCache
+	reads  repeats
+	writes repeats
+	ended  uint32        // leaves to repeat a write that others ended
 	wake   chan struct{} // lets it go on where it waits for others
 	waiter waiter
 
@@ -137,6 +139,7 @@ func (g *G) exit(s *Site) {
 	g.note(wire.Exit, 0, s)
 	g.over = true
 	mu.Unlock()
+	g.reads, g.writes = repeats{}, repeats{}
 }
 
 // Later is f for time.AfterFunc: it runs as a goroutine that is started here.

@@ -3,7 +3,8 @@
 //
 // There is one lock, mu. Every operation that takes effect at once is done, and its record
 // written, while it is held; so the records stand in an order in which the operations did
-// happen one after another. What can wait never waits with mu held.
+// happen one after another. What can wait never waits with mu held. Accesses that repeat
+// others and have no record are done without it (repeats.go).
 package gorec
 
 import (

@@ -224,7 +224,7 @@ func (w *walk) access(v reflect.Value) {
 }
 
 // compare has the lock. Before a function that fills it settles what a location holds; what
-// changed behind it was written.
+// changed behind it was written, unless the function has led to it and others may have.
 func (w *walk) compare(p unsafe.Pointer, f leaf) {
 	bits := bitsOf(p, f.size)
 	l := locate(p)
@@ -235,7 +235,7 @@ func (w *walk) compare(p unsafe.Pointer, f leaf) {
 			l.endLeave(w.g)
 			l.unsettled = false
 		}
-	case l.id != 0 && l.bits != bits || l.id == 0 && bits != 0:
+	case l.id != 0 && l.bits != bits && !l.unsettled || l.id == 0 && bits != 0:
 		w.g.wrote(p, f.size, f.offset, w.s)
 	}
 }

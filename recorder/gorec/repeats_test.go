@@ -133,3 +133,24 @@ func TestFills(t *testing.T) {
 		t.Errorf("%s, not %s; %v", got, want, *x)
 	}
 }
+
+// What a function that fills leads to, others may have written.
+func TestFillsLeadTo(t *testing.T) {
+	type box struct{ P *int }
+	log := record(t)
+	x, n, ts := &box{}, new(int), newTurns(t, 2)
+	ts.do(0, func() {
+		for i := 0; i < 5; i++ {
+			To(n, &Site{ID: 1}).Set(i)
+		}
+	})
+	ts.do(1, func() {
+		Fills(func(v any) error {
+			v.(*box).P = n
+			return nil
+		}, &Site{ID: 2})(x)
+	})
+	if got, want := log(), "w1 w2"; got != want {
+		t.Errorf("%s, not %s", got, want)
+	}
+}

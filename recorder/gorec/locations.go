@@ -53,9 +53,11 @@ func locate(p unsafe.Pointer) *location {
 	}
 }
 
+// hash has the words of 64 bytes beside one another, and each of their other bytes elsewhere.
 func hash(p unsafe.Pointer) uintptr {
 	h := uintptr(p)
-	return (h ^ h>>17) * 0x9e3779b97f4a7c15 >> 20
+	line := h>>6<<3 | h&7
+	return (line^line>>17)*0x9e3779b97f4a7c15>>20<<3 | h>>3&7
 }
 
 func growLocations() {

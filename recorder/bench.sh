@@ -18,7 +18,7 @@ least() {
 }
 
 printf '%-9s %5s %7s %7s %9s %9s %9s %7s\n' program procs plain race recorded records events bytes
-for program in locks channels slices maps; do
+for program in locks channels slices rows maps; do
     go build -o "$work/plain" "./$program"
     go build -race -o "$work/race" "./$program"
     "$work/gorec" build -o "$work/recorded" "./$program"

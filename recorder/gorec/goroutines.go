@@ -18,7 +18,9 @@ type G struct {
 	over   bool
 	random uint32
 	epoch  uint32 // grows with each operation that may order something
-	cache  readCache
+	reads  repeats
+	writes repeats
+	ended  uint32        // leaves to repeat a write that others ended
 	wake   chan struct{} // lets it go on where it waits for others
 	waiter waiter
 
@@ -118,11 +120,16 @@ func Go(s *Site, f func()) {
 func start(s *Site) *G {
 	starter := current(s)
 	mu.Lock()
-	g := newGoroutine()
-	starter.epoch++
-	write(wire.Record{Op: wire.Go, Goroutine: starter.id, Other: g.id, Site: s.ID})
-	mu.Unlock()
-	return g
+	defer mu.Unlock()
+	return starter.start(s)
+}
+
+// start has the lock: the answer is started by g.
+func (g *G) start(s *Site) *G {
+	started := newGoroutine()
+	g.epoch++
+	write(wire.Record{Op: wire.Go, Goroutine: g.id, Other: started.id, Site: s.ID})
+	return started
 }
 
 func (g *G) run(s *Site, f func()) {
@@ -137,26 +144,7 @@ func (g *G) exit(s *Site) {
 	g.note(wire.Exit, 0, s)
 	g.over = true
 	mu.Unlock()
-}
-
-// Later is f for time.AfterFunc: it runs as a goroutine that is started here.
-func Later(f func(), s *Site) func() {
-	if off {
-		return f
-	}
-	g := start(s)
-	used := false
-	return func() {
-		mu.Lock()
-		first := !used
-		used = true
-		mu.Unlock()
-		if first {
-			g.run(s, f)
-		} else {
-			f() // a timer that was set again: adopted
-		}
-	}
+	g.reads, g.writes = repeats{}, repeats{}
 }
 
 // Main runs the function main.

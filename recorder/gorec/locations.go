@@ -16,11 +16,16 @@ type location struct {
 	base uint64 // bits that are written as 0
 	id   uint32
 
-	// a write was recorded before it was done
+	// a write was recorded before it was done, or may have been repeated without the lock:
+	// what it holds isn't known until it is read
 	unsettled bool
 
 	// the last write that has a record
 	writer, epoch, site uint32
+
+	// who has the leave to repeat this write without the lock, while its stamp is this one
+	repeater *G
+	stamp    uint32
 }
 
 var (
@@ -48,9 +53,11 @@ func locate(p unsafe.Pointer) *location {
 	}
 }
 
+// hash has the words of 64 bytes beside one another, and each of their other bytes elsewhere.
 func hash(p unsafe.Pointer) uintptr {
 	h := uintptr(p)
-	return (h ^ h>>17) * 0x9e3779b97f4a7c15 >> 20
+	line := h>>6<<3 | h&7
+	return (line^line>>17)*0x9e3779b97f4a7c15>>20<<3 | h>>3&7
 }
 
 func growLocations() {
@@ -141,77 +148,37 @@ func (g *G) read(p unsafe.Pointer, size, offset uintptr, s *Site) {
 		l.base, l.bits = bits, bits
 	}
 	if bits != l.bits {
-		l.base ^= bits ^ l.bits
-		l.bits = bits
+		l.rebase(bits)
 		if !l.unsettled {
 			write(wire.Record{Op: wire.Unseen, Site: s.ID, Object: l.id})
 		}
 	}
-	l.unsettled = false
+	l.unsettled = l.hasLeave()
 	write(wire.Record{Op: wire.Read, Goroutine: g.id, Object: l.id, Site: s.ID, Value: bits ^ l.base})
+}
+
+// rebase has the lock: the location holds other bits, and its value is the same.
+func (l *location) rebase(bits uint64) {
+	l.base ^= bits ^ l.bits
+	l.bits = bits
 }
 
 // wrote has the lock, and the new bits are there. A write at the same place as g's last one,
 // with nothing between them that orders g before others, races with whatever that one races
-// with. It has no record, and its bits go to the base.
-func (g *G) wrote(p unsafe.Pointer, size, offset uintptr, s *Site) {
+// with. It has no record, and its bits go to the base; repeats says so.
+func (g *G) wrote(p unsafe.Pointer, size, offset uintptr, s *Site) (repeats bool) {
 	bits := bitsOf(p, size)
 	l := locate(p)
 	switch {
 	case l.id == 0:
 		l.id = declare(wire.DeclareVar, wire.VarMemory, uint64(offset), s)
 	case l.site == s.ID && l.writer == g.id && l.epoch == g.epoch:
-		l.base ^= bits ^ l.bits
-		l.bits = bits
-		return
-	}
-	l.bits, l.unsettled = bits, false
-	l.writer, l.epoch, l.site = g.id, g.epoch, s.ID
-	write(wire.Record{Op: wire.Write, Goroutine: g.id, Object: l.id, Site: s.ID, Value: bits ^ l.base})
-}
-
-// A readCache has the reads of a goroutine that need no second record: those of the same
-// location at the same place, with nothing between that orders the goroutine before others.
-// It is looked up without the lock, and grows with the misses.
-type readCache struct {
-	entries []cachedRead
-	misses  int
-}
-
-type cachedRead struct {
-	p           unsafe.Pointer
-	site, epoch uint32
-}
-
-const (
-	smallestCache = 1 << 5
-	largestCache  = 1 << 17
-)
-
-func (g *G) entry(p unsafe.Pointer) *cachedRead {
-	c := &g.cache
-	if c.misses >= len(c.entries) && len(c.entries) < largestCache {
-		size := 2 * len(c.entries)
-		if size == 0 {
-			size = smallestCache
-		}
-		*c = readCache{entries: make([]cachedRead, size)}
-	}
-	// neighbours in memory stand beside one another in the cache
-	h := uintptr(p) >> 3
-	return &c.entries[(h^h>>15)&uintptr(len(c.entries)-1)]
-}
-
-// hasRead: a read of p at s has a record, which stands for this one too.
-func (g *G) hasRead(p unsafe.Pointer, s *Site) bool {
-	if s.generic {
-		return false
-	}
-	e := g.entry(p)
-	if e.p == p && e.site == s.ID && e.epoch == g.epoch {
+		l.rebase(bits)
 		return true
 	}
-	g.cache.misses++
-	e.p, e.site, e.epoch = p, s.ID, g.epoch
+	l.bits, l.unsettled = bits, false
+	l.endLeave(g)
+	l.writer, l.epoch, l.site = g.id, g.epoch, s.ID
+	write(wire.Record{Op: wire.Write, Goroutine: g.id, Object: l.id, Site: s.ID, Value: bits ^ l.base})
 	return false
 }

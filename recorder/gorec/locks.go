@@ -45,7 +45,7 @@ func locked(p unsafe.Pointer, kind uint8, op wire.Op, s *Site) {
 	g := current(s)
 	mu.Lock()
 	l := lockAt(p, kind, s)
-	if op == wire.Lock {
+	if op == wire.Lock || op == wire.TryLock {
 		l.held = true
 	} else {
 		l.readers++
@@ -54,10 +54,16 @@ func locked(p unsafe.Pointer, kind uint8, op wire.Op, s *Site) {
 	mu.Unlock()
 }
 
-// tried is a TryLock or a TryRLock that has returned.
+// tried is a TryLock or a TryRLock that has returned. A failure orders nothing.
 func tried(ok bool, p unsafe.Pointer, kind uint8, op wire.Op, s *Site) bool {
-	if ok {
+	switch {
+	case ok:
 		locked(p, kind, op, s)
+	case !off && writesFailures():
+		g := current(s)
+		mu.Lock()
+		write(wire.Record{Op: wire.TryFail, Goroutine: g.id, Object: lockAt(p, kind, s).id, Site: s.ID})
+		mu.Unlock()
 	}
 	return ok
 }
@@ -97,7 +103,7 @@ func (x MutexAt) Lock()   { x.m.Lock(); locked(unsafe.Pointer(x.m), mutex, wire.
 func (x MutexAt) Unlock() { unlocking(unsafe.Pointer(x.m), mutex, wire.Unlock, x.s); x.m.Unlock() }
 
 func (x MutexAt) TryLock() bool {
-	return tried(x.m.TryLock(), unsafe.Pointer(x.m), mutex, wire.Lock, x.s)
+	return tried(x.m.TryLock(), unsafe.Pointer(x.m), mutex, wire.TryLock, x.s)
 }
 
 // RWMutexAt is a sync.RWMutex at a place where it is used.
@@ -117,11 +123,11 @@ func (x RWMutexAt) RUnlock() {
 }
 
 func (x RWMutexAt) TryLock() bool {
-	return tried(x.m.TryLock(), unsafe.Pointer(x.m), rwmutex, wire.Lock, x.s)
+	return tried(x.m.TryLock(), unsafe.Pointer(x.m), rwmutex, wire.TryLock, x.s)
 }
 
 func (x RWMutexAt) TryRLock() bool {
-	return tried(x.m.TryRLock(), unsafe.Pointer(x.m), rwmutex, wire.ReadLock, x.s)
+	return tried(x.m.TryRLock(), unsafe.Pointer(x.m), rwmutex, wire.TryReadLock, x.s)
 }
 
 // RLocker is a Locker whose calls are recorded.

@@ -3,10 +3,12 @@
 //
 // There is one lock, mu. Every operation that takes effect at once is done, and its record
 // written, while it is held; so the records stand in an order in which the operations did
-// happen one after another. What can wait never waits with mu held.
+// happen one after another. What can wait never waits with mu held. Accesses that repeat
+// others and have no record are done without it (repeats.go).
 package gorec
 
 import (
+	"errors"
 	"os"
 	"strconv"
 	"sync"
@@ -64,7 +66,11 @@ func init() {
 		seed = uint32(n)
 	}
 	mainGoroutine.random = seed
-	if err := openLog(path); err != nil {
+	err := openLog(path)
+	if err == nil {
+		err = setVersion(os.Getenv("GOREC_FORMAT"))
+	}
+	if err != nil {
 		os.Stderr.WriteString("gorec: no log: " + err.Error() + "\n")
 		os.Exit(3)
 	}
@@ -90,6 +96,23 @@ func openLog(path string) error {
 	records[0].Goroutine = 1
 	return nil
 }
+
+// setVersion is for which version of a trace the log is; "" is 1.
+func setVersion(s string) error {
+	version := uint64(1)
+	if s != "" {
+		n, err := strconv.ParseUint(s, 10, 8)
+		if err != nil || n < 1 || n > wire.Newest {
+			return errors.New("GOREC_FORMAT is no version of a trace: " + s)
+		}
+		version = n
+	}
+	records[0].Kind = uint8(version)
+	return nil
+}
+
+// writesFailures: a TryLock that doesn't succeed has a record.
+func writesFailures() bool { return records[0].Kind >= 2 }
 
 // write has the lock.
 func write(r wire.Record) {

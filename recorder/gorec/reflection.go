@@ -75,7 +75,8 @@ type walk struct {
 	g       *G
 	s       *Site
 	deep    bool // pointers are followed wherever they stand
-	fill    bool // what changed, unrecorded, was written by the function
+	settle  bool // nothing is recorded, but it is known what each location holds
+	fill    bool // what changed since, unrecorded, was written by the function
 	left    int  // so many values more
 	visited map[unsafe.Pointer]bool
 }
@@ -100,23 +101,35 @@ func Encoded[T any](v T, s *Site) T {
 // Fills is a function as Decode, which writes what its argument points to; Fills2 is one as
 // json.Unmarshal.
 func Fills(f func(any) error, s *Site) func(any) error {
-	return func(v any) error {
-		err := f(v)
-		if !alone() {
-			walkAll(&walk{s: s, deep: true, fill: true}, v)
-		}
-		return err
-	}
+	return func(v any) error { return fillBy(v, s, func() error { return f(v) }) }
 }
 
 func Fills2[A any](f func(A, any) error, s *Site) func(A, any) error {
-	return func(a A, v any) error {
-		err := f(a, v)
-		if !alone() {
-			walkAll(&walk{s: s, deep: true, fill: true}, v)
-		}
-		return err
+	return func(a A, v any) error { return fillBy(v, s, func() error { return f(a, v) }) }
+}
+
+// filling is the number of functions that are filling: meanwhile each write has the lock, so
+// that what they change is told from what others write.
+var filling int
+
+func fills(n int) {
+	mu.Lock()
+	filling += n
+	mu.Unlock()
+}
+
+// fillBy does f, which writes what v points to.
+func fillBy(v any, s *Site, f func() error) error {
+	fills(1)
+	defer fills(-1)
+	if !alone() {
+		walkAll(&walk{s: s, deep: true, settle: true}, v)
 	}
+	err := f()
+	if !alone() {
+		walkAll(&walk{s: s, deep: true, fill: true}, v)
+	}
+	return err
 }
 
 // walkAll has the lock while it walks.
@@ -186,16 +199,18 @@ func (w *walk) pointer(v reflect.Value, depth int) {
 }
 
 func (w *walk) mapping(v reflect.Value, depth int) {
-	w.g.touchMap(v.UnsafePointer(), w.fill, w.s)
+	if !w.settle {
+		w.g.touchMap(v.UnsafePointer(), w.fill, w.s)
+	}
 	for it := v.MapRange(); it.Next() && w.left > 0; {
 		w.value(it.Key(), depth+1)
 		w.value(it.Value(), depth+1)
 	}
 }
 
-// access has the lock. Behind a function that fills, what changed was written.
+// access has the lock.
 func (w *walk) access(v reflect.Value) {
-	if !w.fill {
+	if !w.settle && !w.fill {
 		w.g.accessValue(v, false, w.s)
 		return
 	}
@@ -204,10 +219,23 @@ func (w *walk) access(v reflect.Value) {
 	}
 	p := unsafe.Pointer(v.UnsafeAddr())
 	for _, f := range layoutOf(v.Type()).leaves {
-		q := unsafe.Add(p, f.offset)
-		bits := bitsOf(q, f.size)
-		if l := locate(q); l.id != 0 && l.bits != bits || l.id == 0 && bits != 0 {
-			w.g.wrote(q, f.size, f.offset, w.s)
+		w.compare(unsafe.Add(p, f.offset), f)
+	}
+}
+
+// compare has the lock. Before a function that fills it settles what a location holds; what
+// changed behind it was written, unless the function has led to it and others may have.
+func (w *walk) compare(p unsafe.Pointer, f leaf) {
+	bits := bitsOf(p, f.size)
+	l := locate(p)
+	switch {
+	case w.settle:
+		if l.unsettled {
+			l.rebase(bits)
+			l.endLeave(w.g)
+			l.unsettled = false
 		}
+	case l.id != 0 && l.bits != bits && !l.unsettled || l.id == 0 && bits != 0:
+		w.g.wrote(p, f.size, f.offset, w.s)
 	}
 }

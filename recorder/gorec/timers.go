@@ -2,16 +2,14 @@ package gorec
 
 import (
 	"time"
+	"unsafe"
 )
 
-// A timer's channel is foreign; who started the timer comes before who receives from it.
+// A timer's channel is foreign; who set the timer last comes before who receives from it.
 
-// started has the lock.
-func started(c <-chan time.Time, g *G, s *Site) {
+// set has the lock: g is about to set the timer with this channel.
+func (g *G) set(c <-chan time.Time, s *Site) {
 	p := pointerTo(&c)
-	if p == nil {
-		return // of AfterFunc
-	}
 	ch := channels[p]
 	if ch == nil {
 		ch = &channel{p: p, foreign: true}
@@ -22,10 +20,10 @@ func started(c <-chan time.Time, g *G, s *Site) {
 
 // TimerChannel is what time.After and time.Tick answer.
 func TimerChannel(c <-chan time.Time, s *Site) <-chan time.Time {
-	if !off {
+	if !off && c != nil {
 		g := current(s)
 		mu.Lock()
-		started(c, g, s)
+		g.set(c, s)
 		mu.Unlock()
 	}
 	return c
@@ -40,4 +38,87 @@ func NewTimer(t *time.Timer, s *Site) *time.Timer {
 func NewTicker(t *time.Ticker, s *Site) *time.Ticker {
 	TimerChannel(t.C, s)
 	return t
+}
+
+// later is a function that a timer calls. Each call is a goroutine, which is started where
+// the timer is set.
+type later struct {
+	f     func()
+	s     *Site
+	next  *G     // the goroutine of the next call
+	order uint32 // of who set the timer again before that call
+}
+
+var laters = map[unsafe.Pointer]*later{} // by the timers
+
+// AfterFunc is that of package time.
+func AfterFunc(d time.Duration, f func(), s *Site) *time.Timer {
+	if off {
+		return time.AfterFunc(d, f)
+	}
+	g := current(s)
+	mu.Lock()
+	defer mu.Unlock()
+	l := &later{f: f, s: s, next: g.start(s)}
+	t := time.AfterFunc(d, l.call)
+	laters[unsafe.Pointer(t)] = l
+	return t
+}
+
+func (l *later) call() {
+	mu.Lock()
+	g, order := l.next, l.order
+	l.next, l.order = nil, 0
+	mu.Unlock()
+	if g == nil {
+		l.f() // in a goroutine that is adopted
+		return
+	}
+	g.run(l.s, func() {
+		mu.Lock()
+		g.acquire(order, l.s)
+		mu.Unlock()
+		l.f()
+	})
+}
+
+// setAgain has the lock.
+func (l *later) setAgain(g *G, s *Site) {
+	if l.next == nil {
+		l.next = g.start(s)
+	} else {
+		l.order = g.release(s)
+	}
+}
+
+// TimerAt and TickerAt are those of package time at a place where they are set again.
+type TimerAt struct {
+	t *time.Timer
+	s *Site
+}
+
+type TickerAt struct {
+	t *time.Ticker
+	s *Site
+}
+
+func Timer(t *time.Timer, s *Site) TimerAt    { return TimerAt{t, s} }
+func Ticker(t *time.Ticker, s *Site) TickerAt { return TickerAt{t, s} }
+
+func (x TimerAt) Reset(d time.Duration) bool {
+	if !off && x.t.C == nil {
+		g := current(x.s)
+		mu.Lock()
+		if l := laters[unsafe.Pointer(x.t)]; l != nil {
+			l.setAgain(g, x.s)
+		}
+		mu.Unlock()
+	}
+	TimerChannel(x.t.C, x.s)
+	return x.t.Reset(d)
+}
+
+func (x TickerAt) Reset(d time.Duration) {
+	TimerChannel(x.t.C, x.s)
+	x.t.Reset(d)
 }

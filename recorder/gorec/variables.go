@@ -29,16 +29,17 @@ func readAll[T any](g *G, p *T, s *Site) {
 	}
 }
 
-// wroteAll has the lock.
-func wroteAll[T any](g *G, p *T, s *Site) {
+// wroteAll has the lock; repeats says that no record was needed, and that what was written
+// is one location of at most eight bytes, which a processor writes at once.
+func wroteAll[T any](g *G, p *T, s *Site) (repeats bool) {
 	l := layoutAt(p, s)
 	if l.single != 0 {
-		g.wrote(unsafe.Pointer(p), l.single, 0, s)
-		return
+		return g.wrote(unsafe.Pointer(p), l.single, 0, s) && unsafe.Sizeof(*p) <= 8
 	}
 	for _, f := range l.leaves {
 		g.wrote(unsafe.Add(unsafe.Pointer(p), f.offset), f.size, f.offset, s)
 	}
+	return false
 }
 
 // Read is the value at p.
@@ -65,9 +66,15 @@ func set[T any](p *T, v T, s *Site) {
 		return
 	}
 	g := current(s)
+	if g.hasLeave(unsafe.Pointer(p), s) {
+		*p = v
+		return
+	}
 	mu.Lock()
 	*p = v
-	wroteAll(g, p, s)
+	if wroteAll(g, p, s) {
+		g.giveLeave(unsafe.Pointer(p), s)
+	}
 	mu.Unlock()
 }
 

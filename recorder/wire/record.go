@@ -6,8 +6,12 @@ package wire
 const (
 	// Size of a record, in bytes.
 	Size = 32
-	// Magic is the Value of the log's first record, whose Goroutine is the number of records.
-	Magic = 0x676f7265632d3032 // "gorec-02"
+	// Magic is the Value of the log's first record, whose Goroutine is the number of records,
+	// and whose Kind the version of the trace that the log is for: in one for version 1 no
+	// TryFail is written.
+	Magic = 0x676f7265632d3033 // "gorec-03"
+	// Newest is the newest version of a trace.
+	Newest = 2
 )
 
 // Record is one thing that a goroutine did, or one thing that was met for the first time.
@@ -50,6 +54,9 @@ const (
 	Unlock             // Object
 	ReadLock           // Object
 	ReadUnlock         // Object
+	TryLock            // Object: a TryLock that succeeded
+	TryReadLock        // Object: a TryRLock that succeeded
+	TryFail            // Object: either of the two that didn't
 	OnceBegin          // Object
 	OnceEnd            // Object
 	OnceDone           // Object

@@ -7,12 +7,15 @@ use std::alloc::{AllocError, Allocator, Global};
 use std::sync::Wait;
 use std::thread::Threads;
 
-/// A call on a clock that has no counts: of this goroutine, or of a clock that counts it.
+/// A call of this goroutine on a clock that has no counts, or of a clock that counts it on one that counts another.
 #[derive(Clone, Copy)]
 enum Call {
     Tick(u32),
     Join(u32),
 }
+
+// Whom the clock counts before it joins.
+const COUNTED: u32 = 3;
 
 // A call that is refused leaves no count.
 fn reply_of<A: Allocator>(answer: Result<(), AllocError>, clock: &Clock<A>, who: u32) -> Reply {
@@ -37,10 +40,13 @@ impl Growing for Call {
                 reply_of(clock.tick(who), &clock, who)
             }
             Call::Join(who) => {
-                let is_counted = other.tick(who).is_ok();
+                let mut first = Clock::new(heap);
+                let is_counted = first.tick(COUNTED).is_ok()
+                    && clock.join(&first).is_ok()
+                    && other.tick(who).is_ok();
                 heap.refuse(nth);
                 let answer = clock.join(&other);
-                if is_counted {
+                if is_counted && clock.knows(COUNTED) == 1 {
                     reply_of(answer, &clock, who)
                 } else {
                     Reply::Wrong

@@ -8,18 +8,41 @@ use std::alloc::{AllocError, Allocator, Global};
 use std::sync::Wait;
 use std::thread::Threads;
 
-// A goroutine, two variables, three places and four events, which fill their tables.
-static DECLARED: &[u8] = b"gotrace 1\ngoroutine w\nvar x\nvar z\n";
+// Objects of each kind, three places and four events, which fill their tables.
+static DECLARED: &[u8] =
+    b"gotrace 1\ngoroutine w\nvar x\nvar z\nchan c 1\nchan d 0\nmutex l\nonce o\n";
 
 static EVENTS: &[u8] = b"exit w p\nexit w q\nexit w r\nexit w r\n";
 
+static COUNTS: [(Kind, u32); 5] = [
+    (Kind::Goroutine, 2),
+    (Kind::Var, 2),
+    (Kind::Chan, 2),
+    (Kind::Lock, 1),
+    (Kind::Once, 1),
+];
+
+static NAMES: [(&str, Option<Named>); 9] = [
+    ("main", Some(Named::Goroutine(0))),
+    ("w", Some(Named::Goroutine(1))),
+    ("x", Some(Named::Var(0))),
+    ("z", Some(Named::Var(1))),
+    ("d", Some(Named::Chan(1))),
+    ("l", Some(Named::Lock(0))),
+    ("o", Some(Named::Once(0))),
+    ("v", None),
+    ("y", None),
+];
+
 fn is_as_declared<A: Allocator>(decls: &Decls<A>) -> bool {
-    decls.len() == 3
-        && decls.count(Kind::Goroutine) == 2
-        && decls.count(Kind::Var) == 2
+    decls.len() == 7
         && decls.place_count() == 3
-        && decls.find("x") == Some(Named::Var(0))
-        && decls.find("y") == None
+        && COUNTS
+            .iter()
+            .all(|(kind, count)| decls.count(*kind) == *count)
+        && NAMES
+            .iter()
+            .all(|(name, named)| decls.find(*name) == *named)
 }
 
 fn is_as_traced<A: Allocator>(trace: &Trace<A>) -> bool {
@@ -104,7 +127,7 @@ impl Growing for OneMore {
     }
 }
 
-static ADDITIONS: [(OneMore, u64); 9] = [
+static ADDITIONS: [(OneMore, u64); 12] = [
     (OneMore(Start::Nothing, Addition::Goroutine, 1), 6),
     (OneMore(Start::Nothing, Addition::Var, 0), 6),
     (OneMore(Start::Nothing, Addition::Chan, 0), 6),
@@ -113,6 +136,9 @@ static ADDITIONS: [(OneMore, u64); 9] = [
     (OneMore(Start::Nothing, Addition::Place, 0), 5),
     (OneMore(Start::Copy, Addition::Goroutine, 2), 4),
     (OneMore(Start::Copy, Addition::Var, 2), 4),
+    (OneMore(Start::Copy, Addition::Chan, 2), 4),
+    (OneMore(Start::Copy, Addition::Lock, 1), 4),
+    (OneMore(Start::Copy, Addition::Once, 1), 4),
     (OneMore(Start::Copy, Addition::Place, 3), 3),
 ];
 
@@ -187,7 +213,7 @@ impl Growing for Call {
 }
 
 static CALLS: [(Call, u64); 4] = [
-    (Call::Copy, 16),
+    (Call::Copy, 23),
     (Call::Reserve, 1),
     (Call::Push, 1),
     (Call::AddPlace, 1),

@@ -29,13 +29,19 @@ fn new<A: Allocator + Copy>(heap: A, trace: &Trace<A>) -> Reply {
     }
 }
 
+// An event that is refused for want of memory is accepted the next time.
 fn accept<A: Allocator>(replay: &mut Replay<A>, event: &Event) -> Reply
     requires range { IsInRange (counts_in replay.old) event.now }
     requires first { replay.old.len ≡ 0 }
 {
     match replay.accept(event) {
         Ok(()) => right_if(replay.len() == 1),
-        Err(fault) => refused_if(fault == Broken::OutOfMemory && replay.len() == 0),
+        Err(fault) => refused_if(
+            fault == Broken::OutOfMemory
+                && replay.len() == 0
+                && replay.accept(event).is_ok()
+                && replay.len() == 1,
+        ),
     }
 }
 

@@ -50,7 +50,7 @@ fn known_by<A: Allocator + Copy>(stamper: &Stamper<A>) -> Known
     )
 }
 
-// Takes the event, by which main knows so much or else nothing has changed.
+// Takes the event, by which so much is known; else nothing has changed, and the event is taken the next time.
 fn last_step<A: Allocator + Copy>(stamper: &mut Stamper<A>, event: &Event, right: Known) -> Reply
     requires next { IsNext stamper.old event.now }
     requires slots { 8 < length stamper.old.clocks.slots }
@@ -58,7 +58,11 @@ fn last_step<A: Allocator + Copy>(stamper: &mut Stamper<A>, event: &Event, right
     let before = known_by(stamper);
     match stamper.step(event) {
         Ok(_) => right_if(known_by(stamper) == right),
-        Err(_) => refused_if(known_by(stamper) == before),
+        Err(_) => refused_if(
+            known_by(stamper) == before
+                && stamper.step(event).is_ok()
+                && known_by(stamper) == right,
+        ),
     }
 }
 

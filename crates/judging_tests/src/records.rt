@@ -1,4 +1,5 @@
 //! What race_records does that no contract says.
 mod declarations;
 mod devices;
+mod faults;
 mod traces;

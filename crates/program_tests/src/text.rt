@@ -1,5 +1,6 @@
 //! What race_text does that no contract says.
 mod channels;
+mod faults;
 mod feeding;
 mod locks;
 mod reading;

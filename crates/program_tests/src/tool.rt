@@ -1,5 +1,6 @@
 //! What the engines of race_tool do that no contract says.
 mod channels;
+mod damage;
 mod engines;
 mod judges;
 mod limits;

@@ -274,8 +274,7 @@ pub(crate) fn offer_count(ask: &Ask) -> u32
 
 /// In how many ways who asks can go on.
 pub(crate) fn way_count(ask: &Ask) -> u32
-    ensures count { result ≡ ways ask.now }
-    ensures few { result ≤ 17 }
+    ensures { result ≡ ways ask.now }
 {
     match ask {
         Ask::Select(offers, has_default) => offers.len() as u32 + u32::from(*has_default),

@@ -1,6 +1,7 @@
 //! What race_hub does that no contract says.
 mod board;
 mod boxes;
+mod faults;
 mod hubs;
 mod search;
 mod selects;

@@ -1,4 +1,5 @@
 //! What race_script does that no contract says.
+mod limits;
 mod programs;
 mod selects;
 mod texts;

@@ -143,6 +143,9 @@ func (o *options) record(cmd *exec.Cmd) error {
 	if o.seed != "" {
 		cmd.Env = append(cmd.Env, "GOREC_SEED="+o.seed)
 	}
+	if o.format != 0 {
+		cmd.Env = append(cmd.Env, fmt.Sprintf("GOREC_FORMAT=%d", o.format))
+	}
 	interrupts := make(chan os.Signal, 1)
 	signal.Notify(interrupts, os.Interrupt, syscall.SIGTERM)
 	if err := cmd.Start(); err != nil {
@@ -177,11 +180,24 @@ func (o *options) writeTrace(table sites.Table) (*trace.Summary, error) {
 	if err != nil {
 		return nil, err
 	}
-	summary, err := trace.Write(log.Records(), table, o.all, f)
+	summary, err := o.writeLog(log, table, f)
 	if err != nil {
 		return nil, err
 	}
 	return summary, f.Close()
+}
+
+// writeLog writes a log as the version that is asked for, or the one that it is for.
+func (o *options) writeLog(log *trace.Log, table sites.Table, out io.Writer) (*trace.Summary, error) {
+	version := o.format
+	if version == 0 {
+		version = log.Version()
+	}
+	if version > log.Version() {
+		return nil, fmt.Errorf("the log was written for version %d of a trace; GOREC_FORMAT=%d makes one for version %d",
+			log.Version(), version, version)
+	}
+	return trace.Write(log.Records(), table, trace.Options{Version: version, All: o.all}, out)
 }
 
 func (o *options) buildOnly(args []string) error {
@@ -206,7 +222,7 @@ func (o *options) trace(path, sitesPath string) error {
 		return err
 	}
 	defer log.Close()
-	summary, err := trace.Write(log.Records(), table, o.all, os.Stdout)
+	summary, err := o.writeLog(log, table, os.Stdout)
 	if err != nil {
 		return err
 	}

@@ -1,11 +1,11 @@
 package endtoend
 
 import (
+	"bytes"
 	"flag"
 	"os"
 	"os/exec"
 	"path/filepath"
-	"regexp"
 	"sort"
 	"strings"
 	"testing"
@@ -30,7 +30,7 @@ func TestGoRaceTests(t *testing.T) {
 		t.Skip("no -racetests")
 	}
 	dir := t.TempDir()
-	names := copyRaceTests(t, dir)
+	copyRaceTests(t, dir)
 	program := filepath.Join(dir, "tests")
 	cmd := exec.Command(gorec, "build", "-force", "-tests", "-o", program, ".")
 	cmd.Dir = dir
@@ -39,25 +39,25 @@ func TestGoRaceTests(t *testing.T) {
 	} else {
 		t.Logf("%s", out)
 	}
-	raced := map[string]bool{}
-	judged := 0
+	names := listTests(t, program)
+	traces := map[string]string{}
 	for _, name := range names {
-		traces := map[string]string{}
 		for _, seed := range []string{"1", "2", "3", "4", "5"} {
 			traces[name+"."+seed] = recordTest(t, dir, program, name, seed)
 		}
-		for run, report := range judgeAll(t, traces) {
-			judged++
-			switch {
-			case strings.Contains("\n"+report, "\nraces: "):
-				raced[name] = raced[name] || races(report)
-			case !strings.HasPrefix(report, "clean: "):
-				t.Errorf("%s: %s", run, report)
-			}
+	}
+	raced := map[string]bool{}
+	for run, report := range judgeAll(t, traces) {
+		name, _, _ := strings.Cut(run, ".")
+		switch {
+		case strings.Contains("\n"+report, "\nraces: "):
+			raced[name] = raced[name] || races(report)
+		case !strings.HasPrefix(report, "clean: "):
+			t.Errorf("%s: %s", run, report)
 		}
 	}
 	compare(t, names, raced)
-	t.Logf("%d tests, %d traces", len(names), judged)
+	t.Logf("%d tests, %d traces", len(names), len(traces))
 }
 
 func compare(t *testing.T, names []string, raced map[string]bool) {
@@ -87,15 +87,14 @@ func races(report string) bool {
 	return false
 }
 
-// copyRaceTests makes a module of the tests but for those with cgo, and names the tests.
-func copyRaceTests(t *testing.T, dir string) []string {
+// copyRaceTests makes a module of the tests but for those with cgo. RaceDisable, which one of
+// them calls, is there only with -race.
+func copyRaceTests(t *testing.T, dir string) {
 	t.Helper()
 	files, err := filepath.Glob(filepath.Join(*raceTests, "*_test.go"))
 	if err != nil || len(files) == 0 {
 		t.Fatalf("no tests in %s", *raceTests)
 	}
-	test := regexp.MustCompile(`(?m)^func (Test(?:No)?Race\w*)\(`)
-	var names []string
 	for _, f := range files {
 		b, err := os.ReadFile(f)
 		if err != nil {
@@ -104,16 +103,24 @@ func copyRaceTests(t *testing.T, dir string) []string {
 		if strings.Contains(filepath.Base(f), "cgo") {
 			continue
 		}
-		for _, m := range test.FindAllStringSubmatch(string(b), -1) {
-			names = append(names, m[1])
-		}
+		b = bytes.ReplaceAll(b, []byte("runtime.RaceDisable()"), nil)
 		if err := os.WriteFile(filepath.Join(dir, filepath.Base(f)), b, 0o644); err != nil {
 			t.Fatal(err)
 		}
 	}
-	if err := os.WriteFile(filepath.Join(dir, "go.mod"), []byte("module example.com/racetests\n\ngo 1.19\n"), 0o644); err != nil {
+	if err := os.WriteFile(filepath.Join(dir, "go.mod"), []byte("module example.com/racetests\n\n"+goLine()+"\n"), 0o644); err != nil {
 		t.Fatal(err)
 	}
+}
+
+// listTests names the tests of a program that was built.
+func listTests(t *testing.T, program string) []string {
+	t.Helper()
+	out, err := exec.Command(program, "-test.list", "^Test(No)?Race").Output()
+	if err != nil {
+		t.Fatal(err)
+	}
+	names := strings.Fields(string(out))
 	sort.Strings(names)
 	return names
 }
@@ -131,7 +138,7 @@ func recordTest(t *testing.T, dir, program, name, seed string) string {
 	if err != nil {
 		t.Fatalf("%s: %v", name, err)
 	}
-	path := filepath.Join(dir, "trace."+seed)
+	path := filepath.Join(dir, name+"."+seed+".gotrace")
 	if err := os.WriteFile(path, text, 0o644); err != nil {
 		t.Fatal(err)
 	}

@@ -92,8 +92,11 @@ func (r *rewriter) libraryCall(e *ast.CallExpr, sel *ast.SelectorExpr, f *types.
 		r.atomicFunction(sel, f, r.name(e.Args[0]))
 		r.values(e.Args)
 	case full == "time.AfterFunc" && len(e.Args) == 2:
-		r.value(e.Args[0])
-		r.wrapArgument(e.Args[1], "Later", r.site(e, ""))
+		s := r.site(e, "timer")
+		r.keepUse(sel)
+		r.replace(sel.Pos(), sel.End(), "gorec.AfterFunc")
+		r.values(e.Args)
+		r.replace(e.Rparen, e.Rparen+1, r.comma(e)+s+")")
 	case full == "context.WithCancel" || full == "context.WithTimeout" || full == "context.WithDeadline":
 		s := r.site(e, "done")
 		r.keepUse(sel)

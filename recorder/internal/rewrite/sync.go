@@ -24,6 +24,8 @@ var syncTypes = map[string]struct{ use, methods string }{
 	"sync/atomic.Bool":    {"AtomicBool", "Load Store Swap CompareAndSwap"},
 	"sync/atomic.Value":   {"AtomicValue", "Load Store Swap CompareAndSwap"},
 	"sync/atomic.Pointer": {"AtomicPointer", "Load Store Swap CompareAndSwap"},
+	"time.Timer":          {"Timer", "Reset"},
+	"time.Ticker":         {"Ticker", "Reset"},
 }
 
 // receiverType is the package and name of the type that declares a method.
@@ -48,7 +50,7 @@ func hasWord(words, word string) bool {
 	return false
 }
 
-// syncMethod changes the X of X.M where M is of package sync, sync/atomic or context.
+// syncMethod changes the X of X.M where M is of package sync, sync/atomic, context or time.
 func (r *rewriter) syncMethod(e *ast.SelectorExpr, m *types.Func) bool {
 	name := receiverType(m)
 	known, ok := syncTypes[name]

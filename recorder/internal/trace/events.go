@@ -2,6 +2,7 @@ package trace
 
 import (
 	"bufio"
+	"fmt"
 	"io"
 	"strconv"
 	"strings"
@@ -14,8 +15,12 @@ var words = map[wire.Op]string{
 	wire.Read: "read", wire.Write: "write", wire.AtomicRead: "read", wire.AtomicWrite: "write",
 	wire.Send: "send", wire.Receive: "recv", wire.Meet: "meet", wire.ReceiveClosed: "recvclosed", wire.Close: "close",
 	wire.Lock: "lock", wire.Unlock: "unlock", wire.ReadLock: "rlock", wire.ReadUnlock: "runlock",
+	wire.TryLock: "trylock", wire.TryReadLock: "tryrlock", wire.TryFail: "tryfail",
 	wire.OnceBegin: "oncebegin", wire.OnceEnd: "onceend", wire.OnceDone: "oncedone",
 }
+
+// withoutTries are the words of version 1, where a TryLock that succeeded is a Lock.
+var withoutTries = map[wire.Op]string{wire.TryLock: "lock", wire.TryReadLock: "rlock"}
 
 // releases and acquires are what stands for an order, by the declaration that it has.
 var (
@@ -52,7 +57,7 @@ func (d *declarer) print(out io.Writer) (*printer, error) {
 	for g := range p.goroutines {
 		p.goroutines[g] = d.goroutine(uint32(g))
 	}
-	p.out.WriteString("gotrace 1\n")
+	fmt.Fprintf(p.out, "gotrace %d\n", p.Version)
 	p.out.WriteString(d.text.String())
 	for i := 0; i < d.end; i++ {
 		p.print(i)
@@ -96,9 +101,16 @@ func (p *printer) print(i int) {
 		}
 	default:
 		if p.kept(i) {
-			p.event(words[r.Op], r, p.objects[r.Object].name)
+			p.event(p.word(r.Op), r, p.objects[r.Object].name)
 		}
 	}
+}
+
+func (p *printer) word(op wire.Op) string {
+	if w := withoutTries[op]; w != "" && !p.hasTries() {
+		return w
+	}
+	return words[op]
 }
 
 func (p *printer) isLending() bool { return p.living() > maxGoroutines }
@@ -112,7 +124,7 @@ func (p *printer) access(r *wire.Record) {
 		p.valued(words[r.Op], r, o.atomics[r.Goroutine], 0)
 		return
 	}
-	if o.several && o.written || p.all {
+	if o.several && o.written || p.All {
 		p.valued(words[r.Op], r, o.name, r.Value^o.base)
 	}
 	if o.mixed() {

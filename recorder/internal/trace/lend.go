@@ -140,9 +140,9 @@ func (l *lender) follow(r *wire.Record) {
 		l.join(r.Other, sender)
 	case wire.Close, wire.OnceEnd, wire.Release:
 		l.pairing(r.Object).last = c.copy()
-	case wire.ReceiveClosed, wire.OnceDone, wire.Acquire, wire.ReadLock:
+	case wire.ReceiveClosed, wire.OnceDone, wire.Acquire, wire.ReadLock, wire.TryReadLock:
 		l.join(r.Goroutine, l.pairing(r.Object).last)
-	case wire.Lock:
+	case wire.Lock, wire.TryLock:
 		p := l.pairing(r.Object)
 		l.join(r.Goroutine, p.all)
 		l.join(r.Goroutine, p.readers)

@@ -49,5 +49,8 @@ func (l *Log) Len() int { return int(atomic.LoadUint32(&l.records[0].Goroutine))
 // Records are those up to Len.
 func (l *Log) Records() []wire.Record { return l.records[1 : l.Len()+1] }
 
+// Version is that of the trace which the log is for.
+func (l *Log) Version() int { return int(l.records[0].Kind) }
+
 // Close unmaps the log.
 func (l *Log) Close() error { return syscall.Munmap(l.mapped) }

@@ -29,10 +29,19 @@ type Summary struct {
 	losses                                 [wire.Losses]map[string]int
 }
 
+// Options are what is asked of a trace.
+type Options struct {
+	Version int  // of its text
+	All     bool // what one goroutine alone does isn't left out
+}
+
+// hasTries: the version has words for TryLock and TryRLock, with and without success.
+func (o Options) hasTries() bool { return o.Version >= 2 }
+
 // Write writes the trace of a log. What one goroutine alone does with a variable, a channel,
 // a lock or a once is left out, unless all is wanted.
-func Write(records []wire.Record, table sites.Table, all bool, out io.Writer) (*Summary, error) {
-	d := declare(lend(newSurvey(records, all)), table)
+func Write(records []wire.Record, table sites.Table, o Options, out io.Writer) (*Summary, error) {
+	d := declare(lend(newSurvey(records, o)), table)
 	p, err := d.print(out)
 	if err != nil {
 		return nil, err

@@ -24,16 +24,16 @@ type object struct {
 // survey is what is known of a log before it is written.
 type survey struct {
 	records []wire.Record
-	all     bool // nothing is left out
+	Options
 	objects []object
 	started uint32 // the number of goroutines beside main
 	begin   int    // the first go: what stands before happens before all that others do
 	alive   []bool // goroutines that do something that is kept, or start one that does
 }
 
-func newSurvey(records []wire.Record, all bool) *survey {
-	s := &survey{records: records, all: all, objects: []object{{user: -1}}}
-	for !all && s.begin < len(records) && records[s.begin].Op != wire.Go {
+func newSurvey(records []wire.Record, o Options) *survey {
+	s := &survey{records: records, Options: o, objects: []object{{user: -1}}}
+	for !s.All && s.begin < len(records) && records[s.begin].Op != wire.Go {
 		s.begin++
 	}
 	for i := range records {
@@ -101,6 +101,10 @@ func (s *survey) look(i int) {
 				s.use(id, r.Goroutine)
 			}
 		}
+	case wire.TryFail:
+		if s.hasTries() {
+			s.use(r.Object, r.Goroutine)
+		}
 	case wire.Exit, wire.Case, wire.Unseen, wire.Lost, wire.Full:
 	default:
 		s.use(r.Object, r.Goroutine)
@@ -126,7 +130,7 @@ func (s *survey) keep(id uint32) bool {
 	switch {
 	case o.op == wire.None:
 		return false
-	case s.all:
+	case s.All:
 		return true
 	case o.op == wire.DeclareVar:
 		return o.several && o.written || o.mixed()
@@ -143,8 +147,10 @@ func (s *survey) kept(i int) bool {
 	case wire.AtomicRead, wire.AtomicWrite:
 		return i >= s.begin && s.objects[r.Object].mixed()
 	case wire.Send, wire.Receive, wire.Meet, wire.ReceiveClosed, wire.Close, wire.Lock, wire.Unlock, wire.ReadLock,
-		wire.ReadUnlock, wire.OnceBegin, wire.OnceEnd, wire.OnceDone, wire.Release, wire.Acquire:
+		wire.ReadUnlock, wire.TryLock, wire.TryReadLock, wire.OnceBegin, wire.OnceEnd, wire.OnceDone, wire.Release, wire.Acquire:
 		return s.keep(r.Object)
+	case wire.TryFail:
+		return s.hasTries() && s.keep(r.Object)
 	}
 	return false
 }
@@ -156,12 +162,12 @@ func (s *survey) findAlive() {
 		r := &s.records[i]
 		switch {
 		case r.Op == wire.Go:
-			if s.all || s.alive[r.Other] {
+			if s.All || s.alive[r.Other] {
 				s.alive[r.Other], s.alive[r.Goroutine] = true, true
 			}
 		case r.Op == wire.Meet && s.kept(i):
 			s.alive[r.Goroutine], s.alive[r.Other] = true, true
-		case s.kept(i) || s.isFault(r) || s.all && r.Op == wire.Exit:
+		case s.kept(i) || s.isFault(r) || s.All && r.Op == wire.Exit:
 			s.alive[r.Goroutine] = true
 		}
 	}

@@ -13,8 +13,13 @@ var table = sites.Table{{Place: "-"}, {Place: "a.go:1", Name: "x"}, {Place: "a.g
 
 func written(t *testing.T, records []wire.Record) (string, *Summary) {
 	t.Helper()
+	return writtenAs(t, 1, records)
+}
+
+func writtenAs(t *testing.T, version int, records []wire.Record) (string, *Summary) {
+	t.Helper()
 	var b strings.Builder
-	s, err := Write(records, table, false, &b)
+	s, err := Write(records, table, Options{Version: version}, &b)
 	if err != nil {
 		t.Fatal(err)
 	}
@@ -123,6 +128,81 @@ func TestAFaultIsTheLastEvent(t *testing.T) {
 	text, _ = written(t, append(records, wire.Record{Op: wire.Exit, Goroutine: 1, Site: 1})) // it was recovered from
 	if strings.Contains(text, "fault") {
 		t.Errorf("got\n%s", text)
+	}
+}
+
+// tries are of two goroutines; what one alone tries, and fails, isn't there in version 1.
+var tries = []wire.Record{
+	{Op: wire.DeclareLock, Object: 1, Site: 3, Kind: 1},
+	{Op: wire.DeclareLock, Object: 2, Site: 1},
+	{Op: wire.Go, Other: 1, Site: 1},
+	{Op: wire.TryLock, Object: 1, Site: 2},
+	{Op: wire.TryFail, Object: 1, Goroutine: 1, Site: 1},
+	{Op: wire.Lock, Object: 2, Site: 1},
+	{Op: wire.TryFail, Object: 2, Goroutine: 1, Site: 2},
+	{Op: wire.Unlock, Object: 2, Site: 1},
+	{Op: wire.Unlock, Object: 1, Site: 2},
+	{Op: wire.TryReadLock, Object: 1, Goroutine: 1, Site: 1},
+	{Op: wire.ReadUnlock, Object: 1, Goroutine: 1, Site: 1},
+	{Op: wire.Exit, Goroutine: 1, Site: 1},
+}
+
+func TestTries(t *testing.T) {
+	for version, want := range map[int]string{
+		1: `gotrace 1
+rwmutex mu
+goroutine g1
+go main g1 a.go:1
+lock main mu a.go:2
+unlock main mu a.go:2
+rlock g1 mu a.go:1
+runlock g1 mu a.go:1
+exit g1 a.go:1
+`,
+		2: `gotrace 2
+rwmutex mu
+mutex x
+goroutine g1
+go main g1 a.go:1
+trylock main mu a.go:2
+tryfail g1 mu a.go:1
+lock main x a.go:1
+tryfail g1 x a.go:2
+unlock main x a.go:1
+unlock main mu a.go:2
+tryrlock g1 mu a.go:1
+runlock g1 mu a.go:1
+exit g1 a.go:1
+`,
+	} {
+		if text, _ := writtenAs(t, version, tries); text != want {
+			t.Errorf("version %d: got\n%s", version, text)
+		}
+	}
+}
+
+// TestNamesAreLentOnByTries: a lock that a try has taken orders as any other, and a try that
+// failed doesn't.
+func TestNamesAreLentOnByTries(t *testing.T) {
+	for op, lent := range map[wire.Op]int{wire.Lock: 1999, wire.TryLock: 1999, wire.TryFail: 0} {
+		var records []wire.Record
+		for _, r := range joined(2000) {
+			switch {
+			case r.Op == wire.Release || r.Op == wire.Acquire: // the lock alone orders
+				continue
+			case r.Op == wire.Exit:
+				records = append(records, r, wire.Record{Op: op, Object: 1, Site: 3})
+				if op != wire.TryFail {
+					records = append(records, wire.Record{Op: wire.Unlock, Object: 1, Site: 3})
+				}
+				continue
+			}
+			records = append(records, r)
+		}
+		text, _ := writtenAs(t, 2, records)
+		if got := strings.Count(text, "\nchan go"); got != lent {
+			t.Errorf("%d: %d names are lent on", op, got)
+		}
 	}
 }
 

@@ -100,7 +100,8 @@ fn is_said_by<R: Threads + Wait>(
     Ok(said_by(&verdict) == want)
 }
 
-fn is_told<R: Threads + Wait>(
+/// Whether the judge says so by each number of shards, in blocks of each length.
+pub(crate) fn is_told<R: Threads + Wait>(
     rt: &R,
     alloc: Global,
     trace: &Trace,
@@ -116,7 +117,8 @@ fn is_told<R: Threads + Wait>(
     Ok(true)
 }
 
-fn is_told_alone(alloc: Global, trace: &Trace, want: Told<'_>) -> Result<bool, Fail> {
+/// Whether the judge that has no threads says so.
+pub(crate) fn is_told_alone(alloc: Global, trace: &Trace, want: Told<'_>) -> Result<bool, Fail> {
     Ok(said_by(&judge_alone(alloc, trace)?) == want)
 }
 

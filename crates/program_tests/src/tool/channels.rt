@@ -10,13 +10,27 @@ const BUFFERED: &str =
 const CLOSED: &str =
     "gotrace 1 / goroutine a / goroutine b / var x / chan c 0 / go main a m:1 / go main b m:2 / write main x 4 m:3 / close main c m:4 / recvclosed a c a:1 / read a x 4 a:2 / recvclosed b c b:1 / read b x 4 b:2";
 
+// Nine goroutines read, and each meets main before main writes.
+const NINE_READERS: &str =
+    "gotrace 1 / goroutine r1 / goroutine r2 / goroutine r3 / goroutine r4 / goroutine r5 / goroutine r6 / goroutine r7 / goroutine r8 / goroutine r9 / var x / chan c 0 / go main r1 m:1 / go main r2 m:2 / go main r3 m:3 / go main r4 m:4 / go main r5 m:5 / go main r6 m:6 / go main r7 m:7 / go main r8 m:8 / go main r9 m:9 / read r1 x 0 r1:1 / read r2 x 0 r2:1 / read r3 x 0 r3:1 / read r4 x 0 r4:1 / read r5 x 0 r5:1 / read r6 x 0 r6:1 / read r7 x 0 r7:1 / read r8 x 0 r8:1 / read r9 x 0 r9:1 / meet r1 main c 1 r1:2 m:11 / meet r2 main c 1 r2:2 m:12 / meet r3 main c 1 r3:2 m:13 / meet r4 main c 1 r4:2 m:14 / meet r5 main c 1 r5:2 m:15 / meet r6 main c 1 r6:2 m:16 / meet r7 main c 1 r7:2 m:17 / meet r8 main c 1 r8:2 m:18 / meet r9 main c 1 r9:2 m:19 / write main x 1 m:20";
+
+// The ninth doesn't meet main.
+const EIGHT_MEET: &str =
+    "gotrace 1 / goroutine r1 / goroutine r2 / goroutine r3 / goroutine r4 / goroutine r5 / goroutine r6 / goroutine r7 / goroutine r8 / goroutine r9 / var x / chan c 0 / go main r1 m:1 / go main r2 m:2 / go main r3 m:3 / go main r4 m:4 / go main r5 m:5 / go main r6 m:6 / go main r7 m:7 / go main r8 m:8 / go main r9 m:9 / read r1 x 0 r1:1 / read r2 x 0 r2:1 / read r3 x 0 r3:1 / read r4 x 0 r4:1 / read r5 x 0 r5:1 / read r6 x 0 r6:1 / read r7 x 0 r7:1 / read r8 x 0 r8:1 / read r9 x 0 r9:1 / meet r1 main c 1 r1:2 m:11 / meet r2 main c 1 r2:2 m:12 / meet r3 main c 1 r3:2 m:13 / meet r4 main c 1 r4:2 m:14 / meet r5 main c 1 r5:2 m:15 / meet r6 main c 1 r6:2 m:16 / meet r7 main c 1 r7:2 m:17 / meet r8 main c 1 r8:2 m:18 / write main x 1 m:20";
+
 // Traces with their reports and statuses.
-pub(crate) static JUDGED: [Row; 10] = [
+pub(crate) static JUDGED: [Row; 12] = [
     // The reader that met main is ordered before the write, and so is the one that met it later; the
     // third isn't.
     (
         "gotrace 1 / goroutine a / goroutine b / goroutine c / var x / chan d 0 / go main a m:1 / go main b m:2 / go main c m:3 / read c x 0 c:1 / read a x 0 a:1 / read b x 0 b:1 / meet a main d 1 a:2 m:4 / meet b main d 2 b:2 m:5 / write main x 9 m:6",
         "race on x: read by c at c:1 (event 4), write by main at m:6 (event 9) / races: 1",
+        status::RACES,
+    ),
+    (NINE_READERS, "clean: 28 events, 10 accesses", status::CLEAN),
+    (
+        EIGHT_MEET,
+        "race on x: read by r9 at r9:1 (event 18), write by main at m:20 (event 27) / races: 1",
         status::RACES,
     ),
     // The receiver's write is ordered before what the sender does behind the meet.

@@ -2,12 +2,12 @@
 use crate::tool::engines::{
     Engine, Runtime, Told, is_cut_off, judge, leaves_unread, tells, text_of,
 };
-use crate::tool::runs::{MOST, Row, options};
+use crate::tool::runs::{HANDOFF, MOST, Row, options};
 use race_tool::{CheckOptions, MAX_BLOCK, MAX_SHARDS, RunOptions, status};
 use std::alloc::Global;
 use std::test::Fail;
 
-static ROWS: [Row<'static>; 12] = [
+static ROWS: [Row<'static>; 14] = [
     (
         "goprogram 1 / goroutine w / var x / body main / go w m:1 / write x 1 m:2 / exit m:3 / body w / read x w:1 / exit w:2",
         MOST,
@@ -17,7 +17,7 @@ static ROWS: [Row<'static>; 12] = [
     ),
     // Each end without a race.
     (
-        "goprogram 1 / goroutine w / chan c 0 / var x / body main / go w m:1 / recv c m:2 / read x m:3 / exit m:4 / body w / write x 8 w:1 / send c 1 w:2 / exit w:3",
+        HANDOFF,
         MOST,
         Some(&[0]),
         "clean: 6 events, 2 accesses / end: main",
@@ -50,6 +50,21 @@ static ROWS: [Row<'static>; 12] = [
         Some(&[0]),
         "clean: 2 events, 0 accesses / end: bad w",
         status::BAD_REQUEST,
+    ),
+    // Main's exit and a fault end a run before its limit does.
+    (
+        HANDOFF,
+        6,
+        Some(&[0]),
+        "clean: 6 events, 2 accesses / end: main",
+        status::CLEAN,
+    ),
+    (
+        "goprogram 1 / chan c 0 / body main / close c m:1 / close c m:2 / exit m:3",
+        2,
+        Some(&[0]),
+        "clean: 2 events, 0 accesses / end: fault",
+        status::FAILED,
     ),
     // Each other end with one: main and w write x, whatever comes then.
     (

@@ -12,7 +12,7 @@ pub(crate) type Row<'a> = (&'a str, u32, Option<&'a [u64]>, &'a str, u8);
 pub(crate) const MOST: u32 = 16_777_216;
 
 // Main waits for w's value over c, and reads what w wrote.
-const HANDOFF: &str =
+pub(crate) const HANDOFF: &str =
     "goprogram 1 / goroutine w / chan c 0 / var x / body main / go w m:1 / recv c m:2 / read x m:3 / exit m:4 / body w / write x 8 w:1 / send c 1 w:2 / exit w:3";
 
 const HANDOFF_TRACE: &str =
@@ -60,7 +60,7 @@ const TWO_SELECTS: &str =
 // Main tries a free lock twice.
 const TRIES: &str = "goprogram 2 / mutex l / body main / trylock l m:1 / trylock l m:2 / exit m:3";
 
-static ROWS: [Row<'static>; 23] = [
+static ROWS: [Row<'static>; 26] = [
     // A program runs to its end.
     (HANDOFF, MOST, Some(&[0]), HANDOFF_TRACE, status::CLEAN),
     (
@@ -88,6 +88,22 @@ static ROWS: [Row<'static>; 23] = [
     (
         "goprogram 1 / chan c 0 / body main / close c m:1 / close c m:2 / exit m:3",
         MOST,
+        Some(&[0]),
+        "gotrace 1 / chan c 0 / close main c m:1 / fault main close:c m:2",
+        status::FAILED,
+    ),
+    // Main's exit and a fault end a run before its limit does.
+    (HANDOFF, 6, Some(&[0]), HANDOFF_TRACE, status::CLEAN),
+    (
+        HANDOFF,
+        5,
+        Some(&[0]),
+        "gotrace 1 / goroutine w / chan c 0 / var x / go main w m:1 / write w x 8 w:1 / meet w main c 1 w:2 m:2 / exit w w:3 / read main x 8 m:3",
+        status::LIMIT,
+    ),
+    (
+        "goprogram 1 / chan c 0 / body main / close c m:1 / close c m:2 / exit m:3",
+        2,
         Some(&[0]),
         "gotrace 1 / chan c 0 / close main c m:1 / fault main close:c m:2",
         status::FAILED,

@@ -7,10 +7,10 @@ use std::test::Fail;
 /// The lines of a trace, a name, the lines that are written, and the status.
 type Row = (&'static str, &'static str, &'static str, u8);
 
-const HANDED_ON: &str =
+pub(crate) const HANDED_ON: &str =
     "gotrace 1 / goroutine w / var x / write main x 7 a.go:1 / go main w a.go:2 / read w x 7 a.go:5 / exit main a.go:3";
 
-const LATE_WRITE: &str =
+pub(crate) const LATE_WRITE: &str =
     "gotrace 1 / goroutine w / var x / go main w a.go:2 / write main x 1 a.go:3 / read w x 1 a.go:6";
 
 const TWO_SENDERS: &str =

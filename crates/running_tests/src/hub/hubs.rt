@@ -203,6 +203,12 @@ const DEADLOCK: [Row; 3] = [
     (Move::Fire(0), Came::Nothing, 0, Some(End::Deadlock), 0),
 ];
 
+const ONE_WRITE: [Row; 3] = [
+    (Move::Take, Came::Taken(0), 1, None, 0),
+    (Move::Submit(0), Came::Done, 0, None, 0),
+    (Move::Fire(0), Came::Done, 0, Some(End::Limit), 1),
+];
+
 // Main starts w and reads, and w writes.
 const LIMIT: [Row; 10] = [
     (Move::Take, Came::Taken(0), 1, None, 0),
@@ -217,7 +223,7 @@ const LIMIT: [Row; 10] = [
     (Move::Submit(0), Came::Done, 0, Some(End::Limit), 2),
 ];
 
-static RUNS: [Run; 7] = [
+static RUNS: [Run; 10] = [
     (8, &[], &[], &NEW, 7, Ok((End::Main, 1, 0, false, false))),
     (8, &[], &[], &[], 0, Err(Mismatch::NotEnded)),
     (
@@ -259,6 +265,24 @@ static RUNS: [Run; 7] = [
         &FAULT,
         3,
         Ok((End::Fault, 1, 0, false, false)),
+    ),
+    // Main's exit and a fault end a run before its limit does.
+    (1, &[], &[], &NEW, 7, Ok((End::Main, 1, 0, false, false))),
+    (
+        1,
+        &[Plain::Close(None)],
+        &[],
+        &FAULT,
+        3,
+        Ok((End::Fault, 1, 0, false, false)),
+    ),
+    (
+        1,
+        &[Plain::Write(0, 5)],
+        &[],
+        &ONE_WRITE,
+        3,
+        Ok((End::Limit, 1, 0, false, false)),
     ),
 ];
 

@@ -17,7 +17,7 @@ type Row = (
     (Option<Answer>, Option<Answer>),
 );
 
-static ROWS: [Row; 6] = [
+static ROWS: [Row; 8] = [
     // By either pair of offers.
     (
         &[Plain::Go(1), Plain::Select(&[Some(5), None], false)],
@@ -33,6 +33,27 @@ static ROWS: [Row; 6] = [
         &[Plain::Go(1), Plain::Select(&[Some(5), None], false)],
         &[Plain::Select(&[None, Some(6)], false)],
         1,
+        Some((0, 6)),
+        (
+            Some(Answer::Chosen(1, Some(6))),
+            Some(Answer::Chosen(1, None)),
+        ),
+    ),
+    // There are these two choices, so the next pick is the first one again.
+    (
+        &[Plain::Go(1), Plain::Select(&[Some(5), None], false)],
+        &[Plain::Select(&[None, Some(6)], false)],
+        2,
+        Some((1, 5)),
+        (
+            Some(Answer::Chosen(0, None)),
+            Some(Answer::Chosen(0, Some(5))),
+        ),
+    ),
+    (
+        &[Plain::Go(1), Plain::Select(&[Some(5), None], false)],
+        &[Plain::Select(&[None, Some(6)], false)],
+        3,
         Some((0, 6)),
         (
             Some(Answer::Chosen(1, Some(6))),

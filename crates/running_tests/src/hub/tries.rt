@@ -18,38 +18,38 @@ enum Made {
 /// What main asks, of which the last is a try of the rwmutex; the pick by which that happens, what it made, and what main is told.
 type Row = (&'static [Plain], u64, Made, Answer);
 
-static FREE: [Plain; 1] = [Plain::TryLock(0)];
+const FREE: &[Plain] = &[Plain::TryLock(0)];
 
-static FREE_TO_READ: [Plain; 1] = [Plain::TryRLock(0)];
+const FREE_TO_READ: &[Plain] = &[Plain::TryRLock(0)];
 
-static HELD: [Plain; 2] = [Plain::Lock(0), Plain::TryLock(0)];
+const HELD: &[Plain] = &[Plain::Lock(0), Plain::TryLock(0)];
 
-static HELD_TO_READ: [Plain; 2] = [Plain::Lock(0), Plain::TryRLock(0)];
+const HELD_TO_READ: &[Plain] = &[Plain::Lock(0), Plain::TryRLock(0)];
 
-static READ_HELD: [Plain; 2] = [Plain::RLock(0), Plain::TryLock(0)];
+const READ_HELD: &[Plain] = &[Plain::RLock(0), Plain::TryLock(0)];
 
-static BESIDE_A_READER: [Plain; 2] = [Plain::RLock(0), Plain::TryRLock(0)];
+const BESIDE_A_READER: &[Plain] = &[Plain::RLock(0), Plain::TryRLock(0)];
 
-static TRIED: [Plain; 2] = [Plain::TryLock(0), Plain::TryLock(0)];
+const TRIED: &[Plain] = &[Plain::TryLock(0), Plain::TryLock(0)];
 
 // A try that could succeed has two choices, so that pick 2 is pick 0 again; another one has one.
 static ROWS: [Row; 16] = [
-    (&FREE, 0, Made::Locked, Answer::Tried(true)),
-    (&FREE, 1, Made::Failed, Answer::Tried(false)),
-    (&FREE, 2, Made::Locked, Answer::Tried(true)),
-    (&FREE_TO_READ, 0, Made::ReadLocked, Answer::Tried(true)),
-    (&FREE_TO_READ, 1, Made::Failed, Answer::Tried(false)),
-    (&FREE_TO_READ, 2, Made::ReadLocked, Answer::Tried(true)),
-    (&HELD, 0, Made::Failed, Answer::Tried(false)),
-    (&HELD, 1, Made::Failed, Answer::Tried(false)),
-    (&HELD_TO_READ, 0, Made::Failed, Answer::Tried(false)),
-    (&HELD_TO_READ, 1, Made::Failed, Answer::Tried(false)),
-    (&READ_HELD, 0, Made::Failed, Answer::Tried(false)),
-    (&READ_HELD, 1, Made::Failed, Answer::Tried(false)),
-    (&BESIDE_A_READER, 0, Made::ReadLocked, Answer::Tried(true)),
-    (&BESIDE_A_READER, 1, Made::Failed, Answer::Tried(false)),
-    (&TRIED, 0, Made::Failed, Answer::Tried(false)),
-    (&TRIED, 1, Made::Failed, Answer::Tried(false)),
+    (FREE, 0, Made::Locked, Answer::Tried(true)),
+    (FREE, 1, Made::Failed, Answer::Tried(false)),
+    (FREE, 2, Made::Locked, Answer::Tried(true)),
+    (FREE_TO_READ, 0, Made::ReadLocked, Answer::Tried(true)),
+    (FREE_TO_READ, 1, Made::Failed, Answer::Tried(false)),
+    (FREE_TO_READ, 2, Made::ReadLocked, Answer::Tried(true)),
+    (HELD, 0, Made::Failed, Answer::Tried(false)),
+    (HELD, 1, Made::Failed, Answer::Tried(false)),
+    (HELD_TO_READ, 0, Made::Failed, Answer::Tried(false)),
+    (HELD_TO_READ, 1, Made::Failed, Answer::Tried(false)),
+    (READ_HELD, 0, Made::Failed, Answer::Tried(false)),
+    (READ_HELD, 1, Made::Failed, Answer::Tried(false)),
+    (BESIDE_A_READER, 0, Made::ReadLocked, Answer::Tried(true)),
+    (BESIDE_A_READER, 1, Made::Failed, Answer::Tried(false)),
+    (TRIED, 0, Made::Failed, Answer::Tried(false)),
+    (TRIED, 1, Made::Failed, Answer::Tried(false)),
 ];
 
 // A hub of version 2 with a mutex, or an rwmutex, in which main asks these.
@@ -116,11 +116,11 @@ fn end_of(alloc: Global, rw: bool, main: &'static [Plain]) -> Result<Option<End>
 #[test]
 fn a_try_wants_version_2_and_its_kind_of_lock(rt: HostRuntime) -> Result<(), Fail> {
     let bad = Some(End::Bad(0));
-    for &tried in &[&FREE, &FREE_TO_READ] {
+    for &tried in &[FREE, FREE_TO_READ] {
         assert_eq!(rt; end_in_version1(rt.alloc(), tried)?, bad);
         assert_eq!(rt; end_of(rt.alloc(), true, tried)?, None);
     }
-    assert_eq!(rt; end_of(rt.alloc(), false, &FREE)?, None);
-    assert_eq!(rt; end_of(rt.alloc(), false, &FREE_TO_READ)?, bad);
+    assert_eq!(rt; end_of(rt.alloc(), false, FREE)?, None);
+    assert_eq!(rt; end_of(rt.alloc(), false, FREE_TO_READ)?, bad);
     Ok(())
 }

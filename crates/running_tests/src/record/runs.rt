@@ -33,7 +33,7 @@ const TWICE: &[u8] =
 const FAILS: &[u8] =
     b"goprogram 1\ngoroutine w\nbody main\nclose nil m:1\nexit m:2\nbody w\nexit w:1\n";
 
-static ROWS: [Row; 8] = [
+static ROWS: [Row; 11] = [
     (
         READS,
         2,
@@ -66,6 +66,40 @@ static ROWS: [Row; 8] = [
             b"gotrace 1\ngoroutine w\nvar x\ngo main w m:1\nread main x 0 m:2\nwrite w x 5 w:1\nexit main m:3\n",
             End::Main,
             (false, true),
+        ),
+    ),
+    // Main's exit and a fault end a run before its limit does.
+    (
+        READS,
+        4,
+        false,
+        &[],
+        (
+            b"gotrace 1\ngoroutine w\nvar x\ngo main w m:1\nread main x 0 m:2\nwrite w x 5 w:1\nexit main m:3\n",
+            End::Main,
+            (false, true),
+        ),
+    ),
+    (
+        READS,
+        3,
+        false,
+        &[],
+        (
+            b"gotrace 1\ngoroutine w\nvar x\ngo main w m:1\nread main x 0 m:2\nwrite w x 5 w:1\n",
+            End::Limit,
+            (true, false),
+        ),
+    ),
+    (
+        FAILS,
+        1,
+        false,
+        &[],
+        (
+            b"gotrace 1\ngoroutine w\nfault main close:nil m:1\n",
+            End::Fault,
+            (false, false),
         ),
     ),
     (

@@ -12,9 +12,10 @@ type Row = (&'static [u8], &'static [u64], usize, Answer, usize);
 const TWO_SELECTS: &[u8] =
     b"goprogram 1\ngoroutine w\nchan c 0\nbody main\ngo w m:1\nselect send:c:5,recv:c block m:2\nexit m:3\nbody w\nselect recv:c,send:c:6 block w:1\nexit w:2\n";
 
-static ROWS: [Row; 4] = [
+static ROWS: [Row; 5] = [
     (TWO_SELECTS, &[0], 1, Answer::Chosen(0, None), 3),
     (TWO_SELECTS, &[0, 1], 1, Answer::Chosen(1, Some(6)), 3),
+    (TWO_SELECTS, &[0, 2], 1, Answer::Chosen(0, None), 3),
     (
         b"goprogram 1\ngoroutine w\nchan c 0\nbody main\ngo w m:1\nselect send:c:5 default m:2\nexit m:3\nbody w\nrecv c w:1\nexit w:2\n",
         &[0],

@@ -1,4 +1,4 @@
-use Rattle.std.proofs.Common.{rules, ltb, ltb-true, arith}
+use Rattle.std.proofs.Common.{rules, ltb, ltb-true}
 use Rattle.std.proofs.lemmas.Bool.{ltb-false}
 use Rattle.std.proofs.lemmas.List.Sorted.{IsPartitionPoint-from_clause, IsPartitionedBy-ltb}
 use Rattle.race_access.specs.declared.access.Access.{Access}

@@ -35,5 +35,5 @@ returns c = (
   λ none. absurd (true≢false (sym none)),
   λ row.
       let within = way_within c.args.ask.now row.0 (done_by c.args.who c.args.op.now) row.1 row.2 in
-      absurd (c.loop-way.invariant row.0 row.1 (omega (arith, within, c.way_count-way-end.ensures.count, c.loop-way-test.false)) row.2),
+      absurd (c.loop-way.invariant row.0 row.1 (omega (arith, within, c.way_count-way-end.ensures, c.loop-way-test.false)) row.2),
 )

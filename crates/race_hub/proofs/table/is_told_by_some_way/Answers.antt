@@ -25,5 +25,5 @@ returns c = (
   λ no. absurd (true≢false (sym no)),
   λ row.
       let within = way_within c.args.step.now.asked.ask row.0 (done_by c.args.who c.args.op.now) c.args.step.now.told row.1 in
-      absurd (c.loop-way.invariant row.0 (omega (arith, within, c.way_count-way-end.ensures.count, c.loop-way-test.false)) row.1),
+      absurd (c.loop-way.invariant row.0 (omega (arith, within, c.way_count-way-end.ensures, c.loop-way-test.false)) row.1),
 )

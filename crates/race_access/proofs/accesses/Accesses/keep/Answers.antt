@@ -1,10 +1,5 @@
 use Rattle.std.proofs.lemmas.Grind.{common_steps}
-use Rattle.std.proofs.lemmas.Result.{IfOk-from_err}
-use Rattle.std.proofs.Common.{◌≡◌, List, [], ◌∷◌, ◌++◌, arith, Result, Ok, Err, OnErr, refl, sym, ap, ◌∙◌, true≢false}
-use Rattle.race_access.specs.declared.access.Access.{Access}
-use Rattle.race_access.specs.Kept.{access_of}
-use Rattle.race_access.specs.KeptOf.{kept_of}
-use Rattle.race_access.proofs.KeepSteps.{keeps_both}
+use Rattle.std.proofs.Common.{arith, Result, Ok, Err, OnErr, sym, ◌∙◌, true≢false}
 use Rattle.race_access.proofs.accesses.Accesses.keep.Goals as goal
 
 -- what holds in any case holds where the call failed

@@ -1,0 +1,220 @@
+//! What the logs of a recording say, and who waits with what.
+
+use crate::asks::{Asks, Plain, ask_of, hub_of};
+use crate::turns::go_on;
+use race_hub::{Answer, Hub, Recording, Request, Step};
+use race_record::record_serial;
+use race_records::{Kind, Object};
+use std::alloc::{AllocError, Global};
+use std::test::Fail;
+
+/// What was asked and what was told in a step.
+type Told = (Plain, Option<Answer>);
+
+/// The log of a goroutine, and what it waits with.
+type Log = (&'static [Told], Option<Plain>);
+
+/// The object, how many events there may be, what main and w ask, the picks, and the logs of both.
+struct Row {
+    object: Object,
+    limit: u32,
+    main: &'static [Plain],
+    other: &'static [Plain],
+    picks: &'static [u64],
+    logs: (Log, Log),
+}
+
+// Main starts w and reads, and w writes, which is the last event.
+const LIMITED: Row = Row {
+    object: Object::Var,
+    limit: 2,
+    main: &[Plain::Go(1), Plain::Read(0)],
+    other: &[Plain::Write(0, 5)],
+    picks: &[0, 1],
+    logs: (
+        (&[(Plain::Go(1), Some(Answer::Unit))], Some(Plain::Read(0))),
+        (&[(Plain::Write(0, 5), Some(Answer::Unit))], None),
+    ),
+};
+
+const NOTHING: Log = (&[], None);
+
+static ROWS: [Row; 6] = [
+    LIMITED,
+    // A value is read, and main exits before w does.
+    Row {
+        object: Object::Var,
+        limit: 9,
+        main: &[Plain::Go(1), Plain::Write(0, 7)],
+        other: &[Plain::Read(0)],
+        picks: &[],
+        logs: (
+            (
+                &[
+                    (Plain::Go(1), Some(Answer::Unit)),
+                    (Plain::Write(0, 7), Some(Answer::Unit)),
+                    (Plain::Exit, None),
+                ],
+                None,
+            ),
+            (
+                &[(Plain::Read(0), Some(Answer::Value(7)))],
+                Some(Plain::Exit),
+            ),
+        ),
+    },
+    // Both have met, and ask once more.
+    Row {
+        object: Object::Chan(0),
+        limit: 9,
+        main: &[Plain::Go(1), Plain::Send(0, 7)],
+        other: &[Plain::Recv(Some(0))],
+        picks: &[],
+        logs: (
+            (
+                &[
+                    (Plain::Go(1), Some(Answer::Unit)),
+                    (Plain::Send(0, 7), Some(Answer::Unit)),
+                    (Plain::Exit, None),
+                ],
+                None,
+            ),
+            (
+                &[(Plain::Recv(Some(0)), Some(Answer::Value(7)))],
+                Some(Plain::Exit),
+            ),
+        ),
+    },
+    Row {
+        object: Object::Chan(1),
+        limit: 9,
+        main: &[
+            Plain::Send(0, 7),
+            Plain::Recv(Some(0)),
+            Plain::Close(Some(0)),
+            Plain::Recv(Some(0)),
+        ],
+        other: &[],
+        picks: &[],
+        logs: (
+            (
+                &[
+                    (Plain::Send(0, 7), Some(Answer::Unit)),
+                    (Plain::Recv(Some(0)), Some(Answer::Value(7))),
+                    (Plain::Close(Some(0)), Some(Answer::Unit)),
+                    (Plain::Recv(Some(0)), Some(Answer::Closed)),
+                    (Plain::Exit, None),
+                ],
+                None,
+            ),
+            NOTHING,
+        ),
+    },
+    Row {
+        object: Object::Once,
+        limit: 9,
+        main: &[Plain::Do(0), Plain::EndDo(0), Plain::Do(0)],
+        other: &[],
+        picks: &[],
+        logs: (
+            (
+                &[
+                    (Plain::Do(0), Some(Answer::Run)),
+                    (Plain::EndDo(0), Some(Answer::Unit)),
+                    (Plain::Do(0), Some(Answer::AlreadyDone)),
+                    (Plain::Exit, None),
+                ],
+                None,
+            ),
+            NOTHING,
+        ),
+    },
+    // A failure is told nothing.
+    Row {
+        object: Object::Var,
+        limit: 9,
+        main: &[Plain::Close(None)],
+        other: &[],
+        picks: &[],
+        logs: ((&[(Plain::Close(None), None)], None), NOTHING),
+    },
+];
+
+fn is_asked(request: &Request, ask: Plain) -> bool {
+    request.ask == ask_of(ask) && request.place == 0
+}
+
+fn is_step(step: &Step, told: Told) -> bool {
+    is_asked(&step.asked, told.0) && step.told == told.1
+}
+
+fn are_steps(steps: &[Step], log: &[Told]) -> bool {
+    steps.len() == log.len()
+        && steps
+            .iter()
+            .zip(log)
+            .all(|(step, told)| is_step(step, *told))
+}
+
+fn is_log(recording: &Recording, goroutine: u32, log: Log) -> bool {
+    let waits = match (recording.waiting(goroutine), log.1) {
+        (Some(request), Some(ask)) => is_asked(request, ask),
+        (None, None) => true,
+        _ => false,
+    };
+    waits
+        && goroutine < recording.trace().decls().count(Kind::Goroutine)
+        && are_steps(recording.logs(goroutine), log.0)
+}
+
+fn are_logs(recording: &Recording, row: &Row) -> bool {
+    is_log(recording, 0, row.logs.0) && is_log(recording, 1, row.logs.1)
+}
+
+fn opened(alloc: Global, row: &Row) -> Result<Hub<Asks>, Fail> {
+    hub_of(alloc, row.object, row.limit, row.main, row.other)
+}
+
+fn recorded(alloc: Global, row: &Row) -> Result<Recording, Fail> {
+    let hub = opened(alloc, row)?;
+    if hub.out() != 0 {
+        return Err(Fail::new("a job is out"));
+    }
+    Ok(record_serial(hub, row.picks)?)
+}
+
+#[test]
+fn a_log_says_what_was_asked_and_told(rt: HostRuntime) -> Result<(), Fail> {
+    for (at, row) in ROWS.iter().enumerate() {
+        assert!(rt; are_logs(&recorded(rt.alloc(), row)?, row), "row {at}");
+    }
+    Ok(())
+}
+
+// Main goes on once. Then both ask, w is put back and goes on, and main is put back.
+fn play(hub: &mut Hub<Asks>) -> Result<bool, AllocError> {
+    if !go_on(hub)? {
+        return Ok(false);
+    }
+    let (Some(mut main), Some(mut other)) = (hub.take(), hub.take()) else {
+        return Ok(false);
+    };
+    main.turn()?;
+    other.turn()?;
+    Ok(hub.submit(other).is_ok() && hub.fire(0)? && hub.submit(main).is_ok())
+}
+
+fn played(alloc: Global) -> Result<bool, Fail> {
+    let mut hub = opened(alloc, &LIMITED)?;
+    let is_played = play(&mut hub)?;
+    match hub.finish() {
+        Ok(recording) => Ok(is_played && are_logs(&recording, &LIMITED)),
+        Err(_) => Ok(false),
+    }
+}
+
+#[test]
+fn a_request_that_comes_back_after_the_end_waits(rt: HostRuntime) -> Result<(), Fail> {
+    assert!(rt; played(rt.alloc())?);
+    Ok(())
+}

@@ -1,0 +1,157 @@
+//! Boxes that ask what can't be, in a hub, on one thread and on several.
+
+use crate::asks::{Asks, Plain, ask_of, box_of, boxes_of};
+use crate::turns::go_on;
+use race_hub::{End, Hub, Recording, SubmitFault};
+use race_record::{record, record_serial};
+use race_records::{Decls, Object};
+use std::alloc::{AllocError, Global};
+use std::sync::Wait;
+use std::test::Fail;
+use std::thread::Threads;
+
+/// What main asks, of which the last can't be, and whether there is a place.
+type Row = (&'static [Plain], bool);
+
+static ROWS: [Row; 6] = [
+    // A variable and a place that aren't there.
+    (&[Plain::Read(1)], true),
+    (&[Plain::Read(0)], false),
+    // A mutex can't be locked for reading, and main runs.
+    (&[Plain::RLock(0)], true),
+    (&[Plain::Go(0)], true),
+    // The function of the once hasn't begun; and it hasn't ended.
+    (&[Plain::EndDo(0)], true),
+    (&[Plain::Do(0), Plain::Exit], true),
+];
+
+static OBJECTS: [(&str, Object); 4] = [
+    ("w", Object::Goroutine),
+    ("x", Object::Var),
+    ("m", Object::Lock(false)),
+    ("o", Object::Once),
+];
+
+fn declared(alloc: Global, has_place: bool) -> Result<Decls, Fail> {
+    let mut decls = Decls::new(alloc);
+    for &(name, object) in &OBJECTS {
+        decls.declare(name, object)?;
+    }
+    if has_place {
+        decls.add_place("p")?;
+    }
+    Ok(decls)
+}
+
+fn hub_of(alloc: Global, row: &Row) -> Result<Hub<Asks>, Fail> {
+    let &(asks, has_place) = row;
+    let boxes = boxes_of(alloc, box_of(asks), box_of(&[]))?;
+    Ok(Hub::new(alloc, declared(alloc, has_place)?, 9, boxes)?)
+}
+
+// Whether the last of these waits.
+fn waits(recording: &Recording, asks: &[Plain]) -> bool {
+    match (recording.waiting(0), asks.last()) {
+        (Some(request), Some(ask)) => request.ask == ask_of(*ask) && request.place == 0,
+        _ => false,
+    }
+}
+
+// Whether all but the last of these happened, and the run ended there.
+fn has_ended(recording: &Recording, asks: &[Plain]) -> bool {
+    let happened = asks.len().saturating_sub(1);
+    recording.end() == End::Bad(0)
+        && recording.trace().len() == happened
+        && recording.logs(0).len() == happened
+        && waits(recording, asks)
+        && recording.waiting(1).is_none()
+}
+
+// Whether the hub refuses what main asks next, and ends.
+fn refuses(hub: &mut Hub<Asks>) -> Result<bool, AllocError> {
+    let Some(mut job) = hub.take() else {
+        return Ok(false);
+    };
+    job.turn()?;
+    match hub.submit(job) {
+        Err(SubmitFault::BadRequest) => Ok(hub.end() == Some(End::Bad(0))),
+        _ => Ok(false),
+    }
+}
+
+// Lets all but the last happen.
+fn play(hub: &mut Hub<Asks>, asks: &[Plain]) -> Result<bool, AllocError> {
+    for _ in 1..asks.len() {
+        if !go_on(hub)? {
+            return Ok(false);
+        }
+    }
+    Ok(true)
+}
+
+fn is_refused(alloc: Global, row: &Row) -> Result<bool, Fail> {
+    let mut hub = hub_of(alloc, row)?;
+    let is_bad = play(&mut hub, row.0)? && refuses(&mut hub)?;
+    match hub.finish() {
+        Ok(recording) => Ok(is_bad && has_ended(&recording, row.0)),
+        Err(_) => Ok(false),
+    }
+}
+
+#[test]
+fn a_hub_refuses_nonsense(rt: HostRuntime) -> Result<(), Fail> {
+    for (at, row) in ROWS.iter().enumerate() {
+        assert!(rt; is_refused(rt.alloc(), row)?, "row {at}");
+    }
+    Ok(())
+}
+
+/// On how many threads it is recorded: on this one, or by so many workers.
+#[derive(Clone, Copy, Debug)]
+enum Threading {
+    Serial,
+    Workers(usize),
+}
+
+static THREADINGS: [Threading; 3] = [
+    Threading::Serial,
+    Threading::Workers(1),
+    Threading::Workers(2),
+];
+
+fn recorded<T: Threads + Wait + Sync>(
+    rt: &T,
+    hub: Hub<Asks>,
+    threading: Threading,
+) -> Result<Recording, Fail> {
+    if hub.out() != 0 {
+        return Err(Fail::new("a job is out"));
+    }
+    match threading {
+        Threading::Serial => Ok(record_serial(hub, &[])?),
+        Threading::Workers(workers) => Ok(record(rt, hub, workers, 0)?),
+    }
+}
+
+fn is_recorded<T: Threads + Wait + Sync>(
+    rt: &T,
+    alloc: Global,
+    row: &Row,
+    threading: Threading,
+) -> Result<bool, Fail> {
+    let recording = recorded(rt, hub_of(alloc, row)?, threading)?;
+    Ok(has_ended(&recording, row.0))
+}
+
+#[test]
+fn nonsense_ends_a_recording(rt: HostRuntime) -> Result<(), Fail> {
+    for (at, row) in ROWS.iter().enumerate() {
+        for threading in &THREADINGS {
+            assert!(rt;
+                is_recorded(&rt, rt.alloc(), row, *threading)?,
+                "row {at}, {threading:?}"
+            );
+        }
+    }
+    Ok(())
+}

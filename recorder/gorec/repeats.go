@@ -1,0 +1,111 @@
+package gorec
+
+import (
+	"sync/atomic"
+	"unsafe"
+)
+
+// An access that repeats one of the same goroutine at the same place, with nothing between
+// them that orders the goroutine before others, races with what that one races with. It has
+// no record, and takes no lock where the goroutine finds it in a table of its own.
+//
+// A read is there once it has a record. A write is there once it was repeated under the lock:
+// then the goroutine has the leave to repeat it further. The leave ends with the goroutine's
+// next operation that may order something, and with the next record of a write of the
+// location, so one goroutine at most has it. Until then, and until the next read, it isn't
+// known what the location holds.
+
+// repeats is a table of accesses by their addresses; it grows with what it hadn't.
+type repeats struct {
+	entries []repeat
+	missed  int
+}
+
+type repeat struct {
+	p           unsafe.Pointer
+	site, stamp uint32
+}
+
+const (
+	fewestRepeats = 1 << 5
+	mostRepeats   = 1 << 17
+)
+
+// at is where an access of p stands in a table that isn't empty. Neighbours in memory stand
+// beside one another.
+func (t *repeats) at(p unsafe.Pointer) *repeat {
+	h := uintptr(p) >> 3
+	return &t.entries[(h^h>>15)&uintptr(len(t.entries)-1)]
+}
+
+func (t *repeats) has(p unsafe.Pointer, s *Site, stamp uint32) bool {
+	if len(t.entries) == 0 {
+		return false
+	}
+	e := t.at(p)
+	return e.p == p && e.site == s.ID && e.stamp == stamp
+}
+
+func (t *repeats) put(p unsafe.Pointer, s *Site, stamp uint32) {
+	if t.missed >= len(t.entries) && len(t.entries) < mostRepeats {
+		size := 2 * len(t.entries)
+		if size == 0 {
+			size = fewestRepeats
+		}
+		*t = repeats{entries: make([]repeat, size)}
+	}
+	t.missed++
+	*t.at(p) = repeat{p, s.ID, stamp}
+}
+
+func (t *repeats) drop(p unsafe.Pointer) {
+	if e := t.at(p); e.p == p {
+		e.p = nil
+	}
+}
+
+// hasRead: a read of p at s has a record, which stands for this one too. Otherwise this one
+// is going to have it.
+func (g *G) hasRead(p unsafe.Pointer, s *Site) bool {
+	if s.generic {
+		return false
+	}
+	if g.reads.has(p, s, g.epoch) {
+		return true
+	}
+	g.reads.put(p, s, g.epoch)
+	return false
+}
+
+// hasLeave: a write of p at s needs no record and no lock.
+func (g *G) hasLeave(p unsafe.Pointer, s *Site) bool { return g.writes.has(p, s, g.stamp()) }
+
+// stamp is the sum of two numbers that only grow, so it changes with each of them.
+func (g *G) stamp() uint32 { return g.epoch + atomic.LoadUint32(&g.ended) }
+
+// giveLeave has the lock: g has repeated its write of the location p at s.
+func (g *G) giveLeave(p unsafe.Pointer, s *Site) {
+	if s.generic || filling > 0 {
+		return
+	}
+	l := locate(p)
+	l.repeater, l.stamp, l.unsettled = g, g.stamp(), true
+	g.writes.put(p, s, l.stamp)
+}
+
+// hasLeave has the lock: a goroutine may be repeating a write of the location.
+func (l *location) hasLeave() bool { return l.repeater != nil && l.repeater.stamp() == l.stamp }
+
+// endLeave has the lock, for the goroutine g. What another one has begun to write may still
+// come.
+func (l *location) endLeave(g *G) {
+	if l.hasLeave() {
+		if l.repeater == g {
+			g.writes.drop(l.p)
+		} else {
+			atomic.AddUint32(&l.repeater.ended, 1)
+			l.unsettled = true
+		}
+	}
+	l.repeater = nil
+}

@@ -1,5 +1,5 @@
 //! A program's run.
-ghost use Rattle.std.specs.Prelude.{◌≡◌, length, Err, IfOk, IfErr, IfSome};
+ghost use Rattle.std.specs.Prelude.{◌≡◌, ◌↔◌, length, Err, IfOk, IfErr, IfSome};
 ghost use Rattle.race_script.specs.Certificate.{IsCertified};
 ghost use Rattle.race_record.specs.Recorded.{IsRecordingOf};
 ghost use Rattle.race_record.specs.Serial.{IsSerial, IsTurnedAway};
@@ -67,7 +67,7 @@ fn recorded<T: Threads + Wait + Sync, R: Routine, A: Allocator + Copy + Send>(
 
 // What the fault comes to for an engine.
 fn no_finding(fault: RecordFault) -> NoFinding
-    ensures { result ≡ NoFinding.Unrecorded → fault ≡ RecordFault.Mismatch }
+    ensures { (result ≡ NoFinding.Unrecorded) ↔ (fault ≡ RecordFault.Mismatch) }
 {
     match fault {
         RecordFault::Mismatch => NoFinding::Unrecorded,

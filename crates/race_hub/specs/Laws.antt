@@ -11,6 +11,8 @@ use Rattle.race_hub.specs.declared.request.Answer.{Answer}
 use Rattle.race_hub.specs.declared.request.Ask.{Ask}
 use Rattle.race_hub.specs.declared.request.Offer.{Offer}
 use Rattle.race_hub.specs.declared.request.Waiter.{Waiter}
+use Rattle.race_hub.specs.declared.ending.End.{End}
+use Rattle.race_hub.specs.Hub.{stop_by}
 use Rattle.race_hub.specs.Table.{done_by, IsRow}
 use Rattle.race_hub.specs.Choices.{choice, choices, event_of, is_legal_next, lone_event, meet_event}
 use Rattle.race_hub.specs.Possible.{goes_on, meet_goes_on}
@@ -184,3 +186,12 @@ EachMeetGoesOn =
     (caps : ℕ → ℕ) (past : List Event) (sender receiver place place2 c v : ℕ)
     → is_legal_next caps past (Some (record { who = sender; op = Meet receiver c v; place = place; place2 = Some place2 }))
     ≡ (not (over past) && ((runs sender past && runs receiver past) && meet_goes_on caps past sender receiver c))
+
+-- of several ends that hold the first is told: main's exit, a failure, a bad request, the limit
+pub record EndsComeInOrder : Type 0 where
+  pub exit_at_limit : stop_by (does 0 Exit ∷ []) 1 (Some 1) ≡ Some End.Main
+  pub failure_at_limit : stop_by (does 0 (Fault CloseNil) ∷ []) 1 (Some 1) ≡ Some End.Fault
+  pub bad_at_limit : stop_by (does 0 (Write 0 1) ∷ []) 1 (Some 1) ≡ Some (End.Bad 1)
+  pub limit : stop_by (does 0 (Write 0 1) ∷ []) 1 None ≡ Some End.Limit
+  pub below_limit : stop_by (does 0 (Write 0 1) ∷ []) 2 None ≡ None
+  pub another_exit : stop_by (does 1 Exit ∷ []) 2 None ≡ None

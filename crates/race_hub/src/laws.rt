@@ -4,6 +4,7 @@ ghost use Rattle.race_hub.specs.Runs.{EachRunIsKept};
 ghost use Rattle.race_hub.specs.Laws.{
   EachMeetGoesOn,
   EachRowGoesOn,
+  EndsComeInOrder,
   MeetsAreListedBySender,
   NobodyMeetsItself,
   OthersStandAtTheirPlace,
@@ -134,4 +135,10 @@ pub fn opening_is_kept<R>()
 /// Whatever jobs are taken and put back, and whichever picks are performed, each state from the first on is a kept one.
 pub fn each_run_is_kept<R>()
     ensures { EachRunIsKept R }
+{}
+
+/// Of several ends that hold the first is told: main's exit, a failure, a bad request, the limit.
+#[tactic(auto, unfolding(crate::specs::Hub::stop_by))]
+pub fn ends_come_in_order()
+    ensures { EndsComeInOrder }
 {}

@@ -1,15 +1,18 @@
 -- The laws of program text, which functions of src/laws.rt that do nothing have as their contracts.
-use Rattle.std.specs.Prelude.{◌≡◌, ℕ, List, ◌++◌, Some, None, is_some}
+use Rattle.std.specs.Prelude.{◌≡◌, ℕ, List, [], ◌∷◌, ◌++◌, codes, Some, None, is_some}
+use Rattle.race_records.specs.declared.event.Op.TheVariants.{Exit}
 use Rattle.race_records.specs.declared.version.Version.{Version}
 use Rattle.race_records.specs.Declarations.{Declaration}
+use Rattle.race_model.specs.Examples.{does}
 use Rattle.race_hub.specs.declared.request.Ask.{Ask}
 use Rattle.race_hub.specs.Submits.{has_ask}
 use Rattle.race_text.specs.declared.cause.TextFault.{TextFault}
 use Rattle.race_text.specs.Fed.{ended_fault}
 use Rattle.race_text.specs.Form.{first_word}
 use Rattle.race_script.specs.Fault.{program_causes, text_fault}
+use Rattle.race_script.specs.Certificate.{FitsAt}
 use Rattle.race_script.specs.Form.{line_word_in}
-use Rattle.race_script.specs.Program.{ProgramState, IsProgram, draft_of}
+use Rattle.race_script.specs.Program.{Instruction, ProgramState, IsProgram, draft_of}
 use Rattle.race_script.specs.Reading.{version_said}
 use Rattle.race_script.specs.Text.{header, ask_words, program_text, IsTextOf, IsProgramText}
 
@@ -38,3 +41,11 @@ pub record WordsFollowTheVersion : Type 0 where
 -- the first fault of the lines that are ended is the whole text's, whatever follows
 abbrev pub EndedFaultsStay : Type 0
 EndedFaultsStay = (bytes more : List ℕ) (fault : TextFault) → ended_fault program_causes bytes ≡ Some fault → text_fault (bytes ++ more) ≡ Some fault
+
+-- a run of a body stands where the body does: main's exit at its place fits, and at another place it doesn't, whatever the numbers of the places are
+abbrev pub exits_at_a : List Instruction
+exits_at_a = record { ask = Ask.Exit; place = codes "a" } ∷ []
+
+pub record PlacesCount : Type 0 where
+  pub same : FitsAt exits_at_a (codes "a" ∷ []) 0 0 (does 0 Exit)
+  pub other : FitsAt exits_at_a (codes "b" ∷ []) 0 0 (does 0 Exit) → ⊥

@@ -3,6 +3,7 @@ ghost use Rattle.race_script.specs.Laws.{
   EndedFaultsStay,
   EqualTextsAreOfEqualPrograms,
   FaultlessBytesAreTexts,
+  PlacesCount,
   TextsHaveNoFault,
   WordsFollowTheVersion,
 };
@@ -30,4 +31,9 @@ pub fn words_follow_the_version()
 /// The first fault of the lines that are ended is the whole text's, whatever follows.
 pub fn ended_faults_stay()
     ensures { EndedFaultsStay }
+{}
+
+/// A run of a body stands where the body does.
+pub fn places_count()
+    ensures { PlacesCount }
 {}

@@ -118,7 +118,7 @@ fn plain_asks_for_the_plain_judge(rt: HostRuntime) -> Result<(), Fail> {
     Ok(())
 }
 
-static ROWS: [Row; 62] = [
+static ROWS: [Row; 64] = [
     // The options are taken, or refused, and then nothing is written.
     ("gorace check --shards 0", TRACE, status::USAGE, ""),
     ("gorace check --shards 1", TRACE, status::CLEAN, NO_EVENTS),
@@ -237,6 +237,18 @@ static ROWS: [Row; 62] = [
         "gotrace 1\n",
         status::CLEAN,
         "clean: 0 events, 0 accesses\n",
+    ),
+    (
+        "gorace check",
+        "gotrace 1\ngoroutine w\nvar x\ngo main w a.go:2\nwrite main x 1 a.go:3\nread w x 1 a.go:6\n",
+        status::RACES,
+        "race on x: write by main at a.go:3 (event 2), read by w at a.go:6 (event 3)\nraces: 1\n",
+    ),
+    (
+        "gorace check --shards 2",
+        "gotrace 2\nmutex l\ntrylock main l p\ntryfail main l q\nunlock main l r\n",
+        status::CLEAN,
+        "clean: 3 events, 0 accesses\n",
     ),
     (
         "gorace check --plain",

@@ -10,7 +10,7 @@ returns-in-Err-recorded-clause-unrecorded g c = λ is.
     let unrecorded : c.no_finding.result ≡ NoFinding.Unrecorded = cc is in
     turned_away c.args.program.now c.args.options.now.limit (picks_asked c.args.options.now) c.in-Ok.decls c.in-Ok-scripts.scripts.items c.in-Ok-new.hub
     (c.in-Ok.ensures ∙ c.decls.ensures.decls) c.in-Ok-scripts.ensures c.in-Ok-new.ensures.ok
-    (c.in-Err-recorded.ensures.mismatch (ap (λ (fault : RecordFault). Err fault) (c.no_finding.ensures unrecorded)))
+    (c.in-Err-recorded.ensures.mismatch (ap (λ (fault : RecordFault). Err fault) (c.no_finding.ensures.0 unrecorded)))
 
 pub returns-in-Ok-recorded-clause-ok : goal.returns-in-Ok-recorded-clause-ok
 returns-in-Ok-recorded-clause-ok g c =

@@ -116,8 +116,9 @@ header is 'goprogram 1', or 'goprogram 2' where it has tries to lock.
 
 A goroutine goes on to its next step as soon as it has done one. Where several
 could do their steps next, a pick says which: they stand in the order in which
-they came to their steps, a meet where its sender stands, a try that could succeed
-twice, its success first; and a pick is a number modulo their count. Each event uses up a pick; behind the last one they are 0.
+they came to their steps, a meet where its sender stands, a try that could
+succeed twice, its success first; and a pick is a number modulo their count.
+Each event uses up a pick; behind the last one they are 0.
 With --picks 0,0,0,1 main reads before w exits; with --picks 0 w exits first.
 
 Without --picks workers run the goroutines, each on a thread, and the picks come

@@ -1,10 +1,12 @@
 //! A text that is fed in pieces.
 ghost use Rattle.std.specs.Prelude.{◌≤◌, length};
 
+use crate::text::tries;
 use crate::text::writing::{SMALL, is_written_as};
 use race_records::Trace;
 use race_text::TextCause::{
     BadHeader, BadName, BadNumber, LateDeclaration, NoNewline, Unknown, UnknownWord, WrongCount,
+    WrongKind,
 };
 use race_text::{LineReader, TextCause, TextFault, parse_trace};
 use std::alloc::{Allocator, Global};
@@ -50,16 +52,18 @@ fn newlines(bytes: &[u8]) -> u64 {
     count
 }
 
-fn is_whole_in_pieces(alloc: Global, size: usize) -> Result<bool, Fail> {
-    let trace = in_pieces(alloc, SMALL, size)?;
-    let whole = parse_trace(alloc, SMALL)?;
-    Ok(trace == whole && is_written_as(alloc, &trace, SMALL))
+fn is_whole_in_pieces(alloc: Global, text: &[u8], size: usize) -> Result<bool, Fail> {
+    let trace = in_pieces(alloc, text, size)?;
+    let whole = parse_trace(alloc, text)?;
+    Ok(trace == whole && is_written_as(alloc, &trace, text))
 }
 
 #[test]
 fn pieces_of_each_size_give_one_trace(rt: HostRuntime) -> Result<(), Fail> {
     for &size in &[1, 2, 7, 1_000] {
-        assert!(rt; is_whole_in_pieces(rt.alloc(), size)?, "at {size}");
+        for &text in &[SMALL, tries::TEXT] {
+            assert!(rt; is_whole_in_pieces(rt.alloc(), text, size)?, "at {size}");
+        }
     }
     Ok(())
 }
@@ -95,8 +99,10 @@ fn a_refusal_is_told_again(rt: HostRuntime) {
     assert_eq!(rt; fed(rt.alloc()), (None, Some(FAULT)));
 }
 
-static WHOLE: [&[u8]; 4] = [
+static WHOLE: [&[u8]; 6] = [
     SMALL,
+    b"gotrace 2\n",
+    b"gotrace 2\ngoroutine w\nmutex m\nrwmutex l\ntrylock main m a\ntryfail w m b\ntryrlock w l c\n",
     b"gotrace 1\n",
     b"gotrace 1\ngoroutine w\nchan c 3\nchan u 0\ngo main w a\nsend main c 7 b\nmeet w main u 8 c d\ndefault main send:u,recv:nil p\nclose main u a\n",
     b"gotrace 1\ngoroutine w\nmutex m\nonce o\nrwmutex l\nlock main m a\nrlock main l c\noncebegin main o e\nfault w unlock:m h\n",
@@ -121,10 +127,14 @@ fn a_text_may_be_cut_anywhere(rt: HostRuntime) -> Result<(), Fail> {
     Ok(())
 }
 
-static FAULTY: [(&[u8], u64, TextCause); 9] = [
+static FAULTY: [(&[u8], u64, TextCause); 13] = [
     (b"\n", 1, BadHeader),
     (b"gotrace 1", 1, NoNewline),
     (b"gotrace 1\r\n", 1, BadHeader),
+    (b"gotrace 2", 1, NoNewline),
+    (b"gotrace 3\n", 1, BadHeader),
+    (b"gotrace 1\nmutex m\ntrylock main m p\n", 3, UnknownWord),
+    (b"gotrace 2\nmutex m\ntryrlock main m p\n", 3, WrongKind),
     (
         b"gotrace 1\nvar x\nwrite main x 01 p\nexit main p\n",
         3,

@@ -10,7 +10,7 @@ const FRONT: &str =
     "goprogram 2\ngoroutine a\ngoroutine b\nvar x\nvar y\nchan c 0\nchan d 2\nmutex m\nrwmutex l\nonce o\nbody main\ngo a p:1\ngo b p:2\n";
 
 // What the bodies are made of.
-static STEPS: [&str; 20] = [
+static STEPS: [&str; 21] = [
     "read x p:3\n",
     "read y p:4\n",
     "write x 1 p:5\n",
@@ -31,6 +31,7 @@ static STEPS: [&str; 20] = [
     "select - default p:30\n",
     "trylock m p:32\nread x p:33\n",
     "tryrlock l p:34\nread y p:35\n",
+    "trylock m p:36\nwrite x 6 p:37\nunlock m p:38\n",
 ];
 
 // The words of events.
@@ -61,7 +62,7 @@ static WORDS: [&str; 21] = [
 // Puts so many steps and an exit behind the text.
 fn add_body(text: &mut Vec<u8>, numbers: &mut Numbers, steps: u32) -> Result<(), AllocError> {
     for _ in 0..steps {
-        let step = STEPS[numbers.below(20) as usize];
+        let step = STEPS[numbers.below(21) as usize];
         text.extend_from_slice(step.as_bytes())?;
     }
     text.extend_from_slice(b"exit p:31\n")

@@ -10,7 +10,7 @@ const READ_BEFORE_A_TRY: &str =
     "gotrace 2 / goroutine g1 / goroutine g2 / goroutine g3 / goroutine g4 / rwmutex l / var x / go main g1 m:1 / go main g2 m:2 / go main g3 m:3 / go main g4 m:4 / rlock g1 l r:1 / read g1 x 0 r:2 / runlock g1 l r:3 / trylock g2 l s:1 / unlock g3 l t:1 / lock g4 l u:1 / write g4 x 1 u:2";
 
 // Traces with their reports and statuses.
-pub(crate) static JUDGED: [Row; 9] = [
+pub(crate) static JUDGED: [Row; 14] = [
     (
         "gotrace 2 / mutex l / trylock main l p / tryfail main l q / unlock main l r",
         "clean: 3 events, 0 accesses",
@@ -46,6 +46,33 @@ pub(crate) static JUDGED: [Row; 9] = [
         READ_BEFORE_A_TRY,
         "race on x: read by g1 at r:2 (event 6), write by g4 at u:2 (event 11) / races: 1",
         status::RACES,
+    ),
+    // Another lock is another one.
+    (
+        "gotrace 2 / goroutine a / mutex l / mutex m / go main a s / trylock main l p / lock a m q",
+        "clean: 3 events, 0 accesses",
+        status::CLEAN,
+    ),
+    (
+        "gotrace 2 / goroutine a / mutex l / mutex m / go main a s / trylock main l p / unlock main m q",
+        "illegal: event 3: not held",
+        status::ILLEGAL,
+    ),
+    (
+        "gotrace 2 / goroutine a / rwmutex l / rwmutex m / go main a s / tryrlock main l p / lock a m q",
+        "clean: 3 events, 0 accesses",
+        status::CLEAN,
+    ),
+    (
+        "gotrace 2 / goroutine a / mutex l / mutex m / var x / go main a s / lock main l p / write main x 1 q / unlock main l r / trylock a m t / write a x 2 u",
+        "race on x: write by main at q (event 3), write by a at u (event 6) / races: 1",
+        status::RACES,
+    ),
+    // An unlock of what a try locked can't fail.
+    (
+        "gotrace 2 / mutex l / trylock main l p / fault main unlock:l q",
+        "illegal: event 2: no fault",
+        status::ILLEGAL,
     ),
     // What version 1 has is judged so in version 2.
     (

@@ -28,7 +28,7 @@ const DEADLOCK: u32 = 4;
 pub(crate) const READERS: &[u8] =
     b"goprogram 1\ngoroutine u\ngoroutine v\nrwmutex r\nvar x\nbody main\ngo u m:1\ngo v m:2\nlock r m:3\nwrite x 1 m:4\nunlock r m:5\nexit m:6\nbody u\nrlock r u:1\nread x u:2\nrunlock r u:3\nexit u:4\nbody v\nrlock r v:1\nread x v:2\nrunlock r v:3\nexit v:4\n";
 
-static ROWS: [Row; 11] = [
+static ROWS: [Row; 12] = [
     // Each would send or receive over c.
     (
         b"goprogram 1\ngoroutine w\nchan c 0\nbody main\ngo w m:1\nselect send:c:5,recv:c block m:2\nexit m:3\nbody w\nselect recv:c,send:c:6 block w:1\nexit w:2\n",
@@ -55,6 +55,12 @@ static ROWS: [Row; 11] = [
     ),
     (READERS, 99, &[MAIN]),
     (READERS, 5, &[LIMIT]),
+    // Tries, which never wait.
+    (
+        b"goprogram 2\ngoroutine w\nmutex m\nrwmutex l\nvar x\nbody main\ngo w m:1\ntrylock m m:2\nread x m:3\ntryrlock l m:4\nexit m:5\nbody w\ntryrlock l w:1\ntrylock m w:2\nwrite x 1 w:3\nexit w:4\n",
+        99,
+        &[MAIN],
+    ),
     // Two mutexes, taken in opposite orders.
     (
         b"goprogram 1\ngoroutine w\nmutex m\nmutex n\nbody main\ngo w m:1\nlock m m:2\nlock n m:3\nunlock n m:4\nunlock m m:5\nexit m:6\nbody w\nlock n w:1\nlock m w:2\nunlock m w:3\nunlock n w:4\nexit w:5\n",

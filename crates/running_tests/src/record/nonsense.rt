@@ -10,19 +10,23 @@ use std::sync::Wait;
 use std::test::Fail;
 use std::thread::Threads;
 
-/// What main asks, of which the last can't be, and whether there is a place.
-type Row = (&'static [Plain], bool);
+/// What main asks, of which the last can't be, whether there is a place, and whether the version is 2.
+type Row = (&'static [Plain], bool, bool);
 
-static ROWS: [Row; 6] = [
+static ROWS: [Row; 9] = [
     // A variable and a place that aren't there.
-    (&[Plain::Read(1)], true),
-    (&[Plain::Read(0)], false),
+    (&[Plain::Read(1)], true, false),
+    (&[Plain::Read(0)], false, false),
     // A mutex can't be locked for reading, and main runs.
-    (&[Plain::RLock(0)], true),
-    (&[Plain::Go(0)], true),
+    (&[Plain::RLock(0)], true, false),
+    (&[Plain::Go(0)], true, false),
     // The function of the once hasn't begun; and it hasn't ended.
-    (&[Plain::EndDo(0)], true),
-    (&[Plain::Do(0), Plain::Exit], true),
+    (&[Plain::EndDo(0)], true, false),
+    (&[Plain::Do(0), Plain::Exit], true, false),
+    // Version 1 has no tries, and in version 2 a mutex can't be locked for reading by one either.
+    (&[Plain::TryLock(0)], true, false),
+    (&[Plain::TryRLock(0)], true, false),
+    (&[Plain::TryRLock(0)], true, true),
 ];
 
 static OBJECTS: [(&str, Object); 4] = [
@@ -32,8 +36,12 @@ static OBJECTS: [(&str, Object); 4] = [
     ("o", Object::Once),
 ];
 
-fn declared(alloc: Global, has_place: bool) -> Result<Decls, Fail> {
-    let mut decls = Decls::new(alloc);
+fn declared(alloc: Global, has_place: bool, is_version2: bool) -> Result<Decls, Fail> {
+    let mut decls = if is_version2 {
+        Decls::new_version2(alloc)
+    } else {
+        Decls::new(alloc)
+    };
     for &(name, object) in &OBJECTS {
         decls.declare(name, object)?;
     }
@@ -44,9 +52,9 @@ fn declared(alloc: Global, has_place: bool) -> Result<Decls, Fail> {
 }
 
 fn hub_of(alloc: Global, row: &Row) -> Result<Hub<Asks>, Fail> {
-    let &(asks, has_place) = row;
+    let &(asks, has_place, is_version2) = row;
     let boxes = boxes_of(alloc, box_of(asks), box_of(&[]))?;
-    Ok(Hub::new(alloc, declared(alloc, has_place)?, 9, boxes)?)
+    Ok(Hub::new(alloc, declared(alloc, has_place, is_version2)?, 9, boxes)?)
 }
 
 // Whether the last of these waits.

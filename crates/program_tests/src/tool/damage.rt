@@ -131,6 +131,10 @@ static READERS: [Row; 10] = [
     ),
 ];
 
+fn is_written(output: &[u8], lines: &str) -> bool {
+    output == lines.as_bytes()
+}
+
 // Whether the engine ends so where a read gives so many bytes.
 fn ends_so(rt: &impl Runtime, row: &Row, step: usize) -> Result<bool, Fail> {
     let &(named, lines, written, status, failures) = row;
@@ -141,8 +145,9 @@ fn ends_so(rt: &impl Runtime, row: &Row, step: usize) -> Result<bool, Fail> {
         step,
         fails: true,
     };
-    let (answer, output, _, failed) = ended(rt, engine(named, &run, &check), reader);
-    Ok((answer, failed) == (status, failures) && output.as_slice() == written.as_bytes())
+    let engine = engine(named, &run, &check);
+    let (answer, output, _, failed) = ended(rt, engine, reader);
+    Ok((answer, failed) == (status, failures) && is_written(output.as_slice(), written))
 }
 
 #[test]

@@ -33,6 +33,7 @@ func TestRecordings(t *testing.T) {
 	requireJudge(t)
 	b := &batch{traces: map[string]string{}, checks: map[string]func(string) error{}}
 	addPrograms(t, b)
+	addTries(t, b)
 	addPage(t, b)
 	for run, report := range judgeAll(t, b.traces) {
 		if err := b.checks[run](report); err != nil {

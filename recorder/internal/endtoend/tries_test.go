@@ -101,3 +101,16 @@ func TestNoSuchVersion(t *testing.T) {
 		}
 	}
 }
+
+// addTries records the example trylock for version 2 of a trace, whose report is the same.
+func addTries(t *testing.T, b *batch) {
+	t.Helper()
+	os.Setenv("GOREC_FORMAT", "2")
+	defer os.Unsetenv("GOREC_FORMAT")
+	program := filepath.Join(t.TempDir(), "trylock.2")
+	build(t, "./trylock", program)
+	want := readVerdict(t, filepath.Join(programs, "trylock", "main.go"))
+	for _, seed := range seeds {
+		b.add("trylock.2."+seed, record(t, program, seed, want.status), want.check)
+	}
+}

@@ -1,0 +1,217 @@
+#!/usr/bin/env python3
+"""Runs the commands of the documents and compares what they print.
+
+usage: docs/check_commands.py PROGRAM [--recorder]
+
+PROGRAM is the built gorace, as crates/gorace/out/gorace, or a command of one word that runs it.
+
+- A block marked `console` has commands behind "$ " (continued behind "> ") and what each prints, on
+  standard output and standard error. It runs in a copy of the repository's examples and recorder.
+  Blocks that record Go programs need Go, and run with --recorder alone.
+- A table with the columns File, Report and Status has a row for each file of its page's folder: a trace
+  is checked, a program run and judged with --picks 0. No file may be without a row.
+- A link to a file of the repository leads to one, and to a heading of it.
+- A path that a table names, as race_text/src/form or race_model/specs/Order, is there.
+
+docs/GETTING_STARTED.md is followed by recorder/test.sh.
+"""
+
+import pathlib
+import re
+import shutil
+import subprocess
+import sys
+import tempfile
+
+ROOT = pathlib.Path(__file__).resolve().parent.parent
+FOLLOWED_ELSEWHERE = {"docs/GETTING_STARTED.md"}
+NEEDS_GO = re.compile(r"gorec|go build")
+SECONDS = 300
+
+
+def pages():
+    found = [*ROOT.glob("*.md"), *ROOT.glob("docs/*.md"), *ROOT.glob("examples/**/*.md")]
+    found += [*ROOT.glob("crates/*/README.md"), ROOT / "recorder/README.md"]
+    return sorted(found)
+
+
+def name(page):
+    return str(page.relative_to(ROOT))
+
+
+def without_blocks(text):
+    return re.sub(r"(?ms)^```.*?^```$", "", text)
+
+
+class Failures:
+    def __init__(self):
+        self.count = 0
+
+    def add(self, where, what):
+        self.count += 1
+        print(f"{where}: {what}")
+
+    def compare(self, where, wanted, got):
+        if wanted != got:
+            self.add(where, "wanted\n  " + "\n  ".join(wanted) + "\nbut got\n  " + "\n  ".join(got))
+
+
+def make_copy(folder, program):
+    """What a reader has in a clone, with the program in the launcher's place."""
+    shutil.copytree(ROOT / "examples", folder / "examples")
+    shutil.copytree(ROOT / "recorder", folder / "recorder")
+    launcher = folder / "gorace"
+    launcher.write_text(f'#!/bin/sh\nexec {program} "$@"\n')
+    launcher.chmod(0o755)
+
+
+def commands_of(block):
+    """The commands of a block, each with the lines that it prints."""
+    commands = []
+    for line in block.splitlines():
+        if line.startswith("$ "):
+            commands.append((line[2:], []))
+        elif line.startswith("> ") and commands and not commands[-1][1]:
+            commands[-1] = (commands[-1][0] + "\n" + line[2:], [])
+        elif commands:
+            commands[-1][1].append(line)
+        else:
+            raise ValueError(f"no command before {line!r}")
+    return commands
+
+
+def run_block(commands, folder):
+    """What each command prints; all run in one shell, and the next one sees the last status."""
+    script = "".join(f"{command}\n__at=$?; printf '\\n@@@\\n'; (exit $__at)\n" for command, _ in commands)
+    ran = subprocess.run(["bash"], input=script, text=True, cwd=folder, timeout=SECONDS,
+                         stdout=subprocess.PIPE, stderr=subprocess.STDOUT)
+    return [part.strip("\n").splitlines() for part in ran.stdout.split("\n@@@\n")]
+
+
+def check_blocks(page, folder, with_recorder, failures):
+    count = 0
+    for block in re.findall(r"(?ms)^```console\n(.*?)^```$", page.read_text()):
+        if NEEDS_GO.search(block) and not with_recorder:
+            continue
+        commands = commands_of(block)
+        for (command, wanted), got in zip(commands, run_block(commands, folder)):
+            failures.compare(f"{name(page)}: {command}", wanted, got)
+            count += 1
+    return count
+
+
+def tables_of(text):
+    """Each table: its rows, by the names of their columns."""
+    for table in re.findall(r"(?m)(?:^\|.*\|$\n)+", text):
+        rows = [[cell.strip() for cell in re.split(r"(?<!\\)\|", line)[1:-1]] for line in table.splitlines()]
+        yield [dict(zip(rows[0], row)) for row in rows[2:]]
+
+
+def report_in(cell):
+    """The lines that a cell names; the count of a single race is left out there."""
+    lines = re.findall(r"`([^`]+)`", cell)
+    races = [i for i, line in enumerate(lines) if line.startswith("race on ")]
+    if races and not any(line.startswith("races: ") for line in lines):
+        lines.insert(races[-1] + 1, f"races: {len(races)}")
+    return lines
+
+
+def file_of(page, named):
+    for folder in (page.parent, page.parent / "programs"):
+        if (folder / named).is_file():
+            return folder / named
+    return None
+
+
+def run_file(file, picks, folder):
+    words = ["check"] if file.suffix == ".gotrace" else ["race", "--picks", picks]
+    with file.open() as text:
+        ran = subprocess.run([folder / "gorace", *words], stdin=text, text=True, timeout=SECONDS,
+                             stdout=subprocess.PIPE, stderr=subprocess.STDOUT)
+    return ran.stdout.splitlines(), str(ran.returncode)
+
+
+def check_tables(page, folder, failures):
+    count, named, file = 0, set(), None
+    for table in tables_of(without_blocks(page.read_text())):
+        for row in table:
+            report = next((row[column] for column in row if column.startswith("Report")), None)
+            if report is None or "File" not in row or "Status" not in row:
+                continue
+            picks = re.search(r"--picks ([\d,]+)", row["File"])
+            if not picks:
+                file = file_of(page, row["File"].strip("`"))
+                if file is None:
+                    failures.add(name(page), f"no file {row['File']}")
+                    continue
+                named.add(file)
+            lines, status = run_file(file, picks.group(1) if picks else "0", folder)
+            failures.compare(f"{name(page)}: {row['File']}", [*report_in(report), row["Status"]], [*lines, status])
+            count += 1
+    if named:
+        files = {f for f in [*page.parent.glob("*"), *page.parent.glob("programs/*")]
+                 if f.suffix in (".gotrace", ".goprogram")}
+        for file in sorted(files - named):
+            failures.add(name(page), f"no row for {file.name}")
+    return count
+
+
+def anchors_of(page):
+    headings = re.findall(r"(?m)^#+ (.*)$", without_blocks(page.read_text()))
+    plain = [re.sub(r"[`*]|\[([^]]*)\]\([^)]*\)", r"\1", heading) for heading in headings]
+    return {re.sub(r"[^\w\- ]", "", heading.lower()).replace(" ", "-") for heading in plain}
+
+
+def check_links(page, failures):
+    links = re.findall(r"\]\(([^)\s]+)\)", without_blocks(page.read_text()))
+    for link in links:
+        if "://" in link:
+            continue
+        path, _, anchor = link.partition("#")
+        target = (page.parent / path).resolve() if path else page
+        if not target.exists():
+            failures.add(name(page), f"the link {link} leads nowhere")
+        elif anchor and anchor not in anchors_of(target):
+            failures.add(name(page), f"no heading for the link {link}")
+    return len(links)
+
+
+def check_paths(page, failures):
+    """Paths in tables that begin with a crate and its folder, with the names behind a comma."""
+    count = 0
+    for line in re.findall(r"(?m)^\|.*\|$", without_blocks(page.read_text())):
+        for crate, folder, first, rest in re.findall(
+                r"\b(?:crates/)?(race_\w+|gorace)/(src|specs|proofs)/([\w/]+)((?:, [A-Za-z]\w*)*)(?=[ ,;:|.`)]|$)", line):
+            suffix = ".rt" if folder == "src" else ".antt"
+            for named in [first, *rest.split(", ")[1:]]:
+                here = ROOT / "crates" / crate / folder
+                if not (here / (named + suffix)).exists() and not (here / named).exists():
+                    failures.add(name(page), f"no {crate}/{folder}/{named}{suffix}")
+                count += 1
+    return count
+
+
+def main():
+    words = [word for word in sys.argv[1:] if word != "--recorder"]
+    if len(words) != 1 or shutil.which(words[0]) is None:
+        print(__doc__.split("\n\n")[1] + "\n\nPROGRAM can't be run" * bool(words), file=sys.stderr)
+        return 3
+    program = pathlib.Path(shutil.which(words[0])).resolve()
+    failures = Failures()
+    counts = dict(commands=0, rows=0, links=0, paths=0)
+    with tempfile.TemporaryDirectory() as temporary:
+        folder = pathlib.Path(temporary)
+        make_copy(folder, program)
+        for page in pages():
+            counts["links"] += check_links(page, failures)
+            counts["paths"] += check_paths(page, failures)
+            counts["rows"] += check_tables(page, folder, failures)
+            if name(page) not in FOLLOWED_ELSEWHERE:
+                counts["commands"] += check_blocks(page, folder, "--recorder" in sys.argv, failures)
+    print("checked: " + ", ".join(f"{count} {what}" for what, count in counts.items()))
+    print(f"failed: {failures.count}")
+    return 1 if failures.count else 0
+
+
+if __name__ == "__main__":
+    sys.exit(main())

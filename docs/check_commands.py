@@ -11,7 +11,8 @@ PROGRAM is the built gorace, as crates/gorace/out/gorace, or a command of one wo
 - A table with the columns File, Report and Status has a row for each file of its page's folder: a trace
   is checked, a program run and judged with --picks 0. No file may be without a row.
 - A link to a file of the repository leads to one, and to a heading of it.
-- A path that a table names, as race_text/src/form or race_model/specs/Order, is there.
+- A path that a table names, as race_text/src/form or race_model/specs/Order, is there; and so is each
+  function and each clause that docs/PROVED.md names.
 
 docs/GETTING_STARTED.md is followed by recorder/test.sh.
 """
@@ -191,6 +192,25 @@ def check_paths(page, failures):
     return count
 
 
+def check_promises(failures):
+    """The functions and the clauses that the list of promises names, by their names alone."""
+    page, count = ROOT / "docs/PROVED.md", 0
+    code = "\n".join(f.read_text() for f in ROOT.glob("crates/*/src/**/*.rt"))
+    specs = "\n".join(f.read_text() for f in ROOT.glob("crates/*/specs/*.antt"))
+    known = set(re.findall(r"\b(?:fn|struct|enum|type|trait)\s+(\w+)", code)) | set(re.findall(r"\bensures (\w+)", code))
+    known |= set(re.findall(r"\bpub (?:record |abbrev )?(?:pub )?(\w+)", specs)) | set(re.findall(r"(?:pub )?mod (\w+);", code))
+    for table in tables_of(without_blocks(page.read_text())):
+        for row in table:
+            if "Promise" not in row and "Law" not in row:
+                continue
+            cells = [cell for column, cell in row.items() if column not in ("Promise", "Law")]
+            for named in re.findall(r"`([\w:]+)`", " ".join(cells)):
+                if named.split("::")[-1] not in known:
+                    failures.add(name(page), f"nothing has the name {named}")
+                count += 1
+    return count
+
+
 def main():
     words = [word for word in sys.argv[1:] if word != "--recorder"]
     if len(words) != 1 or shutil.which(words[0]) is None:
@@ -198,7 +218,7 @@ def main():
         return 3
     program = pathlib.Path(shutil.which(words[0])).resolve()
     failures = Failures()
-    counts = dict(commands=0, rows=0, links=0, paths=0)
+    counts = dict(commands=0, rows=0, links=0, paths=0, promises=check_promises(failures))
     with tempfile.TemporaryDirectory() as temporary:
         folder = pathlib.Path(temporary)
         make_copy(folder, program)

@@ -11,8 +11,8 @@ PROGRAM is the built gorace, as crates/gorace/out/gorace, or a command of one wo
 - A table with the columns File, Report and Status has a row for each file of its page's folder: a trace
   is checked, a program run and judged with --picks 0. No file may be without a row.
 - A link to a file of the repository leads to one, and to a heading of it.
-- A path that a table names, as race_text/src/form or race_model/specs/Order, is there; and so is each
-  function and each clause that docs/PROVED.md names.
+- A path that a table names, as race_text/src/form or race_model/specs/Order, is there, and so is one of the
+  column Files in the crate of the column Crate; and each function and clause that docs/PROVED.md names.
 
 docs/GETTING_STARTED.md is followed by recorder/test.sh.
 """
@@ -189,6 +189,14 @@ def check_paths(page, failures):
                 if not (here / (named + suffix)).exists() and not (here / named).exists():
                     failures.add(name(page), f"no {crate}/{folder}/{named}{suffix}")
                 count += 1
+    for table in tables_of(without_blocks(page.read_text())):
+        for row in table:
+            for folder, listed in re.findall(r"\b(src|specs|proofs)/(\w+(?:, \w+(?![\w/]))*)", row.get("Files", "")):
+                for named in listed.split(", "):
+                    here = ROOT / "crates" / row.get("Crate", "") / folder / named
+                    if row.get("Crate", "").startswith("race_") and not list(here.parent.glob(f"{named}.*")):
+                        failures.add(name(page), f"no {row['Crate']}/{folder}/{named}")
+                    count += 1
     return count
 
 

@@ -3,7 +3,8 @@
 
 usage: docs/check_commands.py PROGRAM [--recorder]
 
-PROGRAM is the built gorace, as crates/gorace/out/gorace, or a command of one word that runs it.
+PROGRAM is the built gorace, as crates/gorace/out/gorace, or a command of one word that runs it. With "-" nothing
+is run, and links, paths, promises and rows are looked at alone.
 
 - A block marked `console` has commands behind "$ " (continued behind "> ") and what each prints, on
   standard output and standard error. It runs in a copy of the repository's examples and recorder.
@@ -146,6 +147,8 @@ def check_tables(page, folder, failures):
                     failures.add(name(page), f"no file {row['File']}")
                     continue
                 named.add(file)
+            if folder is None:
+                continue
             lines, status = run_file(file, picks.group(1) if picks else "0", folder)
             failures.compare(f"{name(page)}: {row['File']}", [*report_in(report), row["Status"]], [*lines, status])
             count += 1
@@ -219,26 +222,33 @@ def check_promises(failures):
     return count
 
 
-def main():
-    words = [word for word in sys.argv[1:] if word != "--recorder"]
-    if len(words) != 1 or shutil.which(words[0]) is None:
-        print(__doc__.split("\n\n")[1] + "\n\nPROGRAM can't be run" * bool(words), file=sys.stderr)
-        return 3
-    program = pathlib.Path(shutil.which(words[0])).resolve()
+def check_all(program, with_recorder):
+    """With no program what needs none."""
     failures = Failures()
     counts = dict(commands=0, rows=0, links=0, paths=0, promises=check_promises(failures))
     with tempfile.TemporaryDirectory() as temporary:
-        folder = pathlib.Path(temporary)
-        make_copy(folder, program)
+        folder = pathlib.Path(temporary) if program else None
+        if folder:
+            make_copy(folder, program)
         for page in pages():
             counts["links"] += check_links(page, failures)
             counts["paths"] += check_paths(page, failures)
             counts["rows"] += check_tables(page, folder, failures)
-            if name(page) not in FOLLOWED_ELSEWHERE:
-                counts["commands"] += check_blocks(page, folder, "--recorder" in sys.argv, failures)
+            if folder and name(page) not in FOLLOWED_ELSEWHERE:
+                counts["commands"] += check_blocks(page, folder, with_recorder, failures)
     print("checked: " + ", ".join(f"{count} {what}" for what, count in counts.items()))
     print(f"failed: {failures.count}")
-    return 1 if failures.count else 0
+    return failures.count
+
+
+def main():
+    words = [word for word in sys.argv[1:] if word != "--recorder"]
+    program = shutil.which(words[0]) if len(words) == 1 else None
+    if program is None and words != ["-"]:
+        print(__doc__.split("\n\n")[1] + "\n\nPROGRAM can't be run" * bool(words), file=sys.stderr)
+        return 3
+    program = program and pathlib.Path(program).resolve()
+    return 1 if check_all(program, "--recorder" in sys.argv) else 0
 
 
 if __name__ == "__main__":

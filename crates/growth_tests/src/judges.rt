@@ -157,12 +157,13 @@ impl Growing for Row {
 // A judge takes six lists for its replay (four for goroutines and variables, two for locks), one for its shards, and for
 // each shard the clocks of its goroutines, a list for its locks, and what is kept of its variables. The first unlock of a
 // mutex makes each shard's stamper grow, and at the end there is the list of races.
-static CALLS: [(Call, usize, u64); 7] = [
+static CALLS: [(Call, usize, u64); 8] = [
     (Call::New, 1, 10),
     (Call::New, 2, 13),
     (Call::Feed, 1, 1),
     (Call::Feed, 2, 2),
     (Call::Finish, 2, 1),
+    (Call::Judge, 1, 12),
     (Call::Judge, 2, 16),
     (Call::JudgeAlone, 1, 12),
 ];

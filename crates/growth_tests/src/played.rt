@@ -160,7 +160,10 @@ pub(crate) fn are_alike<A: Allocator>(one: &Hub<Asks, A>, other: &Hub<Asks, A>) 
             return false;
         }
     }
-    one.end() == other.end() && one.out() == other.out() && one.trace() == other.trace()
+    one.end() == other.end()
+        && one.out() == other.out()
+        && one.limit() == other.limit()
+        && one.trace() == other.trace()
 }
 
 /// Whether two jobs answer the same.

@@ -34,9 +34,16 @@ static NAMES: [(&str, Option<Named>); 9] = [
     ("y", None),
 ];
 
+fn has_places<A: Allocator>(decls: &Decls<A>) -> bool {
+    decls.place_count() == 3
+        && decls.place_text(0) == "p"
+        && decls.place_text(1) == "q"
+        && decls.place_text(2) == "r"
+}
+
 fn is_as_declared<A: Allocator>(decls: &Decls<A>) -> bool {
     decls.len() == 7
-        && decls.place_count() == 3
+        && has_places(decls)
         && COUNTS
             .iter()
             .all(|(kind, count)| decls.count(*kind) == *count)
@@ -45,8 +52,9 @@ fn is_as_declared<A: Allocator>(decls: &Decls<A>) -> bool {
             .all(|(name, named)| decls.find(*name) == *named)
 }
 
-fn is_as_traced<A: Allocator>(trace: &Trace<A>) -> bool {
-    trace.len() == 4 && is_as_declared(trace.decls())
+// Whether the trace is as before, and equal to another one that was left alone.
+fn is_as_traced<A: Allocator>(trace: &Trace<A>, twin: &Trace<A>) -> bool {
+    trace.len() == 4 && is_as_declared(trace.decls()) && *trace == *twin
 }
 
 // A copy, whose lists have no room for more.
@@ -71,11 +79,13 @@ pub(crate) fn started<A: Allocator + Copy>(heap: A, start: Start) -> Option<Decl
     }
 }
 
-pub(crate) fn is_as_started<A: Allocator>(decls: &Decls<A>, start: Start) -> bool {
-    match start {
+/// Whether they are as they were started, and equal to others that were left alone.
+pub(crate) fn is_as_started<A: Allocator>(decls: &Decls<A>, twin: &Decls<A>, start: Start) -> bool {
+    let is_known = match start {
         Start::Nothing => decls.is_empty() && decls.place_count() == 0,
         Start::Copy => is_as_declared(decls),
-    }
+    };
+    is_known && *decls == *twin
 }
 
 /// A call that changes declarations.
@@ -112,17 +122,17 @@ impl Growing for OneMore {
         nth: u64,
     ) -> Reply {
         let OneMore(start, addition, number) = self;
-        match started(heap, start) {
-            Some(mut decls) => {
+        match (started(heap, start), started(heap, start)) {
+            (Some(mut decls), Some(twin)) => {
                 heap.refuse(nth);
                 match add(&mut decls, addition) {
                     Ok(added) => right_if(added == number),
                     Err(fault) => refused_if(
-                        fault == DeclFault::OutOfMemory && is_as_started(&decls, start),
+                        fault == DeclFault::OutOfMemory && is_as_started(&decls, &twin, start),
                     ),
                 }
             }
-            None => Reply::Wrong,
+            _ => Reply::Wrong,
         }
     }
 }
@@ -156,7 +166,7 @@ enum Call {
     AddPlace,
 }
 
-fn push<A: Allocator>(trace: &mut Trace<A>) -> Reply {
+fn push<A: Allocator>(trace: &mut Trace<A>, twin: &Trace<A>) -> Reply {
     let event = Event {
         who: 0,
         op: Op::Write(0, 7),
@@ -165,28 +175,28 @@ fn push<A: Allocator>(trace: &mut Trace<A>) -> Reply {
     };
     match trace.push(event) {
         Ok(()) => Reply::Right,
-        Err(fault) => refused_if(fault == PushFault::OutOfMemory && is_as_traced(trace)),
+        Err(fault) => refused_if(fault == PushFault::OutOfMemory && is_as_traced(trace, twin)),
     }
 }
 
-fn add_place<A: Allocator + Copy>(trace: &mut Trace<A>) -> Reply {
+fn add_place<A: Allocator + Copy>(trace: &mut Trace<A>, twin: &Trace<A>) -> Reply {
     match trace.add_place("s") {
         Ok(number) => right_if(number == 3),
-        Err(fault) => refused_if(fault == DeclFault::OutOfMemory && is_as_traced(trace)),
+        Err(fault) => refused_if(fault == DeclFault::OutOfMemory && is_as_traced(trace, twin)),
     }
 }
 
-fn reserve<A: Allocator>(trace: &mut Trace<A>) -> Reply {
+fn reserve<A: Allocator>(trace: &mut Trace<A>, twin: &Trace<A>) -> Reply {
     match trace.reserve() {
-        Ok(()) => Reply::Right,
-        Err(_) => refused_if(is_as_traced(trace)),
+        Ok(()) => right_if(*trace == *twin),
+        Err(_) => refused_if(is_as_traced(trace, twin)),
     }
 }
 
-fn copy<A: Allocator + Copy>(trace: &Trace<A>) -> Reply {
+fn copy<A: Allocator + Copy>(trace: &Trace<A>, twin: &Trace<A>) -> Reply {
     match copied(trace) {
-        Ok(copy) => right_if(is_as_declared(&copy)),
-        Err(_) => refused_if(is_as_traced(trace)),
+        Ok(copy) => right_if(is_as_declared(&copy) && copy == *twin.decls()),
+        Err(_) => refused_if(is_as_traced(trace, twin)),
     }
 }
 
@@ -197,17 +207,21 @@ impl Growing for Call {
         heap: &RefusingHeap<Global>,
         nth: u64,
     ) -> Reply {
-        match traced(heap, DECLARED, EVENTS) {
-            Some(mut trace) => {
+        let traces = (
+            traced(heap, DECLARED, EVENTS),
+            traced(heap, DECLARED, EVENTS),
+        );
+        match traces {
+            (Some(mut trace), Some(twin)) => {
                 heap.refuse(nth);
                 match self {
-                    Call::Copy => copy(&trace),
-                    Call::Reserve => reserve(&mut trace),
-                    Call::Push => push(&mut trace),
-                    Call::AddPlace => add_place(&mut trace),
+                    Call::Copy => copy(&trace, &twin),
+                    Call::Reserve => reserve(&mut trace, &twin),
+                    Call::Push => push(&mut trace, &twin),
+                    Call::AddPlace => add_place(&mut trace, &twin),
                 }
             }
-            None => Reply::Wrong,
+            _ => Reply::Wrong,
         }
     }
 }

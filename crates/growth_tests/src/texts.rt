@@ -97,17 +97,17 @@ fn declare<A: Allocator + Copy>(decls: &mut Decls<A>) -> Result<bool, TextCause>
 fn declared(heap: &RefusingHeap<Global>, start: Start, nth: u64) -> Reply
     requires { 0 < nth }
 {
-    match started(heap, start) {
-        Some(mut decls) => {
+    match (started(heap, start), started(heap, start)) {
+        (Some(mut decls), Some(twin)) => {
             heap.refuse(nth);
             match declare(&mut decls) {
                 Ok(is_declared) => right_if(is_declared),
                 Err(cause) => refused_if(
-                    cause == TextCause::OutOfMemory && is_as_started(&decls, start),
+                    cause == TextCause::OutOfMemory && is_as_started(&decls, &twin, start),
                 ),
             }
         }
-        None => Reply::Wrong,
+        _ => Reply::Wrong,
     }
 }
 

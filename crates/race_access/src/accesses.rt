@@ -36,6 +36,7 @@ pub(crate) enum Accesses<A: Allocator> {
 }
 
 // The index of the access, where the clock doesn't know it.
+#[inline(always)]
 fn unknown<B: Allocator>(access: &Access, clock: &Clock<B>) -> Option<u32>
     ensures { spec.IsGreatestUnknown clock.now (access.now ∷ []) result }
 {

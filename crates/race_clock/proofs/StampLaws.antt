@@ -43,7 +43,7 @@ long events i e at = length-take-le i events (let less : i < length events = sli
 
 module _ (caps : ℕ → ℕ) (events : List Event) where
   -- a stamp of this crate is one of race_model
-  stamped : (s : Stamp) (c : List ℕ) → IsStampIn caps events s c → IsStamped caps events s.at s.who s.count (knows c)
+  pub stamped : (s : Stamp) (c : List ℕ) → IsStampIn caps events s c → IsStamped caps events s.at s.who s.count (knows c)
   stamped s c k = record {
     event = k.event;
     stands = k.stands;

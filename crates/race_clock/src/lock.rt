@@ -46,6 +46,7 @@ impl<A: Allocator> LockClocks<A> {
     }
 
     /// What a lock joins to its goroutine's clock.
+    #[inline(always)]
     #[tactic(auto, using(crate::proofs::JoinLemmas::joined_locks))]
     pub(crate) fn hand_to_lock(&self, clock: &Clock<A>, to: &mut Clock<A>) -> Result<(), AllocError>
         ensures { OnOk result (to.new ≡ joined clock.now (joined self.now.unlocks self.now.runlocks)) }
@@ -58,6 +59,7 @@ impl<A: Allocator> LockClocks<A> {
     }
 
     /// What an rlock joins to it.
+    #[inline(always)]
     #[tactic(auto, using(crate::proofs::JoinLemmas::joined_nothing))]
     pub(crate) fn hand_to_rlock(
         &self,
@@ -73,6 +75,7 @@ impl<A: Allocator> LockClocks<A> {
     }
 
     /// All unlocks, with one more.
+    #[inline(always)]
     pub(crate) fn with_unlock(&self, begin: &Clock<A>, to: &mut Clock<A>) -> Result<(), AllocError>
         ensures { OnOk result (to.new ≡ joined self.now.unlocks begin.now) }
     {
@@ -82,6 +85,7 @@ impl<A: Allocator> LockClocks<A> {
         }
     }
 
+    #[inline(always)]
     pub(crate) fn lock(&mut self)
         ensures { self.new ≡ lock_locked self.old }
     {
@@ -89,6 +93,7 @@ impl<A: Allocator> LockClocks<A> {
     }
 
     /// Exchanges the clock of all unlocks and that of the last for these.
+    #[inline(always)]
     pub(crate) fn unlock(
         &mut self,
         all: &mut Clock<A>,

@@ -53,6 +53,7 @@ impl<A: Allocator> Slot<A> {
     }
 
     /// The clock of the next event's begin.
+    #[inline(always)]
     pub(crate) fn begin(&self, who: u32, to: &mut Clock<A>) -> Result<(), AllocError>
         requires { self.now.parts + 1 < 2 ^ 32 }
         ensures { OnOk result (to.new ≡ with_count self.now.clock who (self.now.parts + 1)) }

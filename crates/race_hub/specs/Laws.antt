@@ -82,16 +82,30 @@ pub record RowsOfTries : Type 0 where
   pub reader : HasBothWays [] (Ask.TryRLock 0) (TryRLock 0) (TryFail 0)
   pub second_reader : HasBothWays (does 0 (RLock 0) ∷ []) (Ask.TryRLock 0) (TryRLock 0) (TryFail 0)
   pub reader_fails : FailsAlone (does 0 (Lock 0) ∷ []) (Ask.TryRLock 0) (TryFail 0)
+  pub reader_taken : FailsAlone (does 0 (TryLock 0) ∷ []) (Ask.TryRLock 0) (TryFail 0)
+  pub reader_taken_for_reading : HasBothWays (does 0 (TryRLock 0) ∷ []) (Ask.TryRLock 0) (TryRLock 0) (TryFail 0)
+  pub reader_missed : HasBothWays (does 0 (TryFail 0) ∷ []) (Ask.TryRLock 0) (TryRLock 0) (TryFail 0)
+  pub reader_unlocked : HasBothWays (does 0 (TryLock 0) ∷ does 0 (Unlock 0) ∷ []) (Ask.TryRLock 0) (TryRLock 0) (TryFail 0)
+  pub runlocked : HasBothWays (does 0 (TryRLock 0) ∷ does 0 (RUnlock 0) ∷ []) (Ask.TryLock 0) (TryLock 0) (TryFail 0)
   pub lock_waits : Stays (does 0 (TryLock 0) ∷ []) (Ask.Lock 0)
+  pub lock_waits_for_reader : Stays (does 0 (TryRLock 0) ∷ []) (Ask.Lock 0)
   pub reader_waits : Stays (does 0 (TryLock 0) ∷ []) (Ask.RLock 0)
+  pub reader_joins : HasRow (does 0 (TryRLock 0) ∷ []) (Ask.RLock 0) (RLock 0) (Some Answer.Unit)
   pub unlock : HasRow (does 0 (TryLock 0) ∷ []) (Ask.Unlock 0) (Unlock 0) (Some Answer.Unit)
   pub unlock_missed : HasRow (does 0 (TryFail 0) ∷ []) (Ask.Unlock 0) (Fault (UnlockFree 0)) None
+  pub unlock_of_reader : HasRow (does 0 (TryRLock 0) ∷ []) (Ask.Unlock 0) (Fault (UnlockFree 0)) None
   pub runlock : HasRow (does 0 (TryRLock 0) ∷ []) (Ask.RUnlock 0) (RUnlock 0) (Some Answer.Unit)
+  pub runlock_missed : HasRow (does 0 (TryFail 0) ∷ []) (Ask.RUnlock 0) (Fault (RUnlockFree 0)) None
+  pub runlock_of_writer : HasRow (does 0 (TryLock 0) ∷ []) (Ask.RUnlock 0) (Fault (RUnlockFree 0)) None
   -- neither way has the row of the other, nor that of a plain lock
   pub not_behind : (told : Option Answer) → IsRow (Ask.TryLock 0) 1 (TryLock 0) told → ⊥
   pub not_first : (told : Option Answer) → IsRow (Ask.TryLock 0) 0 (TryFail 0) told → ⊥
   pub not_for_reading : (k : ℕ) (told : Option Answer) → IsRow (Ask.TryLock 0) k (TryRLock 0) told → ⊥
   pub not_plain : (k : ℕ) (told : Option Answer) → IsRow (Ask.TryLock 0) k (Lock 0) told → ⊥
+  pub reader_not_behind : (told : Option Answer) → IsRow (Ask.TryRLock 0) 1 (TryRLock 0) told → ⊥
+  pub reader_not_first : (told : Option Answer) → IsRow (Ask.TryRLock 0) 0 (TryFail 0) told → ⊥
+  pub reader_not_for_writing : (k : ℕ) (told : Option Answer) → IsRow (Ask.TryRLock 0) k (TryLock 0) told → ⊥
+  pub reader_not_plain : (k : ℕ) (told : Option Answer) → IsRow (Ask.TryRLock 0) k (RLock 0) told → ⊥
 
 -- a try is sound in version 2 alone, and one to lock for reading where the lock is an rwmutex
 pub record SoundTries : Type 0 where

@@ -30,11 +30,24 @@ rwmutex_asked _ = None
 abbrev pub lock_suits : DeclsState → Ask → Bool
 lock_suits decls ask = option_map_or (is_rw decls.declarations) (rwmutex_asked ask) true
 
--- the version has the ask: a try, where it has the word
+-- the version has the ask: a try, where it has the word, and each other
 abbrev pub has_ask : Version → Ask → Bool
+has_ask version (Ask.Go h) = true
+has_ask version Ask.Exit = true
+has_ask version (Ask.Read x) = true
+has_ask version (Ask.Write x v) = true
+has_ask version (Ask.Send c v) = true
+has_ask version (Ask.Recv c) = true
+has_ask version (Ask.Close c) = true
+has_ask version (Ask.Select offers has_default) = true
+has_ask version (Ask.Lock l) = true
+has_ask version (Ask.Unlock l) = true
+has_ask version (Ask.RLock l) = true
+has_ask version (Ask.RUnlock l) = true
 has_ask version (Ask.TryLock l) = has_verb version Verb.TryLock
 has_ask version (Ask.TryRLock l) = has_verb version Verb.TryRLock
-has_ask version _ = true
+has_ask version (Ask.Do o) = true
+has_ask version (Ask.EndDo o) = true
 
 -- the version has the request, and all that it names is declared, and of the right kind, its place too
 abbrev pub is_sound : DeclsState → Waiter → Bool

@@ -226,6 +226,16 @@ impl<A: Allocator> Replay<A> {
         }
     }
 
+    /// The least rule that the event would break as the next one, if it breaks any. The replay stays as it is.
+    ///
+    /// The event's goroutines and objects are in range of the declarations that the replay was made for.
+    pub fn breaks(&self, event: &Event) -> Option<Rule>
+        requires { IsInRange (counts_in self.now) event.now }
+        ensures { IsLeastBroken self.now event.now (option_map number_of result) }
+    {
+        self.first_broken(event)
+    }
+
     // The least rule that the event breaks.
     #[inline(always)]
     fn first_broken(&self, event: &Event) -> Option<Rule>

@@ -4,7 +4,7 @@ use Rattle.std.specs.Prelude.{List, [], ◌∷◌}
 use Rattle.race_records.specs.declared.event.Event.{Event}
 use Rattle.race_records.specs.declared.event.Op.TheVariants.{Go, Read, Write, Lock, Unlock, RLock, RUnlock, TryLock, TryRLock, TryFail}
 use Rattle.race_model.specs.Examples.{main, w, v, x, does}
-use Rattle.race_model.specs.LockExamples.{l}
+use Rattle.race_model.specs.LockExamples.{l, m}
 
 -- Small lists to come before an event.
 
@@ -24,6 +24,10 @@ try_failed_on_held = does main (Go w) ∷ does main (Lock l) ∷ does w (TryFail
 -- a reader, and a try that fails
 abbrev pub try_failed_beside_a_reader : List Event
 try_failed_beside_a_reader = does main (Go w) ∷ does main (RLock l) ∷ does w (TryFail l) ∷ []
+
+-- w's try of another lock fails beside one that is held
+abbrev pub try_failed_on_another : List Event
+try_failed_on_another = does main (Go w) ∷ does main (Lock l) ∷ does w (TryFail m) ∷ []
 
 -- Edges.
 
@@ -80,6 +84,23 @@ abbrev pub earlier_unlock_then_try : List Event
 earlier_unlock_then_try =
     does main (Go w) ∷ does main (Go v) ∷ does w (Lock l) ∷ does w (Write x 5) ∷ does w (Unlock l) ∷ does v (Lock l)
     ∷ does main (Unlock l) ∷ does main (TryRLock l) ∷ does main (Read x 5) ∷ []
+
+-- w writes under the lock, then main tries another one with success
+abbrev pub write_then_try_of_another : List Event
+write_then_try_of_another =
+    does main (Go w) ∷ does w (Lock l) ∷ does w (Write x 5) ∷ does w (Unlock l) ∷ does main (TryLock m)
+    ∷ does main (Read x 5) ∷ []
+
+abbrev pub write_then_try_to_read_another : List Event
+write_then_try_to_read_another =
+    does main (Go w) ∷ does w (Lock l) ∷ does w (Write x 5) ∷ does w (Unlock l) ∷ does main (TryRLock m)
+    ∷ does main (Read x 5) ∷ []
+
+-- w's try locked another lock than main's
+abbrev pub try_of_another_writes_then_lock : List Event
+try_of_another_writes_then_lock =
+    does main (Go w) ∷ does w (TryLock m) ∷ does w (Write x 5) ∷ does w (Unlock m) ∷ does main (Lock l)
+    ∷ does main (Read x 5) ∷ []
 
 -- What orders nothing.
 

@@ -14,8 +14,10 @@ pub fn a_try_succeeds_where_the_lock_could_be_locked()
     ensures held_elsewhere { Fits locked (does w (TryLock m)) }
     ensures unlocked { Fits unlocked (does w (TryLock l)) }
     ensures read_held { Breaks one_reader (does w (TryLock l)) 14 }
+    ensures read_held_elsewhere { Fits one_reader (does w (TryLock m)) }
     ensures free_to_read { Fits started (does main (TryRLock l)) }
     ensures held_to_read { Breaks locked (does w (TryRLock l)) 13 }
+    ensures held_elsewhere_to_read { Fits locked (does w (TryRLock m)) }
     ensures unlocked_to_read { Fits unlocked (does w (TryRLock l)) }
     ensures beside_a_reader { Fits one_reader (does w (TryRLock l)) }
 {}
@@ -34,6 +36,16 @@ pub fn a_try_that_succeeds_locks()
     ensures reader_unlock { Breaks tries.try_locked_for_reading (does main (Unlock l)) 15 }
     ensures reader_runlock { Fits tries.try_locked_for_reading (does main (RUnlock l)) }
     ensures runlock_free { Breaks tries.try_locked_for_reading (does main (Fault (RUnlockFree l))) 23 }
+{}
+
+/// A try that succeeded locks its own lock alone.
+pub fn a_try_locks_no_other_lock()
+    ensures lock { Fits tries.try_locked (does w (Lock m)) }
+    ensures unlock { Breaks tries.try_locked (does main (Unlock m)) 15 }
+    ensures unlock_free { Fits tries.try_locked (does main (Fault (UnlockFree m))) }
+    ensures beside_a_reader { Fits tries.try_locked_for_reading (does w (Lock m)) }
+    ensures reader_runlock { Breaks tries.try_locked_for_reading (does main (RUnlock m)) 16 }
+    ensures failed_on_another { Breaks tries.try_failed_on_another (does main (Lock l)) 13 }
 {}
 
 /// A try may fail whatever state the lock is in, also where it is free; it changes nothing.
@@ -62,6 +74,9 @@ pub fn a_try_that_succeeds_sees_what_a_lock_would()
     ensures failed_not_counted { IsVerdict capacities tries.failed_try_between Clean }
     ensures to_read { IsVerdict capacities tries.write_then_try_to_read Clean }
     ensures last_unlock_alone { IsVerdict capacities tries.earlier_unlock_then_try (Races (race_on_x 3 8)) }
+    ensures of_another_lock { IsVerdict capacities tries.write_then_try_of_another (Races (race_on_x 2 5)) }
+    ensures to_read_another_lock { IsVerdict capacities tries.write_then_try_to_read_another (Races (race_on_x 2 5)) }
+    ensures by_a_try_of_another { IsVerdict capacities tries.try_of_another_writes_then_lock (Races (race_on_x 2 5)) }
 {}
 
 /// No edge enters a try that fails, and none leaves it; a try that succeeds orders nothing by itself.

@@ -178,6 +178,7 @@ impl<A: Allocator> Decls<A> {
     ///
     /// There are so many bytes, and each of them is one of a place (33 to 126). It is faster for a name of at
     /// most 16 bytes, and most where 16 bytes are there.
+    #[inline(always)]
     pub fn find_at(&self, bytes: &[u8], len: usize) -> Option<Named>
         requires len { len ≤ length bytes.now }
         requires visible { list_all is_place_byte (take len bytes.now) ≡ true }

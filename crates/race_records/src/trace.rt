@@ -101,6 +101,7 @@ impl<A: Allocator> Trace<A> {
     }
 
     /// Appends an event of which the caller knows that it is allowed, and tests nothing.
+    #[inline(always)]
     pub fn append(&mut self, event: Event) -> Result<(), AllocError>
         requires allowed { spec.push_fault self.old event ≡ None }
         requires value { IsTrue (spec.op_is_limited event.op) }

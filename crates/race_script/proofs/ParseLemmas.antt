@@ -7,7 +7,8 @@ use Rattle.std.proofs.lemmas.Option.{none-some}
 use Rattle.race_records.specs.declared.version.Version.{Version}
 use Rattle.race_text.specs.declared.cause.TextCause.{TextCause}
 use Rattle.race_text.proofs.WordLemmas.{both}
-use Rattle.race_script.specs.Fault.{header_cause, cause, end_cause, is_whole}
+use Rattle.race_text.specs.Fault.{header_cause}
+use Rattle.race_script.specs.Fault.{cause, end_cause, is_whole}
 use Rattle.race_script.specs.Program.{Draft}
 use Rattle.race_script.specs.Reader.{lines_by}
 use Rattle.race_script.specs.Reading.{version_said, seen}

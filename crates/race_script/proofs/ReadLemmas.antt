@@ -22,10 +22,11 @@ use Rattle.race_hub.specs.declared.request.Request.{Request}
 use Rattle.race_text.specs.declared.cause.TextCause.{TextCause}
 use Rattle.race_text.specs.declared.form.Word.{Word}
 use Rattle.race_text.specs.Declaring.{is_declaration_line, is_declaration_word, declaration_cause, with_declared, with_declaration_in}
-use Rattle.race_text.specs.Fault.{or_else, seen_so_far, declaration_in}
+use Rattle.race_text.specs.Fault.{or_else, seen_so_far, declaration_in, header_cause}
 use Rattle.race_text.specs.Fault.{word_cause as text_cause}
 use Rattle.race_text.specs.Form.{word_named, first_word, arguments}
 use Rattle.race_text.specs.Lines.{GoesOn}
+use Rattle.race_text.specs.Owed.{owed}
 use Rattle.race_text.specs.Reader.{nothing_in}
 use Rattle.race_text.specs.Text.{declaration_line}
 use Rattle.race_text.specs.Words.{words_of, has_bad_byte}
@@ -34,7 +35,7 @@ use Rattle.race_text.proofs.TextLaws.{IsDeclarationLine, declaration_again}
 use Rattle.race_text.proofs.WordLemmas.{both}
 use Rattle.race_script.specs.declared.form.AskWord.{AskWord}
 use Rattle.race_script.specs.declared.form.LineWord.{LineWord}
-use Rattle.race_script.specs.Fault.{words_cause, said_cause, word_cause, line_cause, header_cause, cause, end_cause, program_causes, is_whole}
+use Rattle.race_script.specs.Fault.{words_cause, said_cause, word_cause, line_cause, cause, end_cause, program_causes, is_whole}
 use Rattle.race_script.specs.Form.{line_word, line_word_in, on_nil, ask_fields, begin_fields}
 use Rattle.race_script.specs.Offers.{select_words, select_cause}
 use Rattle.race_script.specs.Program.{Instruction, Draft, IsProgram, draft_of, is_body_of, spelled, bodies_of, places_of}
@@ -153,9 +154,10 @@ module _ (old : ReadState) (read : IsRead old) (line : List ℕ) where
       }
 
   pub said_answered : (said : Said) (r : Result (Unit {0}) TextCause) (new : ReadState) → IsSaidLine (declared old.decls) line said
-      → MatchResult r (λ _. TakesSaid old said new) (λ told. told ≢ TextCause.OutOfMemory → said_cause d said ≡ Some told) → TakesOrTells old line r new
+      → MatchResult r (λ _. TakesSaid old said new) (λ told. told ≡ owed (said_cause d said)) → TakesOrTells old line r new
   said_answered said (Ok u) new is takes = said_taken said new is takes
-  said_answered said (Err told) new is tells = λ other. said_told said told is (tells other)
+  said_answered said (Err told) new is tells =
+      tells ∙ sym (ap owed (cause_behind d line read.seen_is ∙ is.cause_is d refl))
 
   -- the words behind the first
   pub begin_told : (words : List (List ℕ)) (told : TextCause) → HasWords old.decls.version line LineWord.Begins words → words_cause ds begin_fields words ≡ Some told
@@ -269,16 +271,15 @@ module _ (old : ReadState) (read : IsRead old) (line : List ℕ) where
           by None h = refl
           by (Some f) h = let wrong = h f refl in absurd (cc)
       declared_answered (Err e) new refused allowed ok taken header ended unended s is =
-          subst (λ s. TakesOrTells old line s new) (sym is) (λ other. by (declaration_cause ds line) refl refused allowed other)
+          subst (λ s. TakesOrTells old line s new) (sym is) (by (declaration_cause ds line) refl refused allowed)
         where
           by : (o : Option TextCause) → declaration_cause ds line ≡ o → Refuses {T = Bool} o (Err e)
-              → AllowsUnless {T = Bool} o (Err e) TextCause.OutOfMemory → e ≢ TextCause.OutOfMemory
-              → cause (lines d) line true ≡ Some e
-          by None is refused allowed other = absurd (other (allowed refl))
-          by (Some f) is refused allowed other =
+              → AllowsUnless {T = Bool} o (Err e) TextCause.OutOfMemory → e ≡ owed (cause (lines d) line true)
+          by None is refused allowed = allowed refl ∙ sym (ap owed (first_cause ∙ is))
+          by (Some f) is refused allowed =
               let told = refused f refl in
-              let same : f ≡ e = cc in
-              first_cause ∙ is ∙ ap Some same
+              let same : e ≡ f = cc in
+              same ∙ sym (ap owed (first_cause ∙ is))
 
 -- the header
 abbrev pub nothing_read : Version → ReadState

@@ -31,8 +31,9 @@ use Rattle.race_script.specs.declared.form.AskWord.{AskWord}
 use Rattle.race_script.specs.declared.form.LineWord.{LineWord}
 use Rattle.race_script.specs.declared.program.TheConstants.{MAX_STEPS}
 use Rattle.race_script.specs.Bodies.{is_exit, after_ask}
+use Rattle.race_text.specs.Fault.{header_cause}
 use Rattle.race_script.specs.Fault.{words_cause, has_no_room, may_follow, may_begin}
-use Rattle.race_script.specs.Fault.{said_cause, asked_cause, header_cause, cause, program_causes}
+use Rattle.race_script.specs.Fault.{said_cause, asked_cause, cause, program_causes}
 use Rattle.race_script.specs.Fault.{text_fault, is_whole}
 use Rattle.race_script.specs.Form.{line_word, line_word_in, on_nil, ask_fields, begin_fields}
 use Rattle.race_script.specs.Offers.{select_words, select_cause}
@@ -196,28 +197,28 @@ module _ (s : ReadState) (header_is : s.has_header ≡ true) (read : IsRead s) (
   with_line : IsNext s line
   with_line = clean (has_bad_byte line) refl
     where
+      has_words : has_bad_byte line ≡ false → (first : List ℕ) (args : List (List ℕ)) → words_of line ≡ first ∷ args
+          → (word : LineWord) → line_word_in s.decls.version first ≡ Some word → HasWords s.decls.version line word args
+      has_words fine first args e word h = record {
+        clean = fine;
+        named = ap (λ ws. line_word_in s.decls.version (first_word ws)) e ∙ h;
+        behind = e ∙ ap (λ ws. first_word ws ∷ args) (sym e);
+      }
+
+      unknown : has_bad_byte line ≡ false → (ws : List (List ℕ)) → words_of line ≡ ws → line_word_in s.decls.version (first_word ws) ≡ None → IsNext s line
+      unknown fine ws e h = absurd (not_told TextCause.UnknownWord
+          (unknown_told s read line fine (ap (λ ws. line_word_in s.decls.version (first_word ws)) e ∙ h)))
+
       by_word : has_bad_byte line ≡ false → (first : List ℕ) (args : List (List ℕ))
           → words_of line ≡ first ∷ args → (o : Option LineWord) → line_word_in s.decls.version first ≡ o → IsNext s line
-      by_word fine first args e None h = absurd (not_told TextCause.UnknownWord (unknown_told s read line fine (ap (λ ws. line_word_in s.decls.version (first_word ws)) e ∙ h)))
-      by_word fine first args e (Some (LineWord.Declares noun)) h =
-          with_declared noun args (record {
-            clean = fine;
-            named = ap (λ ws. line_word_in s.decls.version (first_word ws)) e ∙ h;
-            behind = e ∙ ap (λ ws. first_word ws ∷ args) (sym e);
-          })
-      by_word fine first args e (Some LineWord.Begins) h =
-          with_begin args (record { clean = fine; named = ap (λ ws. line_word_in s.decls.version (first_word ws)) e ∙ h; behind = e ∙ ap (λ ws. first_word ws ∷ args) (sym e) })
-      by_word fine first args e (Some (LineWord.Asks word)) h =
-          with_asks word args (record {
-            clean = fine;
-            named = ap (λ ws. line_word_in s.decls.version (first_word ws)) e ∙ h;
-            behind = e ∙ ap (λ ws. first_word ws ∷ args) (sym e);
-          })
-      by_word fine first args e (Some LineWord.Selects) h =
-          with_selects args (record { clean = fine; named = ap (λ ws. line_word_in s.decls.version (first_word ws)) e ∙ h; behind = e ∙ ap (λ ws. first_word ws ∷ args) (sym e) })
+      by_word fine first args e None h = unknown fine (first ∷ args) e h
+      by_word fine first args e (Some (LineWord.Declares noun)) h = with_declared noun args (has_words fine first args e (LineWord.Declares noun) h)
+      by_word fine first args e (Some LineWord.Begins) h = with_begin args (has_words fine first args e LineWord.Begins h)
+      by_word fine first args e (Some (LineWord.Asks word)) h = with_asks word args (has_words fine first args e (LineWord.Asks word) h)
+      by_word fine first args e (Some LineWord.Selects) h = with_selects args (has_words fine first args e LineWord.Selects h)
 
       words : has_bad_byte line ≡ false → (ws : List (List ℕ)) → words_of line ≡ ws → IsNext s line
-      words fine [] e = absurd (not_told TextCause.UnknownWord (unknown_told s read line fine (ap (λ ws. line_word_in s.decls.version (first_word ws)) e ∙ no_word s.decls.version)))
+      words fine [] e = unknown fine [] e (no_word s.decls.version)
       words fine (first ∷ args) e = by_word fine first args e (line_word_in s.decls.version first) refl
 
       clean : (b : Bool) → has_bad_byte line ≡ b → IsNext s line

@@ -2,7 +2,7 @@
 use Rattle.std.proofs.Common.{◌≡◌, ℕ, ◌+◌, ◌<◌, ◌≤◌, ◌==◌, ◌&&◌, ◌||◌, Bool, true, false, true≢false, not, nat_lt}
 use Rattle.std.proofs.Common.{nat_le, if◌then◌else◌, List, [], ◌∷◌, ◌++◌, length, map, fold, unwrap_or, Option}
 use Rattle.std.proofs.Common.{Some, None, IfSome, refl, sym, ap, subst, ◌∙◌, arith, append-nil, append_assoc}
-use Rattle.std.proofs.Common.{is_some, is_none, ◌≢◌, Ok, Err}
+use Rattle.std.proofs.Common.{is_some, is_none, ◌≢◌, ◌⊎◌, inl, inr, Ok, Err}
 use Rattle.std.proofs.lemmas.Bool.Decides.{nat_tests}
 use Rattle.std.proofs.lemmas.List.{length-append, length-map, map-append}
 use Rattle.std.proofs.lemmas.List.Folds.{list_all-append}
@@ -360,20 +360,20 @@ begin_taken s sound g less may new header decls ended left =
 abbrev place_fault_by : Bool → Bool → Bool → Option DeclFault
 place_fault_by a b c = if not a then Some DeclFault.BadName else (if b then None else (if c then Some DeclFault.TooMany else None))
 
--- a place that is refused for more than memory finds no room
+-- a place is refused since it finds no room, and else for want of memory
 pub place_told : (places : List (List ℕ)) (word : List ℕ) → is_place word ≡ true
     → (refused : DeclFault) → Refuses {T = ℕ} (place_fault places word) (Err refused)
-    → AllowsUnless {T = ℕ} (place_fault places word) (Err refused) DeclFault.OutOfMemory → cause_of refused ≢ TextCause.OutOfMemory
-    → (cause_of refused ≡ TextCause.TooMany) × (has_no_room places word ≡ true)
+    → AllowsUnless {T = ℕ} (place_fault places word) (Err refused) DeclFault.OutOfMemory
+    → ((has_no_room places word ≡ true) × (refused ≡ DeclFault.TooMany)) ⊎ ((has_no_room places word ≡ false) × (refused ≡ DeclFault.OutOfMemory))
 unfolding place_fault
-place_told places word form refused refuses allows other = by (is_place word) form (is_known places word) (nat_le MAX_PLACES (length places)) refuses allows
+place_told places word form refused refuses allows = by (is_place word) form (is_known places word) (nat_le MAX_PLACES (length places)) refuses allows
   where
     by : (a : Bool) → a ≡ true → (b c : Bool) → Refuses {T = ℕ} (place_fault_by a b c) (Err refused)
         → AllowsUnless {T = ℕ} (place_fault_by a b c) (Err refused) DeclFault.OutOfMemory
-        → (cause_of refused ≡ TextCause.TooMany) × ((not b && c) ≡ true)
-    by true e true c refuses allows = absurd (other (ap cause_of (allows refl)))
-    by true e false false refuses allows = absurd (other (ap cause_of (allows refl)))
-    by true e false true refuses allows = let told = refuses DeclFault.TooMany refl in let same : refused ≡ DeclFault.TooMany = cc in (ap cause_of same, refl)
+        → (((not b && c) ≡ true) × (refused ≡ DeclFault.TooMany)) ⊎ (((not b && c) ≡ false) × (refused ≡ DeclFault.OutOfMemory))
+    by true e true c refuses allows = inr (refl, allows refl)
+    by true e false false refuses allows = inr (refl, allows refl)
+    by true e false true refuses allows = let told = refuses DeclFault.TooMany refl in let same : refused ≡ DeclFault.TooMany = cc in inl (refl, same)
     by false e b c refuses allows = absurd (true≢false (sym e))
 
 pub not_refused : (fault : Option DeclFault) (n : ℕ) → Refuses {T = ℕ} fault (Ok n) → fault ≡ None

@@ -25,7 +25,7 @@ use Rattle.race_text.proofs.WordLemmas.{both}
 use Rattle.race_text.proofs.WordsAgain.{parts_again}
 use Rattle.race_script.specs.declared.program.TheConstants.{MAX_STEPS}
 use Rattle.race_script.specs.Bodies.{is_exit, after_ask, onces_after, ends, is_body}
-use Rattle.race_script.specs.Fault.{said_cause, line_cause, header_cause, cause, program_causes, text_fault, is_whole, has_no_room, may_follow}
+use Rattle.race_script.specs.Fault.{said_cause, line_cause, cause, program_causes, text_fault, is_whole, has_no_room, may_follow}
 use Rattle.race_script.specs.Program.{Instruction, Draft, ProgramState, IsProgram, draft_of, declared_by, with_place, places_of, ask_fits}
 use Rattle.race_script.specs.Reading.{with_said, seen}
 use Rattle.race_script.specs.Text.{header, Said, Asks, said_line, saids, lines, draft_text, program_text, IsProgramText}
@@ -34,7 +34,7 @@ use Rattle.std.proofs.Math.ListN.{get_or-append}
 use Rattle.std.proofs.lemmas.Grind.{flat_map-append}
 use Rattle.std.proofs.lemmas.List.Concat.{flat_map-cons}
 use Rattle.std.proofs.lemmas.List.Sums.{fold-append}
-use Rattle.race_text.specs.Fault.{seen_so_far}
+use Rattle.race_text.specs.Fault.{seen_so_far, header_cause}
 use Rattle.race_text.specs.Fault.{word_cause as text_cause}
 use Rattle.race_text.specs.Form.{first_word, arguments}
 use Rattle.race_text.specs.Words.{words_of}

@@ -5,7 +5,6 @@ use Rattle.std.specs.Prelude.{is_some, is_none}
 use Rattle.std.specs.Option.{option_and_then}
 use Rattle.race_records.specs.declared.declarations.TheConstants.{MAX_PLACES}
 use Rattle.race_records.specs.declared.kind.Kind.{Kind}
-use Rattle.race_records.specs.declared.version.Version.{Version}
 use Rattle.race_records.specs.Declarations.{Declaration, count_of, is_known}
 use Rattle.race_hub.specs.declared.request.Ask.{Ask}
 use Rattle.race_text.specs.declared.cause.TextCause.{TextCause}
@@ -13,7 +12,7 @@ use Rattle.race_text.specs.declared.cause.TextFault.{TextFault}
 use Rattle.race_text.specs.declared.form.Field.{Field}
 use Rattle.race_text.specs.declared.form.Word.{Word}
 use Rattle.race_text.specs.Fault as text
-use Rattle.race_text.specs.Fault.{or_else, seen_so_far, fields_cause}
+use Rattle.race_text.specs.Fault.{or_else, seen_so_far, fields_cause, header_cause}
 use Rattle.race_text.specs.Form.{first_word, arguments}
 use Rattle.race_text.specs.Lines.{Causes, first_fault}
 use Rattle.race_text.specs.Words.{words_of, has_bad_byte}
@@ -39,12 +38,16 @@ abbrev pub may_follow : Option (List ℕ) → Ask → Bool
 may_follow None ask = false
 may_follow (Some onces) ask = if is_exit ask then length onces == 0 else is_some (after_ask onces ask)
 
+-- the cause of an ask that may not
+abbrev pub follow_cause : Option (List ℕ) → Ask → Option TextCause
+follow_cause onces ask = if may_follow onces ask then None else Some TextCause.BadBlock
+
 -- the least cause of an instruction, of which there can be too many in a body. It stands in one, where it may
 abbrev pub asked_cause : Draft → Instruction → Option (List Instruction) → Option TextCause
 asked_cause d i None = Some TextCause.BadBlock
 asked_cause d i (Some body) =
     if nat_le MAX_STEPS (length body) || has_no_room (places_of d) i.place then Some TextCause.TooMany
-    else (if may_follow (onces_after [] (asked_by body)) i.ask then None else Some TextCause.BadBlock)
+    else follow_cause (onces_after [] (asked_by body)) i.ask
 
 -- the body of the goroutine is the next one, and none before has not ended
 abbrev pub may_begin : Draft → ℕ → Bool
@@ -76,11 +79,6 @@ unfoldable pub line_cause : Draft → List ℕ → Option TextCause
 line_cause d line =
     if has_bad_byte line then Some TextCause.BadByte
     else word_cause d (line_word_in d.version (first_word (words_of line))) (arguments (words_of line))
-
--- the cause of the first line, by the version that it says
-abbrev pub header_cause : Option Version → Bool → Option TextCause
-header_cause None newline = Some TextCause.BadHeader
-header_cause (Some version) newline = if newline then None else Some TextCause.NoNewline
 
 -- the least cause of a line that stands after others, and ends with a newline or not
 unfoldable pub cause : List (List ℕ) → List ℕ → Bool → Option TextCause

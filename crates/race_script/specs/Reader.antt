@@ -1,5 +1,5 @@
 -- How far a program is read, line by line.
-use Rattle.std.specs.Prelude.{◌≡◌, ◌≢◌, ℕ, ◌≤◌, Result, Ok, Err, Bool, true, false, List, [], ◌∷◌, ◌++◌, length, map, reverse, Option, Some, None, IfSome}
+use Rattle.std.specs.Prelude.{◌≡◌, ℕ, ◌≤◌, Result, Ok, Err, Bool, true, false, List, [], ◌∷◌, ◌++◌, length, map, reverse, Option, Some, None, IfSome}
 use Rattle.std.specs.List.{list_all}
 use Rattle.std.specs.Option.{option_map}
 use Rattle.race_records.specs.declared.kind.Kind.{Kind}
@@ -10,6 +10,7 @@ use Rattle.race_script.specs.declared.program.TheConstants.{MAX_STEPS}
 use Rattle.race_text.specs.declared.cause.TextCause.{TextCause}
 use Rattle.race_text.specs.Form.{first_word}
 use Rattle.race_text.specs.Lines.{GoesOn}
+use Rattle.race_text.specs.Owed.{owed}
 use Rattle.race_text.specs.Reader.{nothing_in}
 use Rattle.race_text.specs.Words.{words_of, has_bad_byte}
 use Rattle.race_script.specs.declared.form.LineWord.{LineWord}
@@ -114,7 +115,7 @@ pub record TakesLine (old : ReadState) (line : List ℕ) (new : ReadState) : Typ
   pub goes : GoesOn program_causes (lines (draft_read old)) line (lines (draft_read new))
   pub read : IsRead new
 
--- or its least cause is told, memory aside
+-- or what is owed by its least cause is told
 abbrev pub TakesOrTells : ReadState → List ℕ → Result Unit TextCause → ReadState → Type 0
 TakesOrTells old line (Ok u) new = TakesLine old line new
-TakesOrTells old line (Err told) new = told ≢ TextCause.OutOfMemory → cause (lines (draft_read old)) line true ≡ Some told
+TakesOrTells old line (Err told) new = told ≡ owed (cause (lines (draft_read old)) line true)

@@ -1,9 +1,11 @@
 //! A program from its bytes.
 ghost use Rattle.std.specs.Prelude.{◌≡◌, ◌≢◌, ◌<◌, Some, IfOk, IfErr};
 ghost use Rattle.race_script.specs.Text.{IsTextOf, IsProgramText};
-ghost use Rattle.race_script.specs.Fault.{text_fault};
+ghost use Rattle.race_script.specs.Fault.{program_causes, text_fault};
+ghost use Rattle.race_text.specs.Fed.{ended_fault};
 ghost use Rattle.race_script.specs.Laws.{IsOnlyProgramOf};
 ghost use Rattle.race_text.specs.Lines.{IsLineOf, IsNoneBefore};
+ghost use Rattle.race_text.specs.Owed.{HidesNone};
 
 use crate::program::Program;
 use crate::program_reader::ProgramReader;
@@ -13,7 +15,8 @@ use std::alloc::Allocator;
 /// The one program whose text the bytes are, or else their first fault.
 ///
 /// Every text of a program is read, or refused for want of memory alone, and nothing else is read.
-/// Want of memory is told at a line of the text before which none is at fault. Where the text ends too
+/// Want of memory is told at a line of the text before which none is at fault, and which isn't at
+/// fault itself unless it is the last and no newline ends it. Where the text ends too
 /// early, that is told for the line behind the last one.
 pub fn parse_program<A: Allocator + Copy>(alloc: A, bytes: &[u8]) -> Result<Program<A>, TextFault>
     ensures text { IfOk result (λ program. IsTextOf program bytes.now) }
@@ -23,6 +26,7 @@ pub fn parse_program<A: Allocator + Copy>(alloc: A, bytes: &[u8]) -> Result<Prog
     ensures fault { IfErr result
         (λ told. told.cause ≢ TextCause.OutOfMemory → text_fault bytes.now ≡ Some told) }
     ensures memory { IfErr result (λ told. IsNoneBefore told.line (text_fault bytes.now)) }
+    ensures owed { IfErr result (λ told. HidesNone told (ended_fault program_causes bytes.now)) }
     ensures line { IfErr result (λ told. IsLineOf bytes.now told.line) }
 {
     let mut reader = ProgramReader::new(alloc);

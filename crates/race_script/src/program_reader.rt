@@ -6,6 +6,7 @@ ghost use Rattle.race_script.specs.Laws.{IsOnlyProgramOf};
 ghost use Rattle.race_script.specs.Reader.{IsReading, lines_read};
 ghost use Rattle.race_text.specs.Common.{TakesNext, TellsOfNext};
 ghost use Rattle.race_text.specs.Lines.{GoesOn, IsLineOf, IsNoneBefore};
+ghost use Rattle.race_text.specs.Owed.{HidesNone};
 ghost use Rattle.race_text.specs.Fed as spec;
 
 use crate::program::Program;
@@ -57,7 +58,8 @@ impl<A: Allocator> Model for ProgramReader<A> {
 impl<A: Allocator + Copy> ProgramReader<A> {
     /// Nothing is fed yet. Takes no memory.
     pub fn new(alloc: A) -> ProgramReader<A>
-        ensures { spec.StandsFor program_causes result [] }
+        ensures stands { spec.StandsFor program_causes result [] }
+        ensures between { spec.IsBetweenLines result }
     {
         ProgramReader {
             lines: Lines {
@@ -70,8 +72,9 @@ impl<A: Allocator + Copy> ProgramReader<A> {
 
     /// Takes the next piece of the text, and tells the first fault of the lines that are ended.
     ///
-    /// Memory aside it is Ok exactly where none of them has one. After a refusal each further call
-    /// refuses in the same way.
+    /// Memory aside it is Ok exactly where none of them has one. Want of memory hides no fault of its
+    /// own line where that line came in one piece. After a refusal each further call refuses in the
+    /// same way.
     pub fn feed(&mut self, piece: &[u8]) -> Result<(), TextFault>
         ensures goes_on { spec.GoesOnBy program_causes self.old self.new piece.now }
         ensures ok { IfOk result (λ _. spec.ForEachFed program_causes self.old
@@ -80,6 +83,8 @@ impl<A: Allocator + Copy> ProgramReader<A> {
             (λ fed. told.cause ≢ TextCause.OutOfMemory → spec.ended_fault program_causes (fed ++ piece.now) ≡ Some told)) }
         ensures memory { IfErr result (λ told. spec.ForEachFed program_causes self.old
             (λ fed. IsNoneBefore told.line (spec.ended_fault program_causes (fed ++ piece.now)))) }
+        ensures owed { IfErr result (λ told. spec.IsBetweenLines self.old → spec.ForEachFed program_causes self.old
+            (λ fed. HidesNone told (spec.ended_fault program_causes (fed ++ piece.now)))) }
         ensures line { IfErr result (λ told. spec.ForEachFed program_causes self.old
             (λ fed. IsLineOf (fed ++ piece.now) told.line)) }
         ensures fine { IfOk result (λ _. self.new.fault ≡ None) }
@@ -137,6 +142,8 @@ impl<A: Allocator + Copy> Lines<A> {
             (lines_read self.new.reader) self.new.part.items)
             (λ told. spec.TellsOfBytes program_causes (lines_read self.old.reader)
             (self.old.part.items ++ piece.now) told) }
+        ensures owed { IfErr result (λ told. self.old.part.items ≡ []
+            → spec.HidesNoneOf program_causes (lines_read self.old.reader) piece.now told) }
         ensures reading { OnOk result
             (IsReading self.new.reader) }
         ensures unended { OnOk result (spec.IsUnended self.new.part.items) }
@@ -172,6 +179,7 @@ impl<A: Allocator + Copy> Lines<A> {
             (lines_read self.new.reader) self.new.part.items)
             (λ told. spec.TellsOfBytes program_causes (lines_read self.old.reader)
             bytes.now told) }
+        ensures owed { IfErr result (spec.HidesNoneOf program_causes (lines_read self.old.reader) bytes.now) }
         ensures reading { OnOk result
             (IsReading self.new.reader) }
         ensures unended { OnOk result (spec.IsUnended self.new.part.items) }

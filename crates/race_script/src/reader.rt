@@ -1,11 +1,13 @@
 //! A program that is read line by line.
 ghost use Rattle.std.specs.Prelude.{◌≡◌, ◌≢◌, ◌+◌, ◌^◌, ◌<◌, [], length, sum_by, reverse};
 ghost use Rattle.std.specs.Prelude.{true, false, Some, None, Ok, is_some, IfOk, IfSome};
-ghost use Rattle.std.specs.Prelude.{MatchResult, OnOk};
+ghost use Rattle.std.specs.Prelude.{MatchResult, OnOk, OnErr};
 ghost use Rattle.race_records.specs.Declarations.{IsWellFormed};
 ghost use Rattle.race_records.specs.Name.{is_place};
 ghost use Rattle.race_hub.specs.Submits.{has_ask};
 ghost use Rattle.race_text.specs.Lines.{GoesOn};
+ghost use Rattle.race_text.specs.Owed.{owed};
+ghost use Rattle.race_text.specs.Declaring.{cause_of as place_cause};
 ghost use Rattle.race_text.specs.Words.{parts_left};
 ghost use Rattle.race_script.specs.Bodies as bodies;
 ghost use Rattle.race_script.specs.Fault as fault;
@@ -22,7 +24,7 @@ use crate::offers::{select_cause, select_words, selected_in};
 use crate::program::{MAX_STEPS, Program};
 use crate::script::is_exit;
 use race_hub::{Ask, Request};
-use race_records::{Decls, Kind, Noun, PartKind, Version, as_text};
+use race_records::{DeclFault, Decls, Kind, Noun, PartKind, Version, as_text};
 use race_text::{
     Field, TextCause, Word, cause_of, cut_at, has_bad_byte, read_declaration, word_cause,
 };
@@ -93,13 +95,13 @@ impl<A: Allocator + Copy> Reader<A> {
         }
     }
 
-    // Takes the next line, or tells its least cause. After a cause nothing more is to be taken.
+    // Takes the next line, or tells its least cause: want of memory only where the line has none.
+    // After a cause nothing more is to be taken.
     pub(crate) fn take_line(&mut self, line: &[u8]) -> Result<(), TextCause>
         requires { spec.IsReading self.old }
         ensures taken { MatchResult result
             (λ _. GoesOn fault.program_causes (spec.lines_read self.old) line.now (spec.lines_read self.new))
-            (λ told. told ≢ TextCause.OutOfMemory
-            → fault.cause (spec.lines_read self.old) line.now true ≡ Some told) }
+            (λ told. told ≡ owed (fault.cause (spec.lines_read self.old) line.now true)) }
         ensures reading { OnOk result (spec.IsReading self.new) }
     {
         if !self.has_header {
@@ -184,7 +186,7 @@ impl<A: Allocator + Copy> Reader<A> {
         requires reading { spec.IsReading self.old }
         ensures taken { MatchResult result
             (λ _. GoesOn fault.program_causes [] line.now (spec.lines_read self.new))
-            (λ told. fault.cause [] line.now true ≡ Some told) }
+            (λ told. told ≡ owed (fault.cause [] line.now true)) }
         ensures reading { OnOk result (spec.IsReading self.new) }
     {
         match version_said(line) {
@@ -303,8 +305,8 @@ impl<A: Allocator + Copy> Reader<A> {
         requires form { is_place place.now ≡ true }
         ensures { MatchResult result
             (λ _. spec.TakesSaid self.old (Asks (reading.asked_at ask place.now)) self.new)
-            (λ told. told ≢ TextCause.OutOfMemory → fault.said_cause (spec.draft_read self.old)
-            (Asks (reading.asked_at ask place.now)) ≡ Some told) }
+            (λ told. told ≡ owed (fault.said_cause (spec.draft_read self.old)
+            (Asks (reading.asked_at ask place.now)))) }
     {
         let Some(mut unended) = mem::replace(&mut self.unended, None) else {
             return Err(TextCause::BadBlock);
@@ -314,7 +316,7 @@ impl<A: Allocator + Copy> Reader<A> {
         }
         let number = match self.decls.add_place(as_text(place)) {
             Ok(number) => number,
-            Err(refused) => return Err(cause_of(refused)),
+            Err(refused) => return Err(unended.refused_cause(refused, &ask)),
         };
         let exits = is_exit(&ask);
         unended.push(Request { ask, place: number })?;
@@ -349,8 +351,7 @@ impl<A: Allocator> Unended<A> {
         ensures { MatchResult result
             (λ _. spec.Pushes self.old.requests.items self.old.onces.items request
             self.new.requests.items self.new.onces.items)
-            (λ told. told ≢ TextCause.OutOfMemory → (told ≡ TextCause.BadBlock)
-            × (fault.may_follow (Some (reverse self.old.onces.items)) request.ask ≡ false)) }
+            (λ told. told ≡ owed (fault.follow_cause (Some (reverse self.old.onces.items)) request.ask)) }
     {
         match enter(&mut self.onces, &request.ask) {
             Err(_) => return Err(TextCause::OutOfMemory),
@@ -365,11 +366,29 @@ impl<A: Allocator> Unended<A> {
             Err(_) => Err(TextCause::OutOfMemory),
         }
     }
+
+    // The cause of an ask whose place was refused. That it may not follow is told without memory.
+    // Nothing more is to be pushed then.
+    fn refused_cause(&mut self, refused: DeclFault, ask: &Ask) -> TextCause
+        ensures other { refused ≢ DeclFault.OutOfMemory → result ≡ place_cause refused }
+        ensures memory { refused ≡ DeclFault.OutOfMemory
+            → result ≡ owed (fault.follow_cause (Some (reverse self.old.onces.items)) ask.now) }
+    {
+        match refused {
+            DeclFault::OutOfMemory => match enter(&mut self.onces, ask) {
+                Ok(false) => TextCause::BadBlock,
+                Ok(true) => TextCause::OutOfMemory,
+                Err(_) => TextCause::OutOfMemory,
+            },
+            other => cause_of(other),
+        }
+    }
 }
 
 // Whether the ask may follow where these functions are open; those behind it are then.
 fn enter<A: Allocator>(onces: &mut Vec<u32, A>, ask: &Ask) -> Result<bool, AllocError>
     ensures follows { IfOk result (λ follows. follows ≡ fault.may_follow (Some (reverse onces.old.items)) ask.now) }
+    ensures memory { OnErr result (fault.may_follow (Some (reverse onces.old.items)) ask.now ≡ true) }
     ensures inside { result ≡ Ok true → bodies.is_exit ask.now ≡ false
         → bodies.after_ask (reverse onces.old.items) ask.now ≡ Some (reverse onces.new.items) }
 {

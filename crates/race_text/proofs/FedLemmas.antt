@@ -1,5 +1,5 @@
 -- A text that is cut into pieces: its parts, and its first fault behind the lines that were taken.
-use Rattle.std.proofs.Common.{◌≡◌, ℕ, ◌+◌, ◌<◌, ◌≤◌, ◌==◌, Bool, true, false, List, [], ◌∷◌, ◌++◌, length, Option, Some}
+use Rattle.std.proofs.Common.{◌≡◌, ◌≢◌, ℕ, ◌+◌, ◌<◌, ◌≤◌, ◌==◌, Bool, true, false, List, [], ◌∷◌, ◌++◌, length, Option, Some}
 use Rattle.std.proofs.Common.{None, Result, Ok, Err, IsErrAnd, MatchResult, refl, sym, ap, subst, ◌∙◌, arith, append-nil}
 use Rattle.std.proofs.Common.{append_assoc}
 use Rattle.std.proofs.lemmas.List.{length-append}
@@ -12,10 +12,11 @@ use Rattle.race_text.specs.declared.cause.TextFault.{TextFault}
 use Rattle.race_text.specs.Words.{parts_of}
 use Rattle.race_text.specs.Text.{ended}
 use Rattle.race_text.specs.Lines.{Causes, or_later, fault_after, first_fault, IsLineOf, IsNoneBefore, GoesOn}
+use Rattle.race_text.specs.Owed.{owed, HidesNone}
 use Rattle.race_text.specs.Fed.{ended_after, ended_fault, IsTaken, IsUnended, IsTold, TellsOfLine}
 use Rattle.race_text.specs.Fed.{TellsOfMemory, TakesBytes, TellsOfBytes, LinesState, StandsFor}
-use Rattle.race_text.specs.Fed.{GoesOnBy}
-use Rattle.race_text.proofs.ParseLemmas.{or_later_from, fault_step, fault_end, fault_from, no_bytes, cut_joined}
+use Rattle.race_text.specs.Fed.{GoesOnBy, IsBetweenLines, HidesNoneOf}
+use Rattle.race_text.proofs.ParseLemmas.{told, or_later_from, fault_step, fault_end, fault_from, no_bytes, cut_joined}
 
 -- two lists of parts, of which the last one of the first list goes on in the first one of the second
 unfoldable pub onto : List ℕ → List (List ℕ) → List (List ℕ)
@@ -101,6 +102,11 @@ pub match_map : {X E : Type 0} (F H : X → Type 0) (G K : E → Type 0) (r : Re
 match_map F H G K (Ok x) ok err has = ok x has
 match_map F H G K (Err e) ok err has = err e has
 
+-- what is owed and isn't want of memory is the cause
+pub owed_cause : (least : Option TextCause) (told : TextCause) → told ≡ owed least → told ≢ TextCause.OutOfMemory → least ≡ Some told
+owed_cause None told is other = absurd (other is)
+owed_cause (Some cause) told is other = ap Some (sym is)
+
 module _ (causes : Causes) where
   -- the first fault of the lines that are ended
   ended_step : (before : List (List ℕ)) (line : List ℕ) (parts : List (List ℕ)) → 0 < length parts
@@ -179,8 +185,12 @@ module _ (causes : Causes) where
       -- a fault is told at its line
       pub line_told : (f : TextFault) → TellsOfLine causes lines line f → IsTold causes bytes f
       line_told f tells = record {
-        ended = λ other. ended_is ∙ (λ i. or_later (sym tells.number i) (tells.least other i) (ended_after causes (lines ++ line ∷ []) (parts_of others)));
-        whole = λ other. whole_is ∙ (λ i. or_later (sym tells.number i) (tells.least other i) (fault_after causes (lines ++ line ∷ []) (parts_of others)));
+        ended = λ other.
+            let least = owed_cause (causes.line lines line) f.cause tells.least other in
+            ended_is ∙ (λ i. or_later (sym tells.number i) (least i) (ended_after causes (lines ++ line ∷ []) (parts_of others)));
+        whole = λ other.
+            let least = owed_cause (causes.line lines line) f.cause tells.least other in
+            whole_is ∙ (λ i. or_later (sym tells.number i) (least i) (fault_after causes (lines ++ line ∷ []) (parts_of others)));
         none_before = none_before f tells.number;
         none_ended_before = none_ended_before f tells.number;
         line = is_line f tells.number;
@@ -201,6 +211,19 @@ module _ (causes : Causes) where
             ∙ sym (ended_is ∙ ap (λ o. or_later (length lines + 1) o (ended_after causes (lines ++ line ∷ []) (parts_of others))) goes.no_cause);
         all = let all = t.all in let cut = ap length parts in let l = ap length goes.lines ∙ length-append lines (line ∷ []) in omega (arith, all, cut, l);
       }
+
+      -- want of memory is told of a line at which no cause holds, and what comes behind is another line's
+      pub line_owed : (f : TextFault) → TellsOfLine causes lines line f → HidesNone f (ended_fault causes bytes)
+      line_owed f tells g h same = by (causes.line lines line) tells.least (sym ended_is ∙ h)
+        where
+          by : (c : Option TextCause) → f.cause ≡ owed c
+              → or_later (length lines + 1) c (ended_after causes (lines ++ line ∷ []) (parts_of others)) ≡ Some g → g ≡ f
+          by None least later =
+              let from = ended_from (parts_of others) (lines ++ line ∷ []) g later in
+              absurd (omega (arith, from, same, tells.number, length-append lines (line ∷ [])))
+          by (Some c) least is =
+              let cause : g.cause ≡ c = ap (λ (x : TextFault). x.cause) (sym (same_Some (told (length lines + 1) c) g is)) in
+              λ i. record { line = same i; cause = (cause ∙ sym least) i }
 
     -- where no newline is left, no ended line is at fault
     pub none_ended : IsUnended left → ended_fault causes bytes ≡ None
@@ -223,6 +246,13 @@ module _ (causes : Causes) where
         let none_left : left ≡ [] = no_bytes left none in
         sym t.bytes_are ∙ ap (λ (l : List ℕ). flat_map ended lines ++ l) none_left ∙ append-nil _
 
+  -- where nothing follows the bytes
+  pub takes_all : (lines new_lines : List (List ℕ)) (bytes part whole : List ℕ) → TakesBytes causes lines bytes new_lines part
+      → IsTaken causes whole lines bytes → IsTaken causes whole new_lines part
+  takes_all lines new_lines bytes part whole takes t =
+      subst (λ (left : List ℕ). IsTaken causes whole new_lines left) (append-nil part)
+      (takes whole [] (subst (λ (left : List ℕ). IsTaken causes whole lines left) (sym (append-nil bytes)) t))
+
   -- what is left is kept
   pub kept_taken : (whole : List ℕ) (lines : List (List ℕ)) (left last part more : List ℕ) → parts_of left ≡ last ∷ [] → part ≡ [] ++ last
       → IsTaken causes whole lines (left ++ more) → IsTaken causes whole lines (part ++ more)
@@ -234,6 +264,12 @@ module _ (causes : Causes) where
   behind k fed piece more none S =
       subst (λ (bytes : List ℕ). IsTaken causes bytes k.lines ((k.part ++ piece) ++ more)) (sym (append_assoc fed piece more))
       (subst (λ (left : List ℕ). IsTaken causes (fed ++ (piece ++ more)) k.lines left) (sym (append_assoc k.part piece more)) (S.taken none (piece ++ more)))
+
+  -- a fault of a line that lies whole in the piece is owed
+  pub owed_of : (old : LinesState) (piece fed : List ℕ) (f : TextFault) → IsBetweenLines old
+      → (old.part ≡ [] → HidesNoneOf causes old.lines piece f) → StandsFor causes old fed → HidesNone f (ended_fault causes (fed ++ piece))
+  owed_of old piece fed f between owes S =
+      owes between.none (fed ++ piece) (subst (λ (p : List ℕ). IsTaken causes (fed ++ piece) old.lines (p ++ piece)) between.none (S.taken between.fine piece))
 
   pub fed_takes : (old new : LinesState) (piece fed : List ℕ) → old.fault ≡ None → new.fault ≡ None
       → TakesBytes causes old.lines (old.part ++ piece) new.lines new.part

@@ -1,5 +1,5 @@
 -- The header, and lines that declare.
-use Rattle.std.proofs.Common.{◌≡◌, ◌≢◌, ℕ, ◌≤◌, length, Bool, true, false, if◌then◌else◌, List, [], ◌∷◌}
+use Rattle.std.proofs.Common.{◌≡◌, ℕ, ◌≤◌, length, Bool, true, false, if◌then◌else◌, List, [], ◌∷◌}
 use Rattle.std.proofs.Common.{◌++◌, Option, Some, None, Result, Ok, Err, IfOk, refl, sym, ap, subst, ◌∙◌, arith}
 use Rattle.std.proofs.Common.{true≢false}
 use Rattle.std.proofs.lemmas.List.Splits.{join_with_byte-slice_split}
@@ -18,6 +18,7 @@ use Rattle.race_text.specs.Form.{word_named, first_word, arguments}
 use Rattle.race_text.specs.Fault.{seen, seen_so_far, version_said, header_cause, cause, trace_causes, word_cause}
 use Rattle.race_text.specs.Fault.{declaration, declaration_in, is_event_line, is_event_word}
 use Rattle.race_text.specs.Lines.{GoesOn}
+use Rattle.race_text.specs.Owed.{owed}
 use Rattle.race_text.specs.Writing.{noun_text, number_words}
 use Rattle.race_records.specs.Nouns.{object_says}
 use Rattle.race_text.specs.Declaring.{is_declaration_line, is_declaration_word, declaration_cause, with_declared, with_declaration_in}
@@ -148,26 +149,30 @@ module _ (old new : DeclsState) (line : List ℕ) (read : IsRead (begun old)) (c
       by true e h = e
       by false e h = absurd (none-some f h)
 
-  pub declaration_answered : (r : Result Bool TextCause) → Refuses (declaration_cause old.declarations line) r
+  pub declaration_answered : (r : Result Bool TextCause) → (is_declaration_line line ≡ false → r ≡ Ok false)
+      → Refuses (declaration_cause old.declarations line) r
       → AllowsUnless (declaration_cause old.declarations line) r TextCause.OutOfMemory
       → IfOk r (λ added. added ≡ is_declaration_line line) → (r ≡ Ok true → new ≡ with_declaration_in old line)
       → (r ≡ Ok false → new ≡ old) → TakesDeclaration old line r new
-  declaration_answered (Ok true) refused allowed ok added same = taken_declaration (sym ok) (by (declaration_cause old.declarations line) refused) (added refl)
+  declaration_answered (Ok true) other refused allowed ok added same = taken_declaration (sym ok) (by (declaration_cause old.declarations line) refused) (added refl)
     where
       by : (o : Option TextCause) → Refuses {T = Bool} o (Ok true) → o ≡ None
       by None h = refl
       by (Some f) h = let wrong = h f refl in absurd (cc)
-  declaration_answered (Ok false) refused allowed ok added same = (same refl, sym ok)
-  declaration_answered (Err e) refused allowed ok added same = λ other. by (declaration_cause old.declarations line) refl refused allowed other
+  declaration_answered (Ok false) other refused allowed ok added same = (same refl, sym ok)
+  declaration_answered (Err e) other refused allowed ok added same = by (declaration_cause old.declarations line) refl refused allowed
     where
+      no_cause : (b : Bool) → is_declaration_line line ≡ b → declaration_cause old.declarations line ≡ None → cause (lines (begun old)) line true ≡ None
+      no_cause true h is = cause_of_line h ∙ is
+      no_cause false h is = let wrong = other h in absurd (cc)
+
       by : (o : Option TextCause) → declaration_cause old.declarations line ≡ o → Refuses {T = Bool} o (Err e)
-          → AllowsUnless {T = Bool} o (Err e) TextCause.OutOfMemory → e ≢ TextCause.OutOfMemory
-          → cause (lines (begun old)) line true ≡ Some e
-      by None is refused allowed other = absurd (other (allowed refl))
-      by (Some f) is refused allowed other =
+          → AllowsUnless {T = Bool} o (Err e) TextCause.OutOfMemory → e ≡ owed (cause (lines (begun old)) line true)
+      by None is refused allowed = allowed refl ∙ sym (ap owed (no_cause (is_declaration_line line) refl is))
+      by (Some f) is refused allowed =
           let told = refused f refl in
-          let same : f ≡ e = cc in
-          cause_of_line (is_declared f is) ∙ is ∙ ap Some same
+          let same : e ≡ f = cc in
+          same ∙ sym (ap owed (cause_of_line (is_declared f is) ∙ is))
 
 pub not_declared : (old new : DeclsState) (line : List ℕ) (added : Bool) → TakesIfDeclared old line added new → added ≡ false → new ≡ old
 not_declared old new line true taken h = absurd (true≢false h)

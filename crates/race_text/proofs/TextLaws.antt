@@ -173,7 +173,8 @@ module _ (t : TraceState) (has : HasText t) where
   events_again : filter_map (λ l. event_in version ds (words_of l)) (lines t) ≡ map (said t.decls) t.events
   unfolding lines
   events_again =
-      (λ j. cons_option ((header_scanned version).1 version ds j) (filter_map (λ l. event_in version ds (words_of l)) (map declaration_line ds ++ map (event_line t.decls) t.events)))
+      (λ j. cons_option ((header_scanned version).1 version ds j)
+      (filter_map (λ l. event_in version ds (words_of l)) (map declaration_line ds ++ map (event_line t.decls) t.events)))
       ∙ filter_map-append (λ l. event_in version ds (words_of l)) (map declaration_line ds) (map (event_line t.decls) t.events)
       ∙ (λ j. scan_none (λ l. event_in version ds (words_of l)) declaration_line ds
       (λ i d less. says_no_event version ds (get_or ds i d) (declaration_line (get_or ds i d)) (declaration_at i d less)) j

@@ -1,6 +1,6 @@
 -- One more event, or one more declaration: the lines of a trace, and what they say to the next one.
 use Rattle.std.proofs.Common.{◌≡◌, ℕ, suc, ◌+◌, ◌<◌, ◌==◌, ◌&&◌, Bool, true, false, not, if◌then◌else◌, nat_lt}
-use Rattle.std.proofs.Common.{nat_le, cond, List, [], ◌∷◌, ◌++◌, length, map, get_or, Option, Some, None, ◌≢◌, Result}
+use Rattle.std.proofs.Common.{nat_le, cond, List, [], ◌∷◌, ◌++◌, length, map, get_or, Option, Some, None, Result}
 use Rattle.std.proofs.Common.{Ok, Err, MatchResult, IsOkUnless, IsSome, OnOk, refl, sym, ap, subst, ◌∙◌, arith}
 use Rattle.std.proofs.Common.{true≢false, append-nil, append_assoc}
 use Rattle.std.proofs.lemmas.Bool.Decides.{nat_tests}
@@ -26,9 +26,10 @@ use Rattle.race_text.specs.Words.{words_of, has_bad_byte}
 use Rattle.race_text.specs.Form.{word_named, as_had, word_in, fields_of, kind_declared, first_word, arguments}
 use Rattle.race_text.specs.Declaring.{is_declaration_word, is_declaration_line}
 use Rattle.race_text.specs.Text.{header, declaration_line, event_line, op_words, goroutine_name, line_of, lines, HasText}
+use Rattle.race_text.specs.Owed.{owed}
 use Rattle.race_text.specs.Fault.{Seen, seen, seen_so_far, declaration_in, is_event_line, or_else, fields_cause, room_cause, line_cause, cause, word_cause}
 use Rattle.race_text.specs.Reading.{Occurrence, event_by, event_in}
-use Rattle.race_text.specs.Taking.{state_of, IsRead, begun, IsFitting, with_places, event_of, AppendsEvent, IsFull, TakesLine, TakesOrTells}
+use Rattle.race_text.specs.Taking.{state_of, IsRead, begun, IsFitting, with_places, event_of, AppendsEvent, TellsOfRoom, TakesLine, TakesOrTells}
 use Rattle.race_text.proofs.EventWords.{event_is_there}
 use Rattle.race_text.proofs.HeaderLemmas.{version_again}
 use Rattle.race_text.proofs.WordTable.{declares_named}
@@ -212,18 +213,19 @@ module _ (old new : TraceState) (line : List ℕ) (o : Occurrence) (read : IsRea
         };
       }
 
-  pub event_answered : (r : Result (Unit {0}) TextCause) → MatchResult r (λ _. AppendsEvent old new o) (λ told. told ≢ TextCause.OutOfMemory → IsFull old told)
+  pub event_answered : (r : Result (Unit {0}) TextCause) → MatchResult r (λ _. AppendsEvent old new o) (TellsOfRoom old)
       → TakesOrTells (lines old) line r new
   event_answered (Ok u) added = event_taken added
-  event_answered (Err told) full = λ other.
-      let h = full other in
-      let over = h.full in
-      room_is true (grind (arith, nat_tests, over)) ∙ ap Some (sym h.cause)
+  event_answered (Err told) tells = by (nat_le MAX_EVENTS (length old.events)) refl
+    where
+      by : (b : Bool) → nat_le MAX_EVENTS (length old.events) ≡ b → told ≡ owed (cause (lines old) line true)
+      by true over = tells.full (grind (arith, nat_tests, over)) ∙ sym (ap owed (room_is true over))
+      by false less = tells.room (grind (arith, nat_tests, less)) ∙ sym (ap owed (room_is false less))
 
 pub event_grown : (old new : TraceState) (o : Occurrence) (r : Result (Unit {0}) TextCause)
-    → MatchResult r (λ _. AppendsEvent old new o) (λ told. told ≢ TextCause.OutOfMemory → IsFull old told) → OnOk r (0 < length new.events)
+    → MatchResult r (λ _. AppendsEvent old new o) (TellsOfRoom old) → OnOk r (0 < length new.events)
 event_grown old new o (Ok u) added = let more = ap length added.events ∙ length-append old.events (event_of old.decls o ∷ []) in omega (arith, more)
-event_grown old new o (Err told) full = tt
+event_grown old new o (Err told) tells = tt
 
 -- a line that says no event is at fault, where an event stands before it or it declares nothing
 or_else_some : (a : Option TextCause) (b : TextCause) → or_else a (Some b) ≡ None → ⊥

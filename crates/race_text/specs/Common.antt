@@ -1,5 +1,5 @@
 -- A line of a common word, read from the bytes from it on.
-use Rattle.std.specs.Prelude.{◌≡◌, ◌≢◌, ℕ, ◌≤◌, Bool, true, false, not, List, [], ◌∷◌, ◌++◌, length, take, map, Option, Some, None}
+use Rattle.std.specs.Prelude.{◌≡◌, ℕ, ◌≤◌, Bool, true, false, not, List, [], ◌∷◌, ◌++◌, length, take, map, Option, Some, None}
 use Rattle.std.specs.Borrow.{Bor}
 use Rattle.std.specs.List.{list_all}
 use Rattle.std.specs.Simd.Lanes.{chunk, mask_l}
@@ -21,6 +21,7 @@ use Rattle.race_text.specs.declared.common.Said.{Said}
 use Rattle.race_text.specs.Words.{parts_of, words_of}
 use Rattle.race_text.specs.Form.{first_word, arguments}
 use Rattle.race_text.specs.Lines.{Causes, GoesOn}
+use Rattle.race_text.specs.Owed.{owed}
 use Rattle.race_text.specs.Fault.{cause, trace_causes}
 use Rattle.race_text.specs.Reading.{Occurrence, occurrence, first_part, parts_on, op_in, last_place, event_behind, event_in}
 use Rattle.race_text.specs.Fed.{IsUnended, TellsOfLine}
@@ -137,11 +138,11 @@ abbrev pub GoesOnIfTold : List (List ℕ) → List ℕ → Option (Bor (List ℕ
 GoesOnIfTold before bytes (Some rest) after = EndsLine bytes rest.now × GoesOn trace_causes before (line_in bytes) after
 GoesOnIfTold before bytes None after = after ≡ before
 
--- a newline ends the line, whose least cause is told, memory aside
+-- a newline ends the line, and what is owed by its least cause is told
 pub record TellsOfCommon (before : List (List ℕ)) (bytes : List ℕ) (told : TextCause) : Type 0 where
   pub rest : List ℕ
   pub ends : EndsLine bytes rest
-  pub least : told ≢ TextCause.OutOfMemory → cause before (line_in bytes) true ≡ Some told
+  pub least : told ≡ owed (cause before (line_in bytes) true)
 
 module _ (causes : Causes) where
   -- the same where each line that a newline ends is taken
@@ -149,7 +150,7 @@ module _ (causes : Causes) where
   TakesNext before bytes (Some rest) after = EndsLine bytes rest.now × GoesOn causes before (line_in bytes) after
   TakesNext before bytes None after = IsUnended bytes × (after ≡ before)
 
-  -- or its least cause is told, with its number
+  -- or what is owed by its least cause is told, with its number
   pub record TellsOfNext (before : List (List ℕ)) (bytes : List ℕ) (told : TextFault) : Type 0 where
     pub rest : List ℕ
     pub ends : EndsLine bytes rest

@@ -6,12 +6,18 @@ use Rattle.race_text.specs.declared.cause.TextFault.{TextFault}
 use Rattle.race_text.specs.Words.{parts_of}
 use Rattle.race_text.specs.Text.{ended}
 use Rattle.race_text.specs.Lines.{Causes, or_later, fault_after, first_fault, IsLineOf, IsNoneBefore}
+use Rattle.race_text.specs.Owed.{owed, HidesNone}
 
 -- a reader of lines: those that it took, the bytes behind them, and the fault that it told
 pub record LinesState : Type 0 where
   pub lines : List (List ℕ)
   pub part : List ℕ
   pub fault : Option TextFault
+
+-- nothing was told yet, and no part of a line is left
+pub record IsBetweenLines (k : LinesState) : Type 0 where
+  pub fine : k.fault ≡ None
+  pub none : k.part ≡ []
 
 -- no newline is among the bytes
 abbrev pub IsUnended : List ℕ → Type 0
@@ -70,7 +76,11 @@ module _ (causes : Causes) where
   abbrev pub TellsOfBytes : List (List ℕ) → List ℕ → TextFault → Type 0
   TellsOfBytes lines bytes told = (whole more : List ℕ) → IsTaken whole lines (bytes ++ more) → IsTold whole told
 
-  -- the least cause of a line behind these, with its number
+  -- where these bytes are all that is left, no fault of a line that ends in them is hidden
+  abbrev pub HidesNoneOf : List (List ℕ) → List ℕ → TextFault → Type 0
+  HidesNoneOf lines bytes told = (whole : List ℕ) → IsTaken whole lines bytes → HidesNone told (ended_fault whole)
+
+  -- what is owed of a line behind these, with its number
   pub record TellsOfLine (lines : List (List ℕ)) (line : List ℕ) (told : TextFault) : Type 0 where
     pub number : told.line ≡ length lines + 1
-    pub least : told.cause ≢ TextCause.OutOfMemory → causes.line lines line ≡ Some told.cause
+    pub least : told.cause ≡ owed (causes.line lines line)

@@ -3,6 +3,7 @@ pub mod Select
 pub mod Text
 pub mod Form
 pub mod Lines
+pub mod Owed
 pub mod Fault
 pub mod Declaring
 pub mod Reading

@@ -1,9 +1,10 @@
 -- How far a trace is read, line by line.
-use Rattle.std.specs.Prelude.{◌≡◌, ◌≢◌, ℕ, ◌<◌, Bool, true, false, List, [], length, Option, Some, None, Result, Ok, Err}
+use Rattle.std.specs.Prelude.{◌≡◌, ℕ, ◌<◌, Bool, true, false, List, [], length, Option, Some, None, Result, Ok, Err}
 use Rattle.race_records.specs.declared.version.Version.{Version}
 use Rattle.race_records.specs.Declarations.{DeclsState}
 use Rattle.race_records.specs.Events.{TraceState}
 use Rattle.race_text.specs.declared.cause.TextCause.{TextCause}
+use Rattle.race_text.specs.Owed.{owed}
 use Rattle.race_text.specs.Text.{lines}
 use Rattle.race_text.specs.Fault.{cause}
 use Rattle.race_text.specs.Declaring.{is_declaration_line}
@@ -29,12 +30,12 @@ IsReading false decls trace = (decls ≡ nothing_in Version.One) × (trace ≡ N
 IsReading true decls None = IsRead (begun decls)
 IsReading true decls (Some trace) = IsRead trace × (0 < length trace.events)
 
--- a declaration is taken, or the line is none, or its least cause is told, memory aside
+-- a declaration is taken, or the line is none
 abbrev pub TakesIfDeclared : DeclsState → List ℕ → Bool → DeclsState → Type 0
 TakesIfDeclared old line true new = TakesLine (lines (begun old)) line (begun new)
 TakesIfDeclared old line false new = (new ≡ old) × (is_declaration_line line ≡ false)
 
--- the same of an answer, which may be a cause
+-- the same of an answer, which may be what is owed by its least cause
 abbrev pub TakesDeclaration : DeclsState → List ℕ → Result Bool TextCause → DeclsState → Type 0
 TakesDeclaration old line (Ok added) new = TakesIfDeclared old line added new
-TakesDeclaration old line (Err told) new = told ≢ TextCause.OutOfMemory → cause (lines (begun old)) line true ≡ Some told
+TakesDeclaration old line (Err told) new = told ≡ owed (cause (lines (begun old)) line true)

@@ -1,5 +1,5 @@
 -- A line that is taken into a trace.
-use Rattle.std.specs.Prelude.{◌≡◌, ◌≢◌, ℕ, ◌*◌, ◌<◌, ◌≤◌, List, [], ◌∷◌, ◌++◌, length, true, Option, Some, None, is_some, IfSome, Result, Ok, Err}
+use Rattle.std.specs.Prelude.{◌≡◌, ℕ, ◌*◌, ◌<◌, ◌≤◌, List, [], ◌∷◌, ◌++◌, length, true, Option, Some, None, is_some, IfSome, Result, Ok, Err}
 use Rattle.std.specs.Option.{option_map}
 use Rattle.race_records.specs.declared.event.Event.{Event}
 use Rattle.race_records.specs.declared.kind.Kind.{Kind}
@@ -9,6 +9,7 @@ use Rattle.race_records.specs.Declarations.{DeclsState, count_of, place_number, 
 use Rattle.race_records.specs.Events.{TraceState, op_fits, has_op, lock_fits, op_is_limited}
 use Rattle.race_records.specs.Parts.{says, has_two_places}
 use Rattle.race_text.specs.declared.cause.TextCause.{TextCause}
+use Rattle.race_text.specs.Owed.{owed}
 use Rattle.race_text.specs.Text.{HasText, lines}
 use Rattle.race_text.specs.Fault.{Seen, seen_so_far, seen, cause}
 use Rattle.race_text.specs.Reading.{Occurrence}
@@ -67,10 +68,10 @@ pub record AppendsEvent (old new : TraceState) (o : Occurrence) : Type 0 where
   pub decls : new.decls ≡ with_places old.decls o
   pub events : new.events ≡ old.events ++ event_of old.decls o ∷ []
 
--- the trace is full, memory aside
-pub record IsFull (old : TraceState) (told : TextCause) : Type 0 where
-  pub full : MAX_EVENTS ≤ length old.events
-  pub cause : told ≡ TextCause.TooMany
+-- why an event that fits isn't appended: the trace is full, and else memory is refused
+pub record TellsOfRoom (old : TraceState) (told : TextCause) : Type 0 where
+  pub full : MAX_EVENTS ≤ length old.events → told ≡ TextCause.TooMany
+  pub room : length old.events < MAX_EVENTS → told ≡ TextCause.OutOfMemory
 
 -- one more line, at which no cause holds
 pub record TakesLine (before : List (List ℕ)) (line : List ℕ) (new : TraceState) : Type 0 where
@@ -78,7 +79,7 @@ pub record TakesLine (before : List (List ℕ)) (line : List ℕ) (new : TraceSt
   pub lines : lines new ≡ before ++ line ∷ []
   pub is_read : IsRead new
 
--- the line is taken, or its least cause is told, memory aside
+-- the line is taken, or what is owed by its least cause is told
 abbrev pub TakesOrTells : List (List ℕ) → List ℕ → Result Unit TextCause → TraceState → Type 0
 TakesOrTells before line (Ok u) new = TakesLine before line new
-TakesOrTells before line (Err told) new = told ≢ TextCause.OutOfMemory → cause before line true ≡ Some told
+TakesOrTells before line (Err told) new = told ≡ owed (cause before line true)

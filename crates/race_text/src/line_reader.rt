@@ -6,6 +6,7 @@ ghost use Rattle.race_text.specs.Laws.{IsOnlyTraceOf};
 ghost use Rattle.race_text.specs.Lines.{GoesOn, IsLineOf, IsNoneBefore};
 ghost use Rattle.race_text.specs.Reader.{IsReading, lines_read};
 ghost use Rattle.race_text.specs.Common.{TakesNext, TellsOfNext};
+ghost use Rattle.race_text.specs.Owed.{HidesNone};
 ghost use Rattle.race_text.specs.Fed as spec;
 
 use crate::cause::{TextCause, TextFault};
@@ -58,7 +59,8 @@ impl<A: Allocator> Model for LineReader<A> {
 impl<A: Allocator + Copy> LineReader<A> {
     /// Nothing is fed yet. Takes no memory.
     pub fn new(alloc: A) -> LineReader<A>
-        ensures { spec.StandsFor trace_causes result [] }
+        ensures stands { spec.StandsFor trace_causes result [] }
+        ensures between { spec.IsBetweenLines result }
     {
         LineReader {
             lines: Lines {
@@ -71,8 +73,9 @@ impl<A: Allocator + Copy> LineReader<A> {
 
     /// Takes the next piece of the text, and tells the first fault of the lines that are ended.
     ///
-    /// Memory aside it is Ok exactly where none of them has one. After a refusal each further call
-    /// refuses in the same way.
+    /// Memory aside it is Ok exactly where none of them has one. Want of memory hides no fault of its
+    /// own line where that line came in one piece. After a refusal each further call refuses in the
+    /// same way.
     pub fn feed(&mut self, piece: &[u8]) -> Result<(), TextFault>
         ensures goes_on { spec.GoesOnBy trace_causes self.old self.new piece.now }
         ensures ok { IfOk result (λ _. spec.ForEachFed trace_causes self.old
@@ -81,6 +84,8 @@ impl<A: Allocator + Copy> LineReader<A> {
             (λ fed. told.cause ≢ TextCause.OutOfMemory → spec.ended_fault trace_causes (fed ++ piece.now) ≡ Some told)) }
         ensures memory { IfErr result (λ told. spec.ForEachFed trace_causes self.old
             (λ fed. IsNoneBefore told.line (spec.ended_fault trace_causes (fed ++ piece.now)))) }
+        ensures owed { IfErr result (λ told. spec.IsBetweenLines self.old → spec.ForEachFed trace_causes self.old
+            (λ fed. HidesNone told (spec.ended_fault trace_causes (fed ++ piece.now)))) }
         ensures line { IfErr result (λ told. spec.ForEachFed trace_causes self.old
             (λ fed. IsLineOf (fed ++ piece.now) told.line)) }
         ensures fine { IfOk result (λ _. self.new.fault ≡ None) }
@@ -138,6 +143,9 @@ impl<A: Allocator + Copy> Lines<A> {
             (lines_read self.new.reader.has_header self.new.reader.decls self.new.reader.trace) self.new.part.items)
             (λ told. spec.TellsOfBytes trace_causes (lines_read self.old.reader.has_header self.old.reader.decls self.old.reader.trace)
             (self.old.part.items ++ piece.now) told) }
+        ensures owed { IfErr result (λ told. self.old.part.items ≡ []
+            → spec.HidesNoneOf trace_causes (lines_read self.old.reader.has_header self.old.reader.decls self.old.reader.trace)
+            piece.now told) }
         ensures reading { OnOk result
             (IsReading self.new.reader.has_header self.new.reader.decls self.new.reader.trace) }
         ensures unended { OnOk result (spec.IsUnended self.new.part.items) }
@@ -173,6 +181,8 @@ impl<A: Allocator + Copy> Lines<A> {
             (lines_read self.new.reader.has_header self.new.reader.decls self.new.reader.trace) self.new.part.items)
             (λ told. spec.TellsOfBytes trace_causes (lines_read self.old.reader.has_header self.old.reader.decls self.old.reader.trace)
             bytes.now told) }
+        ensures owed { IfErr result
+            (spec.HidesNoneOf trace_causes (lines_read self.old.reader.has_header self.old.reader.decls self.old.reader.trace) bytes.now) }
         ensures reading { OnOk result
             (IsReading self.new.reader.has_header self.new.reader.decls self.new.reader.trace) }
         ensures unended { OnOk result (spec.IsUnended self.new.part.items) }

@@ -5,6 +5,7 @@ ghost use Rattle.std.specs.Str.Parse.{AllDigits, digits_value};
 ghost use Rattle.race_text.specs.Words as spec;
 
 /// Reads a number: `0`, or digits without a leading zero, of at most `max`.
+#[inline(always)]
 pub fn read_number(word: &[u8], max: u64) -> Option<u64>
     ensures { result ≡ spec.number max word.now }
 {

@@ -1,9 +1,11 @@
 //! A trace from its bytes.
 ghost use Rattle.std.specs.Prelude.{◌≡◌, ◌≢◌, ◌<◌, Some, IfOk, IfErr};
 ghost use Rattle.race_text.specs.Text.{IsTextOf, IsTraceText};
-ghost use Rattle.race_text.specs.Fault.{text_fault};
+ghost use Rattle.race_text.specs.Fault.{trace_causes, text_fault};
+ghost use Rattle.race_text.specs.Fed.{ended_fault};
 ghost use Rattle.race_text.specs.Laws.{IsOnlyTraceOf};
 ghost use Rattle.race_text.specs.Lines.{IsLineOf, IsNoneBefore};
+ghost use Rattle.race_text.specs.Owed.{HidesNone};
 
 use crate::cause::{TextCause, TextFault};
 use crate::line_reader::LineReader;
@@ -13,7 +15,8 @@ use std::alloc::Allocator;
 /// The one trace whose text the bytes are, or else their first fault.
 ///
 /// Every text of a trace is read, or refused for want of memory alone, and nothing else is read.
-/// Want of memory is told at a line of the text before which none is at fault.
+/// Want of memory is told at a line of the text before which none is at fault, and which isn't at
+/// fault itself unless it is the last and no newline ends it.
 pub fn parse_trace<A: Allocator + Copy>(alloc: A, bytes: &[u8]) -> Result<Trace<A>, TextFault>
     ensures text { IfOk result (λ trace. IsTextOf trace bytes.now) }
     ensures only { IfOk result (λ trace. IsOnlyTraceOf bytes.now trace) }
@@ -22,6 +25,7 @@ pub fn parse_trace<A: Allocator + Copy>(alloc: A, bytes: &[u8]) -> Result<Trace<
     ensures fault { IfErr result
         (λ told. told.cause ≢ TextCause.OutOfMemory → text_fault bytes.now ≡ Some told) }
     ensures memory { IfErr result (λ told. IsNoneBefore told.line (text_fault bytes.now)) }
+    ensures owed { IfErr result (λ told. HidesNone told (ended_fault trace_causes bytes.now)) }
     ensures line { IfErr result (λ told. IsLineOf bytes.now told.line) }
 {
     let mut reader = LineReader::new(alloc);

@@ -1,7 +1,8 @@
 //! A trace that is read line by line.
-ghost use Rattle.std.specs.Prelude.{◌≡◌, ◌≢◌, ◌+◌, [], length, true, false, Some, None, MatchResult, OnOk};
+ghost use Rattle.std.specs.Prelude.{◌≡◌, ◌+◌, [], length, true, false, Some, None, MatchResult, OnOk};
 ghost use Rattle.race_text.specs.Fault as fault;
 ghost use Rattle.race_text.specs.Lines.{GoesOn};
+ghost use Rattle.race_text.specs.Owed.{owed};
 ghost use Rattle.race_text.specs.Text.{HasText, lines};
 ghost use Rattle.race_text.specs.Taking.{IsRead, begun};
 ghost use Rattle.race_text.specs.Common.{GoesOnIfTold, TellsOfCommon};
@@ -58,15 +59,16 @@ impl<A: Allocator + Copy> Reader<A> {
         }
     }
 
-    // Takes the next line, or tells its least cause. After a cause nothing more is to be taken.
+    // Takes the next line, or tells its least cause: want of memory only where the line has none.
+    // After a cause nothing more is to be taken.
     #[inline(always)]
     pub(crate) fn take_line(&mut self, line: &[u8]) -> Result<(), TextCause>
         requires { spec.IsReading self.old.has_header self.old.decls self.old.trace }
         ensures taken { MatchResult result
             (λ _. GoesOn fault.trace_causes (spec.lines_read self.old.has_header self.old.decls self.old.trace) line.now
             (spec.lines_read self.new.has_header self.new.decls self.new.trace))
-            (λ told. told ≢ TextCause.OutOfMemory
-            → fault.cause (spec.lines_read self.old.has_header self.old.decls self.old.trace) line.now true ≡ Some told) }
+            (λ told. told ≡ owed
+            (fault.cause (spec.lines_read self.old.has_header self.old.decls self.old.trace) line.now true)) }
         ensures reading { OnOk result
             (spec.IsReading self.new.has_header self.new.decls self.new.trace) }
     {
@@ -157,7 +159,7 @@ impl<A: Allocator + Copy> Reader<A> {
         requires reading { spec.IsReading self.old.has_header self.old.decls self.old.trace }
         ensures taken { MatchResult result
             (λ _. GoesOn fault.trace_causes [] line.now (spec.lines_read self.new.has_header self.new.decls self.new.trace))
-            (λ told. fault.cause [] line.now true ≡ Some told) }
+            (λ told. told ≡ owed (fault.cause [] line.now true)) }
         ensures reading { OnOk result
             (spec.IsReading self.new.has_header self.new.decls self.new.trace) }
     {
@@ -184,8 +186,7 @@ impl<A: Allocator + Copy> Reader<A> {
         ensures taken { MatchResult result
             (λ _. GoesOn fault.trace_causes (lines (begun self.old.decls)) line.now
             (spec.lines_read self.new.has_header self.new.decls self.new.trace))
-            (λ told. told ≢ TextCause.OutOfMemory
-            → fault.cause (lines (begun self.old.decls)) line.now true ≡ Some told) }
+            (λ told. told ≡ owed (fault.cause (lines (begun self.old.decls)) line.now true)) }
         ensures reading { OnOk result
             (spec.IsReading self.new.has_header self.new.decls self.new.trace) }
     {

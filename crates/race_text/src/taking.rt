@@ -1,5 +1,5 @@
 //! Lines behind the first event.
-ghost use Rattle.std.specs.Prelude.{◌≡◌, ◌≢◌, ◌*◌, ◌<◌, ◌≤◌, ◌++◌, [], ◌∷◌, true, false, length, None, IsTrue, IfSome, IfOk, IfErr, MatchResult, OnOk};
+ghost use Rattle.std.specs.Prelude.{◌≡◌, ◌*◌, ◌<◌, ◌≤◌, ◌++◌, [], ◌∷◌, true, false, length, None, IsTrue, IfSome, IfOk, IfErr, MatchResult, OnOk};
 ghost use Rattle.std.specs.Option.{option_map};
 ghost use Rattle.race_records.specs.Name.{is_place};
 ghost use Rattle.race_records.specs.Declarations.{place_number, with_place};
@@ -73,9 +73,10 @@ fn append_said<A: Allocator + Copy>(
     requires few { length trace.old.decls.places ≤ 2 * length trace.old.events }
     ensures { MatchResult result
         (λ _. spec.AppendsEvent trace.old trace.new (said_of said.entry))
-        (λ cause. cause ≢ TextCause.OutOfMemory → spec.IsFull trace.old cause) }
+        (spec.TellsOfRoom trace.old) }
 {
-    if trace.len() >= MAX_EVENTS {
+    let count = trace.len();
+    if count >= MAX_EVENTS {
         return Err(TextCause::TooMany);
     }
     let place = add_met(trace, guesses, said.place)?;
@@ -141,7 +142,7 @@ fn append<A: Allocator + Copy>(trace: &mut Trace<A>, draft: Draft<'_>) -> Result
     requires few { length trace.old.decls.places ≤ 2 * length trace.old.events }
     ensures { MatchResult result
         (λ _. spec.AppendsEvent trace.old trace.new (drafted draft.entry))
-        (λ cause. cause ≢ TextCause.OutOfMemory → spec.IsFull trace.old cause) }
+        (spec.TellsOfRoom trace.old) }
 {
     if trace.len() >= MAX_EVENTS {
         return Err(TextCause::TooMany);

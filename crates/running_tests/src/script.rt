@@ -1,4 +1,5 @@
 //! What race_script does that no contract says.
+mod faults;
 mod limits;
 mod programs;
 mod selects;

@@ -1,10 +1,13 @@
 //! Texts that are cut, and devices that fail.
 use crate::tool::engines::{
-    Engine, Runtime, SlowReader, Told, ended, is_cut_off, judge, tells, text_of,
+    Engine, Runtime, SlowReader, Told, answer, ended, is_cut_off, judge, tells, text_of,
 };
 use crate::tool::runs::{HANDOFF, MOST, options};
 use crate::tool::shown::{HANDED_ON, LATE_WRITE};
+use race_records::{Sink, Source};
 use race_tool::{CheckOptions, RunOptions, status};
+use std::io;
+use std::io::{Read, Write};
 use std::test::Fail;
 
 // Fronts of the trace of 102 bytes in which a value is handed on: up to how many bytes, and what is told of each. A line
@@ -184,6 +187,75 @@ fn a_writer_that_is_full_is_told(rt: HostRuntime) -> Result<(), Fail> {
         for &fails in &[false, true] {
             assert!(rt; is_told(&rt, at, fails)?, "row {at}, {fails}");
         }
+    }
+    Ok(())
+}
+
+// Gives its bytes, takes none, and then fails in this way.
+#[derive(Drop)]
+struct FailsAs<'a> {
+    bytes: &'a [u8],
+    kind: io::ErrorKind,
+}
+
+impl Read for FailsAs<'_> {
+    fn read(&mut self, buf: &mut [u8]) -> io::Result<usize> {
+        if self.bytes.is_empty() {
+            return Err(self.kind.into());
+        }
+        self.bytes.read(buf)
+    }
+}
+
+impl Write for FailsAs<'_> {
+    fn write(&mut self, _buf: &[u8]) -> io::Result<usize> {
+        Err(self.kind.into())
+    }
+
+    fn flush(&mut self) -> io::Result<()> {
+        Ok(())
+    }
+}
+
+// Those too that elsewhere are tried again, or taken for the end of an input or for want of memory.
+static KINDS: [io::ErrorKind; 5] = [
+    io::ErrorKind::Interrupted,
+    io::ErrorKind::WouldBlock,
+    io::ErrorKind::UnexpectedEof,
+    io::ErrorKind::OutOfMemory,
+    io::ErrorKind::Other,
+];
+
+// Whether the engine ends with one failure where a read fails in this way.
+fn is_failed_read(rt: &impl Runtime, kind: io::ErrorKind) -> Result<bool, Fail> {
+    let text = text_of(rt.alloc(), TRACE_FRONT)?;
+    let check = judge(false);
+    let reader = FailsAs {
+        bytes: text.as_slice(),
+        kind,
+    };
+    let (code, output, _, failures) = ended(rt, Engine::Check(&check), reader);
+    Ok((code, output.len(), failures) == (status::DEVICE, 0, 1))
+}
+
+// The same of a write.
+fn is_failed_write(rt: &impl Runtime, kind: io::ErrorKind) -> Result<bool, Fail> {
+    let text = text_of(rt.alloc(), HANDED_ON)?;
+    let check = judge(false);
+    let mut source = Source::new(text.as_slice());
+    let mut sink = Sink::new(FailsAs {
+        bytes: text.as_slice(),
+        kind,
+    });
+    let code = answer(rt, Engine::Check(&check), &mut source, &mut sink);
+    Ok((code, sink.failures()) == (status::DEVICE, 1))
+}
+
+#[test]
+fn a_failure_of_any_kind_is_told(rt: HostRuntime) -> Result<(), Fail> {
+    for (at, &kind) in KINDS.iter().enumerate() {
+        assert!(rt; is_failed_read(&rt, kind)?, "read {at}");
+        assert!(rt; is_failed_write(&rt, kind)?, "write {at}");
     }
     Ok(())
 }

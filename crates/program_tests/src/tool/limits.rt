@@ -17,7 +17,7 @@ struct Row {
 
 const TOO_LONG: Told<'static> = ("too long: 2001 events", status::USAGE);
 
-static LONG_ROWS: [Row; 6] = [
+static LONG_ROWS: [Row; 7] = [
     Row {
         goroutines: 1,
         vars: 1,
@@ -62,6 +62,15 @@ static LONG_ROWS: [Row; 6] = [
             status::RACES,
         ),
         edges: ("edge 1 main 1 g1023 / edges: 1", status::CLEAN),
+    },
+    // One goroutine more than there may be, main included.
+    Row {
+        goroutines: 1_025,
+        vars: 0,
+        first: "exit main p",
+        writes: 0,
+        check: ("line 1025: too many", status::TEXT_FAULT),
+        edges: ("line 1025: too many", status::TEXT_FAULT),
     },
     Row {
         goroutines: 3,

@@ -2,9 +2,9 @@
 
 use crate::asks::{Asks, Plain, ask_of, box_of, boxes_of};
 use crate::turns::go_on;
-use race_hub::{End, Hub, Recording, SubmitFault};
+use race_hub::{Answer, End, Hub, Recording, SubmitFault};
 use race_record::{record, record_serial};
-use race_records::{Decls, Object};
+use race_records::{Decls, Object, Op};
 use std::alloc::{AllocError, Global};
 use std::sync::Wait;
 use std::test::Fail;
@@ -65,12 +65,25 @@ fn waits(recording: &Recording, asks: &[Plain]) -> bool {
     }
 }
 
+// Whether nothing happened but that the once was begun, and main was told to run its function.
+fn has_begun_alone(recording: &Recording) -> bool {
+    let is_begin = recording
+        .trace()
+        .events()
+        .iter()
+        .all(|event| event.who == 0 && event.op == Op::OnceBegin(0));
+    let is_told = recording.logs(0).iter().all(|step| step.asked.ask == ask_of(Plain::Do(0))
+        && step.told == Some(Answer::Run));
+    is_begin && is_told
+}
+
 // Whether all but the last of these happened, and the run ended there.
 fn has_ended(recording: &Recording, asks: &[Plain]) -> bool {
     let happened = asks.len().saturating_sub(1);
     recording.end() == End::Bad(0)
         && recording.trace().len() == happened
         && recording.logs(0).len() == happened
+        && has_begun_alone(recording)
         && waits(recording, asks)
         && recording.waiting(1).is_none()
 }

@@ -1,7 +1,7 @@
 //! What programs come to on one thread, by their picks.
 
 use crate::turns::{exchange, go_on};
-use race_hub::{End, Hub, Recording};
+use race_hub::{End, Hub, Mismatch, Recording};
 use race_record::{RecordFault, record_serial};
 use race_records::Kind;
 use race_script::{Program, Script, parse_program};
@@ -245,19 +245,39 @@ pub(crate) const WRITES: &[u8] = b"goprogram 1\nvar x\nbody main\nwrite x 5 m:1\
 
 pub(crate) const EXITS: &[u8] = b"goprogram 1\nvar x\nbody main\nexit m:2\n";
 
-// Why a hub isn't recorded in which main of another goes on in place of its own.
-fn exchanged(alloc: Global) -> Result<Option<RecordFault>, Fail> {
+// A hub in which main of another went on in place of its own: both have one variable, and nobody beside main.
+fn exchanged(alloc: Global) -> Result<Option<Hub<Script>>, Fail> {
     let mut writes = hub_of(alloc, WRITES, 8)?;
     let mut exits = hub_of(alloc, EXITS, 8)?;
     if exchange(&mut writes, &mut exits)? {
-        Ok(fault_of(writes))
+        Ok(Some(writes))
     } else {
         Ok(None)
     }
 }
 
+// Why it isn't finished.
+fn unfinished(hub: Option<Hub<Script>>) -> Option<Mismatch> {
+    match hub {
+        Some(hub) => match hub.finish() {
+            Ok(_) => None,
+            Err(mismatch) => Some(mismatch),
+        },
+        None => None,
+    }
+}
+
+// Why it isn't recorded.
+fn unrecorded(hub: Option<Hub<Script>>) -> Option<RecordFault> {
+    match hub {
+        Some(hub) => fault_of(hub),
+        None => None,
+    }
+}
+
 #[test]
 fn a_job_of_another_hub_is_no_part(rt: HostRuntime) -> Result<(), Fail> {
-    assert!(rt; exchanged(rt.alloc())? == Some(RecordFault::Mismatch));
+    assert!(rt; unfinished(exchanged(rt.alloc())?) == Some(Mismatch::Log(0)));
+    assert!(rt; unrecorded(exchanged(rt.alloc())?) == Some(RecordFault::Mismatch));
     Ok(())
 }

@@ -12,7 +12,7 @@ use std::alloc::Global;
 type Row = (&'static [u8], Option<(u64, TextCause)>);
 
 // A row for each cause, and the disorders of bodies.
-static ROWS: [Row; 50] = [
+static ROWS: [Row; 51] = [
     (b"", Some((1, BadHeader))),
     (b"gotrace 1\n", Some((1, BadHeader))),
     (b"goprogram 2\n", Some((2, BadBlock))),
@@ -145,6 +145,10 @@ static ROWS: [Row; 50] = [
         Some((4, WrongCount)),
     ),
     (b"goprogram 1\nbody main \n", Some((2, WrongCount))),
+    (
+        b"goprogram 1\nvar x\nbody main\nwrite x  1 p\n",
+        Some((4, WrongCount)),
+    ),
     (b"goprogram 1\n\n", Some((2, UnknownWord))),
 ];
 

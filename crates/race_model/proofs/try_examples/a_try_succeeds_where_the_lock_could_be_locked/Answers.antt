@@ -31,3 +31,9 @@ returns-clause-unlocked_to_read c = legal_by capacities [] _ (legal_none capacit
 
 pub returns-clause-beside_a_reader : goal.returns-clause-beside_a_reader
 returns-clause-beside_a_reader c = legal_by capacities [] _ (legal_none capacities) (refl, (refl, (refl, tt)))
+
+pub returns-clause-read_held_elsewhere : goal.returns-clause-read_held_elsewhere
+returns-clause-read_held_elsewhere c = legal_by capacities [] _ (legal_none capacities) (refl, (refl, (refl, tt)))
+
+pub returns-clause-held_elsewhere_to_read : goal.returns-clause-held_elsewhere_to_read
+returns-clause-held_elsewhere_to_read c = legal_by capacities [] _ (legal_none capacities) (refl, (refl, (refl, tt)))

@@ -1,7 +1,8 @@
 use Rattle.race_model.proofs.try_examples.a_try_that_succeeds_sees_what_a_lock_would.Goals as goal
 use Rattle.std.proofs.Common.{arith, refl}
 use Rattle.race_model.specs.Examples.{capacities, x}
-use Rattle.race_model.specs.TryExamples.{earlier_unlock_then_try, failed_try_between, read_then_try, try_between, try_reads_then_lock, try_writes_then_lock, write_then_try, write_then_try_to_read}
+use Rattle.race_model.specs.TryExamples.{earlier_unlock_then_try, failed_try_between, read_then_try, try_between, try_of_another_writes_then_lock}
+use Rattle.race_model.specs.TryExamples.{try_reads_then_lock, try_writes_then_lock, write_then_try, write_then_try_of_another, write_then_try_to_read, write_then_try_to_read_another}
 use Rattle.race_model.proofs.ExampleLemmas.{before_by, clean_by, races_by}
 
 pub returns-clause-try_ordered : goal.returns-clause-try_ordered
@@ -33,4 +34,19 @@ returns-clause-to_read c = clean_by capacities write_then_try_to_read (refl, (re
 pub returns-clause-last_unlock_alone : goal.returns-clause-last_unlock_alone
 returns-clause-last_unlock_alone c =
     races_by capacities earlier_unlock_then_try x (refl, (refl, (refl, (refl, (refl, (refl, (refl, (refl, (refl, tt)))))))))
+    refl refl refl (omega arith) refl refl refl refl
+
+pub returns-clause-of_another_lock : goal.returns-clause-of_another_lock
+returns-clause-of_another_lock c =
+    races_by capacities write_then_try_of_another x (refl, (refl, (refl, (refl, (refl, (refl, tt))))))
+    refl refl refl (omega arith) refl refl refl refl
+
+pub returns-clause-to_read_another_lock : goal.returns-clause-to_read_another_lock
+returns-clause-to_read_another_lock c =
+    races_by capacities write_then_try_to_read_another x (refl, (refl, (refl, (refl, (refl, (refl, tt))))))
+    refl refl refl (omega arith) refl refl refl refl
+
+pub returns-clause-by_a_try_of_another : goal.returns-clause-by_a_try_of_another
+returns-clause-by_a_try_of_another c =
+    races_by capacities try_of_another_writes_then_lock x (refl, (refl, (refl, (refl, (refl, (refl, tt))))))
     refl refl refl (omega arith) refl refl refl refl

@@ -1,4 +1,5 @@
-use Rattle.std.proofs.Common.{rules, sym, ◌∙◌}
+use Rattle.std.proofs.Common.{rules, sym, ap, ◌∙◌}
+use Rattle.race_text.specs.Owed.{owed}
 use Rattle.race_text.specs.Fault.{seen_so_far, line_cause}
 use Rattle.race_text.specs.Reading.{drafted}
 use Rattle.race_text.proofs.TraceLemmas.{cause_behind, fitting, event_answered, event_grown, no_event_is_told, is_there, behind_events, says_event}
@@ -25,10 +26,10 @@ pub returns-in-Some-clause-grown : goal.returns-in-Some-clause-grown
 returns-in-Some-clause-grown g c = event_grown c.args.trace.now c.append.new.trace (drafted c.in-Some.draft) c.append.result c.append.ensures
 
 pub returns-in-None-clause-taken : goal.returns-in-None-clause-taken
-returns-in-None-clause-taken g c = λ _. cause_behind c.args.trace.now c.args.line.now c.requires.read
+returns-in-None-clause-taken g c = sym (ap owed (cause_behind c.args.trace.now c.args.line.now c.requires.read
     ∙ (λ i. line_cause (sym c.decls-decls.ensures.decls i).version
     (seen_so_far (sym c.decls-decls.ensures.decls i).declarations (sym c.len-count.ensures.len i)) c.args.line.now)
-    ∙ sym c.line_cause.ensures ∙ c.unwrap.ensures
+    ∙ sym c.line_cause.ensures ∙ c.unwrap.ensures))
 
 pub returns-in-None-clause-grown : goal.returns-in-None-clause-grown
 returns-in-None-clause-grown g c = search rules steps 100000

@@ -1,6 +1,6 @@
 -- What was kept of a line goes on in the first part of the piece.
-use Rattle.std.proofs.Common.{◌≡◌, ℕ, List, [], ◌∷◌, ◌++◌, ap, sym, subst, ◌∙◌}
-use Rattle.std.proofs.lemmas.Result.{IfOk-from_err}
+use Rattle.std.proofs.Common.{true≢false, ◌≡◌, ℕ, List, [], ◌∷◌, ◌++◌, ap, sym, subst, ◌∙◌}
+use Rattle.std.proofs.lemmas.Result.{IfOk-from_err, IfErr-weaker}
 use Rattle.race_text.specs.Words.{parts_of, parts_left}
 use Rattle.race_text.specs.Lines.{GoesOn}
 use Rattle.race_text.specs.Fed.{IsTaken, IsUnended, TellsOfLine}
@@ -18,6 +18,26 @@ returns-then-is_between_lines-clause-taken g c =
     (λ _ takes whole more t. takes whole more (subst (λ (p : List ℕ). IsTaken program_causes whole lines ((p ++ c.args.piece.now) ++ more)) none t))
     (λ _ tells whole more t. tells whole more (subst (λ (p : List ℕ). IsTaken program_causes whole lines ((p ++ c.args.piece.now) ++ more)) none t))
     c.take_whole.ensures.taken
+
+pub returns-then-is_between_lines-clause-owed : goal.returns-then-is_between_lines-clause-owed
+returns-then-is_between_lines-clause-owed g c = IfErr-weaker c.take_whole.result _ _ (λ told owes _. owes) c.take_whole.ensures.owed
+
+pub returns-in_err-keep-clause-owed : goal.returns-in_err-keep-clause-owed
+returns-in_err-keep-clause-owed g c =
+    match_err _ _ c.from_residual.result c.in_err-keep.field-0.0 c.from_residual.ensures.1
+    (λ none. absurd (true≢false (sym (c.is_between_lines.ensures.1 none) ∙ c.if-is_between_lines.false)))
+
+pub returns-in_err-take_part-in-Some-clause-owed : goal.returns-in_err-take_part-in-Some-clause-owed
+returns-in_err-take_part-in-Some-clause-owed g c =
+    match_err _ _ c.from_residual-in_err-take_part-in-Some.result c.in_err-take_part-in-Some.field-0.0
+    c.from_residual-in_err-take_part-in-Some.ensures.1
+    (λ none. absurd (true≢false (sym (c.is_between_lines.ensures.1 none) ∙ c.if-is_between_lines.false)))
+
+pub returns-in_ok-take_part-in-Some-clause-owed : goal.returns-in_ok-take_part-in-Some-clause-owed
+returns-in_ok-take_part-in-Some-clause-owed g c =
+    IfErr-weaker c.take_whole-in-Some.result _ _
+    (λ told _ none. absurd (true≢false (sym (c.is_between_lines.ensures.1 none) ∙ c.if-is_between_lines.false)))
+    c.take_whole-in-Some.ensures.owed
 
 pub returns-in_err-keep-clause-taken : goal.returns-in_err-keep-clause-taken
 returns-in_err-keep-clause-taken g c =

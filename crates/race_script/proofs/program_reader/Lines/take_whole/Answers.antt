@@ -1,10 +1,11 @@
 -- Each line is taken where it lies, and the last part is kept.
 use Rattle.std.proofs.Common.{◌≡◌, ℕ, List, [], ◌++◌, None, Some, ap, sym, subst, ◌∙◌}
+use Rattle.std.proofs.lemmas.Option.{none-some}
 use Rattle.race_text.specs.Fed.{IsTaken, TellsOfMemory}
 use Rattle.race_text.specs.Common.{line_in, TakesNext}
 use Rattle.race_script.specs.Fault.{program_causes}
 use Rattle.race_script.specs.Reader.{lines_read}
-use Rattle.race_text.proofs.FedLemmas.{seam_line, memory_told, line_told, line_taken, shorter, kept_taken, match_err}
+use Rattle.race_text.proofs.FedLemmas.{seam_line, memory_told, line_told, line_owed, line_taken, none_ended, takes_all, shorter, kept_taken, match_err}
 use Rattle.race_script.proofs.program_reader.Lines.take_whole.Goals as goal
 
 pub returns-in_err-take_next-clause-taken : goal.returns-in_err-take_next-clause-taken
@@ -16,6 +17,27 @@ returns-in_err-take_next-clause-taken g c =
     (λ whole more t. line_told program_causes whole (lines_read reader) (left ++ more) (c.loop-self.invariant.taken whole more t)
     (line_in left) (told.rest ++ more) (seam_line left (line_in left) told.rest more told.ends)
     c.in_err-take_next.field-0.0 told.is)
+
+pub returns-in_err-take_next-clause-owed : goal.returns-in_err-take_next-clause-owed
+returns-in_err-take_next-clause-owed g c =
+    let lines = lines_read c.loop-self.self.reader in
+    let left = c.loop-self.left.now in
+    let told = c.in_err-take_next.ensures.taken in
+    match_err _ _ c.from_residual.result c.in_err-take_next.field-0.0 c.from_residual.ensures.1
+    (λ whole t. line_owed program_causes whole lines left
+    (takes_all program_causes _ lines c.args.bytes.now left whole c.loop-self.invariant.taken t)
+    (line_in left) told.rest told.ends c.in_err-take_next.field-0.0 told.is)
+
+pub returns-in_err-keep-in-None-clause-owed : goal.returns-in_err-keep-in-None-clause-owed
+returns-in_err-keep-in-None-clause-owed g c =
+    let new = c.take_next.new.reader in
+    let before = lines_read c.loop-self.self.reader in
+    let left = c.loop-self.left.now in
+    let none : TakesNext program_causes before left None (lines_read new) =
+    subst (λ o. TakesNext program_causes before left o (lines_read new)) c.in-None.is c.in_ok-take_next.ensures.taken in
+    match_err _ _ c.from_residual-in_err-keep-in-None.result c.in_err-keep-in-None.field-0.0 c.from_residual-in_err-keep-in-None.ensures.1
+    (λ whole t f is _. absurd (none-some f (sym (none_ended program_causes whole before left
+    (takes_all program_causes _ before c.args.bytes.now left whole c.loop-self.invariant.taken t) none.0) ∙ is)))
 
 pub returns-in_err-keep-in-None-clause-taken : goal.returns-in_err-keep-in-None-clause-taken
 returns-in_err-keep-in-None-clause-taken g c =

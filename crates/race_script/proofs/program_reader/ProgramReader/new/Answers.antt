@@ -7,8 +7,8 @@ use Rattle.race_text.specs.Fed.{IsTaken}
 use Rattle.race_text.proofs.FedLemmas.{taken_at_start}
 use Rattle.race_script.proofs.program_reader.ProgramReader.new.Goals as goal
 
-pub returns : goal.returns
-returns g c =
+pub returns-clause-stands : goal.returns-clause-stands
+returns-clause-stands g c =
     let reader = c.new.result in record {
       taken = λ _ more.
           subst (λ (part : List ℕ). IsTaken program_causes more (lines_read reader) (part ++ more)) (sym c.new-2.ensures.items)

@@ -1,8 +1,10 @@
-use Rattle.std.proofs.Common.{◌≡◌, ◌++◌, ◌∷◌, [], ℕ, List, Some, None, Err, true, false, sym, ap, subst, refl, ◌∙◌, arith}
+use Rattle.std.proofs.Common.{◌≡◌, ◌++◌, ◌∷◌, [], ℕ, List, Some, None, Err, inl, inr, true, false, sym, ap, subst, refl, ◌∙◌, arith}
 use Rattle.std.proofs.lemmas.Bool.Decides.{nat_tests}
 use Rattle.race_records.specs.declared.declarations.DeclFault.{DeclFault}
 use Rattle.race_records.specs.Declarations.{with_place, place_number, place_fault}
 use Rattle.race_records.specs.Refusal.{Refuses, AllowsUnless}
+use Rattle.race_text.specs.Declaring.{cause_of}
+use Rattle.race_text.specs.Owed.{owed}
 use Rattle.race_text.proofs.FedLemmas.{match_err}
 use Rattle.race_script.specs.Reader.{ReadState, UnendedState}
 use Rattle.race_script.specs.Reading.{asked_at}
@@ -10,7 +12,7 @@ use Rattle.race_script.proofs.TakingLemmas.{room_is, asked_cause_is, ended_taken
 use Rattle.race_script.proofs.reader.Reader.add.Goals as goal
 
 pub returns-in-Err : goal.returns-in-Err
-returns-in-Err g c = λ other.
+returns-in-Err g c =
     let s = c.args.self.now in
     let u : UnendedState = record { requests = c.in-Some.unended.requests.items; onces = c.in-Some.unended.onces.items } in
     let is : s.unended ≡ Some u =
@@ -24,11 +26,14 @@ returns-in-Err g c = λ other.
     (λ k. (places k, c.as_text.ensures k)) c.in-Err.ensures.refused)
     (subst (λ (p : List (List ℕ) × List ℕ). AllowsUnless {T = ℕ} (place_fault p.0 p.1) (Err c.in-Err.refused) DeclFault.OutOfMemory)
     (λ k. (places k, c.as_text.ensures k))
-    c.in-Err.ensures.allowed)
-    (λ e. other (c.cause_of.ensures ∙ e)) in
-    asked_cause_is s c.requires.sound u is (asked_at c.args.ask c.args.place.now)
-    c.requires.fits c.requires.form false true _ (grind (arith, nat_tests, less, len)) told.1 refl
-    ∙ ap Some (sym told.0 ∙ sym c.cause_of.ensures)
+    c.in-Err.ensures.allowed) in
+    let cause_is = asked_cause_is s c.requires.sound u is (asked_at c.args.ask c.args.place.now) c.requires.fits c.requires.form in
+    let few = grind (arith, nat_tests, less, len) in
+    elim told [
+      | inl full ↦ c.refused_cause.ensures.other (λ memory. let two = full.1 in cc) ∙ ap cause_of full.1
+          ∙ sym (ap owed (cause_is false true _ few full.0 refl))
+      | inr memory ↦ c.refused_cause.ensures.memory memory.1 ∙ sym (ap owed (cause_is false false _ few memory.0 refl))
+    ]
 
 pub returns-in_err-push : goal.returns-in_err-push
 returns-in_err-push g c =
@@ -44,11 +49,9 @@ returns-in_err-push g c =
     (λ k. place_fault (sym decls k).places (sym c.as_text.ensures k))
     ∙ not_refused (place_fault c.self.inside.decls.places c.as_text.result.now) c.in-Ok.number c.in-Ok.ensures.refused in
     match_err _ _ c.from_residual.result c.in_err-push.field-0.0 c.from_residual.ensures.1
-    (λ other.
-    let told = c.in_err-push.ensures other in
-    asked_cause_is s c.requires.sound u is (asked_at c.args.ask c.args.place.now) c.requires.fits c.requires.form false false false
-    (grind (arith, nat_tests, less, len)) (room_is s.decls.places c.args.place.now c.requires.form room) told.1
-    ∙ ap Some (sym told.0))
+    (c.in_err-push.ensures
+    ∙ sym (ap owed (asked_cause_is s c.requires.sound u is (asked_at c.args.ask c.args.place.now) c.requires.fits c.requires.form false false _
+    (grind (arith, nat_tests, less, len)) (room_is s.decls.places c.args.place.now c.requires.form room) refl)))
 
 pub returns-then-not-exits : goal.returns-then-not-exits
 returns-then-not-exits g c =

@@ -2,6 +2,7 @@ use Rattle.std.proofs.Common.{◌≡◌, List, ℕ, Option, Bor, Some, None, tru
 use Rattle.std.proofs.lemmas.Option.{none-some}
 use Rattle.race_records.specs.Equality.{declared}
 use Rattle.race_hub.specs.declared.request.Ask.{Ask}
+use Rattle.race_text.specs.Owed.{owed}
 use Rattle.race_text.specs.Words.{parts_left}
 use Rattle.race_script.specs.Fault.{words_cause}
 use Rattle.race_script.specs.Form.{on_nil, ask_fields}
@@ -36,14 +37,14 @@ module _ (g : _) (c : goal.After-add-arg-1 g) where
 
 pub returns-in-Some : goal.returns-in-Some
 returns-in-Some g c = record {
-  taken = λ _.
+  taken =
       let s = c.args.self.now in
       let words = parts_left 32 c.args.rest in
-      asks_told s c.requires.read c.args.line.now c.args.word words c.in-Some.cause c.requires.words
+      sym (ap owed (asks_told s c.requires.read c.args.line.now c.args.word words c.in-Some.cause c.requires.words
       ((λ k. words_cause (sym c.self.view_is k).decls.declarations (ask_fields (sym c.on_nil-word.ensures k).0) (sym c.on_nil-word.ensures k).1)
       ∙ (λ k. words_cause c.self.inside.decls.declarations
       (sym (c.as_slice.ensures.value ∙ c.ask_fields-fields.ensures) k) (parts_left 32 c.on_nil-word.result.1))
-      ∙ sym c.words_cause.ensures ∙ c.in-Some.is);
+      ∙ sym c.words_cause.ensures ∙ c.in-Some.is)));
 }
 
 pub unwrap-ask-requires : goal.unwrap-ask-requires

@@ -1,5 +1,6 @@
 use Rattle.std.proofs.Common.{◌≡◌, Some, None, true, is_some, sym, ap, subst, refl, ◌∙◌, if◌then◌else◌}
 use Rattle.race_text.specs.declared.cause.TextCause.{TextCause}
+use Rattle.race_text.specs.Owed.{owed}
 use Rattle.race_text.specs.Words.{parts_left}
 use Rattle.race_script.specs.Fault.{words_cause}
 use Rattle.race_script.specs.Form.{begin_fields}
@@ -14,11 +15,11 @@ use Rattle.race_script.proofs.reader.Reader.take_begin.Goals as goal
 
 pub returns-in-Some : goal.returns-in-Some
 returns-in-Some g c = record {
-  taken = λ _.
+  taken =
       let s = c.args.self.now in
       let words = parts_left 32 c.args.rest in
-      begin_told s c.requires.read c.args.line.now words c.in-Some.cause c.requires.words
-      (ap (λ (x : ReadState). words_cause x.decls.declarations begin_fields words) (sym c.self.view_is) ∙ sym c.words_cause.ensures ∙ c.in-Some.is);
+      sym (ap owed (begin_told s c.requires.read c.args.line.now words c.in-Some.cause c.requires.words
+      (ap (λ (x : ReadState). words_cause x.decls.declarations begin_fields words) (sym c.self.view_is) ∙ sym c.words_cause.ensures ∙ c.in-Some.is)));
 }
 
 pub unwrap-goroutine-requires : goal.unwrap-goroutine-requires
@@ -29,13 +30,13 @@ unwrap-goroutine-requires g c =
 
 pub returns-then-not-may_begin : goal.returns-then-not-may_begin
 returns-then-not-may_begin g c = record {
-  taken = λ _.
+  taken =
       let s = c.args.self.now in
       let words = parts_left 32 c.args.rest in
       let begun = ap (λ (x : ReadState). begun_in x.decls.declarations words) (sym c.self.view_is) ∙ sym c.begun_in.ensures ∙ c.unwrap-goroutine.ensures in
-      said_told s c.requires.read c.args.line.now (Begins c.unwrap-goroutine.result) TextCause.BadBlock
+      sym (ap owed (said_told s c.requires.read c.args.line.now (Begins c.unwrap-goroutine.result) TextCause.BadBlock
       (begins_line s.decls c.requires.read.sound.well_formed c.args.line.now words c.unwrap-goroutine.result c.requires.words begun)
-      (ap (λ b. if b then None else Some TextCause.BadBlock) (sym c.may_begin.ensures ∙ c.if-not-may_begin.true));
+      (ap (λ b. if b then None else Some TextCause.BadBlock) (sym c.may_begin.ensures ∙ c.if-not-may_begin.true))));
 }
 
 pub returns : goal.returns

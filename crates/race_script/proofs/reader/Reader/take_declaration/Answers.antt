@@ -2,6 +2,7 @@ use Rattle.std.proofs.Common.{◌≡◌, Some, Ok, Err, length, sym, ap, subst, 
 use Rattle.race_text.specs.declared.form.Word.{Word}
 use Rattle.race_text.specs.Fault.{seen_so_far}
 use Rattle.race_text.specs.Fault.{word_cause as text_cause}
+use Rattle.race_text.specs.Owed.{owed}
 use Rattle.race_text.specs.Words.{parts_left}
 use Rattle.race_records.specs.Declarations.{DeclsState}
 use Rattle.race_records.specs.Refusal.{Refuses, AllowsUnless}
@@ -15,15 +16,15 @@ use Rattle.race_script.proofs.reader.Reader.take_declaration.Goals.{in-Ok, in-Er
 
 pub returns-then-begun-gt0 : goal.returns-then-begun-gt0
 returns-then-begun-gt0 g c = record {
-  taken = λ _.
+  taken =
       let s = c.args.self.now in
       let words = parts_left 32 c.args.rest in
       let made = c.word_cause.ensures in
       let told = c.unwrap.ensures in
-      declares_cause s c.requires.read c.args.line.now c.args.noun words c.requires.words
+      sym (ap owed (declares_cause s c.requires.read c.args.line.now c.args.noun words c.requires.words
       ∙ (λ k. text_cause (seen_so_far (ap (λ (x : ReadState). x.decls.declarations) (sym c.self.view_is) k) (sym c.begun-begun.ensures k))
       (Some (Word.Declares c.args.noun)) words)
-      ∙ sym made ∙ told;
+      ∙ sym made ∙ told));
 }
 
 pub returns : goal.returns

@@ -2,6 +2,7 @@ use Rattle.std.proofs.Common.{◌≡◌, ℕ, List, Option, Bor, Some, None, tru
 use Rattle.std.proofs.lemmas.Option.{none-some}
 use Rattle.race_records.specs.Equality.{declared}
 use Rattle.race_hub.specs.declared.request.Ask.{Ask}
+use Rattle.race_text.specs.Owed.{owed}
 use Rattle.race_text.specs.Words.{parts_left}
 use Rattle.race_script.specs.Offers.{select_words, select_cause}
 use Rattle.race_script.specs.Program.{Instruction}
@@ -19,11 +20,11 @@ there_is (Some x) i h = refl
 
 pub returns-in-Some : goal.returns-in-Some
 returns-in-Some g c = record {
-  taken = λ _.
+  taken =
       let s = c.args.self.now in
       let words = parts_left 32 c.args.rest in
-      selects_told s c.requires.read c.args.line.now words c.in-Some.cause c.requires.words
-      ((λ k. select_cause (sym c.self.view_is k).decls.declarations (sym c.select_words-words.ensures k)) ∙ sym c.select_cause.ensures ∙ c.in-Some.is);
+      sym (ap owed (selects_told s c.requires.read c.args.line.now words c.in-Some.cause c.requires.words
+      ((λ k. select_cause (sym c.self.view_is k).decls.declarations (sym c.select_words-words.ensures k)) ∙ sym c.select_cause.ensures ∙ c.in-Some.is)));
 }
 
 pub unwrap-ask-requires : goal.unwrap-ask-requires

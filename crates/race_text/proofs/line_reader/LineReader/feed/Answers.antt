@@ -1,10 +1,11 @@
 -- What is behind the lines that were taken goes on in the piece, and a fault that was told stays.
 use Rattle.std.proofs.lemmas.Grind.{common_steps}
 use Rattle.std.proofs.Common.{◌≡◌, ℕ, List, [], ◌++◌, Some, None, refl, sym, ap, subst, ◌∙◌, rules, arith}
+use Rattle.std.proofs.lemmas.Option.{none-some}
 use Rattle.race_text.specs.Fault.{trace_causes}
 use Rattle.race_text.specs.Reader.{lines_read}
-use Rattle.race_text.specs.Fed.{LinesState, StandsFor, IsTold}
-use Rattle.race_text.proofs.FedLemmas.{fed_takes, fed_tells, told_stays, told_of, none_of}
+use Rattle.race_text.specs.Fed.{LinesState, StandsFor, IsTold, IsBetweenLines}
+use Rattle.race_text.proofs.FedLemmas.{fed_takes, fed_tells, told_stays, told_of, none_of, owed_of}
 use Rattle.race_text.proofs.line_reader.LineReader.feed.Goals as goal
 
 pub returns-in-Some-clause-goes_on : goal.returns-in-Some-clause-goes_on
@@ -16,6 +17,11 @@ returns-in-Some-clause-line g c = λ fed S.
     let is : c.args.self.now.fault ≡ Some c.in-Some.fault = ap (λ (k : LinesState). k.fault) (sym c.self.view_is) ∙ c.in-Some.is in
     (told_of trace_causes c.args.self.now (fed ++ c.args.piece.now) c.in-Some.fault is
     (told_stays trace_causes c.args.self.now c.args.piece.now fed c.in-Some.fault is S)).line
+
+pub returns-in-Some-clause-owed : goal.returns-in-Some-clause-owed
+returns-in-Some-clause-owed g c = λ between.
+    let is : c.args.self.now.fault ≡ Some c.in-Some.fault = ap (λ (k : LinesState). k.fault) (sym c.self.view_is) ∙ c.in-Some.is in
+    absurd (none-some c.in-Some.fault (sym between.fine ∙ is))
 
 pub returns-in-Ok-clause-goes_on : goal.returns-in-Ok-clause-goes_on
 returns-in-Ok-clause-goes_on g c = λ fed S.
@@ -61,6 +67,17 @@ returns-in-Err-clause-fault g c = λ fed S. (told g c fed S).ended
 
 pub returns-in-Err-clause-memory : goal.returns-in-Err-clause-memory
 returns-in-Err-clause-memory g c = λ fed S. (told g c fed S).none_ended_before
+
+pub returns-in-Err-clause-owed : goal.returns-in-Err-clause-owed
+returns-in-Err-clause-owed g c = λ between fed S.
+    let lines = c.self.inside.lines in
+    let old : LinesState = record {
+      lines = lines_read lines.reader.has_header lines.reader.decls lines.reader.trace;
+      part = lines.part.items;
+      fault = c.self.inside.fault;
+    } in
+    owed_of trace_causes old c.args.piece.now fed c.in-Err.fault (subst IsBetweenLines (sym c.self.view_is) between) c.in-Err.ensures.owed
+    (subst (λ (k : LinesState). StandsFor trace_causes k fed) (sym c.self.view_is) S)
 
 pub returns-in-Err-clause-line : goal.returns-in-Err-clause-line
 returns-in-Err-clause-line g c = λ fed S. (told g c fed S).line

@@ -1,5 +1,6 @@
 use Rattle.std.proofs.Common.{sym, subst, ◌∙◌, true, arith}
 use Rattle.std.proofs.lemmas.Grind.{common_steps}
+use Rattle.race_text.specs.Owed.{owed}
 use Rattle.race_text.specs.Taking.{IsRead}
 use Rattle.race_text.specs.Text.{lines}
 use Rattle.race_text.specs.Fault.{cause}
@@ -7,11 +8,11 @@ use Rattle.race_text.proofs.ReaderLemmas.{not_declared, fresh}
 use Rattle.race_text.proofs.reader.Reader.take_before_events.Goals as goal
 
 pub returns-in-Err-take_event-clause-taken : goal.returns-in-Err-take_event-clause-taken
-returns-in-Err-take_event-clause-taken g c = λ other.
+returns-in-Err-take_event-clause-taken g c =
     let same = not_declared c.args.self.now.decls c.take_declaration.new.decls c.args.line.now c.in-Ok.added c.in-Ok.ensures c.if-added.false in
     let is = fresh c.new-trace.result c.args.self.now.decls
     (c.new-trace.ensures.decls ∙ c.replace.ensures.value ∙ same) c.new-trace.ensures.events c.new-trace.ensures.spare in
-    (λ i. cause (lines (sym is i)) c.args.line.now true) ∙ c.in-Err-take_event.ensures.taken other
+    c.in-Err-take_event.ensures.taken ∙ (λ i. owed (cause (lines (is i)) c.args.line.now true))
 
 pub take_event-requires-clause-read : goal.take_event-requires-clause-read
 take_event-requires-clause-read g c =

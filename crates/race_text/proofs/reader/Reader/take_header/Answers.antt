@@ -1,11 +1,12 @@
 use Rattle.std.proofs.Common.{◌≡◌, false, sym, subst, ap, ◌∙◌, Some}
 use Rattle.race_records.specs.declared.version.Version.{Version}
+use Rattle.race_text.specs.Owed.{owed}
 use Rattle.race_text.specs.Reader.{nothing_in, IsReading}
 use Rattle.race_text.proofs.ReaderLemmas.{header_told, header_taken, header_reading}
 use Rattle.race_text.proofs.reader.Reader.take_header.Goals as goal
 
 pub returns-in-None-clause-taken : goal.returns-in-None-clause-taken
-returns-in-None-clause-taken g c = header_told c.args.line.now (sym c.in-None.ensures)
+returns-in-None-clause-taken g c = sym (ap owed (header_told c.args.line.now (sym c.in-None.ensures)))
 
 pub returns-in-Some-One-clause-taken : goal.returns-in-Some-One-clause-taken
 returns-in-Some-One-clause-taken g c =

@@ -13,7 +13,8 @@ is run, and links, paths, promises and rows are looked at alone.
   is checked, a program run and judged with --picks 0. No file may be without a row.
 - A link to a file of the repository leads to one, and to a heading of it.
 - A path that a table names, as race_text/src/form or race_model/specs/Order, is there, and so is one of the
-  column Files in the crate of the column Crate; and each function and clause that docs/PROVED.md names.
+  column Files in the crate of the column Crate; and each function and clause that docs/PROVED.md names,
+  and each edit that docs/WRONG_BODIES.md names.
 
 docs/GETTING_STARTED.md is followed by recorder/test.sh.
 """
@@ -203,6 +204,18 @@ def check_paths(page, failures):
     return count
 
 
+def check_wrong_bodies(failures):
+    """The edits that the page of wrong bodies names, as race_edges/NAME, OTHER_NAME."""
+    page, count = ROOT / "docs/WRONG_BODIES.md", 0
+    lines = re.findall(r"(?m)^\|.*\|$", page.read_text()) if page.exists() else []
+    for crate, listed in re.findall(r"\b(race_\w+)/(\w+(?:, \w+(?![\w/ ]))*)", "\n".join(lines)):
+        for named in listed.split(", "):
+            if not (ROOT / "crates" / crate / "must-fail" / (named + ".edit")).exists():
+                failures.add(name(page), f"no wrong body {crate}/{named}")
+            count += 1
+    return count
+
+
 def check_promises(failures):
     """The functions and the clauses that the list of promises names, by their names alone."""
     page, count = ROOT / "docs/PROVED.md", 0
@@ -225,7 +238,9 @@ def check_promises(failures):
 def check_all(program, with_recorder):
     """With no program what needs none."""
     failures = Failures()
-    counts = dict(commands=0, rows=0, links=0, paths=0, promises=check_promises(failures))
+    counts = dict(commands=0, rows=0, links=0, paths=0)
+    counts["promises"] = check_promises(failures)
+    counts["wrong bodies"] = check_wrong_bodies(failures)
     with tempfile.TemporaryDirectory() as temporary:
         folder = pathlib.Path(temporary) if program else None
         if folder:

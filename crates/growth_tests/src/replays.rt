@@ -1,11 +1,12 @@
 //! The calls of race_legal.
 ghost use Rattle.std.specs.Prelude.{◌≡◌, ◌<◌};
 ghost use Rattle.race_legal.specs.ReplayState.{IsInRange, counts_in};
+ghost use Rattle.race_records.specs.Declarations.{count_of};
 
 use crate::calls::{Growing, Reply, assert_each, refused_if, right_if};
 use crate::traced::traced;
 use race_legal::{Broken, Replay, legal};
-use race_records::{Event, Trace};
+use race_records::{Event, Kind, Trace};
 use refusing_heap::RefusingHeap;
 use std::alloc::{Allocator, Global};
 use std::sync::Wait;
@@ -29,16 +30,58 @@ fn new<A: Allocator + Copy>(heap: A, trace: &Trace<A>) -> Reply {
     }
 }
 
+// Whether each reader answers as before the first event, where the trace declares another goroutine and an object of
+// each kind.
+fn is_new<A: Allocator, B: Allocator>(replay: &Replay<A>, trace: &Trace<B>) -> bool
+    requires goroutines { count_of Kind.Goroutine trace.now.decls.declarations ≡ counts_in replay.now Kind.Goroutine }
+    requires vars { count_of Kind.Var trace.now.decls.declarations ≡ counts_in replay.now Kind.Var }
+    requires chans { count_of Kind.Chan trace.now.decls.declarations ≡ counts_in replay.now Kind.Chan }
+    requires locks { count_of Kind.Lock trace.now.decls.declarations ≡ counts_in replay.now Kind.Lock }
+    requires onces { count_of Kind.Once trace.now.decls.declarations ≡ counts_in replay.now Kind.Once }
+{
+    let decls = trace.decls();
+    if decls.count(Kind::Goroutine) < 2
+        || decls.count(Kind::Var) == 0
+        || decls.count(Kind::Chan) == 0
+        || decls.count(Kind::Lock) == 0
+        || decls.count(Kind::Once) == 0
+    {
+        return false;
+    }
+    let are_goroutines_new = replay.runs(0)
+        && !replay.runs(1)
+        && !replay.started(1)
+        && replay.innermost(0).is_none();
+    let are_values_new = replay.last_value(0) == 0
+        && !replay.is_closed(0)
+        && replay.buffered(0) == 0
+        && replay.front(0).is_none();
+    let are_locks_new = !replay.is_held(0)
+        && !replay.is_read_held(0)
+        && !replay.is_begun(0)
+        && !replay.is_ended(0);
+    replay.len() == 0 && !replay.over() && are_goroutines_new && are_values_new && are_locks_new
+}
+
 // An event that is refused for want of memory is accepted the next time.
-fn accept<A: Allocator>(replay: &mut Replay<A>, event: &Event) -> Reply
+fn accept<A: Allocator, B: Allocator>(
+    replay: &mut Replay<A>,
+    event: &Event,
+    trace: &Trace<B>,
+) -> Reply
     requires range { IsInRange (counts_in replay.old) event.now }
     requires first { replay.old.len ≡ 0 }
+    requires goroutines { count_of Kind.Goroutine trace.now.decls.declarations ≡ counts_in replay.old Kind.Goroutine }
+    requires vars { count_of Kind.Var trace.now.decls.declarations ≡ counts_in replay.old Kind.Var }
+    requires chans { count_of Kind.Chan trace.now.decls.declarations ≡ counts_in replay.old Kind.Chan }
+    requires locks { count_of Kind.Lock trace.now.decls.declarations ≡ counts_in replay.old Kind.Lock }
+    requires onces { count_of Kind.Once trace.now.decls.declarations ≡ counts_in replay.old Kind.Once }
 {
     match replay.accept(event) {
         Ok(()) => right_if(replay.len() == 1),
         Err(fault) => refused_if(
             fault == Broken::OutOfMemory
-                && replay.len() == 0
+                && is_new(replay, trace)
                 && replay.accept(event).is_ok()
                 && replay.len() == 1,
         ),
@@ -56,7 +99,7 @@ fn accepted(heap: &RefusingHeap<Global>, nth: u64, trace: &Trace<&RefusingHeap<G
         return Reply::Wrong;
     };
     heap.refuse(nth);
-    accept(&mut replay, trace.event(0))
+    accept(&mut replay, trace.event(0), trace)
 }
 
 fn judged<A: Allocator + Copy>(heap: A, trace: &Trace<A>) -> Reply {

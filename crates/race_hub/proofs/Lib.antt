@@ -1,8 +1,8 @@
 pub mod OfferLemmas
+pub mod RangeLemmas
 pub mod RowLemmas
 pub mod FoundLemmas
 pub mod PossibleLemmas
-pub mod MeetLemmas
 pub mod WaitingLemmas
 pub mod ReceiverLemmas
 pub mod EndLemmas

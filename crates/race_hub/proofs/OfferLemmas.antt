@@ -1,9 +1,9 @@
 -- A list of offers, read and made longer by its cases and values.
-use Rattle.std.proofs.Common.{◌≡◌, ℕ, zero, suc, ◌<◌, ◌≤◌, ◌&&◌, ◌||◌, cond, nat_lt, nat_le, Bool}
+use Rattle.std.proofs.Common.{◌≡◌, ℕ, zero, suc, ◌<◌, ◌≤◌, ◌&&◌, cond, nat_lt, nat_le, Bool}
 use Rattle.std.proofs.Common.{true, false, List, [], ◌∷◌, ◌++◌, length, map, set, get_or, Option, Some}
 use Rattle.std.proofs.Common.{None}
 use Rattle.std.proofs.Common.{IfSome, IsTrue, slice_get, true≢false, refl, sym, ap, ◌∙◌, arith}
-use Rattle.std.specs.List.{list_all, list_any}
+use Rattle.std.specs.List.{list_all}
 use Rattle.std.proofs.lemmas.Bool.Decides.{nat_tests}
 use Rattle.std.proofs.lemmas.Option.{none-some}
 use Rattle.race_records.specs.declared.cases.TheConstants.{MAX_CASES}
@@ -137,7 +137,3 @@ by_offer_at offers k o by_default x f test there = ap f (sym there) ∙ ap (λ b
 pub chan_in_range : (chans : ℕ) (offers : List Offer) (k : ℕ) (o p : Offer) → list_all (offer_is_in_range chans) offers ≡ true
     → slice_get offers k ≡ Some o → o ≡ p → offer_is_in_range chans p ≡ true
 chan_in_range chans offers k o p all there is = ap (offer_is_in_range chans) (sym is) ∙ each_passes (offer_is_in_range chans) offers k o all there
-
-pub any_of_map : {X Y : Type 0} (p : Y → Bool) (f : X → Y) (xs : List X) → list_any p (map f xs) ≡ list_any (λ x. p (f x)) xs
-any_of_map p f [] = refl
-any_of_map p f (x ∷ xs) = ap (λ b. p (f x) || b) (any_of_map p f xs)

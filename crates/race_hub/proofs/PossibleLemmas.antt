@@ -4,6 +4,7 @@ use Rattle.std.proofs.Common.{false, List, [], ◌∷◌, length, map, slice_get
 use Rattle.std.proofs.Common.{Some, None}
 use Rattle.std.proofs.Common.{is_none, is_some, refl, sym, ap, ◌∙◌, arith}
 use Rattle.std.specs.List.{list_any}
+use Rattle.std.specs.Option.{option_map}
 use Rattle.std.proofs.lemmas.Bool.Decides.{nat_tests, Decides-eqb}
 use Rattle.race_records.specs.declared.cases.Case.{Case}
 use Rattle.std.proofs.lemmas.Option.{slice_get_within}
@@ -20,12 +21,21 @@ use Rattle.race_model.specs.Events.{gives, sends, receives, count}
 use Rattle.race_model.specs.State.{over, runs, is_closed, buffered, front, sent, is_held, is_read_held, is_begun, is_ended, innermost, started, last_value}
 use Rattle.race_model.specs.Legal.{least_broken, broken, op_rules, is_ready}
 use Rattle.race_model.proofs.StateSteps.{sent_count}
+use Rattle.race_legal.specs.declared.rule.Rule.{Rule}
+use Rattle.race_legal.specs.Rules.{number_of}
 use Rattle.race_hub.specs.declared.request.Ask.{Ask}
 use Rattle.race_hub.specs.declared.request.Offer.{Offer}
 use Rattle.race_hub.specs.declared.request.Waiter.{Waiter}
 use Rattle.race_hub.specs.Offers.{case_of}
 use Rattle.race_hub.specs.Choices.{is_legal_next, lone_event, lone_op, offer_at}
 use Rattle.race_hub.specs.Possible.{goes_on, offer_goes_on, meet_goes_on}
+
+-- a rule has a number just where one is told
+pub none_is_told : (told : Option Rule) (none : Bool) → is_some told ≡ not none → none ≡ is_none (option_map number_of told)
+none_is_told None true is = refl
+none_is_told None false is = absurd cc
+none_is_told (Some rule) true is = absurd cc
+none_is_told (Some rule) false is = refl
 
 -- no rule of the list is broken
 abbrev clean : List (ℕ × Bool) → Bool

@@ -27,7 +27,6 @@ ghost use Rattle.race_hub.specs.Recording.{HasEnded};
 ghost use Rattle.race_hub.specs.Finish.{IsRecorded, IsMismatch};
 
 use crate::firing::{Firing, firing_of, started_in};
-use crate::meet::both;
 use crate::moves::{is_among, make_room, resume, start, take_first};
 use crate::opening::{HubFault, fault_of, unstarted};
 use crate::parked::{Ended, Parked};
@@ -97,6 +96,13 @@ impl<R, A: Allocator> Model for Hub<R, A> {
     ghost view = { hub_state };
 
     ghost invariant = { HubHolds };
+}
+
+// Both hold.
+fn both(this: bool, that: bool) -> bool
+    ensures { result ≡ (this && that) }
+{
+    this && that
 }
 
 // Whether main returned.

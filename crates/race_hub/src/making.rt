@@ -1,10 +1,10 @@
 //! Which event a waiting request makes alone, after the events so far.
-ghost use Rattle.std.specs.Prelude.{ℕ, ◌≡◌, ◌==◌, cond, Option, Some, None, IsTrue};
+ghost use Rattle.std.specs.Prelude.{ℕ, ◌≡◌, ◌==◌, cond, Option, Some, None, IsTrue, IfSome};
 ghost use Rattle.std.specs.List.{list_all};
 ghost use Rattle.race_records.specs.declared.event.Cause.TheVariants.{SendClosed, CloseClosed, UnlockFree, RUnlockFree};
 ghost use Rattle.race_records.specs.declared.event.Op.TheVariants.{Send, Recv, RecvClosed, Close, Unlock, RUnlock, TryLock, TryRLock, TryFail};
 ghost use Rattle.race_records.specs.declared.event.Op.TheVariants.{OnceBegin, OnceDone, Fault};
-ghost use Rattle.race_records.specs.Parts.{chan_is_in_range};
+ghost use Rattle.race_records.specs.Parts.{chan_is_in_range, op_is_in_range};
 ghost use Rattle.race_legal.specs.ReplayState.{counts_in};
 ghost use Rattle.race_legal.specs.StandsFor.{ForEachPast};
 ghost use Rattle.race_hub.specs.Choices as spec;
@@ -106,7 +106,8 @@ fn tryr_op(lock: u32, way: u32) -> Op
 // A send on the channel; on nil there is none.
 fn lone_send<A: Allocator>(replay: &Replay<A>, chan: Option<u32>, value: u64) -> Option<Op>
     requires { IsTrue (chan_is_in_range (counts_in replay.now Kind.Chan) chan) }
-    ensures { ForEachPast replay.now (λ past. (way : ℕ) → result ≡ spec.op_of past (Ask.Send chan value) way) }
+    ensures op { ForEachPast replay.now (λ past. (way : ℕ) → result ≡ spec.op_of past (Ask.Send chan value) way) }
+    ensures range { IfSome result (λ op. IsTrue (op_is_in_range (counts_in replay.now) op)) }
 {
     let Some(chan) = chan else {
         return None;
@@ -117,7 +118,8 @@ fn lone_send<A: Allocator>(replay: &Replay<A>, chan: Option<u32>, value: u64) ->
 // A receive from the channel; on nil there is none.
 fn lone_recv<A: Allocator>(replay: &Replay<A>, chan: Option<u32>) -> Option<Op>
     requires { IsTrue (chan_is_in_range (counts_in replay.now Kind.Chan) chan) }
-    ensures { ForEachPast replay.now (λ past. (way : ℕ) → result ≡ spec.op_of past (Ask.Recv chan) way) }
+    ensures op { ForEachPast replay.now (λ past. (way : ℕ) → result ≡ spec.op_of past (Ask.Recv chan) way) }
+    ensures range { IfSome result (λ op. IsTrue (op_is_in_range (counts_in replay.now) op)) }
 {
     let Some(chan) = chan else {
         return None;
@@ -128,7 +130,8 @@ fn lone_recv<A: Allocator>(replay: &Replay<A>, chan: Option<u32>) -> Option<Op>
 // A close of the channel, which fails on nil.
 fn lone_close<A: Allocator>(replay: &Replay<A>, chan: Option<u32>) -> Option<Op>
     requires { IsTrue (chan_is_in_range (counts_in replay.now Kind.Chan) chan) }
-    ensures { ForEachPast replay.now (λ past. (way : ℕ) → result ≡ spec.op_of past (Ask.Close chan) way) }
+    ensures op { ForEachPast replay.now (λ past. (way : ℕ) → result ≡ spec.op_of past (Ask.Close chan) way) }
+    ensures range { IfSome result (λ op. IsTrue (op_is_in_range (counts_in replay.now) op)) }
 {
     let Some(chan) = chan else {
         return Some(Op::Fault(Cause::CloseNil));
@@ -144,7 +147,8 @@ fn lone_select<A: Allocator>(
     way: u32,
 ) -> Option<Op>
     requires { IsTrue (list_all (offer_is_in_range (counts_in replay.now Kind.Chan)) offers.now) }
-    ensures { ForEachPast replay.now (λ past. result ≡ spec.op_of past (Ask.Select offers.now has_default) way) }
+    ensures op { ForEachPast replay.now (λ past. result ≡ spec.op_of past (Ask.Select offers.now has_default) way) }
+    ensures range { IfSome result (λ op. IsTrue (op_is_in_range (counts_in replay.now) op)) }
 {
     if is_default_way(offers, has_default, way) {
         return Some(Op::Default(offers.cases()));
@@ -160,9 +164,10 @@ fn lone_select<A: Allocator>(
 }
 
 // What the ask does alone by its way of this number.
-fn lone_op<A: Allocator>(replay: &Replay<A>, ask: &Ask, way: u32) -> Option<Op>
+pub(crate) fn lone_op<A: Allocator>(replay: &Replay<A>, ask: &Ask, way: u32) -> Option<Op>
     requires { IsTrue (ask_is_in_range (counts_in replay.now) ask.now) }
-    ensures { ForEachPast replay.now (λ past. result ≡ spec.op_of past ask.now way) }
+    ensures op { ForEachPast replay.now (λ past. result ≡ spec.op_of past ask.now way) }
+    ensures range { IfSome result (λ op. IsTrue (op_is_in_range (counts_in replay.now) op)) }
 {
     match ask {
         Ask::Go(goroutine) => Some(Op::Go(*goroutine)),
@@ -184,6 +189,18 @@ fn lone_op<A: Allocator>(replay: &Replay<A>, ask: &Ask, way: u32) -> Option<Op>
     }
 }
 
+// The event in which the request does that alone.
+pub(crate) fn event_alone(waiter: &Waiter, op: Op) -> Event
+    ensures { result ≡ record { who = waiter.now.who; op = op; place = waiter.now.asked.place; place2 = None } }
+{
+    Event {
+        op,
+        who: waiter.who,
+        place: waiter.asked.place,
+        place2: None,
+    }
+}
+
 /// The event that the waiting request makes alone by its way of this number, if it can make one. Only of a select and of
 /// a try the number is looked at: other requests have one way.
 pub fn lone_event<A: Allocator>(replay: &Replay<A>, waiter: &Waiter, way: u32) -> Option<Event>
@@ -191,12 +208,7 @@ pub fn lone_event<A: Allocator>(replay: &Replay<A>, waiter: &Waiter, way: u32) -
     ensures { ForEachPast replay.now (λ past. result ≡ spec.lone_event past waiter.now way) }
 {
     match lone_op(replay, &waiter.asked.ask, way) {
-        Some(op) => Some(Event {
-            op,
-            who: waiter.who,
-            place: waiter.asked.place,
-            place2: None,
-        }),
+        Some(op) => Some(event_alone(waiter, op)),
         None => None,
     }
 }

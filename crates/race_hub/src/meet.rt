@@ -9,7 +9,6 @@ ghost use Rattle.race_hub.specs.Choices as spec;
 ghost use Rattle.race_hub.specs.Table.{offers_of};
 ghost use Rattle.race_hub.specs.Possible.{handed, ask_is_in_range, offer_is_in_range};
 
-use crate::possible::acts;
 use crate::{Ask, Offer, Waiter};
 use race_legal::Replay;
 use race_records::{Decls, Event, Kind, Op};
@@ -76,20 +75,6 @@ pub fn meet_event(sender: &Waiter, way: u32, receiver: &Waiter, other_way: u32) 
     }
 }
 
-// The two are different, and the channel is unbuffered and open.
-fn meets_on(sender: u32, receiver: u32, capacity: u32, closed: bool) -> bool
-    ensures { result ≡ (not (receiver == sender) && ((capacity == 0) && not closed)) }
-{
-    receiver != sender && capacity == 0 && !closed
-}
-
-// Both hold.
-pub(crate) fn both(this: bool, that: bool) -> bool
-    ensures { result ≡ (this && that) }
-{
-    this && that
-}
-
 /// Whether the one waiting request by its way can meet the other by its way: whether their event breaks no rule after the
 /// events so far.
 pub fn can_meet<A: Allocator, B: Allocator>(
@@ -109,17 +94,8 @@ where
         → result ≡ spec.is_legal_next (capacity_of decls.now.declarations) past
         (spec.meet_event sender.now way receiver.now other_way) }
 {
-    let sends = offer_at(&sender.asked.ask, way);
-    let receives = offer_at(&receiver.asked.ask, other_way);
-    let Some((chan, _)) = hands(sends, receives) else {
-        return false;
-    };
-    let can = meets_on(
-        sender.who,
-        receiver.who,
-        decls.capacity(chan),
-        replay.is_closed(chan),
-    );
-    let run = both(replay.runs(sender.who), replay.runs(receiver.who));
-    acts(replay.over(), run, can)
+    match meet_event(sender, way, receiver, other_way) {
+        Some(event) => replay.breaks(&event).is_none(),
+        None => false,
+    }
 }

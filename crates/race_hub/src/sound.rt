@@ -12,7 +12,6 @@ ghost use Rattle.race_legal.specs.StandsFor.{ForEachPast};
 ghost use Rattle.race_hub.specs.Possible as possible;
 ghost use Rattle.race_hub.specs.Submits as spec;
 
-use crate::possible::is_number;
 use crate::{Ask, Offer, Offers, Waiter};
 use race_legal::Replay;
 use race_records::{Decls, Kind, Verb};
@@ -173,5 +172,5 @@ fn is_present(found: Option<u32>) -> bool
 fn is_other(found: Option<u32>, number: u32) -> bool
     ensures { result ≡ not (gives found number) }
 {
-    !is_number(found, number)
+    found != Some(number)
 }

@@ -1,27 +1,22 @@
--- Each reader answers the word of the run so far, and what is handed makes the event.
-use Rattle.std.proofs.Common.{◌≡◌, ◌==◌, ◌&&◌, not, slice_get, Some, sym, ap, ◌∙◌}
+-- The event in which they meet breaks no rule just where none is told.
+use Rattle.std.proofs.Common.{is_none, sym, ap, ◌∙◌}
 use Rattle.race_records.specs.Declarations.{capacity_of}
-use Rattle.race_model.specs.State.{over}
-use Rattle.race_hub.specs.Table.{offers_of}
+use Rattle.race_legal.specs.ReplayState.{counts_in}
 use Rattle.race_hub.specs.Choices.{is_legal_next}
-use Rattle.race_hub.specs.Possible.{handed}
-use Rattle.race_hub.proofs.MeetLemmas.{event_by, event_by_is}
-use Rattle.race_hub.proofs.PossibleLemmas.{each_meet}
+use Rattle.race_hub.proofs.PossibleLemmas.{none_is_told}
+use Rattle.race_hub.proofs.RangeLemmas.{meeting}
 use Rattle.race_hub.proofs.meet.can_meet.Goals as goal
 
-pub returns : goal.returns
-returns g c past S =
+pub breaks-requires : goal.breaks-requires
+breaks-requires g c =
+    meeting (counts_in c.args.replay.now) c.args.sender.now c.args.receiver.now c.args.way c.args.other_way c.in-Some.event
+    c.requires.who c.requires.whom c.requires.range c.in-Some.ensures
+
+pub returns-in-Some : goal.returns-in-Some
+returns-in-Some g c past S =
     let D = c.args.decls.now.declarations in
-    let caps = capacity_of D in
-    let w = c.args.sender.now in
-    let r = c.args.receiver.now in
-    let met :
-    Some (c.in-Some.chan, c.in-Some.field-0-1)
-    ≡ handed (slice_get (offers_of w.asked.ask) c.args.way) (slice_get (offers_of r.asked.ask) c.args.other_way) =
-    c.in-Some.ensures.handed ∙ (λ i. handed (c.offer_at-sends.ensures.offer i) (c.offer_at-receives.ensures.offer i)) in
-    c.acts.ensures
-    ∙ (λ i. not (c.over.ensures D past S i) && (c.both-run.ensures i && c.meets_on-can.ensures i))
-    ∙ (λ i. not (over past) && ((c.runs.ensures D past S i && c.runs-2.ensures D past S i)
-    && (not (r.who == w.who) && ((c.capacity.ensures i == 0) && not (c.is_closed.ensures D past S i)))))
-    ∙ sym (each_meet caps past w.who r.who w.asked.place r.asked.place c.in-Some.chan c.in-Some.field-0-1)
-    ∙ ap (is_legal_next caps past) (ap (event_by w r) met ∙ event_by_is w r c.args.way c.args.other_way)
+    none_is_told c.breaks.result c.is_none.result c.is_none.ensures ∙ ap is_none (sym (c.breaks.ensures D past S))
+    ∙ ap (is_legal_next (capacity_of D) past) c.in-Some.ensures
+
+pub returns-in-None : goal.returns-in-None
+returns-in-None g c past S = ap (is_legal_next (capacity_of c.args.decls.now.declarations) past) c.in-None.ensures

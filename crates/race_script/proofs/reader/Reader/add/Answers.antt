@@ -27,12 +27,13 @@ returns-in-Err g c =
     (subst (λ (p : List (List ℕ) × List ℕ). AllowsUnless {T = ℕ} (place_fault p.0 p.1) (Err c.in-Err.refused) DeclFault.OutOfMemory)
     (λ k. (places k, c.as_text.ensures k))
     c.in-Err.ensures.allowed) in
-    let cause_is = asked_cause_is s c.requires.sound u is (asked_at c.args.ask c.args.place.now) c.requires.fits c.requires.form in
-    let few = grind (arith, nat_tests, less, len) in
     elim told [
       | inl full ↦ c.refused_cause.ensures.other (λ memory. let two = full.1 in cc) ∙ ap cause_of full.1
-          ∙ sym (ap owed (cause_is false true _ few full.0 refl))
-      | inr memory ↦ c.refused_cause.ensures.memory memory.1 ∙ sym (ap owed (cause_is false false _ few memory.0 refl))
+          ∙ sym (ap owed (asked_cause_is s c.requires.sound u is (asked_at c.args.ask c.args.place.now)
+          c.requires.fits c.requires.form false true _ (grind (arith, nat_tests, less, len)) full.0 refl))
+      | inr memory ↦ c.refused_cause.ensures.memory memory.1
+          ∙ sym (ap owed (asked_cause_is s c.requires.sound u is (asked_at c.args.ask c.args.place.now)
+          c.requires.fits c.requires.form false false _ (grind (arith, nat_tests, less, len)) memory.0 refl))
     ]
 
 pub returns-in_err-push : goal.returns-in_err-push
@@ -105,3 +106,22 @@ returns-in-Ok-push g c =
     ∙ (λ k. ap (λ (x : ReadState). x.ended) c.self.view_is k
     ++ (pushed.added ∙ (λ j. c.in-Some.unended.requests.items ++ record { ask = c.args.ask; place = number j } ∷ [])) k ∷ []))
     (none_viewed _ c.replace.new.dest c.replace.ensures.after)
+
+-- want of memory for the body is told where no cause holds of its exit
+pub returns : goal.returns
+returns g c =
+    let s = c.args.self.now in
+    let u : UnendedState = record { requests = c.in-Some.unended.requests.items; onces = c.in-Some.unended.onces.items } in
+    let is : s.unended ≡ Some u =
+    ap (λ (x : ReadState). x.unended) (sym c.self.view_is)
+    ∙ some_viewed _ c.self.inside.unended c.in-Some.unended (sym c.replace.ensures.value ∙ c.in-Some.is) in
+    let less = c.if-len-ge-MAX_STEPS.false in
+    let len = c.len.ensures in
+    let decls : c.self.inside.decls ≡ s.decls = ap (λ (x : ReadState). x.decls) c.self.view_is in
+    let room : place_fault s.decls.places c.args.place.now ≡ None =
+    (λ k. place_fault (sym decls k).places (sym c.as_text.ensures k))
+    ∙ not_refused (place_fault c.self.inside.decls.places c.as_text.result.now) c.in-Ok.number c.in-Ok.ensures.refused in
+    let pushed = c.in_ok-push.ensures in
+    sym (ap owed (asked_cause_is s c.requires.sound u is (asked_at c.args.ask c.args.place.now)
+    c.requires.fits c.requires.form false false true
+    (grind (arith, nat_tests, less, len)) (room_is s.decls.places c.args.place.now c.requires.form room) pushed.follows))

@@ -52,4 +52,4 @@ pub use reader::Reader;
 #[doc(hidden)]
 pub use select::Attempt;
 pub use words::{Words, split_words};
-pub use writing::write_trace;
+pub use writing::{print_event, write_trace};

@@ -166,8 +166,9 @@ fn print_number<W: Write>(
     }
 }
 
-// Prints an event that fits.
-pub(crate) fn print_event<W: Write, A: Allocator>(
+/// Prints the line of an event that fits the declarations, behind whatever was printed on the page before. Takes no
+/// memory.
+pub fn print_event<W: Write, A: Allocator>(
     page: &mut Page,
     sink: &mut Sink<W>,
     decls: &Decls<A>,

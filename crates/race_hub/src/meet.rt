@@ -1,5 +1,5 @@
 //! Which two requests meet, and which event they make.
-ghost use Rattle.std.specs.Prelude.{ℕ, ◌≡◌, ◌<◌, ◌==◌, ◌&&◌, not, List, slice_get, Option, Some, IsTrue, IfSome};
+ghost use Rattle.std.specs.Prelude.{ℕ, ◌≡◌, ◌<◌, List, slice_get, Option, Some, IsTrue, IfSome};
 ghost use Rattle.race_records.specs.declared.kind.Kind.{Kind};
 ghost use Rattle.race_records.specs.declared.event.Event.{Event};
 ghost use Rattle.race_records.specs.Declarations.{capacity_of, count_of};

@@ -1,5 +1,5 @@
 //! Which requests can go on alone after the events so far, asked of a replay of these events.
-ghost use Rattle.std.specs.Prelude.{ℕ, ◌≡◌, ◌<◌, ◌==◌, ◌&&◌, List, length, IsTrue};
+ghost use Rattle.std.specs.Prelude.{◌≡◌, ◌<◌, ◌==◌, ◌&&◌, List, length, IsTrue};
 ghost use Rattle.race_records.specs.declared.event.Event.{Event};
 ghost use Rattle.race_records.specs.Declarations.{capacity_of, count_of};
 ghost use Rattle.race_legal.specs.ReplayState.{counts_in};

@@ -2,6 +2,7 @@
 ghost use Rattle.std.specs.Prelude.{◌≡◌, ◌+◌, ◌<◌, ◌≤◌, length, IfOk, OnOk};
 ghost use Rattle.race_model.specs.Legal.{IsLegal};
 ghost use Rattle.race_verdict.specs.Traces.{capacities};
+ghost use Rattle.race_clock.specs.ClockState.{knows};
 ghost use Rattle.race_shards.specs.Walking.{StandsAt};
 ghost use Rattle.race_shards.specs.Pairs.{is_known, is_early, races_on, IsSeenAt, IsFound};
 
@@ -142,6 +143,20 @@ impl<A: Allocator + Copy> Pair<A> {
         ensures { result ≡ self.now.second.stamp.at }
     {
         self.second.stamp.at
+    }
+
+    /// The first's goroutine.
+    pub(crate) fn first_who(&self) -> u32
+        ensures { result ≡ self.now.first.stamp.who }
+    {
+        self.first.stamp.who
+    }
+
+    /// How many of that goroutine's begins the second's clock counts.
+    pub(crate) fn seen_of_first(&self) -> u32
+        ensures { result ≡ knows self.now.second.clock self.now.first.stamp.who }
+    {
+        self.second.clock.knows(self.first.stamp.who)
     }
 
     /// Whether the stamp's access happens before either of the two.

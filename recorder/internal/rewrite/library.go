@@ -179,7 +179,7 @@ func (r *rewriter) foreignArgument(e *ast.CallExpr, f *types.Func, i int) {
 		if showFunctions[full] || encodeFunctions[full] || streamFunctions[full] {
 			r.result.Missed = append(r.result.Missed, full)
 		}
-	case streamFunctions[full] && i < 2 && !isSlice(t) && !spread:
+	case streamFunctions[full] && i < 2 && !(showFunctions[full] && i > 0) && !isSlice(t) && !spread:
 		call = "Stream"
 	case showFunctions[full] && spread, isSlice(t) && readsElements(f):
 		call = "Handed"

@@ -1,5 +1,5 @@
 //! The judge of a whole trace.
-ghost use Rattle.std.specs.Prelude.{◌≡◌, ◌≢◌, ◌↔◌, ◌<◌, ◌≤◌, true, false, length, IfOk, IfErr};
+ghost use Rattle.std.specs.Prelude.{◌≡◌, ◌≢◌, ◌↔◌, ◌+◌, ◌<◌, ◌≤◌, true, false, length, IfOk, IfErr};
 ghost use Rattle.race_verdict.specs.Traces.{HasVerdict};
 ghost use Rattle.race_verdict.specs.Verdicts.{verdict_of};
 ghost use Rattle.race_shards.specs.Limits.{is_shards, is_block, IsRefused};
@@ -46,6 +46,8 @@ fn end_of(at: usize, block: usize, len: usize) -> usize
     requires block { is_block block ≡ true }
     ensures later { at < result }
     ensures inside { result ≤ len }
+    ensures most { result ≤ at + block }
+    ensures full { result < len → result ≡ at + block }
 {
     if block < len - at { at + block } else { len }
 }

@@ -1,9 +1,9 @@
 //! What the workers share under the lock, and what each does there.
-ghost use Rattle.std.specs.Prelude.{◌≡◌, ◌≢◌, ◌≤◌, ◌⊎◌, [], Bool, Some, None, IfSome};
+ghost use Rattle.std.specs.Prelude.{◌≡◌, ◌≢◌, ◌≤◌, ◌⊎◌, [], Bool, true, false, Some, None, IfSome};
 ghost use Rattle.race_hub.specs.Hub.{end_of};
 ghost use Rattle.race_hub.specs.Job.{JobState};
 ghost use Rattle.race_hub.specs.Fires.{IsFired};
-ghost use Rattle.race_hub.specs.Submits.{Takes, Submits};
+ghost use Rattle.race_hub.specs.Submits.{Takes, Submits, is_stray};
 ghost use Rattle.race_record.specs.Stops.{rank};
 
 use race_hub::{Hub, Job, Routine, SubmitFault};
@@ -87,6 +87,8 @@ impl<R: Routine, A: Allocator + Copy> Shared<R, A> {
             → (end_of self.old.hub ≡ None) × Takes self.old.hub job self.new.hub }
         ensures fired { (two : Bool) → result ≡ Turn.Fired two → IsFired self.old.pick self.old.hub self.new.hub }
         ensures idle { (two : Bool) → result ≡ Turn.Fired two → self.old.hub.ready ≡ [] }
+        ensures stopped { self.old.stop ≢ None → result ≡ Turn.Leave }
+        ensures memory { self.old.stop ≡ None → IfSome self.new.stop (λ stop. stop ≡ Stop.OutOfMemory) }
         ensures wait { result ≡ Turn.Wait → (self.new.hub ≡ self.old.hub) × (end_of self.old.hub ≡ None) }
         ensures leave { result ≡ Turn.Leave
             → (self.new.hub ≡ self.old.hub) × ((end_of self.old.hub ≢ None) ⊎ (self.new.stop ≢ None)) }
@@ -103,6 +105,7 @@ impl<R: Routine, A: Allocator + Copy> Shared<R, A> {
     // The choice of the next pick happens, if there is one; each event uses up a pick.
     fn fire_next(&mut self) -> Turn<R, A>
         ensures run { (job : JobState R) → result ≢ Turn.Run job }
+        ensures memory { self.old.stop ≡ None → IfSome self.new.stop (λ stop. stop ≡ Stop.OutOfMemory) }
         ensures fired { (two : Bool) → result ≡ Turn.Fired two → IsFired self.old.pick self.old.hub self.new.hub }
         ensures wait { result ≡ Turn.Wait → (self.new.hub ≡ self.old.hub) × (end_of self.old.hub ≡ None) }
         ensures leave { result ≡ Turn.Leave
@@ -132,9 +135,30 @@ impl<R: Routine, A: Allocator + Copy> Shared<R, A> {
         len > 0 && lets_two_go_on(&trace.event(len - 1).op)
     }
 
-    /// Puts back a job that was taken and has asked since.
-    pub(crate) fn put_back(&mut self, job: Job<R, A>)
-        ensures { Submits self.old.hub job self.new.hub ⊎ ((self.new.hub ≡ self.old.hub) × (self.new.stop ≢ None)) }
+    /// Puts back a job that has asked since it was taken; or, where memory was refused to it, all workers are to leave, and the
+    /// hub counts it as out for ever.
+    pub(crate) fn settle(&mut self, job: Job<R, A>, refused: bool)
+        ensures refused { refused ≡ true → (self.new.hub ≡ self.old.hub) × (self.new.stop ≢ None) }
+        ensures back { refused ≡ false
+            → Submits self.old.hub job self.new.hub ⊎ ((self.new.hub ≡ self.old.hub) × (self.new.stop ≢ None)) }
+        ensures stray { refused ≡ false → self.old.stop ≡ None → is_stray self.old.hub job ≡ true
+            → self.new.stop ≡ Some Stop.Stray }
+        ensures memory { self.old.stop ≡ None → (refused ≡ true) ⊎ (is_stray self.old.hub job ≡ false)
+            → IfSome self.new.stop (λ stop. stop ≡ Stop.OutOfMemory) }
+    {
+        if refused {
+            self.leave_for(Stop::OutOfMemory);
+        } else {
+            self.put_back(job);
+        }
+    }
+
+    // Puts back a job that has asked since it was taken.
+    fn put_back(&mut self, job: Job<R, A>)
+        ensures back { Submits self.old.hub job self.new.hub ⊎ ((self.new.hub ≡ self.old.hub) × (self.new.stop ≢ None)) }
+        ensures stray { self.old.stop ≡ None → is_stray self.old.hub job ≡ true → self.new.stop ≡ Some Stop.Stray }
+        ensures memory { self.old.stop ≡ None → is_stray self.old.hub job ≡ false
+            → IfSome self.new.stop (λ stop. stop ≡ Stop.OutOfMemory) }
     {
         match self.hub.submit(job) {
             Ok(()) => {}
@@ -163,6 +187,8 @@ impl<R: Routine, A: Allocator + Copy> Shared<R, A> {
     pub(crate) fn leave_for(&mut self, why: Stop)
         ensures hub { self.new.hub ≡ self.old.hub }
         ensures stop { self.new.stop ≢ None }
+        ensures one { IfSome self.new.stop (λ stop. (stop ≡ why) ⊎ (self.old.stop ≡ Some stop)) }
+        ensures first { IfSome self.new.stop (λ stop. rank stop ≤ rank why) }
     {
         self.stop = Some(first_of(self.stop, why));
     }

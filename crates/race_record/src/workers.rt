@@ -1,5 +1,5 @@
 //! A recording on several threads.
-ghost use Rattle.std.specs.Prelude.{◌≡◌, ◌↔◌, length, false, Err, IfOk, IsTrue};
+ghost use Rattle.std.specs.Prelude.{◌≡◌, ◌≢◌, ◌↔◌, length, false, Some, Err, IfOk, IfErr, IsTrue};
 ghost use Rattle.race_records.specs.Equality.{declared};
 ghost use Rattle.race_record.specs.Recorded as spec;
 ghost use Rattle.race_record.specs.Recorded.{IsRecordingOf};
@@ -44,9 +44,7 @@ pub fn record<T: Threads + Wait + Sync, R: Routine, A: Allocator + Copy + Send>(
     }
     match recorded(rt, hub, workers, seed) {
         Ok(recording) => Ok(recording),
-        Err(Fault::NoThread) => Err(RecordFault::NoThread),
-        Err(Fault::OutOfMemory) => Err(RecordFault::OutOfMemory),
-        Err(Fault::Mismatch) => Err(RecordFault::Mismatch),
+        Err(fault) => Err(told(fault)),
     }
 }
 
@@ -65,6 +63,19 @@ enum Fault {
     Mismatch,
 }
 
+// The fault as a caller of `record` is told it.
+fn told(fault: Fault) -> RecordFault
+    ensures no_thread { (result ≡ RecordFault.NoThread) ↔ (fault ≡ Fault.NoThread) }
+    ensures memory { (result ≡ RecordFault.OutOfMemory) ↔ (fault ≡ Fault.OutOfMemory) }
+    ensures workers { result ≢ RecordFault.BadWorkers }
+{
+    match fault {
+        Fault::NoThread => RecordFault::NoThread,
+        Fault::OutOfMemory => RecordFault::OutOfMemory,
+        Fault::Mismatch => RecordFault::Mismatch,
+    }
+}
+
 // Runs the hub to its end on so many threads, of which there is one at least.
 fn recorded<T: Threads + Wait + Sync, R: Routine, A: Allocator + Copy + Send>(
     rt: &T,
@@ -80,14 +91,43 @@ fn recorded<T: Threads + Wait + Sync, R: Routine, A: Allocator + Copy + Send>(
     };
     let limit = hub.limit();
     let (hub, stop) = run_to_end(rt, hub, workers, seed);
+    left(hub, stop, &decls, limit)
+}
+
+// What the workers have left: the recording of a hub with these declarations and this limit, or why there is none.
+fn left<R: Drop, A: Allocator>(
+    hub: Hub<R, A>,
+    stop: Option<Stop>,
+    decls: &Decls<A>,
+    limit: u32,
+) -> Result<Recording<A>, Fault>
+    ensures recording { IfOk result (λ recording. IsRecordingOf hub recording) }
+    ensures declared { IfOk result (λ _. declared hub.decls ≡ declared decls.now) }
+    ensures limit { IfOk result (λ _. hub.limit ≡ limit) }
+    ensures no_thread { (result ≡ Err Fault.NoThread) ↔ (stop ≡ Some Stop.NoThread) }
+    ensures memory { (result ≡ Err Fault.OutOfMemory) ↔ (stop ≡ Some Stop.OutOfMemory) }
+{
     match stop {
-        Some(Stop::NoThread) => return Err(Fault::NoThread),
-        Some(Stop::OutOfMemory) => return Err(Fault::OutOfMemory),
+        Some(Stop::NoThread) => Err(Fault::NoThread),
+        Some(Stop::OutOfMemory) => Err(Fault::OutOfMemory),
         // A hub with a job that is out gives no recording.
-        Some(Stop::Stray) => {}
-        None => {}
+        Some(Stop::Stray) => given(hub, decls, limit),
+        None => given(hub, decls, limit),
     }
-    if !is_same(&hub, &decls, limit) {
+}
+
+// The recording of a hub with these declarations and this limit.
+fn given<R: Drop, A: Allocator>(
+    hub: Hub<R, A>,
+    decls: &Decls<A>,
+    limit: u32,
+) -> Result<Recording<A>, Fault>
+    ensures recording { IfOk result (λ recording. IsRecordingOf hub recording) }
+    ensures declared { IfOk result (λ _. declared hub.decls ≡ declared decls.now) }
+    ensures limit { IfOk result (λ _. hub.limit ≡ limit) }
+    ensures fault { IfErr result (λ fault. fault ≡ Fault.Mismatch) }
+{
+    if !is_same(&hub, decls, limit) {
         return Err(Fault::Mismatch);
     }
     match finished(hub) {
@@ -178,11 +218,5 @@ fn go_on<T: Wait, R: Routine, A: Allocator + Copy>(
 ) {
     let mut job = job;
     let refused = job.turn().is_err();
-    let mut guard = shared.lock(rt);
-    if refused {
-        // The hub counts the job as out for ever.
-        guard.leave_for(Stop::OutOfMemory);
-    } else {
-        guard.put_back(job);
-    }
+    shared.lock(rt).settle(job, refused);
 }

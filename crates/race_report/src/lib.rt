@@ -10,5 +10,5 @@ mod witness_lines;
 pub use edge_lines::write_edges;
 pub use fault::write_text_fault;
 pub use race_records::WriteFault;
-pub use verdict::{print_report, write_report};
+pub use verdict::{access_word, print_race, print_race_count, print_report, write_report};
 pub use witness_lines::write_witness;

@@ -123,9 +123,9 @@ fn print_illegal<W: Write>(
     page.put_all(sink, &parts)
 }
 
-/// Prints how many variables have a race.
+/// Prints on a page how many variables have a race, behind whatever was printed on it before. Takes no memory.
 #[tactic(auto, unfolding(crate::specs::Report::races_line))]
-fn print_race_count<W: Write>(
+pub fn print_race_count<W: Write>(
     page: &mut Page,
     sink: &mut Sink<W>,
     count: usize,
@@ -161,8 +161,10 @@ fn print_races<W: Write, A: Allocator, B: Allocator>(
     print_race_count(page, sink, races.as_slice().len())
 }
 
-/// Prints a race.
-fn print_race<W: Write, A: Allocator>(
+/// Prints the line of a race on a page, behind whatever was printed on it before. Takes no memory.
+///
+/// The race is of this trace.
+pub fn print_race<W: Write, A: Allocator>(
     page: &mut Page,
     sink: &mut Sink<W>,
     trace: &Trace<A>,
@@ -224,8 +226,8 @@ fn access_words<A: Allocator>(trace: &Trace<A>, index: usize) -> AccessWords<'_>
     }
 }
 
-/// What an access does, in a word.
-pub(crate) fn access_word(op: &Op) -> &'static str
+/// What an access does, in a word; of another operation there is none.
+pub fn access_word(op: &Op) -> &'static str
     ensures { result.now ≡ spec.access_word op.now }
 {
     match op {

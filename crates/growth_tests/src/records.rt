@@ -207,21 +207,18 @@ impl Growing for Call {
         heap: &RefusingHeap<Global>,
         nth: u64,
     ) -> Reply {
-        let traces = (
-            traced(heap, DECLARED, EVENTS),
-            traced(heap, DECLARED, EVENTS),
-        );
-        match traces {
-            (Some(mut trace), Some(twin)) => {
-                heap.refuse(nth);
-                match self {
-                    Call::Copy => copy(&trace, &twin),
-                    Call::Reserve => reserve(&mut trace, &twin),
-                    Call::Push => push(&mut trace, &twin),
-                    Call::AddPlace => add_place(&mut trace, &twin),
-                }
-            }
-            _ => Reply::Wrong,
+        let Some(mut trace) = traced(heap, DECLARED, EVENTS) else {
+            return Reply::Wrong;
+        };
+        let Some(twin) = traced(heap, DECLARED, EVENTS) else {
+            return Reply::Wrong;
+        };
+        heap.refuse(nth);
+        match self {
+            Call::Copy => copy(&trace, &twin),
+            Call::Reserve => reserve(&mut trace, &twin),
+            Call::Push => push(&mut trace, &twin),
+            Call::AddPlace => add_place(&mut trace, &twin),
         }
     }
 }

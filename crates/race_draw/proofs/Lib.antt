@@ -1,2 +1,0 @@
-pub mod WaySteps
-pub mod LayoutLemmas

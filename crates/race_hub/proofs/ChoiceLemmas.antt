@@ -1,7 +1,7 @@
 -- What a listed choice is: who takes part in its event, and what each is told.
 use Rattle.std.proofs.Common.{◌≡◌, ◌==◌, ℕ, zero, suc, ◌<◌, ◌≤◌, ◌+◌, ◌-◌, ◌%◌, ◌++◌, ◌&&◌}
 use Rattle.std.proofs.Common.{◌⊎◌, Bool, true, false, cond, List, [], ◌∷◌, map, filter}
-use Rattle.std.proofs.Common.{flat_map, length}
+use Rattle.std.proofs.Common.{flat_map, length, option_map}
 use Rattle.std.proofs.Common.{All}
 use Rattle.std.proofs.Common.{Option, Some, None, is_none, refl, sym, ap, ◌∙◌, subst, inl, inr, arith, slice_get, eqb-true, eq-eqb, true≢false}
 use Rattle.std.specs.List.{range_with_len}
@@ -23,11 +23,12 @@ use Rattle.race_hub.specs.declared.request.Ask.{Ask}
 use Rattle.race_hub.specs.declared.request.Offer.{Offer}
 use Rattle.race_hub.specs.declared.request.Waiter.{Waiter}
 use Rattle.race_hub.specs.Offers.{chan_of, case_of}
-use Rattle.race_hub.specs.Table.{offers_of, done_by, IsOffered, IsOfferedFault, IsRow}
+use Rattle.race_hub.specs.Table.{offers_of, done_by, told_sender, told_receiver, chosen, told_plain, IsRow}
 use Rattle.race_hub.specs.Choices.{choice, lone_op, offer_at, op_of, meet_op, lone_event, meet_event, event_of, is_legal_next, is_choice}
 use Rattle.race_hub.specs.Choices.{ways, below, with_partner, of_way, tuples}
 use Rattle.race_hub.specs.Choices.{ways_at, tuples_of, choices}
 use Rattle.race_hub.specs.Fires.{IsPartnerRow}
+use Rattle.race_hub.proofs.RowLemmas.{told_same, told_both, told_same_two, at_first, at_offer, at_default}
 use Rattle.race_hub.specs.Firing.{HasSomeRows}
 
 pub some_is : {X : Type 0} {x y : X} → Some x ≡ Some y → x ≡ y
@@ -94,37 +95,34 @@ record HasTold (ask : Ask) (k g : ℕ) (op : Op) : Type 0 where
 
 -- so it does of an offer that is asked alone, and of a select by that offer
 record HasOffered (o : Offer) (op : Op) : Type 0 where
-  row : ((got : Option ℕ) × IsOffered o op got) ⊎ IsOfferedFault o op
+  told : Option Answer
+  row : told_plain o op ≡ Some told
 
 chosen_told : (offers : List Offer) (has_default : Bool) (k g : ℕ) (o : Offer) (op : Op) → slice_get offers k ≡ Some o → HasOffered o (done_by g op)
     → HasTold (Ask.Select offers has_default) k g op
-chosen_told offers has_default k g o op there has = elim has.row [
-  | inl (got, offered) ↦ record { told = Some (Answer.Chosen k got); row = inl (o, there, inl (got, offered, refl)) }
-  | inr fault ↦ record { told = None; row = inl (o, there, inr (fault, refl)) }
-]
+chosen_told offers has_default k g o op there has =
+    record { told = option_map (chosen k) has.told; row = at_offer offers has_default k o (done_by g op) has.told there has.row }
 
 offered_alone : (past : List Event) (g : ℕ) (o : Offer) (op : Op) → lone_op past o ≡ Some op → HasOffered o (done_by g op)
 offered_alone past g (Offer.Send None v) op is = absurd (none-some op is)
 offered_alone past g (Offer.Send (Some c) v) op is = subst (λ op. HasOffered (Offer.Send (Some c) v) (done_by g op)) (some_is is) (by (is_closed c past))
   where
     by : (closed : Bool) → HasOffered (Offer.Send (Some c) v) (done_by g (cond closed (Fault (SendClosed c)) (Send c v)))
-    by true = record { row = inr (c, refl, refl) }
-    by false = record { row = inl (None, (c, refl, refl, refl)) }
+    by true = record { told = None; row = told_same c None }
+    by false = record { told = Some Answer.Unit; row = told_same_two c v (Some Answer.Unit) }
 offered_alone past g (Offer.Recv None) op is = absurd (none-some op is)
 offered_alone past g (Offer.Recv (Some c)) op is = subst (λ op. HasOffered (Offer.Recv (Some c)) (done_by g op)) (some_is is) (by (front c past))
   where
     by : (waits : Option ℕ) → HasOffered (Offer.Recv (Some c)) (done_by g (elim waits [ Some v ↦ Recv c v | None ↦ RecvClosed c ]))
-    by (Some v) = record { row = inl (Some v, (c, refl, inl (v, refl, refl))) }
-    by None = record { row = inl (None, (c, refl, inr (refl, refl))) }
+    by (Some v) = record { told = Some (Answer.Value v); row = told_same c (Some (Answer.Value v)) }
+    by None = record { told = Some Answer.Closed; row = told_same c (Some Answer.Closed) }
 
 -- a select by its offer k, or by its default where it has one
 select_told : (past : List Event) (g k : ℕ) (offers : List Offer) (has_default by_default : Bool) (op : Op)
     → (has_default && (k == length offers)) ≡ by_default
     → cond by_default (Some (Default (map case_of offers))) (offer_at offers k (lone_op past)) ≡ Some op → HasTold (Ask.Select offers has_default) k g op
-select_told past g k offers true true op test is =
-    subst (HasTold (Ask.Select offers true) k g) (some_is is)
-    (record { told = Some Answer.DefaultTaken; row = inr (refl, eqb-true k (length offers) test, refl, refl) })
-select_told past g k offers false true op test is = absurd (true≢false (sym test))
+select_told past g k offers has_default true op test is =
+    subst (HasTold (Ask.Select offers has_default) k g) (some_is is) (record { told = Some Answer.DefaultTaken; row = at_default offers has_default k test })
 select_told past g k offers has_default false op test is = by (slice_get offers k) refl is
   where
     by : (o : Option Offer) → slice_get offers k ≡ o → elim o [ Some o ↦ lone_op past o | None ↦ None ] ≡ Some op
@@ -138,65 +136,82 @@ second_way k later less = grind (arith, nat_tests)
 
 module _ (past : List Event) (g k : ℕ) where
   sent_told : (c v : ℕ) (closed : Bool) → k ≡ 0 → HasTold (Ask.Send (Some c) v) k g (cond closed (Fault (SendClosed c)) (Send c v))
-  sent_told c v true first = record { told = None; row = (first, inr ((c, refl, refl), refl)) }
-  sent_told c v false first = record { told = Some Answer.Unit; row = (first, inl (None, (c, refl, refl, refl), refl)) }
+  sent_told c v true first = record { told = None; row = at_first k _ None first (told_same c None) }
+  sent_told c v false first = record { told = Some Answer.Unit; row = at_first k _ _ first (told_same_two c v (Some Answer.Unit)) }
 
   received_told : (c : ℕ) (waits : Option ℕ) → k ≡ 0 → HasTold (Ask.Recv (Some c)) k g (elim waits [ Some v ↦ Recv c v | None ↦ RecvClosed c ])
-  received_told c (Some v) first = record { told = Some (Answer.Value v); row = (first, Some v, (c, refl, inl (v, refl, refl)), refl) }
-  received_told c None first = record { told = Some Answer.Closed; row = (first, None, (c, refl, inr (refl, refl)), refl) }
+  received_told c (Some v) first = record { told = Some (Answer.Value v); row = at_first k _ _ first (told_same c (Some (Answer.Value v))) }
+  received_told c None first = record { told = Some Answer.Closed; row = at_first k _ _ first (told_same c (Some Answer.Closed)) }
 
   closed_told : (c : ℕ) (closed : Bool) → k ≡ 0 → HasTold (Ask.Close (Some c)) k g (cond closed (Fault (CloseClosed c)) (Close c))
-  closed_told c true first = record { told = None; row = (first, inl (c, refl, inr (refl, refl))) }
-  closed_told c false first = record { told = Some Answer.Unit; row = (first, inl (c, refl, inl (refl, refl))) }
+  closed_told c true first = record { told = None; row = at_first k _ None first (told_same c None) }
+  closed_told c false first = record { told = Some Answer.Unit; row = at_first k _ _ first (told_same c (Some Answer.Unit)) }
 
   unlocked_told : (l : ℕ) (held : Bool) → k ≡ 0 → HasTold (Ask.Unlock l) k g (cond held (Unlock l) (Fault (UnlockFree l)))
-  unlocked_told l true first = record { told = Some Answer.Unit; row = (first, inl (refl, refl)) }
-  unlocked_told l false first = record { told = None; row = (first, inr (refl, refl)) }
+  unlocked_told l true first = record { told = Some Answer.Unit; row = at_first k _ _ first (told_same l (Some Answer.Unit)) }
+  unlocked_told l false first = record { told = None; row = at_first k _ None first (told_same l None) }
 
   runlocked_told : (l : ℕ) (held : Bool) → k ≡ 0 → HasTold (Ask.RUnlock l) k g (cond held (RUnlock l) (Fault (RUnlockFree l)))
-  runlocked_told l true first = record { told = Some Answer.Unit; row = (first, inl (refl, refl)) }
-  runlocked_told l false first = record { told = None; row = (first, inr (refl, refl)) }
+  runlocked_told l true first = record { told = Some Answer.Unit; row = at_first k _ _ first (told_same l (Some Answer.Unit)) }
+  runlocked_told l false first = record { told = None; row = at_first k _ None first (told_same l None) }
 
   tried_told : (l : ℕ) (first : Bool) → (k == 0) ≡ first → k < 2 → HasTold (Ask.TryLock l) k g (cond first (TryLock l) (TryFail l))
-  tried_told l true first less = record { told = Some (Answer.Tried true); row = inl (eqb-true k 0 first, refl, refl) }
-  tried_told l false first less = record { told = Some (Answer.Tried false); row = inr (second_way k first less, refl, refl) }
+  tried_told l true first less =
+      record { told = Some (Answer.Tried true); row = told_both (k == 0) (l == l) (Some (Answer.Tried true)) first (eq-eqb l) }
+  tried_told l false first less =
+      record {
+        told = Some (Answer.Tried false);
+        row = told_both (k == 1) (l == l) (Some (Answer.Tried false)) (ap (λ n. n == 1) (second_way k first less)) (eq-eqb l);
+      }
 
   rtried_told : (l : ℕ) (first : Bool) → (k == 0) ≡ first → k < 2 → HasTold (Ask.TryRLock l) k g (cond first (TryRLock l) (TryFail l))
-  rtried_told l true first less = record { told = Some (Answer.Tried true); row = inl (eqb-true k 0 first, refl, refl) }
-  rtried_told l false first less = record { told = Some (Answer.Tried false); row = inr (second_way k first less, refl, refl) }
+  rtried_told l true first less =
+      record { told = Some (Answer.Tried true); row = told_both (k == 0) (l == l) (Some (Answer.Tried true)) first (eq-eqb l) }
+  rtried_told l false first less =
+      record {
+        told = Some (Answer.Tried false);
+        row = told_both (k == 1) (l == l) (Some (Answer.Tried false)) (ap (λ n. n == 1) (second_way k first less)) (eq-eqb l);
+      }
 
   did_told : (o : ℕ) (begun : Bool) → k ≡ 0 → HasTold (Ask.Do o) k g (cond begun (OnceDone o) (OnceBegin o))
-  did_told o true first = record { told = Some Answer.AlreadyDone; row = (first, inr (refl, refl)) }
-  did_told o false first = record { told = Some Answer.Run; row = (first, inl (refl, refl)) }
+  did_told o true first = record { told = Some Answer.AlreadyDone; row = at_first k _ _ first (told_same o (Some Answer.AlreadyDone)) }
+  did_told o false first = record { told = Some Answer.Run; row = at_first k _ _ first (told_same o (Some Answer.Run)) }
 
   -- what a request does alone has a row
   lone_told : (ask : Ask) (op : Op) → k < ways ask → op_of past ask k ≡ Some op → HasTold ask k g op
-  lone_told (Ask.Go h) op less is = subst (HasTold (Ask.Go h) k g) (some_is is) (record { told = Some Answer.Unit; row = (omega (arith, less), refl, refl) })
-  lone_told Ask.Exit op less is = subst (HasTold Ask.Exit k g) (some_is is) (record { told = None; row = (omega (arith, less), refl, refl) })
+  lone_told (Ask.Go h) op less is =
+      subst (HasTold (Ask.Go h) k g) (some_is is)
+      (record { told = Some Answer.Unit; row = at_first k _ _ (omega (arith, less)) (told_same h (Some Answer.Unit)) })
+  lone_told Ask.Exit op less is =
+      subst (HasTold Ask.Exit k g) (some_is is) (record { told = None; row = at_first k (Some None) None (omega (arith, less)) refl })
   lone_told (Ask.Read x) op less is =
-      subst (HasTold (Ask.Read x) k g) (some_is is)
-      (record { told = Some (Answer.Value (last_value x past)); row = (omega (arith, less), last_value x past, refl, refl) })
+      let value = Some (Answer.Value (last_value x past)) in
+      subst (HasTold (Ask.Read x) k g) (some_is is) (record { told = value; row = at_first k _ _ (omega (arith, less)) (told_same x value) })
   lone_told (Ask.Write x v) op less is =
-      subst (HasTold (Ask.Write x v) k g) (some_is is) (record { told = Some Answer.Unit; row = (omega (arith, less), refl, refl) })
+      subst (HasTold (Ask.Write x v) k g) (some_is is)
+      (record { told = Some Answer.Unit; row = at_first k _ _ (omega (arith, less)) (told_same_two x v (Some Answer.Unit)) })
   lone_told (Ask.Send None v) op less is = absurd (none-some op is)
   lone_told (Ask.Send (Some c) v) op less is = subst (HasTold (Ask.Send (Some c) v) k g) (some_is is) (sent_told c v (is_closed c past) (omega (arith, less)))
   lone_told (Ask.Recv None) op less is = absurd (none-some op is)
   lone_told (Ask.Recv (Some c)) op less is = subst (HasTold (Ask.Recv (Some c)) k g) (some_is is) (received_told c (front c past) (omega (arith, less)))
   lone_told (Ask.Close None) op less is =
-      subst (HasTold (Ask.Close None) k g) (some_is is) (record { told = None; row = (omega (arith, less), inr (refl, refl, refl)) })
+      subst (HasTold (Ask.Close None) k g) (some_is is) (record { told = None; row = at_first k (Some None) None (omega (arith, less)) refl })
   lone_told (Ask.Close (Some c)) op less is = subst (HasTold (Ask.Close (Some c)) k g) (some_is is) (closed_told c (is_closed c past) (omega (arith, less)))
   lone_told (Ask.Select offers has_default) op less is = select_told past g k offers has_default (has_default && (k == length offers)) op refl is
   lone_told (Ask.Lock l) op less is =
-      subst (HasTold (Ask.Lock l) k g) (some_is is) (record { told = Some Answer.Unit; row = (omega (arith, less), refl, refl) })
+      subst (HasTold (Ask.Lock l) k g) (some_is is)
+      (record { told = Some Answer.Unit; row = at_first k _ _ (omega (arith, less)) (told_same l (Some Answer.Unit)) })
   lone_told (Ask.RLock l) op less is =
-      subst (HasTold (Ask.RLock l) k g) (some_is is) (record { told = Some Answer.Unit; row = (omega (arith, less), refl, refl) })
+      subst (HasTold (Ask.RLock l) k g) (some_is is)
+      (record { told = Some Answer.Unit; row = at_first k _ _ (omega (arith, less)) (told_same l (Some Answer.Unit)) })
   lone_told (Ask.Unlock l) op less is = subst (HasTold (Ask.Unlock l) k g) (some_is is) (unlocked_told l (is_held l past) (omega (arith, less)))
   lone_told (Ask.RUnlock l) op less is = subst (HasTold (Ask.RUnlock l) k g) (some_is is) (runlocked_told l (is_read_held l past) (omega (arith, less)))
   lone_told (Ask.TryLock l) op less is = subst (HasTold (Ask.TryLock l) k g) (some_is is) (tried_told l (k == 0) refl less)
   lone_told (Ask.TryRLock l) op less is = subst (HasTold (Ask.TryRLock l) k g) (some_is is) (rtried_told l (k == 0) refl less)
   lone_told (Ask.Do o) op less is = subst (HasTold (Ask.Do o) k g) (some_is is) (did_told o (is_begun o past) (omega (arith, less)))
   lone_told (Ask.EndDo o) op less is =
-      subst (HasTold (Ask.EndDo o) k g) (some_is is) (record { told = Some Answer.Unit; row = (omega (arith, less), refl, refl) })
+      subst (HasTold (Ask.EndDo o) k g) (some_is is)
+      (record { told = Some Answer.Unit; row = at_first k _ _ (omega (arith, less)) (told_same o (Some Answer.Unit)) })
 
 -- the operation of two offers, where there are both
 abbrev pub meets_by : ℕ → Option Offer → Option Offer → Option Op
@@ -234,10 +249,13 @@ record HasAnswer (ask : Ask) (k : ℕ) (op : Op) : Type 0 where
 
 sender_has : (ask : Ask) (k c v : ℕ) → slice_get (offers_of ask) k ≡ Some (Offer.Send (Some c) v) → HasAnswer ask k (Send c v)
 sender_has (Ask.Select offers has_default) k c v is =
-    record { answer = Answer.Chosen k None; row = inl (Offer.Send (Some c) v, is, inl (None, (c, refl, refl, refl), refl)) }
+    record {
+      answer = Answer.Chosen k None;
+      row = at_offer offers has_default k (Offer.Send (Some c) v) (Send c v) (Some Answer.Unit) is (told_same_two c v (Some Answer.Unit));
+    }
 sender_has (Ask.Send d u) zero c v is =
     let same : (d ≡ Some c) × (u ≡ v) = (ap chan_of (some_is is), ap value_of (some_is is)) in
-    record { answer = Answer.Unit; row = (refl, inl (None, (c, same.0, ap (Send c) (sym same.1), refl), refl)) }
+    record { answer = Answer.Unit; row = (λ i. told_sender (same.0 i) (same.1 i) (Send c v)) ∙ told_same_two c v (Some Answer.Unit) }
   where
     value_of : Offer → ℕ
     value_of (Offer.Send c v) = v
@@ -250,9 +268,15 @@ sender_has _ k c v is = absurd (none-some _ is)
 -- so is who offers to receive
 receiver_has : (ask : Ask) (k c v : ℕ) → slice_get (offers_of ask) k ≡ Some (Offer.Recv (Some c)) → HasAnswer ask k (Recv c v)
 receiver_has (Ask.Select offers has_default) k c v is =
-    record { answer = Answer.Chosen k (Some v); row = inl (Offer.Recv (Some c), is, inl (Some v, (c, refl, inl (v, refl, refl)), refl)) }
+    record {
+      answer = Answer.Chosen k (Some v);
+      row = at_offer offers has_default k (Offer.Recv (Some c)) (Recv c v) (Some (Answer.Value v)) is (told_same c (Some (Answer.Value v)));
+    }
 receiver_has (Ask.Recv d) zero c v is =
-    record { answer = Answer.Value v; row = (refl, Some v, (c, ap chan_of (some_is is), inl (v, refl, refl)), refl) }
+    record {
+      answer = Answer.Value v;
+      row = ap (λ e. told_receiver e (Recv c v)) (ap chan_of (some_is is)) ∙ told_same c (Some (Answer.Value v));
+    }
 receiver_has (Ask.Send d u) zero c v is = absurd cc
 receiver_has (Ask.Send d u) (suc k) c v is = absurd (none-some _ is)
 receiver_has (Ask.Recv d) (suc k) c v is = absurd (none-some _ is)

@@ -81,7 +81,8 @@ module _ (decls : DeclsState) where
   by_offer past (Some (Offer.Send None v)) op is made = absurd (none-some op made)
   by_offer past (Some (Offer.Send (Some c) v)) op is made =
       subst (OpFits decls) (some_is made) (by_test (is_closed c past) (Fault (SendClosed c)) (Send c v)
-      (record { range = and_true _ is; known = in_first decls.version; lock = refl; one_place = refl }) (record { range = and_true _ is; known = in_first decls.version; lock = refl; one_place = refl }))
+      (record { range = and_true _ is; known = in_first decls.version; lock = refl; one_place = refl })
+      (record { range = and_true _ is; known = in_first decls.version; lock = refl; one_place = refl }))
   by_offer past (Some (Offer.Recv None)) op is made = absurd (none-some op made)
   by_offer past (Some (Offer.Recv (Some c))) op is made = subst (OpFits decls) (some_is made) (by_front c (front c past) is)
 
@@ -96,30 +97,48 @@ module _ (decls : DeclsState) where
   -- what a request in range does alone fits
   lone_fits : (past : List Event) (ask : Ask) (k : ℕ) (op : Op) → ask_is_in_range (counts_of decls.declarations) ask ≡ true
       → has_ask decls.version ask ≡ true → lock_suits decls ask ≡ true → op_of past ask k ≡ Some op → OpFits decls op
-  lone_fits past (Ask.Go h) k op is known suits made = subst (OpFits decls) (some_is made) (record { range = and_true _ is; known = in_first decls.version; lock = refl; one_place = refl })
-  lone_fits past Ask.Exit k op is known suits made = subst (OpFits decls) (some_is made) (record { range = refl; known = in_first decls.version; lock = refl; one_place = refl })
-  lone_fits past (Ask.Read x) k op is known suits made = subst (OpFits decls) (some_is made) (record { range = and_true _ is; known = in_first decls.version; lock = refl; one_place = refl })
-  lone_fits past (Ask.Write x v) k op is known suits made = subst (OpFits decls) (some_is made) (record { range = and_true _ is; known = in_first decls.version; lock = refl; one_place = refl })
+  lone_fits past (Ask.Go h) k op is known suits made =
+      subst (OpFits decls) (some_is made)
+      (record { range = and_true _ is; known = in_first decls.version; lock = refl; one_place = refl })
+  lone_fits past Ask.Exit k op is known suits made =
+      subst (OpFits decls) (some_is made)
+      (record { range = refl; known = in_first decls.version; lock = refl; one_place = refl })
+  lone_fits past (Ask.Read x) k op is known suits made =
+      subst (OpFits decls) (some_is made)
+      (record { range = and_true _ is; known = in_first decls.version; lock = refl; one_place = refl })
+  lone_fits past (Ask.Write x v) k op is known suits made =
+      subst (OpFits decls) (some_is made)
+      (record { range = and_true _ is; known = in_first decls.version; lock = refl; one_place = refl })
   lone_fits past (Ask.Send None v) k op is known suits made = absurd (none-some op made)
   lone_fits past (Ask.Send (Some c) v) k op is known suits made =
       subst (OpFits decls) (some_is made) (by_test (is_closed c past) (Fault (SendClosed c)) (Send c v)
-      (record { range = and_true _ is; known = in_first decls.version; lock = refl; one_place = refl }) (record { range = and_true _ is; known = in_first decls.version; lock = refl; one_place = refl }))
+      (record { range = and_true _ is; known = in_first decls.version; lock = refl; one_place = refl })
+      (record { range = and_true _ is; known = in_first decls.version; lock = refl; one_place = refl }))
   lone_fits past (Ask.Recv None) k op is known suits made = absurd (none-some op made)
   lone_fits past (Ask.Recv (Some c)) k op is known suits made = subst (OpFits decls) (some_is made) (by_front c (front c past) is)
-  lone_fits past (Ask.Close None) k op is known suits made = subst (OpFits decls) (some_is made) (record { range = refl; known = in_first decls.version; lock = refl; one_place = refl })
+  lone_fits past (Ask.Close None) k op is known suits made =
+      subst (OpFits decls) (some_is made)
+      (record { range = refl; known = in_first decls.version; lock = refl; one_place = refl })
   lone_fits past (Ask.Close (Some c)) k op is known suits made =
       subst (OpFits decls) (some_is made) (by_test (is_closed c past) (Fault (CloseClosed c)) (Close c)
-      (record { range = and_true _ is; known = in_first decls.version; lock = refl; one_place = refl }) (record { range = and_true _ is; known = in_first decls.version; lock = refl; one_place = refl }))
+      (record { range = and_true _ is; known = in_first decls.version; lock = refl; one_place = refl })
+      (record { range = and_true _ is; known = in_first decls.version; lock = refl; one_place = refl }))
   lone_fits past (Ask.Select offers has_default) k op is known suits made =
       by_select past offers k (has_default && (k == length offers)) op (offers_in_range (counts_of decls.declarations) offers has_default is) made
-  lone_fits past (Ask.Lock l) k op is known suits made = subst (OpFits decls) (some_is made) (record { range = and_true _ is; known = in_first decls.version; lock = refl; one_place = refl })
+  lone_fits past (Ask.Lock l) k op is known suits made =
+      subst (OpFits decls) (some_is made)
+      (record { range = and_true _ is; known = in_first decls.version; lock = refl; one_place = refl })
   lone_fits past (Ask.Unlock l) k op is known suits made =
       subst (OpFits decls) (some_is made) (by_test (is_held l past) (Unlock l) (Fault (UnlockFree l))
-      (record { range = and_true _ is; known = in_first decls.version; lock = refl; one_place = refl }) (record { range = and_true _ is; known = in_first decls.version; lock = refl; one_place = refl }))
-  lone_fits past (Ask.RLock l) k op is known suits made = subst (OpFits decls) (some_is made) (record { range = and_true _ is; known = in_first decls.version; lock = suits; one_place = refl })
+      (record { range = and_true _ is; known = in_first decls.version; lock = refl; one_place = refl })
+      (record { range = and_true _ is; known = in_first decls.version; lock = refl; one_place = refl }))
+  lone_fits past (Ask.RLock l) k op is known suits made =
+      subst (OpFits decls) (some_is made)
+      (record { range = and_true _ is; known = in_first decls.version; lock = suits; one_place = refl })
   lone_fits past (Ask.RUnlock l) k op is known suits made =
       subst (OpFits decls) (some_is made) (by_test (is_read_held l past) (RUnlock l) (Fault (RUnlockFree l))
-      (record { range = and_true _ is; known = in_first decls.version; lock = suits; one_place = refl }) (record { range = and_true _ is; known = in_first decls.version; lock = suits; one_place = refl }))
+      (record { range = and_true _ is; known = in_first decls.version; lock = suits; one_place = refl })
+      (record { range = and_true _ is; known = in_first decls.version; lock = suits; one_place = refl }))
   lone_fits past (Ask.TryLock l) k op is known suits made =
       subst (OpFits decls) (some_is made) (by_test (k == 0) (TryLock l) (TryFail l)
       (record { range = and_true _ is; known = known; lock = refl; one_place = refl })
@@ -130,8 +149,11 @@ module _ (decls : DeclsState) where
       (record { range = and_true _ is; known = known; lock = refl; one_place = refl }))
   lone_fits past (Ask.Do o) k op is known suits made =
       subst (OpFits decls) (some_is made) (by_test (is_begun o past) (OnceDone o) (OnceBegin o)
-      (record { range = and_true _ is; known = in_first decls.version; lock = refl; one_place = refl }) (record { range = and_true _ is; known = in_first decls.version; lock = refl; one_place = refl }))
-  lone_fits past (Ask.EndDo o) k op is known suits made = subst (OpFits decls) (some_is made) (record { range = and_true _ is; known = in_first decls.version; lock = refl; one_place = refl })
+      (record { range = and_true _ is; known = in_first decls.version; lock = refl; one_place = refl })
+      (record { range = and_true _ is; known = in_first decls.version; lock = refl; one_place = refl }))
+  lone_fits past (Ask.EndDo o) k op is known suits made =
+      subst (OpFits decls) (some_is made)
+      (record { range = and_true _ is; known = in_first decls.version; lock = refl; one_place = refl })
 
   all_hold : (a b c d e f : Bool) → a ≡ true → b ≡ true → c ≡ true → d ≡ true → e ≡ true → f ≡ true → ((a && b && c && d) && (e && f)) ≡ true
   all_hold a b c d e f p q r s t u = rw (p, q, r, s, t, u) refl

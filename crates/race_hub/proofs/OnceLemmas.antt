@@ -1,13 +1,14 @@
 -- How often a goroutine stands in the lists of a hub, one step on.
 use Rattle.std.proofs.Common.{◌≡◌, ◌≢◌, ◌==◌, ◌||◌, ◌&&◌, not, ℕ, zero, suc, ◌<◌, ◌≤◌, ◌+◌, ◌-◌, ◌++◌, nat_lt, Bool, true, false, cond, if◌then◌else◌, List}
 use Rattle.std.proofs.Common.{[], ◌∷◌}
-use Rattle.std.proofs.Common.{length, take, Option, Some, None, refl, sym, ap, ◌∙◌, subst, arith, slice_get, true≢false, take_all, inl, inr}
+use Rattle.std.proofs.Common.{length, take, Option, Some, None, refl, sym, ap, ◌∙◌, subst, arith, slice_get, true≢false, take_all, inl, inr, ◌⊎◌, option_map}
 use Rattle.std.specs.List.{remove, count_by}
 use Rattle.std.specs.Prelude.{is_some}
 use Rattle.std.proofs.Math.Bool.{or-false}
 use Rattle.std.proofs.lemmas.Bool.Decides.{nat_tests}
 use Rattle.std.proofs.lemmas.List.Sums.{sum_by-append, sum_by-cons, sum_by-remove, sum_by_push, sum_by-le-sum_by}
 use Rattle.std.proofs.lemmas.Option.{none-some, slice_get_within, get_or_from_slice_get}
+use Rattle.race_records.specs.declared.event.Cause.TheVariants.{SendClosed, CloseClosed, CloseNil, UnlockFree, RUnlockFree}
 use Rattle.race_records.specs.declared.event.Event.{Event}
 use Rattle.race_records.specs.declared.event.Op.{Op}
 use Rattle.race_records.specs.declared.event.Op.TheVariants.{Go, Exit, Read, Write, Send, Recv, Meet, RecvClosed, Close, Lock, Unlock, RLock, RUnlock}
@@ -25,7 +26,8 @@ use Rattle.race_hub.specs.declared.request.Ask.{Ask}
 use Rattle.race_hub.specs.declared.request.Offer.{Offer}
 use Rattle.race_hub.specs.declared.request.Waiter.{Waiter}
 use Rattle.race_hub.specs.Choices.{op_of, meet_op, offer_at, lone_event, meet_event, event_of}
-use Rattle.race_hub.specs.Table.{IsRow, done_by, offers_of}
+use Rattle.race_hub.specs.Table.{IsRow, done_by, offers_of, told_if, told_sender, told_receiver, told_closer, told_trier, told_rtrier, told_by, told_plain, chosen}
+use Rattle.race_hub.proofs.RowLemmas.{IsByOffer, IsByDefault, by_either, by_first}
 use Rattle.race_hub.specs.Job.{JobState, begun}
 use Rattle.race_hub.specs.Hub.{ParkedState}
 use Rattle.race_hub.specs.Fires.{without, partner_of, answered, goes_on, partner_goes_on, IsPartnerRow, started_by, begins, born_of, HasBox}
@@ -99,40 +101,76 @@ module _ {X : Type 0} (p : X → Bool) where
 abbrev pub leaves : Op → Bool
 leaves op = is_exit op || is_fault op
 
-by_row : (op did : Op) (told answer : Option Answer) → op ≡ did → told ≡ answer → is_some answer ≡ not (leaves did) → is_some told ≡ not (leaves op)
-by_row op did told answer o t is = ap is_some t ∙ is ∙ sym (ap (λ o. not (leaves o)) o)
+-- a test tells its answer or nothing
+by_test : (b : Bool) (answer told : Option Answer) (op : Op) → told_if b answer ≡ Some told → is_some answer ≡ not (leaves op)
+    → is_some told ≡ not (leaves op)
+by_test true answer told op row is = let same : answer ≡ told = cc in ap is_some (sym same) ∙ is
+by_test false answer told op row is = absurd cc
+
+sender_leaves : (c : Option ℕ) (v : ℕ) (op : Op) (told : Option Answer) → told_sender c v op ≡ Some told → is_some told ≡ not (leaves op)
+sender_leaves (Some c) v (Send d w) told row = by_test ((d == c) && (w == v)) (Some Answer.Unit) told _ row refl
+sender_leaves (Some c) v (Fault (SendClosed d)) told row = by_test (d == c) None told _ row refl
+sender_leaves _ v _ told row = absurd cc
+
+receiver_leaves : (c : Option ℕ) (op : Op) (told : Option Answer) → told_receiver c op ≡ Some told → is_some told ≡ not (leaves op)
+receiver_leaves (Some c) (Recv d v) told row = by_test (d == c) (Some (Answer.Value v)) told _ row refl
+receiver_leaves (Some c) (RecvClosed d) told row = by_test (d == c) (Some Answer.Closed) told _ row refl
+receiver_leaves _ _ told row = absurd cc
+
+closer_leaves : (c : Option ℕ) (op : Op) (told : Option Answer) → told_closer c op ≡ Some told → is_some told ≡ not (leaves op)
+closer_leaves (Some c) (Close d) told row = by_test (d == c) (Some Answer.Unit) told _ row refl
+closer_leaves (Some c) (Fault (CloseClosed d)) told row = by_test (d == c) None told _ row refl
+closer_leaves None (Fault CloseNil) told row = by_test true None told _ row refl
+closer_leaves _ _ told row = absurd cc
+
+trier_leaves : (l k : ℕ) (op : Op) (told : Option Answer) → told_trier l k op ≡ Some told → is_some told ≡ not (leaves op)
+trier_leaves l k (TryLock m) told row = by_test ((k == 0) && (m == l)) (Some (Answer.Tried true)) told _ row refl
+trier_leaves l k (TryFail m) told row = by_test ((k == 1) && (m == l)) (Some (Answer.Tried false)) told _ row refl
+trier_leaves l k _ told row = absurd cc
+
+rtrier_leaves : (l k : ℕ) (op : Op) (told : Option Answer) → told_rtrier l k op ≡ Some told → is_some told ≡ not (leaves op)
+rtrier_leaves l k (TryRLock m) told row = by_test ((k == 0) && (m == l)) (Some (Answer.Tried true)) told _ row refl
+rtrier_leaves l k (TryFail m) told row = by_test ((k == 1) && (m == l)) (Some (Answer.Tried false)) told _ row refl
+rtrier_leaves l k _ told row = absurd cc
+
+plain_leaves : (o : Offer) (op : Op) (told : Option Answer) → told_plain o op ≡ Some told → is_some told ≡ not (leaves op)
+plain_leaves (Offer.Send c v) op told row = sender_leaves c v op told row
+plain_leaves (Offer.Recv c) op told row = receiver_leaves c op told row
+
+selector_leaves : (offers : List Offer) (has_default : Bool) (k : ℕ) (op : Op) (told : Option Answer)
+    → IsByOffer offers has_default k op told ⊎ IsByDefault offers has_default k op told → is_some told ≡ not (leaves op)
+selector_leaves offers has_default k op told (inl is) =
+    ap is_some is.alone.told_is ∙ named is.alone.plain ∙ plain_leaves is.offer op is.alone.plain is.alone.row
+  where
+    named : (plain : Option Answer) → is_some (option_map (chosen k) plain) ≡ is_some plain
+    named None = refl
+    named (Some answer) = refl
+selector_leaves offers has_default k op told (inr is) = ap is_some is.told_is ∙ ap (λ o. not (leaves o)) (sym is.did)
+
+first_leaves : (ask : Ask) (op : Op) (told : Option Answer) → told_by ask op ≡ Some told → is_some told ≡ not (leaves op)
+first_leaves (Ask.Go h) (Go g) told row = by_test (g == h) (Some Answer.Unit) told _ row refl
+first_leaves Ask.Exit Exit told row = by_test true None told _ row refl
+first_leaves (Ask.Read x) (Read y v) told row = by_test (y == x) (Some (Answer.Value v)) told _ row refl
+first_leaves (Ask.Write x v) (Write y w) told row = by_test ((y == x) && (w == v)) (Some Answer.Unit) told _ row refl
+first_leaves (Ask.Send c v) op told row = sender_leaves c v op told row
+first_leaves (Ask.Recv c) op told row = receiver_leaves c op told row
+first_leaves (Ask.Close c) op told row = closer_leaves c op told row
+first_leaves (Ask.Lock l) (Lock m) told row = by_test (m == l) (Some Answer.Unit) told _ row refl
+first_leaves (Ask.Unlock l) (Unlock m) told row = by_test (m == l) (Some Answer.Unit) told _ row refl
+first_leaves (Ask.Unlock l) (Fault (UnlockFree m)) told row = by_test (m == l) None told _ row refl
+first_leaves (Ask.RLock l) (RLock m) told row = by_test (m == l) (Some Answer.Unit) told _ row refl
+first_leaves (Ask.RUnlock l) (RUnlock m) told row = by_test (m == l) (Some Answer.Unit) told _ row refl
+first_leaves (Ask.RUnlock l) (Fault (RUnlockFree m)) told row = by_test (m == l) None told _ row refl
+first_leaves (Ask.Do o) (OnceBegin p) told row = by_test (p == o) (Some Answer.Run) told _ row refl
+first_leaves (Ask.Do o) (OnceDone p) told row = by_test (p == o) (Some Answer.AlreadyDone) told _ row refl
+first_leaves (Ask.EndDo o) (OnceEnd p) told row = by_test (p == o) (Some Answer.Unit) told _ row refl
+first_leaves _ _ told row = absurd cc
 
 row_leaves : (ask : Ask) (k : ℕ) (op : Op) (told : Option Answer) → IsRow ask k op told → is_some told ≡ not (leaves op)
-row_leaves (Ask.Go h) k op told (z, o, t) = by_row op _ told _ o t refl
-row_leaves Ask.Exit k op told (z, o, t) = by_row op _ told _ o t refl
-row_leaves (Ask.Read x) k op told (z, v, o, t) = by_row op _ told _ o t refl
-row_leaves (Ask.Write x v) k op told (z, o, t) = by_row op _ told _ o t refl
-row_leaves (Ask.Send c v) k op told (z, inl (got, (d, e, o, n), t)) = by_row op _ told _ o t refl
-row_leaves (Ask.Send c v) k op told (z, inr ((d, e, o), t)) = by_row op _ told _ o t refl
-row_leaves (Ask.Recv c) k op told (z, got, (d, e, inl (v, o, n)), t) = by_row op _ told _ o t refl
-row_leaves (Ask.Recv c) k op told (z, got, (d, e, inr (o, n)), t) = by_row op _ told _ o t refl
-row_leaves (Ask.Close c) k op told (z, inl (d, e, inl (o, t))) = by_row op _ told _ o t refl
-row_leaves (Ask.Close c) k op told (z, inl (d, e, inr (o, t))) = by_row op _ told _ o t refl
-row_leaves (Ask.Close c) k op told (z, inr (n, o, t)) = by_row op _ told _ o t refl
-row_leaves (Ask.Select offers has_default) k op told (inl (Offer.Send c v, there, inl (got, (d, e, o, n), t))) = by_row op _ told _ o t refl
-row_leaves (Ask.Select offers has_default) k op told (inl (Offer.Send c v, there, inr ((d, e, o), t))) = by_row op _ told _ o t refl
-row_leaves (Ask.Select offers has_default) k op told (inl (Offer.Recv c, there, inl (got, (d, e, inl (v, o, n)), t))) = by_row op _ told _ o t refl
-row_leaves (Ask.Select offers has_default) k op told (inl (Offer.Recv c, there, inl (got, (d, e, inr (o, n)), t))) = by_row op _ told _ o t refl
-row_leaves (Ask.Select offers has_default) k op told (inl (Offer.Recv c, there, inr (never, t))) = absurd never
-row_leaves (Ask.Select offers has_default) k op told (inr (d, w, o, t)) = by_row op _ told _ o t refl
-row_leaves (Ask.Lock l) k op told (z, o, t) = by_row op _ told _ o t refl
-row_leaves (Ask.RLock l) k op told (z, o, t) = by_row op _ told _ o t refl
-row_leaves (Ask.Unlock l) k op told (z, inl (o, t)) = by_row op _ told _ o t refl
-row_leaves (Ask.Unlock l) k op told (z, inr (o, t)) = by_row op _ told _ o t refl
-row_leaves (Ask.RUnlock l) k op told (z, inl (o, t)) = by_row op _ told _ o t refl
-row_leaves (Ask.RUnlock l) k op told (z, inr (o, t)) = by_row op _ told _ o t refl
-row_leaves (Ask.TryLock l) k op told (inl (z, o, t)) = by_row op _ told _ o t refl
-row_leaves (Ask.TryLock l) k op told (inr (z, o, t)) = by_row op _ told _ o t refl
-row_leaves (Ask.TryRLock l) k op told (inl (z, o, t)) = by_row op _ told _ o t refl
-row_leaves (Ask.TryRLock l) k op told (inr (z, o, t)) = by_row op _ told _ o t refl
-row_leaves (Ask.Do o) k op told (z, inl (d, t)) = by_row op _ told _ d t refl
-row_leaves (Ask.Do o) k op told (z, inr (d, t)) = by_row op _ told _ d t refl
-row_leaves (Ask.EndDo o) k op told (z, d, t) = by_row op _ told _ d t refl
+row_leaves (Ask.Select offers has_default) k op told row = selector_leaves offers has_default k op told (by_either offers has_default k op told row)
+row_leaves (Ask.TryLock l) k op told row = trier_leaves l k op told row
+row_leaves (Ask.TryRLock l) k op told row = rtrier_leaves l k op told row
+row_leaves ask k op told row = first_leaves ask op told (by_first k (told_by ask op) told row).1
 
 done_leaves : (g : ℕ) (op : Op) → leaves (done_by g op) ≡ leaves op
 done_leaves g (Meet r c v) = by (r == g)

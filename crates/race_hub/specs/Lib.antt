@@ -1,5 +1,4 @@
 pub mod Table
-pub mod Told
 pub mod Choices
 pub mod Search
 pub mod Part

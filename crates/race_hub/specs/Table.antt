@@ -1,7 +1,9 @@
 -- The table of requests: what a goroutine that asks does in an event, and what it is told. (The Go Programming Language
 -- Specification, "Go statements",
 -- "Send statements", "Receive operator", "Close", "Select statements", "Run-time panics"; package sync)
-use Rattle.std.specs.Prelude.{ℕ, ◌≡◌, ◌==◌, ◌⊎◌, cond, Bool, true, false, Option, Some, None, List, [], ◌∷◌, length, map, slice_get}
+use Rattle.std.specs.Prelude.{ℕ, ◌≡◌, if◌then◌else◌, ◌==◌, ◌&&◌, cond, Bool, true, false, Option, Some, None, option_map, List, [], ◌∷◌}
+use Rattle.std.specs.Prelude.{length, map, slice_get}
+use Rattle.race_records.specs.Cases.{same_cases}
 use Rattle.race_records.specs.declared.event.Cause.TheVariants.{SendClosed, CloseClosed, CloseNil, UnlockFree, RUnlockFree}
 use Rattle.race_records.specs.declared.event.Event.{Event}
 use Rattle.race_records.specs.declared.event.Op.{Op}
@@ -29,59 +31,91 @@ done_by g op = op
 abbrev pub place_of : ℕ → Event → Option ℕ
 place_of g e = elim e.op [ Meet r c v ↦ cond (r == g) e.place2 (Some e.place) | _ ↦ Some e.place ]
 
--- by the offer the operation was done, and this value was received, if any
-abbrev pub IsOffered : Offer → Op → Option ℕ → Type 0
-IsOffered (Offer.Send c v) op got = (d : ℕ) × (c ≡ Some d) × (op ≡ Send d v) × (got ≡ None)
-IsOffered (Offer.Recv c) op got =
-    (d : ℕ) × (c ≡ Some d) × (((v : ℕ) × (op ≡ Recv d v) × (got ≡ Some v)) ⊎ ((op ≡ RecvClosed d) × (got ≡ None)))
+-- there is a row where the test passes, and it tells that
+abbrev pub told_if : Bool → Option Answer → Option (Option Answer)
+told_if test told = if test then Some told else None
 
--- the offer sends on a channel that was closed
-abbrev pub IsOfferedFault : Offer → Op → Type 0
-IsOfferedFault (Offer.Send c v) op = (d : ℕ) × (c ≡ Some d) × (op ≡ Fault (SendClosed d))
-IsOfferedFault (Offer.Recv c) op = ⊥
+-- what is told who asks to send
+abbrev pub told_sender : Option ℕ → ℕ → Op → Option (Option Answer)
+told_sender (Some c) v (Send d w) = told_if ((d == c) && (w == v)) (Some Answer.Unit)
+told_sender (Some c) v (Fault (SendClosed d)) = told_if (d == c) None
+told_sender _ _ _ = None
 
--- what a send or a receive is told
-abbrev pub plain_answer : Offer → Option ℕ → Answer
-plain_answer (Offer.Send c v) got = Answer.Unit
-plain_answer (Offer.Recv c) got = elim got [ Some v ↦ Answer.Value v | None ↦ Answer.Closed ]
+-- to receive
+abbrev pub told_receiver : Option ℕ → Op → Option (Option Answer)
+told_receiver (Some c) (Recv d v) = told_if (d == c) (Some (Answer.Value v))
+told_receiver (Some c) (RecvClosed d) = told_if (d == c) (Some Answer.Closed)
+told_receiver _ _ = None
 
--- the select went on by its offer k, and is told which that is, with the value that it received, if any; nothing after a fault
-abbrev pub IsChosen : List Offer → ℕ → Op → Option Answer → Type 0
-IsChosen offers k op told =
-    (o : Offer) × (slice_get offers k ≡ Some o)
-    × (((got : Option ℕ) × IsOffered o op got × (told ≡ Some (Answer.Chosen k got))) ⊎ (IsOfferedFault o op × (told ≡ None)))
+-- to close
+abbrev pub told_closer : Option ℕ → Op → Option (Option Answer)
+told_closer (Some c) (Close d) = told_if (d == c) (Some Answer.Unit)
+told_closer (Some c) (Fault (CloseClosed d)) = told_if (d == c) None
+told_closer None (Fault CloseNil) = Some None
+told_closer _ _ = None
 
--- the select took its default, whose way comes behind those of its offers
-abbrev pub IsDefault : List Offer → Bool → ℕ → Op → Option Answer → Type 0
-IsDefault offers has_default k op told =
-    (has_default ≡ true) × (k ≡ length offers) × (op ≡ Default (map case_of offers)) × (told ≡ Some Answer.DefaultTaken)
+-- to try to lock, by the way k: the lock is taken by way 0, and not by way 1
+abbrev pub told_trier : ℕ → ℕ → Op → Option (Option Answer)
+told_trier l k (TryLock m) = told_if ((k == 0) && (m == l)) (Some (Answer.Tried true))
+told_trier l k (TryFail m) = told_if ((k == 1) && (m == l)) (Some (Answer.Tried false))
+told_trier _ _ _ = None
 
--- a row of the table: who asks does the operation, by its way k, and is told that; nothing after an exit and a fault. Only a select
--- and a try have another way than 0: a try takes the lock by way 0, and not by way 1
+-- to try to lock for reading
+abbrev pub told_rtrier : ℕ → ℕ → Op → Option (Option Answer)
+told_rtrier l k (TryRLock m) = told_if ((k == 0) && (m == l)) (Some (Answer.Tried true))
+told_rtrier l k (TryFail m) = told_if ((k == 1) && (m == l)) (Some (Answer.Tried false))
+told_rtrier _ _ _ = None
+
+-- what is told who asks, but to select or to try, and did the operation; nothing after an exit and a fault
+abbrev pub told_by : Ask → Op → Option (Option Answer)
+told_by (Ask.Go h) (Go g) = told_if (g == h) (Some Answer.Unit)
+told_by Ask.Exit Exit = Some None
+told_by (Ask.Read x) (Read y v) = told_if (y == x) (Some (Answer.Value v))
+told_by (Ask.Write x v) (Write y w) = told_if ((y == x) && (w == v)) (Some Answer.Unit)
+told_by (Ask.Send c v) op = told_sender c v op
+told_by (Ask.Recv c) op = told_receiver c op
+told_by (Ask.Close c) op = told_closer c op
+told_by (Ask.Lock l) (Lock m) = told_if (m == l) (Some Answer.Unit)
+told_by (Ask.Unlock l) (Unlock m) = told_if (m == l) (Some Answer.Unit)
+told_by (Ask.Unlock l) (Fault (UnlockFree m)) = told_if (m == l) None
+told_by (Ask.RLock l) (RLock m) = told_if (m == l) (Some Answer.Unit)
+told_by (Ask.RUnlock l) (RUnlock m) = told_if (m == l) (Some Answer.Unit)
+told_by (Ask.RUnlock l) (Fault (RUnlockFree m)) = told_if (m == l) None
+told_by (Ask.Do o) (OnceBegin p) = told_if (p == o) (Some Answer.Run)
+told_by (Ask.Do o) (OnceDone p) = told_if (p == o) (Some Answer.AlreadyDone)
+told_by (Ask.EndDo o) (OnceEnd p) = told_if (p == o) (Some Answer.Unit)
+told_by _ _ = None
+
+-- what is told who asks by its offer k: which that is, with the value that was received, if any
+abbrev pub chosen : ℕ → Answer → Answer
+chosen k (Answer.Value v) = Answer.Chosen k (Some v)
+chosen k _ = Answer.Chosen k None
+
+-- what is told who asks that offer alone
+abbrev pub told_plain : Offer → Op → Option (Option Answer)
+told_plain (Offer.Send c v) op = told_sender c v op
+told_plain (Offer.Recv c) op = told_receiver c op
+
+-- what is told who asks to select and went on by that offer, which is its offer k
+abbrev pub told_offer : ℕ → Offer → Op → Option (Option Answer)
+told_offer k o op = option_map (option_map (chosen k)) (told_plain o op)
+
+-- what is told who asks to select and went on by its way k
+abbrev pub told_selector : List Offer → Bool → ℕ → Op → Option (Option Answer)
+told_selector offers has_default k (Default cases) =
+    told_if ((has_default && (k == length offers)) && same_cases cases (map case_of offers)) (Some Answer.DefaultTaken)
+told_selector offers has_default k op = elim (slice_get offers k) [ None ↦ None | Some o ↦ told_offer k o op ]
+
+-- what is told who asks and did the operation by its way k; None where no row has them. Only a select and a try have another way than 0
+abbrev pub told_at : Ask → ℕ → Op → Option (Option Answer)
+told_at (Ask.Select offers has_default) k op = told_selector offers has_default k op
+told_at (Ask.TryLock l) k op = told_trier l k op
+told_at (Ask.TryRLock l) k op = told_rtrier l k op
+told_at ask k op = if k == 0 then told_by ask op else None
+
+-- a row of the table: who asks does the operation, by its way k, and is told that; nothing after an exit and a fault
 abbrev pub IsRow : Ask → ℕ → Op → Option Answer → Type 0
-IsRow (Ask.Go h) k op told = (k ≡ 0) × (op ≡ Go h) × (told ≡ Some Answer.Unit)
-IsRow Ask.Exit k op told = (k ≡ 0) × (op ≡ Exit) × (told ≡ None)
-IsRow (Ask.Read x) k op told = (k ≡ 0) × (v : ℕ) × (op ≡ Read x v) × (told ≡ Some (Answer.Value v))
-IsRow (Ask.Write x v) k op told = (k ≡ 0) × (op ≡ Write x v) × (told ≡ Some Answer.Unit)
-IsRow (Ask.Send c v) k op told =
-    (k ≡ 0) × (((got : Option ℕ) × IsOffered (Offer.Send c v) op got × (told ≡ Some (plain_answer (Offer.Send c v) got)))
-    ⊎ (IsOfferedFault (Offer.Send c v) op × (told ≡ None)))
-IsRow (Ask.Recv c) k op told =
-    (k ≡ 0) × (got : Option ℕ) × IsOffered (Offer.Recv c) op got × (told ≡ Some (plain_answer (Offer.Recv c) got))
-IsRow (Ask.Close c) k op told =
-    (k ≡ 0) × (((d : ℕ) × (c ≡ Some d) × (((op ≡ Close d) × (told ≡ Some Answer.Unit)) ⊎ ((op ≡ Fault (CloseClosed d)) × (told ≡ None))))
-    ⊎ ((c ≡ None) × (op ≡ Fault CloseNil) × (told ≡ None)))
-IsRow (Ask.Select offers has_default) k op told = IsChosen offers k op told ⊎ IsDefault offers has_default k op told
-IsRow (Ask.Lock l) k op told = (k ≡ 0) × (op ≡ Lock l) × (told ≡ Some Answer.Unit)
-IsRow (Ask.RLock l) k op told = (k ≡ 0) × (op ≡ RLock l) × (told ≡ Some Answer.Unit)
-IsRow (Ask.Unlock l) k op told = (k ≡ 0) × (((op ≡ Unlock l) × (told ≡ Some Answer.Unit)) ⊎ ((op ≡ Fault (UnlockFree l)) × (told ≡ None)))
-IsRow (Ask.RUnlock l) k op told = (k ≡ 0) × (((op ≡ RUnlock l) × (told ≡ Some Answer.Unit)) ⊎ ((op ≡ Fault (RUnlockFree l)) × (told ≡ None)))
-IsRow (Ask.TryLock l) k op told =
-    ((k ≡ 0) × (op ≡ TryLock l) × (told ≡ Some (Answer.Tried true))) ⊎ ((k ≡ 1) × (op ≡ TryFail l) × (told ≡ Some (Answer.Tried false)))
-IsRow (Ask.TryRLock l) k op told =
-    ((k ≡ 0) × (op ≡ TryRLock l) × (told ≡ Some (Answer.Tried true))) ⊎ ((k ≡ 1) × (op ≡ TryFail l) × (told ≡ Some (Answer.Tried false)))
-IsRow (Ask.Do o) k op told = (k ≡ 0) × (((op ≡ OnceBegin o) × (told ≡ Some Answer.Run)) ⊎ ((op ≡ OnceDone o) × (told ≡ Some Answer.AlreadyDone)))
-IsRow (Ask.EndDo o) k op told = (k ≡ 0) × (op ≡ OnceEnd o) × (told ≡ Some Answer.Unit)
+IsRow ask k op told = told_at ask k op ≡ Some told
 
 -- the step fits the event, in which g takes part: the places are the same, and some way's row has both
 abbrev pub Fits : ℕ → Step → Event → Type 0

@@ -4,7 +4,7 @@ ghost use Rattle.race_hub.specs.declared.request.Answer.{Answer};
 ghost use Rattle.race_hub.specs.Choices.{ways};
 ghost use Rattle.race_hub.specs.Table as spec;
 ghost use Rattle.race_hub.specs.Table.{offers_of, done_by, IsRow, Fits, CanMake};
-ghost use Rattle.race_hub.specs.Told.{told_if, told_sender, told_receiver, told_closer, told_by, chosen, told_offer, told_selector, told_at};
+ghost use Rattle.race_hub.specs.Table.{told_if, told_sender, told_receiver, told_closer, told_by, chosen, told_offer, told_selector, told_at};
 
 use crate::possible::is_default_way;
 use crate::{Answer, Ask, Offer, Offers, Step};
@@ -212,8 +212,9 @@ fn tells_at(ask: &Ask, way: u32, done: &Op) -> Option<Option<Answer>>
     }
 }
 
-// What is told who asks and did its part of an event with this operation.
-fn tells_in(who: u32, ask: &Ask, way: u32, op: &Op) -> Option<Option<Answer>>
+/// What the goroutine is told that asks and takes part in an event with this operation, by its way of this number: `None`
+/// where the table has no such row, and `Some(None)` where it is told nothing, as after an exit and a fault.
+pub fn answer_of(who: u32, ask: &Ask, way: u32, op: &Op) -> Option<Option<Answer>>
     ensures { result ≡ told_at ask.now way (done_by who op.now) }
 {
     match op {
@@ -224,14 +225,6 @@ fn tells_in(who: u32, ask: &Ask, way: u32, op: &Op) -> Option<Option<Answer>>
         },
         _ => tells_at(ask, way, op),
     }
-}
-
-/// What the goroutine is told that asks and takes part in an event with this operation, by its way of this number: `None`
-/// where the table has no such row, and `Some(None)` where it is told nothing, as after an exit and a fault.
-pub fn answer_of(who: u32, ask: &Ask, way: u32, op: &Op) -> Option<Option<Answer>>
-    ensures { (told : Option Answer) → (result ≡ Some told) ↔ IsRow ask.now way (done_by who op.now) told }
-{
-    tells_in(who, ask, way, op)
 }
 
 // Where the goroutine stands in the event.

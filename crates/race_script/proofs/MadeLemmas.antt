@@ -1,5 +1,5 @@
 -- What was done in a step of a log, by its ask and its answer.
-use Rattle.std.proofs.Common.{◌≡◌, ℕ, ◌==◌, cond, Bool, true, false, List, Option, Some, None}
+use Rattle.std.proofs.Common.{◌≡◌, ℕ, ◌==◌, cond, Bool, true, false, List, Option, Some, None, slice_get}
 use Rattle.std.proofs.Common.{option_map, ◌⊎◌, ◌+◌, inl, inr, refl, sym, ap}
 use Rattle.std.proofs.Common.{subst, ◌∙◌}
 use Rattle.std.specs.Option.{option_and_then}
@@ -11,99 +11,134 @@ use Rattle.race_records.specs.declared.event.Op.TheVariants.{TryLock, TryRLock, 
 use Rattle.race_hub.specs.declared.request.Answer.{Answer}
 use Rattle.race_hub.specs.declared.request.Ask.{Ask}
 use Rattle.race_hub.specs.declared.request.Offer.{Offer}
-use Rattle.race_hub.specs.Table.{done_by, plain_answer, IsOffered, IsRow}
+use Rattle.race_hub.specs.Table.{done_by, IsRow, chosen, told_if, told_sender, told_receiver, told_closer, told_trier, told_rtrier, told_plain, told_by}
+use Rattle.race_hub.proofs.RowLemmas.{IsByOffer, IsByDefault, by_either, by_first, wanted, wanted_two}
 use Rattle.race_script.specs.Certificate.{after_event}
-use Rattle.race_script.specs.Course.{value_in, received, made_by_offer, made_by, made_in, FailsBy}
-
--- told something else, it did the same
-same_told : (ask : Ask) (a b : Answer) (op : Op) → Some a ≡ Some b → made_by ask b ≡ Some op → made_by ask a ≡ Some op
-same_told ask a b op is made = let same : a ≡ b = cc in ap (made_by ask) same ∙ made
-
-offer_made : (o : Offer) (op : Op) (got : Option ℕ) → IsOffered o op got → made_by_offer o got ≡ Some op
-offer_made (Offer.Send c v) op got (d, is, did, none) = ap (option_map (λ x. Send x v)) is ∙ ap Some (sym did)
-offer_made (Offer.Recv c) op got (d, is, inl (v, did, value)) = (λ i. option_map (λ x. received x (value i)) (is i)) ∙ ap Some (sym did)
-offer_made (Offer.Recv c) op got (d, is, inr (did, none)) = (λ i. option_map (λ x. received x (none i)) (is i)) ∙ ap Some (sym did)
-
--- what a receive is told has what it got
-value_got : (c : Option ℕ) (got : Option ℕ) → value_in (plain_answer (Offer.Recv c) got) ≡ got
-value_got c (Some v) = refl
-value_got c None = refl
-
--- where a row of the table has an ask with an answer, the operation is the one that was done
-pub told_made : (ask : Ask) (k : ℕ) (op : Op) (a : Answer) → IsRow ask k op (Some a) → made_by ask a ≡ Some op
-told_made (Ask.Go h) k op a row = ap Some (sym row.1)
-told_made Ask.Exit k op a row = absurd cc
-told_made (Ask.Read x) k op a (way, v, did, told) = same_told (Ask.Read x) a (Answer.Value v) op told (ap Some (sym did))
-told_made (Ask.Write x v) k op a row = ap Some (sym row.1)
-told_made (Ask.Send c v) k op a (way, inl (got, is, told)) =
-    ap (made_by_offer (Offer.Send c v)) (sym (sent_got c v op got is)) ∙ offer_made (Offer.Send c v) op got is where
-      sent_got : (c : Option ℕ) (v : ℕ) (op : Op) (got : Option ℕ) → IsOffered (Offer.Send c v) op got → got ≡ None
-      sent_got c v op got (d, is, did, none) = none
-told_made (Ask.Send c v) k op a (way, inr (fault, told)) = absurd cc
-told_made (Ask.Recv c) k op a (way, got, is, told) =
-    same_told (Ask.Recv c) a (plain_answer (Offer.Recv c) got) op told
-    (ap (made_by_offer (Offer.Recv c)) (value_got c got) ∙ offer_made (Offer.Recv c) op got is)
-told_made (Ask.Close c) k op a (way, inl (d, is, inl (did, told))) = ap (option_map Close) is ∙ ap Some (sym did)
-told_made (Ask.Close c) k op a (way, inl (d, is, inr (did, told))) = absurd cc
-told_made (Ask.Close c) k op a (way, inr (nil, did, told)) = absurd cc
-told_made (Ask.Select offers has_default) k op a (inl (o, at, inl (got, is, told))) =
-    same_told (Ask.Select offers has_default) a (Answer.Chosen k got) op told (ap (option_and_then (λ o. made_by_offer o got)) at ∙ offer_made o op got is)
-told_made (Ask.Select offers has_default) k op a (inl (o, at, inr (fault, told))) = absurd cc
-told_made (Ask.Select offers has_default) k op a (inr (has, behind, did, told)) =
-    same_told (Ask.Select offers has_default) a Answer.DefaultTaken op told (ap Some (sym did))
-told_made (Ask.Lock l) k op a row = ap Some (sym row.1)
-told_made (Ask.RLock l) k op a row = ap Some (sym row.1)
-told_made (Ask.Unlock l) k op a (way, inl (did, told)) = ap Some (sym did)
-told_made (Ask.Unlock l) k op a (way, inr (did, told)) = absurd cc
-told_made (Ask.RUnlock l) k op a (way, inl (did, told)) = ap Some (sym did)
-told_made (Ask.RUnlock l) k op a (way, inr (did, told)) = absurd cc
-told_made (Ask.TryLock l) k op a (inl (way, did, told)) = same_told (Ask.TryLock l) a (Answer.Tried true) op told (ap Some (sym did))
-told_made (Ask.TryLock l) k op a (inr (way, did, told)) = same_told (Ask.TryLock l) a (Answer.Tried false) op told (ap Some (sym did))
-told_made (Ask.TryRLock l) k op a (inl (way, did, told)) = same_told (Ask.TryRLock l) a (Answer.Tried true) op told (ap Some (sym did))
-told_made (Ask.TryRLock l) k op a (inr (way, did, told)) = same_told (Ask.TryRLock l) a (Answer.Tried false) op told (ap Some (sym did))
-told_made (Ask.Do o) k op a (way, inl (did, told)) = same_told (Ask.Do o) a Answer.Run op told (ap Some (sym did))
-told_made (Ask.Do o) k op a (way, inr (did, told)) = same_told (Ask.Do o) a Answer.AlreadyDone op told (ap Some (sym did))
-told_made (Ask.EndDo o) k op a row = ap Some (sym row.1)
+use Rattle.race_script.specs.Course.{made_by_offer, made_in, FailsBy}
 
 -- it fails by the cause of its run
 failed : (fault : Option Cause) (op : Op) (cause : Cause) → FailsBy fault op → op ≡ Fault cause → option_map Fault fault ≡ Some op
 failed fault op cause fails is = ap (option_map Fault) (fails cause is) ∙ ap Some (sym is)
 
--- and so it is where the row tells nothing
-untold_made : (ask : Ask) (k : ℕ) (op : Op) (fault : Option Cause) → IsRow ask k op None → FailsBy fault op → made_in ask None fault ≡ Some op
-untold_made (Ask.Go h) k op fault row fails = absurd cc
-untold_made Ask.Exit k op fault row fails = ap Some (sym row.1)
-untold_made (Ask.Read x) k op fault (way, v, did, told) fails = absurd cc
-untold_made (Ask.Write x v) k op fault row fails = absurd cc
-untold_made (Ask.Send c v) k op fault (way, inl (got, is, told)) fails = absurd cc
-untold_made (Ask.Send c v) k op fault (way, inr ((d, is, did), told)) fails = failed fault op (SendClosed d) fails did
-untold_made (Ask.Recv c) k op fault (way, got, is, told) fails = absurd cc
-untold_made (Ask.Close c) k op fault (way, inl (d, is, inl (did, told))) fails = absurd cc
-untold_made (Ask.Close c) k op fault (way, inl (d, is, inr (did, told))) fails = failed fault op (CloseClosed d) fails did
-untold_made (Ask.Close c) k op fault (way, inr (nil, did, told)) fails = failed fault op CloseNil fails did
-untold_made (Ask.Select offers has_default) k op fault (inl (o, at, inl (got, is, told))) fails = absurd cc
-untold_made (Ask.Select offers has_default) k op fault (inl (Offer.Send c v, at, inr ((d, is, did), told))) fails = failed fault op (SendClosed d) fails did
-untold_made (Ask.Select offers has_default) k op fault (inl (Offer.Recv c, at, inr (no_fault, told))) fails = absurd no_fault
-untold_made (Ask.Select offers has_default) k op fault (inr (has, behind, did, told)) fails = absurd cc
-untold_made (Ask.Lock l) k op fault row fails = absurd cc
-untold_made (Ask.RLock l) k op fault row fails = absurd cc
-untold_made (Ask.Unlock l) k op fault (way, inl (did, told)) fails = absurd cc
-untold_made (Ask.Unlock l) k op fault (way, inr (did, told)) fails = failed fault op (UnlockFree l) fails did
-untold_made (Ask.RUnlock l) k op fault (way, inl (did, told)) fails = absurd cc
-untold_made (Ask.RUnlock l) k op fault (way, inr (did, told)) fails = failed fault op (RUnlockFree l) fails did
-untold_made (Ask.TryLock l) k op fault (inl (way, did, told)) fails = absurd cc
-untold_made (Ask.TryLock l) k op fault (inr (way, did, told)) fails = absurd cc
-untold_made (Ask.TryRLock l) k op fault (inl (way, did, told)) fails = absurd cc
-untold_made (Ask.TryRLock l) k op fault (inr (way, did, told)) fails = absurd cc
-untold_made (Ask.Do o) k op fault (way, inl (did, told)) fails = absurd cc
-untold_made (Ask.Do o) k op fault (way, inr (did, told)) fails = absurd cc
-untold_made (Ask.EndDo o) k op fault row fails = absurd cc
+module _ (fault : Option Cause) where
+  -- the operation is the one that is made of the ask and what was told
+  abbrev IsMade : Ask → Option Answer → Op → Type 0
+  IsMade ask told op = made_in ask told fault ≡ Some op
+
+  as_told : (ask : Ask) (told answer : Option Answer) (op : Op) → told ≡ answer → IsMade ask answer op → IsMade ask told op
+  as_told ask told answer op same made = ap (λ t. made_in ask t fault) same ∙ made
+
+  sender_made : (c : Option ℕ) (v : ℕ) (op : Op) (told : Option Answer) → told_sender c v op ≡ Some told → FailsBy fault op → IsMade (Ask.Send c v) told op
+  sender_made (Some c) v (Send d w) told row fails =
+      let p = wanted_two d c w v (Some Answer.Unit) told row in
+      as_told (Ask.Send (Some c) v) told (Some Answer.Unit) (Send d w) p.2 (λ i. Some (Send (sym p.0 i) (sym p.1 i)))
+  sender_made (Some c) v (Fault (SendClosed d)) told row fails =
+      as_told (Ask.Send (Some c) v) told None (Fault (SendClosed d)) (wanted d c None told row).1 (failed fault _ (SendClosed d) fails refl)
+  sender_made _ v _ told row fails = absurd cc
+
+  receiver_made : (c : Option ℕ) (op : Op) (told : Option Answer) → told_receiver c op ≡ Some told → IsMade (Ask.Recv c) told op
+  receiver_made (Some c) (Recv d v) told row =
+      let p = wanted d c (Some (Answer.Value v)) told row in
+      as_told (Ask.Recv (Some c)) told (Some (Answer.Value v)) (Recv d v) p.1 (ap (λ e. Some (Recv e v)) (sym p.0))
+  receiver_made (Some c) (RecvClosed d) told row =
+      let p = wanted d c (Some Answer.Closed) told row in
+      as_told (Ask.Recv (Some c)) told (Some Answer.Closed) (RecvClosed d) p.1 (ap (λ e. Some (RecvClosed e)) (sym p.0))
+  receiver_made _ _ told row = absurd cc
+
+  closer_made : (c : Option ℕ) (op : Op) (told : Option Answer) → told_closer c op ≡ Some told → FailsBy fault op → IsMade (Ask.Close c) told op
+  closer_made (Some c) (Close d) told row fails =
+      let p = wanted d c (Some Answer.Unit) told row in
+      as_told (Ask.Close (Some c)) told (Some Answer.Unit) (Close d) p.1 (ap (λ e. Some (Close e)) (sym p.0))
+  closer_made (Some c) (Fault (CloseClosed d)) told row fails =
+      as_told (Ask.Close (Some c)) told None (Fault (CloseClosed d)) (wanted d c None told row).1 (failed fault _ (CloseClosed d) fails refl)
+  closer_made None (Fault CloseNil) told row fails = as_told (Ask.Close None) told None (Fault CloseNil) cc (failed fault _ CloseNil fails refl)
+  closer_made _ _ told row fails = absurd cc
+
+  trier_made : (l k : ℕ) (op : Op) (told : Option Answer) → told_trier l k op ≡ Some told → IsMade (Ask.TryLock l) told op
+  trier_made l k (TryLock m) told row =
+      let p = wanted_two k 0 m l (Some (Answer.Tried true)) told row in
+      as_told (Ask.TryLock l) told (Some (Answer.Tried true)) (TryLock m) p.2 (ap (λ n. Some (TryLock n)) (sym p.1))
+  trier_made l k (TryFail m) told row =
+      let p = wanted_two k 1 m l (Some (Answer.Tried false)) told row in
+      as_told (Ask.TryLock l) told (Some (Answer.Tried false)) (TryFail m) p.2 (ap (λ n. Some (TryFail n)) (sym p.1))
+  trier_made l k _ told row = absurd cc
+
+  rtrier_made : (l k : ℕ) (op : Op) (told : Option Answer) → told_rtrier l k op ≡ Some told → IsMade (Ask.TryRLock l) told op
+  rtrier_made l k (TryRLock m) told row =
+      let p = wanted_two k 0 m l (Some (Answer.Tried true)) told row in
+      as_told (Ask.TryRLock l) told (Some (Answer.Tried true)) (TryRLock m) p.2 (ap (λ n. Some (TryRLock n)) (sym p.1))
+  rtrier_made l k (TryFail m) told row =
+      let p = wanted_two k 1 m l (Some (Answer.Tried false)) told row in
+      as_told (Ask.TryRLock l) told (Some (Answer.Tried false)) (TryFail m) p.2 (ap (λ n. Some (TryFail n)) (sym p.1))
+  rtrier_made l k _ told row = absurd cc
+
+  -- what is made of an offer that a select went on by
+  offer_made : (offers : List Offer) (has_default : Bool) (k : ℕ) (o : Offer) (op : Op) (plain : Option Answer) → slice_get offers k ≡ Some o
+      → told_plain o op ≡ Some plain → FailsBy fault op → IsMade (Ask.Select offers has_default) (option_map (chosen k) plain) op
+  offer_made offers has_default k (Offer.Send (Some c) v) (Send d w) plain there row fails =
+      let p = wanted_two d c w v (Some Answer.Unit) plain row in
+      as_told (Ask.Select offers has_default) _ (Some (Answer.Chosen k None)) (Send d w) (ap (option_map (chosen k)) p.2)
+      (ap (option_and_then (λ o. made_by_offer o None)) there ∙ (λ i. Some (Send (sym p.0 i) (sym p.1 i))))
+  offer_made offers has_default k (Offer.Send (Some c) v) (Fault (SendClosed d)) plain there row fails =
+      as_told (Ask.Select offers has_default) _ None (Fault (SendClosed d)) (ap (option_map (chosen k)) (wanted d c None plain row).1)
+      (failed fault _ (SendClosed d) fails refl)
+  offer_made offers has_default k (Offer.Recv (Some c)) (Recv d v) plain there row fails =
+      let p = wanted d c (Some (Answer.Value v)) plain row in
+      as_told (Ask.Select offers has_default) _ (Some (Answer.Chosen k (Some v))) (Recv d v) (ap (option_map (chosen k)) p.1)
+      (ap (option_and_then (λ o. made_by_offer o (Some v))) there ∙ ap (λ e. Some (Recv e v)) (sym p.0))
+  offer_made offers has_default k (Offer.Recv (Some c)) (RecvClosed d) plain there row fails =
+      let p = wanted d c (Some Answer.Closed) plain row in
+      as_told (Ask.Select offers has_default) _ (Some (Answer.Chosen k None)) (RecvClosed d) (ap (option_map (chosen k)) p.1)
+      (ap (option_and_then (λ o. made_by_offer o None)) there ∙ ap (λ e. Some (RecvClosed e)) (sym p.0))
+  offer_made offers has_default k (Offer.Send _ v) _ plain there row fails = absurd cc
+  offer_made offers has_default k (Offer.Recv _) _ plain there row fails = absurd cc
+
+  selector_made : (offers : List Offer) (has_default : Bool) (k : ℕ) (op : Op) (told : Option Answer)
+      → IsByOffer offers has_default k op told ⊎ IsByDefault offers has_default k op told → FailsBy fault op
+      → IsMade (Ask.Select offers has_default) told op
+  selector_made offers has_default k op told (inl is) fails =
+      as_told (Ask.Select offers has_default) told _ op is.alone.told_is
+      (offer_made offers has_default k is.offer op is.alone.plain is.there is.alone.row fails)
+  selector_made offers has_default k op told (inr is) fails =
+      as_told (Ask.Select offers has_default) told (Some Answer.DefaultTaken) op is.told_is (ap Some (sym is.did))
+
+  -- the operation with its one number, by which the row is found
+  on_made : (ask : Ask) (op_on : ℕ → Op) (m n : ℕ) (answer told : Option Answer) → told_if (m == n) answer ≡ Some told → IsMade ask answer (op_on n)
+      → IsMade ask told (op_on m)
+  on_made ask op_on m n answer told row made =
+      let p = wanted m n answer told row in as_told ask told answer (op_on m) p.1 (made ∙ ap (λ x. Some (op_on x)) (sym p.0))
+
+  first_made : (ask : Ask) (op : Op) (told : Option Answer) → told_by ask op ≡ Some told → FailsBy fault op → IsMade ask told op
+  first_made (Ask.Go h) (Go g) told row fails = on_made (Ask.Go h) Go g h (Some Answer.Unit) told row refl
+  first_made Ask.Exit Exit told row fails = as_told Ask.Exit told None Exit cc refl
+  first_made (Ask.Read x) (Read y v) told row fails = on_made (Ask.Read x) (λ z. Read z v) y x (Some (Answer.Value v)) told row refl
+  first_made (Ask.Write x v) (Write y w) told row fails =
+      let p = wanted_two y x w v (Some Answer.Unit) told row in
+      as_told (Ask.Write x v) told (Some Answer.Unit) (Write y w) p.2 (λ i. Some (Write (sym p.0 i) (sym p.1 i)))
+  first_made (Ask.Send c v) op told row fails = sender_made c v op told row fails
+  first_made (Ask.Recv c) op told row fails = receiver_made c op told row
+  first_made (Ask.Close c) op told row fails = closer_made c op told row fails
+  first_made (Ask.Lock l) (Lock m) told row fails = on_made (Ask.Lock l) Lock m l (Some Answer.Unit) told row refl
+  first_made (Ask.Unlock l) (Unlock m) told row fails = on_made (Ask.Unlock l) Unlock m l (Some Answer.Unit) told row refl
+  first_made (Ask.Unlock l) (Fault (UnlockFree m)) told row fails =
+      as_told (Ask.Unlock l) told None (Fault (UnlockFree m)) (wanted m l None told row).1 (failed fault _ (UnlockFree m) fails refl)
+  first_made (Ask.RLock l) (RLock m) told row fails = on_made (Ask.RLock l) RLock m l (Some Answer.Unit) told row refl
+  first_made (Ask.RUnlock l) (RUnlock m) told row fails = on_made (Ask.RUnlock l) RUnlock m l (Some Answer.Unit) told row refl
+  first_made (Ask.RUnlock l) (Fault (RUnlockFree m)) told row fails =
+      as_told (Ask.RUnlock l) told None (Fault (RUnlockFree m)) (wanted m l None told row).1 (failed fault _ (RUnlockFree m) fails refl)
+  first_made (Ask.Do o) (OnceBegin p) told row fails = on_made (Ask.Do o) OnceBegin p o (Some Answer.Run) told row refl
+  first_made (Ask.Do o) (OnceDone p) told row fails = on_made (Ask.Do o) OnceDone p o (Some Answer.AlreadyDone) told row refl
+  first_made (Ask.EndDo o) (OnceEnd p) told row fails = on_made (Ask.EndDo o) OnceEnd p o (Some Answer.Unit) told row refl
+  first_made _ _ told row fails = absurd cc
 
 -- the operation of a row is the one that was done in a step with its ask and its answer
 pub row_made : (ask : Ask) (k : ℕ) (op : Op) (told : Option Answer) (fault : Option Cause) → IsRow ask k op told → FailsBy fault op
     → made_in ask told fault ≡ Some op
-row_made ask k op (Some a) fault row fails = told_made ask k op a row
-row_made ask k op None fault row fails = untold_made ask k op fault row fails
+row_made (Ask.Select offers has_default) k op told fault row fails =
+    selector_made fault offers has_default k op told (by_either offers has_default k op told row) fails
+row_made (Ask.TryLock l) k op told fault row fails = trier_made fault l k op told row
+row_made (Ask.TryRLock l) k op told fault row fails = rtrier_made fault l k op told row
+row_made ask k op told fault row fails = first_made fault ask op told (by_first k (told_by ask op) told row).1 fails
 
 -- what a goroutine did in an event is the event's operation, but for a meet
 done_or_meet : (g : ℕ) (op : Op) → (done_by g op ≡ op) ⊎ ((r : ℕ) × (c : ℕ) × (v : ℕ) × (op ≡ Meet r c v))

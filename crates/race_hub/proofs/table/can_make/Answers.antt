@@ -1,18 +1,18 @@
 -- A row that holds by some way holds by one of those that are tried.
-use Rattle.std.proofs.Common.{◌≡◌, ◌∙◌, ◌↔◌, ℕ, true, true≢false, Option, Some, None, is_some, inl, inr, refl, sym, ap, subst, arith}
+use Rattle.std.proofs.Common.{◌≡◌, ◌∙◌, ℕ, true, true≢false, Option, Some, None, is_some, inl, inr, refl, sym, ap, subst, arith}
 use Rattle.std.proofs.lemmas.Bool.{cases_lt}
 use Rattle.race_records.specs.declared.event.Op.{Op}
 use Rattle.race_hub.specs.declared.request.Answer.{Answer}
 use Rattle.race_hub.specs.declared.request.Ask.{Ask}
-use Rattle.race_hub.specs.Table.{IsRow, done_by}
+use Rattle.race_hub.specs.Table.{IsRow, done_by, told_at}
 use Rattle.race_hub.proofs.RowLemmas.{way_within}
 use Rattle.race_hub.proofs.table.can_make.Goals as goal
 
 -- where there is an answer there is a row
-some_row : (ask : Ask) (k : ℕ) (op : Op) (row : Option (Option Answer)) → ((told : Option Answer) → (row ≡ Some told) ↔ IsRow ask k op told)
-    → is_some row ≡ true → (k : ℕ) × (told : Option Answer) × IsRow ask k op told
-some_row ask k op None rows is = absurd cc
-some_row ask k op (Some told) rows is = (k, told, (rows told).0 refl)
+some_row : (ask : Ask) (k : ℕ) (op : Op) (row : Option (Option Answer)) → row ≡ told_at ask k op → is_some row ≡ true
+    → (k : ℕ) × (told : Option Answer) × IsRow ask k op told
+some_row ask k op None row is = absurd cc
+some_row ask k op (Some told) row is = (k, told, sym row)
 
 pub loop-way-preserved : goal.loop-way-preserved
 loop-way-preserved c k told less row = elim (cases_lt k c.loop-way.way) [
@@ -20,7 +20,7 @@ loop-way-preserved c k told less row = elim (cases_lt k c.loop-way.way) [
   | inr late ↦
       let same : k ≡ c.loop-way.way = omega (arith, less, late) in
       let holds = subst (λ n. IsRow c.args.ask.now n (done_by c.args.who c.args.op.now) told) same row in
-      absurd (true≢false (sym (ap is_some ((c.answer_of.ensures told).1 holds)) ∙ sym c.is_some.ensures ∙ c.if-is_some.false))
+      absurd (true≢false (sym (ap is_some (c.answer_of.ensures ∙ holds)) ∙ sym c.is_some.ensures ∙ c.if-is_some.false))
 ]
 
 pub returns-then-is_some : goal.returns-then-is_some

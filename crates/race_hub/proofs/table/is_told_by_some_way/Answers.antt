@@ -13,12 +13,12 @@ loop-way-preserved c k less row =
       | inr late ↦
           let same : k ≡ c.loop-way.way = omega (arith, less, late) in
           let holds = subst (λ n. IsRow c.args.step.now.asked.ask n (done_by c.args.who c.args.op.now) told) same row in
-          absurd (true≢false (sym (c.is_told.ensures.1 ((c.answer_of.ensures told).1 holds)) ∙ c.if-is_told.false))
+          absurd (true≢false (sym (c.is_told.ensures.1 (c.answer_of.ensures ∙ holds)) ∙ c.if-is_told.false))
     ]
 
 pub returns-then-is_told : goal.returns-then-is_told
 returns-then-is_told c =
-    (λ _. (c.loop-way.way, (c.answer_of.ensures c.args.step.now.told).0 (c.is_told.ensures.0 c.if-is_told.true)), λ _. refl)
+    (λ _. (c.loop-way.way, sym c.answer_of.ensures ∙ c.is_told.ensures.0 c.if-is_told.true), λ _. refl)
 
 pub returns : goal.returns
 returns c = (

@@ -3,9 +3,9 @@ use Rattle.std.proofs.Common.{◌≡◌, ◌==◌, ◌&&◌, ℕ, ◌%◌, Bool,
 use Rattle.std.specs.List.{list_any}
 use Rattle.std.proofs.lemmas.Bool.Decides.{nat_tests}
 use Rattle.std.proofs.lemmas.Option.{slice_get_within}
-use Rattle.race_hub.specs.declared.choice.Choice.{Choice}
+use Rattle.race_requests.specs.declared.choice.Choice.{Choice}
 use Rattle.race_hub.specs.declared.ending.End.{End}
-use Rattle.race_hub.specs.Search.{picked}
+use Rattle.race_requests.specs.Search.{picked}
 use Rattle.race_hub.specs.Hub.{HubState, stop_of, end_of, is_deadlock, choices_of}
 
 end_by : (stop : Option End) (dead : Bool) → stop ≡ None → dead ≡ false

@@ -10,15 +10,15 @@ use Rattle.race_records.specs.declared.event.Event.{Event}
 use Rattle.race_records.specs.Declarations.{DeclsState}
 use Rattle.race_model.specs.Events.{is_exit, is_fault, has_exited}
 use Rattle.race_model.proofs.CountSteps.{as_number, has_exited_push}
-use Rattle.race_hub.specs.declared.request.Answer.{Answer}
-use Rattle.race_hub.specs.declared.request.Ask.{Ask}
-use Rattle.race_hub.specs.declared.request.Step.{Step}
-use Rattle.race_hub.specs.declared.request.Waiter.{Waiter}
+use Rattle.race_requests.specs.declared.request.Answer.{Answer}
+use Rattle.race_requests.specs.declared.request.Ask.{Ask}
+use Rattle.race_requests.specs.declared.request.Step.{Step}
+use Rattle.race_requests.specs.declared.request.Waiter.{Waiter}
 use Rattle.race_hub.specs.Hub.{ParkedState, HubState}
 use Rattle.race_hub.specs.Fires.{is_through, with_step}
 use Rattle.race_hub.specs.Kept.{is_active, has_failed, has_left, StandOnce}
 use Rattle.race_hub.specs.Recording.{others_of, HasBadRequest}
-use Rattle.race_hub.specs.Submits.{asks_to_start, is_sound, is_out_of_turn, is_bad_among}
+use Rattle.race_requests.specs.Sound.{asks_to_start, is_sound, is_out_of_turn, is_bad_among}
 use Rattle.race_hub.proofs.OnceLemmas.{count_one, count_cons, has_failed_push}
 
 pub not_not : (b : Bool) → not (not b) ≡ b

@@ -13,8 +13,8 @@ use Rattle.race_model.specs.State.{started}
 use Rattle.race_model.proofs.CountSteps.{as_number}
 use Rattle.race_model.proofs.Indexes.{at_below}
 use Rattle.race_hub.specs.declared.ending.End.{End}
-use Rattle.race_hub.specs.declared.request.Step.{Step}
-use Rattle.race_hub.specs.declared.request.Waiter.{Waiter}
+use Rattle.race_requests.specs.declared.request.Step.{Step}
+use Rattle.race_requests.specs.declared.request.Waiter.{Waiter}
 use Rattle.race_hub.specs.Part.{IsPart}
 use Rattle.race_hub.specs.Hub.{ParkedState, HubState, stop_by, stop_of, end_of, is_deadlock, choices_of}
 use Rattle.race_hub.specs.Job.{JobState}
@@ -22,7 +22,7 @@ use Rattle.race_hub.specs.Kept.{is_active, has_failed, StandOnce, EndOnce}
 use Rattle.race_hub.specs.Recording.{AreParts, AllWait, IsEnd}
 use Rattle.race_hub.specs.Tracks.{TrackState, fresh, AreBlank, IsTracked, HavePassed, IsFirstOther}
 use Rattle.race_hub.specs.Finish.{logs_behind, logs_of_jobs, kept_logs, log_of, placed}
-use Rattle.race_hub.proofs.ChoiceLemmas.{some_is}
+use Rattle.race_requests.proofs.ChoiceLemmas.{some_is}
 use Rattle.race_hub.proofs.FiringLemmas.{both_true}
 use Rattle.race_hub.proofs.OnceLemmas.{count_append, count_cons}
 use Rattle.race_hub.proofs.EndedLemmas.{through_of, kept_by}

@@ -13,16 +13,17 @@ use Rattle.race_records.specs.Events.{fits, is_in_range, is_right_kind, op_fits}
 use Rattle.race_model.specs.State.{started}
 use Rattle.race_model.specs.Legal.{broken, rules}
 use Rattle.race_model.proofs.ChannelOrder.{rules_kept}
-use Rattle.race_hub.specs.declared.choice.Choice.{Choice}
+use Rattle.race_requests.specs.declared.choice.Choice.{Choice}
 use Rattle.race_hub.specs.declared.firing.Firing.{Firing}
-use Rattle.race_hub.specs.Choices.{event_of}
-use Rattle.race_hub.specs.Search.{picked}
+use Rattle.race_requests.specs.Choices.{event_of}
+use Rattle.race_requests.specs.Search.{picked}
 use Rattle.race_hub.specs.Hub.{HubState, choices_of}
 use Rattle.race_hub.specs.Holds.{HaveBoxes}
-use Rattle.race_hub.specs.Submits.{is_sound}
+use Rattle.race_requests.specs.Sound.{is_sound}
 use Rattle.race_hub.specs.Fires.{started_by, HasBox}
 use Rattle.race_hub.specs.Firing.{HasRows, HasSomeRows, IsFiring}
-use Rattle.race_hub.proofs.ChoiceLemmas.{some_is, none_picked, IsPossible, listed_is_possible, rows_of}
+use Rattle.race_requests.proofs.ChoiceLemmas.{some_is, none_picked, IsPossible, listed_is_possible}
+use Rattle.race_hub.proofs.ChoiceRows.{rows_of}
 use Rattle.race_hub.proofs.FitLemmas.{choice_fits}
 
 -- what a legal start starts: not main, and whom no Go started

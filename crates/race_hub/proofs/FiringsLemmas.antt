@@ -3,17 +3,17 @@ use Rattle.std.proofs.Common.{◌≡◌, ℕ, ◌++◌, List, [], ◌∷◌, len
 use Rattle.std.proofs.Common.{length-append}
 use Rattle.race_records.specs.Declarations.{capacity_of}
 use Rattle.race_model.proofs.LegalSteps.{legal_none}
-use Rattle.race_hub.specs.declared.choice.Choice.{Choice}
-use Rattle.race_hub.specs.declared.request.Answer.{Answer}
-use Rattle.race_hub.specs.declared.request.Ask.{Ask}
-use Rattle.race_hub.specs.declared.request.Waiter.{Waiter}
-use Rattle.race_hub.specs.Choices.{choice}
-use Rattle.race_hub.specs.Rows.{waits}
+use Rattle.race_requests.specs.declared.choice.Choice.{Choice}
+use Rattle.race_requests.specs.declared.request.Answer.{Answer}
+use Rattle.race_requests.specs.declared.request.Ask.{Ask}
+use Rattle.race_requests.specs.declared.request.Waiter.{Waiter}
+use Rattle.race_requests.specs.Choices.{choice}
+use Rattle.race_requests.specs.Rows.{waits}
 use Rattle.race_hub.specs.Job.{JobState}
-use Rattle.race_hub.specs.Table.{IsRow, done_by}
+use Rattle.race_requests.specs.Table.{IsRow, done_by}
 use Rattle.race_hub.specs.Hub.{stop_by}
 use Rattle.race_hub.specs.Fires.{goes_on, partner_goes_on, partner_of, born_of, started_by}
-use Rattle.race_hub.proofs.ChoiceLemmas.{some_is}
+use Rattle.race_requests.proofs.ChoiceLemmas.{some_is}
 use Rattle.race_hub.proofs.OpeningLemmas.{opening_once}
 use Rattle.race_hub.specs.Firings.{before_go, went, met, behind, AGoIsFired, AMeetIsFired, OpeningIsKept, AFiringIsAnEvent}
 use Rattle.race_hub.specs.Firings.{AStarterIsReadyFirst}

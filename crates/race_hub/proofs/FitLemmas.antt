@@ -14,18 +14,18 @@ use Rattle.race_records.specs.declared.version.Version.{Version}
 use Rattle.race_records.specs.Parts.{says, is_in, has_two_places, op_is_in_range}
 use Rattle.race_records.specs.Events.{has_op, lock_fits, second_place_fits, fits}
 use Rattle.race_model.specs.State.{is_closed, front, is_held, is_read_held, is_begun}
-use Rattle.race_hub.specs.declared.choice.Choice.{Choice}
-use Rattle.race_hub.specs.declared.request.Ask.{Ask}
-use Rattle.race_hub.specs.declared.request.Offer.{Offer}
-use Rattle.race_hub.specs.declared.request.Waiter.{Waiter}
-use Rattle.race_hub.specs.Possible.{ask_is_in_range, offer_is_in_range}
-use Rattle.race_hub.specs.Waiting.{is_declared}
-use Rattle.race_hub.specs.Offers.{case_of}
-use Rattle.race_hub.specs.Table.{offers_of}
-use Rattle.race_hub.specs.Choices.{lone_op, offer_at, op_of, lone_event, meet_event, event_of}
-use Rattle.race_hub.specs.Submits.{is_sound, has_ask, lock_suits}
-use Rattle.race_hub.proofs.ChoiceLemmas.{some_is, all_at, meets_by, is_meet}
-use Rattle.race_hub.proofs.OfferLemmas.{offers_in_range, offer_in_range, cases_in_range, sent_in_range}
+use Rattle.race_requests.specs.declared.choice.Choice.{Choice}
+use Rattle.race_requests.specs.declared.request.Ask.{Ask}
+use Rattle.race_requests.specs.declared.request.Offer.{Offer}
+use Rattle.race_requests.specs.declared.request.Waiter.{Waiter}
+use Rattle.race_requests.specs.Possible.{ask_is_in_range, offer_is_in_range}
+use Rattle.race_requests.specs.Waiting.{is_declared}
+use Rattle.race_requests.specs.Offers.{case_of}
+use Rattle.race_requests.specs.Table.{offers_of}
+use Rattle.race_requests.specs.Choices.{lone_op, offer_at, op_of, lone_event, meet_event, event_of}
+use Rattle.race_requests.specs.Sound.{is_sound, has_ask, lock_suits}
+use Rattle.race_requests.proofs.ChoiceLemmas.{some_is, all_at, meets_by, is_meet}
+use Rattle.race_requests.proofs.OfferLemmas.{offers_in_range, offer_in_range, cases_in_range, sent_in_range}
 
 -- what a sound request says
 pub record IsSound (decls : DeclsState) (w : Waiter) : Type 0 where

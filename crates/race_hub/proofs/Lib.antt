@@ -1,13 +1,5 @@
-pub mod OfferLemmas
-pub mod RangeLemmas
-pub mod RowLemmas
-pub mod FoundLemmas
-pub mod PossibleLemmas
-pub mod WaitingLemmas
-pub mod ReceiverLemmas
+pub mod ChoiceRows
 pub mod EndLemmas
-pub mod ChoiceLemmas
-pub mod MoveLemmas
 pub mod FitLemmas
 pub mod FiringLemmas
 pub mod PerformLemmas

@@ -20,19 +20,19 @@ use Rattle.race_model.proofs.Indexes.{at_below, take_suc}
 use Rattle.race_model.proofs.CountSteps.{as_number, positive_more, has_exited_push}
 use Rattle.race_model.proofs.StateSteps.{started_push, runs_push}
 use Rattle.race_model.proofs.ChannelOrder.{rules_kept}
-use Rattle.race_hub.specs.declared.choice.Choice.{Choice}
-use Rattle.race_hub.specs.declared.request.Answer.{Answer}
-use Rattle.race_hub.specs.declared.request.Ask.{Ask}
-use Rattle.race_hub.specs.declared.request.Offer.{Offer}
-use Rattle.race_hub.specs.declared.request.Waiter.{Waiter}
-use Rattle.race_hub.specs.Choices.{op_of, meet_op, offer_at, lone_event, meet_event, event_of}
-use Rattle.race_hub.specs.Table.{IsRow, done_by, offers_of, told_if, told_sender, told_receiver, told_closer, told_trier, told_rtrier, told_by, told_plain, chosen}
-use Rattle.race_hub.proofs.RowLemmas.{IsByOffer, IsByDefault, by_either, by_first}
+use Rattle.race_requests.specs.declared.choice.Choice.{Choice}
+use Rattle.race_requests.specs.declared.request.Answer.{Answer}
+use Rattle.race_requests.specs.declared.request.Ask.{Ask}
+use Rattle.race_requests.specs.declared.request.Offer.{Offer}
+use Rattle.race_requests.specs.declared.request.Waiter.{Waiter}
+use Rattle.race_requests.specs.Choices.{op_of, meet_op, offer_at, lone_event, meet_event, event_of}
+use Rattle.race_requests.specs.Table.{IsRow, done_by, offers_of, told_if, told_sender, told_receiver, told_closer, told_trier, told_rtrier, told_by, told_plain, chosen}
+use Rattle.race_requests.proofs.RowLemmas.{IsByOffer, IsByDefault, by_either, by_first}
 use Rattle.race_hub.specs.Job.{JobState, begun}
 use Rattle.race_hub.specs.Hub.{ParkedState}
 use Rattle.race_hub.specs.Fires.{without, partner_of, answered, goes_on, partner_goes_on, IsPartnerRow, started_by, begins, born_of, HasBox}
 use Rattle.race_hub.specs.Kept.{has_failed, is_active}
-use Rattle.race_hub.proofs.ChoiceLemmas.{some_is}
+use Rattle.race_requests.proofs.ChoiceLemmas.{some_is}
 use Rattle.race_hub.proofs.FiringLemmas.{both_true, both_false, go_kept}
 
 -- Counts by a test.

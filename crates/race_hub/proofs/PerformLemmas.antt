@@ -25,23 +25,23 @@ use Rattle.race_model.proofs.Indexes.{take_at_old}
 use Rattle.race_model.proofs.CountSteps.{has_push, as_number}
 use Rattle.race_legal.specs.ReplayState.{ReplayState, counts_in, IsInRange}
 use Rattle.race_legal.specs.StandsFor.{StandsFor}
-use Rattle.race_hub.specs.declared.choice.Choice.{Choice}
+use Rattle.race_requests.specs.declared.choice.Choice.{Choice}
 use Rattle.race_hub.specs.declared.ending.End.{End}
-use Rattle.race_hub.specs.declared.request.Waiter.{Waiter}
+use Rattle.race_requests.specs.declared.request.Waiter.{Waiter}
 use Rattle.race_hub.specs.Hub.{ParkedState, HubState, stop_by, stop_of, is_last, is_main_exit}
 use Rattle.race_hub.specs.Holds.{Holds}
 use Rattle.race_hub.specs.Kept.{standing, has_failed, has_left, is_active, StandOnce, EndOnce}
-use Rattle.race_hub.specs.declared.request.Step.{Step}
-use Rattle.race_hub.specs.Choices.{event_of}
+use Rattle.race_requests.specs.declared.request.Step.{Step}
+use Rattle.race_requests.specs.Choices.{event_of}
 use Rattle.race_model.specs.Legal.{broken, IsLegal}
-use Rattle.race_hub.specs.Table.{IsRow, done_by}
-use Rattle.race_hub.specs.Submits.{is_sound}
-use Rattle.race_hub.specs.declared.request.Answer.{Answer}
+use Rattle.race_requests.specs.Table.{IsRow, done_by}
+use Rattle.race_requests.specs.Sound.{is_sound}
+use Rattle.race_requests.specs.declared.request.Answer.{Answer}
 use Rattle.race_hub.specs.declared.firing.Firing.{Firing}
 use Rattle.race_hub.specs.Job.{JobState}
 use Rattle.race_hub.specs.Firing.{IsFiring, HasRows}
 use Rattle.race_hub.specs.Fires.{without, partner_of, goes_on, is_through, partner_goes_on, started_by, begins, born_of, boxes_after, HasBox}
-use Rattle.race_hub.proofs.ChoiceLemmas.{all_at, some_is}
+use Rattle.race_requests.proofs.ChoiceLemmas.{all_at, some_is}
 use Rattle.race_hub.proofs.OnceLemmas.{leaves, told_leaves, event_who, count_without, jobs_of, goes_count, partner_count, begun_count, four_counts}
 use Rattle.race_hub.proofs.OnceLemmas.{asker_balance, one_step, started_fresh, active_push, count_append}
 use Rattle.race_hub.proofs.EndedLemmas.{through_of, through_count, standing_stays, left_push, not_not}

@@ -11,7 +11,7 @@ use Rattle.race_model.specs.Legal.{IsLegal}
 use Rattle.race_model.proofs.LegalSteps.{legal_push}
 use Rattle.race_hub.specs.declared.ending.End.{End}
 use Rattle.race_hub.specs.declared.firing.Firing.{Firing}
-use Rattle.race_hub.specs.declared.request.Waiter.{Waiter}
+use Rattle.race_requests.specs.declared.request.Waiter.{Waiter}
 use Rattle.race_hub.specs.Job.{JobState}
 use Rattle.race_hub.specs.Hub.{HubState, opening, stop_of, is_deadlock}
 use Rattle.race_hub.specs.Firing.{HasRows}
@@ -20,7 +20,7 @@ use Rattle.race_hub.specs.Submits.{Takes, Submits, is_stray}
 use Rattle.race_hub.specs.Kept.{IsKept}
 use Rattle.race_hub.specs.Runs.{IsStep, AreSteps, EachRunIsKept}
 use Rattle.race_hub.proofs.AmongLemmas.{first_gone}
-use Rattle.race_hub.proofs.ChoiceLemmas.{some_is}
+use Rattle.race_requests.proofs.ChoiceLemmas.{some_is}
 use Rattle.race_hub.proofs.FiringLemmas.{both_true, picked_rows}
 use Rattle.race_hub.proofs.FiringsLemmas.{opening_kept}
 use Rattle.race_hub.proofs.PerformLemmas.{Moves, once_after, ends_after, below_limit, length_without}

@@ -8,16 +8,17 @@ use Rattle.std.specs.Prelude.{cond, is_some}
 use Rattle.race_model.proofs.CountSteps.{as_number}
 use Rattle.race_legal.specs.ReplayState.{ReplayState}
 use Rattle.race_hub.specs.declared.ending.End.{End}
-use Rattle.race_hub.specs.declared.request.Waiter.{Waiter}
+use Rattle.race_requests.specs.declared.request.Waiter.{Waiter}
 use Rattle.race_hub.specs.Hub.{ParkedState, HubState, stop_by, stop_of, end_of, is_last, is_main_exit}
 use Rattle.race_hub.specs.Holds.{Holds}
 use Rattle.race_hub.specs.Job.{JobState}
 use Rattle.race_hub.specs.Kept.{standing, is_active, has_left, StandOnce, EndOnce}
 use Rattle.race_hub.specs.Recording.{HasBadRequest}
-use Rattle.race_hub.specs.Submits.{is_sound, is_out_of_turn, is_bad, is_back, ends_hub, without_first, Takes}
-use Rattle.race_hub.specs.declared.request.Request.{Request}
+use Rattle.race_requests.specs.Sound.{is_sound, is_out_of_turn}
+use Rattle.race_hub.specs.Submits.{is_bad, is_back, ends_hub, without_first, Takes}
+use Rattle.race_requests.specs.declared.request.Request.{Request}
 use Rattle.race_hub.proofs.AmongLemmas.{first_gone}
-use Rattle.race_hub.proofs.ChoiceLemmas.{some_is}
+use Rattle.race_requests.proofs.ChoiceLemmas.{some_is}
 use Rattle.race_hub.proofs.EndLemmas.{end_while_out}
 use Rattle.race_hub.proofs.EndedLemmas.{through_of, bad_stays, bad_joins, out_waits_not}
 use Rattle.race_hub.proofs.FiringLemmas.{both_true}

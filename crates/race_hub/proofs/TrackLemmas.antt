@@ -9,20 +9,20 @@ use Rattle.std.proofs.lemmas.List.Elements.{filter-append}
 use Rattle.race_records.specs.declared.event.Event.{Event}
 use Rattle.race_model.specs.Events.{starts, gives, partner}
 use Rattle.race_model.proofs.Indexes.{append_at_old, slice_get-push}
-use Rattle.race_hub.specs.declared.request.Step.{Step}
-use Rattle.race_hub.specs.Table.{Fits}
+use Rattle.race_requests.specs.declared.request.Step.{Step}
+use Rattle.race_requests.specs.Table.{Fits}
 use Rattle.race_hub.specs.Part.{part_of, IsPart}
 use Rattle.race_hub.specs.Tracks.{TrackState, fresh, HasPart, IsPassed, IsTracked, is_in_part, HavePassed, OneHasPassed, AreBlank, is_through, asker_of}
 use Rattle.race_hub.specs.Tracks.{receiver_of}
 use Rattle.race_hub.specs.Finish.{placed, logs_behind, logs_of_jobs}
 use Rattle.race_hub.specs.Job.{JobState}
 use Rattle.race_hub.specs.Hub.{ParkedState}
-use Rattle.race_hub.specs.declared.request.Waiter.{Waiter}
+use Rattle.race_requests.specs.declared.request.Waiter.{Waiter}
 use Rattle.race_hub.proofs.PerformLemmas.{set_other}
 use Rattle.race_records.specs.declared.event.Op.{Op}
 use Rattle.race_records.specs.declared.event.Op.TheVariants.{Go, Meet}
 use Rattle.std.proofs.lemmas.List.{length-set}
-use Rattle.race_hub.proofs.ChoiceLemmas.{some_is}
+use Rattle.race_requests.proofs.ChoiceLemmas.{some_is}
 
 -- the part with one event more
 part_push : (g : ℕ) (past : List Event) (e : Event) → part_of g (past ++ e ∷ []) ≡ part_of g past ++ cond (is_in_part g e) (e ∷ []) []

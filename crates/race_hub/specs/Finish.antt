@@ -4,8 +4,8 @@ use Rattle.std.specs.List.{find}
 use Rattle.race_records.specs.declared.kind.Kind.{Kind}
 use Rattle.race_records.specs.Declarations.{count_of}
 use Rattle.race_hub.specs.declared.recording.Mismatch.{Mismatch}
-use Rattle.race_hub.specs.declared.request.Step.{Step}
-use Rattle.race_hub.specs.declared.request.Waiter.{Waiter}
+use Rattle.race_requests.specs.declared.request.Step.{Step}
+use Rattle.race_requests.specs.declared.request.Waiter.{Waiter}
 use Rattle.race_hub.specs.Part.{IsPart}
 use Rattle.race_hub.specs.Hub.{ParkedState, HubState, end_of}
 use Rattle.race_hub.specs.Job.{JobState}

@@ -6,13 +6,13 @@ use Rattle.race_records.specs.declared.event.Op.{Op}
 use Rattle.race_records.specs.declared.event.Op.TheVariants.{Go}
 use Rattle.race_records.specs.Declarations.{capacity_of}
 use Rattle.race_model.specs.Legal.{broken}
-use Rattle.race_hub.specs.declared.choice.Choice.{Choice}
-use Rattle.race_hub.specs.declared.request.Answer.{Answer}
-use Rattle.race_hub.specs.declared.request.Step.{Step}
-use Rattle.race_hub.specs.declared.request.Waiter.{Waiter}
-use Rattle.race_hub.specs.Choices.{event_of}
-use Rattle.race_hub.specs.Search.{picked}
-use Rattle.race_hub.specs.Table.{IsRow, done_by}
+use Rattle.race_requests.specs.declared.choice.Choice.{Choice}
+use Rattle.race_requests.specs.declared.request.Answer.{Answer}
+use Rattle.race_requests.specs.declared.request.Step.{Step}
+use Rattle.race_requests.specs.declared.request.Waiter.{Waiter}
+use Rattle.race_requests.specs.Choices.{event_of}
+use Rattle.race_requests.specs.Search.{picked}
+use Rattle.race_requests.specs.Table.{IsRow, done_by}
 use Rattle.race_hub.specs.Job.{JobState, begun}
 use Rattle.race_hub.specs.Hub.{ParkedState, HubState, choices_of, end_of}
 

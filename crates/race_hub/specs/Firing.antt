@@ -4,12 +4,12 @@ use Rattle.race_records.specs.declared.event.Event.{Event}
 use Rattle.race_records.specs.Declarations.{capacity_of}
 use Rattle.race_records.specs.Events.{fits}
 use Rattle.race_model.specs.Legal.{broken}
-use Rattle.race_hub.specs.declared.choice.Choice.{Choice}
+use Rattle.race_requests.specs.declared.choice.Choice.{Choice}
 use Rattle.race_hub.specs.declared.firing.Firing.{Firing}
-use Rattle.race_hub.specs.declared.request.Answer.{Answer}
-use Rattle.race_hub.specs.declared.request.Waiter.{Waiter}
-use Rattle.race_hub.specs.Choices.{event_of}
-use Rattle.race_hub.specs.Table.{IsRow, done_by}
+use Rattle.race_requests.specs.declared.request.Answer.{Answer}
+use Rattle.race_requests.specs.declared.request.Waiter.{Waiter}
+use Rattle.race_requests.specs.Choices.{event_of}
+use Rattle.race_requests.specs.Table.{IsRow, done_by}
 use Rattle.race_hub.specs.Hub.{HubState}
 use Rattle.race_hub.specs.Fires.{partner_of, IsPartnerRow, started_by, HasBox}
 

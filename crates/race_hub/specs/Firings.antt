@@ -5,10 +5,10 @@ use Rattle.race_records.specs.declared.event.Op.TheVariants.{Go, Meet}
 use Rattle.race_records.specs.declared.kind.Object.{Object}
 use Rattle.race_records.specs.declared.version.Version.{Version}
 use Rattle.race_records.specs.Declarations.{DeclsState}
-use Rattle.race_hub.specs.declared.request.Answer.{Answer}
-use Rattle.race_hub.specs.declared.request.Ask.{Ask}
-use Rattle.race_hub.specs.declared.request.Waiter.{Waiter}
-use Rattle.race_hub.specs.Rows.{waits}
+use Rattle.race_requests.specs.declared.request.Answer.{Answer}
+use Rattle.race_requests.specs.declared.request.Ask.{Ask}
+use Rattle.race_requests.specs.declared.request.Waiter.{Waiter}
+use Rattle.race_requests.specs.Rows.{waits}
 use Rattle.race_hub.specs.Job.{JobState, begun}
 use Rattle.race_hub.specs.Hub.{ParkedState, HubState, opening}
 use Rattle.race_hub.specs.Fires.{IsFired}

@@ -10,7 +10,7 @@ use Rattle.race_legal.specs.StandsFor.{StandsFor}
 use Rattle.race_hub.specs.Hub.{HubState, stop_of}
 use Rattle.race_hub.specs.Kept.{StandOnce, EndOnce}
 use Rattle.race_hub.specs.Recording.{HasBadRequest}
-use Rattle.race_hub.specs.Submits.{is_sound}
+use Rattle.race_requests.specs.Sound.{is_sound}
 
 -- whoever wasn't started has its box there
 abbrev pub HaveBoxes : {R : Type 0} → HubState R → Type 0

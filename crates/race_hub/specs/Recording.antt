@@ -4,13 +4,13 @@ use Rattle.std.specs.List.{find}
 use Rattle.race_records.specs.declared.event.Event.{Event}
 use Rattle.race_records.specs.Declarations.{DeclsState, capacity_of}
 use Rattle.race_hub.specs.declared.ending.End.{End}
-use Rattle.race_hub.specs.declared.request.Step.{Step}
-use Rattle.race_hub.specs.declared.request.Waiter.{Waiter}
-use Rattle.race_hub.specs.Choices.{choices}
+use Rattle.race_requests.specs.declared.request.Step.{Step}
+use Rattle.race_requests.specs.declared.request.Waiter.{Waiter}
+use Rattle.race_requests.specs.Choices.{choices}
 use Rattle.race_hub.specs.Part.{IsPart}
 use Rattle.race_hub.specs.Hub.{stop_by}
 use Rattle.race_hub.specs.Kept.{is_active}
-use Rattle.race_hub.specs.Submits.{is_bad_among}
+use Rattle.race_requests.specs.Sound.{is_bad_among}
 
 -- a `Recording` as its callers see it: the logs by goroutine, and the requests that have no event, in the order in which they came
 pub record RecordingState : Type 0 where

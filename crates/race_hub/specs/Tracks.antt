@@ -3,8 +3,8 @@ use Rattle.std.specs.Prelude.{ℕ, ◌≡◌, ◌<◌, ◌≤◌, ◌==◌, ◌&
 use Rattle.race_records.specs.declared.event.Event.{Event}
 use Rattle.race_records.specs.declared.event.Op.TheVariants.{Meet}
 use Rattle.race_model.specs.Events.{takes_part, starts, gives}
-use Rattle.race_hub.specs.declared.request.Step.{Step}
-use Rattle.race_hub.specs.Table.{Fits}
+use Rattle.race_requests.specs.declared.request.Step.{Step}
+use Rattle.race_requests.specs.Table.{Fits}
 use Rattle.race_hub.specs.Part.{part_of, IsPart}
 
 -- a `Track` as its callers see it: a log, and how many of its steps the events so far have, None where they aren't its first

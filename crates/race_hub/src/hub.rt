@@ -12,7 +12,7 @@ ghost use Rattle.race_records.specs.Events.{fits};
 ghost use Rattle.race_model.specs.Legal.{IsLegal};
 ghost use Rattle.race_legal.specs.ReplayState.{counts_in, IsInRange};
 ghost use Rattle.race_legal.specs.StandsFor.{GoesOn};
-ghost use Rattle.race_hub.specs.Search.{picked};
+ghost use Rattle.race_requests.specs.Search.{picked};
 ghost use Rattle.race_hub.specs.Holds.{HaveBoxes};
 ghost use Rattle.race_hub.specs.Hub as spec;
 ghost use Rattle.race_hub.specs.Hub.{choices_of, stop_of, end_of};
@@ -20,6 +20,7 @@ ghost use Rattle.race_hub.specs.Opening.{hub_fault, IsOpening};
 ghost use Rattle.race_records.specs.declared.trace.TheConstants.{MAX_EVENTS};
 ghost use Rattle.race_hub.specs.Firing.{IsFiring};
 ghost use Rattle.race_hub.specs.Fires.{Fires, IsFired};
+ghost use Rattle.race_requests.specs.Sound as sound;
 ghost use Rattle.race_hub.specs.Submits as submits;
 ghost use Rattle.race_hub.specs.Submits.{Takes, Submits};
 ghost use Rattle.race_hub.specs.Job.{JobState};
@@ -30,12 +31,12 @@ use crate::firing::{Firing, firing_of, started_in};
 use crate::moves::{is_among, make_room, resume, start, take_first};
 use crate::opening::{HubFault, fault_of, unstarted};
 use crate::parked::{Ended, Parked};
-use crate::sound::{is_out_of_turn, is_sound};
 use crate::track::{Track, blank_tracks, first_other, least, pass_all, put_logs};
 use crate::waiters::request_of;
 use crate::{Choice, End, Job, Mismatch, Recording, Request, Waiter, WaitingList};
 use race_legal::Replay;
 use race_records::{Decls, Event, Kind, Op, Trace};
+use race_requests::{is_out_of_turn, is_sound};
 use std::alloc::{AllocError, Allocator, Global};
 use std::marker::Model;
 
@@ -272,7 +273,7 @@ impl<R, A: Allocator> Hub<R, A> {
     fn list(&self) -> WaitingList<A, A>
         requires { stop_of self.now ≡ None }
         ensures list { result ≡ spec.list_of self.now }
-        ensures sound { All (λ w. IsTrue (submits.is_sound self.now.decls w)) self.now.waiting }
+        ensures sound { All (λ w. IsTrue (sound.is_sound self.now.decls w)) self.now.waiting }
         ensures boxes { HaveBoxes self.now }
         ensures count { length self.now.unstarted ≡ count_of Kind.Goroutine self.now.decls.declarations }
     {
@@ -353,8 +354,8 @@ impl<R, A: Allocator> Hub<R, A> {
 
     // Whether it asks for what can't be now and never will be.
     fn is_out_of_turn(&self, waiter: &Waiter) -> bool
-        requires { IsTrue (submits.is_sound self.now.decls waiter.now) }
-        ensures { result ≡ submits.is_out_of_turn self.now.events self.now.waiting waiter.now.who waiter.now.asked.ask }
+        requires { IsTrue (sound.is_sound self.now.decls waiter.now) }
+        ensures { result ≡ sound.is_out_of_turn self.now.events self.now.waiting waiter.now.who waiter.now.asked.ask }
     {
         is_out_of_turn(&self.replay, self.waiting.as_slice(), waiter)
     }

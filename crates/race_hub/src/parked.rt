@@ -83,7 +83,7 @@ pub struct Ended<A: Allocator = Global> {
 
 impl<A: Allocator> Model for Ended<A> {
     ghost use Rattle.std.specs.Prelude.{ℕ, List};
-    ghost use Rattle.race_hub.specs.declared.request.Step.{Step as StepValue};
+    ghost use Rattle.race_requests.specs.declared.request.Step.{Step as StepValue};
 
     ghost Value = { ℕ × List StepValue };
 

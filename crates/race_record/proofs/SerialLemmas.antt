@@ -11,8 +11,8 @@ use Rattle.std.specs.Prelude.{cond, is_some, nat_lt, remove, slice_get}
 use Rattle.race_records.specs.declared.event.Event.{Event}
 use Rattle.race_hub.specs.declared.recording.Mismatch.{Mismatch}
 use Rattle.race_hub.specs.Finish.{IsMismatch}
-use Rattle.race_hub.specs.declared.request.Answer.{Answer}
-use Rattle.race_hub.specs.declared.request.Request.{Request}
+use Rattle.race_requests.specs.declared.request.Answer.{Answer}
+use Rattle.race_requests.specs.declared.request.Request.{Request}
 use Rattle.race_hub.specs.Job.{JobState, asking}
 use Rattle.race_hub.specs.declared.ending.End.{End}
 use Rattle.race_model.specs.Events.{is_fault}

@@ -1,8 +1,8 @@
 -- What a recording on one thread makes of a hub, by its picks. (Our own)
 use Rattle.std.specs.Prelude.{ℕ, ◌≡◌, ◌-◌, List, [], length, slice_get, Option, Some, None, IsSome, unwrap_or}
 use Rattle.race_hub.specs.declared.recording.Mismatch.{Mismatch}
-use Rattle.race_hub.specs.declared.request.Answer.{Answer}
-use Rattle.race_hub.specs.declared.request.Request.{Request}
+use Rattle.race_requests.specs.declared.request.Answer.{Answer}
+use Rattle.race_requests.specs.declared.request.Request.{Request}
 use Rattle.race_hub.specs.Job.{JobState, asking}
 use Rattle.race_hub.specs.Hub.{HubState, end_of}
 use Rattle.race_hub.specs.Fires.{IsFired}

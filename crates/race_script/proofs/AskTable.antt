@@ -15,9 +15,9 @@ use Rattle.race_records.specs.declared.version.Version.{Version}
 use Rattle.race_records.specs.Declarations.{Declaration, counts_of, is_rw, is_named, number_of}
 use Rattle.race_records.specs.Name.{is_place_byte}
 use Rattle.race_records.specs.Parts.{object_alone, object_value, suit, part_fits, part_is_limited}
-use Rattle.race_hub.specs.declared.request.Ask.{Ask}
-use Rattle.race_hub.specs.declared.request.Offer.{Offer}
-use Rattle.race_hub.specs.Submits.{has_ask}
+use Rattle.race_requests.specs.declared.request.Ask.{Ask}
+use Rattle.race_requests.specs.declared.request.Offer.{Offer}
+use Rattle.race_requests.specs.Sound.{has_ask}
 use Rattle.race_text.specs.declared.form.Word.{Word}
 use Rattle.race_text.specs.Fault.{declared_as}
 use Rattle.race_text.specs.Form.{word_named}

@@ -8,8 +8,8 @@ use Rattle.std.proofs.lemmas.List.{length-map, get_or-map}
 use Rattle.std.proofs.lemmas.List.Sums.{AllPass-from_list_all}
 use Rattle.std.specs.List.{list_all}
 use Rattle.std.specs.Option.{option_map_or}
-use Rattle.race_hub.specs.declared.request.Ask.{Ask}
-use Rattle.race_hub.specs.declared.request.Request.{Request}
+use Rattle.race_requests.specs.declared.request.Ask.{Ask}
+use Rattle.race_requests.specs.declared.request.Request.{Request}
 use Rattle.race_text.proofs.WordLemmas.{both}
 use Rattle.race_script.specs.declared.program.TheConstants.{MAX_STEPS}
 use Rattle.race_script.specs.Bodies.{is_exit, is_do, after_ask, ends, is_body, is_end, is_behind_do, steps_to_end}

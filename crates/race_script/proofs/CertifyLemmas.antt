@@ -6,7 +6,7 @@ use Rattle.std.proofs.lemmas.Bool.Decides.{nat_tests}
 use Rattle.std.proofs.lemmas.Option.{slice_get_within}
 use Rattle.race_records.proofs.ListLemmas.{slice_get-within}
 use Rattle.race_records.specs.Equality.{Declared, declared, same_declared, same_declared-Decides}
-use Rattle.race_hub.specs.declared.request.Request.{Request}
+use Rattle.race_requests.specs.declared.request.Request.{Request}
 use Rattle.race_hub.specs.Part.{part_of}
 use Rattle.race_hub.specs.Recording.{RecordingState}
 use Rattle.race_script.specs.declared.certificate.NotARun.{NotARun}

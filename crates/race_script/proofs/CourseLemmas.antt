@@ -16,8 +16,8 @@ use Rattle.race_model.specs.Events.{is_exit, is_fault}
 use Rattle.race_model.specs.Legal.{IsLegal, broken, op_rules, actors_run, least_broken}
 use Rattle.race_model.specs.State.{over}
 use Rattle.race_legal.proofs.Fronts.{take_next}
-use Rattle.race_hub.specs.declared.request.Ask.{Ask}
-use Rattle.race_hub.specs.declared.request.Request.{Request}
+use Rattle.race_requests.specs.declared.request.Ask.{Ask}
+use Rattle.race_requests.specs.declared.request.Request.{Request}
 use Rattle.race_script.specs.Certificate.{after_event, behind, FitsAt, Follows, WaitsAt, IsRun, IsStuckAt}
 use Rattle.race_script.specs.Program.{Instruction, asks_of, asked_by, instruction, spelled}
 

@@ -9,7 +9,7 @@ use Rattle.std.specs.List.{list_all}
 use Rattle.std.specs.Option.{option_map_or}
 use Rattle.race_records.specs.declared.kind.Kind.{Kind}
 use Rattle.race_records.specs.Declarations.{DeclsState}
-use Rattle.race_hub.specs.declared.request.Request.{Request}
+use Rattle.race_requests.specs.declared.request.Request.{Request}
 use Rattle.race_text.specs.Text.{declaration_line}
 use Rattle.race_text.proofs.LineCount.{few_declared}
 use Rattle.race_text.proofs.WordLemmas.{both}

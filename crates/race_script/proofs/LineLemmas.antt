@@ -16,7 +16,7 @@ use Rattle.race_records.specs.declared.kind.Kind.{Kind}
 use Rattle.race_records.specs.Declarations.{Declaration, DeclsState, IsWellFormed, count_of}
 use Rattle.race_records.specs.Equality.{Declared, declared}
 use Rattle.race_records.specs.Name.{is_place}
-use Rattle.race_hub.specs.Submits.{has_ask}
+use Rattle.race_requests.specs.Sound.{has_ask}
 use Rattle.race_text.specs.declared.cause.TextCause.{TextCause}
 use Rattle.race_text.specs.Fault.{or_else, declaration_in, declared_as}
 use Rattle.race_text.specs.Form.{word_named, first_word, arguments}

@@ -8,11 +8,11 @@ use Rattle.race_records.specs.declared.event.Cause.TheVariants.{SendClosed, Clos
 use Rattle.race_records.specs.declared.event.Op.{Op}
 use Rattle.race_records.specs.declared.event.Op.TheVariants.{Go, Exit, Read, Write, Send, Recv, Meet, RecvClosed, Close, Default, Lock, Unlock, RLock, RUnlock}
 use Rattle.race_records.specs.declared.event.Op.TheVariants.{TryLock, TryRLock, TryFail, OnceBegin, OnceEnd, OnceDone, Fault}
-use Rattle.race_hub.specs.declared.request.Answer.{Answer}
-use Rattle.race_hub.specs.declared.request.Ask.{Ask}
-use Rattle.race_hub.specs.declared.request.Offer.{Offer}
-use Rattle.race_hub.specs.Table.{done_by, IsRow, chosen, told_if, told_sender, told_receiver, told_closer, told_trier, told_rtrier, told_plain, told_by}
-use Rattle.race_hub.proofs.RowLemmas.{IsByOffer, IsByDefault, by_either, by_first, wanted, wanted_two}
+use Rattle.race_requests.specs.declared.request.Answer.{Answer}
+use Rattle.race_requests.specs.declared.request.Ask.{Ask}
+use Rattle.race_requests.specs.declared.request.Offer.{Offer}
+use Rattle.race_requests.specs.Table.{done_by, IsRow, chosen, told_if, told_sender, told_receiver, told_closer, told_trier, told_rtrier, told_plain, told_by}
+use Rattle.race_requests.proofs.RowLemmas.{IsByOffer, IsByDefault, by_either, by_first, wanted, wanted_two}
 use Rattle.race_script.specs.Certificate.{after_event}
 use Rattle.race_script.specs.Course.{made_by_offer, made_in, FailsBy}
 

@@ -20,8 +20,8 @@ use Rattle.race_records.specs.declared.parts.PartKind.{PartKind}
 use Rattle.race_records.specs.Declarations.{Declaration, DeclsState, IsWellFormed, count_of}
 use Rattle.race_records.specs.Name.{is_name_byte, is_place_byte}
 use Rattle.race_records.specs.Parts.{chan_is_in_range}
-use Rattle.race_hub.specs.declared.request.Offer.{Offer}
-use Rattle.race_hub.specs.Possible.{offer_is_in_range}
+use Rattle.race_requests.specs.declared.request.Offer.{Offer}
+use Rattle.race_requests.specs.Possible.{offer_is_in_range}
 use Rattle.race_text.specs.Reading.{chan_of, chan_in}
 use Rattle.race_text.specs.Select.{no_cases, pieces_of}
 use Rattle.race_text.specs.Text.{chan_name, chan_text}

@@ -17,8 +17,8 @@ use Rattle.race_records.specs.declared.parts.Part.{Part}
 use Rattle.race_records.specs.declared.parts.PartKind.{PartKind}
 use Rattle.race_records.specs.Declarations.{Declaration, DeclsState, IsWellFormed, count_of}
 use Rattle.race_records.specs.Parts.{chan_is_in_range}
-use Rattle.race_hub.specs.declared.request.Offer.{Offer}
-use Rattle.race_hub.specs.Possible.{offer_is_in_range}
+use Rattle.race_requests.specs.declared.request.Offer.{Offer}
+use Rattle.race_requests.specs.Possible.{offer_is_in_range}
 use Rattle.race_text.specs.declared.cause.TextCause.{TextCause}
 use Rattle.race_text.specs.Fault.{lesser, used_name_cause}
 use Rattle.race_text.specs.Reading.{named_in, chan_of, chan_in}

@@ -3,10 +3,10 @@ use Rattle.std.proofs.Common.{◌≡◌, ◌↔◌, ℕ, Bool, IsTrue, List, sli
 use Rattle.race_records.specs.declared.event.Cause.{Cause}
 use Rattle.race_records.specs.declared.event.Event.{Event}
 use Rattle.race_records.specs.declared.event.Op.{Op}
-use Rattle.race_hub.specs.declared.request.Ask.{Ask}
-use Rattle.race_hub.specs.declared.request.Request.{Request}
-use Rattle.race_hub.specs.declared.request.Step.{Step}
-use Rattle.race_hub.specs.Table.{done_by, Fits, IsRow, CanMake}
+use Rattle.race_requests.specs.declared.request.Ask.{Ask}
+use Rattle.race_requests.specs.declared.request.Request.{Request}
+use Rattle.race_requests.specs.declared.request.Step.{Step}
+use Rattle.race_requests.specs.Table.{done_by, Fits, IsRow, CanMake}
 use Rattle.race_text.specs.Text.{place_text}
 use Rattle.race_script.specs.Certificate.{after_event}
 use Rattle.race_script.specs.Course.{made_in, FailsBy, IsPassed}

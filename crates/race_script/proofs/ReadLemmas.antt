@@ -18,7 +18,7 @@ use Rattle.race_records.specs.Equality.{Declared, declared}
 use Rattle.race_records.specs.Refusal.{Refuses, AllowsUnless}
 use Rattle.race_records.proofs.DeclFaultLemmas.{allowed_from_no_fault}
 use Rattle.race_records.proofs.DeclsKept.{empty_well_formed, push_well_formed}
-use Rattle.race_hub.specs.declared.request.Request.{Request}
+use Rattle.race_requests.specs.declared.request.Request.{Request}
 use Rattle.race_text.specs.declared.cause.TextCause.{TextCause}
 use Rattle.race_text.specs.declared.form.Word.{Word}
 use Rattle.race_text.specs.Declaring.{is_declaration_line, is_declaration_word, declaration_cause, with_declared, with_declaration_in}

@@ -12,9 +12,9 @@ use Rattle.race_records.specs.declared.version.Version.{Version}
 use Rattle.race_records.specs.Declarations.{Declaration, DeclsState, IsWellFormed, counts_of}
 use Rattle.race_records.specs.Equality.{declared}
 use Rattle.race_records.specs.Name.{is_name}
-use Rattle.race_hub.specs.declared.request.Ask.{Ask}
-use Rattle.race_hub.specs.declared.request.Offer.{Offer}
-use Rattle.race_hub.specs.Submits.{has_ask}
+use Rattle.race_requests.specs.declared.request.Ask.{Ask}
+use Rattle.race_requests.specs.declared.request.Offer.{Offer}
+use Rattle.race_requests.specs.Sound.{has_ask}
 use Rattle.race_text.specs.Form.{word_named, first_word}
 use Rattle.race_text.specs.Select.{nil}
 use Rattle.race_text.specs.Text.{line_of, goroutine_name, chan_name}

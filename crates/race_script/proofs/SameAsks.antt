@@ -4,8 +4,8 @@ use Rattle.std.proofs.lemmas.Bool.Decides.{Decides-eqb}
 use Rattle.std.specs.Bool.{beq}
 use Rattle.std.specs.Cmp.{booleans_Decides}
 use Rattle.race_records.specs.Cases.{same_chan}
-use Rattle.race_hub.specs.declared.request.Ask.{Ask}
-use Rattle.race_hub.specs.Offers.{same_offers, same_offers-Decides}
+use Rattle.race_requests.specs.declared.request.Ask.{Ask}
+use Rattle.race_requests.specs.Offers.{same_offers, same_offers-Decides}
 use Rattle.race_script.specs.Course.{same_ask}
 
 same_chan-Decides : (a b : Option ℕ) → Decides (same_chan a b) (a ≡ b)

@@ -17,7 +17,7 @@ use Rattle.race_records.specs.Declarations.{Declaration, is_known, place_fault, 
 use Rattle.race_records.specs.Equality.{declared}
 use Rattle.race_records.specs.Name.{is_place}
 use Rattle.race_records.specs.Nouns.{kind_of_noun}
-use Rattle.race_hub.specs.Submits.{has_ask}
+use Rattle.race_requests.specs.Sound.{has_ask}
 use Rattle.race_text.specs.declared.cause.TextCause.{TextCause}
 use Rattle.race_text.specs.declared.form.Word.{Word}
 use Rattle.race_text.specs.Declaring.{with_declaration_in}

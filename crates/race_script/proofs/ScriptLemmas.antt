@@ -2,8 +2,8 @@
 use Rattle.std.proofs.Common.{◌≡◌, ℕ, ◌+◌, ◌-◌, ◌<◌, ◌&&◌, true, false, if◌then◌else◌, List, length, take, drop, get_or, slice_get, Some, sym, ap, ◌∙◌, arith}
 use Rattle.std.proofs.lemmas.List.{length-map, drop-map}
 use Rattle.std.proofs.lemmas.Option.{slice_get-get_or}
-use Rattle.race_hub.specs.declared.request.Answer.{Answer}
-use Rattle.race_hub.specs.declared.request.Request.{Request}
+use Rattle.race_requests.specs.declared.request.Answer.{Answer}
+use Rattle.race_requests.specs.declared.request.Request.{Request}
 use Rattle.race_text.proofs.CutLemmas.{rest_is}
 use Rattle.race_script.specs.Bodies.{is_body, is_behind_do, is_exit, steps_to_end}
 use Rattle.race_script.specs.Program.{asks_of}

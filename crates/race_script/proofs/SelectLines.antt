@@ -11,9 +11,9 @@ use Rattle.race_records.specs.declared.cases.TheConstants.{MAX_CASES}
 use Rattle.race_records.specs.declared.kind.Kind.{Kind}
 use Rattle.race_records.specs.Declarations.{Declaration, DeclsState, IsWellFormed, counts_of}
 use Rattle.race_records.specs.Name.{is_place, is_place_byte}
-use Rattle.race_hub.specs.declared.request.Ask.{Ask}
-use Rattle.race_hub.specs.declared.request.Offer.{Offer}
-use Rattle.race_hub.specs.Possible.{offer_is_in_range}
+use Rattle.race_requests.specs.declared.request.Ask.{Ask}
+use Rattle.race_requests.specs.declared.request.Offer.{Offer}
+use Rattle.race_requests.specs.Possible.{offer_is_in_range}
 use Rattle.race_text.specs.declared.cause.TextCause.{TextCause}
 use Rattle.race_text.specs.Fault.{lesser}
 use Rattle.race_text.proofs.CauseLemmas.{and_then_some, map_some, lesser_none}

@@ -6,10 +6,10 @@ use Rattle.std.proofs.lemmas.List.{take_all}
 use Rattle.std.proofs.lemmas.Option.{slice_get_within}
 use Rattle.race_records.proofs.ListLemmas.{slice_get-within}
 use Rattle.race_records.specs.declared.event.Event.{Event}
-use Rattle.race_hub.specs.declared.request.Request.{Request}
-use Rattle.race_hub.specs.declared.request.Step.{Step}
+use Rattle.race_requests.specs.declared.request.Request.{Request}
+use Rattle.race_requests.specs.declared.request.Step.{Step}
 use Rattle.race_hub.specs.Part.{part_of, IsPart}
-use Rattle.race_hub.specs.Table.{Fits}
+use Rattle.race_requests.specs.Table.{Fits}
 use Rattle.race_script.specs.Certificate.{behind, Follows, WaitsAt, IsRun, IsStuckAt}
 use Rattle.race_script.specs.Course.{IsPassed, IsStop}
 use Rattle.race_script.specs.Program.{Instruction, asked_by, spelled}

@@ -21,9 +21,9 @@ use Rattle.race_records.specs.Name.{is_place}
 use Rattle.race_records.proofs.PlaceLemmas.{with_place_well_formed}
 use Rattle.race_records.specs.Refusal.{Refuses, AllowsUnless}
 use Rattle.race_text.specs.Declaring.{cause_of}
-use Rattle.race_hub.specs.declared.request.Ask.{Ask}
-use Rattle.race_hub.specs.declared.request.Request.{Request}
-use Rattle.race_hub.specs.Submits.{has_ask}
+use Rattle.race_requests.specs.declared.request.Ask.{Ask}
+use Rattle.race_requests.specs.declared.request.Request.{Request}
+use Rattle.race_requests.specs.Sound.{has_ask}
 use Rattle.race_text.specs.declared.cause.TextCause.{TextCause}
 use Rattle.race_text.proofs.CauseLemmas.{and_then_some}
 use Rattle.race_text.proofs.PlacesAdded.{place_is_there, place_stays, place_grows}

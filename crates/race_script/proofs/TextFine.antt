@@ -13,8 +13,8 @@ use Rattle.race_records.specs.declared.kind.Kind.{Kind}
 use Rattle.race_records.specs.declared.version.Version.{Version}
 use Rattle.race_records.specs.Declarations.{Declaration, DeclsState, IsWellFormed, count_of}
 use Rattle.race_records.specs.Equality.{Declared, declared}
-use Rattle.race_hub.specs.declared.request.Request.{Request}
-use Rattle.race_hub.specs.Submits.{has_ask}
+use Rattle.race_requests.specs.declared.request.Request.{Request}
+use Rattle.race_requests.specs.Sound.{has_ask}
 use Rattle.race_text.specs.declared.cause.TextCause.{TextCause}
 use Rattle.race_text.specs.declared.cause.TextFault.{TextFault}
 use Rattle.race_text.specs.Lines.{fault_after, first_fault}

@@ -2,7 +2,7 @@
 -- (Our own; compare package sync, "Once")
 use Rattle.std.specs.Prelude.{ℕ, ◌+◌, ◌-◌, ◌==◌, ◌&&◌, Bool, true, false, if◌then◌else◌, List, [], ◌∷◌, length, slice_get, nat_lt, Option, Some, None}
 use Rattle.std.specs.Option.{option_and_then, option_map_or}
-use Rattle.race_hub.specs.declared.request.Ask.{Ask}
+use Rattle.race_requests.specs.declared.request.Ask.{Ask}
 
 -- the ask is an exit
 abbrev pub is_exit : Ask → Bool

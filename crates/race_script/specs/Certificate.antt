@@ -7,12 +7,12 @@ use Rattle.race_records.specs.declared.event.Event.{Event}
 use Rattle.race_records.specs.declared.event.Op.{Op}
 use Rattle.race_records.specs.declared.event.Op.TheVariants.{OnceDone}
 use Rattle.race_records.specs.Equality.{declared}
-use Rattle.race_hub.specs.declared.request.Ask.{Ask}
-use Rattle.race_hub.specs.declared.request.Request.{Request}
-use Rattle.race_hub.specs.declared.request.Waiter.{Waiter}
+use Rattle.race_requests.specs.declared.request.Ask.{Ask}
+use Rattle.race_requests.specs.declared.request.Request.{Request}
+use Rattle.race_requests.specs.declared.request.Waiter.{Waiter}
 use Rattle.race_hub.specs.Part.{part_of}
 use Rattle.race_hub.specs.Recording.{RecordingState}
-use Rattle.race_hub.specs.Table.{place_of, CanMake}
+use Rattle.race_requests.specs.Table.{place_of, CanMake}
 use Rattle.race_text.specs.Text.{place_text}
 use Rattle.race_script.specs.declared.certificate.NotARun.{NotARun}
 use Rattle.race_script.specs.Bodies.{steps_to_end}

@@ -8,7 +8,7 @@ use Rattle.race_records.specs.declared.parts.PartKind.{PartKind}
 use Rattle.race_records.specs.declared.parts.Verb.{Verb}
 use Rattle.race_records.specs.declared.version.Version.{Version}
 use Rattle.race_records.specs.Parts.{has_verb, object_alone, object_value}
-use Rattle.race_hub.specs.declared.request.Ask.{Ask}
+use Rattle.race_requests.specs.declared.request.Ask.{Ask}
 use Rattle.race_text.specs.declared.form.Field.{Field}
 use Rattle.race_text.specs.declared.form.Word.{Word}
 use Rattle.race_text.specs.Form.{word_named}

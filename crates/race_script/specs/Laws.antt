@@ -4,8 +4,8 @@ use Rattle.race_records.specs.declared.event.Op.TheVariants.{Exit}
 use Rattle.race_records.specs.declared.version.Version.{Version}
 use Rattle.race_records.specs.Declarations.{Declaration}
 use Rattle.race_model.specs.Examples.{does}
-use Rattle.race_hub.specs.declared.request.Ask.{Ask}
-use Rattle.race_hub.specs.Submits.{has_ask}
+use Rattle.race_requests.specs.declared.request.Ask.{Ask}
+use Rattle.race_requests.specs.Sound.{has_ask}
 use Rattle.race_text.specs.declared.cause.TextFault.{TextFault}
 use Rattle.race_text.specs.Fed.{ended_fault}
 use Rattle.race_text.specs.Form.{first_word}

@@ -7,11 +7,11 @@ use Rattle.race_records.specs.declared.kind.Kind.{Kind}
 use Rattle.race_records.specs.declared.version.Version.{Version}
 use Rattle.race_records.specs.Declarations.{Declaration, DeclsState, IsWellFormed, count_of, counts_of, is_known, is_rw}
 use Rattle.race_records.specs.Equality.{Declared}
-use Rattle.race_hub.specs.declared.request.Ask.{Ask}
-use Rattle.race_hub.specs.declared.request.Offer.{Offer}
-use Rattle.race_hub.specs.declared.request.Request.{Request}
-use Rattle.race_hub.specs.Possible.{ask_is_in_range}
-use Rattle.race_hub.specs.Submits.{has_ask, rwmutex_asked}
+use Rattle.race_requests.specs.declared.request.Ask.{Ask}
+use Rattle.race_requests.specs.declared.request.Offer.{Offer}
+use Rattle.race_requests.specs.declared.request.Request.{Request}
+use Rattle.race_requests.specs.Possible.{ask_is_in_range}
+use Rattle.race_requests.specs.Sound.{has_ask, rwmutex_asked}
 use Rattle.race_text.specs.Text.{place_text}
 use Rattle.race_script.specs.declared.program.TheConstants.{MAX_STEPS}
 use Rattle.race_script.specs.Bodies.{is_body}

@@ -10,7 +10,7 @@ use Rattle.race_records.specs.declared.version.Version.{Version}
 use Rattle.race_records.specs.Declarations.{Declaration}
 use Rattle.race_records.specs.Equality.{Declared}
 use Rattle.race_records.specs.Name.{is_place}
-use Rattle.race_hub.specs.declared.request.Ask.{Ask}
+use Rattle.race_requests.specs.declared.request.Ask.{Ask}
 use Rattle.race_text.specs.Fault.{declaration_in}
 use Rattle.race_text.specs.Form.{first_word, arguments}
 use Rattle.race_text.specs.Reading.{ReadParts, part_in, parts_on, last_place, goroutine_of}

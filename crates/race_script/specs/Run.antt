@@ -1,8 +1,8 @@
 -- A goroutine that runs its body: which step it asks after which answer. (Our own; compare package sync, "Once.Do")
 use Rattle.std.specs.Prelude.{◌≡◌, ℕ, ◌+◌, ◌&&◌, Bool, true, false, if◌then◌else◌, List, drop, slice_get, Some}
-use Rattle.race_hub.specs.declared.request.Answer.{Answer}
-use Rattle.race_hub.specs.declared.request.Ask.{Ask}
-use Rattle.race_hub.specs.declared.request.Request.{Request}
+use Rattle.race_requests.specs.declared.request.Answer.{Answer}
+use Rattle.race_requests.specs.declared.request.Ask.{Ask}
+use Rattle.race_requests.specs.declared.request.Request.{Request}
 use Rattle.race_script.specs.Bodies.{is_exit, is_behind_do, steps_to_end}
 use Rattle.race_script.specs.Program.{asks_of}
 

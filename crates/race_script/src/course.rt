@@ -5,7 +5,7 @@ ghost use Rattle.race_records.specs.Declarations.{capacity_of};
 ghost use Rattle.race_records.specs.declared.event.Event.{Event as EventValue};
 ghost use Rattle.race_records.specs.declared.event.Op.TheVariants.{TryLock, TryRLock, TryFail};
 ghost use Rattle.race_model.specs.Legal.{IsLegal};
-ghost use Rattle.race_hub.specs.Table.{Fits};
+ghost use Rattle.race_requests.specs.Table.{Fits};
 ghost use Rattle.race_text.specs.Text as text;
 ghost use Rattle.race_script.specs.Certificate as spec;
 ghost use Rattle.race_script.specs.Course as course;

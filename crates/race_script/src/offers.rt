@@ -2,7 +2,7 @@
 ghost use Rattle.std.specs.Prelude.{◌≡◌, ◌<◌, None, length, IfSome};
 ghost use Rattle.std.specs.Option.{option_map};
 ghost use Rattle.race_records.specs.Declarations.{IsWellFormed};
-ghost use Rattle.race_hub.specs.Offers.{chan_of};
+ghost use Rattle.race_requests.specs.Offers.{chan_of};
 ghost use Rattle.race_text.specs.Select.{pieces_of};
 ghost use Rattle.race_text.specs.Words.{parts_left};
 ghost use Rattle.race_script.specs.Offers as spec;

@@ -4,7 +4,7 @@ ghost use Rattle.std.specs.Prelude.{true, false, Some, None, Ok, is_some, IfOk, 
 ghost use Rattle.std.specs.Prelude.{MatchResult, OnOk, OnErr};
 ghost use Rattle.race_records.specs.Declarations.{IsWellFormed};
 ghost use Rattle.race_records.specs.Name.{is_place};
-ghost use Rattle.race_hub.specs.Submits.{has_ask};
+ghost use Rattle.race_requests.specs.Sound.{has_ask};
 ghost use Rattle.race_text.specs.Lines.{GoesOn};
 ghost use Rattle.race_text.specs.Owed.{owed};
 ghost use Rattle.race_text.specs.Declaring.{cause_of as place_cause};

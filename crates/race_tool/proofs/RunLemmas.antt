@@ -11,7 +11,7 @@ use Rattle.race_records.specs.Events.{TraceState, IsTrace, fits, op_is_limited}
 use Rattle.race_text.specs.Text.{text}
 use Rattle.race_text.proofs.WritingLemmas.{printed_is}
 use Rattle.race_hub.specs.declared.ending.End.{End}
-use Rattle.race_hub.specs.declared.request.Request.{Request}
+use Rattle.race_requests.specs.declared.request.Request.{Request}
 use Rattle.race_hub.specs.Hub.{HubState}
 use Rattle.race_hub.specs.Opening.{IsOpening}
 use Rattle.race_hub.specs.Recording.{RecordingState}

@@ -1,6 +1,6 @@
 ghost use Rattle.std.specs.Prelude.{◌≡◌, ◌≤◌, ◌<◌, true, length, IsTrue, IfOk, IfSome, All};
 ghost use Rattle.race_legal.specs.StandsFor.{StandsFor};
-ghost use Rattle.race_hub.specs.Waiting.{is_declared};
+ghost use Rattle.race_requests.specs.Waiting.{is_declared};
 
 use crate::asks::{Plain, ask_of};
 use race_hub::{Ask, Choice, Request, Waiter, WaitingList};

@@ -2,7 +2,7 @@ use Rattle.std.proofs.Common.{◌≡◌, ◌∙◌, ◌==◌, ◌<◌, ◌+◌, 
 use Rattle.std.proofs.lemmas.Bool.Decides.{nat_tests}
 use Rattle.std.proofs.lemmas.Option.{slice_get-get_or, slice_get_within}
 use Rattle.race_hub.specs.Tracks.{TrackState, is_through}
-use Rattle.race_hub.proofs.ChoiceLemmas.{some_is}
+use Rattle.race_requests.proofs.ChoiceLemmas.{some_is}
 use Rattle.race_hub.proofs.TrackLemmas.{through_is_part, other_is_no_part}
 use Rattle.race_hub.proofs.track.first_other.Goals as goal
 

@@ -3,7 +3,7 @@ use Rattle.std.proofs.lemmas.Iterator.Consumers.{YieldsList-end}
 use Rattle.std.proofs.lemmas.Grind.{common_steps}
 use Rattle.std.proofs.Common.{◌≡◌, ◌∙◌, ◌∷◌, [], ◌++◌, sym, ap, slice_set, slice_get, length, length-append, arith, get_or, map-id, rules}
 use Rattle.std.proofs.lemmas.Option.{slice_get-get_or}
-use Rattle.race_hub.specs.declared.request.Waiter.{Waiter}
+use Rattle.race_requests.specs.declared.request.Waiter.{Waiter}
 use Rattle.race_hub.specs.Finish.{placed, logs_behind}
 use Rattle.race_hub.specs.Tracks.{fresh}
 use Rattle.race_hub.proofs.TrackLemmas.{placed_one, none_behind, behind_next, behind_all}

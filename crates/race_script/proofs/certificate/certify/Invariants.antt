@@ -1,6 +1,6 @@
 -- The goroutines so far run their bodies.
 use Rattle.std.proofs.Common.{◌≡◌, ℕ, ◌<◌, List, slice_get, Some}
-use Rattle.race_hub.specs.declared.request.Request.{Request}
+use Rattle.race_requests.specs.declared.request.Request.{Request}
 use Rattle.race_script.specs.Certificate.{Runs}
 use Rattle.race_script.proofs.certificate.certify.Given as goal
 

@@ -1,7 +1,7 @@
 -- One more step is counted, at the depth before it.
 use Rattle.std.proofs.Common.{◌≡◌, ◌∷◌, ◌+◌, ◌-◌, ◌==◌, true, false, drop, sym, ap, ◌∙◌, arith, if◌then◌else◌}
 use Rattle.std.proofs.lemmas.Bool.Decides.{nat_tests}
-use Rattle.race_hub.specs.declared.request.Request.{Request}
+use Rattle.race_requests.specs.declared.request.Request.{Request}
 use Rattle.race_script.specs.Bodies.{steps_to_end}
 use Rattle.race_script.specs.Program.{asks_of}
 use Rattle.race_script.proofs.BodyLemmas.{asks_from, steps_do, steps_end, steps_other}

@@ -6,9 +6,9 @@ use Rattle.race_hub.specs.Holds.{Holds}
 use Rattle.race_hub.specs.Firing.{IsFiring}
 use Rattle.race_hub.specs.Fires.{Fires, started_by}
 use Rattle.race_hub.specs.Tracks.{AreBlank}
-use Rattle.race_hub.specs.Table.{IsRow, done_by}
+use Rattle.race_requests.specs.Table.{IsRow, done_by}
 use Rattle.race_hub.proofs.PerformLemmas.{fit_is_in_range, below_limit, started_fits, holds_after, boxes_len, lists_same, Moves}
-use Rattle.race_hub.proofs.ChoiceLemmas.{some_is}
+use Rattle.race_requests.proofs.ChoiceLemmas.{some_is}
 use Rattle.race_hub.proofs.hub.Hub.perform.Given as given
 use Rattle.race_hub.proofs.hub.Hub.perform.Goals as goal
 

@@ -1,7 +1,7 @@
 use Rattle.std.proofs.Common.{◌≡◌, ℕ, Option, Some, is_some, slice_get, ap, sym, subst, ◌∙◌, true≢false}
 use Rattle.std.proofs.lemmas.Option.{slice_get_within}
 use Rattle.std.specs.Option.{option_copied, unwrap_or}
-use Rattle.race_hub.specs.Table.{done_by}
+use Rattle.race_requests.specs.Table.{done_by}
 use Rattle.race_script.specs.Course.{IsPassed}
 use Rattle.race_script.specs.Program.{spelled}
 use Rattle.race_script.proofs.PassedLemmas.{made_is, passes_no_step, passes_step, passes_no_fit}

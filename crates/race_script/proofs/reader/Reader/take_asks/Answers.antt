@@ -1,7 +1,7 @@
 use Rattle.std.proofs.Common.{◌≡◌, List, ℕ, Option, Bor, Some, None, true, is_some, sym, ap, refl, ◌∙◌, option_map}
 use Rattle.std.proofs.lemmas.Option.{none-some}
 use Rattle.race_records.specs.Equality.{declared}
-use Rattle.race_hub.specs.declared.request.Ask.{Ask}
+use Rattle.race_requests.specs.declared.request.Ask.{Ask}
 use Rattle.race_text.specs.Owed.{owed}
 use Rattle.race_text.specs.Words.{parts_left}
 use Rattle.race_script.specs.Fault.{words_cause}

@@ -1,5 +1,5 @@
 use Rattle.std.proofs.Common.{◌≡◌, true, sym, ap, ◌∙◌, arith, length, ◌+◌, ◌-◌, ◌<◌, List, take, drop}
-use Rattle.race_hub.specs.declared.request.Request.{Request}
+use Rattle.race_requests.specs.declared.request.Request.{Request}
 use Rattle.race_script.specs.Bodies.{is_behind_do, steps_to_end}
 use Rattle.race_script.specs.Program.{asks_of}
 use Rattle.race_script.specs.Run.{ScriptState, next_step}

@@ -1,6 +1,6 @@
 -- Each so far is declared.
 use Rattle.std.proofs.Common.{All, IsTrue, length, ◌≤◌}
-use Rattle.race_hub.specs.Waiting.{is_declared}
+use Rattle.race_requests.specs.Waiting.{is_declared}
 use Rattle.running_tests.proofs.hub.board.listed.Given as goal
 
 abbrev pub invariant-loop-i : goal.invariant-loop-i

@@ -1,6 +1,0 @@
-use Rattle.std.proofs.lemmas.Grind.{elements}
-use Rattle.std.proofs.Common.{arith}
-use Rattle.race_hub.proofs.board.WaitingList.at.Goals as goal
-
-pub returns-clause-found : goal.returns-clause-found
-returns-clause-found c = grind (arith, elements) steps 1000000

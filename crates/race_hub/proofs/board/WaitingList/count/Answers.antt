@@ -1,6 +1,0 @@
-use Rattle.std.proofs.lemmas.Grind.{elements}
-use Rattle.std.proofs.Common.{arith}
-use Rattle.race_hub.proofs.board.WaitingList.count.Goals as goal
-
-pub returns-clause-few_ways : goal.returns-clause-few_ways
-returns-clause-few_ways c = grind (arith, elements) steps 1000000

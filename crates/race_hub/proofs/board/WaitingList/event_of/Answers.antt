@@ -1,5 +1,0 @@
-use Rattle.std.proofs.Common.{rules}
-use Rattle.race_hub.proofs.board.WaitingList.event_of.Goals as goal
-
-pub returns : goal.returns
-returns g c = search rules steps 300000

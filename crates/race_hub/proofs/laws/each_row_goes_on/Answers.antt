@@ -1,5 +1,0 @@
-use Rattle.race_hub.proofs.PossibleLemmas.{each_row}
-use Rattle.race_hub.proofs.laws.each_row_goes_on.Goals as goal
-
-pub returns : goal.returns
-returns c = each_row

@@ -1,9 +1,0 @@
-use Rattle.std.proofs.Common.{map, ap, ◌∙◌, arith}
-use Rattle.race_hub.specs.Offers.{case_of}
-use Rattle.race_hub.proofs.OfferLemmas.{cases_again}
-use Rattle.race_hub.proofs.offers.Offers.cases.Goals as goal
-
-pub returns : goal.returns
-returns c =
-    c.copy.ensures.same ∙ cases_again c.self.inside.cases c.self.inside.values (omega (arith, c.self.invariant.0, c.self.invariant.1))
-    ∙ ap (map case_of) c.self.view_is

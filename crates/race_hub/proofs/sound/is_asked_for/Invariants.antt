@@ -1,7 +1,0 @@
-use Rattle.std.proofs.Common.{◌≡◌, false, take}
-use Rattle.std.specs.List.{list_any}
-use Rattle.race_hub.specs.Submits.{asks_to_start}
-use Rattle.race_hub.proofs.sound.is_asked_for.Given as goal
-
-abbrev pub invariant-loop-place : goal.invariant-loop-place
-invariant-loop-place l = list_any (λ w. asks_to_start l.goroutine w.asked.ask) (take l.place l.waiting) ≡ false

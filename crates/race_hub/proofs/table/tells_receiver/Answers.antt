@@ -1,4 +1,0 @@
-use Rattle.race_hub.proofs.table.tells_receiver.Goals as goal
-
-pub returns-in-Recv : goal.returns-in-Recv
-returns-in-Recv c = cc

@@ -1,0 +1,317 @@
+-- What a listed choice is: what each who takes part in its event is told.
+use Rattle.std.proofs.Common.{◌≡◌, ◌==◌, ℕ, zero, suc, ◌<◌, ◌≤◌, ◌+◌, ◌-◌, ◌%◌, ◌++◌, ◌&&◌}
+use Rattle.std.proofs.Common.{◌⊎◌, Bool, true, false, cond, List, [], ◌∷◌, map, filter}
+use Rattle.std.proofs.Common.{flat_map, length, option_map}
+use Rattle.std.proofs.Common.{All}
+use Rattle.std.proofs.Common.{Option, Some, None, is_none, refl, sym, ap, ◌∙◌, subst, inl, inr, arith, slice_get, eqb-true, eq-eqb, true≢false}
+use Rattle.std.specs.List.{range_with_len}
+use Rattle.std.proofs.lemmas.Bool.Decides.{nat_tests}
+use Rattle.std.proofs.lemmas.Option.{none-some, slice_get_within, get_or_from_slice_get}
+use Rattle.std.proofs.lemmas.List.Elements.{filter_passes}
+use Rattle.race_records.specs.declared.event.Event.{Event}
+use Rattle.race_records.specs.declared.event.Op.{Op}
+use Rattle.race_records.specs.declared.event.Cause.TheVariants.{SendClosed, CloseClosed, UnlockFree, RUnlockFree}
+use Rattle.race_records.specs.declared.event.Op.TheVariants.{Send, Recv, Meet, RecvClosed, Close, Default, Unlock, RUnlock}
+use Rattle.race_records.specs.declared.event.Op.TheVariants.{TryLock, TryRLock, TryFail, OnceBegin, OnceDone, Fault}
+use Rattle.race_model.specs.State.{is_closed, front, is_held, is_read_held, is_begun, last_value}
+use Rattle.race_model.specs.Legal.{broken, rules}
+use Rattle.race_model.proofs.Indexes.{at_below}
+use Rattle.race_model.proofs.ChannelOrder.{rules_kept}
+use Rattle.race_requests.specs.declared.choice.Choice.{Choice}
+use Rattle.race_requests.specs.declared.request.Answer.{Answer}
+use Rattle.race_requests.specs.declared.request.Ask.{Ask}
+use Rattle.race_requests.specs.declared.request.Offer.{Offer}
+use Rattle.race_requests.specs.declared.request.Waiter.{Waiter}
+use Rattle.race_requests.specs.Offers.{chan_of, case_of}
+use Rattle.race_requests.specs.Table.{offers_of, done_by, told_sender, told_receiver, chosen, told_plain, IsRow}
+use Rattle.race_requests.specs.Choices.{choice, lone_op, offer_at, op_of, meet_op, lone_event, meet_event, event_of, is_legal_next, is_choice}
+use Rattle.race_requests.specs.Choices.{ways, below, with_partner, of_way, tuples}
+use Rattle.race_requests.specs.Choices.{ways_at, tuples_of, choices}
+use Rattle.race_requests.proofs.RowLemmas.{told_same, told_both, told_same_two, at_first, at_offer, at_default}
+
+pub some_is : {X : Type 0} {x y : X} → Some x ≡ Some y → x ≡ y
+some_is is = cc
+
+-- what holds of each element holds of the one at an index
+pub all_at : {X : Type 0} (P : X → Type 0) (xs : List X) (i : ℕ) (x : X) → All P xs → slice_get xs i ≡ Some x → P x
+all_at P xs i x all is = subst P (get_or_from_slice_get xs i x x is) (all i x (slice_get_within xs i x is))
+
+-- the same by recursion, to be made piece by piece
+abbrev Each : {X : Type 0} → (X → Type 0) → List X → Type 0
+Each P [] = Unit {0}
+Each P (x ∷ xs) = P x × Each P xs
+
+each_append : {X : Type 0} (P : X → Type 0) (xs ys : List X) → Each P xs → Each P ys → Each P (xs ++ ys)
+each_append P [] ys this that = that
+each_append P (x ∷ xs) ys this that = (this.0, each_append P xs ys this.1 that)
+
+each_at : {X : Type 0} (P : X → Type 0) (xs : List X) (i : ℕ) (x : X) → Each P xs → slice_get xs i ≡ Some x → P x
+each_at P [] i x each is = absurd (none-some x is)
+each_at P (y ∷ ys) zero x each is = subst P (some_is is) each.0
+each_at P (y ∷ ys) (suc i) x each is = each_at P ys i x each.1 is
+
+each_if : {X : Type 0} (P : X → Type 0) (x : X) (xs : List X) (b : Bool) → P x → Each P xs → Each P (cond b (x ∷ xs) xs)
+each_if P x xs true one each = (one, each)
+each_if P x xs false one each = each
+
+each_filter : {X : Type 0} (P : X → Type 0) (p : X → Bool) (xs : List X) → Each P xs → Each P (filter p xs)
+each_filter P p [] each = tt
+each_filter P p (x ∷ xs) each = each_if P x (filter p xs) (p x) each.0 (each_filter P p xs each.1)
+
+each_map : {X : Type 0} (P : X → Type 0) (f : ℕ → X) (xs : List ℕ) → ((i : ℕ) → P (f i)) → Each P (map f xs)
+each_map P f [] each = tt
+each_map P f (x ∷ xs) each = (each x, each_map P f xs each)
+
+each_flat_map : {X : Type 0} (Q : ℕ → Type 0) (P : X → Type 0) (f : ℕ → List X) (xs : List ℕ) → Each Q xs → ((i : ℕ) → Q i → Each P (f i))
+    → Each P (flat_map f xs)
+each_flat_map Q P f [] all each = tt
+each_flat_map Q P f (x ∷ xs) all each = each_append P (f x) (flat_map f xs) (each x all.0) (each_flat_map Q P f xs all.1 each)
+
+each_below : (n a m : ℕ) → a + n ≤ m → Each (λ i. i < m) (range_with_len a n)
+each_below zero a m le = tt
+each_below (suc n) a m le = (omega (arith, le), each_below n (a + 1) m (omega (arith, le)))
+
+each_of : {X : Type 0} (xs : List X) → Each (λ _. Unit {0}) xs
+each_of [] = tt
+each_of (x ∷ xs) = (tt, each_of xs)
+
+-- each tuple has one of the ways
+ways_of_tuples : (n : ℕ) (ways : ℕ → ℕ) → Each (λ t. t.offer < ways t.place) (tuples n ways)
+ways_of_tuples n ways =
+    each_flat_map (λ _. Unit {0}) (λ t. t.offer < ways t.place) (λ w. flat_map (of_way n ways w) (below (ways w))) (below n) (each_of (below n))
+    (λ w _. each_flat_map (λ k. k < ways w) (λ t. t.offer < ways t.place) (of_way n ways w) (below (ways w)) (each_below (ways w) 0 (ways w) (omega arith))
+    (λ k less. (
+      less,
+      each_flat_map (λ _. Unit {0}) (λ t. t.offer < ways t.place) (with_partner ways w k) (below n) (each_of (below n))
+          (λ r _. each_map (λ t. t.offer < ways t.place) (λ q. choice w k (r + 1) (q + 1)) (below (ways r)) (λ _. less)),
+    )))
+
+-- some answer stands in the row
+pub record HasTold (ask : Ask) (k g : ℕ) (op : Op) : Type 0 where
+  pub told : Option Answer
+  pub row : IsRow ask k (done_by g op) told
+
+-- so it does of an offer that is asked alone, and of a select by that offer
+record HasOffered (o : Offer) (op : Op) : Type 0 where
+  told : Option Answer
+  row : told_plain o op ≡ Some told
+
+chosen_told : (offers : List Offer) (has_default : Bool) (k g : ℕ) (o : Offer) (op : Op) → slice_get offers k ≡ Some o → HasOffered o (done_by g op)
+    → HasTold (Ask.Select offers has_default) k g op
+chosen_told offers has_default k g o op there has =
+    record { told = option_map (chosen k) has.told; row = at_offer offers has_default k o (done_by g op) has.told there has.row }
+
+offered_alone : (past : List Event) (g : ℕ) (o : Offer) (op : Op) → lone_op past o ≡ Some op → HasOffered o (done_by g op)
+offered_alone past g (Offer.Send None v) op is = absurd (none-some op is)
+offered_alone past g (Offer.Send (Some c) v) op is = subst (λ op. HasOffered (Offer.Send (Some c) v) (done_by g op)) (some_is is) (by (is_closed c past))
+  where
+    by : (closed : Bool) → HasOffered (Offer.Send (Some c) v) (done_by g (cond closed (Fault (SendClosed c)) (Send c v)))
+    by true = record { told = None; row = told_same c None }
+    by false = record { told = Some Answer.Unit; row = told_same_two c v (Some Answer.Unit) }
+offered_alone past g (Offer.Recv None) op is = absurd (none-some op is)
+offered_alone past g (Offer.Recv (Some c)) op is = subst (λ op. HasOffered (Offer.Recv (Some c)) (done_by g op)) (some_is is) (by (front c past))
+  where
+    by : (waits : Option ℕ) → HasOffered (Offer.Recv (Some c)) (done_by g (elim waits [ Some v ↦ Recv c v | None ↦ RecvClosed c ]))
+    by (Some v) = record { told = Some (Answer.Value v); row = told_same c (Some (Answer.Value v)) }
+    by None = record { told = Some Answer.Closed; row = told_same c (Some Answer.Closed) }
+
+-- a select by its offer k, or by its default where it has one
+select_told : (past : List Event) (g k : ℕ) (offers : List Offer) (has_default by_default : Bool) (op : Op)
+    → (has_default && (k == length offers)) ≡ by_default
+    → cond by_default (Some (Default (map case_of offers))) (offer_at offers k (lone_op past)) ≡ Some op → HasTold (Ask.Select offers has_default) k g op
+select_told past g k offers has_default true op test is =
+    subst (HasTold (Ask.Select offers has_default) k g) (some_is is) (record { told = Some Answer.DefaultTaken; row = at_default offers has_default k test })
+select_told past g k offers has_default false op test is = by (slice_get offers k) refl is
+  where
+    by : (o : Option Offer) → slice_get offers k ≡ o → elim o [ Some o ↦ lone_op past o | None ↦ None ] ≡ Some op
+        → HasTold (Ask.Select offers has_default) k g op
+    by None there is = absurd (none-some op is)
+    by (Some o) there is = chosen_told offers has_default k g o op there (offered_alone past g o op is)
+
+-- of two ways the one that isn't the first
+second_way : (k : ℕ) → (k == 0) ≡ false → k < 2 → k ≡ 1
+second_way k later less = grind (arith, nat_tests)
+
+module _ (past : List Event) (g k : ℕ) where
+  sent_told : (c v : ℕ) (closed : Bool) → k ≡ 0 → HasTold (Ask.Send (Some c) v) k g (cond closed (Fault (SendClosed c)) (Send c v))
+  sent_told c v true first = record { told = None; row = at_first k _ None first (told_same c None) }
+  sent_told c v false first = record { told = Some Answer.Unit; row = at_first k _ _ first (told_same_two c v (Some Answer.Unit)) }
+
+  received_told : (c : ℕ) (waits : Option ℕ) → k ≡ 0 → HasTold (Ask.Recv (Some c)) k g (elim waits [ Some v ↦ Recv c v | None ↦ RecvClosed c ])
+  received_told c (Some v) first = record { told = Some (Answer.Value v); row = at_first k _ _ first (told_same c (Some (Answer.Value v))) }
+  received_told c None first = record { told = Some Answer.Closed; row = at_first k _ _ first (told_same c (Some Answer.Closed)) }
+
+  closed_told : (c : ℕ) (closed : Bool) → k ≡ 0 → HasTold (Ask.Close (Some c)) k g (cond closed (Fault (CloseClosed c)) (Close c))
+  closed_told c true first = record { told = None; row = at_first k _ None first (told_same c None) }
+  closed_told c false first = record { told = Some Answer.Unit; row = at_first k _ _ first (told_same c (Some Answer.Unit)) }
+
+  unlocked_told : (l : ℕ) (held : Bool) → k ≡ 0 → HasTold (Ask.Unlock l) k g (cond held (Unlock l) (Fault (UnlockFree l)))
+  unlocked_told l true first = record { told = Some Answer.Unit; row = at_first k _ _ first (told_same l (Some Answer.Unit)) }
+  unlocked_told l false first = record { told = None; row = at_first k _ None first (told_same l None) }
+
+  runlocked_told : (l : ℕ) (held : Bool) → k ≡ 0 → HasTold (Ask.RUnlock l) k g (cond held (RUnlock l) (Fault (RUnlockFree l)))
+  runlocked_told l true first = record { told = Some Answer.Unit; row = at_first k _ _ first (told_same l (Some Answer.Unit)) }
+  runlocked_told l false first = record { told = None; row = at_first k _ None first (told_same l None) }
+
+  tried_told : (l : ℕ) (first : Bool) → (k == 0) ≡ first → k < 2 → HasTold (Ask.TryLock l) k g (cond first (TryLock l) (TryFail l))
+  tried_told l true first less =
+      record { told = Some (Answer.Tried true); row = told_both (k == 0) (l == l) (Some (Answer.Tried true)) first (eq-eqb l) }
+  tried_told l false first less =
+      record {
+        told = Some (Answer.Tried false);
+        row = told_both (k == 1) (l == l) (Some (Answer.Tried false)) (ap (λ n. n == 1) (second_way k first less)) (eq-eqb l);
+      }
+
+  rtried_told : (l : ℕ) (first : Bool) → (k == 0) ≡ first → k < 2 → HasTold (Ask.TryRLock l) k g (cond first (TryRLock l) (TryFail l))
+  rtried_told l true first less =
+      record { told = Some (Answer.Tried true); row = told_both (k == 0) (l == l) (Some (Answer.Tried true)) first (eq-eqb l) }
+  rtried_told l false first less =
+      record {
+        told = Some (Answer.Tried false);
+        row = told_both (k == 1) (l == l) (Some (Answer.Tried false)) (ap (λ n. n == 1) (second_way k first less)) (eq-eqb l);
+      }
+
+  did_told : (o : ℕ) (begun : Bool) → k ≡ 0 → HasTold (Ask.Do o) k g (cond begun (OnceDone o) (OnceBegin o))
+  did_told o true first = record { told = Some Answer.AlreadyDone; row = at_first k _ _ first (told_same o (Some Answer.AlreadyDone)) }
+  did_told o false first = record { told = Some Answer.Run; row = at_first k _ _ first (told_same o (Some Answer.Run)) }
+
+  -- what a request does alone has a row
+  pub lone_told : (ask : Ask) (op : Op) → k < ways ask → op_of past ask k ≡ Some op → HasTold ask k g op
+  lone_told (Ask.Go h) op less is =
+      subst (HasTold (Ask.Go h) k g) (some_is is)
+      (record { told = Some Answer.Unit; row = at_first k _ _ (omega (arith, less)) (told_same h (Some Answer.Unit)) })
+  lone_told Ask.Exit op less is =
+      subst (HasTold Ask.Exit k g) (some_is is) (record { told = None; row = at_first k (Some None) None (omega (arith, less)) refl })
+  lone_told (Ask.Read x) op less is =
+      let value = Some (Answer.Value (last_value x past)) in
+      subst (HasTold (Ask.Read x) k g) (some_is is) (record { told = value; row = at_first k _ _ (omega (arith, less)) (told_same x value) })
+  lone_told (Ask.Write x v) op less is =
+      subst (HasTold (Ask.Write x v) k g) (some_is is)
+      (record { told = Some Answer.Unit; row = at_first k _ _ (omega (arith, less)) (told_same_two x v (Some Answer.Unit)) })
+  lone_told (Ask.Send None v) op less is = absurd (none-some op is)
+  lone_told (Ask.Send (Some c) v) op less is = subst (HasTold (Ask.Send (Some c) v) k g) (some_is is) (sent_told c v (is_closed c past) (omega (arith, less)))
+  lone_told (Ask.Recv None) op less is = absurd (none-some op is)
+  lone_told (Ask.Recv (Some c)) op less is = subst (HasTold (Ask.Recv (Some c)) k g) (some_is is) (received_told c (front c past) (omega (arith, less)))
+  lone_told (Ask.Close None) op less is =
+      subst (HasTold (Ask.Close None) k g) (some_is is) (record { told = None; row = at_first k (Some None) None (omega (arith, less)) refl })
+  lone_told (Ask.Close (Some c)) op less is = subst (HasTold (Ask.Close (Some c)) k g) (some_is is) (closed_told c (is_closed c past) (omega (arith, less)))
+  lone_told (Ask.Select offers has_default) op less is = select_told past g k offers has_default (has_default && (k == length offers)) op refl is
+  lone_told (Ask.Lock l) op less is =
+      subst (HasTold (Ask.Lock l) k g) (some_is is)
+      (record { told = Some Answer.Unit; row = at_first k _ _ (omega (arith, less)) (told_same l (Some Answer.Unit)) })
+  lone_told (Ask.RLock l) op less is =
+      subst (HasTold (Ask.RLock l) k g) (some_is is)
+      (record { told = Some Answer.Unit; row = at_first k _ _ (omega (arith, less)) (told_same l (Some Answer.Unit)) })
+  lone_told (Ask.Unlock l) op less is = subst (HasTold (Ask.Unlock l) k g) (some_is is) (unlocked_told l (is_held l past) (omega (arith, less)))
+  lone_told (Ask.RUnlock l) op less is = subst (HasTold (Ask.RUnlock l) k g) (some_is is) (runlocked_told l (is_read_held l past) (omega (arith, less)))
+  lone_told (Ask.TryLock l) op less is = subst (HasTold (Ask.TryLock l) k g) (some_is is) (tried_told l (k == 0) refl less)
+  lone_told (Ask.TryRLock l) op less is = subst (HasTold (Ask.TryRLock l) k g) (some_is is) (rtried_told l (k == 0) refl less)
+  lone_told (Ask.Do o) op less is = subst (HasTold (Ask.Do o) k g) (some_is is) (did_told o (is_begun o past) (omega (arith, less)))
+  lone_told (Ask.EndDo o) op less is =
+      subst (HasTold (Ask.EndDo o) k g) (some_is is)
+      (record { told = Some Answer.Unit; row = at_first k _ _ (omega (arith, less)) (told_same o (Some Answer.Unit)) })
+
+-- the operation of two offers, where there are both
+abbrev pub meets_by : ℕ → Option Offer → Option Offer → Option Op
+meets_by r x y = elim x [ Some a ↦ elim y [ Some b ↦ meet_op r a b | None ↦ None ] | None ↦ None ]
+
+-- a Meet sends by the one offer and receives by the other
+pub record IsMeet (r : ℕ) (x y : Option Offer) (op : Op) : Type 0 where
+  pub chan : ℕ
+  pub value : ℕ
+  pub sends : x ≡ Some (Offer.Send (Some chan) value)
+  pub receives : y ≡ Some (Offer.Recv (Some chan))
+  pub op_is : op ≡ Meet r chan value
+
+met_on : (r c d v : ℕ) (op : Op) (same : Bool) → (c == d) ≡ same → cond same (Some (Meet r c v)) None ≡ Some op
+    → IsMeet r (Some (Offer.Send (Some c) v)) (Some (Offer.Recv (Some d))) op
+met_on r c d v op false test is = absurd (none-some op is)
+met_on r c d v op true test is =
+    record { chan = c; value = v; sends = refl; receives = ap (λ e. Some (Offer.Recv (Some e))) (sym (eqb-true c d test)); op_is = sym (some_is is) }
+
+pub is_meet : (r : ℕ) (x y : Option Offer) (op : Op) → meets_by r x y ≡ Some op → IsMeet r x y op
+is_meet r (Some (Offer.Send (Some c) v)) (Some (Offer.Recv (Some d))) op is = met_on r c d v op (c == d) refl is
+is_meet r None y op is = absurd (none-some op is)
+is_meet r (Some (Offer.Send None v)) None op is = absurd (none-some op is)
+is_meet r (Some (Offer.Send None v)) (Some b) op is = absurd (none-some op is)
+is_meet r (Some (Offer.Send (Some c) v)) None op is = absurd (none-some op is)
+is_meet r (Some (Offer.Send (Some c) v)) (Some (Offer.Send d u)) op is = absurd (none-some op is)
+is_meet r (Some (Offer.Send (Some c) v)) (Some (Offer.Recv None)) op is = absurd (none-some op is)
+is_meet r (Some (Offer.Recv c)) None op is = absurd (none-some op is)
+is_meet r (Some (Offer.Recv c)) (Some b) op is = absurd (none-some op is)
+
+-- who offers to send is told by its row that it did
+pub record HasAnswer (ask : Ask) (k : ℕ) (op : Op) : Type 0 where
+  pub answer : Answer
+  pub row : IsRow ask k op (Some answer)
+
+pub sender_has : (ask : Ask) (k c v : ℕ) → slice_get (offers_of ask) k ≡ Some (Offer.Send (Some c) v) → HasAnswer ask k (Send c v)
+sender_has (Ask.Select offers has_default) k c v is =
+    record {
+      answer = Answer.Chosen k None;
+      row = at_offer offers has_default k (Offer.Send (Some c) v) (Send c v) (Some Answer.Unit) is (told_same_two c v (Some Answer.Unit));
+    }
+sender_has (Ask.Send d u) zero c v is =
+    let same : (d ≡ Some c) × (u ≡ v) = (ap chan_of (some_is is), ap value_of (some_is is)) in
+    record { answer = Answer.Unit; row = (λ i. told_sender (same.0 i) (same.1 i) (Send c v)) ∙ told_same_two c v (Some Answer.Unit) }
+  where
+    value_of : Offer → ℕ
+    value_of (Offer.Send c v) = v
+    value_of (Offer.Recv c) = 0
+sender_has (Ask.Recv d) zero c v is = absurd cc
+sender_has (Ask.Send d u) (suc k) c v is = absurd (none-some _ is)
+sender_has (Ask.Recv d) (suc k) c v is = absurd (none-some _ is)
+sender_has _ k c v is = absurd (none-some _ is)
+
+-- so is who offers to receive
+pub receiver_has : (ask : Ask) (k c v : ℕ) → slice_get (offers_of ask) k ≡ Some (Offer.Recv (Some c)) → HasAnswer ask k (Recv c v)
+receiver_has (Ask.Select offers has_default) k c v is =
+    record {
+      answer = Answer.Chosen k (Some v);
+      row = at_offer offers has_default k (Offer.Recv (Some c)) (Recv c v) (Some (Answer.Value v)) is (told_same c (Some (Answer.Value v)));
+    }
+receiver_has (Ask.Recv d) zero c v is =
+    record {
+      answer = Answer.Value v;
+      row = ap (λ e. told_receiver e (Recv c v)) (ap chan_of (some_is is)) ∙ told_same c (Some (Answer.Value v));
+    }
+receiver_has (Ask.Send d u) zero c v is = absurd cc
+receiver_has (Ask.Send d u) (suc k) c v is = absurd (none-some _ is)
+receiver_has (Ask.Recv d) (suc k) c v is = absurd (none-some _ is)
+receiver_has _ k c v is = absurd (none-some _ is)
+
+-- a possible tuple makes an event, which is legal
+pub record IsPossible (caps : ℕ → ℕ) (past : List Event) (ws : List Waiter) (t : Choice) : Type 0 where
+  pub e : Event
+  pub makes : event_of past ws t ≡ Some e
+  pub legal : broken caps past e ≡ None
+  pub way : t.offer < ways_at ws t.place
+
+possible_by : (caps : ℕ → ℕ) (past : List Event) (ws : List Waiter) (t : Choice) (made : Option Event) → event_of past ws t ≡ made
+    → is_legal_next caps past made ≡ true → t.offer < ways_at ws t.place → IsPossible caps past ws t
+possible_by caps past ws t None is legal way = absurd cc
+possible_by caps past ws t (Some e) is legal way = record { e = e; makes = is; legal = none_is (broken caps past e) legal; way = way }
+  where
+    none_is : (o : Option ℕ) → is_none o ≡ true → o ≡ None
+    none_is None is = refl
+    none_is (Some n) is = absurd cc
+
+-- so does each choice that is listed
+pub listed_is_possible : (caps : ℕ → ℕ) (past : List Event) (ws : List Waiter) (i : ℕ) (t : Choice) → slice_get (choices caps past ws) i ≡ Some t
+    → IsPossible caps past ws t
+listed_is_possible caps past ws i t is =
+    possible_by caps past ws t (event_of past ws t) refl
+    (first _ _ (all_at (λ t. is_choice caps past ws t ≡ true) (choices caps past ws) i t (filter_passes (is_choice caps past ws) (tuples_of ws)) is))
+    (each_at (λ t. t.offer < ways_at ws t.place) (choices caps past ws) i t
+    (each_filter (λ t. t.offer < ways_at ws t.place) (is_choice caps past ws) (tuples_of ws) (ways_of_tuples (length ws) (ways_at ws))) is)
+  where
+    first : (a b : Bool) → (a && b) ≡ true → a ≡ true
+    first true b is = refl
+    first false b is = absurd cc
+
+-- from an empty list alone nothing is picked
+pub none_picked : {X : Type 0} (xs : List X) (pick : ℕ) → None ≡ slice_get xs (pick % length xs) → xs ≡ []
+none_picked [] pick is = refl
+none_picked (x ∷ xs) pick is =
+    let there = at_below (x ∷ xs) (pick % length (x ∷ xs)) (let less : pick % length (x ∷ xs) < length (x ∷ xs) = omega arith in less) in
+    absurd (none-some there.0 (is ∙ there.1))

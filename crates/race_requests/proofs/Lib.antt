@@ -1,0 +1,9 @@
+pub mod OfferLemmas
+pub mod RangeLemmas
+pub mod RowLemmas
+pub mod FoundLemmas
+pub mod PossibleLemmas
+pub mod WaitingLemmas
+pub mod ReceiverLemmas
+pub mod ChoiceLemmas
+pub mod MoveLemmas

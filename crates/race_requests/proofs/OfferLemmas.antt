@@ -1,0 +1,139 @@
+-- A list of offers, read and made longer by its cases and values.
+use Rattle.std.proofs.Common.{◌≡◌, ℕ, zero, suc, ◌<◌, ◌≤◌, ◌&&◌, cond, nat_lt, nat_le, Bool}
+use Rattle.std.proofs.Common.{true, false, List, [], ◌∷◌, ◌++◌, length, map, set, get_or, Option, Some}
+use Rattle.std.proofs.Common.{None}
+use Rattle.std.proofs.Common.{IfSome, IsTrue, slice_get, true≢false, refl, sym, ap, ◌∙◌, arith}
+use Rattle.std.specs.List.{list_all}
+use Rattle.std.proofs.lemmas.Bool.Decides.{nat_tests}
+use Rattle.std.proofs.lemmas.Option.{none-some}
+use Rattle.race_records.specs.declared.cases.TheConstants.{MAX_CASES}
+use Rattle.race_records.specs.declared.kind.Kind.{Kind}
+use Rattle.race_records.specs.Parts.{case_is_in_range}
+use Rattle.race_legal.proofs.Searches.{each_passes}
+use Rattle.race_records.specs.declared.cases.Case.{Case}
+use Rattle.race_records.specs.declared.cases.Dir.{Dir}
+use Rattle.race_requests.specs.declared.request.Ask.{Ask}
+use Rattle.race_requests.specs.declared.request.Offer.{Offer}
+use Rattle.race_requests.specs.Offers.{case_of}
+use Rattle.race_requests.specs.Table.{offers_of}
+use Rattle.race_requests.specs.Choices.{ways}
+use Rattle.race_requests.specs.Possible.{ask_is_in_range, offer_is_in_range}
+use Rattle.race_requests.specs.Offers.{offer_of, offers_with}
+
+pub below_if : (n m : ℕ) → (m ≤ n → false ≡ true) → n < m
+below_if n m never = by (nat_lt n m) refl
+  where
+    by : (b : Bool) → nat_lt n m ≡ b → n < m
+    by true test = grind (arith, nat_tests)
+    by false test = absurd (true≢false (sym (never (grind (arith, nat_tests)))))
+
+-- there is an offer for each case
+pub offers_len : (cases : List Case) (values : List ℕ) → length cases ≤ length values → length (offers_with cases values) ≡ length cases
+offers_len [] values few = refl
+offers_len (c ∷ cases) [] few = absurd (omega (arith, few))
+offers_len (c ∷ cases) (v ∷ values) few = ap suc (offers_len cases values (omega (arith, few)))
+
+-- offer k is that of its case and its value
+pub offer_at_is : (cases : List Case) (values : List ℕ) (k : ℕ) (case : Case) → length cases ≤ length values → slice_get cases k ≡ Some case
+    → slice_get (offers_with cases values) k ≡ Some (offer_of case (get_or values k 0))
+offer_at_is [] values k case few is = absurd (none-some case is)
+offer_at_is (c ∷ cases) [] k case few is = absurd (omega (arith, few))
+offer_at_is (c ∷ cases) (v ∷ values) zero case few is = ap (λ o. Some (offer_of o v)) (let e : c ≡ case = cc in e)
+offer_at_is (c ∷ cases) (v ∷ values) (suc k) case few is = offer_at_is cases values k case (omega (arith, few)) is
+
+-- one more offer, whose value stands behind the others
+pub offers_push : (cases : List Case) (values : List ℕ) (case : Case) (value : ℕ) → length cases < length values
+    → offers_with (cases ++ case ∷ []) (set values (length cases) value) ≡ offers_with cases values ++ offer_of case value ∷ []
+offers_push [] [] case value few = absurd (omega (arith, few))
+offers_push [] (v ∷ values) case value few = refl
+offers_push (c ∷ cases) [] case value few = absurd (omega (arith, few))
+offers_push (c ∷ cases) (v ∷ values) case value few = ap (λ os. offer_of c v ∷ os) (offers_push cases values case value (omega (arith, few)))
+
+case_of_offer : (case : Case) (value : ℕ) → case_of (offer_of case value) ≡ case
+case_of_offer case value = by case.dir refl
+  where
+    by : (d : Dir) → case.dir ≡ d → case_of (elim d [ Dir.Send ↦ Offer.Send case.chan value | Dir.Recv ↦ Offer.Recv case.chan ]) ≡ case
+    by Dir.Send is = λ i. record { dir = sym_is i; chan = case.chan }
+      where
+        sym_is : Dir.Send ≡ case.dir
+        sym_is = cc
+    by Dir.Recv is = λ i. record { dir = sym_is i; chan = case.chan }
+      where
+        sym_is : Dir.Recv ≡ case.dir
+        sym_is = cc
+
+-- each offer has its case
+pub cases_again : (cases : List Case) (values : List ℕ) → length cases ≤ length values → cases ≡ map case_of (offers_with cases values)
+cases_again [] values few = refl
+cases_again (c ∷ cases) [] few = absurd (omega (arith, few))
+cases_again (c ∷ cases) (v ∷ values) few = again (case_of_offer c v) (cases_again cases values (omega (arith, few)))
+  where
+    again : case_of (offer_of c v) ≡ c → cases ≡ map case_of (offers_with cases values)
+        → c ∷ cases ≡ case_of (offer_of c v) ∷ map case_of (offers_with cases values)
+    again one rest = λ i. one_back i ∷ rest i
+      where
+        one_back : c ≡ case_of (offer_of c v)
+        one_back = cc
+
+-- Which channels offers name.
+
+both : (a b : Bool) → (a && b) ≡ true → (a ≡ true) × (b ≡ true)
+both true b is = (refl, is)
+both false b is = absurd cc
+
+pub offers_in_range : (counts : Kind → ℕ) (offers : List Offer) (has_default : Bool) → ask_is_in_range counts (Ask.Select offers has_default) ≡ true
+    → list_all (offer_is_in_range (counts Kind.Chan)) offers ≡ true
+offers_in_range counts offers has_default is = (both (nat_le (length offers) MAX_CASES) _ is).1
+
+-- each offer's channel is in range
+pub offer_in_range : (chans : ℕ) (offers : List Offer) (k : ℕ) → list_all (offer_is_in_range chans) offers ≡ true
+    → IfSome (slice_get offers k) (λ o. IsTrue (offer_is_in_range chans o))
+offer_in_range chans offers k is = by (slice_get offers k) refl
+  where
+    by : (o : Option Offer) → slice_get offers k ≡ o → IfSome o (λ o. IsTrue (offer_is_in_range chans o))
+    by None there = tt
+    by (Some o) there = each_passes (offer_is_in_range chans) offers k o is there
+
+case_in_range : (chans : ℕ) (o : Offer) → offer_is_in_range chans o ≡ true → case_is_in_range chans (case_of o) ≡ true
+case_in_range chans (Offer.Send c v) is = is
+case_in_range chans (Offer.Recv c) is = is
+
+pub cases_in_range : (chans : ℕ) (offers : List Offer) → list_all (offer_is_in_range chans) offers ≡ true
+    → list_all (case_is_in_range chans) (map case_of offers) ≡ true
+cases_in_range chans [] is = refl
+cases_in_range chans (o ∷ offers) is =
+    let parts = both (offer_is_in_range chans o) (list_all (offer_is_in_range chans) offers) is in
+    λ i. (case_in_range chans o parts.0 ∙ refl) i && cases_in_range chans offers parts.1 i
+
+-- so is that on which an ask offers to send
+pub sent_in_range : (counts : Kind → ℕ) (ask : Ask) (k c v : ℕ) → ask_is_in_range counts ask ≡ true
+    → slice_get (offers_of ask) k ≡ Some (Offer.Send (Some c) v) → nat_lt c (counts Kind.Chan) ≡ true
+sent_in_range counts (Ask.Select offers has_default) k c v is there =
+    each_passes (offer_is_in_range (counts Kind.Chan)) offers k (Offer.Send (Some c) v) (offers_in_range counts offers has_default is) there
+sent_in_range counts (Ask.Send None u) zero c v is there = absurd cc
+sent_in_range counts (Ask.Send (Some d) u) zero c v is there = ap (λ n. nat_lt n (counts Kind.Chan)) (let same : c ≡ d = cc in same) ∙ is
+sent_in_range counts (Ask.Send d u) (suc k) c v is there = absurd (none-some _ there)
+sent_in_range counts (Ask.Recv d) zero c v is there = absurd cc
+sent_in_range counts (Ask.Recv d) (suc k) c v is there = absurd (none-some _ there)
+sent_in_range counts _ k c v is there = absurd (none-some _ there)
+
+-- an ask in range has at most sixteen offers, and one way more
+pub few_ways : (counts : Kind → ℕ) (ask : Ask) → ask_is_in_range counts ask ≡ true → ways ask ≤ 17
+few_ways counts (Ask.Select offers has_default) is = by has_default (few (both (nat_le (length offers) MAX_CASES) _ is).0)
+  where
+    few : nat_le (length offers) 16 ≡ true → length offers ≤ 16
+    few test = grind (arith, nat_tests)
+
+    by : (d : Bool) → length offers ≤ 16 → ways (Ask.Select offers d) ≤ 17
+    by true le = omega (arith, le)
+    by false le = omega (arith, le)
+few_ways counts _ is = omega arith
+
+-- what a select does by a way that is no default's is what the offer does that stands there, if one does
+pub by_offer_at : {X : Type 0} (offers : List Offer) (k : ℕ) (o : Option Offer) (by_default : Bool) (x : X) (f : Option Offer → X) → by_default ≡ false
+    → slice_get offers k ≡ o → f o ≡ cond by_default x (f (slice_get offers k))
+by_offer_at offers k o by_default x f test there = ap f (sym there) ∙ ap (λ b. cond b x (f (slice_get offers k))) (sym test)
+
+pub chan_in_range : (chans : ℕ) (offers : List Offer) (k : ℕ) (o p : Offer) → list_all (offer_is_in_range chans) offers ≡ true
+    → slice_get offers k ≡ Some o → o ≡ p → offer_is_in_range chans p ≡ true
+chan_in_range chans offers k o p all there is = ap (offer_is_in_range chans) (sym is) ∙ each_passes (offer_is_in_range chans) offers k o all there

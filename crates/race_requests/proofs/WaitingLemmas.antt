@@ -1,0 +1,65 @@
+-- What a waiting list names has a row in the tables of a replay that stands for its events.
+use Rattle.std.proofs.Common.{ℕ, ◌≡◌, ◌<◌, ◌≤◌, All, slice_get, ◌&&◌, nat_lt, Bool, true}
+use Rattle.std.proofs.Common.{false, IfSome, List, Option, Some, None, IsTrue, refl, sym, ap}
+use Rattle.std.proofs.Common.{subst, arith}
+use Rattle.std.proofs.lemmas.Bool.Decides.{nat_tests}
+use Rattle.race_records.specs.declared.event.Event.{Event}
+use Rattle.race_records.specs.declared.kind.Kind.{Kind}
+use Rattle.race_records.specs.Declarations.{Declaration, count_of, counts_of}
+use Rattle.race_legal.specs.ReplayState.{ReplayState, counts_in}
+use Rattle.race_legal.specs.StandsFor.{StandsFor}
+use Rattle.race_requests.specs.declared.request.Offer.{Offer}
+use Rattle.race_requests.specs.declared.request.Waiter.{Waiter}
+use Rattle.race_requests.specs.Possible.{ask_is_in_range, offer_is_in_range}
+use Rattle.race_requests.specs.Choices.{ways, ways_at}
+use Rattle.race_requests.specs.Waiting.{is_declared, sent_on}
+use Rattle.race_requests.proofs.OfferLemmas.{few_ways}
+use Rattle.race_requests.proofs.ChoiceLemmas.{all_at}
+
+-- what is declared has a row in the replay's tables
+module _ (declarations : List Declaration) (k : ReplayState) (past : List Event) (stands : StandsFor declarations k past) where
+  pub same_channels : count_of Kind.Chan declarations ≡ counts_in k Kind.Chan
+  same_channels = sym (ap (λ (f : Kind → ℕ). f Kind.Chan) stands.counts)
+
+  pub who_is_in_range : (w : Waiter) → IsTrue (is_declared declarations w) → w.who < counts_in k Kind.Goroutine
+  who_is_in_range w is =
+      let e = ap (λ (f : Kind → ℕ). f Kind.Goroutine) stands.counts in
+      let less = first (nat_lt w.who (counts_of declarations Kind.Goroutine)) (ask_is_in_range (counts_of declarations) w.asked.ask) is in
+      grind (arith, nat_tests)
+    where
+      first : (a b : Bool) → IsTrue (a && b) → a ≡ true
+      first true b is = refl
+      first false b is = is
+
+  pub ask_is : (w : Waiter) → IsTrue (is_declared declarations w) → IsTrue (ask_is_in_range (counts_in k) w.asked.ask)
+  ask_is w is =
+      subst (λ (f : Kind → ℕ). IsTrue (ask_is_in_range f w.asked.ask)) (sym stands.counts)
+      (second (nat_lt w.who (counts_of declarations Kind.Goroutine)) (ask_is_in_range (counts_of declarations) w.asked.ask) is)
+    where
+      second : (a b : Bool) → IsTrue (a && b) → IsTrue b
+      second true b is = is
+      second false b is = absurd (let e : false ≡ true = is in cc)
+
+-- the channel of an offer in range is one
+pub sent_is_in_range : (chans : ℕ) (offer : Option Offer) (c : ℕ) → Some c ≡ sent_on offer
+    → IfSome offer (λ o. IsTrue (offer_is_in_range chans o)) → nat_lt c chans ≡ true
+sent_is_in_range chans None c e is = absurd (let no : Some c ≡ None = e in cc)
+sent_is_in_range chans (Some (Offer.Recv d)) c e is = absurd (let no : Some c ≡ None = e in cc)
+sent_is_in_range chans (Some (Offer.Send None v)) c e is = absurd (let no : Some c ≡ None = e in cc)
+sent_is_in_range chans (Some (Offer.Send (Some d) v)) c e is = subst (λ n. nat_lt n chans ≡ true) (let same : Some c ≡ Some d = e in cc) is
+
+-- each request of a list of declared ones has few ways
+pub few_at : (declarations : List Declaration) (waiting : List Waiter) (i : ℕ) → All (λ w. IsTrue (is_declared declarations w)) waiting
+    → ways_at waiting i ≤ 17
+few_at declarations waiting i all = by (slice_get waiting i) refl
+  where
+    second : (a b : Bool) → IsTrue (a && b) → b ≡ true
+    second true b is = is
+    second false b is = absurd (let e : false ≡ true = is in cc)
+
+    by : (w : Option Waiter) → slice_get waiting i ≡ w → elim w [ Some w ↦ ways w.asked.ask | None ↦ 0 ] ≤ 17
+    by None there = omega arith
+    by (Some w) there =
+        few_ways (counts_of declarations) w.asked.ask
+        (second (nat_lt w.who (counts_of declarations Kind.Goroutine)) (ask_is_in_range (counts_of declarations) w.asked.ask)
+        (all_at (λ w. IsTrue (is_declared declarations w)) waiting i w all there))

@@ -1,0 +1,38 @@
+use Rattle.std.proofs.lemmas.Grind.{common_steps}
+use Rattle.std.proofs.Common.{◌≡◌, ◌++◌, ◌∷◌, [], length, set, List, true≢false, refl, sym, ap, ◌∙◌, arith}
+use Rattle.race_requests.specs.declared.request.Offer.{Offer}
+use Rattle.race_requests.specs.Offers.{offers_with}
+use Rattle.race_requests.proofs.OfferLemmas.{below_if, offers_len, offers_push}
+use Rattle.race_requests.proofs.offers.Offers.push.Goals as goal
+
+pub returns-in_default-clause-full : goal.returns-in_default-clause-full
+returns-in_default-clause-full c =
+    let len = offers_len c.self.inside.cases c.self.inside.values (omega (arith, c.self.invariant.0, c.self.invariant.1)) in
+    (λ _. omega (arith, len, ap (λ (offers : List Offer). length offers) c.self.view_is, c.in_default.ensures.full.0 refl), λ _. refl)
+
+pub bounds-self-inside-at : goal.bounds-self-inside-at
+bounds-self-inside-at c =
+    let len = offers_len c.self.inside.cases c.self.inside.values (omega (arith, c.self.invariant.0, c.self.invariant.1)) in
+    let less = below_if (length c.self.inside.cases) 16 c.in-Ok.ensures.full.1 in
+    omega (arith, len, ap (λ (offers : List Offer). length offers) c.self.view_is, c.len-at.ensures.len, less)
+
+pub returns-clause-full : goal.returns-clause-full
+returns-clause-full c =
+    let len = offers_len c.self.inside.cases c.self.inside.values (omega (arith, c.self.invariant.0, c.self.invariant.1)) in (
+      λ e. absurd (true≢false (sym e)),
+      λ le. c.in-Ok.ensures.full.1 (omega (arith, len, ap (λ (offers : List Offer). length offers) c.self.view_is, le)),
+    )
+
+pub returns-clause-pushed : goal.returns-clause-pushed
+returns-clause-pushed c =
+    let cases = c.self.inside.cases in
+    let values = c.self.inside.values in
+    let len = offers_len cases values (omega (arith, c.self.invariant.0, c.self.invariant.1)) in
+    let less = below_if (length cases) 16 c.in-Ok.ensures.full.1 in
+    let at : c.len-at.result ≡ length cases = omega (arith, len, ap (λ (offers : List Offer). length offers) c.self.view_is, c.len-at.ensures.len) in
+    (λ i. offers_with (c.in-Ok.ensures.pushed i) (set values (at i) c.parts_of-value.result.1))
+    ∙ offers_push cases values c.parts_of-value.result.0 c.parts_of-value.result.1 (omega (arith, less, c.self.invariant.1))
+    ∙ (λ i. c.self.view_is i ++ c.parts_of-value.ensures.offer i ∷ [])
+
+pub invariant_of-self-2 : goal.invariant_of-self-2
+invariant_of-self-2 c = grind (arith, common_steps) steps 1000000

@@ -1,0 +1,19 @@
+-- What isn't found in the parts before is looked for in the next one.
+use Rattle.std.proofs.Common.{◌<◌, arith}
+use Rattle.race_requests.specs.Choices.{of_way}
+use Rattle.race_requests.proofs.FoundLemmas.{found_step, found_at}
+use Rattle.race_requests.proofs.search.by_request.Goals as goal
+
+pub returns-in-At : goal.returns-in-At
+returns-in-At g c =
+    let less : c.loop-way.way < g.B.Board.ways_at c.args.board.now c.args.place = omega (arith, c.ways-way-end.ensures) in
+    found_at (g.B.Board.admitted c.args.board.now)
+    (of_way (g.B.Board.size c.args.board.now) (g.B.Board.ways_at c.args.board.now) c.args.place) c.loop-way.way
+    (g.B.Board.ways_at c.args.board.now c.args.place)
+    c.args.skip c.loop-way.left c.in-At.choice less c.loop-way.invariant c.in-At.ensures
+
+pub loop-way-preserved : goal.loop-way-preserved
+loop-way-preserved g c =
+    found_step (g.B.Board.admitted c.args.board.now)
+    (of_way (g.B.Board.size c.args.board.now) (g.B.Board.ways_at c.args.board.now) c.args.place) c.loop-way.way
+    c.args.skip c.loop-way.left c.in-Left.rest c.loop-way.invariant c.in-Left.ensures

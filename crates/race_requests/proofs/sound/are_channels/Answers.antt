@@ -1,0 +1,43 @@
+-- The first offer whose channel isn't declared is found.
+use Rattle.std.proofs.Common.{◌≡◌, ◌<◌, ◌≤◌, ◌&&◌, ◌∙◌, nat_le, Bool, true, false, length, refl, sym, ap, arith}
+use Rattle.std.specs.List.{list_all}
+use Rattle.std.proofs.lemmas.Bool.Decides.{nat_tests}
+use Rattle.std.proofs.lemmas.List.{take_all}
+use Rattle.std.proofs.lemmas.List.Folds.{list_all_at, list_all_more}
+use Rattle.race_records.specs.declared.cases.TheConstants.{MAX_CASES}
+use Rattle.race_records.specs.declared.kind.Kind.{Kind}
+use Rattle.race_records.specs.Declarations.{count_of}
+use Rattle.race_legal.proofs.Searches.{passes_at}
+use Rattle.race_requests.specs.Possible.{offer_is_in_range}
+use Rattle.race_requests.proofs.sound.are_channels.Goals as goal
+
+and_false : (b : Bool) → false ≡ (b && false)
+and_false true = refl
+and_false false = refl
+
+pub returns-then-not-is_offered : goal.returns-then-not-is_offered
+returns-then-not-is_offered g c =
+    let p = offer_is_in_range (count_of Kind.Chan c.args.decls.now.declarations) in
+    let within : c.loop-k.k < length c.args.offers.now = omega (arith, c.len-k-end.ensures.len, c.loop-k-test.true) in
+    let test : nat_le (length c.args.offers.now) MAX_CASES ≡ nat_le (length c.args.offers.now) MAX_CASES = refl in
+    and_false (nat_le (length c.args.offers.now) MAX_CASES)
+    ∙ ap (λ b. nat_le (length c.args.offers.now) MAX_CASES && b)
+    (sym (list_all_at p c.args.offers.now c.loop-k.k c.get.result within
+    (passes_at p c.args.offers.now c.loop-k.k c.get.result c.is_offered.result false c.get.ensures c.is_offered.ensures c.if-not-is_offered.true)))
+
+pub loop-k-preserved : goal.loop-k-preserved
+loop-k-preserved g c =
+    let p = offer_is_in_range (count_of Kind.Chan c.args.decls.now.declarations) in
+    let within : c.loop-k.k < length c.args.offers.now = omega (arith, c.len-k-end.ensures.len, c.loop-k-test.true) in
+    list_all_more p c.args.offers.now c.loop-k.k c.get.result within
+    ∙ (λ i.
+    c.loop-k.invariant i
+    && passes_at p c.args.offers.now c.loop-k.k c.get.result c.is_offered.result true c.get.ensures c.is_offered.ensures c.if-not-is_offered.false i)
+
+pub returns : goal.returns
+returns g c =
+    let p = offer_is_in_range (count_of Kind.Chan c.args.decls.now.declarations) in
+    let whole : length c.args.offers.now ≤ c.loop-k.k = omega (arith, c.len-k-end.ensures.len, c.loop-k-test.false) in
+    let all : true ≡ list_all p c.args.offers.now = sym (ap (list_all p) (sym (take_all c.loop-k.k c.args.offers.now whole)) ∙ c.loop-k.invariant) in
+    let few : true ≡ nat_le (length c.args.offers.now) MAX_CASES = grind (arith, nat_tests, c.len-k-end.ensures.len, c.len-k-end.ensures.few) in
+    λ i. few i && all i

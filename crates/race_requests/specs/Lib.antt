@@ -1,0 +1,11 @@
+pub mod Table
+pub mod Choices
+pub mod Search
+pub mod Possible
+pub mod Rows
+pub mod Laws
+pub mod Waiting
+pub mod Receivers
+pub mod WaitingHolds
+pub mod Offers
+pub mod Sound

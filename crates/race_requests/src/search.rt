@@ -1,0 +1,182 @@
+//! Finds a choice by its number, without a list of the choices.
+//!
+//! All tuples of requests and ways are gone through in lexicographic order, and those that are admitted are counted. What is
+//! admitted the caller tells, so that nothing here knows of channels but one thing: where the next partner may be.
+ghost use Rattle.std.specs.Prelude.{◌≡◌, ◌<◌, ◌≤◌, ◌%◌, ◌∷◌, [], length, filter, flat_map, slice_get};
+ghost use Rattle.race_requests.specs.Choices.{below, choice, with_partner, of_way, tuples};
+ghost use Rattle.race_requests.specs.Search.{IsFound, picked};
+
+use crate::Choice;
+use race_records::MAX_GOROUTINES;
+
+/// The choice that was looked for, or how many of the choices behind were still to be passed by.
+#[derive(Clone, Copy, PartialEq, Eq)]
+pub enum Found {
+    /// This is the one.
+    At(Choice),
+    /// There were too few by so many and one.
+    Left(u64),
+}
+
+/// Requests that wait, each with its ways, and which tuples of them are choices.
+pub trait Board {
+    ghost use Rattle.std.specs.Prelude.{ℕ, ◌≡◌, ◌+◌, ◌<◌, ◌≤◌, Bool, false};
+    ghost use Rattle.race_records.specs.declared.kind.TheConstants.{MAX_GOROUTINES};
+    ghost use Rattle.race_requests.specs.declared.choice.Choice.{Choice};
+    ghost use Rattle.race_requests.specs.Choices.{choice};
+
+    ghost size: { Self → ℕ };
+
+    ghost ways_at: { Self → ℕ → ℕ };
+
+    ghost admitted: { Self → Choice → Bool };
+
+    /// How many requests wait.
+    fn len(&self) -> u32
+        ensures len { result ≡ size self.now }
+        ensures few { result ≤ MAX_GOROUTINES }
+        ensures few_ways { (i : ℕ) → ways_at self.now i ≤ 17 };
+
+    /// In how many ways the request at this place can go on: at most 16 offers and a default.
+    fn ways(&self, place: u32) -> u32
+        requires { place < size self.now }
+        ensures { result ≡ ways_at self.now place };
+
+    /// The place, `from` or a later one, where the next partner of the request by this way may stand: none stands from `from`
+    /// up to just before it. So `len` or more says that there is none from `from` on.
+    fn next_partner(&self, place: u32, way: u32, from: u32) -> u32
+        requires { place < size self.now }
+        ensures onward { from ≤ result }
+        ensures passed { (p : ℕ) → from ≤ p → p < result → (q : ℕ) → admitted self.now (choice place way (p + 1) (q + 1)) ≡ false };
+
+    /// Whether the tuple is a choice.
+    fn admits(&self, choice: Choice) -> bool
+        ensures { result ≡ admitted self.now choice };
+}
+
+// The tuple alone.
+fn one<B: Board>(board: &B, tuple: Choice, skip: u64) -> Found
+    ensures { IsFound (filter (B.admitted board.now) (tuple ∷ [])) skip result }
+{
+    if !board.admits(tuple) {
+        return Found::Left(skip);
+    }
+    if skip == 0 {
+        return Found::At(tuple);
+    }
+    Found::Left(skip - 1)
+}
+
+// The request by its way, with each way of the partner.
+fn with_each_way<B: Board>(board: &B, place: u32, way: u32, partner: u32, skip: u64) -> Found
+    requires partner { partner < B.size board.now }
+    requires few { B.size board.now ≤ MAX_GOROUTINES }
+    ensures { IsFound (filter (B.admitted board.now) (with_partner (B.ways_at board.now) place way partner)) skip result }
+{
+    let mut left = skip;
+    for other in 0..board.ways(partner) {
+        let tuple = Choice {
+            place,
+            offer: way,
+            partner: partner + 1,
+            partner_offer: other + 1,
+        };
+        match one(board, tuple, left) {
+            Found::At(choice) => return Found::At(choice),
+            Found::Left(rest) => left = rest,
+        }
+    }
+    Found::Left(left)
+}
+
+// The request by its way, with each partner.
+fn with_each_partner<B: Board>(board: &B, place: u32, way: u32, skip: u64) -> Found
+    requires { place < B.size board.now }
+    ensures { IsFound (filter (B.admitted board.now)
+        (flat_map (with_partner (B.ways_at board.now) place way) (below (B.size board.now)))) skip result }
+{
+    let count = board.len();
+    let mut left = skip;
+    let mut from = 0;
+    while from < count {
+        // Most requests meet nobody: trying all partners of each would take the square of the list's length.
+        let partner = board.next_partner(place, way, from);
+        if partner >= count {
+            return Found::Left(left);
+        }
+        match with_each_way(board, place, way, partner, left) {
+            Found::At(choice) => return Found::At(choice),
+            Found::Left(rest) => left = rest,
+        }
+        from = partner + 1;
+    }
+    Found::Left(left)
+}
+
+// The request by its way, alone and then with each partner.
+fn by_way<B: Board>(board: &B, place: u32, way: u32, skip: u64) -> Found
+    requires { place < B.size board.now }
+    ensures { IsFound (filter (B.admitted board.now)
+        (of_way (B.size board.now) (B.ways_at board.now) place way)) skip result }
+{
+    let alone = Choice {
+        place,
+        offer: way,
+        partner: 0,
+        partner_offer: 0,
+    };
+    match one(board, alone, skip) {
+        Found::At(choice) => Found::At(choice),
+        Found::Left(left) => with_each_partner(board, place, way, left),
+    }
+}
+
+// The request by each of its ways.
+fn by_request<B: Board>(board: &B, place: u32, skip: u64) -> Found
+    requires { place < B.size board.now }
+    ensures { IsFound (filter (B.admitted board.now)
+        (flat_map (of_way (B.size board.now) (B.ways_at board.now) place) (below (B.ways_at board.now place)))) skip result }
+{
+    let mut left = skip;
+    for way in 0..board.ways(place) {
+        match by_way(board, place, way, left) {
+            Found::At(choice) => return Found::At(choice),
+            Found::Left(rest) => left = rest,
+        }
+    }
+    Found::Left(left)
+}
+
+/// `Found::At` with choice number `skip`, counted from 0; or `Found::Left` with `skip` less the count of choices, where `skip`
+/// isn't below that count. Takes no memory.
+pub fn find<B: Board>(board: &B, skip: u64) -> Found
+    ensures { IsFound (filter (B.admitted board.now) (tuples (B.size board.now) (B.ways_at board.now))) skip result }
+{
+    let mut left = skip;
+    for place in 0..board.len() {
+        match by_request(board, place, left) {
+            Found::At(choice) => return Found::At(choice),
+            Found::Left(rest) => left = rest,
+        }
+    }
+    Found::Left(left)
+}
+
+/// The choice number `pick`, modulo the count of choices, if there is one. Takes no memory.
+pub fn pick_choice<B: Board>(board: &B, pick: u64) -> Option<Choice>
+    ensures { result ≡ picked pick (filter (B.admitted board.now) (tuples (B.size board.now) (B.ways_at board.now))) }
+{
+    // A number behind the last choice tells by how much, and so how many there are.
+    let rest = match find(board, pick) {
+        Found::At(choice) => return Some(choice),
+        Found::Left(rest) => rest,
+    };
+    let count = pick - rest;
+    if count == 0 {
+        return None;
+    }
+    let Found::At(choice) = find(board, pick % count) else {
+        return None;
+    };
+    Some(choice)
+}

@@ -1,9 +1,9 @@
 -- What a listed choice is: what each who takes part in its event is told.
-use Rattle.std.proofs.Common.{◌≡◌, ◌==◌, ℕ, zero, suc, ◌<◌, ◌≤◌, ◌+◌, ◌-◌, ◌%◌, ◌++◌, ◌&&◌}
-use Rattle.std.proofs.Common.{◌⊎◌, Bool, true, false, cond, List, [], ◌∷◌, map, filter}
+use Rattle.std.proofs.Common.{◌≡◌, ◌==◌, ℕ, zero, suc, ◌<◌, ◌≤◌, ◌+◌, ◌%◌, ◌++◌, ◌&&◌}
+use Rattle.std.proofs.Common.{Bool, true, false, cond, List, [], ◌∷◌, map, filter}
 use Rattle.std.proofs.Common.{flat_map, length, option_map}
 use Rattle.std.proofs.Common.{All}
-use Rattle.std.proofs.Common.{Option, Some, None, is_none, refl, sym, ap, ◌∙◌, subst, inl, inr, arith, slice_get, eqb-true, eq-eqb, true≢false}
+use Rattle.std.proofs.Common.{Option, Some, None, is_none, refl, sym, ap, ◌∙◌, subst, arith, slice_get, eqb-true, eq-eqb}
 use Rattle.std.specs.List.{range_with_len}
 use Rattle.std.proofs.lemmas.Bool.Decides.{nat_tests}
 use Rattle.std.proofs.lemmas.Option.{none-some, slice_get_within, get_or_from_slice_get}
@@ -14,9 +14,8 @@ use Rattle.race_records.specs.declared.event.Cause.TheVariants.{SendClosed, Clos
 use Rattle.race_records.specs.declared.event.Op.TheVariants.{Send, Recv, Meet, RecvClosed, Close, Default, Unlock, RUnlock}
 use Rattle.race_records.specs.declared.event.Op.TheVariants.{TryLock, TryRLock, TryFail, OnceBegin, OnceDone, Fault}
 use Rattle.race_model.specs.State.{is_closed, front, is_held, is_read_held, is_begun, last_value}
-use Rattle.race_model.specs.Legal.{broken, rules}
+use Rattle.race_model.specs.Legal.{broken}
 use Rattle.race_model.proofs.Indexes.{at_below}
-use Rattle.race_model.proofs.ChannelOrder.{rules_kept}
 use Rattle.race_requests.specs.declared.choice.Choice.{Choice}
 use Rattle.race_requests.specs.declared.request.Answer.{Answer}
 use Rattle.race_requests.specs.declared.request.Ask.{Ask}
@@ -24,7 +23,7 @@ use Rattle.race_requests.specs.declared.request.Offer.{Offer}
 use Rattle.race_requests.specs.declared.request.Waiter.{Waiter}
 use Rattle.race_requests.specs.Offers.{chan_of, case_of}
 use Rattle.race_requests.specs.Table.{offers_of, done_by, told_sender, told_receiver, chosen, told_plain, IsRow}
-use Rattle.race_requests.specs.Choices.{choice, lone_op, offer_at, op_of, meet_op, lone_event, meet_event, event_of, is_legal_next, is_choice}
+use Rattle.race_requests.specs.Choices.{choice, lone_op, offer_at, op_of, meet_op, event_of, is_legal_next, is_choice}
 use Rattle.race_requests.specs.Choices.{ways, below, with_partner, of_way, tuples}
 use Rattle.race_requests.specs.Choices.{ways_at, tuples_of, choices}
 use Rattle.race_requests.proofs.RowLemmas.{told_same, told_both, told_same_two, at_first, at_offer, at_default}
@@ -155,20 +154,20 @@ module _ (past : List Event) (g k : ℕ) where
 
   tried_told : (l : ℕ) (first : Bool) → (k == 0) ≡ first → k < 2 → HasTold (Ask.TryLock l) k g (cond first (TryLock l) (TryFail l))
   tried_told l true first less =
-      record { told = Some (Answer.Tried true); row = told_both (k == 0) (l == l) (Some (Answer.Tried true)) first (eq-eqb l) }
+      record { told = Some (Answer.Tried true); row = told_both (k == 0) (l == l) (Some (Answer.Tried true)) first (eq-eqb l l refl) }
   tried_told l false first less =
       record {
         told = Some (Answer.Tried false);
-        row = told_both (k == 1) (l == l) (Some (Answer.Tried false)) (ap (λ n. n == 1) (second_way k first less)) (eq-eqb l);
+        row = told_both (k == 1) (l == l) (Some (Answer.Tried false)) (ap (λ n. n == 1) (second_way k first less)) (eq-eqb l l refl);
       }
 
   rtried_told : (l : ℕ) (first : Bool) → (k == 0) ≡ first → k < 2 → HasTold (Ask.TryRLock l) k g (cond first (TryRLock l) (TryFail l))
   rtried_told l true first less =
-      record { told = Some (Answer.Tried true); row = told_both (k == 0) (l == l) (Some (Answer.Tried true)) first (eq-eqb l) }
+      record { told = Some (Answer.Tried true); row = told_both (k == 0) (l == l) (Some (Answer.Tried true)) first (eq-eqb l l refl) }
   rtried_told l false first less =
       record {
         told = Some (Answer.Tried false);
-        row = told_both (k == 1) (l == l) (Some (Answer.Tried false)) (ap (λ n. n == 1) (second_way k first less)) (eq-eqb l);
+        row = told_both (k == 1) (l == l) (Some (Answer.Tried false)) (ap (λ n. n == 1) (second_way k first less)) (eq-eqb l l refl);
       }
 
   did_told : (o : ℕ) (begun : Bool) → k ≡ 0 → HasTold (Ask.Do o) k g (cond begun (OnceDone o) (OnceBegin o))

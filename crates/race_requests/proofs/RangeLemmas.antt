@@ -4,7 +4,7 @@ use Rattle.std.proofs.lemmas.Bool.Decides.{nat_tests}
 use Rattle.std.proofs.lemmas.Option.{none-some}
 use Rattle.race_records.specs.declared.event.Event.{Event}
 use Rattle.race_records.specs.declared.event.Op.{Op}
-use Rattle.race_records.specs.declared.event.Op.TheVariants.{Recv, RecvClosed, Meet}
+use Rattle.race_records.specs.declared.event.Op.TheVariants.{Recv, RecvClosed}
 use Rattle.race_records.specs.declared.kind.Kind.{Kind}
 use Rattle.race_records.specs.Parts.{op_is_in_range}
 use Rattle.race_legal.specs.ReplayState.{IsInRange}

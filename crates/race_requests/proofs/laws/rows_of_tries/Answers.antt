@@ -1,8 +1,5 @@
 -- Each list of choices, each event and each row is computed.
-use Rattle.std.proofs.Common.{ℕ, ◌≡◌, refl, Option, Some, ◌==◌, arith}
-use Rattle.race_records.specs.declared.event.Op.{Op}
-use Rattle.race_records.specs.declared.event.Op.TheVariants.{TryLock, TryRLock, Lock, RLock}
-use Rattle.race_requests.specs.declared.request.Answer.{Answer}
+use Rattle.std.proofs.Common.{refl}
 use Rattle.race_requests.proofs.laws.rows_of_tries.Goals as goal
 
 pub returns : goal.returns

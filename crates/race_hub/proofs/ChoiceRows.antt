@@ -1,32 +1,20 @@
 -- Who takes part in the event of a choice, and what each is told.
-use Rattle.std.proofs.Common.{◌≡◌, ◌==◌, ℕ, zero, suc, ◌<◌, ◌≤◌, ◌+◌, ◌-◌, ◌%◌, ◌++◌, ◌&&◌}
-use Rattle.std.proofs.Common.{◌⊎◌, Bool, true, false, cond, List, [], ◌∷◌, map, filter}
-use Rattle.std.proofs.Common.{flat_map, length, option_map}
-use Rattle.std.proofs.Common.{All}
-use Rattle.std.proofs.Common.{Option, Some, None, is_none, refl, sym, ap, ◌∙◌, subst, inl, inr, arith, slice_get, eqb-true, eq-eqb, true≢false}
-use Rattle.std.specs.List.{range_with_len}
-use Rattle.std.proofs.lemmas.Bool.Decides.{nat_tests}
-use Rattle.std.proofs.lemmas.Option.{none-some, slice_get_within, get_or_from_slice_get}
-use Rattle.std.proofs.lemmas.List.Elements.{filter_passes}
+use Rattle.std.proofs.Common.{◌≡◌, ◌==◌, ℕ, ◌<◌, ◌+◌, ◌-◌}
+use Rattle.std.proofs.Common.{Bool, true, false, cond, List}
+use Rattle.std.proofs.Common.{Option, Some, None, refl, sym, ap, ◌∙◌, subst, arith, slice_get, eqb-true, eq-eqb, true≢false}
+use Rattle.std.proofs.lemmas.Option.{none-some, slice_get_within}
 use Rattle.race_records.specs.declared.event.Event.{Event}
 use Rattle.race_records.specs.declared.event.Op.{Op}
-use Rattle.race_records.specs.declared.event.Cause.TheVariants.{SendClosed, CloseClosed, UnlockFree, RUnlockFree}
-use Rattle.race_records.specs.declared.event.Op.TheVariants.{Send, Recv, Meet, RecvClosed, Close, Default, Unlock, RUnlock}
-use Rattle.race_records.specs.declared.event.Op.TheVariants.{TryLock, TryRLock, TryFail, OnceBegin, OnceDone, Fault}
-use Rattle.race_model.specs.State.{is_closed, front, is_held, is_read_held, is_begun, last_value}
+use Rattle.race_records.specs.declared.event.Op.TheVariants.{Send, Recv, Meet}
 use Rattle.race_model.specs.Legal.{broken, rules}
-use Rattle.race_model.proofs.Indexes.{at_below}
 use Rattle.race_model.proofs.ChannelOrder.{rules_kept}
 use Rattle.race_requests.specs.declared.choice.Choice.{Choice}
-use Rattle.race_requests.specs.declared.request.Answer.{Answer}
 use Rattle.race_requests.specs.declared.request.Ask.{Ask}
-use Rattle.race_requests.specs.declared.request.Offer.{Offer}
 use Rattle.race_requests.specs.declared.request.Waiter.{Waiter}
-use Rattle.race_requests.specs.Offers.{chan_of, case_of}
-use Rattle.race_requests.specs.Table.{offers_of, done_by, told_sender, told_receiver, chosen, told_plain, IsRow}
-use Rattle.race_requests.specs.Choices.{choice, lone_op, offer_at, op_of, meet_op, lone_event, meet_event, event_of, is_legal_next, is_choice}
-use Rattle.race_requests.specs.Choices.{ways, below, with_partner, of_way, tuples}
-use Rattle.race_requests.specs.Choices.{ways_at, tuples_of, choices}
+use Rattle.race_requests.specs.Table.{offers_of, done_by}
+use Rattle.race_requests.specs.Choices.{op_of, lone_event, meet_event, event_of}
+use Rattle.race_requests.specs.Choices.{ways}
+use Rattle.race_requests.specs.Choices.{ways_at}
 use Rattle.race_hub.specs.Fires.{IsPartnerRow}
 use Rattle.race_requests.proofs.ChoiceLemmas.{some_is, HasAnswer, sender_has, receiver_has, lone_told, meets_by, IsMeet, is_meet}
 use Rattle.race_hub.specs.Firing.{HasSomeRows}

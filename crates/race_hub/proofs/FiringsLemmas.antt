@@ -1,5 +1,5 @@
 -- Small firings are computed, and a wrong state is none.
-use Rattle.std.proofs.Common.{◌≡◌, ℕ, ◌++◌, List, [], ◌∷◌, length, Option, Some, None, slice_get, refl, sym, ap, ◌∙◌, subst, inl, arith}
+use Rattle.std.proofs.Common.{◌≡◌, ℕ, ◌++◌, List, [], ◌∷◌, length, Option, Some, None, slice_get, refl, sym, ap, ◌∙◌, subst, arith}
 use Rattle.std.proofs.Common.{length-append}
 use Rattle.race_records.specs.Declarations.{capacity_of}
 use Rattle.race_model.proofs.LegalSteps.{legal_none}
@@ -10,7 +10,10 @@ use Rattle.race_requests.specs.declared.request.Waiter.{Waiter}
 use Rattle.race_requests.specs.Choices.{choice}
 use Rattle.race_requests.specs.Rows.{waits}
 use Rattle.race_hub.specs.Job.{JobState}
-use Rattle.race_requests.specs.Table.{IsRow, done_by}
+use Rattle.race_requests.specs.Table.{IsRow, done_by, told_by}
+use Rattle.race_requests.proofs.RowLemmas.{by_first, wanted}
+use Rattle.race_records.specs.declared.event.Op.{Op}
+use Rattle.race_records.specs.declared.event.Op.TheVariants.{Go}
 use Rattle.race_hub.specs.Hub.{stop_by}
 use Rattle.race_hub.specs.Fires.{goes_on, partner_goes_on, partner_of, born_of, started_by}
 use Rattle.race_requests.proofs.ChoiceLemmas.{some_is}
@@ -34,7 +37,7 @@ go_is_fired = record {
     behind = refl;
     makes = refl;
     legal = refl;
-    row = (refl, refl, refl);
+    row = refl;
     partner_row = refl;
     box = (11, refl);
     events = refl;
@@ -63,8 +66,8 @@ meet_is_fired = record {
     behind = refl;
     makes = refl;
     legal = refl;
-    row = (refl, inl (None, (0, refl, refl, refl), refl));
-    partner_row = ((Answer.Value 9, refl), (refl, Some 9, (0, refl, inl (9, refl, refl)), refl));
+    row = refl;
+    partner_row = ((Answer.Value 9, refl), refl);
     box = tt;
     events = refl;
     waiting = refl;
@@ -94,6 +97,11 @@ abbrev first_who : List (JobState ℕ) → ℕ
 first_who [] = 0
 first_who (j ∷ jobs) = j.who
 
+-- who starts another is told that it did
+start_told : (h : ℕ) (op : Op) (told : Option Answer) → told_by (Ask.Go h) op ≡ Some told → told ≡ Some Answer.Unit
+start_told h (Go g) told row = (wanted g h (Some Answer.Unit) told row).1
+start_told h _ told row = absurd cc
+
 pub starter_is_first : AStarterIsReadyFirst
 starter_is_first fired =
     let f = fired.fires in
@@ -103,6 +111,7 @@ starter_is_first fired =
     let ready : 1 ≡ f.w.who = ap first_who f.ready
     ∙ ap (λ (told : Option Answer). first_who (before_go.ready ++ goes_on f.w f.p told
     ++ partner_goes_on (partner_of fired.t before_go.waiting) (partner_of fired.t before_go.parked) f.partner_told
-    ++ born_of before_go.unstarted (started_by f.e.op))) row.2 in
+    ++ born_of before_go.unstarted (started_by f.e.op)))
+    (start_told 1 (done_by f.w.who f.e.op) f.told (by_first fired.t.offer (told_by (Ask.Go 1) (done_by f.w.who f.e.op)) f.told row).1) in
     let who : 0 ≡ f.w.who = ap (λ (w : Waiter). w.who) asks in
     absurd (omega (arith, ready, who))

@@ -108,29 +108,29 @@ by_test true answer told op row is = let same : answer ≡ told = cc in ap is_so
 by_test false answer told op row is = absurd cc
 
 sender_leaves : (c : Option ℕ) (v : ℕ) (op : Op) (told : Option Answer) → told_sender c v op ≡ Some told → is_some told ≡ not (leaves op)
-sender_leaves (Some c) v (Send d w) told row = by_test ((d == c) && (w == v)) (Some Answer.Unit) told _ row refl
-sender_leaves (Some c) v (Fault (SendClosed d)) told row = by_test (d == c) None told _ row refl
+sender_leaves (Some c) v (Send d w) told row = by_test ((d == c) && (w == v)) (Some Answer.Unit) told (Send d w) row refl
+sender_leaves (Some c) v (Fault (SendClosed d)) told row = by_test (d == c) None told (Fault (SendClosed d)) row refl
 sender_leaves _ v _ told row = absurd cc
 
 receiver_leaves : (c : Option ℕ) (op : Op) (told : Option Answer) → told_receiver c op ≡ Some told → is_some told ≡ not (leaves op)
-receiver_leaves (Some c) (Recv d v) told row = by_test (d == c) (Some (Answer.Value v)) told _ row refl
-receiver_leaves (Some c) (RecvClosed d) told row = by_test (d == c) (Some Answer.Closed) told _ row refl
+receiver_leaves (Some c) (Recv d v) told row = by_test (d == c) (Some (Answer.Value v)) told (Recv d v) row refl
+receiver_leaves (Some c) (RecvClosed d) told row = by_test (d == c) (Some Answer.Closed) told (RecvClosed d) row refl
 receiver_leaves _ _ told row = absurd cc
 
 closer_leaves : (c : Option ℕ) (op : Op) (told : Option Answer) → told_closer c op ≡ Some told → is_some told ≡ not (leaves op)
-closer_leaves (Some c) (Close d) told row = by_test (d == c) (Some Answer.Unit) told _ row refl
-closer_leaves (Some c) (Fault (CloseClosed d)) told row = by_test (d == c) None told _ row refl
-closer_leaves None (Fault CloseNil) told row = by_test true None told _ row refl
+closer_leaves (Some c) (Close d) told row = by_test (d == c) (Some Answer.Unit) told (Close d) row refl
+closer_leaves (Some c) (Fault (CloseClosed d)) told row = by_test (d == c) None told (Fault (CloseClosed d)) row refl
+closer_leaves None (Fault CloseNil) told row = by_test true None told (Fault CloseNil) row refl
 closer_leaves _ _ told row = absurd cc
 
 trier_leaves : (l k : ℕ) (op : Op) (told : Option Answer) → told_trier l k op ≡ Some told → is_some told ≡ not (leaves op)
-trier_leaves l k (TryLock m) told row = by_test ((k == 0) && (m == l)) (Some (Answer.Tried true)) told _ row refl
-trier_leaves l k (TryFail m) told row = by_test ((k == 1) && (m == l)) (Some (Answer.Tried false)) told _ row refl
+trier_leaves l k (TryLock m) told row = by_test ((k == 0) && (m == l)) (Some (Answer.Tried true)) told (TryLock m) row refl
+trier_leaves l k (TryFail m) told row = by_test ((k == 1) && (m == l)) (Some (Answer.Tried false)) told (TryFail m) row refl
 trier_leaves l k _ told row = absurd cc
 
 rtrier_leaves : (l k : ℕ) (op : Op) (told : Option Answer) → told_rtrier l k op ≡ Some told → is_some told ≡ not (leaves op)
-rtrier_leaves l k (TryRLock m) told row = by_test ((k == 0) && (m == l)) (Some (Answer.Tried true)) told _ row refl
-rtrier_leaves l k (TryFail m) told row = by_test ((k == 1) && (m == l)) (Some (Answer.Tried false)) told _ row refl
+rtrier_leaves l k (TryRLock m) told row = by_test ((k == 0) && (m == l)) (Some (Answer.Tried true)) told (TryRLock m) row refl
+rtrier_leaves l k (TryFail m) told row = by_test ((k == 1) && (m == l)) (Some (Answer.Tried false)) told (TryFail m) row refl
 rtrier_leaves l k _ told row = absurd cc
 
 plain_leaves : (o : Offer) (op : Op) (told : Option Answer) → told_plain o op ≡ Some told → is_some told ≡ not (leaves op)
@@ -148,22 +148,22 @@ selector_leaves offers has_default k op told (inl is) =
 selector_leaves offers has_default k op told (inr is) = ap is_some is.told_is ∙ ap (λ o. not (leaves o)) (sym is.did)
 
 first_leaves : (ask : Ask) (op : Op) (told : Option Answer) → told_by ask op ≡ Some told → is_some told ≡ not (leaves op)
-first_leaves (Ask.Go h) (Go g) told row = by_test (g == h) (Some Answer.Unit) told _ row refl
-first_leaves Ask.Exit Exit told row = by_test true None told _ row refl
-first_leaves (Ask.Read x) (Read y v) told row = by_test (y == x) (Some (Answer.Value v)) told _ row refl
-first_leaves (Ask.Write x v) (Write y w) told row = by_test ((y == x) && (w == v)) (Some Answer.Unit) told _ row refl
+first_leaves (Ask.Go h) (Go g) told row = by_test (g == h) (Some Answer.Unit) told (Go g) row refl
+first_leaves Ask.Exit Exit told row = by_test true None told Exit row refl
+first_leaves (Ask.Read x) (Read y v) told row = by_test (y == x) (Some (Answer.Value v)) told (Read y v) row refl
+first_leaves (Ask.Write x v) (Write y w) told row = by_test ((y == x) && (w == v)) (Some Answer.Unit) told (Write y w) row refl
 first_leaves (Ask.Send c v) op told row = sender_leaves c v op told row
 first_leaves (Ask.Recv c) op told row = receiver_leaves c op told row
 first_leaves (Ask.Close c) op told row = closer_leaves c op told row
-first_leaves (Ask.Lock l) (Lock m) told row = by_test (m == l) (Some Answer.Unit) told _ row refl
-first_leaves (Ask.Unlock l) (Unlock m) told row = by_test (m == l) (Some Answer.Unit) told _ row refl
-first_leaves (Ask.Unlock l) (Fault (UnlockFree m)) told row = by_test (m == l) None told _ row refl
-first_leaves (Ask.RLock l) (RLock m) told row = by_test (m == l) (Some Answer.Unit) told _ row refl
-first_leaves (Ask.RUnlock l) (RUnlock m) told row = by_test (m == l) (Some Answer.Unit) told _ row refl
-first_leaves (Ask.RUnlock l) (Fault (RUnlockFree m)) told row = by_test (m == l) None told _ row refl
-first_leaves (Ask.Do o) (OnceBegin p) told row = by_test (p == o) (Some Answer.Run) told _ row refl
-first_leaves (Ask.Do o) (OnceDone p) told row = by_test (p == o) (Some Answer.AlreadyDone) told _ row refl
-first_leaves (Ask.EndDo o) (OnceEnd p) told row = by_test (p == o) (Some Answer.Unit) told _ row refl
+first_leaves (Ask.Lock l) (Lock m) told row = by_test (m == l) (Some Answer.Unit) told (Lock m) row refl
+first_leaves (Ask.Unlock l) (Unlock m) told row = by_test (m == l) (Some Answer.Unit) told (Unlock m) row refl
+first_leaves (Ask.Unlock l) (Fault (UnlockFree m)) told row = by_test (m == l) None told (Fault (UnlockFree m)) row refl
+first_leaves (Ask.RLock l) (RLock m) told row = by_test (m == l) (Some Answer.Unit) told (RLock m) row refl
+first_leaves (Ask.RUnlock l) (RUnlock m) told row = by_test (m == l) (Some Answer.Unit) told (RUnlock m) row refl
+first_leaves (Ask.RUnlock l) (Fault (RUnlockFree m)) told row = by_test (m == l) None told (Fault (RUnlockFree m)) row refl
+first_leaves (Ask.Do o) (OnceBegin p) told row = by_test (p == o) (Some Answer.Run) told (OnceBegin p) row refl
+first_leaves (Ask.Do o) (OnceDone p) told row = by_test (p == o) (Some Answer.AlreadyDone) told (OnceDone p) row refl
+first_leaves (Ask.EndDo o) (OnceEnd p) told row = by_test (p == o) (Some Answer.Unit) told (OnceEnd p) row refl
 first_leaves _ _ told row = absurd cc
 
 row_leaves : (ask : Ask) (k : ℕ) (op : Op) (told : Option Answer) → IsRow ask k op told → is_some told ≡ not (leaves op)

@@ -1,6 +1,6 @@
 -- What a job that is put back does to the hub. (Our own; compare The Go Programming Language Specification, "Go statements";
 -- package sync)
-use Rattle.std.specs.Prelude.{ℕ, ◌≡◌, ◌==◌, ◌&&◌, not, if◌then◌else◌, Bool, false, List, [], ◌∷◌, ◌++◌, remove, Option, Some}
+use Rattle.std.specs.Prelude.{ℕ, ◌≡◌, ◌==◌, ◌&&◌, not, if◌then◌else◌, Bool, false, List, [], ◌∷◌, ◌++◌, remove, Some}
 use Rattle.std.specs.Prelude.{None, is_none, is_some}
 use Rattle.std.specs.List.{list_any, position_or_len}
 use Rattle.race_requests.specs.declared.request.Request.{Request}

@@ -13,7 +13,7 @@ use std::alloc::{AllocError, Allocator};
 use std::snapshot::Snapshot;
 use std::sync::Wait;
 use std::thread;
-use std::thread::{Promise, Scope, Threads};
+use std::thread::{Promise, Scope, SpawnError, Threads};
 
 /// Why the shards haven't taken a block.
 #[derive(Clone, Copy, Debug, PartialEq, Eq)]
@@ -34,6 +34,28 @@ impl FeedFault {
             FeedFault::NoThread => JudgeFault::NoThread,
             FeedFault::OutOfMemory => JudgeFault::OutOfMemory,
         }
+    }
+}
+
+impl From<AllocError> for FeedFault {
+    ghost use Rattle.std.specs.Prelude.{◌≡◌};
+    ghost use Rattle.race_shards.specs.declared.feeding.FeedFault.{FeedFault};
+
+    ghost from_gives = { λ _ fault. fault ≡ FeedFault.OutOfMemory };
+
+    fn from(_refused: AllocError) -> FeedFault {
+        FeedFault::OutOfMemory
+    }
+}
+
+impl<F: Drop> From<SpawnError<F>> for FeedFault {
+    ghost use Rattle.std.specs.Prelude.{◌≡◌};
+    ghost use Rattle.race_shards.specs.declared.feeding.FeedFault.{FeedFault};
+
+    ghost from_gives = { λ _ fault. fault ≡ FeedFault.NoThread };
+
+    fn from(_refused: SpawnError<F>) -> FeedFault {
+        FeedFault::NoThread
     }
 }
 
@@ -104,29 +126,22 @@ fn feed_rest<'s, E, G: Gate, R: Threads + Wait, A: Allocator + Copy + Send + 's>
         return Ok(shards);
     };
     if shards.is_empty() {
-        let Ok(shard) = feed_one(gate, shard, block) else {
-            return Err(FeedFault::OutOfMemory);
-        };
+        let shard = feed_one(gate, shard, block)?;
         return put_back(shards, shard);
     }
     let promise = Fed {
         shard: Snapshot::of(&shard),
         block,
     };
-    let started = scope.spawn_with(
+    let child = scope.spawn_with(
         promise,
         move || -> Result<Shard<A>, AllocError>
             requires { IsNextBlock shard block.now }
             ensures { IfOk result (λ after. Takes shard block.entry.now after) }
         { feed_one(gate, shard, block) },
-    );
-    let Ok(child) = started else {
-        return Err(FeedFault::NoThread);
-    };
+    )?;
     let fed = feed_rest(scope, rt, shards, block, gate)?;
-    let Ok(shard) = child.join(rt) else {
-        return Err(FeedFault::OutOfMemory);
-    };
+    let shard = child.join(rt)?;
     put_back(fed, shard)
 }
 

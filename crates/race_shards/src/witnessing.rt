@@ -3,9 +3,9 @@
 //! Goroutines' clocks say what happens before either of the two. So a first walk along the trace keeps the two accesses
 //! with their clocks, a second one picks the accesses that either clock knows, and a third one all others: nothing is
 //! kept of an access but its place in the answer.
-ghost use Rattle.std.specs.Prelude.{◌≡◌, IfOk};
-ghost use Rattle.race_model.specs.Legal.{IsLegal};
+ghost use Rattle.std.specs.Prelude.{◌≡◌, Some, None, IfOk, IfErr};
 ghost use Rattle.race_verdict.specs.Traces.{capacities};
+ghost use Rattle.race_shards.specs.Pairs.{IsFound};
 ghost use Rattle.race_shards.specs.Witness.{RacesInOrder, IsWitness};
 
 use crate::fault::WitnessFault;
@@ -14,7 +14,7 @@ use crate::pair::Pair;
 use race_legal::legal;
 use race_records::Trace;
 use race_verdict::Race;
-use std::alloc::Allocator;
+use std::alloc::{AllocError, Allocator};
 
 /// An order of all accesses of the trace in which the two of a race stand side by side, the second before the first: all
 /// accesses that happen before either of the two, as they stand in the trace; then the second; then the first; then all
@@ -35,34 +35,31 @@ pub fn witness<A: Allocator + Copy, B: Allocator>(
     ensures not_a_race { result ≡ Err WitnessFault.NotARace
         → ¬ RacesInOrder (capacities trace.now) trace.now.events race.now }
 {
-    match legal(alloc, trace) {
-        Ok(None) => {}
-        Ok(Some(_)) => return Err(WitnessFault::NotARace),
-        Err(_) => return Err(WitnessFault::OutOfMemory),
-    }
-    witness_of_legal(alloc, trace, race)
+    let pair = found(pair_of(alloc, trace, race)?)?;
+    Ok(order_of(alloc, trace, &pair)?)
 }
 
-// The same, where the trace is legal.
-fn witness_of_legal<A: Allocator + Copy, B: Allocator>(
+// The two accesses of a race, or none where it is no race in order of a legal trace.
+fn pair_of<A: Allocator + Copy, B: Allocator>(
     alloc: A,
     trace: &Trace<B>,
     race: &Race,
-) -> Result<Vec<u32, A>, WitnessFault>
-    requires { IsLegal (capacities trace.now) trace.now.events }
-    ensures witness { IfOk result (λ order.
-        IsWitness (capacities trace.now) trace.now.events race.now order.items) }
-    ensures not_a_race { result ≡ Err WitnessFault.NotARace
-        → ¬ RacesInOrder (capacities trace.now) trace.now.events race.now }
+) -> Result<Option<Pair<A>>, AllocError>
+    ensures { IfOk result (IsFound (capacities trace.now) trace.now.events race.now) }
 {
-    let Ok(found) = Pair::find(alloc, trace, race) else {
-        return Err(WitnessFault::OutOfMemory);
-    };
-    let Some(pair) = found else {
-        return Err(WitnessFault::NotARace);
-    };
-    match order_of(alloc, trace, &pair) {
-        Ok(order) => Ok(order),
-        Err(_) => Err(WitnessFault::OutOfMemory),
+    match legal(alloc, trace)? {
+        None => Pair::find(alloc, trace, race),
+        Some(_) => Ok(None),
+    }
+}
+
+// The pair, or that there is no race.
+fn found<A: Allocator>(pair: Option<Pair<A>>) -> Result<Pair<A>, WitnessFault>
+    ensures found { IfOk result (λ it. pair ≡ Some it) }
+    ensures none { IfErr result (λ fault. (fault ≡ WitnessFault.NotARace) × (pair ≡ None)) }
+{
+    match pair {
+        Some(it) => Ok(it),
+        None => Err(WitnessFault::NotARace),
     }
 }

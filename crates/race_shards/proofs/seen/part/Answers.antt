@@ -1,5 +1,5 @@
 -- A part is passed where the goroutine takes part in the event.
-use Rattle.std.proofs.Common.{◌≡◌, ◌+◌, take, true, false, sym, ◌∙◌, arith}
+use Rattle.std.proofs.Common.{◌≡◌, ◌+◌, take, sym, ◌∙◌, arith}
 use Rattle.race_model.specs.Clocks.{participations}
 use Rattle.race_shards.proofs.SeenSteps.{one_more, no_more}
 use Rattle.race_shards.proofs.seen.part.Goals.{then-takes_part+else-left-eq1, else-takes_part}

@@ -9,6 +9,7 @@ use Rattle.race_requests.specs.declared.request.Request.{Request}
 use Rattle.race_script.specs.declared.program.TheConstants.{MAX_STEPS}
 use Rattle.race_text.specs.declared.cause.TextCause.{TextCause}
 use Rattle.race_text.specs.Form.{first_word}
+use Rattle.race_text.specs.Grammar.{AreThese}
 use Rattle.race_text.specs.Lines.{GoesOn}
 use Rattle.race_text.specs.Owed.{owed}
 use Rattle.race_text.specs.Reader.{nothing_in}
@@ -85,6 +86,10 @@ IsReadBy true s = IsRead s
 
 abbrev pub IsReading : ReadState → Type 0
 IsReading s = IsReadBy s.has_header s
+
+-- the lines that were taken, while what was read is sound
+abbrev pub StandsFor : ReadState → List (List ℕ) → Type 0
+StandsFor s = AreThese (IsReading s) (lines_read s)
 
 -- the program that was read
 abbrev pub program_read : ReadState → ProgramState

@@ -24,8 +24,6 @@ pub use form::{AskWord, BODY_WORDS, LineWord, ask_kinds};
 pub use offers::SelectWords;
 pub use parse::parse_program;
 pub use program::{MAX_STEPS, Program};
-#[doc(hidden)]
-pub use program_reader::Lines;
 pub use program_reader::ProgramReader;
 #[doc(hidden)]
 pub use reader::{Reader, Unended};

@@ -26,7 +26,7 @@ use crate::script::is_exit;
 use race_hub::{Ask, Request};
 use race_records::{DeclFault, Decls, Kind, Noun, PartKind, Version, as_text};
 use race_text::{
-    Field, TextCause, Word, cause_of, cut_at, has_bad_byte, read_declaration, word_cause,
+    Field, Grammar, TextCause, Word, cause_of, cut_at, has_bad_byte, read_declaration, word_cause,
 };
 use std::alloc::{AllocError, Allocator};
 use std::marker::Model;
@@ -80,11 +80,39 @@ impl<A: Allocator> Model for Reader<A> {
 // What stands behind `body`.
 static BEGIN_FIELDS: [Field; 1] = [Field::Part(PartKind::Object(Kind::Goroutine))];
 
+impl<A: Allocator + Copy> Grammar for Reader<A> {
+    ghost use Rattle.race_script.specs.Fault.{program_causes};
+    ghost use Rattle.race_script.specs.Reader.{StandsFor};
+    ghost use Rattle.race_script.specs.Text.{IsTextOf};
+
+    type Whole = Program<A>;
+
+    ghost causes = { program_causes };
+
+    ghost stands_for = { StandsFor };
+
+    ghost is_text_of = { IsTextOf };
+
+    fn take_line(&mut self, line: &[u8]) -> Result<(), TextCause> {
+        self.take_line(line)
+    }
+
+    fn line(&self) -> u64 {
+        self.line()
+    }
+
+    fn whole(self, last: &[u8]) -> Result<Program<A>, TextCause> {
+        match self.end_cause(last) {
+            Some(cause) => Err(cause),
+            None => Ok(self.into_program()),
+        }
+    }
+}
+
 impl<A: Allocator + Copy> Reader<A> {
-    // Nothing is read yet. Takes no memory.
-    pub(crate) fn new(alloc: A) -> Reader<A>
-        ensures header { result.has_header ≡ false }
-        ensures reading { spec.IsReading result }
+    /// Nothing is read yet. Takes no memory.
+    pub fn new(alloc: A) -> Reader<A>
+        ensures { spec.StandsFor result [] }
     {
         Reader {
             alloc,

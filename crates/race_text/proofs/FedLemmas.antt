@@ -11,11 +11,13 @@ use Rattle.race_text.specs.declared.cause.TextCause.{TextCause}
 use Rattle.race_text.specs.declared.cause.TextFault.{TextFault}
 use Rattle.race_text.specs.Words.{parts_of}
 use Rattle.race_text.specs.Text.{ended}
-use Rattle.race_text.specs.Lines.{Causes, or_later, fault_after, first_fault, IsLineOf, IsNoneBefore, GoesOn}
+use Rattle.race_text.specs.Lines.{Causes, or_later, fault_after, first_fault, IsLineOf, IsNoneBefore}
 use Rattle.race_text.specs.Owed.{owed, HidesNone}
-use Rattle.race_text.specs.Fed.{ended_after, ended_fault, IsTaken, IsUnended, IsTold, TellsOfLine}
+use Rattle.race_text.specs.declared.fed.Fed.{Fed}
+use Rattle.race_text.specs.Grammar.{StandsForSome, ForEachLines, Takes}
+use Rattle.race_text.specs.Fed.{ended_after, ended_fault, IsTaken, IsUnended, IsTold, TellsOfLine, TakesSome, IsFed}
 use Rattle.race_text.specs.Fed.{TellsOfMemory, TakesBytes, TellsOfBytes, LinesState, StandsFor}
-use Rattle.race_text.specs.Fed.{GoesOnBy, IsBetweenLines, HidesNoneOf}
+use Rattle.race_text.specs.Fed.{GoesOnBy, HidesNoneOf}
 use Rattle.race_text.proofs.ParseLemmas.{told, or_later_from, fault_step, fault_end, fault_from, no_bytes, cut_joined}
 
 -- two lists of parts, of which the last one of the first list goes on in the first one of the second
@@ -107,6 +109,9 @@ pub owed_cause : (least : Option TextCause) (told : TextCause) → told ≡ owed
 owed_cause None told is other = absurd (other is)
 owed_cause (Some cause) told is other = ap Some (sym is)
 
+pub some_still : (Stood Stands : List (List ℕ) → Type 0) → ForEachLines Stood Stands → StandsForSome Stood → StandsForSome Stands
+some_still Stood Stands stays some = record { lines = some.lines; stands = stays some.lines some.stands }
+
 module _ (causes : Causes) where
   -- the first fault of the lines that are ended
   ended_step : (before : List (List ℕ)) (line : List ℕ) (parts : List (List ℕ)) → 0 < length parts
@@ -155,158 +160,199 @@ module _ (causes : Causes) where
   unfolding first_fault ended_fault
   taken_at_start bytes = record { bytes_are = refl; fault = refl; ended_fault = refl; all = omega arith }
 
-  module _ (bytes : List ℕ) (lines : List (List ℕ)) (left : List ℕ) (t : IsTaken causes bytes lines left) where
-    is_line : (f : TextFault) → f.line ≡ length lines + 1 → IsLineOf bytes f.line
-    is_line f number = let all = t.all in let some = some_part left in (omega (arith, number), omega (arith, number, all, some))
+  module _ (bytes : List ℕ) (Stood : List (List ℕ) → Type 0) (left : List ℕ) (t : TakesSome causes Stood bytes left) where
+    is_line : (f : TextFault) → f.line ≡ length t.lines + 1 → IsLineOf bytes f.line
+    is_line f number = let all = t.taken.all in let some = some_part left in (omega (arith, number), omega (arith, number, all, some))
 
-    none_before : (f : TextFault) → f.line ≡ length lines + 1 → IsNoneBefore f.line (first_fault causes bytes)
-    none_before f number g h = let from = fault_from causes (parts_of left) lines g (t.fault ∙ h) in omega (arith, from, number)
+    none_before : (f : TextFault) → f.line ≡ length t.lines + 1 → IsNoneBefore f.line (first_fault causes bytes)
+    none_before f number g h = let from = fault_from causes (parts_of left) t.lines g (t.taken.fault ∙ h) in omega (arith, from, number)
 
-    none_ended_before : (f : TextFault) → f.line ≡ length lines + 1 → IsNoneBefore f.line (ended_fault causes bytes)
-    none_ended_before f number g h = let from = ended_from (parts_of left) lines g (t.ended_fault ∙ h) in omega (arith, from, number)
+    none_ended_before : (f : TextFault) → f.line ≡ length t.lines + 1 → IsNoneBefore f.line (ended_fault causes bytes)
+    none_ended_before f number g h = let from = ended_from (parts_of left) t.lines g (t.taken.ended_fault ∙ h) in omega (arith, from, number)
 
     -- memory is refused at the line that comes next
-    pub memory_told : (f : TextFault) → TellsOfMemory lines f → IsTold causes bytes f
-    memory_told f tells = record {
-      ended = λ other. absurd (other tells.memory);
-      whole = λ other. absurd (other tells.memory);
-      none_before = none_before f tells.number;
-      none_ended_before = none_ended_before f tells.number;
-      line = is_line f tells.number;
-    }
+    pub memory_told : (f : TextFault) → ForEachLines Stood (TellsOfMemory f) → IsTold causes bytes f
+    memory_told f each =
+        let tells = each t.lines t.stands in
+        record {
+          ended = λ other. absurd (other tells.memory);
+          whole = λ other. absurd (other tells.memory);
+          none_before = none_before f tells.number;
+          none_ended_before = none_ended_before f tells.number;
+          line = is_line f tells.number;
+        }
 
     module _ (line others : List ℕ) (parts : parts_of left ≡ line ∷ parts_of others) where
-      whole_is : first_fault causes bytes ≡ or_later (length lines + 1) (causes.line lines line) (fault_after causes (lines ++ line ∷ []) (parts_of others))
-      whole_is = sym t.fault ∙ ap (fault_after causes lines) parts ∙ fault_step causes lines line (parts_of others) (some_part others)
+      whole_is : first_fault causes bytes
+          ≡ or_later (length t.lines + 1) (causes.line t.lines line) (fault_after causes (t.lines ++ line ∷ []) (parts_of others))
+      whole_is = sym t.taken.fault ∙ ap (fault_after causes t.lines) parts ∙ fault_step causes t.lines line (parts_of others) (some_part others)
 
-      ended_is : ended_fault causes bytes ≡ or_later (length lines + 1) (causes.line lines line) (ended_after causes (lines ++ line ∷ []) (parts_of others))
-      ended_is = sym t.ended_fault ∙ ap (ended_after causes lines) parts ∙ ended_step lines line (parts_of others) (some_part others)
+      ended_is : ended_fault causes bytes
+          ≡ or_later (length t.lines + 1) (causes.line t.lines line) (ended_after causes (t.lines ++ line ∷ []) (parts_of others))
+      ended_is = sym t.taken.ended_fault ∙ ap (ended_after causes t.lines) parts ∙ ended_step t.lines line (parts_of others) (some_part others)
 
       -- a fault is told at its line
-      pub line_told : (f : TextFault) → TellsOfLine causes lines line f → IsTold causes bytes f
-      line_told f tells = record {
-        ended = λ other.
-            let least = owed_cause (causes.line lines line) f.cause tells.least other in
-            ended_is ∙ (λ i. or_later (sym tells.number i) (least i) (ended_after causes (lines ++ line ∷ []) (parts_of others)));
-        whole = λ other.
-            let least = owed_cause (causes.line lines line) f.cause tells.least other in
-            whole_is ∙ (λ i. or_later (sym tells.number i) (least i) (fault_after causes (lines ++ line ∷ []) (parts_of others)));
-        none_before = none_before f tells.number;
-        none_ended_before = none_ended_before f tells.number;
-        line = is_line f tells.number;
-      }
+      pub line_told : (f : TextFault) → ForEachLines Stood (TellsOfLine causes line f) → IsTold causes bytes f
+      line_told f each =
+          let tells = each t.lines t.stands in
+          record {
+            ended = λ other.
+                let least = owed_cause (causes.line t.lines line) f.cause tells.least other in
+                ended_is ∙ (λ i. or_later (sym tells.number i) (least i) (ended_after causes (t.lines ++ line ∷ []) (parts_of others)));
+            whole = λ other.
+                let least = owed_cause (causes.line t.lines line) f.cause tells.least other in
+                whole_is ∙ (λ i. or_later (sym tells.number i) (least i) (fault_after causes (t.lines ++ line ∷ []) (parts_of others)));
+            none_before = none_before f tells.number;
+            none_ended_before = none_ended_before f tells.number;
+            line = is_line f tells.number;
+          }
 
       -- and where there is none, the line is taken
-      pub line_taken : (after : List (List ℕ)) → GoesOn causes lines line after → IsTaken causes bytes after others
-      line_taken after goes = record {
-        bytes_are = ap (λ (ls : List (List ℕ)). flat_map ended ls ++ others) goes.lines
-            ∙ ap (λ (b : List ℕ). b ++ others) (flat_map-append ended lines (line ∷ [])
-            ∙ ap (λ (l : List ℕ). flat_map ended lines ++ l) (append-nil (ended line)))
-            ∙ append_assoc (flat_map ended lines) (ended line) others
-            ∙ ap (λ (l : List ℕ). flat_map ended lines ++ l) (append_assoc line (10 ∷ []) others ∙ sym (cut_joined left line others parts))
-            ∙ t.bytes_are;
-        fault = ap (λ ls. fault_after causes ls (parts_of others)) goes.lines
-            ∙ sym (whole_is ∙ ap (λ o. or_later (length lines + 1) o (fault_after causes (lines ++ line ∷ []) (parts_of others))) goes.no_cause);
-        ended_fault = ap (λ ls. ended_after causes ls (parts_of others)) goes.lines
-            ∙ sym (ended_is ∙ ap (λ o. or_later (length lines + 1) o (ended_after causes (lines ++ line ∷ []) (parts_of others))) goes.no_cause);
-        all = let all = t.all in let cut = ap length parts in let l = ap length goes.lines ∙ length-append lines (line ∷ []) in omega (arith, all, cut, l);
-      }
+      pub line_taken : (Stands : List (List ℕ) → Type 0) → Takes causes Stood line Stands → TakesSome causes Stands bytes others
+      line_taken Stands takes =
+          let lines = t.lines in
+          let goes = takes lines t.stands in
+          record {
+            lines = lines ++ line ∷ [];
+            stands = goes.stands;
+            taken = record {
+              bytes_are = ap (λ (b : List ℕ). b ++ others) (flat_map-append ended lines (line ∷ [])
+                  ∙ ap (λ (l : List ℕ). flat_map ended lines ++ l) (append-nil (ended line)))
+                  ∙ append_assoc (flat_map ended lines) (ended line) others
+                  ∙ ap (λ (l : List ℕ). flat_map ended lines ++ l) (append_assoc line (10 ∷ []) others ∙ sym (cut_joined left line others parts))
+                  ∙ t.taken.bytes_are;
+              fault = sym (whole_is ∙ ap (λ o. or_later (length lines + 1) o (fault_after causes (lines ++ line ∷ []) (parts_of others))) goes.no_cause);
+              ended_fault = sym (ended_is
+                  ∙ ap (λ o. or_later (length lines + 1) o (ended_after causes (lines ++ line ∷ []) (parts_of others))) goes.no_cause);
+              all = let all = t.taken.all in let cut = ap length parts in omega (arith, all, cut, length-append lines (line ∷ []));
+            };
+          }
 
       -- want of memory is told of a line at which no cause holds, and what comes behind is another line's
-      pub line_owed : (f : TextFault) → TellsOfLine causes lines line f → HidesNone f (ended_fault causes bytes)
-      line_owed f tells g h same = by (causes.line lines line) tells.least (sym ended_is ∙ h)
+      pub line_owed : (f : TextFault) → ForEachLines Stood (TellsOfLine causes line f) → HidesNone f (ended_fault causes bytes)
+      line_owed f each g h same = let tells = each t.lines t.stands in by tells.number (causes.line t.lines line) tells.least (sym ended_is ∙ h)
         where
-          by : (c : Option TextCause) → f.cause ≡ owed c
-              → or_later (length lines + 1) c (ended_after causes (lines ++ line ∷ []) (parts_of others)) ≡ Some g → g ≡ f
-          by None least later =
-              let from = ended_from (parts_of others) (lines ++ line ∷ []) g later in
-              absurd (omega (arith, from, same, tells.number, length-append lines (line ∷ [])))
-          by (Some c) least is =
-              let cause : g.cause ≡ c = ap (λ (x : TextFault). x.cause) (sym (same_Some (told (length lines + 1) c) g is)) in
+          by : f.line ≡ length t.lines + 1 → (c : Option TextCause) → f.cause ≡ owed c
+              → or_later (length t.lines + 1) c (ended_after causes (t.lines ++ line ∷ []) (parts_of others)) ≡ Some g → g ≡ f
+          by number None least later =
+              let from = ended_from (parts_of others) (t.lines ++ line ∷ []) g later in
+              absurd (omega (arith, from, same, number, length-append t.lines (line ∷ [])))
+          by number (Some c) least is =
+              let cause : g.cause ≡ c = ap (λ (x : TextFault). x.cause) (sym (same_Some (told (length t.lines + 1) c) g is)) in
               λ i. record { line = same i; cause = (cause ∙ sym least) i }
 
     -- where no newline is left, no ended line is at fault
     pub none_ended : IsUnended left → ended_fault causes bytes ≡ None
     unfolding ended_after
-    none_ended unended = sym t.ended_fault ∙ ap (ended_after causes lines) unended
+    none_ended unended = sym t.taken.ended_fault ∙ ap (ended_after causes t.lines) unended
 
     -- the end
-    pub end_told : IsUnended left → (f : TextFault) → f.line ≡ length lines + 1 → causes.end lines left ≡ Some f.cause → first_fault causes bytes ≡ Some f
-    end_told unended f number h =
-        sym t.fault ∙ ap (fault_after causes lines) unended ∙ fault_end causes lines left ∙ (λ i. or_later (sym number i) (h i) None)
+    module _ (f : TextFault) (number : f.line ≡ length t.lines + 1) where
+      pub end_told : IsUnended left → causes.end t.lines left ≡ Some f.cause → first_fault causes bytes ≡ Some f
+      end_told unended h =
+          sym t.taken.fault ∙ ap (fault_after causes t.lines) unended ∙ fault_end causes t.lines left
+          ∙ (λ i. or_later (sym number i) (h i) None)
 
-    pub end_is_line : (f : TextFault) → f.line ≡ length lines + 1 → IsLineOf bytes f.line
-    end_is_line = is_line
+      pub end_is_line : IsLineOf bytes f.line
+      end_is_line = is_line f number
 
-    pub end_none_before : (f : TextFault) → f.line ≡ length lines + 1 → IsNoneBefore f.line (first_fault causes bytes)
-    end_none_before = none_before
+      pub end_none_before : IsNoneBefore f.line (first_fault causes bytes)
+      end_none_before = none_before f number
 
-    pub end_bytes : length left ≡ 0 → bytes ≡ flat_map ended lines
-    end_bytes none =
-        let none_left : left ≡ [] = no_bytes left none in
-        sym t.bytes_are ∙ ap (λ (l : List ℕ). flat_map ended lines ++ l) none_left ∙ append-nil _
+  -- a grammar that stood for some lines stands for some
+  pub some_taken : (Stood : List (List ℕ) → Type 0) (line : List ℕ) (Stands : List (List ℕ) → Type 0) → Takes causes Stood line Stands
+      → StandsForSome Stood → StandsForSome Stands
+  some_taken Stood line Stands takes some = record { lines = some.lines ++ line ∷ []; stands = (takes some.lines some.stands).stands }
+
+  -- the same lines are taken, for which it still stands
+  pub still_taken : (whole left : List ℕ) (Stood Stands : List (List ℕ) → Type 0) → ForEachLines Stood Stands
+      → TakesSome causes Stood whole left → TakesSome causes Stands whole left
+  still_taken whole left Stood Stands stays t = record { lines = t.lines; stands = stays t.lines t.stands; taken = t.taken }
 
   -- where nothing follows the bytes
-  pub takes_all : (lines new_lines : List (List ℕ)) (bytes part whole : List ℕ) → TakesBytes causes lines bytes new_lines part
-      → IsTaken causes whole lines bytes → IsTaken causes whole new_lines part
-  takes_all lines new_lines bytes part whole takes t =
-      subst (λ (left : List ℕ). IsTaken causes whole new_lines left) (append-nil part)
-      (takes whole [] (subst (λ (left : List ℕ). IsTaken causes whole lines left) (sym (append-nil bytes)) t))
+  pub takes_all : (Stood Stands : List (List ℕ) → Type 0) (bytes part whole : List ℕ) → TakesBytes causes Stood bytes Stands part
+      → TakesSome causes Stood whole bytes → TakesSome causes Stands whole part
+  takes_all Stood Stands bytes part whole takes t =
+      subst (λ (left : List ℕ). TakesSome causes Stands whole left) (append-nil part)
+      (takes whole [] (subst (λ (left : List ℕ). TakesSome causes Stood whole left) (sym (append-nil bytes)) t))
 
   -- what is left is kept
-  pub kept_taken : (whole : List ℕ) (lines : List (List ℕ)) (left last part more : List ℕ) → parts_of left ≡ last ∷ [] → part ≡ [] ++ last
-      → IsTaken causes whole lines (left ++ more) → IsTaken causes whole lines (part ++ more)
-  kept_taken whole lines left last part more e is t = subst (λ (bytes : List ℕ). IsTaken causes whole lines (bytes ++ more)) (sym (is ∙ last_is left last e)) t
+  pub kept_taken : (whole : List ℕ) (Stands : List (List ℕ) → Type 0) (left last part more : List ℕ) → parts_of left ≡ last ∷ [] → part ≡ [] ++ last
+      → TakesSome causes Stands whole (left ++ more) → TakesSome causes Stands whole (part ++ more)
+  kept_taken whole Stands left last part more e is t =
+      subst (λ (bytes : List ℕ). TakesSome causes Stands whole (bytes ++ more)) (sym (is ∙ last_is left last e)) t
 
-  -- what was fed, and a piece behind it
-  behind : (k : LinesState) (fed piece more : List ℕ) → k.fault ≡ None → StandsFor causes k fed
-      → IsTaken causes ((fed ++ piece) ++ more) k.lines ((k.part ++ piece) ++ more)
-  behind k fed piece more none S =
-      subst (λ (bytes : List ℕ). IsTaken causes bytes k.lines ((k.part ++ piece) ++ more)) (sym (append_assoc fed piece more))
-      (subst (λ (left : List ℕ). IsTaken causes (fed ++ (piece ++ more)) k.lines left) (sym (append_assoc k.part piece more)) (S.taken none (piece ++ more)))
+  module _ {G A : Type 0} (Stands : G → List (List ℕ) → Type 0) where
+    pub taken_of : (k : Fed G A) (fed : List ℕ) → k.fault ≡ None → IsFed causes Stands k fed
+        → TakesSome causes (Stands k.lines.reader) fed k.lines.part.items
+    taken_of k fed none S =
+        subst (λ (bytes : List ℕ). TakesSome causes (Stands k.lines.reader) bytes k.lines.part.items) (append-nil fed)
+        (subst (λ (left : List ℕ). TakesSome causes (Stands k.lines.reader) (fed ++ []) left) (append-nil k.lines.part.items) (S.taken none []))
 
-  -- a fault of a line that lies whole in the piece is owed
-  pub owed_of : (old : LinesState) (piece fed : List ℕ) (f : TextFault) → IsBetweenLines old
-      → (old.part ≡ [] → HidesNoneOf causes old.lines piece f) → StandsFor causes old fed → HidesNone f (ended_fault causes (fed ++ piece))
-  owed_of old piece fed f between owes S =
-      owes between.none (fed ++ piece) (subst (λ (p : List ℕ). IsTaken causes (fed ++ piece) old.lines (p ++ piece)) between.none (S.taken between.fine piece))
+    pub told_of : (k : Fed G A) (fed : List ℕ) (f : TextFault) → k.fault ≡ Some f → IsFed causes Stands k fed → IsTold causes fed f
+    told_of k fed f is S = subst (λ (bytes : List ℕ). IsTold causes bytes f) (append-nil fed) (S.told f is [])
 
-  pub fed_takes : (old new : LinesState) (piece fed : List ℕ) → old.fault ≡ None → new.fault ≡ None
-      → TakesBytes causes old.lines (old.part ++ piece) new.lines new.part
-      → StandsFor causes old fed → StandsFor causes new (fed ++ piece)
-  fed_takes old new piece fed none still takes S = record {
-    taken = λ _ more. takes ((fed ++ piece) ++ more) more (behind old fed piece more none S);
-    told = λ f is. absurd (none-some f (sym still ∙ is));
-  }
+    -- a fault of a line that lies whole in the piece is owed
+    pub owed_of : (old : Fed G A) (piece fed : List ℕ) (f : TextFault) → old.fault ≡ None → old.lines.part.items ≡ []
+        → HidesNoneOf causes (Stands old.lines.reader) piece f → IsFed causes Stands old fed → HidesNone f (ended_fault causes (fed ++ piece))
+    owed_of old piece fed f fine none owes S =
+        owes (fed ++ piece)
+        (subst (λ (p : List ℕ). TakesSome causes (Stands old.lines.reader) (fed ++ piece) (p ++ piece)) none (S.taken fine piece))
 
-  pub fed_tells : (old new : LinesState) (piece fed : List ℕ) (f : TextFault)
-      → old.fault ≡ None → new.fault ≡ Some f → TellsOfBytes causes old.lines (old.part ++ piece) f
-      → StandsFor causes old fed → StandsFor causes new (fed ++ piece)
-  fed_tells old new piece fed f none is tells S = record {
-    taken = λ other. absurd (none-some f (sym other ∙ is));
-    told = λ g also more. subst (IsTold causes ((fed ++ piece) ++ more)) (same_Some f g (sym is ∙ also))
-        (tells ((fed ++ piece) ++ more) more (behind old fed piece more none S));
-  }
+    -- a fault that was told stays
+    pub told_stays : (k : Fed G A) (piece fed : List ℕ) (f : TextFault) → k.fault ≡ Some f → IsFed causes Stands k fed → IsFed causes Stands k (fed ++ piece)
+    told_stays k piece fed f is S = record {
+      taken = λ none. absurd (none-some f (sym none ∙ is));
+      told = λ g also more. subst (λ (bytes : List ℕ). IsTold causes bytes g) (sym (append_assoc fed piece more)) (S.told g also (piece ++ more));
+    }
 
-  -- a fault that was told stays
-  pub told_stays : (k : LinesState) (piece fed : List ℕ) (f : TextFault) → k.fault ≡ Some f → StandsFor causes k fed → StandsFor causes k (fed ++ piece)
-  told_stays k piece fed f is S = record {
-    taken = λ none. absurd (none-some f (sym none ∙ is));
-    told = λ g also more. subst (λ (bytes : List ℕ). IsTold causes bytes g) (sym (append_assoc fed piece more)) (S.told g also (piece ++ more));
-  }
+    -- what is told of bytes behind those that were fed
+    pub told_behind : (k : Fed G A) (piece fed : List ℕ) (f : TextFault) → k.fault ≡ None
+        → TellsOfBytes causes (Stands k.lines.reader) (k.lines.part.items ++ piece) f → IsFed causes Stands k fed → IsTold causes (fed ++ piece) f
+    told_behind k piece fed f none tells S =
+        let Left : List ℕ → List ℕ → Type 0 = TakesSome causes (Stands k.lines.reader) in
+        tells (fed ++ piece) []
+        (subst (λ (left : List ℕ). Left (fed ++ piece) left) (sym (append-nil (k.lines.part.items ++ piece))) (S.taken none piece))
 
-  pub told_of : (k : LinesState) (fed : List ℕ) (f : TextFault) → k.fault ≡ Some f → StandsFor causes k fed → IsTold causes fed f
-  told_of k fed f is S = subst (λ (bytes : List ℕ). IsTold causes bytes f) (append-nil fed) (S.told f is [])
+    -- where all of them are taken that a newline ends, none of these is at fault
+    pub none_behind : (old : Fed G A) (New : List (List ℕ) → Type 0) (part piece fed : List ℕ) → old.fault ≡ None → IsUnended part
+        → TakesBytes causes (Stands old.lines.reader) (old.lines.part.items ++ piece) New part
+        → IsFed causes Stands old fed → ended_fault causes (fed ++ piece) ≡ None
+    none_behind old New part piece fed none unended takes S =
+        none_ended (fed ++ piece) New part
+        (takes_all (Stands old.lines.reader) New (old.lines.part.items ++ piece) part (fed ++ piece) takes (S.taken none piece))
+        unended
 
-  pub taken_of : (k : LinesState) (fed : List ℕ) → k.fault ≡ None → StandsFor causes k fed → IsTaken causes fed k.lines k.part
-  taken_of k fed none S =
-      subst (λ (bytes : List ℕ). IsTaken causes bytes k.lines k.part) (append-nil fed)
-      (subst (λ (left : List ℕ). IsTaken causes (fed ++ []) k.lines left) (append-nil k.part) (S.taken none []))
+    -- nothing is fed
+    pub fed_at_start : (k : Fed G A) → Stands k.lines.reader [] → k.lines.part.items ≡ [] → k.fault ≡ None → IsFed causes Stands k []
+    fed_at_start k stands none fine = record {
+      taken = λ _ more.
+          subst (λ (part : List ℕ). TakesSome causes (Stands k.lines.reader) more (part ++ more)) (sym none)
+          (record { lines = []; stands = stands; taken = taken_at_start more });
+      told = λ f is more. absurd (none-some f (sym fine ∙ is));
+    }
 
-  pub none_of : (k : LinesState) (fed : List ℕ) → k.fault ≡ None → IsUnended k.part → StandsFor causes k fed → ended_fault causes fed ≡ None
-  none_of k fed none unended S = none_ended fed k.lines k.part (taken_of k fed none S) unended
+    -- what is seen of it where its grammar has these lines
+    abbrev pub seen_as : Fed G A → List (List ℕ) → LinesState
+    seen_as k lines = record { lines = lines; part = k.lines.part.items; fault = k.fault }
+
+    pub fed_of : (k : Fed G A) (lines : List (List ℕ)) → (k.fault ≡ None → Stands k.lines.reader lines) → (fed : List ℕ)
+        → StandsFor causes (seen_as k lines) fed → IsFed causes Stands k fed
+    fed_of k lines stands fed S = record {
+      taken = λ none more. record { lines = lines; stands = stands none; taken = S.taken none more };
+      told = S.told;
+    }
+
+    pub stands_of : (k : Fed G A) (lines : List (List ℕ)) → ForEachLines (Stands k.lines.reader) (λ taken. taken ≡ lines) → (fed : List ℕ)
+        → IsFed causes Stands k fed → StandsFor causes (seen_as k lines) fed
+    stands_of k lines same fed F = record {
+      taken = λ none more.
+          let some = F.taken none more in
+          subst (λ (ls : List (List ℕ)). IsTaken causes (fed ++ more) ls (k.lines.part.items ++ more)) (same some.lines some.stands) some.taken;
+      told = F.told;
+    }
 
   -- what a reader tells of the first bytes that it was fed
   pub told_at_once : (old new : LinesState) (bytes : List ℕ) (f : TextFault) → StandsFor causes old []
       → GoesOnBy causes old new bytes → new.fault ≡ Some f → IsTold causes bytes f
-  told_at_once old new bytes f S goes is = told_of new bytes f is (goes [] S)
+  told_at_once old new bytes f S goes is = subst (λ (b : List ℕ). IsTold causes b f) (append-nil bytes) ((goes [] S).told f is [])

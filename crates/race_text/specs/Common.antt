@@ -15,16 +15,14 @@ use Rattle.race_records.specs.Name.{is_place_byte}
 use Rattle.race_records.specs.Declarations.{Declaration}
 use Rattle.race_records.specs.Parts.{part_kinds, has_two_places}
 use Rattle.race_text.specs.declared.cause.TextCause.{TextCause}
-use Rattle.race_text.specs.declared.cause.TextFault.{TextFault}
 use Rattle.race_text.specs.declared.common.Deed.{Deed}
 use Rattle.race_text.specs.declared.common.Said.{Said}
 use Rattle.race_text.specs.Words.{parts_of, words_of}
 use Rattle.race_text.specs.Form.{first_word, arguments}
-use Rattle.race_text.specs.Lines.{Causes, GoesOn}
+use Rattle.race_text.specs.Lines.{GoesOn}
 use Rattle.race_text.specs.Owed.{owed}
 use Rattle.race_text.specs.Fault.{cause, trace_causes}
 use Rattle.race_text.specs.Reading.{Occurrence, occurrence, first_part, parts_on, op_in, last_place, event_behind, event_in}
-use Rattle.race_text.specs.Fed.{IsUnended, TellsOfLine}
 
 -- so many bytes in front are marked: a bit for each, which is set where the byte can't be seen
 pub record IsMarked (marks : ℕ) (bytes : List ℕ) : Type 0 where
@@ -143,15 +141,3 @@ pub record TellsOfCommon (before : List (List ℕ)) (bytes : List ℕ) (told : T
   pub rest : List ℕ
   pub ends : EndsLine bytes rest
   pub least : told ≡ owed (cause before (line_in bytes) true)
-
-module _ (causes : Causes) where
-  -- the same where each line that a newline ends is taken
-  abbrev pub TakesNext : List (List ℕ) → List ℕ → Option (Bor (List ℕ)) → List (List ℕ) → Type 0
-  TakesNext before bytes (Some rest) after = EndsLine bytes rest.now × GoesOn causes before (line_in bytes) after
-  TakesNext before bytes None after = IsUnended bytes × (after ≡ before)
-
-  -- or what is owed by its least cause is told, with its number
-  pub record TellsOfNext (before : List (List ℕ)) (bytes : List ℕ) (told : TextFault) : Type 0 where
-    pub rest : List ℕ
-    pub ends : EndsLine bytes rest
-    pub is : TellsOfLine causes before (line_in bytes) told

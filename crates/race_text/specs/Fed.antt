@@ -1,12 +1,16 @@
 -- A text that is fed in pieces: which fault its ended lines have, and what a reader of lines says of it.
 use Rattle.std.specs.Prelude.{◌≡◌, ◌≢◌, ℕ, ◌+◌, List, [], ◌∷◌, ◌++◌, length, Option, Some, None}
+use Rattle.std.specs.Borrow.{Bor}
 use Rattle.std.specs.List.{flat_map}
 use Rattle.race_text.specs.declared.cause.TextCause.{TextCause}
 use Rattle.race_text.specs.declared.cause.TextFault.{TextFault}
+use Rattle.race_text.specs.declared.fed.Fed.{Fed}
 use Rattle.race_text.specs.Words.{parts_of}
 use Rattle.race_text.specs.Text.{ended}
 use Rattle.race_text.specs.Lines.{Causes, or_later, fault_after, first_fault, IsLineOf, IsNoneBefore}
 use Rattle.race_text.specs.Owed.{owed, HidesNone}
+use Rattle.race_text.specs.Common.{line_in, EndsLine}
+use Rattle.race_text.specs.Grammar.{StandsForSome, ForEachLines, Takes}
 
 -- a reader of lines: those that it took, the bytes behind them, and the fault that it told
 pub record LinesState : Type 0 where
@@ -23,10 +27,19 @@ pub record IsBetweenLines (k : LinesState) : Type 0 where
 abbrev pub IsUnended : List ℕ → Type 0
 IsUnended bytes = parts_of bytes ≡ bytes ∷ []
 
--- where memory is refused behind the lines
-pub record TellsOfMemory (lines : List (List ℕ)) (told : TextFault) : Type 0 where
+-- memory is refused behind the lines
+pub record TellsOfMemory (told : TextFault) (lines : List (List ℕ)) : Type 0 where
   pub number : told.line ≡ length lines + 1
   pub memory : told.cause ≡ TextCause.OutOfMemory
+
+-- a grammar stands for some lines, and no newline is among the bytes behind them
+pub record IsBetween (Stands : List (List ℕ) → Type 0) (part : List ℕ) : Type 0 where
+  pub some : StandsForSome Stands
+  pub unended : IsUnended part
+
+-- the same of a reader by a grammar, until a fault is told
+abbrev pub IsReady : {G A : Type 0} → (G → List (List ℕ) → Type 0) → Fed G A → Type 0
+IsReady Stands k = k.fault ≡ None → IsBetween (Stands k.lines.reader) k.lines.part.items
 
 module _ (causes : Causes) where
   -- the first fault of the parts that stand after these lines, but for the last part, which no newline ends
@@ -68,19 +81,45 @@ module _ (causes : Causes) where
   abbrev pub GoesOnBy : LinesState → LinesState → List ℕ → Type 0
   GoesOnBy old new piece = ForEachFed old (λ fed. StandsFor new (fed ++ piece))
 
+  -- the same by lines for which a grammar stands
+  pub record TakesSome (Stands : List (List ℕ) → Type 0) (bytes left : List ℕ) : Type 0 where
+    pub lines : List (List ℕ)
+    pub stands : Stands lines
+    pub taken : IsTaken bytes lines left
+
+  -- a reader by a grammar stands for the bytes that it was fed, whatever the grammar kept of their lines
+  pub record IsFed {G A : Type 0} (Stands : G → List (List ℕ) → Type 0) (k : Fed G A) (fed : List ℕ) : Type 0 where
+    pub taken : k.fault ≡ None → (more : List ℕ) → TakesSome (Stands k.lines.reader) (fed ++ more) (k.lines.part.items ++ more)
+    pub told : (f : TextFault) → k.fault ≡ Some f → (more : List ℕ) → IsTold (fed ++ more) f
+
+  -- it holds of the bytes that it was fed, whichever they are
+  abbrev pub ForEachFedTo : {G A : Type 0} → (G → List (List ℕ) → Type 0) → Fed G A → (List ℕ → Type 0) → Type 0
+  ForEachFedTo Stands k Holds = (fed : List ℕ) → IsFed Stands k fed → Holds fed
+
   -- these bytes are taken behind the lines, and a part of them is left
-  abbrev pub TakesBytes : List (List ℕ) → List ℕ → List (List ℕ) → List ℕ → Type 0
-  TakesBytes lines bytes new_lines part = (whole more : List ℕ) → IsTaken whole lines (bytes ++ more) → IsTaken whole new_lines (part ++ more)
+  abbrev pub TakesBytes : (List (List ℕ) → Type 0) → List ℕ → (List (List ℕ) → Type 0) → List ℕ → Type 0
+  TakesBytes Stood bytes Stands part = (whole more : List ℕ) → TakesSome Stood whole (bytes ++ more) → TakesSome Stands whole (part ++ more)
 
   -- or a fault of them is told
-  abbrev pub TellsOfBytes : List (List ℕ) → List ℕ → TextFault → Type 0
-  TellsOfBytes lines bytes told = (whole more : List ℕ) → IsTaken whole lines (bytes ++ more) → IsTold whole told
+  abbrev pub TellsOfBytes : (List (List ℕ) → Type 0) → List ℕ → TextFault → Type 0
+  TellsOfBytes Stood bytes told = (whole more : List ℕ) → TakesSome Stood whole (bytes ++ more) → IsTold whole told
 
   -- where these bytes are all that is left, no fault of a line that ends in them is hidden
-  abbrev pub HidesNoneOf : List (List ℕ) → List ℕ → TextFault → Type 0
-  HidesNoneOf lines bytes told = (whole : List ℕ) → IsTaken whole lines bytes → HidesNone told (ended_fault whole)
+  abbrev pub HidesNoneOf : (List (List ℕ) → Type 0) → List ℕ → TextFault → Type 0
+  HidesNoneOf Stood bytes told = (whole : List ℕ) → TakesSome Stood whole bytes → HidesNone told (ended_fault whole)
 
   -- what is owed of a line behind these, with its number
-  pub record TellsOfLine (lines : List (List ℕ)) (line : List ℕ) (told : TextFault) : Type 0 where
+  pub record TellsOfLine (line : List ℕ) (told : TextFault) (lines : List (List ℕ)) : Type 0 where
     pub number : told.line ≡ length lines + 1
     pub least : told.cause ≡ owed (causes.line lines line)
+
+  -- the line in front of the bytes is taken, where a newline ends it, and else nothing is
+  abbrev pub TakesNext : (List (List ℕ) → Type 0) → List ℕ → Option (Bor (List ℕ)) → (List (List ℕ) → Type 0) → Type 0
+  TakesNext Stood bytes (Some rest) Stands = EndsLine bytes rest.now × Takes causes Stood (line_in bytes) Stands
+  TakesNext Stood bytes None Stands = IsUnended bytes × ForEachLines Stood Stands
+
+  -- or what is owed of it is told
+  pub record TellsOfNext (Stood : List (List ℕ) → Type 0) (bytes : List ℕ) (told : TextFault) : Type 0 where
+    pub rest : List ℕ
+    pub ends : EndsLine bytes rest
+    pub is : ForEachLines Stood (TellsOfLine (line_in bytes) told)

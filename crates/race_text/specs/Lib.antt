@@ -8,9 +8,10 @@ pub mod Fault
 pub mod Declaring
 pub mod Reading
 pub mod Taking
+pub mod Common
+pub mod Grammar
 pub mod Reader
 pub mod Fed
-pub mod Common
 pub mod Laws
 pub mod Examples
 pub mod Writing

@@ -4,9 +4,11 @@ use Rattle.race_records.specs.declared.version.Version.{Version}
 use Rattle.race_records.specs.Declarations.{DeclsState}
 use Rattle.race_records.specs.Events.{TraceState}
 use Rattle.race_text.specs.declared.cause.TextCause.{TextCause}
+use Rattle.race_text.specs.declared.reader.Reader.{Reader}
 use Rattle.race_text.specs.Owed.{owed}
 use Rattle.race_text.specs.Text.{lines}
 use Rattle.race_text.specs.Fault.{cause}
+use Rattle.race_text.specs.Grammar.{AreThese}
 use Rattle.race_text.specs.Declaring.{is_declaration_line}
 use Rattle.race_text.specs.Taking.{IsRead, TakesLine, begun}
 
@@ -39,3 +41,7 @@ TakesIfDeclared old line false new = (new ≡ old) × (is_declaration_line line 
 abbrev pub TakesDeclaration : DeclsState → List ℕ → Result Bool TextCause → DeclsState → Type 0
 TakesDeclaration old line (Ok added) new = TakesIfDeclared old line added new
 TakesDeclaration old line (Err told) new = told ≡ owed (cause (lines (begun old)) line true)
+
+-- the lines that were taken, while what was read is sound
+abbrev pub StandsFor : {A : Type 0} → Reader A → List (List ℕ) → Type 0
+StandsFor r = AreThese (IsReading r.has_header r.decls r.trace) (lines_read r.has_header r.decls r.trace)

@@ -7,9 +7,11 @@ mod cut;
 mod declaration;
 mod event;
 pub mod examples;
+mod fed;
 mod fields;
 mod finder;
 mod form;
+mod grammar;
 mod guesses;
 mod header;
 mod lanes;
@@ -33,17 +35,19 @@ pub use declaration::cause_of;
 pub use declaration::read_declaration;
 #[doc(hidden)]
 pub use event::{Draft, chan_in, goroutine_of, last_place, next_part, next_parts};
+pub use fed::Fed;
+#[doc(hidden)]
+pub use fed::Lines;
 #[doc(hidden)]
 pub use fields::{fields_cause, has_too_many_pieces, lesser, used_name_cause};
 #[doc(hidden)]
 pub use finder::{has_count, word_cause};
 #[doc(hidden)]
 pub use form::{Field, Word, word_in, word_named};
+pub use grammar::Grammar;
 #[doc(hidden)]
 pub use guesses::{Guess, Guesses};
 pub use line_reader::LineReader;
-#[doc(hidden)]
-pub use line_reader::Lines;
 pub use number::read_number;
 pub use parse::parse_trace;
 pub use race_records::{WriteFault, is_name, is_place};

@@ -1,40 +1,28 @@
 //! A trace from its bytes, piece by piece.
-ghost use Rattle.std.specs.Prelude.{◌≡◌, ◌≢◌, ◌+◌, ◌++◌, ◌↔◌, [], IsTrue, Some, None, length, IfOk, IfErr, OnOk, MatchResult};
+ghost use Rattle.std.specs.Prelude.{◌≡◌, ◌≢◌, ◌++◌, [], Some, None, IfOk, IfErr};
 ghost use Rattle.race_text.specs.Text.{IsTextOf, IsTraceText};
 ghost use Rattle.race_text.specs.Fault.{trace_causes, text_fault};
 ghost use Rattle.race_text.specs.Laws.{IsOnlyTraceOf};
-ghost use Rattle.race_text.specs.Lines.{GoesOn, IsLineOf, IsNoneBefore};
-ghost use Rattle.race_text.specs.Reader.{IsReading, lines_read};
-ghost use Rattle.race_text.specs.Common.{TakesNext, TellsOfNext};
+ghost use Rattle.race_text.specs.Lines.{IsLineOf, IsNoneBefore};
 ghost use Rattle.race_text.specs.Owed.{HidesNone};
 ghost use Rattle.race_text.specs.Fed as spec;
 
 use crate::cause::{TextCause, TextFault};
-use crate::cut::cut_at;
+use crate::fed::Fed;
 use crate::reader::Reader;
 use race_records::Trace;
 use std::alloc::{Allocator, Global};
 use std::marker::Model;
 
-/// What was read, and the bytes behind it that no newline has ended yet.
-#[derive(Drop)]
-pub struct Lines<A: Allocator> {
-    /// What was read.
-    pub reader: Reader<A>,
-    /// The first bytes of the next line.
-    pub part: Vec<u8, A>,
-}
-
 /// Reads a trace from its text, which comes in pieces that may be cut anywhere. A line is read as
 /// soon as its newline has come.
 pub struct LineReader<A: Allocator = Global> {
-    lines: Lines<A>,
-    fault: Option<TextFault>,
+    fed: Fed<Reader<A>, A>,
 }
 
 impl<A: Allocator> Drop for LineReader<A> {
     fn drop(self) {
-        let LineReader { lines: _, fault: _ } = self;
+        let LineReader { fed: _ } = self;
     }
 }
 
@@ -46,14 +34,14 @@ impl<A: Allocator> Model for LineReader<A> {
     ghost Value = { LinesState };
 
     ghost view = { λ r. record {
-      lines = lines_read r.lines.reader.has_header r.lines.reader.decls r.lines.reader.trace;
-      part = r.lines.part.items;
-      fault = r.fault;
+      lines = lines_read r.fed.lines.reader.has_header r.fed.lines.reader.decls r.fed.lines.reader.trace;
+      part = r.fed.lines.part.items;
+      fault = r.fed.fault;
     } };
 
-    ghost invariant = { λ r. r.fault ≡ None
-        → IsReading r.lines.reader.has_header r.lines.reader.decls r.lines.reader.trace
-        × IsUnended r.lines.part.items };
+    ghost invariant = { λ r. r.fed.fault ≡ None
+        → IsReading r.fed.lines.reader.has_header r.fed.lines.reader.decls r.fed.lines.reader.trace
+        × IsUnended r.fed.lines.part.items };
 }
 
 impl<A: Allocator + Copy> LineReader<A> {
@@ -63,11 +51,7 @@ impl<A: Allocator + Copy> LineReader<A> {
         ensures between { spec.IsBetweenLines result }
     {
         LineReader {
-            lines: Lines {
-                reader: Reader::new(alloc),
-                part: Vec::new(alloc),
-            },
-            fault: None,
+            fed: Fed::new(alloc, Reader::new(alloc)),
         }
     }
 
@@ -92,16 +76,7 @@ impl<A: Allocator + Copy> LineReader<A> {
         ensures told { IfErr result (λ told. self.new.fault ≡ Some told) }
         ensures repeated { (told : TextFault) → self.old.fault ≡ Some told → result ≡ Err told }
     {
-        match self.fault {
-            Some(fault) => Err(fault),
-            None => match self.lines.take(piece) {
-                Ok(()) => Ok(()),
-                Err(fault) => {
-                    self.fault = Some(fault);
-                    Err(fault)
-                }
-            },
-        }
+        self.fed.feed(piece)
     }
 
     /// The one trace whose text was fed, or else the first fault, as `parse_trace` tells it.
@@ -117,188 +92,7 @@ impl<A: Allocator + Copy> LineReader<A> {
         ensures line { IfErr result (λ told. spec.ForEachFed trace_causes self (λ fed. IsLineOf fed told.line)) }
         ensures repeated { (told : TextFault) → self.fault ≡ Some told → result ≡ Err told }
     {
-        let LineReader { lines, fault } = self;
-        let Lines { reader, part } = lines;
-        match fault {
-            Some(fault) => Err(fault),
-            None => match reader.end_cause(part.as_slice()) {
-                Some(cause) => Err(TextFault {
-                    line: reader.line(),
-                    cause,
-                }),
-                None => Ok(reader.into_trace()),
-            },
-        }
-    }
-}
-
-impl<A: Allocator + Copy> Lines<A> {
-    // Takes the lines that the piece ends, and keeps what is behind them.
-    fn take(&mut self, piece: &[u8]) -> Result<(), TextFault>
-        requires reading { IsReading self.old.reader.has_header self.old.reader.decls self.old.reader.trace }
-        requires unended { spec.IsUnended self.old.part.items }
-        ensures taken { MatchResult result
-            (λ _. spec.TakesBytes trace_causes (lines_read self.old.reader.has_header self.old.reader.decls self.old.reader.trace)
-            (self.old.part.items ++ piece.now)
-            (lines_read self.new.reader.has_header self.new.reader.decls self.new.reader.trace) self.new.part.items)
-            (λ told. spec.TellsOfBytes trace_causes (lines_read self.old.reader.has_header self.old.reader.decls self.old.reader.trace)
-            (self.old.part.items ++ piece.now) told) }
-        ensures owed { IfErr result (λ told. self.old.part.items ≡ []
-            → spec.HidesNoneOf trace_causes (lines_read self.old.reader.has_header self.old.reader.decls self.old.reader.trace)
-            piece.now told) }
-        ensures reading { OnOk result
-            (IsReading self.new.reader.has_header self.new.reader.decls self.new.reader.trace) }
-        ensures unended { OnOk result (spec.IsUnended self.new.part.items) }
-    {
-        if self.is_between_lines() {
-            return self.take_whole(piece);
-        }
-        let (end, rest) = cut_at(piece, b'\n');
-        self.keep(end)?;
-        match rest {
-            None => Ok(()),
-            Some(others) => {
-                self.take_part()?;
-                self.take_whole(others)
-            }
-        }
-    }
-
-    // Whether no part of a line is left.
-    fn is_between_lines(&self) -> bool
-        ensures { IsTrue result ↔ (self.now.part.items ≡ []) }
-    {
-        self.part.is_empty()
-    }
-
-    // The same where no part of a line is left before. The lines are read where they lie.
-    fn take_whole(&mut self, bytes: &[u8]) -> Result<(), TextFault>
-        requires reading { IsReading self.old.reader.has_header self.old.reader.decls self.old.reader.trace }
-        requires none { self.old.part.items ≡ [] }
-        ensures taken { MatchResult result
-            (λ _. spec.TakesBytes trace_causes (lines_read self.old.reader.has_header self.old.reader.decls self.old.reader.trace)
-            bytes.now
-            (lines_read self.new.reader.has_header self.new.reader.decls self.new.reader.trace) self.new.part.items)
-            (λ told. spec.TellsOfBytes trace_causes (lines_read self.old.reader.has_header self.old.reader.decls self.old.reader.trace)
-            bytes.now told) }
-        ensures owed { IfErr result
-            (spec.HidesNoneOf trace_causes (lines_read self.old.reader.has_header self.old.reader.decls self.old.reader.trace) bytes.now) }
-        ensures reading { OnOk result
-            (IsReading self.new.reader.has_header self.new.reader.decls self.new.reader.trace) }
-        ensures unended { OnOk result (spec.IsUnended self.new.part.items) }
-    {
-        let mut left = bytes;
-        loop {
-            match take_next(&mut self.reader, left)? {
-                None => {
-                    self.keep(left)?;
-                    return Ok(());
-                }
-                Some(others) => left = others,
-            }
-        }
-    }
-
-    // Takes the line that came in pieces.
-    fn take_part(&mut self) -> Result<(), TextFault>
-        requires { IsReading self.old.reader.has_header self.old.reader.decls self.old.reader.trace }
-        ensures taken { MatchResult result
-            (λ _. GoesOn trace_causes (lines_read self.old.reader.has_header self.old.reader.decls self.old.reader.trace)
-            self.old.part.items (lines_read self.new.reader.has_header self.new.reader.decls self.new.reader.trace))
-            (λ told. spec.TellsOfLine trace_causes (lines_read self.old.reader.has_header self.old.reader.decls self.old.reader.trace)
-            self.old.part.items told) }
-        ensures reading { OnOk result
-            (IsReading self.new.reader.has_header self.new.reader.decls self.new.reader.trace) }
-        ensures none { OnOk result (self.new.part.items ≡ []) }
-    {
-        take_line(&mut self.reader, self.part.as_slice())?;
-        self.part.clear();
-        Ok(())
-    }
-
-    // Keeps more bytes of a line that no newline has ended yet.
-    fn keep(&mut self, bytes: &[u8]) -> Result<(), TextFault>
-        requires { IsReading self.old.reader.has_header self.old.reader.decls self.old.reader.trace }
-        ensures kept { OnOk result (self.new.part.items ≡ self.old.part.items ++ bytes.now) }
-        ensures told { IfErr result (spec.TellsOfMemory
-            (lines_read self.old.reader.has_header self.old.reader.decls self.old.reader.trace)) }
-        ensures same { self.new.reader ≡ self.old.reader }
-    {
-        match self.part.extend_from_slice(bytes) {
-            Ok(()) => Ok(()),
-            Err(_) => Err(TextFault {
-                line: self.reader.line(),
-                cause: TextCause::OutOfMemory,
-            }),
-        }
-    }
-}
-
-// Takes the line in front of the bytes, and tells what is behind it; nothing where no newline ends it.
-#[inline(always)]
-fn take_next<'a, A: Allocator + Copy>(
-    reader: &mut Reader<A>,
-    bytes: &'a [u8],
-) -> Result<Option<&'a [u8]>, TextFault>
-    requires { IsReading reader.old.has_header reader.old.decls reader.old.trace }
-    ensures taken { MatchResult result
-        (λ rest. TakesNext trace_causes (lines_read reader.old.has_header reader.old.decls reader.old.trace) bytes.now rest
-        (lines_read reader.new.has_header reader.new.decls reader.new.trace))
-        (TellsOfNext trace_causes (lines_read reader.old.has_header reader.old.decls reader.old.trace) bytes.now) }
-    ensures reading { OnOk result (IsReading reader.new.has_header reader.new.decls reader.new.trace) }
-{
-    let number = reader.line();
-    match reader.take_common(bytes) {
-        Err(cause) => Err(TextFault {
-            line: number,
-            cause,
-        }),
-        Ok(taken) => match taken {
-            Some(rest) => Ok(Some(rest)),
-            None => take_other(reader, bytes),
-        },
-    }
-}
-
-// The same of any line.
-#[inline(never)]
-fn take_other<'a, A: Allocator + Copy>(
-    reader: &mut Reader<A>,
-    bytes: &'a [u8],
-) -> Result<Option<&'a [u8]>, TextFault>
-    requires { IsReading reader.old.has_header reader.old.decls reader.old.trace }
-    ensures taken { MatchResult result
-        (λ rest. TakesNext trace_causes (lines_read reader.old.has_header reader.old.decls reader.old.trace) bytes.now rest
-        (lines_read reader.new.has_header reader.new.decls reader.new.trace))
-        (TellsOfNext trace_causes (lines_read reader.old.has_header reader.old.decls reader.old.trace) bytes.now) }
-    ensures reading { OnOk result (IsReading reader.new.has_header reader.new.decls reader.new.trace) }
-{
-    let (line, rest) = cut_at(bytes, b'\n');
-    match rest {
-        None => Ok(None),
-        Some(others) => match take_line(reader, line) {
-            Ok(()) => Ok(Some(others)),
-            Err(fault) => Err(fault),
-        },
-    }
-}
-
-// Takes a line, or tells its least cause with its number.
-#[inline(always)]
-fn take_line<A: Allocator + Copy>(reader: &mut Reader<A>, line: &[u8]) -> Result<(), TextFault>
-    requires { IsReading reader.old.has_header reader.old.decls reader.old.trace }
-    ensures taken { MatchResult result
-        (λ _. GoesOn trace_causes (lines_read reader.old.has_header reader.old.decls reader.old.trace) line.now
-        (lines_read reader.new.has_header reader.new.decls reader.new.trace))
-        (spec.TellsOfLine trace_causes (lines_read reader.old.has_header reader.old.decls reader.old.trace) line.now) }
-    ensures reading { OnOk result (IsReading reader.new.has_header reader.new.decls reader.new.trace) }
-{
-    let number = reader.line();
-    match reader.take_line(line) {
-        Ok(()) => Ok(()),
-        Err(cause) => Err(TextFault {
-            line: number,
-            cause,
-        }),
+        let LineReader { fed } = self;
+        fed.finish()
     }
 }

@@ -11,6 +11,7 @@ ghost use Rattle.race_text.specs.Reader as spec;
 use crate::cause::TextCause;
 use crate::cut::has_bad_byte;
 use crate::declaration::read_declaration;
+use crate::grammar::Grammar;
 use crate::guesses::Guesses;
 use crate::header::version_said;
 use crate::taking::{take_common, take_event};
@@ -44,11 +45,46 @@ impl<A: Allocator> Drop for Reader<A> {
     }
 }
 
+impl<A: Allocator + Copy> Grammar for Reader<A> {
+    ghost use Rattle.race_text.specs.Fault.{trace_causes};
+    ghost use Rattle.race_text.specs.Reader.{StandsFor};
+    ghost use Rattle.race_text.specs.Text.{IsTextOf};
+
+    type Whole = Trace<A>;
+
+    ghost causes = { trace_causes };
+
+    ghost stands_for = { StandsFor };
+
+    ghost is_text_of = { IsTextOf };
+
+    #[inline(always)]
+    fn take_line(&mut self, line: &[u8]) -> Result<(), TextCause> {
+        self.take_line(line)
+    }
+
+    #[inline(always)]
+    fn line(&self) -> u64 {
+        self.line()
+    }
+
+    fn whole(self, last: &[u8]) -> Result<Trace<A>, TextCause> {
+        match self.end_cause(last) {
+            Some(cause) => Err(cause),
+            None => Ok(self.into_trace()),
+        }
+    }
+
+    #[inline(always)]
+    fn take_common<'b>(&mut self, bytes: &'b [u8]) -> Result<Option<&'b [u8]>, TextCause> {
+        self.take_common(bytes)
+    }
+}
+
 impl<A: Allocator + Copy> Reader<A> {
-    // Nothing is read yet. Takes no memory.
-    pub(crate) fn new(alloc: A) -> Reader<A>
-        ensures header { result.has_header ≡ false }
-        ensures reading { spec.IsReading result.has_header result.decls result.trace }
+    /// Nothing is read yet. Takes no memory.
+    pub fn new(alloc: A) -> Reader<A>
+        ensures { spec.StandsFor result [] }
     {
         Reader {
             alloc,

@@ -1,0 +1,55 @@
+//! What tells one kind of text from another, where a text is read line by line.
+
+use crate::cause::TextCause;
+
+/// A reader of lines that are handed to it whole, one after another.
+///
+/// What it keeps of them is its own affair: the lines for which it stands are known to proofs alone.
+/// After a cause nothing more is to be asked of it.
+pub trait Grammar: Drop {
+    ghost use Rattle.std.specs.Prelude.{ℕ, ◌≡◌, ◌+◌, List, length, MatchResult};
+    ghost use Rattle.race_text.specs.Lines.{Causes};
+    ghost use Rattle.race_text.specs.Grammar as spec;
+
+    /// What a whole text is read as.
+    type Whole: Drop;
+
+    // The causes of such a text.
+    ghost causes: { Causes };
+
+    // The lines that it took.
+    ghost stands_for: { Self → List (List ℕ) → Type 0 };
+
+    ghost is_text_of: { Self.Whole → List ℕ → Type 0 };
+
+    /// Takes the next line, or tells its least cause: want of memory only where the line has none.
+    fn take_line(&mut self, line: &[u8]) -> Result<(), TextCause>
+        requires { spec.StandsForSome (stands_for self.old) }
+        ensures { MatchResult result
+            (λ _. spec.Takes causes (stands_for self.old) line.now (stands_for self.new))
+            (λ told. spec.Tells causes (stands_for self.old) line.now told) };
+
+    /// The number of the line that comes next, counted from 1.
+    fn line(&self) -> u64
+        requires { spec.StandsForSome (stands_for self.now) }
+        ensures { spec.ForEachLines (stands_for self.now) (λ lines. result ≡ length lines + 1) };
+
+    /// What was read as a whole, where this stands behind the last newline, or the cause of the end.
+    fn whole(self, last: &[u8]) -> Result<Self::Whole, TextCause>
+        requires { spec.StandsForSome (stands_for self) }
+        ensures { MatchResult result
+            (λ whole. spec.ForEachLines (stands_for self) (spec.IsWhole causes is_text_of last.now whole))
+            (λ told. spec.TellsOfEnd causes (stands_for self) last.now told) };
+
+    /// Takes the line in front of the bytes, where it has a faster way for it, and tells what is behind
+    /// it. Tells nothing, and takes nothing, where it has none.
+    #[inline(always)]
+    fn take_common<'b>(&mut self, bytes: &'b [u8]) -> Result<Option<&'b [u8]>, TextCause>
+        requires { spec.StandsForSome (stands_for self.old) }
+        ensures { MatchResult result
+            (λ rest. spec.TakesIfTold causes (stands_for self.old) bytes.now rest (stands_for self.new))
+            (λ told. spec.TellsOfFront causes (stands_for self.old) bytes.now told) }
+    {
+        Ok(None)
+    }
+}

@@ -51,7 +51,8 @@ module _ (fault : Option Cause) where
       as_told (Ask.Close (Some c)) told (Some Answer.Unit) (Close d) p.1 (ap (λ e. Some (Close e)) (sym p.0))
   closer_made (Some c) (Fault (CloseClosed d)) told row fails =
       as_told (Ask.Close (Some c)) told None (Fault (CloseClosed d)) (wanted d c None told row).1 (failed fault _ (CloseClosed d) fails refl)
-  closer_made None (Fault CloseNil) told row fails = as_told (Ask.Close None) told None (Fault CloseNil) cc (failed fault _ CloseNil fails refl)
+  closer_made None (Fault CloseNil) told row fails =
+      let same : told ≡ None = cc in as_told (Ask.Close None) told None (Fault CloseNil) same (failed fault (Fault CloseNil) CloseNil fails refl)
   closer_made _ _ told row fails = absurd cc
 
   trier_made : (l k : ℕ) (op : Op) (told : Option Answer) → told_trier l k op ≡ Some told → IsMade (Ask.TryLock l) told op
@@ -110,7 +111,7 @@ module _ (fault : Option Cause) where
 
   first_made : (ask : Ask) (op : Op) (told : Option Answer) → told_by ask op ≡ Some told → FailsBy fault op → IsMade ask told op
   first_made (Ask.Go h) (Go g) told row fails = on_made (Ask.Go h) Go g h (Some Answer.Unit) told row refl
-  first_made Ask.Exit Exit told row fails = as_told Ask.Exit told None Exit cc refl
+  first_made Ask.Exit Exit told row fails = let same : told ≡ None = cc in as_told Ask.Exit told None Exit same refl
   first_made (Ask.Read x) (Read y v) told row fails = on_made (Ask.Read x) (λ z. Read z v) y x (Some (Answer.Value v)) told row refl
   first_made (Ask.Write x v) (Write y w) told row fails =
       let p = wanted_two y x w v (Some Answer.Unit) told row in

@@ -1,5 +1,5 @@
 -- One more line that is read: of a body, or a declaration, or the header.
-use Rattle.std.proofs.Common.{◌≡◌, ◌≢◌, ℕ, suc, ◌<◌, ◌==◌, ◌&&◌, Bool, true, false, true≢false, nat_lt}
+use Rattle.std.proofs.Common.{◌≡◌, ℕ, suc, ◌<◌, ◌==◌, ◌&&◌, Bool, true, false, true≢false, nat_lt}
 use Rattle.std.proofs.Common.{if◌then◌else◌, is_none, List, [], ◌∷◌, ◌++◌, length, map, get_or, unwrap_or, Option}
 use Rattle.std.proofs.Common.{Some, None, Result, Ok, Err, IfOk, IfSome, MatchResult, fold, refl, sym, ap}
 use Rattle.std.proofs.Common.{subst, ◌∙◌, arith, append-nil}

@@ -2,7 +2,7 @@
 use Rattle.std.proofs.Common.{◌≡◌, ℕ, ◌+◌, ◌<◌, ◌≤◌, ◌==◌, ◌&&◌, ◌||◌, Bool, true, false, true≢false, not, nat_lt}
 use Rattle.std.proofs.Common.{nat_le, if◌then◌else◌, List, [], ◌∷◌, ◌++◌, length, map, fold, unwrap_or, Option}
 use Rattle.std.proofs.Common.{Some, None, IfSome, refl, sym, ap, subst, ◌∙◌, arith, append-nil, append_assoc}
-use Rattle.std.proofs.Common.{is_some, is_none, ◌≢◌, ◌⊎◌, inl, inr, Ok, Err}
+use Rattle.std.proofs.Common.{is_some, is_none, ◌⊎◌, inl, inr, Ok, Err}
 use Rattle.std.proofs.lemmas.Bool.Decides.{nat_tests}
 use Rattle.std.proofs.lemmas.List.{length-append, length-map, map-append}
 use Rattle.std.proofs.lemmas.List.Folds.{list_all-append}
@@ -20,7 +20,6 @@ use Rattle.race_records.specs.Declarations.{with_place as with_place_in}
 use Rattle.race_records.specs.Name.{is_place}
 use Rattle.race_records.proofs.PlaceLemmas.{with_place_well_formed}
 use Rattle.race_records.specs.Refusal.{Refuses, AllowsUnless}
-use Rattle.race_text.specs.Declaring.{cause_of}
 use Rattle.race_requests.specs.declared.request.Ask.{Ask}
 use Rattle.race_requests.specs.declared.request.Request.{Request}
 use Rattle.race_requests.specs.Sound.{has_ask}

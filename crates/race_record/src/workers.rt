@@ -106,6 +106,8 @@ fn left<R: Drop, A: Allocator>(
     ensures limit { IfOk result (λ _. hub.limit ≡ limit) }
     ensures no_thread { (result ≡ Err Fault.NoThread) ↔ (stop ≡ Some Stop.NoThread) }
     ensures memory { (result ≡ Err Fault.OutOfMemory) ↔ (stop ≡ Some Stop.OutOfMemory) }
+    ensures why { result ≡ Err Fault.Mismatch → declared hub.decls ≡ declared decls.now → hub.limit ≡ limit
+        → spec.HasMismatch hub }
 {
     match stop {
         Some(Stop::NoThread) => Err(Fault::NoThread),
@@ -126,6 +128,7 @@ fn given<R: Drop, A: Allocator>(
     ensures declared { IfOk result (λ _. declared hub.decls ≡ declared decls.now) }
     ensures limit { IfOk result (λ _. hub.limit ≡ limit) }
     ensures fault { IfErr result (λ fault. fault ≡ Fault.Mismatch) }
+    ensures why { IfErr result (λ _. declared hub.decls ≡ declared decls.now → hub.limit ≡ limit → spec.HasMismatch hub) }
 {
     if !is_same(&hub, decls, limit) {
         return Err(Fault::Mismatch);
@@ -140,6 +143,7 @@ fn given<R: Drop, A: Allocator>(
 fn is_same<R, A: Allocator>(hub: &Hub<R, A>, decls: &Decls<A>, limit: u32) -> bool
     ensures declared { IsTrue result → declared hub.now.decls ≡ declared decls.now }
     ensures limit { IsTrue result → hub.now.limit ≡ limit }
+    ensures same { declared hub.now.decls ≡ declared decls.now → hub.now.limit ≡ limit → IsTrue result }
 {
     hub.trace().decls() == decls && hub.limit() == limit
 }

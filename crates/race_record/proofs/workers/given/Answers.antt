@@ -1,0 +1,6 @@
+use Rattle.std.proofs.Common.{◌∙◌, sym, true≢false}
+use Rattle.race_record.proofs.workers.given.Goals as goal
+
+pub returns-then-not-is_same-clause-why : goal.returns-then-not-is_same-clause-why
+returns-then-not-is_same-clause-why g c = λ same limit.
+    absurd (true≢false (sym (c.is_same.ensures.same same limit) ∙ c.if-not-is_same.true))

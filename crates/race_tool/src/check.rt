@@ -10,7 +10,7 @@ use crate::printing::write_finding;
 use crate::status;
 use race_records::{Sink, Source, WriteFault};
 use race_shards::{MAX_BLOCK, MAX_SHARDS};
-use race_text::LineReader;
+use race_text::Reader;
 use std::alloc::Allocator;
 use std::io::{Read, Write};
 use std::sync::Wait;
@@ -105,7 +105,7 @@ impl<A: Allocator + Copy> Engine for Checking<A> {
     ghost use Rattle.race_tool.specs.Finding.{IsFinding, report_of, status_of};
     ghost use Rattle.race_tool.specs.Findings.{finding_of};
 
-    type Reader = LineReader<A>;
+    type Reader = Reader<A>;
 
     type Found = Finding<A>;
 
@@ -117,8 +117,8 @@ impl<A: Allocator + Copy> Engine for Checking<A> {
 
     ghost status_for = { λ found. status_of (finding_of found) };
 
-    fn reader(&self) -> LineReader<A> {
-        LineReader::new(self.alloc)
+    fn reader(&self) -> Reader<A> {
+        Reader::new(self.alloc)
     }
 
     fn write<W: Write>(&self, found: &Finding<A>, sink: &mut Sink<W>) -> Result<(), WriteFault> {

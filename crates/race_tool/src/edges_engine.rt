@@ -4,7 +4,7 @@ ghost use Rattle.race_tool.specs.Engines.{Lists};
 use crate::edges_found::{Found, find_edges, write_found};
 use crate::engine::{Engine, answer};
 use race_records::{Sink, Source, WriteFault};
-use race_text::LineReader;
+use race_text::Reader;
 use std::alloc::Allocator;
 use std::io::{Read, Write};
 
@@ -42,7 +42,7 @@ impl<A: Allocator + Copy> Engine for Listing<A> {
     ghost use Rattle.race_tool.specs.Listing.{IsListing, listing_text, listing_status};
     ghost use Rattle.race_tool.specs.Listings.{listing_of};
 
-    type Reader = LineReader<A>;
+    type Reader = Reader<A>;
 
     type Found = Found<A>;
 
@@ -54,8 +54,8 @@ impl<A: Allocator + Copy> Engine for Listing<A> {
 
     ghost status_for = { λ found. listing_status (listing_of found) };
 
-    fn reader(&self) -> LineReader<A> {
-        LineReader::new(self.alloc)
+    fn reader(&self) -> Reader<A> {
+        Reader::new(self.alloc)
     }
 
     fn write<W: Write>(&self, found: &Found<A>, sink: &mut Sink<W>) -> Result<(), WriteFault> {

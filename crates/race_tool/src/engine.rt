@@ -3,10 +3,9 @@ ghost use Rattle.std.specs.Prelude.{◌≡◌};
 ghost use Rattle.race_tool.specs.Outcome.{status_of_fault, Answers, Finds};
 
 use crate::input::{ReadFault, read_text};
-use crate::pieces::PieceReader;
 use crate::status;
 use race_records::{Sink, Source, WriteFault};
-use race_text::TextFault;
+use race_text::{Grammar, TextFault};
 use std::alloc::Allocator;
 use std::io::{Read, Write};
 
@@ -25,8 +24,8 @@ pub(crate) trait Engine {
     ghost use Rattle.race_text.specs.Output.{Writes};
     ghost use Rattle.race_tool.specs.Outcome.{IsOfAFinding};
 
-    /// The reader of its kind of text.
-    type Reader: PieceReader;
+    /// The reader of its kind of text, line by line.
+    type Reader: Grammar;
 
     /// What there is to say of a list of bytes.
     type Found: Drop;
@@ -41,7 +40,7 @@ pub(crate) trait Engine {
 
     ghost status_for: { Self.Found → ℕ };
 
-    /// A reader to which nothing was fed.
+    /// A reader that took no line.
     fn reader(&self) -> Self::Reader
         ensures { Self.Reader.stands_for result [] };
 
@@ -57,7 +56,7 @@ pub(crate) trait Engine {
 }
 
 /// Reads an input, finds by `find` what there is to say of it, writes that and answers its status.
-pub(crate) fn answer<E: Engine, F, R: Read, W: Write, A: Allocator>(
+pub(crate) fn answer<E: Engine, F, R: Read, W: Write, A: Allocator + Copy>(
     engine: &E,
     find: F,
     alloc: A,
@@ -65,7 +64,7 @@ pub(crate) fn answer<E: Engine, F, R: Read, W: Write, A: Allocator>(
     sink: &mut Sink<W>,
 ) -> u8
 where
-    F: FnOnce(Result<<E::Reader as PieceReader>::Whole, TextFault>) -> Result<E::Found, NoFinding>,
+    F: FnOnce(Result<<E::Reader as Grammar>::Whole, TextFault>) -> Result<E::Found, NoFinding>,
     requires can { F.IsAlwaysCallable find }
     requires finds { (text : _) (found : _) → F.post find text found
         → Finds E.Reader.is_text_of E.Reader.causes (E.is_right engine.now) (E.is_unrecorded engine.now) text found }

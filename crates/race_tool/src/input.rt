@@ -1,13 +1,13 @@
 //! Reading an input block by block, to its end or to its first faulty line.
-ghost use Rattle.std.specs.Prelude.{◌≡◌, ◌≢◌, [], length, vec_len, IfOk, IfErr};
+ghost use Rattle.std.specs.Prelude.{◌≡◌, ◌≢◌, [], length, vec_len, IfOk, IfErr, OnOk};
 ghost use Rattle.std.specs.Io.KnownBytes.{Keeps};
 ghost use Rattle.race_records.specs.Devices.{unread, source_reads, source_failures, one_more};
 ghost use Rattle.race_text.specs.declared.cause.TextCause.{TextCause as Cause};
+ghost use Rattle.race_text.specs.Fed.{IsFed, IsReady};
 ghost use Rattle.race_tool.specs.Input.{ReadsBy, ReadsFine, ReadsMany, FeedsMore};
 
-use crate::pieces::PieceReader;
 use race_records::Source;
-use race_text::{TextCause, TextFault};
+use race_text::{Fed, Grammar, TextCause, TextFault};
 use std::alloc::{AllocError, Allocator};
 use std::io::Read;
 use thiserror::Error;
@@ -35,29 +35,29 @@ pub(crate) enum ReadFault {
     OutOfMemory,
 }
 
-/// Reads a text in blocks by a reader to which nothing was fed. It stops at the end of the input, or
-/// of the block that ends the first faulty line.
-pub(crate) fn read_text<R: Read, P: PieceReader, A: Allocator>(
+/// Reads a text in blocks by a grammar that took no line. It stops at the end of the input, or of the
+/// block that ends the first faulty line.
+pub(crate) fn read_text<R: Read, G: Grammar, A: Allocator + Copy>(
     alloc: A,
     source: &mut Source<R>,
-    reader: P,
-) -> Result<Result<P::Whole, TextFault>, ReadFault>
-    requires { P.stands_for reader [] }
-    ensures ok { IfOk result (λ text. ReadsBy P.is_text_of P.causes
+    grammar: G,
+) -> Result<Result<G::Whole, TextFault>, ReadFault>
+    requires { G.stands_for grammar [] }
+    ensures ok { IfOk result (λ text. ReadsBy G.is_text_of G.causes
         (unread R.remaining source.old) (unread R.remaining source.new) text) }
     ensures calm { result ≢ Err ReadFault.Failed
         → source_failures source.new ≡ source_failures source.old }
     ensures failed { result ≡ Err ReadFault.Failed
         → source_failures source.new ≡ one_more (source_failures source.old) }
     ensures fine { result ≡ Err ReadFault.Failed
-        → ReadsFine P.causes (unread R.remaining source.old) (unread R.remaining source.new) }
+        → ReadsFine G.causes (unread R.remaining source.old) (unread R.remaining source.new) }
     ensures endless { result ≡ Err ReadFault.Endless
-        → ReadsMany P.causes R.remaining source.old source.new }
+        → ReadsMany G.causes R.remaining source.old source.new }
 {
     let Ok(mut block) = blank_block(alloc) else {
         return Err(ReadFault::OutOfMemory);
     };
-    let mut reader = reader;
+    let mut reader = Fed::new(alloc, grammar);
     for _ in 0..MAX_TURNS {
         match feed_block(source, block.as_mut_slice(), &mut reader)? {
             Ok(true) => {}
@@ -75,14 +75,15 @@ fn blank_block<A: Allocator>(alloc: A) -> Result<Vec<u8, A>, AllocError>
 }
 
 // Reads once, and feeds what was read. Tells whether there were bytes, or the first faulty line.
-fn feed_block<R: Read, P: PieceReader>(
+fn feed_block<R: Read, G: Grammar, A: Allocator + Copy>(
     source: &mut Source<R>,
     block: &mut [u8],
-    reader: &mut P,
+    reader: &mut Fed<G, A>,
 ) -> Result<Result<bool, TextFault>, ReadFault>
-    requires { length block.old ≡ BLOCK }
-    ensures ok { IfOk result (λ answer. FeedsMore P.causes (unread R.remaining source.old)
-        (unread R.remaining source.new) (P.stands_for reader.old) (P.stands_for reader.new) answer) }
+    requires length { length block.old ≡ BLOCK }
+    requires ready { IsReady G.stands_for reader.old }
+    ensures ok { IfOk result (λ answer. FeedsMore G.causes (unread R.remaining source.old)
+        (unread R.remaining source.new) (IsFed G.causes G.stands_for reader.old) (IsFed G.causes G.stands_for reader.new) answer) }
     ensures calm { result ≢ Err ReadFault.Failed
         → source_failures source.new ≡ source_failures source.old }
     ensures failed { result ≡ Err ReadFault.Failed
@@ -91,6 +92,7 @@ fn feed_block<R: Read, P: PieceReader>(
         → Keeps (unread R.remaining source.old) (unread R.remaining source.new) }
     ensures ends { result ≢ Err ReadFault.Endless }
     ensures reads { source_reads source.new ≡ one_more (source_reads source.old) }
+    ensures ready { OnOk result (IsReady G.stands_for reader.new) }
 {
     match source.read(block) {
         Ok(taken) => match set_memory_apart(reader.feed(&block[..taken])) {

@@ -9,7 +9,6 @@ mod finding;
 mod input;
 pub mod laws;
 mod no_race;
-mod pieces;
 mod printing;
 mod race_engine;
 mod race_found;

@@ -11,7 +11,7 @@ use crate::race_found::{JudgedRun, find_judged_run};
 use crate::run_engine::RunOptions;
 use crate::status;
 use race_records::{Sink, Source, WriteFault};
-use race_script::ProgramReader;
+use race_script::Reader;
 use std::alloc::Allocator;
 use std::io::{Read, Write};
 use std::sync::Wait;
@@ -74,7 +74,7 @@ impl<A: Allocator + Copy> Engine for Judging<'_, A> {
     ghost use Rattle.race_tool.specs.Recorded.{judged_run_of};
     ghost use Rattle.race_tool.specs.Run.{IsProgramWhere, IsRefusedRun};
 
-    type Reader = ProgramReader<A>;
+    type Reader = Reader<A>;
 
     type Found = JudgedRun<A>;
 
@@ -87,8 +87,8 @@ impl<A: Allocator + Copy> Engine for Judging<'_, A> {
 
     ghost status_for = { λ found. judged_status (judged_run_of found) };
 
-    fn reader(&self) -> ProgramReader<A> {
-        ProgramReader::new(self.alloc)
+    fn reader(&self) -> Reader<A> {
+        Reader::new(self.alloc)
     }
 
     fn write<W: Write>(&self, found: &JudgedRun<A>, sink: &mut Sink<W>) -> Result<(), WriteFault> {

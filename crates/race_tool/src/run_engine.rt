@@ -9,7 +9,7 @@ use crate::run_found::{Run, find_run};
 use crate::status;
 use race_record::MAX_WORKERS;
 use race_records::{MAX_EVENTS, Sink, Source, WriteFault};
-use race_script::ProgramReader;
+use race_script::Reader;
 use std::alloc::{Allocator, Global};
 use std::io::{Read, Write};
 use std::sync::Wait;
@@ -107,7 +107,7 @@ impl<A: Allocator + Copy> Engine for Running<'_, A> {
     ghost use Rattle.race_tool.specs.Recorded.{run_of};
     ghost use Rattle.race_tool.specs.Run.{IsProgramWhere, IsRefusedRun, IsRun, run_text, run_status};
 
-    type Reader = ProgramReader<A>;
+    type Reader = Reader<A>;
 
     type Found = Run<A>;
 
@@ -121,8 +121,8 @@ impl<A: Allocator + Copy> Engine for Running<'_, A> {
 
     ghost status_for = { λ found. run_status (run_of found) };
 
-    fn reader(&self) -> ProgramReader<A> {
-        ProgramReader::new(self.alloc)
+    fn reader(&self) -> Reader<A> {
+        Reader::new(self.alloc)
     }
 
     fn write<W: Write>(&self, found: &Run<A>, sink: &mut Sink<W>) -> Result<(), WriteFault> {

@@ -4,7 +4,7 @@ ghost use Rattle.race_tool.specs.Witnesses.{Shows};
 use crate::engine::{Engine, answer};
 use crate::witness_found::{Found, find_witness, write_found};
 use race_records::{Sink, Source, WriteFault};
-use race_text::LineReader;
+use race_text::Reader;
 use std::alloc::Allocator;
 use std::io::{Read, Write};
 
@@ -47,7 +47,7 @@ impl<'a, A: Allocator + Copy> Engine for Showing<'a, A> {
     ghost use Rattle.race_tool.specs.Witness.{IsShowing, showing_text, showing_status};
     ghost use Rattle.race_tool.specs.Witnesses.{showing_of};
 
-    type Reader = LineReader<A>;
+    type Reader = Reader<A>;
 
     type Found = Found<A>;
 
@@ -59,8 +59,8 @@ impl<'a, A: Allocator + Copy> Engine for Showing<'a, A> {
 
     ghost status_for = { λ found. showing_status (showing_of found) };
 
-    fn reader(&self) -> LineReader<A> {
-        LineReader::new(self.alloc)
+    fn reader(&self) -> Reader<A> {
+        Reader::new(self.alloc)
     }
 
     fn write<W: Write>(&self, found: &Found<A>, sink: &mut Sink<W>) -> Result<(), WriteFault> {

@@ -1,9 +1,11 @@
 -- A block is fed, and the reader of lines stands for all that was read.
-use Rattle.std.proofs.Common.{◌≡◌, ◌≢◌, Bool, Result, Ok, Err, IfErr, refl, ap, subst, rules, ◌∙◌, arith}
+use Rattle.std.proofs.Common.{◌≡◌, ◌≢◌, Bool, Result, Ok, Err, IfErr, refl, ap, subst, ◌∙◌, arith}
+use Rattle.std.proofs.lemmas.Result.{IfOk-from_err}
 use Rattle.race_records.specs.Devices.{unread, source_reads, one_more}
 use Rattle.race_text.specs.declared.cause.TextFault.{TextFault}
 use Rattle.race_tool.specs.declared.input.ReadFault.{ReadFault}
 use Rattle.race_tool.specs.Input.{FeedsMore}
+use Rattle.race_text.specs.Fed.{IsFed as Stands}
 use Rattle.race_tool.proofs.InputLemmas.{fed_none, fed_more, fine_before, fault_read, end_answered, err_same, err_other, read_more}
 use Rattle.race_tool.proofs.input.read_text.Goals as goal
 
@@ -15,12 +17,13 @@ out_of_memory_alone (Err fault) memory other differs is = differs cc
 
 pub loop-init : goal.loop-init
 loop-init g c = record {
-  fed = fed_none g.P.PieceReader.causes (unread g.R.Read.remaining c.args.source.now)
-      (g.P.PieceReader.stands_for c.args.reader) c.requires;
+  fed = fed_none g.G.Grammar.causes (unread g.R.Read.remaining c.args.source.now)
+      (Stands g.G.Grammar.causes g.G.Grammar.stands_for c.new-reader.result) c.new-reader.ensures.stands;
   first = λ none. refl;
   reads = λ some. absurd (omega arith);
   calm = refl;
   room = c.in-Ok.ensures;
+  ready = c.new-reader.ensures.ready;
 }
 
 pub returns-in_err-feed_block-clause-calm : goal.returns-in_err-feed_block-clause-calm
@@ -30,20 +33,20 @@ returns-in_err-feed_block-clause-calm g c = λ other.
 
 pub returns-in_err-feed_block-clause-fine : goal.returns-in_err-feed_block-clause-fine
 returns-in_err-feed_block-clause-fine g c = λ failed.
-    fine_before g.P.PieceReader.causes (unread g.R.Read.remaining c.args.source.now)
+    fine_before g.G.Grammar.causes (unread g.R.Read.remaining c.args.source.now)
     (unread g.R.Read.remaining c.loop.source) (unread g.R.Read.remaining c.feed_block.new.source)
-    (g.P.PieceReader.stands_for c.loop.reader) (g.P.PieceReader.stands_for c.feed_block.new.reader) c.loop.counter c.loop.invariant.fed
+    (Stands g.G.Grammar.causes g.G.Grammar.stands_for c.loop.reader) (Stands g.G.Grammar.causes g.G.Grammar.stands_for c.feed_block.new.reader) c.loop.counter c.loop.invariant.fed
     (c.in_err-feed_block.ensures.kept (err_same c.from_residual.result c.in_err-feed_block.field-0.0 ReadFault.Failed c.from_residual.ensures.1 failed))
 
 pub returns-in-Ok-false-clause-ok : goal.returns-in-Ok-false-clause-ok
 returns-in-Ok-false-clause-ok g c =
     let before = unread g.R.Read.remaining c.loop.source in
     let after = unread g.R.Read.remaining c.feed_block.new.source in
-    end_answered g.P.PieceReader.causes (unread g.R.Read.remaining c.args.source.now) before after
-    (g.P.PieceReader.stands_for c.loop.reader) (g.P.PieceReader.stands_for c.feed_block.new.reader) c.loop.counter c.loop.invariant.fed
-    g.P.PieceReader.is_text_of c.finish.result c.set_memory_apart.result
-    (subst (λ (answer : Result Bool TextFault). FeedsMore g.P.PieceReader.causes before after
-    (g.P.PieceReader.stands_for c.loop.reader) (g.P.PieceReader.stands_for c.feed_block.new.reader) answer)
+    end_answered g.G.Grammar.causes (unread g.R.Read.remaining c.args.source.now) before after
+    (Stands g.G.Grammar.causes g.G.Grammar.stands_for c.loop.reader) (Stands g.G.Grammar.causes g.G.Grammar.stands_for c.feed_block.new.reader) c.loop.counter c.loop.invariant.fed
+    g.G.Grammar.is_text_of c.finish.result c.set_memory_apart.result
+    (subst (λ (answer : Result Bool TextFault). FeedsMore g.G.Grammar.causes before after
+    (Stands g.G.Grammar.causes g.G.Grammar.stands_for c.loop.reader) (Stands g.G.Grammar.causes g.G.Grammar.stands_for c.feed_block.new.reader) answer)
     (c.in-Ok-false.is ∙ ap (λ (b : Bool). Ok b) c.in-Ok-false.field-0-test) c.in_ok-feed_block.ensures.ok)
     c.finish.ensures.text c.finish.ensures.fault c.set_memory_apart.ensures.same c.set_memory_apart.ensures.others
 
@@ -51,10 +54,10 @@ pub returns-in-Err-clause-ok : goal.returns-in-Err-clause-ok
 returns-in-Err-clause-ok g c =
     let before = unread g.R.Read.remaining c.loop.source in
     let after = unread g.R.Read.remaining c.feed_block.new.source in
-    fault_read g.P.PieceReader.causes (unread g.R.Read.remaining c.args.source.now) before after (g.P.PieceReader.stands_for c.loop.reader)
-    (g.P.PieceReader.stands_for c.feed_block.new.reader) c.loop.counter c.loop.invariant.fed g.P.PieceReader.is_text_of c.in-Err.fault
-    (subst (λ (answer : Result Bool TextFault). FeedsMore g.P.PieceReader.causes before after (g.P.PieceReader.stands_for c.loop.reader)
-    (g.P.PieceReader.stands_for c.feed_block.new.reader) answer) c.in-Err.is c.in_ok-feed_block.ensures.ok)
+    fault_read g.G.Grammar.causes (unread g.R.Read.remaining c.args.source.now) before after (Stands g.G.Grammar.causes g.G.Grammar.stands_for c.loop.reader)
+    (Stands g.G.Grammar.causes g.G.Grammar.stands_for c.feed_block.new.reader) c.loop.counter c.loop.invariant.fed g.G.Grammar.is_text_of c.in-Err.fault
+    (subst (λ (answer : Result Bool TextFault). FeedsMore g.G.Grammar.causes before after (Stands g.G.Grammar.causes g.G.Grammar.stands_for c.loop.reader)
+    (Stands g.G.Grammar.causes g.G.Grammar.stands_for c.feed_block.new.reader) answer) c.in-Err.is c.in_ok-feed_block.ensures.ok)
 
 pub loop-preserved : goal.loop-preserved
 loop-preserved g c =
@@ -62,10 +65,10 @@ loop-preserved g c =
     let before = unread g.R.Read.remaining c.loop.source in
     let after = unread g.R.Read.remaining c.feed_block.new.source in
     record {
-      fed = fed_more g.P.PieceReader.causes (unread g.R.Read.remaining c.args.source.now) before after
-          (g.P.PieceReader.stands_for c.loop.reader) (g.P.PieceReader.stands_for c.feed_block.new.reader) c.loop.counter held.fed
-          (subst (λ (answer : Result Bool TextFault). FeedsMore g.P.PieceReader.causes before after
-          (g.P.PieceReader.stands_for c.loop.reader) (g.P.PieceReader.stands_for c.feed_block.new.reader) answer)
+      fed = fed_more g.G.Grammar.causes (unread g.R.Read.remaining c.args.source.now) before after
+          (Stands g.G.Grammar.causes g.G.Grammar.stands_for c.loop.reader) (Stands g.G.Grammar.causes g.G.Grammar.stands_for c.feed_block.new.reader) c.loop.counter held.fed
+          (subst (λ (answer : Result Bool TextFault). FeedsMore g.G.Grammar.causes before after
+          (Stands g.G.Grammar.causes g.G.Grammar.stands_for c.loop.reader) (Stands g.G.Grammar.causes g.G.Grammar.stands_for c.feed_block.new.reader) answer)
           (c.in-Ok-true.is ∙ ap (λ (b : Bool). Ok b) c.in-Ok-true.field-0-test) c.in_ok-feed_block.ensures.ok);
       first = λ none. absurd (omega arith);
       reads = λ some. read_more c.loop.counter (source_reads c.args.source.now)
@@ -73,10 +76,11 @@ loop-preserved g c =
           c.in_ok-feed_block.ensures.reads;
       calm = c.in_ok-feed_block.ensures.calm (λ e. cc) ∙ held.calm;
       room = held.room;
+      ready = c.in_ok-feed_block.ensures.ready;
     }
 
 pub returns-in_err-feed_block-clause-ok : goal.returns-in_err-feed_block-clause-ok
-returns-in_err-feed_block-clause-ok g c = search rules steps 300000
+returns-in_err-feed_block-clause-ok g c = IfOk-from_err _ _ c.from_residual.ensures.0
 
 pub returns-in_err-feed_block-clause-failed : goal.returns-in_err-feed_block-clause-failed
 returns-in_err-feed_block-clause-failed g c = λ is. c.in_err-feed_block.ensures.failed

@@ -10,3 +10,4 @@ pub mod RunLemmas
 pub mod RaceLemmas
 pub mod PromiseLemmas
 pub mod WitnessLemmas
+pub mod DrawLemmas

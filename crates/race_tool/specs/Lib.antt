@@ -13,3 +13,5 @@ pub mod Engines
 pub mod Laws
 pub mod Witness
 pub mod Witnesses
+pub mod Draw
+pub mod Drawings

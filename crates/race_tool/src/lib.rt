@@ -2,6 +2,8 @@
 #![tactic(auto)]
 
 mod check;
+mod draw_engine;
+mod draw_found;
 mod edges_engine;
 mod edges_found;
 mod engine;
@@ -21,6 +23,7 @@ mod witness_engine;
 mod witness_found;
 
 pub use check::{CheckOptions, run_check};
+pub use draw_engine::run_draw;
 pub use edges_engine::run_edges;
 pub use race_engine::run_race;
 pub use race_record::MAX_WORKERS;

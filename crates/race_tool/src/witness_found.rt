@@ -72,8 +72,8 @@ fn find_witness_of<A: Allocator + Copy>(
     }
 }
 
-// The race that is listed on the variable of this name.
-fn race_on<A: Allocator>(trace: &Trace<A>, races: &[Race], name: &str) -> Option<Race>
+/// The race that is listed on the variable of this name.
+pub(crate) fn race_on<A: Allocator>(trace: &Trace<A>, races: &[Race], name: &str) -> Option<Race>
     ensures { IsPickedOf trace.now races.now name.now result }
 {
     let Some(Named::Var(var)) = trace.decls().find(name) else {

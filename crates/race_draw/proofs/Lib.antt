@@ -1,0 +1,2 @@
+pub mod WaySteps
+pub mod LayoutLemmas

@@ -1,0 +1,5 @@
+pub mod Layout
+pub mod Cells
+pub mod Words
+pub mod Text
+pub mod Svg

@@ -1,0 +1,108 @@
+-- The text of drawings. Events are printed with numbers from 1, and as the trace has them.
+use Rattle.std.specs.Prelude.{ℕ, if◌then◌else◌, ◌<◌, ◌==◌, ◌+◌, ◌||◌, not, Bool, true, false, All}
+use Rattle.std.specs.Prelude.{List, [], ◌∷◌, ◌++◌, length, codes, decimal, Option, Some, None, IfSome}
+use Rattle.std.specs.List.{concat, flat_map, list_any}
+use Rattle.race_records.specs.Events.{TraceState}
+use Rattle.race_text.specs.Text.{ended}
+use Rattle.race_verdict.specs.Races.{race_of}
+use Rattle.race_edges.specs.declared.listing.Edge.{Edge}
+use Rattle.race_verdict.specs.declared.races.Race.{Race}
+use Rattle.race_report.specs.Printable.{IsOf}
+use Rattle.race_report.specs.Report.{newline, access_word, race_line, races_line}
+use Rattle.race_draw.specs.declared.arrow.Arrow.{Arrow}
+use Rattle.race_draw.specs.declared.arrow.Lane.{Lane}
+use Rattle.race_draw.specs.declared.cells.Column.{Column}
+use Rattle.race_draw.specs.declared.cells.Line.{Line}
+use Rattle.race_draw.specs.Layout.{LayoutState, missing}
+use Rattle.race_draw.specs.Cells.{end_at, line_at, cell, lane_cell}
+use Rattle.race_draw.specs.Words.{event_text, name_at, op_at}
+
+-- the cells of a line, and the number of its event
+unfoldable pub line_front : List Arrow → Line → List ℕ
+line_front arrows line =
+    concat (cell line Column.First ∷ cell line Column.Second ∷ cell line Column.Other
+    ∷ lane_cell arrows line Lane.Missing ∷ lane_cell arrows line Lane.Start ∷ lane_cell arrows line Lane.Way
+    ∷ lane_cell arrows line Lane.Next
+    ∷ codes "  " ∷ decimal (line.at + 1) ∷ [])
+
+-- the event itself, unless it stands on the line before
+abbrev pub line_end : TraceState → Line → List ℕ
+line_end trace line = if line.bare then newline else codes "  " ++ event_text trace line.at
+
+abbrev pub line_text : TraceState → List Arrow → Line → List ℕ
+line_text trace arrows line = line_front arrows line ++ line_end trace line
+
+-- the line of the arrow, where it leaves event k or enters it
+abbrev pub end_text : TraceState → Edge → List Arrow → ℕ → Bool → Arrow → List ℕ
+end_text trace m arrows k enters a =
+    if end_at a enters == k then line_text trace arrows (line_at m a enters (op_at trace.events k)) else []
+
+-- the lines of event k: where arrows leave it, and where they enter it
+abbrev pub row_text : TraceState → Edge → List Arrow → ℕ → List ℕ
+row_text trace m arrows k =
+    flat_map (end_text trace m arrows k false) arrows ++ flat_map (end_text trace m arrows k true) arrows
+
+-- another goroutine than the two
+abbrev pub is_other : Edge → ℕ → Bool
+is_other m g = not (g == m.from_who || g == m.to_who)
+
+-- an arrow leaves or enters one
+abbrev pub has_others : Edge → List Arrow → Bool
+has_others m arrows = list_any (λ a. is_other m a.edge.from_who || is_other m a.edge.to_who) arrows
+
+-- the head of the third column, where it is used
+abbrev pub others_head : Bool → List ℕ
+others_head true = ended (codes "   |       |       others")
+others_head false = []
+
+-- the heads of the columns, each above its own
+unfoldable pub heads : TraceState → Race → List Arrow → List ℕ
+heads trace r arrows =
+    concat (newline ∷ codes "   " ∷ name_at trace r.first ∷ newline ∷ codes "   |       " ∷ name_at trace r.second ∷ newline
+    ∷ others_head (has_others (missing trace.events r) arrows) ∷ [])
+
+-- which event the first access is, and what the second one has seen of its goroutine
+unfoldable pub sentence_front : TraceState → Race → List ℕ
+sentence_front trace r =
+    concat (newline ∷ name_at trace r.first ∷ codes "'s " ∷ access_word (op_at trace.events r.first)
+    ∷ codes " is event " ∷ decimal (r.first + 1) ∷ codes ", and " ∷ name_at trace r.second ∷ codes " has seen " ∷ [])
+
+-- nothing, or all up to an event
+unfoldable pub none_seen : TraceState → Race → List ℕ
+none_seen trace r = concat (codes "nothing of " ∷ name_at trace r.first ∷ newline ∷ [])
+
+unfoldable pub some_seen : TraceState → Race → ℕ → List ℕ
+some_seen trace r p = concat (name_at trace r.first ∷ codes " up to event " ∷ decimal (p + 1) ∷ codes ": " ∷ [])
+
+abbrev pub sentence_end : TraceState → Race → Option ℕ → List ℕ
+sentence_end trace r None = none_seen trace r
+sentence_end trace r (Some p) = some_seen trace r p ++ event_text trace p
+
+abbrev pub sentence : TraceState → Race → Option ℕ → List ℕ
+sentence trace r seen = sentence_front trace r ++ sentence_end trace r seen
+
+-- the lines of all events that are shown
+abbrev pub rows_text : TraceState → Race → List Arrow → List ℕ → List ℕ
+rows_text trace r arrows rows = flat_map (row_text trace (missing trace.events r) arrows) rows
+
+-- the heads of the columns, the lines below them, and the sentence
+abbrev pub picture_text : TraceState → Race → Option ℕ → List Arrow → List ℕ → List ℕ
+picture_text trace r seen arrows rows = heads trace r arrows ++ (rows_text trace r arrows rows ++ sentence trace r seen)
+
+-- behind an empty line the line of the race, and its picture
+abbrev pub spaced_text : TraceState → Race → Option ℕ → List Arrow → List ℕ → List ℕ
+spaced_text trace r seen arrows rows = newline ++ (race_line trace (race_of r) ++ picture_text trace r seen arrows rows)
+
+-- so it is with what is laid out
+abbrev pub drawing_text : TraceState → LayoutState → List ℕ
+drawing_text trace l = spaced_text trace l.race l.seen l.arrows l.rows
+
+-- how many pictures there are, and each of them
+abbrev pub drawings_text : TraceState → List LayoutState → List ℕ
+drawings_text trace layouts = races_line (length layouts) ++ flat_map (drawing_text trace) layouts
+
+-- the numbers that are printed are the trace's
+pub record CanBeDrawn (trace : TraceState) (l : LayoutState) : Type 0 where
+  pub race : IsOf trace (race_of l.race)
+  pub seen : IfSome l.seen (λ p. p < length trace.events)
+  pub rows : All (λ k. k < length trace.events) l.rows

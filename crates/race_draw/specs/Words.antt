@@ -1,0 +1,20 @@
+-- The words of a drawing that come from the trace.
+use Rattle.std.specs.Prelude.{ℕ, List, [], slice_get, Some, None}
+use Rattle.race_records.specs.declared.event.Event.{Event}
+use Rattle.race_records.specs.declared.event.Op.{Op}
+use Rattle.race_records.specs.declared.event.Op.TheVariants.{Exit}
+use Rattle.race_records.specs.Events.{TraceState}
+use Rattle.race_text.specs.Text.{ended, event_line, goroutine_name}
+use Rattle.race_shards.specs.Seen.{who_at}
+
+-- the line of the trace that has event i
+abbrev pub event_text : TraceState → ℕ → List ℕ
+event_text trace i = elim (slice_get trace.events i) [ Some e ↦ ended (event_line trace.decls e) | None ↦ [] ]
+
+-- the name of the goroutine whose event i is
+abbrev pub name_at : TraceState → ℕ → List ℕ
+name_at trace i = goroutine_name trace.decls.declarations (who_at trace.events i)
+
+-- what is done in event i
+abbrev pub op_at : List Event → ℕ → Op
+op_at events i = elim (slice_get events i) [ Some e ↦ e.op | None ↦ Exit ]

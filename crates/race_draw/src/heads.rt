@@ -1,0 +1,69 @@
+//! The heads of a drawing's columns.
+ghost use Rattle.std.specs.Prelude.{◌≡◌, ◌<◌, length};
+ghost use Rattle.race_records.specs.Page.{Printing};
+ghost use Rattle.race_draw.specs.Text as spec;
+
+use crate::arrow::Arrow;
+use crate::layout::missing;
+use crate::words::race_words;
+use race_edges::Edge;
+use race_records::{Page, Sink, Trace, WriteFault};
+use race_verdict::Race;
+use std::alloc::Allocator;
+use std::io::Write;
+
+// Whether it is another goroutine than the two.
+fn is_other(missing: &Edge, goroutine: u32) -> bool
+    ensures { result ≡ spec.is_other missing.now goroutine }
+{
+    !(goroutine == missing.from_who || goroutine == missing.to_who)
+}
+
+// Whether an arrow leaves or enters one.
+fn has_others(missing: &Edge, arrows: &[Arrow]) -> bool
+    ensures { result ≡ spec.has_others missing.now arrows.now }
+{
+    arrows.iter().any(|arrow| {
+        is_other(missing, arrow.edge.from_who) || is_other(missing, arrow.edge.to_who)
+    })
+}
+
+// The head of the column of the others, for as long as other words stand.
+fn others_head<'a>(is_used: bool, _words: &'a [u8]) -> &'a [u8]
+    ensures { result.now ≡ spec.others_head is_used }
+{
+    if is_used {
+        b"   |       |       others\n"
+    } else {
+        b""
+    }
+}
+
+#[tactic(auto, unfolding(crate::specs::Text::heads))]
+pub(crate) fn print_heads<W: Write, A: Allocator>(
+    page: &mut Page,
+    sink: &mut Sink<W>,
+    trace: &Trace<A>,
+    race: &Race,
+    arrows: &[Arrow],
+) -> Result<(), WriteFault>
+    requires first { race.now.first < length trace.now.events }
+    requires second { race.now.second < length trace.now.events }
+    ensures { Printing W.contents result sink.old sink.new page.old page.new
+        (spec.heads trace.now race.now arrows.now) }
+{
+    let words = race_words(trace, race);
+    let others = has_others(&missing(trace, race), arrows);
+    let head = others_head(others, words.first);
+    let parts = [
+        b"\n".as_slice(),
+        b"   ".as_slice(),
+        words.first,
+        b"\n".as_slice(),
+        b"   |       ".as_slice(),
+        words.second,
+        b"\n".as_slice(),
+        head,
+    ];
+    page.put_all(sink, &parts)
+}

@@ -1,0 +1,177 @@
+//! The lines of a drawing: for each event that is shown one for each arrow that leaves it, and for each that enters it.
+ghost use Rattle.std.specs.Prelude.{◌≡◌, ◌<◌, ◌++◌, All, length, codes};
+ghost use Rattle.std.specs.List.{flat_map};
+ghost use Rattle.race_records.specs.Page.{Printing};
+ghost use Rattle.race_draw.specs.Text as spec;
+ghost use Rattle.race_draw.specs.Words.{event_text};
+
+use crate::arrow::{Arrow, Lane};
+use crate::cells::{Column, Line, cell, lane_cell, line_at};
+use crate::words::{op_at, print_event_at};
+use itoa::Buffer;
+use race_edges::Edge;
+use race_records::{Page, Sink, Trace, WriteFault};
+use std::alloc::Allocator;
+use std::io::Write;
+
+// Prints the lines of each event that is shown.
+pub(crate) fn print_rows<W: Write, A: Allocator>(
+    page: &mut Page,
+    sink: &mut Sink<W>,
+    trace: &Trace<A>,
+    missing: &Edge,
+    arrows: &[Arrow],
+    rows: &[u32],
+) -> Result<(), WriteFault>
+    requires { All (λ k. k < length trace.now.events) rows.now }
+    ensures { Printing W.contents result sink.old sink.new page.old page.new
+        (flat_map (spec.row_text trace.now missing.now arrows.now) rows.now) }
+{
+    for row in rows {
+        if let Err(fault) = print_row(page, sink, trace, missing, arrows, *row) {
+            return Err(fault);
+        }
+    }
+    Ok(())
+}
+
+// Prints the lines of an event.
+fn print_row<W: Write, A: Allocator>(
+    page: &mut Page,
+    sink: &mut Sink<W>,
+    trace: &Trace<A>,
+    missing: &Edge,
+    arrows: &[Arrow],
+    row: u32,
+) -> Result<(), WriteFault>
+    requires { row < length trace.now.events }
+    ensures { Printing W.contents result sink.old sink.new page.old page.new
+        (spec.row_text trace.now missing.now arrows.now row) }
+{
+    match print_ends(page, sink, trace, missing, arrows, row, false) {
+        Ok(()) => print_ends(page, sink, trace, missing, arrows, row, true),
+        Err(fault) => Err(fault),
+    }
+}
+
+// Prints a line for each arrow that leaves the event, or for each that enters it.
+fn print_ends<W: Write, A: Allocator>(
+    page: &mut Page,
+    sink: &mut Sink<W>,
+    trace: &Trace<A>,
+    missing: &Edge,
+    arrows: &[Arrow],
+    row: u32,
+    enters: bool,
+) -> Result<(), WriteFault>
+    requires { row < length trace.now.events }
+    ensures { Printing W.contents result sink.old sink.new page.old page.new
+        (flat_map (spec.end_text trace.now missing.now arrows.now row enters) arrows.now) }
+{
+    for arrow in arrows {
+        if let Err(fault) = print_if_ends(page, sink, trace, missing, arrows, row, enters, arrow) {
+            return Err(fault);
+        }
+    }
+    Ok(())
+}
+
+// Prints a line for the arrow, where it leaves the event or enters it.
+fn print_if_ends<W: Write, A: Allocator>(
+    page: &mut Page,
+    sink: &mut Sink<W>,
+    trace: &Trace<A>,
+    missing: &Edge,
+    arrows: &[Arrow],
+    row: u32,
+    enters: bool,
+    arrow: &Arrow,
+) -> Result<(), WriteFault>
+    requires { row < length trace.now.events }
+    ensures { Printing W.contents result sink.old sink.new page.old page.new
+        (spec.end_text trace.now missing.now arrows.now row enters arrow.now) }
+{
+    let line = line_at(missing, arrow, enters, op_at(trace, row));
+    if line.at != row {
+        return Ok(());
+    }
+    print_line(page, sink, trace, arrows, &line)
+}
+
+// Prints a line.
+fn print_line<W: Write, A: Allocator>(
+    page: &mut Page,
+    sink: &mut Sink<W>,
+    trace: &Trace<A>,
+    arrows: &[Arrow],
+    line: &Line,
+) -> Result<(), WriteFault>
+    requires { line.now.at < length trace.now.events }
+    ensures { Printing W.contents result sink.old sink.new page.old page.new
+        (spec.line_text trace.now arrows.now line.now) }
+{
+    match print_front(page, sink, arrows, line) {
+        Ok(()) => print_end(page, sink, trace, line),
+        Err(fault) => Err(fault),
+    }
+}
+
+#[tactic(auto, unfolding(crate::specs::Text::line_front))]
+fn print_front<W: Write>(
+    page: &mut Page,
+    sink: &mut Sink<W>,
+    arrows: &[Arrow],
+    line: &Line,
+) -> Result<(), WriteFault>
+    ensures { Printing W.contents result sink.old sink.new page.old page.new
+        (spec.line_front arrows.now line.now) }
+{
+    let mut number = Buffer::new();
+    let parts = [
+        cell(line, Column::First).as_bytes(),
+        cell(line, Column::Second).as_bytes(),
+        cell(line, Column::Other).as_bytes(),
+        lane_cell(arrows, line, Lane::Missing).as_bytes(),
+        lane_cell(arrows, line, Lane::Start).as_bytes(),
+        lane_cell(arrows, line, Lane::Way).as_bytes(),
+        lane_cell(arrows, line, Lane::Next).as_bytes(),
+        b"  ".as_slice(),
+        number.format(u64::from(line.at) + 1).as_bytes(),
+    ];
+    page.put_all(sink, &parts)
+}
+
+// Prints the event behind a line, unless it stands on the line before.
+fn print_end<W: Write, A: Allocator>(
+    page: &mut Page,
+    sink: &mut Sink<W>,
+    trace: &Trace<A>,
+    line: &Line,
+) -> Result<(), WriteFault>
+    requires { line.now.at < length trace.now.events }
+    ensures { Printing W.contents result sink.old sink.new page.old page.new
+        (spec.line_end trace.now line.now) }
+{
+    if line.bare {
+        page.put(sink, b"\n")
+    } else {
+        print_event_behind(page, sink, trace, line.at)
+    }
+}
+
+// Prints the line of the trace that has the event, behind two spaces.
+fn print_event_behind<W: Write, A: Allocator>(
+    page: &mut Page,
+    sink: &mut Sink<W>,
+    trace: &Trace<A>,
+    index: u32,
+) -> Result<(), WriteFault>
+    requires { index < length trace.now.events }
+    ensures { Printing W.contents result sink.old sink.new page.old page.new
+        (codes "  " ++ event_text trace.now index) }
+{
+    match page.put(sink, b"  ") {
+        Ok(()) => print_event_at(page, sink, trace, index),
+        Err(fault) => Err(fault),
+    }
+}

@@ -1,0 +1,88 @@
+-- What there is to draw of a list of bytes, what is printed of it, and with which status.
+use Rattle.std.specs.Prelude.{ℕ, ◌≡◌, Bool, true, false, List, [], ◌∷◌, map, Option, Some, None}
+use Rattle.race_records.specs.Events.{TraceState}
+use Rattle.race_model.specs.Legal.{IsLegal, IsIllegalAt}
+use Rattle.race_model.specs.Race.{IsReportedRace}
+use Rattle.race_model.specs.Verdict as model
+use Rattle.race_text.specs.declared.cause.TextFault.{TextFault}
+use Rattle.race_text.specs.Fault.{text_fault}
+use Rattle.race_text.specs.Text.{IsTextOf}
+use Rattle.race_verdict.specs.declared.races.Race.{Race}
+use Rattle.race_verdict.specs.Races.{race_of}
+use Rattle.race_verdict.specs.Traces.{capacities, HasVerdict}
+use Rattle.race_report.specs.Report.{fault_line, illegal_line, report}
+use Rattle.race_draw.specs.Layout.{LayoutState, AreLayoutsOf}
+use Rattle.race_draw.specs.Text.{drawings_text}
+use Rattle.race_draw.specs.declared.svg.Size.{Size}
+use Rattle.race_draw.specs.Svg.{svg_text}
+use Rattle.race_tool.specs.declared.status.TheConstants as status
+use Rattle.race_tool.specs.Witness.{IsVar, HasNoRace, no_race_line}
+
+-- what there is to draw of a list of bytes and a name, or of a list of bytes alone
+pub data Drawing : Type 0 where
+  -- it is the text of no trace: its first line at fault, with the least cause
+  NoText : (fault : TextFault) → Drawing
+  -- it is the text of this trace, of which an event breaks a rule: its index, and the least rule
+  Breaks : (trace : TraceState) (index rule : ℕ) → Drawing
+  -- it is the text of a legal trace in which no variable of this name has a race
+  NoRace : Drawing
+  -- there is no name, and it is the text of this trace, which is clean
+  Clean : (trace : TraceState) → Drawing
+  -- it is the text of this legal trace, and these are the layouts of the races that are asked for
+  Drawn : (trace : TraceState) (layouts : List LayoutState) → Drawing
+  -- the same, where an SVG document is asked for: this is its text, and how large its picture is
+  Pictured : (text : List ℕ) (size : Size) → Drawing
+
+-- these races are asked for: all that are reported, or the one on the variable of this name
+abbrev pub AreAsked : TraceState → Option (List ℕ) → List Race → Type 0
+AreAsked trace None races = HasVerdict trace (model.Races (map race_of races))
+AreAsked trace (Some name) races =
+    (race : Race) × (races ≡ race ∷ []) × IsVar trace name race.var
+    × IsReportedRace (capacities trace) trace.events race.var race.first race.second
+
+-- the layouts are those of the races that are asked for
+pub record AreDrawnOn (trace : TraceState) (name : Option (List ℕ)) (layouts : List LayoutState) : Type 0 where
+  pub legal : IsLegal (capacities trace) trace.events
+  pub races : List Race
+  pub asked : AreAsked trace name races
+  pub laid_out : AreLayoutsOf trace races layouts
+
+-- there is a name, which is that of no variable with a race
+abbrev pub HasNoRaceOn : Option (List ℕ) → TraceState → Type 0
+HasNoRaceOn None trace = ⊥
+HasNoRaceOn (Some name) trace = HasNoRace trace name
+
+-- there is no name, and the trace is clean
+abbrev pub IsCleanWithout : Option (List ℕ) → TraceState → Type 0
+IsCleanWithout None trace = HasVerdict trace model.Clean
+IsCleanWithout (Some name) trace = ⊥
+
+-- what is drawn, as an SVG document or not, is right for the name and the bytes. Of a document it isn't said that its text is
+-- that of the layouts, nor how large its picture is
+abbrev pub IsDrawing : Option (List ℕ) → Bool → List ℕ → Drawing → Type 0
+IsDrawing name svg bytes (NoText fault) = text_fault bytes ≡ Some fault
+IsDrawing name svg bytes (Breaks trace index rule) = IsTextOf trace bytes × IsIllegalAt (capacities trace) trace.events index rule
+IsDrawing name svg bytes NoRace =
+    (trace : TraceState) × IsTextOf trace bytes × IsLegal (capacities trace) trace.events × HasNoRaceOn name trace
+IsDrawing name svg bytes (Clean trace) = IsTextOf trace bytes × IsCleanWithout name trace
+IsDrawing name svg bytes (Drawn trace layouts) = IsTextOf trace bytes × (svg ≡ false) × AreDrawnOn trace name layouts
+IsDrawing name svg bytes (Pictured text size) =
+    (trace : TraceState) × IsTextOf trace bytes × (svg ≡ true) × ((layouts : List LayoutState) × AreDrawnOn trace name layouts)
+
+-- what is printed
+abbrev pub drawing_text : Drawing → List ℕ
+drawing_text (NoText fault) = fault_line fault
+drawing_text (Breaks trace index rule) = illegal_line index rule
+drawing_text NoRace = no_race_line
+drawing_text (Clean trace) = report trace model.Clean
+drawing_text (Drawn trace layouts) = drawings_text trace layouts
+drawing_text (Pictured text size) = svg_text size text
+
+-- the status
+abbrev pub drawing_status : Drawing → ℕ
+drawing_status (NoText fault) = status.TEXT_FAULT
+drawing_status (Breaks trace index rule) = status.ILLEGAL
+drawing_status NoRace = status.NO_RACE
+drawing_status (Clean trace) = status.CLEAN
+drawing_status (Drawn trace layouts) = status.CLEAN
+drawing_status (Pictured text size) = status.CLEAN

@@ -1,0 +1,215 @@
+//! What there is to draw of a list of bytes.
+ghost use Rattle.std.specs.Prelude.{◌≡◌, All, Bool, Some, None, IfOk};
+ghost use Rattle.race_model.specs.Legal.{IsLegal};
+ghost use Rattle.race_model.specs.Verdict as model;
+ghost use Rattle.race_text.specs.Fault.{trace_causes};
+ghost use Rattle.race_text.specs.Output.{Writes};
+ghost use Rattle.race_text.specs.Text.{IsTextOf};
+ghost use Rattle.race_verdict.specs.Traces.{capacities, HasVerdict};
+ghost use Rattle.race_shards.specs.Witness.{RacesInOrder};
+ghost use Rattle.race_tool.specs.Engines.{Never};
+ghost use Rattle.race_tool.specs.Outcome.{Finds};
+ghost use Rattle.race_tool.specs.Draw as spec;
+ghost use Rattle.race_tool.specs.Drawings.{drawing_of, name_in, IsDrawingOn, AreDrawnOf, AreRacesOf, CanBeWritten};
+
+use crate::engine::NoFinding;
+use crate::no_race::write_no_race;
+use crate::status;
+use crate::witness_found::race_on;
+use race_draw::{
+    Layout, Size, drawings_in_memory, lay_out_all, size_of, write_drawings, write_svg,
+};
+use race_legal::Illegal;
+use race_records::{Sink, Trace, WriteFault};
+use race_report::{write_report, write_text_fault};
+use race_shards::judge_alone;
+use race_text::TextFault;
+use race_verdict::{Race, Verdict};
+use std::alloc::{AllocError, Allocator};
+use std::io::Write;
+
+/// What there is to draw of a list of bytes.
+#[derive(Drop)]
+pub(crate) enum Found<A: Allocator> {
+    /// It is no trace: its first line at fault.
+    NoTrace(TextFault),
+    /// It is this trace, of which this event breaks a rule.
+    Broken(Trace<A>, Illegal),
+    /// It is a legal trace, in which the name isn't that of a variable with a race.
+    NoRace,
+    /// It is this clean trace, and no variable is named.
+    Clean(Trace<A>),
+    /// It is this legal trace, and these are the layouts of the races that are asked for.
+    Drawn(Trace<A>, Vec<Layout<A>, A>),
+    /// This is the text of those, and how large its picture is, where an SVG document is asked for.
+    Pictured(Vec<u8, A>, Size),
+}
+
+/// Finds what there is to draw of the race on the variable of this name.
+pub(crate) fn find_named<A: Allocator + Copy>(
+    alloc: A,
+    text: Result<Trace<A>, TextFault>,
+    name: &str,
+    svg: bool,
+) -> Result<Found<A>, NoFinding>
+    ensures { Finds IsTextOf trace_causes (λ bytes found. spec.IsDrawing (Some name.now) svg bytes (drawing_of found))
+        Never text result }
+{
+    find_drawing(alloc, text, Some(name), svg)
+}
+
+/// Finds what there is to draw of each race.
+pub(crate) fn find_all<A: Allocator + Copy>(
+    alloc: A,
+    text: Result<Trace<A>, TextFault>,
+    svg: bool,
+) -> Result<Found<A>, NoFinding>
+    ensures { Finds IsTextOf trace_causes (λ bytes found. spec.IsDrawing None svg bytes (drawing_of found))
+        Never text result }
+{
+    find_drawing(alloc, text, None, svg)
+}
+
+// Finds what there is to draw of what was read.
+fn find_drawing<A: Allocator + Copy>(
+    alloc: A,
+    text: Result<Trace<A>, TextFault>,
+    name: Option<&str>,
+    svg: bool,
+) -> Result<Found<A>, NoFinding>
+    ensures { Finds IsTextOf trace_causes (λ bytes found. spec.IsDrawing (name_in name.entry) svg bytes (drawing_of found))
+        Never text result }
+{
+    match text {
+        Ok(trace) => match find_drawing_of(alloc, trace, name, svg) {
+            Ok(found) => Ok(found),
+            Err(_) => Err(NoFinding::Refused),
+        },
+        Err(fault) => Ok(Found::NoTrace(fault)),
+    }
+}
+
+// What there is to draw of a trace.
+fn find_drawing_of<A: Allocator + Copy>(
+    alloc: A,
+    trace: Trace<A>,
+    name: Option<&str>,
+    svg: bool,
+) -> Result<Found<A>, AllocError>
+    ensures { IfOk result (λ found. IsDrawingOn (name_in name.entry) svg trace (drawing_of found)) }
+{
+    match judge_alone(alloc, &trace) {
+        Ok(Verdict::Illegal(illegal)) => Ok(Found::Broken(trace, illegal)),
+        Ok(Verdict::Clean) => Ok(without_race(trace, name)),
+        Ok(Verdict::Races(races)) => draw_asked(alloc, trace, races.as_slice(), name, svg),
+        Err(_) => Err(AllocError),
+    }
+}
+
+// What there is to draw of a clean trace.
+fn without_race<A: Allocator>(trace: Trace<A>, name: Option<&str>) -> Found<A>
+    requires { HasVerdict trace model.Clean }
+    ensures { (svg : Bool) → IsDrawingOn (name_in name.entry) svg trace (drawing_of result) }
+{
+    match name {
+        Some(_) => Found::NoRace,
+        None => Found::Clean(trace),
+    }
+}
+
+// What there is to draw of a trace with these races.
+fn draw_asked<A: Allocator + Copy>(
+    alloc: A,
+    trace: Trace<A>,
+    races: &[Race],
+    name: Option<&str>,
+    svg: bool,
+) -> Result<Found<A>, AllocError>
+    requires { AreRacesOf trace races.now }
+    ensures { IfOk result (λ found. IsDrawingOn (name_in name.entry) svg trace (drawing_of found)) }
+{
+    match name {
+        Some(name) => draw_named(alloc, trace, races, name, svg),
+        None => draw(alloc, trace, races, svg),
+    }
+}
+
+// What there is to draw of the race on the variable of this name.
+fn draw_named<A: Allocator + Copy>(
+    alloc: A,
+    trace: Trace<A>,
+    races: &[Race],
+    name: &str,
+    svg: bool,
+) -> Result<Found<A>, AllocError>
+    requires { AreRacesOf trace races.now }
+    ensures { IfOk result (λ found. IsDrawingOn (Some name.now) svg trace (drawing_of found)) }
+{
+    match race_on(&trace, races, name) {
+        Some(race) => {
+            let asked = [race];
+            draw(alloc, trace, &asked, svg)
+        }
+        None => Ok(Found::NoRace),
+    }
+}
+
+// The drawings of races of the trace, or their picture.
+fn draw<A: Allocator + Copy>(
+    alloc: A,
+    trace: Trace<A>,
+    races: &[Race],
+    svg: bool,
+) -> Result<Found<A>, AllocError>
+    requires races { All (RacesInOrder (capacities trace) trace.events) races.now }
+    requires legal { IsLegal (capacities trace) trace.events }
+    ensures { IfOk result (λ found. AreDrawnOf trace races.now svg (drawing_of found)) }
+{
+    let layouts = lay_out_all(alloc, &trace, races)?;
+    if !svg {
+        return Ok(Found::Drawn(trace, layouts));
+    }
+    let text = drawings_in_memory(alloc, &trace, layouts.as_slice())?;
+    let size = size_of(text.as_slice());
+    Ok(Found::Pictured(text, size))
+}
+
+impl<A: Allocator> Found<A> {
+    /// The status of what was found.
+    pub(crate) fn status(&self) -> u8
+        ensures { result ≡ spec.drawing_status (drawing_of self.now) }
+    {
+        match self {
+            Found::NoTrace(_) => status::TEXT_FAULT,
+            Found::Broken(_, _) => status::ILLEGAL,
+            Found::NoRace => status::NO_RACE,
+            Found::Clean(_) => status::CLEAN,
+            Found::Drawn(_, _) => status::CLEAN,
+            Found::Pictured(_, _) => status::CLEAN,
+        }
+    }
+}
+
+/// Writes the drawings, or why there is none.
+pub(crate) fn write_found<W: Write, A: Allocator>(
+    found: &Found<A>,
+    sink: &mut Sink<W>,
+) -> Result<(), WriteFault>
+    requires { CanBeWritten found.now }
+    ensures { Writes W.contents result sink.old sink.new (spec.drawing_text (drawing_of found.now)) }
+{
+    match found {
+        Found::NoTrace(fault) => write_text_fault(fault, sink),
+        Found::Broken(trace, illegal) => {
+            let verdict: Verdict<A> = Verdict::Illegal(*illegal);
+            write_report(trace, &verdict, sink)
+        }
+        Found::NoRace => write_no_race(sink),
+        Found::Clean(trace) => {
+            let verdict: Verdict<A> = Verdict::Clean;
+            write_report(trace, &verdict, sink)
+        }
+        Found::Drawn(trace, layouts) => write_drawings(trace, layouts.as_slice(), sink),
+        Found::Pictured(text, size) => write_svg(text.as_slice(), *size, sink),
+    }
+}

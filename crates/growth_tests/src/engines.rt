@@ -3,7 +3,7 @@
 use crate::calls::{Growing, Reply, assert_each, refused_if, right_if};
 use race_records::{Sink, Source};
 use race_tool::{
-    CheckOptions, RunOptions, run_check, run_edges, run_race, run_run, run_witness, status,
+    CheckOptions, RunOptions, run_check, run_draw, run_edges, run_race, run_run, run_witness, status,
 };
 use refusing_heap::RefusingHeap;
 use std::alloc::{Allocator, Global};
@@ -26,6 +26,8 @@ enum Engine {
     Run(Option<usize>),
     Race(Option<usize>, Judging),
     Witness,
+    /// As an SVG document or not.
+    Draw(bool),
 }
 
 // A goroutine, a variable and a race.
@@ -85,6 +87,7 @@ fn run<R: Threads + Wait + Sync, A: Allocator + Copy + Send>(
             run_race(rt, alloc, &mut program, &mut sink, &run, &check)
         }
         Engine::Witness => run_witness(alloc, &mut trace, &mut sink, "x"),
+        Engine::Draw(svg) => run_draw(alloc, &mut trace, &mut sink, None, svg),
     }
 }
 
@@ -104,10 +107,10 @@ impl Growing for Row {
         nth: u64,
     ) -> Reply {
         let (engine, status, len) = self.ending;
-        let mut output = [0; 128];
+        let mut output = [0; 2048];
         heap.refuse(nth);
         let ended = run(rt, heap, engine, output.as_mut_slice());
-        let written = output.iter().position(|byte| *byte == 0).unwrap_or(128);
+        let written = output.iter().position(|byte| *byte == 0).unwrap_or(2048);
         if ended == status::REFUSED {
             refused_if(written == 0)
         } else {
@@ -119,8 +122,9 @@ impl Growing for Row {
 // The judge by one shard takes eight lists: four of the replay, for goroutines and variables, the list of shards, one for
 // the shard's clocks, one for what is kept of its variables, and the races. A second shard takes two of its own. A judged
 // run takes what the run takes, and then what its judge does. Workers take a copy of the declarations besides. A witness
-// takes four lists more for another replay, one for the clocks of each of three walks, and one for its order.
-static ENGINES: [(Ending, u64); 11] = [
+// takes four lists more for another replay, one for the clocks of each of three walks, and one for its order. A drawing takes
+// what its edges take, and the lists of its layout; as an SVG document its text too, which grows as it is written.
+static ENGINES: [(Ending, u64); 13] = [
     ((Engine::Check(Judging::Shards(1)), status::RACES, 75), 23),
     ((Engine::Check(Judging::Shards(2)), status::RACES, 75), 25),
     ((Engine::Check(Judging::Plain), status::RACES, 75), 26),
@@ -138,6 +142,8 @@ static ENGINES: [(Ending, u64); 11] = [
     ),
     ((Engine::Race(None, Judging::Plain), status::RACES, 86), 58),
     ((Engine::Witness, status::CLEAN, 46), 31),
+    ((Engine::Draw(false), status::CLEAN, 392), 45),
+    ((Engine::Draw(true), status::CLEAN, 1153), 46),
 ];
 
 #[test]

@@ -1,5 +1,6 @@
 -- How the program ends: with which status, and what was read and written.
 use Rattle.std.specs.Prelude.{◌≡◌, ◌⊎◌, ◌==◌, ℕ, if◌then◌else◌, List, Option, Some, None, codes}
+use Rattle.std.specs.Option.{option_map}
 use Rattle.std.specs.String.{string_bytes}
 use Rattle.std.specs.declared.io.ErrorKind.{ErrorKind as IoErrorKind}
 use Rattle.std.specs.declared.io.ErrorKind.TheVariants as io
@@ -11,6 +12,7 @@ use Rattle.race_command.specs.declared.command.Request.{Request}
 use Rattle.race_tool.specs.Engines.{Checks, Lists, Runs, Judges}
 use Rattle.race_tool.specs.Options.{picks_asked}
 use Rattle.race_tool.specs.Witnesses.{Shows}
+use Rattle.race_tool.specs.Drawings.{Draws}
 use Rattle.race_tool.specs.declared.status.TheConstants as status
 
 -- what was asked for is done: what its engine promises of options in their limits holds
@@ -24,6 +26,8 @@ Does (Request.Race run check) remaining contents source source_now sink sink_now
     Judges run.limit (picks_asked run) check.plain remaining contents source source_now sink sink_now answer
 Does (Request.Witness name) remaining contents source source_now sink sink_now answer =
     Shows (string_bytes name) remaining contents source source_now sink sink_now answer
+Does (Request.Draw name svg) remaining contents source source_now sink sink_now answer =
+    Draws (option_map string_bytes name) svg remaining contents source source_now sink sink_now answer
 
 -- the status where the words ask for no work: help or the version was printed or couldn't be, memory was refused, or else they are at fault
 abbrev pub IsAnswerTo : ErrorKind → ℕ → Type 0

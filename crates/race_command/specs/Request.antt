@@ -11,3 +11,4 @@ is_in_limits Request.Edges = true
 is_in_limits (Request.Run options) = are_run_limits options
 is_in_limits (Request.Race run check) = are_run_limits run && are_in_limits check
 is_in_limits (Request.Witness name) = true
+is_in_limits (Request.Draw name svg) = true

@@ -4,6 +4,7 @@ ghost use Rattle.race_tool.specs.Outcome.{are_in_limits};
 ghost use Rattle.race_tool.specs.Options.{are_run_limits};
 ghost use Rattle.race_command.specs.Request.{is_in_limits};
 
+use crate::drawing::{draw, drawn_variable};
 use crate::help;
 use crate::number::{number_in, picks_in};
 use crate::showing::{shown_variable, witness};
@@ -27,6 +28,8 @@ pub(crate) enum Request {
     Race(RunOptions, CheckOptions),
     /// Show the race on the variable of this name of the trace on standard input.
     Witness(String),
+    /// Draw the race on the variable of this name, or each race, of the trace on standard input; as an SVG document or not.
+    Draw(Option<String>, bool),
 }
 
 /// A command that has numbers for options.
@@ -85,6 +88,10 @@ fn request_in(alloc: Global, matches: &ArgMatches<'_>) -> Result<Request, Error>
     if let Some(given) = matches.subcommand_matches("witness") {
         return Ok(Request::Witness(shown_variable(alloc, given)?));
     }
+    if let Some(given) = matches.subcommand_matches("draw") {
+        let name = drawn_variable(alloc, given)?;
+        return Ok(Request::Draw(name, given.get_flag("svg")));
+    }
     match matches.subcommand_matches("edges") {
         Some(_) => Ok(Request::Edges),
         None => Err(no_command(alloc)?),
@@ -105,7 +112,8 @@ fn gorace<'a>(alloc: Global) -> Result<Command<'a>, AllocError> {
     let command = with_subcommand(command, Ok(edges(alloc)))?;
     let command = with_subcommand(command, run(alloc))?;
     let command = with_subcommand(command, race(alloc))?;
-    with_subcommand(command, witness(alloc))
+    let command = with_subcommand(command, witness(alloc))?;
+    with_subcommand(command, draw(alloc))
 }
 
 // The command, with this one below it.

@@ -90,6 +90,47 @@ Statuses:
   4   memory was refused
   5   reading or writing failed";
 
+pub(crate) const DRAW_ABOUT: &str = "Reads a trace from standard input and draws its races";
+
+pub(crate) const DRAW_USAGE: &str = "gorace draw [VAR] [--svg] < TRACE";
+
+pub(crate) const DRAW_HELP: &str = "\
+A check names two accesses of a variable that race. This draws why nothing
+orders them. Of the trace of 'gorace check --help' it draws
+
+  races: 1
+
+  race on x: write by main at a.go:3 (event 2), read by w at a.go:6 (event 3)
+
+     main
+     |       w
+     o-------|-----------------------+      1  go main w a.go:2
+     |       o<----------------------+      1
+     W . . . . . . . . . . . ?              2  write main x 1 a.go:3
+     |       R<. . . . . . . :              3  read w x 1 a.go:6
+
+  main's write is event 2, and w has seen main up to event 1: go main w a.go:2
+
+A goroutine goes down in its column: that of the first access, that of the
+second, and one for all others. W and R are the two, and the dotted line is the
+way that is missing. The other lines are edges, as 'gorace edges' lists them:
+the way by which the second access has seen something of the first one's
+goroutine, the next edge that leaves that goroutine behind its access, and the
+starts of the two. An event has a line for each that leaves it or enters it.
+
+Without VAR each variable's race is drawn. With --svg the same is written as an
+SVG document, which a browser shows. Where there is nothing to draw one line
+tells so, also with --svg. Of more than 2,000 events no edge is drawn.
+
+Statuses:
+  0   the drawings are written, or without VAR the line of a clean trace
+  14  the name is that of no variable with a race
+  1   an event that breaks a rule of traces; its number, and the rule
+  2   not a trace; the line at fault and why
+  3   usage
+  4   memory was refused
+  5   reading or writing failed";
+
 pub(crate) const RUN_ABOUT: &str =
     "Reads a program from standard input, runs it, and writes the trace";
 

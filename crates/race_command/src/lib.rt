@@ -2,6 +2,7 @@
 #![tactic(auto)]
 
 mod command;
+mod drawing;
 mod help;
 mod number;
 mod program;

@@ -3,7 +3,9 @@ ghost use Rattle.std.specs.Prelude.{◌≡◌, IsTrue, IfOk, IfErr, option_map};
 ghost use Rattle.std.specs.declared.io.ErrorKind.TheVariants as io;
 ghost use Rattle.std.specs.IoError.{error_kind};
 ghost use Rattle.std.specs.Process.{exit_status};
+ghost use Rattle.std.specs.String.{string_bytes};
 ghost use Rattle.clap.specs.Values.{kind_of};
+ghost use Rattle.race_tool.specs.Drawings.{Draws};
 ghost use Rattle.race_command.specs.Ending.{Does, Declines, Ends, IsAnswerTo, answer_without_words, message_of};
 ghost use Rattle.race_command.specs.Request.{is_in_limits};
 
@@ -11,7 +13,7 @@ use crate::command::{Request, parse};
 use clap::Error;
 use clap::error::ErrorKind;
 use race_records::{Sink, Source};
-use race_tool::{run_check, run_edges, run_race, run_run, run_witness, status};
+use race_tool::{run_check, run_draw, run_edges, run_race, run_run, run_witness, status};
 use std::alloc::Global;
 use std::env::Args;
 use std::io;
@@ -24,7 +26,7 @@ use std::thread::Threads;
 ///
 /// A check ends with the status that `run_check` answers, a listing of edges with that of
 /// `run_edges`, a run with that of `run_run`, a judged run with that of `run_race`, a witness with that of
-/// `run_witness`. Help and the
+/// `run_witness`, a drawing with that of `run_draw`. Help and the
 /// version end with 0, or with 5 where they can't be printed. Words that are at fault or aren't text
 /// end with 3, of which a line on standard error tells, and want of memory for them with 4.
 ///
@@ -36,7 +38,7 @@ pub fn run<T: AllocGlobal + Print + Eprint + Threads + Wait + Sync, R: Read, W: 
     source: &mut Source<R>,
     sink: &mut Sink<W>,
 ) -> ExitCode
-    // The input is checked, its edges are listed, a race of it is shown, it is run, or it is run and judged,
+    // The input is checked, its edges are listed, a race of it is shown, its races are drawn, it is run, or it is run and judged,
     // or the words ask for none of these, and nothing is read or written.
     ensures words { IfOk args (λ words.
         Ends R.remaining W.contents source.old source.new sink.old sink.new (exit_status result)) }
@@ -103,8 +105,26 @@ fn answer_request<T: AllocGlobal + Print + Eprint + Threads + Wait + Sync, R: Re
             Request::Run(options) => run_run(rt, rt.alloc(), source, sink, &options),
             Request::Race(run, check) => run_race(rt, rt.alloc(), source, sink, &run, &check),
             Request::Witness(name) => run_witness(rt.alloc(), source, sink, name.as_str()),
+            Request::Draw(name, svg) => draw(rt.alloc(), source, sink, &name, svg),
         },
         Err(error) => print(rt, &error),
+    }
+}
+
+// Draws the race on the variable of the name, or without one each race.
+fn draw<R: Read, W: Write>(
+    alloc: Global,
+    source: &mut Source<R>,
+    sink: &mut Sink<W>,
+    name: &Option<String>,
+    svg: bool,
+) -> u8
+    ensures { Draws (option_map string_bytes name.now) svg R.remaining W.contents
+        source.old source.new sink.old sink.new result }
+{
+    match name {
+        Some(name) => run_draw(alloc, source, sink, Some(name.as_str()), svg),
+        None => run_draw(alloc, source, sink, None, svg),
     }
 }
 

@@ -118,7 +118,7 @@ fn plain_asks_for_the_plain_judge(rt: HostRuntime) -> Result<(), Fail> {
     Ok(())
 }
 
-static ROWS: [Row; 64] = [
+static ROWS: [Row; 70] = [
     // The options are taken, or refused, and then nothing is written.
     ("gorace check --shards 0", TRACE, status::USAGE, ""),
     ("gorace check --shards 1", TRACE, status::CLEAN, NO_EVENTS),
@@ -319,6 +319,27 @@ static ROWS: [Row; 64] = [
     ("gorace witness", "gotrace 1\n", status::USAGE, ""),
     ("gorace witness x y", "gotrace 1\n", status::USAGE, ""),
     ("gorace witness --help", "gotrace 1\n", status::CLEAN, ""),
+    (
+        "gorace draw y --svg",
+        "gotrace 1\ngoroutine w\nvar x\ngo main w m:1\nwrite main x 1 m:2\nread w x 1 w:1\n",
+        status::NO_RACE,
+        "no such race\n",
+    ),
+    (
+        "gorace draw",
+        "gotrace 1\n",
+        status::CLEAN,
+        "clean: 0 events, 0 accesses\n",
+    ),
+    (
+        "gorace draw --svg",
+        "gotrace 1\n",
+        status::CLEAN,
+        "clean: 0 events, 0 accesses\n",
+    ),
+    ("gorace draw x y", "gotrace 1\n", status::USAGE, ""),
+    ("gorace draw --svg=1", "gotrace 1\n", status::USAGE, ""),
+    ("gorace draw --help", "gotrace 1\n", status::CLEAN, ""),
     ("gorace run --picks x", "", status::USAGE, ""),
     ("gorace edges --plain", "gotrace 1\n", status::USAGE, ""),
     ("gorace edges --help", "gotrace 1\n", status::CLEAN, ""),

@@ -1,7 +1,8 @@
 //! The engines on bytes, and what they tell.
 use race_records::{Sink, Source};
 use race_tool::{
-    CheckOptions, RunOptions, run_check, run_edges, run_race, run_run, run_witness, status,
+    CheckOptions, RunOptions, run_check, run_draw, run_edges, run_race, run_run, run_witness,
+    status,
 };
 use std::alloc::{AllocError, AllocGlobal, Global};
 use std::io;
@@ -23,6 +24,8 @@ pub(crate) enum Engine<'a> {
     Run(&'a RunOptions),
     Race(&'a RunOptions, &'a CheckOptions),
     Witness(&'a str),
+    /// As an SVG document or not.
+    Draw(Option<&'a str>, bool),
 }
 
 /// The plain judge's options, or those of the judge by clocks.
@@ -62,6 +65,7 @@ pub(crate) fn answer<R: Read, W: Write>(
         Engine::Run(options) => run_run(rt, rt.alloc(), source, sink, options),
         Engine::Race(run, check) => run_race(rt, rt.alloc(), source, sink, run, check),
         Engine::Witness(var) => run_witness(rt.alloc(), source, sink, var),
+        Engine::Draw(var, svg) => run_draw(rt.alloc(), source, sink, var, svg),
     }
 }
 

@@ -13,13 +13,13 @@ pub(crate) const HANDED_ON: &str =
 pub(crate) const LATE_WRITE: &str =
     "gotrace 1 / goroutine w / var x / go main w a.go:2 / write main x 1 a.go:3 / read w x 1 a.go:6";
 
-const TWO_SENDERS: &str =
+pub(crate) const TWO_SENDERS: &str =
     "gotrace 1 / goroutine a / goroutine b / var x / chan c 1 / go main a m:1 / go main b m:2 / send main c 1 m:3 / write a x 5 a:1 / recv a c 1 a:2 / send b c 2 b:1 / recv main c 2 m:4 / read main x 5 m:5";
 
 const TWO_READERS: &str =
     "gotrace 1 / goroutine a / goroutine b / var x / var y / go main a m:1 / go main b m:2 / write main y 1 m:3 / read a x 0 a:1 / write main y 2 m:4 / read b x 0 b:1 / write main x 1 m:5";
 
-const TWO_RACES: &str =
+pub(crate) const TWO_RACES: &str =
     "gotrace 1 / goroutine a / var x / var y / var z / go main a m:1 / write main z 1 m:2 / write a z 2 a:1 / write main y 1 m:3 / write main x 1 m:4 / write a x 2 a:2";
 
 static ROWS: [Row; 15] = [

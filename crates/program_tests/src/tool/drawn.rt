@@ -1,0 +1,350 @@
+//! What is drawn of races, as a text and as an SVG document. The drawings are made by hand.
+
+use crate::tool::engines::{Engine, Runtime, SlowReader, ended, is_cut_off, text_of};
+use crate::tool::shown::{HANDED_ON, LATE_WRITE, TWO_RACES, TWO_SENDERS};
+use race_tool::status;
+use std::test::Fail;
+
+const LATE_WRITE_DRAWN: &str = "races: 1
+
+race on x: write by main at a.go:3 (event 2), read by w at a.go:6 (event 3)
+
+   main
+   |       w
+   o-------|-----------------------+      1  go main w a.go:2
+   |       o<----------------------+      1
+   W . . . . . . . . . . . ?              2  write main x 1 a.go:3
+   |       R<. . . . . . . :              3  read w x 1 a.go:6
+
+main's write is event 2, and w has seen main up to event 1: go main w a.go:2
+";
+
+const EXIT: &str =
+    "gotrace 1 / goroutine w / var x / go main w m:1 / write w x 1 w:1 / exit w w:2 / read main x 1 m:2";
+
+const EXIT_DRAWN: &str = "races: 1
+
+race on x: write by w at w:1 (event 2), read by main at m:2 (event 4)
+
+   w
+   |       main
+   |       o-------------------+          1  go main w m:1
+   o<------|-------------------+          1
+   W . . . . . . . . . . . ?              2  write w x 1 w:1
+   |       R<. . . . . . . :              4  read main x 1 m:2
+
+w's write is event 2, and main has seen nothing of w
+";
+
+const TWO_SENDERS_DRAWN: &str = "races: 1
+
+race on x: write by a at a:1 (event 4), read by main at m:5 (event 8)
+
+   a
+   |       main
+   |       |       others
+   |       o-------------------+          1  go main a m:1
+   o<------|-------------------+          1
+   W . . . . . . . . . . . ?              4  write a x 5 a:1
+   o-------|---------------:-----------+  5  recv a c 1 a:2
+   |       |       o<------:-----------+  6  send b c 2 b:1
+   |       R<. . . . . . . :              8  read main x 5 m:5
+
+a's write is event 4, and main has seen nothing of a
+";
+
+// What a did before its write comes to main by way of b.
+const RELAY: &str =
+    "gotrace 1 / goroutine a / goroutine b / var x / chan c 1 / chan d 1 / go main a m:1 / go main b m:2 / send a c 7 a:1 / write a x 1 a:2 / recv b c 7 b:1 / send b d 8 b:2 / recv main d 8 m:3 / read main x 1 m:4";
+
+const RELAY_DRAWN: &str = "races: 1
+
+race on x: write by a at a:2 (event 4), read by main at m:4 (event 8)
+
+   a
+   |       main
+   |       |       others
+   |       o-------------------+          1  go main a m:1
+   o<------|-------------------+          1
+   o-------|-----------------------+      3  send a c 7 a:1
+   W . . . . . . . . . . . ?       |      4  write a x 1 a:2
+   |       |       o<------:-------+      5  recv b c 7 b:1
+   |       |       o-------:-------+      6  send b d 8 b:2
+   |       o<--------------:-------+      7  recv main d 8 m:3
+   |       R<. . . . . . . :              8  read main x 1 m:4
+
+a's write is event 4, and main has seen a up to event 3: send a c 7 a:1
+";
+
+const TWO_RACES_DRAWN: &str = "races: 2
+
+race on x: write by main at m:4 (event 5), write by a at a:2 (event 6)
+
+   main
+   |       a
+   o-------|-----------------------+      1  go main a m:1
+   |       o<----------------------+      1
+   W . . . . . . . . . . . ?              5  write main x 1 m:4
+   |       W<. . . . . . . :              6  write a x 2 a:2
+
+main's write is event 5, and a has seen main up to event 1: go main a m:1
+
+race on z: write by main at m:2 (event 2), write by a at a:1 (event 3)
+
+   main
+   |       a
+   o-------|-----------------------+      1  go main a m:1
+   |       o<----------------------+      1
+   W . . . . . . . . . . . ?              2  write main z 1 m:2
+   |       W<. . . . . . . :              3  write a z 2 a:1
+
+main's write is event 2, and a has seen main up to event 1: go main a m:1
+";
+
+const RACE_ON_Z_DRAWN: &str = "races: 1
+
+race on z: write by main at m:2 (event 2), write by a at a:1 (event 3)
+
+   main
+   |       a
+   o-------|-----------------------+      1  go main a m:1
+   |       o<----------------------+      1
+   W . . . . . . . . . . . ?              2  write main z 1 m:2
+   |       W<. . . . . . . :              3  write a z 2 a:1
+
+main's write is event 2, and a has seen main up to event 1: go main a m:1
+";
+
+const LATE_WRITE_PICTURED: &str =
+    "<svg xmlns='http://www.w3.org/2000/svg' viewBox='0 0 716 252' style='color-scheme:light dark'>
+<style>
+rect { fill: #fff }
+text { font: 14px monospace; white-space: pre; fill: #222 }
+@media (prefers-color-scheme: dark) { rect { fill: #111 } text { fill: #ddd } }
+</style>
+<rect width='100%' height='100%'/>
+<text xml:space='preserve'><tspan x='16' dy='18'>races: 1 </tspan
+><tspan x='16' dy='18'> </tspan
+><tspan x='16' dy='18'>race on x: write by main at a.go:3 (event 2), read by w at a.go:6 (event 3) </tspan
+><tspan x='16' dy='18'> </tspan
+><tspan x='16' dy='18'>   main </tspan
+><tspan x='16' dy='18'>   |       w </tspan
+><tspan x='16' dy='18'>   o-------|-----------------------+      1  go main w a.go:2 </tspan
+><tspan x='16' dy='18'>   |       o&lt;----------------------+      1 </tspan
+><tspan x='16' dy='18'>   W . . . . . . . . . . . ?              2  write main x 1 a.go:3 </tspan
+><tspan x='16' dy='18'>   |       R&lt;. . . . . . . :              3  read w x 1 a.go:6 </tspan
+><tspan x='16' dy='18'> </tspan
+><tspan x='16' dy='18'>main&#39;s write is event 2, and w has seen main up to event 1: go main w a.go:2 </tspan
+><tspan x='16' dy='18'></tspan></text>
+</svg>
+";
+
+// A name of 64 bytes and a place of 128, which would be markup.
+const HOSTILE: &str =
+    "gotrace 1 / goroutine gggggggggggggggggggggggggggggggggggggggggggggggggggggggggggggggg / var x / go main gggggggggggggggggggggggggggggggggggggggggggggggggggggggggggggggg <script>alert(1)</script>&amp;\"''''''''''''''''''''''''''''''''''''''''''''''''''''''''''''''''''''''''''''''''''''''''''''''''' / write main x 1 <script>alert(1)</script>&amp;\"''''''''''''''''''''''''''''''''''''''''''''''''''''''''''''''''''''''''''''''''''''''''''''''''' / read gggggggggggggggggggggggggggggggggggggggggggggggggggggggggggggggg x 1 <script>alert(1)</script>&amp;\"'''''''''''''''''''''''''''''''''''''''''''''''''''''''''''''''''''''''''''''''''''''''''''''''''";
+
+const HOSTILE_DRAWN: &str = "races: 1
+
+race on x: write by main at <script>alert(1)</script>&amp;\"''''''''''''''''''''''''''''''''''''''''''''''''''''''''''''''''''''''''''''''''''''''''''''''''' (event 2), read by gggggggggggggggggggggggggggggggggggggggggggggggggggggggggggggggg at <script>alert(1)</script>&amp;\"''''''''''''''''''''''''''''''''''''''''''''''''''''''''''''''''''''''''''''''''''''''''''''''''' (event 3)
+
+   main
+   |       gggggggggggggggggggggggggggggggggggggggggggggggggggggggggggggggg
+   o-------|-----------------------+      1  go main gggggggggggggggggggggggggggggggggggggggggggggggggggggggggggggggg <script>alert(1)</script>&amp;\"'''''''''''''''''''''''''''''''''''''''''''''''''''''''''''''''''''''''''''''''''''''''''''''''''
+   |       o<----------------------+      1
+   W . . . . . . . . . . . ?              2  write main x 1 <script>alert(1)</script>&amp;\"'''''''''''''''''''''''''''''''''''''''''''''''''''''''''''''''''''''''''''''''''''''''''''''''''
+   |       R<. . . . . . . :              3  read gggggggggggggggggggggggggggggggggggggggggggggggggggggggggggggggg x 1 <script>alert(1)</script>&amp;\"'''''''''''''''''''''''''''''''''''''''''''''''''''''''''''''''''''''''''''''''''''''''''''''''''
+
+main's write is event 2, and gggggggggggggggggggggggggggggggggggggggggggggggggggggggggggggggg has seen main up to event 1: go main gggggggggggggggggggggggggggggggggggggggggggggggggggggggggggggggg <script>alert(1)</script>&amp;\"'''''''''''''''''''''''''''''''''''''''''''''''''''''''''''''''''''''''''''''''''''''''''''''''''
+";
+
+const HOSTILE_PICTURED: &str =
+    "<svg xmlns='http://www.w3.org/2000/svg' viewBox='0 0 3470 252' style='color-scheme:light dark'>
+<style>
+rect { fill: #fff }
+text { font: 14px monospace; white-space: pre; fill: #222 }
+@media (prefers-color-scheme: dark) { rect { fill: #111 } text { fill: #ddd } }
+</style>
+<rect width='100%' height='100%'/>
+<text xml:space='preserve'><tspan x='16' dy='18'>races: 1 </tspan
+><tspan x='16' dy='18'> </tspan
+><tspan x='16' dy='18'>race on x: write by main at &lt;script&gt;alert(1)&lt;/script&gt;&amp;amp;&quot;&#39;&#39;&#39;&#39;&#39;&#39;&#39;&#39;&#39;&#39;&#39;&#39;&#39;&#39;&#39;&#39;&#39;&#39;&#39;&#39;&#39;&#39;&#39;&#39;&#39;&#39;&#39;&#39;&#39;&#39;&#39;&#39;&#39;&#39;&#39;&#39;&#39;&#39;&#39;&#39;&#39;&#39;&#39;&#39;&#39;&#39;&#39;&#39;&#39;&#39;&#39;&#39;&#39;&#39;&#39;&#39;&#39;&#39;&#39;&#39;&#39;&#39;&#39;&#39;&#39;&#39;&#39;&#39;&#39;&#39;&#39;&#39;&#39;&#39;&#39;&#39;&#39;&#39;&#39;&#39;&#39;&#39;&#39;&#39;&#39;&#39;&#39;&#39;&#39;&#39;&#39;&#39;&#39;&#39;&#39;&#39;&#39; (event 2), read by gggggggggggggggggggggggggggggggggggggggggggggggggggggggggggggggg at &lt;script&gt;alert(1)&lt;/script&gt;&amp;amp;&quot;&#39;&#39;&#39;&#39;&#39;&#39;&#39;&#39;&#39;&#39;&#39;&#39;&#39;&#39;&#39;&#39;&#39;&#39;&#39;&#39;&#39;&#39;&#39;&#39;&#39;&#39;&#39;&#39;&#39;&#39;&#39;&#39;&#39;&#39;&#39;&#39;&#39;&#39;&#39;&#39;&#39;&#39;&#39;&#39;&#39;&#39;&#39;&#39;&#39;&#39;&#39;&#39;&#39;&#39;&#39;&#39;&#39;&#39;&#39;&#39;&#39;&#39;&#39;&#39;&#39;&#39;&#39;&#39;&#39;&#39;&#39;&#39;&#39;&#39;&#39;&#39;&#39;&#39;&#39;&#39;&#39;&#39;&#39;&#39;&#39;&#39;&#39;&#39;&#39;&#39;&#39;&#39;&#39;&#39;&#39;&#39;&#39; (event 3) </tspan
+><tspan x='16' dy='18'> </tspan
+><tspan x='16' dy='18'>   main </tspan
+><tspan x='16' dy='18'>   |       gggggggggggggggggggggggggggggggggggggggggggggggggggggggggggggggg </tspan
+><tspan x='16' dy='18'>   o-------|-----------------------+      1  go main gggggggggggggggggggggggggggggggggggggggggggggggggggggggggggggggg &lt;script&gt;alert(1)&lt;/script&gt;&amp;amp;&quot;&#39;&#39;&#39;&#39;&#39;&#39;&#39;&#39;&#39;&#39;&#39;&#39;&#39;&#39;&#39;&#39;&#39;&#39;&#39;&#39;&#39;&#39;&#39;&#39;&#39;&#39;&#39;&#39;&#39;&#39;&#39;&#39;&#39;&#39;&#39;&#39;&#39;&#39;&#39;&#39;&#39;&#39;&#39;&#39;&#39;&#39;&#39;&#39;&#39;&#39;&#39;&#39;&#39;&#39;&#39;&#39;&#39;&#39;&#39;&#39;&#39;&#39;&#39;&#39;&#39;&#39;&#39;&#39;&#39;&#39;&#39;&#39;&#39;&#39;&#39;&#39;&#39;&#39;&#39;&#39;&#39;&#39;&#39;&#39;&#39;&#39;&#39;&#39;&#39;&#39;&#39;&#39;&#39;&#39;&#39;&#39;&#39; </tspan
+><tspan x='16' dy='18'>   |       o&lt;----------------------+      1 </tspan
+><tspan x='16' dy='18'>   W . . . . . . . . . . . ?              2  write main x 1 &lt;script&gt;alert(1)&lt;/script&gt;&amp;amp;&quot;&#39;&#39;&#39;&#39;&#39;&#39;&#39;&#39;&#39;&#39;&#39;&#39;&#39;&#39;&#39;&#39;&#39;&#39;&#39;&#39;&#39;&#39;&#39;&#39;&#39;&#39;&#39;&#39;&#39;&#39;&#39;&#39;&#39;&#39;&#39;&#39;&#39;&#39;&#39;&#39;&#39;&#39;&#39;&#39;&#39;&#39;&#39;&#39;&#39;&#39;&#39;&#39;&#39;&#39;&#39;&#39;&#39;&#39;&#39;&#39;&#39;&#39;&#39;&#39;&#39;&#39;&#39;&#39;&#39;&#39;&#39;&#39;&#39;&#39;&#39;&#39;&#39;&#39;&#39;&#39;&#39;&#39;&#39;&#39;&#39;&#39;&#39;&#39;&#39;&#39;&#39;&#39;&#39;&#39;&#39;&#39;&#39; </tspan
+><tspan x='16' dy='18'>   |       R&lt;. . . . . . . :              3  read gggggggggggggggggggggggggggggggggggggggggggggggggggggggggggggggg x 1 &lt;script&gt;alert(1)&lt;/script&gt;&amp;amp;&quot;&#39;&#39;&#39;&#39;&#39;&#39;&#39;&#39;&#39;&#39;&#39;&#39;&#39;&#39;&#39;&#39;&#39;&#39;&#39;&#39;&#39;&#39;&#39;&#39;&#39;&#39;&#39;&#39;&#39;&#39;&#39;&#39;&#39;&#39;&#39;&#39;&#39;&#39;&#39;&#39;&#39;&#39;&#39;&#39;&#39;&#39;&#39;&#39;&#39;&#39;&#39;&#39;&#39;&#39;&#39;&#39;&#39;&#39;&#39;&#39;&#39;&#39;&#39;&#39;&#39;&#39;&#39;&#39;&#39;&#39;&#39;&#39;&#39;&#39;&#39;&#39;&#39;&#39;&#39;&#39;&#39;&#39;&#39;&#39;&#39;&#39;&#39;&#39;&#39;&#39;&#39;&#39;&#39;&#39;&#39;&#39;&#39; </tspan
+><tspan x='16' dy='18'> </tspan
+><tspan x='16' dy='18'>main&#39;s write is event 2, and gggggggggggggggggggggggggggggggggggggggggggggggggggggggggggggggg has seen main up to event 1: go main gggggggggggggggggggggggggggggggggggggggggggggggggggggggggggggggg &lt;script&gt;alert(1)&lt;/script&gt;&amp;amp;&quot;&#39;&#39;&#39;&#39;&#39;&#39;&#39;&#39;&#39;&#39;&#39;&#39;&#39;&#39;&#39;&#39;&#39;&#39;&#39;&#39;&#39;&#39;&#39;&#39;&#39;&#39;&#39;&#39;&#39;&#39;&#39;&#39;&#39;&#39;&#39;&#39;&#39;&#39;&#39;&#39;&#39;&#39;&#39;&#39;&#39;&#39;&#39;&#39;&#39;&#39;&#39;&#39;&#39;&#39;&#39;&#39;&#39;&#39;&#39;&#39;&#39;&#39;&#39;&#39;&#39;&#39;&#39;&#39;&#39;&#39;&#39;&#39;&#39;&#39;&#39;&#39;&#39;&#39;&#39;&#39;&#39;&#39;&#39;&#39;&#39;&#39;&#39;&#39;&#39;&#39;&#39;&#39;&#39;&#39;&#39;&#39;&#39; </tspan
+><tspan x='16' dy='18'></tspan></text>
+</svg>
+";
+
+/// The lines of a trace, a name or none, whether an SVG document is asked for, what is written, and the status.
+type Row = (&'static str, Option<&'static str>, bool, &'static str, u8);
+
+static ROWS: [Row; 22] = [
+    (
+        LATE_WRITE,
+        Some("x"),
+        false,
+        LATE_WRITE_DRAWN,
+        status::CLEAN,
+    ),
+    (LATE_WRITE, None, false, LATE_WRITE_DRAWN, status::CLEAN),
+    (EXIT, Some("x"), false, EXIT_DRAWN, status::CLEAN),
+    (TWO_SENDERS, None, false, TWO_SENDERS_DRAWN, status::CLEAN),
+    (RELAY, Some("x"), false, RELAY_DRAWN, status::CLEAN),
+    (TWO_RACES, None, false, TWO_RACES_DRAWN, status::CLEAN),
+    (TWO_RACES, Some("z"), false, RACE_ON_Z_DRAWN, status::CLEAN),
+    (LATE_WRITE, None, true, LATE_WRITE_PICTURED, status::CLEAN),
+    (HOSTILE, Some("x"), false, HOSTILE_DRAWN, status::CLEAN),
+    (HOSTILE, None, true, HOSTILE_PICTURED, status::CLEAN),
+    // A clean trace is told, and has no race on a variable.
+    (
+        HANDED_ON,
+        None,
+        false,
+        "clean: 4 events, 2 accesses\n",
+        status::CLEAN,
+    ),
+    (
+        HANDED_ON,
+        None,
+        true,
+        "clean: 4 events, 2 accesses\n",
+        status::CLEAN,
+    ),
+    (HANDED_ON, Some("x"), false, NONE, status::NO_RACE),
+    (HANDED_ON, Some("x"), true, NONE, status::NO_RACE),
+    // A variable without a race beside others with one, names of other kinds, and no name.
+    (TWO_RACES, Some("y"), false, NONE, status::NO_RACE),
+    (TWO_SENDERS, Some("a"), false, NONE, status::NO_RACE),
+    (TWO_SENDERS, Some("y"), true, NONE, status::NO_RACE),
+    (TWO_SENDERS, Some(""), false, NONE, status::NO_RACE),
+    // What is wrong with the trace is told first.
+    (STALE, None, false, STALE_TOLD, status::ILLEGAL),
+    (STALE, Some("y"), true, STALE_TOLD, status::ILLEGAL),
+    (FAULTY, None, true, FAULTY_TOLD, status::TEXT_FAULT),
+    (FAULTY, Some("y"), false, FAULTY_TOLD, status::TEXT_FAULT),
+];
+
+const NONE: &str = "no such race\n";
+
+const STALE: &str = "gotrace 1 / var x / read main x 1 p";
+
+const STALE_TOLD: &str = "illegal: event 1: stale read\n";
+
+const FAULTY: &str = "gotrace 1 / var x / read main x 1 p / jump main p";
+
+const FAULTY_TOLD: &str = "line 4: unknown word\n";
+
+fn is_drawn(rt: &impl Runtime, row: &Row) -> Result<bool, Fail> {
+    let &(trace, name, svg, drawn, status) = row;
+    let text = text_of(rt.alloc(), trace)?;
+    let (answer, output, _, _) = ended(rt, Engine::Draw(name, svg), text.as_slice());
+    Ok(answer == status && output.as_slice() == drawn.as_bytes())
+}
+
+#[test]
+fn races_are_drawn(rt: HostRuntime) -> Result<(), Fail> {
+    for (at, row) in ROWS.iter().enumerate() {
+        assert!(rt; is_drawn(&rt, row)?, "{at}");
+    }
+    Ok(())
+}
+
+// Whether each `&` of characters between tags begins one of five names.
+fn has_names(characters: &str) -> bool {
+    characters.split('&').skip(1).all(|behind| {
+        ["amp;", "lt;", "gt;", "quot;", "#39;"]
+            .iter()
+            .any(|name| behind.starts_with(*name))
+    })
+}
+
+// Whether the quotes of a tag come in pairs.
+fn has_pairs(tag: &str) -> bool {
+    tag.split('\'').count() % 2 == 1 && !tag.contains('"')
+}
+
+// Whether the tags of a document nest and end, the quotes in them come in pairs, and nothing between them is markup.
+fn is_well_formed(rt: &impl Runtime, document: &str) -> Result<bool, Fail> {
+    let mut open: Vec<&str> = Vec::new(rt.alloc());
+    for part in document.split('<').skip(1) {
+        let Some((tag, characters)) = part.split_once('>') else {
+            return Ok(false);
+        };
+        let name = tag
+            .trim_start_matches('/')
+            .split_whitespace()
+            .next()
+            .unwrap_or("");
+        if tag.starts_with('/') {
+            if open.pop() != Some(name) {
+                return Ok(false);
+            }
+        } else if !tag.ends_with('/') {
+            open.push(name)?;
+        }
+        if !has_pairs(tag) || !has_names(characters) || characters.contains('>') {
+            return Ok(false);
+        }
+    }
+    Ok(open.is_empty() && document.starts_with("<svg "))
+}
+
+static MALFORMED: [&str; 5] = [
+    "<svg ><a></svg>",
+    "<svg ></svg></a>",
+    "<svg a='></svg>",
+    "<svg >&</svg>",
+    "<svg >></svg>",
+];
+
+// Whether the documents that are drawn are, and these aren't.
+fn documents_are_well_formed(rt: &impl Runtime) -> Result<bool, Fail> {
+    let mut right = true;
+    for &(_, _, _, drawn, _) in &ROWS {
+        if drawn.starts_with("<") {
+            right = right && is_well_formed(rt, drawn)?;
+        }
+    }
+    for &wrong in &MALFORMED {
+        right = right && !is_well_formed(rt, wrong)?;
+    }
+    Ok(right)
+}
+
+#[test]
+fn documents_nest_and_end(rt: HostRuntime) -> Result<(), Fail> {
+    assert!(rt; documents_are_well_formed(&rt)?);
+    Ok(())
+}
+
+// Whether nothing is written where a read fails behind the text, and a front where a write fails or takes no more.
+fn fails_with_its_devices(rt: &impl Runtime, svg: bool, front: &[u8; 5]) -> Result<bool, Fail> {
+    let text = text_of(rt.alloc(), LATE_WRITE)?;
+    let engine = Engine::Draw(None, svg);
+    let reader = SlowReader {
+        bytes: text.as_slice(),
+        step: 7,
+        fails: true,
+    };
+    let (answer, output, _, failures) = ended(rt, engine, reader);
+    Ok(
+        (answer, output.len(), failures) == (status::DEVICE, 0, 1)
+            && is_cut_off(rt, engine, text.as_slice(), true, front)
+            && is_cut_off(rt, engine, text.as_slice(), false, front),
+    )
+}
+
+#[test]
+fn a_device_that_fails_is_told(rt: HostRuntime) -> Result<(), Fail> {
+    assert!(rt;
+        fails_with_its_devices(&rt, false, b"races")?
+            && fails_with_its_devices(&rt, true, b"<svg ")?
+    );
+    Ok(())
+}

@@ -7,7 +7,6 @@ use Rattle.race_records.specs.Events.{TraceState}
 use Rattle.race_model.specs.Legal.{IsLegal}
 use Rattle.race_model.specs.Race.{IsReportedRace}
 use Rattle.race_model.specs.Verdict as model
-use Rattle.race_text.specs.Text.{IsTextOf}
 use Rattle.race_verdict.specs.declared.races.Race.{Race}
 use Rattle.race_verdict.specs.Races.{race_of}
 use Rattle.race_verdict.specs.Traces.{capacities, HasVerdict}

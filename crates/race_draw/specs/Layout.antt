@@ -48,13 +48,13 @@ abbrev pub IsWayShown : (ℕ → ℕ) → List Event → Option ℕ → Edge →
 IsWayShown caps events None m way = way ≡ []
 IsWayShown caps events (Some p) m way = (way ≡ []) ⊎ IsWay caps events p m.from_who way m.to m.to_who
 
--- the edge leaves g behind event i
+-- the edge leaves g behind event i, for another goroutine
 abbrev pub leaves_behind : ℕ → ℕ → Edge → Bool
-leaves_behind g i e = (e.from_who == g) && nat_lt i e.from
+leaves_behind g i e = ((e.from_who == g) && nat_lt i e.from) && not (e.to_who == g)
 
--- the edge is inside an event, and enters g: the first such edge is g's start
+-- the edge is inside an event, and enters g: the first such edge is g's start. Main, goroutine 0, has none
 abbrev pub enters_inside : ℕ → Edge → Bool
-enters_inside g e = (e.to_who == g) && (e.from == e.to)
+enters_inside g e = ((e.to_who == g) && (e.from == e.to)) && not (g == 0)
 
 -- the edge leaves where e does, and enters h
 abbrev pub leaves_for : Edge → ℕ → Edge → Bool

@@ -33,9 +33,9 @@ pub struct Arrow {
 fn first_behind(edges: &[Edge], goroutine: u32, event: u32) -> Option<&Edge>
     ensures { option_copied result ≡ find (spec.leaves_behind goroutine event) edges.now }
 {
-    edges
-        .iter()
-        .find(|edge| edge.from_who == goroutine && event < edge.from)
+    edges.iter().find(|edge| edge.from_who == goroutine
+        && event < edge.from
+        && edge.to_who != goroutine)
 }
 
 // The first edge that leaves where this one does, and enters the goroutine.
@@ -74,9 +74,7 @@ fn is_on(way: &[Edge], edge: &Edge) -> bool
 fn first_inside(edges: &[Edge], goroutine: u32) -> Option<&Edge>
     ensures { option_copied result ≡ find (spec.enters_inside goroutine) edges.now }
 {
-    edges
-        .iter()
-        .find(|edge| edge.to_who == goroutine && edge.from == edge.to)
+    edges.iter().find(|edge| edge.to_who == goroutine && edge.from == edge.to && goroutine != 0)
 }
 
 // The edge by which the goroutine was started, unless the way goes by it.

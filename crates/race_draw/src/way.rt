@@ -21,9 +21,13 @@ fn noted(edges: &[Edge], by: &[Option<usize>], goroutine: u32) -> Option<Edge>
 
 // Whether the edge brings its goroutine news of the goroutine's begin in event `at`, and earlier than what is noted.
 fn is_news(edges: &[Edge], by: &[Option<usize>], edge: &Edge, at: u32, goroutine: u32) -> bool {
-    let carries = match noted(edges, by, edge.from_who) {
-        Some(known) => known.to < edge.from,
-        None => edge.from == at && edge.from_who == goroutine,
+    let carries = if edge.from_who == goroutine {
+        edge.from == at
+    } else {
+        match noted(edges, by, edge.from_who) {
+            Some(known) => known.to < edge.from,
+            None => false,
+        }
     };
     match noted(edges, by, edge.to_who) {
         Some(known) => carries && edge.to < known.to,

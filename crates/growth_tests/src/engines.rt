@@ -3,7 +3,8 @@
 use crate::calls::{Growing, Reply, assert_each, refused_if, right_if};
 use race_records::{Sink, Source};
 use race_tool::{
-    CheckOptions, RunOptions, run_check, run_draw, run_edges, run_race, run_run, run_witness, status,
+    CheckOptions, RunOptions, run_check, run_draw, run_edges, run_race, run_run, run_witness,
+    status,
 };
 use refusing_heap::RefusingHeap;
 use std::alloc::{Allocator, Global};

@@ -3,7 +3,8 @@
 use crate::calls::{Growing, Reply, assert_each, refused_if, right_if};
 use race_records::{Sink, Source};
 use race_tool::{
-    CheckOptions, RunOptions, run_check, run_draw, run_edges, run_race, run_run, run_witness, status,
+    CheckOptions, RunOptions, run_check, run_draw, run_edges, run_race, run_run, run_witness,
+    status,
 };
 use refusing_heap::RefusingHeap;
 use std::alloc::{Allocator, Global};
@@ -123,7 +124,8 @@ impl Growing for Row {
 // the shard's clocks, one for what is kept of its variables, and the races. A second shard takes two of its own. A judged
 // run takes what the run takes, and then what its judge does. Workers take a copy of the declarations besides. A witness
 // takes four lists more for another replay, one for the clocks of each of three walks, and one for its order. A drawing takes
-// what its edges take, and the lists of its layout; as an SVG document its text too, which grows as it is written.
+// what the judge by one shard takes, six lists for its edges, one for the clocks of a walk, and one of layouts; a layout takes
+// what is noted for its way, the way, its arrows, and its rows, which ask again for less. An SVG document takes its text too.
 static ENGINES: [(Ending, u64); 13] = [
     ((Engine::Check(Judging::Shards(1)), status::RACES, 75), 23),
     ((Engine::Check(Judging::Shards(2)), status::RACES, 75), 25),
@@ -142,8 +144,8 @@ static ENGINES: [(Ending, u64); 13] = [
     ),
     ((Engine::Race(None, Judging::Plain), status::RACES, 86), 58),
     ((Engine::Witness, status::CLEAN, 46), 31),
-    ((Engine::Draw(false), status::CLEAN, 392), 45),
-    ((Engine::Draw(true), status::CLEAN, 1153), 46),
+    ((Engine::Draw(false), status::CLEAN, 392), 34),
+    ((Engine::Draw(true), status::CLEAN, 1153), 35),
 ];
 
 #[test]

@@ -10,7 +10,9 @@ pub(crate) fn draw<'a>(alloc: Global) -> Result<Command<'a>, AllocError> {
         .about(help::DRAW_ABOUT)
         .override_usage(help::DRAW_USAGE)
         .after_help(help::DRAW_HELP)
-        .arg(Arg::new(alloc, "VAR").help("The name of a variable with a race [default: each that has one]"))?
+        .arg(Arg::new(alloc, "VAR").help(
+            "The name of a variable with a race [default: each that has one]",
+        ))?
         .arg(
             Arg::new(alloc, "svg")
                 .long("svg")

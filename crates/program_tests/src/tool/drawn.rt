@@ -53,6 +53,52 @@ race on x: write by a at a:1 (event 4), read by main at m:5 (event 8)
 a's write is event 4, and main has seen nothing of a
 ";
 
+// a finds its own once done, and b learns of it by the same edge's event.
+const ONCE_OF_OWN: &str =
+    "gotrace 1 / goroutine a / goroutine b / once o / var x / go main a m:1 / go main b m:2 / oncebegin a o a:1 / onceend a o a:2 / oncedone a o a:3 / oncedone b o b:1 / write a x 1 a:4 / read b x 1 b:2";
+
+const ONCE_OF_OWN_DRAWN: &str = "races: 1
+
+race on x: write by a at a:4 (event 7), read by b at b:2 (event 8)
+
+   a
+   |       b
+   |       |       others
+   |       |       o-----------+          1  go main a m:1
+   o<------|-------------------+          1
+   |       |       o-----------+          2  go main b m:2
+   |       o<------------------+          2
+   o-------|-----------------------+      4  onceend a o a:2
+   |       o<----------------------+      6  oncedone b o b:1
+   W . . . . . . . . . . . ?              7  write a x 1 a:4
+   |       R<. . . . . . . :              8  read b x 1 b:2
+
+a's write is event 7, and b has seen a up to event 4: onceend a o a:2
+";
+
+// The first edge behind a's write leads back to a.
+const NEXT_OF_OWN: &str =
+    "gotrace 1 / goroutine a / goroutine b / mutex mu / chan s 1 / var x / go main a m:1 / go main b m:2 / write a x 1 a:1 / send a s 1 a:2 / recv a s 1 a:3 / lock a mu a:4 / unlock a mu a:5 / read b x 1 b:1 / lock b mu b:2";
+
+const NEXT_OF_OWN_DRAWN: &str = "races: 1
+
+race on x: write by a at a:1 (event 3), read by b at b:1 (event 8)
+
+   a
+   |       b
+   |       |       others
+   |       |       o-----------+          1  go main a m:1
+   o<------|-------------------+          1
+   |       |       o-----------+          2  go main b m:2
+   |       o<------------------+          2
+   W . . . . . . . . . . . ?              3  write a x 1 a:1
+   o-------|---------------:-----------+  7  unlock a mu a:5
+   |       R<. . . . . . . :           |  8  read b x 1 b:1
+   |       o<--------------------------+  9  lock b mu b:2
+
+a's write is event 3, and b has seen nothing of a
+";
+
 // What a did before its write comes to main by way of b.
 const RELAY: &str =
     "gotrace 1 / goroutine a / goroutine b / var x / chan c 1 / chan d 1 / go main a m:1 / go main b m:2 / send a c 7 a:1 / write a x 1 a:2 / recv b c 7 b:1 / send b d 8 b:2 / recv main d 8 m:3 / read main x 1 m:4";
@@ -184,7 +230,7 @@ text { font: 14px monospace; white-space: pre; fill: #222 }
 /// The lines of a trace, a name or none, whether an SVG document is asked for, what is written, and the status.
 type Row = (&'static str, Option<&'static str>, bool, &'static str, u8);
 
-static ROWS: [Row; 22] = [
+static ROWS: [Row; 24] = [
     (
         LATE_WRITE,
         Some("x"),
@@ -196,6 +242,8 @@ static ROWS: [Row; 22] = [
     (EXIT, Some("x"), false, EXIT_DRAWN, status::CLEAN),
     (TWO_SENDERS, None, false, TWO_SENDERS_DRAWN, status::CLEAN),
     (RELAY, Some("x"), false, RELAY_DRAWN, status::CLEAN),
+    (ONCE_OF_OWN, None, false, ONCE_OF_OWN_DRAWN, status::CLEAN),
+    (NEXT_OF_OWN, None, false, NEXT_OF_OWN_DRAWN, status::CLEAN),
     (TWO_RACES, None, false, TWO_RACES_DRAWN, status::CLEAN),
     (TWO_RACES, Some("z"), false, RACE_ON_Z_DRAWN, status::CLEAN),
     (LATE_WRITE, None, true, LATE_WRITE_PICTURED, status::CLEAN),

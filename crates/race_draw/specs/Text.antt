@@ -1,10 +1,11 @@
 -- The text of drawings. Events are printed with numbers from 1, and as the trace has them.
-use Rattle.std.specs.Prelude.{ℕ, if◌then◌else◌, ◌<◌, ◌==◌, ◌+◌, ◌||◌, not, Bool, true, false, All}
+use Rattle.std.specs.Prelude.{ℕ, if◌then◌else◌, ◌<◌, nat_lt, ◌==◌, ◌+◌, ◌||◌, not, Bool, true, false, All}
 use Rattle.std.specs.Prelude.{List, [], ◌∷◌, ◌++◌, length, codes, decimal, Option, Some, None, IfSome}
 use Rattle.std.specs.List.{concat, flat_map, list_any}
 use Rattle.race_records.specs.Events.{TraceState}
 use Rattle.race_text.specs.Text.{ended}
 use Rattle.race_verdict.specs.Races.{race_of}
+use Rattle.race_edges.specs.declared.fault.TheConstants.{MAX_PLAIN_EVENTS}
 use Rattle.race_edges.specs.declared.listing.Edge.{Edge}
 use Rattle.race_verdict.specs.declared.races.Race.{Race}
 use Rattle.race_report.specs.Printable.{IsOf}
@@ -55,11 +56,15 @@ abbrev pub others_head : Bool → List ℕ
 others_head true = ended (codes "   |       |       others")
 others_head false = []
 
+-- below them, where the edges of so many events aren't listed
+abbrev pub note_of_size : ℕ → List ℕ
+note_of_size events = if nat_lt MAX_PLAIN_EVENTS events then ended (codes "   (of more than 2,000 events no edge is drawn)") else []
+
 -- the heads of the columns, each above its own
 unfoldable pub heads : TraceState → Race → List Arrow → List ℕ
 heads trace r arrows =
     concat (newline ∷ codes "   " ∷ name_at trace r.first ∷ newline ∷ codes "   |       " ∷ name_at trace r.second ∷ newline
-    ∷ others_head (has_others (missing trace.events r) arrows) ∷ [])
+    ∷ others_head (has_others (missing trace.events r) arrows) ∷ note_of_size (length trace.events) ∷ [])
 
 -- which event the first access is, and what the second one has seen of its goroutine
 unfoldable pub sentence_front : TraceState → Race → List ℕ

@@ -6,7 +6,7 @@ ghost use Rattle.race_draw.specs.Text as spec;
 use crate::arrow::Arrow;
 use crate::layout::missing;
 use crate::words::race_words;
-use race_edges::Edge;
+use race_edges::{Edge, MAX_PLAIN_EVENTS};
 use race_records::{Page, Sink, Trace, WriteFault};
 use race_verdict::Race;
 use std::alloc::Allocator;
@@ -39,6 +39,17 @@ fn others_head<'a>(is_used: bool, _words: &'a [u8]) -> &'a [u8]
     }
 }
 
+// That no edge is drawn of so many events, for as long as other words stand.
+fn note_of_size<'a>(events: usize, _words: &'a [u8]) -> &'a [u8]
+    ensures { result.now ≡ spec.note_of_size events }
+{
+    if events > MAX_PLAIN_EVENTS {
+        b"   (of more than 2,000 events no edge is drawn)\n"
+    } else {
+        b""
+    }
+}
+
 #[tactic(auto, unfolding(crate::specs::Text::heads))]
 pub(crate) fn print_heads<W: Write, A: Allocator>(
     page: &mut Page,
@@ -55,6 +66,8 @@ pub(crate) fn print_heads<W: Write, A: Allocator>(
     let words = race_words(trace, race);
     let others = has_others(&missing(trace, race), arrows);
     let head = others_head(others, words.first);
+    let count = trace.len();
+    let note = note_of_size(count, words.first);
     let parts = [
         b"\n".as_slice(),
         b"   ".as_slice(),
@@ -64,6 +77,7 @@ pub(crate) fn print_heads<W: Write, A: Allocator>(
         words.second,
         b"\n".as_slice(),
         head,
+        note,
     ];
     page.put_all(sink, &parts)
 }

@@ -85,6 +85,13 @@ impl<W: Write> Sink<W> {
         Ok(())
     }
 
+    /// The writer, with what it took.
+    pub fn into_writer(self) -> W
+        ensures { result ≡ writer_of self }
+    {
+        self.writer
+    }
+
     /// How many writes failed, or took none of some bytes, since `new`; it stays at `u64::MAX`.
     pub fn failures(&self) -> u64
         ensures { result ≡ sink_failures self.now }

@@ -150,6 +150,16 @@ impl<A: Allocator> Trace<A> {
         Ok(())
     }
 
+    /// Forgets the events, and keeps their room.
+    pub fn clear_events(&mut self)
+        ensures decls { self.new.decls ≡ self.old.decls }
+        ensures events { self.new.events ≡ [] }
+        ensures room { self.old.spare ≤ self.new.spare }
+    {
+        self.events.clear();
+        self.spare = self.events.capacity();
+    }
+
     /// How many events there are.
     pub fn len(&self) -> usize
         ensures len { result ≡ length self.now.events }

@@ -14,7 +14,8 @@ use Rattle.race_model.proofs.ClockLemmas.{counts_none}
 use Rattle.race_model.proofs.SourceSteps.{from_none}
 use Rattle.race_clock.specs.ClockState.{knows, padded}
 use Rattle.race_clock.specs.ClocksState.{ChannelState, SlotState, ClocksState, no_slot, no_channel, no_lock, slot_of}
-use Rattle.race_clock.specs.ClocksState.{channel_of, lock_of, end_of, first_slot, first_slots, first_channel}
+use Rattle.race_clock.specs.ClocksState.{channel_of, lock_of, end_of, first_slot, first_slots}
+use Rattle.race_clock.specs.First.{IsFirst}
 use Rattle.race_clock.specs.StandsFor.{StandsForChannel, StandsForLock, StandsFor}
 use Rattle.race_clock.proofs.ClockLists.{knows_padded, long_enough}
 
@@ -58,24 +59,20 @@ each_more channels F n ch long each is c less = elim (cases_lt c n) [
 
 -- the first clocks stand for the empty list
 module _ (declarations : List Declaration) (k : ClocksState) where
-  pub opening_stands : k.slots ≡ first_slots (count_of Kind.Goroutine declarations)
-      → length k.channels ≡ count_of Kind.Chan declarations
-      → ((c : ℕ) → c < length k.channels → channel_of k.channels c ≡ first_channel (capacity_of declarations c))
-      → k.locks ≡ replicate (count_of Kind.Lock declarations) no_lock → k.ends ≡ replicate (count_of Kind.Once declarations) []
-      → StandsFor declarations (record { len = 0; clocks = k }) []
-  opening_stands slots sized each locks ends = record {
+  pub opening_stands : IsFirst declarations k → StandsFor declarations (record { len = 0; clocks = k }) []
+  opening_stands first = record {
     len = refl;
-    all_goroutines = ap length slots ∙ length_slots (count_of Kind.Goroutine declarations);
-    all_chans = sized;
-    all_locks = ap length locks ∙ length-replicate (count_of Kind.Lock declarations) no_lock;
-    all_onces = ap length ends ∙ length-replicate {A = List ℕ} (count_of Kind.Once declarations) [];
+    all_goroutines = ap length first.slots ∙ length_slots (count_of Kind.Goroutine declarations);
+    all_chans = first.all_channels;
+    all_locks = ap length first.locks ∙ length-replicate (count_of Kind.Lock declarations) no_lock;
+    all_onces = ap length first.ends ∙ length-replicate {A = List ℕ} (count_of Kind.Once declarations) [];
     clocks = record {
       wide = λ g less. subst (λ (s : SlotState). g < length s.clock) (sym (slot_of_first g less)) (long_enough [] g);
       all_parts = λ g less. ap (λ (s : SlotState). s.parts) (slot_of_first g less);
       all_clocks = λ g less.
           subst (λ (s : SlotState). CountsSeen caps [] g (knows s.clock)) (sym (slot_of_first g less))
           (counts_none [] _ (λ i h. SeenBy caps [] i h g) (own g) (λ i h seen. seen_none caps i h g seen));
-      all_channels = λ c less. subst (StandsForChannel caps [] c) (sym (each c less)) (record {
+      all_channels = λ c less. subst (StandsForChannel caps [] c) (sym (first.each_channel c less)) (record {
         room = refl;
         sent = record { all = refl; each = λ j less. absurd (omega arith) };
         freed = record { all = nothing (caps c); each = λ j less. absurd (omega arith) };
@@ -95,14 +92,14 @@ module _ (declarations : List Declaration) (k : ClocksState) where
 
       slot_of_first : (g : ℕ) → g < length k.slots → slot_of k g ≡ first_slot g
       slot_of_first g less =
-          ap (λ (ss : List SlotState). get_or ss g no_slot) slots
-          ∙ slot_at (count_of Kind.Goroutine declarations) g (omega (arith, less, ap length slots, length_slots (count_of Kind.Goroutine declarations)))
+          ap (λ (ss : List SlotState). get_or ss g no_slot) first.slots
+          ∙ slot_at (count_of Kind.Goroutine declarations) g (omega (arith, less, ap length first.slots, length_slots (count_of Kind.Goroutine declarations)))
 
       lock_at : (l : ℕ) → l < length k.locks → lock_of k.locks l ≡ no_lock
       lock_at l less =
-          ap (λ ls. lock_of ls l) locks
+          ap (λ ls. lock_of ls l) first.locks
           ∙ get_or-replicate (count_of Kind.Lock declarations) l no_lock no_lock
-          (omega (arith, less, ap length locks, length-replicate (count_of Kind.Lock declarations) no_lock))
+          (omega (arith, less, ap length first.locks, length-replicate (count_of Kind.Lock declarations) no_lock))
 
       nothing : (n : ℕ) → 0 - n + 0 ≡ 0
       nothing n = omega arith
@@ -115,4 +112,4 @@ module _ (declarations : List Declaration) (k : ClocksState) where
           go false = knows_padded [] (g + 1) h
 
       none : (o h : ℕ) → knows (end_of k.ends o) h ≡ 0
-      none o h = ap (λ es. knows (end_of es o) h) ends ∙ ap (λ c. knows c h) (blank (count_of Kind.Once declarations) o)
+      none o h = ap (λ es. knows (end_of es o) h) first.ends ∙ ap (λ c. knows c h) (blank (count_of Kind.Once declarations) o)

@@ -5,8 +5,8 @@
 //! takes out is written again by the same event: in the long run none is allocated.
 ghost use Rattle.std.specs.Prelude.{◌≡◌, if◌then◌else◌, ◌+◌, ◌-◌, ◌<◌, ◌^◌, ℕ, List, [], ◌∷◌, ◌++◌, length, take, drop, OnOk, OnErr};
 ghost use Rattle.std.specs.Option.{option_map_or};
-ghost use Rattle.race_clock.specs.ClockState.{joined, with_count};
-ghost use Rattle.race_clock.specs.ClocksState.{ChannelState, first_channel, is_used_up, front, filled, channel_closed};
+ghost use Rattle.race_clock.specs.ClockState.{joined};
+ghost use Rattle.race_clock.specs.ClocksState.{ChannelState, first_channel, is_used_up, front, filled};
 
 use crate::clock::Clock;
 use crate::kept::Kept;
@@ -105,7 +105,7 @@ pub(crate) struct Channel<A: Allocator> {
     capacity: usize,
     // Made at the first send.
     queues: Option<Box<Queues<A>, A>>,
-    closed: Kept<A>,
+    pub(crate) closed: Kept<A>,
 }
 
 impl<A: Allocator> Model for Channel<A> {
@@ -261,24 +261,5 @@ impl<A: Allocator> Channel<A> {
             queues.freed.fill(begin);
             queues.sent.pop(begin);
         }
-    }
-
-    /// Joins the clock of a close's begin to that of the close.
-    pub(crate) fn close(
-        &mut self,
-        who: u32,
-        slot: &mut Slot<A>,
-        begin: &mut Clock<A>,
-        spare: &mut Clock<A>,
-    ) -> Result<(), AllocError>
-    where
-        A: Copy,
-        requires { slot.old.parts + 1 < 2 ^ 32 }
-        ensures slot { OnOk result (slot.new ≡ record { clock = slot.old.clock; parts = slot.old.parts + 1 }) }
-        ensures ok { OnOk result (self.new ≡ channel_closed self.old (with_count slot.old.clock who (slot.old.parts + 1))) }
-        ensures unchanged { OnErr result (self.new ≡ self.old) }
-        ensures slot_unchanged { OnErr result (slot.new ≡ slot.old) }
-    {
-        slot.tell(who, &mut self.closed, begin, spare)
     }
 }

@@ -10,6 +10,7 @@ ghost use Rattle.race_records.specs.declared.kind.Kind.{Kind};
 ghost use Rattle.race_records.specs.Declarations.{count_of, capacity_of};
 ghost use Rattle.race_clock.specs.ClocksState.{ClocksState, clock_of, parts_of, after};
 ghost use Rattle.race_clock.specs.ClocksState as spec;
+ghost use Rattle.race_clock.specs.First.{IsFirst};
 ghost use Rattle.race_clock.specs.Needs.{HasClocks, IsApart, CountsFit};
 
 use crate::channel::Channel;
@@ -108,12 +109,7 @@ fn first_ends<A: Allocator + Copy>(alloc: A, onces: usize) -> Result<Vec<Kept<A>
 impl<A: Allocator + Copy> Clocks<A> {
     // Before the first event.
     pub(crate) fn new<B: Allocator>(alloc: A, decls: &Decls<B>) -> Result<Clocks<A>, AllocError>
-        ensures slots { IfOk result (λ k. k.slots ≡ spec.first_slots (count_of Kind.Goroutine decls.now.declarations)) }
-        ensures len { IfOk result (λ k. length k.channels ≡ count_of Kind.Chan decls.now.declarations) }
-        ensures each { IfOk result (λ k. (c : ℕ) → c < length k.channels
-            → spec.channel_of k.channels c ≡ spec.first_channel (capacity_of decls.now.declarations c)) }
-        ensures locks { IfOk result (λ k. k.locks ≡ replicate (count_of Kind.Lock decls.now.declarations) spec.no_lock) }
-        ensures ends { IfOk result (λ k. k.ends ≡ replicate (count_of Kind.Once decls.now.declarations) []) }
+        ensures { IfOk result (IsFirst decls.now.declarations) }
     {
         Ok(Clocks {
             slots: first_slots(alloc, decls.count(Kind::Goroutine))?,
@@ -351,8 +347,8 @@ impl<A: Allocator + Copy> Clocks<A> {
         ensures unchanged { OnErr result (self.new ≡ self.old) }
     {
         let slot = &mut self.slots[who as usize];
-        let channel = &mut self.channels[chan as usize];
-        channel.close(who, slot, &mut self.second, &mut self.spare)
+        let closed = &mut self.channels[chan as usize].closed;
+        slot.tell(who, closed, &mut self.second, &mut self.spare)
     }
 
     fn read_lock(&mut self, who: u32, lock: u32) -> Result<(), AllocError>
@@ -377,8 +373,8 @@ impl<A: Allocator + Copy> Clocks<A> {
         ensures unchanged { OnErr result (self.new ≡ self.old) }
     {
         let slot = &mut self.slots[who as usize];
-        let clocks = &mut self.locks[lock as usize];
-        clocks.read_unlock(who, slot, &mut self.second, &mut self.spare)
+        let runlocks = &mut self.locks[lock as usize].runlocks;
+        slot.tell(who, runlocks, &mut self.second, &mut self.spare)
     }
 
     #[tactic(auto, using(crate::proofs::JoinLemmas::joined_nothing))]

@@ -1,12 +1,11 @@
 //! The clocks of a lock: four words, until it is first unlocked.
 ghost use Rattle.std.specs.Prelude.{◌≡◌, ◌+◌, ◌<◌, ◌^◌, List, [], OnOk, OnErr};
 ghost use Rattle.std.specs.Option.{option_map_or};
-ghost use Rattle.race_clock.specs.ClockState.{joined, with_count};
-ghost use Rattle.race_clock.specs.ClocksState.{LockState, no_lock, lock_locked, lock_read_unlocked};
+ghost use Rattle.race_clock.specs.ClockState.{joined};
+ghost use Rattle.race_clock.specs.ClocksState.{LockState, no_lock, lock_locked};
 
 use crate::clock::Clock;
 use crate::kept::Kept;
-use crate::slot::Slot;
 use std::alloc::{AllocError, Allocator};
 use std::marker::Model;
 use std::mem;
@@ -21,7 +20,7 @@ struct Unlocks<A: Allocator> {
 #[derive(Drop)]
 pub(crate) struct LockClocks<A: Allocator> {
     unlocks: Option<Box<Unlocks<A>, A>>,
-    runlocks: Kept<A>,
+    pub(crate) runlocks: Kept<A>,
 }
 
 impl<A: Allocator> Model for LockClocks<A> {
@@ -114,25 +113,6 @@ impl<A: Allocator> LockClocks<A> {
             }
         }
         Ok(())
-    }
-
-    /// Joins the clock of a runlock's begin to those since the last lock.
-    pub(crate) fn read_unlock(
-        &mut self,
-        who: u32,
-        slot: &mut Slot<A>,
-        begin: &mut Clock<A>,
-        spare: &mut Clock<A>,
-    ) -> Result<(), AllocError>
-    where
-        A: Copy,
-        requires { slot.old.parts + 1 < 2 ^ 32 }
-        ensures slot { OnOk result (slot.new ≡ record { clock = slot.old.clock; parts = slot.old.parts + 1 }) }
-        ensures ok { OnOk result (self.new ≡ lock_read_unlocked self.old (with_count slot.old.clock who (slot.old.parts + 1))) }
-        ensures unchanged { OnErr result (self.new ≡ self.old) }
-        ensures slot_unchanged { OnErr result (slot.new ≡ slot.old) }
-    {
-        slot.tell(who, &mut self.runlocks, begin, spare)
     }
 }
 

@@ -1,13 +1,14 @@
 -- What is kept of a list of accesses, and what is dropped.
-use Rattle.std.proofs.Common.{◌≡◌, ◌⊎◌, ℕ, zero, suc, ◌≤◌, max, not, Bool, true, false, List, [], ◌∷◌, ◌++◌}
+use Rattle.std.proofs.Common.{◌≡◌, ◌⊎◌, ℕ, zero, suc, ◌<◌, ◌≤◌, not, Bool, true, false, List, [], ◌∷◌, ◌++◌}
 use Rattle.std.proofs.Common.{length, take, drop, Option, Some, None, refl, sym, ap, subst, inl, inr, arith}
-use Rattle.std.proofs.Common.{cond}
-use Rattle.std.specs.Prelude.{T}
+use Rattle.std.proofs.Common.{cond, ltb-true}
+use Rattle.std.specs.Prelude.{T, nat_lt, if◌then◌else◌}
 use Rattle.std.proofs.Math.Facts.{leb_yes}
 use Rattle.std.specs.List.{Contains, filter, insert}
-use Rattle.std.proofs.lemmas.Bool.{cases_lt}
+use Rattle.std.proofs.lemmas.Bool.{ltb-false}
 use Rattle.std.proofs.lemmas.List.{take-append-drop}
 use Rattle.std.proofs.lemmas.List.Elements.{Contains-append_left, Contains-append_right, Contains-append_cases, All-filter, All-contains, All-contains_itself}
+use Rattle.race_verdict.specs.declared.notes.Noted.{Noted}
 use Rattle.race_access.specs.declared.access.Access.{Access}
 use Rattle.race_access.specs.Kept.{Knows, is_known, IsGreatestUnknown, greater, KeepsRead, DropsKnown}
 
@@ -38,33 +39,46 @@ keeps_both clock read access = record {
 }
 
 -- the greatest unknown one of two lists
-pub greatest_of_both : (clock : List ℕ) (xs ys : List Access) (a b : Option ℕ)
+pub greatest_of_both : (clock : List ℕ) (xs ys : List Access) (a b : Option Noted)
     → IsGreatestUnknown clock xs a → IsGreatestUnknown clock ys b → IsGreatestUnknown clock (xs ++ ys) (greater a b)
 greatest_of_both clock xs ys None None knownx knowny = λ e is. elim (Contains-append_cases xs ys e is) [ inl x ↦ knownx e x | inr y ↦ knowny e y ]
-greatest_of_both clock xs ys None (Some j) knownx (e, isy, at, unknown, most) = (
+greatest_of_both clock xs ys None (Some n) knownx (e, isy, at, unknown, most) = (
   e,
   Contains-append_right xs ys e isy,
   at,
   unknown,
   λ f is un. elim (Contains-append_cases xs ys f is) [ inl x ↦ absurd (un (knownx f x)) | inr y ↦ most f y un ],
 )
-greatest_of_both clock xs ys (Some i) None (e, isx, at, unknown, most) knowny = (
+greatest_of_both clock xs ys (Some m) None (e, isx, at, unknown, most) knowny = (
   e,
   Contains-append_left xs ys e isx,
   at,
   unknown,
   λ f is un. elim (Contains-append_cases xs ys f is) [ inl x ↦ most f x un | inr y ↦ absurd (un (knowny f y)) ],
 )
-greatest_of_both clock xs ys (Some i) (Some j) (e, isx, ati, unknowne, mosti) (f, isy, atj, unknownf, mostj) = elim (cases_lt i j) [
-  | inl less ↦ (f, Contains-append_right xs ys f isy, omega (arith, atj, less), unknownf, bound)
-  | inr more ↦ (e, Contains-append_left xs ys e isx, omega (arith, ati, more), unknowne, bound)
-]
+greatest_of_both clock xs ys (Some m) (Some n) (e, isx, ism, unknowne, mostm) (f, isy, isn, unknownf, mostn) = by (nat_lt m.at n.at) refl
   where
-    bound : (h : Access) → Contains (xs ++ ys) h → ¬ Knows clock h → h.at ≤ max i j
-    bound h is un = elim (Contains-append_cases xs ys h is) [
-      | inl x ↦ let most : h.at ≤ i = mosti h x un in omega (arith, most)
-      | inr y ↦ let most : h.at ≤ j = mostj h y un in omega (arith, most)
-    ]
+    by : (b : Bool) → nat_lt m.at n.at ≡ b → IsGreatestUnknown clock (xs ++ ys) (Some (if b then n else m))
+    by true is = (
+      f,
+      Contains-append_right xs ys f isy,
+      isn,
+      unknownf,
+      λ h inh un. elim (Contains-append_cases xs ys h inh) [
+        | inl x ↦ let most : h.at ≤ m.at = mostm h x un in let less : m.at < n.at = ltb-true m.at n.at is in omega (arith, most, less)
+        | inr y ↦ mostn h y un
+      ],
+    )
+    by false is = (
+      e,
+      Contains-append_left xs ys e isx,
+      ism,
+      unknowne,
+      λ h inh un. elim (Contains-append_cases xs ys h inh) [
+        | inl x ↦ mostm h x un
+        | inr y ↦ let most : h.at ≤ n.at = mostn h y un in let less : n.at ≤ m.at = ltb-false m.at n.at is in omega (arith, most, less)
+      ],
+    )
 
 -- what a filter keeps was there, and what passes stays
 pub filter_was : {X : Type 0} (p : X → Bool) (xs : List X) (e : X) → Contains (filter p xs) e → Contains xs e

@@ -4,3 +4,4 @@ pub mod KeepSteps
 pub mod RisingSteps
 pub mod StandSteps
 pub mod StampSteps
+pub mod NoteSteps

@@ -227,6 +227,9 @@ module _ (caps : ℕ → ℕ) (past : List Event) (e : Event) (x : ℕ) (touched
   old_each : (a : Touch) → Contains touched a → IsStampIn caps (past ++ e ∷ []) a.stamp a.clock × (a.stamp.var ≡ x)
   old_each a ina = let s = stamps.each a ina in (stamp_stays caps past e a.stamp a.clock s.0, s.1)
 
+  old_place : (a : Touch) → Contains touched a → (s : Event) → At (past ++ e ∷ []) a.stamp.at s → s.place ≡ a.place
+  old_place a ina s at = stamps.places a ina s (sym (slice_get-append past (e ∷ []) a.stamp.at (within a ina)) ∙ at)
+
   -- an access of the longer list is an old one or the next event
   access_cases : (i : ℕ) → IsAccessOf (past ++ e ∷ []) x i → IsAccessOf past x i ⊎ ((i ≡ length past) × IsTrue (accesses x e.op))
   access_cases i (s, at, access) = elim (cases_lt i (length past)) [
@@ -243,18 +246,26 @@ module _ (caps : ℕ → ℕ) (past : List Event) (e : Event) (x : ℕ) (touched
   stamps_other other = record {
     rising = stamps.rising;
     each = old_each;
+    places = old_place;
     every = λ i access. elim (access_cases i access) [ inl old ↦ stamps.every i old | inr new ↦ absurd (other new.1) ];
   }
 
   -- an access of x brings its touch
-  pub stamps_next : (t : Touch) → stamp_of past e ≡ Some t.stamp → t.stamp.var ≡ x → CountsReaching caps past e e.who t.clock
+  pub stamps_next : (t : Touch) → stamp_of past e ≡ Some t.stamp → t.stamp.var ≡ x → e.place ≡ t.place → CountsReaching caps past e e.who t.clock
       → AreStampsOf caps (past ++ e ∷ []) x (touched ++ t ∷ [])
-  stamps_next t is var reaching = record {
+  stamps_next t is var place reaching = record {
     rising = rising;
     each = λ a ina. elim (Contains-push_cases touched t a ina) [
       | inl old ↦ old_each a old
       | inr new ↦ subst (λ (a : Touch). IsStampIn caps (past ++ e ∷ []) a.stamp a.clock × (a.stamp.var ≡ x)) new
           (stamp_comes caps past e t.stamp t.clock is reaching, var)
+    ];
+    places = λ a ina s ats. elim (Contains-push_cases touched t a ina) [
+      | inl old ↦ old_place a old s ats
+      | inr new ↦
+          let here : slice_get (past ++ e ∷ []) (length past) ≡ Some s =
+          ap (slice_get (past ++ e ∷ [])) (sym at ∙ ap (λ (t : Touch). t.stamp.at) new) ∙ ats in
+          ap (λ (s : Event). s.place) (at_same (past ++ e ∷ []) (length past) s e here (slice_get-push past e)) ∙ place ∙ ap (λ (t : Touch). t.place) new
     ];
     every = λ i acc. elim (access_cases i acc) [
       | inl old ↦ let s = stamps.every i old in (s.0, (Contains-append_left touched (t ∷ []) s.0 s.1.0, s.1.1))

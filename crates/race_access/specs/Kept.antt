@@ -1,24 +1,30 @@
 -- What is kept of a variable's accesses.
-use Rattle.std.specs.Prelude.{ℕ, ◌≡◌, ◌<◌, ◌≤◌, ◌⊎◌, max, nat_le, Bool, true, false, List, [], ◌∷◌, length, Option, Some, None, AllPairs}
+use Rattle.std.specs.Prelude.{ℕ, ◌≡◌, ◌<◌, ◌≤◌, ◌⊎◌, nat_le, nat_lt, if◌then◌else◌, Bool, true, false, List, [], ◌∷◌, length, Option, Some, None, AllPairs}
 use Rattle.std.specs.List.{Contains}
 use Rattle.std.specs.List.Sorted.{IsPartitionPoint}
 use Rattle.race_access.specs.declared.access.Access.{Access}
 use Rattle.race_clock.specs.ClockState.{knows}
 use Rattle.race_clock.specs.declared.stamp.Stamp.{Stamp}
+use Rattle.race_verdict.specs.declared.notes.Noted.{Noted}
 
--- the pair of the first race; before it the last Write, and Reads
+-- the pair of the first race, with what is printed of both; before it the last Write, and Reads
 pub record Kept : Type 0 where
   pub pair : Option (ℕ × ℕ)
+  pub noted : Option (Noted × Noted)
   pub write : Access
   pub reads : List Access
 
--- what is kept of a stamp
-abbrev pub access_of : Stamp → Access
-access_of stamp = record { at = stamp.at; who = stamp.who; count = stamp.count }
+-- what is kept of a stamp with its place
+abbrev pub access_of : Stamp → ℕ → Access
+access_of stamp place = record { at = stamp.at; who = stamp.who; count = stamp.count; place = place; write = stamp.write }
+
+-- what is printed of an access
+abbrev pub note_of : Access → Noted
+note_of e = record { at = e.at; who = e.who; write = e.write; place = e.place }
 
 -- no access: its count is 0, so every clock knows it
 abbrev pub no_access : Access
-no_access = record { at = 0; who = 0; count = 0 }
+no_access = record { at = 0; who = 0; count = 0; place = 0; write = false }
 
 -- the clock knows the access
 abbrev pub Knows : List ℕ → Access → Type 0
@@ -28,24 +34,24 @@ abbrev pub is_known : List ℕ → Access → Bool
 is_known clock e = nat_le e.count (knows clock e.who)
 
 -- of these the one that the clock doesn't know with the greatest event number
-abbrev pub IsGreatestUnknown : List ℕ → List Access → Option ℕ → Type 0
+abbrev pub IsGreatestUnknown : List ℕ → List Access → Option Noted → Type 0
 IsGreatestUnknown clock kept None = (e : Access) → Contains kept e → Knows clock e
-IsGreatestUnknown clock kept (Some i) =
-    (e : Access) × Contains kept e × (e.at ≡ i) × (¬ Knows clock e) × ((f : Access) → Contains kept f → ¬ Knows clock f → f.at ≤ i)
+IsGreatestUnknown clock kept (Some n) =
+    (e : Access) × Contains kept e × (note_of e ≡ n) × (¬ Knows clock e) × ((f : Access) → Contains kept f → ¬ Knows clock f → f.at ≤ n.at)
 
--- the greater of two numbers, where there are any
-abbrev pub greater : Option ℕ → Option ℕ → Option ℕ
+-- the later of two accesses, where there are any
+abbrev pub greater : Option Noted → Option Noted → Option Noted
 greater None b = b
-greater (Some i) None = Some i
-greater (Some i) (Some j) = Some (max i j)
+greater (Some m) None = Some m
+greater (Some m) (Some n) = Some (if nat_lt m.at n.at then n else m)
 
 abbrev pub candidates_by : Bool → Kept → List Access
 candidates_by true kept = kept.write ∷ kept.reads
 candidates_by false kept = kept.write ∷ []
 
 -- the kept accesses with which an access can race: a Read with the Write alone
-abbrev pub candidates : Stamp → Kept → List Access
-candidates stamp kept = candidates_by stamp.write kept
+abbrev pub candidates : Access → Kept → List Access
+candidates access kept = candidates_by access.write kept
 
 -- they stand in rising order of their goroutines, so that there is one at most of each
 abbrev pub AreRising : List Access → Type 0
@@ -72,10 +78,10 @@ pub record KeepsWrite (new : Kept) (access : Access) : Type 0 where
   pub write : new.write ≡ access
   pub reads : (e : Access) → Contains new.reads e → e.count ≡ 0
 
-abbrev pub KeepsBy : Bool → Kept → Kept → Stamp → List ℕ → Type 0
-KeepsBy true old new stamp clock = KeepsWrite new (access_of stamp)
-KeepsBy false old new stamp clock = (new.write ≡ old.write) × KeepsRead old.reads new.reads (access_of stamp) clock
+abbrev pub KeepsBy : Bool → Kept → Kept → Access → List ℕ → Type 0
+KeepsBy true old new access clock = KeepsWrite new access
+KeepsBy false old new access clock = (new.write ≡ old.write) × KeepsRead old.reads new.reads access clock
 
 -- what is kept behind an access that races with none
-abbrev pub IsKeptOn : Kept → Kept → Stamp → List ℕ → Type 0
-IsKeptOn old new stamp clock = (new.pair ≡ None) × KeepsBy stamp.write old new stamp clock
+abbrev pub IsKeptOn : Kept → Kept → Access → List ℕ → Type 0
+IsKeptOn old new access clock = (new.pair ≡ None) × (new.noted ≡ None) × KeepsBy access.write old new access clock

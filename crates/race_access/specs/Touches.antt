@@ -1,13 +1,15 @@
 -- The stamps of a variable's accesses with their clocks, and which of them race. (The Go Memory Model, "Memory Model": data race)
-use Rattle.std.specs.Prelude.{ℕ, ◌≡◌, ◌≢◌, ◌<◌, ◌⊎◌, IsTrue, List, Option, Some, None, slice_get}
+use Rattle.std.specs.Prelude.{ℕ, ◌≡◌, ◌≢◌, ◌<◌, ◌⊎◌, ⊤, IsTrue, List, Option, Some, None, slice_get}
 use Rattle.std.specs.List.{Contains}
 use Rattle.race_model.specs.Race.{RaceBy, IsReportedBy}
 use Rattle.race_clock.specs.declared.stamp.Stamp.{Stamp}
 use Rattle.race_clock.specs.Laws.{IsKnown}
+use Rattle.race_verdict.specs.declared.notes.Noted.{Noted}
 
--- an access of the variable: its stamp, and the clock of its goroutine behind it
+-- an access of the variable: its stamp, the number of its place, and the clock of its goroutine behind it
 pub record Touch : Type 0 where
   pub stamp : Stamp
+  pub place : ℕ
   pub clock : List ℕ
 
 -- a is known to b
@@ -40,3 +42,20 @@ Known touched i j = (a : Touch) × (b : Touch) × IsAt touched i a × IsAt touch
 abbrev pub IsReported : List Touch → Option (ℕ × ℕ) → Type 0
 IsReported touched None = (i j : ℕ) → ¬ RaceBy (Conflicting touched) (Known touched) i j
 IsReported touched (Some (i, j)) = IsReportedBy (Conflicting touched) (Known touched) i j
+
+-- what is printed of a touch
+abbrev pub noted_of : Touch → Noted
+noted_of a = record { at = a.stamp.at; who = a.stamp.who; write = a.stamp.write; place = a.place }
+
+-- it is noted of one of the touches
+abbrev pub IsNotedIn : List Touch → Noted → Type 0
+IsNotedIn touched n = (a : Touch) × Contains touched a × (noted_of a ≡ n)
+
+-- so are both, where there are two
+abbrev pub AreNotedIn : List Touch → Option (Noted × Noted) → Type 0
+AreNotedIn touched None = ⊤
+AreNotedIn touched (Some (m, n)) = IsNotedIn touched m × IsNotedIn touched n
+
+-- the indexes of two that are noted
+abbrev pub pair_noted : Noted × Noted → ℕ × ℕ
+pair_noted p = (p.0.at, p.1.at)

@@ -1,8 +1,9 @@
 //! One access that is kept.
 ghost use Rattle.std.specs.Prelude.{◌≡◌, ◌↔◌, IsTrue};
-ghost use Rattle.race_access.specs.Kept.{access_of, is_known, Knows};
+ghost use Rattle.race_access.specs.Kept.{access_of, note_of, is_known, Knows};
 
 use race_clock::{Clock, Stamp};
+use race_verdict::Noted;
 use std::alloc::Allocator;
 
 /// An access of a variable.
@@ -14,6 +15,10 @@ pub struct Access {
     pub who: u32,
     /// How many events the goroutine took part in, this one included.
     pub count: u32,
+    /// The number of its place.
+    pub place: u32,
+    /// Whether it is a write.
+    pub write: bool,
 }
 
 impl Access {
@@ -22,16 +27,33 @@ impl Access {
         at: 0,
         who: 0,
         count: 0,
+        place: 0,
+        write: false,
     };
 
-    /// The access with this stamp.
-    pub(crate) fn of(stamp: &Stamp) -> Access
-        ensures { result ≡ access_of stamp.now }
+    /// The access with this stamp, at this place.
+    #[inline(always)]
+    pub(crate) fn of(stamp: &Stamp, place: u32) -> Access
+        ensures { result ≡ access_of stamp.now place }
     {
         Access {
             at: stamp.at,
             who: stamp.who,
             count: stamp.count,
+            place,
+            write: stamp.write,
+        }
+    }
+
+    /// What is printed of it.
+    pub(crate) fn note(&self) -> Noted
+        ensures { result ≡ note_of self.now }
+    {
+        Noted {
+            at: self.at,
+            who: self.who,
+            write: self.write,
+            place: self.place,
         }
     }
 

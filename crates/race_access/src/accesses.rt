@@ -5,7 +5,8 @@ ghost use Rattle.race_access.specs.Kept as spec;
 ghost use Rattle.race_access.specs.KeptOf.{kept_of};
 
 use crate::access::Access;
-use race_clock::{Clock, Stamp};
+use race_clock::Clock;
+use race_verdict::Noted;
 use std::alloc::{AllocError, Allocator};
 
 /// What is kept of the accesses.
@@ -29,26 +30,26 @@ pub(crate) enum Accesses<A: Allocator> {
     /// The pair of the first race.
     Raced {
         /// The earlier access.
-        first: u32,
+        first: Noted,
         /// The later one.
-        second: u32,
+        second: Noted,
     },
 }
 
-// The index of the access, where the clock doesn't know it.
+// The access, where the clock doesn't know it.
 #[inline(always)]
-fn unknown<B: Allocator>(access: &Access, clock: &Clock<B>) -> Option<u32>
+fn unknown<B: Allocator>(access: &Access, clock: &Clock<B>) -> Option<Noted>
     ensures { spec.IsGreatestUnknown clock.now (access.now ∷ []) result }
 {
     if access.is_known(clock) {
         None
     } else {
-        Some(access.at)
+        Some(access.note())
     }
 }
 
-// The greatest index of an access that the clock doesn't know.
-fn greatest_unknown<B: Allocator>(accesses: &[Access], clock: &Clock<B>) -> Option<u32>
+// The last access that the clock doesn't know.
+fn greatest_unknown<B: Allocator>(accesses: &[Access], clock: &Clock<B>) -> Option<Noted>
     ensures { spec.IsGreatestUnknown clock.now accesses.now result }
 {
     let mut greatest = None;
@@ -58,14 +59,15 @@ fn greatest_unknown<B: Allocator>(accesses: &[Access], clock: &Clock<B>) -> Opti
     greatest
 }
 
-// The greater of two numbers, where there are any.
-fn greater(a: Option<u32>, b: Option<u32>) -> Option<u32>
+// The later of two accesses, where there are any.
+#[inline(always)]
+fn greater(a: Option<Noted>, b: Option<Noted>) -> Option<Noted>
     ensures { result ≡ spec.greater a b }
 {
     match (a, b) {
-        (Some(i), Some(j)) => Some(i.max(j)),
-        (Some(i), None) => Some(i),
-        (None, Some(j)) => Some(j),
+        (Some(m), Some(n)) => Some(if m.at < n.at { n } else { m }),
+        (Some(m), None) => Some(m),
+        (None, Some(n)) => Some(n),
         (None, None) => None,
     }
 }
@@ -87,26 +89,36 @@ impl<A: Allocator> Accesses<A> {
         match self {
             Accesses::Few { .. } => None,
             Accesses::Many { .. } => None,
+            Accesses::Raced { first, second } => Some((first.at, second.at)),
+        }
+    }
+
+    pub(crate) fn noted(&self) -> Option<(Noted, Noted)>
+        ensures { result ≡ (kept_of self.now).noted }
+    {
+        match self {
+            Accesses::Few { .. } => None,
+            Accesses::Many { .. } => None,
             Accesses::Raced { first, second } => Some((*first, *second)),
         }
     }
 
-    /// The greatest index of an access that races with the next one.
+    /// The last access that races with the next one.
     #[inline(always)]
-    pub(crate) fn partner<B: Allocator>(&self, stamp: &Stamp, clock: &Clock<B>) -> Option<u32>
-        ensures { spec.IsGreatestUnknown clock.now (spec.candidates stamp.now (kept_of self.now))
+    pub(crate) fn partner<B: Allocator>(&self, next: &Access, clock: &Clock<B>) -> Option<Noted>
+        ensures { spec.IsGreatestUnknown clock.now (spec.candidates next.now (kept_of self.now))
             result }
     {
         match self {
             Accesses::Few { write, read } => {
-                if stamp.write {
+                if next.write {
                     greater(unknown(write, clock), unknown(read, clock))
                 } else {
                     unknown(write, clock)
                 }
             }
             Accesses::Many { write, reads } => {
-                if stamp.write {
+                if next.write {
                     greater(unknown(write, clock), greatest_unknown(reads, clock))
                 } else {
                     unknown(write, clock)
@@ -123,21 +135,20 @@ impl<A: Allocator + Copy> Accesses<A> {
     pub(crate) fn keep<B: Allocator>(
         &mut self,
         alloc: A,
-        stamp: &Stamp,
+        access: Access,
         clock: &Clock<B>,
     ) -> Result<(), AllocError>
         requires unraced { is_some (kept_of self.old).pair ≡ false }
         requires rising { spec.AreRising (kept_of self.old).reads }
         ensures ok { OnOk result
-            (spec.IsKeptOn (kept_of self.old) (kept_of self.new) stamp.now clock.now) }
+            (spec.IsKeptOn (kept_of self.old) (kept_of self.new) access clock.now) }
         ensures rising { spec.AreRising (kept_of self.new).reads }
         ensures unchanged { OnErr result (kept_of self.new ≡ kept_of self.old) }
-        ensures write { IsTrue stamp.now.write → result ≡ Ok tt }
+        ensures write { IsTrue access.write → result ≡ Ok tt }
     {
-        let access = Access::of(stamp);
         match self {
             Accesses::Few { write, read } => {
-                if stamp.write {
+                if access.write {
                     *write = access;
                     *read = Access::NONE;
                     return Ok(());
@@ -152,7 +163,7 @@ impl<A: Allocator + Copy> Accesses<A> {
                 Ok(())
             }
             Accesses::Many { write, reads } => {
-                if stamp.write {
+                if access.write {
                     *write = access;
                     reads.clear();
                     return Ok(());

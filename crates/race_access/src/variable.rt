@@ -5,19 +5,20 @@
 //! are kept. The last Write stays also where a Read knows it, since a later Read races with Writes alone: behind
 //! `write x` by main, which a knows and b doesn't, `read x` by a and then by b race in main's Write and b's Read.
 ghost use Rattle.std.specs.Prelude.{◌≡◌, List, [], true, OnOk, OnErr, IsTrue};
-ghost use Rattle.std.specs.Option.{is_some};
-ghost use Rattle.race_access.specs.Touches.{Touch, IsReported};
+ghost use Rattle.std.specs.Option.{is_some, option_map};
+ghost use Rattle.race_access.specs.Touches.{Touch, IsReported, AreNotedIn, pair_noted};
 ghost use Rattle.race_access.specs.TouchHolds.{StandsFor, GoesOn};
 ghost use Rattle.race_access.specs.Kept.{AreRising};
 
 use crate::access::Access;
 use crate::accesses::Accesses;
 use race_clock::{Clock, Stamp};
+use race_verdict::Noted;
 use std::alloc::{AllocError, Allocator, Global};
 use std::marker::Model;
 
 // There may be 65,535 of them.
-const _: () = prove!(size_of::<VarState<Global>>() <= 40);
+const _: () = prove!(size_of::<VarState<Global>>() <= 48);
 
 /// The accesses of a variable that can still race, or its reported race once it has one.
 #[derive(Drop)]
@@ -54,11 +55,16 @@ impl<A: Allocator + Copy> VarState<A> {
         }
     }
 
-    /// Takes the next access of the variable, with the clock of its goroutine behind it.
+    /// Takes the next access of the variable, at this place, with the clock of its goroutine behind it.
     #[inline(always)]
-    pub fn touch<B: Allocator>(&mut self, stamp: &Stamp, clock: &Clock<B>) -> Result<(), AllocError>
+    pub fn touch<B: Allocator>(
+        &mut self,
+        stamp: &Stamp,
+        place: u32,
+        clock: &Clock<B>,
+    ) -> Result<(), AllocError>
         ensures goes_on { OnOk result (GoesOn self.old self.new
-            (record { stamp = stamp.now; clock = clock.now })) }
+            (record { stamp = stamp.now; place = place; clock = clock.now })) }
         ensures unchanged { OnErr result (self.new ≡ self.old) }
 
         // What is kept: one Read at most of each goroutine.
@@ -71,15 +77,16 @@ impl<A: Allocator + Copy> VarState<A> {
         if self.accesses.is_raced() {
             return Ok(());
         }
-        match self.accesses.partner(stamp, clock) {
+        let access = Access::of(stamp, place);
+        match self.accesses.partner(&access, clock) {
             Some(first) => {
                 self.accesses = Accesses::Raced {
                     first,
-                    second: stamp.at,
+                    second: access.note(),
                 };
                 Ok(())
             }
-            None => self.accesses.keep(self.alloc, stamp, clock),
+            None => self.accesses.keep(self.alloc, access, clock),
         }
     }
 
@@ -90,5 +97,15 @@ impl<A: Allocator + Copy> VarState<A> {
         ensures pair { result ≡ self.now.pair }
     {
         self.accesses.pair()
+    }
+
+    /// The same race, with what is printed of each of its two accesses.
+    pub fn noted(&self) -> Option<(Noted, Noted)>
+        ensures noted { (touched : List Touch) → StandsFor self.now touched
+            → AreNotedIn touched result }
+        ensures pair { option_map pair_noted result ≡ self.now.pair }
+        ensures kept { result ≡ self.now.noted }
+    {
+        self.accesses.noted()
     }
 }

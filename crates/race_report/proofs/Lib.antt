@@ -1,3 +1,4 @@
 pub mod ReportLemmas
 pub mod PrintableLemmas
 pub mod AccessLines
+pub mod NotedLemmas

@@ -1,11 +1,13 @@
 -- Races of a right verdict and edges of a trace have the trace's numbers, so they can be printed.
-use Rattle.std.proofs.Common.{◌≡◌, ℕ, ◌<◌, inl, inr, List, map, Option, Some, IfSome, slice_get, get_or, All, subst, ap, ◌∙◌}
-use Rattle.std.proofs.lemmas.Option.{slice_get_within, slice_get-map, slice_get-get_or}
+use Rattle.std.proofs.Common.{◌≡◌, ℕ, ◌<◌, inl, inr, List, length, map, Option, Some, IfSome, slice_get, get_or, All, IsTrue, subst, ap, ◌∙◌, arith}
+use Rattle.std.proofs.lemmas.Bool.Decides.{nat_tests}
+use Rattle.std.proofs.lemmas.Option.{slice_get_within, slice_get-map, slice_get-get_or, get_or_from_slice_get}
 use Rattle.std.specs.Option.{option_map}
 use Rattle.race_records.specs.declared.event.Event.{Event}
 use Rattle.race_records.specs.declared.kind.Kind.{Kind}
-use Rattle.race_records.specs.Declarations.{count_of, counts_of}
-use Rattle.race_records.specs.Events.{TraceState, IsTrace}
+use Rattle.race_records.specs.Declarations.{DeclsState, count_of, counts_of}
+use Rattle.race_records.specs.Events.{TraceState, IsTrace, fits}
+use Rattle.race_legal.proofs.RangeLemmas.{range_from_fits}
 use Rattle.race_model.specs.Events.{partner}
 use Rattle.race_model.proofs.Indexes.{take_at_old}
 use Rattle.race_edges.specs.declared.listing.Edge.{Edge}
@@ -14,12 +16,15 @@ use Rattle.race_verdict.proofs.RangeLemmas.{range_in_trace, partner_in_range, ra
 use Rattle.race_edges.proofs.SynchronizedLemmas.{inside_pair}
 use Rattle.race_model.specs.Race.{IsReportedRace}
 use Rattle.race_model.specs.Verdict as model
+use Rattle.race_verdict.specs.declared.notes.Noted.{Noted}
+use Rattle.race_verdict.specs.declared.notes.NotedVerdict.{NotedVerdict}
 use Rattle.race_verdict.specs.declared.verdict.Verdict.{Verdict}
+use Rattle.race_verdict.specs.Notes.{IsNoteOf, IsNotedRaceOf, IsNotedOf, race_noted, verdict_noted}
 use Rattle.race_verdict.specs.declared.races.Race as tool
 use Rattle.race_verdict.specs.Races.{race_of}
 use Rattle.race_verdict.specs.Traces.{capacities, HasVerdict}
 use Rattle.race_verdict.specs.Verdicts.{verdict_of}
-use Rattle.race_report.specs.Printable.{IsOf, RacesAreOf, IsEdgeOf}
+use Rattle.race_report.specs.Printable.{IsOf, RacesAreOf, IsNoteNamed, AreNamed, IsEdgeOf}
 
 module _ (trace : TraceState) (is_trace : IsTrace trace) where
   race_is_of : (caps : ℕ → ℕ) (race : model.Race) → IsReportedRace caps trace.events race.var race.first race.second → IsOf trace race
@@ -78,3 +83,33 @@ module _ (trace : TraceState) (is_trace : IsTrace trace) where
 
   pub edges_are_of : (caps : ℕ → ℕ) (edges : List Edge) → AreEdges caps trace.events edges → All (IsEdgeOf trace) edges
   edges_are_of caps edges are = λ i d within. edge_is_of caps (get_or edges i d) (are.each i (get_or edges i d) (slice_get-get_or edges i d within))
+
+-- the place of an event that fits is declared
+pub place_from_fits : (decls : DeclsState) (e : Event) → IsTrue (fits decls e) → e.place < length decls.places
+unfolding fits
+place_from_fits decls e fit = grind (arith, nat_tests)
+
+-- what is noted of events of the trace is declared
+module _ (trace : TraceState) (is_trace : IsTrace trace) where
+  note_is_named : (n : Noted) → IsNoteOf trace.events n → IsNoteNamed trace.decls n
+  note_is_named n is =
+      let fit : IsTrue (fits trace.decls is.event) = subst (λ (e : Event). IsTrue (fits trace.decls e))
+      (get_or_from_slice_get trace.events n.at is.event is.event is.stands)
+      (is_trace.fit n.at is.event (slice_get_within trace.events n.at is.event is.stands)) in
+      record {
+        who = subst (λ g. g < count_of Kind.Goroutine trace.decls.declarations) is.who (range_from_fits trace.decls is.event fit).0;
+        place = subst (λ p. p < length trace.decls.places) is.place (place_from_fits trace.decls is.event fit);
+      }
+
+  pub notes_are_named : {A : Type 0} (verdict : NotedVerdict A) → HasVerdict trace (verdict_noted verdict) → IsNotedOf trace.events verdict
+      → AreNamed trace.decls verdict
+  notes_are_named (NotedVerdict.Illegal illegal) right noted = tt
+  notes_are_named (NotedVerdict.Clean events accesses) right noted = tt
+  notes_are_named (NotedVerdict.Races races) right noted = λ i d within.
+      let both : IsNotedRaceOf trace.events (get_or races.items i d) = noted i d within in
+      let at = slice_get-map race_noted races.items i ∙ ap (option_map race_noted) (slice_get-get_or races.items i d within) in
+      record {
+        var = (race_is_of trace is_trace (capacities trace) (race_noted (get_or races.items i d)) (right.2.each i (race_noted (get_or races.items i d)) at)).var;
+        first = note_is_named (get_or races.items i d).first both.0;
+        second = note_is_named (get_or races.items i d).second both.1;
+      }

@@ -1,9 +1,12 @@
 -- What can be printed of a trace by name.
 use Rattle.std.specs.Prelude.{◌<◌, All, length, ⊤}
 use Rattle.race_records.specs.declared.kind.Kind.{Kind}
-use Rattle.race_records.specs.Declarations.{count_of}
+use Rattle.race_records.specs.Declarations.{DeclsState, count_of}
 use Rattle.race_records.specs.Events.{TraceState}
 use Rattle.race_model.specs.Verdict.{Race}
+use Rattle.race_verdict.specs.declared.notes.Noted.{Noted}
+use Rattle.race_verdict.specs.declared.notes.NotedRace.{NotedRace}
+use Rattle.race_verdict.specs.declared.notes.NotedVerdict.{NotedVerdict}
 use Rattle.race_verdict.specs.declared.verdict.Verdict.{Verdict}
 use Rattle.race_edges.specs.declared.listing.Edge.{Edge}
 use Rattle.race_verdict.specs.Races.{race_of}
@@ -18,6 +21,22 @@ pub record IsOf (trace : TraceState) (race : Race) : Type 0 where
 abbrev pub RacesAreOf : {A : Type 0} → TraceState → Verdict A → Type 0
 RacesAreOf trace (Verdict.Races races) = All (λ r. IsOf trace (race_of r)) races
 RacesAreOf trace _ = ⊤
+
+-- the goroutine and the place of the access are declared
+pub record IsNoteNamed (decls : DeclsState) (n : Noted) : Type 0 where
+  pub who : n.who < count_of Kind.Goroutine decls.declarations
+  pub place : n.place < length decls.places
+
+-- so are those of both accesses of the race, and its variable
+pub record IsRaceNamed (decls : DeclsState) (r : NotedRace) : Type 0 where
+  pub var : r.var < count_of Kind.Var decls.declarations
+  pub first : IsNoteNamed decls r.first
+  pub second : IsNoteNamed decls r.second
+
+-- and those of each race of the verdict
+abbrev pub AreNamed : {A : Type 0} → DeclsState → NotedVerdict A → Type 0
+AreNamed decls (NotedVerdict.Races races) = All (IsRaceNamed decls) races.items
+AreNamed decls _ = ⊤
 
 -- the goroutines of the edge are the trace's
 pub record IsEdgeOf (trace : TraceState) (edge : Edge) : Type 0 where

@@ -20,9 +20,13 @@ newline = 10 ∷ []
 unfoldable pub fault_line : TextFault → List ℕ
 fault_line fault = concat (codes "line " ∷ decimal fault.line ∷ codes ": " ∷ cause_text fault.cause ∷ newline ∷ [])
 
+-- so many events are clean, of which so many are accesses
+abbrev pub clean_text : ℕ → ℕ → List ℕ
+clean_text events accesses =
+    concat (codes "clean: " ∷ decimal events ∷ codes " events, " ∷ decimal accesses ∷ codes " accesses" ∷ newline ∷ [])
+
 unfoldable pub clean_line : TraceState → List ℕ
-clean_line trace =
-    concat (codes "clean: " ∷ decimal (length trace.events) ∷ codes " events, " ∷ decimal (count is_access trace.events) ∷ codes " accesses" ∷ newline ∷ [])
+clean_line trace = clean_text (length trace.events) (count is_access trace.events)
 
 unfoldable pub illegal_line : ℕ → ℕ → List ℕ
 illegal_line index rule = concat (codes "illegal: event " ∷ decimal (index + 1) ∷ codes ": " ∷ rule_text rule ∷ newline ∷ [])
@@ -33,21 +37,25 @@ access_word (Read x v) = codes "read"
 access_word (Write x v) = codes "write"
 access_word _ = []
 
--- an access with its goroutine, its place and its number
+-- an access: what it does, its goroutine, its place and its number
+abbrev pub access_told : List ℕ → List ℕ → List ℕ → ℕ → List (List ℕ)
+access_told what who place index =
+    what ∷ codes " by " ∷ who ∷ codes " at " ∷ place ∷ codes " (event " ∷ decimal (index + 1) ∷ codes ")" ∷ []
+
+-- the access at the index
 unfoldable pub access_text : TraceState → ℕ → List (List ℕ)
 access_text trace index =
     elim (slice_get trace.events index) [
       | None ↦ []
-      | Some e ↦
-          access_word e.op ∷ codes " by " ∷ goroutine_name trace.decls.declarations e.who
-          ∷ codes " at " ∷ place_text trace.decls.places e.place
-          ∷ codes " (event " ∷ decimal (index + 1) ∷ codes ")" ∷ []
+      | Some e ↦ access_told (access_word e.op) (goroutine_name trace.decls.declarations e.who) (place_text trace.decls.places e.place) index
     ]
 
+-- two accesses that race on a variable
+abbrev pub race_told : List ℕ → List (List ℕ) → List (List ℕ) → List ℕ
+race_told var first second = concat (codes "race on " ∷ var ∷ codes ": " ∷ (first ++ codes ", " ∷ (second ++ newline ∷ [])))
+
 unfoldable pub race_line : TraceState → Race → List ℕ
-race_line trace race =
-    concat (codes "race on " ∷ var_name trace.decls.declarations race.var ∷ codes ": "
-    ∷ (access_text trace race.first ++ codes ", " ∷ (access_text trace race.second ++ newline ∷ [])))
+race_line trace race = race_told (var_name trace.decls.declarations race.var) (access_text trace race.first) (access_text trace race.second)
 
 unfoldable pub races_line : ℕ → List ℕ
 races_line n = concat (codes "races: " ∷ decimal n ∷ newline ∷ [])

@@ -3,12 +3,14 @@
 
 mod edge_lines;
 mod fault;
+mod noted;
 mod rule;
 mod verdict;
 mod witness_lines;
 
 pub use edge_lines::write_edges;
 pub use fault::write_text_fault;
+pub use noted::{print_noted_report, write_noted_report};
 pub use race_records::WriteFault;
 pub use verdict::{access_word, print_race, print_race_count, print_report, write_report};
 pub use witness_lines::write_witness;

@@ -1,14 +1,14 @@
 //! The report of a verdict.
-ghost use Rattle.std.specs.Prelude.{◌≡◌, ◌<◌, ◌+◌, [], ◌∷◌, All, map, length, slice_get, Some, IfSome, count_by};
+ghost use Rattle.std.specs.Prelude.{◌≡◌, ◌<◌, All, map, length};
 ghost use Rattle.race_records.specs.Page.{Printing};
 ghost use Rattle.race_model.specs.Events.{count, is_access};
 ghost use Rattle.race_legal.specs.Rules.{number_of};
 ghost use Rattle.race_text.specs.Output.{Writes};
-ghost use Rattle.race_text.specs.Text.{goroutine_name, place_text};
 ghost use Rattle.race_verdict.specs.Races.{race_of};
 ghost use Rattle.race_verdict.specs.Verdicts.{verdict_of};
 ghost use Rattle.race_report.specs.Printable.{IsOf, RacesAreOf};
 ghost use Rattle.race_report.specs.Report as spec;
+ghost use Rattle.race_report.specs.Noted.{noted_word};
 
 use crate::rule::text_of;
 use itoa::Buffer;
@@ -41,6 +41,7 @@ pub fn write_report<W: Write, A: Allocator, B: Allocator>(
 /// Prints the report of the verdict on a page, behind whatever was printed on it before. Takes no memory.
 ///
 /// The races of the verdict are of this trace, as a judge gives them. After a fault the page is of no more use.
+#[tactic(auto, unfolding(crate::specs::Report::clean_line))]
 pub fn print_report<W: Write, A: Allocator, B: Allocator>(
     page: &mut Page,
     sink: &mut Sink<W>,
@@ -53,7 +54,7 @@ pub fn print_report<W: Write, A: Allocator, B: Allocator>(
 {
     match verdict {
         Verdict::Illegal(illegal) => print_illegal(page, sink, *illegal),
-        Verdict::Clean => print_clean(page, sink, trace),
+        Verdict::Clean => print_clean(page, sink, trace.len(), access_count(trace)),
         Verdict::Races(races) => print_races(page, sink, trace, races),
     }
 }
@@ -79,23 +80,23 @@ fn is_access(op: &Op) -> bool
     }
 }
 
-/// Prints that the trace is clean.
-#[tactic(auto, unfolding(crate::specs::Report::clean_line))]
-fn print_clean<W: Write, A: Allocator>(
+/// Prints that a trace of so many events, so many of them accesses, is clean.
+pub(crate) fn print_clean<W: Write>(
     page: &mut Page,
     sink: &mut Sink<W>,
-    trace: &Trace<A>,
+    events: usize,
+    accesses: usize,
 ) -> Result<(), WriteFault>
     ensures { Printing W.contents result sink.old sink.new page.old page.new
-        (spec.clean_line trace.now) }
+        (spec.clean_text events accesses) }
 {
-    let mut events = Buffer::new();
-    let mut accesses = Buffer::new();
+    let mut event_number = Buffer::new();
+    let mut access_number = Buffer::new();
     let parts = [
         b"clean: ".as_slice(),
-        events.format(trace.len()).as_bytes(),
+        event_number.format(events).as_bytes(),
         b" events, ".as_slice(),
-        accesses.format(access_count(trace)).as_bytes(),
+        access_number.format(accesses).as_bytes(),
         b" accesses".as_slice(),
         b"\n".as_slice(),
     ];
@@ -104,7 +105,7 @@ fn print_clean<W: Write, A: Allocator>(
 
 /// Prints the first event that breaks a rule, with its rule.
 #[tactic(auto, unfolding(crate::specs::Report::illegal_line))]
-fn print_illegal<W: Write>(
+pub(crate) fn print_illegal<W: Write>(
     page: &mut Page,
     sink: &mut Sink<W>,
     illegal: Illegal,
@@ -174,13 +175,52 @@ pub fn print_race<W: Write, A: Allocator>(
     ensures { Printing W.contents result sink.old sink.new page.old page.new
         (spec.race_line trace.now (race_of race)) }
 {
-    let first = access_words(trace, race.first as usize);
-    let second = access_words(trace, race.second as usize);
+    let first = access_words(trace, race.first);
+    let second = access_words(trace, race.second);
+    let var = trace.decls().name(Named::Var(race.var));
+    print_race_words(page, sink, var.as_bytes(), first, second)
+}
+
+// How an access is told: what it does, by whom and where, and its number counted from 0.
+#[derive(Clone, Copy)]
+pub(crate) struct AccessWords<'a> {
+    pub(crate) what: &'a [u8],
+    pub(crate) who: &'a [u8],
+    pub(crate) place: &'a [u8],
+    pub(crate) at: u32,
+}
+
+// The words for the event at the index.
+fn access_words<A: Allocator>(trace: &Trace<A>, index: u32) -> AccessWords<'_>
+    requires { index < length trace.now.events }
+    ensures { spec.access_told result.what.now result.who.now result.place.now result.at ≡ spec.access_text trace.now index }
+{
+    let event = trace.event(index as usize);
+    AccessWords {
+        what: access_word(&event.op).as_bytes(),
+        who: trace.decls().name(Named::Goroutine(event.who)).as_bytes(),
+        place: trace.place_text(event.place).as_bytes(),
+        at: index,
+    }
+}
+
+/// Prints the line of a race of two accesses, told in words, on the variable of this name.
+pub(crate) fn print_race_words<'a, W: Write>(
+    page: &mut Page,
+    sink: &mut Sink<W>,
+    var: &'a [u8],
+    first: AccessWords<'a>,
+    second: AccessWords<'a>,
+) -> Result<(), WriteFault>
+    ensures { Printing W.contents result sink.old sink.new page.old page.new (spec.race_told var.now
+        (spec.access_told first.entry.what.now first.entry.who.now first.entry.place.now first.entry.at)
+        (spec.access_told second.entry.what.now second.entry.who.now second.entry.place.now second.entry.at)) }
+{
     let mut first_number = Buffer::new();
     let mut second_number = Buffer::new();
     let parts = [
         b"race on ".as_slice(),
-        trace.decls().name(Named::Var(race.var)).as_bytes(),
+        var,
         b": ".as_slice(),
         first.what,
         b" by ".as_slice(),
@@ -188,7 +228,7 @@ pub fn print_race<W: Write, A: Allocator>(
         b" at ".as_slice(),
         first.place,
         b" (event ".as_slice(),
-        first_number.format(u64::from(race.first) + 1).as_bytes(),
+        first_number.format(u64::from(first.at) + 1).as_bytes(),
         b"), ".as_slice(),
         second.what,
         b" by ".as_slice(),
@@ -196,34 +236,10 @@ pub fn print_race<W: Write, A: Allocator>(
         b" at ".as_slice(),
         second.place,
         b" (event ".as_slice(),
-        second_number.format(u64::from(race.second) + 1).as_bytes(),
+        second_number.format(u64::from(second.at) + 1).as_bytes(),
         b")\n".as_slice(),
     ];
     page.put_all(sink, &parts)
-}
-
-// How an access is told: what it does, by whom and where.
-#[derive(Clone, Copy)]
-struct AccessWords<'a> {
-    what: &'a [u8],
-    who: &'a [u8],
-    place: &'a [u8],
-}
-
-// The words for the event at the index.
-fn access_words<A: Allocator>(trace: &Trace<A>, index: usize) -> AccessWords<'_>
-    requires { index < length trace.now.events }
-    ensures { IfSome (slice_get trace.now.events index) (λ e.
-        (result.what.now ≡ spec.access_word e.op)
-        × (result.who.now ≡ goroutine_name trace.now.decls.declarations e.who)
-        × (result.place.now ≡ place_text trace.now.decls.places e.place)) }
-{
-    let event = trace.event(index);
-    AccessWords {
-        what: access_word(&event.op).as_bytes(),
-        who: trace.decls().name(Named::Goroutine(event.who)).as_bytes(),
-        place: trace.place_text(event.place).as_bytes(),
-    }
 }
 
 /// What an access does, in a word; of another operation there is none.
@@ -231,8 +247,15 @@ pub fn access_word(op: &Op) -> &'static str
     ensures { result.now ≡ spec.access_word op.now }
 {
     match op {
-        Op::Read(_, _) => "read",
-        Op::Write(_, _) => "write",
+        Op::Read(_, _) => access_name(false),
+        Op::Write(_, _) => access_name(true),
         _ => "",
     }
+}
+
+/// A write, or else a read, in a word.
+pub(crate) fn access_name(write: bool) -> &'static str
+    ensures { result.now ≡ noted_word write }
+{
+    if write { "write" } else { "read" }
 }

@@ -231,10 +231,10 @@ module _ (j : JudgeState) (going : j.illegal ≡ None) where
   fed_of : (declarations : List Declaration) (past : List Event) → StandsFor declarations j past → AreFed declarations j.count j.replay j.shards past
   fed_of declarations past S = subst (IsJudged declarations j.count j.replay j.shards past) going S.judged
 
-  some_of : (declarations : List Declaration) (past : List Event) → StandsFor declarations j past → 0 < length j.shards
+  pub some_of : (declarations : List Declaration) (past : List Event) → StandsFor declarations j past → 0 < length j.shards
   some_of declarations past S = let fed = fed_of declarations past S in let some = fed.some in let all = fed.all in omega (arith, some, all)
 
-  stand_of : (declarations : List Declaration) (past : List Event) → StandsFor declarations j past → ShardsStandFor declarations (length j.shards) j.shards past
+  pub stand_of : (declarations : List Declaration) (past : List Event) → StandsFor declarations j past → ShardsStandFor declarations (length j.shards) j.shards past
   stand_of declarations past S =
       let fed = fed_of declarations past S in
       subst (λ n. ShardsStandFor declarations n j.shards past) (sym fed.all) fed.stand

@@ -16,10 +16,9 @@ use Rattle.race_verdict.specs.declared.races.Race.{Race}
 use Rattle.race_clock.specs.declared.stamp.Stamp.{Stamp}
 use Rattle.race_clock.specs.Laws.{IsStampIn}
 use Rattle.race_clock.proofs.StampLaws.{says, known_is_happens_before}
-use Rattle.race_access.specs.Touches.{Touch}
 use Rattle.race_access.proofs.StampSteps.{accessed, accesses_one}
 use Rattle.race_shards.specs.Witness.{IsBeforeEither, RacesInOrder}
-use Rattle.race_shards.specs.Pairs.{PairState, is_known, is_early, races_on, IsTouchAt, IsPairIn, IsPairOf}
+use Rattle.race_shards.specs.Pairs.{SeenState, PairState, is_known, is_early, races_on, IsTouchAt, IsPairIn, IsPairOf}
 
 -- five tests that pass together, the last of which is to fail
 record AllPass (p q r w k : Bool) : Type 0 where
@@ -47,7 +46,7 @@ pass_all false q r w k one two three four five = cc
 
 module _ (caps : ℕ → ℕ) (events : List Event) where
   -- a stamp known to a clock is that of an access that happens before
-  pub known : (t : Stamp) (c : List ℕ) → IsStampIn caps events t c → (h : Touch) → IsStampIn caps events h.stamp h.clock
+  pub known : (t : Stamp) (c : List ℕ) → IsStampIn caps events t c → (h : SeenState) → IsStampIn caps events h.stamp h.clock
       → IsTrue (is_known t h.clock) ↔ HappensBefore caps events t.at h.stamp.at
   known t c T h H =
       let both = known_is_happens_before events caps t h.stamp c h.clock T H in
@@ -57,7 +56,7 @@ module _ (caps : ℕ → ℕ) (events : List Event) where
   stamp_is_access t c T = passes_from is_access events t.at T.event T.stands
       (says (length (take t.at events)) T.event.who (participations T.event.who (take t.at events) + 1) T.event.op t T.is).access
 
-  module _ (h : Touch) (H : IsStampIn caps events h.stamp h.clock) where
+  module _ (h : SeenState) (H : IsStampIn caps events h.stamp h.clock) where
     of_op : IsTrue (accesses h.stamp.var H.event.op) × (writes h.stamp.var H.event.op ≡ h.stamp.write)
     of_op = accessed (length (take h.stamp.at events)) H.event.who (participations H.event.who (take h.stamp.at events) + 1) H.event.op h.stamp H.is
 
@@ -76,10 +75,10 @@ module _ (caps : ℕ → ℕ) (events : List Event) where
     was_write (e, at, is) = sym of_op.1 ∙ subst (λ (e : Event). IsTrue (writes h.stamp.var e.op)) (at_same events h.stamp.at e H.event at H.stands) is
 
   module _ (x : ℕ) (p : PairState) (P : IsPairIn caps events p) where
-    abbrev f : Touch
+    abbrev f : SeenState
     f = p.first
 
-    abbrev g : Touch
+    abbrev g : SeenState
     g = p.second
 
     -- the test finds a race

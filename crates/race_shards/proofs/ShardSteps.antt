@@ -1,15 +1,18 @@
 -- A shard takes a block event by event.
-use Rattle.std.proofs.Common.{◌≡◌, ℕ, zero, suc, ◌+◌, ◌/◌, ◌<◌, List, [], ◌∷◌, ◌++◌, Some, None, All, take, length, slice_get, sym, ap, ◌∙◌, subst, arith}
+use Rattle.std.proofs.Common.{◌≡◌, ℕ, zero, suc, ◌+◌, ◌/◌, ◌^◌, ◌<◌, ◌≤◌, refl, List, [], ◌∷◌, ◌++◌, Some, None, All, take, length, slice_get, sym, ap, ◌∙◌, subst, arith}
 use Rattle.std.proofs.Common.{append_assoc, append-nil, length-append}
 use Rattle.std.proofs.Math.Seq.{take-append-add, take-append_seam}
 use Rattle.std.proofs.lemmas.Option.{slice_get_within, get_or_from_slice_get}
 use Rattle.std.proofs.lemmas.List.{length-take-le}
+use Rattle.std.proofs.lemmas.List.Sums.{count_by-le-length}
 use Rattle.race_records.specs.declared.event.Event.{Event}
 use Rattle.race_records.specs.declared.kind.Kind.{Kind}
 use Rattle.race_records.specs.Declarations.{count_of, counts_of, capacity_of}
+use Rattle.race_model.specs.Events.{count, is_access}
 use Rattle.race_model.specs.Legal.{IsLegal}
 use Rattle.race_model.specs.Clocks.{participations}
 use Rattle.race_model.proofs.LegalSteps.{legal_take}
+use Rattle.race_model.proofs.CountSteps.{as_number, count_push}
 use Rattle.race_legal.specs.ReplayState.{IsInRange}
 use Rattle.race_legal.proofs.Fronts.{take_next}
 use Rattle.race_clock.specs.declared.stamp.Stamp.{Stamp}
@@ -21,6 +24,7 @@ use Rattle.race_clock.specs.StandsFor as clock
 use Rattle.race_clock.proofs.NextFrom.{allowed_last}
 use Rattle.race_clock.proofs.StampLaws.{Says, says}
 use Rattle.race_access.proofs.StampSteps.{accessed}
+use Rattle.race_access.proofs.NoteSteps.{no_access}
 use Rattle.race_verdict.proofs.RangeLemmas.{accessed_in_range, accessed_below}
 use Rattle.race_shards.specs.Variables.{VariablesState, IsShapedAs, GoesOn}
 use Rattle.race_shards.specs.Shards.{ShardState, ShardStandsFor, IsNextBlock, Takes}
@@ -107,6 +111,14 @@ module _ (s : ShardState) (e : Event) (next : IsNextBlock s (e ∷ [])) where
       let less = range.0 in
       omega (arith, all, who, less)
 
+  -- one access more can be counted
+  pub counts_one : s.accesses + 1 < 2 ^ 64
+  counts_one =
+      let same = next.stands.accesses in
+      let most : count is_access next.past ≤ length next.past = count_by-le-length (λ (e : Event). is_access e.op) next.past in
+      let room = next.follows.room in
+      omega (arith, same, most, room)
+
   -- and its variable a place
   pub has_place : (stamp : Stamp) → stamp_of next.past e ≡ Some stamp → stamp.var / s.variables.count < length s.variables.kept
   has_place stamp is =
@@ -118,20 +130,25 @@ module _ (s : ShardState) (e : Event) (next : IsNextBlock s (e ∷ [])) where
 -- a shard's stamper went on: past an event that is no access
 pub takes_other : (s : ShardState) (k : StamperState) (e : Event) → clock.GoesOn s.stamper k e
     → clock.ForEachPast s.stamper (λ declarations past. None ≡ stamp_of past e)
-    → Takes s (e ∷ []) (record { stamper = k; variables = s.variables })
+    → Takes s (e ∷ []) (record { stamper = k; variables = s.variables; accesses = s.accesses })
 takes_other s k e goes none declarations n m past S legal = record {
   stamper = goes declarations past S.stamper (allowed_last (capacity_of declarations) past e legal);
   number = S.number;
   count = S.count;
   places = S.places;
   kept = kept_other (capacity_of declarations) past e s.variables (sym (none declarations past S.stamper)) S.kept;
+  accesses =
+      let same = S.accesses in
+      let other = no_access (length past) e.who (participations e.who past + 1) e.op (sym (none declarations past S.stamper)) in
+      let more = count_push is_access past e ∙ ap (λ b. count is_access past + as_number b) other in
+      omega (arith, same, more);
 }
 
 -- and past an access
 pub takes_access : (s : ShardState) (k : StamperState) (v : VariablesState) (e : Event) (stamp : Stamp) (its : List ℕ) → clock.GoesOn s.stamper k e
     → clock.ForEachPast s.stamper (λ declarations past. Some stamp ≡ stamp_of past e) → CountsAtAccess s.stamper k e → its ≡ clock_of k.clocks stamp.who
-    → IsShapedAs s.variables v → GoesOn s.variables v stamp its
-    → Takes s (e ∷ []) (record { stamper = k; variables = v })
+    → IsShapedAs s.variables v → GoesOn s.variables v stamp e.place its
+    → Takes s (e ∷ []) (record { stamper = k; variables = v; accesses = s.accesses + 1 })
 takes_access s k v e stamp its goes some counts is shape touches declarations n m past S legal = record {
   stamper = goes declarations past S.stamper (allowed_last (capacity_of declarations) past e legal);
   number = shape.number ∙ S.number;
@@ -139,8 +156,13 @@ takes_access s k v e stamp its goes some counts is shape touches declarations n 
   places = λ x less. subst (λ n. x / n < length v.kept) (sym shape.count) (subst (λ l. x / s.variables.count < l) (sym shape.places) (S.places x less));
   kept = touches (capacity_of declarations) past e S.kept (record {
     stamped = stamped;
+    placed = refl;
     reaching = subst (CountsReaching (capacity_of declarations) past e e.who) (sym (is ∙ ap (clock_of k.clocks) word.actor)) (counts word.access declarations past S.stamper);
   });
+  accesses =
+      let same = S.accesses in
+      let more = count_push is_access past e ∙ ap (λ b. count is_access past + as_number b) word.access in
+      omega (arith, same, more);
 }
   where
     stamped : stamp_of past e ≡ Some stamp

@@ -1,11 +1,11 @@
 -- What the shards tell of each variable is right.
-use Rattle.std.proofs.Common.{◌≡◌, ℕ, zero, suc, ◌+◌, ◌/◌, ◌%◌, ◌<◌, List, [], ◌∷◌, ◌++◌, All, length, Option, Some, None, get_or, slice_get, refl, sym, ap, ◌∙◌, subst, inl, inr, arith}
+use Rattle.std.proofs.Common.{◌≡◌, ℕ, zero, suc, ◌+◌, ◌/◌, ◌%◌, ◌<◌, List, [], ◌∷◌, ◌++◌, All, length, map, Option, Some, None, get_or, slice_get, refl, sym, ap, ◌∙◌, subst, inl, inr, arith}
 use Rattle.std.proofs.Common.{length-append, append-nil}
 use Rattle.std.specs.Option.{option_map}
 use Rattle.std.proofs.Math.Seq.{get_or-append_seam}
 use Rattle.std.proofs.lemmas.Bool.{cases_lt}
 use Rattle.std.proofs.lemmas.Nat.{mod_below}
-use Rattle.std.proofs.lemmas.List.{get_or_append_left}
+use Rattle.std.proofs.lemmas.List.{get_or_append_left, map-append}
 use Rattle.std.proofs.lemmas.List.Elements.{filter_map-append}
 use Rattle.race_records.specs.declared.event.Event.{Event}
 use Rattle.race_records.specs.declared.kind.Kind.{Kind}
@@ -17,13 +17,17 @@ use Rattle.race_access.specs.Kept.{Kept}
 use Rattle.race_access.specs.StampsOf.{IsReportedOn}
 use Rattle.race_access.proofs.StampSteps.{reported_on}
 use Rattle.race_access.proofs.StandSteps.{stands_reports}
+use Rattle.race_access.proofs.NoteSteps.{notes_are}
+use Rattle.race_verdict.specs.declared.notes.NotedRace.{NotedRace}
 use Rattle.race_verdict.specs.declared.races.Race.{Race}
+use Rattle.race_verdict.specs.Notes.{race_noted, IsNotedRaceOf}
+use Rattle.race_verdict.specs.Races as tool
 use Rattle.race_verdict.specs.Races.{IsFound, AreFound, AreRaces, races_of}
 use Rattle.race_verdict.proofs.RaceLists.{are_races}
 use Rattle.race_verdict.proofs.RangeLemmas.{accessed_in_range, accessed_below}
 use Rattle.race_shards.specs.Variables.{IsKeptOf, kept_of}
 use Rattle.race_shards.specs.Shards.{ShardState, ShardsStandFor}
-use Rattle.race_shards.specs.Telling.{race_with, race_of, race_in, race_told, told_below, HavePlaces}
+use Rattle.race_shards.specs.Telling.{race_with, race_of, race_in, race_told, noted_in, told_below, HavePlaces, IsNotedBy}
 use Rattle.race_shards.proofs.ShardSteps.{all_at}
 
 -- what is kept of a variable tells its race
@@ -90,6 +94,17 @@ module _ (declarations : List Declaration) (shards : List ShardState) (past : Li
               let long = told_length (count_of Kind.Var declarations) in
               omega (arith, below, long)
 
+  -- what is noted of a declared variable is noted of the events
+  pub noted_is : (r : NotedRace) → IsNotedBy shards (count_of Kind.Var declarations) r → IsNotedRaceOf past r
+  noted_is r (less, is) = go (at_below shards (r.var % length shards) (mod_below r.var (length shards) some))
+    where
+      go : ((s : ShardState) × (slice_get shards (r.var % length shards) ≡ Some s)) → IsNotedRaceOf past r
+      go (s, at) =
+          let S = stand (r.var % length shards) s at in
+          let kept = S.kept r.var (ap (λ n. r.var % n) S.count ∙ sym S.number) (S.places r.var less) in
+          notes_are (capacity_of declarations) past r.var kept.touched kept.stamps (kept_of s.variables r.var).noted kept.stands.noted r.first r.second
+          (sym (ap (noted_in r.var) at) ∙ is)
+
 -- one variable more, with a race and without
 pub told_some : (shards : List ShardState) (n : ℕ) (r : Race) → race_told shards n ≡ Some r
     → races_of (told_below shards (n + 1)) ≡ races_of (told_below shards n) ++ r ∷ []
@@ -104,3 +119,13 @@ told_none shards n is =
     let next : n + 1 ≡ suc n = omega arith in
     ap (λ m. races_of (told_below shards m)) next ∙ filter_map-append (λ (o : Option Race). o) (told_below shards n) (race_told shards n ∷ [])
     ∙ ap (λ o. races_of (told_below shards n) ++ races_of (o ∷ [])) is ∙ append-nil (races_of (told_below shards n))
+
+-- the same of races that are noted
+pub noted_some : (shards : List ShardState) (n : ℕ) (races : List NotedRace) (r : NotedRace)
+    → race_told shards n ≡ Some (record { var = r.var; first = r.first.at; second = r.second.at })
+    → map race_noted races ≡ map tool.race_of (races_of (told_below shards n))
+    → map race_noted (races ++ r ∷ []) ≡ map tool.race_of (races_of (told_below shards (n + 1)))
+noted_some shards n races r is same =
+    let plain : Race = record { var = r.var; first = r.first.at; second = r.second.at } in
+    map-append race_noted races (r ∷ []) ∙ ap (λ rs. rs ++ race_noted r ∷ []) same
+    ∙ sym (map-append tool.race_of (races_of (told_below shards n)) (plain ∷ [])) ∙ ap (map tool.race_of) (sym (told_some shards n plain is))

@@ -6,12 +6,16 @@ use Rattle.race_verdict.specs.declared.races.Race.{Race}
 use Rattle.race_clock.specs.declared.stamp.Stamp.{Stamp}
 use Rattle.race_clock.specs.ClockState.{knows}
 use Rattle.race_clock.specs.Laws.{IsStampIn}
-use Rattle.race_access.specs.Touches.{Touch}
 use Rattle.race_shards.specs.Witness.{RacesInOrder}
 
+-- a stamp and its clock
+pub record SeenState : Type 0 where
+  pub stamp : Stamp
+  pub clock : List ℕ
+
 pub record PairState : Type 0 where
-  pub first : Touch
-  pub second : Touch
+  pub first : SeenState
+  pub second : SeenState
 
 -- the clock knows the stamp's goroutine up to the stamp
 abbrev pub is_known : Stamp → List ℕ → Bool
@@ -28,12 +32,12 @@ races_on x p =
     && ((p.first.stamp.write || p.second.stamp.write) && not (is_known p.first.stamp p.second.clock))))
 
 -- the event at index i is an access with this stamp and this clock
-pub record IsTouchAt (caps : ℕ → ℕ) (events : List Event) (i : ℕ) (t : Touch) : Type 0 where
+pub record IsTouchAt (caps : ℕ → ℕ) (events : List Event) (i : ℕ) (t : SeenState) : Type 0 where
   pub stamped : IsStampIn caps events t.stamp t.clock
   pub at : t.stamp.at ≡ i
 
 -- or it is none
-abbrev pub IsSeenAt : (ℕ → ℕ) → List Event → ℕ → Option Touch → Type 0
+abbrev pub IsSeenAt : (ℕ → ℕ) → List Event → ℕ → Option SeenState → Type 0
 IsSeenAt caps events i None = ¬ IsAccess events i
 IsSeenAt caps events i (Some t) = IsTouchAt caps events i t
 

@@ -2,6 +2,8 @@
 use Rattle.std.specs.Prelude.{ℕ, ◌≡◌, ◌<◌, ◌/◌, ◌%◌, zero, suc, List, [], ◌∷◌, ◌++◌, length, Option, Some, None, slice_get}
 use Rattle.std.specs.Option.{option_map}
 use Rattle.race_access.specs.Kept.{Kept}
+use Rattle.race_verdict.specs.declared.notes.Noted.{Noted}
+use Rattle.race_verdict.specs.declared.notes.NotedRace.{NotedRace}
 use Rattle.race_verdict.specs.declared.races.Race.{Race}
 use Rattle.race_shards.specs.Variables.{kept_of}
 use Rattle.race_shards.specs.Shards.{ShardState}
@@ -21,6 +23,18 @@ race_in x (Some s) = race_of x (kept_of s.variables x)
 
 abbrev pub race_told : List ShardState → ℕ → Option Race
 race_told shards x = race_in x (slice_get shards (x % length shards))
+
+-- and what it noted of its two accesses
+abbrev pub noted_in : ℕ → Option ShardState → Option (Noted × Noted)
+noted_in x None = None
+noted_in x (Some s) = (kept_of s.variables x).noted
+
+abbrev pub noted_told : List ShardState → ℕ → Option (Noted × Noted)
+noted_told shards x = noted_in x (slice_get shards (x % length shards))
+
+-- the race is on a variable below n, as the shards noted it
+abbrev pub IsNotedBy : List ShardState → ℕ → NotedRace → Type 0
+IsNotedBy shards n r = (r.var < n) × (noted_told shards r.var ≡ Some (r.first, r.second))
 
 -- what is told of the variables below n
 abbrev pub told_below : List ShardState → ℕ → List (Option Race)

@@ -4,20 +4,21 @@
 //! its own and touches the variables that belong to it, so the shards share nothing but the block.
 ghost use Rattle.std.specs.Prelude.{◌≡◌, ◌≢◌, ◌↔◌, ◌+◌, ◌<◌, ◌==◌, [], true, false, length, vec_len, IsTrue, IfOk, IfErr, OnOk, OnErr};
 ghost use Rattle.race_legal.specs.ReplayState.{counts_in};
+ghost use Rattle.race_verdict.specs.Notes.{verdict_noted};
 ghost use Rattle.race_verdict.specs.Verdicts.{verdict_of};
 ghost use Rattle.race_shards.specs.Limits.{is_shards, IsRefused};
 ghost use Rattle.race_shards.specs.Shards.{ShardsStandFor};
-ghost use Rattle.race_shards.specs.Judging.{StandsFor, GoesOn, CanTake, Judges, Tells, CanJudge};
+ghost use Rattle.race_shards.specs.Judging.{StandsFor, GoesOn, CanTake, Judges, Tells, Notes, CanJudge};
 
 use crate::accepting::accept_all;
 use crate::fault::{JudgeFault, MAX_SHARDS};
 use crate::feeding::{FeedFault, feed_all};
 use crate::gate::Gate;
 use crate::shard::Shard;
-use crate::telling::races;
+use crate::telling::{noted_races, races};
 use race_legal::{Illegal, Replay};
 use race_records::{Decls, Event, Kind};
-use race_verdict::Verdict;
+use race_verdict::{NotedVerdict, Verdict};
 use std::alloc::{AllocError, Allocator, Global};
 use std::marker::Model;
 use std::mem;
@@ -221,6 +222,26 @@ impl<A: Allocator + Copy> Judge<A> {
         }
         match races(self.alloc, self.shards.as_slice(), self.vars) {
             Ok(races) => Ok(Verdict::of_races(races)),
+            Err(_) => Err(JudgeFault::OutOfMemory),
+        }
+    }
+
+    /// The verdict on the events that were taken, with all that is printed of it but names.
+    pub fn finish_noted(self) -> Result<NotedVerdict<A>, JudgeFault>
+        ensures tells { IfOk result (λ verdict. Tells self (verdict_noted verdict)) }
+        ensures notes { IfOk result (λ verdict. Notes self verdict) }
+        ensures failed { self.failed ≡ true → result ≡ Err JudgeFault.Failed }
+        ensures others { self.failed ≡ false → IfErr result (λ fault. fault ≡ JudgeFault.OutOfMemory) }
+    {
+        if self.failed {
+            return Err(JudgeFault::Failed);
+        }
+        if let Some(illegal) = self.illegal {
+            return Ok(NotedVerdict::Illegal(illegal));
+        }
+        let accesses = self.shards[0].accesses();
+        match noted_races(self.alloc, self.shards.as_slice(), self.vars) {
+            Ok(races) => Ok(NotedVerdict::of_races(self.len, accesses, races)),
             Err(_) => Err(JudgeFault::OutOfMemory),
         }
     }

@@ -21,9 +21,9 @@ struct Seen<A: Allocator = Global> {
 }
 
 impl<A: Allocator> Model for Seen<A> {
-    ghost use Rattle.race_access.specs.Touches.{Touch};
+    ghost use Rattle.race_shards.specs.Pairs.{SeenState};
 
-    ghost Value = { Touch };
+    ghost Value = { SeenState };
 
     ghost view = { λ s. record { stamp = s.stamp; clock = s.clock } };
 }

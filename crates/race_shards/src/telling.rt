@@ -1,11 +1,13 @@
 //! The races that the shards tell.
-ghost use Rattle.std.specs.Prelude.{◌≡◌, ◌<◌, length, IfOk};
-ghost use Rattle.race_verdict.specs.Races.{races_of};
-ghost use Rattle.race_shards.specs.Telling.{HavePlace, HavePlaces, race_told, told_below, race_with};
+ghost use Rattle.std.specs.Prelude.{◌≡◌, ◌<◌, All, length, map, IfOk};
+ghost use Rattle.race_access.specs.Touches.{pair_noted};
+ghost use Rattle.race_verdict.specs.Notes.{race_noted};
+ghost use Rattle.race_verdict.specs.Races.{race_of, races_of};
+ghost use Rattle.race_shards.specs.Telling.{HavePlace, HavePlaces, race_told, noted_told, told_below, race_with, IsNotedBy};
 ghost use Rattle.std.specs.Option.{option_map};
 
 use crate::shard::Shard;
-use race_verdict::{Race, RaceList};
+use race_verdict::{Noted, NotedRace, Race, RaceList};
 use std::alloc::{AllocError, Allocator};
 
 // The race of a variable, from the shard to which it belongs.
@@ -31,6 +33,36 @@ pub(crate) fn races<A: Allocator + Copy, B: Allocator>(
     for var in 0..vars {
         if let Some((first, second)) = raced(shards, var) {
             races.push(Race { var, first, second })?;
+        }
+    }
+    Ok(races)
+}
+
+// The same, with what is printed of both accesses.
+fn noted<A: Allocator + Copy>(shards: &[Shard<A>], var: u32) -> Option<(Noted, Noted)>
+    requires some { 0 < length shards.now }
+    requires place { HavePlace shards.now var }
+    ensures noted { result ≡ noted_told shards.now var }
+    ensures race { option_map (race_with var) (option_map pair_noted result) ≡ race_told shards.now var }
+{
+    shards[var as usize % shards.len()].noted(var)
+}
+
+/// The same races, with what is printed of both accesses of each.
+pub(crate) fn noted_races<A: Allocator + Copy, B: Allocator>(
+    alloc: B,
+    shards: &[Shard<A>],
+    vars: u32,
+) -> Result<Vec<NotedRace, B>, AllocError>
+    requires some { 0 < length shards.now }
+    requires places { HavePlaces shards.now vars }
+    ensures races { IfOk result (λ races. map race_noted races.items ≡ map race_of (races_of (told_below shards.now vars))) }
+    ensures noted { IfOk result (λ races. All (IsNotedBy shards.now vars) races.items) }
+{
+    let mut races = Vec::new(alloc);
+    for var in 0..vars {
+        if let Some((first, second)) = noted(shards, var) {
+            races.push(NotedRace { var, first, second })?;
         }
     }
     Ok(races)

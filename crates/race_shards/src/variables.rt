@@ -1,9 +1,12 @@
 //! What is kept of the variables of a shard.
 ghost use Rattle.std.specs.Prelude.{ℕ, ◌≡◌, ◌<◌, ◌≤◌, ◌/◌, ◌%◌, [], length, IfOk, OnOk};
+ghost use Rattle.std.specs.Option.{option_map};
+ghost use Rattle.race_access.specs.Touches.{pair_noted};
 ghost use Rattle.race_shards.specs.Variables.{AreKept, GoesOn, HasPlaces, IsShapedAs, kept_of};
 
 use race_access::VarState;
 use race_clock::{Clock, Stamp};
+use race_verdict::Noted;
 use std::alloc::{AllocError, Allocator, Global};
 use std::marker::Model;
 
@@ -81,21 +84,23 @@ impl<A: Allocator + Copy> Variables<A> {
         self.number as usize
     }
 
-    /// Takes the next access, with the clock of its goroutine behind it, where it is one of the shard's variables.
+    /// Takes the next access, with its place and the clock of its goroutine behind it, where it is one of the shard's
+    /// variables.
     #[inline(always)]
     pub(crate) fn touch<B: Allocator>(
         &mut self,
         stamp: &Stamp,
+        place: u32,
         clock: &Clock<B>,
     ) -> Result<(), AllocError>
         requires { stamp.now.var / self.old.count < length self.old.kept }
-        ensures goes_on { OnOk result (GoesOn self.old self.new stamp.now clock.now) }
+        ensures goes_on { OnOk result (GoesOn self.old self.new stamp.now place clock.now) }
         ensures shape { IsShapedAs self.old self.new }
     {
         if shard_of(stamp.var, self.count) != self.number {
             return Ok(());
         }
-        self.states[place_of(stamp.var, self.count)].touch(stamp, clock)
+        self.states[place_of(stamp.var, self.count)].touch(stamp, place, clock)
     }
 
     /// The race of a variable of the shard.
@@ -104,5 +109,14 @@ impl<A: Allocator + Copy> Variables<A> {
         ensures { result ≡ (kept_of self.now var).pair }
     {
         self.states[place_of(var, self.count)].raced()
+    }
+
+    /// The same, with what is printed of both accesses.
+    pub(crate) fn noted(&self, var: u32) -> Option<(Noted, Noted)>
+        requires { var / self.now.count < length self.now.kept }
+        ensures noted { result ≡ (kept_of self.now var).noted }
+        ensures pair { option_map pair_noted result ≡ (kept_of self.now var).pair }
+    {
+        self.states[place_of(var, self.count)].noted()
     }
 }

@@ -1,5 +1,5 @@
 -- The list of the races that are noted.
-use Rattle.std.proofs.Common.{◌≡◌, ◌≢◌, ℕ, zero, suc, ◌+◌, ◌<◌, List, [], ◌∷◌, length, map}
+use Rattle.std.proofs.Common.{◌≡◌, ◌≢◌, ◌==◌, ℕ, zero, suc, ◌+◌, ◌<◌, true, false, eqb-true, List, [], ◌∷◌, length, map}
 use Rattle.std.proofs.Common.{Option, Some, None, slice_get, get_or, refl, sym, ap, ◌∙◌}
 use Rattle.std.proofs.Common.{subst, arith}
 use Rattle.std.specs.Option.{option_map}
@@ -8,7 +8,9 @@ use Rattle.race_records.specs.declared.event.Event.{Event}
 use Rattle.race_model.specs.Race.{IsRace, IsDataRaceFree, IsReportedRace}
 use Rattle.race_model.specs.Verdict.{AreReportedRaces}
 use Rattle.race_model.specs.Verdict as model
+use Rattle.race_verdict.specs.declared.notes.NotedRace.{NotedRace}
 use Rattle.race_verdict.specs.declared.races.Race.{Race}
+use Rattle.race_verdict.specs.Notes.{race_noted}
 use Rattle.race_verdict.specs.Races.{race_of, IsFound, AreFound, races_of, AreRaces}
 
 -- the race that is noted at index k is on variable n + k
@@ -99,15 +101,29 @@ module _ (caps : ℕ → ℕ) (events : List Event) (found : List (Option Race))
               let place : (m : ℕ) × (slice_get (races_of found) m ≡ Some q) = is_listed found x q at in
               (place.0, race_of q, slice_get-map race_of (races_of found) place.0 ∙ ap (option_map race_of) place.1, var)
 
--- where no race is listed there is none
-pub free_from_none : (caps : ℕ → ℕ) (events : List Event) (races : List Race) → AreRaces caps events races → races ≡ [] → IsDataRaceFree caps events
-free_from_none caps events [] are none x i j race = go (are.every x i j race)
+-- where no race is reported there is none
+pub free_from_empty : (caps : ℕ → ℕ) (events : List Event) → AreReportedRaces caps events [] → IsDataRaceFree caps events
+free_from_empty caps events are x i j race = go (are.every x i j race)
   where
     go : ((k : ℕ) × (r : model.Race) × (slice_get {X = model.Race} [] k ≡ Some r) × (r.var ≡ x)) → ⊥
     go (k, r, at, var) = cc
-free_from_none caps events (r ∷ races) are none x i j race = cc
+
+-- where no race is listed there is none
+pub free_from_none : (caps : ℕ → ℕ) (events : List Event) (races : List Race) → AreRaces caps events races → races ≡ [] → IsDataRaceFree caps events
+free_from_none caps events races are none = free_from_empty caps events (subst (λ (rs : List Race). AreRaces caps events rs) none are)
 
 -- where one is listed the model's list has one
 pub listed_some : (races : List Race) → races ≢ [] → map race_of races ≢ []
 listed_some [] some = λ e. some refl
 listed_some (r ∷ races) some = λ e. cc
+
+-- the same of races that are noted
+pub noted_none : (caps : ℕ → ℕ) (events : List Event) (races : List NotedRace) → AreReportedRaces caps events (map race_noted races)
+    → (length races == 0) ≡ true → IsDataRaceFree caps events
+noted_none caps events [] are none = free_from_empty caps events are
+noted_none caps events (r ∷ races) are none =
+    let empty : length (r ∷ races) ≡ 0 = eqb-true (length (r ∷ races)) 0 none in absurd (omega (arith, empty))
+
+pub noted_some : (races : List NotedRace) → (length races == 0) ≡ false → map race_noted races ≢ []
+noted_some [] some = cc
+noted_some (r ∷ races) some = λ e. cc

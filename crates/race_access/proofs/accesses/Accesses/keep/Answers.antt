@@ -7,14 +7,14 @@ in_err : {T E : Type 0} (r : Result T E) (P : Type 0) → P → OnErr r P
 in_err (Ok _) P p = tt
 in_err (Err _) P p = p
 
-pub returns-else-stamp-2-clause-ok : goal.returns-else-stamp-2-clause-ok
-returns-else-stamp-2-clause-ok c = grind (arith, common_steps) steps 300000
+pub returns-else-access-2-clause-ok : goal.returns-else-access-2-clause-ok
+returns-else-access-2-clause-ok c = grind (arith, common_steps) steps 300000
 
-pub returns-else-stamp-2-clause-unchanged : goal.returns-else-stamp-2-clause-unchanged
-returns-else-stamp-2-clause-unchanged c = grind (arith, common_steps) steps 300000
+pub returns-else-access-2-clause-unchanged : goal.returns-else-access-2-clause-unchanged
+returns-else-access-2-clause-unchanged c = grind (arith, common_steps) steps 300000
 
-pub returns-else-stamp-2-clause-write : goal.returns-else-stamp-2-clause-write
-returns-else-stamp-2-clause-write g c = λ write. absurd (true≢false (sym write ∙ c.if-stamp-2.false))
+pub returns-else-access-2-clause-write : goal.returns-else-access-2-clause-write
+returns-else-access-2-clause-write g c = λ write. absurd (true≢false (sym write ∙ c.if-access-2.false))
 
 pub returns-in-Raced-clause-ok : goal.returns-in-Raced-clause-ok
 returns-in-Raced-clause-ok c = grind (arith, common_steps) steps 300000

@@ -1,5 +1,11 @@
-use Rattle.std.proofs.Common.{sym, ◌∙◌}
+use Rattle.std.proofs.Common.{Some, None, [], ◌∷◌, ◌++◌, sym, ap, ◌∙◌, subst}
 use Rattle.std.proofs.lemmas.Result.{on_ok_weaker}
+use Rattle.race_verdict.specs.declared.notes.Noted.{Noted}
+use Rattle.race_access.specs.declared.access.Access.{Access}
+use Rattle.race_access.specs.Kept.{no_access, note_of, IsGreatestUnknown, candidates, IsKeptOn}
+use Rattle.race_access.specs.KeptOf.{kept_of}
+use Rattle.race_access.specs.Touches.{Touch}
+use Rattle.race_access.specs.TouchHolds.{StandsFor}
 use Rattle.race_access.proofs.StandSteps.{stands_raced, stands_first, stands_on}
 use Rattle.race_access.proofs.variable.VarState.touch.Goals as goal
 
@@ -9,12 +15,22 @@ returns-then-is_raced-clause-goes_on g c =
 
 pub returns-in-Some-clause-goes_on : goal.returns-in-Some-clause-goes_on
 returns-in-Some-clause-goes_on g c =
-    λ touched stands lawful. stands_first touched _ lawful _
-    (sym c.is_raced.ensures ∙ c.if-is_raced.false) c.in-Some.first c.in-Some.ensures (rw c.self.view_is stands)
+    let t : Touch = record { stamp = c.args.stamp.now; place = c.args.place; clock = c.args.clock.now } in
+    let old = kept_of c.self.inside.accesses in
+    let first = c.in-Some.first in
+    let greatest = subst (λ (e : Access). IsGreatestUnknown c.args.clock.now (candidates e old) (Some first)) c.of-access.ensures c.in-Some.ensures in
+    λ touched stands lawful.
+    subst (λ (second : Noted). StandsFor (record { pair = Some (first.at, second.at); noted = Some (first, second); write = no_access; reads = [] }) (touched ++ t ∷ []))
+    (sym (c.note.ensures ∙ ap note_of c.of-access.ensures))
+    (stands_first touched t lawful old (sym c.is_raced.ensures ∙ c.if-is_raced.false) first greatest (rw c.self.view_is stands))
 
 pub returns-in-None-clause-goes_on : goal.returns-in-None-clause-goes_on
 returns-in-None-clause-goes_on g c =
+    let t : Touch = record { stamp = c.args.stamp.now; place = c.args.place; clock = c.args.clock.now } in
+    let old = kept_of c.self.inside.accesses in
+    let new = kept_of c.keep.new.self in
+    let known = subst (λ (e : Access). IsGreatestUnknown c.args.clock.now (candidates e old) None) c.of-access.ensures c.in-None.ensures in
     on_ok_weaker c.keep.result
-    (λ kept touched stands lawful. stands_on touched _ lawful _ _
-    (sym c.is_raced.ensures ∙ c.if-is_raced.false) c.in-None.ensures kept (rw c.self.view_is stands))
+    (λ kept touched stands lawful. stands_on touched t lawful old new (sym c.is_raced.ensures ∙ c.if-is_raced.false) known
+    (subst (λ (e : Access). IsKeptOn old new e c.args.clock.now) c.of-access.ensures kept) (rw c.self.view_is stands))
     c.keep.ensures.ok

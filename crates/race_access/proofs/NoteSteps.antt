@@ -1,0 +1,53 @@
+-- What is noted of touches is noted of the events.
+use Rattle.std.proofs.Common.{◌≡◌, ℕ, ◌+◌, true, false, List, length, take, Option, Some, None, refl, sym, ap, subst}
+use Rattle.race_records.specs.declared.event.Event.{Event}
+use Rattle.race_records.specs.declared.event.Op.{Op}
+use Rattle.race_records.specs.declared.event.Op.TheVariants.{Read, Write}
+use Rattle.race_model.specs.Events.{is_access}
+use Rattle.race_model.specs.Clocks.{participations}
+use Rattle.race_clock.specs.declared.stamp.Stamp.{Stamp}
+use Rattle.race_clock.specs.Stamps.{stamp_with}
+use Rattle.race_clock.specs.Laws.{IsStampIn}
+use Rattle.race_clock.proofs.StampLaws.{says}
+use Rattle.race_verdict.specs.declared.notes.Noted.{Noted}
+use Rattle.race_verdict.specs.Accesses.{is_write}
+use Rattle.race_verdict.specs.Notes.{IsNoteOf}
+use Rattle.race_access.specs.Touches.{Touch, noted_of, IsNotedIn, AreNotedIn}
+use Rattle.race_access.specs.StampsOf.{AreStampsOf}
+
+-- whether an operation with a stamp writes
+write_said : (at who count : ℕ) (o : Op) (stamp : Stamp) → stamp_with at who count o ≡ Some stamp → is_write o ≡ stamp.write
+write_said at who count (Read y v) stamp is =
+    let same : record { at = at; who = who; count = count; var = y; write = false } ≡ stamp = cc in ap (λ (s : Stamp). s.write) same
+write_said at who count (Write y v) stamp is =
+    let same : record { at = at; who = who; count = count; var = y; write = true } ≡ stamp = cc in ap (λ (s : Stamp). s.write) same
+write_said at who count _ stamp is = cc
+
+-- one without a stamp is no access
+pub no_access : (at who count : ℕ) (o : Op) → stamp_with at who count o ≡ None → is_access o ≡ false
+no_access at who count (Read y v) none = cc
+no_access at who count (Write y v) none = cc
+no_access at who count _ none = refl
+
+module _ (caps : ℕ → ℕ) (events : List Event) (x : ℕ) (touched : List Touch) (stamps : AreStampsOf caps events x touched) where
+  note_is : (n : Noted) → IsNotedIn touched n → IsNoteOf events n
+  note_is n (a, ina, is) = subst (IsNoteOf events) is (go (stamps.each a ina).0)
+    where
+      go : IsStampIn caps events a.stamp a.clock → IsNoteOf events (noted_of a)
+      go s =
+          let said = says (length (take a.stamp.at events)) s.event.who (participations s.event.who (take a.stamp.at events) + 1) s.event.op a.stamp s.is in
+          record {
+            event = s.event;
+            stands = s.stands;
+            access = said.access;
+            write = write_said (length (take a.stamp.at events)) s.event.who (participations s.event.who (take a.stamp.at events) + 1) s.event.op a.stamp s.is;
+            who = sym said.actor;
+            place = stamps.places a ina s.event s.stands;
+          }
+
+  -- so are both of two
+  pub notes_are : (noted : Option (Noted × Noted)) → AreNotedIn touched noted → (m n : Noted) → noted ≡ Some (m, n) → IsNoteOf events m × IsNoteOf events n
+  notes_are None are m n is = cc
+  notes_are (Some (a, b)) are m n is =
+      let pair : ◌≡◌ {A = Noted × Noted} (a, b) (m, n) = cc in
+      (subst (IsNoteOf events) (ap (λ (p : Noted × Noted). p.0) pair) (note_is a are.0), subst (IsNoteOf events) (ap (λ (p : Noted × Noted). p.1) pair) (note_is b are.1))

@@ -1,0 +1,43 @@
+-- The lines of races that are noted of a trace are those of its races.
+use Rattle.std.proofs.Common.{◌≡◌, suc, Bool, List, [], ◌∷◌, ◌++◌, All, map, refl, sym, ap, arith, IsTrue}
+use Rattle.std.specs.List.{flat_map}
+use Rattle.std.proofs.lemmas.List.{length-map}
+use Rattle.race_records.specs.declared.event.Op.{Op}
+use Rattle.race_records.specs.declared.event.Op.TheVariants.{Read, Write}
+use Rattle.race_records.specs.Events.{TraceState}
+use Rattle.race_model.specs.Events.{is_access}
+use Rattle.race_verdict.specs.declared.notes.Noted.{Noted}
+use Rattle.race_verdict.specs.declared.notes.NotedRace.{NotedRace}
+use Rattle.race_verdict.specs.Accesses.{is_write}
+use Rattle.race_verdict.specs.Notes.{IsNoteOf, IsNotedRaceOf, race_noted}
+use Rattle.race_text.specs.Text.{goroutine_name, place_text}
+use Rattle.race_report.specs.Report.{access_word, access_text, race_line, races_line, races_text}
+use Rattle.race_report.specs.Noted.{noted_word, access_noted, race_noted_line, races_noted_text}
+use Rattle.race_report.proofs.ReportLemmas.{access_text_is, race_line_is}
+
+-- the word for an access
+word_is : (o : Op) (write : Bool) → IsTrue (is_access o) → is_write o ≡ write → noted_word write ≡ access_word o
+word_is (Read x v) write access is = ap noted_word (sym is)
+word_is (Write x v) write access is = ap noted_word (sym is)
+word_is _ write access is = cc
+
+module _ (trace : TraceState) where
+  access_is : (n : Noted) → IsNoteOf trace.events n → access_noted trace.decls n ≡ access_text trace n.at
+  access_is n is =
+      access_text_is trace n.at is.event (noted_word n.write) (goroutine_name trace.decls.declarations n.who) (place_text trace.decls.places n.place) is.stands
+      (word_is is.event.op n.write is.access is.write) (ap (goroutine_name trace.decls.declarations) (sym is.who)) (ap (place_text trace.decls.places) (sym is.place))
+
+  race_is : (r : NotedRace) → IsNotedRaceOf trace.events r → race_noted_line trace.decls r ≡ race_line trace (race_noted r)
+  race_is r is = race_line_is trace (race_noted r) _ _ _ refl (access_is r.first is.0) (access_is r.second is.1)
+
+  lines_are : (races : List NotedRace) → All (IsNotedRaceOf trace.events) races
+      → flat_map (race_noted_line trace.decls) races ≡ flat_map (race_line trace) (map race_noted races)
+  lines_are [] all = refl
+  lines_are (r ∷ races) all =
+      let first = race_is r (all 0 r (omega arith)) in
+      let rest = lines_are races (λ k d less. all (suc k) d (omega (arith, less))) in
+      λ i. first i ++ rest i
+
+  -- so are those of a list of them, and their count
+  pub races_are : (races : List NotedRace) → All (IsNotedRaceOf trace.events) races → races_noted_text trace.decls races ≡ races_text trace (map race_noted races)
+  races_are races all = λ i. lines_are races all i ++ races_line (sym (length-map races race_noted) i)

@@ -1,0 +1,22 @@
+-- The lines of races that are noted, from the notes and the declarations.
+use Rattle.std.specs.Prelude.{ℕ, if◌then◌else◌, Bool, List, ◌++◌, length, codes}
+use Rattle.std.specs.List.{flat_map}
+use Rattle.race_records.specs.Declarations.{DeclsState}
+use Rattle.race_text.specs.Text.{goroutine_name, var_name, place_text}
+use Rattle.race_verdict.specs.declared.notes.Noted.{Noted}
+use Rattle.race_verdict.specs.declared.notes.NotedRace.{NotedRace}
+use Rattle.race_report.specs.Report.{access_told, race_told, races_line}
+
+-- a write, or else a read, in a word
+abbrev pub noted_word : Bool → List ℕ
+noted_word write = (if write then codes "write" else codes "read")
+
+abbrev pub access_noted : DeclsState → Noted → List (List ℕ)
+access_noted decls n = access_told (noted_word n.write) (goroutine_name decls.declarations n.who) (place_text decls.places n.place) n.at
+
+abbrev pub race_noted_line : DeclsState → NotedRace → List ℕ
+race_noted_line decls r = race_told (var_name decls.declarations r.var) (access_noted decls r.first) (access_noted decls r.second)
+
+-- a line for each race, and their count
+abbrev pub races_noted_text : DeclsState → List NotedRace → List ℕ
+races_noted_text decls races = flat_map (race_noted_line decls) races ++ races_line (length races)

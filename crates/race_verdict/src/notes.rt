@@ -1,0 +1,66 @@
+//! What is printed of a verdict, kept with it, so that no event is looked up when it is printed.
+ghost use Rattle.std.specs.Prelude.{ℕ, ◌≡◌, All, List, length, map};
+ghost use Rattle.race_records.specs.declared.event.Event.{Event};
+ghost use Rattle.race_model.specs.Events.{count, is_access};
+ghost use Rattle.race_model.specs.Legal.{IsLegal};
+ghost use Rattle.race_model.specs.Verdict.{AreReportedRaces, IsVerdict};
+ghost use Rattle.race_verdict.specs.Notes.{race_noted, verdict_noted, IsNotedRaceOf, IsNotedOf};
+
+use race_legal::Illegal;
+use std::alloc::{Allocator, Global};
+
+/// What is printed of an access.
+#[derive(Clone, Copy, Debug, PartialEq, Eq)]
+pub struct Noted {
+    /// Which event it is, counted from 0.
+    pub at: u32,
+    /// The goroutine.
+    pub who: u32,
+    /// Whether it is a write.
+    pub write: bool,
+    /// The number of its place.
+    pub place: u32,
+}
+
+/// Two accesses of a variable that race, with what is printed of each.
+#[derive(Clone, Copy, Debug, PartialEq, Eq)]
+pub struct NotedRace {
+    /// The variable.
+    pub var: u32,
+    /// The earlier access.
+    pub first: Noted,
+    /// The later one.
+    pub second: Noted,
+}
+
+/// What can be said of a trace, with all that is printed of it but names.
+#[derive(Debug, Drop)]
+pub enum NotedVerdict<A: Allocator = Global> {
+    /// An event breaks a rule.
+    Illegal(Illegal),
+    /// The trace is legal and has no race.
+    Clean {
+        /// How many events it has.
+        events: usize,
+        /// How many of them are accesses.
+        accesses: usize,
+    },
+    /// The trace is legal, and these are its races.
+    Races(Vec<NotedRace, A>),
+}
+
+impl<A: Allocator> NotedVerdict<A> {
+    /// The verdict on a legal list of so many events, so many of them accesses, with these races.
+    pub fn of_races(events: usize, accesses: usize, races: Vec<NotedRace, A>) -> NotedVerdict<A>
+        ensures verdict { (caps : ℕ → ℕ) (listed : List Event) → IsLegal caps listed
+            → AreReportedRaces caps listed (map race_noted races.items) → IsVerdict caps listed (verdict_noted result) }
+        ensures noted { (listed : List Event) → events ≡ length listed → accesses ≡ count is_access listed
+            → All (IsNotedRaceOf listed) races.items → IsNotedOf listed result }
+    {
+        if races.is_empty() {
+            NotedVerdict::Clean { events, accesses }
+        } else {
+            NotedVerdict::Races(races)
+        }
+    }
+}

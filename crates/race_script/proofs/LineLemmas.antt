@@ -1,6 +1,6 @@
 -- A line of a body as a whole, and what lines say together.
 use Rattle.std.proofs.Common.{◌≡◌, ℕ, ◌+◌, ◌<◌, ◌==◌, ◌&&◌, ◌⊎◌, inl, inr, Bool, true, false, true≢false, if◌then◌else◌, is_none}
-use Rattle.std.proofs.Common.{List, [], ◌∷◌, ◌++◌, length, map, fold, Option, Some, None, refl, sym, ap, ◌∙◌, arith, append-nil}
+use Rattle.std.proofs.Common.{List, [], ◌∷◌, ◌++◌, length, map, fold, Option, Some, None, Ok, refl, sym, ap, ◌∙◌, arith, append-nil}
 use Rattle.std.proofs.Common.{append_assoc}
 use Rattle.std.proofs.lemmas.Bool.Decides.{nat_tests}
 use Rattle.std.proofs.lemmas.List.{map-append}
@@ -12,6 +12,7 @@ use Rattle.std.proofs.lemmas.Slice.Eq.{bytes_eq-Decides}
 use Rattle.std.specs.List.{filter_map, cons_option}
 use Rattle.std.specs.Option.{option_and_then, option_map, option_map_or}
 use Rattle.std.specs.Str.{bytes_eq}
+use Rattle.std.specs.Result.{result_ok, result_err}
 use Rattle.race_records.specs.declared.kind.Kind.{Kind}
 use Rattle.race_records.specs.Declarations.{Declaration, DeclsState, IsWellFormed, count_of}
 use Rattle.race_records.specs.Equality.{Declared, declared}
@@ -29,7 +30,7 @@ use Rattle.race_script.specs.declared.form.LineWord.{LineWord}
 use Rattle.race_script.specs.Bodies.{is_exit}
 use Rattle.race_script.specs.Fault.{words_cause, asked_cause, said_cause, word_cause, line_cause, cause}
 use Rattle.race_script.specs.Form.{has_ask_word, line_word_in, word_on_nil, AskedWords, on_nil, ask_fields, begin_fields}
-use Rattle.race_script.specs.Offers.{select_words, select_cause}
+use Rattle.race_script.specs.Offers.{select_words}
 use Rattle.race_script.specs.Program.{Instruction, Draft, ask_fits, declared_by, bodies_of}
 use Rattle.race_script.specs.Reader.{HasWords}
 use Rattle.race_script.specs.Reading.{version_in, asked_in, selected_in, begun_in, asks_by, said_by, said_in, with_instruction}
@@ -163,19 +164,19 @@ module _ (decls : DeclsState) (holds : IsWellFormed decls) (line : List ℕ) whe
 
   -- a line that asks by a select
   pub selects_line : (words : List (List ℕ)) (i : Instruction) → HasWords decls.version line LineWord.Selects words
-      → selected_in ds (select_words words) ≡ Some i → IsSaidLine (declared decls) line (Asks i)
+      → selected_in ds (select_words words) ≡ Ok i → IsSaidLine (declared decls) line (Asks i)
   selects_line words i has says =
       let is = are_selected decls holds words i says in
       let word = body_word first LineWord.Selects (found_is_had decls.version first LineWord.Selects has.named).0 refl in
       record {
         line_is = joined words has.behind ∙ (λ k. line_of (word.text k ∷ is.text k)) ∙ ap (λ ask. line_of (ask_words ds i.place ask)) (sym is.asks);
-        says = (λ k. said_by ds (has.named k) (arguments (has.behind k))) ∙ ap (option_map Asks) says;
+        says = (λ k. said_by ds (has.named k) (arguments (has.behind k))) ∙ ap (λ r. option_map Asks (result_ok r)) says;
         declares = ap (λ ws. declared_as (word_named first) (arguments ws)) has.behind ∙ word.declares words;
         fits = (is.fits, is.form, ap (has_ask decls.version) is.asks);
         cause_is = λ d same. clean_cause LineWord.Selects words has d same
-            ∙ (λ k. or_else (select_cause (same k).declarations (select_words words))
+            ∙ (λ k. or_else (result_err (selected_in (same k).declarations (select_words words)))
             (option_and_then (said_cause d) (said_by (same k).declarations (Some LineWord.Selects) words)))
-            ∙ (λ k. or_else (is.fine k) (option_and_then (said_cause d) (option_map Asks (says k))));
+            ∙ (λ k. or_else (result_err (says k)) (option_and_then (said_cause d) (option_map Asks (result_ok (says k)))));
       }
 
 -- the program with one more instruction, which ends the body or not

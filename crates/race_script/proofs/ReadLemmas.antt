@@ -10,6 +10,7 @@ use Rattle.std.proofs.lemmas.Slice.Eq.{bytes_eq-Decides}
 use Rattle.std.specs.List.{filter_map, cons_option, list_all}
 use Rattle.std.specs.Option.{option_and_then, option_map_or}
 use Rattle.std.specs.Str.{bytes_eq}
+use Rattle.std.specs.Result.{result_err}
 use Rattle.race_records.specs.declared.kind.Kind.{Kind}
 use Rattle.race_records.specs.declared.nouns.Noun.{Noun}
 use Rattle.race_records.specs.declared.version.Version.{Version}
@@ -37,12 +38,12 @@ use Rattle.race_script.specs.declared.form.AskWord.{AskWord}
 use Rattle.race_script.specs.declared.form.LineWord.{LineWord}
 use Rattle.race_script.specs.Fault.{words_cause, said_cause, word_cause, line_cause, cause, end_cause, program_causes, is_whole}
 use Rattle.race_script.specs.Form.{line_word, line_word_in, on_nil, ask_fields, begin_fields}
-use Rattle.race_script.specs.Offers.{select_words, select_cause}
+use Rattle.race_script.specs.Offers.{select_words}
 use Rattle.race_script.specs.Program.{Instruction, Draft, IsProgram, draft_of, is_body_of, spelled, bodies_of, places_of}
 use Rattle.race_script.specs.Reader.{UnendedState, ReadState, draft_read, spelled_unended, lines_by, lines_read}
 use Rattle.race_script.specs.Reader.{program_read, IsUnended, IsRead, IsReadBy, HasWords, TakesSaid}
 use Rattle.race_script.specs.Reader.{TakesLine, TakesOrTells}
-use Rattle.race_script.specs.Reading.{version_said, said_by, asks_by, said_in, with_said, nothing_said, all_said, declared_in, seen}
+use Rattle.race_script.specs.Reading.{version_said, selected_in, said_by, asks_by, said_in, with_said, nothing_said, all_said, declared_in, seen}
 use Rattle.std.specs.List.{flat_map}
 use Rattle.race_text.specs.Text.{ended}
 use Rattle.race_script.proofs.ParseLemmas.{header_before_end, end_empty}
@@ -172,8 +173,8 @@ module _ (old : ReadState) (read : IsRead old) (line : List ℕ) where
       told_by_line told (clean_cause old.decls read.sound.well_formed line (LineWord.Asks word) words has d refl
       ∙ ap (λ c. or_else c (option_and_then (said_cause d) (asks_by ds (on_nil word words)))) h)
 
-  pub selects_told : (words : List (List ℕ)) (told : TextCause) → HasWords old.decls.version line LineWord.Selects words → select_cause ds (select_words words) ≡ Some told
-      → cause (lines d) line true ≡ Some told
+  pub selects_told : (words : List (List ℕ)) (told : TextCause) → HasWords old.decls.version line LineWord.Selects words
+      → result_err (selected_in ds (select_words words)) ≡ Some told → cause (lines d) line true ≡ Some told
   selects_told words told has h =
       told_by_line told (clean_cause old.decls read.sound.well_formed line LineWord.Selects words has d refl
       ∙ ap (λ c. or_else c (option_and_then (said_cause d) (said_by ds (Some LineWord.Selects) words))) h)

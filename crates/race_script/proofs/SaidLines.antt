@@ -1,11 +1,12 @@
 -- A line of a body: what it says, and that no cause holds of its words.
 use Rattle.std.proofs.Common.{◌≡◌, ℕ, ◌<◌, ◌==◌, ◌&&◌, Bool, true, false, true≢false, not, if◌then◌else◌}
-use Rattle.std.proofs.Common.{List, [], ◌∷◌, ◌++◌, length, map, Option, Some, None, refl, sym, ap, ◌∙◌}
+use Rattle.std.proofs.Common.{List, [], ◌∷◌, ◌++◌, length, map, Option, Some, None, Ok, refl, sym, ap, ◌∙◌}
 use Rattle.std.proofs.Common.{arith}
 use Rattle.std.proofs.lemmas.Bool.Decides.{nat_tests, Decides-eqb}
 use Rattle.std.proofs.lemmas.Option.{none-some}
 use Rattle.std.specs.List.{list_all}
 use Rattle.std.specs.Option.{option_and_then, option_map}
+use Rattle.std.specs.Result.{result_ok, result_err}
 use Rattle.race_records.specs.declared.kind.Kind.{Kind}
 use Rattle.race_records.specs.declared.kind.Named.{Named}
 use Rattle.race_records.specs.declared.parts.Part.{Part}
@@ -17,15 +18,16 @@ use Rattle.race_text.specs.declared.cause.TextCause.{TextCause}
 use Rattle.race_text.specs.declared.form.Field.{Field}
 use Rattle.race_text.specs.Fault.{fields_cause, field_cause}
 use Rattle.race_text.specs.Form.{place_fields}
-use Rattle.race_text.specs.Reading.{part_in, parts_on, last_place, alone, goroutine_of}
+use Rattle.race_text.specs.Meaning.{part_in}
+use Rattle.race_text.specs.Reading.{parts_on, last_place, alone, goroutine_of}
 use Rattle.race_text.specs.Text.{goroutine_name, place_words}
 use Rattle.race_text.specs.Writing.{part_text}
-use Rattle.race_text.proofs.CauseLemmas.{and_then_some, map_some}
+use Rattle.race_text.proofs.CauseLemmas.{and_then_some, map_some, fine_is_ok, ok_is}
 use Rattle.race_text.proofs.CleanLemmas.{place_is_visible}
 use Rattle.race_text.proofs.EventsAgain.{part_again, parts_again}
 use Rattle.race_text.proofs.EventWords.{goroutine_is, goroutine_is_there}
 use Rattle.race_text.proofs.PartWords.{is_part, are_read, texts_are, parts_are_limited}
-use Rattle.race_text.proofs.PartWords.{parts_are_wanted, words_count, words_fine, part_is_there}
+use Rattle.race_text.proofs.PartWords.{parts_are_wanted, words_count, words_fine}
 use Rattle.race_text.proofs.PartWords.{are_there, read_suits}
 use Rattle.race_text.proofs.PartWords.{parts_fit as all_parts_fit}
 use Rattle.race_text.proofs.PlaceWords.{ArePlaces, last_by_form, are_places, places_fine, places_are_there}
@@ -80,9 +82,9 @@ module _ (ds : List Declaration) where
   begun_is_there (w ∷ v ∷ ws) h = let count = (words_are_fine ds begin_fields (w ∷ v ∷ ws) h).0 in absurd (omega (arith, count))
   begun_is_there (w ∷ []) h =
       let kind = PartKind.Object Kind.Goroutine in
-      let there = part_is_there ds kind w (words_are_fine ds begin_fields (w ∷ []) h).1 in
+      let there = fine_is_ok (part_in ds kind w) (words_are_fine ds begin_fields (w ∷ []) h).1 in
       let g = goroutine_is_there there.0 (read_suits ds kind w there.0 there.1) in
-      (g.0, ap (option_and_then goroutine_of) (there.1 ∙ ap Some g.1))
+      (g.0, ap (λ r. option_and_then goroutine_of (result_ok r)) (there.1 ∙ ap Ok g.1))
 
 module _ (decls : DeclsState) (holds : IsWellFormed decls) where
   abbrev ds' : List Declaration
@@ -156,16 +158,16 @@ module _ (decls : DeclsState) (holds : IsWellFormed decls) where
   is_begun (w ∷ v ∷ ws) g h = absurd (none-some g h)
   is_begun (w ∷ []) g h =
       let kind = PartKind.Object Kind.Goroutine in
-      let a = and_then_some goroutine_of (part_in ds' kind w) g h in
-      let is = is_part decls holds kind w (Part.Object (Named.Goroutine g)) (a.1 ∙ ap Some (goroutine_is a.0 g a.2)) in
+      let a = and_then_some goroutine_of (result_ok (part_in ds' kind w)) g h in
+      let is = is_part decls holds kind w (Part.Object (Named.Goroutine g)) (ok_is (part_in ds' kind w) a.0 a.1 ∙ ap Ok (goroutine_is a.0 g a.2)) in
       let fits = is.fits in
       record {
         text = ap (λ v. v ∷ []) is.text;
         less = grind (arith, nat_tests, fits);
-        fine = words_fine_by ds' begin_fields (w ∷ []) refl is.no_cause;
+        fine = words_fine_by ds' begin_fields (w ∷ []) refl (ap result_err is.says);
       }
 
   pub begun_again : (g : ℕ) → g < count_of Kind.Goroutine ds' → (begun_in ds' (goroutine_name ds' g ∷ []) ≡ Some g) × AreVisible (goroutine_name ds' g ∷ [])
   begun_again g less =
       let again = part_again decls holds (PartKind.Object Kind.Goroutine) (Part.Object (Named.Goroutine g)) refl (grind (arith, nat_tests, less)) refl in
-      (ap (option_and_then goroutine_of) again.0, (again.1, tt))
+      (ap (λ r. option_and_then goroutine_of (result_ok r)) again.0, (again.1, tt))

@@ -1,6 +1,6 @@
 -- Bytes without a fault are some program's text: line by line, each is taken into a program.
 use Rattle.std.proofs.Common.{◌≡◌, ℕ, zero, suc, ◌<◌, ◌==◌, ◌&&◌, ◌||◌, Bool, true, false, true≢false, not, nat_le, if◌then◌else◌}
-use Rattle.std.proofs.Common.{is_some, List, [], ◌∷◌, ◌++◌, length, Option, Some, None, refl, sym, ap, ◌∙◌, arith, append-nil}
+use Rattle.std.proofs.Common.{is_some, List, [], ◌∷◌, ◌++◌, length, Option, Some, None, Result, Ok, Err, refl, sym, ap, ◌∙◌, arith, append-nil}
 use Rattle.std.proofs.Common.{append_assoc}
 use Rattle.std.proofs.lemmas.Bool.Decides.{nat_tests}
 use Rattle.std.proofs.lemmas.Grind.{flat_map-append}
@@ -9,6 +9,7 @@ use Rattle.std.proofs.lemmas.List.Splits.{join_with_byte-slice_split, length-sli
 use Rattle.std.proofs.lemmas.Option.{none-some}
 use Rattle.std.specs.List.{flat_map, join_with_byte}
 use Rattle.std.specs.Prelude.{reverse}
+use Rattle.std.specs.Result.{result_err}
 use Rattle.race_records.specs.declared.declarations.DeclFault.{DeclFault}
 use Rattle.race_records.specs.declared.declarations.TheConstants.{MAX_PLACES}
 use Rattle.race_records.specs.declared.nouns.Noun.{Noun}
@@ -36,10 +37,10 @@ use Rattle.race_script.specs.Fault.{words_cause, has_no_room, may_follow, may_be
 use Rattle.race_script.specs.Fault.{said_cause, asked_cause, cause, program_causes}
 use Rattle.race_script.specs.Fault.{text_fault, is_whole}
 use Rattle.race_script.specs.Form.{line_word, line_word_in, on_nil, ask_fields, begin_fields}
-use Rattle.race_script.specs.Offers.{select_words, select_cause}
+use Rattle.race_script.specs.Offers.{select_words}
 use Rattle.race_script.specs.Program.{Instruction, Draft, ask_fits, bodies_of}
 use Rattle.race_script.specs.Reader.{UnendedState, ReadState, draft_read, spelled_unended, program_read, IsRead, HasWords, TakesLine}
-use Rattle.race_script.specs.Reading.{version_said}
+use Rattle.race_script.specs.Reading.{version_said, selected_in}
 use Rattle.race_script.specs.Text.{header, Said, Begins, Asks, lines, draft_text, IsProgramText}
 use Rattle.race_script.proofs.LineLemmas.{IsSaidLine, cause_behind, begins_line, asks_line, selects_line}
 use Rattle.race_script.proofs.ParseLemmas.{end_empty}
@@ -47,7 +48,6 @@ use Rattle.race_script.proofs.ReadLemmas.{begin_told, asks_told, selects_told, b
 use Rattle.race_script.proofs.ReadLemmas.{first_cause, declared_taken, said_taken, whole_program, nothing_read}
 use Rattle.race_script.proofs.ReadLemmas.{nothing_is_read, nothing_lines_read, said_header}
 use Rattle.race_script.proofs.SaidLines.{begun_is_there, is_begun, asked_is_there}
-use Rattle.race_script.proofs.SelectLines.{selected_is_there}
 use Rattle.race_script.proofs.TakingLemmas.{begin_taken, asked_cause_is, ended_taken, more_taken}
 
 -- what was read with one more line
@@ -171,14 +171,13 @@ module _ (s : ReadState) (header_is : s.has_header ≡ true) (read : IsRead s) (
           with_asked there.0 is is.fits.0 is.fits.1 is.fits.2
 
   with_selects : (words : List (List ℕ)) → HasWords s.decls.version line LineWord.Selects words → IsNext s line
-  with_selects words has = by (select_cause ds (select_words words)) refl
+  with_selects words has = by (selected_in ds (select_words words)) refl
     where
-      by : (o : Option TextCause) → select_cause ds (select_words words) ≡ o → IsNext s line
-      by (Some told) e = absurd (not_told told (selects_told s read line words told has e))
-      by None e =
-          let there = selected_is_there ds (select_words words) e in
-          let is = selects_line s.decls read.sound.well_formed line words there.0 has there.1 in
-          with_asked there.0 is is.fits.0 is.fits.1 is.fits.2
+      by : (r : Result Instruction TextCause) → selected_in ds (select_words words) ≡ r → IsNext s line
+      by (Err told) e = absurd (not_told told (selects_told s read line words told has (ap result_err e)))
+      by (Ok i) e =
+          let is = selects_line s.decls read.sound.well_formed line words i has e in
+          with_asked i is is.fits.0 is.fits.1 is.fits.2
 
   with_declared : (noun : Noun) (words : List (List ℕ)) → HasWords s.decls.version line (LineWord.Declares noun) words → IsNext s line
   with_declared noun words has = by (length (bodies_of d)) refl

@@ -1,30 +1,29 @@
 -- The words of a select: what they ask, and that no cause holds of them.
-use Rattle.std.proofs.Common.{◌≡◌, ℕ, ◌<◌, ◌&&◌, Bool, true, false, true≢false, if◌then◌else◌, is_some}
-use Rattle.std.proofs.Common.{nat_le, List, [], ◌∷◌, length, codes, Option, Some, None, refl, sym, ap, subst}
-use Rattle.std.proofs.Common.{◌∙◌, arith}
+use Rattle.std.proofs.Common.{◌≡◌, ℕ, ◌<◌, ◌&&◌, Bool, true, false, if◌then◌else◌, nat_le, List, [], ◌∷◌, length, codes}
+use Rattle.std.proofs.Common.{Option, Some, None, Ok, Err, refl, sym, ap, subst, ◌∙◌, arith}
 use Rattle.std.proofs.lemmas.Option.{none-some, same_Some}
 use Rattle.std.proofs.lemmas.Slice.Eq.{bytes_eq-Decides}
 use Rattle.std.specs.List.{list_all}
-use Rattle.std.specs.Option.{option_and_then, option_map}
 use Rattle.std.specs.Str.{bytes_eq}
 use Rattle.race_records.specs.declared.cases.TheConstants.{MAX_CASES}
 use Rattle.race_records.specs.declared.kind.Kind.{Kind}
-use Rattle.race_records.specs.Declarations.{Declaration, DeclsState, IsWellFormed, counts_of}
+use Rattle.race_records.specs.Declarations.{Declaration, DeclsState, IsWellFormed, count_of, counts_of}
 use Rattle.race_records.specs.Name.{is_place, is_place_byte}
 use Rattle.race_requests.specs.declared.request.Ask.{Ask}
 use Rattle.race_requests.specs.declared.request.Offer.{Offer}
 use Rattle.race_requests.specs.Possible.{offer_is_in_range}
 use Rattle.race_text.specs.declared.cause.TextCause.{TextCause}
-use Rattle.race_text.specs.Fault.{lesser}
-use Rattle.race_text.proofs.CauseLemmas.{and_then_some, map_some, lesser_none}
+use Rattle.race_text.specs.Least.{both_say}
+use Rattle.race_text.specs.Meaning.{place_in}
+use Rattle.race_text.proofs.CauseLemmas.{both_are, ok-err, same_Ok}
 use Rattle.race_text.proofs.CleanLemmas.{place_is_visible}
 use Rattle.race_text.proofs.WordLemmas.{both}
 use Rattle.race_text.proofs.WordsAgain.{AreVisible}
-use Rattle.race_script.specs.Offers.{SelectWords, select_words, form_cause, offers_cause, mode_in, select_cause, offers_in, select_in, offers_text, mode_text}
+use Rattle.race_script.specs.Offers.{SelectWords, select_words, mode_in, offers_in, select_in, offers_text, mode_text}
 use Rattle.race_script.specs.Program.{Instruction, offer_is_limited, ask_fits}
 use Rattle.race_script.specs.Reading.{asked_at, selected_in}
-use Rattle.race_script.proofs.OfferAgain.{offers_visible, offers_again}
-use Rattle.race_script.proofs.OfferWords.{are_offered, offers_are_there}
+use Rattle.race_script.proofs.OfferAgain.{offer_is_fine, offers_visible, offers_again}
+use Rattle.race_script.proofs.OfferWords.{are_offered}
 
 -- three words stand behind `select`, and no more
 select_words_are : (words : List (List ℕ)) (w : SelectWords) → select_words words ≡ Some w → words ≡ w.offers ∷ w.mode ∷ w.place ∷ []
@@ -38,107 +37,97 @@ pub words_are_over : (a b c : List ℕ) (others : List (List ℕ)) → 0 < lengt
 words_are_over a b c [] some = absurd (omega (arith, some))
 words_are_over a b c (d ∷ more) some = refl
 
+-- the word of a place
+place_is : (w place : List ℕ) → place_in w ≡ Ok place → (w ≡ place) × (is_place place ≡ true)
+place_is w place h = by (is_place w) refl h
+  where
+    by : (b : Bool) → is_place w ≡ b → (if b then Ok w else Err TextCause.BadName) ≡ Ok place → (w ≡ place) × (is_place place ≡ true)
+    by true form h = let same = same_Ok w place h in (same, ap is_place (sym same) ∙ form)
+    by false form h = absurd (ok-err place TextCause.BadName (sym h))
+
+-- offers that are fine are in range, and in their limits
+all_fine : (ds : List Declaration) (offers : List Offer) → list_all (offer_is_fine ds) offers ≡ true
+    → (list_all (offer_is_in_range (count_of Kind.Chan ds)) offers ≡ true) × (list_all offer_is_limited offers ≡ true)
+all_fine ds [] fine = (refl, refl)
+all_fine ds (offer ∷ offers) fine =
+    let all = both (offer_is_fine ds offer) (list_all (offer_is_fine ds) offers) fine in
+    let one = both (offer_is_in_range (count_of Kind.Chan ds) offer) (offer_is_limited offer) all.0 in
+    let others = all_fine ds offers all.1 in
+    ((λ i. one.0 i && others.0 i), (λ i. one.1 i && others.1 i))
+
+are_fine : (ds : List Declaration) (offers : List Offer) → list_all (offer_is_in_range (count_of Kind.Chan ds)) offers ≡ true
+    → list_all offer_is_limited offers ≡ true → list_all (offer_is_fine ds) offers ≡ true
+are_fine ds [] range limited = refl
+are_fine ds (offer ∷ offers) range limited =
+    let a = both (offer_is_in_range (count_of Kind.Chan ds) offer) _ range in
+    let b = both (offer_is_limited offer) _ limited in
+    λ i. (a.0 i && b.0 i) && are_fine ds offers a.1 b.1 i
+
 -- the word of a mode
-mode_is : (w : List ℕ) (has_default : Bool) → mode_in w ≡ Some has_default → w ≡ mode_text has_default
+mode_is : (w : List ℕ) (has_default : Bool) → mode_in w ≡ Ok has_default → w ≡ mode_text has_default
 mode_is w has_default h = by (bytes_eq w (codes "default")) refl (bytes_eq w (codes "block")) refl h
   where
     by : (a : Bool) → bytes_eq w (codes "default") ≡ a → (b : Bool) → bytes_eq w (codes "block") ≡ b
-        → (if a then Some true else (if b then Some false else None)) ≡ Some has_default → w ≡ mode_text has_default
-    by true e b f h = (bytes_eq-Decides w (codes "default")).0 e ∙ ap mode_text (same_Some true has_default h)
-    by false e true f h = (bytes_eq-Decides w (codes "block")).0 f ∙ ap mode_text (same_Some false has_default h)
-    by false e false f h = absurd (none-some has_default h)
+        → (if a then Ok true else (if b then Ok false else Err TextCause.BadName)) ≡ Ok has_default → w ≡ mode_text has_default
+    by true e b f h = (bytes_eq-Decides w (codes "default")).0 e ∙ ap mode_text (same_Ok true has_default h)
+    by false e true f h = (bytes_eq-Decides w (codes "block")).0 f ∙ ap mode_text (same_Ok false has_default h)
+    by false e false f h = absurd (ok-err has_default TextCause.BadName (sym h))
 
-mode_again : (has_default : Bool) → (mode_in (mode_text has_default) ≡ Some has_default) × (list_all is_place_byte (mode_text has_default) ≡ true)
+mode_again : (has_default : Bool) → (mode_in (mode_text has_default) ≡ Ok has_default) × (list_all is_place_byte (mode_text has_default) ≡ true)
 mode_again true = (refl, refl)
 mode_again false = (refl, refl)
 
--- a word of which no cause holds has its form
-has_form : (b : Bool) → form_cause b ≡ None → b ≡ true
-has_form true h = refl
-has_form false h = absurd (none-some TextCause.BadName (sym h))
-
-is_there : {X : Type 0} (o : Option X) → is_some o ≡ true → (x : X) × (o ≡ Some x)
-is_there (Some x) h = (x, refl)
-is_there None h = absurd (true≢false (sym h))
-
-module _ (ds : List Declaration) where
-  -- where nothing is wrong with the words, something is asked
-  pub selected_is_there : (words : Option SelectWords) → select_cause ds words ≡ None → (i : Instruction) × (selected_in ds words ≡ Some i)
-  selected_is_there None h = absurd (none-some TextCause.WrongCount (sym h))
-  selected_is_there (Some w) h =
-      let mode_cause = form_cause (is_some (mode_in w.mode)) in
-      let two = lesser_none (offers_cause ds w.offers) (lesser mode_cause (form_cause (is_place w.place))) h in
-      let forms = lesser_none mode_cause (form_cause (is_place w.place)) two.1 in
-      let offers = offers_are_there ds w.offers two.0 in
-      let mode = is_there (mode_in w.mode) (has_form (is_some (mode_in w.mode)) forms.0) in (
-        asked_at (Ask.Select offers.0 mode.0) w.place,
-        ap (λ b. if b then option_map (λ ask. asked_at ask w.place) (select_in ds w) else None) (has_form (is_place w.place) forms.1)
-            ∙ ap (λ o. option_map (λ ask. asked_at ask w.place) (option_and_then (λ found. option_map (Ask.Select found) (mode_in w.mode)) o)) offers.1
-            ∙ ap (λ o. option_map (λ ask. asked_at ask w.place) (option_map (Ask.Select offers.0) o)) mode.1,
-      )
-
 module _ (decls : DeclsState) (holds : IsWellFormed decls) where
-  abbrev ds' : List Declaration
-  ds' = decls.declarations
+  abbrev ds : List Declaration
+  ds = decls.declarations
 
   abbrev range_of : List Offer → Bool
-  range_of offers = list_all (offer_is_in_range (counts_of ds' Kind.Chan)) offers
+  range_of offers = list_all (offer_is_in_range (counts_of ds Kind.Chan)) offers
 
   -- what holds of words that ask by a select
   pub record AreSelected (words : List (List ℕ)) (i : Instruction) : Type 0 where
     pub offers : List Offer
     pub has_default : Bool
-    pub text : words ≡ offers_text ds' offers ∷ mode_text has_default ∷ i.place ∷ []
+    pub text : words ≡ offers_text ds offers ∷ mode_text has_default ∷ i.place ∷ []
     pub asks : i.ask ≡ Ask.Select offers has_default
-    pub fits : ask_fits ds' i.ask ≡ true
+    pub fits : ask_fits ds i.ask ≡ true
     pub form : is_place i.place ≡ true
-    pub fine : select_cause ds' (select_words words) ≡ None
 
-  pub are_selected : (words : List (List ℕ)) (i : Instruction) → selected_in ds' (select_words words) ≡ Some i → AreSelected words i
+  pub are_selected : (words : List (List ℕ)) (i : Instruction) → selected_in ds (select_words words) ≡ Ok i → AreSelected words i
   are_selected words i h = by (select_words words) refl h
     where
-      found : (w : SelectWords) → select_words words ≡ Some w → is_place w.place ≡ true
-          → (ask : Ask) → select_in ds' w ≡ Some ask → AreSelected words (asked_at ask w.place)
-      found w e form ask h =
-          let a = and_then_some (λ offers. option_map (Ask.Select offers) (mode_in w.mode)) (offers_in ds' w.offers) ask h in
-          let b = map_some (Ask.Select a.0) (mode_in w.mode) ask a.2 in
-          let is = are_offered decls holds w.offers a.0 a.1 in
-          let fits : ask_fits ds' (Ask.Select a.0 b.0) ≡ true = λ k. ((is.few k && is.range k) && true) && is.limited k in
-          record {
-            offers = a.0;
-            has_default = b.0;
-            text = select_words_are words w e ∙ (λ k. is.text k ∷ mode_is w.mode b.0 b.1 k ∷ w.place ∷ []);
-            asks = sym b.2;
-            fits = ap (ask_fits ds') (sym b.2) ∙ fits;
-            form = form;
-            fine = ap (select_cause ds') e ∙ (λ k. lesser (is.no_cause k) (lesser (form_cause (is_some (b.1 k))) (form_cause (form k))));
-          }
-
-      placed : (w : SelectWords) → select_words words ≡ Some w → (b : Bool) → is_place w.place ≡ b
-          → (if b then option_map (λ ask. asked_at ask w.place) (select_in ds' w) else None) ≡ Some i → AreSelected words i
-      placed w e true form h =
-          let read = map_some (λ ask. asked_at ask w.place) (select_in ds' w) i h in
-          subst (AreSelected words) read.2 (found w e form read.0 read.1)
-      placed w e false form h = absurd (none-some i h)
-
-      by : (o : Option SelectWords) → select_words words ≡ o → selected_in ds' o ≡ Some i → AreSelected words i
-      by None e h = absurd (none-some i h)
-      by (Some w) e h = placed w e (is_place w.place) refl h
+      by : (o : Option SelectWords) → select_words words ≡ o → selected_in ds o ≡ Ok i → AreSelected words i
+      by None e h = absurd (ok-err i TextCause.WrongCount (sym h))
+      by (Some w) e h =
+          let a = both_are (λ ask place. Ok (asked_at ask place)) (select_in ds w) (place_in w.place) i h in
+          let b = both_are (λ offers has_default. Ok (Ask.Select offers has_default)) (offers_in ds w.offers) (mode_in w.mode) a.0 a.2 in
+          let is = are_offered ds w.offers b.0 b.2 in
+          let place = place_is w.place a.1 a.3 in
+          let ask = same_Ok (Ask.Select b.0 b.1) a.0 b.4 in
+          let fine = all_fine ds b.0 is.fit in
+          let fits : ask_fits ds (Ask.Select b.0 b.1) ≡ true = λ k. ((is.few k && fine.0 k) && true) && fine.1 k in
+          subst (AreSelected words) (same_Ok (asked_at a.0 a.1) i a.4) (record {
+            offers = b.0;
+            has_default = b.1;
+            text = select_words_are words w e ∙ (λ k. is.text_is k ∷ mode_is w.mode b.1 b.3 k ∷ place.0 k ∷ []);
+            asks = sym ask;
+            fits = ap (ask_fits ds) (sym ask) ∙ fits;
+            form = place.1;
+          })
 
   -- the words of a select ask it, and can be seen
-  pub selected_again : (offers : List Offer) (has_default : Bool) (place : List ℕ) → ask_fits ds' (Ask.Select offers has_default) ≡ true → is_place place ≡ true
-      → (selected_in ds' (select_words (offers_text ds' offers ∷ mode_text has_default ∷ place ∷ [])) ≡ Some (asked_at (Ask.Select offers has_default) place))
-      × AreVisible (offers_text ds' offers ∷ mode_text has_default ∷ place ∷ [])
+  pub selected_again : (offers : List Offer) (has_default : Bool) (place : List ℕ) → ask_fits ds (Ask.Select offers has_default) ≡ true → is_place place ≡ true
+      → (selected_in ds (select_words (offers_text ds offers ∷ mode_text has_default ∷ place ∷ [])) ≡ Ok (asked_at (Ask.Select offers has_default) place))
+      × AreVisible (offers_text ds offers ∷ mode_text has_default ∷ place ∷ [])
   selected_again offers has_default place fits form =
       let few = nat_le (length offers) MAX_CASES in
       let limited = list_all offer_is_limited offers in
       let three = both ((few && range_of offers) && true) limited fits in
       let two = both few (range_of offers) (both (few && range_of offers) true three.0).0 in
+      let fine = are_fine ds offers two.1 three.1 in
       let mode = mode_again has_default in (
-        ap (λ b. if b then option_map (λ ask. asked_at ask place)
-            (select_in ds' (record { offers = offers_text ds' offers; mode = mode_text has_default; place = place })) else None) form
-            ∙ ap (λ o. option_map (λ ask. asked_at ask place) (option_and_then (λ found. option_map (Ask.Select found) (mode_in (mode_text has_default))) o))
-            (offers_again decls holds offers two.1 three.1 two.0)
-            ∙ ap (λ o. option_map (λ ask. asked_at ask place) (option_map (Ask.Select offers) o)) mode.0,
-        (offers_visible decls holds offers two.1 three.1, (mode.1, (place_is_visible place form, tt))),
+        (λ k. both_say (λ ask place. Ok (asked_at ask place))
+            (both_say (λ offers has_default. Ok (Ask.Select offers has_default)) (offers_again decls holds offers fine two.0 k) (mode.0 k))
+            (if form k then Ok place else Err TextCause.BadName)),
+        (offers_visible decls holds offers fine, (mode.1, (place_is_visible place form, tt))),
       )

@@ -3,6 +3,7 @@ use Rattle.std.specs.Prelude.{ℕ, ◌==◌, ◌&&◌, ◌||◌, Bool, true, fal
 use Rattle.std.specs.Prelude.{nat_le, nat_lt, List, [], ◌∷◌, length, Option, Some, None}
 use Rattle.std.specs.Prelude.{is_some, is_none}
 use Rattle.std.specs.Option.{option_and_then}
+use Rattle.std.specs.Result.{result_err}
 use Rattle.race_records.specs.declared.declarations.TheConstants.{MAX_PLACES}
 use Rattle.race_records.specs.declared.kind.Kind.{Kind}
 use Rattle.race_records.specs.Declarations.{Declaration, count_of, is_known}
@@ -20,9 +21,9 @@ use Rattle.race_script.specs.declared.form.LineWord.{LineWord}
 use Rattle.race_script.specs.declared.program.TheConstants.{MAX_STEPS}
 use Rattle.race_script.specs.Bodies.{is_exit, after_ask, onces_after}
 use Rattle.race_script.specs.Form.{line_word_in, AskedWords, on_nil, ask_fields, begin_fields}
-use Rattle.race_script.specs.Offers.{select_words, select_cause}
+use Rattle.race_script.specs.Offers.{select_words}
 use Rattle.race_script.specs.Program.{Instruction, Draft, asked_by, bodies_of, places_of}
-use Rattle.race_script.specs.Reading.{version_said, said_by, asks_by, seen}
+use Rattle.race_script.specs.Reading.{version_said, selected_in, said_by, asks_by, seen}
 use Rattle.race_script.specs.Text.{Said, Begins, Asks}
 
 -- the least cause of the words behind the first, by what they have to be: of how many there are, and of each
@@ -72,7 +73,7 @@ word_cause d (Some LineWord.Begins) words =
     or_else (words_cause d.declarations begin_fields words) (option_and_then (said_cause d) (said_by d.declarations (Some LineWord.Begins) words))
 word_cause d (Some (LineWord.Asks word)) words = asks_cause d (on_nil word words)
 word_cause d (Some LineWord.Selects) words =
-    or_else (select_cause d.declarations (select_words words)) (option_and_then (said_cause d) (said_by d.declarations (Some LineWord.Selects) words))
+    or_else (result_err (selected_in d.declarations (select_words words))) (option_and_then (said_cause d) (said_by d.declarations (Some LineWord.Selects) words))
 
 -- the least cause of a line behind the first
 unfoldable pub line_cause : Draft → List ℕ → Option TextCause

@@ -1,19 +1,22 @@
 -- What the lines of a program say, each looked at alone, and together.
-use Rattle.std.specs.Prelude.{ℕ, List, [], ◌∷◌, ◌++◌, fold, unwrap_or, Option, Some, None, if◌then◌else◌}
+use Rattle.std.specs.Prelude.{ℕ, List, [], ◌∷◌, ◌++◌, fold, unwrap_or, Option, Some, None, Result, Ok, Err, if◌then◌else◌}
 use Rattle.std.specs.Borrow.{Bor}
 use Rattle.std.specs.List.{filter_map}
 use Rattle.std.specs.Option.{option_and_then, option_map}
+use Rattle.std.specs.Result.{result_ok}
 use Rattle.std.specs.Str.{bytes_eq}
 use Rattle.race_records.specs.declared.kind.Kind.{Kind}
 use Rattle.race_records.specs.declared.parts.PartKind.{PartKind}
 use Rattle.race_records.specs.declared.version.Version.{Version}
 use Rattle.race_records.specs.Declarations.{Declaration}
 use Rattle.race_records.specs.Equality.{Declared}
-use Rattle.race_records.specs.Name.{is_place}
 use Rattle.race_requests.specs.declared.request.Ask.{Ask}
+use Rattle.race_text.specs.declared.cause.TextCause.{TextCause}
 use Rattle.race_text.specs.Fault.{declaration_in}
 use Rattle.race_text.specs.Form.{first_word, arguments}
-use Rattle.race_text.specs.Reading.{ReadParts, part_in, parts_on, last_place, goroutine_of}
+use Rattle.race_text.specs.Least.{both_say}
+use Rattle.race_text.specs.Meaning.{place_in, part_in}
+use Rattle.race_text.specs.Reading.{ReadParts, parts_on, last_place, goroutine_of}
 use Rattle.race_text.specs.Words.{words_of}
 use Rattle.race_script.specs.declared.form.AskWord.{AskWord}
 use Rattle.race_script.specs.declared.form.LineWord.{LineWord}
@@ -55,13 +58,13 @@ abbrev pub asked_in : List Declaration → AskWord → List (List ℕ) → Optio
 asked_in ds word words = option_and_then (asked_by_parts word) (parts_on ds [] (ask_kinds word) words)
 
 -- what the words behind `select` ask
-abbrev pub selected_in : List Declaration → Option SelectWords → Option Instruction
-selected_in ds None = None
-selected_in ds (Some w) = if is_place w.place then option_map (λ ask. asked_at ask w.place) (select_in ds w) else None
+abbrev pub selected_in : List Declaration → Option SelectWords → Result Instruction TextCause
+selected_in ds None = Err TextCause.WrongCount
+selected_in ds (Some w) = both_say (λ ask place. Ok (asked_at ask place)) (select_in ds w) (place_in w.place)
 
 -- the goroutine that the one word names
 abbrev pub begun_in : List Declaration → List (List ℕ) → Option ℕ
-begun_in ds (w ∷ []) = option_and_then goroutine_of (part_in ds (PartKind.Object Kind.Goroutine) w)
+begun_in ds (w ∷ []) = option_and_then goroutine_of (result_ok (part_in ds (PartKind.Object Kind.Goroutine) w))
 begun_in ds _ = None
 
 -- what words that begin with an ask's say
@@ -72,7 +75,7 @@ asks_by ds asked = option_map Asks (asked_in ds asked.0 asked.1)
 abbrev pub said_by : List Declaration → Option LineWord → List (List ℕ) → Option Said
 said_by ds (Some LineWord.Begins) words = option_map Begins (begun_in ds words)
 said_by ds (Some (LineWord.Asks word)) words = asks_by ds (on_nil word words)
-said_by ds (Some LineWord.Selects) words = option_map Asks (selected_in ds (select_words words))
+said_by ds (Some LineWord.Selects) words = option_map Asks (result_ok (selected_in ds (select_words words)))
 said_by ds _ words = None
 
 -- what a line says of the bodies, in a text of this version with these declarations

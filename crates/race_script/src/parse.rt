@@ -1,5 +1,5 @@
 //! A program from its bytes.
-ghost use Rattle.std.specs.Prelude.{◌≡◌, ◌≢◌, ◌<◌, Some, IfOk, IfErr};
+ghost use Rattle.std.specs.Prelude.{◌≡◌, ◌≢◌, Some, IfOk, IfErr};
 ghost use Rattle.race_script.specs.Text.{IsTextOf, IsProgramText};
 ghost use Rattle.race_script.specs.Fault.{program_causes, text_fault};
 ghost use Rattle.race_text.specs.Fed.{ended_fault};
@@ -8,8 +8,8 @@ ghost use Rattle.race_text.specs.Lines.{IsLineOf, IsNoneBefore};
 ghost use Rattle.race_text.specs.Owed.{HidesNone};
 
 use crate::program::Program;
-use crate::program_reader::ProgramReader;
-use race_text::{TextCause, TextFault};
+use crate::reader::Reader;
+use race_text::{TextCause, TextFault, parse_by};
 use std::alloc::Allocator;
 
 /// The one program whose text the bytes are, or else their first fault.
@@ -29,7 +29,5 @@ pub fn parse_program<A: Allocator + Copy>(alloc: A, bytes: &[u8]) -> Result<Prog
     ensures owed { IfErr result (λ told. HidesNone told (ended_fault program_causes bytes.now)) }
     ensures line { IfErr result (λ told. IsLineOf bytes.now told.line) }
 {
-    let mut reader = ProgramReader::new(alloc);
-    reader.feed(bytes)?;
-    reader.finish()
+    parse_by(alloc, Reader::new(alloc), bytes)
 }

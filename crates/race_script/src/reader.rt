@@ -20,7 +20,7 @@ ghost use Rattle.race_script.specs.Reader as spec;
 use crate::asks::{asked_in, begun_in, words_cause};
 use crate::form::{AskWord, LineWord, ask_fields, line_word_in, on_nil};
 use crate::header::version_said;
-use crate::offers::{select_cause, select_words, selected_in};
+use crate::offers::{select_words, selected_in};
 use crate::program::{MAX_STEPS, Program};
 use crate::script::is_exit;
 use race_hub::{Ask, Request};
@@ -316,12 +316,10 @@ impl<A: Allocator + Copy> Reader<A> {
         requires words { spec.HasWords self.old.decls.version line.now LineWord.Selects (parts_left 32 rest) }
         ensures taken { spec.TakesOrTells self.old line.now result self.new }
     {
-        let words = select_words(rest);
-        if let Some(cause) = select_cause(&self.decls, words) {
-            return Err(cause);
+        match selected_in(&self.decls, select_words(rest)) {
+            Err(cause) => Err(cause),
+            Ok((ask, place)) => self.add(ask, place),
         }
-        let (ask, place) = selected_in(&self.decls, words).unwrap();
-        self.add(ask, place)
     }
 
     // Adds a request to the body that has not ended.

@@ -1,17 +1,19 @@
 -- The least cause of the words behind the first, one word after another.
 use Rattle.std.proofs.Common.{◌≡◌, ℕ, ◌==◌, is_none, Bor, ◌+◌, ◌<◌, ◌≤◌, List, [], ◌∷◌, length, get_or, drop, fold, Option}
-use Rattle.std.proofs.Common.{Some, None, refl, sym, ◌∙◌, arith, add-one, Bool, true, false, if◌then◌else◌, nat_le, is_some}
-use Rattle.std.proofs.Common.{nat_lt}
+use Rattle.std.proofs.Common.{Some, None, refl, sym, ◌∙◌, arith, add-one}
+use Rattle.std.proofs.Common.{ok_or, Result, Ok, Err, ap}
 use Rattle.std.proofs.Math.Seq.{drop-cons}
 use Rattle.std.proofs.lemmas.Bool.Decides.{nat_tests}
 use Rattle.std.proofs.lemmas.List.Splits.{length-slice_split}
 use Rattle.std.proofs.lemmas.Option.{none-some, same_Some}
 use Rattle.std.specs.List.{zip}
 use Rattle.std.specs.Option.{option_and_then, option_map}
+use Rattle.std.specs.Result.{result_ok, result_err}
 use Rattle.race_records.specs.Declarations.{Declaration}
 use Rattle.race_text.specs.declared.cause.TextCause.{TextCause}
 use Rattle.race_text.specs.declared.form.Field.{Field}
-use Rattle.race_text.specs.Fault.{field_cause, lesser, rank}
+use Rattle.race_text.specs.Fault.{field_cause}
+use Rattle.race_text.specs.Least.{then_says, says_by, both_say, lesser}
 use Rattle.race_text.specs.Words.{parts_left}
 
 -- a chain that gives something did so at each step
@@ -23,15 +25,47 @@ pub map_some : {A B : Type 0} (f : A → B) (o : Option A) (y : B) → option_ma
 map_some f None y h = absurd (none-some y h)
 map_some f (Some x) y h = (x, refl, same_Some (f x) y h)
 
+-- what a word says is no cause, and is one thing
+pub ok-err : {A : Type 0} (x : A) (cause : TextCause) → Ok x ≡ Err cause → ⊥
+ok-err x cause h = none-some x (sym (ap result_ok h))
+
+pub same_Ok : {A : Type 0} (x y : A) → ◌≡◌ {A = Result A TextCause} (Ok x) (Ok y) → x ≡ y
+same_Ok x y h = same_Some x y (ap result_ok h)
+
+pub ok_is : {A : Type 0} (r : Result A TextCause) (x : A) → result_ok r ≡ Some x → r ≡ Ok x
+ok_is (Ok x) y h = ap Ok (same_Some x y h)
+ok_is (Err cause) y h = absurd (none-some y h)
+
+-- a word at which no cause holds says something
+pub fine_is_ok : {A : Type 0} (r : Result A TextCause) → result_err r ≡ None → (x : A) × (r ≡ Ok x)
+fine_is_ok (Ok x) h = (x, refl)
+fine_is_ok (Err cause) h = absurd (none-some cause (sym h))
+
+pub ok_or_is : {A : Type 0} (o : Option A) (cause : TextCause) (x : A) → ok_or o cause ≡ Ok x → o ≡ Some x
+ok_or_is (Some x) cause y h = ap Some (same_Ok x y h)
+ok_or_is None cause y h = absurd (ok-err y cause (sym h))
+
+-- so did each word of which something is made
+pub then_is : {A B : Type 0} (f : A → Result B TextCause) (r : Result A TextCause) (y : B) → then_says f r ≡ Ok y → (x : A) × (r ≡ Ok x) × (f x ≡ Ok y)
+then_is f (Ok x) y h = (x, refl, h)
+then_is f (Err cause) y h = absurd (ok-err y cause (sym h))
+
+pub with_is : {A B : Type 0} (f : A → B) (r : Result A TextCause) (y : B) → says_by f r ≡ Ok y → (x : A) × (r ≡ Ok x) × (f x ≡ y)
+with_is f (Ok x) y h = (x, refl, same_Ok (f x) y h)
+with_is f (Err cause) y h = absurd (ok-err y cause (sym h))
+
+pub both_are : {A B C : Type 0} (f : A → B → Result C TextCause) (r : Result A TextCause) (s : Result B TextCause) (y : C) → both_say f r s ≡ Ok y
+    → (a : A) × (b : B) × (r ≡ Ok a) × (s ≡ Ok b) × (f a b ≡ Ok y)
+both_are f (Ok a) (Ok b) y h = (a, b, refl, refl, h)
+both_are f (Ok a) (Err cause) y h = absurd (ok-err y cause (sym h))
+both_are f (Err cause) (Ok b) y h = absurd (ok-err y cause (sym h))
+both_are f (Err first) (Err second) y h = absurd (ok-err y _ (sym h))
+
 -- no cause holds of a chain just where none holds of its parts
 pub lesser_none : (a b : Option TextCause) → lesser a b ≡ None → (a ≡ None) × (b ≡ None)
 lesser_none None b h = (refl, h)
 lesser_none (Some a) None h = absurd (none-some a (sym h))
-lesser_none (Some a) (Some b) h = by (nat_le (rank a) (rank b)) h
-  where
-    by : (t : Bool) → (if t then Some a else Some b) ≡ None → (Some a ≡ None) × (Some b ≡ None)
-    by true h = absurd (none-some a (sym h))
-    by false h = absurd (none-some b (sym h))
+lesser_none (Some a) (Some b) h = absurd (none-some _ (sym h))
 
 -- the least cause of what is left, after that of the fields before
 abbrev pub cause_on : List Declaration → Option TextCause → List Field → List (List ℕ) → Option TextCause
@@ -59,13 +93,4 @@ counted None i count total e low high = grind (arith, nat_tests)
 counted (Some rest) i count total e low high =
     let some = length-slice_split (λ b. b == 32) rest.now in
     let over : count < total = omega (arith, some, e) in
-    grind (arith, nat_tests, over)
-
--- after as many cuts as there may be pieces, something is left just where there are more
-pub counted_more : (left : Option (Bor (List ℕ))) (i most total : ℕ) → length (parts_left 44 left) + i ≡ total → i ≤ most → most ≤ i
-    → is_some left ≡ nat_lt most total
-counted_more None i most total e low high = grind (arith, nat_tests)
-counted_more (Some rest) i most total e low high =
-    let some = length-slice_split (λ b. b == 44) rest.now in
-    let over : most < total = omega (arith, some, e, low, high) in
     grind (arith, nat_tests, over)

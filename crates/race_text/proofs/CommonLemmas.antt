@@ -1,6 +1,6 @@
 -- A line of a common word says its event.
 use Rattle.std.proofs.Common.{◌≡◌, ◌≢◌, ℕ, ◌+◌, ◌<◌, ◌≤◌, ◌-◌, ◌==◌, ◌&&◌, nat_le, not, if◌then◌else◌, length}
-use Rattle.std.proofs.Common.{take, drop, get_or, arith, Bool, true, false, List, [], ◌∷◌, ◌++◌, Some, None}
+use Rattle.std.proofs.Common.{take, drop, get_or, arith, Bool, true, false, true≢false, sym, List, [], ◌∷◌, ◌++◌, Some, None, Ok}
 use Rattle.std.proofs.Common.{ap, ◌∙◌}
 use Rattle.std.proofs.Common.{Option}
 use Rattle.std.proofs.lemmas.Bool.Decides.{nat_tests}
@@ -8,6 +8,7 @@ use Rattle.std.proofs.lemmas.List.{length-take-le}
 use Rattle.std.proofs.lemmas.Nat.{trailing_le}
 use Rattle.std.specs.List.{list_all}
 use Rattle.std.specs.Option.{option_and_then, option_map}
+use Rattle.std.specs.Result.{result_ok}
 use Rattle.race_records.specs.declared.event.Op.{Op}
 use Rattle.race_records.specs.declared.kind.Kind.{Kind}
 use Rattle.race_records.specs.declared.kind.Named.{Named}
@@ -23,10 +24,12 @@ use Rattle.race_records.specs.Parts.{op_by, part_kinds, has_two_places}
 use Rattle.race_text.specs.Words.{parts_of}
 use Rattle.race_text.specs.declared.form.Word.{Word}
 use Rattle.race_text.specs.Form.{has_word, word_named, first_word}
-use Rattle.race_text.specs.Reading.{ReadPart, ReadParts, ReadOp, occurrence, parts_on}
+use Rattle.race_text.specs.Least.{says_by}
+use Rattle.race_text.specs.Meaning.{named_in, part_in}
+use Rattle.race_text.specs.Reading.{ReadPart, ReadParts, ReadOp, occurrence, with_rest, first_part, parts_on}
 use Rattle.race_text.specs.Reading.{goroutine_of, with_no_rest, last_place, op_before, op_in}
 use Rattle.race_text.specs.Reading.{last_places, event_of, event_by, event_in}
-use Rattle.race_text.specs.Common.{IsMarked, words_in, CutsWord, SaysVerb, SaysObject, SaysValue, SaysDeed, SaysPlace, SaysEvent, value_kinds, value_parts}
+use Rattle.race_text.specs.Common.{IsMarked, words_in, CutsWord, SaysVerb, SaysObject, SaysValue, SaysDeed, SaysPlace, SaysEvent, names_object, value_kinds, value_parts}
 use Rattle.race_text.proofs.MarkLemmas.{first_part_is, within_line, word_is_seen, cuts_last}
 use Rattle.race_text.proofs.WordTable.{word_of_version}
 
@@ -37,6 +40,21 @@ says_verb bytes len rest verb cut named each = record {
   says = λ version ds.
       ap (event_in version ds) cut.words
       ∙ ap (λ w. event_by ds w (words_in rest)) (word_of_version version (take len bytes) (Word.Does verb) named (each version));
+  behind = cut.behind;
+}
+
+-- a name is what it stands for, where that is wanted
+object_said : (ds : List Declaration) (kind : PartKind) (w : List ℕ) (named : Named) → names_object kind ≡ true → named_in ds kind w ≡ Ok named
+    → part_in ds kind w ≡ Ok (Part.Object named)
+object_said ds (PartKind.Object kind) w named object h = ap (says_by Part.Object) h
+object_said ds PartKind.RwMutex w named object h = ap (says_by Part.Object) h
+object_said ds _ w named object h = absurd (true≢false (sym object))
+
+pub says_named : (ds : List Declaration) (kind : PartKind) (bytes : List ℕ) (len : ℕ) (rest : List ℕ) (named : Named)
+    → CutsWord bytes len rest → names_object kind ≡ true → named_in ds kind (take len bytes) ≡ Ok named → SaysObject ds kind bytes named rest
+says_named ds kind bytes len rest named cut object is = record {
+  says = ap (first_part ds kind) cut.words
+      ∙ ap (λ r. option_map (with_rest (words_in rest)) (result_ok r)) (object_said ds kind (take len bytes) named object is);
   behind = cut.behind;
 }
 

@@ -1,6 +1,6 @@
 -- What the words of a line say of the declaration that it is.
 use Rattle.std.proofs.Common.{◌≡◌, ℕ, ◌^◌, ◌==◌, ◌<◌, ◌≤◌, ◌&&◌, Bool, true, false, not, if◌then◌else◌, nat_le, List, [], ◌∷◌}
-use Rattle.std.proofs.Common.{length, Option, Some, None, is_some, is_none, option_map, Err, refl, sym, ap, subst, ◌∙◌, arith}
+use Rattle.std.proofs.Common.{length, Option, Some, None, is_some, ok_or, option_map, Err, refl, sym, ap, subst, ◌∙◌, arith}
 use Rattle.std.proofs.Common.{true≢false}
 use Rattle.std.proofs.lemmas.Bool.Decides.{nat_tests}
 use Rattle.std.proofs.lemmas.List.Splits.{join_with_byte-slice_split}
@@ -13,6 +13,7 @@ use Rattle.std.specs.Str.{bytes_eq}
 use Rattle.race_records.specs.Refusal.{Refuses, AllowsUnless}
 use Rattle.std.specs.Fmt.{decimal}
 use Rattle.std.specs.Option.{option_and_then}
+use Rattle.std.specs.Result.{result_err}
 use Rattle.std.specs.Str.Parse.{digits_value}
 use Rattle.race_records.specs.declared.declarations.DeclFault.{DeclFault}
 use Rattle.race_records.specs.declared.kind.Kind.{Kind}
@@ -27,7 +28,9 @@ use Rattle.race_text.specs.declared.form.Field.{Field}
 use Rattle.race_text.specs.declared.form.Word.{Word}
 use Rattle.race_text.specs.Words.{words_of, number, parts_left}
 use Rattle.race_text.specs.Form.{word_named, first_word, arguments, number_fields}
-use Rattle.race_text.specs.Fault.{or_else, lesser, field_cause, fields_cause, new_name_cause, number_cause}
+use Rattle.race_text.specs.Fault.{or_else, field_cause, fields_cause, new_name_cause}
+use Rattle.race_text.specs.Least.{lesser}
+use Rattle.race_text.specs.Meaning.{number_in}
 use Rattle.race_text.specs.Fault.{number_behind, room_cause, word_cause, seen_so_far, declaration}
 use Rattle.race_text.specs.Fault.{declaration_in, declared_as}
 use Rattle.race_text.specs.Declaring.{is_declaration_word, is_declaration_line, declaration_cause, noun_cause, object_read}
@@ -35,7 +38,7 @@ use Rattle.race_text.specs.Writing.{number_words}
 use Rattle.race_text.proofs.WordLemmas.{name_is_visible}
 use Rattle.race_text.proofs.NumberLemmas.{number-some}
 use Rattle.race_text.proofs.PartWords.{number_spelled}
-use Rattle.race_text.proofs.CauseLemmas.{lesser_none}
+use Rattle.race_text.proofs.CauseLemmas.{lesser_none, fine_is_ok, ok_or_is}
 
 -- a line, by its first word and the others
 module _ (line first : List ℕ) (args : List (List ℕ)) (word : Option Word) (words : words_of line ≡ first ∷ args) (named : word ≡ word_named first) where
@@ -71,12 +74,12 @@ number_parts limit w n h = by (bytes_eq w (decimal (digits_value 10 w))) (nat_le
     by true false e h = absurd (none-some n h)
     by false c e h = absurd (none-some n h)
 
-is_number : (limit : ℕ) (w : List ℕ) → number_cause limit w ≡ None → IsNumber limit w
-is_number limit w h = by (number limit w) refl h
-  where
-    by : (o : Option ℕ) → number limit w ≡ o → (if is_none o then Some TextCause.BadNumber else None) ≡ None → IsNumber limit w
-    by None e h = absurd (none-some TextCause.BadNumber (sym h))
-    by (Some n) e h = let parts = number_parts limit w n e in record { n = n; is = e; low = parts.0; value = parts.1; text = number_spelled limit w n e }
+is_number : (limit : ℕ) (w : List ℕ) → result_err (number_in limit w) ≡ None → IsNumber limit w
+is_number limit w h =
+    let said = fine_is_ok (number_in limit w) h in
+    let is = ok_or_is (number limit w) TextCause.BadNumber said.0 said.1 in
+    let parts = number_parts limit w said.0 is in
+    record { n = said.0; is = is; low = parts.0; value = parts.1; text = number_spelled limit w said.0 is }
 
 -- the words behind a noun, where no cause holds of them
 pub record IsThere (ds : List Declaration) (noun : Noun) (args : List (List ℕ)) : Type 0 where
@@ -148,8 +151,8 @@ is_named ds kind None (name ∷ w ∷ ws) h = absurd (too_many (length (name ∷
 is_named ds kind (Some limit) [] h = absurd (none-some TextCause.WrongCount (sym h))
 is_named ds kind (Some limit) (name ∷ []) h = absurd (none-some TextCause.WrongCount (sym h))
 is_named ds kind (Some limit) (name ∷ w ∷ []) h =
-    let parts = both_none (lesser (new_name_cause ds name) (number_cause limit w)) (room_cause (seen_so_far ds 0) (Some kind)) h in
-    let causes = lesser_none (new_name_cause ds name) (number_cause limit w) parts.0 in
+    let parts = both_none (lesser (new_name_cause ds name) (result_err (number_in limit w))) (room_cause (seen_so_far ds 0) (Some kind)) h in
+    let causes = lesser_none (new_name_cause ds name) (result_err (number_in limit w)) parts.0 in
     let number = is_number limit w causes.1 in
     record {
       name = name;
@@ -270,8 +273,8 @@ fine_words : (ds : List Declaration) (kind : Kind) (limit number : Option ℕ) (
 unfolding field_cause
 fine_words ds kind None None name wanted small free room = λ i. or_else (free i) (room i)
 fine_words ds kind (Some l) (Some n) name wanted small free room =
-    let number_fine : number_cause l (decimal n) ≡ None =
-    ap (λ o. if is_none o then Some TextCause.BadNumber else None) (number-some l n (decimal n) (small l refl) wanted refl) in
+    let number_fine : result_err (number_in l (decimal n)) ≡ None =
+    ap (λ o. result_err (ok_or o TextCause.BadNumber)) (number-some l n (decimal n) (small l refl) wanted refl) in
     λ i. or_else (lesser (free i) (number_fine i)) (room i)
 fine_words ds kind None (Some n) name wanted small free room = absurd wanted
 fine_words ds kind (Some l) None name wanted small free room = absurd wanted

@@ -1,10 +1,11 @@
 -- What the words of an event line say: a goroutine, the parts of an operation, and its places.
 use Rattle.std.proofs.Common.{◌≡◌, ℕ, ◌==◌, Bool, true, false, not, if◌then◌else◌, List, [], ◌∷◌, ◌++◌}
-use Rattle.std.proofs.Common.{length, map, suc, Option, Some, None, refl, sym, ap, subst, ◌∙◌, arith}
+use Rattle.std.proofs.Common.{length, map, suc, Option, Some, None, Ok, refl, sym, ap, subst, ◌∙◌, arith}
 use Rattle.std.proofs.Common.{true≢false}
 use Rattle.std.proofs.lemmas.Bool.Decides.{nat_tests, Decides-eqb}
 use Rattle.std.proofs.lemmas.Option.{none-some, same_Some}
 use Rattle.std.specs.Option.{option_and_then, option_map}
+use Rattle.std.specs.Result.{result_ok, result_err}
 use Rattle.race_records.specs.declared.event.Op.{Op}
 use Rattle.race_records.specs.declared.kind.Kind.{Kind}
 use Rattle.race_records.specs.declared.kind.Named.{Named}
@@ -19,12 +20,13 @@ use Rattle.race_text.specs.declared.form.Field.{Field}
 use Rattle.race_text.specs.declared.form.Word.{Word}
 use Rattle.race_text.specs.Text.{place_words}
 use Rattle.race_text.specs.Form.{place_fields, fields_of, kind_declared}
-use Rattle.race_text.specs.Fault.{or_else, seen_so_far, part_cause, field_cause, fields_cause, room_cause, word_cause}
-use Rattle.race_text.specs.Reading.{Occurrence, Places, occurrence, ReadPart, ReadParts, with_rest, part_in}
+use Rattle.race_text.specs.Fault.{or_else, seen_so_far, field_cause, fields_cause, room_cause, word_cause}
+use Rattle.race_text.specs.Reading.{Occurrence, Places, occurrence, ReadPart, ReadParts, with_rest}
+use Rattle.race_text.specs.Meaning.{part_in}
 use Rattle.race_text.specs.Reading.{first_part, parts_on, last_places, goroutine_of, ReadOp, op_before}
 use Rattle.race_text.specs.Reading.{event_of, event_behind}
-use Rattle.race_text.proofs.CauseLemmas.{and_then_some, map_some, cause_on}
-use Rattle.race_text.proofs.PartWords.{first_part_is, read_suits, IsPart, is_part, AreParts, are_read, words_count, words_fine, part_is_there, are_there}
+use Rattle.race_text.proofs.CauseLemmas.{and_then_some, map_some, cause_on, fine_is_ok}
+use Rattle.race_text.proofs.PartWords.{first_part_is, read_suits, IsPart, is_part, AreParts, are_read, words_count, words_fine, are_there}
 use Rattle.race_text.proofs.PlaceWords.{ArePlaces, places_read, are_places, places_count, places_fine, places_are_there}
 
 pub goroutine_is : (part : Part) (n : ℕ) → goroutine_of part ≡ Some n → part ≡ Part.Object (Named.Goroutine n)
@@ -115,21 +117,21 @@ module _ (decls : DeclsState) (holds : IsWellFormed decls) (verb : Verb) (words 
       let count = (Decides-eqb (length (is.who ∷ args)) (length (fields_of (Word.Does verb)))).1
       (ap suc (words_count decls holds (place_fields two) places (places_count two (o.place, o.place2) is.places_are) (part_kinds verb) is.ws is.parts is.are))
       in
-      let none : cause_on ds (part_cause ds a_goroutine is.who) fields args ≡ None =
-      ap (λ c. cause_on ds c fields args) is.who_is.no_cause
+      let none : cause_on ds (result_err (part_in ds a_goroutine is.who)) fields args ≡ None =
+      ap (λ r. cause_on ds (result_err r) fields args) is.who_is.says
       ∙ words_fine decls holds (place_fields two) places (places_fine ds two (o.place, o.place2) is.places_are) (part_kinds verb) is.ws is.parts is.are in
       (λ i. word_cause (seen_so_far ds events) (Some (Word.Does verb)) (is.words_are i))
       ∙ (λ i. if not (count i) then Some TextCause.WrongCount else or_else (none i) (room_cause (seen_so_far ds events) None))
 
 -- a goroutine, parts and places say the event
 pub said_by : (ds : List Declaration) (verb : Verb) (g : List ℕ) (ws : List (List ℕ)) (who : ℕ) (parts : List Part) (op : Op) (places : Places)
-    → part_in ds a_goroutine g ≡ Some (Part.Object (Named.Goroutine who))
+    → part_in ds a_goroutine g ≡ Ok (Part.Object (Named.Goroutine who))
     → parts_on ds [] (part_kinds verb) ws ≡ Some (parts, place_words places.0 places.1) → op_by verb parts ≡ Some op
     → ArePlaces (has_two_places verb) places → event_behind ds verb (g ∷ ws) ≡ Some (occurrence who op places)
 unfolding behind_parts behind_op
 said_by ds verb g ws who parts op places first read is are =
     ap (λ o. option_and_then (λ (first : ReadPart). option_and_then (λ who. event_of ds verb who first.1) (goroutine_of first.0))
-    (option_map (with_rest ws) o)) first
+    (option_map (with_rest ws) (result_ok o))) first
     ∙ event_by_parts ds verb who ws
     ∙ ap (option_and_then (behind_parts verb who)) read
     ∙ ap (option_and_then (behind_op verb who (place_words places.0 places.1))) is
@@ -160,11 +162,11 @@ event_is_there ds events verb [] fine none = let count = (count_is ds events (Wo
 event_is_there ds events verb (g ∷ ws) fine none =
     let both = count_is ds events (Word.Does verb) (g ∷ ws) fine in
     let count = both.0 in
-    let there = are_there ds (place_fields (has_two_places verb)) (part_kinds verb) ws (part_cause ds a_goroutine g) (omega (arith, count)) both.1 in
-    let first = part_is_there ds a_goroutine g there.before in
+    let there = are_there ds (place_fields (has_two_places verb)) (part_kinds verb) ws (result_err (part_in ds a_goroutine g)) (omega (arith, count)) both.1 in
+    let first = fine_is_ok (part_in ds a_goroutine g) there.before in
     let who = goroutine_is_there first.0 (read_suits ds a_goroutine g first.0 first.1) in
     let op = op_is_there verb there.parts there.suit_is in
     let places = places_are_there ds (has_two_places verb) there.rest there.count there.fine in
     none-some (occurrence who.0 op.0 places.0)
-    (sym none ∙ said_by ds verb g ws who.0 there.parts op.0 places.0 (first.1 ∙ ap Some who.1)
+    (sym none ∙ said_by ds verb g ws who.0 there.parts op.0 places.0 (first.1 ∙ ap Ok who.1)
     (there.read [] ∙ (λ i. Some (there.parts, places.2 i))) op.1 places.1)

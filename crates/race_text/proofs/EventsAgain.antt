@@ -1,12 +1,13 @@
 -- The line of an event says the event.
 use Rattle.std.proofs.Common.{◌≡◌, ℕ, ◌-◌, ◌^◌, ◌<◌, Bool, true, false, true≢false, List, [], ◌∷◌, ◌++◌, length, map}
-use Rattle.std.proofs.Common.{unwrap_or, Option, Some, None, option_map, refl, sym, ap, ◌∙◌, arith, append-nil}
+use Rattle.std.proofs.Common.{unwrap_or, Option, Some, None, Ok, ok_or, option_map, refl, sym, ap, ◌∙◌, arith, append-nil}
 use Rattle.std.proofs.Common.{append_assoc}
 use Rattle.std.proofs.lemmas.Bool.Decides.{nat_tests}
 use Rattle.std.proofs.lemmas.Option.{slice_get-get_or}
 use Rattle.std.specs.Fmt.{decimal}
 use Rattle.std.specs.List.{list_all}
 use Rattle.std.specs.Option.{option_and_then}
+use Rattle.std.specs.Result.{result_ok}
 use Rattle.race_records.specs.declared.event.Event.{Event}
 use Rattle.race_records.specs.declared.event.Op.{Op}
 use Rattle.race_records.specs.declared.kind.Kind.{Kind}
@@ -18,11 +19,14 @@ use Rattle.race_records.specs.Declarations.{Declaration, DeclsState, IsWellForme
 use Rattle.race_records.specs.Events.{fits, op_fits, has_op, lock_fits, op_is_limited, second_place_fits}
 use Rattle.race_records.specs.Parts.{says, has_two_places, part_fits, part_is_limited, part_kinds}
 use Rattle.race_records.proofs.PartLaws.{says_again}
+use Rattle.race_text.specs.declared.cause.TextCause.{TextCause}
 use Rattle.race_text.specs.declared.form.Word.{Word}
 use Rattle.race_text.specs.Words.{words_of}
 use Rattle.race_text.specs.Form.{is_wanted}
 use Rattle.race_text.specs.Text.{line_of, goroutine_name, place_text, second_text, place_words, op_words, event_line}
-use Rattle.race_text.specs.Reading.{Occurrence, Places, occurrence, ReadPart, named_in, part_in, parts_on, with_rest, event_by, event_in}
+use Rattle.race_text.specs.Reading.{Occurrence, Places, occurrence, ReadPart, parts_on, with_rest, event_by, event_in}
+use Rattle.race_text.specs.Least.{says_by}
+use Rattle.race_text.specs.Meaning.{named_in, part_in}
 use Rattle.race_text.specs.Writing.{verb_text, part_text}
 use Rattle.race_text.proofs.CaseWords.{cases_again, cases_visible}
 use Rattle.race_text.proofs.FailureWords.{failure_again}
@@ -48,24 +52,24 @@ module _ (decls : DeclsState) (holds : IsWellFormed decls) where
 
   -- what is printed of an object says the object, and can be seen
   named_again : (kind : PartKind) (named : Named) → is_wanted ds kind named ≡ true → part_fits ds (Part.Object named) ≡ true
-      → (option_map Part.Object (named_in ds kind (part_text ds (Part.Object named))) ≡ Some (Part.Object named))
+      → (says_by Part.Object (named_in ds kind (part_text ds (Part.Object named))) ≡ Ok (Part.Object named))
       × (list_all is_place_byte (part_text ds (Part.Object named)) ≡ true)
   named_again kind named wanted fit =
       let again = used_again decls holds kind named wanted (grind (arith, nat_tests, fit)) in
-      (ap (option_map Part.Object) again.0, name_is_visible (part_text ds (Part.Object named)) again.1)
+      (ap (says_by Part.Object) again.0, name_is_visible (part_text ds (Part.Object named)) again.1)
 
   -- of any part
   pub part_again : (kind : PartKind) (part : Part) → part_is_wanted ds kind part ≡ true → part_fits ds part ≡ true → part_is_limited part ≡ true
-      → (part_in ds kind (part_text ds part) ≡ Some part) × (list_all is_place_byte (part_text ds part) ≡ true)
+      → (part_in ds kind (part_text ds part) ≡ Ok part) × (list_all is_place_byte (part_text ds part) ≡ true)
   part_again (PartKind.Object kind) (Part.Object named) wanted fit low = named_again (PartKind.Object kind) named wanted fit
   part_again PartKind.RwMutex (Part.Object named) wanted fit low = named_again PartKind.RwMutex named wanted fit
   part_again PartKind.Value (Part.Value v) wanted fit low =
       let read = number-some (2 ^ 64 - 1) v (decimal v) (omega arith) (grind (arith, nat_tests, low)) refl in
-      (ap (option_map Part.Value) read, number_is_visible (2 ^ 64 - 1) (decimal v) v (omega arith) read)
+      (ap (λ o. says_by Part.Value (ok_or o TextCause.BadNumber)) read, number_is_visible (2 ^ 64 - 1) (decimal v) v (omega arith) read)
   part_again PartKind.Cases (Part.Cases cases) wanted fit low =
-      (ap (option_map Part.Cases) (cases_again decls holds cases fit low), cases_visible decls holds cases fit)
+      (ap (says_by Part.Cases) (cases_again decls holds cases fit low), cases_visible decls holds cases fit)
   part_again PartKind.Cause (Part.Cause cause) wanted fit low =
-      let again = failure_again decls holds cause fit wanted in (ap (option_map Part.Cause) again.0, again.1)
+      let again = failure_again decls holds cause fit wanted in (ap (says_by Part.Cause) again.0, again.1)
   part_again _ _ wanted fit low = absurd (true≢false (sym wanted))
 
   pub parts_again : (got : List Part) (kinds : List PartKind) (parts : List Part) (rest : List (List ℕ)) → are_wanted ds kinds parts ≡ true
@@ -79,7 +83,7 @@ module _ (decls : DeclsState) (holds : IsWellFormed decls) where
       let first = part_again kind part wants.0 fits.0 lows.0 in
       let others = parts_again (got ++ part ∷ []) kinds parts rest wants.1 fits.1 lows.1 visible in (
         ap (λ o. option_and_then (λ (r : ReadPart). parts_on ds (got ++ r.0 ∷ []) kinds r.1)
-            (option_map (with_rest (map (part_text ds) parts ++ rest)) o)) first.0
+            (option_map (with_rest (map (part_text ds) parts ++ rest)) (result_ok o))) first.0
             ∙ others.0 ∙ (λ i. Some (append_assoc got (part ∷ []) parts i, rest)),
         (first.1, others.1),
       )

@@ -1,12 +1,12 @@
 -- What the word says that tells why a run failed.
 use Rattle.std.proofs.Common.{◌≡◌, ℕ, Bool, true, false, true≢false, if◌then◌else◌, List, [], ◌∷◌}
-use Rattle.std.proofs.Common.{◌++◌, map, codes, unwrap_or, Option, Some, None, refl, sym, ap, subst}
+use Rattle.std.proofs.Common.{◌++◌, map, codes, unwrap_or, Option, Some, None, ok_or, Ok, refl, sym, ap, subst}
 use Rattle.std.proofs.Common.{◌∙◌, arith}
 use Rattle.std.proofs.lemmas.Bool.Decides.{nat_tests}
 use Rattle.std.proofs.lemmas.Option.{none-some, same_Some}
 use Rattle.std.proofs.lemmas.Slice.Eq.{bytes_eq-Decides}
 use Rattle.std.specs.List.{list_all}
-use Rattle.std.specs.Option.{option_and_then, option_map, option_map_or}
+use Rattle.std.specs.Option.{option_map_or}
 use Rattle.std.specs.Str.{bytes_eq}
 use Rattle.race_records.specs.declared.event.Cause.{Cause}
 use Rattle.race_records.specs.declared.event.Cause.TheVariants.{SendClosed, CloseClosed, CloseNil, UnlockFree, RUnlockFree}
@@ -23,11 +23,11 @@ use Rattle.race_text.specs.declared.select.TheConstants.{ATTEMPTS}
 use Rattle.race_text.specs.Form.{is_wanted}
 use Rattle.race_text.specs.Select.{close_nil, behind, SpelledFailure, failure_by, failure_among, failure_spelled, kind_tried, cause_by}
 use Rattle.race_text.specs.Text.{failure_text}
-use Rattle.race_text.specs.Fault.{spelled_failure_cause, failure_cause}
-use Rattle.race_text.specs.Reading.{named_in, spelled_failure_in, failure_in}
+use Rattle.race_text.specs.Least.{then_says, says_by}
+use Rattle.race_text.specs.Meaning.{named_in, spelled_failure_in, failure_in}
 use Rattle.race_text.proofs.CaseWords.{behind_is, not_nil}
-use Rattle.race_text.proofs.CauseLemmas.{and_then_some, map_some}
-use Rattle.race_text.proofs.UsedNames.{used_is_there, is_used, used_again}
+use Rattle.race_text.proofs.CauseLemmas.{same_Ok, then_is, with_is, ok_or_is}
+use Rattle.race_text.proofs.UsedNames.{is_used, used_again}
 use Rattle.race_text.proofs.WordLemmas.{both, name_is_visible}
 
 -- the front of the word
@@ -72,16 +72,17 @@ module _ (decls : DeclsState) (holds : IsWellFormed decls) where
 
   -- what is printed of a failure of an attempt says it, and can be seen
   abbrev IsAgain : Cause → Type 0
-  IsAgain cause = (failure_in ds (failure_text ds cause) ≡ Some cause) × (list_all is_place_byte (failure_text ds cause) ≡ true)
+  IsAgain cause = (failure_in ds (failure_text ds cause) ≡ Ok cause) × (list_all is_place_byte (failure_text ds cause) ≡ true)
 
   tried_again : (attempt : Attempt) (named : Named) → is_wanted ds (kind_tried attempt) named ≡ true → IsDeclared ds named
-      → (failure_in ds (attempt_text attempt ++ unwrap_or (name_of ds named) []) ≡ Some (cause_by attempt named))
+      → (failure_in ds (attempt_text attempt ++ unwrap_or (name_of ds named) []) ≡ Ok (cause_by attempt named))
       × (list_all is_place_byte (attempt_text attempt ++ unwrap_or (name_of ds named) []) ≡ true)
   tried_again attempt named is less =
       let name = unwrap_or (name_of ds named) [] in
       let again = used_again decls holds (kind_tried attempt) named is less in (
-        (λ i. if not_close_nil attempt name again.1 i then Some CloseNil else option_and_then (spelled_failure_in ds) (spelled_again attempt name i))
-            ∙ ap (option_map (cause_by attempt)) again.0,
+        (λ i. if not_close_nil attempt name again.1 i then Ok CloseNil
+            else then_says (spelled_failure_in ds) (ok_or (spelled_again attempt name i) TextCause.BadName))
+            ∙ ap (says_by (cause_by attempt)) again.0,
         attempt_visible attempt name again.1,
       )
 
@@ -98,7 +99,6 @@ module _ (decls : DeclsState) (holds : IsWellFormed decls) where
     pub text : w ≡ failure_text ds cause
     pub fits : part_fits ds (Part.Cause cause) ≡ true
     pub lock : lock_fits ds (Fault cause) ≡ true
-    pub no_cause : failure_cause ds w ≡ None
 
   -- of the cause of an attempt at what is wanted
   record IsTried (attempt : Attempt) (named : Named) : Type 0 where
@@ -113,40 +113,27 @@ module _ (decls : DeclsState) (holds : IsWellFormed decls) where
   is_tried Attempt.RUnlock (Named.Lock l) wanted = record { text = refl; at = refl; lock = wanted }
   is_tried _ _ wanted = absurd (true≢false (sym wanted))
 
-  pub is_failure : (w : List ℕ) (cause : Cause) → failure_in ds w ≡ Some cause → IsFailure w cause
+  pub is_failure : (w : List ℕ) (cause : Cause) → failure_in ds w ≡ Ok cause → IsFailure w cause
   is_failure w cause h = by (bytes_eq w close_nil) refl h
     where
-      by : (b : Bool) → bytes_eq w close_nil ≡ b → (if b then Some CloseNil else option_and_then (spelled_failure_in ds) (failure_spelled w)) ≡ Some cause
+      by : (b : Bool) → bytes_eq w close_nil ≡ b
+          → (if b then Ok CloseNil else then_says (spelled_failure_in ds) (ok_or (failure_spelled w) TextCause.BadName)) ≡ Ok cause
           → IsFailure w cause
-      by true e h = subst (IsFailure w) (same_Some CloseNil cause h) (record {
+      by true e h = subst (IsFailure w) (same_Ok CloseNil cause h) (record {
         text = (bytes_eq-Decides w close_nil).0 e;
         fits = refl;
         lock = refl;
-        no_cause = ap (λ t. if t then None else spelled_failure_cause ds (failure_spelled w)) e;
       })
       by false e h =
-          let a = and_then_some (spelled_failure_in ds) (failure_spelled w) cause h in
+          let a = then_is (spelled_failure_in ds) (ok_or (failure_spelled w) TextCause.BadName) cause h in
           let attempt = a.0.0 in
-          let read = map_some (cause_by attempt) (named_in ds (kind_tried attempt) a.0.1) cause a.2 in
-          let used = is_used decls holds (kind_tried attempt) a.0.1 read.0 read.1 in
+          let read = with_is (cause_by attempt) (named_in ds (kind_tried attempt) a.0.1) cause a.2 in
+          let used = is_used ds (kind_tried attempt) a.0.1 read.0 read.1 in
           let tried = is_tried attempt read.0 used.wanted in
           let less = used.declared in
           let in_range : named_is_in_range (counts_of ds) read.0 ≡ true = grind (arith, nat_tests, less) in
           subst (IsFailure w) read.2 (record {
-            text = spelled_is w a.0 a.1 ∙ ap (λ name. attempt_text attempt ++ name) used.text ∙ tried.text;
+            text = spelled_is w a.0 (ok_or_is (failure_spelled w) TextCause.BadName a.0 a.1) ∙ ap (λ name. attempt_text attempt ++ name) used.text ∙ tried.text;
             fits = ap (λ o. option_map_or (named_is_in_range (counts_of ds)) o true) tried.at ∙ in_range;
             lock = tried.lock;
-            no_cause = (λ i. if e i then None else spelled_failure_cause ds (a.1 i)) ∙ used.no_cause;
           })
-
--- where nothing is wrong with a word, it says a failure
-pub failure_is_there : (ds : List Declaration) (w : List ℕ) → failure_cause ds w ≡ None → (cause : Cause) × (failure_in ds w ≡ Some cause)
-failure_is_there ds w h = by (bytes_eq w close_nil) (failure_spelled w) h
-  where
-    by : (a : Bool) (o : Option SpelledFailure) → (if a then None else spelled_failure_cause ds o) ≡ None
-        → (cause : Cause) × ((if a then Some CloseNil else option_and_then (spelled_failure_in ds) o) ≡ Some cause)
-    by true o h = (CloseNil, refl)
-    by false None h = absurd (none-some TextCause.BadName (sym h))
-    by false (Some (attempt, name)) h =
-        let there = used_is_there ds (kind_tried attempt) name h in
-        (cause_by attempt there.0, ap (option_map (cause_by attempt)) there.1)

@@ -59,14 +59,6 @@ found_is_name decls word what holds h = elim (found_cases decls.declarations wor
   | inr at ↦ ap is_name (at.name ∙ ap (λ (d : Declaration). d.name) (sym (at.at_all at.d))) ∙ holds.names at.i at.d at.within
 ]
 
--- so what has none is not found
-pub unnamed_is_absent : (decls : DeclsState) (word : List ℕ) → IsWellFormed decls → is_name word ≡ false → find_name decls.declarations word ≡ None
-unnamed_is_absent decls word holds h = by (find_name decls.declarations word) refl
-  where
-    by : (o : Option Named) → find_name decls.declarations word ≡ o → o ≡ None
-    by None e = refl
-    by (Some what) e = absurd (true≢false (sym (found_is_name decls word what holds e) ∙ h))
-
 -- an element that passes stands in a filter behind those that pass before it
 slice_get-filter : {X : Type 0} (p : X → Bool) (xs : List X) (i : ℕ) (x : X) → slice_get xs i ≡ Some x → p x ≡ true
     → slice_get (filter p xs) (length (filter p (take i xs))) ≡ Some x

@@ -4,6 +4,7 @@ pub mod WordTable
 pub mod HeaderLemmas
 pub mod UsedNames
 pub mod WantedParts
+pub mod PieceWords
 pub mod CaseWords
 pub mod FailureWords
 pub mod CasePieces
@@ -22,6 +23,7 @@ pub mod GuessLemmas
 pub mod EventWords
 pub mod EventLines
 pub mod TraceLemmas
+pub mod BehindLemmas
 pub mod WordsAgain
 pub mod NamesAgain
 pub mod EventsAgain
@@ -33,6 +35,7 @@ pub mod ReaderLemmas
 pub mod ParseLemmas
 pub mod FedLemmas
 pub mod LineCount
+pub mod StreamLemmas
 pub mod MarkLemmas
 pub mod CommonLemmas
 pub mod TextLaws

@@ -1,6 +1,6 @@
 -- What the words of an operation's parts say, word by word.
 use Rattle.std.proofs.Common.{◌≡◌, ℕ, suc, ◌<◌, ◌-◌, ◌^◌, ◌&&◌, Bool, true, false, if◌then◌else◌, nat_lt, nat_le, List, [], ◌∷◌}
-use Rattle.std.proofs.Common.{◌++◌, length, map, Option, Some, None, is_none, refl, sym, ap, subst, ◌∙◌, arith, append-nil}
+use Rattle.std.proofs.Common.{◌++◌, length, map, Option, Some, None, Ok, refl, sym, ap, subst, ◌∙◌, arith, append-nil}
 use Rattle.std.proofs.Common.{append_assoc}
 use Rattle.std.proofs.lemmas.Bool.Decides.{nat_tests}
 use Rattle.std.proofs.lemmas.Option.{none-some, same_Some}
@@ -8,6 +8,7 @@ use Rattle.std.proofs.lemmas.Slice.Eq.{bytes_eq-Decides}
 use Rattle.std.specs.Fmt.{decimal}
 use Rattle.std.specs.List.{list_all, AllByRecursion}
 use Rattle.std.specs.Option.{option_and_then, option_map}
+use Rattle.std.specs.Result.{result_ok, result_err}
 use Rattle.std.specs.Str.{bytes_eq}
 use Rattle.std.specs.Str.Parse.{digits_value}
 use Rattle.race_records.specs.declared.kind.Named.{Named}
@@ -19,15 +20,17 @@ use Rattle.race_text.specs.declared.cause.TextCause.{TextCause}
 use Rattle.race_text.specs.declared.form.Field.{Field}
 use Rattle.race_text.specs.Words.{has_bad_byte, number}
 use Rattle.race_text.specs.Form.{is_wanted}
-use Rattle.race_text.specs.Fault.{lesser, used_name_cause, part_cause, field_cause}
+use Rattle.race_text.specs.Fault.{field_cause}
+use Rattle.race_text.specs.Least.{lesser, says_by}
+use Rattle.race_text.specs.Meaning.{named_in, value_in, cases_in, failure_in, part_in}
 use Rattle.race_text.specs.Text.{cases_text, failure_text}
-use Rattle.race_text.specs.Reading.{ReadPart, ReadParts, named_in, cases_in, failure_in, part_in, with_rest, first_part, parts_on}
+use Rattle.race_text.specs.Reading.{ReadPart, ReadParts, with_rest, first_part, parts_on}
 use Rattle.race_text.specs.Writing.{part_text}
-use Rattle.race_text.proofs.CaseWords.{is_cases, cases_visible, cases_are_there}
-use Rattle.race_text.proofs.FailureWords.{is_failure, failure_again, failure_is_there}
-use Rattle.race_text.proofs.CauseLemmas.{and_then_some, map_some, lesser_none, cause_on}
+use Rattle.race_text.proofs.CaseWords.{is_cases, cases_visible}
+use Rattle.race_text.proofs.FailureWords.{is_failure, failure_again}
+use Rattle.race_text.proofs.CauseLemmas.{and_then_some, map_some, lesser_none, cause_on, ok_is, fine_is_ok, ok_or_is, with_is}
 use Rattle.race_text.proofs.CleanLemmas.{name_clean, visible_clean, number_is_visible}
-use Rattle.race_text.proofs.UsedNames.{named_is, used_is_there, rwmutex_is_lock, is_used}
+use Rattle.race_text.proofs.UsedNames.{rwmutex_is_lock, is_used}
 use Rattle.race_text.proofs.WantedParts.{part_is_wanted, are_wanted}
 
 -- a number that was read is spelled as it is printed, and is in its limit
@@ -40,7 +43,7 @@ number_spelled limit w n h = by (bytes_eq w (decimal (digits_value 10 w))) refl 
     by true e false h = absurd (none-some n h)
     by false e c h = absurd (none-some n h)
 
-number_within : (limit : ℕ) (w : List ℕ) (n : ℕ) → limit < 2 ^ 64 → number limit w ≡ Some n → nat_lt n (2 ^ 64) ≡ true
+pub number_within : (limit : ℕ) (w : List ℕ) (n : ℕ) → limit < 2 ^ 64 → number limit w ≡ Some n → nat_lt n (2 ^ 64) ≡ true
 unfolding number
 number_within limit w n small h = by (bytes_eq w (decimal (digits_value 10 w))) (nat_le (digits_value 10 w) limit) refl h
   where
@@ -50,24 +53,24 @@ number_within limit w n small h = by (bytes_eq w (decimal (digits_value 10 w))) 
     by false c e h = absurd (none-some n h)
 
 -- what was read is what was wanted
-pub read_suits : (ds : List Declaration) (kind : PartKind) (w : List ℕ) (part : Part) → part_in ds kind w ≡ Some part → suits kind part ≡ true
+pub read_suits : (ds : List Declaration) (kind : PartKind) (w : List ℕ) (part : Part) → part_in ds kind w ≡ Ok part → suits kind part ≡ true
 read_suits ds (PartKind.Object kind) w part h =
-    let read = map_some Part.Object (named_in ds (PartKind.Object kind) w) part h in
-    ap (suits (PartKind.Object kind)) (sym read.2) ∙ (named_is ds (PartKind.Object kind) w read.0 read.1).1
+    let read = with_is Part.Object (named_in ds (PartKind.Object kind) w) part h in
+    ap (suits (PartKind.Object kind)) (sym read.2) ∙ (is_used ds (PartKind.Object kind) w read.0 read.1).wanted
 read_suits ds PartKind.RwMutex w part h =
-    let read = map_some Part.Object (named_in ds PartKind.RwMutex w) part h in
-    ap (suits PartKind.RwMutex) (sym read.2) ∙ rwmutex_is_lock ds read.0 (named_is ds PartKind.RwMutex w read.0 read.1).1
-read_suits ds PartKind.Value w part h = ap (suits PartKind.Value) (sym (map_some Part.Value (number (2 ^ 64 - 1) w) part h).2)
-read_suits ds PartKind.Cases w part h = ap (suits PartKind.Cases) (sym (map_some Part.Cases (cases_in ds w) part h).2)
-read_suits ds PartKind.Cause w part h = ap (suits PartKind.Cause) (sym (map_some Part.Cause (failure_in ds w) part h).2)
+    let read = with_is Part.Object (named_in ds PartKind.RwMutex w) part h in
+    ap (suits PartKind.RwMutex) (sym read.2) ∙ rwmutex_is_lock ds read.0 (is_used ds PartKind.RwMutex w read.0 read.1).wanted
+read_suits ds PartKind.Value w part h = ap (suits PartKind.Value) (sym (with_is Part.Value (value_in w) part h).2)
+read_suits ds PartKind.Cases w part h = ap (suits PartKind.Cases) (sym (with_is Part.Cases (cases_in ds w) part h).2)
+read_suits ds PartKind.Cause w part h = ap (suits PartKind.Cause) (sym (with_is Part.Cause (failure_in ds w) part h).2)
 
 -- the part that the first word says
 pub first_part_is : (ds : List Declaration) (kind : PartKind) (words : List (List ℕ)) (first : ReadPart) → first_part ds kind words ≡ Some first
-    → (w : List ℕ) × (words ≡ w ∷ first.1) × (part_in ds kind w ≡ Some first.0)
+    → (w : List ℕ) × (words ≡ w ∷ first.1) × (part_in ds kind w ≡ Ok first.0)
 first_part_is ds kind [] first h = absurd (none-some first h)
 first_part_is ds kind (w ∷ ws) first h =
-    let one = map_some (with_rest ws) (part_in ds kind w) first h in
-    (w, (λ i. w ∷ (one.2 i).1), one.1 ∙ ap (λ (r : ReadPart). Some r.0) one.2)
+    let one = map_some (with_rest ws) (result_ok (part_in ds kind w)) first h in
+    (w, (λ i. w ∷ (one.2 i).1), ok_is (part_in ds kind w) one.0 one.1 ∙ ap (λ (r : ReadPart). Ok r.0) one.2)
 
 module _ (decls : DeclsState) (holds : IsWellFormed decls) where
   abbrev ds : List Declaration
@@ -75,64 +78,65 @@ module _ (decls : DeclsState) (holds : IsWellFormed decls) where
 
   -- what holds of a word that says a part
   pub record IsPart (kind : PartKind) (w : List ℕ) (part : Part) : Type 0 where
+    pub says : part_in ds kind w ≡ Ok part
     pub text : w ≡ part_text ds part
     pub fits : part_fits ds part ≡ true
     pub is_limited : part_is_limited part ≡ true
     pub wanted : part_is_wanted ds kind part ≡ true
     pub clean : has_bad_byte w ≡ false
-    pub no_cause : part_cause ds kind w ≡ None
 
   -- of a word that names an object
-  is_object : (kind : PartKind) (w : List ℕ) (part : Part) → part_cause ds kind w ≡ used_name_cause ds kind w
+  is_object : (kind : PartKind) (w : List ℕ) (part : Part) → part_in ds kind w ≡ says_by Part.Object (named_in ds kind w)
       → ((named : Named) → part_is_wanted ds kind (Part.Object named) ≡ is_wanted ds kind named)
-      → option_map Part.Object (named_in ds kind w) ≡ Some part → IsPart kind w part
-  is_object kind w part causes wants h =
-      let read = map_some Part.Object (named_in ds kind w) part h in
-      let used = is_used decls holds kind w read.0 read.1 in
+      → says_by Part.Object (named_in ds kind w) ≡ Ok part → IsPart kind w part
+  is_object kind w part part_is wants h =
+      let read = with_is Part.Object (named_in ds kind w) part h in
+      let used = is_used ds kind w read.0 read.1 in
       let less = used.declared in
       subst (IsPart kind w) read.2 (record {
+        says = part_is ∙ ap (says_by Part.Object) read.1;
         text = used.text;
         fits = grind (arith, nat_tests, less);
         is_limited = refl;
         wanted = wants read.0 ∙ used.wanted;
         clean = name_clean w used.form;
-        no_cause = causes ∙ used.no_cause;
       })
 
-  pub is_part : (kind : PartKind) (w : List ℕ) (part : Part) → part_in ds kind w ≡ Some part → IsPart kind w part
+  pub is_part : (kind : PartKind) (w : List ℕ) (part : Part) → part_in ds kind w ≡ Ok part → IsPart kind w part
   is_part (PartKind.Object kind) w part h = is_object (PartKind.Object kind) w part refl (λ named. refl) h
   is_part PartKind.RwMutex w part h = is_object PartKind.RwMutex w part refl (λ named. refl) h
   is_part PartKind.Value w part h =
-      let read = map_some Part.Value (number (2 ^ 64 - 1) w) part h in
-      subst (IsPart PartKind.Value w) read.2 (record {
-        text = number_spelled (2 ^ 64 - 1) w read.0 read.1;
+      let said = with_is Part.Value (value_in w) part h in
+      let number_is = ok_or_is (number (2 ^ 64 - 1) w) TextCause.BadNumber said.0 said.1 in
+      subst (IsPart PartKind.Value w) said.2 (record {
+        says = ap (says_by Part.Value) said.1;
+        text = number_spelled (2 ^ 64 - 1) w said.0 number_is;
         fits = refl;
         wanted = refl;
-        is_limited = number_within (2 ^ 64 - 1) w read.0 (omega arith) read.1;
-        clean = visible_clean w (number_is_visible (2 ^ 64 - 1) w read.0 (omega arith) read.1);
-        no_cause = ap (λ o. if is_none o then Some TextCause.BadNumber else None) read.1;
+        is_limited = number_within (2 ^ 64 - 1) w said.0 (omega arith) number_is;
+        clean = visible_clean w (number_is_visible (2 ^ 64 - 1) w said.0 (omega arith) number_is);
       })
   is_part PartKind.Cases w part h =
-      let read = map_some Part.Cases (cases_in ds w) part h in
-      let is = is_cases decls holds w read.0 read.1 in
+      let read = with_is Part.Cases (cases_in ds w) part h in
+      let is = is_cases ds w read.0 read.1 in
       subst (IsPart PartKind.Cases w) read.2 (record {
-        text = is.text;
-        fits = is.fits;
+        says = ap (says_by Part.Cases) read.1;
+        text = is.text_is;
+        fits = is.fit;
         is_limited = is.few;
         wanted = refl;
-        clean = ap has_bad_byte is.text ∙ visible_clean (cases_text ds read.0) (cases_visible decls holds read.0 is.fits);
-        no_cause = is.no_cause;
+        clean = ap has_bad_byte is.text_is ∙ visible_clean (cases_text ds read.0) (cases_visible decls holds read.0 is.fit);
       })
   is_part PartKind.Cause w part h =
-      let read = map_some Part.Cause (failure_in ds w) part h in
+      let read = with_is Part.Cause (failure_in ds w) part h in
       let is = is_failure decls holds w read.0 read.1 in
       subst (IsPart PartKind.Cause w) read.2 (record {
+        says = ap (says_by Part.Cause) read.1;
         text = is.text;
         fits = is.fits;
         is_limited = refl;
         wanted = is.lock;
         clean = ap has_bad_byte is.text ∙ visible_clean (failure_text ds read.0) (failure_again decls holds read.0 is.fits is.lock).1;
-        no_cause = is.no_cause;
       })
 
   -- words that say parts of these kinds, one each
@@ -163,10 +167,10 @@ module _ (decls : DeclsState) (holds : IsWellFormed decls) where
   are_read got (kind ∷ kinds) [] read h = absurd (none-some read h)
   are_read got (kind ∷ kinds) (w ∷ ws) read h =
       let first = and_then_some (λ (first : ReadPart). parts_on ds (got ++ first.0 ∷ []) kinds first.1)
-      (option_map (with_rest ws) (part_in ds kind w)) read h in
-      let one = map_some (with_rest ws) (part_in ds kind w) first.0 first.1 in
+      (option_map (with_rest ws) (result_ok (part_in ds kind w))) read h in
+      let one = map_some (with_rest ws) (result_ok (part_in ds kind w)) first.0 first.1 in
       let others = are_read (got ++ first.0.0 ∷ []) kinds first.0.1 read first.2 in
-      let part_is : part_in ds kind w ≡ Some first.0.0 = one.1 ∙ ap (λ (r : ReadPart). Some r.0) one.2 in
+      let part_is : part_in ds kind w ≡ Ok first.0.0 = ok_is (part_in ds kind w) one.0 one.1 ∙ ap (λ (r : ReadPart). Ok r.0) one.2 in
       record {
         ws = w ∷ others.ws;
         parts = first.0.0 ∷ others.parts;
@@ -216,23 +220,10 @@ module _ (decls : DeclsState) (holds : IsWellFormed decls) where
     unfolding field_cause
     words_fine fine [] [] [] are = fine
     words_fine fine (kind ∷ kinds) (w ∷ ws) (part ∷ parts) are =
-        ap (λ c. cause_on ds c (map Field.Part kinds ++ fields) (ws ++ rest)) are.0.no_cause ∙ words_fine fine kinds ws parts are.1
+        ap (λ r. cause_on ds (result_err r) (map Field.Part kinds ++ fields) (ws ++ rest)) are.0.says ∙ words_fine fine kinds ws parts are.1
     words_fine fine _ _ _ are = absurd are
 
 module _ (ds : List Declaration) where
-  -- where nothing is wrong with a word, it says a part
-  pub part_is_there : (kind : PartKind) (w : List ℕ) → part_cause ds kind w ≡ None → (part : Part) × (part_in ds kind w ≡ Some part)
-  part_is_there (PartKind.Object kind) w h =
-      let there = used_is_there ds (PartKind.Object kind) w h in (Part.Object there.0, ap (option_map Part.Object) there.1)
-  part_is_there PartKind.RwMutex w h = let there = used_is_there ds PartKind.RwMutex w h in (Part.Object there.0, ap (option_map Part.Object) there.1)
-  part_is_there PartKind.Value w h = by (number (2 ^ 64 - 1) w) h
-    where
-      by : (o : Option ℕ) → (if is_none o then Some TextCause.BadNumber else None) ≡ None → (part : Part) × (option_map Part.Value o ≡ Some part)
-      by None h = absurd (none-some TextCause.BadNumber (sym h))
-      by (Some n) h = (Part.Value n, refl)
-  part_is_there PartKind.Cases w h = let there = cases_are_there ds w h in (Part.Cases there.0, ap (option_map Part.Cases) there.1)
-  part_is_there PartKind.Cause w h = let there = failure_is_there ds w h in (Part.Cause there.0, ap (option_map Part.Cause) there.1)
-
   -- a cause that holds before the words is not lost
   none_before : (fields : List Field) (ws : List (List ℕ)) (least : Option TextCause) → cause_on ds least fields ws ≡ None → least ≡ None
   none_before [] ws least none = none
@@ -266,9 +257,9 @@ module _ (ds : List Declaration) where
       }
   are_there fields (kind ∷ kinds) [] least count none = absurd (omega (arith, count))
   are_there fields (kind ∷ kinds) (w ∷ ws) least count none =
-      let others = are_there fields kinds ws (lesser least (part_cause ds kind w)) (omega (arith, count)) none in
-      let both = lesser_none least (part_cause ds kind w) others.before in
-      let first = part_is_there kind w both.1 in
+      let others = are_there fields kinds ws (lesser least (result_err (part_in ds kind w))) (omega (arith, count)) none in
+      let both = lesser_none least (result_err (part_in ds kind w)) others.before in
+      let first = fine_is_ok (part_in ds kind w) both.1 in
       record {
         before = both.0;
         parts = first.0 ∷ others.parts;
@@ -276,6 +267,6 @@ module _ (ds : List Declaration) where
         count = others.count;
         fine = others.fine;
         suit_is = λ i. read_suits ds kind w first.0 first.1 i && others.suit_is i;
-        read = λ got. ap (λ o. option_and_then (λ (r : ReadPart). parts_on ds (got ++ r.0 ∷ []) kinds r.1) (option_map (with_rest ws) o)) first.1
+        read = λ got. ap (λ o. option_and_then (λ (r : ReadPart). parts_on ds (got ++ r.0 ∷ []) kinds r.1) (option_map (with_rest ws) (result_ok o))) first.1
             ∙ others.read (got ++ first.0 ∷ []) ∙ (λ i. Some (append_assoc got (first.0 ∷ []) others.parts i, others.rest));
       }

@@ -1,17 +1,19 @@
 -- What the words of an event's places say: one place, or a first and a second.
-use Rattle.std.proofs.Common.{◌≡◌, ℕ, ◌<◌, Bool, true, false, true≢false, not, if◌then◌else◌, List, []}
-use Rattle.std.proofs.Common.{◌∷◌, length, Option, Some, None, is_some, IfSome, refl, sym, ap, subst}
+use Rattle.std.proofs.Common.{◌≡◌, ℕ, ◌<◌, Bool, true, false, true≢false, if◌then◌else◌, List, []}
+use Rattle.std.proofs.Common.{◌∷◌, length, Option, Some, None, Ok, Err, is_some, IfSome, refl, sym, ap, subst}
 use Rattle.std.proofs.Common.{◌∙◌, arith}
 use Rattle.std.proofs.lemmas.Option.{none-some, same_Some}
 use Rattle.std.specs.List.{AllByRecursion}
 use Rattle.std.specs.Option.{option_and_then, option_map}
+use Rattle.std.specs.Result.{result_err}
 use Rattle.race_records.specs.Name.{is_place}
 use Rattle.race_records.specs.Declarations.{Declaration}
 use Rattle.race_text.specs.declared.cause.TextCause.{TextCause}
 use Rattle.race_text.specs.Words.{has_bad_byte}
 use Rattle.race_text.specs.Text.{place_words}
 use Rattle.race_text.specs.Form.{place_fields}
-use Rattle.race_text.specs.Fault.{lesser, field_cause}
+use Rattle.race_text.specs.Fault.{field_cause}
+use Rattle.race_text.specs.Least.{lesser}
 use Rattle.race_text.specs.Reading.{Places, ReadPlace, first_place, with_no_rest, last_place, alone, before_second, last_places}
 use Rattle.race_text.proofs.CauseLemmas.{and_then_some, map_some, lesser_none, cause_on}
 use Rattle.race_text.proofs.CleanLemmas.{visible_clean, place_is_visible}
@@ -99,19 +101,19 @@ places_count true (w, None) are = absurd (true≢false are.count)
 places_count false (w, Some v) are = absurd (true≢false (sym are.count))
 
 -- the cause of a place by its form
-abbrev form_cause : Bool → Option TextCause
-form_cause form = if not form then Some TextCause.BadName else None
+abbrev form_cause : List ℕ → Bool → Option TextCause
+form_cause w form = result_err (if form then Ok w else Err TextCause.BadName)
 
-has_form : (b : Bool) → form_cause b ≡ None → b ≡ true
-has_form true h = refl
-has_form false h = absurd (none-some TextCause.BadName (sym h))
+has_form : (w : List ℕ) (b : Bool) → form_cause w b ≡ None → b ≡ true
+has_form w true h = refl
+has_form w false h = absurd (none-some TextCause.BadName (sym h))
 
 module _ (ds : List Declaration) where
   -- no cause holds of places
   pub places_fine : (two : Bool) (places : Places) → ArePlaces two places → cause_on ds None (place_fields two) (place_words places.0 places.1) ≡ None
   unfolding field_cause
-  places_fine false (w, None) are = ap form_cause are.first
-  places_fine true (w, Some v) are = λ i. lesser (form_cause (are.first i)) (form_cause (are.second i))
+  places_fine false (w, None) are = ap (form_cause w) are.first
+  places_fine true (w, Some v) are = λ i. lesser (form_cause w (are.first i)) (form_cause v (are.second i))
   places_fine true (w, None) are = absurd (true≢false are.count)
   places_fine false (w, Some v) are = absurd (true≢false (sym are.count))
 
@@ -119,10 +121,10 @@ module _ (ds : List Declaration) where
   pub places_are_there : (two : Bool) (words : List (List ℕ)) → length words ≡ length (place_fields two) → cause_on ds None (place_fields two) words ≡ None
       → (places : Places) × ArePlaces two places × (words ≡ place_words places.0 places.1)
   unfolding field_cause
-  places_are_there false (w ∷ []) count none = ((w, None), record { first = has_form (is_place w) none; second = tt; count = refl }, refl)
+  places_are_there false (w ∷ []) count none = ((w, None), record { first = has_form w (is_place w) none; second = tt; count = refl }, refl)
   places_are_there true (w ∷ v ∷ []) count none =
-      let both = lesser_none (form_cause (is_place w)) (form_cause (is_place v)) none in
-      ((w, Some v), record { first = has_form (is_place w) both.0; second = has_form (is_place v) both.1; count = refl }, refl)
+      let both = lesser_none (form_cause w (is_place w)) (form_cause v (is_place v)) none in
+      ((w, Some v), record { first = has_form w (is_place w) both.0; second = has_form v (is_place v) both.1; count = refl }, refl)
   places_are_there false [] count none = absurd (omega (arith, count))
   places_are_there false (w ∷ v ∷ ws) count none = absurd (omega (arith, count))
   places_are_there true [] count none = absurd (omega (arith, count))

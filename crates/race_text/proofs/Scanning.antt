@@ -43,7 +43,7 @@ module _ (t : TraceState) (read : IsRead t) (line : List ℕ) (none : cause (lin
       let is = event_line_of t.decls line o read.has_text.well_formed says in
       let next : TraceState = record { decls = with_places t.decls o; events = t.events ++ event_of t.decls o ∷ []; spare = 0 } in
       let room : length t.events < MAX_EVENTS = by (nat_le MAX_EVENTS (length t.events)) refl (sym (event_cause t next line o read is) ∙ none) in
-      let taken = event_taken t next line o read is (record { room = room; decls = refl; events = refl }) in
+      let taken = event_taken t next line o read is (record { room = omega (arith, room); decls = refl; events = refl }) in
       record { next = next; read = taken.is_read; lines_are = taken.lines }
     where
       by : (b : Bool) → nat_le MAX_EVENTS (length t.events) ≡ b → (if b then Some TextCause.TooMany else None) ≡ None → length t.events < MAX_EVENTS

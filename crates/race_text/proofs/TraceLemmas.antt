@@ -53,7 +53,7 @@ event_line_is : (decls : DeclsState) (line : List ℕ) (o : Occurrence) → IsEv
 event_line_is decls line o is =
     ap (λ places. line_of (op_words decls.declarations (goroutine_name decls.declarations o.who) places o.op)) (words_are_there decls o) ∙ sym is.line_is
 
-lines_event : (old new : TraceState) (line : List ℕ) (o : Occurrence) → IsTrace old → IsEventLine old.decls line o → AppendsEvent old new o
+lines_event : (old new : TraceState) (line : List ℕ) (o : Occurrence) → IsTrace old → IsEventLine old.decls line o → AppendsEvent 0 old new o
     → lines new ≡ lines old ++ line ∷ []
 unfolding lines
 lines_event old new line o holds is added =
@@ -179,7 +179,7 @@ module _ (old new : TraceState) (line : List ℕ) (o : Occurrence) (read : IsRea
   room_is : (b : Bool) → nat_le MAX_EVENTS (length old.events) ≡ b → cause (lines old) line true ≡ (if b then Some TextCause.TooMany else None)
   room_is b e = event_cause ∙ ap (λ c. if c then Some TextCause.TooMany else None) e
 
-  event_has_text : AppendsEvent old new o → HasText new
+  event_has_text : AppendsEvent 0 old new o → HasText new
   event_has_text added =
       let decls = with_places old.decls o in
       let e = event_of old.decls o in
@@ -192,10 +192,10 @@ module _ (old new : TraceState) (line : List ℕ) (o : Occurrence) (read : IsRea
         well_formed = subst IsWellFormed (sym added.decls)
             (places_well_formed old.decls o is.places.first is.places.second (omega (arith, few, room)) before.well_formed);
         is_trace = subst (λ (d : DeclsState). IsTrace (record { decls = d; events = new.events; spare = new.spare })) (sym added.decls)
-            (push_is_trace mid e new.events new.spare (places_are_trace old o before.is_trace) is.value (event_has_room mid e fit added.room) added.events);
+            (push_is_trace mid e new.events new.spare (places_are_trace old o before.is_trace) is.value (event_has_room mid e fit (let room = added.room in omega (arith, room))) added.events);
       }
 
-  pub event_taken : AppendsEvent old new o → TakesLine (lines old) line new
+  pub event_taken : AppendsEvent 0 old new o → TakesLine (lines old) line new
   event_taken added =
       let more : length new.events ≡ length old.events + 1 = ap length added.events ∙ length-append old.events (event_of old.decls o ∷ []) in
       let after = lines_event old new line o read.has_text.is_trace is added in
@@ -213,7 +213,7 @@ module _ (old new : TraceState) (line : List ℕ) (o : Occurrence) (read : IsRea
         };
       }
 
-  pub event_answered : (r : Result (Unit {0}) TextCause) → MatchResult r (λ _. AppendsEvent old new o) (TellsOfRoom old)
+  pub event_answered : (r : Result (Unit {0}) TextCause) → MatchResult r (λ _. AppendsEvent 0 old new o) (TellsOfRoom 0 old)
       → TakesOrTells (lines old) line r new
   event_answered (Ok u) added = event_taken added
   event_answered (Err told) tells = by (nat_le MAX_EVENTS (length old.events)) refl
@@ -222,10 +222,11 @@ module _ (old new : TraceState) (line : List ℕ) (o : Occurrence) (read : IsRea
       by true over = tells.full (grind (arith, nat_tests, over)) ∙ sym (ap owed (room_is true over))
       by false less = tells.room (grind (arith, nat_tests, less)) ∙ sym (ap owed (room_is false less))
 
-pub event_grown : (old new : TraceState) (o : Occurrence) (r : Result (Unit {0}) TextCause)
-    → MatchResult r (λ _. AppendsEvent old new o) (TellsOfRoom old) → OnOk r (0 < length new.events)
-event_grown old new o (Ok u) added = let more = ap length added.events ∙ length-append old.events (event_of old.decls o ∷ []) in omega (arith, more)
-event_grown old new o (Err told) tells = tt
+pub event_grown : (before : ℕ) (old new : TraceState) (o : Occurrence) (r : Result (Unit {0}) TextCause)
+    → MatchResult r (λ _. AppendsEvent before old new o) (TellsOfRoom before old) → OnOk r (0 < length new.events)
+event_grown before old new o (Ok u) added =
+    let more = ap length added.events ∙ length-append old.events (event_of old.decls o ∷ []) in omega (arith, more)
+event_grown before old new o (Err told) tells = tt
 
 -- a line that says no event is at fault, where an event stands before it or it declares nothing
 or_else_some : (a : Option TextCause) (b : TextCause) → or_else a (Some b) ≡ None → ⊥

@@ -1,60 +1,63 @@
 -- A word with a byte that can't be seen says nothing.
-use Rattle.std.proofs.Common.{◌≡◌, ℕ, ◌-◌, ◌^◌, Bool, true, false, if◌then◌else◌, List, [], ◌∷◌, Option, Some, None, refl, sym, ap, ◌∙◌, arith, true≢false}
+use Rattle.std.proofs.Common.{◌≡◌, ℕ, ◌-◌, ◌^◌, Bool, true, false, not, if◌then◌else◌, List, [], ◌∷◌, Option, Some, None}
+use Rattle.std.proofs.Common.{ok_or, Result, Ok, Err, refl, sym, ap, ◌∙◌, arith, true≢false}
 use Rattle.std.specs.List.{list_all}
-use Rattle.std.specs.Option.{option_and_then, option_map}
+use Rattle.std.specs.Option.{option_map}
+use Rattle.std.specs.Result.{result_ok}
 use Rattle.race_records.specs.declared.cases.Case.{Case}
 use Rattle.race_records.specs.declared.event.Cause.{Cause}
 use Rattle.race_records.specs.declared.parts.Part.{Part}
 use Rattle.race_records.specs.declared.parts.PartKind.{PartKind}
 use Rattle.race_records.specs.declared.version.Version.{Version}
 use Rattle.race_records.specs.Name.{is_name, is_place, is_place_byte}
-use Rattle.race_records.specs.Declarations.{Declaration, DeclsState, IsWellFormed}
+use Rattle.race_records.specs.Declarations.{Declaration, DeclsState, IsWellFormed, find_name}
+use Rattle.race_text.specs.declared.cause.TextCause.{TextCause}
 use Rattle.race_text.specs.declared.form.Word.{Word}
 use Rattle.race_text.specs.Words.{number}
 use Rattle.race_text.specs.Form.{word_in, first_word}
-use Rattle.race_text.specs.Reading.{as_wanted, named_in, cases_in, failure_in, with_rest, first_part, first_place, event_by, event_in}
+use Rattle.race_text.specs.Least.{then_says, says_by}
+use Rattle.race_text.specs.Meaning.{as_wanted, named_in, cases_in, failure_in}
+use Rattle.race_text.specs.Reading.{with_rest, first_part, first_place, event_by, event_in}
 use Rattle.race_text.proofs.CaseWords.{is_cases, cases_visible}
 use Rattle.race_text.proofs.FailureWords.{is_failure, failure_again}
 use Rattle.race_text.proofs.CleanLemmas.{place_is_visible, number_is_visible}
 use Rattle.race_text.proofs.WordTable.{word_is_seen, word_of_table}
-use Rattle.race_text.proofs.FoundLemmas.{unnamed_is_absent}
 use Rattle.race_text.proofs.WordLemmas.{name_is_visible}
 
 is_false : (b seen : Bool) → (b ≡ true → seen ≡ true) → seen ≡ false → b ≡ false
 is_false true seen h unseen = absurd (true≢false (sym (h refl) ∙ unseen))
 is_false false seen h unseen = refl
 
-pub no_name : (decls : DeclsState) (kind : PartKind) (w : List ℕ) → IsWellFormed decls → is_name w ≡ false → named_in decls.declarations kind w ≡ None
-no_name decls kind w holds h = ap (option_and_then (as_wanted decls.declarations kind)) (unnamed_is_absent decls w holds h)
-
-unseen_name : (decls : DeclsState) (kind : PartKind) (w : List ℕ) → IsWellFormed decls → list_all is_place_byte w ≡ false
-    → named_in decls.declarations kind w ≡ None
-unseen_name decls kind w holds h = no_name decls kind w holds (is_false (is_name w) (list_all is_place_byte w) (name_is_visible w) h)
+unseen_name : (ds : List Declaration) (kind : PartKind) (w : List ℕ) → list_all is_place_byte w ≡ false → named_in ds kind w ≡ Err TextCause.BadName
+unseen_name ds kind w h =
+    ap (λ b. if not b then Err TextCause.BadName else then_says (as_wanted ds kind) (ok_or (find_name ds w) TextCause.Unknown))
+    (is_false (is_name w) (list_all is_place_byte w) (name_is_visible w) h)
 
 pub unseen_part : (decls : DeclsState) (kind : PartKind) (ws : List (List ℕ)) → IsWellFormed decls → list_all is_place_byte (first_word ws) ≡ false
     → first_part decls.declarations kind ws ≡ None
 unseen_part decls kind [] holds h = refl
 unseen_part decls (PartKind.Object kind) (w ∷ ws) holds h =
-    ap (λ o. option_map (with_rest ws) (option_map Part.Object o)) (unseen_name decls (PartKind.Object kind) w holds h)
+    ap (λ r. option_map (with_rest ws) (result_ok (says_by Part.Object r))) (unseen_name decls.declarations (PartKind.Object kind) w h)
 unseen_part decls PartKind.RwMutex (w ∷ ws) holds h =
-    ap (λ o. option_map (with_rest ws) (option_map Part.Object o)) (unseen_name decls PartKind.RwMutex w holds h)
+    ap (λ r. option_map (with_rest ws) (result_ok (says_by Part.Object r))) (unseen_name decls.declarations PartKind.RwMutex w h)
 unseen_part decls PartKind.Value (w ∷ ws) holds h = by (number (2 ^ 64 - 1) w) refl
   where
-    by : (o : Option ℕ) → number (2 ^ 64 - 1) w ≡ o → option_map (with_rest ws) (option_map Part.Value o) ≡ None
+    by : (o : Option ℕ) → number (2 ^ 64 - 1) w ≡ o
+        → option_map (with_rest ws) (result_ok (says_by Part.Value (ok_or o TextCause.BadNumber))) ≡ None
     by None e = refl
     by (Some n) e = absurd (true≢false (sym (number_is_visible (2 ^ 64 - 1) w n (omega arith) e) ∙ h))
 unseen_part decls PartKind.Cases (w ∷ ws) holds h = by (cases_in decls.declarations w) refl
   where
-    by : (o : Option (List Case)) → cases_in decls.declarations w ≡ o → option_map (with_rest ws) (option_map Part.Cases o) ≡ None
-    by None e = refl
-    by (Some cases) e =
-        let is = is_cases decls holds w cases e in
-        absurd (true≢false (sym (ap (list_all is_place_byte) is.text ∙ cases_visible decls holds cases is.fits) ∙ h))
+    by : (r : Result (List Case) TextCause) → cases_in decls.declarations w ≡ r → option_map (with_rest ws) (result_ok (says_by Part.Cases r)) ≡ None
+    by (Err cause) e = refl
+    by (Ok cases) e =
+        let is = is_cases decls.declarations w cases e in
+        absurd (true≢false (sym (ap (list_all is_place_byte) is.text_is ∙ cases_visible decls holds cases is.fit) ∙ h))
 unseen_part decls PartKind.Cause (w ∷ ws) holds h = by (failure_in decls.declarations w) refl
   where
-    by : (o : Option Cause) → failure_in decls.declarations w ≡ o → option_map (with_rest ws) (option_map Part.Cause o) ≡ None
-    by None e = refl
-    by (Some cause) e =
+    by : (r : Result Cause TextCause) → failure_in decls.declarations w ≡ r → option_map (with_rest ws) (result_ok (says_by Part.Cause r)) ≡ None
+    by (Err cause) e = refl
+    by (Ok cause) e =
         let is = is_failure decls holds w cause e in
         absurd (true≢false (sym (ap (list_all is_place_byte) is.text ∙ (failure_again decls holds cause is.fits is.lock).1) ∙ h))
 

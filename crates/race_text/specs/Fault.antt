@@ -1,54 +1,29 @@
 -- The first fault of a trace's text: the first line at which a cause holds, and the least cause that holds there.
-use Rattle.std.specs.Prelude.{ℕ, ◌-◌, ◌==◌, ◌&&◌, ◌^◌, Bool, true, false, not, if◌then◌else◌, nat_le}
+use Rattle.std.specs.Prelude.{ℕ, ◌==◌, ◌&&◌, Bool, true, false, not, if◌then◌else◌, nat_le}
 use Rattle.std.specs.Prelude.{nat_lt, List, [], ◌∷◌, length, count_by, fold, Option, Some, None}
 use Rattle.std.specs.Prelude.{is_some, is_none}
 use Rattle.std.specs.List.{filter_map, zip}
 use Rattle.std.specs.Option.{option_and_then, option_map}
+use Rattle.std.specs.Result.{result_err}
 use Rattle.std.specs.Str.{bytes_eq}
 use Rattle.std.specs.Str.Parse.{digits_value}
-use Rattle.race_records.specs.declared.cases.TheConstants.{MAX_CASES}
 use Rattle.race_records.specs.declared.kind.Kind.{Kind}
-use Rattle.race_records.specs.declared.kind.Named.{Named}
 use Rattle.race_records.specs.declared.kind.Object.{Object}
-use Rattle.race_records.specs.declared.parts.PartKind.{PartKind}
 use Rattle.race_records.specs.declared.trace.TheConstants.{MAX_EVENTS}
 use Rattle.race_records.specs.declared.version.Version.{Version}
-use Rattle.race_records.specs.Name.{is_name, is_place}
+use Rattle.race_records.specs.Name.{is_name}
 use Rattle.race_records.specs.Declarations.{Declaration, find_name, count_of, limit_of}
 use Rattle.race_records.specs.Nouns.{object_by}
 use Rattle.race_text.specs.declared.cause.TextCause.{TextCause}
 use Rattle.race_text.specs.declared.cause.TextFault.{TextFault}
 use Rattle.race_text.specs.declared.form.Word.{Word}
 use Rattle.race_text.specs.declared.form.Field.{Field}
-use Rattle.race_text.specs.Words.{words_of, has_bad_byte, number}
+use Rattle.race_text.specs.Words.{words_of, has_bad_byte}
 use Rattle.race_text.specs.Lines.{Causes, first_fault}
-use Rattle.race_text.specs.Select.{no_cases, nil, close_nil, pieces_of, SpelledCase, case_spelled, SpelledFailure, failure_spelled, kind_tried}
 use Rattle.race_text.specs.Text.{header}
-use Rattle.race_text.specs.Form.{word_named, word_in, fields_of, is_wanted, kind_declared, first_word, arguments}
-
--- the place of a cause in the order in which a line is tested. Two never come of a trace's line: a block is of a program's
--- text, and memory is told by calls alone
-abbrev pub rank : TextCause → ℕ
-rank TextCause.BadHeader = 1
-rank TextCause.NoNewline = 2
-rank TextCause.BadByte = 3
-rank TextCause.UnknownWord = 4
-rank TextCause.WrongCount = 5
-rank TextCause.BadName = 6
-rank TextCause.Taken = 7
-rank TextCause.Unknown = 8
-rank TextCause.WrongKind = 9
-rank TextCause.BadNumber = 10
-rank TextCause.TooMany = 11
-rank TextCause.LateDeclaration = 12
-rank TextCause.BadBlock = 13
-rank TextCause.OutOfMemory = 14
-
--- of two causes that may hold, the lesser
-abbrev pub lesser : Option TextCause → Option TextCause → Option TextCause
-lesser None b = b
-lesser (Some a) None = Some a
-lesser (Some a) (Some b) = if nat_le (rank a) (rank b) then Some a else Some b
+use Rattle.race_text.specs.Form.{word_named, word_in, fields_of, kind_declared, first_word, arguments}
+use Rattle.race_text.specs.Least.{lesser}
+use Rattle.race_text.specs.Meaning.{number_in, place_in, part_in}
 
 -- a later cause, looked at where no earlier one holds
 abbrev pub or_else : Option TextCause → Option TextCause → Option TextCause
@@ -96,62 +71,18 @@ is_event_line line = is_event_word (word_named (first_word (words_of line)))
 unfoldable pub seen : List (List ℕ) → Seen
 seen before = seen_so_far (filter_map declaration_in before) (count_by is_event_line before)
 
--- what is found for a used name is nothing, or of another kind than is wanted
-abbrev pub use_cause : List Declaration → PartKind → Option Named → Option TextCause
-use_cause ds kind None = Some TextCause.Unknown
-use_cause ds kind (Some named) = if is_wanted ds kind named then None else Some TextCause.WrongKind
-
--- the least cause of a used name
-abbrev pub used_name_cause : List Declaration → PartKind → List ℕ → Option TextCause
-used_name_cause ds kind w = if not (is_name w) then Some TextCause.BadName else use_cause ds kind (find_name ds w)
-
 -- the least cause of a name that is declared
 abbrev pub new_name_cause : List Declaration → List ℕ → Option TextCause
 new_name_cause ds w =
     if not (is_name w) then Some TextCause.BadName
     else (if is_some (find_name ds w) then Some TextCause.Taken else None)
 
--- the least cause of a number
-abbrev pub number_cause : ℕ → List ℕ → Option TextCause
-number_cause limit w = if is_none (number limit w) then Some TextCause.BadNumber else None
-
--- the least cause of one case of a select: it has another form, or names what is no channel
-abbrev pub case_cause : List Declaration → Option SpelledCase → Option TextCause
-case_cause ds None = Some TextCause.BadName
-case_cause ds (Some case) = if bytes_eq case.1 nil then None else used_name_cause ds (PartKind.Object Kind.Chan) case.1
-
--- the least cause of them all
-abbrev pub pieces_cause : List Declaration → Option TextCause → List (List ℕ) → Option TextCause
-pieces_cause ds least pieces = fold (λ cause piece. lesser cause (case_cause ds (case_spelled piece))) least pieces
-
--- the least cause of the word of a select's cases, of which there can be too many
-abbrev pub cases_cause : List Declaration → List ℕ → Option TextCause
-cases_cause ds w =
-    if bytes_eq w no_cases then None
-    else lesser (pieces_cause ds None (pieces_of w)) (if nat_lt MAX_CASES (length (pieces_of w)) then Some TextCause.TooMany else None)
-
--- the least cause of the word that says why a run failed
-abbrev pub spelled_failure_cause : List Declaration → Option SpelledFailure → Option TextCause
-spelled_failure_cause ds None = Some TextCause.BadName
-spelled_failure_cause ds (Some failure) = used_name_cause ds (kind_tried failure.0) failure.1
-
-abbrev pub failure_cause : List Declaration → List ℕ → Option TextCause
-failure_cause ds w = if bytes_eq w close_nil then None else spelled_failure_cause ds (failure_spelled w)
-
--- the least cause of what an operation names
-abbrev pub part_cause : List Declaration → PartKind → List ℕ → Option TextCause
-part_cause ds (PartKind.Object kind) w = used_name_cause ds (PartKind.Object kind) w
-part_cause ds PartKind.RwMutex w = used_name_cause ds PartKind.RwMutex w
-part_cause ds PartKind.Value w = number_cause (2 ^ 64 - 1) w
-part_cause ds PartKind.Cases w = cases_cause ds w
-part_cause ds PartKind.Cause w = failure_cause ds w
-
 -- the least cause that holds at one word behind the first
 unfoldable pub field_cause : List Declaration → Field → List ℕ → Option TextCause
 field_cause ds Field.NewName w = new_name_cause ds w
-field_cause ds (Field.Number limit) w = number_cause limit w
-field_cause ds (Field.Part kind) w = part_cause ds kind w
-field_cause ds Field.Place w = if not (is_place w) then Some TextCause.BadName else None
+field_cause ds (Field.Number limit) w = result_err (number_in limit w)
+field_cause ds (Field.Part kind) w = result_err (part_in ds kind w)
+field_cause ds Field.Place w = result_err (place_in w)
 
 -- the least cause of them all
 abbrev pub fields_cause : List Declaration → List Field → List (List ℕ) → Option TextCause

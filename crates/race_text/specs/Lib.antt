@@ -2,6 +2,8 @@ pub mod Words
 pub mod Select
 pub mod Text
 pub mod Form
+pub mod Least
+pub mod Meaning
 pub mod Lines
 pub mod Owed
 pub mod Fault
@@ -11,6 +13,7 @@ pub mod Taking
 pub mod Common
 pub mod Grammar
 pub mod Reader
+pub mod Stream
 pub mod Fed
 pub mod Laws
 pub mod Examples

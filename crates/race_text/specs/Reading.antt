@@ -1,13 +1,9 @@
 -- What the words of a line say of an event, one word after another.
-use Rattle.std.specs.Prelude.{ℕ, ◌-◌, ◌^◌, Bool, true, false, nat_le, List, [], ◌∷◌, ◌++◌, length, if◌then◌else◌, Option, Some, None}
+use Rattle.std.specs.Prelude.{ℕ, Bool, true, false, List, [], ◌∷◌, ◌++◌, if◌then◌else◌, Option, Some, None}
 use Rattle.std.specs.Borrow.{Bor}
 use Rattle.arrayvec.specs.ArrayVec.{ArrayVec}
 use Rattle.std.specs.Option.{option_and_then, option_map}
-use Rattle.std.specs.Str.{bytes_eq}
-use Rattle.race_records.specs.declared.cases.Case.{Case}
-use Rattle.race_records.specs.declared.cases.Dir.{Dir}
-use Rattle.race_records.specs.declared.cases.TheConstants.{MAX_CASES}
-use Rattle.race_records.specs.declared.event.Cause.{Cause}
+use Rattle.std.specs.Result.{result_ok}
 use Rattle.race_records.specs.declared.event.Op.{Op}
 use Rattle.race_records.specs.declared.kind.Kind.{Kind}
 use Rattle.race_records.specs.declared.kind.Named.{Named}
@@ -16,13 +12,13 @@ use Rattle.race_records.specs.declared.parts.PartKind.{PartKind}
 use Rattle.race_records.specs.declared.parts.Verb.{Verb}
 use Rattle.race_records.specs.declared.version.Version.{Version}
 use Rattle.race_records.specs.Name.{is_place}
-use Rattle.race_records.specs.Declarations.{Declaration, find_name, number_of}
+use Rattle.race_records.specs.Declarations.{Declaration}
 use Rattle.race_records.specs.Parts.{op_by, part_kinds, has_two_places}
 use Rattle.race_text.specs.declared.event.Draft.{Draft}
 use Rattle.race_text.specs.declared.form.Word.{Word}
-use Rattle.race_text.specs.Words.{parts_left, number}
-use Rattle.race_text.specs.Form.{word_in, is_wanted}
-use Rattle.race_text.specs.Select.{no_cases, nil, close_nil, pieces_of, SpelledCase, case_spelled, SpelledFailure, failure_spelled, kind_tried, cause_by}
+use Rattle.race_text.specs.Words.{parts_left}
+use Rattle.race_text.specs.Form.{word_in}
+use Rattle.race_text.specs.Meaning.{part_in}
 
 -- an event with its places as they are spelled
 pub record Occurrence : Type 0 where
@@ -47,59 +43,6 @@ places_read places = (places.0.now, option_map (λ place. place.now) places.1)
 abbrev pub drafted : Draft → Occurrence
 drafted draft = occurrence draft.who draft.op (places_read (draft.place, draft.place2))
 
--- this name, where that is wanted
-abbrev pub as_wanted : List Declaration → PartKind → Named → Option Named
-as_wanted ds kind named = if is_wanted ds kind named then Some named else None
-
--- what a word names, where that is wanted
-abbrev pub named_in : List Declaration → PartKind → List ℕ → Option Named
-named_in ds kind w = option_and_then (as_wanted ds kind) (find_name ds w)
-
--- a name as a channel
-abbrev pub chan_of : Named → Option ℕ
-chan_of named = Some (number_of named)
-
--- what a word says as a channel, or nil
-abbrev pub chan_in : List Declaration → List ℕ → Option (Option ℕ)
-chan_in ds w = if bytes_eq w nil then Some None else option_map chan_of (named_in ds (PartKind.Object Kind.Chan) w)
-
--- a case that would do this with the channel
-abbrev pub case_with : Dir → Option ℕ → Case
-case_with dir chan = record { dir = dir; chan = chan }
-
-abbrev pub spelled_case_in : List Declaration → SpelledCase → Option Case
-spelled_case_in ds case = option_map (case_with case.0) (chan_in ds case.1)
-
--- what a piece of a word says as a case of a select
-abbrev pub case_in : List Declaration → List ℕ → Option Case
-case_in ds piece = option_and_then (spelled_case_in ds) (case_spelled piece)
-
--- the cases so far, and behind them a case for each of these words, where there is room for them
-abbrev pub cases_on : List Declaration → List Case → List (List ℕ) → Option (List Case)
-cases_on ds got [] = Some got
-cases_on ds got (piece ∷ pieces) =
-    option_and_then (λ case. if nat_le MAX_CASES (length got) then None else cases_on ds (got ++ case ∷ []) pieces) (case_in ds piece)
-
--- the cases of a select
-abbrev pub cases_in : List Declaration → List ℕ → Option (List Case)
-cases_in ds w = if bytes_eq w no_cases then Some [] else cases_on ds [] (pieces_of w)
-
--- the cause that is spelled so, where its name is of the kind that is wanted
-abbrev pub spelled_failure_in : List Declaration → SpelledFailure → Option Cause
-spelled_failure_in ds failure = option_map (cause_by failure.0) (named_in ds (kind_tried failure.0) failure.1)
-
--- why a run failed, as a word says it
-abbrev pub failure_in : List Declaration → List ℕ → Option Cause
-failure_in ds w = if bytes_eq w close_nil then Some Cause.CloseNil else option_and_then (spelled_failure_in ds) (failure_spelled w)
-
--- what a word says as a part of this kind
-abbrev pub part_in : List Declaration → PartKind → List ℕ → Option Part
-part_in ds (PartKind.Object kind) w = option_map Part.Object (named_in ds (PartKind.Object kind) w)
-part_in ds PartKind.RwMutex w = option_map Part.Object (named_in ds PartKind.RwMutex w)
-part_in ds PartKind.Value w = option_map Part.Value (number (2 ^ 64 - 1) w)
-part_in ds PartKind.Cases w = option_map Part.Cases (cases_in ds w)
-part_in ds PartKind.Cause w = option_map Part.Cause (failure_in ds w)
-
 -- a part that was read, and the words behind it
 abbrev pub ReadPart : Type 0
 ReadPart = Part × List (List ℕ)
@@ -122,7 +65,7 @@ parts_so_far step = (step.0.items, parts_left 32 step.1)
 -- the first word as a part
 abbrev pub first_part : List Declaration → PartKind → List (List ℕ) → Option ReadPart
 first_part ds kind [] = None
-first_part ds kind (w ∷ ws) = option_map (with_rest ws) (part_in ds kind w)
+first_part ds kind (w ∷ ws) = option_map (with_rest ws) (result_ok (part_in ds kind w))
 
 -- the parts so far, and behind them a part for each of these kinds
 abbrev pub parts_on : List Declaration → List Part → List PartKind → List (List ℕ) → Option ReadParts

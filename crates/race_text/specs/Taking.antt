@@ -1,5 +1,6 @@
 -- A line that is taken into a trace.
-use Rattle.std.specs.Prelude.{◌≡◌, ℕ, ◌*◌, ◌<◌, ◌≤◌, List, [], ◌∷◌, ◌++◌, length, true, Option, Some, None, is_some, IfSome, Result, Ok, Err}
+use Rattle.std.specs.Prelude.{◌≡◌, ℕ, ◌+◌, ◌*◌, ◌<◌, ◌≤◌, List, [], ◌∷◌, ◌++◌, length, true, Option, Some, None, is_some, IfSome, Result, Ok, Err}
+use Rattle.std.specs.Borrow.{Bor}
 use Rattle.std.specs.Option.{option_map}
 use Rattle.race_records.specs.declared.event.Event.{Event}
 use Rattle.race_records.specs.declared.kind.Kind.{Kind}
@@ -13,6 +14,7 @@ use Rattle.race_text.specs.Owed.{owed}
 use Rattle.race_text.specs.Text.{HasText, lines}
 use Rattle.race_text.specs.Fault.{Seen, seen_so_far, seen, cause}
 use Rattle.race_text.specs.Reading.{Occurrence}
+use Rattle.race_text.specs.Common.{GoesOnIfTold, TellsOfCommon}
 
 -- what a trace says to the lines behind it
 abbrev pub state_of : TraceState → Seen
@@ -27,6 +29,16 @@ pub record IsRead (t : TraceState) : Type 0 where
 -- the trace that these declarations begin
 abbrev pub begun : DeclsState → TraceState
 begun decls = record { decls = decls; events = []; spare = 0 }
+
+-- the trace with these events before its own
+abbrev pub behind : List Event → TraceState → TraceState
+behind past t = record { decls = t.decls; events = past ++ t.events; spare = t.spare }
+
+-- with so many events before its own it was read
+pub record IsReadBehind (before : ℕ) (t : TraceState) : Type 0 where
+  pub past : List Event
+  pub count : length past ≡ before
+  pub is_read : IsRead (behind past t)
 
 -- the numbers of an event are declared, its operation is one of the version, its lock is an rwmutex where its operation wants
 -- one, its places have a place's form, and there are two just where its operation wants two
@@ -62,16 +74,16 @@ event_of decls o = record {
   place2 = option_map (place_number (with_place decls o.place).places) o.place2;
 }
 
--- the event is appended, with its places
-pub record AppendsEvent (old new : TraceState) (o : Occurrence) : Type 0 where
-  pub room : length old.events < MAX_EVENTS
+-- the event is appended, with its places, behind the trace's and so many before these
+pub record AppendsEvent (before : ℕ) (old new : TraceState) (o : Occurrence) : Type 0 where
+  pub room : before + length old.events < MAX_EVENTS
   pub decls : new.decls ≡ with_places old.decls o
   pub events : new.events ≡ old.events ++ event_of old.decls o ∷ []
 
--- why an event that fits isn't appended: the trace is full, and else memory is refused
-pub record TellsOfRoom (old : TraceState) (told : TextCause) : Type 0 where
-  pub full : MAX_EVENTS ≤ length old.events → told ≡ TextCause.TooMany
-  pub room : length old.events < MAX_EVENTS → told ≡ TextCause.OutOfMemory
+-- why an event that fits isn't appended: there are as many as a trace can have, and else memory is refused
+pub record TellsOfRoom (before : ℕ) (old : TraceState) (told : TextCause) : Type 0 where
+  pub full : MAX_EVENTS ≤ before + length old.events → told ≡ TextCause.TooMany
+  pub room : before + length old.events < MAX_EVENTS → told ≡ TextCause.OutOfMemory
 
 -- one more line, at which no cause holds
 pub record TakesLine (before : List (List ℕ)) (line : List ℕ) (new : TraceState) : Type 0 where
@@ -83,3 +95,8 @@ pub record TakesLine (before : List (List ℕ)) (line : List ℕ) (new : TraceSt
 abbrev pub TakesOrTells : List (List ℕ) → List ℕ → Result Unit TextCause → TraceState → Type 0
 TakesOrTells before line (Ok u) new = TakesLine before line new
 TakesOrTells before line (Err told) new = told ≡ owed (cause before line true)
+
+-- a common line is taken where the bytes behind it are told, and else nothing is; or what is owed by its least cause is told
+abbrev pub TakesCommon : TraceState → List ℕ → Result (Option (Bor (List ℕ))) TextCause → TraceState → Type 0
+TakesCommon old bytes (Ok rest) new = GoesOnIfTold (lines old) bytes rest (lines new) × IsRead new
+TakesCommon old bytes (Err told) new = TellsOfCommon (lines old) bytes told

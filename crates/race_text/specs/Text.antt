@@ -74,10 +74,14 @@ dir_text Dir.Recv = codes "recv:"
 abbrev pub case_text : List Declaration → Case → List ℕ
 case_text ds case = dir_text case.dir ++ chan_text ds case.chan
 
--- the cases of a select with commas between them, or a hyphen where there is none
+-- pieces with commas between them, or a hyphen where there is none
+abbrev pub pieces_text : {A : Type 0} → (A → List ℕ) → List A → List ℕ
+pieces_text text [] = codes "-"
+pieces_text text (piece ∷ pieces) = join_with_byte 44 (map text (piece ∷ pieces))
+
+-- the cases of a select
 abbrev pub cases_text : List Declaration → List Case → List ℕ
-cases_text ds [] = codes "-"
-cases_text ds (case ∷ cases) = join_with_byte 44 (map (case_text ds) (case ∷ cases))
+cases_text ds cases = pieces_text (case_text ds) cases
 
 -- why a run failed
 abbrev pub failure_text : List Declaration → Cause → List ℕ

@@ -100,6 +100,7 @@ fn next_object<'a, A: Allocator>(
     kind: PartKind,
     front: Front<'a>,
 ) -> Option<(Named, Front<'a>)>
+    requires decls { IsWellFormed decls.now }
     requires marked { spec.IsMarked front.marks front.bytes.now }
     requires object { spec.names_object kind ≡ true }
     ensures says { IfSome result (λ read. spec.SaysObject decls.now.declarations kind
@@ -118,7 +119,8 @@ fn next_deed<'a, A: Allocator>(
     verb: Verb,
     front: Front<'a>,
 ) -> Option<(Deed, Front<'a>)>
-    requires { spec.IsMarked front.marks front.bytes.now }
+    requires decls { IsWellFormed decls.now }
+    requires marked { spec.IsMarked front.marks front.bytes.now }
     ensures says { IfSome result (λ read. spec.SaysDeed decls.now.declarations verb
         front.entry.bytes.now (spec.op_of read.0) read.1.bytes.now) }
     ensures marked { IfSome result (λ read. spec.IsMarked read.1.marks read.1.bytes.now) }
@@ -133,7 +135,8 @@ fn next_deed<'a, A: Allocator>(
 // What the next word names. Whether that is wanted there, the operation tells.
 #[inline(always)]
 fn next_named<'a, A: Allocator>(decls: &Decls<A>, front: Front<'a>) -> Option<(Named, Front<'a>)>
-    requires { spec.IsMarked front.marks front.bytes.now }
+    requires decls { IsWellFormed decls.now }
+    requires marked { spec.IsMarked front.marks front.bytes.now }
     ensures says { IfSome result (λ read. (kind : PartKind) → spec.names_object kind ≡ true
         → is_wanted decls.now.declarations kind read.0 ≡ true
         → spec.SaysObject decls.now.declarations kind front.entry.bytes.now read.0 read.1.bytes.now) }

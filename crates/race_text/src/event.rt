@@ -1,22 +1,21 @@
 //! Lines that are events. Slices and parts go through memory at a call, so the path of the common
 //! words is one function, and what a select or a fault says is read by others.
-ghost use Rattle.std.specs.Prelude.{◌≡◌, ◌≤◌, ◌<◌, [], ◌∷◌, length, take, true, IfSome};
+ghost use Rattle.std.specs.Prelude.{◌≡◌, ◌≤◌, [], ◌∷◌, length, take, true};
 ghost use Rattle.std.specs.List.{list_all};
 ghost use Rattle.std.specs.Option.{option_map};
+ghost use Rattle.std.specs.Result.{result_ok};
 ghost use Rattle.race_records.specs.Name.{is_place_byte};
 ghost use Rattle.race_records.specs.Declarations.{IsWellFormed};
 ghost use Rattle.race_records.specs.Parts.{op_by};
 ghost use Rattle.race_text.specs.Words.{parts_left, words_of};
+ghost use Rattle.race_text.specs.Meaning.{named_in};
 ghost use Rattle.race_text.specs.Reading as spec;
 
-use crate::cut::{cut_at, cut_word};
-use crate::fields::is_wanted;
+use crate::cut::cut_word;
 use crate::form::{Word, word_in};
-use crate::number::read_number;
-use crate::select::{case_spelled, cause_by, failure_spelled, kind_tried};
+use crate::meaning::{is_wanted, part_in};
 use race_records::{
-    Case, Cases, Cause, Decls, Kind, MAX_PLACE_LEN, Named, Op, Part, PartKind, Parts, Verb,
-    is_name, op_by, part_kinds,
+    Decls, Kind, MAX_PLACE_LEN, Named, Op, Part, PartKind, Parts, Verb, op_by, part_kinds,
 };
 use std::alloc::Allocator;
 
@@ -220,43 +219,15 @@ pub fn next_part<'a, A: Allocator>(
         None => None,
         Some(bytes) => match cut_word(bytes) {
             None => None,
-            Some((end, others)) => match part_in(decls, kind, bytes, end) {
-                None => None,
-                Some(part) => Some((part, others)),
+            Some((end, others)) => match part_in(decls, kind, &bytes[..end]) {
+                Err(_) => None,
+                Ok(part) => Some((part, others)),
             },
         },
     }
 }
 
-// The part that the first `len` bytes say. Those behind them let a name be found faster.
-#[inline(always)]
-fn part_in<A: Allocator>(decls: &Decls<A>, kind: PartKind, bytes: &[u8], len: usize) -> Option<Part>
-    requires decls { IsWellFormed decls.now }
-    requires len { len ≤ length bytes.now }
-    requires seen { list_all is_place_byte (take len bytes.now) ≡ true }
-    ensures { result ≡ spec.part_in decls.now.declarations kind (take len bytes.now) }
-{
-    match kind {
-        PartKind::Object(_) | PartKind::RwMutex => match object_in(decls, kind, bytes, len) {
-            None => None,
-            Some(named) => Some(Part::Object(named)),
-        },
-        PartKind::Value => match read_number(&bytes[..len], u64::MAX) {
-            None => None,
-            Some(value) => Some(Part::Value(value)),
-        },
-        PartKind::Cases => match cases_in(decls, &bytes[..len]) {
-            None => None,
-            Some(cases) => Some(Part::Cases(cases)),
-        },
-        PartKind::Cause => match failure_in(decls, &bytes[..len]) {
-            None => None,
-            Some(cause) => Some(Part::Cause(cause)),
-        },
-    }
-}
-
-// What the first `len` bytes name, where that is wanted.
+// What the first `len` bytes name, where that is wanted. Those behind them let it be found faster.
 #[inline(always)]
 pub(crate) fn object_in<A: Allocator>(
     decls: &Decls<A>,
@@ -264,9 +235,10 @@ pub(crate) fn object_in<A: Allocator>(
     bytes: &[u8],
     len: usize,
 ) -> Option<Named>
+    requires decls { IsWellFormed decls.now }
     requires len { len ≤ length bytes.now }
     requires seen { list_all is_place_byte (take len bytes.now) ≡ true }
-    ensures { result ≡ spec.named_in decls.now.declarations kind (take len bytes.now) }
+    ensures { result ≡ result_ok (named_in decls.now.declarations kind (take len bytes.now)) }
 {
     match decls.find_at(bytes, len) {
         None => None,
@@ -278,80 +250,6 @@ pub(crate) fn object_in<A: Allocator>(
             }
         }
     }
-}
-
-// The same of a piece of a word, which may be no name.
-fn named_in<A: Allocator>(decls: &Decls<A>, kind: PartKind, word: &[u8]) -> Option<Named>
-    requires { IsWellFormed decls.now }
-    ensures { result ≡ spec.named_in decls.now.declarations kind word.now }
-{
-    if is_name(word) {
-        object_in(decls, kind, word, word.len())
-    } else {
-        None
-    }
-}
-
-// The cases of a select.
-#[cold]
-#[inline(never)]
-fn cases_in<A: Allocator>(decls: &Decls<A>, word: &[u8]) -> Option<Cases>
-    requires { IsWellFormed decls.now }
-    ensures { result ≡ spec.cases_in decls.now.declarations word.now }
-{
-    let mut cases = Cases::new();
-    if word == b"-".as_slice() {
-        return Some(cases);
-    }
-    let mut left = Some(word);
-    while let Some(bytes) = left {
-        let (piece, others) = cut_at(bytes, b',');
-        let case = case_in(decls, piece)?;
-        if cases.push(case).is_err() {
-            return None;
-        }
-        left = others;
-    }
-    Some(cases)
-}
-
-// One case of a select, whose channel has a number that a case can have.
-fn case_in<A: Allocator>(decls: &Decls<A>, piece: &[u8]) -> Option<Case>
-    requires { IsWellFormed decls.now }
-    ensures case { result ≡ spec.case_in decls.now.declarations piece.now }
-    ensures low { IfSome result (λ case. IfSome case.chan (λ c. c < 65_535)) }
-{
-    let (dir, word) = case_spelled(piece)?;
-    let chan = chan_in(decls, word)?;
-    Some(Case { dir, chan })
-}
-
-/// What a word says as a channel, or nil.
-pub fn chan_in<A: Allocator>(decls: &Decls<A>, word: &[u8]) -> Option<Option<u32>>
-    requires { IsWellFormed decls.now }
-    ensures chan { result ≡ spec.chan_in decls.now.declarations word.now }
-    ensures low { IfSome result (λ chan. IfSome chan (λ c. c < 65_535)) }
-{
-    if word == b"nil".as_slice() {
-        return Some(None);
-    }
-    let named = named_in(decls, PartKind::Object(Kind::Chan), word)?;
-    Some(Some(named.number()))
-}
-
-// Why a run failed.
-#[cold]
-#[inline(never)]
-fn failure_in<A: Allocator>(decls: &Decls<A>, word: &[u8]) -> Option<Cause>
-    requires { IsWellFormed decls.now }
-    ensures { result ≡ spec.failure_in decls.now.declarations word.now }
-{
-    if word == b"close:nil".as_slice() {
-        return Some(Cause::CloseNil);
-    }
-    let (attempt, name) = failure_spelled(word)?;
-    let named = named_in(decls, kind_tried(attempt), name)?;
-    Some(cause_by(attempt, named))
 }
 
 // The words that are left, which are a place, or two.

@@ -17,10 +17,12 @@ mod header;
 mod lanes;
 pub mod laws;
 mod line_reader;
+mod meaning;
 mod number;
 mod parse;
 mod reader;
 mod select;
+mod stream;
 mod taking;
 mod words;
 mod writing;
@@ -34,12 +36,12 @@ pub use cut::{cut_at, has_bad_byte};
 pub use declaration::cause_of;
 pub use declaration::read_declaration;
 #[doc(hidden)]
-pub use event::{Draft, chan_in, goroutine_of, last_place, next_part, next_parts};
+pub use event::{Draft, goroutine_of, last_place, next_part, next_parts};
 pub use fed::Fed;
 #[doc(hidden)]
 pub use fed::Lines;
 #[doc(hidden)]
-pub use fields::{fields_cause, has_too_many_pieces, lesser, used_name_cause};
+pub use fields::{fields_cause, least, lesser};
 #[doc(hidden)]
 pub use finder::{has_count, word_cause};
 #[doc(hidden)]
@@ -48,12 +50,15 @@ pub use grammar::Grammar;
 #[doc(hidden)]
 pub use guesses::{Guess, Guesses};
 pub use line_reader::LineReader;
+#[doc(hidden)]
+pub use meaning::{chan_in, number_in, part_in, place_in};
 pub use number::read_number;
-pub use parse::parse_trace;
+pub use parse::{parse_by, parse_trace};
 pub use race_records::{WriteFault, is_name, is_place};
 #[doc(hidden)]
 pub use reader::Reader;
 #[doc(hidden)]
 pub use select::Attempt;
+pub use stream::EventStream;
 pub use words::{Words, split_words};
 pub use writing::{print_event, write_trace};

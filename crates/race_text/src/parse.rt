@@ -1,14 +1,16 @@
-//! A trace from its bytes.
-ghost use Rattle.std.specs.Prelude.{◌≡◌, ◌≢◌, ◌<◌, Some, IfOk, IfErr};
+//! A text from its bytes, which are there at once.
+ghost use Rattle.std.specs.Prelude.{◌≡◌, ◌≢◌, [], Some, IfOk, IfErr};
 ghost use Rattle.race_text.specs.Text.{IsTextOf, IsTraceText};
 ghost use Rattle.race_text.specs.Fault.{trace_causes, text_fault};
 ghost use Rattle.race_text.specs.Fed.{ended_fault};
 ghost use Rattle.race_text.specs.Laws.{IsOnlyTraceOf};
-ghost use Rattle.race_text.specs.Lines.{IsLineOf, IsNoneBefore};
+ghost use Rattle.race_text.specs.Lines.{first_fault, IsLineOf, IsNoneBefore};
 ghost use Rattle.race_text.specs.Owed.{HidesNone};
 
 use crate::cause::{TextCause, TextFault};
-use crate::line_reader::LineReader;
+use crate::fed::Fed;
+use crate::grammar::Grammar;
+use crate::reader::Reader;
 use race_records::Trace;
 use std::alloc::Allocator;
 
@@ -28,7 +30,26 @@ pub fn parse_trace<A: Allocator + Copy>(alloc: A, bytes: &[u8]) -> Result<Trace<
     ensures owed { IfErr result (λ told. HidesNone told (ended_fault trace_causes bytes.now)) }
     ensures line { IfErr result (λ told. IsLineOf bytes.now told.line) }
 {
-    let mut reader = LineReader::new(alloc);
-    reader.feed(bytes)?;
-    reader.finish()
+    parse_by(alloc, Reader::new(alloc), bytes)
+}
+
+/// What the bytes are a text of by the grammar, which has taken no line, or else their first fault.
+///
+/// Want of memory is told as by `parse_trace`.
+pub fn parse_by<G: Grammar, A: Allocator + Copy>(
+    alloc: A,
+    grammar: G,
+    bytes: &[u8],
+) -> Result<G::Whole, TextFault>
+    requires { G.stands_for grammar [] }
+    ensures text { IfOk result (λ whole. G.is_text_of whole bytes.now) }
+    ensures fault { IfErr result
+        (λ told. told.cause ≢ TextCause.OutOfMemory → first_fault G.causes bytes.now ≡ Some told) }
+    ensures memory { IfErr result (λ told. IsNoneBefore told.line (first_fault G.causes bytes.now)) }
+    ensures owed { IfErr result (λ told. HidesNone told (ended_fault G.causes bytes.now)) }
+    ensures line { IfErr result (λ told. IsLineOf bytes.now told.line) }
+{
+    let mut fed = Fed::new(alloc, grammar);
+    fed.feed(bytes)?;
+    fed.finish()
 }

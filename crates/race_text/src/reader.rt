@@ -84,7 +84,8 @@ impl<A: Allocator + Copy> Grammar for Reader<A> {
 impl<A: Allocator + Copy> Reader<A> {
     /// Nothing is read yet. Takes no memory.
     pub fn new(alloc: A) -> Reader<A>
-        ensures { spec.StandsFor result [] }
+        ensures stands { spec.StandsFor result [] }
+        ensures none { result.trace ≡ None }
     {
         Reader {
             alloc,
@@ -136,8 +137,8 @@ impl<A: Allocator + Copy> Reader<A> {
     }
 
     // The number of the line that comes next, counted from 1.
+    #[inline(always)]
     pub(crate) fn line(&self) -> u64
-        requires { spec.IsReading self.now.has_header self.now.decls self.now.trace }
         ensures { result ≡ length (spec.lines_read self.now.has_header self.now.decls self.now.trace) + 1 }
     {
         if !self.has_header {

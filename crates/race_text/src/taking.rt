@@ -1,6 +1,7 @@
 //! Lines behind the first event.
-ghost use Rattle.std.specs.Prelude.{◌≡◌, ◌*◌, ◌<◌, ◌≤◌, ◌++◌, [], ◌∷◌, true, false, length, None, IsTrue, IfSome, IfOk, IfErr, MatchResult, OnOk};
+ghost use Rattle.std.specs.Prelude.{◌≡◌, ◌+◌, ◌*◌, ◌<◌, ◌≤◌, ◌++◌, List, [], ◌∷◌, true, false, length, None, IsTrue, IfSome, IfOk, IfErr, MatchResult, OnOk};
 ghost use Rattle.std.specs.Option.{option_map};
+ghost use Rattle.race_records.specs.declared.event.Event.{Event};
 ghost use Rattle.race_records.specs.Name.{is_place};
 ghost use Rattle.race_records.specs.Declarations.{place_number, with_place};
 ghost use Rattle.race_text.specs.Declaring.{is_declaration_line};
@@ -20,7 +21,6 @@ use race_records::{Event, MAX_EVENTS, MAX_PLACES, Op, Trace, as_text};
 use std::alloc::Allocator;
 
 // Takes a line behind the declarations: an event that fits, or the least cause of what isn't one.
-#[inline(never)]
 pub(crate) fn take_event<A: Allocator + Copy>(
     trace: &mut Trace<A>,
     line: &[u8],
@@ -30,10 +30,27 @@ pub(crate) fn take_event<A: Allocator + Copy>(
     ensures taken { spec.TakesOrTells (lines trace.old) line.now result trace.new }
     ensures grown { OnOk result (0 < length trace.new.events) }
 {
-    let count = trace.len();
+    take_event_behind(trace, 0, line)
+}
+
+// The same of a trace of which so many events were handed on.
+#[inline(never)]
+pub(crate) fn take_event_behind<A: Allocator + Copy>(
+    trace: &mut Trace<A>,
+    before: usize,
+    line: &[u8],
+) -> Result<(), TextCause>
+    requires read { spec.IsReadBehind before trace.old }
+    requires ready { before + length trace.old.events ≡ 0 → is_declaration_line line.now ≡ false }
+    ensures taken { (past : List Event) → length past ≡ before → spec.IsRead (spec.behind past trace.old)
+        → spec.TakesOrTells (lines (spec.behind past trace.old)) line.now result (spec.behind past trace.new) }
+    ensures grown { OnOk result (0 < length trace.new.events) }
+    ensures declared { OnOk result (trace.new.decls.declarations ≡ trace.old.decls.declarations) }
+{
+    let count = before + trace.len();
     let decls = trace.decls();
     match read_event(decls, line) {
-        Some(draft) => append(trace, draft),
+        Some(draft) => append(trace, before, draft),
         None => Err(line_cause(decls, count, line).unwrap()),
     }
 }
@@ -53,9 +70,26 @@ pub(crate) fn take_common<'a, A: Allocator + Copy>(
     ensures read { OnOk result (spec.IsRead trace.new) }
     ensures some { OnOk result (0 < length trace.new.events) }
 {
+    take_common_behind(trace, 0, guesses, bytes)
+}
+
+// The same of a trace of which so many events were handed on.
+#[inline(always)]
+pub(crate) fn take_common_behind<'a, A: Allocator + Copy>(
+    trace: &mut Trace<A>,
+    before: usize,
+    guesses: &mut Guesses,
+    bytes: &'a [u8],
+) -> Result<Option<&'a [u8]>, TextCause>
+    requires read { spec.IsReadBehind before trace.old }
+    ensures taken { (past : List Event) → length past ≡ before → spec.IsRead (spec.behind past trace.old)
+        → spec.TakesCommon (spec.behind past trace.old) bytes.now result (spec.behind past trace.new) }
+    ensures kept { OnOk result (length trace.old.events ≤ length trace.new.events) }
+    ensures declared { OnOk result (trace.new.decls.declarations ≡ trace.old.decls.declarations) }
+{
     match read_common(trace.decls(), bytes) {
         None => Ok(None),
-        Some((said, rest)) => match append_said(trace, guesses, said) {
+        Some((said, rest)) => match append_said(trace, before, guesses, said) {
             Ok(()) => Ok(Some(rest)),
             Err(cause) => Err(cause),
         },
@@ -66,16 +100,18 @@ pub(crate) fn take_common<'a, A: Allocator + Copy>(
 #[inline(always)]
 fn append_said<A: Allocator + Copy>(
     trace: &mut Trace<A>,
+    before: usize,
     guesses: &mut Guesses,
     said: Said<'_>,
 ) -> Result<(), TextCause>
     requires fits { spec.IsFitting trace.old.decls (said_of said) }
-    requires few { length trace.old.decls.places ≤ 2 * length trace.old.events }
+    requires limited { before + length trace.old.events ≤ MAX_EVENTS }
+    requires few { length trace.old.decls.places ≤ 2 * (before + length trace.old.events) }
     ensures { MatchResult result
-        (λ _. spec.AppendsEvent trace.old trace.new (said_of said.entry))
-        (spec.TellsOfRoom trace.old) }
+        (λ _. spec.AppendsEvent before trace.old trace.new (said_of said.entry))
+        (spec.TellsOfRoom before trace.old) }
 {
-    let count = trace.len();
+    let count = before + trace.len();
     if count >= MAX_EVENTS {
         return Err(TextCause::TooMany);
     }
@@ -137,14 +173,19 @@ fn append_op<A: Allocator + Copy>(
 
 // Appends an event that fits. Nothing but a full trace and want of memory is in its way.
 #[inline(always)]
-fn append<A: Allocator + Copy>(trace: &mut Trace<A>, draft: Draft<'_>) -> Result<(), TextCause>
+fn append<A: Allocator + Copy>(
+    trace: &mut Trace<A>,
+    before: usize,
+    draft: Draft<'_>,
+) -> Result<(), TextCause>
     requires fits { spec.IsFitting trace.old.decls (drafted draft) }
-    requires few { length trace.old.decls.places ≤ 2 * length trace.old.events }
+    requires limited { before + length trace.old.events ≤ MAX_EVENTS }
+    requires few { length trace.old.decls.places ≤ 2 * (before + length trace.old.events) }
     ensures { MatchResult result
-        (λ _. spec.AppendsEvent trace.old trace.new (drafted draft.entry))
-        (spec.TellsOfRoom trace.old) }
+        (λ _. spec.AppendsEvent before trace.old trace.new (drafted draft.entry))
+        (spec.TellsOfRoom before trace.old) }
 {
-    if trace.len() >= MAX_EVENTS {
+    if before + trace.len() >= MAX_EVENTS {
         return Err(TextCause::TooMany);
     }
     let place = add_place(trace, draft.place)?;

@@ -5,8 +5,10 @@ use Rattle.race_records.specs.declared.kind.Kind.{Kind}
 use Rattle.race_records.specs.declared.parts.Part.{Part}
 use Rattle.race_records.specs.declared.parts.PartKind.{PartKind}
 use Rattle.race_records.specs.Declarations.{Declaration}
-use Rattle.race_text.specs.Reading.{ReadPart, part_so_far, first_part, part_in, with_rest, goroutine_of}
+use Rattle.race_text.specs.Reading.{ReadPart, part_so_far, first_part, with_rest, goroutine_of}
+use Rattle.race_text.specs.Meaning.{part_in}
 use Rattle.race_text.specs.Words.{parts_left}
+use Rattle.std.specs.Result.{result_ok}
 use Rattle.race_script.specs.Reading.{begun_in}
 use Rattle.race_script.proofs.asks.begun_in.Goals as goal
 
@@ -25,7 +27,7 @@ of_part words (Some part) = refl
 one_named : (ds : List Declaration) (words : List (List ℕ)) → (length words == 1) ≡ true
     → begun_in ds words ≡ option_and_then (λ (first : ReadPart). goroutine_of first.0) (first_part ds (PartKind.Object Kind.Goroutine) words)
 one_named ds [] one = refl
-one_named ds (w ∷ []) one = of_part [] (part_in ds (PartKind.Object Kind.Goroutine) w)
+one_named ds (w ∷ []) one = of_part [] (result_ok (part_in ds (PartKind.Object Kind.Goroutine) w))
 one_named ds (w ∷ x ∷ words) one = absurd (grind (arith, nat_tests, one) steps 100000)
 
 pub returns-then-not-has_count : goal.returns-then-not-has_count

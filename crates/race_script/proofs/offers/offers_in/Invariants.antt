@@ -1,11 +1,13 @@
-use Rattle.std.proofs.Common.{◌≡◌, [], length}
-use Rattle.race_text.specs.Words.{parts_left}
+use Rattle.std.proofs.Common.{◌≡◌, [], Ok, length}
+use Rattle.race_text.specs.Meaning.{pieces_on}
 use Rattle.race_text.specs.Select.{pieces_of}
-use Rattle.race_script.specs.Offers.{offers_on}
+use Rattle.race_text.specs.Words.{parts_left}
+use Rattle.race_script.specs.Offers.{offer_in}
 use Rattle.race_script.proofs.offers.offers_in.Given as goal
 
 abbrev pub invariant-loop-left : goal.invariant-loop-left
-invariant-loop-left g l = offers_on l.decls.declarations l.offers (parts_left 44 l.left) ≡ offers_on l.decls.declarations [] (pieces_of l.fn.word)
+invariant-loop-left g l =
+    pieces_on (offer_in l.decls.declarations) l.offers (parts_left 44 l.left) ≡ pieces_on (offer_in l.decls.declarations) (Ok []) (pieces_of l.fn.word)
 
 abbrev pub decreases-loop-left : goal.decreases-loop-left
 decreases-loop-left g l = length (parts_left 44 l.left)

@@ -2,8 +2,11 @@ use Rattle.race_text.specs.Common.{op_of, object_kind}
 use Rattle.race_text.proofs.CommonLemmas.{says_deed}
 use Rattle.race_text.proofs.common.next_deed.Goals as goal
 
-pub next_named-requires : goal.next_named-requires
-next_named-requires g c = c.requires
+pub next_named-requires-clause-decls : goal.next_named-requires-clause-decls
+next_named-requires-clause-decls g c = c.requires.decls
+
+pub next_named-requires-clause-marked : goal.next_named-requires-clause-marked
+next_named-requires-clause-marked g c = c.requires.marked
 
 pub next_value-requires : goal.next_value-requires
 next_value-requires g c = c.in_ok-object.ensures.marked

@@ -10,8 +10,11 @@ returns g c =
     (op_of c.in_ok-deed.deed) c.in_ok-place.place.now
     c.in_ok-verb.ensures.says c.in_ok-goroutine.ensures.says (sym c.in_ok-who.ensures) c.in_ok-deed.ensures.says c.in_ok-place.ensures
 
-pub next_deed-requires : goal.next_deed-requires
-next_deed-requires g c = c.in_ok-goroutine.ensures.marked
+pub next_deed-requires-clause-decls : goal.next_deed-requires-clause-decls
+next_deed-requires-clause-decls g c = c.requires
+
+pub next_deed-requires-clause-marked : goal.next_deed-requires-clause-marked
+next_deed-requires-clause-marked g c = c.in_ok-goroutine.ensures.marked
 
 pub last_place-requires : goal.last_place-requires
 last_place-requires g c = c.in_ok-deed.ensures.marked

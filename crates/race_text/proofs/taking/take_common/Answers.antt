@@ -1,36 +1,6 @@
-use Rattle.std.proofs.Common.{Ok, Err}
-use Rattle.race_text.specs.Common.{line_in, said_of}
-use Rattle.race_text.proofs.TraceLemmas.{fitting, event_answered, says_event}
+-- No event was handed on.
+use Rattle.std.proofs.Common.{[], refl}
 use Rattle.race_text.proofs.taking.take_common.Goals as goal
 
-pub append_said-requires-clause-fits : goal.append_said-requires-clause-fits
-append_said-requires-clause-fits g c =
-    let is = says_event c.decls.result.now c.args.trace.now.decls (line_in c.args.bytes.now)
-    (said_of c.in-Some.said) c.decls.ensures.well_formed c.decls.ensures.decls (c.in-Some.ensures.says c.decls.result.now.version) in
-    fitting c.args.trace.now.decls (line_in c.args.bytes.now) (said_of c.in-Some.said) is
-
-pub returns-in-Ok-clause-taken : goal.returns-in-Ok-clause-taken
-returns-in-Ok-clause-taken g c =
-    let is = says_event c.decls.result.now c.args.trace.now.decls (line_in c.args.bytes.now)
-    (said_of c.in-Some.said) c.decls.ensures.well_formed c.decls.ensures.decls (c.in-Some.ensures.says c.decls.result.now.version) in
-    let taken = event_answered c.args.trace.now c.append_said.new.trace (line_in c.args.bytes.now)
-    (said_of c.in-Some.said) c.requires.read is (Ok tt) c.in-Ok.ensures in
-    (c.in-Some.ensures.ends, record { no_cause = taken.no_cause; lines = taken.lines })
-
-pub returns-in-Ok-clause-read : goal.returns-in-Ok-clause-read
-returns-in-Ok-clause-read g c =
-    let is = says_event c.decls.result.now c.args.trace.now.decls (line_in c.args.bytes.now)
-    (said_of c.in-Some.said) c.decls.ensures.well_formed c.decls.ensures.decls (c.in-Some.ensures.says c.decls.result.now.version) in
-    (event_answered c.args.trace.now c.append_said.new.trace (line_in c.args.bytes.now)
-    (said_of c.in-Some.said) c.requires.read is (Ok tt) c.in-Ok.ensures).is_read
-
-pub returns-in-Err-clause-taken : goal.returns-in-Err-clause-taken
-returns-in-Err-clause-taken g c =
-    let is = says_event c.decls.result.now c.args.trace.now.decls (line_in c.args.bytes.now)
-    (said_of c.in-Some.said) c.decls.ensures.well_formed c.decls.ensures.decls (c.in-Some.ensures.says c.decls.result.now.version) in
-    record {
-      rest = c.in-Some.rest.now;
-      ends = c.in-Some.ensures.ends;
-      least = event_answered c.args.trace.now c.append_said.new.trace (line_in c.args.bytes.now) (said_of c.in-Some.said) c.requires.read is
-          (Err c.in-Err.cause) c.in-Err.ensures;
-    }
+pub take_common_behind-requires : goal.take_common_behind-requires
+take_common_behind-requires g c = record { read = record { past = []; count = refl; is_read = c.requires.read } }

@@ -1,5 +1,5 @@
 -- No cause at the end: the header was read, all bodies have ended, and nothing stands behind the last newline.
-use Rattle.std.proofs.Common.{◌≡◌, ℕ, List, [], ◌++◌, sym, ap, subst, ◌∙◌, append-nil}
+use Rattle.std.proofs.Common.{◌≡◌, [], ◌++◌, sym, ap, subst, ◌∙◌, append-nil}
 use Rattle.std.specs.List.{flat_map}
 use Rattle.race_text.specs.Text.{ended}
 use Rattle.race_text.proofs.ParseLemmas.{no_bytes}

@@ -1,5 +1,5 @@
 -- Each line is taken where it lies, and the last part is kept.
-use Rattle.std.proofs.Common.{◌≡◌, ℕ, List, ◌++◌, None, Some, sym, subst, ◌∙◌}
+use Rattle.std.proofs.Common.{◌++◌, None, Some, sym, subst, ◌∙◌}
 use Rattle.std.proofs.lemmas.Option.{none-some}
 use Rattle.race_text.specs.Fed.{TakesNext}
 use Rattle.race_text.specs.Common.{line_in}

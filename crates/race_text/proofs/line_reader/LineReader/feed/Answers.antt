@@ -1,5 +1,5 @@
 -- What is seen of the reader is what it was fed.
-use Rattle.std.proofs.Common.{◌≡◌, ℕ, List, ◌++◌, refl, sym, ap, subst, ◌∙◌}
+use Rattle.std.proofs.Common.{ℕ, List, ◌++◌, refl, sym, ap, subst, ◌∙◌}
 use Rattle.std.proofs.lemmas.Result.{IfOk-weaker, IfErr-weaker}
 use Rattle.race_text.specs.Fault.{trace_causes}
 use Rattle.race_text.specs.Reader.{lines_read, StandsFor as Stands}

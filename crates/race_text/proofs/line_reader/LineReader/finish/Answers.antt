@@ -1,5 +1,5 @@
 -- The trace that was read is the one whose text was fed.
-use Rattle.std.proofs.Common.{◌≡◌, ℕ, List, refl, sym, ap, subst, ◌∙◌}
+use Rattle.std.proofs.Common.{ℕ, List, refl, sym, ap, subst, ◌∙◌}
 use Rattle.std.proofs.lemmas.Result.{IfOk-weaker, IfErr-weaker}
 use Rattle.race_text.specs.Fault.{trace_causes}
 use Rattle.race_text.specs.Reader.{lines_read, StandsFor as Stands}

@@ -1,0 +1,13 @@
+use Rattle.std.proofs.Common.{ap, ◌∙◌}
+use Rattle.std.proofs.Math.Seq.{take-length}
+use Rattle.std.specs.List.{list_all}
+use Rattle.race_records.specs.Declarations.{find_name}
+use Rattle.race_records.specs.Name.{is_place_byte}
+use Rattle.race_text.proofs.WordLemmas.{name_is_visible}
+use Rattle.race_text.proofs.meaning.look_up.Goals as goal
+
+pub find_at-requires-clause-visible : goal.find_at-requires-clause-visible
+find_at-requires-clause-visible g c = ap (list_all is_place_byte) (take-length c.args.word.now) ∙ name_is_visible c.args.word.now c.requires
+
+pub returns : goal.returns
+returns g c = c.find_at.ensures ∙ ap (find_name c.args.decls.now.declarations) (take-length c.args.word.now)

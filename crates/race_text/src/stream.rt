@@ -1,0 +1,134 @@
+//! A trace that is read line by line, and whose events are handed on.
+ghost use Rattle.std.specs.Prelude.{◌≡◌, ◌+◌, ◌++◌, List, [], length, true, IsOk, MatchResult, OnOk};
+ghost use Rattle.race_records.specs.declared.event.Event.{Event};
+ghost use Rattle.race_records.specs.Events.{IsTrace};
+ghost use Rattle.race_text.specs.Fault.{trace_causes};
+ghost use Rattle.race_text.specs.Grammar.{ForEachLines, Takes, Tells, TakesIfTold, TellsOfFront};
+ghost use Rattle.race_text.specs.Stream as spec;
+
+use crate::cause::TextCause;
+use crate::reader::Reader;
+use crate::taking::{take_common_behind, take_event_behind};
+use race_records::{Decls, Event};
+use std::alloc::Allocator;
+
+/// What was read of a trace: its declarations, how many of its events were handed on, and those that
+/// weren't yet.
+///
+/// The lines that it took are known to proofs alone: they are those of the trace that has the events that
+/// were handed on before its own.
+#[derive(Drop)]
+pub struct EventStream<A: Allocator> {
+    /// What was read, with the events that weren't handed on.
+    pub reader: Reader<A>,
+    /// How many were.
+    pub before: usize,
+}
+
+impl<A: Allocator + Copy> EventStream<A> {
+    /// Nothing is read yet. Takes no memory.
+    pub fn new(alloc: A) -> EventStream<A>
+        ensures stands { spec.StandsWith result [] [] }
+        ensures none { spec.events_of result ≡ [] }
+    {
+        EventStream {
+            reader: Reader::new(alloc),
+            before: 0,
+        }
+    }
+
+    /// Takes the next line, or tells its least cause: want of memory only where the line has none.
+    /// After a cause nothing more is to be taken.
+    #[inline(always)]
+    pub fn take_line(&mut self, line: &[u8]) -> Result<(), TextCause>
+        requires { spec.StandsForSome self.old }
+        ensures taken { MatchResult result
+            (λ _. (past : List Event) → Takes trace_causes (spec.StandsWith self.old past) line.now (spec.StandsWith self.new past))
+            (λ told. (past : List Event) → Tells trace_causes (spec.StandsWith self.old past) line.now told) }
+        ensures declared { OnOk result (spec.DeclaresNothing self.old self.new) }
+    {
+        match &mut self.reader.trace {
+            None => self.reader.take_line(line),
+            Some(trace) => take_event_behind(trace, self.before, line),
+        }
+    }
+
+    /// Takes the line in front of the bytes where it is a common one, and tells what is behind it. Tells
+    /// nothing, and takes nothing, where it is another.
+    #[inline(always)]
+    pub fn take_common<'b>(&mut self, bytes: &'b [u8]) -> Result<Option<&'b [u8]>, TextCause>
+        requires { spec.StandsForSome self.old }
+        ensures taken { MatchResult result
+            (λ rest. (past : List Event) → TakesIfTold trace_causes (spec.StandsWith self.old past) bytes.now rest (spec.StandsWith self.new past))
+            (λ told. (past : List Event) → TellsOfFront trace_causes (spec.StandsWith self.old past) bytes.now told) }
+        ensures declared { OnOk result (spec.DeclaresNothing self.old self.new) }
+    {
+        match &mut self.reader.trace {
+            None => Ok(None),
+            Some(trace) => {
+                take_common_behind(trace, self.before, &mut self.reader.guesses, bytes)
+            }
+        }
+    }
+
+    /// The number of the line that comes next, counted from 1.
+    #[inline(always)]
+    pub fn line(&self) -> u64
+        requires { spec.StandsForSome self.now }
+        ensures { (past : List Event) → ForEachLines (spec.StandsWith self.now past) (λ lines. result ≡ length lines + 1) }
+    {
+        self.reader.line() + self.before as u64
+    }
+
+    /// The cause of the last part of a text, which no newline ends. Where there is none, the text is
+    /// the trace's.
+    pub fn end_cause(&self, last: &[u8]) -> Option<TextCause>
+        ensures cause { (past : List Event) → ForEachLines (spec.StandsWith self.now past)
+            (λ lines. result ≡ trace_causes.end lines last.now) }
+        ensures text { spec.IsTextAtEnd self.now last.now }
+    {
+        self.reader.end_cause(last)
+    }
+
+    /// Whether an event stands there, behind which nothing is declared.
+    pub fn has_events(&self) -> bool
+        ensures { result ≡ spec.has_events self.now }
+    {
+        self.reader.trace.is_some()
+    }
+
+    /// The declarations so far.
+    pub fn decls(&self) -> &Decls<A>
+        ensures { result.now ≡ spec.decls_of self.now }
+    {
+        match &self.reader.trace {
+            None => &self.reader.decls,
+            Some(trace) => trace.decls(),
+        }
+    }
+
+    /// The events that weren't handed on. They fit the declarations.
+    pub fn events(&self) -> &[Event]
+        ensures events { result.now ≡ spec.events_of self.now }
+        ensures is_trace { IsTrace (spec.trace_with [] self.now) }
+    {
+        match &self.reader.trace {
+            None => &[],
+            Some(trace) => trace.events(),
+        }
+    }
+
+    /// Forgets the events, which were handed on, and keeps their room.
+    pub fn hand_on(&mut self)
+        requires { spec.StandsForSome self.old }
+        ensures stands { (past : List Event) → ForEachLines (spec.StandsWith self.old past)
+            (spec.StandsWith self.new (past ++ spec.events_of self.old)) }
+        ensures none { spec.events_of self.new ≡ [] }
+        ensures declared { spec.DeclaresNothing self.old self.new }
+    {
+        if let Some(trace) = &mut self.reader.trace {
+            self.before += trace.len();
+            trace.clear_events();
+        }
+    }
+}

@@ -15,3 +15,5 @@ mod records;
 mod rows;
 #[cfg(test)]
 mod shards;
+#[cfg(test)]
+mod streams;

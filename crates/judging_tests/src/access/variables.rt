@@ -2,6 +2,7 @@ ghost use Rattle.std.specs.Prelude.{◌<◌};
 
 use race_access::VarState;
 use race_clock::{Clock, Stamp};
+use race_verdict::Noted;
 use std::alloc::{AllocError, Global};
 use std::test::Fail;
 
@@ -128,6 +129,7 @@ fn touch(alloc: Global, state: &mut VarState, row: &Row) -> Result<(), AllocErro
             var: 0,
             write,
         },
+        500 + at % 100,
         &clock(alloc, known)?,
     )
 }
@@ -138,6 +140,14 @@ fn raced(alloc: Global, rows: &[Row]) -> Result<Option<(u32, u32)>, AllocError> 
         touch(alloc, &mut state, row)?;
     }
     Ok(state.raced())
+}
+
+fn noted(alloc: Global, rows: &[Row]) -> Result<Option<(Noted, Noted)>, AllocError> {
+    let mut state = VarState::new(alloc);
+    for row in rows {
+        touch(alloc, &mut state, row)?;
+    }
+    Ok(state.noted())
 }
 
 // Nine goroutines read, of which so many meet main before it writes.
@@ -160,7 +170,7 @@ fn raced_by_nine(alloc: Global, meets: u32) -> Result<Option<(u32, u32)>, AllocE
             var: 0,
             write: false,
         };
-        state.touch(&stamp, &known)?;
+        state.touch(&stamp, 0, &known)?;
         if reader <= meets {
             met.join(&clock(alloc, &[(reader, 3)])?)?;
         }
@@ -172,7 +182,7 @@ fn raced_by_nine(alloc: Global, meets: u32) -> Result<Option<(u32, u32)>, AllocE
         var: 0,
         write: true,
     };
-    state.touch(&write, &met)?;
+    state.touch(&write, 0, &met)?;
     Ok(state.raced())
 }
 
@@ -183,5 +193,58 @@ fn the_race_is_told(rt: HostRuntime) -> Result<(), Fail> {
     }
     assert_eq!(rt; raced_by_nine(rt.alloc(), 9)?, None);
     assert_eq!(rt; raced_by_nine(rt.alloc(), 8)?, Some((17, 26)));
+    Ok(())
+}
+
+// Some of the rows above, and what is printed of the two accesses of the race: each stands at 500 and its index.
+static NOTED: [(usize, Option<(Noted, Noted)>); 3] = [
+    (1, None),
+    // The read that was kept beside another, and main's write.
+    (
+        2,
+        Some((
+            Noted {
+                at: 3,
+                who: 2,
+                write: false,
+                place: 503,
+            },
+            Noted {
+                at: 4,
+                who: 0,
+                write: true,
+                place: 504,
+            },
+        )),
+    ),
+    // The write that stayed behind a read, and the read that doesn't know it.
+    (
+        6,
+        Some((
+            Noted {
+                at: 2,
+                who: 0,
+                write: true,
+                place: 502,
+            },
+            Noted {
+                at: 5,
+                who: 2,
+                write: false,
+                place: 505,
+            },
+        )),
+    ),
+];
+
+#[test]
+fn both_accesses_are_noted(rt: HostRuntime) -> Result<(), Fail> {
+    for (row, want) in &NOTED {
+        let Some((rows, _)) = ROWS.get(*row) else {
+            assert!(rt; false);
+            continue;
+        };
+        assert_eq!(rt; noted(rt.alloc(), rows)?, *want, "{rows:?}");
+    }
     Ok(())
 }

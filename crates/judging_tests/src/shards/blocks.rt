@@ -7,7 +7,7 @@ use crate::shards::verdicts::{DECLARED, Told, said_by};
 use race_legal::{Illegal, Rule};
 use race_records::Trace;
 use race_shards::{Gate, Judge, JudgeFault};
-use race_verdict::{Race, Verdict};
+use race_verdict::{Noted, NotedRace, NotedVerdict, Race, Verdict};
 use std::alloc::Global;
 use std::sync::Wait;
 use std::sync::atomic::{AtomicU64, Ordering};
@@ -183,6 +183,92 @@ fn is_told<R: Threads + Wait>(rt: &R, alloc: Global, row: &Row) -> Result<bool, 
 fn a_judge_is_fed_in_blocks(rt: HostRuntime) -> Result<(), Fail> {
     for (at, row) in ROWS.iter().enumerate() {
         assert!(rt; is_told(&rt, rt.alloc(), row)?, "{at}");
+    }
+    Ok(())
+}
+
+// What is noted with a verdict.
+#[derive(Clone, Copy, PartialEq, Eq)]
+enum Notes<'a> {
+    Illegal(Illegal),
+    Clean(usize, usize),
+    Races(&'a [NotedRace]),
+}
+
+fn notes_of(verdict: &NotedVerdict) -> Notes<'_> {
+    match verdict {
+        NotedVerdict::Illegal(illegal) => Notes::Illegal(*illegal),
+        NotedVerdict::Clean { events, accesses } => Notes::Clean(*events, *accesses),
+        NotedVerdict::Races(races) => Notes::Races(races.as_slice()),
+    }
+}
+
+// Events, and what is noted of them: places have numbers in the order in which they come.
+static NOTED: [(&[&str], Notes<'static>); 3] = [
+    (
+        &["go main a p", "read a x 1 p"],
+        Notes::Illegal(Illegal {
+            at: 1,
+            rule: Rule::StaleRead,
+        }),
+    ),
+    (
+        &[
+            "write main x 1 p",
+            "go main a p",
+            "read a x 1 p",
+            "exit a p",
+        ],
+        Notes::Clean(4, 2),
+    ),
+    (
+        &["go main a m:1", "write main z 1 m:2", "read a z 1 a:7"],
+        Notes::Races(&[NotedRace {
+            var: 2,
+            first: Noted {
+                at: 1,
+                who: 0,
+                write: true,
+                place: 1,
+            },
+            second: Noted {
+                at: 2,
+                who: 1,
+                write: false,
+                place: 2,
+            },
+        }]),
+    ),
+];
+
+// The verdict of so many shards, with its notes.
+fn noted<R: Threads + Wait>(
+    rt: &R,
+    alloc: Global,
+    trace: &Trace,
+    shards: usize,
+) -> Result<NotedVerdict, JudgeFault> {
+    let mut judge = Judge::new(alloc, trace.decls(), shards)?;
+    feed_each(rt, &mut judge, trace, &[2, 6], &Counting::new())?;
+    judge.finish_noted()
+}
+
+fn is_noted<R: Threads + Wait>(
+    rt: &R,
+    alloc: Global,
+    events: &[&str],
+    want: Notes<'_>,
+) -> Result<bool, Fail> {
+    let trace = traced(alloc, DECLARED, events)?;
+    let one = noted(rt, alloc, &trace, 1)?;
+    let two = noted(rt, alloc, &trace, 2)?;
+    Ok(notes_of(&one) == want && notes_of(&two) == want)
+}
+
+#[test]
+fn a_verdict_is_noted(rt: HostRuntime) -> Result<(), Fail> {
+    for (at, (events, want)) in NOTED.iter().enumerate() {
+        assert!(rt; is_noted(&rt, rt.alloc(), events, *want)?, "{at}");
     }
     Ok(())
 }

@@ -13,8 +13,8 @@ use std::thread::Threads;
 enum Call {
     /// One reads.
     OneReads,
-    /// Six read, then main writes, and a hundred others follow.
-    ManyFollow,
+    /// Six read, then main writes, which knows all behind this read, and a hundred others follow.
+    ManyFollow(u32),
 }
 
 // The first access of a goroutine.
@@ -34,21 +34,34 @@ fn read_up_to<A: Allocator + Copy>(state: &mut VarState<A>, clock: &Clock<A>, la
     let mut reply = Reply::Right;
     for who in 1..=last {
         let stamp = stamp(who, who, false);
-        if state.touch(&stamp, clock).is_err() {
+        if state.touch(&stamp, 0, clock).is_err() {
             let is_as_before = reply == Reply::Right && state.raced().is_none();
-            reply = refused_if(is_as_before && state.touch(&stamp, clock).is_ok());
+            reply = refused_if(is_as_before && state.touch(&stamp, 0, clock).is_ok());
         }
     }
     reply
 }
 
-// Main's write races with the last read. From then on nothing is taken.
-fn races_on<A: Allocator + Copy>(state: &mut VarState<A>, clock: &Clock<A>) -> bool {
-    let mut is_taken = state.touch(&stamp(7, 0, true), clock).is_ok();
-    for who in 8..108 {
-        is_taken &= state.touch(&stamp(who, who, who % 2 == 0), clock).is_ok();
+// A clock that knows the reads behind this one.
+fn behind<A: Allocator + Copy>(alloc: A, read: u32) -> Option<Clock<A>> {
+    let mut clock = Clock::new(alloc);
+    for who in 1..7 {
+        if who > read && clock.knows(who) == 0 {
+            clock.tick(who).ok()?;
+        }
     }
-    is_taken && state.raced() == Some((6, 7))
+    Some(clock)
+}
+
+// Main's write races with this read, the last that its clock doesn't know. From then on nothing is taken.
+fn races_on<A: Allocator + Copy>(state: &mut VarState<A>, clock: &Clock<A>, read: u32) -> bool {
+    let mut is_taken = state.touch(&stamp(7, 0, true), 0, clock).is_ok();
+    for who in 8..108 {
+        is_taken &= state
+            .touch(&stamp(who, who, who % 2 == 0), 0, clock)
+            .is_ok();
+    }
+    is_taken && state.raced() == Some((read, 7))
 }
 
 impl Growing for Call {
@@ -60,12 +73,18 @@ impl Growing for Call {
     ) -> Reply {
         let mut state = VarState::new(heap);
         let clock = Clock::new(heap);
-        heap.refuse(nth);
         match self {
-            Call::OneReads => read_up_to(&mut state, &clock, 1),
-            Call::ManyFollow => {
+            Call::OneReads => {
+                heap.refuse(nth);
+                read_up_to(&mut state, &clock, 1)
+            }
+            Call::ManyFollow(read) => {
+                let Some(known) = behind(heap, read) else {
+                    return Reply::Wrong;
+                };
+                heap.refuse(nth);
                 let reply = read_up_to(&mut state, &clock, 6);
-                if races_on(&mut state, &clock) {
+                if races_on(&mut state, &known, read) {
                     reply
                 } else {
                     Reply::Wrong
@@ -75,8 +94,14 @@ impl Growing for Call {
     }
 }
 
-// A read beside another takes a list, which grows with the fifth.
-static CALLS: [(Call, u64); 2] = [(Call::OneReads, 0), (Call::ManyFollow, 2)];
+// A read beside another takes a list, which grows with the fifth. Where main knows the later reads, its race names one that
+// a refusal could have lost.
+static CALLS: [(Call, u64); 4] = [
+    (Call::OneReads, 0),
+    (Call::ManyFollow(6), 2),
+    (Call::ManyFollow(3), 2),
+    (Call::ManyFollow(1), 2),
+];
 
 #[test]
 fn accesses(rt: HostRuntime) {

@@ -6,7 +6,7 @@ use crate::calls::{Growing, Reply, assert_each, refused_if, right_if};
 use crate::traced::traced;
 use race_records::Trace;
 use race_shards::{Judge, JudgeFault, OpenGate, judge_alone};
-use race_verdict::Verdict;
+use race_verdict::{NotedVerdict, Race, Verdict};
 use refusing_heap::RefusingHeap;
 use std::alloc::{Allocator, Global};
 use std::sync::Wait;
@@ -18,6 +18,7 @@ enum Call {
     New,
     Feed,
     Finish,
+    FinishNoted,
     Judge,
     JudgeAlone,
 }
@@ -28,13 +29,34 @@ static DECLARED: &[u8] = b"gotrace 1\ngoroutine w\nvar x\nvar y\nmutex m\n";
 static EVENTS: &[u8] =
     b"go main w p\nwrite main x 1 p\nread w x 1 p\nwrite main y 1 p\nwrite w y 2 p\nlock w m p\nunlock w m p\n";
 
+static RACES: [Race; 2] = [
+    Race {
+        var: 0,
+        first: 1,
+        second: 2,
+    },
+    Race {
+        var: 1,
+        first: 3,
+        second: 4,
+    },
+];
+
 fn is_wanting(fault: JudgeFault) -> bool {
     matches!(fault, JudgeFault::NoThread | JudgeFault::OutOfMemory)
 }
 
 fn judged<A: Allocator>(answer: Result<Verdict<A>, JudgeFault>) -> Reply {
     match answer {
-        Ok(Verdict::Races(races)) => right_if(races.as_slice().len() == 2),
+        Ok(Verdict::Races(races)) => right_if(races.as_slice() == RACES.as_slice()),
+        Ok(_) => Reply::Wrong,
+        Err(fault) => refused_if(is_wanting(fault)),
+    }
+}
+
+fn noted<A: Allocator>(answer: Result<NotedVerdict<A>, JudgeFault>) -> Reply {
+    match answer {
+        Ok(NotedVerdict::Races(races)) => right_if(races.len() == 2),
         Ok(_) => Reply::Wrong,
         Err(fault) => refused_if(is_wanting(fault)),
     }
@@ -98,6 +120,7 @@ fn finishes<R: Threads + Wait>(
     nth: u64,
     trace: &Trace<&RefusingHeap<Global>>,
     shards: usize,
+    is_noted: bool,
 ) -> Reply
     requires { 0 < nth }
 {
@@ -108,7 +131,11 @@ fn finishes<R: Threads + Wait>(
         return Reply::Wrong;
     };
     heap.refuse(nth);
-    judged(judge.finish())
+    if is_noted {
+        noted(judge.finish_noted())
+    } else {
+        judged(judge.finish())
+    }
 }
 
 fn made<A: Allocator + Copy>(heap: A, trace: &Trace<A>, shards: usize) -> Reply {
@@ -141,7 +168,8 @@ impl Growing for Row {
                 made(heap, &trace, self.shards)
             }
             Call::Feed => feeds(rt, heap, nth, &trace, self.shards),
-            Call::Finish => finishes(rt, heap, nth, &trace, self.shards),
+            Call::Finish => finishes(rt, heap, nth, &trace, self.shards, false),
+            Call::FinishNoted => finishes(rt, heap, nth, &trace, self.shards, true),
             Call::Judge => {
                 heap.refuse(nth);
                 judged(Judge::judge(rt, heap, &trace, self.shards, 2, &OpenGate))
@@ -157,12 +185,13 @@ impl Growing for Row {
 // A judge takes six lists for its replay (four for goroutines and variables, two for locks), one for its shards, and for
 // each shard the clocks of its goroutines, a list for its locks, and what is kept of its variables. The first unlock of a
 // mutex makes each shard's stamper grow, and at the end there is the list of races.
-static CALLS: [(Call, usize, u64); 8] = [
+static CALLS: [(Call, usize, u64); 9] = [
     (Call::New, 1, 10),
     (Call::New, 2, 13),
     (Call::Feed, 1, 1),
     (Call::Feed, 2, 2),
     (Call::Finish, 2, 1),
+    (Call::FinishNoted, 2, 1),
     (Call::Judge, 1, 12),
     (Call::Judge, 2, 16),
     (Call::JudgeAlone, 1, 12),

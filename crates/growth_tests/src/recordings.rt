@@ -2,9 +2,10 @@
 
 use crate::calls::{Growing, Reply, assert_each, refused_if, right_if};
 use crate::programs::parse;
+use crate::traced::traced;
 use race_hub::{End, Hub, Recording};
 use race_record::{RecordFault, record, record_serial};
-use race_records::Kind;
+use race_records::{Kind, Trace};
 use race_script::{Program, Script};
 use refusing_heap::RefusingHeap;
 use std::alloc::{Allocator, Global};
@@ -39,9 +40,14 @@ fn hub_of<A: Allocator + Copy + Send>(alloc: A) -> Option<Hub<Script<A>, A>> {
     }
 }
 
-fn replied<A: Allocator>(answer: Result<Recording<A>, RecordFault>) -> Reply {
+// The trace of that.
+static DECLARED: &[u8] = b"gotrace 1\nvar x\n";
+
+static EVENTS: &[u8] = b"write main x 7 m:1\nexit main m:2\n";
+
+fn replied<A: Allocator>(answer: Result<Recording<A>, RecordFault>, right: &Trace<A>) -> Reply {
     match answer {
-        Ok(recording) => right_if(recording.end() == End::Main && recording.trace().len() == 2),
+        Ok(recording) => right_if(recording.end() == End::Main && *recording.trace() == *right),
         Err(fault) => refused_if(fault == RecordFault::OutOfMemory),
     }
 }
@@ -53,7 +59,7 @@ impl Growing for Records {
         heap: &RefusingHeap<Global>,
         nth: u64,
     ) -> Reply {
-        let Some(hub) = hub_of(heap) else {
+        let (Some(hub), Some(right)) = (hub_of(heap), traced(heap, DECLARED, EVENTS)) else {
             return Reply::Wrong;
         };
         heap.refuse(nth);
@@ -61,8 +67,8 @@ impl Growing for Records {
             return Reply::Wrong;
         }
         match self.workers {
-            Some(workers) => replied(record(rt, hub, workers, 0)),
-            None => replied(record_serial(hub, &[])),
+            Some(workers) => replied(record(rt, hub, workers, 0), &right),
+            None => replied(record_serial(hub, &[]), &right),
         }
     }
 }

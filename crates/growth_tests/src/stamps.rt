@@ -6,7 +6,7 @@ ghost use Rattle.race_verdict.specs.Traces.{capacities};
 
 use crate::calls::{Growing, Reply, assert_each, refused_if, right_if};
 use crate::traced::traced;
-use race_clock::Stamper;
+use race_clock::{Stamp, Stamper};
 use race_legal::legal;
 use race_records::{Event, Kind, Trace};
 use refusing_heap::RefusingHeap;
@@ -14,15 +14,24 @@ use std::alloc::{Allocator, Global};
 use std::sync::Wait;
 use std::thread::Threads;
 
-/// What main's clock knows of main and of the last goroutine, and that one's of main.
-type Known = (u32, u32, u32);
+/// What a goroutine's clock knows of a goroutine: whose it is, of whom, and how many begins.
+type Count = (u32, u32, u32);
+
+/// What a call answers.
+#[derive(Clone, Copy)]
+struct Answer {
+    /// The stamp of an access.
+    stamp: Option<Stamp>,
+    /// All that is known then.
+    known: &'static [Count],
+}
 
 /// A call of race_clock.
 #[derive(Clone, Copy)]
 enum Call {
     New,
-    /// Takes the last event, and then so much is known.
-    Step(Known),
+    /// Takes the last event, and answers so.
+    Step(Answer),
 }
 
 // Eight goroutines beside main, a variable, a channel, a mutex, a once.
@@ -32,36 +41,43 @@ static DECLARED: &[u8] =
 // The last goroutine: its count is the first that doesn't stand in a clock itself.
 const LAST: u32 = 8;
 
+// Whether this is all that is known.
+fn is_known<A: Allocator + Copy>(stamper: &Stamper<A>, known: &[Count]) -> bool
+    requires { 8 < length stamper.now.clocks.slots }
+{
+    for who in 0..=LAST {
+        let clock = stamper.clock(who);
+        for of in 0..=LAST {
+            let count = known.iter().find(|count| count.0 == who && count.1 == of);
+            if clock.knows(of) != count.map_or(0, |count| count.2) {
+                return false;
+            }
+        }
+    }
+    true
+}
+
 fn new<A: Allocator + Copy>(heap: A, trace: &Trace<A>) -> Reply {
+    if trace.decls().count(Kind::Goroutine) <= LAST {
+        return Reply::Wrong;
+    }
     match Stamper::new(heap, trace.decls()) {
-        Ok(_) => Reply::Right,
+        Ok(stamper) => right_if(is_known(&stamper, &[])),
         Err(_) => Reply::OutOfMemory,
     }
 }
 
-fn known_by<A: Allocator + Copy>(stamper: &Stamper<A>) -> Known
-    requires { 8 < length stamper.now.clocks.slots }
-{
-    let main = stamper.clock(0);
-    (
-        main.knows(0),
-        main.knows(LAST),
-        stamper.clock(LAST).knows(0),
-    )
-}
-
-// Takes the event, by which so much is known; else nothing has changed, and the event is taken the next time.
-fn last_step<A: Allocator + Copy>(stamper: &mut Stamper<A>, event: &Event, right: Known) -> Reply
+// Takes the event; else nothing is known as before, and the event is taken the next time.
+fn last_step<A: Allocator + Copy>(stamper: &mut Stamper<A>, event: &Event, right: Answer) -> Reply
     requires next { IsNext stamper.old event.now }
     requires slots { 8 < length stamper.old.clocks.slots }
 {
-    let before = known_by(stamper);
     match stamper.step(event) {
-        Ok(_) => right_if(known_by(stamper) == right),
+        Ok(stamp) => right_if(stamp == right.stamp && is_known(stamper, right.known)),
         Err(_) => refused_if(
-            known_by(stamper) == before
-                && stamper.step(event).is_ok()
-                && known_by(stamper) == right,
+            is_known(stamper, &[])
+                && stamper.step(event).ok() == Some(right.stamp)
+                && is_known(stamper, right.known),
         ),
     }
 }
@@ -71,7 +87,7 @@ fn step_each(
     heap: &RefusingHeap<Global>,
     nth: u64,
     trace: &Trace<&RefusingHeap<Global>>,
-    right: Known,
+    right: Answer,
     stamper: &mut Stamper<&RefusingHeap<Global>>,
 ) -> Reply
     requires nth { 0 < nth }
@@ -98,7 +114,7 @@ fn stepped(
     heap: &RefusingHeap<Global>,
     nth: u64,
     trace: &Trace<&RefusingHeap<Global>>,
-    right: Known,
+    right: Answer,
 ) -> Reply
     requires { 0 < nth }
 {
@@ -136,6 +152,12 @@ impl Growing for Row {
     }
 }
 
+// The answer to an event that is no access, behind which nothing is known.
+const NOTHING: Answer = Answer {
+    stamp: None,
+    known: &[],
+};
+
 // A write counts those of main's events that come before it, and who is started has seen its start and
 // all before it.
 static CALLS: [(Row, u64); 10] = [
@@ -145,60 +167,66 @@ static CALLS: [(Row, u64); 10] = [
     // The count of a goroutine's own events is written out from the start.
     (
         Row(
-            Call::Step((1, 0, 0)),
+            Call::Step(Answer {
+                stamp: Some(Stamp {
+                    at: 1,
+                    who: 0,
+                    count: 2,
+                    var: 0,
+                    write: true,
+                }),
+                known: &[(0, 0, 1)],
+            }),
             b"write main x 7 p\nwrite main x 8 p\n",
         ),
         0,
     ),
     // Nothing was unlocked: main's clock alone is copied, and it stands in place.
     (
-        Row(Call::Step((0, 0, 0)), b"write main x 7 p\nlock main m p\n"),
+        Row(Call::Step(NOTHING), b"write main x 7 p\nlock main m p\n"),
         0,
     ),
     // A try costs no more, whatever it comes to.
     (
-        Row(
-            Call::Step((0, 0, 0)),
-            b"write main x 7 p\ntrylock main m p\n",
-        ),
+        Row(Call::Step(NOTHING), b"write main x 7 p\ntrylock main m p\n"),
         0,
     ),
     (
-        Row(
-            Call::Step((0, 0, 0)),
-            b"write main x 7 p\ntryfail main m p\n",
-        ),
+        Row(Call::Step(NOTHING), b"write main x 7 p\ntryfail main m p\n"),
         0,
     ),
     // The clocks of the mutex' unlocks, which are made at the first.
     (
-        Row(Call::Step((0, 0, 0)), b"lock main m p\nunlock main m p\n"),
+        Row(Call::Step(NOTHING), b"lock main m p\nunlock main m p\n"),
         1,
     ),
     // The queues of a channel, which are made at its first send, and room for one in that of sends.
     (
-        Row(
-            Call::Step((0, 0, 0)),
-            b"write main x 7 p\nsend main c 7 p\n",
-        ),
+        Row(Call::Step(NOTHING), b"write main x 7 p\nsend main c 7 p\n"),
         2,
     ),
     // The clock of the close.
     (
-        Row(Call::Step((0, 0, 0)), b"write main x 7 p\nclose main c p\n"),
+        Row(Call::Step(NOTHING), b"write main x 7 p\nclose main c p\n"),
         1,
     ),
     // The clock of the end.
     (
         Row(
-            Call::Step((0, 0, 0)),
+            Call::Step(NOTHING),
             b"oncebegin main o p\nonceend main o p\n",
         ),
         1,
     ),
     // The clock of the started one is worked out in a spare one, which has no ninth count yet.
     (
-        Row(Call::Step((0, 0, 2)), b"write main x 7 p\ngo main w8 p\n"),
+        Row(
+            Call::Step(Answer {
+                stamp: None,
+                known: &[(8, 0, 2)],
+            }),
+            b"write main x 7 p\ngo main w8 p\n",
+        ),
         1,
     ),
 ];

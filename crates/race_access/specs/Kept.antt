@@ -1,7 +1,9 @@
 -- What is kept of a variable's accesses.
 use Rattle.std.specs.Prelude.{ℕ, ◌≡◌, ◌<◌, ◌≤◌, ◌⊎◌, nat_le, nat_lt, if◌then◌else◌, Bool, true, false, List, [], ◌∷◌, length, Option, Some, None, AllPairs}
+use Rattle.std.specs.Borrow.{Bor}
 use Rattle.std.specs.List.{Contains}
 use Rattle.std.specs.List.Sorted.{IsPartitionPoint}
+use Rattle.std.specs.Option.{option_map}
 use Rattle.race_access.specs.declared.access.Access.{Access}
 use Rattle.race_clock.specs.ClockState.{knows}
 use Rattle.race_clock.specs.declared.stamp.Stamp.{Stamp}
@@ -21,6 +23,10 @@ access_of stamp place = record { at = stamp.at; who = stamp.who; count = stamp.c
 -- what is printed of an access
 abbrev pub note_of : Access → Noted
 note_of e = record { at = e.at; who = e.who; write = e.write; place = e.place }
+
+-- what is printed of the one that was found, if any
+abbrev pub note_found : Option (Bor Access) → Option Noted
+note_found found = option_map (λ e. note_of e.now) found
 
 -- no access: its count is 0, so every clock knows it
 abbrev pub no_access : Access

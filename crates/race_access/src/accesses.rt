@@ -38,19 +38,22 @@ pub(crate) enum Accesses<A: Allocator> {
 
 // The access, where the clock doesn't know it.
 #[inline(always)]
-fn unknown<B: Allocator>(access: &Access, clock: &Clock<B>) -> Option<Noted>
-    ensures { spec.IsGreatestUnknown clock.now (access.now ∷ []) result }
+fn unknown<'a, B: Allocator>(access: &'a Access, clock: &Clock<B>) -> Option<&'a Access>
+    ensures { spec.IsGreatestUnknown clock.now (access.now ∷ []) (spec.note_found result) }
 {
     if access.is_known(clock) {
         None
     } else {
-        Some(access.note())
+        Some(access)
     }
 }
 
 // The last access that the clock doesn't know.
-fn greatest_unknown<B: Allocator>(accesses: &[Access], clock: &Clock<B>) -> Option<Noted>
-    ensures { spec.IsGreatestUnknown clock.now accesses.now result }
+fn greatest_unknown<'a, B: Allocator>(
+    accesses: &'a [Access],
+    clock: &Clock<B>,
+) -> Option<&'a Access>
+    ensures { spec.IsGreatestUnknown clock.now accesses.now (spec.note_found result) }
 {
     let mut greatest = None;
     for access in accesses {
@@ -61,8 +64,8 @@ fn greatest_unknown<B: Allocator>(accesses: &[Access], clock: &Clock<B>) -> Opti
 
 // The later of two accesses, where there are any.
 #[inline(always)]
-fn greater(a: Option<Noted>, b: Option<Noted>) -> Option<Noted>
-    ensures { result ≡ spec.greater a b }
+fn greater<'a>(a: Option<&'a Access>, b: Option<&'a Access>) -> Option<&'a Access>
+    ensures { spec.note_found result ≡ spec.greater (spec.note_found a.entry) (spec.note_found b.entry) }
 {
     match (a, b) {
         (Some(m), Some(n)) => Some(if m.at < n.at { n } else { m }),
@@ -105,9 +108,9 @@ impl<A: Allocator> Accesses<A> {
 
     /// The last access that races with the next one.
     #[inline(always)]
-    pub(crate) fn partner<B: Allocator>(&self, next: &Access, clock: &Clock<B>) -> Option<Noted>
+    pub(crate) fn partner<B: Allocator>(&self, next: &Access, clock: &Clock<B>) -> Option<&Access>
         ensures { spec.IsGreatestUnknown clock.now (spec.candidates next.now (kept_of self.now))
-            result }
+            (spec.note_found result) }
     {
         match self {
             Accesses::Few { write, read } => {

@@ -81,7 +81,7 @@ impl<A: Allocator + Copy> VarState<A> {
         match self.accesses.partner(&access, clock) {
             Some(first) => {
                 self.accesses = Accesses::Raced {
-                    first,
+                    first: first.note(),
                     second: access.note(),
                 };
                 Ok(())

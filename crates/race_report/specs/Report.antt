@@ -16,6 +16,10 @@ use Rattle.race_report.specs.Rules.{rule_text}
 abbrev pub newline : List ℕ
 newline = 10 ∷ []
 
+-- a count between these words
+unfoldable pub counted_line : List ℕ → ℕ → List ℕ → List ℕ
+counted_line before n behind = concat (before ∷ decimal n ∷ behind ∷ newline ∷ [])
+
 -- the line at fault, and its least cause
 unfoldable pub fault_line : TextFault → List ℕ
 fault_line fault = concat (codes "line " ∷ decimal fault.line ∷ codes ": " ∷ cause_text fault.cause ∷ newline ∷ [])
@@ -57,8 +61,8 @@ race_told var first second = concat (codes "race on " ∷ var ∷ codes ": " ∷
 unfoldable pub race_line : TraceState → Race → List ℕ
 race_line trace race = race_told (var_name trace.decls.declarations race.var) (access_text trace race.first) (access_text trace race.second)
 
-unfoldable pub races_line : ℕ → List ℕ
-races_line n = concat (codes "races: " ∷ decimal n ∷ newline ∷ [])
+abbrev pub races_line : ℕ → List ℕ
+races_line n = counted_line (codes "races: ") n []
 
 -- a line for each race, and their count
 abbrev pub races_text : TraceState → List Race → List ℕ
@@ -76,8 +80,8 @@ edge_line trace edge =
     concat (codes "edge " ∷ decimal (edge.from + 1) ∷ codes " " ∷ goroutine_name trace.decls.declarations edge.from_who
     ∷ codes " " ∷ decimal (edge.to + 1) ∷ codes " " ∷ goroutine_name trace.decls.declarations edge.to_who ∷ newline ∷ [])
 
-unfoldable pub edges_line : ℕ → List ℕ
-edges_line n = concat (codes "edges: " ∷ decimal n ∷ newline ∷ [])
+abbrev pub edges_line : ℕ → List ℕ
+edges_line n = counted_line (codes "edges: ") n []
 
 -- a line for each edge, and their count
 abbrev pub edges_text : TraceState → List Edge → List ℕ

@@ -6,7 +6,7 @@ use Rattle.race_records.specs.declared.event.Op.TheVariants.{Read, Write}
 use Rattle.race_records.specs.Declarations.{Declaration}
 use Rattle.race_records.specs.Events.{TraceState}
 use Rattle.race_text.specs.Text.{goroutine_name, var_name}
-use Rattle.race_report.specs.Report.{access_word, newline}
+use Rattle.race_report.specs.Report.{access_word, counted_line, newline}
 
 -- the name of the variable that is accessed
 abbrev pub accessed_name : List Declaration → Op → List ℕ
@@ -24,8 +24,8 @@ access_line trace index =
           ∷ codes " " ∷ accessed_name trace.decls.declarations e.op ∷ newline ∷ [])
     ]
 
-unfoldable pub witness_line : ℕ → List ℕ
-witness_line n = concat (codes "witness: " ∷ decimal n ∷ codes " accesses" ∷ newline ∷ [])
+abbrev pub witness_line : ℕ → List ℕ
+witness_line n = counted_line (codes "witness: ") n (codes " accesses")
 
 -- a line for each access, and their count
 abbrev pub witness_text : TraceState → List ℕ → List ℕ

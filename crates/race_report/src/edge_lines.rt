@@ -5,6 +5,7 @@ ghost use Rattle.race_text.specs.Output.{Writes};
 ghost use Rattle.race_report.specs.Printable.{IsEdgeOf};
 ghost use Rattle.race_report.specs.Report as spec;
 
+use crate::counted::print_count;
 use itoa::Buffer;
 use race_edges::Edge;
 use race_records::{Named, Page, Sink, Trace, WriteFault};
@@ -47,7 +48,7 @@ fn print_edges<W: Write, A: Allocator>(
             return Err(fault);
         }
     }
-    print_edge_count(page, sink, edges.len())
+    print_count(page, sink, b"edges: ", edges.len(), b"")
 }
 
 #[tactic(auto, unfolding(crate::specs::Report::edge_line))]
@@ -73,24 +74,6 @@ fn print_edge<W: Write, A: Allocator>(
         to.format(u64::from(edge.to) + 1).as_bytes(),
         b" ".as_slice(),
         decls.name(Named::Goroutine(edge.to_who)).as_bytes(),
-        b"\n".as_slice(),
-    ];
-    page.put_all(sink, &parts)
-}
-
-#[tactic(auto, unfolding(crate::specs::Report::edges_line))]
-fn print_edge_count<W: Write>(
-    page: &mut Page,
-    sink: &mut Sink<W>,
-    count: usize,
-) -> Result<(), WriteFault>
-    ensures { Printing W.contents result sink.old sink.new page.old page.new
-        (spec.edges_line count) }
-{
-    let mut number = Buffer::new();
-    let parts = [
-        b"edges: ".as_slice(),
-        number.format(count).as_bytes(),
         b"\n".as_slice(),
     ];
     page.put_all(sink, &parts)

@@ -1,6 +1,7 @@
 //! The printed text: the report of a verdict, the lines of edges, those of a witness, the line of a text fault.
 #![tactic(auto)]
 
+mod counted;
 mod edge_lines;
 mod fault;
 mod noted;
@@ -8,6 +9,7 @@ mod rule;
 mod verdict;
 mod witness_lines;
 
+pub use counted::print_count;
 pub use edge_lines::write_edges;
 pub use fault::write_text_fault;
 pub use noted::{print_noted_report, write_noted_report};

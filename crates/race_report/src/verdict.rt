@@ -10,6 +10,7 @@ ghost use Rattle.race_report.specs.Printable.{IsOf, RacesAreOf};
 ghost use Rattle.race_report.specs.Report as spec;
 ghost use Rattle.race_report.specs.Noted.{noted_word};
 
+use crate::counted::print_count;
 use crate::rule::text_of;
 use itoa::Buffer;
 use race_legal::Illegal;
@@ -125,7 +126,6 @@ pub(crate) fn print_illegal<W: Write>(
 }
 
 /// Prints on a page how many variables have a race, behind whatever was printed on it before. Takes no memory.
-#[tactic(auto, unfolding(crate::specs::Report::races_line))]
 pub fn print_race_count<W: Write>(
     page: &mut Page,
     sink: &mut Sink<W>,
@@ -134,13 +134,7 @@ pub fn print_race_count<W: Write>(
     ensures { Printing W.contents result sink.old sink.new page.old page.new
         (spec.races_line count) }
 {
-    let mut number = Buffer::new();
-    let parts = [
-        b"races: ".as_slice(),
-        number.format(count).as_bytes(),
-        b"\n".as_slice(),
-    ];
-    page.put_all(sink, &parts)
+    print_count(page, sink, b"races: ", count, b"")
 }
 
 /// Prints the races, and how many there are.

@@ -9,6 +9,7 @@ ghost use Rattle.race_verdict.specs.Accesses.{accessed};
 ghost use Rattle.race_report.specs.Report.{access_word};
 ghost use Rattle.race_report.specs.Witness as spec;
 
+use crate::counted::print_count;
 use crate::verdict::access_word;
 use itoa::Buffer;
 use race_records::{Named, Op, Page, Sink, Trace, WriteFault};
@@ -51,7 +52,7 @@ fn print_witness<W: Write, A: Allocator>(
             return Err(fault);
         }
     }
-    print_access_count(page, sink, order.len())
+    print_count(page, sink, b"witness: ", order.len(), b" accesses")
 }
 
 fn print_access<W: Write, A: Allocator>(
@@ -113,23 +114,4 @@ fn accessed_name<'a, A: Allocator>(trace: &'a Trace<A>, op: &Op) -> &'a [u8]
         Op::Write(var, _) => trace.decls().name(Named::Var(*var)).as_bytes(),
         _ => &[],
     }
-}
-
-#[tactic(auto, unfolding(crate::specs::Witness::witness_line))]
-fn print_access_count<W: Write>(
-    page: &mut Page,
-    sink: &mut Sink<W>,
-    count: usize,
-) -> Result<(), WriteFault>
-    ensures { Printing W.contents result sink.old sink.new page.old page.new
-        (spec.witness_line count) }
-{
-    let mut number = Buffer::new();
-    let parts = [
-        b"witness: ".as_slice(),
-        number.format(count).as_bytes(),
-        b" accesses".as_slice(),
-        b"\n".as_slice(),
-    ];
-    page.put_all(sink, &parts)
 }

@@ -1,6 +1,6 @@
 -- How many lines were read.
 use Rattle.std.proofs.Common.{◌≡◌, ℕ, ◌+◌, ◌*◌, ◌<◌, ◌≤◌, ◌^◌, ◌&&◌, true, nat_le, List, [], ◌∷◌}
-use Rattle.std.proofs.Common.{◌++◌, length, map, sum_by, Option, Some, None, refl, sym, ap, ◌∙◌}
+use Rattle.std.proofs.Common.{◌++◌, length, map, sum_by, Option, Some, None, refl, sym, ap, subst, ◌∙◌}
 use Rattle.std.proofs.Common.{arith}
 use Rattle.std.proofs.lemmas.Bool.Decides.{nat_tests}
 use Rattle.std.proofs.lemmas.List.{length-append, length-map}
@@ -16,7 +16,7 @@ use Rattle.race_text.proofs.WordLemmas.{both}
 use Rattle.race_script.specs.declared.program.TheConstants.{MAX_STEPS}
 use Rattle.race_script.specs.Bodies.{is_body}
 use Rattle.race_script.specs.Program.{Instruction, Draft, asks_of, request_fits, is_body_of, instruction, spelled, bodies_of}
-use Rattle.race_script.specs.Reader.{UnendedState, ReadState, spelled_unended, draft_read, IsSound}
+use Rattle.race_script.specs.Reader.{UnendedState, ReadState, spelled_unended, draft_read, IsSound, IsRead, IsReadBy, IsReading}
 use Rattle.race_script.specs.Text.{Begins, Asks, said_line, saids, lines}
 use Rattle.race_script.proofs.LineLemmas.{saids_body}
 
@@ -110,3 +110,22 @@ module _ (s : ReadState) (sound : IsSound s) where
       let one = length-map u.requests (instruction s.decls.places) in
       let len = saids_len s.decls.places s.ended 0 in
       omega (arith, all, is, more, asked, one, len)
+
+-- what is known of how many lines a reader took that has a header: v is it by its parts
+pub record Counted (v s : ReadState) : Type 0 where
+  pub header : s.has_header ≡ true
+  pub read : IsRead s
+  pub declared : length v.decls.declarations ≡ length s.decls.declarations
+  pub ended : v.ended ≡ s.ended
+  pub few : (length s.decls.declarations < 2 ^ 32) × (sum_by body_lines s.ended ≤ 1024 * 65536)
+
+pub counted : (v s : ReadState) → v ≡ s → v.has_header ≡ true → IsReading s → Counted v s
+counted v s is has reading =
+    let header : s.has_header ≡ true = ap (λ (x : ReadState). x.has_header) (sym is) ∙ has in
+    let read : IsRead s = subst (λ b. IsReadBy b s) header reading in record {
+      header = header;
+      read = read;
+      declared = ap (λ (x : ReadState). length x.decls.declarations) is;
+      ended = ap (λ (x : ReadState). x.ended) is;
+      few = few_read s read.sound;
+    }

@@ -1,6 +1,6 @@
 -- A text that is cut into pieces: its parts, and its first fault behind the lines that were taken.
 use Rattle.std.proofs.Common.{◌≡◌, ◌≢◌, ℕ, ◌+◌, ◌<◌, ◌≤◌, ◌==◌, Bool, true, false, List, [], ◌∷◌, ◌++◌, length, Option, Some}
-use Rattle.std.proofs.Common.{None, Result, Ok, Err, IfErr, OnOk, IsErrAnd, MatchResult, refl, sym, ap, subst, ◌∙◌, arith, append-nil}
+use Rattle.std.proofs.Common.{None, Result, Ok, Err, IsErrAnd, MatchResult, refl, sym, ap, subst, ◌∙◌, arith, append-nil}
 use Rattle.std.proofs.Common.{append_assoc}
 use Rattle.std.proofs.lemmas.List.{length-append}
 use Rattle.std.proofs.lemmas.List.Splits.{join_with_byte-slice_split, length-slice_split, slice_split-cons_yes, slice_split-cons_no}
@@ -98,10 +98,6 @@ shorter left line others parts = let l = ap length (cut_joined left line others 
 pub match_err : {X E : Type 0} (F : X → Type 0) (G : E → Type 0) (r : Result X E) (e : E) → IsErrAnd r (λ f. f ≡ e) → G e → MatchResult r F G
 match_err F G (Ok x) e is has = absurd is
 match_err F G (Err f) e is has = subst G (sym is) has
-
-pub if_err : {X E : Type 0} (G : E → Type 0) (r : Result X E) (e : E) → IsErrAnd r (λ f. f ≡ e) → G e → IfErr r G
-if_err G (Ok x) e is has = tt
-if_err G (Err f) e is has = subst G (sym is) has
 
 pub match_map : {X E : Type 0} (F H : X → Type 0) (G K : E → Type 0) (r : Result X E) → ((x : X) → F x → H x) → ((e : E) → G e → K e) → MatchResult r F G
     → MatchResult r H K
@@ -279,25 +275,6 @@ module _ (causes : Causes) where
   takes_all Stood Stands bytes part whole takes t =
       subst (λ (left : List ℕ). TakesSome causes Stands whole left) (append-nil part)
       (takes whole [] (subst (λ (left : List ℕ). TakesSome causes Stood whole left) (sym (append-nil bytes)) t))
-
-  -- what a grammar works off leaves what it took
-  pub settled : (r : Result (Unit {0}) TextFault) (Stood Mid Stands : List (List ℕ) → Type 0) (bytes part now : List ℕ) → now ≡ part
-      → OnOk r (ForEachLines Mid Stands) → IfErr r (λ told. ForEachLines Mid (TellsOfMemory told)) → TakesBytes causes Stood bytes Mid part
-      → MatchResult r (λ _. TakesBytes causes Stood bytes Stands now) (λ told. TellsOfBytes causes Stood bytes told)
-  settled (Ok u) Stood Mid Stands bytes part now same stands told takes = λ whole more t.
-      still_taken whole (now ++ more) Mid Stands stands
-      (subst (λ (p : List ℕ). TakesSome causes Mid whole (p ++ more)) (sym same) (takes whole more t))
-  settled (Err f) Stood Mid Stands bytes part now same stands told takes = λ whole more t.
-      memory_told whole Mid (part ++ more) (takes whole more t) f told
-
-  -- where it is refused memory, no line that ended is at fault
-  pub settled_owed : (r : Result (Unit {0}) TextFault) (Stood Mid : List (List ℕ) → Type 0) (old piece part : List ℕ) → IsUnended part
-      → TakesBytes causes Stood (old ++ piece) Mid part → IfErr r (λ told. old ≡ [] → HidesNoneOf causes Stood piece told)
-  settled_owed (Ok u) Stood Mid old piece part unended takes = tt
-  settled_owed (Err f) Stood Mid old piece part unended takes = λ none whole t g is _.
-      let all = takes_all Stood Mid piece part whole
-      (subst (λ (p : List ℕ). TakesBytes causes Stood (p ++ piece) Mid part) none takes) t in
-      absurd (none-some g (sym (none_ended whole Mid part all unended) ∙ is))
 
   -- what is left is kept
   pub kept_taken : (whole : List ℕ) (Stands : List (List ℕ) → Type 0) (left last part more : List ℕ) → parts_of left ≡ last ∷ [] → part ≡ [] ++ last

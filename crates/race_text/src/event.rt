@@ -8,7 +8,7 @@ ghost use Rattle.race_records.specs.Name.{is_place_byte};
 ghost use Rattle.race_records.specs.Declarations.{IsWellFormed};
 ghost use Rattle.race_records.specs.Parts.{op_by};
 ghost use Rattle.race_text.specs.Words.{parts_left, words_of};
-ghost use Rattle.race_text.specs.Meaning.{named_in};
+ghost use Rattle.race_text.specs.Meaning.{named_in, part_in};
 ghost use Rattle.race_text.specs.Reading as spec;
 
 use crate::cut::cut_word;
@@ -219,11 +219,33 @@ pub fn next_part<'a, A: Allocator>(
         None => None,
         Some(bytes) => match cut_word(bytes) {
             None => None,
-            Some((end, others)) => match part_in(decls, kind, &bytes[..end]) {
-                Err(_) => None,
-                Ok(part) => Some((part, others)),
+            Some((end, others)) => match part_before(decls, kind, bytes, end) {
+                None => None,
+                Some(part) => Some((part, others)),
             },
         },
+    }
+}
+
+// The part of this kind that the first `len` bytes say. A name is looked up before its form is tested.
+#[inline(always)]
+fn part_before<A: Allocator>(
+    decls: &Decls<A>,
+    kind: PartKind,
+    bytes: &[u8],
+    len: usize,
+) -> Option<Part>
+    requires decls { IsWellFormed decls.now }
+    requires len { len ≤ length bytes.now }
+    requires seen { list_all is_place_byte (take len bytes.now) ≡ true }
+    ensures { result ≡ result_ok (part_in decls.now.declarations kind (take len bytes.now)) }
+{
+    match kind {
+        PartKind::Object(_) | PartKind::RwMutex => match object_in(decls, kind, bytes, len) {
+            None => None,
+            Some(named) => Some(Part::Object(named)),
+        },
+        _ => part_in(decls, kind, &bytes[..len]).ok(),
     }
 }
 

@@ -109,40 +109,8 @@ impl<G: Grammar, A: Allocator + Copy> Fed<G, A> {
 }
 
 impl<G: Grammar, A: Allocator + Copy> Lines<G, A> {
-    // Takes the lines that the piece ends, keeps what is behind them, and lets the grammar settle.
-    fn take(&mut self, piece: &[u8]) -> Result<(), TextFault>
-        requires { spec.IsBetween (G.stands_for self.old.reader) self.old.part.items }
-        ensures taken { MatchResult result
-            (λ _. spec.TakesBytes G.causes (G.stands_for self.old.reader) (self.old.part.items ++ piece.now)
-            (G.stands_for self.new.reader) self.new.part.items)
-            (λ told. spec.TellsOfBytes G.causes (G.stands_for self.old.reader) (self.old.part.items ++ piece.now) told) }
-        ensures owed { IfErr result (λ told. self.old.part.items ≡ []
-            → spec.HidesNoneOf G.causes (G.stands_for self.old.reader) piece.now told) }
-        ensures between { OnOk result (spec.IsBetween (G.stands_for self.new.reader) self.new.part.items) }
-    {
-        self.take_ended(piece)?;
-        self.settle()
-    }
-
-    // Lets the grammar work off what it has gathered.
-    fn settle(&mut self) -> Result<(), TextFault>
-        requires { StandsForSome (G.stands_for self.old.reader) }
-        ensures stands { OnOk result (ForEachLines (G.stands_for self.old.reader) (G.stands_for self.new.reader)) }
-        ensures told { IfErr result (λ told. ForEachLines (G.stands_for self.old.reader) (spec.TellsOfMemory told)) }
-        ensures same { self.new.part.items ≡ self.old.part.items }
-    {
-        let line = self.reader.line();
-        match self.reader.settle() {
-            Ok(()) => Ok(()),
-            Err(_) => Err(TextFault {
-                line,
-                cause: TextCause::OutOfMemory,
-            }),
-        }
-    }
-
     // Takes the lines that the piece ends, and keeps what is behind them.
-    fn take_ended(&mut self, piece: &[u8]) -> Result<(), TextFault>
+    fn take(&mut self, piece: &[u8]) -> Result<(), TextFault>
         requires { spec.IsBetween (G.stands_for self.old.reader) self.old.part.items }
         ensures taken { MatchResult result
             (λ _. spec.TakesBytes G.causes (G.stands_for self.old.reader) (self.old.part.items ++ piece.now)

@@ -1,14 +1,13 @@
 //! What tells one kind of text from another, where a text is read line by line.
 
 use crate::cause::TextCause;
-use std::alloc::AllocError;
 
 /// A reader of lines that are handed to it whole, one after another.
 ///
 /// What it keeps of them is its own affair: the lines for which it stands are known to proofs alone.
 /// After a cause nothing more is to be asked of it.
 pub trait Grammar: Drop {
-    ghost use Rattle.std.specs.Prelude.{ℕ, ◌≡◌, ◌+◌, List, length, MatchResult, OnOk};
+    ghost use Rattle.std.specs.Prelude.{ℕ, ◌≡◌, ◌+◌, List, length, MatchResult};
     ghost use Rattle.race_text.specs.Lines.{Causes};
     ghost use Rattle.race_text.specs.Grammar as spec;
 
@@ -52,15 +51,5 @@ pub trait Grammar: Drop {
             (λ told. spec.TellsOfFront causes (stands_for self.old) bytes.now told) }
     {
         Ok(None)
-    }
-
-    /// Works off what it has only gathered so far, which may want memory. The lines for which it stands
-    /// stay.
-    #[inline(always)]
-    fn settle(&mut self) -> Result<(), AllocError>
-        requires { spec.StandsForSome (stands_for self.old) }
-        ensures { OnOk result (spec.ForEachLines (stands_for self.old) (stands_for self.new)) }
-    {
-        Ok(())
     }
 }

@@ -1,14 +1,14 @@
 -- What an engine prints beside the reports of race_report.
-use Rattle.std.specs.Prelude.{ℕ, List, [], ◌∷◌, codes, decimal}
+use Rattle.std.specs.Prelude.{ℕ, List, [], ◌∷◌, codes}
 use Rattle.std.specs.List.{concat}
 use Rattle.race_records.specs.Declarations.{Declaration}
 use Rattle.race_hub.specs.declared.ending.End.{End}
 use Rattle.race_text.specs.Text.{goroutine_name}
-use Rattle.race_report.specs.Report.{newline}
+use Rattle.race_report.specs.Report.{counted_line, newline}
 
 -- there are more events than are judged
-unfoldable pub too_long_line : ℕ → List ℕ
-too_long_line events = concat (codes "too long: " ∷ decimal events ∷ codes " events" ∷ newline ∷ [])
+abbrev pub too_long_line : ℕ → List ℕ
+too_long_line events = counted_line (codes "too long: ") events (codes " events")
 
 -- how a run ended, in a word
 abbrev pub end_word : End → List ℕ

@@ -1,14 +1,12 @@
 //! What an engine prints: a report, or that there are too many events.
-ghost use Rattle.race_records.specs.Page.{Printing};
 ghost use Rattle.race_text.specs.Output.{Writes};
 ghost use Rattle.race_tool.specs.Finding.{report_of};
 ghost use Rattle.race_tool.specs.Findings.{finding_of, IsPrintable};
 ghost use Rattle.race_tool.specs.Report.{too_long_line};
 
 use crate::finding::Finding;
-use itoa::Buffer;
 use race_records::{Page, Sink, WriteFault};
-use race_report::{write_report, write_text_fault};
+use race_report::{print_count, write_report, write_text_fault};
 use std::alloc::Allocator;
 use std::io::Write;
 
@@ -32,27 +30,8 @@ pub(crate) fn write_too_long<W: Write>(events: usize, sink: &mut Sink<W>) -> Res
     ensures { Writes W.contents result sink.old sink.new (too_long_line events) }
 {
     let mut page = Page::new();
-    match print_too_long(&mut page, sink, events) {
+    match print_count(&mut page, sink, b"too long: ", events, b" events") {
         Ok(()) => page.flush(sink),
         Err(fault) => Err(fault),
     }
-}
-
-#[tactic(auto, unfolding(crate::specs::Report::too_long_line))]
-fn print_too_long<W: Write>(
-    page: &mut Page,
-    sink: &mut Sink<W>,
-    events: usize,
-) -> Result<(), WriteFault>
-    ensures { Printing W.contents result sink.old sink.new page.old page.new
-        (too_long_line events) }
-{
-    let mut number = Buffer::new();
-    let parts = [
-        b"too long: ".as_slice(),
-        number.format(events).as_bytes(),
-        b" events".as_slice(),
-        b"\n".as_slice(),
-    ];
-    page.put_all(sink, &parts)
 }

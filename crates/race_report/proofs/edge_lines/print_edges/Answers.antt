@@ -18,7 +18,7 @@ returns g c =
     let all : take c.loop-edge.edge-index edges ≡ edges = take_all c.loop-edge.edge-index edges c.loop-edge-test.false in
     let before = subst (λ (l : List Edge). Printing g.W.Write.contents (Ok tt) c.args.sink.now c.loop-edge.sink c.args.page.now c.loop-edge.page
     (flat_map (edge_line c.args.trace.now) l)) all c.loop-edge.invariant in
-    prints_behind before c.print_edge_count.ensures
+    prints_behind before c.print_count.ensures
 
 pub print_edge-requires : goal.print_edge-requires
 print_edge-requires g c = c.requires c.loop-edge.edge-index _ c.loop-edge-test.true

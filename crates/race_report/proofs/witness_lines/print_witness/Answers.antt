@@ -17,7 +17,7 @@ returns g c =
     let all : take c.loop-index.index-index order ≡ order = take_all c.loop-index.index-index order c.loop-index-test.false in
     let before = subst (λ (l : List ℕ). Printing g.W.Write.contents (Ok tt) c.args.sink.now c.loop-index.sink c.args.page.now c.loop-index.page
     (flat_map (access_line c.args.trace.now) l)) all c.loop-index.invariant in
-    prints_behind before c.print_access_count.ensures
+    prints_behind before c.print_count.ensures
 
 pub print_access-requires : goal.print_access-requires
 print_access-requires g c = c.requires c.loop-index.index-index _ c.loop-index-test.true

@@ -1,4 +1,4 @@
-use Rattle.std.proofs.Common.{Some, None, [], ◌∷◌, ◌++◌, sym, ap, ◌∙◌, subst}
+use Rattle.std.proofs.Common.{◌≡◌, Some, None, [], ◌∷◌, ◌++◌, sym, ap, ◌∙◌, subst}
 use Rattle.std.proofs.lemmas.Result.{on_ok_weaker}
 use Rattle.race_verdict.specs.declared.notes.Noted.{Noted}
 use Rattle.race_access.specs.declared.access.Access.{Access}
@@ -9,6 +9,10 @@ use Rattle.race_access.specs.TouchHolds.{StandsFor}
 use Rattle.race_access.proofs.StandSteps.{stands_raced, stands_first, stands_on}
 use Rattle.race_access.proofs.variable.VarState.touch.Goals as goal
 
+-- pairs of what is the same
+pair_same : {a b x y : Noted} → a ≡ x → b ≡ y → ◌≡◌ {A = Noted × Noted} (a, b) (x, y)
+pair_same {a} {b} {x} {y} one two = ap (λ n. (n, b)) one ∙ ap (λ n. (x, n)) two
+
 pub returns-then-is_raced-clause-goes_on : goal.returns-then-is_raced-clause-goes_on
 returns-then-is_raced-clause-goes_on g c =
     λ touched stands lawful. stands_raced touched _ lawful c.args.self.now (rw (← c.self.view_is) (sym c.is_raced.ensures ∙ c.if-is_raced.true)) stands
@@ -17,11 +21,11 @@ pub returns-in-Some-clause-goes_on : goal.returns-in-Some-clause-goes_on
 returns-in-Some-clause-goes_on g c =
     let t : Touch = record { stamp = c.args.stamp.now; place = c.args.place; clock = c.args.clock.now } in
     let old = kept_of c.self.inside.accesses in
-    let first = c.in-Some.first in
+    let first = note_of c.in-Some.first.now in
     let greatest = subst (λ (e : Access). IsGreatestUnknown c.args.clock.now (candidates e old) (Some first)) c.of-access.ensures c.in-Some.ensures in
     λ touched stands lawful.
-    subst (λ (second : Noted). StandsFor (record { pair = Some (first.at, second.at); noted = Some (first, second); write = no_access; reads = [] }) (touched ++ t ∷ []))
-    (sym (c.note.ensures ∙ ap note_of c.of-access.ensures))
+    subst (λ (both : Noted × Noted). StandsFor (record { pair = Some (both.0.at, both.1.at); noted = Some both; write = no_access; reads = [] }) (touched ++ t ∷ []))
+    (sym (pair_same c.note.ensures (c.note-in-Some.ensures ∙ ap note_of c.of-access.ensures)))
     (stands_first touched t lawful old (sym c.is_raced.ensures ∙ c.if-is_raced.false) first greatest (rw c.self.view_is stands))
 
 pub returns-in-None-clause-goes_on : goal.returns-in-None-clause-goes_on

@@ -1,5 +1,5 @@
 -- A judge takes a block.
-use Rattle.std.proofs.Common.{◌≡◌, ℕ, ◌+◌, ◌<◌, ◌≤◌, false, List, [], ◌∷◌, ◌++◌, All, Option, Some, None, take, drop, length, slice_get, refl, sym, ap, ◌∙◌, ◌-◌, subst, inl, inr, arith}
+use Rattle.std.proofs.Common.{◌≡◌, ℕ, ◌+◌, ◌<◌, ◌≤◌, false, List, [], ◌∷◌, ◌++◌, All, Option, Some, None, take, drop, take_all, length, slice_get, refl, sym, ap, ◌∙◌, ◌-◌, subst, inl, inr, arith}
 use Rattle.std.proofs.Common.{append_assoc, append-nil, length-append, length-drop, true, ◌==◌, eqb-true, Result, Err, slice_index_or}
 use Rattle.std.proofs.lemmas.Option.{slice_get_within}
 use Rattle.std.proofs.lemmas.Bool.{cases_lt}
@@ -28,7 +28,7 @@ use Rattle.race_verdict.specs.Races.{AreRaces, races_of}
 use Rattle.race_shards.specs.Telling.{told_below, HavePlaces}
 use Rattle.race_shards.proofs.TellSteps.{have_places, told_races}
 use Rattle.race_shards.specs.Shards.{ShardState, ShardStandsFor, ShardsStandFor, AllTake, AreNextBlock}
-use Rattle.race_shards.specs.Judging.{JudgeState, StandsFor, IsSound, CanTake, GoesOn, Tells, AreFed, IsJudged, Accepts, Judges, CanJudge}
+use Rattle.race_shards.specs.Judging.{JudgeState, StandsFor, StandsForSome, IsSound, CanTake, GoesOn, Tells, AreFed, IsJudged, Accepts, Judges, CanJudge}
 
 -- a judge as its callers see it, from its inside
 abbrev pub seen : {A : Type 0} → Inside A → JudgeState
@@ -282,27 +282,60 @@ empty_of (e ∷ block) is = let none : length (e ∷ block) ≡ 0 = eqb-true (le
 pub same_fault : (a b : JudgeFault) → ◌≡◌ {A = Result (Unit {0}) JudgeFault} (Err a) (Err b) → a ≡ b
 same_fault a b e = cc
 
-module _ (trace : TraceState) (holds : IsTrace trace) where
-  pub in_range_all : All (IsInRange (counts_of trace.decls.declarations)) trace.events
-  in_range_all k d less = range_from_fits trace.decls (slice_index_or trace.events k d) (holds.fit k d less)
+-- A judge that took a front of some events can take those behind it.
+module _ (old : JudgeState) (some : StandsForSome old) (events : List Event) (can : CanTake old events) (at : ℕ) (inside : at ≤ length events)
+    (j : JudgeState) (goes : GoesOn old (take at events) j) where
+  now : StandsFor some.declarations j (some.past ++ take at events)
+  now = goes some.declarations some.past some.stands
 
-  -- a judge of a front of a trace can take a block behind it
-  pub can_take : (j : JudgeState) (at n : ℕ) → StandsFor trace.decls.declarations j (take at trace.events) → at ≤ length trace.events
-      → n ≤ length trace.events - at → CanTake j (take n (drop at trace.events))
-  can_take j at n S inside short well = (
-    subst (λ (counts : Kind → ℕ). All (IsInRange counts) (take n (drop at trace.events))) (sym S.counts)
-        (All-take (IsInRange (counts_of trace.decls.declarations)) n (drop at trace.events)
-        (All-drop (IsInRange (counts_of trace.decls.declarations)) at trace.events in_range_all)),
-    (let len : length (take at trace.events) ≡ j.len = S.len in
-        let front : length (take at trace.events) ≡ at = length-take-le at trace.events inside in
-        let rest : length (drop at trace.events) ≡ length trace.events - at = length-drop at trace.events in
-        let block : length (take n (drop at trace.events)) ≡ n = length-take-le n (drop at trace.events) (omega (arith, rest, short)) in
-        let limited = holds.limited in
-        omega (arith, len, front, block, short, inside, limited)),
+  -- it stands for some list
+  pub some_taken : StandsForSome j
+  some_taken = record { declarations = some.declarations; past = some.past ++ take at events; stands = now }
+
+  -- and hasn't failed
+  pub well_taken : j.failed ≡ false
+  well_taken = now.sound
+
+  -- it has counted them
+  pub len_taken : j.len ≡ old.len + at
+  len_taken =
+      let before : length some.past ≡ old.len = some.stands.len in
+      let after : length (some.past ++ take at events) ≡ j.len = now.len in
+      omega (arith, before, after, length-append some.past (take at events), length-take-le at events inside)
+
+  -- so many more may come
+  pub can_take_next : (n : ℕ) → n ≤ length events - at → CanTake j (take n (drop at events))
+  can_take_next n short well = (
+    subst (λ (counts : Kind → ℕ). All (IsInRange counts) (take n (drop at events))) (some.stands.counts ∙ sym now.counts)
+        (All-take (IsInRange (counts_in old.replay)) n (drop at events) (All-drop (IsInRange (counts_in old.replay)) at events (can some.stands.sound).0)),
+    (let room = (can some.stands.sound).1 in
+        let rest : length (drop at events) ≡ length events - at = length-drop at events in
+        let block : length (take n (drop at events)) ≡ n = length-take-le n (drop at events) (omega (arith, rest, short)) in
+        omega (arith, len_taken, room, block, short, inside)),
   )
 
-  -- and stands for a longer front then
-  pub stands_on : (j new : JudgeState) (at n : ℕ) → StandsFor trace.decls.declarations j (take at trace.events) → GoesOn j (take n (drop at trace.events)) new
-      → StandsFor trace.decls.declarations new (take (at + n) trace.events)
-  stands_on j new at n S goes =
-      subst (StandsFor trace.decls.declarations new) (sym (take-add at n trace.events)) (goes trace.decls.declarations (take at trace.events) S)
+  -- and a longer front is taken then
+  pub took_next : (n : ℕ) (new : JudgeState) → GoesOn j (take n (drop at events)) new → GoesOn old (take (at + n) events) new
+  took_next n new more declarations past S =
+      let front : (past ++ take at events) ++ take n (drop at events) ≡ past ++ take (at + n) events =
+      append_assoc past (take at events) (take n (drop at events)) ∙ ap (λ front. past ++ front) (sym (take-add at n events)) in
+      subst (StandsFor declarations new) front (more declarations (past ++ take at events) (goes declarations past S))
+
+-- none are taken yet
+pub took_none : (j : JudgeState) (events : List Event) → GoesOn j (take 0 events) j
+took_none j events declarations past S = subst (StandsFor declarations j) (sym (append-nil past)) S
+
+-- all are
+pub took_all : (old new : JudgeState) (events : List Event) (at : ℕ) → length events ≤ at → GoesOn old (take at events) new → GoesOn old events new
+took_all old new events at end goes = subst (λ front. GoesOn old front new) (take_all at events end) goes
+
+-- the events of a trace are in range of its declarations
+pub in_range_all : (trace : TraceState) → IsTrace trace → All (IsInRange (counts_of trace.decls.declarations)) trace.events
+in_range_all trace holds k d less = range_from_fits trace.decls (slice_index_or trace.events k d) (holds.fit k d less)
+
+-- and a judge before the first one can take all
+pub can_take_all : (trace : TraceState) → IsTrace trace → (j : JudgeState) → StandsFor trace.decls.declarations j [] → CanTake j trace.events
+can_take_all trace holds j S well = (
+  subst (λ (counts : Kind → ℕ). All (IsInRange counts) trace.events) (sym S.counts) (in_range_all trace holds),
+  (let len : 0 ≡ j.len = S.len in let limited = holds.limited in omega (arith, len, limited)),
+)

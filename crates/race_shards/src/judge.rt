@@ -2,11 +2,11 @@
 //!
 //! The caller's thread tests a block for legality before the shards see it. Each shard takes all events with a stamper of
 //! its own and touches the variables that belong to it, so the shards share nothing but the block.
-ghost use Rattle.std.specs.Prelude.{◌≡◌, ◌≢◌, ◌↔◌, ◌+◌, ◌<◌, ◌==◌, [], true, false, length, vec_len, IsTrue, IfOk, IfErr, OnOk, OnErr};
+ghost use Rattle.std.specs.Prelude.{◌≡◌, ◌≢◌, ◌↔◌, ◌+◌, ◌<◌, ◌≤◌, ◌==◌, [], true, false, length, vec_len, IsTrue, IfOk, IfErr, OnOk, OnErr};
 ghost use Rattle.race_legal.specs.ReplayState.{counts_in};
 ghost use Rattle.race_verdict.specs.Notes.{verdict_noted};
 ghost use Rattle.race_verdict.specs.Verdicts.{verdict_of};
-ghost use Rattle.race_shards.specs.Limits.{is_shards, IsRefused};
+ghost use Rattle.race_shards.specs.Limits.{is_shards, is_block, IsRefused};
 ghost use Rattle.race_shards.specs.Shards.{ShardsStandFor};
 ghost use Rattle.race_shards.specs.Judging.{StandsFor, GoesOn, CanTake, Judges, Tells, Notes, CanJudge};
 
@@ -158,6 +158,18 @@ fn judge_block<G: Gate, R: Threads + Wait, A: Allocator + Copy + Send>(
     Ok(None)
 }
 
+// Where the block ends that begins at this index.
+fn end_of(at: usize, block: usize, len: usize) -> usize
+    requires at { at < len }
+    requires block { is_block block ≡ true }
+    ensures later { at < result }
+    ensures inside { result ≤ len }
+    ensures most { result ≤ at + block }
+    ensures full { result < len → result ≡ at + block }
+{
+    if block < len - at { at + block } else { len }
+}
+
 impl<A: Allocator + Copy + Send> Judge<A> {
     /// Takes the next block of events. Where one breaks a rule the verdict is settled, and what follows changes it no more.
     ///
@@ -204,6 +216,38 @@ impl<A: Allocator + Copy + Send> Judge<A> {
                 Err(fault.into_fault())
             }
         }
+    }
+
+    /// Takes these events in blocks of so many, of which the last may be shorter. Where there are none, nothing is judged.
+    ///
+    /// A judge that was refused a thread or memory at a block has failed, as behind `feed`.
+    pub fn feed_in_blocks<G: Gate, R: Threads + Wait>(
+        &mut self,
+        rt: &R,
+        events: &[Event],
+        block: usize,
+        gate: &G,
+    ) -> Result<(), JudgeFault>
+        requires can { CanTake self.old events.now }
+        requires block { is_block block ≡ true }
+        ensures goes_on { OnOk result (GoesOn self.old events.now self.new) }
+        ensures len { OnOk result (self.new.len ≡ self.old.len + length events.now) }
+        ensures failed { self.old.failed ≡ true → result ≡ Err JudgeFault.Failed }
+        ensures fails { OnErr result (self.new.failed ≡ true) }
+        ensures others { self.old.failed ≡ false → IfErr result IsRefused }
+        ensures one { self.old.count ≡ 1 → result ≢ Err JudgeFault.NoThread }
+        ensures count { self.new.count ≡ self.old.count }
+    {
+        if self.failed {
+            return Err(JudgeFault::Failed);
+        }
+        let mut at = 0;
+        while at < events.len() {
+            let end = end_of(at, block, events.len());
+            self.feed(rt, &events[at..end], gate)?;
+            at = end;
+        }
+        Ok(())
     }
 }
 

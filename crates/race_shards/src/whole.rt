@@ -1,5 +1,5 @@
 //! The judge of a whole trace.
-ghost use Rattle.std.specs.Prelude.{◌≡◌, ◌≢◌, ◌↔◌, ◌+◌, ◌<◌, ◌≤◌, true, false, length, IfOk, IfErr};
+ghost use Rattle.std.specs.Prelude.{◌≡◌, ◌≢◌, ◌↔◌, true, false, IfOk, IfErr};
 ghost use Rattle.race_verdict.specs.Traces.{HasVerdict};
 ghost use Rattle.race_verdict.specs.Verdicts.{verdict_of};
 ghost use Rattle.race_shards.specs.Limits.{is_shards, is_block, IsRefused};
@@ -40,18 +40,6 @@ impl<A: Allocator + Copy + Send> Judge<A> {
     }
 }
 
-// Where the block ends that begins at this index.
-fn end_of(at: usize, block: usize, len: usize) -> usize
-    requires at { at < len }
-    requires block { is_block block ≡ true }
-    ensures later { at < result }
-    ensures inside { result ≤ len }
-    ensures most { result ≤ at + block }
-    ensures full { result < len → result ≡ at + block }
-{
-    if block < len - at { at + block } else { len }
-}
-
 // The same, where both numbers are in their limits.
 fn judge_whole<A: Allocator + Copy + Send, B: Allocator, G: Gate, R: Threads + Wait>(
     rt: &R,
@@ -67,13 +55,7 @@ fn judge_whole<A: Allocator + Copy + Send, B: Allocator, G: Gate, R: Threads + W
     ensures others { IfErr result IsRefused }
     ensures one { shards ≡ 1 → result ≢ Err JudgeFault.NoThread }
 {
-    let events = trace.events();
     let mut judge = Judge::new(alloc, trace.decls(), shards)?;
-    let mut at = 0;
-    while at < events.len() {
-        let end = end_of(at, block, events.len());
-        judge.feed(rt, &events[at..end], gate)?;
-        at = end;
-    }
+    judge.feed_in_blocks(rt, trace.events(), block, gate)?;
     judge.finish()
 }

@@ -90,7 +90,7 @@ Statuses:
   4   memory was refused
   5   reading or writing failed";
 
-pub(crate) const DRAW_ABOUT: &str = "Reads a trace from standard input and draws its races";
+pub(crate) const DRAW_ABOUT: &str = "Reads a trace from standard input and draws it";
 
 pub(crate) const DRAW_USAGE: &str = "gorace draw [VAR] [--svg] < TRACE";
 
@@ -104,8 +104,8 @@ orders them. Of the trace of 'gorace check --help' it draws
 
      main
      |       w
-     o-------|-----------------------+      1  go main w a.go:2
-     |       o<----------------------+      1
+     o=======|=======================+      1  go main w a.go:2
+     |       o<======================+      1
      W . . . . . . . . . . . ?              2  write main x 1 a.go:3
      |       R<. . . . . . . :              3  read w x 1 a.go:6
 
@@ -114,16 +114,19 @@ orders them. Of the trace of 'gorace check --help' it draws
 A goroutine goes down in its column: that of the first access, that of the
 second, and one for all others. W and R are the two, and the dotted line is the
 way that is missing. The other lines are edges, as 'gorace edges' lists them:
-the way by which the second access has seen something of the first one's
-goroutine, the next edge that leaves that goroutine behind its access, and the
-starts of the two. An event has a line for each that leaves it or enters it.
+by double strokes the way by which the second access has seen something of the
+first one's goroutine, and by single ones the next edge that leaves that
+goroutine behind its access, and the starts of the two. An event has a line for
+each that leaves it or enters it.
 
-Without VAR each variable's race is drawn. With --svg the same is written as an
-SVG document, which a browser shows. Where there is nothing to draw one line
-tells so, also with --svg. Of more than 2,000 events no edge is drawn.
+Without VAR each variable's race is drawn, and of a clean trace of at most 60
+events a chart: a row for each event, and the edges but those that two others
+lead along. With --svg the same is written as an SVG document, which a browser
+shows. Where there is nothing to draw one line tells so, also with --svg. Of
+more than 2,000 events no edge is drawn.
 
 Statuses:
-  0   the drawings are written, or without VAR the line of a clean trace
+  0   it is drawn, or is a clean trace that has no chart, and told
   14  the name is that of no variable with a race
   1   an event that breaks a rule of traces; its number, and the rule
   2   not a trace; the line at fault and why

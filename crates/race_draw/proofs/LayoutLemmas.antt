@@ -25,7 +25,7 @@ or_first m a d small rest all true (suc i) less = all i (omega (arith, less))
 or_first m a d small rest all false i less = all i less
 
 -- each number that is picked from a range is in it
-below : (f : ℕ → Bool) (a n m : ℕ) → a + n ≤ m → (i d : ℕ) → i < length (filter f (range_with_len a n)) → get_or (filter f (range_with_len a n)) i d < m
+pub below : (f : ℕ → Bool) (a n m : ℕ) → a + n ≤ m → (i d : ℕ) → i < length (filter f (range_with_len a n)) → get_or (filter f (range_with_len a n)) i d < m
 below f a zero m le i d less = absurd (omega arith)
 below f a (suc n) m le i d less =
     or_first m a d (omega (arith, le)) (filter f (range_with_len (a + 1) n)) (λ k within. below f (a + 1) n m (omega (arith, le)) k d within) (f a) i less
@@ -54,22 +54,6 @@ module _ (trace : TraceState) (is_trace : IsTrace trace) (r : Race) (races : Rac
     rows = subst (All (λ k. k < length trace.events)) (sym are)
         (λ i d less. below (is_shown shown) 0 n (length trace.events) (omega (arith, same)) i d less);
   }
-
-  pub can_be_drawn : (edges : List Edge) (l : LayoutState) → IsLayoutOf trace edges r l → CanBeDrawn trace l
-  can_be_drawn edges l is = record {
-    race = subst (λ (r : Race). IsOf trace (race_of r)) (sym is.race) race_is_of;
-    seen = seen_within l.seen is.seen;
-    rows = subst (All (λ k. k < length trace.events)) (sym is.rows) (λ i d less. below (is_shown l.arrows) 0 (length trace.events) (length trace.events) (omega arith) i d less);
-  }
-
--- so can all layouts of races
-pub all_can_be_drawn : (trace : TraceState) → IsTrace trace → (races : List Race) → All (RacesInOrder (capacities trace) trace.events) races
-    → (layouts : List LayoutState) → AreLayoutsOf trace races layouts → All (CanBeDrawn trace) layouts
-all_can_be_drawn trace is_trace races in_order layouts (edges, listed, laid) i d less =
-    let within : i < length races = let same = laid.as_many in omega (arith, less, same) in
-    let at = at_below races i within in
-    let race = subst (RacesInOrder (capacities trace) trace.events) (get_or_from_slice_get races i at.0 at.0 at.1) (in_order i at.0 within) in
-    can_be_drawn trace is_trace at.0 race edges (get_or layouts i d) (laid.each i at.0 (get_or layouts i d) at.1 (slice_get-get_or layouts i d less))
 
 -- one layout more
 pub laid_more : (trace : TraceState) (edges : List Edge) (races : List Race) (layouts : List LayoutState) (i : ℕ) (r : Race) (l : LayoutState)

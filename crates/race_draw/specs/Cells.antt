@@ -1,6 +1,6 @@
 -- The lines of a drawing. Where an arrow leaves an event or enters one there is a line: a cell for each of three columns (the first
 -- access's goroutine, the second one's, all others), and one for each of the four lanes beside them, in which the arrows go down.
-use Rattle.std.specs.Prelude.{ℕ, if◌then◌else◌, ◌==◌, ◌&&◌, nat_lt, nat_le, Bool, true, false, List, codes}
+use Rattle.std.specs.Prelude.{ℕ, if◌then◌else◌, ◌==◌, ◌&&◌, nat_lt, nat_le, Bool, true, false, List, ◌++◌, codes}
 use Rattle.std.specs.List.{list_any}
 use Rattle.race_records.specs.declared.event.Op.{Op}
 use Rattle.race_records.specs.declared.event.Op.TheVariants.{Read, Write}
@@ -47,22 +47,29 @@ line_at m a enters o = record {
   mark = mark_of a.lane o;
 }
 
+-- where an arrow ends that isn't the missing one: the way is drawn by double strokes
+abbrev pub event_cell : Lane → Bool → List ℕ
+event_cell Lane.Way enters = if enters then codes "   o<===" else codes "   o===="
+event_cell _ enters = if enters then codes "   o<---" else codes "   o----"
+
 -- where the arrow ends
 abbrev pub end_cell : Line → List ℕ
 end_cell line = elim line.mark [
   | Mark.Read ↦ if line.enters then codes "   R<. ." else codes "   R . ."
   | Mark.Write ↦ if line.enters then codes "   W<. ." else codes "   W . ."
-  | Mark.Event ↦ if line.enters then codes "   o<---" else codes "   o----"
+  | Mark.Event ↦ event_cell line.lane line.enters
 ]
 
 -- where it passes a goroutine
 abbrev pub across_cell : Lane → List ℕ
 across_cell Lane.Missing = codes " . . . ."
+across_cell Lane.Way = codes "===|===="
 across_cell _ = codes "---|----"
 
 -- where it passes the column of the others
 abbrev pub over_cell : Lane → List ℕ
 over_cell Lane.Missing = codes " . . . ."
+over_cell Lane.Way = codes "========"
 over_cell _ = codes "--------"
 
 -- the first column of a line, the second, and that of the others: a goroutine goes down, the arrow ends, or it passes on its way to
@@ -107,20 +114,24 @@ is_busy arrows lane line = list_any (passes lane line) arrows
 abbrev pub turn_cell : Line → List ℕ
 turn_cell line = elim line.lane [
   | Lane.Missing ↦ if line.enters then codes " . :" else codes " . ?"
-  | Lane.Way ↦ codes "---+"
+  | Lane.Way ↦ codes "===+"
   | Lane.Next ↦ codes "---+"
   | Lane.Start ↦ codes "---+"
 ]
 
--- where it passes a lane, in which another stands or none
-abbrev pub crossing_cell : Lane → Bool → List ℕ
-crossing_cell lane false = codes "----"
-crossing_cell Lane.Missing true = codes "---:"
-crossing_cell _ true = codes "---|"
+-- an arrow that stands in the lane
+abbrev pub standing : Lane → List ℕ
+standing Lane.Missing = codes ":"
+standing _ = codes "|"
+
+-- where an arrow passes a lane, in which another stands or none
+abbrev pub crossing_cell : Lane → Lane → Bool → List ℕ
+crossing_cell Lane.Way lane busy = codes "===" ++ (if busy then standing lane else codes "=")
+crossing_cell _ lane busy = codes "---" ++ (if busy then standing lane else codes "-")
 
 -- a lane of a line: the arrow turns, passes, or doesn't come there
 abbrev pub lane_cell : List Arrow → Line → Lane → List ℕ
 lane_cell arrows line lane =
     if place lane == place line.lane then turn_cell line
-    else if nat_lt (place lane) (place line.lane) then crossing_cell lane (is_busy arrows lane line)
+    else if nat_lt (place lane) (place line.lane) then crossing_cell line.lane lane (is_busy arrows lane line)
     else if is_busy arrows lane line then codes "   |" else codes "    "

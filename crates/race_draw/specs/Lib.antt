@@ -1,5 +1,9 @@
 pub mod Layout
 pub mod Cells
 pub mod Words
+pub mod Fold
 pub mod Text
 pub mod Svg
+pub mod Clean
+pub mod Strokes
+pub mod Chart

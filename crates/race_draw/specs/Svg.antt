@@ -1,6 +1,6 @@
 -- The SVG document of a text: each line of the text is one of the picture. (Scalable Vector Graphics 2, "Text"; Extensible Markup
 -- Language 1.0, 2.4)
-use Rattle.std.specs.Prelude.{ℕ, if◌then◌else◌, ◌==◌, List, [], ◌∷◌, ◌++◌, codes, decimal, unwrap_or, Option, Some, None}
+use Rattle.std.specs.Prelude.{ℕ, ◌+◌, ◌-◌, ◌*◌, ◌^◌, min, max, count_by, if◌then◌else◌, ◌==◌, List, [], ◌∷◌, ◌++◌, codes, decimal, unwrap_or, Option, Some, None}
 use Rattle.std.specs.List.{concat, flat_map}
 use Rattle.race_draw.specs.declared.svg.Size.{Size}
 
@@ -33,6 +33,23 @@ svg_head size =
 abbrev pub svg_end : List ℕ
 svg_end = codes "</tspan></text>\n</svg>\n"
 
--- the document of a text, of this size
-abbrev pub svg_text : Size → List ℕ → List ℕ
-svg_text size text = svg_head size ++ (flat_map in_svg text ++ svg_end)
+-- how many columns the longest line of a text has, where so many stand before it
+abbrev pub longest : ℕ → List ℕ → ℕ
+longest column [] = column
+longest column (byte ∷ text) = if byte == 10 then max column (longest 0 text) else longest (column + 1) text
+
+-- how many lines a text has
+abbrev pub lines : List ℕ → ℕ
+lines text = count_by (λ byte. byte == 10) text
+
+-- how far so many reach that are this far apart, with a margin, short of the greatest number
+abbrev pub extent : ℕ → ℕ → ℕ → ℕ
+extent count each margin = min (min (count * each) (2 ^ 64 - 1) + margin) (2 ^ 64 - 1)
+
+-- how large the picture of a text is: 9 a column, 18 a line
+abbrev pub size_of : List ℕ → Size
+size_of text = record { width = extent (longest 0 text) 9 32; height = extent (lines text) 18 36 }
+
+-- the document of a text
+abbrev pub svg_text : List ℕ → List ℕ
+svg_text text = svg_head (size_of text) ++ (flat_map in_svg text ++ svg_end)

@@ -1,6 +1,7 @@
--- The text of drawings. Events are printed with numbers from 1, and as the trace has them.
-use Rattle.std.specs.Prelude.{ℕ, if◌then◌else◌, ◌<◌, nat_lt, ◌==◌, ◌+◌, ◌||◌, not, Bool, true, false, All}
-use Rattle.std.specs.Prelude.{List, [], ◌∷◌, ◌++◌, length, codes, decimal, Option, Some, None, IfSome}
+-- The text of drawings. Events are printed with numbers from 1, and as the trace has them. A tab in it marks where the text of a line begins
+-- (Fold).
+use Rattle.std.specs.Prelude.{ℕ, if◌then◌else◌, ◌<◌, nat_lt, ◌==◌, ◌+◌, ◌-◌, ◌&&◌, ◌||◌, not, Bool, true, false, All}
+use Rattle.std.specs.Prelude.{List, [], ◌∷◌, ◌++◌, length, take, slice_get, codes, decimal, unwrap_or, Option, Some, None, IfSome}
 use Rattle.std.specs.List.{concat, flat_map, list_any}
 use Rattle.race_records.specs.Events.{TraceState}
 use Rattle.race_text.specs.Text.{ended}
@@ -17,31 +18,44 @@ use Rattle.race_draw.specs.declared.cells.Line.{Line}
 use Rattle.race_draw.specs.Layout.{LayoutState, missing}
 use Rattle.race_draw.specs.Cells.{end_at, line_at, cell, lane_cell}
 use Rattle.race_draw.specs.Words.{event_text, name_at, op_at}
+use Rattle.race_draw.specs.Fold.{folded, line_start}
+
+-- as many blanks, up to ten
+abbrev pub blanks : ℕ → List ℕ
+blanks n = take n (codes "          ")
+
+-- a number that has this width with blanks in front, since an event's number has at most ten digits
+abbrev pub number_in : ℕ → ℕ → List ℕ
+number_in width n = blanks (width - length (decimal n)) ++ decimal n
+
+-- the number of the last event that is shown is as wide as any
+abbrev pub width_of : List ℕ → ℕ
+width_of rows = length (decimal (unwrap_or (slice_get rows (length rows - 1)) 0 + 1))
 
 -- the cells of a line, and the number of its event
-unfoldable pub line_front : List Arrow → Line → List ℕ
-line_front arrows line =
+unfoldable pub line_front : ℕ → List Arrow → Line → List ℕ
+line_front width arrows line =
     concat (cell line Column.First ∷ cell line Column.Second ∷ cell line Column.Other
     ∷ lane_cell arrows line Lane.Missing ∷ lane_cell arrows line Lane.Start ∷ lane_cell arrows line Lane.Way
     ∷ lane_cell arrows line Lane.Next
-    ∷ codes "  " ∷ decimal (line.at + 1) ∷ [])
+    ∷ codes "  " ∷ blanks (width - length (decimal (line.at + 1))) ∷ decimal (line.at + 1) ∷ [])
 
 -- the event itself, unless it stands on the line before
 abbrev pub line_end : TraceState → Line → List ℕ
-line_end trace line = if line.bare then newline else codes "  " ++ event_text trace line.at
+line_end trace line = if line.bare then newline else codes "  \t" ++ event_text trace line.at
 
-abbrev pub line_text : TraceState → List Arrow → Line → List ℕ
-line_text trace arrows line = line_front arrows line ++ line_end trace line
+abbrev pub line_text : TraceState → ℕ → List Arrow → Line → List ℕ
+line_text trace width arrows line = line_front width arrows line ++ line_end trace line
 
 -- the line of the arrow, where it leaves event k or enters it
-abbrev pub end_text : TraceState → Edge → List Arrow → ℕ → Bool → Arrow → List ℕ
-end_text trace m arrows k enters a =
-    if end_at a enters == k then line_text trace arrows (line_at m a enters (op_at trace.events k)) else []
+abbrev pub end_text : TraceState → Edge → ℕ → List Arrow → ℕ → Bool → Arrow → List ℕ
+end_text trace m width arrows k enters a =
+    if end_at a enters == k then line_text trace width arrows (line_at m a enters (op_at trace.events k)) else []
 
 -- the lines of event k: where arrows leave it, and where they enter it
-abbrev pub row_text : TraceState → Edge → List Arrow → ℕ → List ℕ
-row_text trace m arrows k =
-    flat_map (end_text trace m arrows k false) arrows ++ flat_map (end_text trace m arrows k true) arrows
+abbrev pub row_text : TraceState → Edge → ℕ → List Arrow → ℕ → List ℕ
+row_text trace m width arrows k =
+    flat_map (end_text trace m width arrows k false) arrows ++ flat_map (end_text trace m width arrows k true) arrows
 
 -- another goroutine than the two
 abbrev pub is_other : Edge → ℕ → Bool
@@ -56,6 +70,28 @@ abbrev pub others_head : Bool → List ℕ
 others_head true = ended (codes "   |       |       others")
 others_head false = []
 
+-- an arrow of the way, or another edge
+abbrev pub is_of_way : Arrow → Bool
+is_of_way a = elim a.lane [ Lane.Way ↦ true | _ ↦ false ]
+
+abbrev pub is_other_edge : Arrow → Bool
+is_other_edge a = elim a.lane [ Lane.Start ↦ true | Lane.Next ↦ true | _ ↦ false ]
+
+abbrev pub has_way : List Arrow → Bool
+has_way arrows = list_any is_of_way arrows
+
+abbrev pub has_other_edge : List Arrow → Bool
+has_other_edge arrows = list_any is_other_edge arrows
+
+-- there are both
+abbrev pub tells_apart : List Arrow → Bool
+tells_apart arrows = has_way arrows && has_other_edge arrows
+
+-- what tells them apart
+abbrev pub legend : Bool → List ℕ
+legend true = ended (codes "   (=== is the way of what was seen, --- are other edges)")
+legend false = []
+
 -- below them, where the edges of so many events aren't listed
 abbrev pub note_of_size : ℕ → List ℕ
 note_of_size events = if nat_lt MAX_PLAIN_EVENTS events then ended (codes "   (of more than 2,000 events no edge is drawn)") else []
@@ -64,12 +100,12 @@ note_of_size events = if nat_lt MAX_PLAIN_EVENTS events then ended (codes "   (o
 unfoldable pub heads : TraceState → Race → List Arrow → List ℕ
 heads trace r arrows =
     concat (newline ∷ codes "   " ∷ name_at trace r.first ∷ newline ∷ codes "   |       " ∷ name_at trace r.second ∷ newline
-    ∷ others_head (has_others (missing trace.events r) arrows) ∷ note_of_size (length trace.events) ∷ [])
+    ∷ others_head (has_others (missing trace.events r) arrows) ∷ legend (tells_apart arrows) ∷ note_of_size (length trace.events) ∷ [])
 
 -- which event the first access is, and what the second one has seen of its goroutine
 unfoldable pub sentence_front : TraceState → Race → List ℕ
 sentence_front trace r =
-    concat (newline ∷ name_at trace r.first ∷ codes "'s " ∷ access_word (op_at trace.events r.first)
+    concat (codes "\n\t" ∷ name_at trace r.first ∷ codes "'s " ∷ access_word (op_at trace.events r.first)
     ∷ codes " is event " ∷ decimal (r.first + 1) ∷ codes ", and " ∷ name_at trace r.second ∷ codes " has seen " ∷ [])
 
 -- nothing, or all up to an event
@@ -88,23 +124,27 @@ sentence trace r seen = sentence_front trace r ++ sentence_end trace r seen
 
 -- the lines of all events that are shown
 abbrev pub rows_text : TraceState → Race → List Arrow → List ℕ → List ℕ
-rows_text trace r arrows rows = flat_map (row_text trace (missing trace.events r) arrows) rows
+rows_text trace r arrows rows = flat_map (row_text trace (missing trace.events r) (width_of rows) arrows) rows
 
 -- the heads of the columns, the lines below them, and the sentence
 abbrev pub picture_text : TraceState → Race → Option ℕ → List Arrow → List ℕ → List ℕ
 picture_text trace r seen arrows rows = heads trace r arrows ++ (rows_text trace r arrows rows ++ sentence trace r seen)
 
--- behind an empty line the line of the race, and its picture
+-- behind an empty line and a tab the line of the race, and its picture
 abbrev pub spaced_text : TraceState → Race → Option ℕ → List Arrow → List ℕ → List ℕ
-spaced_text trace r seen arrows rows = newline ++ (race_line trace (race_of r) ++ picture_text trace r seen arrows rows)
+spaced_text trace r seen arrows rows = codes "\n\t" ++ (race_line trace (race_of r) ++ picture_text trace r seen arrows rows)
 
 -- so it is with what is laid out
 abbrev pub drawing_text : TraceState → LayoutState → List ℕ
 drawing_text trace l = spaced_text trace l.race l.seen l.arrows l.rows
 
 -- how many pictures there are, and each of them
+abbrev pub long_lines : TraceState → List LayoutState → List ℕ
+long_lines trace layouts = races_line (length layouts) ++ flat_map (drawing_text trace) layouts
+
+-- the same in lines of at most 100 columns
 abbrev pub drawings_text : TraceState → List LayoutState → List ℕ
-drawings_text trace layouts = races_line (length layouts) ++ flat_map (drawing_text trace) layouts
+drawings_text trace layouts = folded line_start (long_lines trace layouts)
 
 -- the numbers that are printed are the trace's
 pub record CanBeDrawn (trace : TraceState) (l : LayoutState) : Type 0 where

@@ -105,6 +105,16 @@ pub(crate) fn line_at(missing: &Edge, arrow: &Arrow, enters: bool, op: &Op) -> L
     }
 }
 
+// Where an arrow ends that isn't the missing one.
+fn event_cell(lane: Lane, enters: bool) -> &'static str
+    ensures { result.now ≡ spec.event_cell lane enters }
+{
+    match lane {
+        Lane::Way => if enters { "   o<===" } else { "   o====" },
+        _ => if enters { "   o<---" } else { "   o----" },
+    }
+}
+
 // Where the arrow ends.
 fn end_cell(line: &Line) -> &'static str
     ensures { result.now ≡ spec.end_cell line.now }
@@ -112,7 +122,7 @@ fn end_cell(line: &Line) -> &'static str
     match line.mark {
         Mark::Read => if line.enters { "   R<. ." } else { "   R . ." },
         Mark::Write => if line.enters { "   W<. ." } else { "   W . ." },
-        Mark::Event => if line.enters { "   o<---" } else { "   o----" },
+        Mark::Event => event_cell(line.lane, line.enters),
     }
 }
 
@@ -122,6 +132,7 @@ fn across_cell(lane: Lane) -> &'static str
 {
     match lane {
         Lane::Missing => " . . . .",
+        Lane::Way => "===|====",
         _ => "---|----",
     }
 }
@@ -132,6 +143,7 @@ fn over_cell(lane: Lane) -> &'static str
 {
     match lane {
         Lane::Missing => " . . . .",
+        Lane::Way => "========",
         _ => "--------",
     }
 }
@@ -196,13 +208,37 @@ fn turn_cell(line: &Line) -> &'static str
 {
     match line.lane {
         Lane::Missing => if line.enters { " . :" } else { " . ?" },
+        Lane::Way => "===+",
         _ => "---+",
     }
 }
 
-// Where it passes a lane.
-fn crossing_cell(lane: Lane, busy: bool) -> &'static str
-    ensures { result.now ≡ spec.crossing_cell lane busy }
+// Where an arrow passes a lane.
+fn crossing_cell(own: Lane, lane: Lane, busy: bool) -> &'static str
+    ensures { result.now ≡ spec.crossing_cell own lane busy }
+{
+    match own {
+        Lane::Way => way_crossing_cell(lane, busy),
+        _ => edge_crossing_cell(lane, busy),
+    }
+}
+
+// Where the way does.
+fn way_crossing_cell(lane: Lane, busy: bool) -> &'static str
+    ensures { result.now ≡ spec.crossing_cell Lane.Way lane busy }
+{
+    if !busy {
+        return "====";
+    }
+    match lane {
+        Lane::Missing => "===:",
+        _ => "===|",
+    }
+}
+
+// Where another edge does.
+fn edge_crossing_cell(lane: Lane, busy: bool) -> &'static str
+    ensures { result.now ≡ spec.crossing_cell Lane.Next lane busy }
 {
     if !busy {
         return "----";
@@ -222,7 +258,7 @@ pub(crate) fn lane_cell(arrows: &[Arrow], line: &Line, lane: Lane) -> &'static s
     if this == own {
         turn_cell(line)
     } else if this < own {
-        crossing_cell(lane, busy)
+        crossing_cell(line.lane, lane, busy)
     } else if busy {
         "   |"
     } else {

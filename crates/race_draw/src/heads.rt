@@ -3,7 +3,7 @@ ghost use Rattle.std.specs.Prelude.{◌≡◌, ◌<◌, length};
 ghost use Rattle.race_records.specs.Page.{Printing};
 ghost use Rattle.race_draw.specs.Text as spec;
 
-use crate::arrow::Arrow;
+use crate::arrow::{Arrow, Lane};
 use crate::layout::missing;
 use crate::words::race_words;
 use race_edges::{Edge, MAX_PLAIN_EVENTS};
@@ -39,6 +39,59 @@ fn others_head<'a>(is_used: bool, _words: &'a [u8]) -> &'a [u8]
     }
 }
 
+// Whether an arrow is of the way.
+fn is_of_way(arrow: &Arrow) -> bool
+    ensures { result ≡ spec.is_of_way arrow.now }
+{
+    match arrow.lane {
+        Lane::Way => true,
+        _ => false,
+    }
+}
+
+// Whether it is another edge.
+fn is_other_edge(arrow: &Arrow) -> bool
+    ensures { result ≡ spec.is_other_edge arrow.now }
+{
+    match arrow.lane {
+        Lane::Start => true,
+        Lane::Next => true,
+        _ => false,
+    }
+}
+
+// Whether there is one of the way.
+fn has_way(arrows: &[Arrow]) -> bool
+    ensures { result ≡ spec.has_way arrows.now }
+{
+    arrows.iter().any(|arrow| is_of_way(arrow))
+}
+
+// Whether there is another edge.
+fn has_other_edge(arrows: &[Arrow]) -> bool
+    ensures { result ≡ spec.has_other_edge arrows.now }
+{
+    arrows.iter().any(|arrow| is_other_edge(arrow))
+}
+
+// Whether there are both.
+fn tells_apart(arrows: &[Arrow]) -> bool
+    ensures { result ≡ spec.tells_apart arrows.now }
+{
+    has_way(arrows) && has_other_edge(arrows)
+}
+
+// What tells them apart, for as long as other words stand.
+fn legend<'a>(is_wanted: bool, _words: &'a [u8]) -> &'a [u8]
+    ensures { result.now ≡ spec.legend is_wanted }
+{
+    if is_wanted {
+        b"   (=== is the way of what was seen, --- are other edges)\n"
+    } else {
+        b""
+    }
+}
+
 // That no edge is drawn of so many events, for as long as other words stand.
 fn note_of_size<'a>(events: usize, _words: &'a [u8]) -> &'a [u8]
     ensures { result.now ≡ spec.note_of_size events }
@@ -66,6 +119,7 @@ pub(crate) fn print_heads<W: Write, A: Allocator>(
     let words = race_words(trace, race);
     let others = has_others(&missing(trace, race), arrows);
     let head = others_head(others, words.first);
+    let apart = legend(tells_apart(arrows), words.first);
     let count = trace.len();
     let note = note_of_size(count, words.first);
     let parts = [
@@ -77,6 +131,7 @@ pub(crate) fn print_heads<W: Write, A: Allocator>(
         words.second,
         b"\n".as_slice(),
         head,
+        apart,
         note,
     ];
     page.put_all(sink, &parts)

@@ -129,7 +129,7 @@ pub fn lay_out_all<A: Allocator + Copy, B: Allocator>(
 }
 
 // The edges of a legal trace, or none where it is too long for them to be listed.
-fn listed<A: Allocator + Copy, B: Allocator>(
+pub(crate) fn listed<A: Allocator + Copy, B: Allocator>(
     alloc: A,
     trace: &Trace<B>,
 ) -> Result<Vec<Edge, A>, AllocError>

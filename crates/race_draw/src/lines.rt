@@ -14,6 +14,23 @@ use race_records::{Page, Sink, Trace, WriteFault};
 use std::alloc::Allocator;
 use std::io::Write;
 
+// As many blanks, up to ten.
+pub(crate) fn blanks(count: usize) -> &'static [u8]
+    ensures { result.now ≡ spec.blanks count }
+{
+    let ten = b"          ".as_slice();
+    &ten[..count.min(ten.len())]
+}
+
+// How wide the numbers of the events are that are shown.
+pub(crate) fn width_of(rows: &[u32]) -> usize
+    ensures { result ≡ spec.width_of rows.now }
+{
+    let last = rows.last().copied().unwrap_or(0);
+    let mut digits = Buffer::new();
+    digits.format(u64::from(last) + 1).len()
+}
+
 // Prints the lines of each event that is shown.
 pub(crate) fn print_rows<W: Write, A: Allocator>(
     page: &mut Page,
@@ -25,10 +42,11 @@ pub(crate) fn print_rows<W: Write, A: Allocator>(
 ) -> Result<(), WriteFault>
     requires { All (λ k. k < length trace.now.events) rows.now }
     ensures { Printing W.contents result sink.old sink.new page.old page.new
-        (flat_map (spec.row_text trace.now missing.now arrows.now) rows.now) }
+        (flat_map (spec.row_text trace.now missing.now (spec.width_of rows.now) arrows.now) rows.now) }
 {
+    let width = width_of(rows);
     for row in rows {
-        if let Err(fault) = print_row(page, sink, trace, missing, arrows, *row) {
+        if let Err(fault) = print_row(page, sink, trace, missing, width, arrows, *row) {
             return Err(fault);
         }
     }
@@ -41,15 +59,16 @@ fn print_row<W: Write, A: Allocator>(
     sink: &mut Sink<W>,
     trace: &Trace<A>,
     missing: &Edge,
+    width: usize,
     arrows: &[Arrow],
     row: u32,
 ) -> Result<(), WriteFault>
     requires { row < length trace.now.events }
     ensures { Printing W.contents result sink.old sink.new page.old page.new
-        (spec.row_text trace.now missing.now arrows.now row) }
+        (spec.row_text trace.now missing.now width arrows.now row) }
 {
-    match print_ends(page, sink, trace, missing, arrows, row, false) {
-        Ok(()) => print_ends(page, sink, trace, missing, arrows, row, true),
+    match print_ends(page, sink, trace, missing, width, arrows, row, false) {
+        Ok(()) => print_ends(page, sink, trace, missing, width, arrows, row, true),
         Err(fault) => Err(fault),
     }
 }
@@ -60,16 +79,19 @@ fn print_ends<W: Write, A: Allocator>(
     sink: &mut Sink<W>,
     trace: &Trace<A>,
     missing: &Edge,
+    width: usize,
     arrows: &[Arrow],
     row: u32,
     enters: bool,
 ) -> Result<(), WriteFault>
     requires { row < length trace.now.events }
     ensures { Printing W.contents result sink.old sink.new page.old page.new
-        (flat_map (spec.end_text trace.now missing.now arrows.now row enters) arrows.now) }
+        (flat_map (spec.end_text trace.now missing.now width arrows.now row enters) arrows.now) }
 {
     for arrow in arrows {
-        if let Err(fault) = print_if_ends(page, sink, trace, missing, arrows, row, enters, arrow) {
+        if let Err(fault) = print_if_ends(
+            page, sink, trace, missing, width, arrows, row, enters, arrow,
+        ) {
             return Err(fault);
         }
     }
@@ -82,6 +104,7 @@ fn print_if_ends<W: Write, A: Allocator>(
     sink: &mut Sink<W>,
     trace: &Trace<A>,
     missing: &Edge,
+    width: usize,
     arrows: &[Arrow],
     row: u32,
     enters: bool,
@@ -89,13 +112,13 @@ fn print_if_ends<W: Write, A: Allocator>(
 ) -> Result<(), WriteFault>
     requires { row < length trace.now.events }
     ensures { Printing W.contents result sink.old sink.new page.old page.new
-        (spec.end_text trace.now missing.now arrows.now row enters arrow.now) }
+        (spec.end_text trace.now missing.now width arrows.now row enters arrow.now) }
 {
     let line = line_at(missing, arrow, enters, op_at(trace, row));
     if line.at != row {
         return Ok(());
     }
-    print_line(page, sink, trace, arrows, &line)
+    print_line(page, sink, trace, width, arrows, &line)
 }
 
 // Prints a line.
@@ -103,14 +126,15 @@ fn print_line<W: Write, A: Allocator>(
     page: &mut Page,
     sink: &mut Sink<W>,
     trace: &Trace<A>,
+    width: usize,
     arrows: &[Arrow],
     line: &Line,
 ) -> Result<(), WriteFault>
     requires { line.now.at < length trace.now.events }
     ensures { Printing W.contents result sink.old sink.new page.old page.new
-        (spec.line_text trace.now arrows.now line.now) }
+        (spec.line_text trace.now width arrows.now line.now) }
 {
-    match print_front(page, sink, arrows, line) {
+    match print_front(page, sink, width, arrows, line) {
         Ok(()) => print_end(page, sink, trace, line),
         Err(fault) => Err(fault),
     }
@@ -120,13 +144,15 @@ fn print_line<W: Write, A: Allocator>(
 fn print_front<W: Write>(
     page: &mut Page,
     sink: &mut Sink<W>,
+    width: usize,
     arrows: &[Arrow],
     line: &Line,
 ) -> Result<(), WriteFault>
     ensures { Printing W.contents result sink.old sink.new page.old page.new
-        (spec.line_front arrows.now line.now) }
+        (spec.line_front width arrows.now line.now) }
 {
-    let mut number = Buffer::new();
+    let mut digits = Buffer::new();
+    let number = digits.format(u64::from(line.at) + 1);
     let parts = [
         cell(line, Column::First).as_bytes(),
         cell(line, Column::Second).as_bytes(),
@@ -136,7 +162,8 @@ fn print_front<W: Write>(
         lane_cell(arrows, line, Lane::Way).as_bytes(),
         lane_cell(arrows, line, Lane::Next).as_bytes(),
         b"  ".as_slice(),
-        number.format(u64::from(line.at) + 1).as_bytes(),
+        blanks(width.saturating_sub(number.len())),
+        number.as_bytes(),
     ];
     page.put_all(sink, &parts)
 }
@@ -159,7 +186,7 @@ fn print_end<W: Write, A: Allocator>(
     }
 }
 
-// Prints the line of the trace that has the event, behind two spaces.
+// Prints the line of the trace that has the event, behind two spaces and a tab.
 fn print_event_behind<W: Write, A: Allocator>(
     page: &mut Page,
     sink: &mut Sink<W>,
@@ -168,9 +195,9 @@ fn print_event_behind<W: Write, A: Allocator>(
 ) -> Result<(), WriteFault>
     requires { index < length trace.now.events }
     ensures { Printing W.contents result sink.old sink.new page.old page.new
-        (codes "  " ++ event_text trace.now index) }
+        (codes "  \t" ++ event_text trace.now index) }
 {
-    match page.put(sink, b"  ") {
+    match page.put(sink, b"  \t") {
         Ok(()) => print_event_at(page, sink, trace, index),
         Err(fault) => Err(fault),
     }

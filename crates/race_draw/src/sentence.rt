@@ -46,7 +46,7 @@ fn print_access<W: Write, A: Allocator>(
     let words = race_words(trace, race);
     let mut number = Buffer::new();
     let parts = [
-        b"\n".as_slice(),
+        b"\n\t".as_slice(),
         words.first,
         b"'s ".as_slice(),
         words.what,

@@ -1,86 +1,96 @@
 //! A drawing's text as an SVG document: each line of the text is one of the picture, in light or dark as the reader has it.
-ghost use Rattle.std.specs.Prelude.{◌≡◌, ◌++◌, All, option_map};
+ghost use Rattle.std.specs.Prelude.{◌≡◌, ◌++◌, option_map};
 ghost use Rattle.std.specs.List.{flat_map};
 ghost use Rattle.race_records.specs.Page.{Printing};
 ghost use Rattle.race_text.specs.Output.{Writes};
 ghost use Rattle.race_draw.specs.Svg as spec;
-ghost use Rattle.race_draw.specs.Text.{CanBeDrawn};
 
-use crate::layout::Layout;
-use crate::text::write_drawings;
 use itoa::Buffer;
-use race_records::{Page, Sink, Trace, WriteFault};
-use std::alloc::{AllocError, Allocator};
+use race_records::{Page, Sink, WriteFault};
 use std::io::Write;
 
 /// How large a picture is.
 #[derive(Clone, Copy, Debug, PartialEq, Eq)]
 pub struct Size {
     /// From left to right.
-    pub width: u32,
+    pub width: u64,
     /// From top to bottom.
-    pub height: u32,
+    pub height: u64,
 }
 
 /// How large the picture of a text is.
-pub fn size_of(text: &[u8]) -> Size {
-    let (mut lines, mut columns, mut most) = (0u32, 0u32, 0u32);
+pub fn size_of(text: &[u8]) -> Size
+    ensures { result ≡ spec.size_of text.now }
+{
+    Size {
+        width: extent(longest(text), 9, 32),
+        height: extent(lines(text), 18, 36),
+    }
+}
+
+// How far so many reach that are this far apart, with a margin.
+fn extent(count: usize, each: u64, margin: u64) -> u64
+    ensures { result ≡ spec.extent count each margin }
+{
+    (count as u64).saturating_mul(each).saturating_add(margin)
+}
+
+// How many lines the text has.
+fn lines(text: &[u8]) -> usize
+    ensures { result ≡ spec.lines text.now }
+{
+    text.iter().filter(|byte| **byte == b'\n').count()
+}
+
+// How many columns its longest line has.
+fn longest(text: &[u8]) -> usize
+    ensures { result ≡ spec.longest 0 text.now }
+{
+    let (mut column, mut most) = (0usize, 0usize);
     for byte in text {
         if *byte == b'\n' {
-            lines = lines.saturating_add(1);
-            columns = 0;
+            most = most.max(column);
+            column = 0;
         } else {
-            columns = columns.saturating_add(1);
-            most = most.max(columns);
+            column += 1;
         }
     }
-    Size {
-        width: most.saturating_mul(9).saturating_add(32),
-        height: lines.saturating_mul(18).saturating_add(36),
-    }
+    most.max(column)
 }
 
-/// What `write_drawings` writes, in memory. That it is exactly this isn't proved: a sink doesn't hand its writer back.
-pub fn drawings_in_memory<A: Allocator + Copy, B: Allocator, C: Allocator>(
-    alloc: A,
-    trace: &Trace<B>,
-    layouts: &[Layout<C>],
-) -> Result<Vec<u8, A>, AllocError>
-    requires { All (CanBeDrawn trace.now) layouts.now }
+/// Writes a text. Takes no memory.
+///
+/// A write that fails or takes no byte ends it: then exactly the first `sent` bytes are out.
+pub fn write_text<W: Write>(text: &[u8], sink: &mut Sink<W>) -> Result<(), WriteFault>
+    ensures { Writes W.contents result sink.old sink.new text.now }
 {
-    let mut text = Vec::new(alloc);
-    let mut sink = Sink::new(&mut text);
-    match write_drawings(trace, layouts, &mut sink) {
-        Ok(()) => Ok(text),
-        Err(_) => Err(AllocError),
+    let mut page = Page::new();
+    match page.put(sink, text) {
+        Ok(()) => page.flush(sink),
+        Err(fault) => Err(fault),
     }
 }
 
-/// Writes a text as an SVG document of this size. Takes no memory; writes in blocks of at most 4,096 bytes.
+/// Writes a text as an SVG document. Takes no memory; writes in blocks of at most 4,096 bytes.
 ///
 /// The document has no script and refers to nothing. A write that fails or takes no byte ends it: then exactly the first
 /// `sent` bytes are out.
-pub fn write_svg<W: Write>(text: &[u8], size: Size, sink: &mut Sink<W>) -> Result<(), WriteFault>
-    ensures { Writes W.contents result sink.old sink.new (spec.svg_text size text.now) }
+pub fn write_svg<W: Write>(text: &[u8], sink: &mut Sink<W>) -> Result<(), WriteFault>
+    ensures { Writes W.contents result sink.old sink.new (spec.svg_text text.now) }
 {
     let mut page = Page::new();
-    match print_svg(&mut page, sink, text, size) {
+    match print_svg(&mut page, sink, text) {
         Ok(()) => page.flush(sink),
         Err(fault) => Err(fault),
     }
 }
 
 // Prints the document.
-fn print_svg<W: Write>(
-    page: &mut Page,
-    sink: &mut Sink<W>,
-    text: &[u8],
-    size: Size,
-) -> Result<(), WriteFault>
+fn print_svg<W: Write>(page: &mut Page, sink: &mut Sink<W>, text: &[u8]) -> Result<(), WriteFault>
     ensures { Printing W.contents result sink.old sink.new page.old page.new
-        (spec.svg_text size text.now) }
+        (spec.svg_text text.now) }
 {
-    match print_svg_head(page, sink, size) {
+    match print_svg_head(page, sink, size_of(text)) {
         Ok(()) => print_svg_body(page, sink, text),
         Err(fault) => Err(fault),
     }
@@ -97,9 +107,9 @@ fn print_svg_head<W: Write>(
     let (mut width, mut height) = (Buffer::new(), Buffer::new());
     let parts = [
         b"<svg xmlns='http://www.w3.org/2000/svg' viewBox='0 0 ".as_slice(),
-        width.format(u64::from(size.width)).as_bytes(),
+        width.format(size.width).as_bytes(),
         b" ".as_slice(),
-        height.format(u64::from(size.height)).as_bytes(),
+        height.format(size.height).as_bytes(),
         b"' style='color-scheme:light dark'>\n<style>\nrect { fill: #fff }\n".as_slice(),
         b"text { font: 14px monospace; white-space: pre; fill: #222 }\n".as_slice(),
         b"@media (prefers-color-scheme: dark) { rect { fill: #111 } text { fill: #ddd } }\n".as_slice(),

@@ -1,5 +1,5 @@
 //! Drawings as text.
-ghost use Rattle.std.specs.Prelude.{◌<◌, ◌++◌, All, length, IfSome};
+ghost use Rattle.std.specs.Prelude.{◌≡◌, ◌<◌, ◌++◌, All, length, IfOk, IfSome};
 ghost use Rattle.std.specs.List.{flat_map};
 ghost use Rattle.race_records.specs.Page.{Printing};
 ghost use Rattle.race_text.specs.Output.{Writes};
@@ -10,6 +10,7 @@ ghost use Rattle.race_draw.specs.Text as spec;
 ghost use Rattle.race_draw.specs.Text.{CanBeDrawn};
 
 use crate::arrow::Arrow;
+use crate::fold::folded;
 use crate::heads::print_heads;
 use crate::layout::{Layout, missing};
 use crate::lines::print_rows;
@@ -17,20 +18,48 @@ use crate::sentence::print_sentence;
 use race_records::{Page, Sink, Trace, WriteFault};
 use race_report::{print_race, print_race_count};
 use race_verdict::Race;
-use std::alloc::Allocator;
+use std::alloc::{AllocError, Allocator};
 use std::io::Write;
 
-/// Writes how many drawings there are, and each of them as a text. Takes no memory; writes in blocks of at most 4,096 bytes.
+/// How many drawings there are, and each of them as a text, in lines of at most 100 columns.
 ///
-/// The layouts are of this trace, as `lay_out` makes them. A write that fails or takes no byte ends it: then exactly the
-/// first `sent` bytes are out.
-pub fn write_drawings<W: Write, A: Allocator, B: Allocator>(
+/// The layouts are of this trace, as `lay_out_all` makes them.
+pub fn drawings_in_memory<A: Allocator + Copy, B: Allocator, C: Allocator>(
+    alloc: A,
+    trace: &Trace<B>,
+    layouts: &[Layout<C>],
+) -> Result<Vec<u8, A>, AllocError>
+    requires { All (CanBeDrawn trace.now) layouts.now }
+    ensures { IfOk result (λ text. text.items ≡ spec.drawings_text trace.now layouts.now) }
+{
+    let text = in_long_lines(alloc, trace, layouts)?;
+    folded(alloc, text.as_slice())
+}
+
+// The same before its lines are folded.
+fn in_long_lines<A: Allocator, B: Allocator, C: Allocator>(
+    alloc: A,
+    trace: &Trace<B>,
+    layouts: &[Layout<C>],
+) -> Result<Vec<u8, A>, AllocError>
+    requires { All (CanBeDrawn trace.now) layouts.now }
+    ensures { IfOk result (λ text. text.items ≡ spec.long_lines trace.now layouts.now) }
+{
+    let mut sink = Sink::new(Vec::new(alloc));
+    match put_drawings(&mut sink, trace, layouts) {
+        Ok(()) => Ok(sink.into_writer()),
+        Err(_) => Err(AllocError),
+    }
+}
+
+// Writes them.
+fn put_drawings<W: Write, A: Allocator, B: Allocator>(
+    sink: &mut Sink<W>,
     trace: &Trace<A>,
     layouts: &[Layout<B>],
-    sink: &mut Sink<W>,
 ) -> Result<(), WriteFault>
     requires { All (CanBeDrawn trace.now) layouts.now }
-    ensures { Writes W.contents result sink.old sink.new (spec.drawings_text trace.now layouts.now) }
+    ensures { Writes W.contents result sink.old sink.new (spec.long_lines trace.now layouts.now) }
 {
     let mut page = Page::new();
     match print_drawings(&mut page, sink, trace, layouts) {
@@ -48,7 +77,7 @@ fn print_drawings<W: Write, A: Allocator, B: Allocator>(
 ) -> Result<(), WriteFault>
     requires { All (CanBeDrawn trace.now) layouts.now }
     ensures { Printing W.contents result sink.old sink.new page.old page.new
-        (spec.drawings_text trace.now layouts.now) }
+        (spec.long_lines trace.now layouts.now) }
 {
     match print_race_count(page, sink, layouts.len()) {
         Ok(()) => print_each(page, sink, trace, layouts),
@@ -97,7 +126,7 @@ fn print_drawing<W: Write, A: Allocator, B: Allocator>(
     )
 }
 
-// Prints it behind an empty line.
+// Prints it behind an empty line, with a tab before its text.
 fn print_spaced<W: Write, A: Allocator>(
     page: &mut Page,
     sink: &mut Sink<W>,
@@ -113,7 +142,7 @@ fn print_spaced<W: Write, A: Allocator>(
     ensures { Printing W.contents result sink.old sink.new page.old page.new
         (spec.spaced_text trace.now race.now seen arrows.now rows.now) }
 {
-    match page.put(sink, b"\n") {
+    match page.put(sink, b"\n\t") {
         Ok(()) => print_titled(page, sink, trace, race, seen, arrows, rows),
         Err(fault) => Err(fault),
     }

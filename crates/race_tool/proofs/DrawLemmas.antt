@@ -1,22 +1,22 @@
 -- What a verdict says of the races that are asked for, and what a right drawing's status is.
-use Rattle.std.proofs.Common.{◌≡◌, ℕ, Bool, true, false, List, [], ◌∷◌, All, Option, Some, None, slice_get, get_or, refl, sym, ap, ◌∙◌, subst, arith}
+use Rattle.std.proofs.Common.{◌≡◌, ℕ, Bool, true, false, List, [], ◌∷◌, All, Option, Some, None, slice_get, get_or, length, IsTrue, inl, inr, refl, sym, ap, ◌∙◌, subst, arith}
 use Rattle.std.specs.Option.{option_map}
 use Rattle.std.proofs.lemmas.List.Elements.{All-push}
 use Rattle.std.proofs.lemmas.Option.{slice_get-map, slice_get-get_or}
 use Rattle.race_records.specs.Events.{TraceState}
 use Rattle.race_model.specs.Legal.{IsLegal}
 use Rattle.race_model.specs.Race.{IsReportedRace}
+use Rattle.race_text.specs.Text.{IsTextOf}
 use Rattle.race_model.specs.Verdict as model
 use Rattle.race_verdict.specs.declared.races.Race.{Race}
 use Rattle.race_verdict.specs.Races.{race_of}
 use Rattle.race_verdict.specs.Traces.{capacities, HasVerdict}
 use Rattle.race_shards.specs.Witness.{RacesInOrder}
-use Rattle.race_draw.proofs.LayoutLemmas.{all_can_be_drawn}
+use Rattle.race_draw.specs.Text.{drawings_text}
 use Rattle.race_tool.specs.declared.status.TheConstants as status
-use Rattle.race_tool.specs.declared.draw_found.Found.{Found}
 use Rattle.race_tool.specs.Outcome.{IsOfAFinding}
-use Rattle.race_tool.specs.Draw.{Drawing, NoText, Breaks, NoRace, Clean, Drawn, Pictured, AreAsked, IsDrawing, drawing_status}
-use Rattle.race_tool.specs.Drawings.{drawing_of, IsDrawingOn, AreRacesOf, AreDrawnOf, CanBeWritten}
+use Rattle.race_tool.specs.Draw.{Drawing, NoText, Breaks, NoRace, Clean, Drawn, Pictured, AreAsked, IsDrawnText, IsChartOf, IsDrawing, has_chart, shown, drawing_status}
+use Rattle.race_tool.specs.Drawings.{IsDrawingOn, AreRacesOf, AreDrawnOf}
 use Rattle.race_tool.specs.Witnesses.{IsPickedOf}
 use Rattle.race_tool.proofs.StatusLemmas.{small, middle}
 use Rattle.race_tool.proofs.WitnessLemmas.{none_shows, picked_races}
@@ -26,9 +26,9 @@ module _ (trace : TraceState) where
   pub clean_named : (name : List ℕ) (svg : Bool) → HasVerdict trace model.Clean → IsDrawingOn (Some name) svg trace NoRace
   clean_named name svg right bytes text = (trace, text, right.0, λ x i j named race. right.1 x i j race)
 
-  -- and without a name it is told
-  pub clean_told : (svg : Bool) → HasVerdict trace model.Clean → IsDrawingOn None svg trace (Clean trace)
-  clean_told svg right bytes text = (text, right)
+  -- and without a name it is told, where it has no chart
+  pub clean_told : (svg : Bool) → HasVerdict trace model.Clean → has_chart (length trace.events) ≡ false → IsDrawingOn None svg trace (Clean trace)
+  clean_told svg right none bytes text = (text, right, none)
 
   -- where none of the races is on the variable it has none
   pub none_named : (name : List ℕ) (svg : Bool) (races : List Race) → AreRacesOf trace races → IsPickedOf trace races name None
@@ -57,34 +57,24 @@ module _ (trace : TraceState) where
       → AreAsked trace (Some name) (race ∷ [])
   picked_asked name races race right picked = (race, refl, picked.1, reported_at races right picked.0.0 race picked.0.1)
 
-  asked_in_order : (name : Option (List ℕ)) (races : List Race) → IsLegal (capacities trace) trace.events → AreAsked trace name races
-      → All (RacesInOrder (capacities trace) trace.events) races
-  asked_in_order None races legal asked = all_in_order races asked
-  asked_in_order (Some name) races legal asked = subst (All (RacesInOrder (capacities trace) trace.events)) (sym asked.1)
-      (All-push (RacesInOrder (capacities trace) trace.events) [] asked.0 (λ i d less. absurd (omega (arith, less)))
-      (record { legal = legal; race = asked.3.race; in_order = asked.3.in_order }))
+  -- a drawn text is right as it is shown
+  pub shown_right : (name : Option (List ℕ)) (svg : Bool) (text bytes : List ℕ) → IsTextOf trace bytes → IsDrawnText trace name text
+      → IsDrawing name svg bytes (shown svg text)
+  shown_right name false text bytes is_text drawn = (trace, is_text, refl, drawn)
+  shown_right name true text bytes is_text drawn = (trace, is_text, refl, drawn)
 
-  -- the layouts of the races that are asked for are right
+  -- the drawings of the races that are asked for are right
   pub asked_drawn : (name : Option (List ℕ)) (races : List Race) → IsLegal (capacities trace) trace.events → AreAsked trace name races
       → (svg : Bool) (drawing : Drawing) → AreDrawnOf trace races svg drawing → IsDrawingOn name svg trace drawing
-  asked_drawn name races legal asked false drawing is bytes text =
-      subst (IsDrawing name false bytes) (sym is.drawn)
-      (text, refl, record { legal = legal; races = races; asked = asked; laid_out = is.laid_out })
-  asked_drawn name races legal asked true drawing is bytes text =
-      subst (IsDrawing name true bytes) (sym is.drawn.2)
-      (trace, text, refl, (is.layouts, record { legal = legal; races = races; asked = asked; laid_out = is.laid_out }))
+  asked_drawn name races legal asked svg drawing is bytes text =
+      subst (IsDrawing name svg bytes) (sym is.drawn)
+      (shown_right name svg (drawings_text trace is.layouts) bytes text
+      (inl (is.layouts, record { legal = legal; races = races; asked = asked; laid_out = is.laid_out }, refl)))
 
--- a right drawing can be printed
-pub can_be_written : {A : Type 0} (found : Found A) (name : Option (List ℕ)) (svg : Bool) (bytes : List ℕ)
-    → IsDrawing name svg bytes (drawing_of found) → CanBeWritten found
-can_be_written (Found.NoTrace fault) name svg bytes right = tt
-can_be_written (Found.Broken trace illegal) name svg bytes right = tt
-can_be_written Found.NoRace name svg bytes right = tt
-can_be_written (Found.Clean trace) name svg bytes right = tt
-can_be_written (Found.Drawn trace layouts) name svg bytes right =
-    all_can_be_drawn trace right.0.has_text.is_trace right.2.races (asked_in_order trace name right.2.races right.2.legal right.2.asked)
-    layouts.items right.2.laid_out
-can_be_written (Found.Pictured text size) name svg bytes right = tt
+  -- so is the chart of a clean trace that has one
+  pub chart_right : (svg : Bool) (text : List ℕ) → HasVerdict trace model.Clean → IsTrue (has_chart (length trace.events)) → IsChartOf trace text
+      → IsDrawingOn None svg trace (shown svg text)
+  chart_right svg text clean has chart bytes is_text = shown_right None svg text bytes is_text (inr (clean, has, chart))
 
 -- its status tells of something that was found
 pub drawing_own : (drawing : Drawing) → IsOfAFinding (drawing_status drawing)
@@ -92,5 +82,5 @@ drawing_own (NoText fault) = small status.TEXT_FAULT (omega arith)
 drawing_own (Breaks trace index rule) = small status.ILLEGAL (omega arith)
 drawing_own NoRace = middle status.NO_RACE (omega arith) (omega arith)
 drawing_own (Clean trace) = small status.CLEAN (omega arith)
-drawing_own (Drawn trace layouts) = small status.CLEAN (omega arith)
-drawing_own (Pictured text size) = small status.CLEAN (omega arith)
+drawing_own (Drawn text) = small status.CLEAN (omega arith)
+drawing_own (Pictured text) = small status.CLEAN (omega arith)

@@ -1,5 +1,5 @@
 -- What the code has to draw as the definition has it, and what the engine of drawings promises.
-use Rattle.std.specs.Prelude.{ℕ, ◌≡◌, Bool, true, false, List, All, Option, Some, None, map, ⊤}
+use Rattle.std.specs.Prelude.{ℕ, ◌≡◌, Bool, List, Option, Some, None, map}
 use Rattle.std.specs.Borrow.{Bor}
 use Rattle.race_records.specs.declared.source.Source.{Source}
 use Rattle.race_records.specs.declared.sink.Sink.{Sink}
@@ -12,8 +12,7 @@ use Rattle.race_verdict.specs.declared.races.Race.{Race}
 use Rattle.race_verdict.specs.Races.{race_of}
 use Rattle.race_verdict.specs.Traces.{HasVerdict}
 use Rattle.race_draw.specs.Layout.{LayoutState, AreLayoutsOf}
-use Rattle.race_draw.specs.declared.svg.Size.{Size}
-use Rattle.race_draw.specs.Text.{CanBeDrawn}
+use Rattle.race_draw.specs.Text.{drawings_text}
 use Rattle.race_tool.specs.declared.draw_found.Found.{Found}
 use Rattle.race_tool.specs.Engines.{Never}
 use Rattle.race_tool.specs.Outcome.{Answers}
@@ -30,32 +29,22 @@ drawing_of (Found.NoTrace fault) = spec.NoText fault
 drawing_of (Found.Broken trace illegal) = spec.Breaks trace illegal.at (number_of illegal.rule)
 drawing_of Found.NoRace = spec.NoRace
 drawing_of (Found.Clean trace) = spec.Clean trace
-drawing_of (Found.Drawn trace layouts) = spec.Drawn trace layouts.items
-drawing_of (Found.Pictured text size) = spec.Pictured text.items size
+drawing_of (Found.Drawn text) = spec.Drawn text.items
+drawing_of (Found.Pictured text) = spec.Pictured text.items
 
 -- it is right for each list of bytes that is the text of the trace
 abbrev pub IsDrawingOn : Option (List ℕ) → Bool → TraceState → spec.Drawing → Type 0
 IsDrawingOn name svg trace drawing = (bytes : List ℕ) → IsTextOf trace bytes → spec.IsDrawing name svg bytes drawing
 
--- its layouts are of the trace
-abbrev pub CanBeWritten : {A : Type 0} → Found A → Type 0
-CanBeWritten (Found.Drawn trace layouts) = All (CanBeDrawn trace) layouts.items
-CanBeWritten _ = ⊤
-
 -- these are all races that are reported of the trace
 abbrev pub AreRacesOf : TraceState → List Race → Type 0
 AreRacesOf trace races = HasVerdict trace (model.Races (map race_of races))
 
--- the layouts are drawn, or a text as an SVG document
-abbrev pub IsOfLayouts : TraceState → List LayoutState → Bool → spec.Drawing → Type 0
-IsOfLayouts trace layouts false drawing = drawing ≡ spec.Drawn trace layouts
-IsOfLayouts trace layouts true drawing = (text : List ℕ) × (size : Size) × (drawing ≡ spec.Pictured text size)
-
--- those of the races are
+-- the text of the drawings of these races is shown
 pub record AreDrawnOf (trace : TraceState) (races : List Race) (svg : Bool) (drawing : spec.Drawing) : Type 0 where
   pub layouts : List LayoutState
   pub laid_out : AreLayoutsOf trace races layouts
-  pub drawn : IsOfLayouts trace layouts svg drawing
+  pub drawn : drawing ≡ spec.shown svg (drawings_text trace layouts)
 
 -- the races that are asked for were drawn
 abbrev pub Draws : {R W : Type 0} → Option (List ℕ) → Bool → (R → Option (List ℕ)) → (W → Option (List ℕ))

@@ -1,5 +1,5 @@
 //! What there is to draw of a list of bytes.
-ghost use Rattle.std.specs.Prelude.{◌≡◌, All, Bool, Some, None, IfOk};
+ghost use Rattle.std.specs.Prelude.{◌≡◌, All, Some, None, IfOk};
 ghost use Rattle.race_model.specs.Legal.{IsLegal};
 ghost use Rattle.race_model.specs.Verdict as model;
 ghost use Rattle.race_text.specs.Fault.{trace_causes};
@@ -10,14 +10,15 @@ ghost use Rattle.race_shards.specs.Witness.{RacesInOrder};
 ghost use Rattle.race_tool.specs.Engines.{Never};
 ghost use Rattle.race_tool.specs.Outcome.{Finds};
 ghost use Rattle.race_tool.specs.Draw as spec;
-ghost use Rattle.race_tool.specs.Drawings.{drawing_of, name_in, IsDrawingOn, AreDrawnOf, AreRacesOf, CanBeWritten};
+ghost use Rattle.race_tool.specs.Drawings.{drawing_of, name_in, IsDrawingOn, AreDrawnOf, AreRacesOf};
 
 use crate::engine::NoFinding;
 use crate::no_race::write_no_race;
 use crate::status;
 use crate::witness_found::race_on;
 use race_draw::{
-    Layout, Size, drawings_in_memory, lay_out_all, size_of, write_drawings, write_svg,
+    MAX_CLEAN_EVENTS, chart_in_memory, drawings_in_memory, lay_out_all, lay_out_clean, write_svg,
+    write_text,
 };
 use race_legal::Illegal;
 use race_records::{Sink, Trace, WriteFault};
@@ -37,12 +38,12 @@ pub(crate) enum Found<A: Allocator> {
     Broken(Trace<A>, Illegal),
     /// It is a legal trace, in which the name isn't that of a variable with a race.
     NoRace,
-    /// It is this clean trace, and no variable is named.
+    /// It is this clean trace, no variable is named, and it has no events, or too many to draw.
     Clean(Trace<A>),
-    /// It is this legal trace, and these are the layouts of the races that are asked for.
-    Drawn(Trace<A>, Vec<Layout<A>, A>),
-    /// This is the text of those, and how large its picture is, where an SVG document is asked for.
-    Pictured(Vec<u8, A>, Size),
+    /// It is a legal trace, and this is the text of what is asked for.
+    Drawn(Vec<u8, A>),
+    /// The same, where an SVG document is asked for.
+    Pictured(Vec<u8, A>),
 }
 
 /// Finds what there is to draw of the race on the variable of this name.
@@ -100,33 +101,70 @@ fn find_drawing_of<A: Allocator + Copy>(
 {
     match judge_alone(alloc, &trace) {
         Ok(Verdict::Illegal(illegal)) => Ok(Found::Broken(trace, illegal)),
-        Ok(Verdict::Clean) => Ok(without_race(trace, name)),
-        Ok(Verdict::Races(races)) => draw_asked(alloc, trace, races.as_slice(), name, svg),
+        Ok(Verdict::Clean) => draw_clean(alloc, trace, name, svg),
+        Ok(Verdict::Races(races)) => draw_asked(alloc, &trace, races.as_slice(), name, svg),
         Err(_) => Err(AllocError),
     }
 }
 
 // What there is to draw of a clean trace.
-fn without_race<A: Allocator>(trace: Trace<A>, name: Option<&str>) -> Found<A>
+fn draw_clean<A: Allocator + Copy>(
+    alloc: A,
+    trace: Trace<A>,
+    name: Option<&str>,
+    svg: bool,
+) -> Result<Found<A>, AllocError>
     requires { HasVerdict trace model.Clean }
-    ensures { (svg : Bool) → IsDrawingOn (name_in name.entry) svg trace (drawing_of result) }
+    ensures { IfOk result (λ found. IsDrawingOn (name_in name.entry) svg trace (drawing_of found)) }
 {
     match name {
-        Some(_) => Found::NoRace,
-        None => Found::Clean(trace),
+        Some(_) => Ok(Found::NoRace),
+        None => draw_chart(alloc, trace, svg),
     }
+}
+
+// Whether a clean trace of so many events has a chart.
+fn has_chart(events: usize) -> bool
+    ensures { result ≡ spec.has_chart events }
+{
+    0 < events && events <= MAX_CLEAN_EVENTS
+}
+
+// The chart of a clean trace, where it has one.
+fn draw_chart<A: Allocator + Copy>(
+    alloc: A,
+    trace: Trace<A>,
+    svg: bool,
+) -> Result<Found<A>, AllocError>
+    requires { HasVerdict trace model.Clean }
+    ensures { IfOk result (λ found. IsDrawingOn None svg trace (drawing_of found)) }
+{
+    if !has_chart(trace.len()) {
+        return Ok(Found::Clean(trace));
+    }
+    let text = chart(alloc, &trace)?;
+    Ok(shown(text, svg))
+}
+
+// Its text.
+fn chart<A: Allocator + Copy>(alloc: A, trace: &Trace<A>) -> Result<Vec<u8, A>, AllocError>
+    requires { IsLegal (capacities trace.now) trace.now.events }
+    ensures { IfOk result (λ text. spec.IsChartOf trace.now text.items) }
+{
+    let layout = lay_out_clean(alloc, trace)?;
+    chart_in_memory(alloc, trace, &layout)
 }
 
 // What there is to draw of a trace with these races.
 fn draw_asked<A: Allocator + Copy>(
     alloc: A,
-    trace: Trace<A>,
+    trace: &Trace<A>,
     races: &[Race],
     name: Option<&str>,
     svg: bool,
 ) -> Result<Found<A>, AllocError>
-    requires { AreRacesOf trace races.now }
-    ensures { IfOk result (λ found. IsDrawingOn (name_in name.entry) svg trace (drawing_of found)) }
+    requires { AreRacesOf trace.now races.now }
+    ensures { IfOk result (λ found. IsDrawingOn (name_in name.entry) svg trace.now (drawing_of found)) }
 {
     match name {
         Some(name) => draw_named(alloc, trace, races, name, svg),
@@ -137,15 +175,15 @@ fn draw_asked<A: Allocator + Copy>(
 // What there is to draw of the race on the variable of this name.
 fn draw_named<A: Allocator + Copy>(
     alloc: A,
-    trace: Trace<A>,
+    trace: &Trace<A>,
     races: &[Race],
     name: &str,
     svg: bool,
 ) -> Result<Found<A>, AllocError>
-    requires { AreRacesOf trace races.now }
-    ensures { IfOk result (λ found. IsDrawingOn (Some name.now) svg trace (drawing_of found)) }
+    requires { AreRacesOf trace.now races.now }
+    ensures { IfOk result (λ found. IsDrawingOn (Some name.now) svg trace.now (drawing_of found)) }
 {
-    match race_on(&trace, races, name) {
+    match race_on(trace, races, name) {
         Some(race) => {
             let asked = [race];
             draw(alloc, trace, &asked, svg)
@@ -157,21 +195,28 @@ fn draw_named<A: Allocator + Copy>(
 // The drawings of races of the trace, or their picture.
 fn draw<A: Allocator + Copy>(
     alloc: A,
-    trace: Trace<A>,
+    trace: &Trace<A>,
     races: &[Race],
     svg: bool,
 ) -> Result<Found<A>, AllocError>
-    requires races { All (RacesInOrder (capacities trace) trace.events) races.now }
-    requires legal { IsLegal (capacities trace) trace.events }
-    ensures { IfOk result (λ found. AreDrawnOf trace races.now svg (drawing_of found)) }
+    requires races { All (RacesInOrder (capacities trace.now) trace.now.events) races.now }
+    requires legal { IsLegal (capacities trace.now) trace.now.events }
+    ensures { IfOk result (λ found. AreDrawnOf trace.now races.now svg (drawing_of found)) }
 {
-    let layouts = lay_out_all(alloc, &trace, races)?;
-    if !svg {
-        return Ok(Found::Drawn(trace, layouts));
+    let layouts = lay_out_all(alloc, trace, races)?;
+    let text = drawings_in_memory(alloc, trace, layouts.as_slice())?;
+    Ok(shown(text, svg))
+}
+
+// The text, or its picture.
+fn shown<A: Allocator>(text: Vec<u8, A>, svg: bool) -> Found<A>
+    ensures { drawing_of result ≡ spec.shown svg text.items }
+{
+    if svg {
+        Found::Pictured(text)
+    } else {
+        Found::Drawn(text)
     }
-    let text = drawings_in_memory(alloc, &trace, layouts.as_slice())?;
-    let size = size_of(text.as_slice());
-    Ok(Found::Pictured(text, size))
 }
 
 impl<A: Allocator> Found<A> {
@@ -184,8 +229,8 @@ impl<A: Allocator> Found<A> {
             Found::Broken(_, _) => status::ILLEGAL,
             Found::NoRace => status::NO_RACE,
             Found::Clean(_) => status::CLEAN,
-            Found::Drawn(_, _) => status::CLEAN,
-            Found::Pictured(_, _) => status::CLEAN,
+            Found::Drawn(_) => status::CLEAN,
+            Found::Pictured(_) => status::CLEAN,
         }
     }
 }
@@ -195,7 +240,6 @@ pub(crate) fn write_found<W: Write, A: Allocator>(
     found: &Found<A>,
     sink: &mut Sink<W>,
 ) -> Result<(), WriteFault>
-    requires { CanBeWritten found.now }
     ensures { Writes W.contents result sink.old sink.new (spec.drawing_text (drawing_of found.now)) }
 {
     match found {
@@ -209,7 +253,7 @@ pub(crate) fn write_found<W: Write, A: Allocator>(
             let verdict: Verdict<A> = Verdict::Clean;
             write_report(trace, &verdict, sink)
         }
-        Found::Drawn(trace, layouts) => write_drawings(trace, layouts.as_slice(), sink),
-        Found::Pictured(text, size) => write_svg(text.as_slice(), *size, sink),
+        Found::Drawn(text) => write_text(text.as_slice(), sink),
+        Found::Pictured(text) => write_svg(text.as_slice(), sink),
     }
 }

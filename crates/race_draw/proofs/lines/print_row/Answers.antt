@@ -9,4 +9,4 @@ returns-in-Ok g c = prints_behind c.in-Ok.ensures c.print_ends-in-Ok.ensures
 
 pub returns-in-Err : goal.returns-in-Err
 returns-in-Err g c = breaks_off_before
-    (flat_map (end_text c.args.trace.now c.args.missing.now c.args.arrows.now c.args.row true) c.args.arrows.now) c.in-Err.ensures
+    (flat_map (end_text c.args.trace.now c.args.missing.now c.args.width c.args.arrows.now c.args.row true) c.args.arrows.now) c.in-Err.ensures

@@ -5,13 +5,10 @@ use Rattle.race_tool.specs.Drawings.{AreRacesOf}
 use Rattle.race_tool.proofs.WitnessLemmas.{clean_right, races_right}
 use Rattle.race_tool.proofs.draw_found.find_drawing_of.Goals as goal
 
-pub without_race-requires : goal.without_race-requires
-without_race-requires g c = clean_right c.args.trace c.in-Ok-Clean.field-0 c.in-Ok-Clean.field-0-is c.in-Ok-Clean.ensures
+pub draw_clean-requires : goal.draw_clean-requires
+draw_clean-requires g c = clean_right c.args.trace c.in-Ok-Clean.field-0 c.in-Ok-Clean.field-0-is c.in-Ok-Clean.ensures
 
 pub draw_asked-requires : goal.draw_asked-requires
 draw_asked-requires g c =
     subst (λ (races : List Race). AreRacesOf c.args.trace races) (sym c.as_slice.ensures)
     (races_right c.args.trace c.in-Ok-Races.field-0 c.in-Ok-Races.races c.in-Ok-Races.field-0-is c.in-Ok-Races.ensures)
-
-pub returns-in-Ok-Clean : goal.returns-in-Ok-Clean
-returns-in-Ok-Clean g c = c.without_race.ensures c.args.svg

@@ -1,5 +1,5 @@
 use Rattle.race_text.proofs.OutputLemmas.{writes_flushed, writes_broken}
-use Rattle.race_draw.proofs.text.write_drawings.Goals as goal
+use Rattle.race_draw.proofs.text.put_drawings.Goals as goal
 
 pub returns-in-Ok : goal.returns-in-Ok
 returns-in-Ok g c =

@@ -1,0 +1,17 @@
+use Rattle.std.proofs.Common.{◌≡◌, Ok, ℕ, List, take, subst}
+use Rattle.std.specs.List.{flat_map}
+use Rattle.std.proofs.lemmas.List.{take_all}
+use Rattle.race_records.specs.Page.{Printing}
+use Rattle.race_records.proofs.PageLemmas.{piece_breaks_off}
+use Rattle.race_draw.specs.Chart.{bar}
+use Rattle.race_draw.proofs.chart.print_bars.Goals as goal
+
+pub returns-in-Err : goal.returns-in-Err
+returns-in-Err g c =
+    piece_breaks_off (bar c.args.goroutine) c.args.columns.now c.loop-column.column-index _ c.loop-column-test.true c.loop-column.invariant c.in-Err.ensures
+
+pub returns : goal.returns
+returns g c =
+    let all : take c.loop-column.column-index c.args.columns.now ≡ c.args.columns.now = take_all c.loop-column.column-index c.args.columns.now c.loop-column-test.false in
+    subst (λ (l : List ℕ). Printing g.W.Write.contents (Ok tt) c.args.sink.now c.loop-column.sink c.args.page.now c.loop-column.page
+    (flat_map (bar c.args.goroutine) l)) all c.loop-column.invariant

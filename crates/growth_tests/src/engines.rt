@@ -8,6 +8,8 @@ use race_tool::{
 };
 use refusing_heap::RefusingHeap;
 use std::alloc::{Allocator, Global};
+use std::io;
+use std::io::Read;
 use std::sync::Wait;
 use std::thread::Threads;
 
@@ -22,6 +24,8 @@ enum Judging {
 #[derive(Clone, Copy)]
 enum Engine {
     Check(Judging),
+    /// By so many shards, which are handed one event at a time, where a read gives few bytes.
+    CheckPieces(usize),
     Edges,
     /// By so many workers, or without any by picks.
     Run(Option<usize>),
@@ -122,6 +126,19 @@ const DRAWN: Ending = (status::CLEAN, Written::Drawing(392));
 
 const DRAWN_AS_SVG: Ending = (status::CLEAN, Written::Drawing(1153));
 
+// Gives its bytes, five a read.
+#[derive(Drop)]
+struct Pieces {
+    bytes: &'static [u8],
+}
+
+impl Read for Pieces {
+    fn read(&mut self, buf: &mut [u8]) -> io::Result<usize> {
+        let count = buf.len().min(5);
+        self.bytes.read(&mut buf[..count])
+    }
+}
+
 // Whether the output, of this length, is the text.
 fn is_text(output: &[u8], len: usize, text: &[u8]) -> bool {
     len == text.len() && output.starts_with(text)
@@ -149,6 +166,15 @@ fn run<R: Threads + Wait + Sync, A: Allocator + Copy + Send>(
     let mut sink = Sink::new(output);
     match engine {
         Engine::Check(judging) => run_check(rt, alloc, &mut trace, &mut sink, &options(judging)),
+        Engine::CheckPieces(shards) => {
+            let mut pieces = Source::new(Pieces { bytes: TRACE });
+            let options = CheckOptions {
+                shards,
+                block: 1,
+                plain: false,
+            };
+            run_check(rt, alloc, &mut pieces, &mut sink, &options)
+        }
         Engine::Edges => run_edges(alloc, &mut trace, &mut sink),
         Engine::Run(workers) => {
             let run = run_options(alloc, workers);
@@ -191,14 +217,17 @@ impl Growing for Row {
 }
 
 // The judge by one shard takes eight lists: four of the replay, for goroutines and variables, the list of shards, one for
-// the shard's clocks, one for what is kept of its variables, and the races. A second shard takes two of its own. A judged
+// the shard's clocks, one for what is kept of its variables, and the races. A second shard takes two of its own. What
+// is kept of a line that comes in pieces grows twice. A judged
 // run takes what the run takes, and then what its judge does. Workers take a copy of the declarations besides. A witness
 // takes four lists more for another replay, one for the clocks of each of three walks, and one for its order. A drawing takes
 // what the judge by one shard takes, six lists for its edges, one for the clocks of a walk, and one of layouts; a layout takes
-// what is noted for its way, the way, its arrows, and its rows, which ask again for less. An SVG document takes its text too.
-static ENGINES: [(Engine, Ending, u64); 13] = [
+// what is noted for its way, the way, its arrows, and its rows, which ask again for less; and its text is made in two.
+static ENGINES: [(Engine, Ending, u64); 15] = [
     (Engine::Check(Judging::Shards(1)), CHECKED, 23),
     (Engine::Check(Judging::Shards(2)), CHECKED, 25),
+    (Engine::CheckPieces(1), CHECKED, 25),
+    (Engine::CheckPieces(2), CHECKED, 27),
     (Engine::Check(Judging::Plain), CHECKED, 26),
     (Engine::Edges, LISTED, 21),
     (Engine::Run(None), RUN_BY_PICKS, 47),
@@ -212,8 +241,8 @@ static ENGINES: [(Engine, Ending, u64); 13] = [
     ),
     (Engine::Race(None, Judging::Plain), RACED, 58),
     (Engine::Witness, SHOWN, 31),
-    (Engine::Draw(false), DRAWN, 34),
-    (Engine::Draw(true), DRAWN_AS_SVG, 35),
+    (Engine::Draw(false), DRAWN, 36),
+    (Engine::Draw(true), DRAWN_AS_SVG, 36),
 ];
 
 #[test]

@@ -13,5 +13,6 @@ mod reading;
 mod rows;
 mod runs;
 mod shown;
+mod streamed;
 mod tries;
 mod witnesses;

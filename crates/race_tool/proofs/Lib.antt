@@ -11,3 +11,6 @@ pub mod RaceLemmas
 pub mod PromiseLemmas
 pub mod WitnessLemmas
 pub mod DrawLemmas
+pub mod StreamedLemmas
+pub mod StreamedAnswers
+pub mod StreamedReading

@@ -2,6 +2,7 @@ pub mod Input
 pub mod Report
 pub mod Finding
 pub mod Findings
+pub mod Streams
 pub mod Listing
 pub mod Listings
 pub mod Run

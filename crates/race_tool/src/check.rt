@@ -1,13 +1,18 @@
 //! The engine of `gorace check`: a trace's text in, its report out.
 ghost use Rattle.std.specs.Prelude.{◌≡◌, true, false};
-ghost use Rattle.race_tool.specs.Engines.{Checks};
-ghost use Rattle.race_tool.specs.Outcome.{are_in_limits};
+ghost use Rattle.race_text.specs.Fault.{trace_causes};
+ghost use Rattle.race_tool.specs.Engines.{Checks, Never};
+ghost use Rattle.race_tool.specs.Outcome.{are_in_limits, Answers};
+ghost use Rattle.race_tool.specs.Streams as spec;
 ghost use Rattle.race_tool.specs.declared.status.TheConstants as status;
 
-use crate::engine::{Engine, answer};
+use crate::engine::{Engine, answer, status_of_fault};
 use crate::finding::{Finding, find};
+use crate::judged_stream::Judging;
 use crate::printing::write_finding;
 use crate::status;
+use crate::stream_found::find_judged;
+use crate::stream_input::read_judged;
 use race_records::{Sink, Source, WriteFault};
 use race_shards::{MAX_BLOCK, MAX_SHARDS};
 use race_text::Reader;
@@ -52,7 +57,8 @@ impl CheckOptions {
 }
 
 /// Judges a trace: reads its text in blocks, and writes the report. It stops reading behind the block
-/// that ends the first faulty line, since nothing that follows changes the report then.
+/// that ends the first faulty line, since nothing that follows changes the report then. Events are
+/// judged behind the block in which they stand, and forgotten; the plain judge wants them all.
 ///
 /// The answer is a status. 0 clean, 66 races, 1 illegal and 2 text fault are told by the report; 3
 /// says that an option is out of its limits, or that there are more events than the plain judge
@@ -80,28 +86,48 @@ pub fn run_check<T: Threads + Wait, R: Read, W: Write, A: Allocator + Copy + Sen
     if !options.are_in_limits() {
         return status::USAGE;
     }
-    let engine = Checking {
-        alloc,
-        plain: options.plain,
-    };
-    answer(
-        &engine,
-        |text| find(rt, alloc, text, options),
-        alloc,
-        source,
-        sink,
-    )
+    if options.plain {
+        let engine = Plain { alloc };
+        return answer(&engine, |text| find(alloc, text), alloc, source, sink);
+    }
+    check_as_read(rt, alloc, source, sink, options)
 }
 
-// What is a check's own.
-#[derive(Drop)]
-struct Checking<A: Allocator + Copy> {
+// The same by shards, which judge while the trace is read.
+fn check_as_read<T: Threads + Wait, R: Read, W: Write, A: Allocator + Copy + Send>(
+    rt: &T,
     alloc: A,
-    plain: bool,
+    source: &mut Source<R>,
+    sink: &mut Sink<W>,
+    options: &CheckOptions,
+) -> u8
+    requires { are_in_limits options.now ≡ true }
+    ensures { Answers trace_causes (spec.IsFoundOf {A = A}) spec.found_text spec.found_status Never
+        R.remaining W.contents source.old source.new sink.old sink.new result }
+{
+    let judging = Judging {
+        shards: options.shards,
+        block: options.block,
+    };
+    match read_judged(rt, alloc, source, judging) {
+        Ok(text) => match find_judged(rt, alloc, judging, text) {
+            Ok(found) => match found.write(sink) {
+                Ok(()) => found.status(),
+                Err(_) => status::DEVICE,
+            },
+            Err(_) => status::REFUSED,
+        },
+        Err(fault) => status_of_fault(fault),
+    }
 }
 
-impl<A: Allocator + Copy> Engine for Checking<A> {
-    ghost use Rattle.race_tool.specs.Engines.{Never};
+// What is the plain judge's own: it wants the whole trace.
+#[derive(Drop)]
+struct Plain<A: Allocator + Copy> {
+    alloc: A,
+}
+
+impl<A: Allocator + Copy> Engine for Plain<A> {
     ghost use Rattle.race_tool.specs.Finding.{IsFinding, report_of, status_of};
     ghost use Rattle.race_tool.specs.Findings.{finding_of};
 
@@ -109,7 +135,7 @@ impl<A: Allocator + Copy> Engine for Checking<A> {
 
     type Found = Finding<A>;
 
-    ghost is_right = { λ engine bytes found. IsFinding engine.plain bytes (finding_of found) };
+    ghost is_right = { λ _ bytes found. IsFinding true bytes (finding_of found) };
 
     ghost is_unrecorded = { λ _. Never };
 

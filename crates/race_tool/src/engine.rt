@@ -84,8 +84,8 @@ where
     }
 }
 
-// The status where the input wasn't read.
-fn status_of_fault(fault: ReadFault) -> u8
+/// The status where the input wasn't read.
+pub(crate) fn status_of_fault(fault: ReadFault) -> u8
     ensures { result ≡ status_of_fault fault }
 {
     match fault {

@@ -1,5 +1,5 @@
 //! What there is to say of a list of bytes.
-ghost use Rattle.std.specs.Prelude.{◌≡◌, IfOk, option_map};
+ghost use Rattle.std.specs.Prelude.{◌≡◌, true, IfOk, option_map};
 ghost use Rattle.race_verdict.specs.Traces.{HasVerdict};
 ghost use Rattle.race_verdict.specs.Verdicts.{verdict_of};
 ghost use Rattle.race_text.specs.Fault.{trace_causes};
@@ -32,18 +32,16 @@ pub(crate) enum Finding<A: Allocator> {
     Judged(Trace<A>, Verdict<A>),
 }
 
-/// Finds what there is to say of what was read, by the plain judge or by shards.
-pub(crate) fn find<T: Threads + Wait, A: Allocator + Copy + Send>(
-    rt: &T,
+/// Finds what there is to say of what was read, by the plain judge.
+pub(crate) fn find<A: Allocator + Copy>(
     alloc: A,
     text: Result<Trace<A>, TextFault>,
-    options: &CheckOptions,
 ) -> Result<Finding<A>, NoFinding>
-    ensures { Finds IsTextOf trace_causes (λ bytes found. spec.IsFinding options.now.plain bytes (finding_of found))
+    ensures { Finds IsTextOf trace_causes (λ bytes found. spec.IsFinding true bytes (finding_of found))
         Never text result }
 {
     match text {
-        Ok(trace) => match find_verdict(rt, alloc, trace, options) {
+        Ok(trace) => match find_verdict(alloc, trace) {
             Ok(finding) => Ok(finding),
             Err(_) => Err(NoFinding::Refused),
         },
@@ -52,15 +50,10 @@ pub(crate) fn find<T: Threads + Wait, A: Allocator + Copy + Send>(
 }
 
 // What there is to say of a trace.
-fn find_verdict<T: Threads + Wait, A: Allocator + Copy + Send>(
-    rt: &T,
-    alloc: A,
-    trace: Trace<A>,
-    options: &CheckOptions,
-) -> Result<Finding<A>, AllocError>
-    ensures { IfOk result (λ finding. IsFindingOn options.now.plain trace (finding_of finding)) }
+fn find_verdict<A: Allocator + Copy>(alloc: A, trace: Trace<A>) -> Result<Finding<A>, AllocError>
+    ensures { IfOk result (λ finding. IsFindingOn true trace (finding_of finding)) }
 {
-    match judge(rt, alloc, &trace, options)? {
+    match judge_plainly(alloc, &trace)? {
         Some(verdict) => Ok(Finding::Judged(trace, verdict)),
         None => Ok(Finding::TooLong(trace.len())),
     }
@@ -76,9 +69,20 @@ pub(crate) fn judge<T: Threads + Wait, A: Allocator + Copy + Send, B: Allocator>
 ) -> Result<Option<Verdict<A>>, AllocError>
     ensures { IfOk result (λ verdict. spec.IsVerdictOn options.now.plain trace.now (option_map verdict_of verdict)) }
 {
-    if !options.plain {
-        return Ok(Some(judge_by_shards(rt, alloc, trace, options)?));
+    if options.plain {
+        judge_plainly(alloc, trace)
+    } else {
+        Ok(Some(judge_by_shards(rt, alloc, trace, options)?))
     }
+}
+
+// The verdict on a trace by the plain judge.
+fn judge_plainly<A: Allocator + Copy, B: Allocator>(
+    alloc: A,
+    trace: &Trace<B>,
+) -> Result<Option<Verdict<A>>, AllocError>
+    ensures { IfOk result (λ verdict. spec.IsVerdictOn true trace.now (option_map verdict_of verdict)) }
+{
     match plain_judge(alloc, trace) {
         Ok(verdict) => Ok(Some(verdict)),
         Err(EdgeFault::TooLong) => Ok(None),

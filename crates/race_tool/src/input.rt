@@ -68,14 +68,14 @@ pub(crate) fn read_text<R: Read, G: Grammar, A: Allocator + Copy>(
     Err(ReadFault::Endless)
 }
 
-fn blank_block<A: Allocator>(alloc: A) -> Result<Vec<u8, A>, AllocError>
+pub(crate) fn blank_block<A: Allocator>(alloc: A) -> Result<Vec<u8, A>, AllocError>
     ensures { IfOk result (λ block. vec_len block ≡ BLOCK) }
 {
     Vec::from_elem(alloc, 0, BLOCK)
 }
 
 // Reads once, and feeds what was read. Tells whether there were bytes, or the first faulty line.
-fn feed_block<R: Read, G: Grammar, A: Allocator + Copy>(
+pub(crate) fn feed_block<R: Read, G: Grammar, A: Allocator + Copy>(
     source: &mut Source<R>,
     block: &mut [u8],
     reader: &mut Fed<G, A>,
@@ -105,7 +105,7 @@ fn feed_block<R: Read, G: Grammar, A: Allocator + Copy>(
 }
 
 // Tells want of memory apart from the faults of the text.
-fn set_memory_apart<T: Drop>(
+pub(crate) fn set_memory_apart<T: Drop>(
     answer: Result<T, TextFault>,
 ) -> Result<Result<T, TextFault>, ReadFault>
     ensures same { IfOk result (λ text. text ≡ answer) }

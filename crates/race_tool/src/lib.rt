@@ -9,6 +9,7 @@ mod edges_found;
 mod engine;
 mod finding;
 mod input;
+mod judged_stream;
 pub mod laws;
 mod no_race;
 mod printing;
@@ -19,6 +20,8 @@ mod recorded;
 mod run_engine;
 mod run_found;
 pub mod status;
+mod stream_found;
+mod stream_input;
 mod witness_engine;
 mod witness_found;
 

@@ -32,7 +32,8 @@ static FRONTS: [(usize, Told<'static>); 15] = [
     (102, ("clean: 4 events, 2 accesses", status::CLEAN)),
 ];
 
-fn told_of(len: usize) -> Option<Told<'static>> {
+/// What is told of so many bytes of it.
+pub(crate) fn told_of(len: usize) -> Option<Told<'static>> {
     for &(most, told) in &FRONTS {
         if len <= most {
             return Some(told);

@@ -17,7 +17,8 @@ fn both_tell(rt: &impl Runtime, text: &[u8], want: Told<'_>) -> Result<bool, Fai
     Ok(tells(rt, plain, text, want)? && tells(rt, by_clocks, text, want)?)
 }
 
-fn text_behind(alloc: Global, first: &str, lines: &str) -> Result<Vec<u8>, Fail> {
+/// The lines of a row behind these first ones.
+pub(crate) fn text_behind(alloc: Global, first: &str, lines: &str) -> Result<Vec<u8>, Fail> {
     let text = format!(in alloc; "{first}{lines}")?;
     Ok(text_of(alloc, text.as_str())?)
 }
@@ -151,8 +152,11 @@ static ROWS: [Row; 22] = [
     ),
 ];
 
-// The tables, and the first lines of each of their traces.
-fn table(number: usize) -> (&'static str, &'static [Row]) {
+/// How many tables there are.
+pub(crate) const TABLES: usize = 9;
+
+/// The tables, and the first lines of each of their traces.
+pub(crate) fn table(number: usize) -> (&'static str, &'static [Row]) {
     match number {
         0 => ("", &ROWS),
         1 => ("", &channels::JUDGED),
@@ -168,7 +172,7 @@ fn table(number: usize) -> (&'static str, &'static [Row]) {
 
 #[test]
 fn each_trace_is_judged(rt: HostRuntime) -> Result<(), Fail> {
-    for number in 0..9usize {
+    for number in 0..TABLES {
         let (first, rows) = table(number);
         let wrong = first_misjudged(&rt, first, rows)?;
         assert!(rt; wrong.is_none(), "row {wrong:?} of table {number}");

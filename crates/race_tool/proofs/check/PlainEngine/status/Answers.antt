@@ -2,7 +2,7 @@ use Rattle.std.proofs.Common.{sym, subst}
 use Rattle.race_tool.specs.Outcome.{IsOfAFinding}
 use Rattle.race_tool.specs.Findings.{finding_of}
 use Rattle.race_tool.proofs.StatusLemmas.{finding_own}
-use Rattle.race_tool.proofs.check.CheckingEngine.status.Goals as goal
+use Rattle.race_tool.proofs.check.PlainEngine.status.Goals as goal
 
 pub returns-clause-of_a_finding : goal.returns-clause-of_a_finding
 returns-clause-of_a_finding g c = subst IsOfAFinding (sym c.status.ensures) (finding_own (finding_of c.args.found.now))

@@ -1,0 +1,185 @@
+-- What is found of a trace that was judged while it was read is a right finding, and is printed so.
+use Rattle.std.proofs.Common.{◌≡◌, ℕ, Bool, true, false, inl, inr, List, [], Option, Some, None, Result, Ok, Err, IfOk, refl, sym, ap, ◌∙◌, append-nil, arith}
+use Rattle.std.proofs.lemmas.Option.{none-some}
+use Rattle.race_records.specs.declared.sink.Sink.{Sink}
+use Rattle.race_records.specs.declared.source.Source.{Source}
+use Rattle.race_records.specs.declared.sink.WriteFault.{WriteFault}
+use Rattle.race_records.specs.Devices.{unread, source_failures}
+use Rattle.race_records.specs.Events.{TraceState}
+use Rattle.race_verdict.specs.declared.notes.NotedVerdict.{NotedVerdict}
+use Rattle.race_verdict.specs.Notes.{verdict_noted, IsNotedOf}
+use Rattle.race_report.specs.Printable.{AreNamed}
+use Rattle.race_report.specs.Report.{clean_line, clean_text, report}
+use Rattle.race_report.proofs.NotedLemmas.{races_are}
+use Rattle.race_report.proofs.PrintableLemmas.{notes_are_named}
+use Rattle.race_text.specs.Fault.{trace_causes, text_fault}
+use Rattle.race_text.specs.Lines.{first_fault}
+use Rattle.race_text.specs.Output.{Writes}
+use Rattle.race_text.specs.Stream.{decls_of}
+use Rattle.race_text.proofs.FedLemmas.{ended_fault_stays}
+use Rattle.race_text.proofs.TextFine.{text_has_no_fault}
+use Rattle.race_text.specs.declared.stream.EventStream.{EventStream}
+use Rattle.race_text.specs.declared.cause.TextFault.{TextFault}
+use Rattle.race_tool.specs.declared.judged_stream.JudgedStream.{JudgedStream}
+use Rattle.race_tool.specs.declared.stream_found.Found.{Found}
+use Rattle.race_tool.specs.declared.status.TheConstants as status
+use Rattle.race_tool.specs.Engines.{Never}
+use Rattle.race_tool.specs.Finding.{Finding, Faulty, Judged, IsFinding, report_of, status_of}
+use Rattle.race_tool.specs.Input.{Reads, IsReadBy, ReadsBy}
+use Rattle.race_tool.specs.Outcome.{Answers, IsOfAFinding, IsRightFor}
+use Rattle.race_tool.specs.Streams.{HandsOnSome, IsReadText, IsJudgedText, IsFoundOf, report_noted, found_text, found_status, status_noted}
+use Rattle.race_tool.proofs.InputLemmas.{itself}
+use Rattle.race_tool.proofs.StatusLemmas.{small, large}
+
+-- the report from the notes is the trace's
+pub report_is : {A : Type 0} (trace : TraceState) (verdict : NotedVerdict A) → IsNotedOf trace.events verdict
+    → report trace (verdict_noted verdict) ≡ report_noted trace.decls verdict
+unfolding clean_line
+report_is trace (NotedVerdict.Illegal illegal) noted = refl
+report_is trace (NotedVerdict.Clean events accesses) noted = λ i. clean_text (sym noted.0 i) (sym noted.1 i)
+report_is trace (NotedVerdict.Races races) noted = sym (races_are trace races.items noted)
+
+pub status_is : {A : Type 0} (trace : TraceState) (verdict : NotedVerdict A) → status_of (Judged trace (verdict_noted verdict)) ≡ status_noted verdict
+status_is trace (NotedVerdict.Illegal illegal) = refl
+status_is trace (NotedVerdict.Clean events accesses) = refl
+status_is trace (NotedVerdict.Races races) = refl
+
+-- what was judged can be printed
+pub is_named : {A : Type 0} (stream : EventStream A) (verdict : NotedVerdict A) (bytes : List ℕ) (is : IsJudgedText stream verdict bytes)
+    → AreNamed is.trace.decls verdict
+is_named stream verdict bytes is = notes_are_named is.trace is.text.has_text.is_trace verdict is.noted.right is.noted.notes
+
+-- a finding of the definition that is right where this is read, and says the same
+record StandsBehind {A : Type 0} (bytes : List ℕ) (to_end : Bool) (found : Found A) : Type 0 where
+  pub finding : Finding
+  pub right : IsRightFor (IsFinding false) bytes to_end finding
+  pub text : report_of finding ≡ found_text found
+  pub status : status_of finding ≡ found_status found
+
+stands_behind : {A : Type 0} (before after : Option (List ℕ)) (bytes : List ℕ) (to_end : Bool) (found : Found A) → Reads trace_causes before after bytes to_end
+    → IsRightFor (λ bytes found. IsFoundOf bytes found) bytes to_end found → StandsBehind bytes to_end found
+stands_behind before after bytes to_end (Found.Faulty fault) read right = record { finding = Faulty fault; right = right; text = refl; status = refl }
+stands_behind before after bytes to_end (Found.Judged stream verdict) read right = by to_end read (right bytes (itself bytes to_end))
+  where
+    by : (to_end : Bool) → Reads trace_causes before after bytes to_end → IsJudgedText stream verdict bytes → StandsBehind bytes to_end (Found.Judged stream verdict)
+    by true read is = record {
+      finding = Judged is.trace (verdict_noted verdict);
+      right = λ all same. rw same (is.text, (λ plain. cc), is.noted.right);
+      text = report_is is.trace verdict is.noted.notes ∙ ap (λ decls. report_noted decls verdict) is.decls;
+      status = status_is is.trace verdict;
+    }
+    -- a line of it would be at fault
+    by false read is =
+        let faulty : first_fault trace_causes bytes ≡ Some read.stops.fault =
+        ap (first_fault trace_causes) (sym (append-nil bytes)) ∙ ended_fault_stays trace_causes bytes [] read.stops.fault read.stops.faulty in
+        absurd (none-some read.stops.fault (sym (ap text_fault is.text.printed ∙ text_has_no_fault is.trace is.text.has_text) ∙ faulty))
+
+-- its status is a finding's
+pub found_own : {A : Type 0} (found : Found A) → IsOfAFinding (found_status found)
+found_own {A} (Found.Faulty fault) = small status.TEXT_FAULT (omega arith)
+found_own {A} (Found.Judged stream verdict) = by verdict
+  where
+    by : (verdict : NotedVerdict A) → IsOfAFinding (status_noted verdict)
+    by (NotedVerdict.Illegal illegal) = small status.ILLEGAL (omega arith)
+    by (NotedVerdict.Clean events accesses) = small status.CLEAN (omega arith)
+    by (NotedVerdict.Races races) = large status.RACES (omega arith)
+
+-- what was read has a judge for what was handed on
+pub some_read : {A : Type 0} (before after : Option (List ℕ)) (text : Result (JudgedStream A) TextFault) → ReadsBy IsReadText trace_causes before after text
+    → IfOk text (λ whole. HandsOnSome whole.stream whole.judge)
+some_read before after (Ok whole) r =
+    let read = r.is_so r.bytes (itself r.bytes r.to_end) in
+    record { past = read.past; lines = read.lines; hands_on = read.hands_on }
+some_read before after (Err fault) r = tt
+
+-- how a call ended that read, found and wrote
+module _ {A R W : Type 0} (remaining : R → Option (List ℕ)) (contents : W → Option (List ℕ)) (source source_now : Source R) (sink sink_now : Sink W)
+    (text : Result (JudgedStream A) TextFault) (read : ReadsBy IsReadText trace_causes (unread remaining source) (unread remaining source_now) text)
+    (calm : source_failures source_now ≡ source_failures source) (found : Found A)
+    (right : (bytes : List ℕ) → IsReadBy IsReadText trace_causes bytes text → IsFoundOf bytes found) where
+  -- all was written
+  pub answers_written : Writes contents (Ok tt) sink sink_now (found_text found)
+      → Answers {F = Found A} trace_causes IsFoundOf found_text found_status Never remaining contents source source_now sink sink_now (found_status found)
+  answers_written wrote =
+      let own = found_own found in
+      record {
+        told = λ granted served recorded. record {
+          bytes = read.bytes;
+          to_end = read.to_end;
+          read = read.read;
+          reported = record { finding = found; right = λ whole is. right whole (read.is_so whole is); printed = wrote.ok; status_is = refl };
+        };
+        refused = λ is. absurd (own.granted is);
+        mismatch = λ is. absurd (own.recorded is);
+        device = λ is. absurd (own.served is);
+        calm = λ served. (calm, wrote.calm);
+      }
+
+  -- a write failed
+  pub answers_cut_off : (fault : WriteFault) → Writes contents (Err fault) sink sink_now (found_text found)
+      → Answers {F = Found A} trace_causes IsFoundOf found_text found_status Never remaining contents source source_now sink sink_now status.DEVICE
+  answers_cut_off fault wrote = record {
+    told = λ granted served recorded. absurd (served refl);
+    refused = λ is. absurd (omega (arith, is));
+    mismatch = λ is. absurd (omega (arith, is));
+    device = λ is.
+        inr (inr (record {
+          bytes = read.bytes;
+          to_end = read.to_end;
+          read = read.read;
+          calm = calm;
+          front = record {
+            finding = found;
+            right = λ whole is. right whole (read.is_so whole is);
+            sent = fault.sent;
+            cut_off = wrote.sent;
+            failed = wrote.failed;
+          };
+        }));
+    calm = λ served. absurd (served refl);
+  }
+
+-- so the answers are those of the definition's findings
+pub answers_found : {A R W : Type 0} (remaining : R → Option (List ℕ)) (contents : W → Option (List ℕ)) (source source_now : Source R) (sink sink_now : Sink W)
+    (answer : ℕ)
+    → Answers {F = Found A} trace_causes IsFoundOf found_text found_status Never remaining contents source source_now sink sink_now answer
+    → Answers trace_causes (IsFinding false) report_of status_of Never remaining contents source source_now sink sink_now answer
+answers_found remaining contents source source_now sink sink_now answer a = record {
+  told = λ granted served recorded.
+      let r = a.told granted served recorded in
+      let f = stands_behind _ _ r.bytes r.to_end r.reported.finding r.read r.reported.right in
+      record {
+        bytes = r.bytes;
+        to_end = r.to_end;
+        read = r.read;
+        reported = record {
+          finding = f.finding;
+          right = f.right;
+          printed = rw f.text r.reported.printed;
+          status_is = r.reported.status_is ∙ sym f.status;
+        };
+      };
+  refused = a.refused;
+  mismatch = a.mismatch;
+  device = λ is.
+      elim (a.device is) [
+        | inl failed ↦ inl failed
+        | inr (inl many) ↦ inr (inl many)
+        | inr (inr w) ↦
+            let f = stands_behind _ _ w.bytes w.to_end w.front.finding w.read w.front.right in
+            inr (inr (record {
+              bytes = w.bytes;
+              to_end = w.to_end;
+              read = w.read;
+              calm = w.calm;
+              front = record {
+                finding = f.finding;
+                right = f.right;
+                sent = w.front.sent;
+                cut_off = rw f.text w.front.cut_off;
+                failed = w.front.failed;
+              };
+            }))
+      ];
+  calm = a.calm;
+}

@@ -1,0 +1,89 @@
+-- A trace that is judged while it is read: its events are handed on to a judge, and forgotten.
+use Rattle.std.specs.Prelude.{◌≡◌, ℕ, true, IsTrue, List, [], Option, Some, None}
+use Rattle.std.specs.Option.{is_some}
+use Rattle.race_records.specs.declared.event.Event.{Event}
+use Rattle.race_records.specs.Declarations.{DeclsState}
+use Rattle.race_records.specs.Events.{TraceState}
+use Rattle.race_verdict.specs.declared.notes.NotedVerdict.{NotedVerdict}
+use Rattle.race_verdict.specs.Notes.{verdict_noted, IsNotedOf}
+use Rattle.race_verdict.specs.Traces.{HasVerdict}
+use Rattle.race_shards.specs.Judging.{JudgeState}
+use Rattle.race_shards.specs.Judging as judging
+use Rattle.race_text.specs.declared.cause.TextFault.{TextFault}
+use Rattle.race_text.specs.declared.stream.EventStream.{EventStream}
+use Rattle.race_text.specs.Fault.{text_fault}
+use Rattle.race_text.specs.Stream.{StandsWith, decls_of, has_events, trace_with}
+use Rattle.race_text.specs.Text.{IsTextOf}
+use Rattle.race_report.specs.Noted.{races_noted_text}
+use Rattle.race_report.specs.Report.{clean_text, fault_line, illegal_line}
+use Rattle.race_legal.specs.Rules.{number_of}
+use Rattle.race_tool.specs.declared.judged_stream.JudgedStream.{JudgedStream}
+use Rattle.race_tool.specs.declared.stream_found.Found.{Found}
+use Rattle.race_tool.specs.declared.status.TheConstants as status
+
+-- the judge stands for these events; before the first one there is no judge
+abbrev pub IsJudgeOf : DeclsState → Option JudgeState → List Event → Type 0
+IsJudgeOf decls None past = past ≡ []
+IsJudgeOf decls (Some judge) past = judging.StandsFor decls.declarations judge past
+
+-- the stream took these lines and handed on these events, for which the judge stands
+pub record HandsOn {A : Type 0} (s : EventStream A) (judge : Option JudgeState) (past : List Event) (lines : List (List ℕ)) : Type 0 where
+  pub stream : StandsWith s past lines
+  pub judged : IsJudgeOf (decls_of s) judge past
+
+-- it took some lines, and handed on some events
+pub record HandsOnSome {A : Type 0} (s : EventStream A) (judge : Option JudgeState) : Type 0 where
+  pub past : List Event
+  pub lines : List (List ℕ)
+  pub hands_on : HandsOn s judge past lines
+
+-- a stream with its judge took these lines; there is a judge only where there are events
+pub record StandsFor {A : Type 0} (j : JudgedStream A) (lines : List (List ℕ)) : Type 0 where
+  pub past : List Event
+  pub hands_on : HandsOn j.stream j.judge past lines
+  pub begun : is_some j.judge ≡ true → IsTrue (has_events j.stream)
+
+-- the bytes are the text of the trace that was read, with the events that were handed on
+pub record IsReadText {A : Type 0} (j : JudgedStream A) (bytes : List ℕ) : Type 0 where
+  pub past : List Event
+  pub lines : List (List ℕ)
+  pub hands_on : HandsOn j.stream j.judge past lines
+  pub text : IsTextOf (trace_with past j.stream) bytes
+
+-- the verdict on the trace, and what is noted with it is of its events
+pub record IsNotedVerdict {A : Type 0} (trace : TraceState) (verdict : NotedVerdict A) : Type 0 where
+  pub right : HasVerdict trace (verdict_noted verdict)
+  pub notes : IsNotedOf trace.events verdict
+
+-- the bytes are the text of a trace with the declarations that were read, and with this verdict
+pub record IsJudgedText {A : Type 0} (stream : EventStream A) (verdict : NotedVerdict A) (bytes : List ℕ) : Type 0 where
+  pub trace : TraceState
+  pub text : IsTextOf trace bytes
+  pub decls : trace.decls ≡ decls_of stream
+  pub noted : IsNotedVerdict trace verdict
+
+-- what was found is right for the bytes
+abbrev pub IsFoundOf : {A : Type 0} → List ℕ → Found A → Type 0
+IsFoundOf bytes (Found.Faulty fault) = text_fault bytes ≡ Some fault
+IsFoundOf bytes (Found.Judged stream verdict) = IsJudgedText stream verdict bytes
+
+-- the report of a verdict from what is noted with it and the declarations
+abbrev pub report_noted : {A : Type 0} → DeclsState → NotedVerdict A → List ℕ
+report_noted decls (NotedVerdict.Illegal illegal) = illegal_line illegal.at (number_of illegal.rule)
+report_noted decls (NotedVerdict.Clean events accesses) = clean_text events accesses
+report_noted decls (NotedVerdict.Races races) = races_noted_text decls races.items
+
+-- what is printed of what was found
+abbrev pub found_text : {A : Type 0} → Found A → List ℕ
+found_text (Found.Faulty fault) = fault_line fault
+found_text (Found.Judged stream verdict) = report_noted (decls_of stream) verdict
+
+-- and its status
+abbrev pub status_noted : {A : Type 0} → NotedVerdict A → ℕ
+status_noted (NotedVerdict.Illegal illegal) = status.ILLEGAL
+status_noted (NotedVerdict.Clean events accesses) = status.CLEAN
+status_noted (NotedVerdict.Races races) = status.RACES
+
+abbrev pub found_status : {A : Type 0} → Found A → ℕ
+found_status (Found.Faulty fault) = status.TEXT_FAULT
+found_status (Found.Judged stream verdict) = status_noted verdict

@@ -1,0 +1,74 @@
+//! Reading a trace block by block, each of which is judged before the next one is read.
+ghost use Rattle.std.specs.Prelude.{◌≡◌, ◌≢◌, true, IfOk, IfErr, OnOk};
+ghost use Rattle.race_records.specs.Devices.{unread, source_failures, one_more};
+ghost use Rattle.race_shards.specs.Limits.{is_block};
+ghost use Rattle.race_text.specs.Fault.{trace_causes};
+ghost use Rattle.race_text.specs.Fed.{ForEachFedTo, IsFed, IsReady};
+ghost use Rattle.race_tool.specs.Input.{ReadsBy, ReadsFine, ReadsMany};
+ghost use Rattle.race_tool.specs.Streams as spec;
+
+use crate::input::{MAX_TURNS, ReadFault, blank_block, feed_block, set_memory_apart};
+use crate::judged_stream::{JudgedStream, Judging, settle};
+use race_records::Source;
+use race_text::{Fed, TextFault};
+use std::alloc::{AllocError, Allocator};
+use std::io::Read;
+use std::sync::Wait;
+use std::thread::Threads;
+
+/// Reads a trace as `read_text` does, and judges its events behind each block.
+///
+/// It has a loop of its own, since the methods of a grammar can't start threads.
+pub(crate) fn read_judged<T: Threads + Wait, R: Read, A: Allocator + Copy + Send>(
+    rt: &T,
+    alloc: A,
+    source: &mut Source<R>,
+    judging: Judging,
+) -> Result<Result<JudgedStream<A>, TextFault>, ReadFault>
+    requires { is_block judging.block ≡ true }
+    ensures ok { IfOk result (λ text. ReadsBy spec.IsReadText trace_causes
+        (unread R.remaining source.old) (unread R.remaining source.new) text) }
+    ensures calm { result ≢ Err ReadFault.Failed
+        → source_failures source.new ≡ source_failures source.old }
+    ensures failed { result ≡ Err ReadFault.Failed
+        → source_failures source.new ≡ one_more (source_failures source.old) }
+    ensures fine { result ≡ Err ReadFault.Failed
+        → ReadsFine trace_causes (unread R.remaining source.old) (unread R.remaining source.new) }
+    ensures endless { result ≡ Err ReadFault.Endless
+        → ReadsMany trace_causes R.remaining source.old source.new }
+{
+    let Ok(mut block) = blank_block(alloc) else {
+        return Err(ReadFault::OutOfMemory);
+    };
+    let mut reader = Fed::new(alloc, JudgedStream::new(alloc));
+    for _ in 0..MAX_TURNS {
+        match feed_block(source, block.as_mut_slice(), &mut reader)? {
+            Ok(true) => {}
+            Ok(false) => return set_memory_apart(reader.finish()),
+            Err(fault) => return Ok(Err(fault)),
+        }
+        let Ok(()) = settle_fed(rt, alloc, judging, &mut reader) else {
+            return Err(ReadFault::OutOfMemory);
+        };
+    }
+    Err(ReadFault::Endless)
+}
+
+// Judges what was gathered. The bytes for which the reader stands stay.
+fn settle_fed<T: Threads + Wait, A: Allocator + Copy + Send>(
+    rt: &T,
+    alloc: A,
+    judging: Judging,
+    reader: &mut Fed<JudgedStream<A>, A>,
+) -> Result<(), AllocError>
+    requires ready { IsReady spec.StandsFor reader.old }
+    requires block { is_block judging.block ≡ true }
+    ensures ready { OnOk result (IsReady spec.StandsFor reader.new) }
+    ensures stands { OnOk result (ForEachFedTo trace_causes spec.StandsFor reader.old (IsFed trace_causes spec.StandsFor reader.new)) }
+{
+    // Behind a fault nothing is told but that.
+    if reader.fault.is_some() {
+        return Ok(());
+    }
+    settle(rt, alloc, judging, &mut reader.lines.reader)
+}

@@ -23,7 +23,7 @@ says_suits (Go h) = refl
 says_suits _ = refl
 
 -- what is named, by its kind and its number
-abbrev named_by : Kind → ℕ → Named
+abbrev pub named_by : Kind → ℕ → Named
 named_by Kind.Goroutine n = Named.Goroutine n
 named_by Kind.Var n = Named.Var n
 named_by Kind.Chan n = Named.Chan n
@@ -43,17 +43,17 @@ chosen : {X : Type 0} (b : Bool) (x y : X) → ◌≡◌ {A = Option X} (if b th
 chosen true x y e = (refl, same_Some x y e)
 chosen false x y e = absurd (none-some y e)
 
-alone_again : (kind : Kind) (parts : List Part) (n : ℕ) → object_alone kind parts ≡ Some n → parts ≡ Part.Object (named_by kind n) ∷ []
+pub alone_again : (kind : Kind) (parts : List Part) (n : ℕ) → object_alone kind parts ≡ Some n → parts ≡ Part.Object (named_by kind n) ∷ []
 alone_again kind (Part.Object named ∷ []) n e =
     let is = chosen (is_named kind named) (number_of named) n e in
     ap (λ name. Part.Object name ∷ []) (named_again kind named is.0 ∙ ap (named_by kind) is.1)
 alone_again kind _ n e = absurd (none-some n e)
 
-value_again : (kind : Kind) (parts : List Part) (p : ℕ × ℕ) → object_value kind parts ≡ Some p → parts ≡ Part.Object (named_by kind p.0) ∷ Part.Value p.1 ∷ []
-value_again kind (Part.Object named ∷ Part.Value v ∷ []) p e =
+pub valued_again : (kind : Kind) (parts : List Part) (p : ℕ × ℕ) → object_value kind parts ≡ Some p → parts ≡ Part.Object (named_by kind p.0) ∷ Part.Value p.1 ∷ []
+valued_again kind (Part.Object named ∷ Part.Value v ∷ []) p e =
     let is = chosen (is_named kind named) (number_of named, v) p e in
     (λ i. Part.Object ((named_again kind named is.0 ∙ ap (λ (q : ℕ × ℕ). named_by kind q.0) is.1) i) ∷ Part.Value (is.1 i).1 ∷ [])
-value_again kind _ p e = absurd (none-some p e)
+valued_again kind _ p e = absurd (none-some p e)
 
 -- where parts of a form give an operation, it says these parts
 made_says : {X : Type 0} (make : X → Op) (said : X → Verb × List Part) → ((x : X) → says (make x) ≡ said x)
@@ -78,7 +78,7 @@ op_by_says verb parts op e = by verb e
         → option_map make (object_value kind parts) ≡ Some op → says op ≡ (verb, parts)
     valued make verb kind says_it e =
         made_says make (λ p. (verb, Part.Object (named_by kind p.0) ∷ Part.Value p.1 ∷ [])) says_it
-        (object_value kind parts) op verb parts (λ p found i. (verb, sym (value_again kind parts p found) i)) e
+        (object_value kind parts) op verb parts (λ p found i. (verb, sym (valued_again kind parts p found) i)) e
 
     exits : (parts : List Part) → exit_of parts ≡ Some op → says op ≡ (Verb.Exit, parts)
     exits [] e = is _ e

@@ -12,8 +12,9 @@ use Rattle.race_records.specs.declared.kind.Named.{Named}
 use Rattle.race_records.specs.declared.parts.Part.{Part}
 use Rattle.race_records.specs.declared.parts.PartKind.{PartKind}
 use Rattle.race_records.specs.declared.version.Version.{Version}
-use Rattle.race_records.specs.Declarations.{Declaration, counts_of, is_rw, is_named, number_of}
+use Rattle.race_records.specs.Declarations.{Declaration, counts_of, is_rw}
 use Rattle.race_records.specs.Name.{is_place_byte}
+use Rattle.race_records.proofs.PartLaws.{named_by, alone_again, valued_again}
 use Rattle.race_records.specs.Parts.{object_alone, object_value, suit, part_fits, part_is_limited}
 use Rattle.race_requests.specs.declared.request.Ask.{Ask}
 use Rattle.race_requests.specs.declared.request.Offer.{Offer}
@@ -118,39 +119,7 @@ says_again (Ask.Close (Some c)) = refl
 says_again (Ask.Select offers has_default) = tt
 says_again _ = refl
 
--- what is named, by its kind and its number
-abbrev named_by : Kind → ℕ → Named
-named_by Kind.Goroutine n = Named.Goroutine n
-named_by Kind.Var n = Named.Var n
-named_by Kind.Chan n = Named.Chan n
-named_by Kind.Lock n = Named.Lock n
-named_by Kind.Once n = Named.Once n
-
-named_again : (kind : Kind) (named : Named) → is_named kind named ≡ true → named ≡ named_by kind (number_of named)
-named_again Kind.Goroutine (Named.Goroutine n) is = refl
-named_again Kind.Var (Named.Var n) is = refl
-named_again Kind.Chan (Named.Chan n) is = refl
-named_again Kind.Lock (Named.Lock n) is = refl
-named_again Kind.Once (Named.Once n) is = refl
-named_again _ _ is = absurd (true≢false (sym is))
-
--- what a choice gives was chosen
-chosen : {X : Type 0} (b : Bool) (x y : X) → ◌≡◌ {A = Option X} (if b then Some x else None) (Some y) → (b ≡ true) × (x ≡ y)
-chosen true x y e = (refl, same_Some x y e)
-chosen false x y e = absurd (none-some y e)
-
-alone_again : (kind : Kind) (parts : List Part) (n : ℕ) → object_alone kind parts ≡ Some n → parts ≡ Part.Object (named_by kind n) ∷ []
-alone_again kind (Part.Object named ∷ []) n e =
-    let is = chosen (is_named kind named) (number_of named) n e in
-    ap (λ name. Part.Object name ∷ []) (named_again kind named is.0 ∙ ap (named_by kind) is.1)
-alone_again kind _ n e = absurd (none-some n e)
-
-valued_again : (kind : Kind) (parts : List Part) (p : ℕ × ℕ) → object_value kind parts ≡ Some p → parts ≡ Part.Object (named_by kind p.0) ∷ Part.Value p.1 ∷ []
-valued_again kind (Part.Object named ∷ Part.Value v ∷ []) p e =
-    let is = chosen (is_named kind named) (number_of named, v) p e in
-    (λ i. Part.Object ((named_again kind named is.0 ∙ ap (λ (q : ℕ × ℕ). named_by kind q.0) is.1) i) ∷ Part.Value (is.1 i).1 ∷ [])
-valued_again kind _ p e = absurd (none-some p e)
-
+-- parts of a value alone are that value
 value_again : (parts : List Part) (v : ℕ) → value_alone parts ≡ Some v → parts ≡ Part.Value v ∷ []
 value_again (Part.Value w ∷ []) v e = ap (λ n. Part.Value n ∷ []) (same_Some w v e)
 value_again _ v e = absurd (none-some v e)

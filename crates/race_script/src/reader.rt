@@ -141,10 +141,7 @@ impl<A: Allocator + Copy> Reader<A> {
         let (first, rest) = cut_at(line, b' ');
         match line_word_in(self.decls.version(), first) {
             None => Err(TextCause::UnknownWord),
-            Some(LineWord::Declares(noun)) => self.take_declaration(noun, line, rest),
-            Some(LineWord::Begins) => self.take_begin(line, rest),
-            Some(LineWord::Asks(word)) => self.take_asks(word, line, rest),
-            Some(LineWord::Selects) => self.take_select(line, rest),
+            Some(word) => self.take_words(word, line, rest),
         }
     }
 
@@ -228,6 +225,26 @@ impl<A: Allocator + Copy> Reader<A> {
                 self.has_header = true;
                 Ok(())
             }
+        }
+    }
+
+    // Takes a line of this first word.
+    fn take_words(
+        &mut self,
+        word: LineWord,
+        line: &[u8],
+        rest: Option<&[u8]>,
+    ) -> Result<(), TextCause>
+        requires header { self.old.has_header ≡ true }
+        requires read { spec.IsRead self.old }
+        requires words { spec.HasWords self.old.decls.version line.now word (parts_left 32 rest) }
+        ensures taken { spec.TakesOrTells self.old line.now result self.new }
+    {
+        match word {
+            LineWord::Declares(noun) => self.take_declaration(noun, line, rest),
+            LineWord::Begins => self.take_begin(line, rest),
+            LineWord::Asks(word) => self.take_asks(word, line, rest),
+            LineWord::Selects => self.take_select(line, rest),
         }
     }
 

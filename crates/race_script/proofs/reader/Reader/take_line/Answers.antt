@@ -49,42 +49,12 @@ take_header-requires-clause-reading c = grind (arith, common_steps) steps 300000
 pub returns-then-not-self-clause-taken : goal.returns-then-not-self-clause-taken
 returns-then-not-self-clause-taken c = grind (arith, common_steps) steps 300000
 
-pub returns-in-Some-Declares-clause-taken : goal.returns-in-Some-Declares-clause-taken
-returns-in-Some-Declares-clause-taken g c =
-    goes_on c.args.self.now c.take_declaration.new.self (ap (λ (x : ReadState). x.has_header) (sym c.self.view_is) ∙ c.if-not-self.false)
-    c.args.line.now c.take_declaration.result c.take_declaration.ensures.taken
+pub returns-in-Some-clause-taken : goal.returns-in-Some-clause-taken
+returns-in-Some-clause-taken g c =
+    goes_on c.args.self.now c.take_words.new.self (ap (λ (x : ReadState). x.has_header) (sym c.self.view_is) ∙ c.if-not-self.false)
+    c.args.line.now c.take_words.result c.take_words.ensures.taken
 
-pub returns-in-Some-Declares-clause-reading : goal.returns-in-Some-Declares-clause-reading
-returns-in-Some-Declares-clause-reading g c =
-    reads_on c.args.self.now c.take_declaration.new.self (ap (λ (x : ReadState). x.has_header) (sym c.self.view_is) ∙ c.if-not-self.false)
-    c.args.line.now c.take_declaration.result c.take_declaration.ensures.taken
-
-pub returns-in-Some-Begins-clause-taken : goal.returns-in-Some-Begins-clause-taken
-returns-in-Some-Begins-clause-taken g c =
-    goes_on c.args.self.now c.take_begin.new.self (ap (λ (x : ReadState). x.has_header) (sym c.self.view_is) ∙ c.if-not-self.false)
-    c.args.line.now c.take_begin.result c.take_begin.ensures.taken
-
-pub returns-in-Some-Begins-clause-reading : goal.returns-in-Some-Begins-clause-reading
-returns-in-Some-Begins-clause-reading g c =
-    reads_on c.args.self.now c.take_begin.new.self (ap (λ (x : ReadState). x.has_header) (sym c.self.view_is) ∙ c.if-not-self.false)
-    c.args.line.now c.take_begin.result c.take_begin.ensures.taken
-
-pub returns-in-Some-Asks-clause-taken : goal.returns-in-Some-Asks-clause-taken
-returns-in-Some-Asks-clause-taken g c =
-    goes_on c.args.self.now c.take_asks.new.self (ap (λ (x : ReadState). x.has_header) (sym c.self.view_is) ∙ c.if-not-self.false)
-    c.args.line.now c.take_asks.result c.take_asks.ensures.taken
-
-pub returns-in-Some-Asks-clause-reading : goal.returns-in-Some-Asks-clause-reading
-returns-in-Some-Asks-clause-reading g c =
-    reads_on c.args.self.now c.take_asks.new.self (ap (λ (x : ReadState). x.has_header) (sym c.self.view_is) ∙ c.if-not-self.false)
-    c.args.line.now c.take_asks.result c.take_asks.ensures.taken
-
-pub returns-in-Some-Selects-clause-taken : goal.returns-in-Some-Selects-clause-taken
-returns-in-Some-Selects-clause-taken g c =
-    goes_on c.args.self.now c.take_select.new.self (ap (λ (x : ReadState). x.has_header) (sym c.self.view_is) ∙ c.if-not-self.false)
-    c.args.line.now c.take_select.result c.take_select.ensures.taken
-
-pub returns-in-Some-Selects-clause-reading : goal.returns-in-Some-Selects-clause-reading
-returns-in-Some-Selects-clause-reading g c =
-    reads_on c.args.self.now c.take_select.new.self (ap (λ (x : ReadState). x.has_header) (sym c.self.view_is) ∙ c.if-not-self.false)
-    c.args.line.now c.take_select.result c.take_select.ensures.taken
+pub returns-in-Some-clause-reading : goal.returns-in-Some-clause-reading
+returns-in-Some-clause-reading g c =
+    reads_on c.args.self.now c.take_words.new.self (ap (λ (x : ReadState). x.has_header) (sym c.self.view_is) ∙ c.if-not-self.false)
+    c.args.line.now c.take_words.result c.take_words.ensures.taken

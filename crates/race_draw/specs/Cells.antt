@@ -1,6 +1,6 @@
 -- The lines of a drawing. Where an arrow leaves an event or enters one there is a line: a cell for each of three columns (the first
 -- access's goroutine, the second one's, all others), and one for each of the four lanes beside them, in which the arrows go down.
-use Rattle.std.specs.Prelude.{ℕ, if◌then◌else◌, ◌==◌, ◌&&◌, nat_lt, nat_le, Bool, true, false, List, ◌++◌, codes}
+use Rattle.std.specs.Prelude.{ℕ, if◌then◌else◌, ◌==◌, ◌&&◌, nat_lt, nat_le, Bool, false, List, ◌++◌, codes}
 use Rattle.std.specs.List.{list_any}
 use Rattle.race_records.specs.declared.event.Op.{Op}
 use Rattle.race_records.specs.declared.event.Op.TheVariants.{Read, Write}

@@ -19,7 +19,7 @@ use Rattle.race_clock.specs.declared.stamp.Stamp.{Stamp}
 use Rattle.race_clock.specs.StamperState.{StamperState}
 use Rattle.race_clock.specs.Stamps.{stamp_of}
 use Rattle.race_clock.specs.ClocksState.{clock_of}
-use Rattle.race_clock.specs.StandsFor.{StandsFor, IsNext, CountsReaching, CountsAtAccess}
+use Rattle.race_clock.specs.StandsFor.{IsNext, CountsReaching, CountsAtAccess}
 use Rattle.race_clock.specs.StandsFor as clock
 use Rattle.race_clock.proofs.NextFrom.{allowed_last}
 use Rattle.race_clock.proofs.StampLaws.{Says, says}

@@ -19,7 +19,7 @@ use Rattle.race_clock.specs.ClocksState.{clock_of}
 use Rattle.race_clock.specs.StamperState.{StamperState}
 use Rattle.race_clock.specs.Stamps.{stamp_with, stamp_of}
 use Rattle.race_clock.specs.StandsFor as clock
-use Rattle.race_clock.specs.StandsFor.{IsNext, IsAllowed, GoesOn, ForEachPast, CountsReaching, CountsAtAccess}
+use Rattle.race_clock.specs.StandsFor.{IsNext, GoesOn, ForEachPast, CountsReaching, CountsAtAccess}
 use Rattle.race_clock.proofs.NextFrom.{may_come, room_at, allowed_last, has_clock}
 use Rattle.race_clock.proofs.StampLaws.{Says, says}
 use Rattle.race_shards.specs.Walking.{StandsAt, IsStampAt}

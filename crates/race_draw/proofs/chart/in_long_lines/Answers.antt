@@ -1,4 +1,4 @@
-use Rattle.std.proofs.Common.{◌≡◌, ◌++◌, ap, ◌∙◌}
+use Rattle.std.proofs.Common.{◌++◌, ap, ◌∙◌}
 use Rattle.race_draw.specs.Chart.{long_lines}
 use Rattle.race_draw.proofs.chart.in_long_lines.Goals as goal
 

@@ -1,4 +1,4 @@
-use Rattle.std.proofs.Common.{◌≡◌, ℕ, List, [], ◌∷◌, ◌++◌, codes, subst, append-nil, ap, ◌∙◌}
+use Rattle.std.proofs.Common.{◌≡◌, ℕ, List, [], ◌∷◌, ◌++◌, codes, subst, ◌∙◌}
 use Rattle.race_records.specs.Page.{Printing, joined}
 use Rattle.race_report.specs.Report.{newline}
 use Rattle.race_draw.specs.Chart.{head_name}

@@ -1,4 +1,4 @@
-use Rattle.std.proofs.Common.{◌≡◌, ℕ, nat_lt, List, length, take, ap, ◌∙◌}
+use Rattle.std.proofs.Common.{◌≡◌, nat_lt, length, take, ap, ◌∙◌}
 use Rattle.std.specs.List.{range_with_len}
 use Rattle.race_records.specs.declared.kind.Kind.{Kind}
 use Rattle.race_records.specs.Declarations.{count_of}

@@ -1,5 +1,5 @@
 -- The judge has taken the events up to the index, and so can take those behind it.
-use Rattle.std.proofs.Common.{◌≡◌, ◌+◌, ◌-◌, take, drop, length, refl, ◌∙◌, subst, arith}
+use Rattle.std.proofs.Common.{◌≡◌, ◌+◌, ◌-◌, take, refl, ◌∙◌, subst, arith}
 use Rattle.std.proofs.lemmas.Result.{err_from_is_err_and}
 use Rattle.race_shards.specs.Judging.{JudgeState, StandsForSome, GoesOn}
 use Rattle.race_shards.proofs.JudgeSteps.{can_take_next, took_none, took_next, took_all, well_taken, len_taken}

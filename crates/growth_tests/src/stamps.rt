@@ -181,7 +181,7 @@ static CALLS: [(Row, u64); 10] = [
         ),
         0,
     ),
-    // Nothing was unlocked: main's clock alone is copied, and it stands in place.
+    // Nothing was unlocked: main's clock stays as it is.
     (
         Row(Call::Step(NOTHING), b"write main x 7 p\nlock main m p\n"),
         0,

@@ -1,9 +1,9 @@
 -- Joined clocks as lists.
 use Rattle.std.proofs.Common.{◌≡◌, ◌⊎◌, inl, inr, ℕ, zero, suc, ◌+◌, ◌-◌, ◌<◌, ◌≤◌, max, List, [], ◌∷◌}
 use Rattle.std.proofs.Common.{◌++◌, take, drop, length, get_or, set, refl, sym, ap, ◌∙◌, arith, append-nil, take_at, length-append, replicate}
-use Rattle.std.proofs.Math.Nat.{max_comm, zero-max, le-max_left, le-max_right}
+use Rattle.std.proofs.Math.Nat.{max_comm, max-zero, zero-max, le-max_left, le-max_right}
 use Rattle.race_model.proofs.ClockLemmas.{max_within}
-use Rattle.std.proofs.lemmas.List.{append_assoc, replicate-append-replicate}
+use Rattle.std.proofs.lemmas.List.{append_assoc, length-replicate, replicate-append-replicate, set-get_or}
 use Rattle.race_clock.specs.ClockState.{joined, padded}
 use Rattle.race_clock.specs.ClocksState.{filled}
 
@@ -30,6 +30,15 @@ joined_suc (m ∷ c) (n ∷ d) (suc i) less le = ap (λ c. max m n ∷ c) (joine
 pub joined_one : (c d : List ℕ) (i : ℕ) → i < length d → length d ≤ length c
     → joined c (take (i + 1) d) ≡ set (joined c (take i d)) i (max (get_or (joined c (take i d)) i 0) (get_or d i 0))
 joined_one c d i less le = ap (λ n. joined c (take n d)) (let same : i + 1 ≡ suc i = omega arith in same) ∙ joined_suc c d i less le
+
+-- one count more that is no greater changes nothing
+pub covered_one : (c d : List ℕ) (i : ℕ) → i < length d → length d ≤ length c → joined c (take i d) ≡ c → get_or d i 0 ≤ get_or c i 0
+    → joined c (take (i + 1) d) ≡ c
+covered_one c d i less le before most =
+    joined_one c d i less le
+    ∙ ap (λ l. set l i (max (get_or l i 0) (get_or d i 0))) before
+    ∙ ap (set c i) (let same : max (get_or c i 0) (get_or d i 0) ≡ get_or c i 0 = omega (arith, most) in same)
+    ∙ set-get_or c i 0
 
 -- of two clocks either may come first
 pub joined_comm : (c d : List ℕ) → joined c d ≡ joined d c
@@ -60,11 +69,6 @@ joined_assoc [] c d = refl
 joined_assoc (l ∷ b) [] d = refl
 joined_assoc (l ∷ b) (m ∷ c) [] = refl
 joined_assoc (l ∷ b) (m ∷ c) (n ∷ d) = ap (λ h. h ∷ joined (joined b c) d) (max_assoc l m n) ∙ ap (λ t. max l (max m n) ∷ t) (joined_assoc b c d)
-
--- what a lock is handed, its runlocks first
-pub joined_locks : (c unlocks runlocks : List ℕ) → joined (joined runlocks c) unlocks ≡ joined c (joined unlocks runlocks)
-joined_locks c unlocks runlocks =
-    ap (λ b. joined b unlocks) (joined_comm runlocks c) ∙ joined_assoc c runlocks unlocks ∙ ap (joined c) (joined_comm runlocks unlocks)
 
 -- a clock joined with itself
 joined_same : (c : List ℕ) → joined c c ≡ c
@@ -115,6 +119,11 @@ joined_parts (x ∷ f) m [] n le (inr none) = ap (joined (x ∷ f ++ m)) none
 joined_parts (x ∷ f) m (y ∷ g) n le (inl same) = ap (λ t. max x y ∷ t) (joined_parts f m g n (omega arith) (inl (omega (arith, same))))
 joined_parts (x ∷ f) m (y ∷ g) n le (inr none) = ap (λ t. max x y ∷ t) (joined_parts f m g n (omega arith) (inr none))
 
+-- so one covers the other where its parts do
+pub covered_parts : (f m g n : List ℕ) → length g ≤ length f → (length g ≡ length f) ⊎ (n ≡ []) → joined f g ≡ f → joined m n ≡ m
+    → joined (f ++ m) (g ++ n) ≡ f ++ m
+covered_parts f m g n le full few many = joined_parts f m g n le full ∙ ap (λ t. t ++ joined m n) few ∙ ap (λ t. f ++ t) many
+
 -- where the first parts hold eight before the second hold any, the second part of a shorter clock is no longer
 pub parts_fit : (f m g n : List ℕ) → length f ≤ 8 → (0 < length n → length g ≡ 8) → length (g ++ n) ≤ length (f ++ m) → length n ≤ length m
 parts_fit f m g [] most eight le = omega arith
@@ -137,6 +146,12 @@ pub parts_below : (f m g n : List ℕ) → length g ≤ 8 → (0 < length m → 
 parts_below f [] g n most old le = omega (arith, le, length-append g n, length-append {A = ℕ} f [])
 parts_below f (x ∷ m) g n most old le = let full : length f ≡ 8 = old (omega arith) in omega (arith, full, most)
 
+-- a shorter clock is covered where its parts are
+pub covered_whole : (f m g n : List ℕ) → length f ≤ 8 → length g ≤ 8 → (0 < length m → length f ≡ 8) → (0 < length n → length g ≡ 8)
+    → length (g ++ n) ≤ length (f ++ m) → joined f g ≡ f → joined m n ≡ m → joined (f ++ m) (g ++ n) ≡ f ++ m
+covered_whole f m g n most other old eight le few many =
+    covered_parts f m g n (parts_below f m g n other old le) (parts_full f m g n most old eight le) few many
+
 -- zeros joined with a list of as many
 joined_zeros : (k : ℕ) (d : List ℕ) → k ≡ length d → joined (replicate k 0) d ≡ d
 joined_zeros zero [] same = refl
@@ -153,6 +168,23 @@ joined_longer (m ∷ c) (n ∷ d) k same = ap (λ t. max m n ∷ t) (joined_long
 
 pub joined_padded : (c d : List ℕ) → joined (padded c (length d)) d ≡ joined c d
 joined_padded c d = joined_longer c d (length d - length c) refl
+
+-- a joined clock is as long as the longer one
+length_joined_any : (c d : List ℕ) → length (joined c d) ≡ max (length c) (length d)
+length_joined_any [] d = sym (zero-max (length d))
+length_joined_any (m ∷ c) [] = sym (max-zero (length (m ∷ c)))
+length_joined_any (m ∷ c) (n ∷ d) = let rest : length (joined c d) ≡ max (length c) (length d) = length_joined_any c d in omega (arith, rest)
+
+-- a clock that was grown once for two others: the second fits when the first is joined
+pub both_fit : (c d e : List ℕ) (n : ℕ) → n ≡ max (length d) (length e) → length e ≤ length (joined (padded c n) d)
+both_fit c d e n is = omega (arith, is, length_joined_any (padded c n) d, length-append c (replicate (n - length c) 0), length-replicate {A = ℕ} (n - length c) 0)
+
+-- and both are joined to it
+pub joined_both : (c d e : List ℕ) (n : ℕ) → n ≡ max (length d) (length e) → joined (joined (padded c n) d) e ≡ joined c (joined d e)
+joined_both c d e n is =
+    joined_assoc (padded c n) d e
+    ∙ ap (λ n. joined (padded c n) (joined d e)) (is ∙ sym (length_joined_any d e))
+    ∙ joined_padded c (joined d e)
 
 -- zeros written out in two parts, of which the first fills up first
 pub padded_parts : (f m : List ℕ) (n : ℕ) → length f ≤ 8 → (0 < length m → length f ≡ 8) → 8 < n → padded f 8 ++ padded m (n - 8) ≡ padded (f ++ m) n

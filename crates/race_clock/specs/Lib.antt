@@ -1,5 +1,6 @@
 pub mod ClockState
 pub mod ClocksState
+pub mod UnlocksState
 pub mod First
 pub mod StamperState
 pub mod Stamps

@@ -170,16 +170,12 @@ impl<A: Allocator> Channel<A> {
     }
 
     /// Joins the clock of the close to that of who finds the channel closed.
-    pub(crate) fn receive_closed(
-        &self,
-        slot: &mut Slot<A>,
-        spare: &mut Clock<A>,
-    ) -> Result<(), AllocError>
+    pub(crate) fn receive_closed(&self, slot: &mut Slot<A>) -> Result<(), AllocError>
         requires { slot.old.parts + 1 < 2 ^ 32 }
         ensures ok { OnOk result (slot.new ≡ record { clock = joined slot.old.clock self.now.closed; parts = slot.old.parts + 1 }) }
         ensures unchanged { OnErr result (slot.new ≡ slot.old) }
     {
-        slot.learn(&self.closed, spare)
+        slot.learn(&self.closed)
     }
 
     /// Opens a place for a send's clock.

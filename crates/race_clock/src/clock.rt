@@ -15,6 +15,7 @@ ghost use Rattle.std.specs.Prelude.{
   ◌++◌,
   length,
   slice_set,
+  IsTrue,
   IsOk,
   OnOk,
   OnErr,
@@ -163,6 +164,18 @@ impl<A: Allocator> Clock<A> {
         Ok(())
     }
 
+    /// Whether a join of the other would change nothing.
+    pub(crate) fn covers(&self, other: &Clock<A>) -> bool
+        ensures { IsTrue result → joined self.now other.now ≡ self.now }
+    {
+        if self.len() < other.len() {
+            return false;
+        }
+        let few = covers_each(self.few.as_slice(), other.few.as_slice());
+        let many = covers_each(self.many.as_slice(), other.many.as_slice());
+        few && many
+    }
+
     pub(crate) fn allocator(&self) -> A
     where
         A: Copy,
@@ -170,16 +183,16 @@ impl<A: Allocator> Clock<A> {
         *self.many.allocator()
     }
 
-    // How many counts are written out.
-    fn len(&self) -> usize
+    /// How many counts are written out.
+    pub(crate) fn len(&self) -> usize
         ensures { result ≡ length self.now }
     {
         self.few.as_slice().len() + self.many.as_slice().len()
     }
 
-    // Raises each count to the other's, whose counts are written out here.
+    /// Raises each count to the other's, whose counts are written out here.
     #[tactic(auto, using(crate::proofs::JoinLemmas::joined_parts))]
-    fn raise_to<B: Allocator>(&mut self, by: &Clock<B>)
+    pub(crate) fn raise_to<B: Allocator>(&mut self, by: &Clock<B>)
         requires { length by.now ≤ length self.old }
         ensures { self.new ≡ joined self.old by.now }
     {
@@ -198,6 +211,20 @@ fn raise(counts: &mut [u32], by: &[u32])
     for index in 0..by.len() {
         counts[index] = counts[index].max(by[index]);
     }
+}
+
+// Whether no count of the other is greater. It looks at all of them, since that goes several at once.
+fn covers_each(counts: &[u32], other: &[u32]) -> bool
+    requires { length other.now ≤ length counts.now }
+    ensures { IsTrue result → joined counts.now other.now ≡ counts.now }
+{
+    let mut below = false;
+    for index in 0..other.len() {
+        if counts[index] < other[index] {
+            below = true;
+        }
+    }
+    !below
 }
 
 fn raise_few(counts: &mut ArrayVec<u32, 8>, by: &[u32])

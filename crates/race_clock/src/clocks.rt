@@ -1,8 +1,9 @@
 //! The clocks of all goroutines and objects, as a state machine that knows of no list of events.
 //!
-//! Each goroutine has a clock, and each object those of the events that a later one may wait for. An operation first works
-//! out its new clocks in spare ones, which nobody sees, so that a refused growth leaves everything as it was; then it
-//! exchanges them for the old ones. What was exchanged is written again, so in the long run nothing is allocated.
+//! Each goroutine has a clock, and each object those of the events that a later one may wait for. A refused growth leaves
+//! everything as it was: a clock that learns is grown before it is raised, and what is handed over is worked out in a
+//! spare one, which nobody sees, and then exchanged. What was exchanged is written again, so in the long run nothing is
+//! allocated.
 ghost use Rattle.std.specs.Prelude.{◌≡◌, ◌≢◌, ◌+◌, ◌<◌, ◌^◌, ℕ, [], length, replicate, IfOk, OnOk, OnErr};
 ghost use Rattle.std.specs.List.{slice_index_or};
 ghost use Rattle.race_records.specs.declared.event.Op.TheVariants as op;
@@ -261,8 +262,7 @@ impl<A: Allocator + Copy> Clocks<A> {
     {
         let slot = &mut self.slots[who as usize];
         let clocks = &mut self.locks[lock as usize];
-        clocks.hand_to_lock(slot.clock(), &mut self.spare)?;
-        slot.take(&mut self.spare);
+        slot.lock(clocks)?;
         clocks.lock();
         Ok(())
     }
@@ -278,9 +278,8 @@ impl<A: Allocator + Copy> Clocks<A> {
     {
         let slot = &mut self.slots[who as usize];
         let clocks = &mut self.locks[lock as usize];
-        slot.begin(who, &mut self.second)?;
-        clocks.with_unlock(&self.second, &mut self.spare)?;
-        clocks.unlock(&mut self.spare, &mut self.second)?;
+        slot.begin(who, &mut self.spare)?;
+        clocks.unlock(&mut self.spare)?;
         slot.pass();
         Ok(())
     }
@@ -335,7 +334,7 @@ impl<A: Allocator + Copy> Clocks<A> {
         ensures unchanged { OnErr result (self.new ≡ self.old) }
     {
         let slot = &mut self.slots[who as usize];
-        self.channels[chan as usize].receive_closed(slot, &mut self.spare)
+        self.channels[chan as usize].receive_closed(slot)
     }
 
     #[tactic(auto, using(crate::proofs::JoinLemmas::joined_nothing))]
@@ -348,7 +347,7 @@ impl<A: Allocator + Copy> Clocks<A> {
     {
         let slot = &mut self.slots[who as usize];
         let closed = &mut self.channels[chan as usize].closed;
-        slot.tell(who, closed, &mut self.second, &mut self.spare)
+        slot.tell(who, closed, &mut self.spare)
     }
 
     fn read_lock(&mut self, who: u32, lock: u32) -> Result<(), AllocError>
@@ -359,9 +358,7 @@ impl<A: Allocator + Copy> Clocks<A> {
         ensures unchanged { OnErr result (self.new ≡ self.old) }
     {
         let slot = &mut self.slots[who as usize];
-        self.locks[lock as usize].hand_to_rlock(slot.clock(), &mut self.spare)?;
-        slot.take(&mut self.spare);
-        Ok(())
+        slot.read_lock(&self.locks[lock as usize])
     }
 
     #[tactic(auto, using(crate::proofs::JoinLemmas::joined_nothing))]
@@ -374,7 +371,7 @@ impl<A: Allocator + Copy> Clocks<A> {
     {
         let slot = &mut self.slots[who as usize];
         let runlocks = &mut self.locks[lock as usize].runlocks;
-        slot.tell(who, runlocks, &mut self.second, &mut self.spare)
+        slot.tell(who, runlocks, &mut self.spare)
     }
 
     #[tactic(auto, using(crate::proofs::JoinLemmas::joined_nothing))]
@@ -387,7 +384,7 @@ impl<A: Allocator + Copy> Clocks<A> {
     {
         let slot = &mut self.slots[who as usize];
         let end = &mut self.ends[once as usize];
-        slot.tell(who, end, &mut self.second, &mut self.spare)
+        slot.tell(who, end, &mut self.spare)
     }
 
     fn find_done(&mut self, who: u32, once: u32) -> Result<(), AllocError>
@@ -398,6 +395,6 @@ impl<A: Allocator + Copy> Clocks<A> {
         ensures unchanged { OnErr result (self.new ≡ self.old) }
     {
         let slot = &mut self.slots[who as usize];
-        slot.learn(&self.ends[once as usize], &mut self.spare)
+        slot.learn(&self.ends[once as usize])
     }
 }

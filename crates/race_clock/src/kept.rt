@@ -1,5 +1,5 @@
 //! The clock that an object keeps for whoever comes later: two words, until it is first put there.
-ghost use Rattle.std.specs.Prelude.{◌≡◌, ℕ, List, [], OnOk, OnErr};
+ghost use Rattle.std.specs.Prelude.{◌≡◌, ◌≤◌, ℕ, List, [], length, OnOk, OnErr};
 ghost use Rattle.std.specs.Option.{option_map_or};
 ghost use Rattle.race_clock.specs.ClockState.{joined};
 
@@ -27,14 +27,36 @@ impl<A: Allocator> Kept<A> {
         Kept { clock: None }
     }
 
-    /// The other clock becomes the join of this one and a third. Where a growth is refused it is any clock.
-    #[tactic(auto, using(crate::proofs::JoinLemmas::joined_comm))]
-    pub(crate) fn join_with(&self, clock: &Clock<A>, to: &mut Clock<A>) -> Result<(), AllocError>
-        ensures { OnOk result (to.new ≡ joined self.now clock.now) }
+    /// How many counts are written out.
+    pub(crate) fn len(&self) -> usize
+        ensures { result ≡ length self.now }
     {
         match &self.clock {
-            Some(kept) => to.become_join(kept, clock),
-            None => to.become_copy(clock),
+            Some(kept) => kept.len(),
+            None => 0,
+        }
+    }
+
+    /// Raises each count of the clock to the one here.
+    #[tactic(auto, using(crate::proofs::JoinLemmas::joined_nothing))]
+    pub(crate) fn raise(&self, clock: &mut Clock<A>)
+        requires { length self.now ≤ length clock.old }
+        ensures { clock.new ≡ joined clock.old self.now }
+    {
+        if let Some(kept) = &self.clock {
+            clock.raise_to(kept);
+        }
+    }
+
+    /// Joins what is kept to the clock.
+    #[tactic(auto, using(crate::proofs::JoinLemmas::joined_nothing))]
+    pub(crate) fn join_to(&self, clock: &mut Clock<A>) -> Result<(), AllocError>
+        ensures ok { OnOk result (clock.new ≡ joined clock.old self.now) }
+        ensures unchanged { OnErr result (clock.new ≡ clock.old) }
+    {
+        match &self.clock {
+            Some(kept) => clock.join(kept),
+            None => Ok(()),
         }
     }
 
@@ -47,15 +69,16 @@ impl<A: Allocator> Kept<A> {
         }
     }
 
-    /// Exchanges the clock for this one.
-    pub(crate) fn put(&mut self, clock: &mut Clock<A>) -> Result<(), AllocError>
+    /// Joins the clock to what is kept. The clock is then free to be written.
+    pub(crate) fn join(&mut self, clock: &mut Clock<A>) -> Result<(), AllocError>
     where
         A: Copy,
-        ensures ok { OnOk result (self.new ≡ clock.old) }
+        ensures ok { OnOk result (self.new ≡ joined self.old clock.old) }
         ensures unchanged { OnErr result (self.new ≡ self.old) }
     {
         match &mut self.clock {
-            Some(kept) => mem::swap(&mut **kept, clock),
+            Some(kept) if kept.len() == 0 => mem::swap(&mut **kept, clock),
+            Some(kept) => return kept.join(clock),
             None => {
                 let alloc = clock.allocator();
                 let mut kept = Box::new(alloc, Clock::new(alloc))?;

@@ -2,7 +2,8 @@
 ghost use Rattle.std.specs.Prelude.{◌≡◌, ◌+◌, ◌<◌, ◌^◌, List, [], OnOk, OnErr};
 ghost use Rattle.std.specs.Option.{option_map_or};
 ghost use Rattle.race_clock.specs.ClockState.{joined};
-ghost use Rattle.race_clock.specs.ClocksState.{LockState, no_lock, lock_locked};
+ghost use Rattle.race_clock.specs.ClocksState.{LockState, no_lock, lock_locked, lock_unlocked};
+ghost use Rattle.race_clock.specs.UnlocksState.{UnlocksState};
 
 use crate::clock::Clock;
 use crate::kept::Kept;
@@ -10,11 +11,17 @@ use std::alloc::{AllocError, Allocator};
 use std::marker::Model;
 use std::mem;
 
-// Of the unlocks: what all of them bring, and what the last of them does.
+// Of the unlocks: what the last of them brings, and what all of them do, where that is more.
 #[derive(Drop)]
 struct Unlocks<A: Allocator> {
-    all: Clock<A>,
     last: Clock<A>,
+    all: Option<Clock<A>>,
+}
+
+impl<A: Allocator> Model for Unlocks<A> {
+    ghost Value = { UnlocksState };
+
+    ghost view = { λ u. record { all = option_map_or (λ all. all) u.all u.last; last = u.last } };
 }
 
 #[derive(Drop)]
@@ -44,43 +51,35 @@ impl<A: Allocator> LockClocks<A> {
         }
     }
 
-    /// What a lock joins to its goroutine's clock.
+    /// Joins to a goroutine's clock what a lock sees.
     #[inline(always)]
-    #[tactic(auto, using(crate::proofs::JoinLemmas::joined_locks))]
-    pub(crate) fn hand_to_lock(&self, clock: &Clock<A>, to: &mut Clock<A>) -> Result<(), AllocError>
-        ensures { OnOk result (to.new ≡ joined clock.now (joined self.now.unlocks self.now.runlocks)) }
+    pub(crate) fn hand_to_lock(&self, clock: &mut Clock<A>) -> Result<(), AllocError>
+        ensures ok { OnOk result (clock.new ≡ joined clock.old (joined self.now.unlocks self.now.runlocks)) }
+        ensures unchanged { OnErr result (clock.new ≡ clock.old) }
     {
-        self.runlocks.join_with(clock, to)?;
         match &self.unlocks {
-            Some(unlocks) => to.join(&unlocks.all),
-            None => Ok(()),
+            Some(unlocks) => {
+                // Grown once, for both, since a growth that is refused has to change nothing.
+                let all = unlocks.all();
+                clock.grow(all.len().max(self.runlocks.len()))?;
+                clock.raise_to(all);
+                self.runlocks.raise(clock);
+                Ok(())
+            }
+            None => self.runlocks.join_to(clock),
         }
     }
 
-    /// What an rlock joins to it.
+    /// Joins to it what an rlock sees.
     #[inline(always)]
     #[tactic(auto, using(crate::proofs::JoinLemmas::joined_nothing))]
-    pub(crate) fn hand_to_rlock(
-        &self,
-        clock: &Clock<A>,
-        to: &mut Clock<A>,
-    ) -> Result<(), AllocError>
-        ensures { OnOk result (to.new ≡ joined clock.now self.now.last) }
+    pub(crate) fn hand_to_rlock(&self, clock: &mut Clock<A>) -> Result<(), AllocError>
+        ensures ok { OnOk result (clock.new ≡ joined clock.old self.now.last) }
+        ensures unchanged { OnErr result (clock.new ≡ clock.old) }
     {
         match &self.unlocks {
-            Some(unlocks) => to.become_join(clock, &unlocks.last),
-            None => to.become_copy(clock),
-        }
-    }
-
-    /// All unlocks, with one more.
-    #[inline(always)]
-    pub(crate) fn with_unlock(&self, begin: &Clock<A>, to: &mut Clock<A>) -> Result<(), AllocError>
-        ensures { OnOk result (to.new ≡ joined self.now.unlocks begin.now) }
-    {
-        match &self.unlocks {
-            Some(unlocks) => to.become_join(&unlocks.all, begin),
-            None => to.become_copy(begin),
+            Some(unlocks) => clock.join(&unlocks.last),
+            None => Ok(()),
         }
     }
 
@@ -91,47 +90,77 @@ impl<A: Allocator> LockClocks<A> {
         self.runlocks.clear();
     }
 
-    /// Exchanges the clock of all unlocks and that of the last for these.
+    /// Takes the clock of an unlock's begin, which is then free to be written.
     #[inline(always)]
-    pub(crate) fn unlock(
-        &mut self,
-        all: &mut Clock<A>,
-        begin: &mut Clock<A>,
-    ) -> Result<(), AllocError>
+    pub(crate) fn unlock(&mut self, begin: &mut Clock<A>) -> Result<(), AllocError>
     where
         A: Copy,
-        ensures ok { OnOk result (self.new ≡ record { unlocks = all.old; last = begin.old; runlocks = self.old.runlocks }) }
+        ensures ok { OnOk result (self.new ≡ lock_unlocked self.old begin.old) }
         ensures unchanged { OnErr result (self.new ≡ self.old) }
     {
-        match &mut self.unlocks {
-            Some(unlocks) => unlocks.exchange(all, begin),
-            None => {
-                let alloc = begin.allocator();
-                let mut unlocks = Box::new(alloc, Unlocks::new(alloc))?;
-                unlocks.exchange(all, begin);
-                self.unlocks = Some(unlocks);
-            }
+        if let Some(unlocks) = &mut self.unlocks {
+            return unlocks.add(begin);
         }
+        let alloc = begin.allocator();
+        let mut unlocks = Box::new(alloc, Unlocks::new(alloc))?;
+        unlocks.add(begin)?;
+        self.unlocks = Some(unlocks);
         Ok(())
     }
 }
 
 impl<A: Allocator> Unlocks<A> {
     fn new(alloc: A) -> Unlocks<A>
-    where
-        A: Copy,
+        ensures { result ≡ record { all = []; last = [] } }
     {
         Unlocks {
-            all: Clock::new(alloc),
             last: Clock::new(alloc),
+            all: None,
         }
     }
 
-    fn exchange(&mut self, all: &mut Clock<A>, last: &mut Clock<A>)
-        ensures all { self.new.all ≡ all.old }
-        ensures last { self.new.last ≡ last.old }
+    fn all(&self) -> &Clock<A>
+        ensures { result.now ≡ self.now.all }
     {
-        mem::swap(&mut self.all, all);
-        mem::swap(&mut self.last, last);
+        match &self.all {
+            Some(all) => all,
+            None => &self.last,
+        }
+    }
+
+    // Takes the clock of one more unlock's begin.
+    #[tactic(auto, using(crate::proofs::JoinLemmas::joined_comm))]
+    fn add(&mut self, begin: &mut Clock<A>) -> Result<(), AllocError>
+    where
+        A: Copy,
+        ensures ok { OnOk result (self.new ≡ record { all = joined self.old.all begin.old; last = begin.old }) }
+        ensures unchanged { OnErr result (self.new ≡ self.old) }
+    {
+        // So it is where who unlocks has locked.
+        if begin.covers(self.all()) {
+            self.all = None;
+            mem::swap(&mut self.last, begin);
+            return Ok(());
+        }
+        self.add_apart(begin)
+    }
+
+    // The same, where all of them bring more than this one.
+    fn add_apart(&mut self, begin: &mut Clock<A>) -> Result<(), AllocError>
+    where
+        A: Copy,
+        ensures ok { OnOk result (self.new ≡ record { all = joined self.old.all begin.old; last = begin.old }) }
+        ensures unchanged { OnErr result (self.new ≡ self.old) }
+    {
+        if let Some(all) = &mut self.all {
+            all.join(begin)?;
+            mem::swap(&mut self.last, begin);
+            return Ok(());
+        }
+        let mut all = Clock::new(begin.allocator());
+        all.become_join(&self.last, begin)?;
+        mem::swap(&mut self.last, begin);
+        self.all = Some(all);
+        Ok(())
     }
 }

@@ -5,6 +5,7 @@ ghost use Rattle.race_clock.specs.ClocksState.{SlotState, first_slot};
 
 use crate::clock::Clock;
 use crate::kept::Kept;
+use crate::lock::LockClocks;
 use std::alloc::{AllocError, Allocator};
 use std::marker::Model;
 use std::mem;
@@ -93,14 +94,39 @@ impl<A: Allocator> Slot<A> {
     }
 
     /// Takes part in an event that joins what is kept to the goroutine's clock.
-    #[tactic(auto, using(crate::proofs::JoinLemmas::joined_comm))]
-    pub(crate) fn learn(&mut self, from: &Kept<A>, spare: &mut Clock<A>) -> Result<(), AllocError>
+    pub(crate) fn learn(&mut self, from: &Kept<A>) -> Result<(), AllocError>
         requires { self.old.parts + 1 < 2 ^ 32 }
         ensures ok { OnOk result (self.new ≡ record { clock = joined self.old.clock from.now; parts = self.old.parts + 1 }) }
         ensures unchanged { OnErr result (self.new ≡ self.old) }
     {
-        from.join_with(&self.clock, spare)?;
-        self.take(spare);
+        from.join_to(&mut self.clock)?;
+        self.parts += 1;
+        Ok(())
+    }
+
+    /// Takes part in a lock.
+    #[inline(always)]
+    pub(crate) fn lock(&mut self, from: &LockClocks<A>) -> Result<(), AllocError>
+        requires { self.old.parts + 1 < 2 ^ 32 }
+        ensures ok { OnOk result (self.new ≡ record {
+          clock = joined self.old.clock (joined from.now.unlocks from.now.runlocks);
+          parts = self.old.parts + 1;
+        }) }
+        ensures unchanged { OnErr result (self.new ≡ self.old) }
+    {
+        from.hand_to_lock(&mut self.clock)?;
+        self.parts += 1;
+        Ok(())
+    }
+
+    /// Takes part in an rlock.
+    pub(crate) fn read_lock(&mut self, from: &LockClocks<A>) -> Result<(), AllocError>
+        requires { self.old.parts + 1 < 2 ^ 32 }
+        ensures ok { OnOk result (self.new ≡ record { clock = joined self.old.clock from.now.last; parts = self.old.parts + 1 }) }
+        ensures unchanged { OnErr result (self.new ≡ self.old) }
+    {
+        from.hand_to_rlock(&mut self.clock)?;
+        self.parts += 1;
         Ok(())
     }
 
@@ -109,7 +135,6 @@ impl<A: Allocator> Slot<A> {
         &mut self,
         who: u32,
         to: &mut Kept<A>,
-        begin: &mut Clock<A>,
         spare: &mut Clock<A>,
     ) -> Result<(), AllocError>
     where
@@ -120,9 +145,8 @@ impl<A: Allocator> Slot<A> {
         ensures unchanged { OnErr result (self.new ≡ self.old) }
         ensures kept_unchanged { OnErr result (to.new ≡ to.old) }
     {
-        self.begin(who, begin)?;
-        to.join_with(begin, spare)?;
-        to.put(spare)?;
+        self.begin(who, spare)?;
+        to.join(spare)?;
         self.pass();
         Ok(())
     }

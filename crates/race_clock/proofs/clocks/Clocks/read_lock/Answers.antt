@@ -1,13 +1,9 @@
 use Rattle.std.proofs.Common.{arith}
 use Rattle.std.proofs.lemmas.Grind.{common_steps}
-use Rattle.std.proofs.lemmas.Result.{IfOk-from_err}
 use Rattle.race_clock.proofs.clocks.Clocks.read_lock.Goals as goal
 
-pub returns-in_err-hand_to_rlock-clause-ok : goal.returns-in_err-hand_to_rlock-clause-ok
-returns-in_err-hand_to_rlock-clause-ok g c = IfOk-from_err _ _ c.from_residual.ensures.0
-
-pub returns-in_err-hand_to_rlock-clause-unchanged : goal.returns-in_err-hand_to_rlock-clause-unchanged
-returns-in_err-hand_to_rlock-clause-unchanged g c = grind (arith, common_steps) steps 500000
+pub returns-clause-ok : goal.returns-clause-ok
+returns-clause-ok g c = grind (arith, common_steps) steps 2000000
 
 pub returns-clause-unchanged : goal.returns-clause-unchanged
-returns-clause-unchanged g c = tt
+returns-clause-unchanged g c = grind (arith, common_steps) steps 2000000

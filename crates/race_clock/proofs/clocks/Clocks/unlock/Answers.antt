@@ -10,12 +10,6 @@ returns-in_err-begin g c = record {
   unchanged = grind (arith, common_steps) steps 500000;
 }
 
-pub returns-in_err-with_unlock : goal.returns-in_err-with_unlock
-returns-in_err-with_unlock g c = record {
-  ok = IfOk-from_err _ _ c.from_residual-in_err-with_unlock.ensures.0;
-  unchanged = grind (arith, common_steps) steps 500000;
-}
-
 pub returns-in_err-unlock : goal.returns-in_err-unlock
 returns-in_err-unlock g c = record {
   ok = IfOk-from_err _ _ c.from_residual-in_err-unlock.ensures.0;

@@ -7,3 +7,4 @@ pub mod WaitingLemmas
 pub mod ReceiverLemmas
 pub mod ChoiceLemmas
 pub mod MoveLemmas
+pub mod ListLemmas

@@ -9,3 +9,5 @@ pub mod Receivers
 pub mod WaitingHolds
 pub mod Offers
 pub mod Sound
+pub mod List
+pub mod ListHolds

@@ -4,6 +4,7 @@
 mod board;
 mod choice;
 pub mod laws;
+mod list;
 mod making;
 mod meet;
 mod offers;
@@ -16,6 +17,7 @@ mod table;
 
 pub use board::WaitingList;
 pub use choice::Choice;
+pub use list::RequestList;
 pub use making::lone_event;
 pub use meet::{can_meet, meet_event};
 pub use offers::{Offers, OffersFull};

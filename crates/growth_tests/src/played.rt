@@ -1,6 +1,6 @@
 //! Hubs, and how far each is played before the call.
 
-use race_hub::{Answer, Ask, Hub, Job, Request, Routine};
+use race_hub::{Answer, Ask, Hub, Job, Log, Request, Routine};
 use race_records::{Decls, Object};
 use std::alloc::{Allocator, Global};
 
@@ -166,10 +166,23 @@ pub(crate) fn are_alike<A: Allocator>(one: &Hub<Asks, A>, other: &Hub<Asks, A>) 
         && one.trace() == other.trace()
 }
 
+// Whether two logs have the same steps.
+fn are_logs_alike<A: Allocator>(one: &Log<A>, other: &Log<A>) -> bool {
+    if one.len() != other.len() {
+        return false;
+    }
+    for at in 0..one.len() {
+        if one.step(at) != other.step(at) {
+            return false;
+        }
+    }
+    true
+}
+
 /// Whether two jobs answer the same.
 pub(crate) fn are_jobs_alike<A: Allocator>(one: &Job<Asks, A>, other: &Job<Asks, A>) -> bool {
     one.who() == other.who()
         && one.answer() == other.answer()
         && one.asked() == other.asked()
-        && one.log() == other.log()
+        && are_logs_alike(one.log(), other.log())
 }

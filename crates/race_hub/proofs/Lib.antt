@@ -1,3 +1,4 @@
+pub mod LogLemmas
 pub mod ChoiceRows
 pub mod EndLemmas
 pub mod FitLemmas

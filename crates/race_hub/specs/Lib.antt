@@ -1,4 +1,6 @@
 pub mod Part
+pub mod Log
+pub mod LogHolds
 pub mod Job
 pub mod Laws
 pub mod Hub

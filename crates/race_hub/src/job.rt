@@ -3,7 +3,7 @@ ghost use Rattle.std.specs.Prelude.{◌≡◌, Ok, Some, None, is_some, IsSome, 
 ghost use Rattle.race_hub.specs.Job.{JobState, begun, asking};
 
 use crate::parked::Parked;
-use crate::{Answer, Request, Routine, Step, Waiter};
+use crate::{Answer, Log, Request, Routine, Waiter};
 use std::alloc::{AllocError, Allocator, Global};
 use std::marker::Model;
 
@@ -12,7 +12,7 @@ pub struct Job<R, A: Allocator = Global> {
     who: u32,
     routine: R,
     answer: Answer,
-    log: Vec<Step, A>,
+    log: Log<A>,
     asked: Option<Request>,
 }
 
@@ -29,7 +29,7 @@ impl<R: Drop, A: Allocator> Drop for Job<R, A> {
 }
 
 impl<R, A: Allocator> Model for Job<R, A> {
-    ghost use Rattle.std.specs.Prelude.{IsSome, ◌<◌, vec_len, vec_capacity};
+    ghost use Rattle.std.specs.Prelude.{IsSome, ◌≡◌, true};
     ghost use Rattle.race_hub.specs.Job.{JobState};
 
     ghost Value = { JobState R };
@@ -37,10 +37,10 @@ impl<R, A: Allocator> Model for Job<R, A> {
     ghost view = { λ j. record { who = j.who; routine = j.routine; answer = j.answer; log = j.log.items; asked = j.asked } };
 
     // What is asked has its room in the log already.
-    ghost invariant = { λ j. IsSome j.asked → vec_len j.log < vec_capacity j.log };
+    ghost invariant = { λ j. IsSome j.asked → j.log.has_room ≡ true };
 }
 
-impl<R, A: Allocator> Job<R, A> {
+impl<R, A: Allocator + Copy> Job<R, A> {
     /// The goroutine before its first turn. Takes no memory.
     pub(crate) fn new(alloc: A, who: u32, routine: R) -> Job<R, A>
         ensures { result ≡ begun who routine }
@@ -49,13 +49,15 @@ impl<R, A: Allocator> Job<R, A> {
             who,
             routine,
             answer: Answer::Begin,
-            log: Vec::new(alloc),
+            log: Log::new(alloc),
             asked: None,
         }
     }
+}
 
+impl<R, A: Allocator> Job<R, A> {
     /// The goroutine that was told this, with its log so far. Takes no memory.
-    pub(crate) fn resumed(who: u32, routine: R, answer: Answer, log: Vec<Step, A>) -> Job<R, A>
+    pub(crate) fn resumed(who: u32, routine: R, answer: Answer, log: Log<A>) -> Job<R, A>
         ensures { result ≡ record { who = who; routine = routine; answer = answer; log = log.items; asked = None } }
     {
         Job {
@@ -99,10 +101,10 @@ impl<R, A: Allocator> Job<R, A> {
     }
 
     /// What it asked so far, and was told.
-    pub fn log(&self) -> &[Step]
-        ensures { result.now ≡ self.now.log }
+    pub fn log(&self) -> &Log<A>
+        ensures { result.now.items ≡ self.now.log }
     {
-        self.log.as_slice()
+        &self.log
     }
 
     /// Lets the box go on with the last answer up to its next request, which is kept. Until that is answered, every turn gives
@@ -121,7 +123,7 @@ impl<R, A: Allocator> Job<R, A> {
             return Ok(asked.copy());
         }
         // Room first, so that the step can always be written down.
-        self.log.reserve(1)?;
+        self.log.reserve()?;
         let asked = self.routine.next(self.answer);
         self.asked = Some(asked.copy());
         Ok(asked)
@@ -146,8 +148,9 @@ impl<R, A: Allocator> Job<R, A> {
         };
         (Waiter { who, asked }, Parked::new(routine, log))
     }
+
     /// The goroutine, and its log.
-    pub(crate) fn into_log(self) -> (u32, Vec<Step, A>)
+    pub(crate) fn into_log(self) -> (u32, Log<A>)
     where
         R: Drop,
         ensures who { result.0 ≡ self.who }

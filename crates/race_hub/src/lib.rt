@@ -6,6 +6,7 @@ mod firing;
 mod hub;
 mod job;
 pub mod laws;
+mod log;
 mod moves;
 mod opening;
 mod parked;
@@ -17,6 +18,7 @@ mod waiters;
 pub use ending::End;
 pub use hub::{Hub, SubmitFault};
 pub use job::Job;
+pub use log::Log;
 pub use opening::HubFault;
 pub use race_requests::{
     Answer, Ask, Board, Choice, Found, Offer, Offers, OffersFull, Request, Step, Waiter,

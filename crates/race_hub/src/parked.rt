@@ -1,9 +1,9 @@
 //! The box and the log behind a request that waits.
-ghost use Rattle.std.specs.Prelude.{◌≡◌, ◌<◌, Some, None, vec_len, vec_capacity};
+ghost use Rattle.std.specs.Prelude.{◌≡◌, true, Some, None};
 ghost use Rattle.race_hub.specs.Hub.{ParkedState};
 ghost use Rattle.race_hub.specs.Fires.{answered, with_step};
 
-use crate::{Answer, Job, Step, Waiter};
+use crate::{Answer, Job, Log, Step, Waiter};
 use std::alloc::{Allocator, Global};
 use std::marker::Model;
 
@@ -11,11 +11,11 @@ use std::marker::Model;
 #[derive(Drop)]
 pub struct Parked<R, A: Allocator = Global> {
     routine: R,
-    log: Vec<Step, A>,
+    log: Log<A>,
 }
 
 impl<R, A: Allocator> Model for Parked<R, A> {
-    ghost use Rattle.std.specs.Prelude.{◌<◌, vec_len, vec_capacity};
+    ghost use Rattle.std.specs.Prelude.{◌≡◌, true};
     ghost use Rattle.race_hub.specs.Hub.{ParkedState};
 
     ghost Value = { ParkedState R };
@@ -23,13 +23,13 @@ impl<R, A: Allocator> Model for Parked<R, A> {
     ghost view = { λ p. record { routine = p.routine; log = p.log.items } };
 
     // A step can always be written down.
-    ghost invariant = { λ p. vec_len p.log < vec_capacity p.log };
+    ghost invariant = { λ p. p.log.has_room ≡ true };
 }
 
 impl<R, A: Allocator> Parked<R, A> {
     /// A box and a log that has room.
-    pub(crate) fn new(routine: R, log: Vec<Step, A>) -> Parked<R, A>
-        requires { vec_len log < vec_capacity log }
+    pub(crate) fn new(routine: R, log: Log<A>) -> Parked<R, A>
+        requires { log.has_room ≡ true }
         ensures { result ≡ record { routine = routine; log = log.items } }
     {
         Parked { routine, log }
@@ -49,7 +49,7 @@ impl<R, A: Allocator> Parked<R, A> {
     }
 
     /// The log.
-    pub(crate) fn into_log(self) -> Vec<Step, A>
+    pub(crate) fn into_log(self) -> Log<A>
     where
         R: Drop,
         ensures { result.items ≡ self.log }
@@ -78,7 +78,7 @@ impl<R, A: Allocator> Parked<R, A> {
 #[derive(Drop)]
 pub struct Ended<A: Allocator = Global> {
     who: u32,
-    log: Vec<Step, A>,
+    log: Log<A>,
 }
 
 impl<A: Allocator> Model for Ended<A> {
@@ -92,7 +92,7 @@ impl<A: Allocator> Model for Ended<A> {
 
 impl<A: Allocator> Ended<A> {
     /// The goroutine, and its log.
-    pub(crate) fn into_log(self) -> (u32, Vec<Step, A>)
+    pub(crate) fn into_log(self) -> (u32, Log<A>)
         ensures who { result.0 ≡ self.0 }
         ensures log { result.1.items ≡ self.1 }
     {

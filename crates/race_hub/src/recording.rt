@@ -10,7 +10,7 @@ ghost use Rattle.race_hub.specs.Recording.{AreParts};
 
 use crate::track::Track;
 use crate::waiters::request_of;
-use crate::{End, Request, Step, Waiter};
+use crate::{End, Log, Request, Waiter};
 use race_records::Trace;
 use std::alloc::{Allocator, Global};
 use std::marker::Model;
@@ -100,10 +100,10 @@ impl<A: Allocator> Recording<A> {
     }
 
     /// The log of the goroutine, which is its part of the trace.
-    pub fn logs(&self, goroutine: u32) -> &[Step]
+    pub fn logs(&self, goroutine: u32) -> &Log<A>
         requires { goroutine < count_of Kind.Goroutine self.now.decls.declarations }
-        ensures log { slice_get self.now.logs goroutine ≡ Some result.now }
-        ensures part { IsPart goroutine result.now self.now.events }
+        ensures log { slice_get self.now.logs goroutine ≡ Some result.now.items }
+        ensures part { IsPart goroutine result.now.items self.now.events }
     {
         self.tracks[goroutine as usize].log()
     }

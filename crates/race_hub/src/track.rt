@@ -8,7 +8,7 @@ ghost use Rattle.race_hub.specs.Finish.{placed, logs_of_jobs, logs_behind, IsLea
 
 use crate::firing::started_in;
 use crate::parked::{Ended, Parked};
-use crate::{Job, Step, Waiter, fits_step};
+use crate::{Job, Log, Waiter, fits_step};
 use race_records::{Event, Op};
 use std::alloc::{AllocError, Allocator, Global};
 use std::marker::Model;
@@ -16,7 +16,7 @@ use std::marker::Model;
 /// The log of a goroutine, and how many of its steps the events so far have: none where they aren't its first.
 #[derive(Drop)]
 pub(crate) struct Track<A: Allocator = Global> {
-    log: Vec<Step, A>,
+    log: Log<A>,
     passed: Option<usize>,
 }
 
@@ -30,7 +30,7 @@ impl<A: Allocator> Model for Track<A> {
 
 impl<A: Allocator> Track<A> {
     /// A log before the first event.
-    pub(crate) fn new(log: Vec<Step, A>) -> Track<A>
+    pub(crate) fn new(log: Log<A>) -> Track<A>
         ensures { result ≡ fresh log.items }
     {
         Track {
@@ -40,10 +40,10 @@ impl<A: Allocator> Track<A> {
     }
 
     /// The log.
-    pub(crate) fn log(&self) -> &[Step]
-        ensures { result.now ≡ self.now.log }
+    pub(crate) fn log(&self) -> &Log<A>
+        ensures { result.now.items ≡ self.now.log }
     {
-        self.log.as_slice()
+        &self.log
     }
 
     // How many steps are passed with one event more of its goroutine's part.
@@ -53,7 +53,7 @@ impl<A: Allocator> Track<A> {
             → IsPassed goroutine self.now.log (past ++ event.now ∷ []) result }
     {
         let at = self.passed?;
-        if at < self.log.len() && fits_step(goroutine, &self.log[at], event) {
+        if at < self.log.len() && fits_step(goroutine, &self.log.step(at), event) {
             Some(at + 1)
         } else {
             None
@@ -80,13 +80,13 @@ pub(crate) fn blank_tracks<A: Allocator + Copy>(
 {
     let mut tracks = Vec::new(alloc);
     for _ in 0..count {
-        tracks.push(Track::new(Vec::new(alloc)))?;
+        tracks.push(Track::new(Log::new(alloc)))?;
     }
     Ok(tracks)
 }
 
 // Puts the log in its goroutine's place.
-fn put<A: Allocator>(tracks: &mut Vec<Track<A>, A>, goroutine: u32, log: Vec<Step, A>)
+fn put<A: Allocator>(tracks: &mut Vec<Track<A>, A>, goroutine: u32, log: Log<A>)
     ensures { tracks.new.items ≡ slice_set tracks.old.items goroutine (fresh log.items) }
 {
     let at = goroutine as usize;

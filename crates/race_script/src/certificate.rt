@@ -64,7 +64,7 @@ fn stuck_at<A: Allocator>(
     let log = recording.logs(goroutine);
     let mut position = 0usize;
     for k in 0..log.len() {
-        match course.passed(position, &log[k]) {
+        match course.passed(position, &log.step(k)) {
             Some(behind) => position = behind,
             None => return Some(position),
         }

@@ -2,7 +2,7 @@
 
 use crate::asks::{Asks, Plain, ask_of, hub_of};
 use crate::turns::go_on;
-use race_hub::{Answer, Hub, Recording, Request, Step};
+use race_hub::{Answer, Hub, Log, Recording, Request, Step};
 use race_record::record_serial;
 use race_records::{Kind, Object};
 use std::alloc::{AllocError, Global};
@@ -11,8 +11,8 @@ use std::test::Fail;
 /// What was asked and what was told in a step.
 type Told = (Plain, Option<Answer>);
 
-/// The log of a goroutine, and what it waits with.
-type Log = (&'static [Told], Option<Plain>);
+/// What the log of a goroutine says, and what it waits with.
+type Lines = (&'static [Told], Option<Plain>);
 
 /// The object, how many events there may be, what main and w ask, the picks, and the logs of both.
 struct Row {
@@ -21,7 +21,7 @@ struct Row {
     main: &'static [Plain],
     other: &'static [Plain],
     picks: &'static [u64],
-    logs: (Log, Log),
+    logs: (Lines, Lines),
 }
 
 // Main starts w and reads, and w writes, which is the last event.
@@ -37,7 +37,7 @@ const LIMITED: Row = Row {
     ),
 };
 
-const NOTHING: Log = (&[], None);
+const NOTHING: Lines = (&[], None);
 
 static ROWS: [Row; 6] = [
     LIMITED,
@@ -148,15 +148,19 @@ fn is_step(step: &Step, told: Told) -> bool {
     is_asked(&step.asked, told.0) && step.told == told.1
 }
 
-fn are_steps(steps: &[Step], log: &[Told]) -> bool {
-    steps.len() == log.len()
-        && steps
-            .iter()
-            .zip(log)
-            .all(|(step, told)| is_step(step, *told))
+fn are_steps(steps: &Log, log: &[Told]) -> bool {
+    if steps.len() != log.len() {
+        return false;
+    }
+    for at in 0..steps.len() {
+        if !is_step(&steps.step(at), log[at]) {
+            return false;
+        }
+    }
+    true
 }
 
-fn is_log(recording: &Recording, goroutine: u32, log: Log) -> bool {
+fn is_log(recording: &Recording, goroutine: u32, log: Lines) -> bool {
     let waits = match (recording.waiting(goroutine), log.1) {
         (Some(request), Some(ask)) => is_asked(request, ask),
         (None, None) => true,

@@ -2,7 +2,7 @@
 
 use crate::asks::{Asks, Plain, ask_of, box_of, boxes_of};
 use crate::turns::go_on;
-use race_hub::{Answer, End, Hub, Recording, SubmitFault};
+use race_hub::{Answer, End, Hub, Log, Recording, SubmitFault};
 use race_record::{record, record_serial};
 use race_records::{Decls, Object, Op};
 use std::alloc::{AllocError, Global};
@@ -65,6 +65,17 @@ fn waits(recording: &Recording, asks: &[Plain]) -> bool {
     }
 }
 
+// Whether each step asks to begin the once, and is told to run its function.
+fn is_told_to_run(log: &Log) -> bool {
+    for at in 0..log.len() {
+        let step = log.step(at);
+        if step.asked.ask != ask_of(Plain::Do(0)) || step.told != Some(Answer::Run) {
+            return false;
+        }
+    }
+    true
+}
+
 // Whether nothing happened but that the once was begun, and main was told to run its function.
 fn has_begun_alone(recording: &Recording) -> bool {
     let is_begin = recording
@@ -72,9 +83,7 @@ fn has_begun_alone(recording: &Recording) -> bool {
         .events()
         .iter()
         .all(|event| event.who == 0 && event.op == Op::OnceBegin(0));
-    let is_told = recording.logs(0).iter().all(|step| step.asked.ask == ask_of(Plain::Do(0))
-        && step.told == Some(Answer::Run));
-    is_begin && is_told
+    is_begin && is_told_to_run(recording.logs(0))
 }
 
 // Whether all but the last of these happened, and the run ended there.

@@ -35,7 +35,7 @@ static ROWS: [Row; 5] = [
 // Whether the recording tells main that in this step of its log, which has so many.
 fn tells_main(recording: &Recording, at: usize, told: Answer, count: usize) -> bool {
     let log = recording.logs(0);
-    at < log.len() && log[at].told == Some(told) && log.len() == count
+    at < log.len() && log.step(at).told == Some(told) && log.len() == count
 }
 
 fn comes(alloc: Global, row: &Row) -> Result<bool, Fail> {

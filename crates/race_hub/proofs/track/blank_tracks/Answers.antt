@@ -9,7 +9,7 @@ loop-init g c = blank_none c.new-tracks.result.items c.new-tracks.ensures.items
 pub loop-preserved : goal.loop-preserved
 loop-preserved g c =
     subst (AreBlank (c.loop.counter + 1)) (sym c.in_ok-push.ensures.items)
-    (blank_more c.loop.counter c.loop.tracks.items c.new-in-loop.result c.loop.invariant (c.new-in-loop.ensures ∙ ap fresh c.new.ensures.items))
+    (blank_more c.loop.counter c.loop.tracks.items c.new-in-loop.result c.loop.invariant (c.new-in-loop.ensures ∙ ap fresh c.new.ensures))
 
 pub returns : goal.returns
 returns g c =

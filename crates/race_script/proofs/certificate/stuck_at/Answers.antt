@@ -3,7 +3,6 @@ use Rattle.std.proofs.Common.{◌≡◌, ◌&&◌, not, List, length}
 use Rattle.std.proofs.Common.{slice_get, Some, None, refl, sym, ap, subst, ◌∙◌}
 use Rattle.std.proofs.Common.{arith, true≢false}
 use Rattle.std.specs.Option.{option_copied}
-use Rattle.std.proofs.lemmas.Option.{slice_get-get_or}
 use Rattle.race_records.specs.Declarations.{DeclsState}
 use Rattle.race_records.specs.declared.event.Event.{Event}
 use Rattle.race_model.specs.Events.{takes_part, starts}
@@ -24,8 +23,7 @@ returns-in-None g c body is =
     let part = part_of who recording.events in
     let waiting = waiting_of who recording.waiting in
     let own = spelled c.decls.result.now.places c.body.result.now in
-    let at = slice_get-get_or c.logs-log.result.now c.loop-k.k c.index-log-k.result c.loop-k-test.true ∙ ap Some (sym c.index-log-k.is) in
-    let e = event_of who c.logs-log.result.now recording.events c.loop-k.k c.index-log-k.result c.logs-log.ensures.part at in
+    let e = event_of who c.logs-log.result.now.items recording.events c.loop-k.k c.step.result c.logs-log.ensures.part c.step.ensures in
     let n = in_list (λ (e : Event). takes_part who e && not (starts who e.op)) recording.events c.loop-k.k e.0 e.1 in
     let fails = c.last_fault.ensures n.0 e.0 (ap (λ (es : List Event). slice_get es n.0) c.trace-2.ensures.events ∙ n.1) in
     let misfit = subst (IsPassed own c.decls-2.result.now.places who c.loop-k.position e.0) c.in-None.is (c.passed.ensures e.0 e.2 fails) in
@@ -41,8 +39,7 @@ loop-k-preserved g c =
     let recording = c.args.recording.now in
     let part = part_of who recording.events in
     let own = spelled c.decls.result.now.places c.body.result.now in
-    let at = slice_get-get_or c.logs-log.result.now c.loop-k.k c.index-log-k.result c.loop-k-test.true ∙ ap Some (sym c.index-log-k.is) in
-    let e = event_of who c.logs-log.result.now recording.events c.loop-k.k c.index-log-k.result c.logs-log.ensures.part at in
+    let e = event_of who c.logs-log.result.now.items recording.events c.loop-k.k c.step.result c.logs-log.ensures.part c.step.ensures in
     let n = in_list (λ (e : Event). takes_part who e && not (starts who e.op)) recording.events c.loop-k.k e.0 e.1 in
     let fails = c.last_fault.ensures n.0 e.0 (ap (λ (es : List Event). slice_get es n.0) c.trace-2.ensures.events ∙ n.1) in
     let fits = subst (IsPassed own c.decls-2.result.now.places who c.loop-k.position e.0) c.in-Some.is (c.passed.ensures e.0 e.2 fails) in
@@ -62,7 +59,8 @@ returns-in-Some-waiting g c body is =
     let asks : waiting ≡ Some c.in-Some-waiting.request.now = sym c.waiting.ensures ∙ ap (λ o. option_copied o) c.in-Some-waiting.is in
     let many = c.logs-log.ensures.part.as_many in
     let end = c.loop-k-test.false in
-    let all : length part ≡ c.loop-k.k = omega (arith, many, end) in
+    let count = c.len-k-end.ensures in
+    let all : length part ≡ c.loop-k.k = omega (arith, many, end, count) in
     let stuck = stuck_behind own c.decls-2.result.now.places who part waiting c.loop-k.k c.loop-k.position all c.loop-k.invariant.follows
     c.loop-k.invariant.position
     (λ waits. true≢false (sym (c.if-not-waits.ensures.1 (subst (WaitsAt own c.decls-2.result.now.places who c.loop-k.position) asks waits)))) in
@@ -82,7 +80,8 @@ returns-in_default g c body is =
     let asks : waiting ≡ Some c.in-Some-waiting.request.now = sym c.waiting.ensures ∙ ap (λ o. option_copied o) c.in-Some-waiting.is in
     let many = c.logs-log.ensures.part.as_many in
     let end = c.loop-k-test.false in
-    let all : length part ≡ c.loop-k.k = omega (arith, many, end) in
+    let count = c.len-k-end.ensures in
+    let all : length part ≡ c.loop-k.k = omega (arith, many, end, count) in
     let run = runs own c.decls-2.result.now.places who part waiting c.loop-k.k c.loop-k.position all c.loop-k.invariant.follows c.loop-k.invariant.position
     (subst (WaitsAt own c.decls-2.result.now.places who c.loop-k.position) (sym asks) (c.if-not-waits.ensures.0 refl)) in
     same_stop who part waiting None c.decls.result.now.places c.args.program.now.decls.places c.decls-2.result.now.places recording.decls.places
@@ -101,7 +100,8 @@ returns-in_default-2 g c body is =
     let asks : waiting ≡ None = sym c.waiting.ensures ∙ ap (λ o. option_copied o) c.in_default.is in
     let many = c.logs-log.ensures.part.as_many in
     let end = c.loop-k-test.false in
-    let all : length part ≡ c.loop-k.k = omega (arith, many, end) in
+    let count = c.len-k-end.ensures in
+    let all : length part ≡ c.loop-k.k = omega (arith, many, end, count) in
     let run = runs own c.decls-2.result.now.places who part waiting c.loop-k.k c.loop-k.position all c.loop-k.invariant.follows c.loop-k.invariant.position
     (subst (WaitsAt own c.decls-2.result.now.places who c.loop-k.position) (sym asks) tt) in
     same_stop who part waiting None c.decls.result.now.places c.args.program.now.decls.places c.decls-2.result.now.places recording.decls.places
@@ -110,6 +110,3 @@ returns-in_default-2 g c body is =
 
 pub logs-log-requires : goal.logs-log-requires
 logs-log-requires c = grind (arith, common_steps) steps 300000
-
-pub bounds-log-k : goal.bounds-log-k
-bounds-log-k c = grind (arith, common_steps) steps 300000

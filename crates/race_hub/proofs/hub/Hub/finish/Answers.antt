@@ -4,7 +4,7 @@ use Rattle.std.specs.Prelude.{is_some}
 use Rattle.race_hub.specs.Hub.{HubState, end_of}
 use Rattle.race_hub.specs.HubHolds.{hub_state}
 use Rattle.race_hub.specs.Recording.{HasEnded}
-use Rattle.race_hub.specs.Finish.{IsRecorded, IsMismatch}
+use Rattle.race_hub.specs.Finish.{IsRecorded, IsLeast, IsMismatch}
 use Rattle.race_hub.specs.declared.recording.Mismatch.{Mismatch}
 use Rattle.race_hub.proofs.FinishLemmas.{right_of, told_of, parts_are, logs_are, other_is, end_is}
 use Rattle.race_hub.proofs.hub.Hub.finish.Goals as goal
@@ -97,7 +97,10 @@ pub returns-in-Some-least-clause-end : goal.returns-in-Some-least-clause-end
 returns-in-Some-least-clause-end c = grind (arith, common_steps) steps 1000000
 
 pub returns-in-Some-least-clause-err : goal.returns-in-Some-least-clause-err
-returns-in-Some-least-clause-err c = grind (arith, common_steps) steps 1000000
+returns-in-Some-least-clause-err g c =
+    let ended : end_of (hub_state c.self.inside) ≡ Some c.in-Some.end = ap end_of c.self.view_is ∙ sym c.end.ensures ∙ c.in-Some.is in
+    subst (λ h. IsMismatch h (Mismatch.Out c.in-Some-least.goroutine)) c.self.view_is
+    (ap is_some ended, subst (IsLeast c.in-Some-least.goroutine) c.as_slice.ensures.value c.in-Some-least.ensures.some)
 
 pub returns-in-Some-least-clause-ok : goal.returns-in-Some-least-clause-ok
 returns-in-Some-least-clause-ok c = grind (arith, common_steps) steps 1000000

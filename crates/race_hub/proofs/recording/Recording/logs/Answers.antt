@@ -23,8 +23,8 @@ returns-clause-part g c =
     let at = slice_get-map (λ (t : TrackState). t.log) c.self.inside.tracks.items c.args.goroutine
     ∙ ap (option_map (λ (t : TrackState). t.log))
     (slice_get-get_or c.self.inside.tracks.items c.args.goroutine c.index.result.now within ∙ ap Some (sym c.index.ensures)) in
-    subst (IsPart c.args.goroutine c.log.result.now) (ap (λ (r : RecordingState). r.events) c.self.view_is)
-    (c.self.invariant.parts c.args.goroutine c.log.result.now (at ∙ ap Some (sym c.log.ensures)))
+    subst (IsPart c.args.goroutine c.log.result.now.items) (ap (λ (r : RecordingState). r.events) c.self.view_is)
+    (c.self.invariant.parts c.args.goroutine c.log.result.now.items (at ∙ ap Some (sym c.log.ensures)))
 
 pub returns-clause-log : goal.returns-clause-log
 returns-clause-log c = grind (arith, elements) steps 1000000

@@ -218,7 +218,7 @@ impl Growing for Row {
 
 // The judge by one shard takes eight lists: four of the replay, for goroutines and variables, the list of shards, one for
 // the shard's clocks, one for what is kept of its variables, and the races. A second shard takes two of its own. What
-// is kept of a line that comes in pieces grows twice. A judged
+// is kept of a line that comes in pieces grows twice. The log of each of a run's two goroutines takes three. A judged
 // run takes what the run takes, and then what its judge does. Workers take a copy of the declarations besides. A witness
 // takes four lists more for another replay, one for the clocks of each of three walks, and one for its order. A drawing takes
 // what the judge by one shard takes, six lists for its edges, one for the clocks of a walk, and one of layouts; a layout takes
@@ -230,16 +230,16 @@ static ENGINES: [(Engine, Ending, u64); 15] = [
     (Engine::CheckPieces(2), CHECKED, 27),
     (Engine::Check(Judging::Plain), CHECKED, 26),
     (Engine::Edges, LISTED, 21),
-    (Engine::Run(None), RUN_BY_PICKS, 47),
-    (Engine::Run(Some(1)), RUN_BY_WORKERS, 60),
-    (Engine::Run(Some(2)), RUN_BY_WORKERS, 60),
-    (Engine::Race(None, Judging::Shards(1)), RACED, 55),
+    (Engine::Run(None), RUN_BY_PICKS, 51),
+    (Engine::Run(Some(1)), RUN_BY_WORKERS, 64),
+    (Engine::Run(Some(2)), RUN_BY_WORKERS, 64),
+    (Engine::Race(None, Judging::Shards(1)), RACED, 59),
     (
         Engine::Race(Some(2), Judging::Shards(2)),
         RACED_BY_WORKERS,
-        70,
+        74,
     ),
-    (Engine::Race(None, Judging::Plain), RACED, 58),
+    (Engine::Race(None, Judging::Plain), RACED, 62),
     (Engine::Witness, SHOWN, 31),
     (Engine::Draw(false), DRAWN, 36),
     (Engine::Draw(true), DRAWN_AS_SVG, 36),

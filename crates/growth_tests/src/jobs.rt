@@ -81,12 +81,13 @@ impl Growing for Call {
 }
 
 static CALLS: [(Call, u64); 4] = [
-    // The log is made with room for four steps, and grows with the fifth.
-    (Call::Turn(&[]), 1),
+    // The log is made with room for four steps: what is asked, the offers of selects, what is told. With the fifth step what is
+    // asked grows, and what is told.
+    (Call::Turn(&[]), 3),
     (Call::Turn(&[Move::Step]), 0),
     (
         Call::Turn(&[Move::Step, Move::Step, Move::Step, Move::Step]),
-        1,
+        2,
     ),
     // The kept request is given.
     (Call::Again, 0),

@@ -73,9 +73,9 @@ impl Growing for Records {
     }
 }
 
-// The log, the requests and what stands behind them, who is through, and the trace. Workers take a copy of the
+// The three lists of the log, the requests and what stands behind them, who is through, and the trace. Workers take a copy of the
 // declarations before.
-static CALLS: [(Option<usize>, u64); 3] = [(None, 5), (Some(1), 17), (Some(2), 17)];
+static CALLS: [(Option<usize>, u64); 3] = [(None, 7), (Some(1), 19), (Some(2), 19)];
 
 #[test]
 fn recordings(rt: HostRuntime) {

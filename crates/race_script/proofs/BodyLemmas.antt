@@ -1,10 +1,10 @@
 -- Where a body ends, and where the functions of its onces do.
-use Rattle.std.proofs.Common.{◌≡◌, ℕ, zero, suc, ◌+◌, ◌-◌, ◌<◌, ◌==◌, ◌&&◌, Bool, true, false, true≢false, nat_lt, nat_le}
+use Rattle.std.proofs.Common.{◌≡◌, ℕ, zero, suc, ◌+◌, ◌-◌, ◌<◌, ◌≤◌, ◌==◌, ◌&&◌, Bool, true, false, true≢false, nat_lt, nat_le}
 use Rattle.std.proofs.Common.{if◌then◌else◌, List, [], ◌∷◌, length, drop, get_or, slice_get, Option, Some, None, refl, sym, ap}
 use Rattle.std.proofs.Common.{◌∙◌, arith}
 use Rattle.std.proofs.lemmas.Bool.Decides.{nat_tests}
 use Rattle.std.proofs.lemmas.Option.{none-some, same_Some, slice_get_within, get_or_from_slice_get}
-use Rattle.std.proofs.lemmas.List.{length-map, get_or-map}
+use Rattle.std.proofs.lemmas.List.{length-map, get_or-map, drop_all}
 use Rattle.std.proofs.lemmas.List.Sums.{AllPass-from_list_all}
 use Rattle.std.specs.List.{list_all}
 use Rattle.std.specs.Option.{option_map_or}
@@ -16,12 +16,24 @@ use Rattle.race_script.specs.Bodies.{is_exit, is_do, after_ask, ends, is_body, i
 use Rattle.race_script.specs.Program.{ProgramState, IsProgram, asks_of, request_fits, is_body_of}
 
 -- the asks from an index on
-pub asks_from : (body : List Request) (i : ℕ) (d : Request) → i < length body → drop i (asks_of body) ≡ (get_or body i d).ask ∷ drop (i + 1) (asks_of body)
+asks_from : (body : List Request) (i : ℕ) (d : Request) → i < length body → drop i (asks_of body) ≡ (get_or body i d).ask ∷ drop (i + 1) (asks_of body)
 asks_from (r ∷ rs) zero d less = refl
 asks_from (r ∷ rs) (suc i) d less =
     let e : suc (i + 1) ≡ suc i + 1 = omega arith in
     asks_from rs i d (omega (arith, less)) ∙ ap (λ n. (get_or rs i d).ask ∷ drop n (asks_of (r ∷ rs))) e
 asks_from [] i d less = absurd (omega (arith, less))
+
+-- the ask at an index, and those behind it
+pub asks_at : (body : List Request) (i : ℕ) (r : Request) → slice_get body i ≡ Some r → drop i (asks_of body) ≡ r.ask ∷ drop (i + 1) (asks_of body)
+asks_at body i r is =
+    asks_from body i r (slice_get_within body i r is)
+    ∙ ap (λ (s : Request). s.ask ∷ drop (i + 1) (asks_of body)) (get_or_from_slice_get body i r r is)
+
+-- behind the last step there is no end
+pub none_behind : (body : List Request) (i depth : ℕ) → length body ≤ i → steps_to_end depth (drop i (asks_of body)) ≡ 0
+none_behind body i depth past =
+    let len = length-map body (λ (r : Request). r.ask) in
+    ap (steps_to_end depth) (drop_all i (asks_of body) (omega (arith, past, len)))
 
 -- an ask may go on, with these functions open
 goes_on : (o : Option (List ℕ)) (asks : List Ask) → option_map_or (λ inside. ends inside asks) o false ≡ true

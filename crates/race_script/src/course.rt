@@ -1,6 +1,5 @@
 //! A goroutine's body, and how the steps of its log go along it.
 ghost use Rattle.std.specs.Prelude.{ℕ, ◌≡◌, ◌<◌, ◌↔◌, if◌then◌else◌, IsTrue, Some, length, slice_get};
-ghost use Rattle.std.specs.Option.{option_copied};
 ghost use Rattle.race_records.specs.Declarations.{capacity_of};
 ghost use Rattle.race_records.specs.declared.event.Event.{Event as EventValue};
 ghost use Rattle.race_records.specs.declared.event.Op.TheVariants.{TryLock, TryRLock, TryFail};
@@ -12,15 +11,16 @@ ghost use Rattle.race_script.specs.Course as course;
 ghost use Rattle.race_script.specs.Course.{FailsBy, IsPassed};
 ghost use Rattle.race_script.specs.Program.{asks_of, instruction, spelled};
 
-use crate::script::{is_done, is_exit, steps_to_end};
+use crate::script::{behind_end, is_done, is_exit};
 use race_hub::{Answer, Ask, Offer, Offers, Request, Step, can_make};
 use race_records::{Cause, Decls, Op, Trace};
+use race_requests::RequestList;
 use std::alloc::Allocator;
 
 /// The body of a goroutine, with the places of its program and those of a recording.
 #[derive(Drop)]
 pub(crate) struct Course<'a, A: Allocator> {
-    pub(crate) body: &'a [Request],
+    pub(crate) body: &'a RequestList<A>,
     pub(crate) places: &'a Decls<A>,
     pub(crate) recorded: &'a Decls<A>,
     pub(crate) goroutine: u32,
@@ -32,11 +32,13 @@ impl<'a, A: Allocator> Course<'a, A> {
     /// The position behind the step of the log, where the body's step at the position makes what the goroutine did.
     pub(crate) fn passed(&self, position: usize, step: &Step) -> Option<usize>
         ensures { (e : EventValue) → Fits self.now.goroutine step.now e → FailsBy self.now.fault e.op
-            → IsPassed (spelled self.now.places.now.places self.now.body.now) self.now.recorded.now.places self.now.goroutine position e result }
+            → IsPassed (spelled self.now.places.now.places self.now.body.now.items) self.now.recorded.now.places self.now.goroutine position e result }
     {
         let request = self.at(position)?;
         let made = made_in(step, self.fault)?;
-        if can_make(self.goroutine, &request.ask, &made) && self.stand_alike(request, &step.asked) {
+        if can_make(self.goroutine, &request.ask, &made)
+            && self.stand_alike(&request, &step.asked)
+        {
             Some(behind(self.body, position, &made))
         } else {
             None
@@ -45,22 +47,22 @@ impl<'a, A: Allocator> Course<'a, A> {
 
     /// Whether the body's step at the position is what waits.
     pub(crate) fn waits(&self, position: usize, request: &Request) -> bool
-        ensures { IsTrue result ↔ (slice_get (spelled self.now.places.now.places self.now.body.now) position
+        ensures { IsTrue result ↔ (slice_get (spelled self.now.places.now.places self.now.body.now.items) position
             ≡ Some (instruction self.now.recorded.now.places request.now)) }
     {
         match self.at(position) {
-            Some(asked) => is_same(&asked.ask, &request.ask) && self.stand_alike(asked, request),
+            Some(asked) => is_same(&asked.ask, &request.ask) && self.stand_alike(&asked, request),
             None => false,
         }
     }
 
     // The body's step at the position.
-    fn at(&self, position: usize) -> Option<&Request>
-        ensures { option_copied result ≡ slice_get self.now.body.now position }
+    fn at(&self, position: usize) -> Option<Request>
+        ensures { result ≡ slice_get self.now.body.now.items position }
     {
         let body = self.body;
         if position < body.len() {
-            Some(&body[position])
+            Some(body.get(position))
         } else {
             None
         }
@@ -94,12 +96,14 @@ fn place_text<A: Allocator>(decls: &Decls<A>, place: u32) -> &str
 }
 
 // The position behind a step that made this.
-fn behind(body: &[Request], position: usize, made: &Op) -> usize
-    requires { position < length body.now }
-    ensures { result ≡ spec.after_event (asks_of body.now) position made.now }
+fn behind<A: Allocator>(body: &RequestList<A>, position: usize, made: &Op) -> usize
+    requires { position < length body.now.items }
+    ensures { result ≡ spec.after_event (asks_of body.now.items) position made.now }
 {
+    // A proof knows that there may be one more once they are counted.
+    let _count = body.len();
     match made {
-        Op::OnceDone(_) => position + 1 + steps_to_end(&body[position + 1..]),
+        Op::OnceDone(_) => behind_end(body, position + 1),
         _ => position + 1,
     }
 }

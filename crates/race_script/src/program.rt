@@ -2,8 +2,8 @@
 ghost use Rattle.std.specs.Prelude.{◌≡◌, ◌<◌, Some, map, slice_get};
 ghost use Rattle.race_records.specs.Declarations.{count_of};
 
-use race_hub::Request;
 use race_records::{Decls, Kind};
+use race_requests::RequestList;
 use std::alloc::{Allocator, Global};
 use std::marker::Model;
 
@@ -13,7 +13,7 @@ pub const MAX_STEPS: usize = 65_535;
 /// Declarations, and for each goroutine its body: the requests that it makes, one after another.
 pub struct Program<A: Allocator = Global> {
     decls: Decls<A>,
-    bodies: Vec<Vec<Request, A>, A>,
+    bodies: Vec<RequestList<A>, A>,
 }
 
 impl<A: Allocator> Drop for Program<A> {
@@ -40,7 +40,7 @@ impl<A: Allocator> Program<A> {
     ghost use Rattle.race_script.specs.Program.{IsProgram, ProgramState};
 
     // The program of these declarations and bodies. Takes no memory.
-    pub(crate) fn new(decls: Decls<A>, bodies: Vec<Vec<Request, A>, A>) -> Program<A>
+    pub(crate) fn new(decls: Decls<A>, bodies: Vec<RequestList<A>, A>) -> Program<A>
         requires { IsProgram (record { decls = decls; bodies = map (λ body. body.items) bodies.items }) }
         ensures { result ≡ record { decls = decls; bodies = map (λ body. body.items) bodies.items } }
     {
@@ -56,11 +56,11 @@ impl<A: Allocator> Program<A> {
     }
 
     /// The body of the goroutine.
-    pub fn body(&self, goroutine: u32) -> &[Request]
+    pub fn body(&self, goroutine: u32) -> &RequestList<A>
         requires { goroutine < count_of Kind.Goroutine self.now.decls.declarations }
-        ensures body { slice_get self.now.bodies goroutine ≡ Some result.now }
+        ensures body { slice_get self.now.bodies goroutine ≡ Some result.now.items }
         ensures program { IsProgram self.now }
     {
-        self.bodies[goroutine as usize].as_slice()
+        &self.bodies[goroutine as usize]
     }
 }

@@ -25,6 +25,7 @@ use crate::program::{MAX_STEPS, Program};
 use crate::script::is_exit;
 use race_hub::{Ask, Request};
 use race_records::{DeclFault, Decls, Kind, Noun, PartKind, Version, as_text};
+use race_requests::RequestList;
 use race_text::{
     Field, Grammar, TextCause, Word, cause_of, cut_at, has_bad_byte, read_declaration, word_cause,
 };
@@ -36,7 +37,7 @@ use std::mem;
 #[derive(Drop)]
 pub struct Unended<A: Allocator> {
     /// Its requests so far.
-    pub requests: Vec<Request, A>,
+    pub requests: RequestList<A>,
     /// The onces whose functions are open, the innermost last.
     pub onces: Vec<u32, A>,
 }
@@ -46,7 +47,7 @@ pub struct Reader<A: Allocator> {
     alloc: A,
     has_header: bool,
     decls: Decls<A>,
-    ended: Vec<Vec<Request, A>, A>,
+    ended: Vec<RequestList<A>, A>,
     unended: Option<Unended<A>>,
 }
 
@@ -384,7 +385,7 @@ impl<A: Allocator> Unended<A> {
         ensures onces { result.onces.items ≡ [] }
     {
         Unended {
-            requests: Vec::new(alloc),
+            requests: RequestList::new(alloc),
             onces: Vec::new(alloc),
         }
     }
@@ -450,7 +451,7 @@ fn enter<A: Allocator>(onces: &mut Vec<u32, A>, ask: &Ask) -> Result<bool, Alloc
 }
 
 // How many lines the bodies have.
-fn count_lines<A: Allocator>(bodies: &[Vec<Request, A>]) -> u64
+fn count_lines<A: Allocator>(bodies: &[RequestList<A>]) -> u64
     requires { sum_by (λ body. 1 + length body.items) bodies.now < 2 ^ 64 }
     ensures { result ≡ sum_by (λ body. 1 + length body.items) bodies.now }
 {

@@ -1,5 +1,5 @@
 //! A goroutine that asks what the body of a program says, step by step.
-ghost use Rattle.std.specs.Prelude.{◌≡◌, ◌<◌, ◌≤◌, ◌+◌, Some, slice_get, length, IfOk};
+ghost use Rattle.std.specs.Prelude.{◌≡◌, ◌<◌, ◌≤◌, ◌+◌, Some, slice_get, length, drop, IfOk};
 ghost use Rattle.race_records.specs.Declarations.{count_of};
 ghost use Rattle.race_script.specs.Bodies as bodies;
 ghost use Rattle.race_script.specs.Program.{asks_of};
@@ -8,13 +8,14 @@ ghost use Rattle.race_script.specs.Run as run;
 use crate::Program;
 use race_hub::{Answer, Ask, Request, Routine};
 use race_records::Kind;
+use race_requests::RequestList;
 use std::alloc::{AllocError, Allocator, Global};
 use std::marker::Model;
 
 /// The body of a goroutine, and how far it was asked.
 #[derive(Drop)]
 pub struct Script<A: Allocator = Global> {
-    whole: Vec<Request, A>,
+    whole: RequestList<A>,
     position: usize,
 }
 
@@ -31,7 +32,7 @@ impl<A: Allocator> Model for Script<A> {
     ghost invariant = { λ s. (is_body (asks_of s.whole.items) ≡ true) × (s.position < length s.whole.items) };
 }
 
-impl<A: Allocator> Script<A> {
+impl<A: Allocator + Copy> Script<A> {
     /// The goroutine's body, of which nothing was asked.
     pub fn new(alloc: A, program: &Program<A>, goroutine: u32) -> Result<Script<A>, AllocError>
         requires { goroutine < count_of Kind.Goroutine program.now.decls.declarations }
@@ -39,18 +40,20 @@ impl<A: Allocator> Script<A> {
         ensures position { IfOk result (λ s. s.position ≡ 0) }
     {
         let body = program.body(goroutine);
-        let mut whole = Vec::new(alloc);
-        for request in body {
-            whole.push(request.copy())?;
+        let mut whole = RequestList::new(alloc);
+        for step in 0..body.len() {
+            whole.push(body.get(step))?;
         }
         Ok(Script { whole, position: 0 })
     }
+}
 
+impl<A: Allocator> Script<A> {
     /// The steps of the whole body.
-    pub fn whole(&self) -> &[Request]
-        ensures { result.now ≡ self.now.whole }
+    pub fn whole(&self) -> &RequestList<A>
+        ensures { result.now.items ≡ self.now.whole }
     {
-        self.whole.as_slice()
+        &self.whole
     }
 
     /// The index of the step that comes next, unless the function of a once had run.
@@ -66,7 +69,7 @@ impl<A: Allocator> Script<A> {
         ensures within { result < length self.now.whole }
     {
         if self.is_behind_do() && is_done(answer) {
-            return self.position + steps_to_end(&self.whole[self.position..]);
+            return behind_end(&self.whole, self.position);
         }
         self.position
     }
@@ -75,7 +78,7 @@ impl<A: Allocator> Script<A> {
     fn is_behind_do(&self) -> bool
         ensures { result ≡ bodies.is_behind_do (asks_of self.now.whole) self.now.position }
     {
-        self.position > 0 && is_do(&self.whole[self.position - 1].ask)
+        self.position > 0 && is_do(&self.whole.get(self.position - 1).ask)
     }
 }
 
@@ -86,7 +89,9 @@ impl<A: Allocator + Send> Routine for Script<A> {
 
     fn next(&mut self, answer: Answer) -> Request {
         let step = self.next_step(answer);
-        let request = self.whole[step].copy();
+        let request = self.whole.get(step);
+        // A proof knows that there may be one more once they are counted.
+        let _count = self.whole.len();
         if !is_exit(&request.ask) {
             self.position = step + 1;
         } else {
@@ -121,23 +126,23 @@ fn is_end(ask: &Ask) -> bool
     matches!(ask, Ask::EndDo(_))
 }
 
-// How many steps there are up to the end of the function in which the first stands, that end counted.
-pub(crate) fn steps_to_end(steps: &[Request]) -> usize
-    ensures count { result ≡ bodies.steps_to_end 0 (asks_of steps.now) }
-    ensures within { result ≤ length steps.now }
+// The index behind the end of the function in which the step `from` stands.
+pub(crate) fn behind_end<A: Allocator>(steps: &RequestList<A>, from: usize) -> usize
+    requires { from ≤ length steps.now.items }
+    ensures end { result ≡ from + bodies.steps_to_end 0 (drop from (asks_of steps.now.items)) }
+    ensures within { result ≤ length steps.now.items }
 {
     let mut depth = 0usize;
-    let mut count = 0usize;
-    for step in steps {
-        count += 1;
-        if is_do(&step.ask) {
+    for at in from..steps.len() {
+        let ask = steps.get(at).ask;
+        if is_do(&ask) {
             depth += 1;
-        } else if is_end(&step.ask) {
+        } else if is_end(&ask) {
             if depth == 0 {
-                return count;
+                return at + 1;
             }
             depth -= 1;
         }
     }
-    count
+    steps.len()
 }

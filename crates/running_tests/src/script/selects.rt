@@ -191,7 +191,7 @@ fn has_select(program: &Program, row: &Read) -> bool {
         return false;
     }
     let body = program.body(row.goroutine);
-    body.len() == row.steps && row.at < body.len() && is_select(&body[row.at].ask, row)
+    body.len() == row.steps && row.at < body.len() && is_select(&body.get(row.at).ask, row)
 }
 
 fn is_read(alloc: Global, row: &Read) -> Result<bool, Fail> {

@@ -18,11 +18,11 @@ pub returns-in-None : goal.returns-in-None
 returns-in-None g c body is =
     let who = c.args.goroutine in
     let found = c.body.ensures.body in
-    let same : c.body.result.now ≡ body = cc in
+    let same : c.body.result.now.items ≡ body = cc in
     let recording = c.args.recording.now in
     let part = part_of who recording.events in
     let waiting = waiting_of who recording.waiting in
-    let own = spelled c.decls.result.now.places c.body.result.now in
+    let own = spelled c.decls.result.now.places c.body.result.now.items in
     let e = event_of who c.logs-log.result.now.items recording.events c.loop-k.k c.step.result c.logs-log.ensures.part c.step.ensures in
     let n = in_list (λ (e : Event). takes_part who e && not (starts who e.op)) recording.events c.loop-k.k e.0 e.1 in
     let fails = c.last_fault.ensures n.0 e.0 (ap (λ (es : List Event). slice_get es n.0) c.trace-2.ensures.events ∙ n.1) in
@@ -30,7 +30,7 @@ returns-in-None g c body is =
     let stuck = stuck_inside own c.decls-2.result.now.places who part waiting c.loop-k.k c.loop-k.position e.0 e.1 c.loop-k.invariant.follows
     c.loop-k.invariant.position misfit in
     same_stop who part waiting (Some c.loop-k.position) c.decls.result.now.places c.args.program.now.decls.places c.decls-2.result.now.places
-    recording.decls.places c.body.result.now body (ap (λ (d : DeclsState). d.places) c.decls.ensures.decls)
+    recording.decls.places c.body.result.now.items body (ap (λ (d : DeclsState). d.places) c.decls.ensures.decls)
     (ap (λ (d : DeclsState). d.places) (c.decls-2.ensures.decls ∙ c.trace.ensures.decls)) same stuck
 
 pub loop-k-preserved : goal.loop-k-preserved
@@ -38,7 +38,7 @@ loop-k-preserved g c =
     let who = c.args.goroutine in
     let recording = c.args.recording.now in
     let part = part_of who recording.events in
-    let own = spelled c.decls.result.now.places c.body.result.now in
+    let own = spelled c.decls.result.now.places c.body.result.now.items in
     let e = event_of who c.logs-log.result.now.items recording.events c.loop-k.k c.step.result c.logs-log.ensures.part c.step.ensures in
     let n = in_list (λ (e : Event). takes_part who e && not (starts who e.op)) recording.events c.loop-k.k e.0 e.1 in
     let fails = c.last_fault.ensures n.0 e.0 (ap (λ (es : List Event). slice_get es n.0) c.trace-2.ensures.events ∙ n.1) in
@@ -51,11 +51,11 @@ pub returns-in-Some-waiting : goal.returns-in-Some-waiting
 returns-in-Some-waiting g c body is =
     let who = c.args.goroutine in
     let found = c.body.ensures.body in
-    let same : c.body.result.now ≡ body = cc in
+    let same : c.body.result.now.items ≡ body = cc in
     let recording = c.args.recording.now in
     let part = part_of who recording.events in
     let waiting = waiting_of who recording.waiting in
-    let own = spelled c.decls.result.now.places c.body.result.now in
+    let own = spelled c.decls.result.now.places c.body.result.now.items in
     let asks : waiting ≡ Some c.in-Some-waiting.request.now = sym c.waiting.ensures ∙ ap (λ o. option_copied o) c.in-Some-waiting.is in
     let many = c.logs-log.ensures.part.as_many in
     let end = c.loop-k-test.false in
@@ -65,18 +65,18 @@ returns-in-Some-waiting g c body is =
     c.loop-k.invariant.position
     (λ waits. true≢false (sym (c.if-not-waits.ensures.1 (subst (WaitsAt own c.decls-2.result.now.places who c.loop-k.position) asks waits)))) in
     same_stop who part waiting (Some c.loop-k.position) c.decls.result.now.places c.args.program.now.decls.places c.decls-2.result.now.places
-    recording.decls.places c.body.result.now body (ap (λ (d : DeclsState). d.places) c.decls.ensures.decls)
+    recording.decls.places c.body.result.now.items body (ap (λ (d : DeclsState). d.places) c.decls.ensures.decls)
     (ap (λ (d : DeclsState). d.places) (c.decls-2.ensures.decls ∙ c.trace.ensures.decls)) same stuck
 
 pub returns-in_default : goal.returns-in_default
 returns-in_default g c body is =
     let who = c.args.goroutine in
     let found = c.body.ensures.body in
-    let same : c.body.result.now ≡ body = cc in
+    let same : c.body.result.now.items ≡ body = cc in
     let recording = c.args.recording.now in
     let part = part_of who recording.events in
     let waiting = waiting_of who recording.waiting in
-    let own = spelled c.decls.result.now.places c.body.result.now in
+    let own = spelled c.decls.result.now.places c.body.result.now.items in
     let asks : waiting ≡ Some c.in-Some-waiting.request.now = sym c.waiting.ensures ∙ ap (λ o. option_copied o) c.in-Some-waiting.is in
     let many = c.logs-log.ensures.part.as_many in
     let end = c.loop-k-test.false in
@@ -85,18 +85,18 @@ returns-in_default g c body is =
     let run = runs own c.decls-2.result.now.places who part waiting c.loop-k.k c.loop-k.position all c.loop-k.invariant.follows c.loop-k.invariant.position
     (subst (WaitsAt own c.decls-2.result.now.places who c.loop-k.position) (sym asks) (c.if-not-waits.ensures.0 refl)) in
     same_stop who part waiting None c.decls.result.now.places c.args.program.now.decls.places c.decls-2.result.now.places recording.decls.places
-    c.body.result.now body (ap (λ (d : DeclsState). d.places) c.decls.ensures.decls)
+    c.body.result.now.items body (ap (λ (d : DeclsState). d.places) c.decls.ensures.decls)
     (ap (λ (d : DeclsState). d.places) (c.decls-2.ensures.decls ∙ c.trace.ensures.decls)) same run
 
 pub returns-in_default-2 : goal.returns-in_default-2
 returns-in_default-2 g c body is =
     let who = c.args.goroutine in
     let found = c.body.ensures.body in
-    let same : c.body.result.now ≡ body = cc in
+    let same : c.body.result.now.items ≡ body = cc in
     let recording = c.args.recording.now in
     let part = part_of who recording.events in
     let waiting = waiting_of who recording.waiting in
-    let own = spelled c.decls.result.now.places c.body.result.now in
+    let own = spelled c.decls.result.now.places c.body.result.now.items in
     let asks : waiting ≡ None = sym c.waiting.ensures ∙ ap (λ o. option_copied o) c.in_default.is in
     let many = c.logs-log.ensures.part.as_many in
     let end = c.loop-k-test.false in
@@ -105,7 +105,7 @@ returns-in_default-2 g c body is =
     let run = runs own c.decls-2.result.now.places who part waiting c.loop-k.k c.loop-k.position all c.loop-k.invariant.follows c.loop-k.invariant.position
     (subst (WaitsAt own c.decls-2.result.now.places who c.loop-k.position) (sym asks) tt) in
     same_stop who part waiting None c.decls.result.now.places c.args.program.now.decls.places c.decls-2.result.now.places recording.decls.places
-    c.body.result.now body (ap (λ (d : DeclsState). d.places) c.decls.ensures.decls)
+    c.body.result.now.items body (ap (λ (d : DeclsState). d.places) c.decls.ensures.decls)
     (ap (λ (d : DeclsState). d.places) (c.decls-2.ensures.decls ∙ c.trace.ensures.decls)) same run
 
 pub logs-log-requires : goal.logs-log-requires

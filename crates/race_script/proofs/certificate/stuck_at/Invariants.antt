@@ -7,8 +7,8 @@ use Rattle.race_script.proofs.certificate.stuck_at.Given as goal
 
 abbrev pub invariant-loop-k : goal.invariant-loop-k
 invariant-loop-k g l = record {
-  follows : Follows (spelled l.course.places.now.places l.course.body.now) l.course.recorded.now.places l.course.goroutine
+  follows : Follows (spelled l.course.places.now.places l.course.body.now.items) l.course.recorded.now.places l.course.goroutine
       (take l.k (part_of l.goroutine l.recording.events));
   position : l.position
-      ≡ behind (asked_by (spelled l.course.places.now.places l.course.body.now)) (take l.k (part_of l.goroutine l.recording.events));
+      ≡ behind (asked_by (spelled l.course.places.now.places l.course.body.now.items)) (take l.k (part_of l.goroutine l.recording.events));
 }

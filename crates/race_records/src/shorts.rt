@@ -22,10 +22,11 @@ const MAX_SLOTS: usize = 262_144;
 // In how many slots a name may stand: its own, and those whose numbers differ in the lowest bits.
 const SLOTS_OF_ONE: usize = 8;
 
-/// A short name as numbers: how many bytes it has, the first of them and the last of them.
+/// A short name as numbers: how many bytes it has, the first of them and the last of them. They are
+/// words alike, as a key that is written by halves and read as words waits for the writes.
 #[derive(Clone, Copy)]
 pub struct Key {
-    pub(crate) len: u32,
+    pub(crate) len: u64,
     pub(crate) front: u64,
     pub(crate) back: u64,
 }
@@ -103,6 +104,9 @@ impl<A: Allocator> Shorts<A> {
         let Some(key) = key_of(name) else {
             return;
         };
+        let Ok(len) = u32::try_from(key.len) else {
+            return;
+        };
         self.noted = self.noted.saturating_add(1);
         self.make_room();
         put(
@@ -110,7 +114,7 @@ impl<A: Allocator> Shorts<A> {
             Short {
                 front: key.front,
                 back: key.back,
-                len: key.len,
+                len,
                 slot,
             },
         );
@@ -175,7 +179,7 @@ fn key_in_front(bytes: &[u8], len: usize) -> Key
     ensures { spec.short_key (take len bytes.now) ≡ Some result }
 {
     Key {
-        len: len as u32,
+        len: len as u64,
         front: eight_bytes(bytes) & low_bytes(len),
         back: eight_bytes(&bytes[8..]) & low_bytes(len.saturating_sub(8)),
     }
@@ -241,7 +245,7 @@ fn find_in(slots: &[Short], key: Key) -> Option<Slot>
 fn has_key(short: &Short, key: Key) -> bool
     ensures { IsTrue result ↔ (spec.key_in short.now ≡ key) }
 {
-    short.front == key.front && short.back == key.back && short.len == key.len
+    short.front == key.front && short.back == key.back && u64::from(short.len) == key.len
 }
 
 // Puts a name into one of its slots, if one of them is blank.
@@ -259,7 +263,7 @@ fn free_slot(slots: &[Short], short: &Short) -> Option<usize>
     ensures { IfSome result (λ i. i < length slots.now) }
 {
     let key = Key {
-        len: short.len,
+        len: u64::from(short.len),
         front: short.front,
         back: short.back,
     };

@@ -139,6 +139,10 @@ drops_by_filter p xs clock decides = record {
   unless_all = λ long. filter_all p xs long;
 }
 
+-- all of them stay
+pub drops_none : (xs : List Access) (clock : List ℕ) → DropsKnown xs xs clock
+drops_none xs clock = record { nothing_else = λ e is. is; dropped = λ e is. inl is; unless_all = λ _. refl }
+
 -- a Read beside those that stay
 pub keeps_inserted : (xs ys : List Access) (i : ℕ) (access : Access) (clock : List ℕ) → DropsKnown xs ys clock → KeepsRead xs (insert ys i access) access clock
 keeps_inserted xs ys i access clock drops = record {

@@ -1,5 +1,5 @@
 //! What is kept of a variable's accesses.
-ghost use Rattle.std.specs.Prelude.{◌≡◌, ◌≤◌, ◌∷◌, [], false, not, filter, length, vec_capacity, IfOk, OnOk, OnErr, IsTrue};
+ghost use Rattle.std.specs.Prelude.{◌≡◌, ◌≤◌, ◌∷◌, [], false, not, filter, length, vec_capacity, All, ◌≢◌, IfOk, OnOk, OnErr, IsTrue};
 ghost use Rattle.std.specs.Option.{is_some};
 ghost use Rattle.race_access.specs.Kept as spec;
 ghost use Rattle.race_access.specs.KeptOf.{kept_of};
@@ -8,6 +8,9 @@ use crate::access::Access;
 use race_clock::Clock;
 use race_verdict::Noted;
 use std::alloc::{AllocError, Allocator};
+
+// So many Reads are looked at one by one.
+const FEW: usize = 64;
 
 /// What is kept of the accesses.
 #[derive(Drop)]
@@ -179,7 +182,33 @@ impl<A: Allocator + Copy> Accesses<A> {
 }
 
 // Where the goroutine's Read is, or is to be.
+#[inline(always)]
 fn place_of(reads: &[Access], who: u32) -> usize
+    requires { spec.AreRising reads.now }
+    ensures { spec.IsPlaceOf reads.now who result }
+{
+    if reads.len() <= FEW {
+        place_in_few(reads, who)
+    } else {
+        place_in_many(reads, who)
+    }
+}
+
+// The same of few Reads. Each turn of a search by halves is a guess, while this one ends but once.
+#[inline(always)]
+fn place_in_few(reads: &[Access], who: u32) -> usize
+    requires { spec.AreRising reads.now }
+    ensures { spec.IsPlaceOf reads.now who result }
+{
+    let mut place = 0;
+    while place < reads.len() && reads[place].who < who {
+        place += 1;
+    }
+    place
+}
+
+// The same of many.
+fn place_in_many(reads: &[Access], who: u32) -> usize
     requires { spec.AreRising reads.now }
     ensures { spec.IsPlaceOf reads.now who result }
 {
@@ -214,6 +243,26 @@ fn keep_read<A: Allocator, B: Allocator>(
         reads[place] = access;
         return Ok(());
     }
+    if reads.len() < reads.capacity() {
+        reads.insert(place, access)?;
+        return Ok(());
+    }
+    keep_first(reads, access, clock)
+}
+
+// Keeps the first Read of a goroutine where there is no room for one more.
+#[inline(never)]
+fn keep_first<A: Allocator, B: Allocator>(
+    reads: &mut Vec<Access, A>,
+    access: Access,
+    clock: &Clock<B>,
+) -> Result<(), AllocError>
+    requires rising { spec.AreRising reads.old.items }
+    requires first { All (λ e. e.who ≢ access.who) reads.old.items }
+    ensures ok { OnOk result (spec.KeepsRead reads.old.items reads.new.items access clock.now) }
+    ensures rising { spec.AreRising reads.new.items }
+    ensures unchanged { OnErr result (reads.new.items ≡ reads.old.items) }
+{
     drop_known(reads, clock);
     let place = place_of(reads, access.who);
     reads.insert(place, access)?;

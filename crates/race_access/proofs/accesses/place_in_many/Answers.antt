@@ -3,7 +3,7 @@ use Rattle.std.proofs.lemmas.Bool.{ltb-false}
 use Rattle.std.proofs.lemmas.List.Sorted.{IsPartitionPoint-from_clause, IsPartitionedBy-ltb}
 use Rattle.race_access.specs.declared.access.Access.{Access}
 use Rattle.race_access.proofs.RisingSteps.{never_fall}
-use Rattle.race_access.proofs.accesses.place_of.Goals as goal
+use Rattle.race_access.proofs.accesses.place_in_many.Goals as goal
 
 pub returns : goal.returns
 returns c =

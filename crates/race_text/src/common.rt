@@ -88,6 +88,8 @@ fn next_verb(front: Front<'_>) -> Option<(Verb, Front<'_>)>
 {
     let (len, behind) = next_word(front)?;
     match common_word(&front.bytes[..len])? {
+        // It has two goroutines and two places.
+        Word::Does(Verb::Meet) => None,
         Word::Does(verb) => Some((verb, behind)),
         Word::Declares(_) => None,
     }

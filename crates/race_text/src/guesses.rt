@@ -1,5 +1,5 @@
-//! Where the places of common lines stand in the table, guessed by some of their bytes. A guess is
-//! compared with the table, so it may be wrong, and a place that isn't guessed is looked for there.
+//! Where the places of events stand in the table, guessed by some of their bytes. A guess is compared
+//! with the table, so it may be wrong, and a place that isn't guessed is looked for there.
 ghost use Rattle.std.specs.Prelude.{◌≡◌, ◌<◌, ◌≤◌, length, Some, IfSome, slice_get};
 
 use race_records::Decls;

@@ -29,7 +29,7 @@ pub struct Reader<A: Allocator> {
     pub decls: Decls<A>,
     /// The trace, from the first event on.
     pub trace: Option<Trace<A>>,
-    /// Where the places of common lines likely stand.
+    /// Where the places of events likely stand.
     pub guesses: Guesses,
 }
 
@@ -113,7 +113,7 @@ impl<A: Allocator + Copy> Reader<A> {
             return self.take_header(line);
         }
         match &mut self.trace {
-            Some(trace) => take_event(trace, line),
+            Some(trace) => take_event(trace, &mut self.guesses, line),
             None => self.take_before_events(line),
         }
     }
@@ -234,7 +234,7 @@ impl<A: Allocator + Copy> Reader<A> {
                     return Ok(());
                 }
                 let mut trace = Trace::new(mem::replace(&mut self.decls, Decls::new(self.alloc)));
-                match take_event(&mut trace, line) {
+                match take_event(&mut trace, &mut self.guesses, line) {
                     Err(cause) => Err(cause),
                     Ok(()) => {
                         self.trace = Some(trace);

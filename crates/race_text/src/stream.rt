@@ -49,7 +49,7 @@ impl<A: Allocator + Copy> EventStream<A> {
     {
         match &mut self.reader.trace {
             None => self.reader.take_line(line),
-            Some(trace) => take_event_behind(trace, self.before, line),
+            Some(trace) => { take_event_behind(trace, self.before, &mut self.reader.guesses, line) }
         }
     }
 

@@ -23,6 +23,7 @@ use std::alloc::Allocator;
 // Takes a line behind the declarations: an event that fits, or the least cause of what isn't one.
 pub(crate) fn take_event<A: Allocator + Copy>(
     trace: &mut Trace<A>,
+    guesses: &mut Guesses,
     line: &[u8],
 ) -> Result<(), TextCause>
     requires read { spec.IsRead trace.old }
@@ -30,7 +31,7 @@ pub(crate) fn take_event<A: Allocator + Copy>(
     ensures taken { spec.TakesOrTells (lines trace.old) line.now result trace.new }
     ensures grown { OnOk result (0 < length trace.new.events) }
 {
-    take_event_behind(trace, 0, line)
+    take_event_behind(trace, 0, guesses, line)
 }
 
 // The same of a trace of which so many events were handed on.
@@ -38,6 +39,7 @@ pub(crate) fn take_event<A: Allocator + Copy>(
 pub(crate) fn take_event_behind<A: Allocator + Copy>(
     trace: &mut Trace<A>,
     before: usize,
+    guesses: &mut Guesses,
     line: &[u8],
 ) -> Result<(), TextCause>
     requires read { spec.IsReadBehind before trace.old }
@@ -50,7 +52,7 @@ pub(crate) fn take_event_behind<A: Allocator + Copy>(
     let count = before + trace.len();
     let decls = trace.decls();
     match read_event(decls, line) {
-        Some(draft) => append(trace, before, draft),
+        Some(draft) => append(trace, before, guesses, draft),
         None => Err(line_cause(decls, count, line).unwrap()),
     }
 }
@@ -176,6 +178,7 @@ fn append_op<A: Allocator + Copy>(
 fn append<A: Allocator + Copy>(
     trace: &mut Trace<A>,
     before: usize,
+    guesses: &mut Guesses,
     draft: Draft<'_>,
 ) -> Result<(), TextCause>
     requires fits { spec.IsFitting trace.old.decls (drafted draft) }
@@ -188,8 +191,8 @@ fn append<A: Allocator + Copy>(
     if before + trace.len() >= MAX_EVENTS {
         return Err(TextCause::TooMany);
     }
-    let place = add_place(trace, draft.place)?;
-    let place2 = add_second(trace, draft.place2)?;
+    let place = add_met(trace, guesses, draft.place)?;
+    let place2 = add_second(trace, guesses, draft.place2)?;
     let event = Event {
         who: draft.who,
         op: draft.op,
@@ -246,6 +249,7 @@ fn add_met<A: Allocator + Copy>(
 // Adds the second place, where there is one.
 fn add_second<A: Allocator + Copy>(
     trace: &mut Trace<A>,
+    guesses: &mut Guesses,
     place2: Option<&[u8]>,
 ) -> Result<Option<u32>, TextCause>
     requires form { IfSome (option_map (λ place. place.now) place2) (λ place. is_place place ≡ true) }
@@ -260,7 +264,7 @@ fn add_second<A: Allocator + Copy>(
     match place2 {
         None => Ok(None),
         Some(place) => {
-            let number = add_place(trace, place)?;
+            let number = add_met(trace, guesses, place)?;
             Ok(Some(number))
         }
     }

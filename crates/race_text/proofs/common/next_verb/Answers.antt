@@ -9,8 +9,8 @@ next_word-requires c = c.requires
 pub returns-in-Does-clause-says : goal.returns-in-Does-clause-says
 returns-in-Does-clause-says c =
     says_verb c.args.front.bytes.now c.in_ok-len.len c.in_ok-len.behind.bytes.now c.in-Does.verb c.in_ok-len.ensures.cut
-    (c.in_ok-verb.ensures.named ∙ ap Some c.in-Does.is)
-    (λ version. ap (has_word version) (sym c.in-Does.is) ∙ c.in_ok-verb.ensures.each version)
+    (c.in_ok-common_word.ensures.named ∙ ap Some c.in-Does.is)
+    (λ version. ap (has_word version) (sym c.in-Does.is) ∙ c.in_ok-common_word.ensures.each version)
 
 pub returns-in-Does-clause-marked : goal.returns-in-Does-clause-marked
 returns-in-Does-clause-marked c = c.in_ok-len.ensures.marked

@@ -164,7 +164,9 @@ impl<A: Allocator + Copy> Accesses<A> {
                     return Ok(());
                 }
                 let write = *write;
-                let reads = beside(alloc, *read, access, clock)?;
+                // What a call is handed stands in memory. The ways above need not go through it.
+                let next = access;
+                let reads = beside(alloc, *read, next, clock)?;
                 *self = Accesses::Many { write, reads };
                 Ok(())
             }
@@ -174,7 +176,8 @@ impl<A: Allocator + Copy> Accesses<A> {
                     reads.clear();
                     return Ok(());
                 }
-                keep_read(reads, access, clock)
+                let next = access;
+                keep_read(reads, next, clock)
             }
             Accesses::Raced { .. } => Ok(()),
         }

@@ -5,6 +5,7 @@ use crate::tool::engines::{Engine, Runtime, SlowReader, Told, ended, text_of};
 use crate::tool::rows::{Row, TABLES, table, text_behind};
 use crate::tool::shown::HANDED_ON;
 use race_tool::{CheckOptions, status};
+use std::alloc::{AllocError, Global};
 use std::test::Fail;
 
 /// How many shards there are, and how many events they are handed at a time.
@@ -156,6 +157,36 @@ fn a_trace_that_is_cut_is_judged_as_it_comes(rt: HostRuntime) -> Result<(), Fail
     let text = text_of(rt.alloc(), HANDED_ON)?;
     for len in 0..=text.len() {
         assert!(rt; is_front_told(&rt, text.as_slice(), len)?, "{len} bytes");
+    }
+    Ok(())
+}
+
+// A trace of 6,001 events: two goroutines write y at both ends, and main reads what it wrote last between them.
+fn long_text(alloc: Global) -> Result<Vec<u8>, AllocError> {
+    let mut text = text_of(
+        alloc,
+        "gotrace 1 / goroutine w / var x / var y / go main w p / write w y 1 p",
+    )?;
+    for value in 0..2_999u64 {
+        let lines = format!(in alloc; "write main x {value} p\nread main x {value} p\n")?;
+        text.extend_from_slice(lines.as_bytes())?;
+    }
+    text.extend_from_slice(b"write main y 2 p\n")?;
+    Ok(text)
+}
+
+#[test]
+fn three_thousand_blocks_are_judged_in_their_order(rt: HostRuntime) -> Result<(), Fail> {
+    let text = long_text(rt.alloc())?;
+    let told = (
+        "race on y: write by w at p (event 2), write by main at p (event 6001) / races: 1",
+        status::RACES,
+    );
+    for &(judge, step) in &[((1, 2), 61), ((3, 2), 61), ((3, 2), 7_000)] {
+        assert!(rt;
+            tells_by(&rt, judge, text.as_slice(), step, told)?,
+            "by {step}"
+        );
     }
     Ok(())
 }

@@ -7,6 +7,7 @@ ghost use Rattle.race_records.specs.Events as spec;
 use crate::{DeclFault, Decls, Event, Op, says};
 use std::alloc::{AllocError, Allocator, Global};
 use std::marker::Model;
+use std::mem;
 use thiserror::Error;
 
 /// The most events of a trace.
@@ -157,6 +158,17 @@ impl<A: Allocator> Trace<A> {
         ensures room { self.old.spare ≤ self.new.spare }
     {
         self.events.clear();
+        self.spare = self.events.capacity();
+    }
+
+    /// Moves the events into a list, whose own are forgotten, and takes its room for those to come.
+    pub fn move_events(&mut self, list: &mut Vec<Event, A>)
+        ensures decls { self.new.decls ≡ self.old.decls }
+        ensures events { self.new.events ≡ [] }
+        ensures moved { list.new.items ≡ self.old.events }
+    {
+        list.clear();
+        mem::swap(&mut self.events, list);
         self.spare = self.events.capacity();
     }
 

@@ -131,4 +131,24 @@ impl<A: Allocator + Copy> EventStream<A> {
             trace.clear_events();
         }
     }
+
+    /// Moves the events into a list, whose own are forgotten, and so hands them on.
+    pub fn hand_over(&mut self, list: &mut Vec<Event, A>)
+        requires { spec.StandsForSome self.old }
+        ensures stands { (past : List Event) → ForEachLines (spec.StandsWith self.old past)
+            (spec.StandsWith self.new (past ++ spec.events_of self.old)) }
+        ensures none { spec.events_of self.new ≡ [] }
+        ensures declared { spec.DeclaresNothing self.old self.new }
+        ensures moved { list.new.items ≡ spec.events_of self.old }
+        ensures is_trace { IsTrace (spec.trace_with [] self.old) }
+    {
+        match &mut self.reader.trace {
+            None => list.clear(),
+            Some(trace) => {
+                let gathered = trace.len();
+                trace.move_events(list);
+                self.before += gathered;
+            }
+        }
+    }
 }

@@ -1,6 +1,7 @@
 //! What the engines of race_tool do that no contract says.
 mod channels;
 mod damage;
+mod drawings;
 mod drawn;
 mod engines;
 mod judges;

@@ -2,7 +2,7 @@
 
 pub(crate) const ABOUT: &str = "Judges recorded runs of goroutines by The Go Memory Model";
 
-pub(crate) const VERSION: &str = "0.1.0 (proved with rattle-kit-13b, logic dac8208d650f15bf)";
+pub(crate) const VERSION: &str = "0.1.0 (proved with rattle-kit-13f, logic dac8208d650f15bf)";
 
 pub(crate) const AFTER_HELP: &str = "\
 'gorace check --help' says what a trace is, with an example, and what the statuses mean;

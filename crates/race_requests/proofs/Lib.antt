@@ -6,5 +6,7 @@ pub mod PossibleLemmas
 pub mod WaitingLemmas
 pub mod ReceiverLemmas
 pub mod ChoiceLemmas
+pub mod MeetLemmas
 pub mod MoveLemmas
+pub mod IdleLemmas
 pub mod ListLemmas

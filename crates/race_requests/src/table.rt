@@ -266,6 +266,7 @@ pub(crate) fn offer_count(ask: &Ask) -> u32
 }
 
 /// In how many ways who asks can go on.
+#[inline(always)]
 pub(crate) fn way_count(ask: &Ask) -> u32
     ensures { result ≡ ways ask.now }
 {

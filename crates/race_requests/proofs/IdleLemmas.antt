@@ -1,41 +1,28 @@
 -- Who can do nothing, alone or with another.
-use Rattle.std.proofs.Common.{◌≡◌, ℕ, ◌+◌, ◌-◌, ◌==◌, cond, Bool, true, false, List, slice_get, Option, Some, None, refl, sym, ap, ◌∙◌, arith}
-use Rattle.std.proofs.lemmas.Bool.{true≢false}
+use Rattle.std.proofs.Common.{◌≡◌, ℕ, ◌+◌, ◌-◌, ◌==◌, ◌&&◌, not, cond, Bool, true, false, List, slice_get, Option, Some, None, refl, sym, ap, ◌∙◌, arith}
 use Rattle.std.proofs.lemmas.Bool.Decides.{nat_tests}
 use Rattle.race_records.specs.declared.event.Event.{Event}
-use Rattle.race_requests.specs.declared.request.Ask.{Ask}
+use Rattle.race_model.specs.State.{over, runs}
 use Rattle.race_requests.specs.declared.request.Offer.{Offer}
 use Rattle.race_requests.specs.declared.request.Waiter.{Waiter}
 use Rattle.race_requests.specs.Table.{offers_of}
-use Rattle.race_requests.specs.Choices.{choice, op_of, lone_event, meet_event, is_legal_next, is_possible}
-use Rattle.race_requests.specs.Waiting.{has_one_way, sent_on, receives_at}
+use Rattle.race_requests.specs.Choices.{choice, lone_event, meet_event, is_legal_next, is_possible}
+use Rattle.race_requests.specs.Possible.{goes_on}
+use Rattle.race_requests.specs.Waiting.{sent_on, receives_at}
 use Rattle.race_requests.proofs.ChoiceLemmas.{meets_by}
 use Rattle.race_requests.proofs.MoveLemmas.{passed_over}
+use Rattle.race_requests.proofs.PossibleLemmas.{each_row}
 
--- with one way it does the same by whichever is meant
-same_op : (past : List Event) (ask : Ask) (k : ℕ) → has_one_way ask ≡ true → op_of past ask k ≡ op_of past ask 0
-same_op past (Ask.Go h) k is = refl
-same_op past Ask.Exit k is = refl
-same_op past (Ask.Read x) k is = refl
-same_op past (Ask.Write x v) k is = refl
-same_op past (Ask.Send c v) k is = refl
-same_op past (Ask.Recv c) k is = refl
-same_op past (Ask.Close None) k is = refl
-same_op past (Ask.Close (Some c)) k is = refl
-same_op past (Ask.Select offers has_default) k is = absurd (true≢false (sym is))
-same_op past (Ask.Lock l) k is = refl
-same_op past (Ask.Unlock l) k is = refl
-same_op past (Ask.RLock l) k is = refl
-same_op past (Ask.RUnlock l) k is = refl
-same_op past (Ask.TryLock l) k is = absurd (true≢false (sym is))
-same_op past (Ask.TryRLock l) k is = absurd (true≢false (sym is))
-same_op past (Ask.Do o) k is = refl
-same_op past (Ask.EndDo o) k is = refl
-
-pub same_event : (past : List Event) (w : Waiter) (k : ℕ) → has_one_way w.asked.ask ≡ true → lone_event past w k ≡ lone_event past w 0
-same_event past w k is =
-    ap (λ o. elim o [ None ↦ None | Some op ↦ Some (record { who = w.who; op = op; place = w.asked.place; place2 = None }) ])
-    (same_op past w.asked.ask k is)
+-- who can't go on in the words of the run so far makes no legal event
+pub none_goes_on : (caps : ℕ → ℕ) (past : List Event) (w : Waiter) (k : ℕ) → goes_on caps past w.who w.asked.ask k ≡ false
+    → is_legal_next caps past (lone_event past w k) ≡ false
+none_goes_on caps past w k stays =
+    each_row caps past w k ∙ ap (λ b. not (over past) && (runs w.who past && b)) stays ∙ nothing (over past) (runs w.who past)
+  where
+    nothing : (o r : Bool) → (not o && (r && false)) ≡ false
+    nothing true r = refl
+    nothing false true = refl
+    nothing false false = refl
 
 -- what sends on no channel hands nothing over
 no_meet : (r : ℕ) (x y : Option Offer) → sent_on x ≡ None → meets_by r x y ≡ None

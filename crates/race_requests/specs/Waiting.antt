@@ -1,6 +1,6 @@
 -- A list of waiting requests, and where the run stands. (The Go Programming Language Specification, "Channel types": without a buffer sender and
 -- receiver wait for one another)
-use Rattle.std.specs.Prelude.{ℕ, ◌==◌, ◌&&◌, not, nat_lt, Bool, true, false, List, slice_get, Option, Some, None}
+use Rattle.std.specs.Prelude.{ℕ, ◌==◌, ◌&&◌, not, nat_lt, Bool, false, List, slice_get, Option, Some, None}
 use Rattle.std.specs.List.{list_any}
 use Rattle.race_records.specs.declared.event.Event.{Event}
 use Rattle.race_records.specs.declared.kind.Kind.{Kind}
@@ -27,13 +27,6 @@ choices_of list = choices (capacity_of list.declarations) list.past list.waiting
 -- the goroutine is declared, and what it names
 abbrev pub is_declared : List Declaration → Waiter → Bool
 is_declared ds w = nat_lt w.who (counts_of ds Kind.Goroutine) && ask_is_in_range (counts_of ds) w.asked.ask
-
--- who asks can go on in one way, so that it doesn't matter which is meant
-abbrev pub has_one_way : Ask → Bool
-has_one_way (Ask.Select offers has_default) = false
-has_one_way (Ask.TryLock l) = false
-has_one_way (Ask.TryRLock l) = false
-has_one_way _ = true
 
 -- the channel on which the offer sends
 abbrev pub sent_on : Option Offer → Option ℕ

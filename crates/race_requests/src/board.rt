@@ -13,7 +13,7 @@ ghost use Rattle.race_requests.specs.Table.{offers_of};
 ghost use Rattle.race_requests.specs.Waiting as list;
 
 use crate::meet::offer_at;
-use crate::possible::is_default_way;
+use crate::possible::{is_default_way, is_held_up};
 use crate::receivers::Receivers;
 use crate::table::way_count;
 use crate::{
@@ -195,7 +195,7 @@ impl<'a, A: Allocator, B: Allocator> WaitingList<'a, A, B> {
         way_count(&self.at(place as usize).asked.ask)
     }
 
-    // Whether the request at this place can neither go on alone nor hand anything over, where a few loads tell.
+    // Whether the request at this place can neither go on alone nor hand anything over, as far as a few loads tell.
     #[inline(always)]
     fn is_idle(&self, place: u32) -> bool
         requires { place < length self.now.waiting }
@@ -205,17 +205,18 @@ impl<'a, A: Allocator, B: Allocator> WaitingList<'a, A, B> {
             self.now.waiting (spec.choice place way (p + 1) (q + 1)) ≡ false }
     {
         let waiter = self.at(place as usize);
-        self.is_held_up(waiter) && self.has_no_taker(&waiter.asked.ask)
+        self.is_stopped(waiter) && self.has_no_taker(&waiter.asked.ask)
     }
 
-    // Whether the request can't go on alone. False tells nothing, as of those with several ways.
+    // Whether the request can't go on alone, as far as a few loads tell.
     #[inline(always)]
-    fn is_held_up(&self, waiter: &Waiter) -> bool
+    fn is_stopped(&self, waiter: &Waiter) -> bool
         requires { IsTrue (list.is_declared self.now.declarations waiter.now) }
         ensures { IsTrue result → (way : ℕ) → spec.is_legal_next (capacity_of self.now.declarations) self.now.past
             (spec.lone_event self.now.past waiter.now way) ≡ false }
     {
-        has_one_way(&waiter.asked.ask) && !self.goes_on(waiter, 0)
+        let (replay, decls) = self.run();
+        is_held_up(replay, decls, &waiter.asked.ask)
     }
 
     // Whether nobody takes what the ask may hand over, as far as a few loads tell.
@@ -322,19 +323,6 @@ impl<'a, A: Allocator, B: Allocator> WaitingList<'a, A, B> {
             }
         }
         from.max(count)
-    }
-}
-
-// Who asks can go on in one way alone.
-#[inline(always)]
-fn has_one_way(ask: &Ask) -> bool
-    ensures { result ≡ list.has_one_way ask.now }
-{
-    match ask {
-        Ask::Select(_, _) => false,
-        Ask::TryLock(_) => false,
-        Ask::TryRLock(_) => false,
-        _ => true,
     }
 }
 

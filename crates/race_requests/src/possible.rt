@@ -1,5 +1,5 @@
 //! Which requests can go on alone after the events so far, asked of a replay of these events.
-ghost use Rattle.std.specs.Prelude.{◌≡◌, ◌<◌, ◌==◌, ◌&&◌, ◌||◌, not, nat_lt, Some, None, false, List, length, IsTrue};
+ghost use Rattle.std.specs.Prelude.{ℕ, ◌≡◌, ◌<◌, ◌==◌, ◌&&◌, ◌||◌, not, nat_lt, Some, None, false, List, length, IsTrue};
 ghost use Rattle.race_records.specs.declared.event.Event.{Event};
 ghost use Rattle.race_records.specs.Declarations.{capacity_of, count_of};
 ghost use Rattle.race_legal.specs.ReplayState.{counts_in};
@@ -151,6 +151,28 @@ fn goes_on<A: Allocator, B: Allocator>(
         Ask::Unlock(_) => true,
         Ask::RUnlock(_) => true,
         Ask::Select(_, _) => unreachable!(),
+    }
+}
+
+/// Whether who asks can't go on alone, whichever goroutine it is, as far as a few loads tell: of those that mostly wait.
+#[inline(always)]
+pub(crate) fn is_held_up<A: Allocator, B: Allocator>(
+    replay: &Replay<A>,
+    decls: &Decls<B>,
+    ask: &Ask,
+) -> bool
+    requires same { count_of Kind.Chan decls.now.declarations ≡ counts_in replay.now Kind.Chan }
+    requires range { IsTrue (ask_is_in_range (counts_in replay.now) ask.now) }
+    ensures { (past : List Event) → StandsFor decls.now.declarations replay.now past → IsTrue result
+        → (who way : ℕ) → possible.goes_on (capacity_of decls.now.declarations) past who ask.now way ≡ false }
+{
+    match ask {
+        Ask::Lock(lock) => !neither(replay.is_held(*lock), replay.is_read_held(*lock)),
+        Ask::RLock(lock) => replay.is_held(*lock),
+        Ask::Do(once) => !implies(replay.is_begun(*once), replay.is_ended(*once)),
+        Ask::Send(chan, _) => !sender_goes_on(replay, decls, *chan),
+        Ask::Recv(chan) => !receiver_goes_on(replay, decls, *chan),
+        _ => false,
     }
 }
 

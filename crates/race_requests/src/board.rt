@@ -54,6 +54,7 @@ impl<'a, A: Allocator, B: Allocator> WaitingList<'a, A, B> {
     ///
     /// The replay has accepted the trace's events and no others, what the requests name is declared in the trace, and
     /// there are at most 1,024 requests.
+    #[inline(always)]
     pub fn new(
         replay: &'a Replay<A>,
         trace: &'a Trace<B>,
@@ -298,13 +299,15 @@ impl<'a, A: Allocator, B: Allocator> WaitingList<'a, A, B> {
             → spec.is_possible (capacity_of self.now.declarations) self.now.past self.now.waiting (spec.choice place way (p + 1) (q + 1)) ≡ false }
     {
         let offer = offer_at(&self.at(place as usize).asked.ask, way);
-        if !self.hands_over(offer) {
+        let Some(chan) = sent_on(offer) else {
             return from.max(self.count());
+        };
+        // Mostly there is one receiver, or none: the channel itself is looked at only where there is one more.
+        let next = self.next_receiver(chan, from);
+        if next < self.count() && !self.hands_over(offer) {
+            return next.max(self.count());
         }
-        match sent_on(offer) {
-            Some(chan) => self.next_receiver(chan, from),
-            None => from.max(self.count()),
-        }
+        next
     }
 
     // The first place from this one on whose request receives from the channel. It asks nothing of the run.

@@ -32,6 +32,7 @@ impl Model for Receivers {
 
 impl Receivers {
     // Those of these requests.
+    #[inline(always)]
     pub(crate) fn of(waiting: &[Waiter]) -> Receivers
         requires { length waiting.now ≤ MAX_GOROUTINES }
         ensures { spec.AreInSpans waiting.now result }

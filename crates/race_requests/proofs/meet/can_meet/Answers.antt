@@ -1,5 +1,5 @@
 -- Who hands a value to whom makes their event, and what the run so far says of the two decides whether it is legal.
-use Rattle.std.proofs.Common.{ℕ, ◌≡◌, ◌==◌, ◌&&◌, not, Option, Some, None, sym, ap, ◌∙◌}
+use Rattle.std.proofs.Common.{◌==◌, ◌&&◌, not, sym, ap, ◌∙◌}
 use Rattle.race_records.specs.Declarations.{capacity_of}
 use Rattle.race_requests.specs.Choices.{is_legal_next}
 use Rattle.race_requests.specs.Possible.{handed}

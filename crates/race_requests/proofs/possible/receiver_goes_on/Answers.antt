@@ -1,5 +1,5 @@
 -- Each reader answers the word of the run so far.
-use Rattle.std.proofs.Common.{ℕ, Option, Some, None, nat_lt, sym, ap, ◌∙◌}
+use Rattle.std.proofs.Common.{Some, None, nat_lt, sym, ap, ◌∙◌}
 use Rattle.race_records.specs.Declarations.{capacity_of}
 use Rattle.race_requests.specs.Possible as possible
 use Rattle.race_requests.proofs.possible.receiver_goes_on.Goals as goal

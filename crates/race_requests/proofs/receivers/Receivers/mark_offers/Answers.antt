@@ -1,5 +1,5 @@
 -- An ask that receives from a channel has an offer that does, and all were looked at.
-use Rattle.std.proofs.Common.{◌≡◌, Some, ap, sym, ◌∙◌, inl, inr, slice_get, arith}
+use Rattle.std.proofs.Common.{◌≡◌, Some, ap, ◌∙◌, inl, inr, slice_get, arith}
 use Rattle.std.proofs.lemmas.Bool.{cases_lt}
 use Rattle.std.proofs.lemmas.Option.{slice_get_within}
 use Rattle.race_requests.specs.Table.{offers_of}

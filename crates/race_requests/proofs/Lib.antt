@@ -6,7 +6,6 @@ pub mod PossibleLemmas
 pub mod WaitingLemmas
 pub mod ReceiverLemmas
 pub mod ChoiceLemmas
-pub mod MeetLemmas
 pub mod MoveLemmas
 pub mod IdleLemmas
 pub mod ListLemmas

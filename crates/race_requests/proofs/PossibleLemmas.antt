@@ -53,7 +53,7 @@ three : (i j k : ℕ) (a b c : Bool) → clean ((i, a) ∷ (j, b) ∷ (k, c) ∷
 three i j k true b c = refl
 three i j k false b c = two j k b c
 
-pub twice : (a : Bool) → not (not a) ≡ a
+twice : (a : Bool) → not (not a) ≡ a
 twice true = refl
 twice false = refl
 
@@ -61,7 +61,7 @@ neither_is : (a b : Bool) → not (a || b) ≡ (not a && not b)
 neither_is true b = refl
 neither_is false b = refl
 
-pub some_none : (o : Option ℕ) → not (is_some o) ≡ is_none o
+some_none : (o : Option ℕ) → not (is_some o) ≡ is_none o
 some_none None = refl
 some_none (Some x) = refl
 

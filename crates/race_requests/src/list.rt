@@ -121,9 +121,8 @@ impl<A: Allocator> RequestList<A> {
     }
 }
 
-/// Whether it is a select.
-#[inline(always)]
-pub(crate) fn is_select(ask: &Ask) -> bool
+// Whether it is a select.
+fn is_select(ask: &Ask) -> bool
     ensures { result ≡ spec.is_select ask.now }
 {
     matches!(ask, Ask::Select(_, _))

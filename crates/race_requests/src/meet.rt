@@ -1,5 +1,5 @@
 //! Which two requests meet, and which event they make.
-ghost use Rattle.std.specs.Prelude.{ℕ, ◌≡◌, ◌<◌, ◌==◌, ◌&&◌, not, List, slice_get, Option, Some, IsTrue, IfSome};
+ghost use Rattle.std.specs.Prelude.{ℕ, ◌≡◌, ◌<◌, List, slice_get, Option, Some, IsTrue, IfSome};
 ghost use Rattle.race_records.specs.declared.kind.Kind.{Kind};
 ghost use Rattle.race_records.specs.declared.event.Event.{Event};
 ghost use Rattle.race_records.specs.Declarations.{capacity_of, count_of};
@@ -9,7 +9,6 @@ ghost use Rattle.race_requests.specs.Choices as spec;
 ghost use Rattle.race_requests.specs.Table.{offers_of};
 ghost use Rattle.race_requests.specs.Possible.{handed, ask_is_in_range, offer_is_in_range};
 
-use crate::possible::is_allowed;
 use crate::{Ask, Offer, Waiter};
 use race_legal::Replay;
 use race_records::{Decls, Event, Kind, Op};
@@ -78,25 +77,8 @@ pub fn meet_event(sender: &Waiter, way: u32, receiver: &Waiter, other_way: u32) 
     }
 }
 
-// Both hold.
-#[inline(always)]
-fn both(this: bool, that: bool) -> bool
-    ensures { result ≡ (this && that) }
-{
-    this && that
-}
-
-// Two meet on an open channel without a buffer.
-#[inline(always)]
-fn is_handed(sender: u32, receiver: u32, capacity: u32, closed: bool) -> bool
-    ensures { result ≡ (not (receiver == sender) && ((capacity == 0) && not closed)) }
-{
-    receiver != sender && capacity == 0 && !closed
-}
-
 /// Whether the one waiting request by its way can meet the other by its way: whether their event breaks no rule after the
 /// events so far.
-#[inline(always)]
 pub fn can_meet<A: Allocator, B: Allocator>(
     replay: &Replay<A>,
     decls: &Decls<B>,
@@ -114,15 +96,8 @@ where
         → result ≡ spec.is_legal_next (capacity_of decls.now.declarations) past
         (spec.meet_event sender.now way receiver.now other_way) }
 {
-    let sends = offer_at(&sender.asked.ask, way);
-    let receives = offer_at(&receiver.asked.ask, other_way);
-    match hands(sends, receives) {
-        Some((chan, _)) => {
-            let run = both(replay.runs(sender.who), replay.runs(receiver.who));
-            let capacity = decls.capacity(chan);
-            let can = is_handed(sender.who, receiver.who, capacity, replay.is_closed(chan));
-            is_allowed(replay.over(), run, can)
-        }
+    match meet_event(sender, way, receiver, other_way) {
+        Some(event) => replay.breaks(&event).is_none(),
         None => false,
     }
 }

@@ -6,13 +6,10 @@ ghost use Rattle.race_legal.specs.ReplayState.{counts_in};
 ghost use Rattle.race_legal.specs.StandsFor.{StandsFor};
 ghost use Rattle.race_records.specs.Parts.{chan_is_in_range};
 ghost use Rattle.race_requests.specs.Choices as spec;
-ghost use Rattle.race_requests.specs.List as asked;
 ghost use Rattle.race_requests.specs.Possible as possible;
 ghost use Rattle.race_requests.specs.Possible.{ask_is_in_range};
 
-use crate::list::is_select;
 use crate::making::{event_alone, lone_op};
-use crate::sound::{is_other, is_present};
 use crate::{Ask, Offers, Waiter};
 use race_legal::Replay;
 use race_records::{Decls, Kind};
@@ -48,14 +45,6 @@ fn implies(this: bool, that: bool) -> bool
     ensures { result ≡ (not this || that) }
 {
     !this || that
-}
-
-/// The run isn't over, who acts runs, and what it does can be done.
-#[inline(always)]
-pub(crate) fn is_allowed(over: bool, runs: bool, can: bool) -> bool
-    ensures { result ≡ (not over && (runs && can)) }
-{
-    !over && runs && can
 }
 
 // The buffer has room for another value.
@@ -115,45 +104,6 @@ fn receiver_goes_on<A: Allocator, B: Allocator>(
     is_received(first, decls.capacity(chan) > 0, replay.is_closed(chan))
 }
 
-// Whether a goroutine that may act goes on by what it asks, but to select. No event is made for it.
-#[inline(always)]
-fn goes_on<A: Allocator, B: Allocator>(
-    replay: &Replay<A>,
-    decls: &Decls<B>,
-    who: u32,
-    ask: &Ask,
-    way: u32,
-) -> bool
-    requires same { count_of Kind.Chan decls.now.declarations ≡ counts_in replay.now Kind.Chan }
-    requires who { who < counts_in replay.now Kind.Goroutine }
-    requires range { IsTrue (ask_is_in_range (counts_in replay.now) ask.now) }
-    requires plain { asked.is_select ask.now ≡ false }
-    ensures { (past : List Event) → StandsFor decls.now.declarations replay.now past
-        → result ≡ possible.goes_on (capacity_of decls.now.declarations) past who ask.now way }
-{
-    match ask {
-        Ask::Go(goroutine) => neither(*goroutine == 0, replay.started(*goroutine)),
-        Ask::Exit => !is_present(replay.innermost(who)),
-        Ask::Send(chan, _) => sender_goes_on(replay, decls, *chan),
-        Ask::Recv(chan) => receiver_goes_on(replay, decls, *chan),
-        Ask::Lock(lock) => neither(replay.is_held(*lock), replay.is_read_held(*lock)),
-        Ask::RLock(lock) => !replay.is_held(*lock),
-        Ask::TryLock(lock) => implies(
-            way == 0,
-            neither(replay.is_held(*lock), replay.is_read_held(*lock)),
-        ),
-        Ask::TryRLock(lock) => implies(way == 0, !replay.is_held(*lock)),
-        Ask::Do(once) => implies(replay.is_begun(*once), replay.is_ended(*once)),
-        Ask::EndDo(once) => !is_other(replay.innermost(who), *once),
-        Ask::Read(_) => true,
-        Ask::Write(_, _) => true,
-        Ask::Close(_) => true,
-        Ask::Unlock(_) => true,
-        Ask::RUnlock(_) => true,
-        Ask::Select(_, _) => unreachable!(),
-    }
-}
-
 /// Whether who asks can't go on alone, whichever goroutine it is, as far as a few loads tell: of those that mostly wait.
 #[inline(always)]
 pub(crate) fn is_held_up<A: Allocator, B: Allocator>(
@@ -176,9 +126,9 @@ pub(crate) fn is_held_up<A: Allocator, B: Allocator>(
     }
 }
 
-// Whether a select can go on alone by its way of this number, asked by its event.
-#[inline(never)]
-fn selects<A: Allocator, B: Allocator>(
+/// Whether the waiting request can go on alone by its way of this number: whether its event breaks no rule after the events so
+/// far.
+pub fn can_go_on<A: Allocator, B: Allocator>(
     replay: &Replay<A>,
     decls: &Decls<B>,
     waiter: &Waiter,
@@ -194,26 +144,4 @@ fn selects<A: Allocator, B: Allocator>(
         Some(op) => replay.breaks(&event_alone(waiter, op)).is_none(),
         None => false,
     }
-}
-
-/// Whether the waiting request can go on alone by its way of this number: whether its event breaks no rule after the events so
-/// far.
-#[inline(always)]
-pub fn can_go_on<A: Allocator, B: Allocator>(
-    replay: &Replay<A>,
-    decls: &Decls<B>,
-    waiter: &Waiter,
-    way: u32,
-) -> bool
-    requires same { count_of Kind.Chan decls.now.declarations ≡ counts_in replay.now Kind.Chan }
-    requires who { waiter.now.who < counts_in replay.now Kind.Goroutine }
-    requires range { IsTrue (ask_is_in_range (counts_in replay.now) waiter.now.asked.ask) }
-    ensures { (past : List Event) → StandsFor decls.now.declarations replay.now past
-        → result ≡ spec.is_legal_next (capacity_of decls.now.declarations) past (spec.lone_event past waiter.now way) }
-{
-    if is_select(&waiter.asked.ask) {
-        return selects(replay, decls, waiter, way);
-    }
-    let can = goes_on(replay, decls, waiter.who, &waiter.asked.ask, way);
-    is_allowed(replay.over(), replay.runs(waiter.who), can)
 }

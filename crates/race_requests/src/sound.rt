@@ -157,17 +157,15 @@ fn any_of(this: bool, that: bool, other: bool) -> bool
     this || that || other
 }
 
-/// There is a number.
-#[inline(always)]
-pub(crate) fn is_present(found: Option<u32>) -> bool
+// There is a number.
+fn is_present(found: Option<u32>) -> bool
     ensures { result ≡ is_some found }
 {
     found.is_some()
 }
 
-/// There is no number, or it isn't this.
-#[inline(always)]
-pub(crate) fn is_other(found: Option<u32>, number: u32) -> bool
+// There is no number, or it isn't this.
+fn is_other(found: Option<u32>, number: u32) -> bool
     ensures { result ≡ not (gives found number) }
 {
     found != Some(number)

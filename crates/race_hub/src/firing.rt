@@ -19,6 +19,7 @@ pub(crate) struct Firing {
 }
 
 // What the choice's partner is told, where it has one.
+#[inline(always)]
 fn partner_told(waiting: &[Waiter], choice: Choice, op: &Op) -> Option<Answer>
     requires partner { choice.partner ≤ length waiting.now }
     requires row { (told : Option Answer) × IsPartnerRow (partner_of choice waiting.now) (choice.partner_offer - 1) op.now told }
@@ -36,6 +37,7 @@ fn partner_told(waiting: &[Waiter], choice: Choice, op: &Op) -> Option<Answer>
 }
 
 /// What the choice that makes this event is to do.
+#[inline(always)]
 pub(crate) fn firing_of(waiting: &[Waiter], choice: Choice, event: Event) -> Firing
     requires { HasSomeRows waiting.now choice event }
     ensures choice { result.choice ≡ choice }

@@ -127,6 +127,7 @@ fn is_fault(event: &Event) -> bool
 }
 
 // Appends the event to the trace, and to the replay that stands for it.
+#[inline(always)]
 fn append<A: Allocator>(
     replay: &mut Replay<A>,
     trace: &mut Trace<A>,
@@ -246,6 +247,7 @@ impl<R, A: Allocator> Hub<R, A> {
 
     // What stops the hub, whoever is ready and whatever waits.
     #[tactic(auto, unfolding(crate::specs::Hub::stop_by))]
+    #[inline(always)]
     fn stop(&self) -> Option<End>
         ensures { result ≡ stop_of self.now }
     {
@@ -270,6 +272,7 @@ impl<R, A: Allocator> Hub<R, A> {
     }
 
     // Where the run stands, and what waits.
+    #[inline(always)]
     fn list(&self) -> WaitingList<A, A>
         requires { stop_of self.now ≡ None }
         ensures list { result ≡ spec.list_of self.now }
@@ -288,6 +291,7 @@ impl<R, A: Allocator> Hub<R, A> {
     }
 
     // The choice number `pick`, modulo their count.
+    #[inline(always)]
     fn pick(&self, pick: u64) -> Option<Choice>
         requires { stop_of self.now ≡ None }
         ensures picked { result ≡ picked pick (choices_of self.now) }
@@ -320,6 +324,7 @@ impl<R, A: Allocator> Hub<R, A> {
 
     /// The goroutine that has been ready longest, to let it go on elsewhere; none where nobody is ready or the hub has ended.
     /// Takes no memory.
+    #[inline(always)]
     pub fn take(&mut self) -> Option<Job<R, A>>
         ensures some { IfSome result (λ job. (end_of self.old ≡ None) × Takes self.old job self.new) }
         ensures none { IsNone result → (self.new ≡ self.old) × ((end_of self.old ≢ None) ⊎ (self.old.ready ≡ [])) }
@@ -333,6 +338,7 @@ impl<R, A: Allocator> Hub<R, A> {
     }
 
     // Whether the job was taken from here and has asked since.
+    #[inline(always)]
     fn is_back(&self, job: &Job<R, A>) -> bool
         ensures { result ≡ submits.is_back self.now job.now }
     {
@@ -340,6 +346,7 @@ impl<R, A: Allocator> Hub<R, A> {
     }
 
     // Whether the request is bad, while nothing stops the hub.
+    #[inline(always)]
     fn is_bad(&self, waiter: &Waiter) -> bool
         ensures { result ≡ (is_none (stop_of self.now) && submits.is_bad self.now waiter.now) }
     {
@@ -362,6 +369,7 @@ impl<R, A: Allocator> Hub<R, A> {
 
     /// Puts a job back that was taken and has asked: its request waits behind the others. Once the hub has ended no request is
     /// tested.
+    #[inline(always)]
     pub fn submit(&mut self, job: Job<R, A>) -> Result<(), SubmitFault<R, A>>
     where
         R: Drop,
@@ -391,6 +399,7 @@ impl<R, A: Allocator> Hub<R, A> {
     }
 
     // What a firing of this pick is to do, if there is a choice.
+    #[inline(always)]
     fn next_firing(&self, pick: u64) -> Option<Firing>
         requires { stop_of self.now ≡ None }
         ensures some { IfSome result (λ f. (picked pick (choices_of self.now) ≡ Some f.choice) × IsFiring self.now f) }
@@ -407,6 +416,7 @@ impl<R, A: Allocator> Hub<R, A> {
     }
 
     // Does it.
+    #[inline(always)]
     fn perform(&mut self, firing: Firing) -> Result<(), AllocError>
     where
         R: Drop,
@@ -440,6 +450,7 @@ impl<R, A: Allocator> Hub<R, A> {
 
     /// Lets the choice number `pick`, modulo the count of choices, happen: one event more, and who takes part is ready again.
     /// False where there is no choice or the hub has ended. Where it is false or refused, nothing is changed.
+    #[inline(always)]
     pub fn fire(&mut self, pick: u64) -> Result<bool, AllocError>
     where
         R: Drop,

@@ -57,6 +57,7 @@ impl<R, A: Allocator + Copy> Job<R, A> {
 
 impl<R, A: Allocator> Job<R, A> {
     /// The goroutine that was told this, with its log so far. Takes no memory.
+    #[inline(always)]
     pub(crate) fn resumed(who: u32, routine: R, answer: Answer, log: Log<A>) -> Job<R, A>
         ensures { result ≡ record { who = who; routine = routine; answer = answer; log = log.items; asked = None } }
     {
@@ -70,6 +71,7 @@ impl<R, A: Allocator> Job<R, A> {
     }
 
     /// The number of the goroutine.
+    #[inline(always)]
     pub fn who(&self) -> u32
         ensures { result ≡ self.now.who }
     {
@@ -94,6 +96,7 @@ impl<R, A: Allocator> Job<R, A> {
     }
 
     /// Whether it asks something that it isn't told yet.
+    #[inline(always)]
     pub(crate) fn has_asked(&self) -> bool
         ensures { result ≡ is_some self.now.asked }
     {
@@ -109,6 +112,7 @@ impl<R, A: Allocator> Job<R, A> {
 
     /// Lets the box go on with the last answer up to its next request, which is kept. Until that is answered, every turn gives
     /// the kept request. A turn that is refused has called nothing.
+    #[inline(always)]
     pub fn turn(&mut self) -> Result<Request, AllocError>
     where
         R: Routine,
@@ -130,6 +134,7 @@ impl<R, A: Allocator> Job<R, A> {
     }
 
     /// What it asks, and what stands behind that.
+    #[inline(always)]
     pub(crate) fn park(self) -> (Waiter, Parked<R, A>)
         requires { IsSome self.asked }
         ensures who { result.0.who ≡ self.who }

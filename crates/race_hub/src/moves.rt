@@ -11,6 +11,7 @@ use crate::{Answer, Choice, Job, Waiter};
 use std::alloc::{AllocError, Allocator};
 
 /// Makes room for three more who are ready, for the turns of all of them, and for one who is through.
+#[inline(always)]
 pub(crate) fn make_room<R: Drop, A: Allocator>(
     ready: &mut Vec<Job<R, A>, A>,
     out: &mut Vec<u32, A>,
@@ -31,6 +32,7 @@ pub(crate) fn make_room<R: Drop, A: Allocator>(
 }
 
 // Takes what stands at the choice's places out of the list.
+#[inline(always)]
 fn take_out<X, A: Allocator>(list: &mut Vec<X, A>, choice: Choice) -> (X, Option<X>)
     requires place { choice.place < vec_len list.old }
     requires partner { choice.partner ≤ vec_len list.old }
@@ -55,6 +57,7 @@ fn take_out<X, A: Allocator>(list: &mut Vec<X, A>, choice: Choice) -> (X, Option
 }
 
 // Who asked goes on with its answer, or is through.
+#[inline(always)]
 fn go_on<R: Drop, A: Allocator>(
     ready: &mut Vec<Job<R, A>, A>,
     ended: &mut Vec<Ended<A>, A>,
@@ -76,6 +79,7 @@ fn go_on<R: Drop, A: Allocator>(
 }
 
 // The partner goes on with its answer, where there is one.
+#[inline(always)]
 fn partner_on<R: Drop, A: Allocator>(
     ready: &mut Vec<Job<R, A>, A>,
     waiter: Option<Waiter>,
@@ -98,6 +102,7 @@ fn partner_on<R: Drop, A: Allocator>(
 }
 
 /// Who asked goes on with what it is told, or is through; behind it its partner goes on, where it has one.
+#[inline(always)]
 pub(crate) fn resume<R: Drop, A: Allocator>(
     waiting: &mut Vec<Waiter, A>,
     parked: &mut Vec<Parked<R, A>, A>,
@@ -130,6 +135,7 @@ pub(crate) fn resume<R: Drop, A: Allocator>(
 }
 
 /// Starts the goroutine of this number, where there is one.
+#[inline(always)]
 pub(crate) fn start<R, A: Allocator + Copy>(
     alloc: A,
     ready: &mut Vec<Job<R, A>, A>,
@@ -150,6 +156,7 @@ pub(crate) fn start<R, A: Allocator + Copy>(
 }
 
 /// Whether the number is one of these.
+#[inline(always)]
 pub(crate) fn is_among(numbers: &[u32], number: u32) -> bool
     ensures { result ≡ list_any (λ n. n == number) numbers.now }
 {
@@ -162,6 +169,7 @@ pub(crate) fn is_among(numbers: &[u32], number: u32) -> bool
 }
 
 // Where the number stands first.
+#[inline(always)]
 fn place_of(numbers: &[u32], number: u32) -> usize
     requires { list_any (λ n. n == number) numbers.now ≡ true }
     ensures place { result ≡ position_or_len (λ n. n == number) numbers.now }
@@ -176,6 +184,7 @@ fn place_of(numbers: &[u32], number: u32) -> usize
 }
 
 /// Takes the first that is this number out of the list.
+#[inline(always)]
 pub(crate) fn take_first<A: Allocator>(numbers: &mut Vec<u32, A>, number: u32)
     requires { list_any (λ n. n == number) numbers.old.items ≡ true }
     ensures numbers { numbers.new.items ≡ without_first number numbers.old.items }

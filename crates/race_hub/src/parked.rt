@@ -28,6 +28,7 @@ impl<R, A: Allocator> Model for Parked<R, A> {
 
 impl<R, A: Allocator> Parked<R, A> {
     /// A box and a log that has room.
+    #[inline(always)]
     pub(crate) fn new(routine: R, log: Log<A>) -> Parked<R, A>
         requires { log.has_room ≡ true }
         ensures { result ≡ record { routine = routine; log = log.items } }
@@ -36,6 +37,7 @@ impl<R, A: Allocator> Parked<R, A> {
     }
 
     /// It is told what it asked, and is ready again. Takes no memory.
+    #[inline(always)]
     pub(crate) fn told(self, waiter: Waiter, answer: Answer) -> Job<R, A>
         ensures { result ≡ answered waiter self answer }
     {

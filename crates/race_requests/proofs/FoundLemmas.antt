@@ -9,7 +9,7 @@ use Rattle.race_model.proofs.Indexes.{append_at_old}
 use Rattle.race_requests.specs.declared.choice.Choice.{Choice}
 use Rattle.race_requests.specs.declared.search.Found.{Found}
 use Rattle.race_requests.specs.declared.search.Found.TheVariants.{At, Left}
-use Rattle.race_requests.specs.Choices.{below}
+use Rattle.race_requests.specs.Choices.{below, choice, with_partner, of_way}
 use Rattle.race_requests.specs.Search.{IsFound}
 
 -- behind the first list an element stands by its number in the second one
@@ -91,3 +91,16 @@ module _ (p : Choice → Bool) (f : ℕ → List Choice) where
 pub filter_none : (p : Choice → Bool) (f : ℕ → Choice) → ((q : ℕ) → p (f q) ≡ false) → (xs : List ℕ) → filter p (map f xs) ≡ []
 filter_none p f none [] = refl
 filter_none p f none (x ∷ xs) = ap (λ b. cond b (f x ∷ filter p (map f xs)) (filter p (map f xs))) (none x) ∙ filter_none p f none xs
+
+-- nothing passes of pieces of which nothing does
+none_of_all : (p : Choice → Bool) (f : ℕ → List Choice) → ((i : ℕ) → filter p (f i) ≡ []) → (xs : List ℕ) → filter p (flat_map f xs) ≡ []
+none_of_all p f none [] = refl
+none_of_all p f none (x ∷ xs) =
+    filter-append p (f x) (flat_map f xs) ∙ (λ i. none x i ++ filter p (flat_map f xs)) ∙ none_of_all p f none xs
+
+-- nothing of a request passes that neither passes alone nor with another
+pub none_of_stuck : (p : Choice → Bool) (n : ℕ) (ways : ℕ → ℕ) (w : ℕ) → ((k : ℕ) → p (choice w k 0 0) ≡ false)
+    → ((k r q : ℕ) → p (choice w k (r + 1) (q + 1)) ≡ false) → (xs : List ℕ) → filter p (flat_map (of_way n ways w) xs) ≡ []
+none_of_stuck p n ways w alone meets = none_of_all p (of_way n ways w) (λ k.
+    ap (λ b. cond b (choice w k 0 0 ∷ filter p (flat_map (with_partner ways w k) (below n))) (filter p (flat_map (with_partner ways w k) (below n)))) (alone k)
+    ∙ none_of_all p (with_partner ways w k) (λ r. filter_none p (λ q. choice w k (r + 1) (q + 1)) (meets k r) (below (ways r))) (below n))

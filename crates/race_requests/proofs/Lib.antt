@@ -7,4 +7,5 @@ pub mod WaitingLemmas
 pub mod ReceiverLemmas
 pub mod ChoiceLemmas
 pub mod MoveLemmas
+pub mod IdleLemmas
 pub mod ListLemmas

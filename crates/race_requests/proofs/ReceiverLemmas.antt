@@ -1,5 +1,5 @@
 -- Who receives from a channel is a request of the list.
-use Rattle.std.proofs.Common.{◌≡◌, ℕ, suc, ◌<◌, ◌||◌, Bool, true, false, List, [], ◌∷◌}
+use Rattle.std.proofs.Common.{◌≡◌, ℕ, suc, ◌<◌, ◌||◌, Bool, true, false, List, [], ◌∷◌, arith}
 use Rattle.std.proofs.Common.{length, get_or, slice_get, Option, Some, None, refl, sym, ap}
 use Rattle.std.proofs.Common.{◌∙◌, eqb-true}
 use Rattle.std.specs.List.{list_any}
@@ -7,6 +7,7 @@ use Rattle.race_requests.specs.declared.request.Offer.{Offer}
 use Rattle.std.proofs.lemmas.Bool.{true≢false}
 use Rattle.std.proofs.lemmas.Option.{slice_get-get_or, slice_get_within}
 use Rattle.race_requests.specs.declared.request.Waiter.{Waiter}
+use Rattle.race_requests.specs.Receivers.{Spans, IsInSpan, AreInSpans}
 use Rattle.race_requests.specs.Waiting.{receives_from, receives, receives_at}
 
 within_by : (waiting : List Waiter) (c i : ℕ) (o : Option Waiter) → slice_get waiting i ≡ o
@@ -42,3 +43,18 @@ pub received_is : (c : ℕ) (o : Offer) → receives_from c o ≡ true → o ≡
 received_is c (Offer.Recv (Some d)) is = ap (λ n. Offer.Recv (Some n)) (eqb-true d c is)
 received_is c (Offer.Recv None) is = absurd (true≢false (sym is))
 received_is c (Offer.Send d v) is = absurd (true≢false (sym is))
+
+-- who receives stands in a span, so nobody does outside
+module _ (waiting : List Waiter) (spans : Spans) (within : (c i : ℕ) → receives_at waiting c i ≡ true → IsInSpan spans c i) where
+  outside : (c i : ℕ) → (IsInSpan spans c i → ⊥) → receives_at waiting c i ≡ false
+  outside c i never = by (receives_at waiting c i) refl
+    where
+      by : (b : Bool) → receives_at waiting c i ≡ b → b ≡ false
+      by false is = refl
+      by true is = absurd (never (within c i is))
+
+  pub in_spans : AreInSpans waiting spans
+  in_spans = record {
+    before = λ c i less. outside c i (λ span. omega (arith, less, span.from));
+    behind = λ c i past. outside c i (λ span. omega (arith, past, span.to));
+  }

@@ -9,10 +9,11 @@ ghost use Rattle.race_legal.specs.StandsFor.{StandsFor};
 ghost use Rattle.race_requests.specs.Choices as spec;
 ghost use Rattle.race_requests.specs.Possible.{offer_is_in_range};
 ghost use Rattle.race_requests.specs.Search.{picked};
+ghost use Rattle.race_requests.specs.Table.{offers_of};
 ghost use Rattle.race_requests.specs.Waiting as list;
 
 use crate::meet::offer_at;
-use crate::possible::is_default_way;
+use crate::possible::{is_default_way, is_held_up};
 use crate::receivers::Receivers;
 use crate::table::way_count;
 use crate::{
@@ -53,6 +54,7 @@ impl<'a, A: Allocator, B: Allocator> WaitingList<'a, A, B> {
     ///
     /// The replay has accepted the trace's events and no others, what the requests name is declared in the trace, and
     /// there are at most 1,024 requests.
+    #[inline(always)]
     pub fn new(
         replay: &'a Replay<A>,
         trace: &'a Trace<B>,
@@ -98,6 +100,7 @@ impl<'a, A: Allocator, B: Allocator> WaitingList<'a, A, B> {
     }
 
     // Where the run stands.
+    #[inline(always)]
     fn run(&self) -> (&Replay<A>, &Decls<B>)
         ensures stands { StandsFor result.1.now.declarations result.0.now self.now.past }
         ensures declarations { result.1.now.declarations ≡ self.now.declarations }
@@ -106,6 +109,7 @@ impl<'a, A: Allocator, B: Allocator> WaitingList<'a, A, B> {
     }
 
     // The request at this place.
+    #[inline(always)]
     fn at(&self, place: usize) -> &Waiter
         requires { place < length self.now.waiting }
         ensures found { slice_get self.now.waiting place ≡ Some result.now }
@@ -116,6 +120,7 @@ impl<'a, A: Allocator, B: Allocator> WaitingList<'a, A, B> {
     }
 
     // The request at this place, if there is one.
+    #[inline(always)]
     fn get(&self, place: usize) -> Option<&Waiter>
         ensures found { option_copied result ≡ slice_get self.now.waiting place }
         ensures declared { IfSome result (λ w. IsTrue (list.is_declared self.now.declarations w.now)) }
@@ -137,6 +142,7 @@ impl<'a, A: Allocator, B: Allocator> WaitingList<'a, A, B> {
     }
 
     // Whether the request can go on alone by its way of this number.
+    #[inline(always)]
     fn goes_on(&self, waiter: &Waiter, way: u32) -> bool
         requires { IsTrue (list.is_declared self.now.declarations waiter.now) }
         ensures { result ≡ spec.is_legal_next (capacity_of self.now.declarations) self.now.past
@@ -147,6 +153,7 @@ impl<'a, A: Allocator, B: Allocator> WaitingList<'a, A, B> {
     }
 
     // Whether the request by its way can meet the other by its way.
+    #[inline(always)]
     fn goes_on_with(&self, sender: &Waiter, way: u32, receiver: &Waiter, other_way: u32) -> bool
         requires sender { IsTrue (list.is_declared self.now.declarations sender.now) }
         requires receiver { IsTrue (list.is_declared self.now.declarations receiver.now) }
@@ -158,6 +165,7 @@ impl<'a, A: Allocator, B: Allocator> WaitingList<'a, A, B> {
     }
 
     // Whether the offer sends on an open channel without a buffer.
+    #[inline(always)]
     fn hands_over(&self, offer: Option<Offer>) -> bool
         requires { IfSome offer (λ o. IsTrue (offer_is_in_range (count_of Kind.Chan self.now.declarations) o)) }
         ensures { result ≡ list.hands_over (capacity_of self.now.declarations) self.now.past offer }
@@ -170,6 +178,7 @@ impl<'a, A: Allocator, B: Allocator> WaitingList<'a, A, B> {
     }
 
     // How many requests there are.
+    #[inline(always)]
     fn count(&self) -> u32
         ensures len { result ≡ length self.now.waiting }
         ensures few { result ≤ MAX_GOROUTINES }
@@ -179,6 +188,7 @@ impl<'a, A: Allocator, B: Allocator> WaitingList<'a, A, B> {
     }
 
     // In how many ways the request at this place can go on.
+    #[inline(always)]
     fn ways_of(&self, place: u32) -> u32
         requires { place < length self.now.waiting }
         ensures { result ≡ spec.ways_at self.now.waiting place }
@@ -186,7 +196,45 @@ impl<'a, A: Allocator, B: Allocator> WaitingList<'a, A, B> {
         way_count(&self.at(place as usize).asked.ask)
     }
 
+    // Whether the request at this place can neither go on alone nor hand anything over, as far as a few loads tell.
+    #[inline(always)]
+    fn is_idle(&self, place: u32) -> bool
+        requires { place < length self.now.waiting }
+        ensures alone { IsTrue result → (way : ℕ) → spec.is_possible (capacity_of self.now.declarations) self.now.past
+            self.now.waiting (spec.choice place way 0 0) ≡ false }
+        ensures meets { IsTrue result → (way p q : ℕ) → spec.is_possible (capacity_of self.now.declarations) self.now.past
+            self.now.waiting (spec.choice place way (p + 1) (q + 1)) ≡ false }
+    {
+        let waiter = self.at(place as usize);
+        self.is_stopped(waiter) && self.has_no_taker(&waiter.asked.ask)
+    }
+
+    // Whether the request can't go on alone, as far as a few loads tell.
+    #[inline(always)]
+    fn is_stopped(&self, waiter: &Waiter) -> bool
+        requires { IsTrue (list.is_declared self.now.declarations waiter.now) }
+        ensures { IsTrue result → (way : ℕ) → spec.is_legal_next (capacity_of self.now.declarations) self.now.past
+            (spec.lone_event self.now.past waiter.now way) ≡ false }
+    {
+        let (replay, decls) = self.run();
+        is_held_up(replay, decls, &waiter.asked.ask)
+    }
+
+    // Whether nobody takes what the ask may hand over, as far as a few loads tell.
+    #[inline(always)]
+    fn has_no_taker(&self, ask: &Ask) -> bool
+        ensures { IsTrue result → (way c p : ℕ) → list.sent_on (slice_get (offers_of ask.now) way) ≡ Some c
+            → list.receives_at self.now.waiting c p ≡ false }
+    {
+        match ask {
+            Ask::Send(Some(chan), _) => self.receivers.end(*chan) == 0,
+            Ask::Select(_, _) => false,
+            _ => true,
+        }
+    }
+
     // Whether the tuple makes an event, and the event breaks no rule.
+    #[inline(always)]
     fn is_possible(&self, choice: Choice) -> bool
         ensures { result ≡ spec.is_possible (capacity_of self.now.declarations) self.now.past self.now.waiting choice }
     {
@@ -204,6 +252,7 @@ impl<'a, A: Allocator, B: Allocator> WaitingList<'a, A, B> {
     }
 
     // Whether the tuple takes a default.
+    #[inline(always)]
     fn is_default(&self, choice: Choice) -> bool
         ensures { result ≡ spec.is_default self.now.waiting choice }
     {
@@ -214,6 +263,7 @@ impl<'a, A: Allocator, B: Allocator> WaitingList<'a, A, B> {
     }
 
     // Whether the tuple is possible, and takes no default.
+    #[inline(always)]
     fn is_move(&self, choice: Choice) -> bool
         ensures { result ≡ spec.is_move (capacity_of self.now.declarations) self.now.past self.now.waiting choice }
     {
@@ -221,6 +271,7 @@ impl<'a, A: Allocator, B: Allocator> WaitingList<'a, A, B> {
     }
 
     // Whether the request at this place has another choice than its default.
+    #[inline(never)]
     fn can_move(&self, place: u32) -> bool
         ensures { result ≡ spec.can_move (capacity_of self.now.declarations) self.now.past self.now.waiting place }
     {
@@ -231,6 +282,7 @@ impl<'a, A: Allocator, B: Allocator> WaitingList<'a, A, B> {
     }
 
     // Whether the tuple takes a default whose select has another choice.
+    #[inline(always)]
     fn stands_back(&self, choice: Choice) -> bool
         ensures { result ≡ (spec.is_default self.now.waiting choice
             && spec.can_move (capacity_of self.now.declarations) self.now.past self.now.waiting choice.place) }
@@ -239,6 +291,7 @@ impl<'a, A: Allocator, B: Allocator> WaitingList<'a, A, B> {
     }
 
     // The first place from this one on where the request by this way may have a partner; behind the last where there is none.
+    #[inline(always)]
     fn next_partner_of(&self, place: u32, way: u32, from: u32) -> u32
         requires { place < length self.now.waiting }
         ensures onward { from ≤ result }
@@ -246,26 +299,28 @@ impl<'a, A: Allocator, B: Allocator> WaitingList<'a, A, B> {
             → spec.is_possible (capacity_of self.now.declarations) self.now.past self.now.waiting (spec.choice place way (p + 1) (q + 1)) ≡ false }
     {
         let offer = offer_at(&self.at(place as usize).asked.ask, way);
-        if !self.hands_over(offer) {
+        let Some(chan) = sent_on(offer) else {
             return from.max(self.count());
+        };
+        // Mostly there is one receiver, or none: the channel itself is looked at only where there is one more.
+        let next = self.next_receiver(chan, from);
+        if next < self.count() && !self.hands_over(offer) {
+            return next.max(self.count());
         }
-        match sent_on(offer) {
-            Some(chan) => self.next_receiver(chan, from),
-            None => from.max(self.count()),
-        }
+        next
     }
 
     // The first place from this one on whose request receives from the channel. It asks nothing of the run.
+    #[inline(always)]
     fn next_receiver(&self, chan: u32, from: u32) -> u32
         ensures onward { from ≤ result }
         ensures passed { (p : ℕ) → from ≤ p → p < result → list.receives_at self.now.waiting chan p ≡ false }
     {
         let waiting = self.waiting;
         let count = waiting.len() as u32;
-        if !self.receivers.may_have(chan) {
-            return from.max(count);
-        }
-        for place in from..count {
+        let first = from.max(self.receivers.first(chan));
+        let end = count.min(self.receivers.end(chan));
+        for place in first..end {
             if receives(&waiting[place as usize].asked.ask, chan) {
                 return place;
             }
@@ -275,6 +330,7 @@ impl<'a, A: Allocator, B: Allocator> WaitingList<'a, A, B> {
 }
 
 // Who asks offers to receive from the channel.
+#[inline(always)]
 fn receives(ask: &Ask, chan: u32) -> bool
     ensures { result ≡ list.receives chan ask.now }
 {
@@ -286,6 +342,7 @@ fn receives(ask: &Ask, chan: u32) -> bool
 }
 
 // The offer is to receive from the channel.
+#[inline(always)]
 fn receives_from(offer: Offer, chan: u32) -> bool
     ensures { result ≡ list.receives_from chan offer }
 {
@@ -308,6 +365,7 @@ fn one_receives(offers: &Offers, chan: u32) -> bool
 }
 
 // The channel on which the offer sends.
+#[inline(always)]
 fn sent_on(offer: Option<Offer>) -> Option<u32>
     ensures { result ≡ list.sent_on offer }
 {
@@ -318,6 +376,7 @@ fn sent_on(offer: Option<Offer>) -> Option<u32>
 }
 
 // The channel is unbuffered and open.
+#[inline(always)]
 fn is_rendezvous(capacity: u32, closed: bool) -> bool
     ensures { result ≡ ((capacity == 0) && not closed) }
 {
@@ -325,6 +384,7 @@ fn is_rendezvous(capacity: u32, closed: bool) -> bool
 }
 
 // The ask's way of this number is its default.
+#[inline(always)]
 fn is_default_of(ask: &Ask, way: u32) -> bool
     ensures { result ≡ spec.is_default_of ask.now way }
 {
@@ -345,18 +405,27 @@ impl<'a, A: Allocator, B: Allocator> Board for WaitingList<'a, A, B> {
 
     ghost admitted = { λ l. spec.is_choice (capacity_of l.declarations) l.past l.waiting };
 
+    #[inline(always)]
     fn len(&self) -> u32 {
         self.count()
     }
 
+    #[inline(always)]
     fn ways(&self, place: u32) -> u32 {
         self.ways_of(place)
     }
 
+    #[inline(always)]
     fn next_partner(&self, place: u32, way: u32, from: u32) -> u32 {
         self.next_partner_of(place, way, from)
     }
 
+    #[inline(always)]
+    fn is_stuck(&self, place: u32) -> bool {
+        self.is_idle(place)
+    }
+
+    #[inline(always)]
     fn admits(&self, choice: Choice) -> bool {
         self.is_possible(choice) && !self.stands_back(choice)
     }
@@ -380,14 +449,17 @@ impl<'b, 'a, A: Allocator, B: Allocator> Board for Moves<'b, 'a, A, B> {
 
     ghost admitted = { λ m t. spec.is_move (capacity_of m.list.now.declarations) m.list.now.past m.list.now.waiting t && spec.stands_in m.place t };
 
+    #[inline(always)]
     fn len(&self) -> u32 {
         self.list.count()
     }
 
+    #[inline(always)]
     fn ways(&self, place: u32) -> u32 {
         self.list.ways_of(place)
     }
 
+    #[inline(always)]
     fn next_partner(&self, place: u32, way: u32, from: u32) -> u32 {
         // Of the others' choices those alone count in which it is the partner.
         if place == self.place {
@@ -399,6 +471,12 @@ impl<'b, 'a, A: Allocator, B: Allocator> Board for Moves<'b, 'a, A, B> {
         }
     }
 
+    #[inline(always)]
+    fn is_stuck(&self, place: u32) -> bool {
+        self.list.is_idle(place)
+    }
+
+    #[inline(always)]
     fn admits(&self, choice: Choice) -> bool {
         stands_in(self.place, choice) && self.list.is_move(choice)
     }

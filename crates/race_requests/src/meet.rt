@@ -15,6 +15,7 @@ use race_records::{Decls, Event, Kind, Op};
 use std::alloc::Allocator;
 
 // What the ask offers by its way of this number.
+#[inline(always)]
 pub(crate) fn offer_at(ask: &Ask, way: u32) -> Option<Offer>
     ensures offer { result ≡ slice_get (offers_of ask.now) way }
     ensures range { (counts : Kind → ℕ) → IsTrue (ask_is_in_range counts ask.now)
@@ -41,6 +42,7 @@ pub(crate) fn offer_at(ask: &Ask, way: u32) -> Option<Offer>
 }
 
 // Over which channel which value is handed, where the one offers to send on it and the other to receive from it.
+#[inline(always)]
 fn hands(sends: Option<Offer>, receives: Option<Offer>) -> Option<(u32, u64)>
     ensures handed { result ≡ handed sends receives }
     ensures sent { IfSome result (λ p. sends ≡ Some (Offer.Send (Some p.0) p.1)) }

@@ -20,7 +20,7 @@ pub enum Found {
 
 /// Requests that wait, each with its ways, and which tuples of them are choices.
 pub trait Board {
-    ghost use Rattle.std.specs.Prelude.{ℕ, ◌≡◌, ◌+◌, ◌<◌, ◌≤◌, Bool, false};
+    ghost use Rattle.std.specs.Prelude.{ℕ, ◌≡◌, ◌+◌, ◌<◌, ◌≤◌, Bool, false, IsTrue};
     ghost use Rattle.race_records.specs.declared.kind.TheConstants.{MAX_GOROUTINES};
     ghost use Rattle.race_requests.specs.declared.choice.Choice.{Choice};
     ghost use Rattle.race_requests.specs.Choices.{choice};
@@ -49,12 +49,19 @@ pub trait Board {
         ensures onward { from ≤ result }
         ensures passed { (p : ℕ) → from ≤ p → p < result → (q : ℕ) → admitted self.now (choice place way (p + 1) (q + 1)) ≡ false };
 
+    /// Whether the request at this place has no choice by any of its ways, where that is told at once; false tells nothing.
+    fn is_stuck(&self, place: u32) -> bool
+        requires { place < size self.now }
+        ensures alone { IsTrue result → (way : ℕ) → admitted self.now (choice place way 0 0) ≡ false }
+        ensures meets { IsTrue result → (way p q : ℕ) → admitted self.now (choice place way (p + 1) (q + 1)) ≡ false };
+
     /// Whether the tuple is a choice.
     fn admits(&self, choice: Choice) -> bool
         ensures { result ≡ admitted self.now choice };
 }
 
 // The tuple alone.
+#[inline(always)]
 fn one<B: Board>(board: &B, tuple: Choice, skip: u64) -> Found
     ensures { IsFound (filter (B.admitted board.now) (tuple ∷ [])) skip result }
 {
@@ -68,6 +75,7 @@ fn one<B: Board>(board: &B, tuple: Choice, skip: u64) -> Found
 }
 
 // The request by its way, with each way of the partner.
+#[inline(always)]
 fn with_each_way<B: Board>(board: &B, place: u32, way: u32, partner: u32, skip: u64) -> Found
     requires partner { partner < B.size board.now }
     requires few { B.size board.now ≤ MAX_GOROUTINES }
@@ -90,6 +98,7 @@ fn with_each_way<B: Board>(board: &B, place: u32, way: u32, partner: u32, skip: 
 }
 
 // The request by its way, with each partner.
+#[inline(always)]
 fn with_each_partner<B: Board>(board: &B, place: u32, way: u32, skip: u64) -> Found
     requires { place < B.size board.now }
     ensures { IsFound (filter (B.admitted board.now)
@@ -114,6 +123,7 @@ fn with_each_partner<B: Board>(board: &B, place: u32, way: u32, skip: u64) -> Fo
 }
 
 // The request by its way, alone and then with each partner.
+#[inline(always)]
 fn by_way<B: Board>(board: &B, place: u32, way: u32, skip: u64) -> Found
     requires { place < B.size board.now }
     ensures { IsFound (filter (B.admitted board.now)
@@ -132,11 +142,16 @@ fn by_way<B: Board>(board: &B, place: u32, way: u32, skip: u64) -> Found
 }
 
 // The request by each of its ways.
+#[inline(always)]
 fn by_request<B: Board>(board: &B, place: u32, skip: u64) -> Found
     requires { place < B.size board.now }
     ensures { IsFound (filter (B.admitted board.now)
         (flat_map (of_way (B.size board.now) (B.ways_at board.now) place) (below (B.ways_at board.now place)))) skip result }
 {
+    // Most requests wait for what others do, and cost no more than this.
+    if board.is_stuck(place) {
+        return Found::Left(skip);
+    }
     let mut left = skip;
     for way in 0..board.ways(place) {
         match by_way(board, place, way, left) {

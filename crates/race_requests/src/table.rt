@@ -253,6 +253,7 @@ fn is_told(row: Option<Option<Answer>>, told: Option<Answer>) -> bool
 }
 
 /// How many offers the ask has.
+#[inline(always)]
 pub(crate) fn offer_count(ask: &Ask) -> u32
     ensures count { result ≡ length (offers_of ask.now) }
     ensures few { result ≤ 16 }
@@ -266,6 +267,7 @@ pub(crate) fn offer_count(ask: &Ask) -> u32
 }
 
 /// In how many ways who asks can go on.
+#[inline(always)]
 pub(crate) fn way_count(ask: &Ask) -> u32
     ensures { result ≡ ways ask.now }
 {

@@ -35,6 +35,10 @@ impl Board for Crowd {
         }
     }
 
+    fn is_stuck(&self, place: u32) -> bool {
+        self.pairs && place % 2 == 1
+    }
+
     fn admits(&self, choice: Choice) -> bool {
         if self.pairs {
             choice.place % 2 == 0 && choice.partner > 0 && choice.partner % 2 == 0

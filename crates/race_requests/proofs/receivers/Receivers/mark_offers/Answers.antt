@@ -1,5 +1,6 @@
 -- An ask that receives from a channel has an offer that does, and all were looked at.
-use Rattle.std.proofs.Common.{Some, ap, ◌∙◌, arith}
+use Rattle.std.proofs.Common.{◌≡◌, Some, ap, ◌∙◌, inl, inr, slice_get, arith}
+use Rattle.std.proofs.lemmas.Bool.{cases_lt}
 use Rattle.std.proofs.lemmas.Option.{slice_get_within}
 use Rattle.race_requests.specs.Table.{offers_of}
 use Rattle.race_requests.specs.Waiting.{receives_from}
@@ -13,3 +14,15 @@ returns-clause-marked c chan received =
     let within = slice_get_within offers found.index found.element found.there in
     c.loop-way.invariant.marked chan found.index (omega (arith, within, c.offer_count-way-end.ensures.count, c.loop-way-test.false))
     (found.there ∙ ap (λ o. Some o) (received_is chan found.element found.passes))
+
+pub loop-way-preserved : goal.loop-way-preserved
+loop-way-preserved c = record {
+  marked = λ chan k below there. elim (cases_lt k c.loop-way.way) [
+    | inl early ↦ c.mark_offer.ensures.kept chan c.args.place (c.loop-way.invariant.marked chan k early there)
+    | inr late ↦
+        let last : c.loop-way.way ≡ k = omega (arith, below, late) in
+        c.mark_offer.ensures.marked chan (c.offer_at.ensures.offer ∙ ap (slice_get (offers_of c.args.ask.now)) last ∙ there)
+  ];
+  kept = λ other i was. c.mark_offer.ensures.kept other i (c.loop-way.invariant.kept other i was);
+  last = c.mark_offer.ensures.last;
+}

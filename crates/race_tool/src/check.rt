@@ -66,7 +66,7 @@ impl CheckOptions {
 ///
 /// Where there are several shards, each past the first is a thread of its own, for which it waits. So
 /// what is promised holds where it returns, and it returns if its reads, writes and threads do.
-pub fn run_check<T: Threads + Wait, R: Read, W: Write, A: Allocator + Copy + Send>(
+pub fn run_check<T: Threads + Wait + Sync, R: Read, W: Write, A: Allocator + Copy + Send>(
     rt: &T,
     alloc: A,
     source: &mut Source<R>,
@@ -94,7 +94,7 @@ pub fn run_check<T: Threads + Wait, R: Read, W: Write, A: Allocator + Copy + Sen
 }
 
 // The same by shards, which judge while the trace is read.
-fn check_as_read<T: Threads + Wait, R: Read, W: Write, A: Allocator + Copy + Send>(
+fn check_as_read<T: Threads + Wait + Sync, R: Read, W: Write, A: Allocator + Copy + Send>(
     rt: &T,
     alloc: A,
     source: &mut Source<R>,

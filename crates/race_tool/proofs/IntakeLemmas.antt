@@ -87,52 +87,53 @@ module _ {R A : Type 0} (remaining : R → Option (List ℕ)) (Stands : EventStr
       endless = λ is. absurd cc;
     }
 
--- a block is read and fed, behind what was handed on
-module _ {R A : Type 0} (remaining : R → Option (List ℕ)) (h h_first : Handed A) (same : h ≡ h_first) (initial before after : Source R) (first old new : Intake A)
-    (goes : (start : Source R) → HasTaken remaining (StandsAfter h) start initial first.reader first.turns → HasTaken remaining (StandsAfter h) start before old.reader old.turns)
+-- a block is read and fed
+module _ {R A : Type 0} (remaining : R → Option (List ℕ)) (Stands : EventStream A → List (List ℕ) → Type 0) (initial before after : Source R) (first old new : Intake A)
+    (goes : (start : Source R) → HasTaken remaining Stands start initial first.reader first.turns → HasTaken remaining Stands start before old.reader old.turns)
     (calm : source_failures before ≡ source_failures initial) (answer : Result Bool TextFault)
-    (feeds : FeedsMore trace_causes (unread remaining before) (unread remaining after) (IsFed trace_causes (StandsAfter h) old.reader)
-    (IsFed trace_causes (StandsAfter h) new.reader) answer)
+    (feeds : FeedsMore trace_causes (unread remaining before) (unread remaining after) (IsFed trace_causes Stands old.reader)
+    (IsFed trace_causes Stands new.reader) answer)
     (calm_now : source_failures after ≡ source_failures before) where
   abbrev Answers : Result Bool TextFault → Type 0
-  Answers a = ReadsOn remaining (StandsAfter h_first) (StandsAfter h_first) initial after first new (Ok a)
-
-  by_first : (a : Result Bool TextFault) → ReadsOn remaining (StandsAfter h) (StandsAfter h) initial after first new (Ok a) → Answers a
-  by_first a r = subst (λ (k : Handed A). ReadsOn remaining (StandsAfter k) (StandsAfter k) initial after first new (Ok a)) same r
+  Answers a = ReadsOn remaining Stands Stands initial after first new (Ok a)
 
   fed_so : (a : Result Bool TextFault) → answer ≡ a
-      → FeedsMore trace_causes (unread remaining before) (unread remaining after) (IsFed trace_causes (StandsAfter h) old.reader) (IsFed trace_causes (StandsAfter h) new.reader) a
+      → FeedsMore trace_causes (unread remaining before) (unread remaining after) (IsFed trace_causes Stands old.reader) (IsFed trace_causes Stands new.reader) a
   fed_so a is =
       subst (λ (b : Result Bool TextFault). FeedsMore trace_causes (unread remaining before) (unread remaining after)
-      (IsFed trace_causes (StandsAfter h) old.reader) (IsFed trace_causes (StandsAfter h) new.reader) b) is feeds
+      (IsFed trace_causes Stands old.reader) (IsFed trace_causes Stands new.reader) b) is feeds
 
   pub at_fault : (fault : TextFault) → answer ≡ Err fault → Answers (Err fault)
   at_fault fault is =
-      by_first (Err fault) (goes_on remaining (StandsAfter h) initial before first old goes calm after new (Err fault)
-      (λ start held. faulty remaining (StandsAfter h) start before old.reader old.turns held after new.reader fault (fed_so (Err fault) is)) tt calm_now)
+      goes_on remaining Stands initial before first old goes calm after new (Err fault)
+      (λ start held. faulty remaining Stands start before old.reader old.turns held after new.reader fault (fed_so (Err fault) is)) tt calm_now
 
-  module _ (readable : IsReadable (StandsAfter h) new) where
+  module _ (readable : IsReadable Stands new) where
     pub at_end : answer ≡ Ok false → Answers (Ok false)
     at_end is =
-        by_first (Ok false) (goes_on remaining (StandsAfter h) initial before first old goes calm after new (Ok false)
-        (λ start held. taken_all remaining (StandsAfter h) start before old.reader old.turns held after new.reader (fed_so (Ok false) is))
-        (record { readable = readable; later = λ no. cc; begun = λ no. cc }) calm_now)
+        goes_on remaining Stands initial before first old goes calm after new (Ok false)
+        (λ start held. taken_all remaining Stands start before old.reader old.turns held after new.reader (fed_so (Ok false) is))
+        (record { readable = readable; later = λ no. cc; begun = λ no. cc }) calm_now
 
     -- one more
     module _ (is : answer ≡ Ok true) (turns : new.turns ≡ old.turns + 1) (reads : source_reads after ≡ one_more (source_reads before)) where
-      taken_now : (start : Source R) → HasTaken remaining (StandsAfter h) start before old.reader old.turns
-          → HasTaken remaining (StandsAfter h) start after new.reader new.turns
+      taken_now : (start : Source R) → HasTaken remaining Stands start before old.reader old.turns
+          → HasTaken remaining Stands start after new.reader new.turns
       taken_now start held =
-          subst (λ n. HasTaken remaining (StandsAfter h) start after new.reader n) (sym turns)
-          (taken_next remaining (StandsAfter h) start before old.reader old.turns held after new.reader answer is feeds reads)
+          subst (λ n. HasTaken remaining Stands start after new.reader n) (sym turns)
+          (taken_next remaining Stands start before old.reader old.turns held after new.reader answer is feeds reads)
 
       pub at_enough : first.turns ≤ old.turns → IsTrue (has_events new.reader.lines.reader) → Answers (Ok true)
       at_enough later begun =
-          by_first (Ok true) (goes_on remaining (StandsAfter h) initial before first old goes calm after new (Ok true) taken_now
-          (record { readable = readable; later = λ yes. omega (arith, turns, later); begun = λ yes. begun }) calm_now)
+          goes_on remaining Stands initial before first old goes calm after new (Ok true) taken_now
+          (record { readable = readable; later = λ yes. omega (arith, turns, later); begun = λ yes. begun }) calm_now
 
 -- what was read is read behind what was judged meanwhile
 module _ {R A : Type 0} (remaining : R → Option (List ℕ)) (Old New : EventStream A → List (List ℕ) → Type 0) (source now : Source R) (before after : Intake A) where
+  pub fault_beside : (fault : TextFault) → ReadsOn remaining Old Old source now before after (Ok (Err fault))
+      → ReadsOn remaining Old New source now before after (Ok (Err fault))
+  fault_beside fault r = record { ok = r.ok; on = tt; calm = r.calm; failed = r.failed; fine = r.fine; endless = r.endless }
+
   pub judged_beside : (more : Bool) → ((s : EventStream A) → ForEachLines (Old s) (New s)) → ReadsOn remaining Old Old source now before after (Ok (Ok more))
       → ReadsOn remaining Old New source now before after (Ok (Ok more))
   judged_beside more to r = record {

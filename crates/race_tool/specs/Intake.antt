@@ -8,12 +8,21 @@ use Rattle.race_text.specs.declared.stream.EventStream.{EventStream}
 use Rattle.race_text.specs.Fault.{trace_causes}
 use Rattle.race_text.specs.Fed.{IsFed}
 use Rattle.race_text.specs.Stream.{has_events}
+use Rattle.race_tool.specs.declared.gathered.Gathered.{Gathered}
 use Rattle.race_tool.specs.declared.input.ReadFault.{ReadFault}
 use Rattle.race_tool.specs.declared.input.TheConstants.{BLOCK, MAX_TURNS}
 use Rattle.race_tool.specs.declared.judged_stream.JudgedStream.{JudgedStream}
 use Rattle.race_tool.specs.declared.intake.Intake.{Intake}
 use Rattle.race_tool.specs.Input.{HasRead, HasReadAll, IsBetweenFine, ReadsBy, ReadsFine, ReadsMany}
 use Rattle.race_tool.specs.Streams.{IsReadText}
+
+-- a reader by the grammar over a stream, as one of the stream itself
+abbrev pub of_stream : {L A : Type 0} → Fed (Gathered L A) A → Fed (EventStream A) A
+of_stream k = record { lines = record { reader = k.lines.reader.stream; part = k.lines.part }; fault = k.fault }
+
+-- what was read, by another reader
+abbrev pub with_reader : {A : Type 0} → Intake A → Fed (EventStream A) A → Intake A
+with_reader i reader = record { alloc = i.alloc; block = i.block; reader = reader; turns = i.turns; wanted = i.wanted; handed = i.handed }
 
 -- the next block can be read and fed to a reader that stands for some lines
 pub record IsReadable {A : Type 0} (Stands : EventStream A → List (List ℕ) → Type 0) (now : Intake A) : Type 0 where

@@ -7,6 +7,7 @@ ghost use Rattle.race_text.specs.Fault.{trace_causes};
 ghost use Rattle.race_text.specs.Fed.{ForEachFedTo, IsFed, IsReady};
 ghost use Rattle.race_text.specs.Lines.{first_fault};
 ghost use Rattle.race_tool.specs.Input.{FeedsMore, IsBetweenFine};
+ghost use Rattle.race_tool.specs.Intake.{of_stream};
 ghost use Rattle.race_tool.specs.Streams.{StandsBehind, IsTextBehind};
 
 use crate::handed::Handed;
@@ -16,8 +17,6 @@ use race_text::{EventStream, Fed, Grammar, Lines, TextCause, TextFault};
 use std::alloc::Allocator;
 use std::io::Read;
 use std::marker::{Brand, PhantomData};
-use std::mem;
-use std::snapshot::Snapshot;
 
 /// What was handed on, as proofs know it.
 pub(crate) trait HandedOn {
@@ -38,10 +37,11 @@ impl HandedOn for Brand {
     ghost events = { [] };
 }
 
-// What is read of a trace behind the events that were handed on.
+/// What is read of a trace behind the events that were handed on.
 #[derive(Drop)]
-struct Gathered<L, A: Allocator> {
-    stream: EventStream<A>,
+pub(crate) struct Gathered<L, A: Allocator> {
+    /// What was read.
+    pub(crate) stream: EventStream<A>,
     behind: PhantomData<L>,
 }
 
@@ -80,13 +80,11 @@ impl<L: HandedOn, A: Allocator + Copy> Grammar for Gathered<L, A> {
     }
 }
 
-// The reader as one by the grammar.
-fn by_grammar<L: HandedOn, A: Allocator + Copy>(
+/// The reader as one by the grammar, which moves it.
+pub(crate) fn by_grammar<L: HandedOn, A: Allocator + Copy>(
     reader: Fed<EventStream<A>, A>,
 ) -> Fed<Gathered<L, A>, A>
-    ensures stream { result.lines.reader.stream ≡ reader.lines.reader }
-    ensures part { result.lines.part ≡ reader.lines.part }
-    ensures fault { result.fault ≡ reader.fault }
+    ensures { of_stream result ≡ reader }
 {
     let Fed { lines, fault } = reader;
     let Lines { reader, part } = lines;
@@ -100,13 +98,11 @@ fn by_grammar<L: HandedOn, A: Allocator + Copy>(
     }
 }
 
-// And back.
-fn by_itself<L: HandedOn, A: Allocator + Copy>(
+/// And back.
+pub(crate) fn by_itself<L: HandedOn, A: Allocator + Copy>(
     reader: Fed<Gathered<L, A>, A>,
 ) -> Fed<EventStream<A>, A>
-    ensures stream { result.lines.reader ≡ reader.lines.reader.stream }
-    ensures part { result.lines.part ≡ reader.lines.part }
-    ensures fault { result.fault ≡ reader.fault }
+    ensures { result ≡ of_stream reader }
 {
     let Fed { lines, fault } = reader;
     let Lines { reader, part } = lines;
@@ -136,17 +132,15 @@ pub(crate) fn blank_reader<A: Allocator + Copy>(alloc: A) -> Fed<EventStream<A>,
 
 /// Reads once as `feed_block` does, behind what was handed on.
 pub(crate) fn feed_behind<L: HandedOn, R: Read, A: Allocator + Copy>(
-    alloc: A,
     source: &mut Source<R>,
     block: &mut [u8],
-    reader: &mut Fed<EventStream<A>, A>,
-    _handed: &Snapshot<Handed<A>>,
+    reader: &mut Fed<Gathered<L, A>, A>,
 ) -> Result<Result<bool, TextFault>, ReadFault>
     requires length { length block.old ≡ BLOCK }
-    requires ready { IsReady (StandsBehind L.judge L.events) reader.old }
+    requires ready { IsReady (StandsBehind L.judge L.events) (of_stream reader.old) }
     ensures ok { IfOk result (λ answer. FeedsMore trace_causes (unread R.remaining source.old)
-        (unread R.remaining source.new) (IsFed trace_causes (StandsBehind L.judge L.events) reader.old)
-        (IsFed trace_causes (StandsBehind L.judge L.events) reader.new) answer) }
+        (unread R.remaining source.new) (IsFed trace_causes (StandsBehind L.judge L.events) (of_stream reader.old))
+        (IsFed trace_causes (StandsBehind L.judge L.events) (of_stream reader.new)) answer) }
     ensures calm { result ≢ Err ReadFault.Failed
         → source_failures source.new ≡ source_failures source.old }
     ensures failed { result ≡ Err ReadFault.Failed
@@ -154,12 +148,9 @@ pub(crate) fn feed_behind<L: HandedOn, R: Read, A: Allocator + Copy>(
         × Keeps (unread R.remaining source.old) (unread R.remaining source.new) }
     ensures ends { result ≢ Err ReadFault.Endless }
     ensures reads { source_reads source.new ≡ one_more (source_reads source.old) }
-    ensures ready { IfOk result (λ answer. OnOk answer (IsBetweenFine (StandsBehind L.judge L.events) reader.new)) }
+    ensures ready { IfOk result (λ answer. OnOk answer (IsBetweenFine (StandsBehind L.judge L.events) (of_stream reader.new))) }
 {
-    let mut grown = by_grammar::<L, A>(mem::replace(reader, blank_reader(alloc)));
-    let answer = feed_block(source, block, &mut grown);
-    *reader = by_itself(grown);
-    answer
+    feed_block(source, block, reader)
 }
 
 /// What was read behind what was handed on, as a whole.

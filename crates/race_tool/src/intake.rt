@@ -7,10 +7,12 @@ ghost use Rattle.race_text.specs.Fault.{trace_causes};
 ghost use Rattle.race_text.specs.Fed.{ForEachFedTo};
 ghost use Rattle.race_text.specs.Lines.{first_fault};
 ghost use Rattle.race_tool.specs.Input.{ReadsBy, ReadsFine, ReadsMany};
-ghost use Rattle.race_tool.specs.Intake.{IsReadable, ReadsOn};
+ghost use Rattle.race_tool.specs.Intake.{IsReadable, ReadsOn, of_stream, with_reader};
 ghost use Rattle.race_tool.specs.Streams as spec;
 
-use crate::gathered::{blank_reader, feed_behind, finish_behind};
+use crate::gathered::{
+    Gathered, HandedOn, blank_reader, by_grammar, by_itself, feed_behind, finish_behind,
+};
 use crate::handed::Handed;
 use crate::input::{MAX_TURNS, ReadFault, blank_block, set_memory_apart};
 use crate::judged_stream::{JudgedStream, Judging};
@@ -21,8 +23,8 @@ use std::io::Read;
 use std::marker::Brand;
 use std::snapshot::Snapshot;
 use std::sync::Wait;
-use std::thread;
 use std::thread::Threads;
+use std::{mem, thread};
 
 // What was read so far, and by how many reads.
 #[derive(Drop)]
@@ -147,16 +149,43 @@ impl<A: Allocator + Copy> Intake<A> {
         ensures { ReadsOn R.remaining (spec.StandsAfter self.old.handed.value) (spec.StandsAfter self.old.handed.value)
             source.old source.new self.old self.new result }
     {
+        self.read_behind::<Brand, R>(source)
+    }
+
+    // The same behind what was handed on. The reader is large, and moved but once for all blocks of the input.
+    fn read_behind<L: HandedOn, R: Read>(
+        &mut self,
+        source: &mut Source<R>,
+    ) -> Result<Result<bool, TextFault>, ReadFault>
+        requires { IsReadable (spec.StandsBehind L.judge L.events) self.old }
+        ensures { ReadsOn R.remaining (spec.StandsBehind L.judge L.events) (spec.StandsBehind L.judge L.events)
+            source.old source.new self.old self.new result }
+    {
+        let reader = mem::replace(&mut self.reader, blank_reader(self.alloc));
+        let mut reader = by_grammar::<L, A>(reader);
+        let answer = self.gather(source, &mut reader);
+        self.reader = by_itself(reader);
+        answer
+    }
+
+    // The same by this reader.
+    fn gather<L: HandedOn, R: Read>(
+        &mut self,
+        source: &mut Source<R>,
+        reader: &mut Fed<Gathered<L, A>, A>,
+    ) -> Result<Result<bool, TextFault>, ReadFault>
+        requires { IsReadable (spec.StandsBehind L.judge L.events) (with_reader self.old (of_stream reader.old)) }
+        ensures { ReadsOn R.remaining (spec.StandsBehind L.judge L.events) (spec.StandsBehind L.judge L.events)
+            source.old source.new (with_reader self.old (of_stream reader.old)) (with_reader self.new (of_stream reader.new)) result }
+    {
         while self.turns < MAX_TURNS {
-            let block = self.block.as_mut_slice();
-            let reader = &mut self.reader;
-            match feed_behind::<Brand, R, A>(self.alloc, source, block, reader, &self.handed) {
+            match feed_behind(source, self.block.as_mut_slice(), reader) {
                 Ok(Ok(true)) => self.turns += 1,
                 Ok(Ok(false)) => return Ok(Ok(false)),
                 Ok(Err(fault)) => return Ok(Err(fault)),
                 Err(fault) => return Err(fault),
             }
-            if self.reader.lines.reader.events().len() >= self.wanted {
+            if reader.lines.reader.stream.events().len() >= self.wanted {
                 return Ok(Ok(true));
             }
         }

@@ -94,10 +94,7 @@ const CHECKED: Ending = (
     Written::One(b"race on x: write by main at p (event 2), read by w at p (event 3)\nraces: 1\n"),
 );
 
-const FAULT: Ending = (
-    status::TEXT_FAULT,
-    Written::One(b"line 7: unknown word\n"),
-);
+const FAULT: Ending = (status::TEXT_FAULT, Written::One(b"line 7: unknown word\n"));
 
 // The edge of the `go`.
 const LISTED: Ending = (status::CLEAN, Written::One(b"edge 1 main 1 w\nedges: 1\n"));

@@ -60,7 +60,11 @@ fn a_read_fails_only_before_the_first_faulty_line_has_ended(rt: HostRuntime) {
             let is_right = ends_so(&rt, Engine::Check(&by(*judge)), row, 1_000, true);
             assert!(rt; is_right, "at {:?} by {judge:?}", row.0);
         }
-        assert!(rt; ends_so(&rt, Engine::Edges, row, 1_000, true), "at {:?}", row.0);
+        assert!(rt;
+            ends_so(&rt, Engine::Edges, row, 1_000, true),
+            "at {:?}",
+            row.0
+        );
     }
 }
 

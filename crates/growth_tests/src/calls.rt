@@ -67,8 +67,11 @@ fn run<T: AllocGlobal + Threads + Wait + Sync, C: Growing>(rt: &T, call: C, nth:
     }
 }
 
-// How often the call answers want of memory until a run meets no refusal, or none where a run is wrong.
-fn refusals<T: AllocGlobal + Threads + Wait + Sync, C: Growing>(rt: &T, call: C) -> Option<u64> {
+/// How often the call answers want of memory until a run meets no refusal, or none where a run is wrong.
+pub(crate) fn refusals<T: AllocGlobal + Threads + Wait + Sync, C: Growing>(
+    rt: &T,
+    call: C,
+) -> Option<u64> {
     let mut refusals = 0u64;
     for nth in 1..96u64 {
         match run(rt, call, nth) {

@@ -1,6 +1,6 @@
 //! The engines of race_tool.
 
-use crate::calls::{Growing, Reply, assert_each, refused_if, right_if};
+use crate::calls::{Growing, Reply, assert_each, refusals, refused_if, right_if};
 use race_records::{Sink, Source};
 use race_tool::{
     CheckOptions, RunOptions, run_check, run_draw, run_edges, run_race, run_run, run_witness,
@@ -9,7 +9,7 @@ use race_tool::{
 use refusing_heap::RefusingHeap;
 use std::alloc::{Allocator, Global};
 use std::io;
-use std::io::Read;
+use std::io::{Read, Write};
 use std::sync::Wait;
 use std::thread::Threads;
 
@@ -26,6 +26,8 @@ enum Engine {
     Check(Judging),
     /// By so many shards, which are handed one event at a time, where a read gives few bytes.
     CheckPieces(usize),
+    /// The same of a text with a faulty line.
+    CheckFaultyPieces(usize),
     Edges,
     /// By so many workers, or without any by picks.
     Run(Option<usize>),
@@ -38,6 +40,10 @@ enum Engine {
 // A goroutine, a variable and a race.
 const TRACE: &[u8] =
     b"gotrace 1\ngoroutine w\nvar x\ngo main w p\nwrite main x 1 p\nread w x 1 p\n";
+
+// An event that breaks a rule, others, and a faulty line behind them.
+const FAULTY: &[u8] =
+    b"gotrace 1\nvar x\nread main x 1 p\nwrite main x 1 p\nwrite main x 2 q\nwrite main x 3 r\njump\n";
 
 // The first three events of each run of this are those of the trace, with the read before the write or behind it.
 const PROGRAM: &[u8] =
@@ -87,6 +93,8 @@ const CHECKED: Ending = (
     status::RACES,
     Written::One(b"race on x: write by main at p (event 2), read by w at p (event 3)\nraces: 1\n"),
 );
+
+const FAULT: Ending = (status::TEXT_FAULT, Written::One(b"line 7: unknown word\n"));
 
 // The edge of the `go`.
 const LISTED: Ending = (status::CLEAN, Written::One(b"edge 1 main 1 w\nedges: 1\n"));
@@ -154,6 +162,23 @@ fn is_written(output: &[u8], len: usize, written: Written) -> bool {
     }
 }
 
+// The status of a check by so many shards, which are handed one event at a time.
+fn run_check_in_pieces<R: Threads + Wait + Sync, A: Allocator + Copy + Send, W: Write>(
+    rt: &R,
+    alloc: A,
+    bytes: &'static [u8],
+    sink: &mut Sink<W>,
+    shards: usize,
+) -> u8 {
+    let mut pieces = Source::new(Pieces { bytes });
+    let options = CheckOptions {
+        shards,
+        block: 1,
+        plain: false,
+    };
+    run_check(rt, alloc, &mut pieces, sink, &options)
+}
+
 // The status.
 fn run<R: Threads + Wait + Sync, A: Allocator + Copy + Send>(
     rt: &R,
@@ -166,14 +191,9 @@ fn run<R: Threads + Wait + Sync, A: Allocator + Copy + Send>(
     let mut sink = Sink::new(output);
     match engine {
         Engine::Check(judging) => run_check(rt, alloc, &mut trace, &mut sink, &options(judging)),
-        Engine::CheckPieces(shards) => {
-            let mut pieces = Source::new(Pieces { bytes: TRACE });
-            let options = CheckOptions {
-                shards,
-                block: 1,
-                plain: false,
-            };
-            run_check(rt, alloc, &mut pieces, &mut sink, &options)
+        Engine::CheckPieces(shards) => run_check_in_pieces(rt, alloc, TRACE, &mut sink, shards),
+        Engine::CheckFaultyPieces(shards) => {
+            run_check_in_pieces(rt, alloc, FAULTY, &mut sink, shards)
         }
         Engine::Edges => run_edges(alloc, &mut trace, &mut sink),
         Engine::Run(workers) => {
@@ -223,11 +243,10 @@ impl Growing for Row {
 // takes four lists more for another replay, one for the clocks of each of three walks, and one for its order. A drawing takes
 // what the judge by one shard takes, six lists for its edges, one for the clocks of a walk, and one of layouts; a layout takes
 // what is noted for its way, the way, its arrows, and its rows, which ask again for less; and its text is made in two.
-static ENGINES: [(Engine, Ending, u64); 15] = [
+static ENGINES: [(Engine, Ending, u64); 14] = [
     (Engine::Check(Judging::Shards(1)), CHECKED, 23),
     (Engine::Check(Judging::Shards(2)), CHECKED, 25),
     (Engine::CheckPieces(1), CHECKED, 25),
-    (Engine::CheckPieces(2), CHECKED, 27),
     (Engine::Check(Judging::Plain), CHECKED, 26),
     (Engine::Edges, LISTED, 21),
     (Engine::Run(None), RUN_BY_PICKS, 51),
@@ -249,5 +268,21 @@ static ENGINES: [(Engine, Ending, u64); 15] = [
 fn engines(rt: HostRuntime) {
     for &(engine, ending, want) in &ENGINES {
         assert_each(&rt, &[(Row { engine, ending }, want)]);
+    }
+}
+
+// A thread that reads and one that judges grow at one time, in no order that is always the same: so which growth is refused
+// isn't known, and how often differs.
+static BESIDE: [(Engine, Ending); 4] = [
+    (Engine::CheckPieces(2), CHECKED),
+    (Engine::CheckPieces(3), CHECKED),
+    (Engine::CheckFaultyPieces(1), FAULT),
+    (Engine::CheckFaultyPieces(2), FAULT),
+];
+
+#[test]
+fn engines_that_read_beside(rt: HostRuntime) {
+    for &(engine, ending) in &BESIDE {
+        assert!(rt; refusals(&rt, Row { engine, ending }).is_some());
     }
 }

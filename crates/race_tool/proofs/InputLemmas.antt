@@ -1,24 +1,16 @@
 -- One more block of an input.
-use Rattle.std.proofs.Common.{◌≡◌, ◌≢◌, ℕ, zero, suc, ◌+◌, ◌<◌, ◌≤◌, Bool, true, false, IsTrue, List, [], ◌++◌, length, Option, Some}
+use Rattle.std.proofs.Common.{◌≡◌, ◌≢◌, ℕ, zero, suc, ◌+◌, ◌<◌, Bool, true, false, IsTrue, List, [], ◌++◌, Option, Some}
 use Rattle.std.proofs.Common.{None, Result, Ok, Err, IfOk, IfErr, IsErrAnd, OnOk, refl, sym, ap, subst, ◌∙◌, arith, append-nil}
 use Rattle.std.proofs.Common.{length-append}
 use Rattle.std.proofs.KnownBytes.{Consumes-nil, Consumes-trans, Consumes-kept}
-use Rattle.std.specs.Io.KnownBytes.{Consumes, Keeps}
+use Rattle.std.specs.Io.KnownBytes.{Keeps}
 use Rattle.race_records.specs.Devices.{more_by, one_more}
 use Rattle.race_text.specs.declared.cause.TextCause.{TextCause}
 use Rattle.race_text.specs.declared.cause.TextFault.{TextFault}
 use Rattle.race_text.specs.Lines.{Causes, first_fault}
 use Rattle.race_text.specs.Fed.{ended_after, ended_fault}
 use Rattle.race_text.proofs.FedLemmas.{ended_fault_stays}
-use Rattle.race_tool.specs.Input.{IsInput, IsReadBy, ReadsBy, ReadsFine, FeedsMore}
-
--- so many blocks were read and fed to a reader, which stands for them, and no line that a newline ends is at fault
-pub record IsFed (causes : Causes) (start now : Option (List ℕ)) (StandsFor : List ℕ → Type 0) (turns : ℕ) : Type 0 where
-  pub bytes : List ℕ
-  pub consumed : Consumes start now bytes
-  pub stands : StandsFor bytes
-  pub many : turns ≤ length bytes
-  pub fine : ended_fault causes bytes ≡ None
+use Rattle.race_tool.specs.Input.{HasRead, HasReadAll, IsInput, IsReadBy, ReadsBy, ReadsFine, FeedsMore}
 
 -- where nothing was fed no line is at fault
 nothing_ended : (causes : Causes) → ended_fault causes [] ≡ None
@@ -26,7 +18,7 @@ unfolding ended_fault ended_after
 nothing_ended causes = refl
 
 -- before the first one
-pub fed_none : (causes : Causes) (start : Option (List ℕ)) (StandsFor : List ℕ → Type 0) → StandsFor [] → IsFed causes start start StandsFor 0
+pub fed_none : (causes : Causes) (start : Option (List ℕ)) (StandsFor : List ℕ → Type 0) → StandsFor [] → HasRead causes start start StandsFor 0
 fed_none causes start StandsFor stands = record {
   bytes = [];
   consumed = Consumes-nil start;
@@ -35,15 +27,65 @@ fed_none causes start StandsFor stands = record {
   fine = nothing_ended causes;
 }
 
-module _ (causes : Causes) (start before after : Option (List ℕ)) (Old New : List ℕ → Type 0) (turns : ℕ) (fed : IsFed causes start before Old turns) where
+-- all was read, and the reader stands for it
+module _ (causes : Causes) (start now : Option (List ℕ)) (Stands : List ℕ → Type 0) (r : HasReadAll causes start now Stands) {V : Type 0} (IsText : V → List ℕ → Type 0) where
+  end_read : (text : Result V TextFault)
+      → IfOk text (λ value. (bytes : List ℕ) → Stands bytes → IsText value bytes)
+      → IfErr text (λ told. (bytes : List ℕ) → Stands bytes → told.cause ≢ TextCause.OutOfMemory → first_fault causes bytes ≡ Some told)
+      → IfErr text (λ told. told.cause ≢ TextCause.OutOfMemory)
+      → ReadsBy IsText causes start now text
+  end_read text read told other = record {
+    bytes = r.read.bytes;
+    to_end = true;
+    read = record { consumed = r.read.consumed; stops = (r.at_end, r.read.fine) };
+    is_so = λ whole is. subst (λ (bytes : List ℕ). IsReadBy IsText causes bytes text) (sym is) (so text read told other);
+    all = all text;
+  }
+    where
+      so : (t : Result V TextFault) → IfOk t (λ value. (bytes : List ℕ) → Stands bytes → IsText value bytes)
+          → IfErr t (λ f. (bytes : List ℕ) → Stands bytes → f.cause ≢ TextCause.OutOfMemory → first_fault causes bytes ≡ Some f)
+          → IfErr t (λ f. f.cause ≢ TextCause.OutOfMemory) → IsReadBy IsText causes r.read.bytes t
+      so (Ok value) read told other = read r.read.bytes r.read.stands
+      so (Err f) read told other = told r.read.bytes r.read.stands other
+
+      all : (t : Result V TextFault) → OnOk t (IsTrue true)
+      all (Ok value) = refl
+      all (Err f) = tt
+
+  -- what is answered then, but for want of memory
+  pub all_answered : (told : Result V TextFault) {E : Type 0} (answer : Result (Result V TextFault) E)
+      → IfOk told (λ value. (bytes : List ℕ) → Stands bytes → IsText value bytes)
+      → IfErr told (λ f. (bytes : List ℕ) → Stands bytes → f.cause ≢ TextCause.OutOfMemory → first_fault causes bytes ≡ Some f)
+      → IfOk answer (λ text. text ≡ told) → IfOk answer (λ text. IfErr text (λ f. f.cause ≢ TextCause.OutOfMemory))
+      → IfOk answer (λ text. ReadsBy IsText causes start now text)
+  all_answered told (Err e) read fault same other = tt
+  all_answered told (Ok text) read fault same other =
+      subst (λ (t : Result V TextFault). ReadsBy IsText causes start now t) (sym same)
+      (end_read told read fault (subst (λ (t : Result V TextFault). IfErr t (λ f. f.cause ≢ TextCause.OutOfMemory)) same other))
+
+module _ (causes : Causes) (start before after : Option (List ℕ)) (Old New : List ℕ → Type 0) (turns : ℕ) (fed : HasRead causes start before Old turns) where
   -- one more block, in which there were bytes
-  pub fed_more : (r : FeedsMore causes before after Old New (Ok true)) → IsFed causes start after New (turns + 1)
+  pub fed_more : (r : FeedsMore causes before after Old New (Ok true)) → HasRead causes start after New (turns + 1)
   fed_more r = record {
     bytes = fed.bytes ++ r.taken;
     consumed = Consumes-trans start before after fed.bytes r.taken fed.consumed r.consumed;
     stands = r.goes_on fed.bytes fed.stands;
     many = omega (arith, fed.many, r.told.1, length-append fed.bytes r.taken);
     fine = r.told.0 fed.bytes fed.stands;
+  }
+
+  -- or none, at the end
+  pub fed_all : FeedsMore causes before after Old New (Ok false) → HasReadAll causes start after New
+  fed_all r = record {
+    turns = turns;
+    read = record {
+      bytes = fed.bytes ++ r.taken;
+      consumed = Consumes-trans start before after fed.bytes r.taken fed.consumed r.consumed;
+      stands = r.goes_on fed.bytes fed.stands;
+      many = omega (arith, fed.many, length-append fed.bytes r.taken);
+      fine = r.told.0 fed.bytes fed.stands;
+    };
+    at_end = r.told.1;
   }
 
   -- the read before whose failure no line was at fault
@@ -66,46 +108,13 @@ module _ (causes : Causes) (start before after : Option (List ℕ)) (Old New : L
           all = tt;
         }
 
-    -- the end was found
-    end_read : (text : Result V TextFault) → FeedsMore causes before after Old New (Ok false)
-        → IfOk text (λ value. (bytes : List ℕ) → New bytes → IsText value bytes)
-        → IfErr text (λ told. (bytes : List ℕ) → New bytes → told.cause ≢ TextCause.OutOfMemory → first_fault causes bytes ≡ Some told)
-        → IfErr text (λ told. told.cause ≢ TextCause.OutOfMemory)
-        → ReadsBy IsText causes start after text
-    end_read text r read told other = record {
-      bytes = whole_bytes;
-      to_end = true;
-      read = record {
-        consumed = Consumes-trans start before after fed.bytes r.taken fed.consumed r.consumed;
-        stops = (r.told.1, r.told.0 fed.bytes fed.stands);
-      };
-      is_so = λ whole is. subst (λ (bytes : List ℕ). IsReadBy IsText causes bytes text) (sym is) (so text read told other);
-      all = all text;
-    }
-      where
-        whole_bytes : List ℕ
-        whole_bytes = fed.bytes ++ r.taken
-
-        so : (t : Result V TextFault) → IfOk t (λ value. (bytes : List ℕ) → New bytes → IsText value bytes)
-            → IfErr t (λ f. (bytes : List ℕ) → New bytes → f.cause ≢ TextCause.OutOfMemory → first_fault causes bytes ≡ Some f)
-            → IfErr t (λ f. f.cause ≢ TextCause.OutOfMemory) → IsReadBy IsText causes whole_bytes t
-        so (Ok value) read told other = read whole_bytes (r.goes_on fed.bytes fed.stands)
-        so (Err f) read told other = told whole_bytes (r.goes_on fed.bytes fed.stands) other
-
-        all : (t : Result V TextFault) → OnOk t (IsTrue true)
-        all (Ok value) = refl
-        all (Err f) = tt
-
     -- what the reader of lines answers at the end, but for want of memory
     pub end_answered : (told : Result V TextFault) {E : Type 0} (answer : Result (Result V TextFault) E) → FeedsMore causes before after Old New (Ok false)
         → IfOk told (λ value. (bytes : List ℕ) → New bytes → IsText value bytes)
         → IfErr told (λ f. (bytes : List ℕ) → New bytes → f.cause ≢ TextCause.OutOfMemory → first_fault causes bytes ≡ Some f)
         → IfOk answer (λ text. text ≡ told) → IfOk answer (λ text. IfErr text (λ f. f.cause ≢ TextCause.OutOfMemory))
         → IfOk answer (λ text. ReadsBy IsText causes start after text)
-    end_answered told (Err e) r read fault same other = tt
-    end_answered told (Ok text) r read fault same other =
-        subst (λ (t : Result V TextFault). ReadsBy IsText causes start after t) (sym same)
-        (end_read told r read fault (subst (λ (t : Result V TextFault). IfErr t (λ f. f.cause ≢ TextCause.OutOfMemory)) same other))
+    end_answered told answer r = all_answered causes start after New (fed_all r) IsText told answer
 
 -- one read more is counted, whether or not it is the first
 pub read_more : (turns start before after : ℕ) → (turns ≡ 0 → before ≡ start) → (0 < turns → before ≡ more_by turns start) → after ≡ one_more before

@@ -14,3 +14,5 @@ pub mod DrawLemmas
 pub mod StreamedLemmas
 pub mod StreamedAnswers
 pub mod StreamedReading
+pub mod IntakeLemmas
+pub mod IntakeTurns

@@ -1,5 +1,5 @@
 -- What is found of a trace that was judged while it was read is a right finding, and is printed so.
-use Rattle.std.proofs.Common.{◌≡◌, ℕ, Bool, true, false, inl, inr, List, [], Option, Some, None, Result, Ok, Err, IfOk, refl, sym, ap, ◌∙◌, append-nil, arith}
+use Rattle.std.proofs.Common.{◌≡◌, ℕ, Bool, true, false, inl, inr, List, [], Option, Some, Result, Ok, Err, IfOk, refl, sym, ap, ◌∙◌, append-nil, arith}
 use Rattle.std.proofs.lemmas.Option.{none-some}
 use Rattle.race_records.specs.declared.sink.Sink.{Sink}
 use Rattle.race_records.specs.declared.source.Source.{Source}
@@ -15,7 +15,6 @@ use Rattle.race_report.proofs.PrintableLemmas.{notes_are_named}
 use Rattle.race_text.specs.Fault.{trace_causes, text_fault}
 use Rattle.race_text.specs.Lines.{first_fault}
 use Rattle.race_text.specs.Output.{Writes}
-use Rattle.race_text.specs.Stream.{decls_of}
 use Rattle.race_text.proofs.FedLemmas.{ended_fault_stays}
 use Rattle.race_text.proofs.TextFine.{text_has_no_fault}
 use Rattle.race_text.specs.declared.stream.EventStream.{EventStream}

@@ -1,16 +1,14 @@
 -- A trace that is judged while it is read: its lines, its judge, and what is found of it.
-use Rattle.std.proofs.Common.{◌≡◌, ℕ, ◌+◌, ◌<◌, ◌≤◌, Bool, true, false, IsTrue, All, List, [], ◌∷◌, ◌++◌, length, Option, Some, None, Result, Ok, Err, OnOk, MatchResult}
+use Rattle.std.proofs.Common.{◌≡◌, ℕ, ◌+◌, ◌<◌, ◌≤◌, true, IsTrue, All, List, [], ◌∷◌, ◌++◌, length, Option, Some, None, Result, Ok, Err, OnOk, MatchResult}
 use Rattle.std.proofs.Common.{refl, sym, ap, ◌∙◌, subst, arith, append-nil, length-append}
-use Rattle.std.proofs.lemmas.List.{nil_from_length}
 use Rattle.std.specs.Borrow.{Bor}
-use Rattle.std.specs.List.{flat_map}
 use Rattle.std.specs.Option.{option_map, is_some}
 use Rattle.race_records.specs.declared.event.Event.{Event}
 use Rattle.race_records.specs.declared.kind.Kind.{Kind}
 use Rattle.race_records.specs.declared.trace.TheConstants.{MAX_EVENTS}
-use Rattle.race_records.specs.Declarations.{Declaration, DeclsState, counts_of, capacity_of}
+use Rattle.race_records.specs.Declarations.{Declaration, DeclsState, capacity_of}
 use Rattle.race_records.specs.Events.{TraceState, IsTrace}
-use Rattle.race_model.specs.Verdict.{Verdict, IsVerdict}
+use Rattle.race_model.specs.Verdict.{IsVerdict}
 use Rattle.race_legal.specs.ReplayState.{IsInRange}
 use Rattle.race_legal.proofs.RangeLemmas.{range_from_fits}
 use Rattle.std.proofs.Common.{slice_index_or}
@@ -20,7 +18,7 @@ use Rattle.race_shards.specs.Judging.{JudgeState, CanTake, GoesOn, Tells, Notes}
 use Rattle.race_shards.specs.Judging as judging
 use Rattle.race_text.specs.declared.cause.TextCause.{TextCause}
 use Rattle.race_text.specs.declared.stream.EventStream.{EventStream}
-use Rattle.race_text.specs.Common.{line_in, EndsLine}
+use Rattle.race_text.specs.Common.{line_in}
 use Rattle.race_text.specs.Fault.{trace_causes}
 use Rattle.race_text.specs.Grammar.{ForEachLines, Takes, TakesBehind, TakesIfTold, TellsOfFront, IsWhole}
 use Rattle.race_text.specs.Grammar as grammar
@@ -28,10 +26,8 @@ use Rattle.race_text.specs.Reader.{trace_read}
 use Rattle.race_text.specs.Stream.{StandsWith, DeclaresNothing, IsTextAtEnd, trace_with, decls_of, events_of, has_events}
 use Rattle.race_text.specs.Stream as stream
 use Rattle.race_text.specs.Taking.{behind, begun}
-use Rattle.race_text.specs.Text.{ended}
 use Rattle.race_text.proofs.StreamLemmas.{nothing_past, read_behind}
-use Rattle.race_tool.specs.declared.judged_stream.JudgedStream.{JudgedStream}
-use Rattle.race_tool.specs.Streams.{IsJudgeOf, HandsOn, HandsOnSome, StandsFor, IsReadText, IsNotedVerdict}
+use Rattle.race_tool.specs.Streams.{IsJudgeOf, IsHanded, HandsOnSome, StandsBehind, IsReadText, IsTextBehind, IsNotedVerdict}
 
 -- what was handed on changes no declaration
 pub decls_with : {A : Type 0} (s : EventStream A) (past : List Event) → (trace_with past s).decls ≡ decls_of s
@@ -103,82 +99,113 @@ pub can_take_some : {A : Type 0} (s : EventStream A) (before : Option JudgeState
 can_take_some s before k some started holds =
     can_take s some.past some.lines some.hands_on.stream k (started some.past some.hands_on.judged) holds
 
-module _ {A : Type 0} (j : JudgedStream A) where
-  -- the same judge behind another stream, or another judge
-  abbrev pub with_stream : EventStream A → JudgedStream A
-  with_stream s = record { stream = s; judge = j.judge }
+-- where nothing is left the judge stands for all that was handed on
+pub none_left : (decls : DeclsState) (judge : Option JudgeState) (past : List Event) → IsHanded decls judge [] past → IsJudgeOf decls judge past
+none_left decls judge past h = subst (λ (es : List Event). IsJudgeOf decls judge es) (sym (h.past_is ∙ append-nil h.front)) h.judged
 
-  abbrev pub with_both : EventStream A → Option JudgeState → JudgedStream A
-  with_both s judge = record { stream = s; judge = judge }
+-- the judge stands for all, or the last ones are left to it
+pub all_judged : (decls : DeclsState) (k : JudgeState) (past : List Event) → judging.StandsFor decls.declarations k past → IsHanded decls (Some k) [] past
+all_judged decls k past J = record { front = past; past_is = sym (append-nil past); judged = J }
 
-  pub some_hands_on : grammar.StandsForSome (StandsFor j) → HandsOnSome j.stream j.judge
-  some_hands_on some = record { past = some.stands.past; lines = some.lines; hands_on = some.stands.hands_on }
+pub last_left : (decls : DeclsState) (k : JudgeState) (past last : List Event) → judging.StandsFor decls.declarations k past → IsHanded decls (Some k) last (past ++ last)
+last_left decls k past last J = record { front = past; past_is = refl; judged = J }
 
-  pub some_stream : grammar.StandsForSome (StandsFor j) → stream.StandsForSome j.stream
-  some_stream some = record { past = some.stands.past; lines = some.lines; stands = some.stands.hands_on.stream }
+module _ {A : Type 0} (judge : Option JudgeState) (events : List Event) (old : EventStream A) where
+  pub some_stream : grammar.StandsForSome (StandsBehind judge events old) → stream.StandsForSome old
+  some_stream some = record { past = some.stands.past; lines = some.lines; stands = some.stands.stream }
 
   -- the judge stays while the stream goes on, since where there is one nothing is declared
-  module _ (s : EventStream A) (declares : DeclaresNothing j.stream s) where
-    judge_stays : (k : Option JudgeState) → (is_some k ≡ true → IsTrue (has_events j.stream)) → (past : List Event) → IsJudgeOf (decls_of j.stream) k past
+  module _ (s : EventStream A) (declares : DeclaresNothing old s) where
+    judge_stays : (k : Option JudgeState) → (is_some k ≡ true → IsTrue (has_events old)) → (past : List Event) → IsJudgeOf (decls_of old) k past
         → IsJudgeOf (decls_of s) k past
     judge_stays None begun past judged = judged
     judge_stays (Some k) begun past judged = subst (λ (ds : List Declaration). judging.StandsFor ds k past) (sym (declares.same (begun refl))) judged
 
-    pub goes_on : (lines more : List (List ℕ)) (S : StandsFor j lines) → StandsWith s S.past more → StandsFor (with_stream s) more
+    pub goes_on : (lines more : List (List ℕ)) (S : StandsBehind judge events old lines) → StandsWith s S.past more → StandsBehind judge events s more
     goes_on lines more S stands = record {
       past = S.past;
-      hands_on = record { stream = stands; judged = judge_stays j.judge S.begun S.past S.hands_on.judged };
+      stream = stands;
+      handed = record { front = S.handed.front; past_is = S.handed.past_is; judged = judge_stays judge S.begun S.handed.front S.handed.judged };
       begun = λ some. declares.stays (S.begun some);
     }
 
-    pub takes : (line : List ℕ) → ((past : List Event) → Takes trace_causes (StandsWith j.stream past) line (StandsWith s past))
-        → Takes trace_causes (StandsFor j) line (StandsFor (with_stream s))
+    pub takes : (line : List ℕ) → ((past : List Event) → Takes trace_causes (StandsWith old past) line (StandsWith s past))
+        → Takes trace_causes (StandsBehind judge events old) line (StandsBehind judge events s)
     takes line took lines S =
-        let behind = took S.past lines S.hands_on.stream in
+        let behind = took S.past lines S.stream in
         record { no_cause = behind.no_cause; stands = goes_on lines (lines ++ line ∷ []) S behind.stands }
 
   -- a line is taken, or what is owed is told
   pub line_answered : (s : EventStream A) (line : List ℕ) (r : Result (Unit {0}) TextCause)
-      → MatchResult r (λ _. (past : List Event) → Takes trace_causes (StandsWith j.stream past) line (StandsWith s past))
-      (λ told. (past : List Event) → grammar.Tells trace_causes (StandsWith j.stream past) line told)
-      → OnOk r (DeclaresNothing j.stream s)
-      → MatchResult r (λ _. Takes trace_causes (StandsFor j) line (StandsFor (with_stream s))) (λ told. grammar.Tells trace_causes (StandsFor j) line told)
+      → MatchResult r (λ _. (past : List Event) → Takes trace_causes (StandsWith old past) line (StandsWith s past))
+      (λ told. (past : List Event) → grammar.Tells trace_causes (StandsWith old past) line told)
+      → OnOk r (DeclaresNothing old s)
+      → MatchResult r (λ _. Takes trace_causes (StandsBehind judge events old) line (StandsBehind judge events s))
+      (λ told. grammar.Tells trace_causes (StandsBehind judge events old) line told)
   line_answered s line (Ok x) taken declares = takes s declares line taken
-  line_answered s line (Err told) tells declares = λ lines S. tells S.past lines S.hands_on.stream
+  line_answered s line (Err told) tells declares = λ lines S. tells S.past lines S.stream
 
   -- the same of a common line
-  pub common_answered : (s : EventStream A) (bytes : List ℕ) (r : Result (Option (Bor (List ℕ))) TextCause) → grammar.StandsForSome (StandsFor j)
-      → MatchResult r (λ rest. (past : List Event) → TakesIfTold trace_causes (StandsWith j.stream past) bytes rest (StandsWith s past))
-      (λ told. (past : List Event) → TellsOfFront trace_causes (StandsWith j.stream past) bytes told)
-      → OnOk r (DeclaresNothing j.stream s)
-      → MatchResult r (λ rest. TakesIfTold trace_causes (StandsFor j) bytes rest (StandsFor (with_stream s)))
-      (λ told. TellsOfFront trace_causes (StandsFor j) bytes told)
+  pub common_answered : (s : EventStream A) (bytes : List ℕ) (r : Result (Option (Bor (List ℕ))) TextCause) → grammar.StandsForSome (StandsBehind judge events old)
+      → MatchResult r (λ rest. (past : List Event) → TakesIfTold trace_causes (StandsWith old past) bytes rest (StandsWith s past))
+      (λ told. (past : List Event) → TellsOfFront trace_causes (StandsWith old past) bytes told)
+      → OnOk r (DeclaresNothing old s)
+      → MatchResult r (λ rest. TakesIfTold trace_causes (StandsBehind judge events old) bytes rest (StandsBehind judge events s))
+      (λ told. TellsOfFront trace_causes (StandsBehind judge events old) bytes told)
   common_answered s bytes (Ok (Some rest)) some taken declares = ((taken some.stands.past).0, takes s declares (line_in bytes) (λ past. (taken past).1))
-  common_answered s bytes (Ok None) some taken declares = λ lines S. goes_on s declares lines lines S (taken S.past lines S.hands_on.stream)
+  common_answered s bytes (Ok None) some taken declares = λ lines S. goes_on s declares lines lines S (taken S.past lines S.stream)
   common_answered s bytes (Err told) some tells declares =
       let front = tells some.stands.past in
-      record { rest = front.rest; ends = front.ends; least = λ lines S. (tells S.past).least lines S.hands_on.stream }
+      record { rest = front.rest; ends = front.ends; least = λ lines S. (tells S.past).least lines S.stream }
 
-  -- its events are judged, and handed on
-  pub handed_on : (s : EventStream A) (k : JudgeState) → IsTrue (has_events j.stream) → DeclaresNothing j.stream s
-      → ((past : List Event) → ForEachLines (StandsWith j.stream past) (StandsWith s (past ++ events_of j.stream)))
-      → ((past : List Event) → IsJudgeOf (decls_of j.stream) j.judge past → judging.StandsFor (decls_of j.stream).declarations k (past ++ events_of j.stream))
-      → ForEachLines (StandsFor j) (StandsFor (with_both s (Some k)))
-  handed_on s k begun declares stands judged lines S = record {
-    past = S.past ++ events_of j.stream;
-    hands_on = record {
-      stream = stands S.past lines S.hands_on.stream;
-      judged = subst (λ (ds : List Declaration). judging.StandsFor ds k (S.past ++ events_of j.stream)) (sym (declares.same begun)) (judged S.past S.hands_on.judged);
-    };
-    begun = λ some. declares.stays begun;
-  }
+  -- where nothing is left to the judge
+  module _ (none : events ≡ []) where
+    pub judge_of : (past : List Event) → IsHanded (decls_of old) judge events past → IsJudgeOf (decls_of old) judge past
+    judge_of past h = none_left (decls_of old) judge past (subst (λ (es : List Event). IsHanded (decls_of old) judge es past) none h)
+
+    pub some_hands_on : grammar.StandsForSome (StandsBehind judge events old) → HandsOnSome old judge
+    some_hands_on some = record {
+      past = some.stands.past;
+      lines = some.lines;
+      hands_on = record { stream = some.stands.stream; judged = judge_of some.stands.past some.stands.handed };
+    }
+
+    -- the gathered events are handed on, judged or not
+    pub handed_on : (s : EventStream A) (k : JudgeState) (left : List Event) → IsTrue (has_events old) → DeclaresNothing old s
+        → ((past : List Event) → ForEachLines (StandsWith old past) (StandsWith s (past ++ events_of old)))
+        → ((past : List Event) → IsJudgeOf (decls_of old) judge past → IsHanded (decls_of old) (Some k) left (past ++ events_of old))
+        → ForEachLines (StandsBehind judge events old) (StandsBehind (Some k) left s)
+    handed_on s k left begun declares stands hands lines S =
+        let h = hands S.past (judge_of S.past S.handed) in
+        record {
+          past = S.past ++ events_of old;
+          stream = stands S.past lines S.stream;
+          handed = record {
+            front = h.front;
+            past_is = h.past_is;
+            judged = subst (λ (ds : List Declaration). judging.StandsFor ds k h.front) (sym (declares.same begun)) h.judged;
+          };
+          begun = λ some. declares.stays begun;
+        }
+
+    -- all that was read is the judge's
+    pub read_as : (s : EventStream A) (bytes : List ℕ) → IsTextBehind judge events s bytes → IsReadText (record { stream = s; judge = judge }) bytes
+    read_as s bytes T = record {
+      past = T.past;
+      lines = T.lines;
+      hands_on = record {
+        stream = T.stream;
+        judged = none_left (decls_of s) judge T.past (subst (λ (es : List Event). IsHanded (decls_of s) judge es T.past) none T.handed);
+      };
+      text = T.text;
+    }
 
   -- all that was read, where no cause holds at the end
-  pub whole_is : (last : List ℕ) → ((past : List Event) → ForEachLines (StandsWith j.stream past) (λ lines. trace_causes.end lines last ≡ None))
-      → IsTextAtEnd j.stream last → ForEachLines (StandsFor j) (IsWhole trace_causes IsReadText last j)
+  pub whole_is : (last : List ℕ) → ((past : List Event) → ForEachLines (StandsWith old past) (λ lines. trace_causes.end lines last ≡ None))
+      → IsTextAtEnd old last → ForEachLines (StandsBehind judge events old) (IsWhole trace_causes (λ (s : EventStream A) bytes. IsTextBehind judge events s bytes) last old)
   whole_is last none text lines S =
-      let no_cause = none S.past lines S.hands_on.stream in
+      let no_cause = none S.past lines S.stream in
       record {
         no_cause = no_cause;
-        text = record { past = S.past; lines = lines; hands_on = S.hands_on; text = text S.past lines S.hands_on.stream no_cause };
+        text = record { past = S.past; lines = lines; stream = S.stream; handed = S.handed; text = text S.past lines S.stream no_cause };
       }

@@ -10,7 +10,8 @@ use Rattle.race_text.specs.declared.cause.TextFault.{TextFault}
 use Rattle.race_text.specs.Text.{IsTextOf}
 use Rattle.race_text.specs.Lines.{Causes, first_fault}
 use Rattle.race_text.specs.Fault.{trace_causes}
-use Rattle.race_text.specs.Fed.{ended_fault}
+use Rattle.race_text.specs.declared.fed.Fed.{Fed}
+use Rattle.race_text.specs.Fed.{IsBetween, ended_fault}
 use Rattle.race_tool.specs.declared.input.TheConstants.{BLOCK, MAX_TURNS}
 
 -- the first faulty line ends in the last bytes that were read, as many as a block has at most
@@ -33,6 +34,11 @@ pub record Reads (causes : Causes) (before after : Option (List ℕ)) (bytes : L
 abbrev pub IsInput : List ℕ → Bool → List ℕ → Type 0
 IsInput bytes true whole = whole ≡ bytes
 IsInput bytes false whole = (rest : List ℕ) × (whole ≡ bytes ++ rest)
+
+-- a reader has told no fault, and its grammar stands for some lines
+pub record IsBetweenFine {G A : Type 0} (Stands : G → List (List ℕ) → Type 0) (k : Fed G A) : Type 0 where
+  pub fine : k.fault ≡ None
+  pub between : IsBetween (Stands k.lines.reader) k.lines.part.items
 
 module _ {V : Type 0} (IsText : V → List ℕ → Type 0) (causes : Causes) where
   -- the bytes are the text of that, or else this is their first fault
@@ -71,6 +77,20 @@ pub record ReadsMany {R : Type 0} (causes : Causes) (remaining : R → Option (L
   pub consumed : Consumes (unread remaining source) (unread remaining source_now) bytes
   pub many : MAX_TURNS ≤ length bytes
   pub fine : ended_fault causes bytes ≡ None
+
+-- so many blocks were read and fed to a reader, which stands for them, and no line that a newline ends is at fault
+pub record HasRead (causes : Causes) (start now : Option (List ℕ)) (StandsFor : List ℕ → Type 0) (turns : ℕ) : Type 0 where
+  pub bytes : List ℕ
+  pub consumed : Consumes start now bytes
+  pub stands : StandsFor bytes
+  pub many : turns ≤ length bytes
+  pub fine : ended_fault causes bytes ≡ None
+
+-- and what was read is all that there is
+pub record HasReadAll (causes : Causes) (start now : Option (List ℕ)) (StandsFor : List ℕ → Type 0) : Type 0 where
+  pub turns : ℕ
+  pub read : HasRead causes start now StandsFor turns
+  pub at_end : IsAtEnd now
 
 -- what is known of one more block, as its lines were told: fine, with whether there were bytes, or with the first fault
 abbrev pub IsToldOf : Causes → (List ℕ → Type 0) → Option (List ℕ) → List ℕ → Result Bool TextFault → Type 0

@@ -16,3 +16,4 @@ pub mod Witness
 pub mod Witnesses
 pub mod Draw
 pub mod Drawings
+pub mod Intake

@@ -1,5 +1,5 @@
 -- A trace that is judged while it is read: its events are handed on to a judge, and forgotten.
-use Rattle.std.specs.Prelude.{◌≡◌, ℕ, true, IsTrue, List, [], Option, Some, None}
+use Rattle.std.specs.Prelude.{◌≡◌, ℕ, true, IsTrue, List, [], ◌++◌, Option, Some, None}
 use Rattle.std.specs.Option.{is_some}
 use Rattle.race_records.specs.declared.event.Event.{Event}
 use Rattle.race_records.specs.Declarations.{DeclsState}
@@ -8,8 +8,8 @@ use Rattle.race_verdict.specs.declared.notes.NotedVerdict.{NotedVerdict}
 use Rattle.race_verdict.specs.Notes.{verdict_noted, IsNotedOf}
 use Rattle.race_verdict.specs.Traces.{HasVerdict}
 use Rattle.race_shards.specs.Judging.{JudgeState}
+use Rattle.race_shards.specs.Limits.{is_block}
 use Rattle.race_shards.specs.Judging as judging
-use Rattle.race_text.specs.declared.cause.TextFault.{TextFault}
 use Rattle.race_text.specs.declared.stream.EventStream.{EventStream}
 use Rattle.race_text.specs.Fault.{text_fault}
 use Rattle.race_text.specs.Stream.{StandsWith, decls_of, has_events, trace_with}
@@ -17,6 +17,7 @@ use Rattle.race_text.specs.Text.{IsTextOf}
 use Rattle.race_report.specs.Noted.{races_noted_text}
 use Rattle.race_report.specs.Report.{clean_text, fault_line, illegal_line}
 use Rattle.race_legal.specs.Rules.{number_of}
+use Rattle.race_tool.specs.declared.handed.Handed.{Handed}
 use Rattle.race_tool.specs.declared.judged_stream.JudgedStream.{JudgedStream}
 use Rattle.race_tool.specs.declared.stream_found.Found.{Found}
 use Rattle.race_tool.specs.declared.status.TheConstants as status
@@ -37,11 +38,55 @@ pub record HandsOnSome {A : Type 0} (s : EventStream A) (judge : Option JudgeSta
   pub lines : List (List ℕ)
   pub hands_on : HandsOn s judge past lines
 
--- a stream with its judge took these lines; there is a judge only where there are events
-pub record StandsFor {A : Type 0} (j : JudgedStream A) (lines : List (List ℕ)) : Type 0 where
+-- these events were handed on: the judge stands for the first of them, and it takes the last ones next
+pub record IsHanded (decls : DeclsState) (judge : Option JudgeState) (events past : List Event) : Type 0 where
+  pub front : List Event
+  pub past_is : past ≡ front ++ events
+  pub judged : IsJudgeOf decls judge front
+
+-- the judge can take these events next; without a judge there are none
+abbrev pub CanTakeNext : Option JudgeState → List Event → Type 0
+CanTakeNext None events = events ≡ []
+CanTakeNext (Some judge) events = judging.CanTake judge events
+
+-- it takes them in blocks that it can take
+pub record CanJudgeAll {A : Type 0} (h : Handed A) : Type 0 where
+  pub can : CanTakeNext h.judge h.events.items
+  pub block : is_block h.judging.block ≡ true
+
+-- none is left of them
+pub record HasNoneLeft {A : Type 0} (old new : Handed A) : Type 0 where
+  pub none : new.events.items ≡ []
+  pub judging : new.judging ≡ old.judging
+
+-- the judge took the events, and stands for all that was handed on
+pub record JudgesAll {A : Type 0} (old new : Handed A) : Type 0 where
+  pub left : HasNoneLeft old new
+  pub begun : is_some new.judge ≡ is_some old.judge
+  pub goes_on : (decls : DeclsState) (past : List Event) → IsHanded decls old.judge old.events.items past → IsHanded decls new.judge new.events.items past
+
+-- a stream took these lines, and handed events on; there is a judge only where there are events
+pub record StandsBehind {A : Type 0} (judge : Option JudgeState) (events : List Event) (s : EventStream A) (lines : List (List ℕ)) : Type 0 where
   pub past : List Event
-  pub hands_on : HandsOn j.stream j.judge past lines
-  pub begun : is_some j.judge ≡ true → IsTrue (has_events j.stream)
+  pub stream : StandsWith s past lines
+  pub handed : IsHanded (decls_of s) judge events past
+  pub begun : is_some judge ≡ true → IsTrue (has_events s)
+
+-- a stream with its judge, to which none of them is left
+abbrev pub StandsFor : {A : Type 0} → JudgedStream A → List (List ℕ) → Type 0
+StandsFor j lines = StandsBehind j.judge [] j.stream lines
+
+-- the same by what was handed on
+abbrev pub StandsAfter : {A : Type 0} → Handed A → EventStream A → List (List ℕ) → Type 0
+StandsAfter h s lines = StandsBehind h.judge h.events.items s lines
+
+-- the bytes are the text of the trace that was read behind these events
+pub record IsTextBehind {A : Type 0} (judge : Option JudgeState) (events : List Event) (s : EventStream A) (bytes : List ℕ) : Type 0 where
+  pub past : List Event
+  pub lines : List (List ℕ)
+  pub stream : StandsWith s past lines
+  pub handed : IsHanded (decls_of s) judge events past
+  pub text : IsTextOf (trace_with past s) bytes
 
 -- the bytes are the text of the trace that was read, with the events that were handed on
 pub record IsReadText {A : Type 0} (j : JudgedStream A) (bytes : List ℕ) : Type 0 where

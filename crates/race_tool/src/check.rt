@@ -64,9 +64,9 @@ impl CheckOptions {
 /// says that an option is out of its limits, or that there are more events than the plain judge
 /// takes, which the report tells; 4 that memory or a thread was refused; 5 that a device failed.
 ///
-/// Where there are several shards, each past the first is a thread of its own, for which it waits. So
+/// Where there are several shards, threads judge while this one reads on, and it waits for them. So
 /// what is promised holds where it returns, and it returns if its reads, writes and threads do.
-pub fn run_check<T: Threads + Wait, R: Read, W: Write, A: Allocator + Copy + Send>(
+pub fn run_check<T: Threads + Wait + Sync, R: Read, W: Write, A: Allocator + Copy + Send>(
     rt: &T,
     alloc: A,
     source: &mut Source<R>,
@@ -94,7 +94,7 @@ pub fn run_check<T: Threads + Wait, R: Read, W: Write, A: Allocator + Copy + Sen
 }
 
 // The same by shards, which judge while the trace is read.
-fn check_as_read<T: Threads + Wait, R: Read, W: Write, A: Allocator + Copy + Send>(
+fn check_as_read<T: Threads + Wait + Sync, R: Read, W: Write, A: Allocator + Copy + Send>(
     rt: &T,
     alloc: A,
     source: &mut Source<R>,

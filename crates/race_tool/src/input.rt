@@ -1,5 +1,5 @@
 //! Reading an input block by block, to its end or to its first faulty line.
-ghost use Rattle.std.specs.Prelude.{◌≡◌, ◌≢◌, [], length, vec_len, IfOk, IfErr, OnOk};
+ghost use Rattle.std.specs.Prelude.{◌≡◌, ◌≢◌, [], length, vec_len, None, IfOk, IfErr, OnOk};
 ghost use Rattle.std.specs.Io.KnownBytes.{Keeps};
 ghost use Rattle.race_records.specs.Devices.{unread, source_reads, source_failures, one_more};
 ghost use Rattle.race_text.specs.declared.cause.TextCause.{TextCause as Cause};
@@ -93,6 +93,7 @@ pub(crate) fn feed_block<R: Read, G: Grammar, A: Allocator + Copy>(
     ensures ends { result ≢ Err ReadFault.Endless }
     ensures reads { source_reads source.new ≡ one_more (source_reads source.old) }
     ensures ready { OnOk result (IsReady G.stands_for reader.new) }
+    ensures fine { IfOk result (λ answer. OnOk answer (reader.new.fault ≡ None)) }
 {
     match source.read(block) {
         Ok(taken) => match set_memory_apart(reader.feed(&block[..taken])) {

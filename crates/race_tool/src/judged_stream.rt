@@ -81,26 +81,15 @@ impl<A: Allocator + Copy> JudgedStream<A> {
         }
     }
 
-    // Whether enough events were gathered to be judged.
-    fn has_enough(&self, judging: Judging) -> bool
-        requires { is_block judging.block ≡ true }
+    // Whether events were gathered.
+    fn has_some(&self) -> bool
         ensures { result ≡ true → IsTrue (has_events self.now.stream) }
     {
-        self.stream.events().len() >= judging.wanted()
+        !self.stream.events().is_empty()
     }
 }
 
-impl Judging {
-    // How many events are to be gathered before they are judged: a block where there are several shards, and else any.
-    fn wanted(self) -> usize
-        requires { is_block self.block ≡ true }
-        ensures { 0 < result }
-    {
-        if self.shards == 1 { 1 } else { self.block }
-    }
-}
-
-/// Judges the events that were gathered, where there are enough, and forgets them.
+/// Judges the events that were gathered, and forgets them.
 pub(crate) fn settle<T: Threads + Wait, A: Allocator + Copy + Send>(
     rt: &T,
     alloc: A,
@@ -111,7 +100,7 @@ pub(crate) fn settle<T: Threads + Wait, A: Allocator + Copy + Send>(
     requires block { is_block judging.block ≡ true }
     ensures { OnOk result (grammar.ForEachLines (spec.StandsFor reader.old) (spec.StandsFor reader.new)) }
 {
-    if !reader.has_enough(judging) {
+    if !reader.has_some() {
         return Ok(());
     }
     let before = reader.judge.take();
@@ -141,8 +130,8 @@ pub(crate) fn judge_more<T: Threads + Wait, A: Allocator + Copy + Send>(
     }
 }
 
-// Lets the judge take the events: several shards in blocks, and one at once.
-fn feed_gathered<T: Threads + Wait, A: Allocator + Copy + Send>(
+/// Lets the judge take the events: several shards in blocks, and one at once.
+pub(crate) fn feed_gathered<T: Threads + Wait, A: Allocator + Copy + Send>(
     rt: &T,
     judging: Judging,
     judge: &mut Judge<A>,
@@ -159,8 +148,8 @@ fn feed_gathered<T: Threads + Wait, A: Allocator + Copy + Send>(
     }
 }
 
-// The judge, or else one that has taken no event.
-fn started<A: Allocator + Copy + Send>(
+/// The judge, or else one that has taken no event.
+pub(crate) fn started<A: Allocator + Copy + Send>(
     alloc: A,
     shards: usize,
     decls: &Decls<A>,

@@ -1,4 +1,4 @@
-//! Reading a trace block by block, each of which is judged before the next one is read.
+//! Reading a trace that is judged meanwhile.
 ghost use Rattle.std.specs.Prelude.{◌≡◌, ◌≢◌, true, IfOk, IfErr, OnOk};
 ghost use Rattle.race_records.specs.Devices.{unread, source_failures, one_more};
 ghost use Rattle.race_shards.specs.Limits.{is_block};
@@ -8,6 +8,7 @@ ghost use Rattle.race_tool.specs.Input.{ReadsBy, ReadsFine, ReadsMany};
 ghost use Rattle.race_tool.specs.Streams as spec;
 
 use crate::input::{MAX_TURNS, ReadFault, blank_block, feed_block, set_memory_apart};
+use crate::intake::read_beside;
 use crate::judged_stream::{JudgedStream, Judging, settle};
 use race_records::Source;
 use race_text::{Fed, TextFault};
@@ -16,10 +17,37 @@ use std::io::Read;
 use std::sync::Wait;
 use std::thread::Threads;
 
-/// Reads a trace as `read_text` does, and judges its events behind each block.
-///
-/// It has a loop of its own, since the methods of a grammar can't start threads.
-pub(crate) fn read_judged<T: Threads + Wait, R: Read, A: Allocator + Copy + Send>(
+/// Reads a trace as `read_text` does, and judges its events: several shards while more is read, and one
+/// behind each block of the input, where nothing is started.
+pub(crate) fn read_judged<T: Threads + Wait + Sync, R: Read, A: Allocator + Copy + Send>(
+    rt: &T,
+    alloc: A,
+    source: &mut Source<R>,
+    judging: Judging,
+) -> Result<Result<JudgedStream<A>, TextFault>, ReadFault>
+    requires { is_block judging.block ≡ true }
+    ensures ok { IfOk result (λ text. ReadsBy spec.IsReadText trace_causes
+        (unread R.remaining source.old) (unread R.remaining source.new) text) }
+    ensures calm { result ≢ Err ReadFault.Failed
+        → source_failures source.new ≡ source_failures source.old }
+    ensures failed { result ≡ Err ReadFault.Failed
+        → source_failures source.new ≡ one_more (source_failures source.old) }
+    ensures fine { result ≡ Err ReadFault.Failed
+        → ReadsFine trace_causes (unread R.remaining source.old) (unread R.remaining source.new) }
+    ensures endless { result ≡ Err ReadFault.Endless
+        → ReadsMany trace_causes R.remaining source.old source.new }
+{
+    if judging.shards == 1 {
+        read_in_turn(rt, alloc, source, judging)
+    } else {
+        read_beside(rt, alloc, source, judging)
+    }
+}
+
+// Reads a block, judges its events, and so on.
+//
+// It has a loop of its own, since the methods of a grammar can't start threads.
+fn read_in_turn<T: Threads + Wait, R: Read, A: Allocator + Copy + Send>(
     rt: &T,
     alloc: A,
     source: &mut Source<R>,

@@ -1,15 +1,33 @@
 //! Inputs that are read in blocks.
 use crate::tool::engines::{Engine, Runtime, SlowReader, ended, judge};
-use race_tool::status;
+use race_tool::{CheckOptions, status};
 use std::alloc::Global;
 use std::test::Fail;
+
+// How many shards judge, and how many events several of them are handed at a time while more is read.
+static JUDGES: [(usize, usize); 4] = [(1, 65_536), (2, 1), (2, 1_000), (4, 65_536)];
+
+fn by((shards, block): (usize, usize)) -> CheckOptions {
+    CheckOptions {
+        shards,
+        block,
+        plain: false,
+    }
+}
 
 /// An input, the status and the report, and how often it is read, with how many failures.
 type Row<'a> = (&'a [u8], u8, &'a [u8], u64, u64);
 
 // Behind a faulty line no read can fail: there is none.
-static FAILING: [Row<'static>; 4] = [
+static FAILING: [Row<'static>; 5] = [
     (b"gotrace 1\nvar x\n", status::DEVICE, b"", 2, 1),
+    (
+        b"gotrace 1\nvar x\nread main x 1 p\nwrite main x 1 p\n",
+        status::DEVICE,
+        b"",
+        2,
+        1,
+    ),
     (b"gotrace 1\njump", status::DEVICE, b"", 2, 1),
     (
         b"gotrace 3\n",
@@ -37,11 +55,16 @@ fn ends_so(rt: &impl Runtime, engine: Engine<'_>, row: &Row<'_>, step: usize, fa
 
 #[test]
 fn a_read_fails_only_before_the_first_faulty_line_has_ended(rt: HostRuntime) {
-    let by_clocks = judge(false);
     for row in &FAILING {
-        let is_right = ends_so(&rt, Engine::Check(&by_clocks), row, 1_000, true)
-            && ends_so(&rt, Engine::Edges, row, 1_000, true);
-        assert!(rt; is_right, "at {:?}", row.0);
+        for judge in &JUDGES {
+            let is_right = ends_so(&rt, Engine::Check(&by(*judge)), row, 1_000, true);
+            assert!(rt; is_right, "at {:?} by {judge:?}", row.0);
+        }
+        assert!(rt;
+            ends_so(&rt, Engine::Edges, row, 1_000, true),
+            "at {:?}",
+            row.0
+        );
     }
 }
 
@@ -72,18 +95,21 @@ static LONG: [(u64, u8, &[u8], u64); 5] = [
 
 fn is_read_so(
     rt: &impl Runtime,
+    options: &CheckOptions,
     &(faulty, status, report, reads): &(u64, u8, &[u8], u64),
 ) -> Result<bool, Fail> {
     let text = long_text(rt.alloc(), faulty)?;
     let row = (text.as_slice(), status, report, reads, 0);
-    let by_clocks = judge(false);
-    Ok(ends_so(rt, Engine::Check(&by_clocks), &row, 1_000_000, false))
+    Ok(ends_so(rt, Engine::Check(options), &row, 1_000_000, false))
 }
 
 #[test]
 fn a_text_is_read_up_to_the_block_with_its_first_faulty_line(rt: HostRuntime) -> Result<(), Fail> {
     for row in &LONG {
-        assert!(rt; is_read_so(&rt, row)?, "with {}", row.0);
+        for judge in &JUDGES {
+            let is_right = is_read_so(&rt, &by(*judge), row)?;
+            assert!(rt; is_right, "with {} by {judge:?}", row.0);
+        }
     }
     Ok(())
 }

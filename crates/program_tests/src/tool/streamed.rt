@@ -84,7 +84,7 @@ fn each_trace_is_judged_as_it_comes_by_four_shards(rt: HostRuntime) -> Result<()
 }
 
 // An event that breaks a rule, and a faulty line behind it: how many bytes are cut off the end, and the fault.
-static FAULTY: [(&str, usize, &str); 5] = [
+static FAULTY: [(&str, usize, &str); 6] = [
     (
         "gotrace 1 / var x / read main x 1 p / jump",
         0,
@@ -101,6 +101,11 @@ static FAULTY: [(&str, usize, &str); 5] = [
         "line 6: late declaration",
     ),
     (
+        "gotrace 1 / var x / read main x 1 p / write main x 1 p / write main x 2 p / write main x 3 p / write main x 4 p / write main x 5 p / jump",
+        0,
+        "line 9: unknown word",
+    ),
+    (
         "gotrace 1 / var x / read main x 1 p / write main x 1 p",
         1,
         "line 4: no newline",
@@ -112,14 +117,14 @@ static FAULTY: [(&str, usize, &str); 5] = [
     ),
 ];
 
-static JUDGES: [Judging; 4] = [(1, 65_536), (2, 1), (2, 2), (4, 65_536)];
+static JUDGES: [Judging; 5] = [(1, 65_536), (2, 1), (2, 2), (4, 65_536), (4, 1)];
 
 // Whether the fault of the row is told where a read gives so many bytes, although an event before it breaks a rule.
 fn is_fault_told(rt: &impl Runtime, at: usize, step: usize) -> Result<bool, Fail> {
-    let (lines, cut, report) = FAULTY[at % 5];
+    let (lines, cut, report) = FAULTY[at % 6];
     let text = text_of(rt.alloc(), lines)?;
     let bytes = &text.as_slice()[..text.len().saturating_sub(cut)];
-    let judge = JUDGES[step % 4];
+    let judge = JUDGES[step % 5];
     tells_by(rt, judge, bytes, step, (report, status::TEXT_FAULT))
 }
 

@@ -1,5 +1,4 @@
-use Rattle.std.proofs.Common.{Option, None, sym, ◌∙◌}
-use Rattle.race_text.specs.Fault.{trace_causes}
+use Rattle.std.proofs.Common.{sym, ◌∙◌}
 use Rattle.race_tool.proofs.StreamedReading.{not_told, ready_settled, fed_on}
 use Rattle.race_tool.proofs.stream_input.settle_fed.Goals as goal
 

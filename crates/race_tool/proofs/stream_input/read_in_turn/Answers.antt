@@ -8,9 +8,9 @@ use Rattle.race_tool.specs.Input.{FeedsMore}
 use Rattle.race_text.specs.Fault.{trace_causes}
 use Rattle.race_text.specs.Fed.{IsFed as Stands}
 use Rattle.race_tool.specs.Streams.{StandsFor, IsReadText}
-use Rattle.race_tool.proofs.StreamedReading.{fed_settled}
+use Rattle.race_tool.proofs.StreamedReading.{read_as}
 use Rattle.race_tool.proofs.InputLemmas.{fed_none, fed_more, fine_before, fault_read, end_answered, err_same, err_other, read_more}
-use Rattle.race_tool.proofs.stream_input.read_judged.Goals as goal
+use Rattle.race_tool.proofs.stream_input.read_in_turn.Goals as goal
 
 -- where want of memory is the only fault, there is no other
 out_of_memory_alone : {T : Type 0} (r : Result T ReadFault) → IfErr r (λ fault. fault ≡ ReadFault.OutOfMemory)
@@ -68,7 +68,7 @@ loop-preserved g c =
     let before = unread g.R.Read.remaining c.loop.source in
     let after = unread g.R.Read.remaining c.feed_block.new.source in
     record {
-      fed = fed_settled trace_causes (unread g.R.Read.remaining c.args.source.now) after (Stands trace_causes StandsFor c.feed_block.new.reader)
+      fed = read_as trace_causes (unread g.R.Read.remaining c.args.source.now) after (Stands trace_causes StandsFor c.feed_block.new.reader)
           (Stands trace_causes StandsFor c.settle_fed.new.reader) (c.loop.counter + 1) c.in-Ok-settle_fed.ensures.stands
           (fed_more trace_causes (unread g.R.Read.remaining c.args.source.now) before after
           (Stands trace_causes StandsFor c.loop.reader) (Stands trace_causes StandsFor c.feed_block.new.reader) c.loop.counter held.fed

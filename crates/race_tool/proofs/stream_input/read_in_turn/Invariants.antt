@@ -4,13 +4,13 @@ use Rattle.race_tool.specs.declared.input.TheConstants.{BLOCK}
 use Rattle.race_text.specs.Fault.{trace_causes}
 use Rattle.race_tool.specs.Streams.{StandsFor}
 use Rattle.race_text.specs.Fed.{IsFed as Stands, IsReady}
-use Rattle.race_tool.proofs.InputLemmas.{IsFed}
-use Rattle.race_tool.proofs.stream_input.read_judged.Given as goal
+use Rattle.race_tool.specs.Input.{HasRead}
+use Rattle.race_tool.proofs.stream_input.read_in_turn.Given as goal
 
 -- the blocks so far were fed, one read a turn, and no read failed
 abbrev pub invariant-loop : goal.invariant-loop
 invariant-loop g l = record {
-  fed : IsFed trace_causes (unread g.R.Read.remaining l.initial.source) (unread g.R.Read.remaining l.source)
+  fed : HasRead trace_causes (unread g.R.Read.remaining l.initial.source) (unread g.R.Read.remaining l.source)
       (Stands trace_causes StandsFor l.reader) l.counter;
   first : l.counter ≡ 0 → source_reads l.source ≡ source_reads l.initial.source;
   reads : 0 < l.counter → source_reads l.source ≡ more_by l.counter (source_reads l.initial.source);

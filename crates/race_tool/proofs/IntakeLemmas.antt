@@ -1,0 +1,223 @@
+-- How a trace is read on that is judged meanwhile.
+use Rattle.std.proofs.Common.{◌≡◌, ℕ, ◌+◌, Bool, true, false, IsTrue, ◌≤◌, ◌<◌, List, [], Option, Result, Ok, Err, IfOk, refl, sym, ◌∙◌, subst, arith}
+use Rattle.race_records.specs.declared.source.Source.{Source}
+use Rattle.race_records.specs.Devices.{unread, source_reads, source_failures, one_more}
+use Rattle.race_text.specs.declared.cause.TextFault.{TextFault}
+use Rattle.race_text.specs.declared.fed.Fed.{Fed}
+use Rattle.race_text.specs.declared.stream.EventStream.{EventStream}
+use Rattle.race_text.specs.Fault.{trace_causes}
+use Rattle.race_text.specs.Fed.{IsFed}
+use Rattle.race_text.specs.Stream.{decls_of, has_events}
+use Rattle.race_tool.specs.declared.judged_stream.JudgedStream.{JudgedStream}
+use Rattle.race_tool.specs.Input.{HasReadAll, FeedsMore, ReadsBy}
+use Rattle.race_tool.specs.declared.handed.Handed.{Handed}
+use Rattle.race_tool.specs.declared.input.ReadFault.{ReadFault}
+use Rattle.race_tool.specs.declared.intake.Intake.{Intake}
+use Rattle.race_text.specs.Grammar.{ForEachLines}
+use Rattle.race_tool.specs.Intake.{HasTaken, GoesOnTo, IsReadable, IsReadOn, ReadsOn}
+use Rattle.race_tool.specs.Streams.{IsReadText, StandsAfter, JudgesAll}
+use Rattle.race_tool.proofs.InputLemmas.{fed_none, fed_more, fed_all, fault_read, read_more}
+use Rattle.race_tool.proofs.StreamedReading.{read_as, fed_as, fine_as}
+
+module _ {R A : Type 0} (remaining : R → Option (List ℕ)) (Stands : EventStream A → List (List ℕ) → Type 0) where
+  -- before the first read
+  pub taken_none : (source : Source R) (reader : Fed (EventStream A) A) → IsFed trace_causes Stands reader [] → HasTaken remaining Stands source source reader 0
+  taken_none source reader stands = record {
+    read = fed_none trace_causes (unread remaining source) (IsFed trace_causes Stands reader) stands;
+    first = λ none. refl;
+    reads = λ some. absurd (omega (arith, some));
+  }
+
+  module _ (start before : Source R) (old : Fed (EventStream A) A) (turns : ℕ) (held : HasTaken remaining Stands start before old turns) where
+    module _ (after : Source R) (new : Fed (EventStream A) A) where
+      abbrev Feeds : Result Bool TextFault → Type 0
+      Feeds answer = FeedsMore trace_causes (unread remaining before) (unread remaining after) (IsFed trace_causes Stands old) (IsFed trace_causes Stands new) answer
+
+      -- one more block
+      pub taken_more : Feeds (Ok true) → source_reads after ≡ one_more (source_reads before) → HasTaken remaining Stands start after new (turns + 1)
+      taken_more more reads = record {
+        read = fed_more trace_causes (unread remaining start) (unread remaining before) (unread remaining after)
+            (IsFed trace_causes Stands old) (IsFed trace_causes Stands new) turns held.read more;
+        first = λ none. absurd (omega (arith, none));
+        reads = λ some. read_more turns (source_reads start) (source_reads before) (source_reads after) held.first held.reads reads;
+      }
+
+      -- as it was told
+      pub taken_next : (answer : Result Bool TextFault) → answer ≡ Ok true → Feeds answer → source_reads after ≡ one_more (source_reads before)
+          → HasTaken remaining Stands start after new (turns + 1)
+      taken_next answer is feeds reads = taken_more (subst (λ (a : Result Bool TextFault). Feeds a) is feeds) reads
+
+      -- or the end, or a fault
+      pub taken_all : Feeds (Ok false) → HasReadAll trace_causes (unread remaining start) (unread remaining after) (IsFed trace_causes Stands new)
+      taken_all end =
+          fed_all trace_causes (unread remaining start) (unread remaining before) (unread remaining after)
+          (IsFed trace_causes Stands old) (IsFed trace_causes Stands new) turns held.read end
+
+      pub faulty : (fault : TextFault) → Feeds (Err fault)
+          → ReadsBy (λ (text : JudgedStream A) bytes. IsReadText text bytes) trace_causes (unread remaining start) (unread remaining after) (Err fault)
+      faulty fault told =
+          fault_read trace_causes (unread remaining start) (unread remaining before) (unread remaining after)
+          (IsFed trace_causes Stands old) (IsFed trace_causes Stands new) turns held.read (λ (text : JudgedStream A) bytes. IsReadText text bytes) fault told
+
+-- the same by readers that stand for the same bytes
+pub taken_as : {R A : Type 0} (remaining : R → Option (List ℕ)) (Old New : EventStream A → List (List ℕ) → Type 0) (start source : Source R)
+    (old new : Fed (EventStream A) A) (turns : ℕ) → ((fed : List ℕ) → IsFed trace_causes Old old fed → IsFed trace_causes New new fed)
+    → HasTaken remaining Old start source old turns → HasTaken remaining New start source new turns
+taken_as remaining Old New start source old new turns on held = record {
+  read = read_as trace_causes (unread remaining start) (unread remaining source) (IsFed trace_causes Old old) (IsFed trace_causes New new) turns on held.read;
+  first = held.first;
+  reads = held.reads;
+}
+
+module _ {R A : Type 0} (remaining : R → Option (List ℕ)) (Stands : EventStream A → List (List ℕ) → Type 0) (initial before : Source R) (first old : Intake A)
+    (goes : (start : Source R) → HasTaken remaining Stands start initial first.reader first.turns → HasTaken remaining Stands start before old.reader old.turns)
+    (calm : source_failures before ≡ source_failures initial) where
+  module _ (after : Source R) (new : Intake A) where
+    -- it went on
+    pub goes_on : (answer : Result Bool TextFault)
+        → ((start : Source R) → HasTaken remaining Stands start before old.reader old.turns → GoesOnTo remaining Stands start after new.reader new.turns answer)
+        → IfOk answer (λ more. IsReadOn Stands first.turns new more) → source_failures after ≡ source_failures before
+        → ReadsOn remaining Stands Stands initial after first new (Ok answer)
+    goes_on answer to on same = record {
+      ok = λ start held. to start (goes start held);
+      on = on;
+      calm = λ _. same ∙ calm;
+      failed = λ is. absurd cc;
+      fine = λ is. absurd cc;
+      endless = λ is. absurd cc;
+    }
+
+-- a block is read and fed
+module _ {R A : Type 0} (remaining : R → Option (List ℕ)) (Stands : EventStream A → List (List ℕ) → Type 0) (initial before after : Source R) (first old new : Intake A)
+    (goes : (start : Source R) → HasTaken remaining Stands start initial first.reader first.turns → HasTaken remaining Stands start before old.reader old.turns)
+    (calm : source_failures before ≡ source_failures initial) (answer : Result Bool TextFault)
+    (feeds : FeedsMore trace_causes (unread remaining before) (unread remaining after) (IsFed trace_causes Stands old.reader)
+    (IsFed trace_causes Stands new.reader) answer)
+    (calm_now : source_failures after ≡ source_failures before) where
+  abbrev Answers : Result Bool TextFault → Type 0
+  Answers a = ReadsOn remaining Stands Stands initial after first new (Ok a)
+
+  fed_so : (a : Result Bool TextFault) → answer ≡ a
+      → FeedsMore trace_causes (unread remaining before) (unread remaining after) (IsFed trace_causes Stands old.reader) (IsFed trace_causes Stands new.reader) a
+  fed_so a is =
+      subst (λ (b : Result Bool TextFault). FeedsMore trace_causes (unread remaining before) (unread remaining after)
+      (IsFed trace_causes Stands old.reader) (IsFed trace_causes Stands new.reader) b) is feeds
+
+  pub at_fault : (fault : TextFault) → answer ≡ Err fault → Answers (Err fault)
+  at_fault fault is =
+      goes_on remaining Stands initial before first old goes calm after new (Err fault)
+      (λ start held. faulty remaining Stands start before old.reader old.turns held after new.reader fault (fed_so (Err fault) is)) tt calm_now
+
+  module _ (readable : IsReadable Stands new) where
+    pub at_end : answer ≡ Ok false → Answers (Ok false)
+    at_end is =
+        goes_on remaining Stands initial before first old goes calm after new (Ok false)
+        (λ start held. taken_all remaining Stands start before old.reader old.turns held after new.reader (fed_so (Ok false) is))
+        (record { readable = readable; later = λ no. cc; begun = λ no. cc }) calm_now
+
+    -- one more
+    module _ (is : answer ≡ Ok true) (turns : new.turns ≡ old.turns + 1) (reads : source_reads after ≡ one_more (source_reads before)) where
+      taken_now : (start : Source R) → HasTaken remaining Stands start before old.reader old.turns
+          → HasTaken remaining Stands start after new.reader new.turns
+      taken_now start held =
+          subst (λ n. HasTaken remaining Stands start after new.reader n) (sym turns)
+          (taken_next remaining Stands start before old.reader old.turns held after new.reader answer is feeds reads)
+
+      pub at_enough : first.turns ≤ old.turns → IsTrue (has_events new.reader.lines.reader) → Answers (Ok true)
+      at_enough later begun =
+          goes_on remaining Stands initial before first old goes calm after new (Ok true) taken_now
+          (record { readable = readable; later = λ yes. omega (arith, turns, later); begun = λ yes. begun }) calm_now
+
+-- what was read is read behind what was judged meanwhile
+module _ {R A : Type 0} (remaining : R → Option (List ℕ)) (Old New : EventStream A → List (List ℕ) → Type 0) (source now : Source R) (before after : Intake A) where
+  pub fault_beside : (fault : TextFault) → ReadsOn remaining Old Old source now before after (Ok (Err fault))
+      → ReadsOn remaining Old New source now before after (Ok (Err fault))
+  fault_beside fault r = record { ok = r.ok; on = tt; calm = r.calm; failed = r.failed; fine = r.fine; endless = r.endless }
+
+  pub judged_beside : (more : Bool) → ((s : EventStream A) → ForEachLines (Old s) (New s)) → ReadsOn remaining Old Old source now before after (Ok (Ok more))
+      → ReadsOn remaining Old New source now before after (Ok (Ok more))
+  judged_beside more to r = record {
+    ok = λ start held. by start more (r.ok start held);
+    on = record {
+      readable = record {
+        room = r.on.readable.room;
+        some = r.on.readable.some;
+        ready = fine_as Old New after.reader after.reader.lines.reader (to after.reader.lines.reader) r.on.readable.ready;
+        limit = r.on.readable.limit;
+      };
+      later = r.on.later;
+      begun = r.on.begun;
+    };
+    calm = r.calm;
+    failed = r.failed;
+    fine = r.fine;
+    endless = r.endless;
+  }
+    where
+      fed : (bytes : List ℕ) → IsFed trace_causes Old after.reader bytes → IsFed trace_causes New after.reader bytes
+      fed = fed_as Old New after.reader after.reader.lines.reader (to after.reader.lines.reader)
+
+      by : (start : Source R) (more : Bool) → GoesOnTo remaining Old start now after.reader after.turns (Ok more)
+          → GoesOnTo remaining New start now after.reader after.turns (Ok more)
+      by start true taken = taken_as remaining Old New start now after.reader after.reader after.turns fed taken
+      by start false all = record {
+        turns = all.turns;
+        read = read_as trace_causes (unread remaining start) (unread remaining now)
+            (IsFed trace_causes Old after.reader) (IsFed trace_causes New after.reader) all.turns fed all.read;
+        at_end = all.at_end;
+      }
+
+-- what was read since the reader was so
+module _ {R A : Type 0} (remaining : R → Option (List ℕ)) (h k : Handed A) (same : h ≡ k) (source now : Source R) (i j after : Intake A)
+    (reader : i.reader ≡ j.reader) (turns : i.turns ≡ j.turns) where
+  back : (start : Source R) → HasTaken remaining (StandsAfter h) start source j.reader j.turns → HasTaken remaining (StandsAfter h) start source i.reader i.turns
+  back start held =
+      subst (λ n. HasTaken remaining (StandsAfter h) start source i.reader n) (sym turns)
+      (subst (λ x. HasTaken remaining (StandsAfter h) start source x j.turns) (sym reader) held)
+
+  by_turns : (r : Result (Result Bool TextFault) ReadFault) → ReadsOn remaining (StandsAfter h) (StandsAfter h) source now i after r
+      → ReadsOn remaining (StandsAfter h) (StandsAfter h) source now j after r
+  by_turns (Ok (Ok more)) x = record {
+    ok = λ start held. x.ok start (back start held);
+    on = record { readable = x.on.readable; later = λ yes. subst (λ n. n < after.turns) turns (x.on.later yes); begun = x.on.begun };
+    calm = x.calm;
+    failed = x.failed;
+    fine = λ is. absurd cc;
+    endless = λ is. absurd cc;
+  }
+  by_turns (Ok (Err fault)) x = record {
+    ok = λ start held. x.ok start (back start held);
+    on = tt;
+    calm = x.calm;
+    failed = x.failed;
+    fine = λ is. absurd cc;
+    endless = λ is. absurd cc;
+  }
+  by_turns (Err fault) x = record {
+    ok = tt;
+    on = tt;
+    calm = x.calm;
+    failed = x.failed;
+    fine = λ is start held. x.fine is start (back start held);
+    endless = λ is start held. x.endless is start (back start held);
+  }
+
+  pub reads_since : (r : Result (Result Bool TextFault) ReadFault) → ReadsOn remaining (StandsAfter h) (StandsAfter h) source now i after r
+      → ReadsOn remaining (StandsAfter k) (StandsAfter k) source now j after r
+  reads_since r x = subst (λ (x : Handed A). ReadsOn remaining (StandsAfter x) (StandsAfter x) source now j after r) same (by_turns r x)
+
+-- the judge took what was handed on, and the stream stands behind it still
+pub stands_judged : {A : Type 0} (old new : Handed A) → JudgesAll old new → (s : EventStream A) → ForEachLines (StandsAfter old s) (StandsAfter new s)
+stands_judged old new judges s lines S = record {
+  past = S.past;
+  stream = S.stream;
+  handed = judges.goes_on (decls_of s) S.past S.handed;
+  begun = λ some. S.begun (sym judges.begun ∙ some);
+}
+
+-- the same of an answer that is known to be this one
+pub reads_as_told : {R A : Type 0} (remaining : R → Option (List ℕ)) (h : Handed A) (source now : Source R) (before after : Intake A)
+    (r told : Result (Result Bool TextFault) ReadFault) → r ≡ told → ReadsOn remaining (StandsAfter h) (StandsAfter h) source now before after r
+    → ReadsOn remaining (StandsAfter h) (StandsAfter h) source now before after told
+reads_as_told remaining h source now before after r told is x =
+    subst (λ (a : Result (Result Bool TextFault) ReadFault). ReadsOn remaining (StandsAfter h) (StandsAfter h) source now before after a) is x

@@ -1,0 +1,68 @@
+-- How far a trace was read that is judged meanwhile.
+use Rattle.std.specs.Prelude.{◌≡◌, ◌≢◌, IfOk, ℕ, ◌<◌, ◌≤◌, Bool, true, IsTrue, List, vec_len, Option, Result, Err, MatchBool, MatchResult}
+use Rattle.race_records.specs.declared.source.Source.{Source}
+use Rattle.race_records.specs.Devices.{unread, source_reads, source_failures, more_by, one_more}
+use Rattle.race_text.specs.declared.cause.TextFault.{TextFault}
+use Rattle.race_text.specs.declared.fed.Fed.{Fed}
+use Rattle.race_text.specs.declared.stream.EventStream.{EventStream}
+use Rattle.race_text.specs.Fault.{trace_causes}
+use Rattle.race_text.specs.Fed.{IsFed}
+use Rattle.race_text.specs.Stream.{has_events}
+use Rattle.race_tool.specs.declared.gathered.Gathered.{Gathered}
+use Rattle.race_tool.specs.declared.input.ReadFault.{ReadFault}
+use Rattle.race_tool.specs.declared.input.TheConstants.{BLOCK, MAX_TURNS}
+use Rattle.race_tool.specs.declared.judged_stream.JudgedStream.{JudgedStream}
+use Rattle.race_tool.specs.declared.intake.Intake.{Intake}
+use Rattle.race_tool.specs.Input.{HasRead, HasReadAll, IsBetweenFine, ReadsBy, ReadsFine, ReadsMany}
+use Rattle.race_tool.specs.Streams.{IsReadText}
+
+-- a reader by the grammar over a stream, as one of the stream itself
+abbrev pub of_stream : {L A : Type 0} → Fed (Gathered L A) A → Fed (EventStream A) A
+of_stream k = record { lines = record { reader = k.lines.reader.stream; part = k.lines.part }; fault = k.fault }
+
+-- what was read, by another reader
+abbrev pub with_reader : {A : Type 0} → Intake A → Fed (EventStream A) A → Intake A
+with_reader i reader = record { alloc = i.alloc; block = i.block; reader = reader; turns = i.turns; wanted = i.wanted; handed = i.handed }
+
+-- the next block can be read and fed to a reader that stands for some lines
+pub record IsReadable {A : Type 0} (Stands : EventStream A → List (List ℕ) → Type 0) (now : Intake A) : Type 0 where
+  pub room : vec_len now.block ≡ BLOCK
+  pub some : 0 < now.wanted
+  pub ready : IsBetweenFine Stands now.reader
+  pub limit : now.turns ≤ MAX_TURNS
+
+-- it went on from so many reads: where more may follow there were more reads, and events were gathered
+pub record IsReadOn {A : Type 0} (Stands : EventStream A → List (List ℕ) → Type 0) (turns : ℕ) (now : Intake A) (more : Bool) : Type 0 where
+  pub readable : IsReadable Stands now
+  pub later : more ≡ true → turns < now.turns
+  pub begun : more ≡ true → IsTrue (has_events now.reader.lines.reader)
+
+module _ {R A : Type 0} (remaining : R → Option (List ℕ)) (Stands : EventStream A → List (List ℕ) → Type 0) (start source : Source R)
+    (reader : Fed (EventStream A) A) where
+  -- since the source was this one it was read so often, and what it gave was fed
+  pub record HasTaken (turns : ℕ) : Type 0 where
+    pub read : HasRead trace_causes (unread remaining start) (unread remaining source) (IsFed trace_causes Stands reader) turns
+    pub first : turns ≡ 0 → source_reads source ≡ source_reads start
+    pub reads : 0 < turns → source_reads source ≡ more_by turns (source_reads start)
+
+  -- and more may follow, or it was the end, or a line was at fault
+  abbrev pub GoesOnTo : ℕ → Result Bool TextFault → Type 0
+  GoesOnTo turns answer =
+      MatchResult answer
+      (λ more. MatchBool more (HasTaken turns) (HasReadAll trace_causes (unread remaining start) (unread remaining source) (IsFed trace_causes Stands reader)))
+      (λ fault. ReadsBy (λ (text : JudgedStream A) bytes. IsReadText text bytes) trace_causes (unread remaining start) (unread remaining source) (Err fault))
+
+-- What reading on gives, by what the reader stood for and what it stands for now: how it went on, which device failed, and what was read
+-- before it failed or was given up.
+pub record ReadsOn {R A : Type 0} (remaining : R → Option (List ℕ)) (Old New : EventStream A → List (List ℕ) → Type 0)
+    (source source_now : Source R) (intake intake_now : Intake A) (result : Result (Result Bool TextFault) ReadFault) : Type 0 where
+  pub ok : IfOk result
+      (λ answer. (start : Source R) → HasTaken remaining Old start source intake.reader intake.turns
+      → GoesOnTo remaining New start source_now intake_now.reader intake_now.turns answer)
+  pub on : IfOk result (λ answer. IfOk answer (λ more. IsReadOn New intake.turns intake_now more))
+  pub calm : result ≢ Err ReadFault.Failed → source_failures source_now ≡ source_failures source
+  pub failed : result ≡ Err ReadFault.Failed → source_failures source_now ≡ one_more (source_failures source)
+  pub fine : result ≡ Err ReadFault.Failed → (start : Source R) → HasTaken remaining Old start source intake.reader intake.turns
+      → ReadsFine trace_causes (unread remaining start) (unread remaining source_now)
+  pub endless : result ≡ Err ReadFault.Endless → (start : Source R) → HasTaken remaining Old start source intake.reader intake.turns
+      → ReadsMany trace_causes remaining start source_now

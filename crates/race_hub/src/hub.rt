@@ -127,7 +127,6 @@ fn is_fault(event: &Event) -> bool
 }
 
 // Appends the event to the trace, and to the replay that stands for it.
-#[inline(always)]
 fn append<A: Allocator>(
     replay: &mut Replay<A>,
     trace: &mut Trace<A>,
@@ -247,7 +246,6 @@ impl<R, A: Allocator> Hub<R, A> {
 
     // What stops the hub, whoever is ready and whatever waits.
     #[tactic(auto, unfolding(crate::specs::Hub::stop_by))]
-    #[inline(always)]
     fn stop(&self) -> Option<End>
         ensures { result ≡ stop_of self.now }
     {
@@ -291,7 +289,6 @@ impl<R, A: Allocator> Hub<R, A> {
     }
 
     // The choice number `pick`, modulo their count.
-    #[inline(always)]
     fn pick(&self, pick: u64) -> Option<Choice>
         requires { stop_of self.now ≡ None }
         ensures picked { result ≡ picked pick (choices_of self.now) }
@@ -324,7 +321,6 @@ impl<R, A: Allocator> Hub<R, A> {
 
     /// The goroutine that has been ready longest, to let it go on elsewhere; none where nobody is ready or the hub has ended.
     /// Takes no memory.
-    #[inline(always)]
     pub fn take(&mut self) -> Option<Job<R, A>>
         ensures some { IfSome result (λ job. (end_of self.old ≡ None) × Takes self.old job self.new) }
         ensures none { IsNone result → (self.new ≡ self.old) × ((end_of self.old ≢ None) ⊎ (self.old.ready ≡ [])) }
@@ -338,7 +334,6 @@ impl<R, A: Allocator> Hub<R, A> {
     }
 
     // Whether the job was taken from here and has asked since.
-    #[inline(always)]
     fn is_back(&self, job: &Job<R, A>) -> bool
         ensures { result ≡ submits.is_back self.now job.now }
     {
@@ -346,7 +341,6 @@ impl<R, A: Allocator> Hub<R, A> {
     }
 
     // Whether the request is bad, while nothing stops the hub.
-    #[inline(always)]
     fn is_bad(&self, waiter: &Waiter) -> bool
         ensures { result ≡ (is_none (stop_of self.now) && submits.is_bad self.now waiter.now) }
     {
@@ -369,7 +363,6 @@ impl<R, A: Allocator> Hub<R, A> {
 
     /// Puts a job back that was taken and has asked: its request waits behind the others. Once the hub has ended no request is
     /// tested.
-    #[inline(always)]
     pub fn submit(&mut self, job: Job<R, A>) -> Result<(), SubmitFault<R, A>>
     where
         R: Drop,
@@ -399,7 +392,6 @@ impl<R, A: Allocator> Hub<R, A> {
     }
 
     // What a firing of this pick is to do, if there is a choice.
-    #[inline(always)]
     fn next_firing(&self, pick: u64) -> Option<Firing>
         requires { stop_of self.now ≡ None }
         ensures some { IfSome result (λ f. (picked pick (choices_of self.now) ≡ Some f.choice) × IsFiring self.now f) }
@@ -416,7 +408,6 @@ impl<R, A: Allocator> Hub<R, A> {
     }
 
     // Does it.
-    #[inline(always)]
     fn perform(&mut self, firing: Firing) -> Result<(), AllocError>
     where
         R: Drop,
@@ -450,7 +441,6 @@ impl<R, A: Allocator> Hub<R, A> {
 
     /// Lets the choice number `pick`, modulo the count of choices, happen: one event more, and who takes part is ready again.
     /// False where there is no choice or the hub has ended. Where it is false or refused, nothing is changed.
-    #[inline(always)]
     pub fn fire(&mut self, pick: u64) -> Result<bool, AllocError>
     where
         R: Drop,

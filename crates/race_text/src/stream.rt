@@ -54,9 +54,10 @@ impl<A: Allocator + Copy> EventStream<A> {
     }
 
     /// Takes the line in front of the bytes where it is a common one, and tells what is behind it. Tells
-    /// nothing, and takes nothing, where it is another.
+    /// nothing, and takes nothing, where it is another. `G` is the grammar that asks, so that each has a copy of its
+    /// own, which can be inlined.
     #[inline(always)]
-    pub fn take_common<'b>(&mut self, bytes: &'b [u8]) -> Result<Option<&'b [u8]>, TextCause>
+    pub fn take_common<'b, G>(&mut self, bytes: &'b [u8]) -> Result<Option<&'b [u8]>, TextCause>
         requires { spec.StandsForSome self.old }
         ensures taken { MatchResult result
             (λ rest. (past : List Event) → TakesIfTold trace_causes (spec.StandsWith self.old past) bytes.now rest (spec.StandsWith self.new past))
@@ -66,7 +67,7 @@ impl<A: Allocator + Copy> EventStream<A> {
         match &mut self.reader.trace {
             None => Ok(None),
             Some(trace) => {
-                take_common_behind(trace, self.before, &mut self.reader.guesses, bytes)
+                take_common_behind::<G, A>(trace, self.before, &mut self.reader.guesses, bytes)
             }
         }
     }

@@ -72,12 +72,14 @@ pub(crate) fn take_common<'a, A: Allocator + Copy>(
     ensures read { OnOk result (spec.IsRead trace.new) }
     ensures some { OnOk result (0 < length trace.new.events) }
 {
-    take_common_behind(trace, 0, guesses, bytes)
+    take_common_behind::<Trace<A>, A>(trace, 0, guesses, bytes)
 }
 
-// The same of a trace of which so many events were handed on.
+// The same of a trace of which so many events were handed on. `G` is the grammar that asks: it is used for nothing
+// but that each grammar has a copy of its own, which has one caller and is inlined there. It is too large to be
+// inlined at each of three.
 #[inline(always)]
-pub(crate) fn take_common_behind<'a, A: Allocator + Copy>(
+pub(crate) fn take_common_behind<'a, G, A: Allocator + Copy>(
     trace: &mut Trace<A>,
     before: usize,
     guesses: &mut Guesses,

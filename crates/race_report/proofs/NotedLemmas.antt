@@ -1,18 +1,20 @@
--- The lines of races that are noted of a trace are those of its races.
-use Rattle.std.proofs.Common.{◌≡◌, suc, Bool, List, [], ◌∷◌, ◌++◌, All, map, refl, sym, ap, arith, IsTrue}
+-- The report from what is noted of a trace is the trace's.
+use Rattle.std.proofs.Common.{◌≡◌, suc, Bool, List, [], ◌∷◌, ◌++◌, All, map, refl, sym, ap, ◌∙◌, arith, IsTrue}
 use Rattle.std.specs.List.{flat_map}
 use Rattle.std.proofs.lemmas.List.{length-map}
 use Rattle.race_records.specs.declared.event.Op.{Op}
 use Rattle.race_records.specs.declared.event.Op.TheVariants.{Read, Write}
+use Rattle.race_records.specs.Declarations.{DeclsState}
 use Rattle.race_records.specs.Events.{TraceState}
 use Rattle.race_model.specs.Events.{is_access}
 use Rattle.race_verdict.specs.declared.notes.Noted.{Noted}
 use Rattle.race_verdict.specs.declared.notes.NotedRace.{NotedRace}
+use Rattle.race_verdict.specs.declared.notes.NotedVerdict.{NotedVerdict}
 use Rattle.race_verdict.specs.Accesses.{is_write}
-use Rattle.race_verdict.specs.Notes.{IsNoteOf, IsNotedRaceOf, race_noted}
+use Rattle.race_verdict.specs.Notes.{IsNoteOf, IsNotedRaceOf, IsNotedOf, race_noted, verdict_noted}
 use Rattle.race_text.specs.Text.{goroutine_name, place_text}
-use Rattle.race_report.specs.Report.{access_word, access_text, race_line, races_line, races_text}
-use Rattle.race_report.specs.Noted.{noted_word, access_noted, race_noted_line, races_noted_text}
+use Rattle.race_report.specs.Report.{access_word, access_text, clean_line, clean_text, race_line, races_line, races_text, report}
+use Rattle.race_report.specs.Noted.{noted_word, access_noted, race_noted_line, races_noted_text, report_noted}
 use Rattle.race_report.proofs.ReportLemmas.{access_text_is, race_line_is}
 
 -- the word for an access
@@ -39,5 +41,17 @@ module _ (trace : TraceState) where
       λ i. first i ++ rest i
 
   -- so are those of a list of them, and their count
-  pub races_are : (races : List NotedRace) → All (IsNotedRaceOf trace.events) races → races_noted_text trace.decls races ≡ races_text trace (map race_noted races)
+  races_are : (races : List NotedRace) → All (IsNotedRaceOf trace.events) races → races_noted_text trace.decls races ≡ races_text trace (map race_noted races)
   races_are races all = λ i. lines_are races all i ++ races_line (sym (length-map races race_noted) i)
+
+  -- so is the report
+  pub report_is : {A : Type 0} (verdict : NotedVerdict A) → IsNotedOf trace.events verdict → report trace (verdict_noted verdict) ≡ report_noted trace.decls verdict
+  unfolding clean_line
+  report_is (NotedVerdict.Illegal illegal) noted = refl
+  report_is (NotedVerdict.Clean events accesses) noted = λ i. clean_text (sym noted.0 i) (sym noted.1 i)
+  report_is (NotedVerdict.Races races) noted = sym (races_are races.items noted)
+
+  -- by the declarations, which are the trace's
+  pub report_by : {A : Type 0} (decls : DeclsState) (verdict : NotedVerdict A) → trace.decls ≡ decls → IsNotedOf trace.events verdict
+      → report_noted decls verdict ≡ report trace (verdict_noted verdict)
+  report_by decls verdict same noted = sym (report_is verdict noted ∙ ap (λ d. report_noted d verdict) same)

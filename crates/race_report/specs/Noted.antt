@@ -1,11 +1,13 @@
--- The lines of races that are noted, from the notes and the declarations.
+-- The report of a verdict that is noted, from the notes and the declarations.
 use Rattle.std.specs.Prelude.{ℕ, if◌then◌else◌, Bool, List, ◌++◌, length, codes}
 use Rattle.std.specs.List.{flat_map}
 use Rattle.race_records.specs.Declarations.{DeclsState}
 use Rattle.race_text.specs.Text.{goroutine_name, var_name, place_text}
 use Rattle.race_verdict.specs.declared.notes.Noted.{Noted}
 use Rattle.race_verdict.specs.declared.notes.NotedRace.{NotedRace}
-use Rattle.race_report.specs.Report.{access_told, race_told, races_line}
+use Rattle.race_verdict.specs.declared.notes.NotedVerdict.{NotedVerdict}
+use Rattle.race_legal.specs.Rules.{number_of}
+use Rattle.race_report.specs.Report.{access_told, clean_text, illegal_line, race_told, races_line}
 
 -- a write, or else a read, in a word
 abbrev pub noted_word : Bool → List ℕ
@@ -20,3 +22,9 @@ race_noted_line decls r = race_told (var_name decls.declarations r.var) (access_
 -- a line for each race, and their count
 abbrev pub races_noted_text : DeclsState → List NotedRace → List ℕ
 races_noted_text decls races = flat_map (race_noted_line decls) races ++ races_line (length races)
+
+-- the report of a verdict, from what is noted with it and the declarations
+abbrev pub report_noted : {A : Type 0} → DeclsState → NotedVerdict A → List ℕ
+report_noted decls (NotedVerdict.Illegal illegal) = illegal_line illegal.at (number_of illegal.rule)
+report_noted decls (NotedVerdict.Clean events accesses) = clean_text events accesses
+report_noted decls (NotedVerdict.Races races) = races_noted_text decls races.items

@@ -6,7 +6,7 @@ ghost use Rattle.race_text.specs.Output.{Writes};
 ghost use Rattle.race_verdict.specs.Notes.{IsNotedOf, verdict_noted};
 ghost use Rattle.race_report.specs.Printable.{IsNoteNamed, IsRaceNamed, AreNamed};
 ghost use Rattle.race_report.specs.Report as spec;
-ghost use Rattle.race_report.specs.Noted.{access_noted, race_noted_line, races_noted_text};
+ghost use Rattle.race_report.specs.Noted.{access_noted, race_noted_line, races_noted_text, report_noted};
 
 use crate::verdict::{
     AccessWords, access_name, print_clean, print_illegal, print_race_count, print_race_words,
@@ -16,8 +16,9 @@ use race_verdict::{Noted, NotedRace, NotedVerdict};
 use std::alloc::Allocator;
 use std::io::Write;
 
-/// Writes the report of the verdict, as [`write_report`](crate::write_report) writes it of the trace with these
-/// declarations of which verdict and notes are. Takes no memory; writes in blocks of at most 4,096 bytes.
+/// Writes the report of the verdict from what is noted with it: as [`write_report`](crate::write_report) writes it of
+/// the trace with these declarations of which verdict and notes are. Takes no memory; writes in blocks of at most
+/// 4,096 bytes.
 ///
 /// What is noted is declared, as a judge gives it. A write that fails or takes no byte ends it: then exactly the first
 /// `sent` bytes are out.
@@ -27,7 +28,8 @@ pub fn write_noted_report<W: Write, A: Allocator, B: Allocator>(
     sink: &mut Sink<W>,
 ) -> Result<(), WriteFault>
     requires { AreNamed decls.now verdict.now }
-    ensures { (trace : TraceState) → trace.decls ≡ decls.now → IsNotedOf trace.events verdict.now
+    ensures noted { Writes W.contents result sink.old sink.new (report_noted decls.now verdict.now) }
+    ensures report { (trace : TraceState) → trace.decls ≡ decls.now → IsNotedOf trace.events verdict.now
         → Writes W.contents result sink.old sink.new (spec.report trace (verdict_noted verdict.now)) }
 {
     let mut page = Page::new();
@@ -47,7 +49,8 @@ pub fn print_noted_report<W: Write, A: Allocator, B: Allocator>(
     verdict: &NotedVerdict<B>,
 ) -> Result<(), WriteFault>
     requires { AreNamed decls.now verdict.now }
-    ensures { (trace : TraceState) → trace.decls ≡ decls.now → IsNotedOf trace.events verdict.now
+    ensures noted { Printing W.contents result sink.old sink.new page.old page.new (report_noted decls.now verdict.now) }
+    ensures report { (trace : TraceState) → trace.decls ≡ decls.now → IsNotedOf trace.events verdict.now
         → Printing W.contents result sink.old sink.new page.old page.new (spec.report trace (verdict_noted verdict.now)) }
 {
     match verdict {

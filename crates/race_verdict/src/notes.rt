@@ -1,9 +1,10 @@
 //! What is printed of a verdict, kept with it, so that no event is looked up when it is printed.
-ghost use Rattle.std.specs.Prelude.{ℕ, ◌≡◌, All, List, length, map};
+ghost use Rattle.std.specs.Prelude.{ℕ, ◌≡◌, ◌≢◌, All, List, [], length, map};
 ghost use Rattle.race_records.specs.declared.event.Event.{Event};
 ghost use Rattle.race_model.specs.Events.{count, is_access};
 ghost use Rattle.race_model.specs.Legal.{IsLegal};
 ghost use Rattle.race_model.specs.Verdict.{AreReportedRaces, IsVerdict};
+ghost use Rattle.race_verdict.specs.declared.notes.NotedVerdict.{NotedVerdict};
 ghost use Rattle.race_verdict.specs.Notes.{race_noted, verdict_noted, IsNotedRaceOf, IsNotedOf};
 
 use race_legal::Illegal;
@@ -56,6 +57,8 @@ impl<A: Allocator> NotedVerdict<A> {
             → AreReportedRaces caps listed (map race_noted races.items) → IsVerdict caps listed (verdict_noted result) }
         ensures noted { (listed : List Event) → events ≡ length listed → accesses ≡ count is_access listed
             → All (IsNotedRaceOf listed) races.items → IsNotedOf listed result }
+        ensures clean { races.items ≡ [] → result ≡ NotedVerdict.Clean events accesses }
+        ensures races { races.items ≢ [] → result ≡ NotedVerdict.Races races }
     {
         if races.is_empty() {
             NotedVerdict::Clean { events, accesses }

@@ -1,8 +1,9 @@
 //! What can be said of a trace.
-ghost use Rattle.std.specs.Prelude.{ℕ, List};
+ghost use Rattle.std.specs.Prelude.{◌≡◌, ◌≢◌, ℕ, List, []};
 ghost use Rattle.race_records.specs.declared.event.Event.{Event};
 ghost use Rattle.race_model.specs.Legal.{IsLegal};
 ghost use Rattle.race_model.specs.Verdict.{IsVerdict};
+ghost use Rattle.race_verdict.specs.declared.verdict.Verdict.{Verdict};
 ghost use Rattle.race_verdict.specs.Races.{AreRaces};
 ghost use Rattle.race_verdict.specs.Verdicts.{verdict_of};
 
@@ -24,8 +25,10 @@ pub enum Verdict<A: Allocator = Global> {
 impl<A: Allocator> Verdict<A> {
     /// The verdict on a legal list of events with these races.
     pub fn of_races(races: RaceList<A>) -> Verdict<A>
-        ensures { (caps : ℕ → ℕ) (events : List Event)
+        ensures verdict { (caps : ℕ → ℕ) (events : List Event)
             → IsLegal caps events → AreRaces caps events races → IsVerdict caps events (verdict_of result) }
+        ensures clean { races ≡ [] → result ≡ Verdict.Clean }
+        ensures races { races ≢ [] → result ≡ Verdict.Races races }
     {
         if races.is_empty() {
             Verdict::Clean

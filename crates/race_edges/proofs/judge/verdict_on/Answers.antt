@@ -9,5 +9,5 @@ returns-in-Some g c = subst (IsJudged (capacities c.args.trace.now) c.args.trace
 
 pub returns-in_ok-races_in-in-None : goal.returns-in_ok-races_in-in-None
 returns-in_ok-races_in-in-None g c =
-    c.of_races.ensures (capacities c.args.trace.now) c.args.trace.now.events
+    c.of_races.ensures.verdict (capacities c.args.trace.now) c.args.trace.now.events
     (subst (IsJudged (capacities c.args.trace.now) c.args.trace.now.events) c.in-None.is c.in_ok-illegal.ensures) c.in_ok-races_in-in-None.ensures

@@ -72,4 +72,4 @@ returns g c =
     let races : List Race = c.in_ok-races.field-0 in
     let is : races ≡ races_of (told_below (t ∷ []) vars) =
     subst (λ (shards : List ShardState). races ≡ races_of (told_below shards vars)) items c.in_ok-races.ensures in
-    verdict_alone trace c.events.ensures.is_trace old s replayed stands new t judges vars declared (verdict_of c.of_races.result) races is c.of_races.ensures
+    verdict_alone trace c.events.ensures.is_trace old s replayed stands new t judges vars declared (verdict_of c.of_races.result) races is c.of_races.ensures.verdict

@@ -21,4 +21,4 @@ returns-in-Ok-clause-tells g c =
     let is : races ≡ races_of (told_below j.shards j.vars) =
     subst (λ (shards : List ShardState). races ≡ races_of (told_below shards j.vars)) c.as_slice.ensures.value c.in-Ok.ensures in
     subst (λ (j : JudgeState). Tells j (verdict_of c.of_races.result)) c.self.view_is
-    (tells_races j c.in_default.is (verdict_of c.of_races.result) races is c.of_races.ensures)
+    (tells_races j c.in_default.is (verdict_of c.of_races.result) races is c.of_races.ensures.verdict)

@@ -10,6 +10,7 @@ use Rattle.race_text.specs.declared.cause.TextFault.{TextFault}
 use Rattle.race_text.specs.Lines.{Causes, first_fault}
 use Rattle.race_text.specs.Fed.{ended_after, ended_fault}
 use Rattle.race_text.proofs.FedLemmas.{ended_fault_stays}
+use Rattle.race_tool.specs.declared.input.ReadFault.{ReadFault}
 use Rattle.race_tool.specs.Input.{HasRead, HasReadAll, IsInput, IsReadBy, ReadsBy, ReadsFine, FeedsMore}
 
 -- where nothing was fed no line is at fault
@@ -62,6 +63,17 @@ module _ (causes : Causes) (start now : Option (List ℕ)) (Stands : List ℕ �
   all_answered told (Ok text) read fault same other =
       subst (λ (t : Result V TextFault). ReadsBy IsText causes start now t) (sym same)
       (end_read told read fault (subst (λ (t : Result V TextFault). IfErr t (λ f. f.cause ≢ TextCause.OutOfMemory)) same other))
+
+-- what was read, by another reader
+pub read_as : (causes : Causes) (start now : Option (List ℕ)) (Old New : List ℕ → Type 0) (turns : ℕ)
+    → ((bytes : List ℕ) → Old bytes → New bytes) → HasRead causes start now Old turns → HasRead causes start now New turns
+read_as causes start now Old New turns on read = record {
+  bytes = read.bytes;
+  consumed = read.consumed;
+  stands = on read.bytes read.stands;
+  many = read.many;
+  fine = read.fine;
+}
 
 module _ (causes : Causes) (start before after : Option (List ℕ)) (Old New : List ℕ → Type 0) (turns : ℕ) (fed : HasRead causes start before Old turns) where
   -- one more block, in which there were bytes
@@ -127,8 +139,14 @@ pub itself : (bytes : List ℕ) (to_end : Bool) → IsInput bytes to_end bytes
 itself bytes true = refl
 itself bytes false = ([], sym (append-nil bytes))
 
+-- where want of memory is the only fault, there is no other
+pub out_of_memory_alone : {T : Type 0} (r : Result T ReadFault) → IfErr r (λ fault. fault ≡ ReadFault.OutOfMemory)
+    → (other : ReadFault) → ReadFault.OutOfMemory ≢ other → r ≡ Err other → ⊥
+out_of_memory_alone (Ok _) memory other differs is = cc
+out_of_memory_alone (Err fault) memory other differs is = differs cc
+
 -- an error that goes on as the answer of another type
-abbrev err : {X E : Type 0} → E → Result X E
+abbrev pub err : {X E : Type 0} → E → Result X E
 err e = Err e
 
 module _ {X Y E : Type 0} (r : Result Y E) (e g : E) (is : IsErrAnd r (λ f. f ≡ e)) where

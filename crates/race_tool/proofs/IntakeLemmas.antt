@@ -16,8 +16,8 @@ use Rattle.race_tool.specs.declared.intake.Intake.{Intake}
 use Rattle.race_text.specs.Grammar.{ForEachLines}
 use Rattle.race_tool.specs.Intake.{HasTaken, GoesOnTo, IsReadable, IsReadOn, ReadsOn}
 use Rattle.race_tool.specs.Streams.{IsReadText, StandsAfter, JudgesAll}
-use Rattle.race_tool.proofs.InputLemmas.{fed_none, fed_more, fed_all, fault_read, read_more}
-use Rattle.race_tool.proofs.StreamedReading.{read_as, fed_as, fine_as}
+use Rattle.race_tool.proofs.InputLemmas.{fed_none, fed_more, fed_all, fault_read, read_as, read_more}
+use Rattle.race_tool.proofs.StreamedReading.{fed_as, fine_as}
 
 module _ {R A : Type 0} (remaining : R → Option (List ℕ)) (Stands : EventStream A → List (List ℕ) → Type 0) where
   -- before the first read

@@ -1,4 +1,5 @@
 pub mod InputLemmas
+pub mod InputEnds
 pub mod EngineLemmas
 pub mod PrintableLemmas
 pub mod StatusLemmas

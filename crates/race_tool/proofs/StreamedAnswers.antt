@@ -9,8 +9,8 @@ use Rattle.race_records.specs.Events.{TraceState}
 use Rattle.race_verdict.specs.declared.notes.NotedVerdict.{NotedVerdict}
 use Rattle.race_verdict.specs.Notes.{verdict_noted, IsNotedOf}
 use Rattle.race_report.specs.Printable.{AreNamed}
-use Rattle.race_report.specs.Report.{clean_line, clean_text, report}
-use Rattle.race_report.proofs.NotedLemmas.{races_are}
+use Rattle.race_report.specs.Noted.{report_noted}
+use Rattle.race_report.proofs.NotedLemmas.{report_is}
 use Rattle.race_report.proofs.PrintableLemmas.{notes_are_named}
 use Rattle.race_text.specs.Fault.{trace_causes, text_fault}
 use Rattle.race_text.specs.Lines.{first_fault}
@@ -26,17 +26,9 @@ use Rattle.race_tool.specs.Engines.{Never}
 use Rattle.race_tool.specs.Finding.{Finding, Faulty, Judged, IsFinding, report_of, status_of}
 use Rattle.race_tool.specs.Input.{Reads, IsReadBy, ReadsBy}
 use Rattle.race_tool.specs.Outcome.{Answers, IsOfAFinding, IsRightFor}
-use Rattle.race_tool.specs.Streams.{HandsOnSome, IsReadText, IsJudgedText, IsFoundOf, report_noted, found_text, found_status, status_noted}
+use Rattle.race_tool.specs.Streams.{HandsOnSome, IsReadText, IsJudgedText, IsFoundOf, found_text, found_status, status_noted}
 use Rattle.race_tool.proofs.InputLemmas.{itself}
 use Rattle.race_tool.proofs.StatusLemmas.{small, large}
-
--- the report from the notes is the trace's
-pub report_is : {A : Type 0} (trace : TraceState) (verdict : NotedVerdict A) → IsNotedOf trace.events verdict
-    → report trace (verdict_noted verdict) ≡ report_noted trace.decls verdict
-unfolding clean_line
-report_is trace (NotedVerdict.Illegal illegal) noted = refl
-report_is trace (NotedVerdict.Clean events accesses) noted = λ i. clean_text (sym noted.0 i) (sym noted.1 i)
-report_is trace (NotedVerdict.Races races) noted = sym (races_are trace races.items noted)
 
 pub status_is : {A : Type 0} (trace : TraceState) (verdict : NotedVerdict A) → status_of (Judged trace (verdict_noted verdict)) ≡ status_noted verdict
 status_is trace (NotedVerdict.Illegal illegal) = refl

@@ -9,7 +9,7 @@ use Rattle.race_text.specs.Grammar.{ForEachLines}
 use Rattle.race_text.specs.Lines.{Causes}
 use Rattle.race_tool.specs.declared.judged_stream.JudgedStream.{JudgedStream}
 use Rattle.race_tool.specs.Streams.{StandsFor}
-use Rattle.race_tool.specs.Input.{HasRead, FeedsMore, IsBetweenFine, IsToldOf}
+use Rattle.race_tool.specs.Input.{FeedsMore, IsBetweenFine, IsToldOf}
 
 -- a block was fed, by whatever it stood for before and stands for now
 module _ (causes : Causes) (before after : Option (List ℕ)) (Stood Stands Stood_too Stands_too : List ℕ → Type 0)
@@ -26,17 +26,6 @@ module _ (causes : Causes) (before after : Option (List ℕ)) (Stood Stands Stoo
     goes_on = λ fed S. to (fed ++ r.taken) (r.goes_on fed (from fed S));
     told = told_as r.taken answer r.told;
   }
-
--- what was read of an input
-pub read_as : (causes : Causes) (start now : Option (List ℕ)) (Old New : List ℕ → Type 0) (turns : ℕ)
-    → ((bytes : List ℕ) → Old bytes → New bytes) → HasRead causes start now Old turns → HasRead causes start now New turns
-read_as causes start now Old New turns on read = record {
-  bytes = read.bytes;
-  consumed = read.consumed;
-  stands = on read.bytes read.stands;
-  many = read.many;
-  fine = read.fine;
-}
 
 -- two readers with the same bytes and fault, of which one stands for each line for which the other stands
 module _ {G H A : Type 0} (Old : G → List (List ℕ) → Type 0) (New : H → List (List ℕ) → Type 0) (k : Fed G A) (reader : H) where

@@ -1,10 +1,10 @@
 -- How an input was read: block by block, to its end or to its first faulty line, by the causes of its kind of text.
-use Rattle.std.specs.Prelude.{◌≡◌, ℕ, ◌<◌, ◌≤◌, Bool, true, false, IsTrue, List, ◌++◌}
-use Rattle.std.specs.Prelude.{length, Option, Some, None, Result, Ok, Err, OnOk, MatchBool}
+use Rattle.std.specs.Prelude.{◌≡◌, ◌≢◌, ℕ, ◌<◌, ◌≤◌, Bool, true, false, IsTrue, List, ◌++◌}
+use Rattle.std.specs.Prelude.{length, Option, Some, None, Result, Ok, Err, IfOk, OnOk, MatchBool}
 use Rattle.std.specs.Prelude.{MatchResult}
 use Rattle.std.specs.Io.KnownBytes.{Consumes, IsAtEnd}
 use Rattle.race_records.specs.declared.source.Source.{Source}
-use Rattle.race_records.specs.Devices.{unread, source_reads, more_by}
+use Rattle.race_records.specs.Devices.{unread, source_reads, source_failures, more_by, one_more}
 use Rattle.race_records.specs.Events.{TraceState}
 use Rattle.race_text.specs.declared.cause.TextFault.{TextFault}
 use Rattle.race_text.specs.Text.{IsTextOf}
@@ -12,6 +12,7 @@ use Rattle.race_text.specs.Lines.{Causes, first_fault}
 use Rattle.race_text.specs.Fault.{trace_causes}
 use Rattle.race_text.specs.declared.fed.Fed.{Fed}
 use Rattle.race_text.specs.Fed.{IsBetween, ended_fault}
+use Rattle.race_tool.specs.declared.input.ReadFault.{ReadFault}
 use Rattle.race_tool.specs.declared.input.TheConstants.{BLOCK, MAX_TURNS}
 
 -- the first faulty line ends in the last bytes that were read, as many as a block has at most
@@ -77,6 +78,15 @@ pub record ReadsMany {R : Type 0} (causes : Causes) (remaining : R → Option (L
   pub consumed : Consumes (unread remaining source) (unread remaining source_now) bytes
   pub many : MAX_TURNS ≤ length bytes
   pub fine : ended_fault causes bytes ≡ None
+
+-- What reading an input gives: the text or its first fault, which device failed, and what was read before it failed or was given up.
+pub record ReadsInput {R V : Type 0} (IsText : V → List ℕ → Type 0) (causes : Causes) (remaining : R → Option (List ℕ))
+    (source source_now : Source R) (result : Result (Result V TextFault) ReadFault) : Type 0 where
+  pub ok : IfOk result (λ text. ReadsBy IsText causes (unread remaining source) (unread remaining source_now) text)
+  pub calm : result ≢ Err ReadFault.Failed → source_failures source_now ≡ source_failures source
+  pub failed : result ≡ Err ReadFault.Failed → source_failures source_now ≡ one_more (source_failures source)
+  pub fine : result ≡ Err ReadFault.Failed → ReadsFine causes (unread remaining source) (unread remaining source_now)
+  pub endless : result ≡ Err ReadFault.Endless → ReadsMany causes remaining source source_now
 
 -- so many blocks were read and fed to a reader, which stands for them, and no line that a newline ends is at fault
 pub record HasRead (causes : Causes) (start now : Option (List ℕ)) (StandsFor : List ℕ → Type 0) (turns : ℕ) : Type 0 where

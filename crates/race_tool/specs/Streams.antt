@@ -14,9 +14,8 @@ use Rattle.race_text.specs.declared.stream.EventStream.{EventStream}
 use Rattle.race_text.specs.Fault.{text_fault}
 use Rattle.race_text.specs.Stream.{StandsWith, decls_of, has_events, trace_with}
 use Rattle.race_text.specs.Text.{IsTextOf}
-use Rattle.race_report.specs.Noted.{races_noted_text}
-use Rattle.race_report.specs.Report.{clean_text, fault_line, illegal_line}
-use Rattle.race_legal.specs.Rules.{number_of}
+use Rattle.race_report.specs.Noted.{report_noted}
+use Rattle.race_report.specs.Report.{fault_line}
 use Rattle.race_tool.specs.declared.handed.Handed.{Handed}
 use Rattle.race_tool.specs.declared.judged_stream.JudgedStream.{JudgedStream}
 use Rattle.race_tool.specs.declared.stream_found.Found.{Found}
@@ -111,12 +110,6 @@ pub record IsJudgedText {A : Type 0} (stream : EventStream A) (verdict : NotedVe
 abbrev pub IsFoundOf : {A : Type 0} → List ℕ → Found A → Type 0
 IsFoundOf bytes (Found.Faulty fault) = text_fault bytes ≡ Some fault
 IsFoundOf bytes (Found.Judged stream verdict) = IsJudgedText stream verdict bytes
-
--- the report of a verdict from what is noted with it and the declarations
-abbrev pub report_noted : {A : Type 0} → DeclsState → NotedVerdict A → List ℕ
-report_noted decls (NotedVerdict.Illegal illegal) = illegal_line illegal.at (number_of illegal.rule)
-report_noted decls (NotedVerdict.Clean events accesses) = clean_text events accesses
-report_noted decls (NotedVerdict.Races races) = races_noted_text decls races.items
 
 -- what is printed of what was found
 abbrev pub found_text : {A : Type 0} → Found A → List ℕ

@@ -76,7 +76,7 @@ impl<L: HandedOn, A: Allocator + Copy> Grammar for Gathered<L, A> {
 
     #[inline(always)]
     fn take_common<'b>(&mut self, bytes: &'b [u8]) -> Result<Option<&'b [u8]>, TextCause> {
-        self.stream.take_common(bytes)
+        self.stream.take_common::<Gathered<L, A>>(bytes)
     }
 }
 

@@ -4,7 +4,7 @@ ghost use Rattle.std.specs.Io.KnownBytes.{Keeps};
 ghost use Rattle.race_records.specs.Devices.{unread, source_reads, source_failures, one_more};
 ghost use Rattle.race_text.specs.declared.cause.TextCause.{TextCause as Cause};
 ghost use Rattle.race_text.specs.Fed.{IsFed, IsReady};
-ghost use Rattle.race_tool.specs.Input.{ReadsBy, ReadsFine, ReadsMany, FeedsMore};
+ghost use Rattle.race_tool.specs.Input.{ReadsInput, FeedsMore};
 
 use race_records::Source;
 use race_text::{Fed, Grammar, TextCause, TextFault};
@@ -43,16 +43,7 @@ pub(crate) fn read_text<R: Read, G: Grammar, A: Allocator + Copy>(
     grammar: G,
 ) -> Result<Result<G::Whole, TextFault>, ReadFault>
     requires { G.stands_for grammar [] }
-    ensures ok { IfOk result (λ text. ReadsBy G.is_text_of G.causes
-        (unread R.remaining source.old) (unread R.remaining source.new) text) }
-    ensures calm { result ≢ Err ReadFault.Failed
-        → source_failures source.new ≡ source_failures source.old }
-    ensures failed { result ≡ Err ReadFault.Failed
-        → source_failures source.new ≡ one_more (source_failures source.old) }
-    ensures fine { result ≡ Err ReadFault.Failed
-        → ReadsFine G.causes (unread R.remaining source.old) (unread R.remaining source.new) }
-    ensures endless { result ≡ Err ReadFault.Endless
-        → ReadsMany G.causes R.remaining source.old source.new }
+    ensures { ReadsInput G.is_text_of G.causes R.remaining source.old source.new result }
 {
     let Ok(mut block) = blank_block(alloc) else {
         return Err(ReadFault::OutOfMemory);

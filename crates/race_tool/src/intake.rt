@@ -6,7 +6,7 @@ ghost use Rattle.race_text.specs.declared.cause.TextCause.{TextCause as Cause};
 ghost use Rattle.race_text.specs.Fault.{trace_causes};
 ghost use Rattle.race_text.specs.Fed.{ForEachFedTo};
 ghost use Rattle.race_text.specs.Lines.{first_fault};
-ghost use Rattle.race_tool.specs.Input.{ReadsBy, ReadsFine, ReadsMany};
+ghost use Rattle.race_tool.specs.Input.{ReadsInput};
 ghost use Rattle.race_tool.specs.Intake.{IsReadable, ReadsOn, of_stream, with_reader};
 ghost use Rattle.race_tool.specs.Streams as spec;
 
@@ -47,16 +47,7 @@ pub(crate) fn read_beside<T: Threads + Wait + Sync, R: Read, A: Allocator + Copy
     judging: Judging,
 ) -> Result<Result<JudgedStream<A>, TextFault>, ReadFault>
     requires { is_block judging.block ≡ true }
-    ensures ok { IfOk result (λ text. ReadsBy spec.IsReadText trace_causes
-        (unread R.remaining source.old) (unread R.remaining source.new) text) }
-    ensures calm { result ≢ Err ReadFault.Failed
-        → source_failures source.new ≡ source_failures source.old }
-    ensures failed { result ≡ Err ReadFault.Failed
-        → source_failures source.new ≡ one_more (source_failures source.old) }
-    ensures fine { result ≡ Err ReadFault.Failed
-        → ReadsFine trace_causes (unread R.remaining source.old) (unread R.remaining source.new) }
-    ensures endless { result ≡ Err ReadFault.Endless
-        → ReadsMany trace_causes R.remaining source.old source.new }
+    ensures { ReadsInput spec.IsReadText trace_causes R.remaining source.old source.new result }
 {
     let Ok(block) = blank_block(alloc) else {
         return Err(ReadFault::OutOfMemory);

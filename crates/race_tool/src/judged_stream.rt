@@ -66,7 +66,7 @@ impl<A: Allocator + Copy> Grammar for JudgedStream<A> {
 
     #[inline(always)]
     fn take_common<'b>(&mut self, bytes: &'b [u8]) -> Result<Option<&'b [u8]>, TextCause> {
-        self.stream.take_common(bytes)
+        self.stream.take_common::<JudgedStream<A>>(bytes)
     }
 }
 

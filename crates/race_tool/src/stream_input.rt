@@ -1,10 +1,9 @@
 //! Reading a trace that is judged meanwhile.
-ghost use Rattle.std.specs.Prelude.{◌≡◌, ◌≢◌, true, IfOk, IfErr, OnOk};
-ghost use Rattle.race_records.specs.Devices.{unread, source_failures, one_more};
+ghost use Rattle.std.specs.Prelude.{◌≡◌, true, OnOk};
 ghost use Rattle.race_shards.specs.Limits.{is_block};
 ghost use Rattle.race_text.specs.Fault.{trace_causes};
 ghost use Rattle.race_text.specs.Fed.{ForEachFedTo, IsFed, IsReady};
-ghost use Rattle.race_tool.specs.Input.{ReadsBy, ReadsFine, ReadsMany};
+ghost use Rattle.race_tool.specs.Input.{ReadsInput};
 ghost use Rattle.race_tool.specs.Streams as spec;
 
 use crate::input::{MAX_TURNS, ReadFault, blank_block, feed_block, set_memory_apart};
@@ -26,16 +25,7 @@ pub(crate) fn read_judged<T: Threads + Wait + Sync, R: Read, A: Allocator + Copy
     judging: Judging,
 ) -> Result<Result<JudgedStream<A>, TextFault>, ReadFault>
     requires { is_block judging.block ≡ true }
-    ensures ok { IfOk result (λ text. ReadsBy spec.IsReadText trace_causes
-        (unread R.remaining source.old) (unread R.remaining source.new) text) }
-    ensures calm { result ≢ Err ReadFault.Failed
-        → source_failures source.new ≡ source_failures source.old }
-    ensures failed { result ≡ Err ReadFault.Failed
-        → source_failures source.new ≡ one_more (source_failures source.old) }
-    ensures fine { result ≡ Err ReadFault.Failed
-        → ReadsFine trace_causes (unread R.remaining source.old) (unread R.remaining source.new) }
-    ensures endless { result ≡ Err ReadFault.Endless
-        → ReadsMany trace_causes R.remaining source.old source.new }
+    ensures { ReadsInput spec.IsReadText trace_causes R.remaining source.old source.new result }
 {
     if judging.shards == 1 {
         read_in_turn(rt, alloc, source, judging)
@@ -54,16 +44,7 @@ fn read_in_turn<T: Threads + Wait, R: Read, A: Allocator + Copy + Send>(
     judging: Judging,
 ) -> Result<Result<JudgedStream<A>, TextFault>, ReadFault>
     requires { is_block judging.block ≡ true }
-    ensures ok { IfOk result (λ text. ReadsBy spec.IsReadText trace_causes
-        (unread R.remaining source.old) (unread R.remaining source.new) text) }
-    ensures calm { result ≢ Err ReadFault.Failed
-        → source_failures source.new ≡ source_failures source.old }
-    ensures failed { result ≡ Err ReadFault.Failed
-        → source_failures source.new ≡ one_more (source_failures source.old) }
-    ensures fine { result ≡ Err ReadFault.Failed
-        → ReadsFine trace_causes (unread R.remaining source.old) (unread R.remaining source.new) }
-    ensures endless { result ≡ Err ReadFault.Endless
-        → ReadsMany trace_causes R.remaining source.old source.new }
+    ensures { ReadsInput spec.IsReadText trace_causes R.remaining source.old source.new result }
 {
     let Ok(mut block) = blank_block(alloc) else {
         return Err(ReadFault::OutOfMemory);

@@ -1,6 +1,7 @@
 -- What was read is fed behind what was handed on, turn by turn.
 use Rattle.std.proofs.Common.{Bool, Result, Ok, refl, ap, subst, ◌∙◌, arith}
-use Rattle.race_records.specs.Devices.{unread}
+use Rattle.std.proofs.lemmas.Result.{IfOk-from_err}
+use Rattle.race_records.specs.Devices.{unread, one_more}
 use Rattle.race_shards.specs.Limits.{is_block}
 use Rattle.race_text.specs.declared.cause.TextFault.{TextFault}
 use Rattle.race_text.specs.Fault.{trace_causes}
@@ -9,7 +10,7 @@ use Rattle.race_tool.specs.declared.judged_stream.Judging.{Judging}
 use Rattle.race_tool.specs.declared.input.ReadFault.{ReadFault}
 use Rattle.race_tool.specs.Intake.{GoesOnTo}
 use Rattle.race_tool.specs.Streams.{IsReadText, StandsAfter}
-use Rattle.race_tool.proofs.InputLemmas.{all_answered, err_same, err_other}
+use Rattle.race_tool.proofs.InputLemmas.{all_answered, err_same, err_other, out_of_memory_alone}
 use Rattle.race_tool.proofs.IntakeTurns.{is_some_block, can_at_start, taken_at_start, fine_at_start, taken_behind, readable_behind}
 use Rattle.race_tool.proofs.intake.read_beside.Goals as goal
 
@@ -30,39 +31,56 @@ loop-intake-init g c =
       can = can_at_start g.R.Read.remaining h new.judge new.events (ap (λ (j : Judging). is_block j.block) new.judging ∙ c.requires);
     }
 
-pub returns-in_err-read_next-clause-calm : goal.returns-in_err-read_next-clause-calm
-returns-in_err-read_next-clause-calm g c = λ other.
+-- reading on failed
+pub returns-in_err-read_next : goal.returns-in_err-read_next
+returns-in_err-read_next g c =
     let told = c.in_err-read_next in
-    told.ensures.reads.calm (err_other c.from_residual.result told.field-0.0 ReadFault.Failed c.from_residual.ensures.1 other) ∙ c.loop-intake.invariant.calm
+    let reads = told.ensures.reads in
+    let held = c.loop-intake.invariant in
+    let is_so = err_same c.from_residual.result told.field-0.0 in
+    let gives = c.from_residual.ensures.1 in
+    record {
+      ok = IfOk-from_err _ _ c.from_residual.ensures.0;
+      calm = λ other. reads.calm (err_other c.from_residual.result told.field-0.0 ReadFault.Failed gives other) ∙ held.calm;
+      failed = λ is. reads.failed (is_so ReadFault.Failed gives is) ∙ ap one_more held.calm;
+      fine = λ is. reads.fine (is_so ReadFault.Failed gives is) c.args.source.now held.taken;
+      endless = λ is. reads.endless (is_so ReadFault.Endless gives is) c.args.source.now held.taken;
+    }
 
-pub returns-in_err-read_next-clause-fine : goal.returns-in_err-read_next-clause-fine
-returns-in_err-read_next-clause-fine g c = λ failed.
-    let told = c.in_err-read_next in
-    told.ensures.reads.fine (err_same c.from_residual.result told.field-0.0 ReadFault.Failed c.from_residual.ensures.1 failed)
-    c.args.source.now c.loop-intake.invariant.taken
-
-pub returns-in_err-read_next-clause-endless : goal.returns-in_err-read_next-clause-endless
-returns-in_err-read_next-clause-endless g c = λ many.
-    let told = c.in_err-read_next in
-    told.ensures.reads.endless (err_same c.from_residual.result told.field-0.0 ReadFault.Endless c.from_residual.ensures.1 many)
-    c.args.source.now c.loop-intake.invariant.taken
-
-pub returns-in-Ok-false-clause-ok : goal.returns-in-Ok-false-clause-ok
-returns-in-Ok-false-clause-ok g c =
+-- the end
+pub returns-in-Ok-false : goal.returns-in-Ok-false
+returns-in-Ok-false g c =
     let new = c.read_next.new in
-    let read = c.in_ok-read_next in
+    let read = c.in_ok-read_next.ensures.reads in
+    let held = c.loop-intake.invariant in
+    let apart = c.set_memory_apart.ensures in
     let is = c.in-Ok-false.is ∙ ap (λ (b : Bool). Ok b) c.in-Ok-false.field-0-test in
-    all_answered trace_causes (unread g.R.Read.remaining c.args.source.now) (unread g.R.Read.remaining new.source)
-    (IsFed trace_causes (StandsAfter new.handed) new.intake.reader)
-    (subst (λ (a : Result Bool TextFault). GoesOnTo g.R.Read.remaining (StandsAfter new.handed) c.args.source.now new.source new.intake.reader new.intake.turns a) is
-    (read.ensures.reads.ok c.args.source.now c.loop-intake.invariant.taken))
-    IsReadText c.finish.result c.set_memory_apart.result c.finish.ensures.text c.finish.ensures.fault c.set_memory_apart.ensures.same c.set_memory_apart.ensures.others
+    record {
+      ok = all_answered trace_causes (unread g.R.Read.remaining c.args.source.now) (unread g.R.Read.remaining new.source)
+          (IsFed trace_causes (StandsAfter new.handed) new.intake.reader)
+          (subst (λ (a : Result Bool TextFault). GoesOnTo g.R.Read.remaining (StandsAfter new.handed) c.args.source.now new.source new.intake.reader new.intake.turns a) is
+          (read.ok c.args.source.now held.taken))
+          IsReadText c.finish.result c.set_memory_apart.result c.finish.ensures.text c.finish.ensures.fault apart.same apart.others;
+      calm = λ _. read.calm (λ e. cc) ∙ held.calm;
+      failed = λ is. absurd (out_of_memory_alone c.set_memory_apart.result apart.memory ReadFault.Failed (λ e. cc) is);
+      fine = λ is. absurd (out_of_memory_alone c.set_memory_apart.result apart.memory ReadFault.Failed (λ e. cc) is);
+      endless = λ is. absurd (out_of_memory_alone c.set_memory_apart.result apart.memory ReadFault.Endless (λ e. cc) is);
+    }
 
-pub returns-in-Err-clause-ok : goal.returns-in-Err-clause-ok
-returns-in-Err-clause-ok g c =
+-- a faulty line
+pub returns-in-Err : goal.returns-in-Err
+returns-in-Err g c =
     let new = c.read_next.new in
-    subst (λ (a : Result Bool TextFault). GoesOnTo g.R.Read.remaining (StandsAfter new.handed) c.args.source.now new.source new.intake.reader new.intake.turns a) c.in-Err.is
-    (c.in_ok-read_next.ensures.reads.ok c.args.source.now c.loop-intake.invariant.taken)
+    let read = c.in_ok-read_next.ensures.reads in
+    let held = c.loop-intake.invariant in
+    record {
+      ok = subst (λ (a : Result Bool TextFault). GoesOnTo g.R.Read.remaining (StandsAfter new.handed) c.args.source.now new.source new.intake.reader new.intake.turns a) c.in-Err.is
+          (read.ok c.args.source.now held.taken);
+      calm = λ _. read.calm (λ e. cc) ∙ held.calm;
+      failed = λ is. absurd cc;
+      fine = λ is. absurd cc;
+      endless = λ is. absurd cc;
+    }
 
 pub loop-intake-preserved : goal.loop-intake-preserved
 loop-intake-preserved g c =

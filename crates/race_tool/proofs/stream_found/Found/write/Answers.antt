@@ -1,8 +1,9 @@
-use Rattle.std.proofs.Common.{ℕ, List, sym, ap, ◌∙◌, subst}
+use Rattle.std.proofs.Common.{sym, ◌∙◌, subst}
+use Rattle.race_report.specs.Noted.{report_noted}
 use Rattle.race_report.specs.Printable.{AreNamed}
 use Rattle.race_text.specs.Output.{Writes}
-use Rattle.race_tool.specs.Streams.{IsFoundOf, IsJudgedText, report_noted, found_text}
-use Rattle.race_tool.proofs.StreamedAnswers.{report_is, is_named}
+use Rattle.race_tool.specs.Streams.{IsFoundOf, IsJudgedText, found_text}
+use Rattle.race_tool.proofs.StreamedAnswers.{is_named}
 use Rattle.race_tool.proofs.stream_found.Found.write.Goals as goal
 
 pub write_noted_report-requires : goal.write_noted_report-requires
@@ -13,9 +14,6 @@ write_noted_report-requires g c =
 
 pub returns-in-Judged : goal.returns-in-Judged
 returns-in-Judged g c =
-    let verdict = c.in-Judged.verdict in
-    let right : IsJudgedText c.in-Judged.stream verdict c.requires.0 = subst (IsFoundOf c.requires.0) c.in-Judged.is c.requires.1 in
-    let same = report_is right.trace verdict right.noted.notes ∙ ap (λ decls. report_noted decls verdict) right.decls in
     subst (λ found. Writes g.W.Write.contents c.write_noted_report.result c.args.sink.now c.write_noted_report.new.sink (found_text found)) (sym c.in-Judged.is)
-    (subst (λ (l : List ℕ). Writes g.W.Write.contents c.write_noted_report.result c.args.sink.now c.write_noted_report.new.sink l) same
-    (c.write_noted_report.ensures right.trace (right.decls ∙ sym c.decls.ensures) right.noted.notes))
+    (subst (λ decls. Writes g.W.Write.contents c.write_noted_report.result c.args.sink.now c.write_noted_report.new.sink (report_noted decls c.in-Judged.verdict))
+    c.decls.ensures c.write_noted_report.ensures.noted)

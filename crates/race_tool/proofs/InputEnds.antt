@@ -1,0 +1,71 @@
+-- How reading an input block by block ends, where it stood for what was fed so far and no read had failed.
+use Rattle.std.proofs.Common.{◌≡◌, ◌≢◌, ℕ, ◌+◌, Bool, true, false, List, Option, Some, Result, Ok, Err, IfOk, IfErr, IsErrAnd, ap, subst, ◌∙◌}
+use Rattle.std.specs.Io.KnownBytes.{Keeps}
+use Rattle.race_records.specs.declared.source.Source.{Source}
+use Rattle.race_records.specs.Devices.{unread, source_failures, one_more}
+use Rattle.race_text.specs.declared.cause.TextCause.{TextCause}
+use Rattle.race_text.specs.declared.cause.TextFault.{TextFault}
+use Rattle.race_text.specs.Lines.{Causes, first_fault}
+use Rattle.race_tool.specs.declared.input.ReadFault.{ReadFault}
+use Rattle.race_tool.specs.Input.{HasRead, FeedsMore, ReadsInput}
+use Rattle.race_tool.proofs.InputLemmas.{fed_more, fine_before, fault_read, end_answered, err, err_same, err_other, out_of_memory_alone}
+
+-- an error is no text
+no_text : {T E : Type 0} (r : Result T E) (e : E) → IsErrAnd r (λ f. f ≡ e) → (P : T → Type 0) → IfOk r P
+no_text (Ok t) e is P = absurd is
+no_text (Err f) e is P = tt
+
+module _ {R V : Type 0} (IsText : V → List ℕ → Type 0) (causes : Causes) (remaining : R → Option (List ℕ)) (source before now : Source R)
+    (Old New : List ℕ → Type 0) (turns : ℕ) (fed : HasRead causes (unread remaining source) (unread remaining before) Old turns)
+    (calm : source_failures before ≡ source_failures source) where
+  -- a read failed
+  pub reads_failed : (e : ReadFault) (result : Result (Result V TextFault) ReadFault) → IsErrAnd result (λ f. f ≡ e)
+      → (err {X = Result Bool TextFault} e ≢ Err ReadFault.Failed → source_failures now ≡ source_failures before)
+      → (err {X = Result Bool TextFault} e ≡ Err ReadFault.Failed → source_failures now ≡ one_more (source_failures before))
+      → (err {X = Result Bool TextFault} e ≡ Err ReadFault.Failed → Keeps (unread remaining before) (unread remaining now))
+      → err {X = Result Bool TextFault} e ≢ Err ReadFault.Endless
+      → ReadsInput IsText causes remaining source now result
+  reads_failed e result is calm_now failed kept ends = record {
+    ok = no_text result e is _;
+    calm = λ other. calm_now (err_other result e ReadFault.Failed is other) ∙ calm;
+    failed = λ f. failed (err_same result e ReadFault.Failed is f) ∙ ap one_more calm;
+    fine = λ f.
+        fine_before causes (unread remaining source) (unread remaining before) (unread remaining now) Old New turns fed
+        (kept (err_same result e ReadFault.Failed is f));
+    endless = λ f. absurd (ends (err_same result e ReadFault.Endless is f));
+  }
+
+  module _ (more : Result Bool TextFault) (feeds : FeedsMore causes (unread remaining before) (unread remaining now) Old New more)
+      (calm_now : source_failures now ≡ source_failures before) where
+    feeds_as : (a : Result Bool TextFault) → more ≡ a → FeedsMore causes (unread remaining before) (unread remaining now) Old New a
+    feeds_as a is = subst (λ (b : Result Bool TextFault). FeedsMore causes (unread remaining before) (unread remaining now) Old New b) is feeds
+
+    -- there may be more
+    pub reads_on : more ≡ Ok true → HasRead causes (unread remaining source) (unread remaining now) New (turns + 1)
+    reads_on is = fed_more causes (unread remaining source) (unread remaining before) (unread remaining now) Old New turns fed (feeds_as (Ok true) is)
+
+    -- all was read, and this is what is told of it, but for want of memory
+    pub reads_ended : more ≡ Ok false → (told : Result V TextFault) (result : Result (Result V TextFault) ReadFault)
+        → IfOk told (λ value. (bytes : List ℕ) → New bytes → IsText value bytes)
+        → IfErr told (λ f. (bytes : List ℕ) → New bytes → f.cause ≢ TextCause.OutOfMemory → first_fault causes bytes ≡ Some f)
+        → IfOk result (λ text. text ≡ told) → IfOk result (λ text. IfErr text (λ f. f.cause ≢ TextCause.OutOfMemory))
+        → IfErr result (λ f. f ≡ ReadFault.OutOfMemory)
+        → ReadsInput IsText causes remaining source now result
+    reads_ended is told result text fault same others memory = record {
+      ok = end_answered causes (unread remaining source) (unread remaining before) (unread remaining now) Old New turns fed IsText told result
+          (feeds_as (Ok false) is) text fault same others;
+      calm = λ _. calm_now ∙ calm;
+      failed = λ f. absurd (out_of_memory_alone result memory ReadFault.Failed (λ e. cc) f);
+      fine = λ f. absurd (out_of_memory_alone result memory ReadFault.Failed (λ e. cc) f);
+      endless = λ f. absurd (out_of_memory_alone result memory ReadFault.Endless (λ e. cc) f);
+    }
+
+    -- a line was at fault
+    pub reads_faulty : (fault : TextFault) → more ≡ Err fault → ReadsInput IsText causes remaining source now (Ok (Err fault))
+    reads_faulty fault is = record {
+      ok = fault_read causes (unread remaining source) (unread remaining before) (unread remaining now) Old New turns fed IsText fault (feeds_as (Err fault) is);
+      calm = λ _. calm_now ∙ calm;
+      failed = λ f. absurd cc;
+      fine = λ f. absurd cc;
+      endless = λ f. absurd cc;
+    }

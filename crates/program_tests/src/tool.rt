@@ -16,4 +16,5 @@ mod runs;
 mod shown;
 mod streamed;
 mod tries;
+mod unordered;
 mod witnesses;

@@ -2,7 +2,7 @@
 use crate::tool::engines::{
     Engine, Runtime, Told, answer, ended, is_cut_off, judge, tells, text_of,
 };
-use crate::tool::{channels, locks, tries};
+use crate::tool::{channels, locks, tries, unordered};
 use race_records::{Sink, Source};
 use race_tool::{CheckOptions, status};
 use std::alloc::Global;
@@ -153,7 +153,7 @@ static ROWS: [Row; 22] = [
 ];
 
 /// How many tables there are.
-pub(crate) const TABLES: usize = 9;
+pub(crate) const TABLES: usize = 10;
 
 /// The tables, and the first lines of each of their traces.
 pub(crate) fn table(number: usize) -> (&'static str, &'static [Row]) {
@@ -166,7 +166,8 @@ pub(crate) fn table(number: usize) -> (&'static str, &'static [Row]) {
         5 => (locks::DECLARED, &locks::EVENTS),
         6 => (locks::TWO_ONCES, &locks::NESTED),
         7 => ("", &tries::JUDGED),
-        _ => (tries::DECLARED, &tries::EVENTS),
+        8 => (tries::DECLARED, &tries::EVENTS),
+        _ => (unordered::DECLARED, &unordered::EVENTS),
     }
 }
 

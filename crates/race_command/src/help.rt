@@ -204,7 +204,7 @@ stands how the run ended.
   read x w:1
   exit w:2
 
-Here the write and the read race, for nothing orders them:
+With --picks 0 the write and the read race, for nothing orders them:
 
   race on x: write by main at m:2 (event 2), read by w at w:1 (event 3)
   races: 1
@@ -212,7 +212,8 @@ Here the write and the read race, for nothing orders them:
 
 The last line is 'end: main', 'end: fault', 'end: deadlock', 'end: limit', or
 'end: bad NAME' of a goroutine that asked what can't be. One run is judged:
-another, by other picks or another seed, may have races that this one hasn't.
+another, by other picks or another seed, may have races that this one hasn't:
+here main exits before w reads by the default seed, and the run is clean.
 
 Statuses:
   66  data races, however the run ended

@@ -61,12 +61,10 @@ func init() {
 		return
 	}
 	os.Unsetenv("GOREC_LOG") // a process that this one starts is another run
-	seed = uint32(time.Now().UnixNano()>>10)<<1 | 1
-	if n, err := strconv.ParseUint(os.Getenv("GOREC_SEED"), 10, 32); err == nil {
-		seed = uint32(n)
+	err := setSeed(os.Getenv("GOREC_SEED"))
+	if err == nil {
+		err = openLog(path)
 	}
-	mainGoroutine.random = seed
-	err := openLog(path)
 	if err == nil {
 		err = setVersion(os.Getenv("GOREC_FORMAT"))
 	}
@@ -75,6 +73,20 @@ func init() {
 		os.Exit(3)
 	}
 	off, sealed = false, false
+}
+
+// setSeed is which yields there are; "" is those of no other run.
+func setSeed(s string) error {
+	seed = uint32(time.Now().UnixNano()>>10)<<1 | 1
+	if s != "" {
+		n, err := strconv.ParseUint(s, 10, 32)
+		if err != nil {
+			return errors.New("GOREC_SEED is no number from 0 to 4294967295: " + s)
+		}
+		seed = uint32(n)
+	}
+	mainGoroutine.random = seed
+	return nil
 }
 
 func openLog(path string) error {

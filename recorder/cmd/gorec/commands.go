@@ -9,6 +9,7 @@ import (
 	"os/signal"
 	"path/filepath"
 	"sort"
+	"strconv"
 	"strings"
 	"syscall"
 
@@ -16,10 +17,14 @@ import (
 	"gorace.local/recorder/internal/load"
 	"gorace.local/recorder/internal/sites"
 	"gorace.local/recorder/internal/trace"
+	"gorace.local/recorder/wire"
 )
 
 // run records a run of a program or of a package's tests, and has it judged.
 func (o *options) run(args []string, test bool) error {
+	if err := o.check(); err != nil {
+		return err
+	}
 	judge, err := findJudge(o.judge)
 	if err != nil {
 		return err
@@ -30,41 +35,87 @@ func (o *options) run(args []string, test bool) error {
 	}
 	defer os.RemoveAll(dir)
 	program := filepath.Join(dir, "program")
-	words := packageWords(args)
+	n := packageWords(args)
+	args, words := args[:n], args[n:]
 	runDir := ""
 	if test {
-		if runDir, err = testDir(args[0]); err != nil {
+		if runDir, words, err = testRun(args[0], words); err != nil {
 			return err
 		}
 	}
-	copy, err := o.build(args[:words], dir, program, test)
+	copy, err := o.build(args, dir, program, test)
 	if err != nil {
 		return err
 	}
+	out, err := o.createFiles(dir)
+	if err != nil {
+		return err
+	}
+	defer out.Close()
+	cmd := exec.Command(program, words...)
+	cmd.Dir = runDir
+	ended, err := o.record(cmd)
+	if err != nil {
+		return err
+	}
+	return o.report(judge, copy, out, ended)
+}
+
+// check refuses a seed and a version that the recorded program would refuse.
+func (o *options) check() error {
+	seed, told := o.seed, "-seed "+o.seed
+	if seed == "" {
+		seed = os.Getenv("GOREC_SEED")
+		told = "GOREC_SEED=" + seed
+	}
+	if _, err := strconv.ParseUint(seed, 10, 32); seed != "" && err != nil {
+		return errors.New(told + ": a seed is a number from 0 to 4,294,967,295")
+	}
+	version := os.Getenv("GOREC_FORMAT")
+	if n, err := strconv.Atoi(version); o.format == 0 && version != "" && (err != nil || n < 1 || n > wire.Newest) {
+		return errors.New("GOREC_FORMAT=" + version + ": a trace has version 1 or 2")
+	}
+	return nil
+}
+
+// createFiles makes the files of the log and of the trace before the run, which may be long.
+// A log that is there is that of another run.
+func (o *options) createFiles(dir string) (out *os.File, err error) {
 	if o.log == "" {
 		o.log = filepath.Join(dir, "log")
 	}
 	if o.out == "" {
 		o.out = filepath.Join(dir, "run.gotrace")
 	}
-	cmd := exec.Command(program, args[words:]...)
-	cmd.Dir = runDir
-	if err := o.record(cmd); err != nil {
-		return err
+	if o.log, err = filepath.Abs(o.log); err != nil { // tests run in their package's folder
+		return nil, err
 	}
-	return o.report(judge, copy)
+	if err := os.WriteFile(o.log, nil, 0o644); err != nil {
+		return nil, err
+	}
+	return os.Create(o.out)
 }
 
-// report makes the trace of the log, has it judged, and explains the report.
-func (o *options) report(judge []string, copy *instrument.Copy) error {
-	summary, err := o.writeTrace(copy.Sites)
+// report makes the trace of the log, has it judged, and explains the report; ended is how the
+// program itself failed. Where no race is found the status is 0 only if the trace is whole and
+// the program didn't fail.
+func (o *options) report(judge []string, copy *instrument.Copy, out *os.File, ended error) error {
+	summary, err := o.writeTrace(copy.Sites, out)
 	if err != nil {
 		return err
 	}
 	fmt.Fprintln(os.Stderr, "gorec: "+summary.Counts())
 	report, err := askJudge(judge, o.out)
 	explain(os.Stdout, report, summary, copy)
-	return err
+	switch {
+	case err != nil:
+		return err
+	case ended != nil:
+		return verdict(failed)
+	case summary.Cut != "":
+		return verdict(cutOff)
+	}
+	return nil
 }
 
 // packageWords is how many words name the program: one, or several files.
@@ -74,6 +125,14 @@ func packageWords(args []string) int {
 		n++
 	}
 	return n
+}
+
+// testRun is where the tests of a package run, and with which words.
+func testRun(pkg string, words []string) (dir string, _ []string, err error) {
+	if words, err = testWords(words); err == nil {
+		dir, err = testDir(pkg)
+	}
+	return dir, words, err
 }
 
 // testDir is where the tests of a package run.
@@ -124,7 +183,7 @@ func (o *options) instrument(args []string, dir string, test bool) (*instrument.
 		return nil, fmt.Errorf("nothing was run: %s can't be recorded (-force goes on without)", places(n))
 	}
 	if copy.Main == "" {
-		return nil, errors.New("there is no package main, or no package with tests")
+		return nil, errors.New("there is no package main in " + strings.Join(args, " "))
 	}
 	return copy, nil
 }
@@ -136,8 +195,9 @@ func places(n int) string {
 	return fmt.Sprintf("%d places", n)
 }
 
-// record runs a program; its trace is judged however it ends.
-func (o *options) record(cmd *exec.Cmd) error {
+// record runs a program, and answers how it failed, if it did; its trace is judged however it
+// ends.
+func (o *options) record(cmd *exec.Cmd) (ended, err error) {
 	cmd.Stdin, cmd.Stdout, cmd.Stderr = os.Stdin, os.Stdout, os.Stderr
 	cmd.Env = append(os.Environ(), "GOREC_LOG="+o.log)
 	if o.seed != "" {
@@ -149,42 +209,38 @@ func (o *options) record(cmd *exec.Cmd) error {
 	interrupts := make(chan os.Signal, 1)
 	signal.Notify(interrupts, os.Interrupt, syscall.SIGTERM)
 	if err := cmd.Start(); err != nil {
-		return err
+		return nil, err
 	}
 	stop := showProgress(o.log)
-	ended := make(chan error, 1)
-	go func() { ended <- cmd.Wait() }()
+	end := make(chan error, 1)
+	go func() { end <- cmd.Wait() }()
 	for {
 		select {
 		case s := <-interrupts:
 			if s == syscall.SIGTERM { // ^C reaches the program by itself
 				cmd.Process.Signal(s)
 			}
-		case err := <-ended:
+		case ended := <-end:
 			stop()
-			if err != nil {
-				fmt.Fprintln(os.Stderr, "gorec: the program ended with "+err.Error())
+			if ended != nil {
+				fmt.Fprintln(os.Stderr, "gorec: the program ended with "+ended.Error())
 			}
-			return nil
+			return ended, nil
 		}
 	}
 }
 
-func (o *options) writeTrace(table sites.Table) (*trace.Summary, error) {
+func (o *options) writeTrace(table sites.Table, out *os.File) (*trace.Summary, error) {
 	log, err := trace.Open(o.log)
 	if err != nil {
 		return nil, fmt.Errorf("the program left no log: %v", err)
 	}
 	defer log.Close()
-	f, err := os.Create(o.out)
+	summary, err := o.writeLog(log, table, out)
 	if err != nil {
 		return nil, err
 	}
-	summary, err := o.writeLog(log, table, f)
-	if err != nil {
-		return nil, err
-	}
-	return summary, f.Close()
+	return summary, out.Close()
 }
 
 // writeLog writes a log as the version that is asked for, or the one that it is for.
@@ -244,7 +300,7 @@ func tell(w io.Writer, s *trace.Summary, missed map[string]int) {
 		if line != "" {
 			line += "; "
 		}
-		line += "not recorded is what these calls read and write: " + listed(missed)
+		line += "not recorded is what these calls do with what their arguments point at: " + listed(missed)
 	}
 	if line != "" {
 		fmt.Fprintln(w, "gorec: "+line)

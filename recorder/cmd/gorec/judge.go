@@ -22,7 +22,7 @@ func findJudge(flag string) ([]string, error) {
 	if flag == "" {
 		flag = os.Getenv("GOREC_JUDGE")
 	}
-	if words := strings.Fields(flag); len(words) > 0 {
+	if words := judgeWords(flag); len(words) > 0 {
 		path, err := exec.LookPath(words[0])
 		if err != nil {
 			return nil, fmt.Errorf("no judge: %v", err)
@@ -40,6 +40,14 @@ func findJudge(flag string) ([]string, error) {
 		return nil, errors.New("no judge: gorace is neither beside gorec nor on the PATH; -gorace CMD or GOREC_JUDGE names it")
 	}
 	return []string{path}, nil
+}
+
+// judgeWords splits a command at its blanks, unless it is the path of a file.
+func judgeWords(command string) []string {
+	if st, err := os.Stat(command); err == nil && !st.IsDir() {
+		return []string{command}
+	}
+	return strings.Fields(command)
 }
 
 // askJudge has a trace judged, and answers the report, which was printed.

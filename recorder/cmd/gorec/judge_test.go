@@ -1,12 +1,43 @@
 package main
 
 import (
+	"os"
+	"path/filepath"
 	"strings"
 	"testing"
 
 	"gorace.local/recorder/internal/instrument"
 	"gorace.local/recorder/internal/trace"
 )
+
+// TestFindJudge: a command is split at its blanks, unless it is the path of a file.
+func TestFindJudge(t *testing.T) {
+	blank := filepath.Join(t.TempDir(), "a b")
+	for _, path := range []string{blank + "/gorace", filepath.Dir(blank) + "/gorace"} {
+		if err := os.MkdirAll(filepath.Dir(path), 0o755); err != nil {
+			t.Fatal(err)
+		}
+		if err := os.WriteFile(path, []byte("#!/bin/sh\n"), 0o755); err != nil {
+			t.Fatal(err)
+		}
+	}
+	plain := filepath.Dir(blank) + "/gorace"
+	for _, c := range []struct{ flag, want string }{
+		{plain, plain},
+		{"  " + plain + "  -x  y ", plain + "|-x|y"},
+		{blank + "/gorace", blank + "/gorace"},
+		{blank + "/none", `no judge: exec: "` + filepath.Dir(blank) + `/a": stat ` + filepath.Dir(blank) + "/a: no such file or directory"},
+	} {
+		words, err := findJudge(c.flag)
+		got := strings.Join(words, "|")
+		if err != nil {
+			got = err.Error()
+		}
+		if got != c.want {
+			t.Errorf("%q: got %s", c.flag, got)
+		}
+	}
+}
 
 func TestExplain(t *testing.T) {
 	report := `race on x: write by g1 at a.go:3 (event 5), read by main at a.go:9 (event 8)
@@ -30,7 +61,7 @@ races: 3
 g1 was started by main at a.go:1
 g1 was started by main at a.go:2
 g2 was started by g1 at a.go:6
-gorec: not recorded is what these calls read and write: flag.Var (2 places)
+gorec: not recorded is what these calls do with what their arguments point at: flag.Var (2 places)
 gorec: the trace is cut off behind 21 events: more than 65,535 variables, at a.go:7
 `
 	if b.String() != want {

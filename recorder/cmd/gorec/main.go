@@ -14,21 +14,47 @@ import (
 
 const usage = `gorec records a run of a Go program as a trace, and has gorace judge it.
 
-  gorec run   [-o TRACE] [-seed N] [-force] [-gorace CMD] [-all] [-format N] PACKAGE [ARGS]
-  gorec test  [the same] PACKAGE [FLAGS, as -test.v]
+  gorec run   [-o TRACE] [-log FILE] [-seed N] [-force] [-gorace CMD] [-all] [-format V] PACKAGE [ARGS]
+  gorec test  [the same] PACKAGE [FLAGS]     FLAGS of go test's programs, as -run X -v
   gorec build [-force] [-tests] -o PROGRAM PACKAGE    PROGRAM, and PROGRAM.sites beside it
-  gorec trace [-all] [-format N] LOG SITES   writes the trace of a log to standard output
+  gorec trace [-all] [-format V] LOG SITES   writes the trace of a log to standard output
   gorec show  PACKAGE DIR                    writes the instrumented source to DIR/src
+  gorec help, gorec version
 
-N is the version of the trace, 1 or 2; 2 has words for TryLock and TryRLock. A program that was
-built writes its log to the file that GOREC_LOG names, for the version that GOREC_FORMAT says.
-The status of run and test is that of gorace: 0 clean, 66 data races; or 3 where nothing could
-be judged.
+gorec's own flags stand before PACKAGE; what stands behind it goes to the program.
+
+  -o      keeps the trace, and of build names the program
+  -log    keeps the log, up to 671 MB, at FILE; else it is a temporary one, in $TMPDIR or /tmp
+  -seed   a number up to 4,294,967,295, which sets where goroutines yield; 0: nowhere
+  -force  goes on without what can't be recorded
+  -gorace the command that judges: a file, or words between blanks
+  -all    keeps what one goroutine alone uses
+  -format the version of the trace, 1 or 2; 2 has words for TryLock and TryRLock
+
+A program that was built writes its log to the file that GOREC_LOG names, for the version that
+GOREC_FORMAT says, with the seed that GOREC_SEED says.
+
+The status of run and test: 66 data races; 0 clean, and the program ended with 0; 20 clean up to
+where the trace is cut off; 21 clean, but the program failed; 3 nothing could be judged; else
+gorace's.
 Nothing of gorec is proved: a report is as good as the recording.
 `
 
-// unusable is the status where gorec itself fails, as that of gorace's usage.
-const unusable = 3
+// version is that of the repository's CHANGELOG.md.
+const version = "gorec 0.1.0 (not proved)\n"
+
+// The statuses of gorec itself. gorace has none of them but unusable, which is that of its
+// usage too.
+const (
+	unusable = 3
+	cutOff   = 20
+	failed   = 21
+)
+
+// verdict is a status that gorace doesn't give, once it has found no race.
+type verdict int
+
+func (v verdict) Error() string { return fmt.Sprintf("status %d", int(v)) }
 
 // options are the flags of all commands.
 type options struct {
@@ -44,8 +70,11 @@ func main() {
 	}
 	err := command(os.Args[1], os.Args[2:])
 	var ended *exec.ExitError
+	var own verdict
 	switch {
 	case err == nil:
+	case errors.As(err, &own):
+		os.Exit(int(own))
 	case errors.As(err, &ended) && ended.ExitCode() > 0:
 		os.Exit(ended.ExitCode())
 	case errors.Is(err, flag.ErrHelp):
@@ -56,6 +85,14 @@ func main() {
 }
 
 func command(name string, args []string) error {
+	switch name {
+	case "help", "-h", "-help", "--help":
+		fmt.Print(usage)
+		return nil
+	case "version", "-version", "--version":
+		fmt.Print(version)
+		return nil
+	}
 	var o options
 	flags := flag.NewFlagSet("gorec "+name, flag.ContinueOnError)
 	flags.Usage = func() { fmt.Fprint(os.Stderr, usage) }
@@ -82,9 +119,6 @@ func command(name string, args []string) error {
 		return o.trace(args[0], args[1])
 	case name == "show" && len(args) == 2:
 		return o.show(args[0], args[1])
-	case name == "help":
-		fmt.Print(usage)
-		return nil
 	}
 	fmt.Fprint(os.Stderr, usage)
 	return fmt.Errorf("gorec %s: missing or unknown words", name)

@@ -2,6 +2,7 @@ package endtoend
 
 import (
 	"bytes"
+	"fmt"
 	"io"
 	"os"
 	"os/exec"
@@ -15,8 +16,13 @@ import (
 // stub is a judge that finds nothing.
 func stub(t *testing.T) string {
 	t.Helper()
-	path := filepath.Join(t.TempDir(), "judge")
-	script := "#!/bin/sh\ncat >/dev/null\necho 'clean: 0 events, 0 accesses'\n"
+	return judgeSaying(t, filepath.Join(t.TempDir(), "judge"), "clean: 0 events, 0 accesses", 0)
+}
+
+// judgeSaying makes a judge of which report and status are the same for each trace.
+func judgeSaying(t *testing.T, path, report string, status int) string {
+	t.Helper()
+	script := fmt.Sprintf("#!/bin/sh\ncat >/dev/null\necho '%s'\nexit %d\n", report, status)
 	if err := os.WriteFile(path, []byte(script), 0o755); err != nil {
 		t.Fatal(err)
 	}
@@ -52,6 +58,20 @@ gorec: nothing was run: one place can't be recorded (-force goes on without)
 	out, _, status = runTool(t, "run", "-force", "-gorace", stub(t), "./refused")
 	if status != 0 || out != "ran\nclean: 0 events, 0 accesses\n" {
 		t.Errorf("forced: status %d\n%s", status, out)
+	}
+}
+
+// TestForced: what can't be recorded does with -force what it does plain.
+func TestForced(t *testing.T) {
+	plain := exec.Command("go", "run", "./forced")
+	plain.Dir = root + "/testdata/commands"
+	want, err := plain.Output()
+	if err != nil {
+		t.Fatal(err)
+	}
+	out, errs, status := runTool(t, "run", "-force", "-gorace", stub(t), "./forced")
+	if status != 0 || !strings.HasPrefix(out, string(want)+"clean: ") {
+		t.Errorf("status %d\n%s%sbut plain\n%s", status, out, errs, want)
 	}
 }
 

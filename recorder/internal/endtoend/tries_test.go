@@ -83,25 +83,6 @@ func TestTriesOfALog(t *testing.T) {
 	}
 }
 
-// TestNoSuchVersion: neither the tool nor a program that was built takes another version.
-func TestNoSuchVersion(t *testing.T) {
-	out, errs, status := runTool(t, "run", "-format", "3", "-gorace", stub(t), "./waits")
-	if status != 3 || out != "" || errs != "gorec: -format 3: a trace has version 1 or 2\n" {
-		t.Errorf("status %d\n%s%s", status, out, errs)
-	}
-	program := filepath.Join(t.TempDir(), "trylock")
-	build(t, "./trylock", program)
-	for _, version := range []string{"0", "3", "two"} {
-		cmd := exec.Command(program)
-		cmd.Env = append(os.Environ(), "GOREC_LOG="+program+".log", "GOREC_FORMAT="+version)
-		out, _ := cmd.CombinedOutput()
-		want := "gorec: no log: GOREC_FORMAT is no version of a trace: " + version + "\n"
-		if string(out) != want || cmd.ProcessState.ExitCode() != 3 {
-			t.Errorf("%s: status %d\n%s", version, cmd.ProcessState.ExitCode(), out)
-		}
-	}
-}
-
 // addTries records the example trylock for version 2 of a trace, whose report is the same.
 func addTries(t *testing.T, b *batch) {
 	t.Helper()

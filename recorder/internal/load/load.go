@@ -71,6 +71,9 @@ func Packages(args []string, test bool) ([]*Package, error) {
 	}
 	if test {
 		own = withTests(own)
+		if !haveTests(own) {
+			return nil, fmt.Errorf("there are no test files in %s", strings.Join(args, " "))
+		}
 	}
 	var packages []*Package
 	for _, l := range own {
@@ -128,6 +131,15 @@ func withTests(all []*Listed) []*Listed {
 		}
 	}
 	return kept
+}
+
+func haveTests(all []*Listed) bool {
+	for _, l := range all {
+		if l.ForTest != "" {
+			return true
+		}
+	}
+	return false
 }
 
 func (p *Package) parse() error {

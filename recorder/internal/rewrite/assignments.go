@@ -19,12 +19,7 @@ func (r *rewriter) assign(s *ast.AssignStmt, inBlock bool) {
 	case s.Tok != token.ASSIGN && s.Tok != token.DEFINE:
 		r.operation(s, inBlock)
 	case !r.assignsRecorded(s):
-		if s.Tok == token.ASSIGN {
-			for _, e := range s.Lhs {
-				r.address(e)
-			}
-		}
-		r.rightSide(s)
+		r.assignPlain(s)
 	case s.Tok == token.DEFINE:
 		r.redeclare(s)
 	case len(s.Lhs) == 1:
@@ -49,9 +44,19 @@ func (r *rewriter) assignsRecorded(s *ast.AssignStmt) bool {
 	return false
 }
 
+// assignPlain leaves an assignment one, and changes what its sides evaluate.
+func (r *rewriter) assignPlain(s *ast.AssignStmt) {
+	if s.Tok != token.DEFINE {
+		for _, e := range s.Lhs {
+			r.address(e)
+		}
+	}
+	r.rightSide(s)
+}
+
 // rightSide changes the values that are assigned.
 func (r *rewriter) rightSide(s *ast.AssignStmt) {
-	if len(s.Lhs) == 2 && len(s.Rhs) == 1 {
+	if isTwo(s) {
 		r.okValue(s.Rhs[0])
 	} else {
 		r.values(s.Rhs)
@@ -115,8 +120,8 @@ func (r *rewriter) redeclare(s *ast.AssignStmt) {
 
 // assignSeveral is x, y = e.
 func (r *rewriter) assignSeveral(s *ast.AssignStmt) {
-	if len(s.Lhs) > 4 {
-		r.refuse(s, "an assignment to more than four at once", "write it as several")
+	if r.refusesSeveral(s) {
+		r.assignPlain(s)
 		return
 	}
 	r.insert(s.Pos(), fmt.Sprintf("gorec.To%d(", len(s.Lhs)))
@@ -124,18 +129,36 @@ func (r *rewriter) assignSeveral(s *ast.AssignStmt) {
 		r.oneOfSeveral(e)
 	}
 	r.replaceToken(s, ").Set(")
-	two := len(s.Lhs) == 2 && len(s.Rhs) == 1
-	if x := r.mapElement(s.Rhs[0]); two && x != nil && r.isLoose(x.X) {
-		r.refuse(s, "v, ok of a map with keys of an interface type, to variables that are recorded",
-			"assign to new variables first")
-	}
-	if a, ok := unparen(s.Rhs[0]).(*ast.TypeAssertExpr); two && ok {
+	if a, ok := unparen(s.Rhs[0]).(*ast.TypeAssertExpr); ok && isTwo(s) {
 		r.assertion(s, a)
 	} else {
 		r.rightSide(s)
 	}
 	r.insert(s.End(), ")")
 }
+
+// refusesSeveral tells which assignment of several can't be recorded.
+func (r *rewriter) refusesSeveral(s *ast.AssignStmt) bool {
+	if len(s.Lhs) > 4 {
+		r.refuse(s, "an assignment to more than four at once", "write it as several")
+		return true
+	}
+	if x := r.mapElement(s.Rhs[0]); isTwo(s) && x != nil && r.isLoose(x.X) {
+		r.refuse(s, "v, ok of a map with keys of an interface type, to variables that are recorded",
+			"assign to new variables first")
+		return true
+	}
+	for _, e := range s.Lhs {
+		if x := r.mapElement(e); x != nil && r.isLoose(x.X) {
+			r.refuse(e, "an assignment of several, one to a map with keys of an interface type", "write it as several")
+			return true
+		}
+	}
+	return false
+}
+
+// isTwo: v, ok = e.
+func isTwo(s *ast.AssignStmt) bool { return len(s.Lhs) == 2 && len(s.Rhs) == 1 }
 
 // oneOfSeveral is one of several left sides.
 func (r *rewriter) oneOfSeveral(e ast.Expr) {
@@ -145,9 +168,6 @@ func (r *rewriter) oneOfSeveral(e ast.Expr) {
 	case isName && id.Name == "_":
 		r.replace(e.Pos(), e.End(), "gorec.Blank()")
 	case x != nil:
-		if r.isLoose(x.X) {
-			r.refuse(e, "an assignment of several, one to a map with keys of an interface type", "write it as several")
-		}
 		r.mapIndex(x, e, "At(")
 		r.insert(e.End(), ".To()")
 	case r.isRecorded(e):
@@ -203,8 +223,7 @@ func (r *rewriter) operation(s *ast.AssignStmt, inBlock bool) {
 	case x != nil:
 		r.mapOperation(s, x, inBlock)
 	case !r.isRecorded(l):
-		r.address(l)
-		r.value(e)
+		r.assignPlain(s)
 	case operators[s.Tok] != "":
 		site := r.locationSite(s, l)
 		r.wrap(l, "gorec."+operators[s.Tok]+"(&", func() { r.address(l) }, "")
@@ -220,6 +239,8 @@ func (r *rewriter) operation(s *ast.AssignStmt, inBlock bool) {
 func (r *rewriter) mapOperation(s *ast.AssignStmt, x *ast.IndexExpr, inBlock bool) {
 	if !inBlock {
 		r.refuse(s, "op= of an element of a map outside a list of statements", "put it before the statement")
+		r.assignPlain(s)
+		return
 	}
 	v := r.newName("e")
 	r.insert(s.Pos(), "{"+v+" := ")
@@ -233,6 +254,8 @@ func (r *rewriter) mapOperation(s *ast.AssignStmt, x *ast.IndexExpr, inBlock boo
 func (r *rewriter) shift(s *ast.AssignStmt, inBlock bool) {
 	if !inBlock {
 		r.refuse(s, s.Tok.String()+" outside a list of statements", "put it before the statement")
+		r.assignPlain(s)
+		return
 	}
 	v := r.newName("e")
 	site := r.locationSite(s, s.Lhs[0])

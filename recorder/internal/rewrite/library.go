@@ -167,20 +167,34 @@ func isSimple(e ast.Expr) bool {
 }
 
 // foreignArgument changes an argument of a call of code without the recorder, which may read
-// or write what it leads to.
+// or write what it leads to. That is recorded where the argument is evaluated, which is too
+// early where the call is made later, or something is called behind the argument.
 func (r *rewriter) foreignArgument(e *ast.CallExpr, f *types.Func, i int) {
+	a := e.Args[i]
+	call, known := r.looksInto(e, f, i)
+	switch {
+	case !known || call != "" && (r.postponed || r.calls(e.Args[i+1:]...)):
+		r.result.Missed = append(r.result.Missed, f.FullName())
+		r.value(a)
+	case call == "":
+		r.value(a)
+	default:
+		r.wrapArgument(a, call, r.site(a, r.name(a)))
+	}
+}
+
+// looksInto is the recorder's function that looks into an argument as the call will, or "";
+// it may not be known what the call does.
+func (r *rewriter) looksInto(e *ast.CallExpr, f *types.Func, i int) (call string, known bool) {
 	a, full := e.Args[i], f.FullName()
 	t := r.typeOf(a)
 	spread := e.Ellipsis.IsValid() && i == len(e.Args)-1
-	call := ""
 	switch {
 	case r.isConstant(a) || !leads(t):
-	case r.postponed || r.calls(e.Args[i+1:]...):
-		if showFunctions[full] || encodeFunctions[full] || streamFunctions[full] {
-			r.result.Missed = append(r.result.Missed, full)
-		}
 	case streamFunctions[full] && i < 2 && !(showFunctions[full] && i > 0) && !isSlice(t) && !spread:
-		call = "Stream"
+		if mayStream(t) {
+			call = "Stream"
+		}
 	case showFunctions[full] && spread, isSlice(t) && readsElements(f):
 		call = "Handed"
 	case showFunctions[full]:
@@ -188,13 +202,20 @@ func (r *rewriter) foreignArgument(e *ast.CallExpr, f *types.Func, i int) {
 	case encodeFunctions[full]:
 		call = "Encoded"
 	case missingPackages[f.Pkg().Path()] && wholeCalls[full] == "" && receiverType(f) != "reflect.Value":
-		r.result.Missed = append(r.result.Missed, full)
+		return "", false
 	}
-	if call == "" {
-		r.value(a)
-		return
+	return call, true
+}
+
+// mayStream: a value of the type may be a Reader or a Writer of which the recorder follows
+// what it holds, as a file is none.
+func mayStream(t types.Type) bool {
+	n, ok := pointee(t).(*types.Named)
+	if isInterface(t) || !ok || n.Obj().Pkg() == nil {
+		return true
 	}
-	r.wrapArgument(a, call, r.site(a, r.name(a)))
+	_, ok = contentTypes[n.Obj().Pkg().Path()+"."+n.Obj().Name()]
+	return ok
 }
 
 // leads: from a value of the type a function may come to memory.

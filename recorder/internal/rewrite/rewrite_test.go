@@ -20,10 +20,10 @@ var update = flag.Bool("update", false, "write what the rewriting gives to testd
 // prelude has what the forms use. All its variables are shared, since they are written.
 const prelude = `package forms
 
-import ("bytes"; "context"; "encoding/json"; "fmt"; "io"; "math/rand"; "net/http"; "os"; "os/signal"; "reflect"
+import ("bytes"; "context"; "encoding/json"; "encoding/xml"; "fmt"; "io"; "math/rand"; "net/http"; "os"; "os/signal"; "reflect"
 	"runtime/pprof"; "sort"; "strings"; "sync"; "sync/atomic"; "time")
 
-var _ = []any{json.Marshal, fmt.Println, reflect.ValueOf, pprof.Do, sort.Ints, strings.Join, atomic.AddInt64, time.After,
+var _ = []any{json.Marshal, xml.Marshal, fmt.Println, reflect.ValueOf, pprof.Do, sort.Ints, strings.Join, atomic.AddInt64, time.After,
 	context.Background, signal.Notify}
 
 type pair struct{ c, d int }
@@ -91,6 +91,9 @@ func form(t *testing.T, name, body string) string {
 	for _, r := range result.Refused {
 		_, what, _ := strings.Cut(r, ": ")
 		text = strings.TrimRight(text, "\n") + "\nrefused: " + what
+	}
+	for _, m := range result.Missed {
+		text = strings.TrimRight(text, "\n") + "\nmissed: " + m
 	}
 	return strings.TrimRight(text, "\n") + "\n"
 }

@@ -12,9 +12,10 @@ import (
 const (
 	maxGoroutines = 1024
 	maxKind       = 65535
-	maxEvents     = 1 << 24
 	longestName   = 48 // so that a number fits behind it
 )
+
+var maxEvents = 1 << 24 // less in a test
 
 // names gives each thing a name of its own.
 type names map[string]int
@@ -127,6 +128,22 @@ func (d *declarer) record(i int) {
 		name := d.names.take(d.variableName(o) + "_atomic_" + d.goroutine(r.Goroutine))
 		o.atomics[r.Goroutine] = name
 		fmt.Fprintf(&d.text, "var %s\n", name)
+	case wire.Send, wire.Receive:
+		d.buffer(i, r)
+	}
+}
+
+// buffer counts the values in a channel whose capacity no trace has.
+func (d *declarer) buffer(i int, r *wire.Record) {
+	o := &d.objects[r.Object]
+	switch {
+	case o.value <= maxKind || !d.keep(r.Object):
+	case r.Op == wire.Receive:
+		o.waiting--
+	case o.waiting == maxKind:
+		d.cutAt(i, "more than 65,535 values in a channel")
+	default:
+		o.waiting++
 	}
 }
 
@@ -137,6 +154,7 @@ func (d *declarer) declareGoroutine(i int, r *wire.Record) {
 		d.cutAt(i, "more than 1,024 goroutines at once, or that nothing joins")
 	case d.lent[r.Other]:
 		if d.room(i, wire.DeclareChan, "channels") {
+			d.counts[wire.Go]++
 			name := d.names.take("go")
 			d.channels[r.Other] = name
 			fmt.Fprintf(&d.text, "chan %s 0\n", name)
@@ -156,11 +174,12 @@ func (d *declarer) object(i int, r *wire.Record) {
 			d.line(o, "var", d.variableName(o), "")
 		}
 	case wire.DeclareChan:
-		if o.value > maxKind {
-			o.value = maxKind // the same as long as not more is sent
+		capacity := o.value
+		if capacity > maxKind {
+			capacity = maxKind // the most that a trace has: it orders more than Go does
 		}
 		if d.room(i, o.op, "channels") {
-			d.line(o, "chan", d.table[o.site].Name, fmt.Sprintf(" %d", o.value))
+			d.line(o, "chan", d.table[o.site].Name, fmt.Sprintf(" %d", capacity))
 		}
 	case wire.DeclareLock:
 		if d.room(i, o.op, "locks") {

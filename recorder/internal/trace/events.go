@@ -60,17 +60,28 @@ func (d *declarer) print(out io.Writer) (*printer, error) {
 	fmt.Fprintf(p.out, "gotrace %d\n", p.Version)
 	p.out.WriteString(d.text.String())
 	for i := 0; i < d.end; i++ {
-		p.print(i)
-		if p.events >= maxEvents {
-			d.cutAt(i+1, "more than 16,777,216 events")
+		if p.events+p.most(i) > maxEvents {
+			d.cutAt(i, "more than 16,777,216 events")
 			break
 		}
+		p.print(i)
 	}
 	if p.fault != "" && d.end == len(d.records) {
 		p.out.WriteString(p.fault)
 		p.events++
 	}
 	return p, p.out.Flush()
+}
+
+// most is how many events a record may become.
+func (p *printer) most(i int) int {
+	switch r := &p.records[i]; r.Op {
+	case wire.Read, wire.Write:
+		return 1 + len(p.objects[r.Object].atomics)
+	case wire.Go, wire.Release, wire.Acquire:
+		return 2
+	}
+	return 1
 }
 
 // print writes the events of a record.

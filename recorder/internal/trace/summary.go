@@ -16,13 +16,14 @@ type Start struct {
 	Event     int
 }
 
-// Count is how many there are in a trace, and how many were met.
+// Count is how many of what was met are in a trace.
 type Count struct{ Kept, Met int }
 
 // Summary is what is known of a trace beside it.
 type Summary struct {
 	Records, Events                        int
 	Goroutines, Variables, Channels, Locks Count
+	Names                                  int                // of the goroutines in the trace
 	Starts                                 map[string][]Start // by the goroutine's name
 	Cut                                    string             // why the trace is cut off, and where
 	unseen                                 map[string]int     // places and names of reads that found unrecorded writes
@@ -63,19 +64,22 @@ func Write(records []wire.Record, table sites.Table, o Options, out io.Writer) (
 	return s, nil
 }
 
+// count counts what was met, and which of it has a name in the trace. Among the channels are
+// the orders, as of a Done before a Wait, whatever stands for them.
 func (s *Summary) count(d *declarer) {
 	s.Goroutines = Count{d.counts[wire.Go] + 1, int(d.started) + 1}
-	s.Variables.Kept = d.counts[wire.DeclareVar]
-	s.Channels.Kept = d.counts[wire.DeclareChan]
-	s.Locks.Kept = d.counts[wire.DeclareLock]
+	s.Names = s.Goroutines.Kept - len(d.channels)
+	counts := map[wire.Op]*Count{
+		wire.DeclareVar: &s.Variables, wire.DeclareChan: &s.Channels, wire.Release: &s.Channels, wire.DeclareLock: &s.Locks,
+	}
 	for i := range d.objects {
-		switch d.objects[i].op {
-		case wire.DeclareVar:
-			s.Variables.Met++
-		case wire.DeclareChan, wire.Release:
-			s.Channels.Met++
-		case wire.DeclareLock:
-			s.Locks.Met++
+		c := counts[d.objects[i].op]
+		if c == nil {
+			continue
+		}
+		c.Met++
+		if d.objects[i].name != "" {
+			c.Kept++
 		}
 	}
 }
@@ -93,8 +97,12 @@ func (s *Summary) look(r *wire.Record, d *declarer) {
 
 // Counts is one line about the trace.
 func (s *Summary) Counts() string {
-	return fmt.Sprintf("%d events of %d records; goroutines %d of %d, variables %d of %d, channels %d of %d, locks %d of %d",
-		s.Events, s.Records, s.Goroutines.Kept, s.Goroutines.Met, s.Variables.Kept, s.Variables.Met,
+	names := ""
+	if s.Names < s.Goroutines.Kept {
+		names = fmt.Sprintf(" (%d names)", s.Names)
+	}
+	return fmt.Sprintf("%d events of %d records; goroutines %d of %d%s, variables %d of %d, channels %d of %d, locks %d of %d",
+		s.Events, s.Records, s.Goroutines.Kept, s.Goroutines.Met, names, s.Variables.Kept, s.Variables.Met,
 		s.Channels.Kept, s.Channels.Met, s.Locks.Kept, s.Locks.Met)
 }
 

@@ -17,6 +17,8 @@ type object struct {
 	atomics       map[uint32]string // the goroutines with atomic operations on it: their variables
 	atomicWritten bool
 
+	waiting int // of a channel: values in its buffer
+
 	name string
 	word wire.Op // for an order: the declaration of what stands for it
 }

@@ -87,8 +87,12 @@ func joined(n uint32) []wire.Record {
 
 func TestNamesAreLentOn(t *testing.T) {
 	text, s := written(t, joined(2000))
-	if s.Cut != "" || s.Goroutines.Kept != 2 || s.Goroutines.Met != 2001 {
-		t.Errorf("%+v, cut off: %s", s.Goroutines, s.Cut)
+	if s.Cut != "" {
+		t.Errorf("cut off: %s", s.Cut)
+	}
+	want := "goroutines 2001 of 2001 (2 names), variables 0 of 0, channels 2000 of 2000, locks 1 of 1"
+	if got := s.Counts(); !strings.HasSuffix(got, "; "+want) {
+		t.Errorf("got %s", got)
 	}
 	if got := strings.Count(text, "\ngoroutine "); got != 1 {
 		t.Errorf("%d goroutines are declared", got)
@@ -111,6 +115,100 @@ func TestTooManyGoroutinesAreCutOff(t *testing.T) {
 	}
 	if s.Goroutines.Kept != maxGoroutines {
 		t.Errorf("%d goroutines", s.Goroutines.Kept)
+	}
+}
+
+// TestTooManyValuesAreCutOff: a capacity of more than 65,535 is written as that; so that the
+// trace is no illegal one, it ends in front of the send that it has no room for.
+func TestTooManyValuesAreCutOff(t *testing.T) {
+	for _, c := range []struct {
+		capacity uint64
+		waiting  int
+		cut      string
+	}{
+		{65535, 65535, ""},
+		{100000, 65535, ""},
+		{100000, 65536, "more than 65,535 values in a channel, at a.go:2"},
+	} {
+		records := []wire.Record{
+			{Op: wire.DeclareChan, Object: 1, Site: 1, Value: c.capacity},
+			{Op: wire.Go, Other: 1, Site: 1},
+			{Op: wire.Send, Object: 1, Site: 2, Value: 1},
+			{Op: wire.Receive, Object: 1, Goroutine: 1, Site: 3, Value: 1},
+		}
+		for n := 1; n <= c.waiting; n++ {
+			records = append(records, wire.Record{Op: wire.Send, Object: 1, Site: 2, Value: uint64(n + 1)})
+		}
+		records = append(records, wire.Record{Op: wire.Exit, Goroutine: 1, Site: 3})
+		text, s := written(t, records)
+		if s.Cut != c.cut || !strings.Contains(text, "\nchan x 65535\n") {
+			t.Errorf("%+v: cut off: %q", c, s.Cut)
+		}
+		if got := strings.Count(text, "\nsend "); got != 65536 {
+			t.Errorf("%+v: %d sends", c, got)
+		}
+	}
+}
+
+// TestCounts: what is kept is counted as what was recorded, whatever it is written as.
+func TestCounts(t *testing.T) {
+	atomics := []wire.Record{{Op: wire.DeclareVar, Object: 1, Site: 1}}
+	for g := uint32(1); g <= 3; g++ {
+		atomics = append(atomics,
+			wire.Record{Op: wire.Go, Other: g, Site: 1},
+			wire.Record{Op: wire.AtomicWrite, Object: 1, Goroutine: g, Site: 1})
+	}
+	atomics = append(atomics, wire.Record{Op: wire.Read, Object: 1, Site: 2})
+	var orders []wire.Record
+	for n := uint32(1); n <= 70000; n++ {
+		orders = append(orders, wire.Record{Op: wire.Release, Object: n, Site: 1})
+	}
+	orders = append(orders, wire.Record{Op: wire.Go, Other: 1, Site: 1})
+	for n := uint32(1); n <= 70000; n++ {
+		orders = append(orders, wire.Record{Op: wire.Acquire, Object: n, Goroutine: 1, Site: 1})
+	}
+	for _, c := range []struct {
+		records []wire.Record
+		want    string
+	}{
+		{atomics, "goroutines 4 of 4, variables 1 of 1, channels 0 of 0, locks 0 of 0"},
+		{orders, "goroutines 2 of 2, variables 0 of 0, channels 70000 of 70000, locks 0 of 0"},
+	} {
+		if _, s := written(t, c.records); !strings.HasSuffix(s.Counts(), "; "+c.want) {
+			t.Errorf("got %s", s.Counts())
+		}
+	}
+}
+
+// TestTooManyEventsAreCutOff: also where a record becomes several events, a trace has no more
+// than a judge takes.
+func TestTooManyEventsAreCutOff(t *testing.T) {
+	records := []wire.Record{
+		{Op: wire.DeclareVar, Object: 1, Site: 1},
+		{Op: wire.Go, Other: 1, Site: 1},
+		{Op: wire.AtomicWrite, Object: 1, Goroutine: 1, Site: 1},
+		{Op: wire.Write, Object: 1, Site: 2, Value: 1}, // two events
+		{Op: wire.Read, Object: 1, Goroutine: 1, Site: 2, Value: 1},
+		{Op: wire.Write, Object: 1, Site: 2, Value: 2}, // two events
+		{Op: wire.FaultClose, Site: 3},
+	}
+	defer func(n int) { maxEvents = n }(maxEvents)
+	for _, c := range []struct {
+		limit, events int
+		cut           string
+	}{
+		{8, 8, ""},
+		{7, 7, "more than 16,777,216 events, at a.go:3"},
+		{6, 5, "more than 16,777,216 events, at a.go:2"},
+		{5, 4, "more than 16,777,216 events, at a.go:2"},
+		{3, 2, "more than 16,777,216 events, at a.go:2"},
+	} {
+		maxEvents = c.limit
+		text, s := written(t, records)
+		_, events, _ := strings.Cut(text, "\ngo main ")
+		if n := 1 + strings.Count(events, "\n") - 1; n != c.events || s.Events != c.events || s.Cut != c.cut {
+			t.Errorf("%+v: %d events, cut off: %q\n%s", c, n, s.Cut, text)
+		}
 	}
 }
 

@@ -1,0 +1,42 @@
+package endtoend
+
+import (
+	"path/filepath"
+	"strings"
+	"testing"
+)
+
+// TestStatuses: 0 is said only of a whole trace of a program that didn't fail; what the judge
+// finds comes before both.
+func TestStatuses(t *testing.T) {
+	clean := stub(t)
+	racing := judgeSaying(t, filepath.Join(t.TempDir(), "racing"), "races: 1", 66)
+	illegal := judgeSaying(t, filepath.Join(t.TempDir(), "illegal"), "illegal: event 5: stale read", 1)
+	for _, c := range []struct {
+		judge  string
+		args   []string
+		status int
+		told   string
+	}{
+		{clean, []string{"run", "./cut"}, 20, "gorec: the trace is cut off behind "},
+		{racing, []string{"run", "./cut"}, 66, "gorec: the trace is cut off behind "},
+		{clean, []string{"run", "./fails"}, 21, "gorec: the program ended with exit status 1\n"},
+		{racing, []string{"run", "./fails", "racing"}, 66, "gorec: the program ended with exit status 1\n"},
+		{illegal, []string{"run", "./fails"}, 1, "gorec: the program ended with exit status 1\n"},
+		{clean, []string{"test", "./fails", "-test.run", "Fails"}, 21, "--- FAIL: TestFails"},
+		{clean, []string{"test", "./fails", "-run", "Fails", "-v"}, 21, "--- FAIL: TestFails"},
+		{clean, []string{"test", "./fails", "-test.run", "Passes"}, 0, "PASS\n"},
+		{clean, []string{"test", "./fails", "-run", "Passes", "-v"}, 0, "--- PASS: TestPasses"},
+		{clean, []string{"test", "./fails", "-race"}, 3, "gorec: -race is a flag of go test itself"},
+		{clean, []string{"test", "./runs"}, 3, "gorec: there are no test files in ./runs\n"},
+		{clean, []string{"build", "-tests", "-o", "/dev/null", "./runs"}, 3, "gorec: there are no test files in ./runs\n"},
+		{clean, []string{"run", "./library"}, 3, "gorec: there is no package main in ./library\n"},
+		{clean, []string{"test", "./fails", "-none"}, 21, "flag provided but not defined: -none"},
+	} {
+		args := append([]string{c.args[0], "-gorace", c.judge}, c.args[1:]...)
+		out, errs, status := runTool(t, args...)
+		if status != c.status || !strings.Contains(out+errs, c.told) {
+			t.Errorf("%v: status %d, not %d\n%s%s", c.args, status, c.status, out, errs)
+		}
+	}
+}

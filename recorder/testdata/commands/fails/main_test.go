@@ -1,0 +1,7 @@
+package main
+
+import "testing"
+
+func TestFails(t *testing.T) { t.Error("fails") }
+
+func TestPasses(t *testing.T) {}

@@ -1,0 +1,2 @@
+// Package library is no program, and has no tests.
+package library

@@ -15,6 +15,12 @@ no_text : {T E : Type 0} (r : Result T E) (e : E) → IsErrAnd r (λ f. f ≡ e)
 no_text (Ok t) e is P = absurd is
 no_text (Err f) e is P = tt
 
+-- there may be more
+pub reads_on : (causes : Causes) (start before now : Option (List ℕ)) (Old New : List ℕ → Type 0) (turns : ℕ) → HasRead causes start before Old turns
+    → (more : Result Bool TextFault) → FeedsMore causes before now Old New more → more ≡ Ok true → HasRead causes start now New (turns + 1)
+reads_on causes start before now Old New turns fed more feeds is =
+    fed_more causes start before now Old New turns fed (subst (λ (m : Result Bool TextFault). FeedsMore causes before now Old New m) is feeds)
+
 module _ {R V : Type 0} (IsText : V → List ℕ → Type 0) (causes : Causes) (remaining : R → Option (List ℕ)) (source before now : Source R)
     (Old New : List ℕ → Type 0) (turns : ℕ) (fed : HasRead causes (unread remaining source) (unread remaining before) Old turns)
     (calm : source_failures before ≡ source_failures source) where
@@ -39,10 +45,6 @@ module _ {R V : Type 0} (IsText : V → List ℕ → Type 0) (causes : Causes) (
       (calm_now : source_failures now ≡ source_failures before) where
     feeds_as : (a : Result Bool TextFault) → more ≡ a → FeedsMore causes (unread remaining before) (unread remaining now) Old New a
     feeds_as a is = subst (λ (b : Result Bool TextFault). FeedsMore causes (unread remaining before) (unread remaining now) Old New b) is feeds
-
-    -- there may be more
-    pub reads_on : more ≡ Ok true → HasRead causes (unread remaining source) (unread remaining now) New (turns + 1)
-    reads_on is = fed_more causes (unread remaining source) (unread remaining before) (unread remaining now) Old New turns fed (feeds_as (Ok true) is)
 
     -- all was read, and this is what is told of it, but for want of memory
     pub reads_ended : more ≡ Ok false → (told : Result V TextFault) (result : Result (Result V TextFault) ReadFault)

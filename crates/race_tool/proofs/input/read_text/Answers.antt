@@ -53,9 +53,9 @@ loop-preserved g c =
     let Feeds = Stands g.G.Grammar.causes g.G.Grammar.stands_for in
     let more = c.in-Ok-true.is ∙ ap (λ (b : Bool). Ok b) c.in-Ok-true.field-0-test in
     record {
-      fed = reads_on g.G.Grammar.is_text_of g.G.Grammar.causes g.R.Read.remaining c.args.source.now c.loop.source c.feed_block.new.source
-          (Feeds c.loop.reader) (Feeds c.feed_block.new.reader) c.loop.counter held.fed held.calm
-          feeds.field-0 feeds.ensures.ok (feeds.ensures.calm (λ e. cc)) more;
+      fed = reads_on g.G.Grammar.causes (unread g.R.Read.remaining c.args.source.now) (unread g.R.Read.remaining c.loop.source)
+          (unread g.R.Read.remaining c.feed_block.new.source) (Feeds c.loop.reader) (Feeds c.feed_block.new.reader) c.loop.counter held.fed
+          feeds.field-0 feeds.ensures.ok more;
       first = λ none. absurd (omega arith);
       reads = λ some. read_more c.loop.counter (source_reads c.args.source.now)
           (source_reads c.loop.source) (source_reads c.feed_block.new.source) held.first held.reads feeds.ensures.reads;

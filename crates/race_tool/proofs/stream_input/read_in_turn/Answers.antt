@@ -53,9 +53,9 @@ loop-preserved g c =
     record {
       fed = read_as trace_causes (unread g.R.Read.remaining c.args.source.now) (unread g.R.Read.remaining c.feed_block.new.source)
           (Stands trace_causes StandsFor c.feed_block.new.reader) (Stands trace_causes StandsFor c.settle_fed.new.reader) (c.loop.counter + 1) c.in-Ok-settle_fed.ensures.stands
-          (reads_on IsReadText trace_causes g.R.Read.remaining c.args.source.now c.loop.source c.feed_block.new.source
-          (Stands trace_causes StandsFor c.loop.reader) (Stands trace_causes StandsFor c.feed_block.new.reader) c.loop.counter held.fed held.calm
-          feeds.field-0 feeds.ensures.ok (feeds.ensures.calm (λ e. cc)) more);
+          (reads_on trace_causes (unread g.R.Read.remaining c.args.source.now) (unread g.R.Read.remaining c.loop.source)
+          (unread g.R.Read.remaining c.feed_block.new.source) (Stands trace_causes StandsFor c.loop.reader)
+          (Stands trace_causes StandsFor c.feed_block.new.reader) c.loop.counter held.fed feeds.field-0 feeds.ensures.ok more);
       first = λ none. absurd (omega arith);
       reads = λ some. read_more c.loop.counter (source_reads c.args.source.now)
           (source_reads c.loop.source) (source_reads c.feed_block.new.source) held.first held.reads feeds.ensures.reads;

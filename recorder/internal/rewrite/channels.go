@@ -46,6 +46,10 @@ func (r *rewriter) selectStatement(s *ast.SelectStmt) {
 		cases = append(cases, r.communication(c.Comm))
 		r.replace(c.Case, c.Colon+1, head+r.received(c.Comm, name))
 	}
+	if len(s.Body.List) == 0 { // a loop without an end ends a function as well
+		r.replace(s.Select, s.End(), "for { gorec.Select("+site+", false) }")
+		return
+	}
 	init, args := "", ""
 	if len(names) > 0 {
 		init = strings.Join(names, ", ") + " := " + strings.Join(cases, ", ") + "; "

@@ -76,7 +76,7 @@ func (r *rewriter) lenCall(e *ast.CallExpr) {
 		s := r.site(e, r.name(m))
 		r.renameCall(e, "gorec.Map(")
 		r.value(m)
-		r.replace(e.Rparen, e.Rparen+1, ", "+s+").Len()")
+		r.replace(e.Rparen, e.Rparen+1, r.comma(e)+s+").Len()")
 	default:
 		r.values(e.Args)
 	}

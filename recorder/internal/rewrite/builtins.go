@@ -10,6 +10,10 @@ func (r *rewriter) builtin(e *ast.CallExpr) {
 	if id, ok := unparen(e.Fun).(*ast.Ident); ok {
 		name = id.Name
 	}
+	if r.tupleOf(e.Args) > 0 && (name == "append" || name == "copy" || name == "delete") {
+		r.result.Missed = append(r.result.Missed, name+" of what a call answers")
+		name = ""
+	}
 	switch name {
 	case "close":
 		s := r.site(e, "")

@@ -123,8 +123,9 @@ func (c Counted[K, V]) Decrement(k K) { c.x.Set(k, c.x.Get(k)-1) }
 
 // Iteration is a loop over a map's keys at its begin; those deleted meanwhile are left out.
 type Iteration[K comparable, V any] struct {
-	x    Mapping[K, V]
-	keys []K
+	x     Mapping[K, V]
+	keys  []K
+	stray map[int]V // of the keys that are unequal to themselves, as NaN, which no look-up finds
 }
 
 func (x Mapping[K, V]) Iterate() Iteration[K, V] {
@@ -146,17 +147,26 @@ func (x Mapping[K, V]) IterateVariables() (Iteration[K, V], int, K, V) {
 }
 
 func (x Mapping[K, V]) iteration() Iteration[K, V] {
-	keys := make([]K, 0, len(x.m))
-	for k := range x.m {
-		keys = append(keys, k)
+	it := Iteration[K, V]{x: x, keys: make([]K, 0, len(x.m))}
+	for k, v := range x.m {
+		if k != k {
+			if it.stray == nil {
+				it.stray = map[int]V{}
+			}
+			it.stray[len(it.keys)] = v
+		}
+		it.keys = append(it.keys, k)
 	}
-	return Iteration[K, V]{x, keys}
+	return it
 }
 
 func (it Iteration[K, V]) Len() int { return len(it.keys) }
 
 func (it Iteration[K, V]) Next(i int) (K, V, bool) {
 	v, ok := it.x.Lookup(it.keys[i])
+	if it.keys[i] != it.keys[i] {
+		v, ok = it.stray[i]
+	}
 	return it.keys[i], v, ok
 }
 

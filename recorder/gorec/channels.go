@@ -1,6 +1,7 @@
 package gorec
 
 import (
+	"reflect"
 	"unsafe"
 
 	"gorace.local/recorder/wire"
@@ -49,13 +50,14 @@ func channelAt(p unsafe.Pointer, g *G, s *Site) *channel {
 }
 
 // Made is a channel that the program made.
-func Made[C ~chan T, T any](c C, s *Site) C {
+func Made[C any](c C, s *Site) C {
 	if off {
 		return c
 	}
 	mu.Lock()
 	p := pointerTo(&c)
-	channels[p] = &channel{p: p, capacity: cap(c), id: declare(wire.DeclareChan, 0, uint64(cap(c)), s)}
+	capacity := reflect.ValueOf(c).Cap()
+	channels[p] = &channel{p: p, capacity: capacity, id: declare(wire.DeclareChan, 0, uint64(capacity), s)}
 	mu.Unlock()
 	return c
 }

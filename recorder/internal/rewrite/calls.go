@@ -23,6 +23,12 @@ func (r *rewriter) callee(e *ast.CallExpr) *types.Func {
 	return nil
 }
 
+// isMethodExpression: e is T.M.
+func (r *rewriter) isMethodExpression(e *ast.SelectorExpr) bool {
+	s := r.info.Selections[e]
+	return s != nil && s.Kind() == types.MethodExpr
+}
+
 // comma is what a further argument begins with.
 func (r *rewriter) comma(e *ast.CallExpr) string {
 	if len(e.Args) == 0 {
@@ -45,7 +51,7 @@ func (r *rewriter) call(e *ast.CallExpr) {
 	}
 	f := r.callee(e)
 	sel, _ := unparen(e.Fun).(*ast.SelectorExpr)
-	if f != nil && f.Pkg() != nil && sel != nil && r.libraryCall(e, sel, f) {
+	if f != nil && f.Pkg() != nil && sel != nil && !r.isMethodExpression(sel) && r.libraryCall(e, sel, f) {
 		return
 	}
 	r.value(e.Fun)

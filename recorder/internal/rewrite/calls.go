@@ -50,12 +50,26 @@ func (r *rewriter) call(e *ast.CallExpr) {
 		return
 	}
 	f := r.callee(e)
-	sel, _ := unparen(e.Fun).(*ast.SelectorExpr)
+	sel := r.calledName(e, f)
 	if f != nil && f.Pkg() != nil && sel != nil && !r.isMethodExpression(sel) && r.libraryCall(e, sel, f) {
 		return
 	}
 	r.value(e.Fun)
 	r.arguments(e, f)
+}
+
+// calledName is the p.F of a call; of a function of a package that is imported with a dot F
+// stands for it.
+func (r *rewriter) calledName(e *ast.CallExpr, f *types.Func) *ast.SelectorExpr {
+	switch n := unparen(e.Fun).(type) {
+	case *ast.SelectorExpr:
+		return n
+	case *ast.Ident:
+		if f != nil && f.Pkg() != r.p.Types {
+			return &ast.SelectorExpr{X: n, Sel: n}
+		}
+	}
+	return nil
 }
 
 // arguments changes those of a call; channels that go to code without the recorder are lent.
@@ -166,7 +180,9 @@ func (r *rewriter) wrapArgument(a ast.Expr, call, site string) {
 
 // keepUse keeps an import used.
 func (r *rewriter) keepUse(sel *ast.SelectorExpr) {
-	if id, ok := sel.X.(*ast.Ident); ok {
+	if sel.X == ast.Expr(sel.Sel) { // imported with a dot
+		r.keep[sel.Sel.Name] = true
+	} else if id, ok := sel.X.(*ast.Ident); ok {
 		r.keep[id.Name+"."+sel.Sel.Name] = true
 	}
 }

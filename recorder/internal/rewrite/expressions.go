@@ -21,7 +21,9 @@ func (r *rewriter) value(e ast.Expr) {
 	}
 	switch e := e.(type) {
 	case *ast.Ident:
-		if r.isRecorded(e) {
+		if f, ok := r.info.Uses[e].(*types.Func); ok {
+			r.functionValue(e, f)
+		} else if r.isRecorded(e) {
 			r.read(e)
 		}
 	case *ast.ParenExpr:

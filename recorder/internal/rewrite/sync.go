@@ -106,7 +106,7 @@ var atomicKinds = []struct{ begin, call string }{
 }
 
 // functionValue changes a function of another package that isn't called.
-func (r *rewriter) functionValue(e *ast.SelectorExpr, f *types.Func) {
+func (r *rewriter) functionValue(e ast.Expr, f *types.Func) {
 	if f.Pkg() != nil && f.Pkg().Path() == "sync/atomic" {
 		r.atomicFunction(e, f, "")
 	}
@@ -114,7 +114,7 @@ func (r *rewriter) functionValue(e *ast.SelectorExpr, f *types.Func) {
 
 // atomicFunction puts a function of the recorder round one of package atomic; name is what
 // the location is called.
-func (r *rewriter) atomicFunction(e *ast.SelectorExpr, f *types.Func, name string) {
+func (r *rewriter) atomicFunction(e ast.Expr, f *types.Func, name string) {
 	for _, k := range atomicKinds {
 		if strings.HasPrefix(f.Name(), k.begin) {
 			s := r.site(e, name)

@@ -107,6 +107,13 @@ func To[T any](p *T, s *Site) Target[T] { return Target[T]{p: p, s: s} }
 func Plain[T any](p *T) Target[T]       { return Target[T]{p: p} }
 func Blank() Target[any]                { return Target[any]{set: func(any) {}} }
 
+// Assert is v, ok = x.(T). It isn't called in a function of its own, in which recover would
+// recover nothing.
+func Assert[T any](x any) (v T, ok bool) {
+	v, ok = x.(T)
+	return v, ok
+}
+
 // Set assigns.
 func (t Target[T]) Set(v T) {
 	switch {

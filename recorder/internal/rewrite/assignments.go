@@ -180,9 +180,9 @@ func (r *rewriter) oneOfSeveral(e ast.Expr) {
 
 // assertion makes v, ok of a type assertion two arguments.
 func (r *rewriter) assertion(s *ast.AssignStmt, a *ast.TypeAssertExpr) {
-	v, ok := r.newName("v"), r.newName("ok")
-	r.wrap(s.Rhs[0], "func() ("+r.source(a.Type)+", bool) { "+v+", "+ok+" := ", func() { r.value(a) },
-		"; return "+v+", "+ok+" }()")
+	r.replace(s.Rhs[0].Pos(), a.X.Pos(), "gorec.Assert["+r.source(a.Type)+"](")
+	r.value(a.X)
+	r.replace(a.X.End(), s.Rhs[0].End(), ")")
 }
 
 // increment is x++ and x--.

@@ -107,6 +107,9 @@ func To[T any](p *T, s *Site) Target[T] { return Target[T]{p: p, s: s} }
 func Plain[T any](p *T) Target[T]       { return Target[T]{p: p} }
 func Blank() Target[any]                { return Target[any]{set: func(any) {}} }
 
+// OKAs is v, ok of a type that is a bool.
+func OKAs[B ~bool, T any](v T, ok bool) (T, B) { return v, B(ok) }
+
 // Assert is v, ok = x.(T). It isn't called in a function of its own, in which recover would
 // recover nothing.
 func Assert[T any](x any) (v T, ok bool) {

@@ -57,7 +57,7 @@ func (r *rewriter) assignPlain(s *ast.AssignStmt) {
 // rightSide changes the values that are assigned.
 func (r *rewriter) rightSide(s *ast.AssignStmt) {
 	if isTwo(s) {
-		r.okValue(s.Rhs[0])
+		r.okValueOf(s.Lhs[1], s.Rhs[0])
 	} else {
 		r.values(s.Rhs)
 	}
@@ -180,9 +180,13 @@ func (r *rewriter) oneOfSeveral(e ast.Expr) {
 
 // assertion makes v, ok of a type assertion two arguments.
 func (r *rewriter) assertion(s *ast.AssignStmt, a *ast.TypeAssertExpr) {
-	r.replace(s.Rhs[0].Pos(), a.X.Pos(), "gorec.Assert["+r.source(a.Type)+"](")
+	begin, end := "", ""
+	if t := r.ownBool(s.Lhs[1]); t != "" {
+		begin, end = "gorec.OKAs["+t+"](", ")"
+	}
+	r.replace(s.Rhs[0].Pos(), a.X.Pos(), begin+"gorec.Assert["+r.source(a.Type)+"](")
 	r.value(a.X)
-	r.replace(a.X.End(), s.Rhs[0].End(), ")")
+	r.replace(a.X.End(), s.Rhs[0].End(), ")"+end)
 }
 
 // increment is x++ and x--.

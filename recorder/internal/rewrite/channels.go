@@ -85,6 +85,9 @@ func (r *rewriter) received(s ast.Stmt, name string) string {
 		return ""
 	}
 	got := []string{name + ".Value", name + ".OK"}[:len(a.Lhs)]
+	if len(got) == 2 && r.ownBool(a.Lhs[1]) != "" {
+		got[1] = r.ownBool(a.Lhs[1]) + "(" + got[1] + ")"
+	}
 	if a.Tok == token.DEFINE {
 		var left []string
 		for _, e := range a.Lhs {

@@ -206,6 +206,29 @@ func (r *rewriter) literal(e *ast.CompositeLit) {
 	}
 }
 
+// okValueOf changes the right side of v, ok = e, where ok may have a type of its own.
+func (r *rewriter) okValueOf(ok, e ast.Expr) {
+	_, asserts := unparen(e).(*ast.TypeAssertExpr)
+	if r.ownBool(ok) == "" || asserts {
+		r.okValue(e)
+		return
+	}
+	if _, calls := unparen(e).(*ast.CallExpr); calls {
+		r.okValue(e)
+		return
+	}
+	r.wrap(e, "gorec.OKAs["+r.ownBool(ok)+"](", func() { r.okValue(e) }, ")")
+}
+
+// ownBool is the type of e, if that is a bool that isn't Go's.
+func (r *rewriter) ownBool(e ast.Expr) string {
+	t := r.typeOf(e)
+	if b, ok := under(t).(*types.Basic); !ok || b.Info()&types.IsBoolean == 0 || types.Identical(t, types.Typ[types.Bool]) {
+		return ""
+	}
+	return r.typeText(t)
+}
+
 // okValue changes the right side of v, ok = e.
 func (r *rewriter) okValue(e ast.Expr) {
 	switch x := unparen(e).(type) {

@@ -3,6 +3,8 @@ package rewrite
 import (
 	"go/ast"
 	"go/types"
+	"strconv"
+	"strings"
 )
 
 func unparen(e ast.Expr) ast.Expr {
@@ -85,6 +87,21 @@ func comparable119(t types.Type) bool {
 }
 
 func (r *rewriter) typeOf(e ast.Expr) types.Type { return r.info.TypeOf(e) }
+
+// typeText is what a type is called in the file.
+func (r *rewriter) typeText(t types.Type) string {
+	return types.TypeString(t, func(p *types.Package) string {
+		if p == r.p.Types {
+			return ""
+		}
+		for _, i := range r.file.Imports {
+			if i.Name != nil && i.Path.Value == strconv.Quote(p.Path()) {
+				return strings.TrimPrefix(i.Name.Name, ".")
+			}
+		}
+		return p.Name()
+	})
+}
 
 func (r *rewriter) isMap(e ast.Expr) bool {
 	_, ok := under(r.typeOf(e)).(*types.Map)

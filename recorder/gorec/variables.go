@@ -110,6 +110,12 @@ func Blank() Target[any]                { return Target[any]{set: func(any) {}} 
 // OKAs is v, ok of a type that is a bool.
 func OKAs[B ~bool, T any](v T, ok bool) (T, B) { return v, B(ok) }
 
+// Alike has the type that a value gets by an assignment to a variable.
+type Alike[T any] struct{}
+
+func Like[T any](*T) Alike[T] { return Alike[T]{} }
+func (Alike[T]) Of(v T) T     { return v }
+
 // Assert is v, ok = x.(T). It isn't called in a function of its own, in which recover would
 // recover nothing.
 func Assert[T any](x any) (v T, ok bool) {

@@ -104,7 +104,7 @@ func (r *rewriter) changeLoose(x *ast.IndexExpr, values ...ast.Expr) {
 // redeclare is a := of which some variables are new, and some are there and recorded.
 func (r *rewriter) redeclare(s *ast.AssignStmt) {
 	after := ""
-	for _, e := range s.Lhs {
+	for i, e := range s.Lhs {
 		id := e.(*ast.Ident)
 		if id.Name == "_" || r.isNew(e, s.Tok) || !r.isRecorded(e) {
 			continue
@@ -113,6 +113,10 @@ func (r *rewriter) redeclare(s *ast.AssignStmt) {
 		site := r.locationSite(e, e)
 		r.replace(e.Pos(), e.End(), v)
 		after += "; gorec.To(&" + id.Name + ", " + site + ").Set(" + v + ")"
+		if len(s.Rhs) == len(s.Lhs) {
+			r.insert(s.Rhs[i].Pos(), "gorec.Like(&"+id.Name+").Of(")
+			defer r.insert(s.Rhs[i].End(), ")")
+		}
 	}
 	r.rightSide(s)
 	r.insert(s.End(), after)

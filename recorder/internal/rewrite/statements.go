@@ -169,11 +169,35 @@ func (r *rewriter) startedArguments(c *ast.CallExpr) (before, args string) {
 			one := &ast.CallExpr{Fun: c.Fun, Args: c.Args[i : i+1]}
 			text = r.render(a, func() { r.postpone(func() { r.arguments(one, f) }) })
 		}
+		if r.isUntyped(a) {
+			text = r.typeText(r.typeOf(a)) + "(" + text + ")"
+		}
 		name := r.newName("a")
 		before += name + " := " + text + "; "
 		args += commaBefore(args) + name
 	}
 	return before, args
+}
+
+// isUntyped: e has its type from what it is handed to, and would have another one by itself,
+// as a comparison or 1 << n.
+func (r *rewriter) isUntyped(e ast.Expr) bool {
+	if r.isConstant(e) {
+		return true
+	}
+	switch e := unparen(e).(type) {
+	case *ast.UnaryExpr:
+		return e.Op != token.ARROW && e.Op != token.AND && r.isUntyped(e.X)
+	case *ast.BinaryExpr:
+		switch e.Op {
+		case token.EQL, token.NEQ, token.LSS, token.LEQ, token.GTR, token.GEQ:
+			return true
+		case token.SHL, token.SHR:
+			return r.isUntyped(e.X)
+		}
+		return r.isUntyped(e.X) && r.isUntyped(e.Y)
+	}
+	return false
 }
 
 func commaBefore(args string) string {

@@ -36,6 +36,7 @@ type rewriter struct {
 	behind    map[ast.Expr]string // what stands behind an argument
 	labeled   ast.Stmt            // the last statement with a label
 	postponed bool                // a call is changed that is made later
+	pointers  map[ast.Node]string // to the results of functions in which another variable has their name
 }
 
 // shared is the work on a package.
@@ -54,7 +55,7 @@ type shared struct {
 func Package(p *load.Package, own map[string]bool, table *sites.Table) Result {
 	s := &shared{p: p, info: p.Info, facts: factsOf(p), own: own, table: table}
 	for i, f := range p.Files {
-		r := &rewriter{shared: s, file: f, keep: map[string]bool{}, behind: map[ast.Expr]string{}}
+		r := &rewriter{shared: s, file: f, keep: map[string]bool{}, behind: map[ast.Expr]string{}, pointers: map[ast.Node]string{}}
 		r.src = p.Sources[i]
 		r.start = p.Fset.File(f.Pos()).Pos(0)
 		s.result.Files = append(s.result.Files, r.rewriteFile())

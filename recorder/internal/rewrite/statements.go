@@ -3,6 +3,7 @@ package rewrite
 import (
 	"go/ast"
 	"go/token"
+	"go/types"
 )
 
 func (r *rewriter) block(b *ast.BlockStmt) {
@@ -114,8 +115,40 @@ func (r *rewriter) returnStatement(s *ast.ReturnStmt) {
 		r.insert(s.End(), " gorec.Read(&"+name+", "+at+")")
 		return
 	}
-	r.replace(s.Pos(), s.Results[0].Pos(), "{ gorec.To(&"+name+", "+at+").Set(")
-	r.insert(s.End(), "); return gorec.Read(&"+name+", "+at+") }")
+	p := "&" + name
+	if r.visible(name, s) != results[0] {
+		p = r.resultPointer(name)
+	}
+	r.replace(s.Pos(), s.Results[0].Pos(), "{ gorec.To("+p+", "+at+").Set(")
+	r.insert(s.End(), "); return gorec.Read("+p+", "+at+") }")
+}
+
+// resultPointer is the name of a pointer to the result of the function, for where another
+// variable has the result's name.
+func (r *rewriter) resultPointer(name string) string {
+	if r.pointers[r.within] == "" {
+		p := r.newName("r")
+		r.pointers[r.within] = p
+		r.insert(functionBody(r.within).Lbrace+1, p+" := &"+name+";")
+	}
+	return r.pointers[r.within]
+}
+
+func functionBody(n ast.Node) *ast.BlockStmt {
+	if f, ok := n.(*ast.FuncDecl); ok {
+		return f.Body
+	}
+	return n.(*ast.FuncLit).Body
+}
+
+// visible is what a name stands for at a node.
+func (r *rewriter) visible(name string, n ast.Node) types.Object {
+	scope := r.p.Types.Scope().Innermost(n.Pos())
+	if scope == nil {
+		return nil
+	}
+	_, o := scope.LookupParent(name, n.Pos())
+	return o
 }
 
 // goStatement evaluates the function and the arguments, and starts the goroutine with them.

@@ -32,6 +32,16 @@ func RangeChannel[T any](c <-chan T) (<-chan T, T) {
 	return c, value
 }
 
+// Len, Bytes, True and False are Go's own, for where the program has other things by their
+// names.
+func Len[T any](a []T) int        { return len(a) }
+func Bytes[S ~string](s S) []byte { return []byte(s) }
+
+const (
+	True  = true
+	False = false
+)
+
 // Appended is a slice that is appended to.
 type Appended[S ~[]E, E any] struct {
 	a S

@@ -118,7 +118,11 @@ func isByte(t types.Type) bool { return types.Identical(t, types.Typ[types.Byte]
 
 // asBytes makes a string bytes.
 func (r *rewriter) asBytes(e ast.Expr) {
-	r.wrap(e, "[]byte(", func() { r.value(e) }, ")")
+	call := "[]byte"
+	if r.predeclared("byte", e) != "byte" {
+		call = "gorec.Bytes"
+	}
+	r.wrap(e, call+"(", func() { r.value(e) }, ")")
 }
 
 func (r *rewriter) copyCall(e *ast.CallExpr) {

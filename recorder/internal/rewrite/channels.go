@@ -29,12 +29,12 @@ func (r *rewriter) receive(e *ast.UnaryExpr, call string) {
 // of all cases are evaluated in its head.
 func (r *rewriter) selectStatement(s *ast.SelectStmt) {
 	site := r.site(s, "")
-	hasDefault := "false"
+	hasDefault := r.predeclared("false", s)
 	var names, cases []string
 	for _, c := range s.Body.List {
 		c := c.(*ast.CommClause)
 		if c.Comm == nil {
-			hasDefault = "true"
+			hasDefault = r.predeclared("true", s)
 			continue
 		}
 		name := r.newName("k")

@@ -30,6 +30,15 @@ func (r *rewriter) name(e ast.Expr) string {
 	return "x"
 }
 
+// predeclared is one of Go's own names at a node, or the recorder's where the program has
+// something else by that name.
+func (r *rewriter) predeclared(name string, n ast.Node) string {
+	if r.visible(name, n) == types.Universe.Lookup(name) {
+		return name
+	}
+	return "gorec." + strings.ToUpper(name[:1]) + name[1:]
+}
+
 // target is the name of the variable or field that a channel is made for, from its line.
 func (r *rewriter) target(e ast.Expr) string {
 	at := int(e.Pos() - r.start)

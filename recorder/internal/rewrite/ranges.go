@@ -93,7 +93,7 @@ func (l *loop) overString() {
 func (l *loop) indexed(begin, key, value string) {
 	a, i := l.newName("a"), l.newName("i")
 	l.insert(l.s.X.End(), " "+a+", "+i+", "+blankUnless(l.sharedKey, l.key)+", "+blankUnless(l.sharedValue, l.value)+
-		" := "+begin+"); "+i+" < len("+a+"); "+i+"++")
+		" := "+begin+"); "+i+" < "+l.predeclared("len", l.s)+"("+a+"); "+i+"++")
 	element := a + "[" + i + "]"
 	from := i
 	if key != "" {
@@ -173,7 +173,7 @@ func (l *loop) overSlice() {
 		head = a + ", " + i + ", " + l.value + " := gorec.Range("
 	}
 	l.head(head)
-	l.insert(l.s.X.End(), "); "+i+" < len("+a+"); "+i+"++")
+	l.insert(l.s.X.End(), "); "+i+" < "+l.predeclared("len", l.s)+"("+a+"); "+i+"++")
 	text := l.give(l.s.Key, l.key, l.sharedKey, i)
 	if l.value != "" {
 		site := l.siteOfElement()

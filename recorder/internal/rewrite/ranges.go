@@ -4,6 +4,7 @@ import (
 	"go/ast"
 	"go/token"
 	"go/types"
+	"strings"
 )
 
 // loop is a range statement that is changed: to a loop over an index, in which each step
@@ -99,13 +100,12 @@ func (l *loop) indexed(begin, key, value string) {
 	if key != "" {
 		from = element + key
 	}
-	l.body(l.give(l.s.Key, l.key, l.sharedKey, from) + l.give(l.s.Value, l.value, l.sharedValue, element+value) + " ")
+	l.body(l.giveBoth(from, element+value) + " ")
 }
 
 // afresh makes the loop's left sides new variables where they are recorded, and answers
 // what assigns those to the left sides.
 func (l *loop) afresh() string {
-	text := ""
 	recorded := false
 	for _, e := range []ast.Expr{l.s.Key, l.s.Value} {
 		if e != nil && identifier(e) != "_" && (l.isRecorded(e) || l.mapElement(e) != nil) {
@@ -115,16 +115,18 @@ func (l *loop) afresh() string {
 	if !recorded {
 		return ""
 	}
+	var left []ast.Expr
+	var values []string
 	for _, e := range []ast.Expr{l.s.Key, l.s.Value} {
 		if e == nil || identifier(e) == "_" {
 			continue
 		}
 		v := l.newName("v")
-		text += l.set(e, v)
+		left, values = append(left, e), append(values, v)
 		l.replace(e.Pos(), e.End(), v)
 	}
 	l.replace(l.s.TokPos, l.s.TokPos+1, ":=")
-	return text
+	return l.setAll(left, values)
 }
 
 // body puts text before the body, which has a scope of its own inside of the variables'.
@@ -151,6 +153,44 @@ func (l *loop) give(e ast.Expr, name string, shared bool, from string) string {
 	return " " + name + " := " + from + "; _ = " + name + ";"
 }
 
+// giveBoth sets both of the loop's variables, those that it has.
+func (l *loop) giveBoth(key, value string) string {
+	if !l.define && l.key != "" && l.value != "" {
+		return l.setAll([]ast.Expr{l.s.Key, l.s.Value}, []string{key, value})
+	}
+	return l.give(l.s.Key, l.key, l.sharedKey, key) + l.give(l.s.Value, l.value, l.sharedValue, value)
+}
+
+// setAll is the text of an assignment of values to a loop's left sides. Where one of two may
+// depend on the other, what both evaluate comes before.
+func (l *loop) setAll(left []ast.Expr, values []string) string {
+	text := ""
+	if !l.mayDepend(left) {
+		for i, e := range left {
+			text += l.set(e, values[i])
+		}
+		return text
+	}
+	for _, e := range left {
+		text += commaBefore(text) + l.render(e, func() { l.oneOfSeveral(e) })
+	}
+	return " gorec.To2(" + text + ").Set(" + strings.Join(values, ", ") + ");"
+}
+
+// mayDepend: one of two left sides may be another location once the other one is set.
+func (l *loop) mayDepend(left []ast.Expr) bool {
+	names := 0
+	for _, e := range left {
+		if x := l.mapElement(e); identifier(e) == "_" || x != nil && l.isLoose(x.X) {
+			return false
+		}
+		if identifier(e) != "" {
+			names++
+		}
+	}
+	return len(left) == 2 && names < 2
+}
+
 // head replaces what stands between for and the range's operand.
 func (l *loop) head(text string) {
 	l.replace(l.s.For+3, l.s.X.Pos(), " "+text)
@@ -174,12 +214,11 @@ func (l *loop) overSlice() {
 	}
 	l.head(head)
 	l.insert(l.s.X.End(), "); "+i+" < "+l.predeclared("len", l.s)+"("+a+"); "+i+"++")
-	text := l.give(l.s.Key, l.key, l.sharedKey, i)
+	element := ""
 	if l.value != "" {
-		site := l.siteOfElement()
-		text += l.give(l.s.Value, l.value, l.sharedValue, "gorec.Read(&"+a+"["+i+"], "+site+")")
+		element = "gorec.Read(&" + a + "[" + i + "], " + l.siteOfElement() + ")"
 	}
-	l.body(text + " ")
+	l.body(l.giveBoth(i, element) + " ")
 }
 
 func (l *loop) siteOfElement() string { return l.site(l.s.X, l.name(l.s.X)+"_elem") }
@@ -208,7 +247,7 @@ func (l *loop) overMap() {
 	l.insert(l.s.X.End(), ", "+site+")"+method+i+" < "+it+".Len(); "+i+"++")
 	k, v, ok := l.newName("k"), l.newName("v"), l.newName("ok")
 	l.body(" " + k + ", " + v + ", " + ok + " := " + it + ".Next(" + i + "); if !" + ok + " { continue }; _, _ = " +
-		k + ", " + v + ";" + l.give(l.s.Key, l.key, l.sharedKey, k) + l.give(l.s.Value, l.value, l.sharedValue, v))
+		k + ", " + v + ";" + l.giveBoth(k, v))
 }
 
 func blankUnless(shared bool, name string) string {

@@ -25,6 +25,12 @@ func (r *rewriter) rangeStatement(s *ast.RangeStmt) {
 	switch t := under(r.typeOf(s.X)).(type) {
 	case *types.Slice:
 		l.overSlice()
+	case *types.Pointer:
+		if l.value != "" {
+			l.overSlice()
+		} else {
+			l.overOther(t)
+		}
 	case *types.Chan:
 		l.overChannel()
 	case *types.Map:
@@ -34,17 +40,22 @@ func (r *rewriter) rangeStatement(s *ast.RangeStmt) {
 			l.overMap()
 		}
 	default:
-		switch {
-		case !l.sharedKey && !l.sharedValue:
-			l.plain()
-		case isString(t):
-			l.overString()
-		case isArray(pointee(t)) && r.labeled != s:
-			l.overArray()
-		default:
-			l.refuse(s, "a captured variable of a labeled range over "+t.String(), "copy it in the loop: x := x")
-			l.plain()
-		}
+		l.overOther(t)
+	}
+}
+
+// overOther loops over an array, a string, a number or a function.
+func (l *loop) overOther(t types.Type) {
+	switch {
+	case !l.sharedKey && !l.sharedValue:
+		l.plain()
+	case isString(t):
+		l.overString()
+	case isArray(pointee(t)) && l.labeled != l.s:
+		l.overArray()
+	default:
+		l.refuse(l.s, "a captured variable of a labeled range over "+t.String(), "copy it in the loop: x := x")
+		l.plain()
 	}
 }
 
@@ -212,8 +223,12 @@ func (l *loop) overSlice() {
 	case l.sharedValue:
 		head = a + ", " + i + ", " + l.value + " := gorec.Range("
 	}
+	end := ""
+	if isPointer(l.typeOf(l.s.X)) { // to an array, which isn't copied
+		head, end = head+"(", ")[:]"
+	}
 	l.head(head)
-	l.insert(l.s.X.End(), "); "+i+" < "+l.predeclared("len", l.s)+"("+a+"); "+i+"++")
+	l.insert(l.s.X.End(), end+"); "+i+" < "+l.predeclared("len", l.s)+"("+a+"); "+i+"++")
 	element := ""
 	if l.value != "" {
 		element = "gorec.Read(&" + a + "[" + i + "], " + l.siteOfElement() + ")"

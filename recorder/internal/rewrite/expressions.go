@@ -70,6 +70,7 @@ func (r *rewriter) address(e ast.Expr) {
 	case *ast.SelectorExpr:
 		switch {
 		case r.info.Selections[e] == nil:
+		case r.throughEmbedded(e):
 		case isPointer(r.typeOf(e.X)):
 			r.value(e.X)
 		default:

@@ -56,6 +56,25 @@ func (r *rewriter) embedded(e *ast.SelectorExpr, m *types.Func) bool {
 	return true
 }
 
+// throughEmbedded changes the X of X.F where F is a field behind an embedded pointer, which is
+// read.
+func (r *rewriter) throughEmbedded(e *ast.SelectorExpr) bool {
+	path, through := "", ""
+	for _, f := range r.embeddedFields(e) {
+		path += "." + f.Name()
+		if isPointer(f.Type()) {
+			through = path
+		}
+	}
+	if through == "" || !isPointer(r.typeOf(e.X)) && !r.isRecorded(e.X) || !r.canName(e) {
+		return false
+	}
+	s := r.site(e, r.name(e.X)+strings.ReplaceAll(through, ".", "_"))
+	_, change := r.pointed(e.X)
+	r.wrap(e.X, "gorec.Read(&", change, through+", "+s+")")
+	return true
+}
+
 // promotion is what the embedded fields add to X in X.M, and the type of the last one.
 func (r *rewriter) promotion(e *ast.SelectorExpr) (path string, last types.Type) {
 	for _, f := range r.embeddedFields(e) {

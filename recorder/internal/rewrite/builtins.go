@@ -89,11 +89,11 @@ func (r *rewriter) lenCall(e *ast.CallExpr) {
 // appendCall makes append(a, v...) a call of a method, whose arguments are converted to the
 // elements' type.
 func (r *rewriter) appendCall(e *ast.CallExpr) {
-	a, ok := under(r.typeOf(e)).(*types.Slice)
+	a, ok := core(r.typeOf(e)).(*types.Slice)
 	spread := e.Ellipsis.IsValid()
 	text := ok && len(e.Args) == 2 && spread && isString(r.typeOf(e.Args[1])) && isByte(a.Elem())
 	if !ok || len(e.Args) < 2 || r.isConstant(e.Args[0]) ||
-		spread && !text && !types.Identical(under(r.typeOf(e.Args[1])), a) {
+		spread && !text && !types.Identical(core(r.typeOf(e.Args[1])), a) {
 		r.values(e.Args)
 		return
 	}
@@ -126,8 +126,8 @@ func (r *rewriter) asBytes(e ast.Expr) {
 }
 
 func (r *rewriter) copyCall(e *ast.CallExpr) {
-	to, ok := under(r.typeOf(e.Args[0])).(*types.Slice)
-	from, ok2 := under(r.typeOf(e.Args[1])).(*types.Slice)
+	to, ok := core(r.typeOf(e.Args[0])).(*types.Slice)
+	from, ok2 := core(r.typeOf(e.Args[1])).(*types.Slice)
 	switch {
 	case ok && ok2 && types.Identical(to.Elem(), from.Elem()):
 		r.renameCall(e, "gorec.Copy("+r.site(e, r.name(e.Args[0])+"_elem")+", ")

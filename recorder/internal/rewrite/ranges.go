@@ -22,7 +22,7 @@ func (r *rewriter) rangeStatement(s *ast.RangeStmt) {
 	l := &loop{rewriter: r, s: s, define: s.Tok == token.DEFINE}
 	l.key, l.sharedKey = l.variable(s.Key)
 	l.value, l.sharedValue = l.variable(s.Value)
-	switch t := under(r.typeOf(s.X)).(type) {
+	switch t := core(r.typeOf(s.X)).(type) {
 	case *types.Slice:
 		l.overSlice()
 	case *types.Pointer:

@@ -24,6 +24,42 @@ func under(t types.Type) types.Type {
 	return t.Underlying()
 }
 
+// core is the underlying type of t, or, of a type parameter, that of all types that it may
+// stand for, where that is one.
+func core(t types.Type) types.Type {
+	p, ok := t.(*types.TypeParam)
+	if !ok {
+		return under(t)
+	}
+	all := terms(p.Constraint())
+	for _, other := range all {
+		if !types.Identical(other, all[0]) {
+			return under(t)
+		}
+	}
+	if len(all) == 0 {
+		return under(t)
+	}
+	return all[0]
+}
+
+// terms are the underlying types that a constraint lists.
+func terms(t types.Type) (all []types.Type) {
+	switch t := t.Underlying().(type) {
+	case *types.Union:
+		for i := 0; i < t.Len(); i++ {
+			all = append(all, terms(t.Term(i).Type())...)
+		}
+	case *types.Interface:
+		for i := 0; i < t.NumEmbeddeds(); i++ {
+			all = append(all, terms(t.EmbeddedType(i))...)
+		}
+	default:
+		all = append(all, t)
+	}
+	return all
+}
+
 func isPointer(t types.Type) bool {
 	_, ok := under(t).(*types.Pointer)
 	return ok
@@ -40,7 +76,7 @@ func isArray(t types.Type) bool {
 }
 
 func isSlice(t types.Type) bool {
-	_, ok := under(t).(*types.Slice)
+	_, ok := core(t).(*types.Slice)
 	return ok
 }
 
@@ -104,18 +140,18 @@ func (r *rewriter) typeText(t types.Type) string {
 }
 
 func (r *rewriter) isMap(e ast.Expr) bool {
-	_, ok := under(r.typeOf(e)).(*types.Map)
+	_, ok := core(r.typeOf(e)).(*types.Map)
 	return ok
 }
 
 // isLoose: e is a map whose keys Go 1.19 doesn't take for comparable.
 func (r *rewriter) isLoose(e ast.Expr) bool {
-	m, ok := under(r.typeOf(e)).(*types.Map)
+	m, ok := core(r.typeOf(e)).(*types.Map)
 	return ok && !comparable119(m.Key())
 }
 
 func (r *rewriter) isChan(e ast.Expr) bool {
-	_, ok := under(r.typeOf(e)).(*types.Chan)
+	_, ok := core(r.typeOf(e)).(*types.Chan)
 	return ok
 }
 
@@ -152,7 +188,7 @@ func (r *rewriter) isRecorded(e ast.Expr) bool {
 		v, ok := r.info.Uses[e.Sel].(*types.Var)
 		return ok && v.Pkg() != nil && r.own[v.Pkg().Path()]
 	case *ast.IndexExpr:
-		switch under(r.typeOf(e.X)).(type) {
+		switch core(r.typeOf(e.X)).(type) {
 		case *types.Slice, *types.Pointer:
 			return true
 		case *types.Array:

@@ -26,12 +26,18 @@ func Test(s *Site) func() {
 		return func() {}
 	}
 	follow(s)
-	return func() {
-		g := current(s)
-		mu.Lock()
-		ends = append(ends, g.release(s))
-		mu.Unlock()
+	return func() { end(s) }
+}
+
+// end is that of what others follow.
+func end(s *Site) {
+	if off {
+		return
 	}
+	g := current(s)
+	mu.Lock()
+	ends = append(ends, g.release(s))
+	mu.Unlock()
 }
 
 // Subtest is the function of a subtest.
@@ -42,10 +48,25 @@ func Subtest[T any](f func(T), s *Site) func(T) {
 	}
 }
 
-// Ran is called behind a Run.
-func Ran(ok bool, s *Site) bool {
+// Ran is called behind a Run, and answers what that answers.
+func Ran[T any](answer T, s *Site) T {
 	follow(s)
-	return ok
+	return answer
+}
+
+// RunParallel is b.RunParallel, which waits for the goroutines that run f.
+func RunParallel[T any](run func(func(T)), f func(T), s *Site) {
+	run(func(t T) {
+		defer end(s)
+		f(t)
+	})
+	follow(s)
+}
+
+// Fuzz is f.Fuzz.
+func Fuzz(run func(any), f any, s *Site) {
+	run(f)
+	follow(s)
 }
 
 // Parallel is t.Parallel.
@@ -58,7 +79,7 @@ func Parallel(f func(), s *Site) {
 // Cleanup is a function for t.Cleanup, which is called behind the subtests.
 func Cleanup(f func(), s *Site) func() {
 	return func() {
-		follow(s)
+		defer Test(s)()
 		f()
 	}
 }

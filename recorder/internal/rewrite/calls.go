@@ -153,7 +153,18 @@ var timerCalls = map[string]string{
 // testingCall changes what package testing orders.
 func (r *rewriter) testingCall(e *ast.CallExpr, sel *ast.SelectorExpr, full string) bool {
 	switch full {
-	case "(*testing.T).Run":
+	case "(*testing.M).Run":
+		r.wrap(e, "gorec.Ran(", func() { r.value(sel.X) }, ", "+r.site(e, "test")+")")
+	case "(*testing.B).RunParallel", "(*testing.F).Fuzz":
+		r.insert(e.Pos(), "gorec."+sel.Sel.Name+"(")
+		r.value(sel.X)
+		r.replace(e.Lparen, e.Lparen+1, ", ")
+		r.value(e.Args[0])
+		if f, ok := unparen(e.Args[0]).(*ast.FuncLit); ok && sel.Sel.Name == "Fuzz" {
+			r.insert(f.Body.Lbrace+1, "defer gorec.Test("+r.site(f, "test")+")();")
+		}
+		r.insert(e.Rparen, r.comma(e)+r.site(e, "test"))
+	case "(*testing.T).Run", "(*testing.B).Run":
 		s := r.site(e, "test")
 		r.wrap(e, "gorec.Ran(", func() {
 			r.value(sel.X)

@@ -132,10 +132,30 @@ func isGeneric(d *ast.FuncDecl) bool {
 	return false
 }
 
+// testKinds are what the functions that package testing calls are handed, by their names.
+var testKinds = []struct{ begin, param string }{
+	{"Test", "*testing.T"},
+	{"Benchmark", "*testing.B"},
+	{"Fuzz", "*testing.F"},
+	{"Example", ""},
+}
+
 func (r *rewriter) isTest(d *ast.FuncDecl) bool {
-	params := d.Type.Params.List
-	return d.Recv == nil && d.Body != nil && strings.HasPrefix(d.Name.Name, "Test") && len(params) == 1 &&
-		r.typeOf(params[0].Type).String() == "*testing.T"
+	params, param := d.Type.Params.List, ""
+	if d.Recv != nil || d.Body == nil || len(params) > 1 {
+		return false
+	}
+	if len(params) == 1 {
+		param = r.typeOf(params[0].Type).String()
+	} else if !strings.HasSuffix(r.p.Fset.Position(d.Pos()).Filename, "_test.go") {
+		return false
+	}
+	for _, k := range testKinds {
+		if strings.HasPrefix(d.Name.Name, k.begin) && param == k.param {
+			return true
+		}
+	}
+	return false
 }
 
 // place is a line of the source, relative to the module.

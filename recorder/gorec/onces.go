@@ -15,7 +15,24 @@ type OnceAt struct {
 
 func Once(o *sync.Once, s *Site) OnceAt { return OnceAt{o, s} }
 
-var onces = map[unsafe.Pointer]uint32{}
+// once is what was recorded of one. The program may set it back to its zero value: then it
+// runs its function again, and is another one.
+type once struct {
+	id           uint32
+	begun, ended bool
+}
+
+var onces = map[unsafe.Pointer]*once{}
+
+// onceAt has the lock.
+func onceAt(p unsafe.Pointer, s *Site) *once {
+	o := onces[p]
+	if o == nil {
+		o = &once{id: declare(wire.DeclareOnce, 0, 0, s)}
+		onces[p] = o
+	}
+	return o
+}
 
 // Do has records round the function's run, or one behind a call that found it done.
 func (x OnceAt) Do(f func()) {
@@ -23,27 +40,45 @@ func (x OnceAt) Do(f func()) {
 		x.o.Do(f)
 		return
 	}
-	g := current(x.s)
-	mu.Lock()
-	id := onces[unsafe.Pointer(x.o)]
-	if id == 0 {
-		id = declare(wire.DeclareOnce, 0, 0, x.s)
-		onces[unsafe.Pointer(x.o)] = id
-	}
-	mu.Unlock()
-	note := func(op wire.Op) {
-		mu.Lock()
-		g.note(op, id, x.s)
-		mu.Unlock()
-	}
 	ran := false
 	x.o.Do(func() {
 		ran = true
-		note(wire.OnceBegin)
-		defer note(wire.OnceEnd)
+		o := x.begin()
+		defer x.end(o)
 		f()
 	})
 	if !ran {
-		note(wire.OnceDone)
+		x.done()
 	}
+}
+
+func (x OnceAt) begin() *once {
+	g := current(x.s)
+	mu.Lock()
+	defer mu.Unlock()
+	if o := onces[unsafe.Pointer(x.o)]; o != nil && o.begun {
+		delete(onces, unsafe.Pointer(x.o))
+	}
+	o := onceAt(unsafe.Pointer(x.o), x.s)
+	o.begun = true
+	g.note(wire.OnceBegin, o.id, x.s)
+	return o
+}
+
+func (x OnceAt) end(o *once) {
+	g := current(x.s)
+	mu.Lock()
+	o.ended = true
+	g.note(wire.OnceEnd, o.id, x.s)
+	mu.Unlock()
+}
+
+// done is a call that found it done; of a copy of one that ran nothing is known.
+func (x OnceAt) done() {
+	g := current(x.s)
+	mu.Lock()
+	if o := onceAt(unsafe.Pointer(x.o), x.s); o.ended {
+		g.note(wire.OnceDone, o.id, x.s)
+	}
+	mu.Unlock()
 }

@@ -45,7 +45,11 @@ func locked(p unsafe.Pointer, kind uint8, op wire.Op, s *Site) {
 	g := current(s)
 	mu.Lock()
 	l := lockAt(p, kind, s)
-	if op == wire.Lock || op == wire.TryLock {
+	writes := op == wire.Lock || op == wire.TryLock
+	if l.held || writes && l.readers > 0 { // it was set back to its zero value
+		l.id, l.held, l.readers = declare(wire.DeclareLock, kind, 0, s), false, 0
+	}
+	if writes {
 		l.held = true
 	} else {
 		l.readers++

@@ -81,7 +81,7 @@ func (r *rewriter) arguments(e *ast.CallExpr, f *types.Func) {
 			r.insert(a.Pos(), "gorec.Then(")
 		}
 		switch {
-		case foreign && r.isChan(a):
+		case foreign && r.isChan(a) && r.takesChannels(f, i):
 			s := r.site(a, r.name(a))
 			r.wrap(a, "gorec.Lent(", func() { r.value(a) }, ", "+s+")")
 		case foreign:
@@ -91,6 +91,23 @@ func (r *rewriter) arguments(e *ast.CallExpr, f *types.Func) {
 		}
 		r.insert(a.End(), end)
 	}
+}
+
+// takesChannels: f may send, receive or close where its argument i is a channel. What is handed
+// over as an interface is only kept or printed, but by reflection.
+func (r *rewriter) takesChannels(f *types.Func, i int) bool {
+	if p := f.Pkg().Path(); p == "reflect" || strings.HasSuffix(p, "/template") {
+		return true
+	}
+	params := f.Type().(*types.Signature).Params()
+	if i >= params.Len() {
+		i = params.Len() - 1
+	}
+	t := params.At(i).Type()
+	if s, ok := t.(*types.Slice); ok {
+		t = s.Elem()
+	}
+	return !isInterface(t)
 }
 
 // conversion changes T(x); a string of bytes or runes reads them.

@@ -64,12 +64,34 @@ func (r *rewriter) syncMethod(e *ast.SelectorExpr, m *types.Func) bool {
 		r.plainReceiver(e, m)
 	case isLockerMethod(m):
 		r.use(e, "Locker", r.site(e, r.name(e.X)))
+	case r.mayHoldSync(e):
+		r.use(e, "Interface", r.site(e, r.name(e.X)))
 	case m.FullName() == "(context.Context).Err" && isInterface(r.typeOf(e.X)):
 		r.use(e, "Context", r.site(e, r.name(e.X)))
 	default:
 		return false
 	}
 	return true
+}
+
+// mayHoldSync: the X of X.M is an interface that has methods of one of package sync's types
+// and no others.
+func (r *rewriter) mayHoldSync(e *ast.SelectorExpr) bool {
+	t := r.typeOf(e.X)
+	iface, ok := under(t).(*types.Interface)
+	if _, isParameter := t.(*types.TypeParam); !ok || isParameter {
+		return false
+	}
+	for _, known := range syncTypes {
+		n := 0
+		for n < iface.NumMethods() && hasWord(known.methods, iface.Method(n).Name()) {
+			n++
+		}
+		if n == iface.NumMethods() {
+			return true
+		}
+	}
+	return false
 }
 
 // isLockerMethod: m is Lock or Unlock of an interface that has both.

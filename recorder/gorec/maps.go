@@ -1,6 +1,7 @@
 package gorec
 
 import (
+	"reflect"
 	"unsafe"
 
 	"gorace.local/recorder/wire"
@@ -121,54 +122,64 @@ func Counts[K comparable, V number](m map[K]V, s *Site) Counted[K, V] {
 func (c Counted[K, V]) Increment(k K) { c.x.Set(k, c.x.Get(k)+1) }
 func (c Counted[K, V]) Decrement(k K) { c.x.Set(k, c.x.Get(k)-1) }
 
-// Iteration is a loop over a map's keys at its begin; those deleted meanwhile are left out.
+// Iteration is a loop over a map. Each step is done, and recorded, when the loop asks whether
+// there is one.
 type Iteration[K comparable, V any] struct {
 	x     Mapping[K, V]
-	keys  []K
-	stray map[int]V // of the keys that are unequal to themselves, as NaN, which no look-up finds
+	it    *reflect.MapIter
+	steps int
+	key   K
+	value V
+
+	keyAt, valueAt reflect.Value
 }
 
-func (x Mapping[K, V]) Iterate() Iteration[K, V] {
-	if alone() {
-		return x.iteration()
+func (x Mapping[K, V]) Iterate() *Iteration[K, V] {
+	it := &Iteration[K, V]{x: x, it: reflect.ValueOf(x.m).MapRange()}
+	it.keyAt, it.valueAt = reflect.ValueOf(&it.key).Elem(), reflect.ValueOf(&it.value).Elem()
+	if !alone() {
+		g := current(x.s)
+		mu.Lock()
+		x.touch(g, false)
+		mu.Unlock()
 	}
-	g := current(x.s)
-	mu.Lock()
-	defer mu.Unlock()
-	x.touch(g, false)
-	return x.iteration()
+	return it
 }
 
 // IterateVariables has variables of the loop's own too.
-func (x Mapping[K, V]) IterateVariables() (Iteration[K, V], int, K, V) {
+func (x Mapping[K, V]) IterateVariables() (*Iteration[K, V], int, K, V) {
 	var key K
 	var value V
 	return x.Iterate(), 0, key, value
 }
 
-func (x Mapping[K, V]) iteration() Iteration[K, V] {
-	it := Iteration[K, V]{x: x, keys: make([]K, 0, len(x.m))}
-	for k, v := range x.m {
-		if k != k {
-			if it.stray == nil {
-				it.stray = map[int]V{}
-			}
-			it.stray[len(it.keys)] = v
-		}
-		it.keys = append(it.keys, k)
+// Len takes the next step, if there is one, and is the number of steps so far.
+func (it *Iteration[K, V]) Len() int {
+	if alone() {
+		it.step()
+		return it.steps
 	}
-	return it
+	g := current(it.x.s)
+	mu.Lock()
+	defer mu.Unlock()
+	if it.step() {
+		it.x.touch(g, false)
+	}
+	return it.steps
 }
 
-func (it Iteration[K, V]) Len() int { return len(it.keys) }
-
-func (it Iteration[K, V]) Next(i int) (K, V, bool) {
-	v, ok := it.x.Lookup(it.keys[i])
-	if it.keys[i] != it.keys[i] {
-		v, ok = it.stray[i]
+func (it *Iteration[K, V]) step() bool {
+	if !it.it.Next() {
+		return false
 	}
-	return it.keys[i], v, ok
+	it.steps++
+	it.keyAt.SetIterKey(it.it)
+	it.valueAt.SetIterValue(it.it)
+	return true
 }
+
+// Next is what the last step came to.
+func (it *Iteration[K, V]) Next() (K, V) { return it.key, it.value }
 
 // ReadMap and WriteMap are a map that is about to be read or changed: for keys of interface
 // types, which Go 1.19 doesn't take for comparable. Not in one step with what follows.

@@ -260,9 +260,8 @@ func (l *loop) overMap() {
 	site := l.site(l.s.X, l.name(l.s.X))
 	l.head(head + " := gorec.Map(")
 	l.insert(l.s.X.End(), ", "+site+")"+method+i+" < "+it+".Len(); "+i+"++")
-	k, v, ok := l.newName("k"), l.newName("v"), l.newName("ok")
-	l.body(" " + k + ", " + v + ", " + ok + " := " + it + ".Next(" + i + "); if !" + ok + " { continue }; _, _ = " +
-		k + ", " + v + ";" + l.giveBoth(k, v))
+	k, v := l.newName("k"), l.newName("v")
+	l.body(" " + k + ", " + v + " := " + it + ".Next(); _, _ = " + k + ", " + v + ";" + l.giveBoth(k, v))
 }
 
 func blankUnless(shared bool, name string) string {

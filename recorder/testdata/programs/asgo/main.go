@@ -35,6 +35,16 @@ func main() {
 	}
 	for key, cells[key] = range []int{4, 5, 6} {
 	}
+	many := map[int]bool{}
+	for i := 0; i < 20000; i++ {
+		many[i] = true
+	}
+	for len(many) > 0 {
+		for k := range many { // no more than a step of the loop
+			delete(many, k)
+			break
+		}
+	}
 	directed := make(chan<- int, 1)
 	directed <- 1
 	if failure.Error() != "failed" || sum != 3 || key != 2 || cells != [3]int{5, 6, 0} || len(directed) != 1 {

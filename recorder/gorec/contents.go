@@ -123,10 +123,8 @@ func filled(b []byte, n int, s *Site) {
 	g := current(s)
 	mu.Lock()
 	g.takeIn(s)
-	for i := range b[:n] {
-		if i < most || i >= n-most {
-			wroteAll(g, &b[i], s)
-		}
+	for i := 0; i < n; i = nextAtEnds(i, n, most) {
+		wroteAll(g, &b[i], s)
 	}
 	mu.Unlock()
 }

@@ -101,12 +101,18 @@ func readElements[E any](a []E, wanted int, s *Site) {
 	}
 	g := current(s)
 	mu.Lock()
-	for i := range a {
-		if i < wanted || i >= len(a)-wanted {
-			readAll(g, &a[i], s)
-		}
+	for i := 0; i < len(a); i = nextAtEnds(i, len(a), wanted) {
+		readAll(g, &a[i], s)
 	}
 	mu.Unlock()
+}
+
+// nextAtEnds is the index behind i among the first and the last wanted ones of n.
+func nextAtEnds(i, n, wanted int) int {
+	if i++; i >= wanted && i < n-wanted {
+		return n - wanted
+	}
+	return i
 }
 
 // Copy is copy, in one step.

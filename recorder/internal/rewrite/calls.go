@@ -72,25 +72,31 @@ func (r *rewriter) calledName(e *ast.CallExpr, f *types.Func) *ast.SelectorExpr 
 	return nil
 }
 
-// arguments changes those of a call; channels that go to code without the recorder are lent.
+// arguments changes those of a call.
 func (r *rewriter) arguments(e *ast.CallExpr, f *types.Func) {
-	foreign := f != nil && f.Pkg() != nil && !r.own[f.Pkg().Path()]
-	for i, a := range e.Args {
-		end, ok := r.behind[a]
-		if ok {
-			r.insert(a.Pos(), "gorec.Then(")
-		}
-		switch {
-		case foreign && r.isChan(a) && r.takesChannels(f, i):
-			s := r.site(a, r.name(a))
-			r.wrap(a, "gorec.Lent(", func() { r.value(a) }, ", "+s+")")
-		case foreign:
-			r.foreignArgument(e, f, i)
-		default:
-			r.value(a)
-		}
-		r.insert(a.End(), end)
+	for i := range e.Args {
+		r.argument(e, f, i)
 	}
+}
+
+// argument changes one; a channel that goes to code without the recorder is lent.
+func (r *rewriter) argument(e *ast.CallExpr, f *types.Func, i int) {
+	a := e.Args[i]
+	foreign := f != nil && f.Pkg() != nil && !r.own[f.Pkg().Path()]
+	end, ok := r.behind[a]
+	if ok {
+		r.insert(a.Pos(), "gorec.Then(")
+	}
+	switch {
+	case foreign && r.isChan(a) && r.takesChannels(f, i):
+		s := r.site(a, r.name(a))
+		r.wrap(a, "gorec.Lent(", func() { r.value(a) }, ", "+s+")")
+	case foreign:
+		r.foreignArgument(e, f, i)
+	default:
+		r.value(a)
+	}
+	r.insert(a.End(), end)
 }
 
 // takesChannels: f may send, receive or close where its argument i is a channel. What is handed

@@ -47,7 +47,7 @@ func (r *rewriter) selectStatement(s *ast.SelectStmt) {
 		r.replace(c.Case, c.Colon+1, head+r.received(c.Comm, name))
 	}
 	if len(s.Body.List) == 0 { // a loop without an end ends a function as well
-		r.replace(s.Select, s.End(), "for { gorec.Select("+site+", false) }")
+		r.replace(s.Select, s.End(), "for { gorec.Select("+site+", "+hasDefault+") }")
 		return
 	}
 	init, args := "", ""

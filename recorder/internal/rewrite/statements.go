@@ -199,8 +199,7 @@ func (r *rewriter) startedArguments(c *ast.CallExpr) (before, args string) {
 			continue
 		}
 		if f != nil && f.Pkg() != nil && !r.own[f.Pkg().Path()] {
-			one := &ast.CallExpr{Fun: c.Fun, Args: c.Args[i : i+1]}
-			text = r.render(a, func() { r.postpone(func() { r.arguments(one, f) }) })
+			text = r.render(a, func() { r.postpone(func() { r.argument(c, f, i) }) })
 		}
 		if r.isUntyped(a) {
 			text = r.typeText(r.typeOf(a)) + "(" + text + ")"

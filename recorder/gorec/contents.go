@@ -75,17 +75,16 @@ func Stream[T any](w T, s *Site) T {
 	if t == nil || t.Kind() != reflect.Pointer {
 		return w
 	}
-	g := current(s)
 	mu.Lock()
 	known, seen := isStream[t]
 	if !seen {
 		known = streams[t.String()]
 		isStream[t] = known
 	}
-	if known {
-		g.content(dataOf(&v), true, s)
-	}
 	mu.Unlock()
+	if known {
+		useContent(dataOf(&v), true, s)
+	}
 	return w
 }
 

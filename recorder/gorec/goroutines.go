@@ -29,6 +29,7 @@ type G struct {
 	alone               [1]communication
 
 	foreign bool   // code without the recorder started it
+	reading bool   // it was about to read a file or a connection
 	taken   uint32 // the newest order of sentOut that it is behind
 	joined  uint32 // the epoch up to which others are behind it
 }
@@ -54,14 +55,24 @@ func current(s *Site) *G {
 		if seed != 0 {
 			g.yield()
 		}
-		if g.foreign {
-			mu.Lock()
-			g.takeSent(s) // it may have been asked anew
-			mu.Unlock()
+		if g.foreign || g.reading {
+			g.meets(s)
 		}
 		return g
 	}
 	return adopt(g, s)
+}
+
+// meets takes in what others sent: they may have asked g anew, or g has read.
+func (g *G) meets(s *Site) {
+	mu.Lock()
+	defer mu.Unlock()
+	if g.reading {
+		g.reading = false
+		g.takeIn(s)
+		return
+	}
+	g.takeSent(s)
 }
 
 // alone: there is no second goroutine yet, or no log. What main does before there is one

@@ -101,7 +101,13 @@ func Encoded[T any](v T, s *Site) T {
 // Fills is a function as Decode, which writes what its argument points to; Fills2 is one as
 // json.Unmarshal.
 func Fills(f func(any) error, s *Site) func(any) error {
-	return func(v any) error { return fillBy(v, s, func() error { return f(v) }) }
+	again := stillReading()
+	return func(v any) error {
+		return fillBy(v, s, func() error {
+			defer again()
+			return f(v)
+		})
+	}
 }
 
 func Fills2[A any](f func(A, any) error, s *Site) func(A, any) error {

@@ -89,7 +89,7 @@ func (r *rewriter) methodCall(e *ast.CallExpr, sel *ast.SelectorExpr, f *types.F
 	case typ == "reflect.Value":
 		r.reflectCall(e, sel, f)
 	case isInterface(r.typeOf(sel.X)) && hasWord(streamMethods, f.Name()):
-		r.wrapReceiver(sel, "Stream", r.site(e, name))
+		r.wrapReceiver(sel, streamCall(strings.HasPrefix(f.Name(), "Read")), r.site(e, name))
 	default:
 		r.value(sel)
 	}
@@ -126,6 +126,8 @@ func (r *rewriter) contentCall(e *ast.CallExpr, sel *ast.SelectorExpr, f *types.
 	call, change := "Writes", "true"
 	if reads {
 		call, change = "Reads", "false"
+	} else {
+		call += throughTypes[receiverType(f)]
 	}
 	i := r.lastCalling(e.Args)
 	if i < 0 {
@@ -142,6 +144,9 @@ func (r *rewriter) contentCall(e *ast.CallExpr, sel *ast.SelectorExpr, f *types.
 		object = "&" + object
 	}
 	r.plainReceiver(sel, f)
+	if len(call) > len("Writes") {
+		object = "gorec." + call + "(" + object + ", " + s + ")"
+	}
 	r.behind[e.Args[i]] = ", " + object + ", " + change + ", " + s + ")"
 }
 
@@ -173,7 +178,7 @@ func (r *rewriter) foreignArgument(e *ast.CallExpr, f *types.Func, i int) {
 	a := e.Args[i]
 	call, known := r.looksInto(e, f, i)
 	switch {
-	case !known || call != "" && (r.postponed || r.calls(e.Args[i+1:]...)):
+	case !known || call != "" && !isEnd(r.typeOf(a)) && (r.postponed || r.calls(e.Args[i+1:]...)):
 		r.result.Missed = append(r.result.Missed, f.FullName())
 		r.value(a)
 	case call == "":
@@ -192,8 +197,8 @@ func (r *rewriter) looksInto(e *ast.CallExpr, f *types.Func, i int) (call string
 	switch {
 	case r.isConstant(a) || !leads(t):
 	case streamFunctions[full] && i < 2 && !(showFunctions[full] && i > 0) && !isSlice(t) && !spread:
-		if mayStream(t) {
-			call = "Stream"
+		if mayStream(t) || isEnd(t) {
+			call = streamCall(readsStream(full, i))
 		}
 	case showFunctions[full] && spread, isSlice(t) && readsElements(f):
 		call = "Handed"
@@ -205,6 +210,29 @@ func (r *rewriter) looksInto(e *ast.CallExpr, f *types.Func, i int) (call string
 		return "", false
 	}
 	return call, true
+}
+
+// streamCall is the recorder's function for a Reader or a Writer.
+func streamCall(in bool) string {
+	if in {
+		return "StreamIn"
+	}
+	return "StreamOut"
+}
+
+// readsStream: one of the streamFunctions reads what its argument i is.
+func readsStream(full string, i int) bool {
+	return strings.Contains(full, ".Fscan") || strings.Contains(full, ".Read") || i == 1 && strings.HasPrefix(full, "io.Copy")
+}
+
+// isEnd: the type is that of a file or a connection.
+func isEnd(t types.Type) bool {
+	n, ok := pointee(t).(*types.Named)
+	if !ok || n.Obj().Pkg() == nil {
+		return false
+	}
+	name := n.Obj().Pkg().Path() + "." + n.Obj().Name()
+	return outTypes[name] || name == "io.PipeReader"
 }
 
 // mayStream: a value of the type may be a Reader or a Writer of which the recorder follows

@@ -24,6 +24,19 @@ var contentTypes = map[string]string{
 	"text/tabwriter.Writer": "",
 }
 
+// throughTypes are those of them that may stand before a file or a connection, by how the
+// recorder's functions for what writes there, or reads, end.
+var throughTypes = map[string]string{
+	"bufio.Reader":          "In",
+	"bufio.Scanner":         "In",
+	"bufio.Writer":          "Out",
+	"encoding/csv.Reader":   "In",
+	"encoding/csv.Writer":   "Out",
+	"encoding/json.Decoder": "In",
+	"encoding/json.Encoder": "Out",
+	"text/tabwriter.Writer": "Out",
+}
+
 // mapTypes are maps with methods of their own, and the methods that change them.
 var mapTypes = map[string]string{
 	"net/http.Header":          "Set Add Del",

@@ -1,0 +1,80 @@
+package gorec
+
+import "reflect"
+
+// Goroutines also meet where a Reader or a Writer stands before a file or a connection, or
+// where a function of the standard library is handed one of these.
+
+// outlets are the files and connections.
+var outlets = map[string]bool{
+	"*os.File": true, "*net.TCPConn": true, "*net.UDPConn": true, "*net.UnixConn": true, "*net.pipe": true,
+	"*tls.Conn": true, "*io.PipeReader": true, "*io.PipeWriter": true,
+}
+
+// passing are types that stand before others, and the field that says which.
+var passing = map[string]string{
+	"*bufio.Reader": "rd", "*bufio.Writer": "wr", "*bufio.Scanner": "r", "*csv.Reader": "r", "*csv.Writer": "w",
+	"*json.Decoder": "r", "*json.Encoder": "w", "*tabwriter.Writer": "output",
+}
+
+// leadsOut: a Reader or a Writer is a file or a connection, or stands before one.
+func leadsOut(v reflect.Value) bool {
+	for {
+		for v.IsValid() && v.Kind() == reflect.Interface {
+			v = v.Elem()
+		}
+		if !v.IsValid() || v.Kind() != reflect.Pointer || v.IsNil() {
+			return false
+		}
+		t := v.Type().String()
+		if outlets[t] {
+			return true
+		}
+		field, ok := passing[t]
+		if !ok {
+			return false
+		}
+		v = v.Elem().FieldByName(field)
+	}
+}
+
+// StreamOut is a Writer that is used.
+func StreamOut[T any](w T, s *Site) T {
+	if !off && leadsOut(reflect.ValueOf(w)) {
+		Out(w, s)
+	}
+	return Stream(w, s)
+}
+
+// StreamIn is a Reader that is used: what was written comes before what the goroutine does
+// next.
+func StreamIn[T any](r T, s *Site) T {
+	Stream(r, s)
+	if !off && leadsOut(reflect.ValueOf(r)) {
+		current(s).reading = true
+	}
+	return r
+}
+
+// WritesOut and WritesIn are Writes of an object that may stand before a file.
+func WritesOut[T any](p *T, s *Site) *T {
+	StreamOut(p, s)
+	return Writes(p, s)
+}
+
+func WritesIn[T any](p *T, s *Site) *T {
+	Writes(p, s)
+	return StreamIn(p, s)
+}
+
+// stillReading is called behind WritesIn, and its answer at the end of a function that reads.
+func stillReading() (again func()) {
+	if off {
+		return func() {}
+	}
+	g := (*G)(getLabel())
+	if g == nil || !g.reading {
+		return func() {}
+	}
+	return func() { g.reading = true }
+}

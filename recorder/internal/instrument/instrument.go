@@ -148,6 +148,22 @@ func (t *tree) addRuntime() error {
 	})
 }
 
+// buildTags is the -tags of GOFLAGS, with which the packages were listed; its other flags are
+// those of modules. What go env -w sets holds only where GOFLAGS is empty.
+func buildTags() (string, error) {
+	flags, err := exec.Command("go", "env", "GOFLAGS").Output()
+	if err != nil {
+		return "", fmt.Errorf("go env: %v", err)
+	}
+	tags := ""
+	for _, f := range strings.Fields(string(flags)) {
+		if strings.HasPrefix(strings.TrimLeft(f, "-"), "tags=") {
+			tags = " " + f
+		}
+	}
+	return tags, nil
+}
+
 // Build builds the copy as a program, or as one of tests.
 func (c *Copy) Build(program string, test bool) error {
 	words := []string{"build"}
@@ -157,10 +173,14 @@ func (c *Copy) Build(program string, test bool) error {
 	for _, path := range c.oldLoops { // a GOPATH has no go lines
 		words = append(words, "-gcflags="+path+"=-lang=go1.21")
 	}
+	tags, err := buildTags()
+	if err != nil {
+		return err
+	}
 	cmd := exec.Command("go", append(words, "-trimpath", "-o", program, c.Main)...)
 	cmd.Dir = c.Dir
 	cmd.Stdout, cmd.Stderr = os.Stderr, os.Stderr
-	cmd.Env = append(os.Environ(), "GOFLAGS=", "GO111MODULE=off", "GOWORK=off", "GOPATH="+c.Dir)
+	cmd.Env = append(os.Environ(), "GOFLAGS=-trimpath"+tags, "GO111MODULE=off", "GOWORK=off", "GOPATH="+c.Dir)
 	if err := cmd.Run(); err != nil {
 		return fmt.Errorf("the instrumented copy doesn't build, which is a mistake of gorec: %v", err)
 	}

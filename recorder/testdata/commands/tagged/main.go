@@ -1,0 +1,7 @@
+package main
+
+var words = "plain"
+
+func main() {
+	println(words)
+}

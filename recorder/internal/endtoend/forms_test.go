@@ -15,3 +15,12 @@ func TestTags(t *testing.T) {
 		}
 	}
 }
+
+// TestOwnName: a program that has something by the recorder's name is told of it.
+func TestOwnName(t *testing.T) {
+	out, errs, status := runTool(t, "run", "-gorace", stub(t), "./named")
+	want := "gorec: named/main.go:6: the name gorec is the recorder's; rename it\n"
+	if status != 3 || out != "" || !strings.HasPrefix(errs, want) {
+		t.Errorf("status %d\n%s%s", status, out, errs)
+	}
+}

@@ -30,6 +30,26 @@ func (r *rewriter) name(e ast.Expr) string {
 	return "x"
 }
 
+// refuseOwnName: what is called gorec would hide the recorder from its calls.
+func (s *shared) refuseOwnName() {
+	refuse := func(n ast.Node, o types.Object) {
+		if v, ok := o.(*types.Var); o == nil || o.Name() != "gorec" || ok && v.IsField() {
+			return
+		}
+		if f, ok := o.(*types.Func); !ok || !hasReceiver(f) {
+			s.refuse(n, "the name gorec is the recorder's", "rename it")
+		}
+	}
+	for n, o := range s.info.Defs {
+		refuse(n, o)
+	}
+	for n, o := range s.info.Implicits {
+		if _, ok := n.(*ast.ImportSpec); ok {
+			refuse(n, o)
+		}
+	}
+}
+
 // predeclared is one of Go's own names at a node, or the recorder's where the program has
 // something else by that name.
 func (r *rewriter) predeclared(name string, n ast.Node) string {

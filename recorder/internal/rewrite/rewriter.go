@@ -60,6 +60,7 @@ func Package(p *load.Package, own map[string]bool, table *sites.Table) Result {
 		r.start = p.Fset.File(f.Pos()).Pos(0)
 		s.result.Files = append(s.result.Files, r.rewriteFile())
 	}
+	s.refuseOwnName()
 	s.result.Sites = s.sitesFile()
 	return s.result
 }
@@ -159,9 +160,9 @@ func (r *rewriter) isTest(d *ast.FuncDecl) bool {
 }
 
 // place is a line of the source, relative to the module.
-func (r *rewriter) place(pos token.Pos) string {
-	p := r.p.Fset.Position(pos)
-	return fmt.Sprintf("%s:%d", strings.TrimPrefix(strings.TrimPrefix(p.Filename, r.p.Root()), "/"), p.Line)
+func (s *shared) place(pos token.Pos) string {
+	p := s.p.Fset.Position(pos)
+	return fmt.Sprintf("%s:%d", strings.TrimPrefix(strings.TrimPrefix(p.Filename, s.p.Root()), "/"), p.Line)
 }
 
 // site is the text of a new site's address.
@@ -186,8 +187,8 @@ func (r *rewriter) siteOf(n ast.Node, s sites.Site) string {
 }
 
 // refuse tells what can't be recorded at a place, and what to do.
-func (r *rewriter) refuse(n ast.Node, what, instead string) {
-	r.result.Refused = append(r.result.Refused, r.place(n.Pos())+": "+what+"; "+instead)
+func (s *shared) refuse(n ast.Node, what, instead string) {
+	s.result.Refused = append(s.result.Refused, s.place(n.Pos())+": "+what+"; "+instead)
 }
 
 // newName is a name that the program doesn't have.

@@ -24,3 +24,11 @@ func TestOwnName(t *testing.T) {
 		t.Errorf("status %d\n%s%s", status, out, errs)
 	}
 }
+
+// TestSeveralPrograms: none of several is run.
+func TestSeveralPrograms(t *testing.T) {
+	out, errs, status := runTool(t, "run", "-gorace", stub(t), "./...")
+	if status != 3 || out != "" || !strings.Contains(errs, " are programs both; name one\n") {
+		t.Errorf("status %d\n%s%s", status, out, errs)
+	}
+}

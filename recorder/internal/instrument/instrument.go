@@ -72,6 +72,9 @@ func (t *tree) add(p *load.Package) error {
 		path = "gorec.local/main"
 	}
 	if p.ForTest == path || p.Name == "main" && p.ForTest == "" {
+		if t.Main != "" && t.Main != path {
+			return fmt.Errorf("%s and %s are programs both; name one", t.Main, path)
+		}
 		t.Main = path
 	}
 	to := filepath.Join(t.Dir, "src", filepath.FromSlash(path))

@@ -16,6 +16,14 @@ func TestTags(t *testing.T) {
 	}
 }
 
+// TestFiles: a program that is named by its files may import what is internal where they are.
+func TestFiles(t *testing.T) {
+	out, errs, status := runTool(t, "run", "-gorace", stub(t), "inner/main.go")
+	if status != 0 || !strings.HasPrefix(errs, "2\n") {
+		t.Errorf("status %d\n%s%s", status, out, errs)
+	}
+}
+
 // TestOwnName: a program that has something by the recorder's name is told of it.
 func TestOwnName(t *testing.T) {
 	out, errs, status := runTool(t, "run", "-gorace", stub(t), "./named")

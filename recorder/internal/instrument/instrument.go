@@ -7,6 +7,7 @@ import (
 	"io/fs"
 	"os"
 	"os/exec"
+	"path"
 	"path/filepath"
 	"sort"
 	"strings"
@@ -34,6 +35,7 @@ type tree struct {
 	*Copy
 	own   map[string]bool
 	table *sites.Table
+	files string // where a program that is named by its files stands
 	loose int
 }
 
@@ -46,6 +48,9 @@ func Packages(packages []*load.Package, dir string) (*Copy, error) {
 	}
 	for _, p := range packages {
 		t.own[p.ImportPath] = p.Recorded()
+		if p.ImportPath == "command-line-arguments" {
+			t.files = pathOf(packages, p.Dir)
+		}
 	}
 	for _, p := range packages {
 		if err := t.add(p); err != nil {
@@ -61,6 +66,23 @@ func Packages(packages []*load.Package, dir string) (*Copy, error) {
 	return t.Copy, t.addRuntime()
 }
 
+// pathOf is the path of files that are in dir: below its own, so that they may import what is
+// internal there.
+func pathOf(packages []*load.Package, dir string) string {
+	is, root := "gorec.local/main", ""
+	for _, p := range packages {
+		m := p.Module
+		if m == nil || !m.Main || len(m.Dir) < len(root) {
+			continue
+		}
+		rel, err := filepath.Rel(m.Dir, dir)
+		if err == nil && rel != ".." && !strings.HasPrefix(rel, "../") {
+			is, root = path.Join(m.Path, rel, "gorec_main"), m.Dir
+		}
+	}
+	return is
+}
+
 // add writes one package.
 func (t *tree) add(p *load.Package) error {
 	path, sitesFile := p.ImportPath, "gorec_sites.go"
@@ -69,7 +91,7 @@ func (t *tree) add(p *load.Package) error {
 		sitesFile = "gorec_sites_test.go"
 	}
 	if path == "command-line-arguments" {
-		path = "gorec.local/main"
+		path = t.files
 	}
 	if p.ForTest == path || p.Name == "main" && p.ForTest == "" {
 		if t.Main != "" && t.Main != path {

@@ -3,6 +3,9 @@ package endtoend
 import (
 	"strings"
 	"testing"
+
+	"gorace.local/recorder/internal/instrument"
+	"gorace.local/recorder/internal/load"
 )
 
 // TestTags: the program is built with the tags with which it was listed.
@@ -38,5 +41,14 @@ func TestSeveralPrograms(t *testing.T) {
 	out, errs, status := runTool(t, "run", "-gorace", stub(t), "./...")
 	if status != 3 || out != "" || !strings.Contains(errs, " are programs both; name one\n") {
 		t.Errorf("status %d\n%s%s", status, out, errs)
+	}
+}
+
+// TestAllCgo: a program in which nothing is recorded isn't run.
+func TestAllCgo(t *testing.T) {
+	p := &load.Package{Listed: &load.Listed{ImportPath: "a", Name: "main", CgoFiles: []string{"a.go"}}}
+	_, err := instrument.Packages([]*load.Package{p}, t.TempDir())
+	if err == nil || err.Error() != "nothing can be recorded: each package has cgo" {
+		t.Error(err)
 	}
 }

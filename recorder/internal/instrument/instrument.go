@@ -3,6 +3,7 @@
 package instrument
 
 import (
+	"errors"
 	"fmt"
 	"io/fs"
 	"os"
@@ -46,11 +47,16 @@ func Packages(packages []*load.Package, dir string) (*Copy, error) {
 		own:   map[string]bool{},
 		table: sites.New(),
 	}
+	some := false
 	for _, p := range packages {
 		t.own[p.ImportPath] = p.Recorded()
+		some = some || p.Recorded()
 		if p.ImportPath == "command-line-arguments" {
 			t.files = pathOf(packages, p.Dir)
 		}
+	}
+	if !some {
+		return nil, errors.New("nothing can be recorded: each package has cgo")
 	}
 	for _, p := range packages {
 		if err := t.add(p); err != nil {

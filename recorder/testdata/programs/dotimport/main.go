@@ -5,7 +5,7 @@ package main
 import (
 	. "context"
 	. "sync/atomic"
-	. "time"
+	"time"
 )
 
 func main() {
@@ -17,7 +17,7 @@ func main() {
 		add(&ready, 1)
 	}()
 	for LoadInt32(&ready) == 0 {
-		Sleep(Millisecond)
+		time.Sleep(time.Millisecond)
 	}
 	x++
 	ctx, cancel := WithCancel(Background())

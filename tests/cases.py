@@ -1,0 +1,132 @@
+"""The cases of tests/*/*.txt, as tests/run.py and tests/unproved.py read them.
+
+A file's folder is the first word of its command lines; those in command/ give theirs whole. A file holds cases about one thing,
+one after the other:
+
+    -- front --           what comes before each input of the file; may be left out
+    -- case NAME --
+    -- args --            more words of the command line; may be left out
+    -- in --              standard input
+    -- in escaped --      the same with \\t, \\r, \\x80 and \\\\; a \\ at the end of a line removes its newline
+    -- in repeated --     the same with lines `0..9 * var x{n}`, each of which gives ten
+    -- out --             standard output
+    -- err --             standard error; may be left out where any will do
+    -- status --          may be left out where it is 0
+
+A check, and a race, that names no judge is made by each of JUDGES. They have to agree."""
+
+import os
+import pathlib
+import re
+import shlex
+
+HERE = pathlib.Path(__file__).resolve().parent
+HEAD = re.compile(r"^-- (front|case|args|in|out|err|status)((?: [^\n]*)?) --\n", re.M)
+JUDGES = {
+    "check": (
+        "--plain",
+        "--shards 1",
+        "--shards 1 --block 1",
+        "--shards 2 --block 1",
+        "--shards 2 --block 2",
+        "--shards 3 --block 3",
+        "--shards 4 --block 65536",
+        "--shards 64 --block 2",
+    ),
+    "race": ("--plain", "--shards 1", "--shards 2 --block 1", "--shards 64"),
+}
+JUDGING = {"--plain", "--shards", "--block", "--help"}
+MARKS = {"\n": "", "t": "\t", "r": "\r", "\\": "\\"}
+
+
+class BadCase(Exception):
+    pass
+
+
+class Case:
+    """One command line or more that have to do the same, what they read, and what they have to write."""
+
+    def __init__(self, file, name, front, at):
+        self.file, self.name, self.front, self.at = file, name, front, at
+        self.args, self.given = [], front
+        self.out, self.err, self.status = b"", None, 0
+        self.spans = {}
+
+    @property
+    def label(self):
+        return f"{self.file.relative_to(HERE)}: {self.name}"
+
+    def lines(self):
+        command = self.file.parent.name
+        words = self.args if command == "command" else [command, *self.args]
+        named = {word.split("=")[0] for word in words}
+        if command == "command" or named & JUDGING or self.status == 3:
+            return [words]
+        return [[*words, *judge.split()] for judge in JUDGES.get(command, ())] or [words]
+
+
+def unescaped(body):
+    mark = re.compile(r"\\(?:(\n|t|r|\\)|x([0-9a-f]{2}))")
+    return mark.sub(lambda it: MARKS[it[1]] if it[1] else chr(int(it[2], 16)), body).encode("latin-1")
+
+
+def repeated(body):
+    def lines(it):
+        return "".join(it[3].replace("{n}", str(n)) + "\n" for n in range(int(it[1]), int(it[2]) + 1))
+
+    return re.sub(r"^(\d+)\.\.(\d+) \* (.*)\n", lines, body, flags=re.M).encode()
+
+
+def input_of(how, body):
+    forms = {"": str.encode, "escaped": unescaped, "repeated": repeated}
+    if how not in forms:
+        raise BadCase(f"an input is escaped or repeated, not {how}")
+    return forms[how](body)
+
+
+def take(case, kind, how, body, span):
+    """Takes one part of a case."""
+    case.spans[kind] = span
+    if kind == "args":
+        case.args = shlex.split(body)
+    elif kind == "in":
+        case.given = case.front + input_of(how, body)
+    elif kind == "out":
+        case.out = body.encode()
+    elif kind == "err":
+        case.err = body.encode()
+    else:
+        case.status = int(body)
+
+
+def cases_of(file):
+    text = file.read_text(encoding="utf-8")
+    heads = [*HEAD.finditer(text)]
+    if not heads or heads[0].start() != 0:
+        raise BadCase(f"{file}: begins with no line such as -- case NAME --")
+    front, found = b"", []
+    for head, after in zip(heads, [*heads[1:], None]):
+        kind, how, end = head[1], head[2].strip(), after.start() if after else len(text)
+        body = text[head.end() : end]
+        if kind == "front":
+            front = input_of(how, body)
+        elif kind == "case":
+            found.append(Case(file, how, front, head.end()))
+        elif not found or kind in found[-1].spans:
+            raise BadCase(f"{file}: {head[0].strip()} belongs to no case, or comes twice in it")
+        else:
+            take(found[-1], kind, how, body, (head.start(), end))
+    names = [case.name for case in found]
+    twice = {name for name in names if names.count(name) > 1}
+    if twice:
+        raise BadCase(f"{file}: two cases have the name {min(twice)}")
+    return found
+
+
+def files():
+    return sorted(HERE.glob("*/*.txt"))
+
+
+def all_cases(words=()):
+    """Returns the cases whose label has one of the words; all, where there are no words."""
+    return [case for file in files() for case in cases_of(file) if not words or any(word in case.label for word in words)]

@@ -1,0 +1,73 @@
+#!/usr/bin/env python3
+"""Runs the cases of tests/*/*.txt with no proof, in some minutes: writes them as one table into a copy of the crate program_tests and has
+`rt try --test` build and run that.
+
+    tests/unproved.py [WORD..]
+
+It stops at an index out of bounds, an overflow or a bad access too. Left out are long inputs, help texts and what comes on
+standard error, which tests/run.py has by the built program."""
+
+import shutil
+import subprocess
+import sys
+import tempfile
+
+from cases import HERE, BadCase, all_cases
+
+ROOT = HERE.parent
+LONGEST = 4096
+SECONDS = 300
+WITHOUT = shutil.ignore_patterns("out", "proofs", "must-fail", "wrong")
+MARKS = {10: "\\n", 9: "\\t", 13: "\\r", 34: '\\"', 92: "\\\\"}
+LIBRARY = "//! The cases of tests/.\n#![tactic(auto)]\n\n#[cfg(test)]\nmod golden;\n"
+
+
+def literal(data):
+    return '"' + "".join(MARKS.get(it) or (chr(it) if 32 <= it < 127 else f"\\x{it:02x}") for it in data) + '"'
+
+
+def words_of(line):
+    return "&[" + ", ".join(literal(word.encode()) for word in ["gorace", *line]) + "]"
+
+
+def row(case):
+    lines = ", ".join(words_of(line) for line in case.lines())
+    return f"    ({literal(case.label.encode())}, &[{lines}], b{literal(case.given)}, {case.status}, b{literal(case.out)}),\n"
+
+
+def is_row(case):
+    return len(case.given) <= LONGEST and not {"--help", "--version"} & {word for line in case.lines() for word in line}
+
+
+def write_crate(room, rows):
+    """Makes a copy of the crates in which program_tests is the table alone."""
+    shutil.copy(ROOT / "crates.txt", room)
+    shutil.copytree(ROOT / "crates", f"{room}/crates", ignore=WITHOUT)
+    source = HERE / "golden.rt.in"
+    text = source.read_text(encoding="utf-8").replace("@COUNT@", str(len(rows))).replace("@ROWS@\n", "".join(rows))
+    folder = f"{room}/crates/program_tests"
+    shutil.rmtree(f"{folder}/src")
+    shutil.os.makedirs(f"{folder}/src")
+    for name, body in (("lib.rt", LIBRARY), ("golden.rt", text)):
+        with open(f"{folder}/src/{name}", "w", encoding="utf-8") as it:
+            it.write(body)
+    return folder
+
+
+def main(words):
+    try:
+        rows = [row(case) for case in all_cases(words) if is_row(case)]
+    except BadCase as fault:
+        sys.exit(f"tests/unproved.py: {fault}")
+    with tempfile.TemporaryDirectory() as room:
+        folder = write_crate(room, rows)
+        command = ["rt", "try", "--test", "--steps", "1", "--seconds", str(SECONDS)]
+        ran = subprocess.run(command, cwd=folder, stdout=subprocess.PIPE, stderr=subprocess.STDOUT, errors="replace")
+    if ran.returncode:
+        print(ran.stdout)
+    print(f"{len(rows)} cases, " + ("all as expected" if ran.returncode == 0 else "one is not as expected, above"))
+    return 1 if ran.returncode else 0
+
+
+if __name__ == "__main__":
+    sys.exit(main(sys.argv[1:]))

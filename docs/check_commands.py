@@ -63,6 +63,7 @@ def make_copy(folder, program):
     """What a reader has in a clone, with the program in the launcher's place."""
     shutil.copytree(ROOT / "examples", folder / "examples")
     shutil.copytree(ROOT / "recorder", folder / "recorder")
+    shutil.copy(ROOT / "gorec", folder)
     launcher = folder / "gorace"
     launcher.write_text(f'#!/bin/sh\nexec {program} "$@"\n')
     launcher.chmod(0o755)
@@ -204,15 +205,23 @@ def check_paths(page, failures):
     return count
 
 
+def wrong_bodies_of(item):
+    """The edits that an item names, as `race_edges/NAME, *OTHER*` or `race_edges/ and race_clock/NAME`: crate, folder, name.
+    A name in italics stands in the folder that the gate doesn't try."""
+    found = re.fullmatch(r"(?:(race_\w+)/ and )?(race_\w+)/([\w*, ]+)", item)
+    for crate in (found[1], found[2]) if found else ():
+        for named in found[3].split(", ") if crate else ():
+            yield crate, "wrong" if named.startswith("*") else "must-fail", named.strip("*")
+
+
 def check_wrong_bodies(failures):
-    """The edits that the page of wrong bodies names, as race_edges/NAME, OTHER_NAME."""
     page, count = ROOT / "docs/WRONG_BODIES.md", 0
-    lines = re.findall(r"(?m)^\|.*\|$", page.read_text()) if page.exists() else []
-    for crate, listed in re.findall(r"\b(race_\w+)/(\w+(?:, \w+(?![\w/ ]))*)", "\n".join(lines)):
-        for named in listed.split(", "):
-            if not (ROOT / "crates" / crate / "must-fail" / (named + ".edit")).exists():
-                failures.add(name(page), f"no wrong body {crate}/{named}")
-            count += 1
+    for table in tables_of(page.read_text()):
+        for item in (item for row in table for item in row["Refused by"].split("; ")):
+            for crate, folder, named in wrong_bodies_of(item):
+                if not (ROOT / "crates" / crate / folder / (named + ".edit")).exists():
+                    failures.add(name(page), f"no wrong body {crate}/{folder}/{named}")
+                count += 1
     return count
 
 
@@ -252,7 +261,7 @@ def check_all(program, with_recorder):
             if folder and name(page) not in FOLLOWED_ELSEWHERE:
                 counts["commands"] += check_blocks(page, folder, with_recorder, failures)
     print("checked: " + ", ".join(f"{count} {what}" for what, count in counts.items()))
-    print(f"failed: {failures.count}")
+    print(f"{sum(counts.values()) - failures.count} passed, {failures.count} failed")
     return failures.count
 
 

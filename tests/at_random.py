@@ -24,20 +24,8 @@ SHARDS = (1, 2, 3, 7, 64)
 BLOCKS = (1, 5, 65536)
 SLOW = 20
 ENDS = {"main": 0, "fault": 10, "deadlock": 11, "limit": 12, "bad": 13}
-DECLARED = {
-    "goroutine a": "a",
-    "goroutine b": "b",
-    "goroutine e": "e",
-    "var x": "x",
-    "var y": "y",
-    "var z": "z",
-    "chan c 2": "c",
-    "chan d 0": "d",
-    "mutex m": "m",
-    "rwmutex r": "r",
-    "once o": "o",
-    "once q": "q",
-}
+OBJECTS = "goroutine a|goroutine b|goroutine e|var x|var y|var z|chan d 0|mutex m|rwmutex r|once o|once q".split("|")
+OFTEN = [*graph.WORDS, *"read write send recv send recv".split()]
 STEPS = """read x|read y|write x 1|write y 2|send d 1|recv d|send c 2|recv c|lock m;read x;unlock m
 lock m;write x 3;unlock m|rlock r;read y;runlock r|lock r;write y 4;unlock r|do o;write x 5;enddo o|do o;do q;read z;enddo q;enddo o
 select send:d:6,recv:c default|select recv:d,send:c:7 default|select recv:d,recv:c block|select - default|write z 8"""
@@ -116,15 +104,15 @@ def look_at(gorace, text, number, seen):
 
 
 def declared(chance):
-    """Returns the header of version 2, or seldom of version 1, and the declarations in a random order."""
-    lines = list(DECLARED)
+    """Returns the declarations in a random order."""
+    lines = [*OBJECTS, f"chan c {chance.choice((1, 1, 2))}"]
     chance.shuffle(lines)
-    return [f"gotrace {1 if chance.random() < 0.2 else 2}", *lines]
+    return lines
 
 
 def event(chance, run):
     """Returns an event of a random kind that fits the declarations; its value is mostly the right one."""
-    word = chance.choice(graph.WORDS)
+    word = chance.choice(OFTEN)
     if word in ("exit", "close", "fault") and chance.random() < 0.9:
         word = chance.choice(("go", "read", "write"))
     who = chance.choice(sorted(run.started) if chance.random() < 0.9 else ["main", "a", "b", "e"])
@@ -155,18 +143,18 @@ def event(chance, run):
 
 def made(chance):
     """Returns a legal trace: of so many events that are tried those that break no rule. Seldom one more, that does."""
-    front = declared(chance)
-    run, events = graph.Run(DECLARED), []
+    version, objects = chance.choice((1, 2, 2, 2)), declared(chance)
+    run, events = graph.Run(objects), []
     for _ in range(8 + chance.randrange(120)):
         tried = event(chance, run)
         is_late = chance.random() < 0.002
-        if (tried[0].startswith("try") and front[0] == "gotrace 1") or (run.broken(tried) and not is_late):
+        if (version == 1 and tried[0].startswith("try")) or (run.broken(tried) and not is_late):
             continue
         events.append(" ".join(tried))
         if is_late:
             break
         run.take(tried)
-    return ("\n".join(front + events) + "\n").encode()
+    return ("\n".join([f"gotrace {version}", *objects, *events]) + "\n").encode()
 
 
 def program(chance):
@@ -174,9 +162,9 @@ def program(chance):
     version = chance.choice((1, 2, 2))
     steps = STEPS.replace("\n", "|").split("|") * 3 + SELDOM.split("|") + (TRIES.split("|") * 4 if version == 2 else [])
     place = iter(range(1, 1000))
-    lines = [f"goprogram {version}", *DECLARED]
-    for who, starts in (("main", ["go a", "go b"]), ("a", []), ("b", []), ("e", [])):
-        body = starts + [step for _ in range(chance.randrange(3, 8)) for step in chance.choice(steps).split(";")]
+    lines = [f"goprogram {version}", *declared(chance)]
+    for who in ["main", *(line.split()[1] for line in lines if line.startswith("goroutine"))]:
+        body = ["go a", "go b"] * (who == "main") + [step for _ in range(chance.randrange(3, 8)) for step in chance.choice(steps).split(";")]
         lines += [f"body {who}", *(f"{step} p:{next(place)}" for step in [*body, "exit"])]
     return ("\n".join(lines) + "\n").encode()
 
@@ -229,7 +217,7 @@ def another_byte(chance, text):
 
 def some_line(chance, lines):
     """Returns the number of a line, mostly of an event's."""
-    front = len(DECLARED) + 1
+    front = len(OBJECTS) + 2
     return chance.randrange(front if len(lines) > front and chance.random() < 0.8 else 0, len(lines))
 
 

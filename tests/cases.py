@@ -5,7 +5,7 @@ one after the other:
 
     -- front --           what comes before each input of the file; may be left out
     -- case NAME --
-    -- args --            more words of the command line; may be left out
+    -- args --            more words of the command line; each line gives one of some that do the same; may be left out
     -- shell --           what /bin/sh runs, where "$@" is the program with these words: `"$@" > /dev/full`; may be left out
     -- in --              standard input
     -- in escaped --      the same with \\t, \\r, \\x80 and \\\\; a \\ at the end of a line removes its newline
@@ -50,7 +50,7 @@ class Case:
 
     def __init__(self, file, name, front, at):
         self.file, self.name, self.front, self.at = file, name, front, at
-        self.args, self.shell, self.inputs = [], None, [front]
+        self.args, self.shell, self.inputs = [[]], None, [front]
         self.out, self.err, self.status = b"", None, 0
         self.spans = {}
 
@@ -60,11 +60,14 @@ class Case:
 
     def lines(self):
         command = self.file.parent.name
-        words = self.args if command == "command" else [command, *self.args]
-        named = {word.split("=")[0] for word in words}
-        if command == "command" or named & JUDGING or self.status == 3:
-            return [words]
-        return [[*words, *judge.split()] for judge in JUDGES.get(command, ())] or [words]
+        if command == "command":
+            return self.args
+        lines = []
+        for args in self.args:
+            named = {word.split("=")[0] for word in args}
+            judges = JUDGES.get(command, ("",)) if self.status != 3 and not named & JUDGING else ("",)
+            lines += [[command, *args, *judge.split()] for judge in judges]
+        return lines
 
 
 def unescaped(body):
@@ -106,7 +109,7 @@ def take(case, kind, how, body, span):
     """Takes one part of a case."""
     case.spans[kind] = span
     if kind == "args":
-        case.args = shlex.split(body)
+        case.args = [shlex.split(line) for line in body.splitlines()]
     elif kind == "in":
         case.inputs = inputs_of(how, case.front, body)
     elif kind == "shell":

@@ -5,10 +5,12 @@ one after the other:
 
     -- front --           what comes before each input of the file; may be left out
     -- case NAME --
-    -- args --            more words of the command line; may be left out
+    -- args --            more words of the command line; each line gives one of some that do the same; may be left out
+    -- shell --           what /bin/sh runs, where "$@" is the program with these words: `"$@" > /dev/full`; may be left out
     -- in --              standard input
     -- in escaped --      the same with \\t, \\r, \\x80 and \\\\; a \\ at the end of a line removes its newline
-    -- in repeated --     the same with lines `0..9 * var x{n}`, each of which gives ten
+    -- in repeated --     the same with lines `0..9 * var x{n}`, each of which gives ten; or -- in repeated escaped --
+    -- in cut 0..8 --     the same, of which the first 0, 1, .. 8 bytes are nine inputs, one for each run
     -- out --             standard output
     -- err --             standard error; may be left out where any will do
     -- status --          may be left out where it is 0
@@ -21,7 +23,7 @@ import re
 import shlex
 
 HERE = pathlib.Path(__file__).resolve().parent
-HEAD = re.compile(r"^-- (front|case|args|in|out|err|status)((?: [^\n]*)?) --\n", re.M)
+HEAD = re.compile(r"^-- (front|case|args|shell|in|out|err|status)((?: [^\n]*)?) --\n", re.M)
 JUDGES = {
     "check": (
         "--plain",
@@ -44,11 +46,11 @@ class BadCase(Exception):
 
 
 class Case:
-    """One command line or more that have to do the same, what they read, and what they have to write."""
+    """Command lines that have to do the same by each of some inputs, and what they have to write."""
 
     def __init__(self, file, name, front, at):
         self.file, self.name, self.front, self.at = file, name, front, at
-        self.args, self.given = [], front
+        self.args, self.shell, self.inputs = [[]], None, [front]
         self.out, self.err, self.status = b"", None, 0
         self.spans = {}
 
@@ -58,11 +60,14 @@ class Case:
 
     def lines(self):
         command = self.file.parent.name
-        words = self.args if command == "command" else [command, *self.args]
-        named = {word.split("=")[0] for word in words}
-        if command == "command" or named & JUDGING or self.status == 3:
-            return [words]
-        return [[*words, *judge.split()] for judge in JUDGES.get(command, ())] or [words]
+        if command == "command":
+            return self.args
+        lines = []
+        for args in self.args:
+            named = {word.split("=")[0] for word in args}
+            judges = JUDGES.get(command, ("",)) if self.status != 3 and not named & JUDGING else ("",)
+            lines += [[command, *args, *judge.split()] for judge in judges]
+        return lines
 
 
 def unescaped(body):
@@ -74,23 +79,41 @@ def repeated(body):
     def lines(it):
         return "".join(it[3].replace("{n}", str(n)) + "\n" for n in range(int(it[1]), int(it[2]) + 1))
 
-    return re.sub(r"^(\d+)\.\.(\d+) \* (.*)\n", lines, body, flags=re.M).encode()
+    return re.sub(r"^(\d+)\.\.(\d+) \* (.*)\n", lines, body, flags=re.M)
+
+
+FORMS = {
+    "": str.encode,
+    "escaped": unescaped,
+    "repeated": lambda body: repeated(body).encode(),
+    "repeated escaped": lambda body: unescaped(repeated(body)),
+}
 
 
 def input_of(how, body):
-    forms = {"": str.encode, "escaped": unescaped, "repeated": repeated}
-    if how not in forms:
-        raise BadCase(f"an input is escaped or repeated, not {how}")
-    return forms[how](body)
+    if how not in FORMS:
+        raise BadCase(f"an input is {', '.join(filter(None, FORMS))} or cut, not {how}")
+    return FORMS[how](body)
+
+
+def inputs_of(how, front, body):
+    """Returns each input of a case: one, or as many as it says at how many bytes it is cut."""
+    cut = re.fullmatch(r"cut (\d+)\.\.(\d+)", how)
+    if not cut:
+        return [front + input_of(how, body)]
+    whole = front + body.encode()
+    return [whole[:length] for length in range(int(cut[1]), int(cut[2]) + 1)]
 
 
 def take(case, kind, how, body, span):
     """Takes one part of a case."""
     case.spans[kind] = span
     if kind == "args":
-        case.args = shlex.split(body)
+        case.args = [shlex.split(line) for line in body.splitlines()]
     elif kind == "in":
-        case.given = case.front + input_of(how, body)
+        case.inputs = inputs_of(how, case.front, body)
+    elif kind == "shell":
+        case.shell = body.strip()
     elif kind == "out":
         case.out = body.encode()
     elif kind == "err":

@@ -8,6 +8,7 @@ you commit it. How a case is written: tests/cases.py. The last line is `N passed
 
 import argparse
 import difflib
+import itertools
 import os
 import shlex
 import subprocess
@@ -21,8 +22,9 @@ SECONDS = 60
 WIDEST = 100
 
 
-def ran(program, line, given):
-    it = subprocess.run([program, *line], input=given, capture_output=True, timeout=SECONDS)
+def ran(program, line, given, shell):
+    front = ["/bin/sh", "-c", shell, "sh"] if shell else []
+    it = subprocess.run([*front, program, *line], input=given, capture_output=True, timeout=SECONDS)
     return it.stdout, it.stderr, it.returncode
 
 
@@ -56,17 +58,18 @@ def wrong_in(case, out, err, status):
 
 
 def tried(program, case):
-    """Returns what is wrong with the case, by the first command line that fails, and what the first one of all did."""
+    """Returns what is wrong with the case, by the first run that fails, and what the first one of all did."""
     first, told = None, []
-    for line in case.lines():
+    for line, given in itertools.product(case.lines(), case.inputs):
         try:
-            did = ran(program, line, case.given)
+            did = ran(program, line, given, case.shell)
         except subprocess.TimeoutExpired:
             did = b"", b"", f"none within {SECONDS} s"
         first = first or did
         wrong = wrong_in(case, *did)
         if wrong and not told:
-            told = [f"FAILED {case.label}: gorace {shlex.join(line)}", *wrong]
+            of_bytes = f" of {len(given)} bytes" if len(case.inputs) > 1 else ""
+            told = [f"FAILED {case.label}: gorace {shlex.join(line)}{of_bytes}", *wrong]
     return told, first
 
 

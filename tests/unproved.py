@@ -4,8 +4,8 @@
 
     tests/unproved.py [WORD..]
 
-It stops at an index out of bounds, an overflow or a bad access too. Left out are long inputs, help texts and what comes on
-standard error, which tests/run.py has by the built program."""
+It stops at an index out of bounds, an overflow or a bad access too. Left out are long inputs, help texts, what comes on standard
+error and what a shell does, which tests/run.py has by the built program."""
 
 import shutil
 import subprocess
@@ -30,13 +30,16 @@ def words_of(line):
     return "&[" + ", ".join(literal(word.encode()) for word in ["gorace", *line]) + "]"
 
 
-def row(case):
+def row(case, given):
     lines = ", ".join(words_of(line) for line in case.lines())
-    return f"    ({literal(case.label.encode())}, &[{lines}], b{literal(case.given)}, {case.status}, b{literal(case.out)}),\n"
+    return f"    ({literal(case.label.encode())}, &[{lines}], b{literal(given)}, {case.status}, b{literal(case.out)}),\n"
 
 
-def is_row(case):
-    return len(case.given) <= LONGEST and not {"--help", "--version"} & {word for line in case.lines() for word in line}
+def rows_of(case):
+    """Returns a row for each input, where the program can be asked for it in process."""
+    if case.shell or {"--help", "--version"} & {word for line in case.lines() for word in line}:
+        return []
+    return [row(case, given) for given in case.inputs if len(given) <= LONGEST]
 
 
 def write_crate(room, rows):
@@ -56,7 +59,7 @@ def write_crate(room, rows):
 
 def main(words):
     try:
-        rows = [row(case) for case in all_cases(words) if is_row(case)]
+        rows = [it for case in all_cases(words) for it in rows_of(case)]
     except BadCase as fault:
         sys.exit(f"tests/unproved.py: {fault}")
     with tempfile.TemporaryDirectory() as room:

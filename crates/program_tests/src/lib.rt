@@ -1,11 +1,11 @@
-//! What the program reads and writes that no contract says.
+//! What the program reads and writes that no contract says and no command line shows.
 #![tactic(auto)]
 
 #[cfg(test)]
-mod command;
-#[cfg(test)]
-mod report;
+mod devices;
 #[cfg(test)]
 mod text;
 #[cfg(test)]
 mod tool;
+#[cfg(test)]
+mod words;

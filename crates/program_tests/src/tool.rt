@@ -1,20 +1,6 @@
 //! What the engines of race_tool do that no contract says.
-mod channels;
-mod damage;
-mod drawings;
-mod drawn;
 mod engines;
-mod judges;
-mod limits;
-mod locks;
-mod numbers;
-mod programs;
-mod races;
-mod reading;
-mod rows;
-mod runs;
-mod shown;
-mod streamed;
-mod tries;
-mod unordered;
-mod witnesses;
+mod failing;
+mod pieces;
+mod reads;
+mod unread;

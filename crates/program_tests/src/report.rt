@@ -1,2 +1,0 @@
-//! What race_report does that no contract says.
-mod texts;

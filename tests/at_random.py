@@ -1,0 +1,303 @@
+#!/usr/bin/env python3
+"""Compares what the program says of random traces and programs with a judge of its own, tests/graph.py.
+
+    tests/at_random.py [--program PROGRAM] [--seed N] [--count N]
+
+A round is one of three: a trace of random events that are legal; a run of a random program, by picks or by workers; a trace
+that was damaged. Each is judged by `--plain` and by shards and blocks that take turns; a legal one's edges are listed, and a
+witness of each variable is asked for. What differs is printed with the input. The last line is `N passed, M failed`."""
+
+import argparse
+import os
+import random
+import shlex
+import subprocess
+import sys
+from concurrent.futures import ThreadPoolExecutor
+
+import graph
+
+PROGRAM = os.path.join(os.path.dirname(__file__), "../crates/gorace/out/gorace")
+SECONDS = 60
+USUAL = 600
+SHARDS = (1, 2, 3, 7, 64)
+BLOCKS = (1, 5, 65536)
+SLOW = 20
+ENDS = {"main": 0, "fault": 10, "deadlock": 11, "limit": 12, "bad": 13}
+OBJECTS = "goroutine a|goroutine b|goroutine e|var x|var y|var z|chan d 0|mutex m|rwmutex r|once o|once q".split("|")
+OFTEN = [*graph.WORDS, *"read write send recv send recv".split()]
+STEPS = """read x|read y|write x 1|write y 2|send d 1|recv d|send c 2|recv c|lock m;read x;unlock m
+lock m;write x 3;unlock m|rlock r;read y;runlock r|lock r;write y 4;unlock r|do o;write x 5;enddo o|do o;do q;read z;enddo q;enddo o
+select send:d:6,recv:c default|select recv:d,send:c:7 default|select recv:d,recv:c block|select - default|write z 8"""
+SELDOM = "close c|close d|unlock m|runlock r|send nil 1|recv nil|close nil|go e"
+TRIES = "trylock m;read x|tryrlock r;read y|trylock m;write x 6;unlock m|trylock r;unlock r"
+
+
+class Wrong(Exception):
+    """What the program did otherwise than it should: of which command line and input."""
+
+    def __init__(self, line, given, told, wanted):
+        shown = given.decode(errors="backslashreplace")
+        super().__init__(f"gorace {shlex.join(line)}\n-- in --\n{shown}-- told --\n{told}\n-- wanted --\n{wanted}")
+
+
+class Gorace:
+    def __init__(self, program):
+        self.program = program
+
+    def told(self, given, *line):
+        it = subprocess.run([self.program, *line], input=given, capture_output=True, timeout=SECONDS, close_fds=False)
+        return it.stdout.decode(), it.returncode
+
+    def tells(self, wanted, given, *line):
+        """Asks for this report and this status."""
+        told = self.told(given, *line)
+        if told != wanted:
+            raise Wrong(line, given, told, wanted)
+
+
+def judges(number, events):
+    """Returns the plain judge's option and those of another one; fifteen numbers in a row give each shards with each block."""
+    shards, block = SHARDS[number % 5], BLOCKS[number % 3]
+    if block == 1 and events > SLOW:
+        shards = min(shards, 2)
+    return ["--plain"], ["--shards", str(shards), "--block", str(block)]
+
+
+def look_at_witness(gorace, trace, var, race):
+    """Asks for all accesses, each once and behind those before it, in which the race's second is followed by its first."""
+    told, status = gorace.told(trace.text, "witness", var)
+    lines = told.splitlines()
+    order = [int(line.split()[0]) - 1 for line in lines[:-1]]
+    wanted = [f"{at + 1} {trace.events[at][0]} {trace.events[at][1]} {trace.events[at][2]}" for at in order if at in trace.before]
+    wanted.append(f"witness: {len(trace.before)} accesses")
+    if (lines, status) != (wanted, 0) or not trace.is_reordering(order) or (race[1], race[0]) not in zip(order, order[1:]):
+        raise Wrong(["witness", var], trace.text, told, f"a reordering in which {race[1] + 1} stands directly before {race[0] + 1}")
+    swapped = trace.swapped(order)
+    if swapped and trace.is_reordering(swapped):
+        raise Wrong(["witness", var], trace.text, told, "that two accesses of which one happens before the other can't be swapped")
+
+
+def look_at_legal(gorace, trace, seen):
+    gorace.tells((trace.edges_told(), 0), trace.text, "edges")
+    races = trace.reported()
+    for var in trace.vars:
+        if var in races:
+            look_at_witness(gorace, trace, var, races[var])
+            seen.add("a witness")
+        else:
+            gorace.tells(("no such race\n", 14), trace.text, "witness", var)
+    seen.update(event[0] for event in trace.events)
+    seen.add("racy" if races else "clean")
+
+
+def look_at(gorace, text, number, seen):
+    """Compares what both judges say of a trace with what the graph says, and then its edges and witnesses."""
+    trace = graph.Trace(text)
+    for judge in judges(number, len(trace.events)):
+        gorace.tells(trace.told(), text, "check", *judge)
+    if trace.broken is None:
+        look_at_legal(gorace, trace, seen)
+    else:
+        seen.add(trace.broken[1])
+    return trace
+
+
+def declared(chance):
+    """Returns the declarations in a random order."""
+    lines = [*OBJECTS, f"chan c {chance.choice((1, 1, 2))}"]
+    chance.shuffle(lines)
+    return lines
+
+
+def event(chance, run):
+    """Returns an event of a random kind that fits the declarations; its value is mostly the right one."""
+    word = chance.choice(OFTEN)
+    if word in ("exit", "close", "fault") and chance.random() < 0.9:
+        word = chance.choice(("go", "read", "write"))
+    who = chance.choice(sorted(run.started) if chance.random() < 0.9 else ["main", "a", "b", "e"])
+    chan, lock = chance.choice("cd"), chance.choice("mr")
+    var, once = chance.choice("xyz"), chance.choice("oq")
+    value = str(chance.randrange(3))
+    right = value if chance.random() < 0.1 else run.right_value(word, var, chan)
+    cases = ",".join(f"{chance.choice(('send', 'recv'))}:{chance.choice(('c', 'd', 'nil'))}" for _ in range(chance.randrange(3)))
+    cause = chance.choice((f"send:{chan}", f"close:{chan}", "close:nil", f"unlock:{lock}", "runlock:r"))
+    rest = {
+        "go": [chance.choice("abe")],
+        "exit": [],
+        "read": [var, right],
+        "write": [var, value],
+        "send": [chan, value],
+        "recv": [chan, right],
+        "meet": [chance.choice(("main", "a", "b", "e")), chan, value],
+        "recvclosed": [chan],
+        "close": [chan],
+        "default": [cases or "-"],
+        "fault": [cause],
+        **{it: [once] for it in ("oncebegin", "onceend", "oncedone")},
+        **{it: [lock] for it in ("lock", "unlock", "trylock", "tryfail")},
+        **{it: ["r"] for it in ("rlock", "runlock", "tryrlock")},
+    }
+    return [word, who, *rest[word], "p"] + (["q"] if word == "meet" else [])
+
+
+def made(chance):
+    """Returns a legal trace: of so many events that are tried those that break no rule. Seldom one more, that does."""
+    version, objects = chance.choice((1, 2, 2, 2)), declared(chance)
+    run, events = graph.Run(objects), []
+    for _ in range(8 + chance.randrange(120)):
+        tried = event(chance, run)
+        is_late = chance.random() < 0.002
+        if (version == 1 and tried[0].startswith("try")) or (run.broken(tried) and not is_late):
+            continue
+        events.append(" ".join(tried))
+        if is_late:
+            break
+        run.take(tried)
+    return ("\n".join([f"gotrace {version}", *objects, *events]) + "\n").encode()
+
+
+def program(chance):
+    """Returns a program of three goroutines or of four."""
+    version = chance.choice((1, 2, 2))
+    steps = STEPS.replace("\n", "|").split("|") * 3 + SELDOM.split("|") + (TRIES.split("|") * 4 if version == 2 else [])
+    place = iter(range(1, 1000))
+    lines = [f"goprogram {version}", *declared(chance)]
+    for who in ["main", *(line.split()[1] for line in lines if line.startswith("goroutine"))]:
+        body = ["go a", "go b"] * (who == "main") + [step for _ in range(chance.randrange(3, 8)) for step in chance.choice(steps).split(";")]
+        lines += [f"body {who}", *(f"{step} p:{next(place)}" for step in [*body, "exit"])]
+    return ("\n".join(lines) + "\n").encode()
+
+
+def end_of(trace, told, limit):
+    """Returns how a run says that it ended, where its trace bears that out."""
+    last = trace.events[-1] if trace.events else ["", ""]
+    is_so = {"main": last[:2] == ["exit", "main"], "fault": last[0] == "fault", "limit": len(trace.events) == limit}
+    end = told.splitlines()[-1].removeprefix("end: ")
+    first = end.split()[0]
+    if not is_so.get(first, not is_so["main"] and not is_so["fault"]) or first not in ENDS:
+        raise Wrong(["race"], trace.text, told, "another end")
+    return end
+
+
+def run_a_program(gorace, chance, number, seen):
+    """Compares a run's trace with the graph, and, where a run can be had twice, what is said of it with what is said of its trace."""
+    text, limit = program(chance), chance.choice((5, 100, 100, 100))
+    by = ["--limit", str(limit)]
+    workers = chance.choice((0, 0, 1, 4))
+    if workers:
+        by += ["--workers", str(workers), "--seed", str(chance.randrange(1000))]
+    else:
+        by += ["--picks", ",".join(str(chance.randrange(1000)) for _ in range(32))]
+    told, status = gorace.told(text, "run", *by)
+    if status not in ENDS.values():
+        raise Wrong(["run", *by], text, (told, status), "a trace")
+    trace = look_at(gorace, told.encode(), number, seen)
+    if trace.broken:
+        raise Wrong(["run", *by], text, told, "a legal trace")
+    if workers < 2:
+        end = end_of(trace, gorace.told(text, "race", *by)[0], limit)
+        report, judged = trace.told()
+        wanted = report + f"end: {end}\n", judged or status
+        if ENDS[end.split()[0]] != status:
+            raise Wrong(["run", *by], text, status, f"the status of end: {end}")
+        for judge in judges(number, len(trace.events)):
+            gorace.tells(wanted, text, "race", *by, *judge)
+        seen.add(end.split()[0])
+
+
+def cut(chance, text):
+    return text[: chance.randrange(len(text))]
+
+
+def another_byte(chance, text):
+    at = chance.randrange(len(text))
+    return text[:at] + bytes([chance.choice(b"\n\t\x80 01xam:-")]) * chance.randrange(3) + text[at + 1 :]
+
+
+def some_line(chance, lines):
+    """Returns the number of a line, mostly of an event's."""
+    front = len(OBJECTS) + 2
+    return chance.randrange(front if len(lines) > front and chance.random() < 0.8 else 0, len(lines))
+
+
+def moved_lines(chance, text):
+    lines = text.splitlines(keepends=True)
+    one, other = some_line(chance, lines), some_line(chance, lines)
+    lines.insert(other, lines[one] if chance.random() < 0.3 else lines.pop(one))
+    return b"".join(lines)
+
+
+def without_a_line(chance, text):
+    lines = text.splitlines(keepends=True)
+    del lines[some_line(chance, lines)]
+    return b"".join(lines)
+
+
+def another_word(chance, text):
+    lines = [line.split(b" ") for line in text.splitlines()]
+    line, other = lines[some_line(chance, lines)], lines[some_line(chance, lines)]
+    at = chance.randrange(len(line))
+    line[at] = other[min(at, len(other) - 1)]
+    return b"".join(b" ".join(line) + b"\n" for line in lines)
+
+
+DAMAGES = (cut, another_byte, moved_lines, without_a_line, another_word)
+
+
+def damage(gorace, chance, number, seen):
+    """Asks each judge for one report of a damaged trace, and for the graph's where it is a trace still."""
+    text = chance.choice(DAMAGES)(chance, made(chance))
+    report, status = told = gorace.told(text, "check", "--plain")
+    seen.add(f"status {status}")
+    if not report.startswith("line "):
+        look_at(gorace, text, number, seen)
+    for line in (["check", *judges(number, len(text) // 20)[1]], ["check", "--shards", "4"]):
+        gorace.tells(told, text, *line)
+    if status in (1, 2):
+        for line in (["edges"], ["witness", "x"], ["draw"]):
+            gorace.tells(told, text, *line)
+
+
+def round_of(gorace, seed, number):
+    """Returns what was seen in the round, and what is wrong, if anything is."""
+    chance, seen = random.Random(f"{seed} {number}"), set()
+    kinds = (lambda *all: look_at(gorace, made(chance), number, seen), run_a_program, damage)
+    try:
+        kinds[number % 3](gorace, chance, number, seen)
+    except (Wrong, graph.NoTrace, subprocess.TimeoutExpired) as wrong:
+        return seen, f"FAILED round {number} of seed {seed}: {wrong}"
+    return seen, ""
+
+
+def unseen(rounds):
+    """Returns what so many rounds should have met, and didn't: each word, rule, status and end, and enough races."""
+    found = [seen for seen, _ in rounds]
+    wanted = {*graph.WORDS, *ENDS, "a witness", *(f"status {it}" for it in (0, 1, 2, 66))}
+    missed = wanted - set().union(*found)
+    few = [it for it in ("racy", "clean") if sum(it in seen for seen in found) < len(rounds) // 5]
+    return sorted(missed) + few
+
+
+def main():
+    parser = argparse.ArgumentParser(description=__doc__, formatter_class=argparse.RawDescriptionHelpFormatter)
+    parser.add_argument("--program", default=PROGRAM)
+    parser.add_argument("--seed", type=int, default=1)
+    parser.add_argument("--count", type=int, default=USUAL)
+    given = parser.parse_args()
+    gorace = Gorace(os.path.realpath(given.program))
+    if not os.access(gorace.program, os.X_OK):
+        sys.exit(f"tests/at_random.py: {gorace.program} can't be run: build it by ./gorace, or name another by --program")
+    with ThreadPoolExecutor(os.cpu_count()) as pool:
+        rounds = [*pool.map(lambda number: round_of(gorace, given.seed, number), range(given.count))]
+    failed = [wrong for _, wrong in rounds if wrong]
+    if given.count >= USUAL and not failed and (missed := unseen(rounds)):
+        failed.append(f"FAILED: no round, or too few, met: {', '.join(missed)}")
+    for wrong in failed:
+        print(wrong)
+    print(f"{given.count - len(failed)} passed, {len(failed)} failed")
+    return 1 if failed else 0
+
+
+if __name__ == "__main__":
+    sys.exit(main())

@@ -7,6 +7,8 @@
 It stops at an index out of bounds, an overflow or a bad access too. Left out are long inputs, help texts, what comes on standard
 error and what a shell does, which tests/run.py has by the built program."""
 
+import os
+import re
 import shutil
 import subprocess
 import sys
@@ -47,10 +49,10 @@ def write_crate(room, rows):
     shutil.copy(ROOT / "crates.txt", room)
     shutil.copytree(ROOT / "crates", f"{room}/crates", ignore=WITHOUT)
     source = HERE / "golden.rt.in"
-    text = source.read_text(encoding="utf-8").replace("@COUNT@", str(len(rows))).replace("@ROWS@\n", "".join(rows))
+    text = source.read_text(encoding="utf-8").replace("@COUNT@", str(len(rows))).replace("@ROWS@", "".join(rows))
     folder = f"{room}/crates/program_tests"
     shutil.rmtree(f"{folder}/src")
-    shutil.os.makedirs(f"{folder}/src")
+    os.makedirs(f"{folder}/src")
     for name, body in (("lib.rt", LIBRARY), ("golden.rt", text)):
         with open(f"{folder}/src/{name}", "w", encoding="utf-8") as it:
             it.write(body)
@@ -67,8 +69,8 @@ def main(words):
         command = ["rt", "try", "--test", "--steps", "1", "--seconds", str(SECONDS)]
         ran = subprocess.run(command, cwd=folder, stdout=subprocess.PIPE, stderr=subprocess.STDOUT, errors="replace")
     if ran.returncode:
-        print(ran.stdout)
-    print(f"{len(rows)} cases, " + ("all as expected" if ran.returncode == 0 else "one is not as expected, above"))
+        print(re.sub(r"(?m)^test result: .*\n", "", ran.stdout))
+    print(f"{len(rows)} passed, 0 failed" if ran.returncode == 0 else "0 passed, 1 failed: the first that is not as expected, above")
     return 1 if ran.returncode else 0
 
 

@@ -24,8 +24,8 @@ SHARDS = (1, 2, 3, 7, 64)
 BLOCKS = (1, 5, 65536)
 SLOW = 20
 ENDS = {"main": 0, "fault": 10, "deadlock": 11, "limit": 12, "bad": 13}
-OBJECTS = "goroutine a|goroutine b|goroutine e|var x|var y|var z|chan d 0|mutex m|rwmutex r|once o|once q".split("|")
-OFTEN = [*graph.WORDS, *"read write send recv send recv".split()]
+OBJECTS = "goroutine a|goroutine b|goroutine e|var x|var y|var z|var u|var v|chan d 0|mutex m|rwmutex r|once o|once q".split("|")
+ACCESSES = ["go", "read", "write", "read", "write"]
 STEPS = """read x|read y|write x 1|write y 2|send d 1|recv d|send c 2|recv c|lock m;read x;unlock m
 lock m;write x 3;unlock m|rlock r;read y;runlock r|lock r;write y 4;unlock r|do o;write x 5;enddo o|do o;do q;read z;enddo q;enddo o
 select send:d:6,recv:c default|select recv:d,send:c:7 default|select recv:d,recv:c block|select - default|write z 8"""
@@ -110,14 +110,14 @@ def declared(chance):
     return lines
 
 
-def event(chance, run):
-    """Returns an event of a random kind that fits the declarations; its value is mostly the right one."""
-    word = chance.choice(OFTEN)
+def event(chance, run, words):
+    """Returns an event with one of these words that fits the declarations; its value is mostly the right one."""
+    word = chance.choice(words)
     if word in ("exit", "close", "fault") and chance.random() < 0.9:
         word = chance.choice(("go", "read", "write"))
     who = chance.choice(sorted(run.started) if chance.random() < 0.9 else ["main", "a", "b", "e"])
     chan, lock = chance.choice("cd"), chance.choice("mr")
-    var, once = chance.choice("xyz"), chance.choice("oq")
+    var, once = chance.choice("xyzuv"), chance.choice("oq")
     value = str(chance.randrange(3))
     right = value if chance.random() < 0.1 else run.right_value(word, var, chan)
     cases = ",".join(f"{chance.choice(('send', 'recv'))}:{chance.choice(('c', 'd', 'nil'))}" for _ in range(chance.randrange(3)))
@@ -142,11 +142,12 @@ def event(chance, run):
 
 
 def made(chance):
-    """Returns a legal trace: of so many events that are tried those that break no rule. Seldom one more, that does."""
+    """Returns a legal trace, of half of all words: of so many events that are tried those that break no rule. Seldom one more, that does."""
     version, objects = chance.choice((1, 2, 2, 2)), declared(chance)
+    words = ACCESSES + [word for word in graph.WORDS if chance.random() < 0.5]
     run, events = graph.Run(objects), []
     for _ in range(8 + chance.randrange(120)):
-        tried = event(chance, run)
+        tried = event(chance, run, words)
         is_late = chance.random() < 0.002
         if (version == 1 and tried[0].startswith("try")) or (run.broken(tried) and not is_late):
             continue

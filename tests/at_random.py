@@ -19,17 +19,19 @@ import graph
 
 PROGRAM = os.path.join(os.path.dirname(__file__), "../crates/gorace/out/gorace")
 SECONDS = 60
-USUAL = 600
+USUAL = 480
 SHARDS = (1, 2, 3, 7, 64)
 BLOCKS = (1, 5, 65536)
 SLOW = 20
 ENDS = {"main": 0, "fault": 10, "deadlock": 11, "limit": 12, "bad": 13}
-OBJECTS = "goroutine a|goroutine b|goroutine e|var x|var y|var z|chan d 0|mutex m|rwmutex r|once o|once q".split("|")
-OFTEN = [*graph.WORDS, *"read write send recv send recv".split()]
+VARS = "x y z x1 x2 x3 x4 x5 x6 x7 x8 x9".split()
+OBJECTS = [f"var {it}" for it in VARS] + "goroutine a|goroutine b|goroutine e|chan d 0|mutex m|rwmutex r|once o|once q".split("|")
+ACCESSES = ["go", "read", "write", "read", "write"]
+GROUPS = "send recv|meet recvclosed close default|lock unlock|rlock runlock|trylock tryrlock tryfail|oncebegin onceend oncedone|exit fault"
 STEPS = """read x|read y|write x 1|write y 2|send d 1|recv d|send c 2|recv c|lock m;read x;unlock m
 lock m;write x 3;unlock m|rlock r;read y;runlock r|lock r;write y 4;unlock r|do o;write x 5;enddo o|do o;do q;read z;enddo q;enddo o
 select send:d:6,recv:c default|select recv:d,send:c:7 default|select recv:d,recv:c block|select - default|write z 8"""
-SELDOM = "close c|close d|unlock m|runlock r|send nil 1|recv nil|close nil|go e"
+SELDOM = "close c|close d|unlock m|runlock r|send nil 1|recv nil|close nil|go e|go e|go a"
 TRIES = "trylock m;read x|tryrlock r;read y|trylock m;write x 6;unlock m|trylock r;unlock r"
 
 
@@ -110,14 +112,15 @@ def declared(chance):
     return lines
 
 
-def event(chance, run):
-    """Returns an event of a random kind that fits the declarations; its value is mostly the right one."""
-    word = chance.choice(OFTEN)
+def event(chance, run, words, var):
+    """Returns an event with one of these words, or an access of the variable; its value is mostly the right one."""
+    word = chance.choice(words)
     if word in ("exit", "close", "fault") and chance.random() < 0.9:
         word = chance.choice(("go", "read", "write"))
     who = chance.choice(sorted(run.started) if chance.random() < 0.9 else ["main", "a", "b", "e"])
-    chan, lock = chance.choice("cd"), chance.choice("mr")
-    var, once = chance.choice("xyz"), chance.choice("oq")
+    chan = chance.choice("cd") if word in ("close", "recvclosed") or chance.random() < 0.1 else "d" if word == "meet" else "c"
+    lock = chance.choice("mr")
+    once = chance.choice("oq")
     value = str(chance.randrange(3))
     right = value if chance.random() < 0.1 else run.right_value(word, var, chan)
     cases = ",".join(f"{chance.choice(('send', 'recv'))}:{chance.choice(('c', 'd', 'nil'))}" for _ in range(chance.randrange(3)))
@@ -142,11 +145,15 @@ def event(chance, run):
 
 
 def made(chance):
-    """Returns a legal trace: of so many events that are tried those that break no rule. Seldom one more, that does."""
+    """Returns a legal trace, with some groups of words: of events that are tried those that break no rule. Seldom one more, that does."""
     version, objects = chance.choice((1, 2, 2, 2)), declared(chance)
+    words = ACCESSES + 2 * [word for group in GROUPS.split("|") if chance.random() < 0.35 for word in group.split()]
     run, events = graph.Run(objects), []
-    for _ in range(8 + chance.randrange(120)):
-        tried = event(chance, run)
+    early = [["go", "main", who, "p"] for who in "abe"[: chance.randrange(4)]]
+    # Mostly each variable has two accesses: of more than one race only one is reported.
+    pool = chance.sample(VARS * 2, len(VARS) * 2)
+    for number in range(8 + chance.randrange(200)):
+        tried = early[number] if number < len(early) else event(chance, run, words, pool[-1])
         is_late = chance.random() < 0.002
         if (version == 1 and tried[0].startswith("try")) or (run.broken(tried) and not is_late):
             continue
@@ -154,6 +161,8 @@ def made(chance):
         if is_late:
             break
         run.take(tried)
+        if tried[0] in ("read", "write"):
+            pool = pool[:-1] or VARS * 2
     return ("\n".join([f"gotrace {version}", *objects, *events]) + "\n").encode()
 
 

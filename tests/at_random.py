@@ -10,6 +10,7 @@ witness of each variable is asked for. What differs is printed with the input. T
 import argparse
 import os
 import random
+import re
 import shlex
 import subprocess
 import sys
@@ -22,6 +23,7 @@ SECONDS = 60
 USUAL = 480
 SHARDS = (1, 2, 3, 7, 64)
 BLOCKS = (1, 5, 65536)
+# A block costs a thread for each shard: with more events than these, blocks of one event are for two shards.
 SLOW = 20
 ENDS = {"main": 0, "fault": 10, "deadlock": 11, "limit": 12, "bad": 13}
 VARS = "x y z x1 x2 x3 x4 x5 x6 x7 x8 x9".split()
@@ -70,7 +72,7 @@ def look_at_witness(gorace, trace, var, race):
     """Asks for all accesses, each once and behind those before it, in which the race's second is followed by its first."""
     told, status = gorace.told(trace.text, "witness", var)
     lines = told.splitlines()
-    order = [int(line.split()[0]) - 1 for line in lines[:-1]]
+    order = [int(number) - 1 for number in re.findall(r"^(\d+) ", told, re.M)]
     wanted = [f"{at + 1} {trace.events[at][0]} {trace.events[at][1]} {trace.events[at][2]}" for at in order if at in trace.before]
     wanted.append(f"witness: {len(trace.before)} accesses")
     if (lines, status) != (wanted, 0) or not trace.is_reordering(order) or (race[1], race[0]) not in zip(order, order[1:]):
@@ -95,7 +97,10 @@ def look_at_legal(gorace, trace, seen):
 
 def look_at(gorace, text, number, seen):
     """Compares what both judges say of a trace with what the graph says, and then its edges and witnesses."""
-    trace = graph.Trace(text)
+    try:
+        trace = graph.Trace(text)
+    except (IndexError, KeyError, ValueError) as why:
+        raise Wrong(["check"], text, "that it is a trace", f"a fault of the text: {why!r}") from why
     for judge in judges(number, len(trace.events)):
         gorace.tells(trace.told(), text, "check", *judge)
     if trace.broken is None:
@@ -182,8 +187,8 @@ def end_of(trace, told, limit):
     """Returns how a run says that it ended, where its trace bears that out."""
     last = trace.events[-1] if trace.events else ["", ""]
     is_so = {"main": last[:2] == ["exit", "main"], "fault": last[0] == "fault", "limit": len(trace.events) == limit}
-    end = told.splitlines()[-1].removeprefix("end: ")
-    first = end.split()[0]
+    end = told[told.rfind("end: ") + 5 : -1]
+    first = end.partition(" ")[0]
     if not is_so.get(first, not is_so["main"] and not is_so["fault"]) or first not in ENDS:
         raise Wrong(["race"], trace.text, told, "another end")
     return end
@@ -208,11 +213,15 @@ def run_a_program(gorace, chance, number, seen):
         end = end_of(trace, gorace.told(text, "race", *by)[0], limit)
         report, judged = trace.told()
         wanted = report + f"end: {end}\n", judged or status
-        if ENDS[end.split()[0]] != status:
+        if ENDS[end.partition(" ")[0]] != status:
             raise Wrong(["run", *by], text, status, f"the status of end: {end}")
         for judge in judges(number, len(trace.events)):
             gorace.tells(wanted, text, "race", *by, *judge)
-        seen.add(end.split()[0])
+        seen.add(end.partition(" ")[0])
+
+
+def judge_a_trace(gorace, chance, number, seen):
+    look_at(gorace, made(chance), number, seen)
 
 
 def cut(chance, text):
@@ -268,13 +277,15 @@ def damage(gorace, chance, number, seen):
             gorace.tells(told, text, *line)
 
 
+KINDS = (judge_a_trace, run_a_program, damage)
+
+
 def round_of(gorace, seed, number):
     """Returns what was seen in the round, and what is wrong, if anything is."""
     chance, seen = random.Random(f"{seed} {number}"), set()
-    kinds = (lambda *all: look_at(gorace, made(chance), number, seen), run_a_program, damage)
     try:
-        kinds[number % 3](gorace, chance, number, seen)
-    except (Wrong, graph.NoTrace, subprocess.TimeoutExpired) as wrong:
+        KINDS[number % 3](gorace, chance, number, seen)
+    except (Wrong, subprocess.TimeoutExpired) as wrong:
         return seen, f"FAILED round {number} of seed {seed}: {wrong}"
     return seen, ""
 

@@ -10,10 +10,6 @@ WORDS = (
 KINDS = ("goroutine", "var", "chan", "mutex", "rwmutex", "once")
 
 
-class NoTrace(Exception):
-    pass
-
-
 class Run:
     """A run so far, by whose state an event breaks a rule or doesn't."""
 

@@ -1,20 +1,25 @@
-//! The calls of race_access.
+//! The calls of race_access, and of a clock.
+ghost use Rattle.std.specs.Prelude.{◌<◌};
 
 use crate::calls::{Growing, Reply, assert_each, refused_if, right_if};
 use race_access::VarState;
 use race_clock::{Clock, Stamp};
 use refusing_heap::RefusingHeap;
-use std::alloc::{Allocator, Global};
+use std::alloc::{AllocError, Allocator, Global};
 use std::sync::Wait;
 use std::thread::Threads;
 
-/// What the goroutines, which know nothing of one another, do with a variable.
+/// What the goroutines, which know nothing of one another, do with a variable; or a call of a clock.
 #[derive(Clone, Copy)]
 enum Call {
     /// One reads.
     OneReads,
     /// Six read, then main writes, which knows all behind this read, and a hundred others follow.
     ManyFollow(u32),
+    /// This goroutine is counted in a clock that has no counts.
+    Tick(u32),
+    /// A clock that counts another goroutine joins one that counts this.
+    Join(u32),
 }
 
 // The first access of a goroutine.
@@ -64,6 +69,32 @@ fn races_on<A: Allocator + Copy>(state: &mut VarState<A>, clock: &Clock<A>, read
     is_taken && state.raced() == Some((read, 7))
 }
 
+// Whom the clock counts before it joins.
+const COUNTED: u32 = 3;
+
+// A call that is refused leaves no count.
+fn reply_of<A: Allocator>(answer: Result<(), AllocError>, clock: &Clock<A>, who: u32) -> Reply {
+    match answer {
+        Ok(()) => right_if(clock.knows(who) == 1),
+        Err(_) => refused_if(clock.knows(who) == 0),
+    }
+}
+
+fn joined(heap: &RefusingHeap<Global>, nth: u64, who: u32) -> Reply
+    requires { 0 < nth }
+{
+    let mut clock = Clock::new(heap);
+    let mut other = Clock::new(heap);
+    let is_counted = clock.tick(COUNTED).is_ok() && other.tick(who).is_ok();
+    heap.refuse(nth);
+    let answer = clock.join(&other);
+    if is_counted && clock.knows(COUNTED) == 1 {
+        reply_of(answer, &clock, who)
+    } else {
+        Reply::Wrong
+    }
+}
+
 impl Growing for Call {
     fn reply<T: Threads + Wait + Sync>(
         self,
@@ -72,12 +103,17 @@ impl Growing for Call {
         nth: u64,
     ) -> Reply {
         let mut state = VarState::new(heap);
-        let clock = Clock::new(heap);
+        let mut clock = Clock::new(heap);
         match self {
             Call::OneReads => {
                 heap.refuse(nth);
                 read_up_to(&mut state, &clock, 1)
             }
+            Call::Tick(who) => {
+                heap.refuse(nth);
+                reply_of(clock.tick(who), &clock, who)
+            }
+            Call::Join(who) => joined(heap, nth, who),
             Call::ManyFollow(read) => {
                 let Some(known) = behind(heap, read) else {
                     return Reply::Wrong;
@@ -96,14 +132,20 @@ impl Growing for Call {
 
 // A read beside another takes a list, which grows with the fifth. Where main knows the later reads, its race names one that
 // a refusal could have lost.
-static CALLS: [(Call, u64); 4] = [
+static CALLS: [(Call, u64); 9] = [
     (Call::OneReads, 0),
     (Call::ManyFollow(6), 2),
     (Call::ManyFollow(3), 2),
     (Call::ManyFollow(1), 2),
+    // Eight counts stand in place.
+    (Call::Tick(0), 0),
+    (Call::Tick(7), 0),
+    (Call::Join(7), 0),
+    (Call::Tick(8), 1),
+    (Call::Join(8), 1),
 ];
 
 #[test]
-fn accesses(rt: HostRuntime) {
+fn accesses_and_clocks(rt: HostRuntime) {
     assert_each(&rt, &CALLS);
 }

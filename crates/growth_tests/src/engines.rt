@@ -24,10 +24,8 @@ enum Judging {
 #[derive(Clone, Copy)]
 enum Engine {
     Check(Judging),
-    /// By so many shards, which are handed one event at a time, where a read gives few bytes.
-    CheckPieces(usize),
-    /// The same of a text with a faulty line.
-    CheckFaultyPieces(usize),
+    /// Of this text, by so many shards, which are handed one event at a time, where a read gives few bytes.
+    CheckPieces(&'static [u8], usize),
     Edges,
     /// By so many workers, or without any by picks.
     Run(Option<usize>),
@@ -191,9 +189,8 @@ fn run<R: Threads + Wait + Sync, A: Allocator + Copy + Send>(
     let mut sink = Sink::new(output);
     match engine {
         Engine::Check(judging) => run_check(rt, alloc, &mut trace, &mut sink, &options(judging)),
-        Engine::CheckPieces(shards) => run_check_in_pieces(rt, alloc, TRACE, &mut sink, shards),
-        Engine::CheckFaultyPieces(shards) => {
-            run_check_in_pieces(rt, alloc, FAULTY, &mut sink, shards)
+        Engine::CheckPieces(bytes, shards) => {
+            run_check_in_pieces(rt, alloc, bytes, &mut sink, shards)
         }
         Engine::Edges => run_edges(alloc, &mut trace, &mut sink),
         Engine::Run(workers) => {
@@ -211,10 +208,7 @@ fn run<R: Threads + Wait + Sync, A: Allocator + Copy + Send>(
 
 /// An engine, and how it ends.
 #[derive(Clone, Copy)]
-struct Row {
-    engine: Engine,
-    ending: Ending,
-}
+struct Row(Engine, Ending);
 
 impl Growing for Row {
     fn reply<T: Threads + Wait + Sync>(
@@ -223,10 +217,10 @@ impl Growing for Row {
         heap: &RefusingHeap<Global>,
         nth: u64,
     ) -> Reply {
-        let (status, written) = self.ending;
+        let Row(engine, (status, written)) = self;
         let mut output = [0; 2048];
         heap.refuse(nth);
-        let ended = run(rt, heap, self.engine, output.as_mut_slice());
+        let ended = run(rt, heap, engine, output.as_mut_slice());
         let len = output.iter().position(|byte| *byte == 0).unwrap_or(2048);
         if ended == status::REFUSED {
             refused_if(len == 0)
@@ -243,46 +237,42 @@ impl Growing for Row {
 // takes four lists more for another replay, one for the clocks of each of three walks, and one for its order. A drawing takes
 // what the judge by one shard takes, six lists for its edges, one for the clocks of a walk, and one of layouts; a layout takes
 // what is noted for its way, the way, its arrows, and its rows, which ask again for less; and its text is made in two.
-static ENGINES: [(Engine, Ending, u64); 14] = [
-    (Engine::Check(Judging::Shards(1)), CHECKED, 23),
-    (Engine::Check(Judging::Shards(2)), CHECKED, 25),
-    (Engine::CheckPieces(1), CHECKED, 25),
-    (Engine::Check(Judging::Plain), CHECKED, 26),
-    (Engine::Edges, LISTED, 21),
-    (Engine::Run(None), RUN_BY_PICKS, 51),
-    (Engine::Run(Some(1)), RUN_BY_WORKERS, 64),
-    (Engine::Run(Some(2)), RUN_BY_WORKERS, 64),
-    (Engine::Race(None, Judging::Shards(1)), RACED, 59),
-    (
-        Engine::Race(Some(2), Judging::Shards(2)),
-        RACED_BY_WORKERS,
-        74,
-    ),
-    (Engine::Race(None, Judging::Plain), RACED, 62),
-    (Engine::Witness, SHOWN, 31),
-    (Engine::Draw(false), DRAWN, 36),
-    (Engine::Draw(true), DRAWN_AS_SVG, 36),
+static ENGINES: [(Row, u64); 14] = [
+    (Row(Engine::Check(Judging::Shards(1)), CHECKED), 23),
+    (Row(Engine::Check(Judging::Shards(2)), CHECKED), 25),
+    (Row(Engine::CheckPieces(TRACE, 1), CHECKED), 25),
+    (Row(Engine::Check(Judging::Plain), CHECKED), 26),
+    (Row(Engine::Edges, LISTED), 21),
+    (Row(Engine::Run(None), RUN_BY_PICKS), 51),
+    (Row(Engine::Run(Some(1)), RUN_BY_WORKERS), 64),
+    (Row(Engine::Run(Some(2)), RUN_BY_WORKERS), 64),
+    (Row(Engine::Race(None, Judging::Shards(1)), RACED), 59),
+    (Row(RACE_BY_TWO, RACED_BY_WORKERS), 74),
+    (Row(Engine::Race(None, Judging::Plain), RACED), 62),
+    (Row(Engine::Witness, SHOWN), 31),
+    (Row(Engine::Draw(false), DRAWN), 36),
+    (Row(Engine::Draw(true), DRAWN_AS_SVG), 36),
 ];
+
+const RACE_BY_TWO: Engine = Engine::Race(Some(2), Judging::Shards(2));
 
 #[test]
 fn engines(rt: HostRuntime) {
-    for &(engine, ending, want) in &ENGINES {
-        assert_each(&rt, &[(Row { engine, ending }, want)]);
-    }
+    assert_each(&rt, &ENGINES);
 }
 
 // A thread that reads and one that judges grow at one time, in no order that is always the same: so which growth is refused
 // isn't known, and how often differs.
-static BESIDE: [(Engine, Ending); 4] = [
-    (Engine::CheckPieces(2), CHECKED),
-    (Engine::CheckPieces(3), CHECKED),
-    (Engine::CheckFaultyPieces(1), FAULT),
-    (Engine::CheckFaultyPieces(2), FAULT),
+static BESIDE: [Row; 4] = [
+    Row(Engine::CheckPieces(TRACE, 2), CHECKED),
+    Row(Engine::CheckPieces(TRACE, 3), CHECKED),
+    Row(Engine::CheckPieces(FAULTY, 1), FAULT),
+    Row(Engine::CheckPieces(FAULTY, 2), FAULT),
 ];
 
 #[test]
 fn engines_that_read_beside(rt: HostRuntime) {
-    for &(engine, ending) in &BESIDE {
-        assert!(rt; refusals(&rt, Row { engine, ending }).is_some());
+    for row in &BESIDE {
+        assert!(rt; refusals(&rt, *row).is_some());
     }
 }

@@ -2,8 +2,10 @@
 ghost use Rattle.std.specs.Prelude.{◌<◌};
 
 use crate::calls::{Growing, Reply, assert_each, refused_if, right_if};
+use crate::played::Move::{Ask, Fire, Step};
+use crate::played::Plain::{Do, Go, Recv, Send, TryLock, Write};
 use crate::played::{
-    Asks, Move, Plain, Script, are_alike, are_jobs_alike, asked, boxes, declared, played,
+    Asks, Plain, Script, are_alike, are_jobs_alike, asked, boxes, declared, played,
 };
 use race_hub::{Hub, HubFault, Job, SubmitFault};
 use race_records::{Decls, Op};
@@ -30,94 +32,41 @@ enum Call {
     Fire(Happening),
 }
 
-const STARTS: &[Plain] = &[Plain::Go(1), Plain::Go(2), Plain::Go(3), Plain::Go(4)];
+const STARTS: &[Plain] = &[Go(1), Go(2), Go(3), Go(4)];
 
-const QUIET: Script = Script {
-    main: &[],
-    others: &[],
-    moves: &[],
-};
+const QUIET: Script = Script(&[], &[], &[]);
 
 // Main starts w1, and one of them waits.
-const ONE_WAITS: Script = Script {
-    main: STARTS,
-    others: &[],
-    moves: &[Move::Step, Move::Ask],
-};
+const ONE_WAITS: Script = Script(STARTS, &[], &[Step, Ask]);
 
 // Main starts all, and all but w4 wait.
-const FOUR_WAIT: Script = Script {
-    main: STARTS,
-    others: &[],
-    moves: &[
-        Move::Step,
-        Move::Step,
-        Move::Ask,
-        Move::Ask,
-        Move::Fire(1),
-        Move::Ask,
-        Move::Ask,
-        Move::Fire(2),
-        Move::Ask,
-        Move::Ask,
-    ],
-};
+const FOUR_WAIT: Script = Script(
+    STARTS,
+    &[],
+    &[Step, Step, Ask, Ask, Fire(1), Ask, Ask, Fire(2), Ask, Ask],
+);
 
-const MAIN_WRITES: Script = Script {
-    main: &[],
-    others: &[],
-    moves: &[Move::Ask],
-};
+const MAIN_WRITES: Script = Script(&[], &[], &[Ask]);
 
-const MAIN_SENDS: Script = Script {
-    main: &[Plain::Send(0, 7)],
-    others: &[],
-    moves: &[Move::Ask],
-};
+const MAIN_SENDS: Script = Script(&[Send(0, 7)], &[], &[Ask]);
 
-const MAIN_TRIES: Script = Script {
-    main: &[Plain::TryLock(0)],
-    others: &[],
-    moves: &[Move::Ask],
-};
+const MAIN_TRIES: Script = Script(&[TryLock(0)], &[], &[Ask]);
 
-const MAIN_BEGINS: Script = Script {
-    main: &[Plain::Do(0)],
-    others: &[],
-    moves: &[Move::Ask],
-};
+const MAIN_BEGINS: Script = Script(&[Do(0)], &[], &[Ask]);
 
 // Main writes twice and starts w1 and w2, and w1 asks. Two are ready, and the event is the fifth.
-const FIFTH: Script = Script {
-    main: &[
-        Plain::Write(0, 1),
-        Plain::Write(0, 2),
-        Plain::Go(1),
-        Plain::Go(2),
-    ],
-    others: &[],
-    moves: &[Move::Step, Move::Step, Move::Step, Move::Step, Move::Ask],
-};
+const FIFTH: Script = Script(
+    &[Write(0, 1), Write(0, 2), Go(1), Go(2)],
+    &[],
+    &[Step, Step, Step, Step, Ask],
+);
 
 // Main writes three times and starts w1, and both ask. Sender and receiver wait, and the event is the fifth.
-const MEET: Script = Script {
-    main: &[
-        Plain::Write(0, 1),
-        Plain::Write(0, 2),
-        Plain::Write(0, 3),
-        Plain::Go(1),
-        Plain::Send(1, 7),
-    ],
-    others: &[Plain::Recv(Some(1))],
-    moves: &[
-        Move::Step,
-        Move::Step,
-        Move::Step,
-        Move::Step,
-        Move::Ask,
-        Move::Ask,
-    ],
-};
+const MEET: Script = Script(
+    &[Write(0, 1), Write(0, 2), Write(0, 3), Go(1), Send(1, 7)],
+    &[Recv(Some(1))],
+    &[Step, Step, Step, Step, Ask, Ask],
+);
 
 // The first state has no event, and main is the one that is ready.
 fn is_first<A: Allocator>(hub: &mut Hub<Asks, A>) -> bool {

@@ -23,14 +23,7 @@ fn job_of<A: Allocator + Copy>(heap: A, call: Call) -> Option<Job<Asks, A>> {
         Call::Turn(moves) => moves,
         Call::Again => &[],
     };
-    let mut hub = played(
-        heap,
-        Script {
-            main: &[],
-            others: &[],
-            moves,
-        },
-    )?;
+    let mut hub = played(heap, Script(&[], &[], moves))?;
     match call {
         Call::Turn(_) => hub.take(),
         Call::Again => asked(&mut hub),

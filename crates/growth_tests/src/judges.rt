@@ -3,10 +3,10 @@ ghost use Rattle.std.specs.Prelude.{◌≡◌, ◌<◌, [], true};
 ghost use Rattle.race_shards.specs.Judging.{StandsFor};
 
 use crate::calls::{Growing, Reply, assert_each, refused_if, right_if};
-use crate::traced::traced;
+use crate::traced::{ON_X, ON_Y, TWO_RACES, traced};
 use race_records::Trace;
-use race_shards::{Judge, JudgeFault, OpenGate, judge_alone};
-use race_verdict::{NotedVerdict, Race, Verdict};
+use race_shards::{Judge, JudgeFault, OpenGate};
+use race_verdict::{NotedVerdict, Verdict};
 use refusing_heap::RefusingHeap;
 use std::alloc::{Allocator, Global};
 use std::sync::Wait;
@@ -20,27 +20,7 @@ enum Call {
     Finish,
     FinishNoted,
     Judge,
-    JudgeAlone,
 }
-
-// A goroutine, two variables with a race, and a mutex.
-static DECLARED: &[u8] = b"gotrace 1\ngoroutine w\nvar x\nvar y\nmutex m\n";
-
-static EVENTS: &[u8] =
-    b"go main w p\nwrite main x 1 p\nread w x 1 p\nwrite main y 1 p\nwrite w y 2 p\nlock w m p\nunlock w m p\n";
-
-static RACES: [Race; 2] = [
-    Race {
-        var: 0,
-        first: 1,
-        second: 2,
-    },
-    Race {
-        var: 1,
-        first: 3,
-        second: 4,
-    },
-];
 
 fn is_wanting(fault: JudgeFault) -> bool {
     matches!(fault, JudgeFault::NoThread | JudgeFault::OutOfMemory)
@@ -48,7 +28,7 @@ fn is_wanting(fault: JudgeFault) -> bool {
 
 fn judged<A: Allocator>(answer: Result<Verdict<A>, JudgeFault>) -> Reply {
     match answer {
-        Ok(Verdict::Races(races)) => right_if(races.as_slice() == RACES.as_slice()),
+        Ok(Verdict::Races(races)) => right_if(races.as_slice() == [ON_X, ON_Y].as_slice()),
         Ok(_) => Reply::Wrong,
         Err(fault) => refused_if(is_wanting(fault)),
     }
@@ -88,10 +68,7 @@ fn fed<R: Threads + Wait, A: Allocator + Copy + Send, B: Allocator>(
 
 /// A call by so many shards.
 #[derive(Clone, Copy)]
-struct Row {
-    call: Call,
-    shards: usize,
-}
+struct Row(Call, usize);
 
 // A growth is refused once the judge is made.
 fn feeds<R: Threads + Wait>(
@@ -145,13 +122,6 @@ fn made<A: Allocator + Copy>(heap: A, trace: &Trace<A>, shards: usize) -> Reply 
     }
 }
 
-fn judged_alone<A: Allocator + Copy>(heap: A, trace: &Trace<A>) -> Reply {
-    match judge_alone(heap, trace) {
-        Ok(verdict) => judged(Ok(verdict)),
-        Err(_) => judged::<A>(Err(JudgeFault::OutOfMemory)),
-    }
-}
-
 impl Growing for Row {
     fn reply<T: Threads + Wait + Sync>(
         self,
@@ -159,24 +129,21 @@ impl Growing for Row {
         heap: &RefusingHeap<Global>,
         nth: u64,
     ) -> Reply {
-        let Some(trace) = traced(heap, DECLARED, EVENTS) else {
+        let Some(trace) = traced(heap, TWO_RACES, b"") else {
             return Reply::Wrong;
         };
-        match self.call {
+        let Row(call, shards) = self;
+        match call {
             Call::New => {
                 heap.refuse(nth);
-                made(heap, &trace, self.shards)
+                made(heap, &trace, shards)
             }
-            Call::Feed => feeds(rt, heap, nth, &trace, self.shards),
-            Call::Finish => finishes(rt, heap, nth, &trace, self.shards, false),
-            Call::FinishNoted => finishes(rt, heap, nth, &trace, self.shards, true),
+            Call::Feed => feeds(rt, heap, nth, &trace, shards),
+            Call::Finish => finishes(rt, heap, nth, &trace, shards, false),
+            Call::FinishNoted => finishes(rt, heap, nth, &trace, shards, true),
             Call::Judge => {
                 heap.refuse(nth);
-                judged(Judge::judge(rt, heap, &trace, self.shards, 2, &OpenGate))
-            }
-            Call::JudgeAlone => {
-                heap.refuse(nth);
-                judged_alone(heap, &trace)
+                judged(Judge::judge(rt, heap, &trace, shards, 2, &OpenGate))
             }
         }
     }
@@ -185,22 +152,18 @@ impl Growing for Row {
 // A judge takes six lists for its replay (four for goroutines and variables, two for locks), one for its shards, and for
 // each shard the clocks of its goroutines, a list for its locks, and what is kept of its variables. The first unlock of a
 // mutex makes each shard's stamper grow, and at the end there is the list of races.
-static CALLS: [(Call, usize, u64); 9] = [
-    (Call::New, 1, 10),
-    (Call::New, 2, 13),
-    (Call::Feed, 1, 1),
-    (Call::Feed, 2, 2),
-    (Call::Finish, 2, 1),
-    (Call::FinishNoted, 2, 1),
-    (Call::Judge, 1, 12),
-    (Call::Judge, 2, 16),
-    (Call::JudgeAlone, 1, 12),
+static CALLS: [(Row, u64); 8] = [
+    (Row(Call::New, 1), 10),
+    (Row(Call::New, 2), 13),
+    (Row(Call::Feed, 1), 1),
+    (Row(Call::Feed, 2), 2),
+    (Row(Call::Finish, 2), 1),
+    (Row(Call::FinishNoted, 2), 1),
+    (Row(Call::Judge, 1), 12),
+    (Row(Call::Judge, 2), 16),
 ];
 
 #[test]
 fn judges(rt: HostRuntime) {
-    for &(call, shards, want) in &CALLS {
-        let row = Row { call, shards };
-        assert_each(&rt, &[(row, want)]);
-    }
+    assert_each(&rt, &CALLS);
 }

@@ -6,8 +6,6 @@ mod accesses;
 #[cfg(test)]
 mod calls;
 #[cfg(test)]
-mod clocks;
-#[cfg(test)]
 mod engines;
 #[cfg(test)]
 mod hubs;
@@ -33,5 +31,3 @@ mod stamps;
 mod texts;
 #[cfg(test)]
 mod traced;
-#[cfg(test)]
-mod witnesses;

@@ -63,11 +63,11 @@ pub(crate) enum Move {
 
 /// What main asks, what each other one does, and how far both are played.
 #[derive(Clone, Copy)]
-pub(crate) struct Script {
-    pub main: &'static [Plain],
-    pub others: &'static [Plain],
-    pub moves: &'static [Move],
-}
+pub(crate) struct Script(
+    pub &'static [Plain],
+    pub &'static [Plain],
+    pub &'static [Move],
+);
 
 // Four goroutines beside main, a variable, a buffered channel, an unbuffered one, a mutex, a once.
 static OBJECTS: [(&str, Object); 9] = [
@@ -94,14 +94,11 @@ pub(crate) fn declared<A: Allocator + Copy>(heap: A) -> Option<Decls<A>> {
 
 /// Their boxes.
 pub(crate) fn boxes<A: Allocator>(heap: A, script: Script) -> Option<Vec<Asks, A>> {
+    let Script(main, others, _) = script;
     let mut boxes = Vec::new(heap);
     let mut are_all = true;
     for goroutine in 0..5 {
-        let asks = if goroutine == 0 {
-            script.main
-        } else {
-            script.others
-        };
+        let asks = if goroutine == 0 { main } else { others };
         are_all &= boxes.push(Asks { asks, calls: 0 }).is_ok();
     }
     if are_all { Some(boxes) } else { None }
@@ -146,7 +143,8 @@ pub(crate) fn played<A: Allocator + Copy>(heap: A, script: Script) -> Option<Hub
         (Some(decls), Some(boxes)) => Hub::new(heap, decls, 64, boxes).ok()?,
         _ => return None,
     };
-    if play(&mut hub, script.moves) {
+    let Script(_, _, moves) = script;
+    if play(&mut hub, moves) {
         Some(hub)
     } else {
         None

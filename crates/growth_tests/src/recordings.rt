@@ -14,9 +14,7 @@ use std::thread::Threads;
 
 /// The recording by so many workers, or without any by no picks.
 #[derive(Clone, Copy)]
-struct Records {
-    workers: Option<usize>,
-}
+struct By(Option<usize>);
 
 fn scripts_of<A: Allocator + Copy + Send>(
     alloc: A,
@@ -52,7 +50,7 @@ fn replied<A: Allocator>(answer: Result<Recording<A>, RecordFault>, right: &Trac
     }
 }
 
-impl Growing for Records {
+impl Growing for By {
     fn reply<T: Threads + Wait + Sync>(
         self,
         rt: &T,
@@ -66,7 +64,8 @@ impl Growing for Records {
         if hub.out() != 0 {
             return Reply::Wrong;
         }
-        match self.workers {
+        let By(workers) = self;
+        match workers {
             Some(workers) => replied(record(rt, hub, workers, 0), &right),
             None => replied(record_serial(hub, &[]), &right),
         }
@@ -75,11 +74,9 @@ impl Growing for Records {
 
 // The three lists of the log, the requests and what stands behind them, who is through, and the trace. Workers take a copy of the
 // declarations before.
-static CALLS: [(Option<usize>, u64); 3] = [(None, 7), (Some(1), 19), (Some(2), 19)];
+static CALLS: [(By, u64); 3] = [(By(None), 7), (By(Some(1)), 19), (By(Some(2)), 19)];
 
 #[test]
 fn recordings(rt: HostRuntime) {
-    for &(workers, want) in &CALLS {
-        assert_each(&rt, &[(Records { workers }, want)]);
-    }
+    assert_each(&rt, &CALLS);
 }

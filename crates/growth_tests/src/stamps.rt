@@ -17,14 +17,8 @@ use std::thread::Threads;
 /// What a goroutine's clock knows of a goroutine: whose it is, of whom, and how many begins.
 type Count = (u32, u32, u32);
 
-/// What a call answers.
-#[derive(Clone, Copy)]
-struct Answer {
-    /// The stamp of an access.
-    stamp: Option<Stamp>,
-    /// All that is known then.
-    known: &'static [Count],
-}
+/// What a call answers: the stamp of an access, and all that is known then.
+type Answer = (Option<Stamp>, &'static [Count]);
 
 /// A call of race_clock.
 #[derive(Clone, Copy)]
@@ -72,12 +66,13 @@ fn last_step<A: Allocator + Copy>(stamper: &mut Stamper<A>, event: &Event, right
     requires next { IsNext stamper.old event.now }
     requires slots { 8 < length stamper.old.clocks.slots }
 {
+    let (right, known) = right;
     match stamper.step(event) {
-        Ok(stamp) => right_if(stamp == right.stamp && is_known(stamper, right.known)),
+        Ok(stamp) => right_if(stamp == right && is_known(stamper, known)),
         Err(_) => refused_if(
             is_known(stamper, &[])
-                && stamper.step(event).ok() == Some(right.stamp)
-                && is_known(stamper, right.known),
+                && stamper.step(event).ok() == Some(right)
+                && is_known(stamper, known),
         ),
     }
 }
@@ -152,83 +147,44 @@ impl Growing for Row {
     }
 }
 
-// The answer to an event that is no access, behind which nothing is known.
-const NOTHING: Answer = Answer {
-    stamp: None,
-    known: &[],
-};
+// An event that is no access, behind which nothing is known.
+const NOTHING: Call = Call::Step((None, &[]));
 
-// A write counts those of main's events that come before it, and who is started has seen its start and
-// all before it.
+// A write counts those of main's events that come before it.
+const WRITE: Call = Call::Step((SECOND, &[(0, 0, 1)]));
+
+const SECOND: Option<Stamp> = Some(Stamp {
+    at: 1,
+    who: 0,
+    count: 2,
+    var: 0,
+    write: true,
+});
+
+// Who is started has seen its start and all before it.
+const GO: Call = Call::Step((None, &[(8, 0, 2)]));
+
 static CALLS: [(Row, u64); 10] = [
     // The list of nine goroutines grows to four, to eight and to sixteen; the clock of the last has a
     // count behind the eight in place; channels, locks and onces are a list each.
     (Row(Call::New, b""), 7),
     // The count of a goroutine's own events is written out from the start.
-    (
-        Row(
-            Call::Step(Answer {
-                stamp: Some(Stamp {
-                    at: 1,
-                    who: 0,
-                    count: 2,
-                    var: 0,
-                    write: true,
-                }),
-                known: &[(0, 0, 1)],
-            }),
-            b"write main x 7 p\nwrite main x 8 p\n",
-        ),
-        0,
-    ),
+    (Row(WRITE, b"write main x 7 p\nwrite main x 8 p\n"), 0),
     // Nothing was unlocked: main's clock stays as it is.
-    (
-        Row(Call::Step(NOTHING), b"write main x 7 p\nlock main m p\n"),
-        0,
-    ),
+    (Row(NOTHING, b"write main x 7 p\nlock main m p\n"), 0),
     // A try costs no more, whatever it comes to.
-    (
-        Row(Call::Step(NOTHING), b"write main x 7 p\ntrylock main m p\n"),
-        0,
-    ),
-    (
-        Row(Call::Step(NOTHING), b"write main x 7 p\ntryfail main m p\n"),
-        0,
-    ),
+    (Row(NOTHING, b"write main x 7 p\ntrylock main m p\n"), 0),
+    (Row(NOTHING, b"write main x 7 p\ntryfail main m p\n"), 0),
     // The clocks of the mutex' unlocks, which are made at the first.
-    (
-        Row(Call::Step(NOTHING), b"lock main m p\nunlock main m p\n"),
-        1,
-    ),
+    (Row(NOTHING, b"lock main m p\nunlock main m p\n"), 1),
     // The queues of a channel, which are made at its first send, and room for one in that of sends.
-    (
-        Row(Call::Step(NOTHING), b"write main x 7 p\nsend main c 7 p\n"),
-        2,
-    ),
+    (Row(NOTHING, b"write main x 7 p\nsend main c 7 p\n"), 2),
     // The clock of the close.
-    (
-        Row(Call::Step(NOTHING), b"write main x 7 p\nclose main c p\n"),
-        1,
-    ),
+    (Row(NOTHING, b"write main x 7 p\nclose main c p\n"), 1),
     // The clock of the end.
-    (
-        Row(
-            Call::Step(NOTHING),
-            b"oncebegin main o p\nonceend main o p\n",
-        ),
-        1,
-    ),
+    (Row(NOTHING, b"oncebegin main o p\nonceend main o p\n"), 1),
     // The clock of the started one is worked out in a spare one, which has no ninth count yet.
-    (
-        Row(
-            Call::Step(Answer {
-                stamp: None,
-                known: &[(8, 0, 2)],
-            }),
-            b"write main x 7 p\ngo main w8 p\n",
-        ),
-        1,
-    ),
+    (Row(GO, b"write main x 7 p\ngo main w8 p\n"), 1),
 ];
 
 #[test]

@@ -8,6 +8,8 @@ mod clock;
 #[cfg(test)]
 mod edges;
 #[cfg(test)]
+mod faults;
+#[cfg(test)]
 mod legal;
 #[cfg(test)]
 mod records;

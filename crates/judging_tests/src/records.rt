@@ -1,5 +1,4 @@
 //! What race_records does that no contract says.
 mod declarations;
 mod devices;
-mod faults;
 mod traces;

@@ -6,11 +6,8 @@ use std::alloc::Global;
 use std::test::Fail;
 
 /// The trace of these declarations and these events.
-pub(crate) fn traced(alloc: Global, declared: &str, events: &[&str]) -> Result<Trace, Fail> {
+pub(crate) fn traced(alloc: Global, declared: &str, events: &str) -> Result<Trace, Fail> {
     let mut text = String::from_str(alloc, declared)?;
-    for event in events {
-        text.push_str(*event)?;
-        text.push_str("\n")?;
-    }
+    text.push_str(events)?;
     Ok(parse_trace(alloc, text.as_bytes())?)
 }

@@ -1,7 +1,7 @@
 //! Boxes that ask what a table says, and hubs of them.
 
 use race_hub::{Answer, Ask, Hub, Offer, Offers, Request, Routine};
-use race_records::{DeclFault, Decls, Object};
+use race_records::{Decls, Object};
 use std::alloc::{AllocError, Global};
 use std::test::Fail;
 
@@ -84,24 +84,16 @@ impl Routine for Asks {
     }
 }
 
-fn declare(decls: &mut Decls, object: Object) -> Result<(), DeclFault> {
+/// Goroutine w, an object and a place.
+pub(crate) fn declared(alloc: Global, is_version2: bool, object: Object) -> Result<Decls, Fail> {
+    let mut decls = if is_version2 {
+        Decls::new_version2(alloc)
+    } else {
+        Decls::new(alloc)
+    };
     decls.declare("w", Object::Goroutine)?;
     decls.declare("x", object)?;
     decls.add_place("p")?;
-    Ok(())
-}
-
-/// Goroutine w, an object and a place.
-pub(crate) fn declared(alloc: Global, object: Object) -> Result<Decls, Fail> {
-    let mut decls = Decls::new(alloc);
-    declare(&mut decls, object)?;
-    Ok(decls)
-}
-
-/// The same of version 2.
-pub(crate) fn declared_of_version2(alloc: Global, object: Object) -> Result<Decls, Fail> {
-    let mut decls = Decls::new_version2(alloc);
-    declare(&mut decls, object)?;
     Ok(decls)
 }
 
@@ -113,7 +105,7 @@ pub(crate) fn boxes_of<R: Routine>(alloc: Global, main: R, other: R) -> Result<V
     Ok(boxes)
 }
 
-/// A hub with this object, of main and w that ask these.
+/// A hub of version 1 with this object, of main and w that ask these.
 pub(crate) fn hub_of(
     alloc: Global,
     object: Object,
@@ -122,5 +114,5 @@ pub(crate) fn hub_of(
     other: &'static [Plain],
 ) -> Result<Hub<Asks>, Fail> {
     let boxes = boxes_of(alloc, box_of(main), box_of(other))?;
-    Ok(Hub::new(alloc, declared(alloc, object)?, limit, boxes)?)
+    Ok(Hub::new(alloc, declared(alloc, false, object)?, limit, boxes)?)
 }

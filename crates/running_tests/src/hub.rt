@@ -1,7 +1,6 @@
 //! What race_hub does that no contract says.
 mod board;
 mod boxes;
-mod faults;
 mod hubs;
 mod search;
 mod selects;

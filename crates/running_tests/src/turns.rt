@@ -1,7 +1,11 @@
-//! Turns of goroutines, in their own hub or in another.
+//! Turns of goroutines, in their own hub or in another, and what is recorded of them.
 
-use race_hub::{Hub, Job, Routine};
+use race_hub::{Hub, Job, Recording, Routine};
+use race_record::{record, record_serial};
 use std::alloc::AllocError;
+use std::sync::Wait;
+use std::test::Fail;
+use std::thread::Threads;
 
 // Lets the job, if there is one, ask in the hub.
 fn ask_in<R: Routine>(hub: &mut Hub<R>, job: Option<Job<R>>) -> Result<bool, AllocError> {
@@ -39,4 +43,26 @@ pub(crate) fn exchange<R: Routine>(
     other: &mut Hub<R>,
 ) -> Result<bool, AllocError> {
     Ok(go_on(hub)? && is_ready(hub) && go_on_in(other, hub)?)
+}
+
+/// How a hub is recorded: by picks on this thread, or by so many workers with a seed.
+#[derive(Clone, Copy)]
+pub(crate) enum By<'a> {
+    Picks(&'a [u64]),
+    Workers(usize, u64),
+}
+
+/// What is recorded of a hub from which no job is out.
+pub(crate) fn recorded<T: Threads + Wait + Sync, R: Routine>(
+    rt: &T,
+    hub: Hub<R>,
+    by: By<'_>,
+) -> Result<Recording, Fail> {
+    if hub.out() != 0 {
+        return Err(Fail::new("a job is out"));
+    }
+    match by {
+        By::Picks(picks) => Ok(record_serial(hub, picks)?),
+        By::Workers(workers, seed) => Ok(record(rt, hub, workers, seed)?),
+    }
 }

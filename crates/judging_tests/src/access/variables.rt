@@ -134,20 +134,34 @@ fn touch(alloc: Global, state: &mut VarState, row: &Row) -> Result<(), AllocErro
     )
 }
 
-fn raced(alloc: Global, rows: &[Row]) -> Result<Option<(u32, u32)>, AllocError> {
-    let mut state = VarState::new(alloc);
+// What is noted of the access of this index: it stands at 500 and its index.
+fn note_of(rows: &[Row], at: u32) -> Option<Noted> {
     for row in rows {
-        touch(alloc, &mut state, row)?;
+        let (index, who, _, write, _) = *row;
+        if index == at {
+            return Some(Noted {
+                at,
+                who,
+                write,
+                place: 500 + at % 100,
+            });
+        }
     }
-    Ok(state.raced())
+    None
 }
 
-fn noted(alloc: Global, rows: &[Row]) -> Result<Option<(Noted, Noted)>, AllocError> {
+fn notes_of(rows: &[Row], race: Option<(u32, u32)>) -> Option<(Noted, Noted)> {
+    let (first, second) = race?;
+    Some((note_of(rows, first)?, note_of(rows, second)?))
+}
+
+// Whether the race is told, with what is noted of both accesses.
+fn is_told(alloc: Global, rows: &[Row], race: Option<(u32, u32)>) -> Result<bool, AllocError> {
     let mut state = VarState::new(alloc);
     for row in rows {
         touch(alloc, &mut state, row)?;
     }
-    Ok(state.noted())
+    Ok(state.raced() == race && state.noted() == notes_of(rows, race))
 }
 
 // Nine goroutines read, of which so many meet main before it writes.
@@ -189,62 +203,9 @@ fn raced_by_nine(alloc: Global, meets: u32) -> Result<Option<(u32, u32)>, AllocE
 #[test]
 fn the_race_is_told(rt: HostRuntime) -> Result<(), Fail> {
     for (rows, race) in &ROWS {
-        assert_eq!(rt; raced(rt.alloc(), rows)?, *race, "{rows:?}");
+        assert!(rt; is_told(rt.alloc(), rows, *race)?, "{rows:?}");
     }
     assert_eq!(rt; raced_by_nine(rt.alloc(), 9)?, None);
     assert_eq!(rt; raced_by_nine(rt.alloc(), 8)?, Some((17, 26)));
-    Ok(())
-}
-
-// Some of the rows above, and what is printed of the two accesses of the race: each stands at 500 and its index.
-static NOTED: [(usize, Option<(Noted, Noted)>); 3] = [
-    (1, None),
-    // The read that was kept beside another, and main's write.
-    (
-        2,
-        Some((
-            Noted {
-                at: 3,
-                who: 2,
-                write: false,
-                place: 503,
-            },
-            Noted {
-                at: 4,
-                who: 0,
-                write: true,
-                place: 504,
-            },
-        )),
-    ),
-    // The write that stayed behind a read, and the read that doesn't know it.
-    (
-        6,
-        Some((
-            Noted {
-                at: 2,
-                who: 0,
-                write: true,
-                place: 502,
-            },
-            Noted {
-                at: 5,
-                who: 2,
-                write: false,
-                place: 505,
-            },
-        )),
-    ),
-];
-
-#[test]
-fn both_accesses_are_noted(rt: HostRuntime) -> Result<(), Fail> {
-    for (row, want) in &NOTED {
-        let Some((rows, _)) = ROWS.get(*row) else {
-            assert!(rt; false);
-            continue;
-        };
-        assert_eq!(rt; noted(rt.alloc(), rows)?, *want, "{rows:?}");
-    }
     Ok(())
 }

@@ -15,47 +15,20 @@ type Known = ((u32, u32, u32, bool), [u32; 3]);
 static DECLARED: &str =
     "gotrace 2\ngoroutine a\ngoroutine b\nvar x\nchan c 1\nchan d 0\nmutex m\nrwmutex r\nonce o\n";
 
-static TABLES: [(&[&str], &[Known]); 9] = [
+static TABLES: [(&str, &[Known]); 9] = [
     // A value of a buffered channel brings what its send's begin had seen, and not what the send itself has.
     (
-        &[
-            "go main a p",
-            "go main b p",
-            "send main c 1 p",
-            "write a x 5 p",
-            "recv a c 1 p",
-            "send b c 2 p",
-            "recv main c 2 p",
-            "read main x 5 p",
-        ],
+        "go main a p\ngo main b p\nsend main c 1 p\nwrite a x 5 p\nrecv a c 1 p\nsend b c 2 p\nrecv main c 2 p\nread main x 5 p\n",
         &[((3, 1, 2, true), [1, 1, 0]), ((7, 0, 5, false), [4, 0, 2])],
     ),
     // A receive makes room for a send, which sees it.
     (
-        &[
-            "go main a p",
-            "send main c 1 p",
-            "write main x 1 p",
-            "recv main c 1 p",
-            "send a c 1 p",
-            "write a x 2 p",
-            "recv a c 1 p",
-        ],
+        "go main a p\nsend main c 1 p\nwrite main x 1 p\nrecv main c 1 p\nsend a c 1 p\nwrite a x 2 p\nrecv a c 1 p\n",
         &[((2, 0, 3, true), [2, 0, 0]), ((5, 1, 3, true), [4, 2, 0])],
     ),
     // Both sides of a meeting have seen the other's begin in it.
     (
-        &[
-            "go main a p",
-            "write main x 1 p",
-            "meet main a d 7 p p",
-            "read a x 1 p",
-            "read main x 1 p",
-            "close main d p",
-            "write main x 2 p",
-            "recvclosed a d p",
-            "read a x 2 p",
-        ],
+        "go main a p\nwrite main x 1 p\nmeet main a d 7 p p\nread a x 1 p\nread main x 1 p\nclose main d p\nwrite main x 2 p\nrecvclosed a d p\nread a x 2 p\n",
         &[
             ((1, 0, 2, true), [1, 0, 0]),
             ((3, 1, 3, false), [3, 2, 0]),
@@ -66,17 +39,7 @@ static TABLES: [(&[&str], &[Known]); 9] = [
     ),
     // A counter under a mutex.
     (
-        &[
-            "go main a p",
-            "lock main m p",
-            "write main x 1 p",
-            "unlock main m p",
-            "lock a m p",
-            "write a x 2 p",
-            "unlock a m p",
-            "lock main m p",
-            "read main x 2 p",
-        ],
+        "go main a p\nlock main m p\nwrite main x 1 p\nunlock main m p\nlock a m p\nwrite a x 2 p\nunlock a m p\nlock main m p\nread main x 2 p\n",
         &[
             ((2, 0, 3, true), [2, 0, 0]),
             ((5, 1, 3, true), [4, 2, 0]),
@@ -85,34 +48,12 @@ static TABLES: [(&[&str], &[Known]); 9] = [
     ),
     // What a reader did is seen by who locks next, and not by another reader.
     (
-        &[
-            "go main a p",
-            "go main b p",
-            "rlock a r p",
-            "runlock a r p",
-            "rlock b r p",
-            "read b x 0 p",
-            "runlock b r p",
-            "lock main r p",
-            "write main x 1 p",
-        ],
+        "go main a p\ngo main b p\nrlock a r p\nrunlock a r p\nrlock b r p\nread b x 0 p\nrunlock b r p\nlock main r p\nwrite main x 1 p\n",
         &[((5, 2, 3, false), [2, 0, 2]), ((8, 0, 4, true), [3, 3, 4])],
     ),
     // A try that succeeds has seen the unlock, and one that fails hasn't.
     (
-        &[
-            "go main a p",
-            "lock main m p",
-            "write main x 1 p",
-            "unlock main m p",
-            "trylock a m p",
-            "write a x 2 p",
-            "unlock a m p",
-            "tryfail main m p",
-            "read main x 2 p",
-            "trylock main m p",
-            "write main x 3 p",
-        ],
+        "go main a p\nlock main m p\nwrite main x 1 p\nunlock main m p\ntrylock a m p\nwrite a x 2 p\nunlock a m p\ntryfail main m p\nread main x 2 p\ntrylock main m p\nwrite main x 3 p\n",
         &[
             ((2, 0, 3, true), [2, 0, 0]),
             ((5, 1, 3, true), [4, 2, 0]),
@@ -122,30 +63,12 @@ static TABLES: [(&[&str], &[Known]); 9] = [
     ),
     // Tries to lock for reading are as RLocks.
     (
-        &[
-            "go main a p",
-            "go main b p",
-            "tryrlock a r p",
-            "runlock a r p",
-            "tryrlock b r p",
-            "read b x 0 p",
-            "runlock b r p",
-            "trylock main r p",
-            "write main x 1 p",
-        ],
+        "go main a p\ngo main b p\ntryrlock a r p\nrunlock a r p\ntryrlock b r p\nread b x 0 p\nrunlock b r p\ntrylock main r p\nwrite main x 1 p\n",
         &[((5, 2, 3, false), [2, 0, 2]), ((8, 0, 4, true), [3, 3, 4])],
     ),
     // The end of a once's function is seen by who finds it ended, and what comes behind it isn't.
     (
-        &[
-            "go main a p",
-            "oncebegin main o p",
-            "write main x 1 p",
-            "onceend main o p",
-            "write main x 2 p",
-            "oncedone a o p",
-            "read a x 2 p",
-        ],
+        "go main a p\noncebegin main o p\nwrite main x 1 p\nonceend main o p\nwrite main x 2 p\noncedone a o p\nread a x 2 p\n",
         &[
             ((2, 0, 3, true), [2, 0, 0]),
             ((4, 0, 5, true), [4, 0, 0]),
@@ -154,14 +77,7 @@ static TABLES: [(&[&str], &[Known]); 9] = [
     ),
     // The default of a select and the failure that ends a run count as events of who they befall, and hand nothing over.
     (
-        &[
-            "go main a p",
-            "default main recv:c p",
-            "write main x 1 p",
-            "read a x 1 p",
-            "read main x 1 p",
-            "fault a unlock:m p",
-        ],
+        "go main a p\ndefault main recv:c p\nwrite main x 1 p\nread a x 1 p\nread main x 1 p\nfault a unlock:m p\n",
         &[
             ((2, 0, 3, true), [2, 0, 0]),
             ((3, 1, 2, false), [1, 1, 0]),
@@ -188,7 +104,7 @@ fn stamps(alloc: Global, trace: &Trace) -> Result<Vec<Known>, AllocError>
 }
 
 // Whether the events are legal, and their accesses have these stamps.
-fn are_stamped(alloc: Global, lines: &[&str], known: &[Known]) -> Result<bool, Fail> {
+fn are_stamped(alloc: Global, lines: &str, known: &[Known]) -> Result<bool, Fail> {
     let trace = traced(alloc, DECLARED, lines)?;
     match legal(alloc, &trace)? {
         Some(_) => Ok(false),

@@ -1,9 +1,9 @@
-//! Each event of a table, answered by a replay.
+//! What a replay says behind each event of legal traces. Which rules events break is in tests/check.
 ghost use Rattle.std.specs.Prelude.{◌<◌};
 ghost use Rattle.race_legal.specs.ReplayState.{counts_in};
 
-use crate::legal::{events, locks};
-use race_legal::{Broken, Illegal, Replay, Rule, legal};
+use crate::legal::replays::Said::{Chan, Goroutine, Lock, Once};
+use race_legal::{Replay, Rule};
 use race_records::{Kind, Trace};
 use race_text::parse_trace;
 use std::alloc::{AllocError, Global};
@@ -11,7 +11,7 @@ use std::test::Fail;
 
 /// What a replay says.
 #[derive(Clone, Copy, PartialEq, Eq)]
-pub(crate) enum Said {
+enum Said {
     /// Whether the run is over, whether goroutine w was started and runs, and the value of x.
     Goroutine(bool, bool, bool, u64),
     /// Whether the channel is closed, how many values wait in it, and the first of them.
@@ -22,9 +22,6 @@ pub(crate) enum Said {
     Once(bool, bool, Option<u32>),
 }
 
-/// An event, the rule that it breaks behind those that break none, and what a replay says then.
-pub(crate) type Row = (&'static str, Option<Rule>, Said);
-
 /// What a replay is asked of.
 #[derive(Clone, Copy)]
 enum Subject {
@@ -34,39 +31,157 @@ enum Subject {
     Once(u32),
 }
 
+/// An event, and what a replay says behind it.
+type Row = (&'static str, Said);
+
 static DECLARED: &str =
     "gotrace 2\ngoroutine w\nvar x\nchan c 1\nchan d 0\nchan e 2\nmutex l\nrwmutex m\nonce o\nonce q\n";
 
-// What is asked behind each row of each table, and the first row that breaks a rule.
-static TABLES: [(Subject, u32, Rule); 11] = [
-    (Subject::Goroutine, 0, Rule::NotRunning),
-    (Subject::Chan(1), 0, Rule::NotRunning),
-    (Subject::Chan(0), 1, Rule::BufferEmpty),
-    (Subject::Chan(2), 3, Rule::BufferFull),
-    (Subject::Chan(0), 1, Rule::CaseReady),
-    (Subject::Goroutine, 0, Rule::NotRunning),
-    (Subject::Lock(0), 0, Rule::NotHeld),
-    (Subject::Lock(1), 1, Rule::NotReadHeld),
-    (Subject::Once(0), 1, Rule::OnceNotDone),
-    (Subject::Once(1), 3, Rule::OnceNotInner),
-    (Subject::Lock(1), 2, Rule::Held),
+static TABLES: [(Subject, &[Row]); 11] = [
+    (
+        Subject::Goroutine,
+        &[
+            ("go main w p", Goroutine(false, true, true, 0)),
+            ("write w x 7 p", Goroutine(false, true, true, 7)),
+            ("read main x 7 p", Goroutine(false, true, true, 7)),
+            ("exit w p", Goroutine(false, true, false, 7)),
+            ("exit main p", Goroutine(true, true, false, 7)),
+        ],
+    ),
+    // Channel d has no buffer.
+    (
+        Subject::Chan(1),
+        &[
+            ("go main w p", Chan(false, 0, None)),
+            ("meet main w d 5 p p", Chan(false, 0, None)),
+            ("meet w main d 6 p p", Chan(false, 0, None)),
+            ("close main d p", Chan(true, 0, None)),
+            ("recvclosed main d p", Chan(true, 0, None)),
+        ],
+    ),
+    // One value fits into channel c.
+    (
+        Subject::Chan(0),
+        &[
+            ("go main w p", Chan(false, 0, None)),
+            ("send main c 5 p", Chan(false, 1, Some(5))),
+            ("recv w c 5 p", Chan(false, 0, None)),
+            ("send main c 9 p", Chan(false, 1, Some(9))),
+            ("close main c p", Chan(true, 1, Some(9))),
+            ("recv w c 9 p", Chan(true, 0, None)),
+            ("recvclosed w c p", Chan(true, 0, None)),
+            ("recvclosed main c p", Chan(true, 0, None)),
+        ],
+    ),
+    // Two values fit into channel e.
+    (
+        Subject::Chan(2),
+        &[
+            ("go main w p", Chan(false, 0, None)),
+            ("send main e 4 p", Chan(false, 1, Some(4))),
+            ("send main e 6 p", Chan(false, 2, Some(4))),
+            ("recv w e 4 p", Chan(false, 1, Some(6))),
+            ("send w e 7 p", Chan(false, 2, Some(6))),
+            ("recv w e 6 p", Chan(false, 1, Some(7))),
+            ("recv w e 7 p", Chan(false, 0, None)),
+        ],
+    ),
+    // Defaults of selects, and a fault.
+    (
+        Subject::Chan(0),
+        &[
+            ("go main w p", Chan(false, 0, None)),
+            ("default main recv:c p", Chan(false, 0, None)),
+            ("default main recv:d,send:d p", Chan(false, 0, None)),
+            ("default main recv:nil,send:nil p", Chan(false, 0, None)),
+            ("default main - p", Chan(false, 0, None)),
+            ("send main c 5 p", Chan(false, 1, Some(5))),
+            ("default w send:c p", Chan(false, 1, Some(5))),
+            ("close main c p", Chan(true, 1, Some(5))),
+            ("recv main c 5 p", Chan(true, 0, None)),
+            ("close main d p", Chan(true, 0, None)),
+            ("fault w send:d p", Chan(true, 0, None)),
+        ],
+    ),
+    (
+        Subject::Goroutine,
+        &[("fault main close:nil p", Goroutine(true, false, false, 0))],
+    ),
+    (
+        Subject::Lock(0),
+        &[
+            ("go main w p", Lock(false, false)),
+            ("lock main l p", Lock(true, false)),
+            ("lock w m p", Lock(true, false)),
+            ("unlock w l p", Lock(false, false)),
+            ("lock w l p", Lock(true, false)),
+            ("unlock w l p", Lock(false, false)),
+            ("fault w unlock:l p", Lock(false, false)),
+        ],
+    ),
+    (
+        Subject::Lock(1),
+        &[
+            ("go main w p", Lock(false, false)),
+            ("rlock main m p", Lock(false, true)),
+            ("rlock w m p", Lock(false, true)),
+            ("runlock main m p", Lock(false, true)),
+            ("runlock main m p", Lock(false, false)),
+            ("lock main m p", Lock(true, false)),
+            ("unlock main m p", Lock(false, false)),
+            ("rlock w m p", Lock(false, true)),
+            ("runlock w m p", Lock(false, false)),
+            ("fault w runlock:m p", Lock(false, false)),
+        ],
+    ),
+    // Goroutine w runs the function of once o, and in it that of once q.
+    (
+        Subject::Once(0),
+        &[
+            ("go main w p", Once(false, false, None)),
+            ("oncebegin w o p", Once(true, false, Some(0))),
+            ("oncebegin w q p", Once(true, false, Some(1))),
+            ("onceend w q p", Once(true, false, Some(0))),
+            ("oncedone main q p", Once(true, false, Some(0))),
+            ("onceend w o p", Once(true, true, None)),
+            ("oncedone main o p", Once(true, true, None)),
+            ("exit w p", Once(true, true, None)),
+        ],
+    ),
+    // Main runs the function of once o, and goroutine w that of once q.
+    (
+        Subject::Once(1),
+        &[
+            ("go main w p", Once(false, false, None)),
+            ("oncebegin main o p", Once(false, false, None)),
+            ("oncebegin w q p", Once(true, false, Some(1))),
+            ("onceend w q p", Once(true, true, None)),
+            ("oncedone main q p", Once(true, true, None)),
+            ("exit w p", Once(true, true, None)),
+            ("onceend main o p", Once(true, true, None)),
+            ("exit main p", Once(true, true, None)),
+        ],
+    ),
+    // Tries of the rwmutex.
+    (
+        Subject::Lock(1),
+        &[
+            ("go main w p", Lock(false, false)),
+            ("trylock main m p", Lock(true, false)),
+            ("tryfail w m p", Lock(true, false)),
+            ("unlock main m p", Lock(false, false)),
+            ("tryfail main m p", Lock(false, false)),
+            ("tryrlock main m p", Lock(false, true)),
+            ("tryrlock w m p", Lock(false, true)),
+            ("tryfail w m p", Lock(false, true)),
+            ("runlock main m p", Lock(false, true)),
+            ("runlock main m p", Lock(false, false)),
+            ("exit w p", Lock(false, false)),
+            ("trylock main m p", Lock(true, false)),
+            ("exit main p", Lock(true, false)),
+        ],
+    ),
 ];
-
-fn rows_of(table: usize) -> &'static [Row] {
-    match table {
-        0 => &events::GOROUTINES,
-        1 => &events::MEETINGS,
-        2 => &events::BUFFER,
-        3 => &events::QUEUE,
-        4 => &events::SELECTS,
-        5 => &events::FAULT,
-        6 => &locks::MUTEX,
-        7 => &locks::RWMUTEX,
-        8 => &locks::NESTED_ONCES,
-        9 => &locks::ONCES_SIDE_BY_SIDE,
-        _ => &locks::TRIES,
-    }
-}
 
 fn asked_of(replay: &Replay, subject: Subject) -> Option<Said>
     requires goroutines { 1 < counts_in replay.now Kind.Goroutine }
@@ -76,22 +191,21 @@ fn asked_of(replay: &Replay, subject: Subject) -> Option<Said>
     requires onces { 1 < counts_in replay.now Kind.Once }
 {
     match subject {
-        Subject::Goroutine => Some(Said::Goroutine(
+        Subject::Goroutine => Some(Goroutine(
             replay.over(),
             replay.started(1),
             replay.runs(1),
             replay.last_value(0),
         )),
-        Subject::Chan(chan) if chan < 3 => Some(Said::Chan(
+        Subject::Chan(chan) if chan < 3 => Some(Chan(
             replay.is_closed(chan),
             replay.buffered(chan),
             replay.front(chan),
         )),
-        Subject::Lock(lock) if lock < 2 => Some(Said::Lock(
-            replay.is_held(lock),
-            replay.is_read_held(lock),
-        )),
-        Subject::Once(once) if once < 2 => Some(Said::Once(
+        Subject::Lock(lock) if lock < 2 => {
+            Some(Lock(replay.is_held(lock), replay.is_read_held(lock)))
+        }
+        Subject::Once(once) if once < 2 => Some(Once(
             replay.is_begun(once),
             replay.is_ended(once),
             replay.innermost(1),
@@ -100,19 +214,16 @@ fn asked_of(replay: &Replay, subject: Subject) -> Option<Said>
     }
 }
 
-// The trace of the rows' events, or of those alone that break no rule.
-fn traced(alloc: Global, rows: &[Row], legal_alone: bool) -> Result<Trace, Fail> {
+fn traced(alloc: Global, rows: &[Row]) -> Result<Trace, Fail> {
     let mut text = String::from_str(alloc, DECLARED)?;
-    for (line, rule, _) in rows {
-        if rule.is_none() || !legal_alone {
-            text.push_str(*line)?;
-            text.push_str("\n")?;
-        }
+    for (line, _) in rows {
+        text.push_str(*line)?;
+        text.push_str("\n")?;
     }
     Ok(parse_trace(alloc, text.as_bytes())?)
 }
 
-// The first row at whose event the replay answers something else, or says something else then.
+// The first row whose event isn't accepted, or behind which the replay says something else.
 fn first_wrong(
     alloc: Global,
     trace: &Trace,
@@ -121,7 +232,6 @@ fn first_wrong(
 ) -> Result<Option<usize>, AllocError> {
     let decls = trace.decls();
     let mut replay = Replay::new(alloc, decls)?;
-    let mut accepted = 0usize;
     if trace.len() == rows.len()
         && decls.count(Kind::Goroutine) > 1
         && decls.count(Kind::Var) > 0
@@ -130,16 +240,10 @@ fn first_wrong(
         && decls.count(Kind::Once) > 1
     {
         for at in 0..trace.len() {
-            let (_, rule, want) = rows[at];
-            let answer = match replay.accept(trace.event(at)) {
-                Ok(()) => None,
-                Err(broken) => Some(broken),
-            };
-            if rule.is_none() {
-                accepted = accepted.saturating_add(1);
-            }
-            if answer != rule.map(Broken::Rule)
-                || replay.len() != accepted
+            let (_, want) = rows[at];
+            let answer = replay.accept(trace.event(at));
+            if answer.is_err()
+                || replay.len() != at + 1
                 || asked_of(&replay, subject) != Some(want)
             {
                 return Ok(Some(at));
@@ -151,51 +255,19 @@ fn first_wrong(
 }
 
 fn wrong_in(alloc: Global, rows: &[Row], subject: Subject) -> Result<Option<usize>, Fail> {
-    let trace = traced(alloc, rows, false)?;
+    let trace = traced(alloc, rows)?;
     Ok(first_wrong(alloc, &trace, rows, subject)?)
 }
 
 #[test]
-fn each_event_is_accepted_or_its_least_broken_rule_told(rt: HostRuntime) -> Result<(), Fail> {
-    for (table, (subject, _, _)) in TABLES.iter().enumerate() {
+fn a_replay_says_what_was_done(rt: HostRuntime) -> Result<(), Fail> {
+    for (table, (subject, rows)) in TABLES.iter().enumerate() {
         assert_eq!(rt;
-            wrong_in(rt.alloc(), rows_of(table), *subject)?,
+            wrong_in(rt.alloc(), *rows, *subject)?,
             None,
             "table {table}"
         );
     }
-    Ok(())
-}
-
-// The first of the events that breaks a rule, of all or of those alone that break none.
-fn first_illegal(alloc: Global, rows: &[Row], legal_alone: bool) -> Result<Option<Illegal>, Fail> {
-    let trace = traced(alloc, rows, legal_alone)?;
-    Ok(legal(alloc, &trace)?)
-}
-
-fn is_first_alone(alloc: Global, rows: &[Row], first: Illegal) -> Result<bool, Fail> {
-    Ok(
-        first_illegal(alloc, rows, false)? == Some(first)
-            && first_illegal(alloc, rows, true)? == None,
-    )
-}
-
-#[test]
-fn the_first_illegal_event_is_told(rt: HostRuntime) -> Result<(), Fail> {
-    for (table, (_, at, rule)) in TABLES.iter().enumerate() {
-        let first = Illegal {
-            at: *at,
-            rule: *rule,
-        };
-        assert!(rt;
-            is_first_alone(rt.alloc(), rows_of(table), first)?,
-            "table {table}"
-        );
-    }
-    Ok(())
-}
-
-#[test]
-fn rules_have_numbers(rt: HostRuntime) {
     assert_eq!(rt; (Rule::AfterEnd.number(), Rule::NoFault.number()), (1, 23));
+    Ok(())
 }

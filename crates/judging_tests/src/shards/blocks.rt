@@ -1,13 +1,14 @@
-//! A judge that is fed block by block.
+//! A judge that is fed block by block. What is noted with its verdict is in tests/check.
 ghost use Rattle.std.specs.Prelude.{◌≤◌, []};
 ghost use Rattle.race_shards.specs.Judging.{StandsFor};
 
 use crate::rows::traced;
+use crate::shards::verdicts::Told::Races;
 use crate::shards::verdicts::{DECLARED, Told, said_by};
 use race_legal::{Illegal, Rule};
 use race_records::Trace;
 use race_shards::{Gate, Judge, JudgeFault};
-use race_verdict::{Noted, NotedRace, NotedVerdict, Race, Verdict};
+use race_verdict::{Race, Verdict};
 use std::alloc::Global;
 use std::sync::Wait;
 use std::sync::atomic::{AtomicU64, Ordering};
@@ -51,30 +52,12 @@ impl Gate for Counting {
     }
 }
 
-// Whether event 4 breaks a rule.
-#[derive(Clone, Copy)]
-enum Events {
-    Legal,
-    Broken,
-}
+const LEGAL: &str =
+    "go main a p\nwrite main z 1 p\nwrite a z 2 p\nwrite main y 1 p\nwrite main x 1 p\nwrite a x 2 p\n";
 
-static LEGAL: [&str; 6] = [
-    "go main a p",
-    "write main z 1 p",
-    "write a z 2 p",
-    "write main y 1 p",
-    "write main x 1 p",
-    "write a x 2 p",
-];
-
-static BROKEN: [&str; 6] = [
-    "go main a p",
-    "write main z 1 p",
-    "write a z 2 p",
-    "write main y 1 p",
-    "read main x 1 p",
-    "write a x 2 p",
-];
+// Event 4 breaks a rule.
+const BROKEN: &str =
+    "go main a p\nwrite main z 1 p\nwrite a z 2 p\nwrite main y 1 p\nread main x 1 p\nwrite a x 2 p\n";
 
 const ON_X: Race = Race {
     var: 0,
@@ -94,24 +77,19 @@ const BREAKS: Illegal = Illegal {
 };
 
 // Events, the indexes at which their blocks end, what is said of them, and in how many blocks each shard begins.
-type Row = (Events, &'static [usize], Told<'static>, u64);
+type Row = (&'static str, &'static [usize], Told<'static>, u64);
 
 static ROWS: [Row; 7] = [
-    (Events::Legal, &[6], Told::Races(&[ON_X, ON_Z]), 1),
-    (Events::Legal, &[2, 4, 6], Told::Races(&[ON_X, ON_Z]), 3),
+    (LEGAL, &[6], Races(&[ON_X, ON_Z]), 1),
+    (LEGAL, &[2, 4, 6], Races(&[ON_X, ON_Z]), 3),
     // Nothing begins in an empty block.
-    (
-        Events::Legal,
-        &[0, 2, 2, 2, 6, 6],
-        Told::Races(&[ON_X, ON_Z]),
-        2,
-    ),
-    (Events::Legal, &[0, 0], Told::Races(&[]), 0),
+    (LEGAL, &[0, 2, 2, 2, 6, 6], Races(&[ON_X, ON_Z]), 2),
+    (LEGAL, &[0, 0], Races(&[]), 0),
     // Of events that it isn't fed a judge says nothing.
-    (Events::Legal, &[3], Told::Races(&[ON_Z]), 1),
+    (LEGAL, &[3], Races(&[ON_Z]), 1),
     // Nothing begins in the block of an illegal event, nor behind it.
-    (Events::Broken, &[2, 5, 6], Told::Illegal(BREAKS), 1),
-    (Events::Broken, &[6], Told::Illegal(BREAKS), 0),
+    (BROKEN, &[2, 5, 6], Told::Illegal(BREAKS), 1),
+    (BROKEN, &[6], Told::Illegal(BREAKS), 0),
 ];
 
 // Where the block ends that begins here, and is to end there.
@@ -163,16 +141,9 @@ fn fed<R: Threads + Wait>(
     Ok((judge.finish()?, taken))
 }
 
-fn events_of(events: Events) -> &'static [&'static str] {
-    match events {
-        Events::Legal => &LEGAL,
-        Events::Broken => &BROKEN,
-    }
-}
-
 fn is_told<R: Threads + Wait>(rt: &R, alloc: Global, row: &Row) -> Result<bool, Fail> {
     let &(events, ends, want, begins) = row;
-    let trace = traced(alloc, DECLARED, events_of(events))?;
+    let trace = traced(alloc, DECLARED, events)?;
     let gate = Counting::new();
     let (verdict, taken) = fed(rt, alloc, &trace, ends, &gate)?;
     let is_whole = ends.last() == Some(&taken) && gate.counts() == [begins, begins, 0];
@@ -183,92 +154,6 @@ fn is_told<R: Threads + Wait>(rt: &R, alloc: Global, row: &Row) -> Result<bool, 
 fn a_judge_is_fed_in_blocks(rt: HostRuntime) -> Result<(), Fail> {
     for (at, row) in ROWS.iter().enumerate() {
         assert!(rt; is_told(&rt, rt.alloc(), row)?, "{at}");
-    }
-    Ok(())
-}
-
-// What is noted with a verdict.
-#[derive(Clone, Copy, PartialEq, Eq)]
-enum Notes<'a> {
-    Illegal(Illegal),
-    Clean(usize, usize),
-    Races(&'a [NotedRace]),
-}
-
-fn notes_of(verdict: &NotedVerdict) -> Notes<'_> {
-    match verdict {
-        NotedVerdict::Illegal(illegal) => Notes::Illegal(*illegal),
-        NotedVerdict::Clean { events, accesses } => Notes::Clean(*events, *accesses),
-        NotedVerdict::Races(races) => Notes::Races(races.as_slice()),
-    }
-}
-
-// Events, and what is noted of them: places have numbers in the order in which they come.
-static NOTED: [(&[&str], Notes<'static>); 3] = [
-    (
-        &["go main a p", "read a x 1 p"],
-        Notes::Illegal(Illegal {
-            at: 1,
-            rule: Rule::StaleRead,
-        }),
-    ),
-    (
-        &[
-            "write main x 1 p",
-            "go main a p",
-            "read a x 1 p",
-            "exit a p",
-        ],
-        Notes::Clean(4, 2),
-    ),
-    (
-        &["go main a m:1", "write main z 1 m:2", "read a z 1 a:7"],
-        Notes::Races(&[NotedRace {
-            var: 2,
-            first: Noted {
-                at: 1,
-                who: 0,
-                write: true,
-                place: 1,
-            },
-            second: Noted {
-                at: 2,
-                who: 1,
-                write: false,
-                place: 2,
-            },
-        }]),
-    ),
-];
-
-// The verdict of so many shards, with its notes.
-fn noted<R: Threads + Wait>(
-    rt: &R,
-    alloc: Global,
-    trace: &Trace,
-    shards: usize,
-) -> Result<NotedVerdict, JudgeFault> {
-    let mut judge = Judge::new(alloc, trace.decls(), shards)?;
-    feed_each(rt, &mut judge, trace, &[2, 6], &Counting::new())?;
-    judge.finish_noted()
-}
-
-fn is_noted<R: Threads + Wait>(
-    rt: &R,
-    alloc: Global,
-    events: &[&str],
-    want: Notes<'_>,
-) -> Result<bool, Fail> {
-    let trace = traced(alloc, DECLARED, events)?;
-    let one = noted(rt, alloc, &trace, 1)?;
-    let two = noted(rt, alloc, &trace, 2)?;
-    Ok(notes_of(&one) == want && notes_of(&two) == want)
-}
-
-#[test]
-fn a_verdict_is_noted(rt: HostRuntime) -> Result<(), Fail> {
-    for (at, (events, want)) in NOTED.iter().enumerate() {
-        assert!(rt; is_noted(&rt, rt.alloc(), events, *want)?, "{at}");
     }
     Ok(())
 }

@@ -43,13 +43,8 @@ impl Gate for Meeting {
     }
 }
 
-static TWO_BLOCKS: [&str; 5] = [
-    "go main a p",
-    "write main y 1 p",
-    "write main x 1 p",
-    "write a x 2 p",
-    "write a y 2 p",
-];
+static TWO_BLOCKS: &str =
+    "go main a p\nwrite main y 1 p\nwrite main x 1 p\nwrite a x 2 p\nwrite a y 2 p\n";
 
 // How many times a shard met all others in two blocks.
 fn met<R: Threads + Wait>(
@@ -65,7 +60,7 @@ fn met<R: Threads + Wait>(
 
 #[test]
 fn two_shards(rt: HostRuntime) -> Result<(), Fail> {
-    let trace = traced(rt.alloc(), DECLARED, &TWO_BLOCKS)?;
+    let trace = traced(rt.alloc(), DECLARED, TWO_BLOCKS)?;
     for &(shards, want) in &[(2, 4), (4, 8)] {
         assert_eq!(rt; met(&rt, rt.alloc(), &trace, shards)?, want, "{shards}");
     }

@@ -1,4 +1,4 @@
-//! The verdict of a judge, by any number of shards and blocks of any length.
+//! The verdict of the judge that has no threads, and numbers that the others refuse. Their verdicts are in tests/check.
 
 use crate::rows::traced;
 use race_legal::{Illegal, Rule};
@@ -11,7 +11,7 @@ use std::test::Fail;
 use std::thread::Threads;
 
 /// What is said of a trace.
-#[derive(Clone, Copy, Debug, PartialEq, Eq)]
+#[derive(Clone, Copy, PartialEq, Eq)]
 pub(crate) enum Told<'a> {
     Illegal(Illegal),
     Races(&'a [Race]),
@@ -27,23 +27,56 @@ pub(crate) fn said_by(verdict: &Verdict) -> Told<'_> {
 }
 
 /// Two goroutines and three variables.
-pub(crate) static DECLARED: &str = "gotrace 1\ngoroutine a\nvar x\nvar y\nvar z\n";
+pub(crate) const DECLARED: &str = "gotrace 1\ngoroutine a\nvar x\nvar y\nvar z\n";
 
-// Events, and what is said of them.
-type Row = (&'static [&'static str], Told<'static>);
+// Nine goroutines, more than a clock has counts in place, read x in events 9 to 17.
+const NINE_READ: &str = "\
+gotrace 1
+var x
+chan c 0
+goroutine r1
+goroutine r2
+goroutine r3
+goroutine r4
+goroutine r5
+goroutine r6
+goroutine r7
+goroutine r8
+goroutine r9
+go main r1 p
+go main r2 p
+go main r3 p
+go main r4 p
+go main r5 p
+go main r6 p
+go main r7 p
+go main r8 p
+go main r9 p
+read r1 x 0 p
+read r2 x 0 p
+read r3 x 0 p
+read r4 x 0 p
+read r5 x 0 p
+read r6 x 0 p
+read r7 x 0 p
+read r8 x 0 p
+read r9 x 0 p
+meet r1 main c 1 p q
+meet r2 main c 1 p q
+meet r3 main c 1 p q
+meet r4 main c 1 p q
+meet r5 main c 1 p q
+meet r6 main c 1 p q
+meet r7 main c 1 p q
+";
 
-static ROWS: [Row; 4] = [
-    (&[], Told::Races(&[])),
+// Declarations, events, and what is said of them.
+static ROWS: [(&str, &str, Told<'static>); 7] = [
+    (DECLARED, "", Told::Races(&[])),
     // The race on z comes first, and that on x is told first.
     (
-        &[
-            "go main a p",
-            "write main z 1 p",
-            "write a z 2 p",
-            "write main y 1 p",
-            "write main x 1 p",
-            "write a x 2 p",
-        ],
+        DECLARED,
+        "go main a p\nwrite main z 1 p\nwrite a z 2 p\nwrite main y 1 p\nwrite main x 1 p\nwrite a x 2 p\n",
         Told::Races(&[
             Race {
                 var: 0,
@@ -59,80 +92,54 @@ static ROWS: [Row; 4] = [
     ),
     // Each writes what it alone reads or writes, or what was written before its start.
     (
-        &[
-            "write main x 1 p",
-            "go main a p",
-            "write main y 1 p",
-            "read a x 1 p",
-            "write a z 1 p",
-        ],
+        DECLARED,
+        "write main x 1 p\ngo main a p\nwrite main y 1 p\nread a x 1 p\nwrite a z 1 p\n",
         Told::Races(&[]),
     ),
     // A race before an illegal event isn't told.
     (
-        &[
-            "go main a p",
-            "write main z 1 p",
-            "write a z 2 p",
-            "read main x 1 p",
-            "exit main p",
-        ],
+        DECLARED,
+        "go main a p\nwrite main z 1 p\nwrite a z 2 p\nread main x 1 p\nexit main p\n",
         Told::Illegal(Illegal {
             at: 3,
             rule: Rule::StaleRead,
         }),
     ),
+    // The last of the readers that main hasn't met before it writes.
+    (
+        NINE_READ,
+        "write main x 1 p\n",
+        Told::Races(&[Race {
+            var: 0,
+            first: 17,
+            second: 25,
+        }]),
+    ),
+    (
+        NINE_READ,
+        "meet r8 main c 1 p q\nwrite main x 1 p\n",
+        Told::Races(&[Race {
+            var: 0,
+            first: 17,
+            second: 26,
+        }]),
+    ),
+    (
+        NINE_READ,
+        "meet r8 main c 1 p q\nmeet r9 main c 1 p q\nwrite main x 1 p\n",
+        Told::Races(&[]),
+    ),
 ];
 
-static SHARDS: [usize; 4] = [1, 2, 3, 64];
-
-static BLOCKS: [usize; 3] = [1, 2, 65_536];
-
-// Whether the judge says so by so many shards and blocks of so many events.
-fn is_said_by<R: Threads + Wait>(
-    rt: &R,
-    alloc: Global,
-    trace: &Trace,
-    (shards, block): (usize, usize),
-    want: Told<'_>,
-) -> Result<bool, Fail> {
-    let verdict = Judge::judge(rt, alloc, trace, shards, block, &OpenGate)?;
-    Ok(said_by(&verdict) == want)
-}
-
-/// Whether the judge says so by each number of shards, in blocks of each length.
-pub(crate) fn is_told<R: Threads + Wait>(
-    rt: &R,
-    alloc: Global,
-    trace: &Trace,
-    want: Told<'_>,
-) -> Result<bool, Fail> {
-    for shards in &SHARDS {
-        for block in &BLOCKS {
-            if !is_said_by(rt, alloc, trace, (*shards, *block), want)? {
-                return Ok(false);
-            }
-        }
-    }
-    Ok(true)
-}
-
-/// Whether the judge that has no threads says so.
-pub(crate) fn is_told_alone(alloc: Global, trace: &Trace, want: Told<'_>) -> Result<bool, Fail> {
-    Ok(said_by(&judge_alone(alloc, trace)?) == want)
-}
-
-// Whether the judge says so of the row's events, whichever shards and blocks it has, and alone.
-fn is_row_told<R: Threads + Wait>(rt: &R, alloc: Global, row: &Row) -> Result<bool, Fail> {
-    let &(events, want) = row;
-    let trace = traced(alloc, DECLARED, events)?;
-    Ok(is_told(rt, alloc, &trace, want)? && is_told_alone(alloc, &trace, want)?)
+fn is_told(alloc: Global, declared: &str, events: &str, want: Told<'_>) -> Result<bool, Fail> {
+    let trace = traced(alloc, declared, events)?;
+    Ok(said_by(&judge_alone(alloc, &trace)?) == want)
 }
 
 #[test]
-fn the_verdict_is_the_same_for_every_number_of_shards(rt: HostRuntime) -> Result<(), Fail> {
-    for (at, row) in ROWS.iter().enumerate() {
-        assert!(rt; is_row_told(&rt, rt.alloc(), row)?, "{at}");
+fn a_trace_is_judged_alone(rt: HostRuntime) -> Result<(), Fail> {
+    for (at, (declared, events, want)) in ROWS.iter().enumerate() {
+        assert!(rt; is_told(rt.alloc(), *declared, *events, *want)?, "{at}");
     }
     Ok(())
 }
@@ -159,7 +166,7 @@ fn fault_of<R: Threads + Wait>(
 
 #[test]
 fn numbers_out_of_their_limits_are_refused(rt: HostRuntime) -> Result<(), Fail> {
-    let trace = traced(rt.alloc(), DECLARED, &[])?;
+    let trace = traced(rt.alloc(), DECLARED, "")?;
     for &(shards, block, fault) in &LIMITS {
         assert_eq!(rt;
             fault_of(&rt, rt.alloc(), &trace, shards, block),

@@ -1,7 +1,6 @@
 //! Witnesses of races, whether or not a verdict names them.
 
 use crate::rows::traced;
-use race_records::Trace;
 use race_shards::{WitnessFault, witness};
 use race_verdict::Race;
 use std::alloc::Global;
@@ -17,66 +16,27 @@ const X: u32 = 0;
 
 const Y: u32 = 1;
 
-const HANDED_ON: &[&str] = &[
-    "write main x 7 p",
-    "go main a p",
-    "read a x 7 p",
-    "exit main p",
-];
+const HANDED_ON: &str = "write main x 7 p\ngo main a p\nread a x 7 p\nexit main p\n";
 
-const LATE_WRITE: &[&str] = &["go main a p", "write main x 1 p", "read a x 1 p"];
+const LATE_WRITE: &str = "go main a p\nwrite main x 1 p\nread a x 1 p\n";
 
-const TWO_SENDERS: &[&str] = &[
-    "go main a p",
-    "go main b p",
-    "send main c 1 p",
-    "write a x 5 p",
-    "recv a c 1 p",
-    "send b c 2 p",
-    "recv main c 2 p",
-    "read main x 5 p",
-];
+const TWO_SENDERS: &str =
+    "go main a p\ngo main b p\nsend main c 1 p\nwrite a x 5 p\nrecv a c 1 p\nsend b c 2 p\nrecv main c 2 p\nread main x 5 p\n";
 
-const TWO_READERS: &[&str] = &[
-    "go main a p",
-    "go main b p",
-    "write main y 1 p",
-    "read a x 0 p",
-    "write main y 2 p",
-    "read b x 0 p",
-    "write main x 1 p",
-];
+const TWO_READERS: &str =
+    "go main a p\ngo main b p\nwrite main y 1 p\nread a x 0 p\nwrite main y 2 p\nread b x 0 p\nwrite main x 1 p\n";
 
-const TWO_RACES: &[&str] = &[
-    "go main a p",
-    "write main z 1 p",
-    "write a z 2 p",
-    "write main y 1 p",
-    "write main x 1 p",
-    "write a x 2 p",
-];
+const TWO_RACES: &str =
+    "go main a p\nwrite main z 1 p\nwrite a z 2 p\nwrite main y 1 p\nwrite main x 1 p\nwrite a x 2 p\n";
 
 // The accesses of a goroutine that hands on to the writer, and one of a third goroutine behind the race.
-const HANDED_BY: &[&str] = &[
-    "go main a p",
-    "go main b p",
-    "write a y 1 p",
-    "send a c 1 p",
-    "read b x 0 p",
-    "recv main c 1 p",
-    "write main x 1 p",
-    "write b z 1 p",
-];
+const HANDED_BY: &str =
+    "go main a p\ngo main b p\nwrite a y 1 p\nsend a c 1 p\nread b x 0 p\nrecv main c 1 p\nwrite main x 1 p\nwrite b z 1 p\n";
 
-const STALE_READ: &[&str] = &[
-    "go main a p",
-    "write main x 1 p",
-    "read a x 1 p",
-    "read a x 9 p",
-];
+const STALE_READ: &str = "go main a p\nwrite main x 1 p\nread a x 1 p\nread a x 9 p\n";
 
 /// Events, two of them that race on a variable, and the order that shows it.
-type Shown = (&'static [&'static str], Pair, &'static [u32]);
+type Shown = (&'static str, Pair, &'static [u32]);
 
 static SHOWN: [Shown; 7] = [
     (LATE_WRITE, (X, 1, 2), &[2, 1]),
@@ -91,7 +51,7 @@ static SHOWN: [Shown; 7] = [
 ];
 
 /// Events, and two of them that don't race in order.
-type Refused = (&'static [&'static str], Pair);
+type Refused = (&'static str, Pair);
 
 static REFUSED: [Refused; 9] = [
     // The first happens before the second.
@@ -128,14 +88,10 @@ fn races_are_shown(rt: HostRuntime) -> Result<(), Fail> {
     Ok(())
 }
 
-fn fault_of(alloc: Global, trace: &Trace, pair: Pair) -> Option<WitnessFault> {
-    witness(alloc, trace, &race(pair)).err()
-}
-
 fn is_refused(alloc: Global, row: &Refused) -> Result<bool, Fail> {
     let &(events, pair) = row;
     let trace = traced(alloc, DECLARED, events)?;
-    Ok(fault_of(alloc, &trace, pair) == Some(WitnessFault::NotARace))
+    Ok(witness(alloc, &trace, &race(pair)).err() == Some(WitnessFault::NotARace))
 }
 
 #[test]

@@ -1,7 +1,6 @@
 //! What a hub gives, step by step.
 
 use crate::asks::{Asks, Plain, box_of, boxes_of, declared, hub_of};
-use crate::turns::exchange;
 use race_hub::{
     Answer, Ask, Boxed, End, Hub, HubFault, Job, Mismatch, Recording, Request, Routine, SubmitFault,
 };
@@ -223,67 +222,36 @@ const LIMIT: [Row; 10] = [
     (Move::Submit(0), Came::Done, 0, Some(End::Limit), 2),
 ];
 
+const GO_AND_READ: &[Plain] = &[Plain::Go(1), Plain::Read(0)];
+
+const WRITE: &[Plain] = &[Plain::Write(0, 5)];
+
+const CLOSE_NIL: &[Plain] = &[Plain::Close(None)];
+
+const EXITED: Finished = Ok((End::Main, 1, 0, false, false));
+
+const LIMITED: Finished = Ok((End::Limit, 1, 1, true, false));
+
+const LIMITED_ALONE: Finished = Ok((End::Limit, 1, 0, false, false));
+
+const WAITED: Finished = Ok((End::Deadlock, 0, 0, true, false));
+
+const REFUSED: Finished = Ok((End::Bad(0), 0, 0, true, false));
+
+const FAILED: Finished = Ok((End::Fault, 1, 0, false, false));
+
 static RUNS: [Run; 10] = [
-    (8, &[], &[], &NEW, 7, Ok((End::Main, 1, 0, false, false))),
+    (8, &[], &[], &NEW, 7, EXITED),
     (8, &[], &[], &[], 0, Err(Mismatch::NotEnded)),
-    (
-        2,
-        &[Plain::Go(1), Plain::Read(0)],
-        &[Plain::Write(0, 5)],
-        &LIMIT,
-        9,
-        Err(Mismatch::Out(0)),
-    ),
-    (
-        2,
-        &[Plain::Go(1), Plain::Read(0)],
-        &[Plain::Write(0, 5)],
-        &LIMIT,
-        10,
-        Ok((End::Limit, 1, 1, true, false)),
-    ),
-    (
-        8,
-        &[Plain::Recv(None)],
-        &[],
-        &DEADLOCK,
-        3,
-        Ok((End::Deadlock, 0, 0, true, false)),
-    ),
-    (
-        8,
-        &[Plain::Go(0)],
-        &[],
-        &BAD,
-        3,
-        Ok((End::Bad(0), 0, 0, true, false)),
-    ),
-    (
-        8,
-        &[Plain::Close(None)],
-        &[],
-        &FAULT,
-        3,
-        Ok((End::Fault, 1, 0, false, false)),
-    ),
+    (2, GO_AND_READ, WRITE, &LIMIT, 9, Err(Mismatch::Out(0))),
+    (2, GO_AND_READ, WRITE, &LIMIT, 10, LIMITED),
+    (8, &[Plain::Recv(None)], &[], &DEADLOCK, 3, WAITED),
+    (8, &[Plain::Go(0)], &[], &BAD, 3, REFUSED),
+    (8, CLOSE_NIL, &[], &FAULT, 3, FAILED),
     // Main's exit and a fault end a run before its limit does.
-    (1, &[], &[], &NEW, 7, Ok((End::Main, 1, 0, false, false))),
-    (
-        1,
-        &[Plain::Close(None)],
-        &[],
-        &FAULT,
-        3,
-        Ok((End::Fault, 1, 0, false, false)),
-    ),
-    (
-        1,
-        &[Plain::Write(0, 5)],
-        &[],
-        &ONE_WRITE,
-        3,
-        Ok((End::Limit, 1, 0, false, false)),
-    ),
+    (1, &[], &[], &NEW, 7, EXITED),
+    (1, CLOSE_NIL, &[], &FAULT, 3, FAILED),
+    (1, WRITE, &[], &ONE_WRITE, 3, LIMITED_ALONE),
 ];
 
 // How many steps the goroutine's log has.
@@ -330,12 +298,9 @@ fn a_hub_ends_by_what_is_asked_and_is_recorded_then(rt: HostRuntime) -> Result<(
     for (at, run) in RUNS.iter().enumerate() {
         assert_eq!(rt; wrong_in(rt.alloc(), run)?, None, "run {at}");
     }
+    assert!(rt; are_limited(rt.alloc())?);
     Ok(())
 }
-
-static GO_AND_READ: [Plain; 2] = [Plain::Go(1), Plain::Read(0)];
-
-static LIMITED: [Row; 10] = LIMIT;
 
 // Which variable it asks to read.
 fn read_in(asked: Option<&Request>) -> Option<u32> {
@@ -353,23 +318,17 @@ fn limited<R: Routine>(
     alloc: Global,
     boxes: Vec<R>,
 ) -> Result<(Option<usize>, Option<u32>, Option<u32>), Fail> {
-    let mut hub = Hub::new(alloc, declared(alloc, Object::Var)?, 2, boxes)?;
-    let wrong = played(&mut hub, &LIMITED)?;
+    let mut hub = Hub::new(alloc, declared(alloc, false, Object::Var)?, 2, boxes)?;
+    let wrong = played(&mut hub, &LIMIT)?;
     Ok((wrong, read_in(hub.waiting(0)), read_in(hub.waiting(1))))
 }
 
 // Whether all come so where the box of main is of another type than that of w.
 fn are_limited(alloc: Global) -> Result<bool, Fail> {
-    let main = Box::new(alloc, box_of(&GO_AND_READ))?;
+    let main = Box::new(alloc, box_of(GO_AND_READ))?;
     let other = Box::new(alloc, Writes { value: 5 })?;
     let boxes = boxes_of(alloc, Boxed(main), Boxed(other))?;
     Ok(limited(alloc, boxes)? == (None, Some(0), None))
-}
-
-#[test]
-fn a_hub_ends_at_its_limit(rt: HostRuntime) -> Result<(), Fail> {
-    assert!(rt; are_limited(rt.alloc())?);
-    Ok(())
 }
 
 // A limit, how many boxes there are, and why no hub is made of main and w.
@@ -391,7 +350,7 @@ fn boxes(alloc: Global, count: u32) -> Result<Vec<Asks>, AllocError> {
 
 fn fault(alloc: Global, limit: u32, count: u32) -> Result<Option<HubFault>, Fail> {
     let boxes = boxes(alloc, count)?;
-    Ok(Hub::new(alloc, declared(alloc, Object::Var)?, limit, boxes).err())
+    Ok(Hub::new(alloc, declared(alloc, false, Object::Var)?, limit, boxes).err())
 }
 
 #[test]
@@ -399,24 +358,5 @@ fn a_hub_has_a_box_for_each_goroutine_and_a_limit(rt: HostRuntime) -> Result<(),
     for (at, row) in OPENINGS.iter().enumerate() {
         assert!(rt; fault(rt.alloc(), row.0, row.1)? == row.2, "row {at}");
     }
-    Ok(())
-}
-
-static WRITE: [Plain; 1] = [Plain::Write(0, 5)];
-
-// What comes of a hub in which main of another goes on in place of its own.
-fn exchanged(alloc: Global) -> Result<Option<Finished>, Fail> {
-    let mut writes = hub_of(alloc, Object::Var, 8, &WRITE, &[])?;
-    let mut exits = hub_of(alloc, Object::Var, 8, &[], &[])?;
-    if exchange(&mut writes, &mut exits)? {
-        Ok(Some(finished(writes)))
-    } else {
-        Ok(None)
-    }
-}
-
-#[test]
-fn a_job_of_another_hub_is_no_part(rt: HostRuntime) -> Result<(), Fail> {
-    assert!(rt; exchanged(rt.alloc())? == Some(Err(Mismatch::Log(0))));
     Ok(())
 }

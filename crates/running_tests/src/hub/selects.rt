@@ -2,6 +2,7 @@
 
 use crate::asks::{Asks, Plain, hub_of};
 use crate::turns::{ask, go_on};
+use race_hub::Answer::Chosen;
 use race_hub::{Answer, Hub};
 use race_records::{Object, Op};
 use std::alloc::{AllocError, Global};
@@ -17,85 +18,54 @@ type Row = (
     (Option<Answer>, Option<Answer>),
 );
 
+const MAIN_OFFERS: &[Plain] = &[Plain::Go(1), Plain::Select(&[Some(5), None], false)];
+
+const W_OFFERS: &[Plain] = &[Plain::Select(&[None, Some(6)], false)];
+
+const MAIN_SENDS: &[Plain] = &[Plain::Go(1), Plain::Select(&[Some(5)], true)];
+
+const MAIN_RECEIVES: &[Plain] = &[Plain::Go(1), Plain::Select(&[None], true)];
+
+const MAIN_HAS_NO_OFFER: &[Plain] = &[Plain::Go(1), Plain::Select(&[], true)];
+
+const W_RECEIVES: &[Plain] = &[Plain::Select(&[None], false)];
+
+const W_SENDS: &[Plain] = &[Plain::Select(&[Some(7)], true)];
+
+const W_SENDS_TOO: &[Plain] = &[Plain::Select(&[Some(6)], false)];
+
+const W_HAS_NO_OFFER: &[Plain] = &[Plain::Select(&[], false)];
+
+// Main and w go on by their first offers, or by their second ones.
+const BY_FIRST: (Option<Answer>, Option<Answer>) = (
+    Some(Chosen(0, None)),
+    Some(Chosen(0, Some(5))),
+);
+
+const BY_SECOND: (Option<Answer>, Option<Answer>) = (
+    Some(Chosen(1, Some(6))),
+    Some(Chosen(1, None)),
+);
+
+const RECEIVED: (Option<Answer>, Option<Answer>) = (
+    Some(Chosen(0, Some(7))),
+    Some(Chosen(0, None)),
+);
+
+const BY_DEFAULT: (Option<Answer>, Option<Answer>) = (Some(Answer::DefaultTaken), None);
+
 static ROWS: [Row; 8] = [
-    // By either pair of offers.
-    (
-        &[Plain::Go(1), Plain::Select(&[Some(5), None], false)],
-        &[Plain::Select(&[None, Some(6)], false)],
-        0,
-        Some((1, 5)),
-        (
-            Some(Answer::Chosen(0, None)),
-            Some(Answer::Chosen(0, Some(5))),
-        ),
-    ),
-    (
-        &[Plain::Go(1), Plain::Select(&[Some(5), None], false)],
-        &[Plain::Select(&[None, Some(6)], false)],
-        1,
-        Some((0, 6)),
-        (
-            Some(Answer::Chosen(1, Some(6))),
-            Some(Answer::Chosen(1, None)),
-        ),
-    ),
-    // There are these two choices, so the next pick is the first one again.
-    (
-        &[Plain::Go(1), Plain::Select(&[Some(5), None], false)],
-        &[Plain::Select(&[None, Some(6)], false)],
-        2,
-        Some((1, 5)),
-        (
-            Some(Answer::Chosen(0, None)),
-            Some(Answer::Chosen(0, Some(5))),
-        ),
-    ),
-    (
-        &[Plain::Go(1), Plain::Select(&[Some(5), None], false)],
-        &[Plain::Select(&[None, Some(6)], false)],
-        3,
-        Some((0, 6)),
-        (
-            Some(Answer::Chosen(1, Some(6))),
-            Some(Answer::Chosen(1, None)),
-        ),
-    ),
+    // There are two choices, so that pick 2 is the first one again.
+    (MAIN_OFFERS, W_OFFERS, 0, Some((1, 5)), BY_FIRST),
+    (MAIN_OFFERS, W_OFFERS, 1, Some((0, 6)), BY_SECOND),
+    (MAIN_OFFERS, W_OFFERS, 2, Some((1, 5)), BY_FIRST),
+    (MAIN_OFFERS, W_OFFERS, 3, Some((0, 6)), BY_SECOND),
     // The sender's default is none while a receiver waits, and the receiver's is none while a sender does.
-    (
-        &[Plain::Go(1), Plain::Select(&[Some(5)], true)],
-        &[Plain::Select(&[None], false)],
-        1,
-        Some((1, 5)),
-        (
-            Some(Answer::Chosen(0, None)),
-            Some(Answer::Chosen(0, Some(5))),
-        ),
-    ),
-    (
-        &[Plain::Go(1), Plain::Select(&[None], true)],
-        &[Plain::Select(&[Some(7)], true)],
-        1,
-        Some((0, 7)),
-        (
-            Some(Answer::Chosen(0, Some(7))),
-            Some(Answer::Chosen(0, None)),
-        ),
-    ),
+    (MAIN_SENDS, W_RECEIVES, 1, Some((1, 5)), BY_FIRST),
+    (MAIN_RECEIVES, W_SENDS, 1, Some((0, 7)), RECEIVED),
     // Nobody receives, so a default is taken; and there is nothing else to wait for.
-    (
-        &[Plain::Go(1), Plain::Select(&[Some(5)], true)],
-        &[Plain::Select(&[Some(6)], false)],
-        1,
-        None,
-        (Some(Answer::DefaultTaken), None),
-    ),
-    (
-        &[Plain::Go(1), Plain::Select(&[], true)],
-        &[Plain::Select(&[], false)],
-        0,
-        None,
-        (Some(Answer::DefaultTaken), None),
-    ),
+    (MAIN_SENDS, W_SENDS_TOO, 1, None, BY_DEFAULT),
+    (MAIN_HAS_NO_OFFER, W_HAS_NO_OFFER, 0, None, BY_DEFAULT),
 ];
 
 // What main and w are told, of those that are ready.

@@ -1,6 +1,6 @@
 //! What tries to lock make, and which of them a hub refuses.
 
-use crate::asks::{Asks, Plain, box_of, boxes_of, declared, declared_of_version2};
+use crate::asks::{Asks, Plain, box_of, boxes_of, declared};
 use crate::turns::{ask, go_on};
 use race_hub::{Answer, End, Hub};
 use race_records::{Object, Op};
@@ -52,10 +52,15 @@ static ROWS: [Row; 16] = [
     (TRIED, 1, Made::Failed, Answer::Tried(false)),
 ];
 
-// A hub of version 2 with a mutex, or an rwmutex, in which main asks these.
-fn hub_of(alloc: Global, rw: bool, main: &'static [Plain]) -> Result<Hub<Asks>, Fail> {
+// A hub of version 1 or 2 with a mutex, or an rwmutex, in which main asks these.
+fn hub_of(
+    alloc: Global,
+    is_version2: bool,
+    rw: bool,
+    main: &'static [Plain],
+) -> Result<Hub<Asks>, Fail> {
     let boxes = boxes_of(alloc, box_of(main), box_of(&[]))?;
-    let decls = declared_of_version2(alloc, Object::Lock(rw))?;
+    let decls = declared(alloc, is_version2, Object::Lock(rw))?;
     Ok(Hub::new(alloc, decls, 8, boxes)?)
 }
 
@@ -84,7 +89,7 @@ fn play(hub: &mut Hub<Asks>, before: usize, pick: u64) -> Result<bool, AllocErro
 
 fn comes(alloc: Global, row: &Row) -> Result<bool, Fail> {
     let &(main, pick, made, answer) = row;
-    let mut hub = hub_of(alloc, true, main)?;
+    let mut hub = hub_of(alloc, true, true, main)?;
     let is_played = play(&mut hub, main.len().saturating_sub(1), pick)?;
     let is_made = last_made(&hub) == Some(made);
     let told = hub.take().map(|job| job.answer());
@@ -99,28 +104,29 @@ fn a_try_that_could_succeed_has_two_choices(rt: HostRuntime) -> Result<(), Fail>
     Ok(())
 }
 
-// How a hub of version 1 with an rwmutex ends where main asks this.
-fn end_in_version1(alloc: Global, main: &'static [Plain]) -> Result<Option<End>, Fail> {
-    let boxes = boxes_of(alloc, box_of(main), box_of(&[]))?;
-    let mut hub = Hub::new(alloc, declared(alloc, Object::Lock(true))?, 8, boxes)?;
-    let _asked = ask(&mut hub)?;
-    Ok(hub.end())
-}
+/// Whether the version is 2, whether the lock is an rwmutex, what main asks first, and how the hub ends then.
+type Ending = (bool, bool, &'static [Plain], Option<End>);
 
-fn end_of(alloc: Global, rw: bool, main: &'static [Plain]) -> Result<Option<End>, Fail> {
-    let mut hub = hub_of(alloc, rw, main)?;
+static ENDINGS: [Ending; 6] = [
+    (false, true, FREE, Some(End::Bad(0))),
+    (false, true, FREE_TO_READ, Some(End::Bad(0))),
+    (true, true, FREE, None),
+    (true, true, FREE_TO_READ, None),
+    (true, false, FREE, None),
+    (true, false, FREE_TO_READ, Some(End::Bad(0))),
+];
+
+fn ends_so(alloc: Global, row: &Ending) -> Result<bool, Fail> {
+    let &(is_version2, rw, main, end) = row;
+    let mut hub = hub_of(alloc, is_version2, rw, main)?;
     let _asked = ask(&mut hub)?;
-    Ok(hub.end())
+    Ok(hub.end() == end)
 }
 
 #[test]
 fn a_try_wants_version_2_and_its_kind_of_lock(rt: HostRuntime) -> Result<(), Fail> {
-    let bad = Some(End::Bad(0));
-    for &tried in &[FREE, FREE_TO_READ] {
-        assert_eq!(rt; end_in_version1(rt.alloc(), tried)?, bad);
-        assert_eq!(rt; end_of(rt.alloc(), true, tried)?, None);
+    for (at, row) in ENDINGS.iter().enumerate() {
+        assert!(rt; ends_so(rt.alloc(), row)?, "row {at}");
     }
-    assert_eq!(rt; end_of(rt.alloc(), false, FREE)?, None);
-    assert_eq!(rt; end_of(rt.alloc(), false, FREE_TO_READ)?, bad);
     Ok(())
 }

@@ -164,17 +164,11 @@ fn left_at(
     }
 }
 
-// Where the recording of the first program, up to the limit, leaves the other one.
-fn left_by(alloc: Global, row: &Row) -> Result<Option<(u32, usize)>, Fail> {
-    let (text, limit, other, _) = *row;
-    let recording = recording_of(alloc, text, limit, false, &[])?;
-    left_at(alloc, &recording, other)
-}
-
 #[test]
 fn a_recording_is_a_run_of_its_program_alone(rt: HostRuntime) -> Result<(), Fail> {
-    for (at, row) in ROWS.iter().enumerate() {
-        assert!(rt; left_by(rt.alloc(), row)? == row.3, "row {at}");
+    for (at, &(text, limit, other, left)) in ROWS.iter().enumerate() {
+        let recording = recording_of(&rt, rt.alloc(), text, limit, &[])?;
+        assert!(rt; left_at(rt.alloc(), &recording, other)? == left, "row {at}");
     }
     Ok(())
 }

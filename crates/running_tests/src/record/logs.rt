@@ -1,9 +1,9 @@
 //! What the logs of a recording say, and who waits with what.
 
+use crate::asks::Plain::{Close, Do, EndDo, Exit, Go, Read, Recv, Send, Write};
 use crate::asks::{Asks, Plain, ask_of, hub_of};
-use crate::turns::go_on;
+use crate::turns::{By, go_on, recorded};
 use race_hub::{Answer, Hub, Log, Recording, Request, Step};
-use race_record::record_serial;
 use race_records::{Kind, Object};
 use std::alloc::{AllocError, Global};
 use std::test::Fail;
@@ -28,14 +28,18 @@ struct Row {
 const LIMITED: Row = Row {
     object: Object::Var,
     limit: 2,
-    main: &[Plain::Go(1), Plain::Read(0)],
-    other: &[Plain::Write(0, 5)],
+    main: &[Go(1), Read(0)],
+    other: &[Write(0, 5)],
     picks: &[0, 1],
     logs: (
-        (&[(Plain::Go(1), Some(Answer::Unit))], Some(Plain::Read(0))),
-        (&[(Plain::Write(0, 5), Some(Answer::Unit))], None),
+        (&[(Go(1), DONE)], Some(Read(0))),
+        (&[(Write(0, 5), DONE)], None),
     ),
 };
+
+const DONE: Option<Answer> = Some(Answer::Unit);
+
+const FOUND: Option<Answer> = Some(Answer::Value(7));
 
 const NOTHING: Lines = (&[], None);
 
@@ -45,65 +49,40 @@ static ROWS: [Row; 6] = [
     Row {
         object: Object::Var,
         limit: 9,
-        main: &[Plain::Go(1), Plain::Write(0, 7)],
-        other: &[Plain::Read(0)],
+        main: &[Go(1), Write(0, 7)],
+        other: &[Read(0)],
         picks: &[],
         logs: (
-            (
-                &[
-                    (Plain::Go(1), Some(Answer::Unit)),
-                    (Plain::Write(0, 7), Some(Answer::Unit)),
-                    (Plain::Exit, None),
-                ],
-                None,
-            ),
-            (
-                &[(Plain::Read(0), Some(Answer::Value(7)))],
-                Some(Plain::Exit),
-            ),
+            (&[(Go(1), DONE), (Write(0, 7), DONE), (Exit, None)], None),
+            (&[(Read(0), FOUND)], Some(Exit)),
         ),
     },
     // Both have met, and ask once more.
     Row {
         object: Object::Chan(0),
         limit: 9,
-        main: &[Plain::Go(1), Plain::Send(0, 7)],
-        other: &[Plain::Recv(Some(0))],
+        main: &[Go(1), Send(0, 7)],
+        other: &[Recv(Some(0))],
         picks: &[],
         logs: (
-            (
-                &[
-                    (Plain::Go(1), Some(Answer::Unit)),
-                    (Plain::Send(0, 7), Some(Answer::Unit)),
-                    (Plain::Exit, None),
-                ],
-                None,
-            ),
-            (
-                &[(Plain::Recv(Some(0)), Some(Answer::Value(7)))],
-                Some(Plain::Exit),
-            ),
+            (&[(Go(1), DONE), (Send(0, 7), DONE), (Exit, None)], None),
+            (&[(Recv(Some(0)), FOUND)], Some(Exit)),
         ),
     },
     Row {
         object: Object::Chan(1),
         limit: 9,
-        main: &[
-            Plain::Send(0, 7),
-            Plain::Recv(Some(0)),
-            Plain::Close(Some(0)),
-            Plain::Recv(Some(0)),
-        ],
+        main: &[Send(0, 7), Recv(Some(0)), Close(Some(0)), Recv(Some(0))],
         other: &[],
         picks: &[],
         logs: (
             (
                 &[
-                    (Plain::Send(0, 7), Some(Answer::Unit)),
-                    (Plain::Recv(Some(0)), Some(Answer::Value(7))),
-                    (Plain::Close(Some(0)), Some(Answer::Unit)),
-                    (Plain::Recv(Some(0)), Some(Answer::Closed)),
-                    (Plain::Exit, None),
+                    (Send(0, 7), DONE),
+                    (Recv(Some(0)), FOUND),
+                    (Close(Some(0)), DONE),
+                    (Recv(Some(0)), Some(Answer::Closed)),
+                    (Exit, None),
                 ],
                 None,
             ),
@@ -113,16 +92,16 @@ static ROWS: [Row; 6] = [
     Row {
         object: Object::Once,
         limit: 9,
-        main: &[Plain::Do(0), Plain::EndDo(0), Plain::Do(0)],
+        main: &[Do(0), EndDo(0), Do(0)],
         other: &[],
         picks: &[],
         logs: (
             (
                 &[
-                    (Plain::Do(0), Some(Answer::Run)),
-                    (Plain::EndDo(0), Some(Answer::Unit)),
-                    (Plain::Do(0), Some(Answer::AlreadyDone)),
-                    (Plain::Exit, None),
+                    (Do(0), Some(Answer::Run)),
+                    (EndDo(0), DONE),
+                    (Do(0), Some(Answer::AlreadyDone)),
+                    (Exit, None),
                 ],
                 None,
             ),
@@ -133,10 +112,10 @@ static ROWS: [Row; 6] = [
     Row {
         object: Object::Var,
         limit: 9,
-        main: &[Plain::Close(None)],
+        main: &[Close(None)],
         other: &[],
         picks: &[],
-        logs: ((&[(Plain::Close(None), None)], None), NOTHING),
+        logs: ((&[(Close(None), None)], None), NOTHING),
     },
 ];
 
@@ -179,18 +158,11 @@ fn opened(alloc: Global, row: &Row) -> Result<Hub<Asks>, Fail> {
     hub_of(alloc, row.object, row.limit, row.main, row.other)
 }
 
-fn recorded(alloc: Global, row: &Row) -> Result<Recording, Fail> {
-    let hub = opened(alloc, row)?;
-    if hub.out() != 0 {
-        return Err(Fail::new("a job is out"));
-    }
-    Ok(record_serial(hub, row.picks)?)
-}
-
 #[test]
 fn a_log_says_what_was_asked_and_told(rt: HostRuntime) -> Result<(), Fail> {
     for (at, row) in ROWS.iter().enumerate() {
-        assert!(rt; are_logs(&recorded(rt.alloc(), row)?, row), "row {at}");
+        let recording = recorded(&rt, opened(rt.alloc(), row)?, By::Picks(row.picks))?;
+        assert!(rt; are_logs(&recording, row), "row {at}");
     }
     Ok(())
 }

@@ -1,9 +1,9 @@
 //! Many runs of programs by workers: each is a run of its program, legal, and has ended as it says.
 
 use crate::record::runs::opened;
+use crate::turns::{By, recorded};
 use race_hub::{Ask, End, Recording};
 use race_legal::legal;
-use race_record::record;
 use race_records::{Kind, Op, Trace};
 use race_script::{Program, certify, parse_program};
 use std::alloc::Global;
@@ -167,30 +167,16 @@ fn is_true_end(recording: &Recording, limit: u32) -> bool {
     }
 }
 
-// What so many workers record of the program.
-fn recorded<T: Threads + Wait + Sync>(
-    rt: &T,
-    alloc: Global,
-    program: &Program,
-    limit: u32,
-    (workers, seed): (usize, u64),
-) -> Result<Recording, Fail> {
-    let hub = opened(alloc, program, limit)?;
-    if hub.out() != 0 {
-        return Err(Fail::new("a job is out"));
-    }
-    Ok(record(rt, hub, workers, seed)?)
-}
-
 // Whether the row's program comes to one of its ends by these workers, in a legal run of it.
 fn comes<T: Threads + Wait + Sync>(
     rt: &T,
     alloc: Global,
     &(text, limit, ends): &Row,
-    by: (usize, u64),
+    by: By<'_>,
 ) -> Result<bool, Fail> {
     let program = parse_program(alloc, text)?;
-    let recording = recorded(rt, alloc, &program, limit, by)?;
+    let hub = opened(alloc, &program, limit)?;
+    let recording = recorded(rt, hub, by)?;
     Ok(
         ends.contains(&number_of(recording.end()))
             && is_true_end(&recording, limit)
@@ -205,7 +191,7 @@ fn each_run_is_legal_and_ends_as_it_says(rt: HostRuntime) -> Result<(), Fail> {
         for run in 0..100u32 {
             let (workers, seed) = (run as usize % 16 + 1, u64::from(run));
             assert!(rt;
-                comes(&rt, rt.alloc(), row, (workers, seed))?,
+                comes(&rt, rt.alloc(), row, By::Workers(workers, seed))?,
                 "row {at}, {workers} workers, seed {seed}"
             );
         }

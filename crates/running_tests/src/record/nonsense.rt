@@ -1,26 +1,24 @@
 //! Boxes that ask what can't be, in a hub, on one thread and on several.
 
 use crate::asks::{Asks, Plain, ask_of, box_of, boxes_of};
-use crate::turns::go_on;
+use crate::turns::{By, go_on, recorded};
 use race_hub::{Answer, End, Hub, Log, Recording, SubmitFault};
-use race_record::{record, record_serial};
 use race_records::{Decls, Object, Op};
 use std::alloc::{AllocError, Global};
-use std::sync::Wait;
 use std::test::Fail;
-use std::thread::Threads;
 
 /// What main asks, of which the last can't be, whether there is a place, and whether the version is 2.
 type Row = (&'static [Plain], bool, bool);
 
-static ROWS: [Row; 9] = [
+static ROWS: [Row; 10] = [
     // A variable and a place that aren't there.
     (&[Plain::Read(1)], true, false),
     (&[Plain::Read(0)], false, false),
     // A mutex can't be locked for reading, and main runs.
     (&[Plain::RLock(0)], true, false),
     (&[Plain::Go(0)], true, false),
-    // The function of the once hasn't begun; and it hasn't ended.
+    // A once that isn't there; its function hasn't begun; and it hasn't ended.
+    (&[Plain::EndDo(1)], true, false),
     (&[Plain::EndDo(0)], true, false),
     (&[Plain::Do(0), Plain::Exit], true, false),
     // Version 1 has no tries, and in version 2 a mutex can't be locked for reading by one either.
@@ -136,51 +134,14 @@ fn a_hub_refuses_nonsense(rt: HostRuntime) -> Result<(), Fail> {
     Ok(())
 }
 
-/// On how many threads it is recorded: on this one, or by so many workers.
-#[derive(Clone, Copy, Debug)]
-enum Threading {
-    Serial,
-    Workers(usize),
-}
-
-static THREADINGS: [Threading; 3] = [
-    Threading::Serial,
-    Threading::Workers(1),
-    Threading::Workers(2),
-];
-
-fn recorded<T: Threads + Wait + Sync>(
-    rt: &T,
-    hub: Hub<Asks>,
-    threading: Threading,
-) -> Result<Recording, Fail> {
-    if hub.out() != 0 {
-        return Err(Fail::new("a job is out"));
-    }
-    match threading {
-        Threading::Serial => Ok(record_serial(hub, &[])?),
-        Threading::Workers(workers) => Ok(record(rt, hub, workers, 0)?),
-    }
-}
-
-fn is_recorded<T: Threads + Wait + Sync>(
-    rt: &T,
-    alloc: Global,
-    row: &Row,
-    threading: Threading,
-) -> Result<bool, Fail> {
-    let recording = recorded(rt, hub_of(alloc, row)?, threading)?;
-    Ok(has_ended(&recording, row.0))
-}
+static WAYS: [By<'static>; 3] = [By::Picks(&[]), By::Workers(1, 0), By::Workers(2, 0)];
 
 #[test]
 fn nonsense_ends_a_recording(rt: HostRuntime) -> Result<(), Fail> {
     for (at, row) in ROWS.iter().enumerate() {
-        for threading in &THREADINGS {
-            assert!(rt;
-                is_recorded(&rt, rt.alloc(), row, *threading)?,
-                "row {at}, {threading:?}"
-            );
+        for by in &WAYS {
+            let recording = recorded(&rt, hub_of(rt.alloc(), row)?, *by)?;
+            assert!(rt; has_ended(&recording, row.0), "row {at}");
         }
     }
     Ok(())

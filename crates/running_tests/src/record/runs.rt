@@ -1,19 +1,17 @@
 //! What programs come to on one thread, by their picks.
 
-use crate::turns::{exchange, go_on};
-use race_hub::{End, Hub, Mismatch, Recording};
-use race_record::{RecordFault, record_serial};
+use crate::turns::{By, go_on, recorded};
+use race_hub::{End, Hub, Recording};
 use race_records::Kind;
 use race_script::{Program, Script, parse_program};
 use race_text::parse_trace;
 use std::alloc::{AllocError, Global};
+use std::sync::Wait;
 use std::test::Fail;
+use std::thread::Threads;
 
-/// A program, how many events it may make, whether its first happens before it is recorded, the picks, and what comes of it.
-type Row = (&'static [u8], u32, bool, &'static [u64], Recorded);
-
-/// What is recorded, how that ends, and whether main and w wait.
-type Recorded = (&'static [u8], End, (bool, bool));
+/// A program, how many events it may make, the picks, how it ends, and whether main and w wait then.
+type Row = (&'static [u8], u32, &'static [u64], End, (bool, bool));
 
 // Main starts w and reads what w writes.
 const READS: &[u8] =
@@ -33,130 +31,17 @@ const TWICE: &[u8] =
 const FAILS: &[u8] =
     b"goprogram 1\ngoroutine w\nbody main\nclose nil m:1\nexit m:2\nbody w\nexit w:1\n";
 
-static ROWS: [Row; 11] = [
-    (
-        READS,
-        2,
-        false,
-        &[],
-        (
-            b"gotrace 1\ngoroutine w\nvar x\ngo main w m:1\nread main x 0 m:2\n",
-            End::Limit,
-            (false, true),
-        ),
-    ),
-    // The second event's pick.
-    (
-        READS,
-        2,
-        false,
-        &[0, 1],
-        (
-            b"gotrace 1\ngoroutine w\nvar x\ngo main w m:1\nwrite w x 5 w:1\n",
-            End::Limit,
-            (true, false),
-        ),
-    ),
-    (
-        READS,
-        8,
-        false,
-        &[],
-        (
-            b"gotrace 1\ngoroutine w\nvar x\ngo main w m:1\nread main x 0 m:2\nwrite w x 5 w:1\nexit main m:3\n",
-            End::Main,
-            (false, true),
-        ),
-    ),
-    // Main's exit and a fault end a run before its limit does.
-    (
-        READS,
-        4,
-        false,
-        &[],
-        (
-            b"gotrace 1\ngoroutine w\nvar x\ngo main w m:1\nread main x 0 m:2\nwrite w x 5 w:1\nexit main m:3\n",
-            End::Main,
-            (false, true),
-        ),
-    ),
-    (
-        READS,
-        3,
-        false,
-        &[],
-        (
-            b"gotrace 1\ngoroutine w\nvar x\ngo main w m:1\nread main x 0 m:2\nwrite w x 5 w:1\n",
-            End::Limit,
-            (true, false),
-        ),
-    ),
-    (
-        FAILS,
-        1,
-        false,
-        &[],
-        (
-            b"gotrace 1\ngoroutine w\nfault main close:nil m:1\n",
-            End::Fault,
-            (false, false),
-        ),
-    ),
-    (
-        SENDS,
-        8,
-        false,
-        &[],
-        (
-            b"gotrace 1\ngoroutine w\nchan c 0\ngo main w m:1\nmeet main w c 7 m:2 w:1\nexit main m:3\n",
-            End::Main,
-            (false, true),
-        ),
-    ),
-    (
-        WAITS,
-        8,
-        false,
-        &[],
-        (
-            b"gotrace 1\ngoroutine w\nchan c 0\nchan d 1\ngo main w m:1\n",
-            End::Deadlock,
-            (true, true),
-        ),
-    ),
-    (
-        TWICE,
-        8,
-        false,
-        &[],
-        (
-            b"gotrace 1\ngoroutine w\ngo main w m:1\n",
-            End::Bad(0),
-            (true, false),
-        ),
-    ),
-    (
-        FAILS,
-        8,
-        false,
-        &[],
-        (
-            b"gotrace 1\ngoroutine w\nfault main close:nil m:1\n",
-            End::Fault,
-            (false, false),
-        ),
-    ),
-    (
-        READS,
-        8,
-        true,
-        &[1],
-        (
-            b"gotrace 1\ngoroutine w\nvar x\ngo main w m:1\nwrite w x 5 w:1\nread main x 5 m:2\nexit w w:2\nexit main m:3\n",
-            End::Main,
-            (false, false),
-        ),
-    ),
+static ROWS: [Row; 10] = [
+    (READS, 2, &[], End::Limit, (false, true)),
+    (READS, 2, &[0, 1], End::Limit, (true, false)),
+    (READS, 8, &[], End::Main, (false, true)),
+    (READS, 4, &[], End::Main, (false, true)),
+    (READS, 3, &[], End::Limit, (true, false)),
+    (FAILS, 1, &[], End::Fault, (false, false)),
+    (FAILS, 8, &[], End::Fault, (false, false)),
+    (SENDS, 8, &[], End::Main, (false, true)),
+    (WAITS, 8, &[], End::Deadlock, (true, true)),
+    (TWICE, 8, &[], End::Bad(0), (true, false)),
 ];
 
 // A box for each goroutine.
@@ -179,105 +64,42 @@ pub(crate) fn hub_of(alloc: Global, text: &[u8], limit: u32) -> Result<Hub<Scrip
     opened(alloc, &program, limit)
 }
 
-// What is recorded of a hub from which no job is out.
-fn recorded(hub: Hub<Script>, picks: &[u64]) -> Result<Recording, Fail> {
-    if hub.out() != 0 {
-        return Err(Fail::new("a job is out"));
-    }
-    Ok(record_serial(hub, picks)?)
-}
-
-/// What is recorded of the program by its picks, where its first event may have happened before.
-pub(crate) fn recording_of(
+/// What is recorded of the program, up to the limit, by its picks.
+pub(crate) fn recording_of<T: Threads + Wait + Sync>(
+    rt: &T,
     alloc: Global,
     text: &[u8],
     limit: u32,
-    begun: bool,
     picks: &[u64],
 ) -> Result<Recording, Fail> {
-    let mut hub = hub_of(alloc, text, limit)?;
-    if begun && !go_on(&mut hub)? {
-        return Err(Fail::new("main does not go on"));
-    }
-    recorded(hub, picks)
+    recorded(rt, hub_of(alloc, text, limit)?, By::Picks(picks))
 }
 
-fn is_trace(alloc: Global, recording: &Recording, text: &[u8]) -> Result<bool, Fail> {
-    Ok(*recording.trace() == parse_trace(alloc, text)?)
+// Whether it ends so, and main and w wait or not.
+fn ends_so(recording: &Recording, end: End, waits: (bool, bool)) -> bool {
+    let main_waits = recording.waiting(0).is_some();
+    recording.end() == end && (main_waits, recording.waiting(1).is_some()) == waits
 }
 
-// Whether main and w wait.
-fn waiting(recording: &Recording) -> (bool, bool) {
-    (
-        recording.waiting(0).is_some(),
-        recording.waiting(1).is_some(),
-    )
+// What is recorded where the go is done before: w writes, main reads, and both return.
+static BEGUN: &[u8] =
+    b"gotrace 1\ngoroutine w\nvar x\ngo main w m:1\nwrite w x 5 w:1\nread main x 5 m:2\nexit w w:2\nexit main m:3\n";
+
+fn goes_on_as_begun<T: Threads + Wait + Sync>(rt: &T, alloc: Global) -> Result<bool, Fail> {
+    let mut hub = hub_of(alloc, READS, 8)?;
+    let has_begun = go_on(&mut hub)?;
+    let recording = recorded(rt, hub, By::Picks(&[1]))?;
+    let is_traced = *recording.trace() == parse_trace(alloc, BEGUN)?;
+    Ok(has_begun && is_traced && ends_so(&recording, End::Main, (false, false)))
 }
 
-// Whether the row comes as it stands here.
-fn comes(alloc: Global, row: &Row) -> Result<bool, Fail> {
-    let (text, limit, begun, picks, (trace, end, waits)) = *row;
-    let recording = recording_of(alloc, text, limit, begun, picks)?;
-    Ok(
-        recording.end() == end
-            && waiting(&recording) == waits
-            && is_trace(alloc, &recording, trace)?,
-    )
-}
-
+// The traces of these runs are in tests/run.
 #[test]
-fn programs_run_by_their_picks(rt: HostRuntime) -> Result<(), Fail> {
-    for (at, row) in ROWS.iter().enumerate() {
-        assert!(rt; comes(rt.alloc(), row)?, "row {at}");
+fn programs_end_by_their_picks(rt: HostRuntime) -> Result<(), Fail> {
+    for (at, &(text, limit, picks, end, waits)) in ROWS.iter().enumerate() {
+        let recording = recording_of(&rt, rt.alloc(), text, limit, picks)?;
+        assert!(rt; ends_so(&recording, end, waits), "row {at}");
     }
-    Ok(())
-}
-
-// Why the hub isn't recorded, where no job is out.
-fn fault_of(hub: Hub<Script>) -> Option<RecordFault> {
-    if hub.out() != 0 {
-        return None;
-    }
-    record_serial(hub, &[]).err()
-}
-
-pub(crate) const WRITES: &[u8] = b"goprogram 1\nvar x\nbody main\nwrite x 5 m:1\nexit m:2\n";
-
-pub(crate) const EXITS: &[u8] = b"goprogram 1\nvar x\nbody main\nexit m:2\n";
-
-// A hub in which main of another went on in place of its own: both have one variable, and nobody beside main.
-fn exchanged(alloc: Global) -> Result<Option<Hub<Script>>, Fail> {
-    let mut writes = hub_of(alloc, WRITES, 8)?;
-    let mut exits = hub_of(alloc, EXITS, 8)?;
-    if exchange(&mut writes, &mut exits)? {
-        Ok(Some(writes))
-    } else {
-        Ok(None)
-    }
-}
-
-// Why it isn't finished.
-fn unfinished(hub: Option<Hub<Script>>) -> Option<Mismatch> {
-    match hub {
-        Some(hub) => match hub.finish() {
-            Ok(_) => None,
-            Err(mismatch) => Some(mismatch),
-        },
-        None => None,
-    }
-}
-
-// Why it isn't recorded.
-fn unrecorded(hub: Option<Hub<Script>>) -> Option<RecordFault> {
-    match hub {
-        Some(hub) => fault_of(hub),
-        None => None,
-    }
-}
-
-#[test]
-fn a_job_of_another_hub_is_no_part(rt: HostRuntime) -> Result<(), Fail> {
-    assert!(rt; unfinished(exchanged(rt.alloc())?) == Some(Mismatch::Log(0)));
-    assert!(rt; unrecorded(exchanged(rt.alloc())?) == Some(RecordFault::Mismatch));
+    assert!(rt; goes_on_as_begun(&rt, rt.alloc())?);
     Ok(())
 }

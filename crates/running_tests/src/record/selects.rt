@@ -2,7 +2,6 @@
 
 use crate::record::runs::recording_of;
 use race_hub::{Answer, Recording};
-use std::alloc::Global;
 use std::test::Fail;
 
 /// A program, its picks, the index of a step in main's log, what main is told there, and how many steps the log has.
@@ -38,16 +37,11 @@ fn tells_main(recording: &Recording, at: usize, told: Answer, count: usize) -> b
     at < log.len() && log.step(at).told == Some(told) && log.len() == count
 }
 
-fn comes(alloc: Global, row: &Row) -> Result<bool, Fail> {
-    let (text, picks, at, told, count) = *row;
-    let recording = recording_of(alloc, text, 8, false, picks)?;
-    Ok(tells_main(&recording, at, told, count))
-}
-
 #[test]
 fn who_selects_is_told_by_which_offer_it_went_on(rt: HostRuntime) -> Result<(), Fail> {
-    for (at, row) in ROWS.iter().enumerate() {
-        assert!(rt; comes(rt.alloc(), row)?, "row {at}");
+    for (row, &(text, picks, at, told, count)) in ROWS.iter().enumerate() {
+        let recording = recording_of(&rt, rt.alloc(), text, 8, picks)?;
+        assert!(rt; tells_main(&recording, at, told, count), "row {row}");
     }
     Ok(())
 }

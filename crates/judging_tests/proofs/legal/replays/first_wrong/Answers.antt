@@ -20,14 +20,14 @@ loop-at-init c =
       len = omega (arith, len);
     }
 
-pub accept-requires-clause-range : goal.accept-requires-clause-range
-accept-requires-clause-range c =
+pub accept-answer-requires-clause-range : goal.accept-answer-requires-clause-range
+accept-answer-requires-clause-range c =
     subst (λ (counts : Kind → ℕ). IsInRange counts c.event.result.now) (sym c.loop-at.invariant.counts)
     (range_from_fits c.args.trace.now.decls c.event.result.now c.event.ensures.fits)
 
 pub asked_of-requires : goal.asked_of-requires
 asked_of-requires c =
-    let counts = sym (c.accept.ensures.counts ∙ c.loop-at.invariant.counts) in
+    let counts = sym (c.accept-answer.ensures.counts ∙ c.loop-at.invariant.counts) in
     record {
       goroutines = subst (λ (of : Kind → ℕ). 1 < of Kind.Goroutine) counts c.loop-at.invariant.goroutines;
       vars = subst (λ (of : Kind → ℕ). 0 < of Kind.Var) counts c.loop-at.invariant.vars;
@@ -38,7 +38,7 @@ asked_of-requires c =
 
 pub loop-at-preserved : goal.loop-at-preserved
 loop-at-preserved c = record {
-  counts = c.accept.ensures.counts ∙ c.loop-at.invariant.counts;
+  counts = c.accept-answer.ensures.counts ∙ c.loop-at.invariant.counts;
   goroutines = c.loop-at.invariant.goroutines;
   vars = c.loop-at.invariant.vars;
   chans = c.loop-at.invariant.chans;

@@ -20,7 +20,7 @@ import graph
 
 PROGRAM = os.path.join(os.path.dirname(__file__), "../crates/gorace/out/gorace")
 SECONDS = 60
-USUAL = 480
+USUAL = 360
 SHARDS = (1, 2, 3, 7, 64)
 BLOCKS = (1, 5, 65536)
 # A block costs a thread for each shard: with more events than these, blocks of one event are for two shards.

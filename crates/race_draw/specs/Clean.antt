@@ -98,6 +98,10 @@ takes_part events edges g = does_one events g || is_entered edges g
 abbrev pub taking_part : List Event → List Edge → ℕ → List ℕ
 taking_part events edges goroutines = filter (takes_part events edges) (range_with_len 0 goroutines)
 
+-- more goroutines take part than there are columns, so that others share the last one
+abbrev pub are_too_many : List ℕ → Bool
+are_too_many goroutines = nat_lt MAX_COLUMNS (length goroutines)
+
 -- the strand is in the lane
 abbrev pub is_in : ℕ → Strand → Bool
 is_in lane s = elim s.lane [ Some own ↦ own == lane | None ↦ false ]
@@ -112,6 +116,6 @@ pub record IsCleanLayoutOf (trace : TraceState) (l : CleanState) : Type 0 where
   pub listed : AreListed trace edges
   pub strands : l.strands ≡ strands (kept edges)
   pub columns : l.columns ≡ take MAX_COLUMNS (taking_part trace.events (kept edges) (count_of Kind.Goroutine trace.decls.declarations))
-  pub shares : l.shares ≡ nat_lt MAX_COLUMNS (length (taking_part trace.events (kept edges) (count_of Kind.Goroutine trace.decls.declarations)))
+  pub shares : l.shares ≡ are_too_many (taking_part trace.events (kept edges) (count_of Kind.Goroutine trace.decls.declarations))
   pub lanes : l.lanes ≡ used_lanes l.strands
   pub rows : l.rows ≡ range_with_len 0 (length trace.events)

@@ -7,3 +7,4 @@ pub mod Svg
 pub mod Clean
 pub mod Strokes
 pub mod Chart
+pub mod Examples

@@ -6,6 +6,7 @@ mod cells;
 mod chart;
 mod chart_rows;
 mod clean;
+pub mod examples;
 mod fold;
 mod heads;
 mod layout;

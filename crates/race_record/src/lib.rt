@@ -1,6 +1,7 @@
 //! Recordings: a hub is run to its end.
 #![tactic(auto)]
 
+pub mod examples;
 mod fault;
 mod finished;
 mod serial;

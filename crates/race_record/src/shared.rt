@@ -1,14 +1,17 @@
 //! What the workers share under the lock, and what each does there.
-ghost use Rattle.std.specs.Prelude.{◌≡◌, ◌≢◌, ◌≤◌, ◌⊎◌, [], Bool, true, false, Some, None, IfSome};
+ghost use Rattle.std.specs.Prelude.{◌≡◌, ◌≢◌, ◌≤◌, ◌⊎◌, [], Bool, true, false, Some, None, IfSome, IsSome};
+ghost use Rattle.rand_xoshiro.specs.SplitMix64.{mix_u64};
 ghost use Rattle.race_hub.specs.Hub.{end_of};
 ghost use Rattle.race_hub.specs.Job.{JobState};
 ghost use Rattle.race_hub.specs.Fires.{IsFired};
 ghost use Rattle.race_hub.specs.Submits.{Takes, Submits, is_stray};
+ghost use Rattle.race_record.specs.Serial.{IsTurned};
 ghost use Rattle.race_record.specs.Stops.{rank};
 
 use race_hub::{Hub, Job, Routine, SubmitFault};
 use race_records::Op;
-use rand_core::{Rng, SeedableRng};
+use rand_core::SeedableRng;
+use rand_core::utils::NextWord;
 use rand_xoshiro::SplitMix64;
 use std::alloc::Allocator;
 
@@ -64,14 +67,36 @@ fn lets_two_go_on(op: &Op) -> bool {
     }
 }
 
+/// A job that was let go on, with no lock held.
+pub(crate) enum Turned<R, A: Allocator> {
+    /// It has asked.
+    Asked(Job<R, A>),
+    /// Memory was refused to it, and it stays as it was.
+    Refused(Job<R, A>),
+}
+
+/// Lets the goroutine go on up to its next request.
+pub(crate) fn let_go_on<R: Routine, A: Allocator + Copy>(job: Job<R, A>) -> Turned<R, A>
+    ensures asked { (new : JobState R) → result ≡ Turned.Asked new
+        → IsTurned R.asks job.asked job new × IsSome new.asked }
+    ensures refused { (same : JobState R) → result ≡ Turned.Refused same → same ≡ job }
+{
+    let mut job = job;
+    match job.turn() {
+        Ok(_) => Turned::Asked(job),
+        Err(_) => Turned::Refused(job),
+    }
+}
+
 impl<R: Routine, A: Allocator + Copy> Shared<R, A> {
     /// The hub with the picks of this seed.
     pub(crate) fn new(hub: Hub<R, A>, seed: u64) -> Shared<R, A>
         ensures hub { result.hub ≡ hub }
+        ensures seeded { (result.pick, result.picks) ≡ mix_u64 seed }
         ensures stop { result.stop ≡ None }
     {
         let mut picks = SplitMix64::seed_from_u64(seed);
-        let pick = picks.next_u64();
+        let pick = picks.next_word();
         Shared {
             hub,
             pick,
@@ -87,6 +112,9 @@ impl<R: Routine, A: Allocator + Copy> Shared<R, A> {
             → (end_of self.old.hub ≡ None) × Takes self.old.hub job self.new.hub }
         ensures fired { (two : Bool) → result ≡ Turn.Fired two → IsFired self.old.pick self.old.hub self.new.hub }
         ensures idle { (two : Bool) → result ≡ Turn.Fired two → self.old.hub.ready ≡ [] }
+        ensures uses { (two : Bool) → result ≡ Turn.Fired two → (self.new.pick, self.new.picks) ≡ mix_u64 self.old.picks }
+        ensures keeps { ((two : Bool) → result ≢ Turn.Fired two)
+            → (self.new.pick ≡ self.old.pick) × (self.new.picks ≡ self.old.picks) }
         ensures stopped { self.old.stop ≢ None → result ≡ Turn.Leave }
         ensures memory { self.old.stop ≡ None → IfSome self.new.stop (λ stop. stop ≡ Stop.OutOfMemory) }
         ensures wait { result ≡ Turn.Wait → (self.new.hub ≡ self.old.hub) × (end_of self.old.hub ≡ None) }
@@ -107,13 +135,16 @@ impl<R: Routine, A: Allocator + Copy> Shared<R, A> {
         ensures run { (job : JobState R) → result ≢ Turn.Run job }
         ensures memory { self.old.stop ≡ None → IfSome self.new.stop (λ stop. stop ≡ Stop.OutOfMemory) }
         ensures fired { (two : Bool) → result ≡ Turn.Fired two → IsFired self.old.pick self.old.hub self.new.hub }
+        ensures uses { (two : Bool) → result ≡ Turn.Fired two → (self.new.pick, self.new.picks) ≡ mix_u64 self.old.picks }
+        ensures keeps { ((two : Bool) → result ≢ Turn.Fired two)
+            → (self.new.pick ≡ self.old.pick) × (self.new.picks ≡ self.old.picks) }
         ensures wait { result ≡ Turn.Wait → (self.new.hub ≡ self.old.hub) × (end_of self.old.hub ≡ None) }
         ensures leave { result ≡ Turn.Leave
             → (self.new.hub ≡ self.old.hub) × ((end_of self.old.hub ≢ None) ⊎ (self.new.stop ≢ None)) }
     {
         match self.hub.fire(self.pick) {
             Ok(true) => {
-                self.pick = self.picks.next_u64();
+                self.pick = self.picks.next_word();
                 Turn::Fired(self.let_two_go_on())
             }
             Ok(false) => if self.hub.end().is_some() {
@@ -137,19 +168,21 @@ impl<R: Routine, A: Allocator + Copy> Shared<R, A> {
 
     /// Puts back a job that has asked since it was taken; or, where memory was refused to it, all workers are to leave, and the
     /// hub counts it as out for ever.
-    pub(crate) fn settle(&mut self, job: Job<R, A>, refused: bool)
-        ensures refused { refused ≡ true → (self.new.hub ≡ self.old.hub) × (self.new.stop ≢ None) }
-        ensures back { refused ≡ false
+    pub(crate) fn settle(&mut self, turned: Turned<R, A>)
+        ensures refused { (job : JobState R) → turned ≡ Turned.Refused job
+            → (self.new.hub ≡ self.old.hub) × (self.new.stop ≢ None) }
+        ensures back { (job : JobState R) → turned ≡ Turned.Asked job
             → Submits self.old.hub job self.new.hub ⊎ ((self.new.hub ≡ self.old.hub) × (self.new.stop ≢ None)) }
-        ensures stray { refused ≡ false → self.old.stop ≡ None → is_stray self.old.hub job ≡ true
-            → self.new.stop ≡ Some Stop.Stray }
-        ensures memory { self.old.stop ≡ None → (refused ≡ true) ⊎ (is_stray self.old.hub job ≡ false)
-            → IfSome self.new.stop (λ stop. stop ≡ Stop.OutOfMemory) }
+        ensures stray { (job : JobState R) → turned ≡ Turned.Asked job → self.old.stop ≡ None
+            → is_stray self.old.hub job ≡ true → self.new.stop ≡ Some Stop.Stray }
+        ensures kept { (job : JobState R) → turned ≡ Turned.Asked job → self.old.stop ≡ None
+            → is_stray self.old.hub job ≡ false → IfSome self.new.stop (λ stop. stop ≡ Stop.OutOfMemory) }
+        ensures memory { (job : JobState R) → turned ≡ Turned.Refused job → self.old.stop ≡ None
+            → self.new.stop ≡ Some Stop.OutOfMemory }
     {
-        if refused {
-            self.leave_for(Stop::OutOfMemory);
-        } else {
-            self.put_back(job);
+        match turned {
+            Turned::Asked(job) => self.put_back(job),
+            Turned::Refused(_) => self.leave_for(Stop::OutOfMemory),
         }
     }
 
@@ -189,6 +222,7 @@ impl<R: Routine, A: Allocator + Copy> Shared<R, A> {
         ensures stop { self.new.stop ≢ None }
         ensures one { IfSome self.new.stop (λ stop. (stop ≡ why) ⊎ (self.old.stop ≡ Some stop)) }
         ensures first { IfSome self.new.stop (λ stop. rank stop ≤ rank why) }
+        ensures keeps { (self.new.pick ≡ self.old.pick) × (self.new.picks ≡ self.old.picks) }
     {
         self.stop = Some(first_of(self.stop, why));
     }

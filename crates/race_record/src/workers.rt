@@ -6,7 +6,7 @@ ghost use Rattle.race_record.specs.Recorded.{IsRecordingOf};
 
 use crate::RecordFault;
 use crate::finished::finished;
-use crate::shared::{Shared, Stop, Turn};
+use crate::shared::{Shared, Stop, Turn, let_go_on};
 use race_hub::{Hub, Job, Recording, Routine};
 use race_records::Decls;
 use std::alloc::Allocator;
@@ -90,7 +90,7 @@ fn recorded<T: Threads + Wait + Sync, R: Routine, A: Allocator + Copy + Send>(
         return Err(Fault::OutOfMemory);
     };
     let limit = hub.limit();
-    let (hub, stop) = run_to_end(rt, hub, workers, seed);
+    let (hub, stop) = run_to_end(rt, Shared::new(hub, seed), workers);
     left(hub, stop, &decls, limit)
 }
 
@@ -151,11 +151,10 @@ fn is_same<R, A: Allocator>(hub: &Hub<R, A>, decls: &Decls<A>, limit: u32) -> bo
 // The hub, once all workers have left.
 fn run_to_end<T: Threads + Wait + Sync, R: Routine, A: Allocator + Copy + Send>(
     rt: &T,
-    hub: Hub<R, A>,
+    shared: Shared<R, A>,
     workers: usize,
-    seed: u64,
 ) -> (Hub<R, A>, Option<Stop>) {
-    let shared = Mutex::new(Shared::new(hub, seed));
+    let shared = Mutex::new(shared);
     let moved = Condvar::new();
     work_all(rt, &shared, &moved, workers);
     shared.into_inner().into_parts()
@@ -220,7 +219,6 @@ fn go_on<T: Wait, R: Routine, A: Allocator + Copy>(
     shared: &Mutex<Shared<R, A>>,
     job: Job<R, A>,
 ) {
-    let mut job = job;
-    let refused = job.turn().is_err();
-    shared.lock(rt).settle(job, refused);
+    let turned = let_go_on(job);
+    shared.lock(rt).settle(turned);
 }

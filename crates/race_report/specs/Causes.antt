@@ -1,5 +1,5 @@
--- The text of each cause of a text fault. text_fault gives neither of the last two: BadBlock is kept for the text of
--- programs, and want of memory is no fault of a text.
+-- The text of each cause of a text fault. The text of a trace has neither of the last two: BadBlock is of the text of a
+-- program alone, and want of memory is no fault of a text.
 use Rattle.std.specs.Prelude.{ℕ, List, codes}
 use Rattle.race_text.specs.declared.cause.TextCause.{TextCause}
 

@@ -3,6 +3,7 @@
 
 mod counted;
 mod edge_lines;
+pub mod examples;
 mod fault;
 mod noted;
 mod rule;

@@ -10,6 +10,9 @@ use std::marker::Model;
 /// The most steps that a body can have, its exit counted.
 pub const MAX_STEPS: usize = 65_535;
 
+// Definitions cite this number, so it is written down twice.
+const _: () = prove!(MAX_STEPS == 65_535);
+
 /// Declarations, and for each goroutine its body: the requests that it makes, one after another.
 pub struct Program<A: Allocator = Global> {
     decls: Decls<A>,

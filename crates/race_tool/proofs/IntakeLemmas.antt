@@ -1,5 +1,5 @@
 -- How a trace is read on that is judged meanwhile.
-use Rattle.std.proofs.Common.{◌≡◌, ℕ, ◌+◌, Bool, true, false, IsTrue, ◌≤◌, ◌<◌, List, [], Option, Result, Ok, Err, IfOk, refl, sym, ◌∙◌, subst, arith}
+use Rattle.std.proofs.Common.{◌≡◌, ℕ, ◌+◌, Bool, true, false, IsTrue, ◌≤◌, ◌<◌, List, [], Option, Result, Ok, Err, IfOk, IfErr, OnOk, OnErr, refl, sym, ◌∙◌, subst, arith}
 use Rattle.race_records.specs.declared.source.Source.{Source}
 use Rattle.race_records.specs.Devices.{unread, source_reads, source_failures, one_more}
 use Rattle.race_text.specs.declared.cause.TextFault.{TextFault}
@@ -15,7 +15,7 @@ use Rattle.race_tool.specs.declared.input.ReadFault.{ReadFault}
 use Rattle.race_tool.specs.declared.intake.Intake.{Intake}
 use Rattle.race_text.specs.Grammar.{ForEachLines}
 use Rattle.race_tool.specs.Intake.{HasTaken, GoesOnTo, IsReadable, IsReadOn, ReadsOn}
-use Rattle.race_tool.specs.Streams.{IsReadText, StandsAfter, JudgesAll}
+use Rattle.race_tool.specs.Streams.{IsReadText, StandsAfter, JudgesAll, HasNoneLeft}
 use Rattle.race_tool.proofs.InputLemmas.{fed_none, fed_more, fed_all, fault_read, read_as, read_more}
 use Rattle.race_tool.proofs.StreamedReading.{fed_as, fine_as}
 
@@ -215,9 +215,64 @@ stands_judged old new judges s lines S = record {
   begun = λ some. S.begun (sym judges.begun ∙ some);
 }
 
--- the same of an answer that is known to be this one
-pub reads_as_told : {R A : Type 0} (remaining : R → Option (List ℕ)) (h : Handed A) (source now : Source R) (before after : Intake A)
-    (r told : Result (Result Bool TextFault) ReadFault) → r ≡ told → ReadsOn remaining (StandsAfter h) (StandsAfter h) source now before after r
-    → ReadsOn remaining (StandsAfter h) (StandsAfter h) source now before after told
-reads_as_told remaining h source now before after r told is x =
-    subst (λ (a : Result (Result Bool TextFault) ReadFault). ReadsOn remaining (StandsAfter h) (StandsAfter h) source now before after a) is x
+-- What is told of a judge and of what was read beside it.
+module _ {R A E : Type 0} (remaining : R → Option (List ℕ)) (old new : Handed A) (source now : Source R) (before after : Intake A)
+    (judged : Result (Unit {0}) E) (judges : OnOk judged (JudgesAll old new)) where
+  abbrev Beside : Result (Result Bool TextFault) ReadFault → Type 0
+  Beside r = ReadsOn remaining (StandsAfter old) (StandsAfter new) source now before after r
+
+  abbrev Read : Result (Result Bool TextFault) ReadFault → Type 0
+  Read r = ReadsOn remaining (StandsAfter old) (StandsAfter old) source now before after r
+
+  stopped_beside : (fault : ReadFault) → Read (Err fault) → Beside (Err fault)
+  stopped_beside fault r = record { ok = tt; on = tt; calm = r.calm; failed = r.failed; fine = r.fine; endless = r.endless }
+
+  refused_beside : (more : Bool) → Read (Ok (Ok more)) → Beside (Err ReadFault.OutOfMemory)
+  refused_beside more r = record {
+    ok = tt;
+    on = tt;
+    calm = λ _. r.calm (λ e. cc);
+    failed = λ is. absurd cc;
+    fine = λ is. absurd cc;
+    endless = λ is. absurd cc;
+  }
+
+  as_told : (r told : Result (Result Bool TextFault) ReadFault) → r ≡ told → Beside told → Beside r
+  as_told r told is x = subst (λ (a : Result (Result Bool TextFault) ReadFault). Beside a) (sym is) x
+
+  pub told_beside : (read result : Result (Result Bool TextFault) ReadFault)
+      → IfOk read (λ answer. IfErr answer (λ fault. result ≡ Ok (Err fault))) → IfErr read (λ fault. result ≡ Err fault)
+      → IfOk read (λ answer. OnOk answer (OnErr judged (result ≡ Err ReadFault.OutOfMemory))) → OnOk judged (result ≡ read)
+      → Read read → Beside result
+  told_beside (Ok (Ok more)) result fault stopped refused same r = by judged judges refused same
+    where
+      by : (j : Result (Unit {0}) E) → OnOk j (JudgesAll old new) → OnErr j (result ≡ Err ReadFault.OutOfMemory) → OnOk j (result ≡ Ok (Ok more))
+          → Beside result
+      by (Ok _) all _ is =
+          as_told result (Ok (Ok more)) is
+          (judged_beside remaining (StandsAfter old) (StandsAfter new) source now before after more (stands_judged old new all) r)
+      by (Err _) _ is _ = as_told result (Err ReadFault.OutOfMemory) is (refused_beside more r)
+  told_beside (Ok (Err e)) result fault stopped refused same r =
+      as_told result (Ok (Err e)) fault (fault_beside remaining (StandsAfter old) (StandsAfter new) source now before after e r)
+  told_beside (Err e) result fault stopped refused same r = as_told result (Err e) stopped (stopped_beside e r)
+
+  pub none_left : (read result : Result (Result Bool TextFault) ReadFault)
+      → IfOk read (λ answer. IfErr answer (λ fault. result ≡ Ok (Err fault))) → IfErr read (λ fault. result ≡ Err fault)
+      → IfOk read (λ answer. OnOk answer (OnErr judged (result ≡ Err ReadFault.OutOfMemory)))
+      → IfOk result (λ answer. OnOk answer (HasNoneLeft old new))
+  none_left (Ok (Ok more)) result fault stopped refused = by judged judges refused
+    where
+      by : (j : Result (Unit {0}) E) → OnOk j (JudgesAll old new) → OnErr j (result ≡ Err ReadFault.OutOfMemory)
+          → IfOk result (λ answer. OnOk answer (HasNoneLeft old new))
+      by (Ok _) all _ = left result
+        where
+          left : (r : Result (Result Bool TextFault) ReadFault) → IfOk r (λ answer. OnOk answer (HasNoneLeft old new))
+          left (Ok (Ok b)) = all.left
+          left (Ok (Err e)) = tt
+          left (Err e) = tt
+      by (Err _) _ is =
+          subst (λ (a : Result (Result Bool TextFault) ReadFault). IfOk a (λ answer. OnOk answer (HasNoneLeft old new))) (sym is) tt
+  none_left (Ok (Err e)) result fault stopped refused =
+      subst (λ (a : Result (Result Bool TextFault) ReadFault). IfOk a (λ answer. OnOk answer (HasNoneLeft old new))) (sym fault) tt
+  none_left (Err e) result fault stopped refused =
+      subst (λ (a : Result (Result Bool TextFault) ReadFault). IfOk a (λ answer. OnOk answer (HasNoneLeft old new))) (sym stopped) tt

@@ -54,6 +54,17 @@ impl CheckOptions {
     {
         1 <= self.shards && self.shards <= MAX_SHARDS && 1 <= self.block && self.block <= MAX_BLOCK
     }
+
+    // Who judges.
+    fn judging(&self) -> Judging
+        ensures shards { result.shards ≡ self.now.shards }
+        ensures block { result.block ≡ self.now.block }
+    {
+        Judging {
+            shards: self.shards,
+            block: self.block,
+        }
+    }
 }
 
 /// Judges a trace: reads its text in blocks, and writes the report. It stops reading behind the block
@@ -105,10 +116,7 @@ fn check_as_read<T: Threads + Wait + Sync, R: Read, W: Write, A: Allocator + Cop
     ensures { Answers trace_causes (spec.IsFoundOf {A = A}) spec.found_text spec.found_status Never
         R.remaining W.contents source.old source.new sink.old sink.new result }
 {
-    let judging = Judging {
-        shards: options.shards,
-        block: options.block,
-    };
+    let judging = options.judging();
     match read_judged(rt, alloc, source, judging) {
         Ok(text) => match find_judged(rt, alloc, judging, text) {
             Ok(found) => match found.write(sink) {

@@ -1,5 +1,5 @@
 //! Reading a trace while several shards judge the events that were read before.
-ghost use Rattle.std.specs.Prelude.{◌≡◌, ◌≢◌, ◌<◌, true, [], Some, IfOk, IfErr, OnOk};
+ghost use Rattle.std.specs.Prelude.{◌≡◌, ◌≢◌, ◌<◌, true, [], Some, IfOk, IfErr, OnOk, OnErr};
 ghost use Rattle.race_records.specs.Devices.{unread, source_failures, one_more};
 ghost use Rattle.race_shards.specs.Limits.{is_block};
 ghost use Rattle.race_text.specs.declared.cause.TextCause.{TextCause as Cause};
@@ -92,6 +92,19 @@ fn read_next<T: Threads + Wait + Sync, R: Read, A: Allocator + Copy + Send>(
         return intake.read_on(source);
     }
     let (judged, read) = judge_and_read(rt, source, intake, handed);
+    first_told(judged, read)
+}
+
+// What is told of both: a fault of the text, and what kept the reading from going on, before a refusal of the judge.
+fn first_told(
+    judged: Result<(), AllocError>,
+    read: Result<Result<bool, TextFault>, ReadFault>,
+) -> Result<Result<bool, TextFault>, ReadFault>
+    ensures fault { IfOk read (λ answer. IfErr answer (λ fault. result ≡ Ok (Err fault))) }
+    ensures stopped { IfErr read (λ fault. result ≡ Err fault) }
+    ensures refused { IfOk read (λ answer. OnOk answer (OnErr judged (result ≡ Err ReadFault.OutOfMemory))) }
+    ensures judged { OnOk judged (result ≡ read) }
+{
     match read {
         Ok(Ok(more)) => match judged {
             Ok(()) => Ok(Ok(more)),

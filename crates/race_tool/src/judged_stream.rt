@@ -1,5 +1,5 @@
 //! A trace that is judged while it is read, and of which no event is kept.
-ghost use Rattle.std.specs.Prelude.{◌≡◌, ◌++◌, ◌<◌, true, IsTrue, List, [], IfOk, OnOk};
+ghost use Rattle.std.specs.Prelude.{◌≡◌, ◌++◌, ◌<◌, true, IsTrue, List, [], IfOk, IfSome, OnOk};
 ghost use Rattle.race_records.specs.declared.event.Event.{Event};
 ghost use Rattle.race_text.specs.Grammar as grammar;
 ghost use Rattle.race_text.specs.Stream.{decls_of, events_of, has_events};
@@ -155,8 +155,9 @@ pub(crate) fn started<A: Allocator + Copy + Send>(
     decls: &Decls<A>,
     before: Option<Judge<A>>,
 ) -> Result<Judge<A>, AllocError>
-    ensures { IfOk result (λ judge. (past : List Event) → spec.IsJudgeOf decls.now before past
+    ensures stands { IfOk result (λ judge. (past : List Event) → spec.IsJudgeOf decls.now before past
         → judges.StandsFor decls.now.declarations judge past) }
+    ensures shards { IfOk result (λ judge. IfSome before (λ first. first.count ≡ shards) → judge.count ≡ shards) }
 {
     match before {
         Some(judge) => Ok(judge),

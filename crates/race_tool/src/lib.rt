@@ -7,6 +7,7 @@ mod draw_found;
 mod edges_engine;
 mod edges_found;
 mod engine;
+pub mod examples;
 mod finding;
 mod gathered;
 mod handed;

@@ -4,10 +4,10 @@ use Rattle.race_shards.specs.Judging as judging
 use Rattle.race_tool.specs.Streams.{IsJudgeOf}
 use Rattle.race_tool.proofs.judged_stream.started.Goals as goal
 
-pub returns-in-Some : goal.returns-in-Some
-returns-in-Some g c = λ past judged. subst (λ o. IsJudgeOf c.args.decls.now o past) c.in-Some.is judged
+pub returns-in-Some-clause-stands : goal.returns-in-Some-clause-stands
+returns-in-Some-clause-stands g c = λ past judged. subst (λ o. IsJudgeOf c.args.decls.now o past) c.in-Some.is judged
 
-pub returns-in-Ok : goal.returns-in-Ok
-returns-in-Ok g c = λ past judged.
+pub returns-in-Ok-clause-stands : goal.returns-in-Ok-clause-stands
+returns-in-Ok-clause-stands g c = λ past judged.
     subst (λ (es : List Event). judging.StandsFor c.args.decls.now.declarations c.in-Ok.judge es)
     (sym (subst (λ o. IsJudgeOf c.args.decls.now o past) c.in-None.is judged)) c.in-Ok.ensures.stands

@@ -25,7 +25,7 @@ returns-clause-stands g c =
     let s = c.args.stream.now in
     let k : JudgeState = c.in_ok-judge.judge in
     let same : c.take-before.result ≡ old.judge = search rules in
-    let begun = begun_as old.judge c.take-before.result (decls_of s) c.decls.result.now k same c.decls.ensures c.in_ok-judge.ensures in
+    let begun = begun_as old.judge c.take-before.result (decls_of s) c.decls.result.now k same c.decls.ensures c.in_ok-judge.ensures.stands in
     handed_on old.judge old.events.items s c.requires.none c.hand_over.new.self k c.hand_over.new.list.items c.requires.begun
     c.hand_over.ensures.declared c.hand_over.ensures.stands
     (λ past J. subst (λ (es : List Event). IsHanded (decls_of s) (Some k) es (past ++ events_of s)) (sym {A = List Event} c.hand_over.ensures.moved)
@@ -37,7 +37,7 @@ returns-clause-can g c =
     let s = c.args.stream.now in
     let k : JudgeState = c.in_ok-judge.judge in
     let same : c.take-before.result ≡ old.judge = search rules in
-    let begun = begun_as old.judge c.take-before.result (decls_of s) c.decls.result.now k same c.decls.ensures c.in_ok-judge.ensures in
+    let begun = begun_as old.judge c.take-before.result (decls_of s) c.decls.result.now k same c.decls.ensures c.in_ok-judge.ensures.stands in
     record {
       can = subst (λ (es : List Event). judging.CanTake k es) (sym {A = List Event} c.hand_over.ensures.moved)
           (can_take_some s old.judge k (some_hands_on old.judge old.events.items s c.requires.none c.requires.some) begun c.hand_over.ensures.is_trace);

@@ -18,7 +18,7 @@ from concurrent.futures import ThreadPoolExecutor
 
 from cases import HERE, BadCase, all_cases
 
-SECONDS = 60
+SECONDS = 120
 WIDEST = 100
 
 

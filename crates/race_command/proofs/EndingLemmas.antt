@@ -26,11 +26,12 @@ both_in_limits is race limits = subst (λ r. IsTrue (is_in_limits r)) race (subs
 module _ {R W : Type 0} (remaining : R → Option (List ℕ)) (contents : W → Option (List ℕ))
     (source source_now : Source R) (sink sink_now : Sink W) (answer : ℕ) where
   -- a request ends as it asks, and an error as an answer
-  pub ends_as_asked : (request : Result Request Error) → IfOk request (λ asked. Does asked remaining contents source source_now sink sink_now answer)
+  pub ends_as_asked : (request : Result Request Error) → IfOk request (λ asked. IsTrue (is_in_limits asked))
+      → IfOk request (λ asked. Does asked remaining contents source source_now sink sink_now answer)
       → IfErr request (λ error. Declines (kind_of error) source source_now sink sink_now answer)
       → Ends remaining contents source source_now sink sink_now answer
-  ends_as_asked (Ok asked) does none = inl (asked, does)
-  ends_as_asked (Err error) checks none = inr (kind_of error, none)
+  ends_as_asked (Ok asked) limits does none = inl (asked, limits, does)
+  ends_as_asked (Err error) limits does none = inr (kind_of error, none)
 
   -- words for which memory was refused end as those do for which it is refused later
   pub ends_with_words : {A T : Type 0} (args : Result A IoError) (words : Result T IoError)

@@ -1,5 +1,5 @@
 -- How the program ends: with which status, and what was read and written.
-use Rattle.std.specs.Prelude.{◌≡◌, ◌⊎◌, ◌==◌, ℕ, if◌then◌else◌, List, Option, Some, None, codes}
+use Rattle.std.specs.Prelude.{◌≡◌, ◌⊎◌, ◌==◌, ℕ, IsTrue, if◌then◌else◌, List, Option, Some, None, codes}
 use Rattle.std.specs.Option.{option_map}
 use Rattle.std.specs.String.{string_bytes}
 use Rattle.std.specs.declared.io.ErrorKind.{ErrorKind as IoErrorKind}
@@ -9,6 +9,7 @@ use Rattle.clap.specs.declared.error.kind.ErrorKind.TheVariants as kind
 use Rattle.race_records.specs.declared.source.Source.{Source}
 use Rattle.race_records.specs.declared.sink.Sink.{Sink}
 use Rattle.race_command.specs.declared.command.Request.{Request}
+use Rattle.race_command.specs.Request.{is_in_limits}
 use Rattle.race_tool.specs.Engines.{Checks, Lists, Runs, Judges}
 use Rattle.race_tool.specs.Options.{picks_asked}
 use Rattle.race_tool.specs.Witnesses.{Shows}
@@ -42,10 +43,11 @@ pub record Declines {R W : Type 0} (kind : ErrorKind) (source source_now : Sourc
   pub unread : source_now ≡ source
   pub unwritten : sink_now ≡ sink
 
--- how the program ends where there are words: one request is done, or none is; which words ask for which is clap's
+-- how the program ends where there are words: one request is done, each of whose options is in its limits, or none is; which words ask for
+-- which is clap's
 abbrev pub Ends : {R W : Type 0} → (R → Option (List ℕ)) → (W → Option (List ℕ)) → Source R → Source R → Sink W → Sink W → ℕ → Type 0
 Ends remaining contents source source_now sink sink_now answer =
-    ((request : Request) × Does request remaining contents source source_now sink sink_now answer)
+    ((request : Request) × IsTrue (is_in_limits request) × Does request remaining contents source source_now sink sink_now answer)
     ⊎ ((kind : ErrorKind) × Declines kind source source_now sink sink_now answer)
 
 -- the status where there are no words: memory was refused for them, or they aren't text

@@ -65,6 +65,9 @@ func (d *declarer) print(out io.Writer) (*printer, error) {
 			break
 		}
 		p.print(i)
+		if d.printed != nil {
+			d.printed(p, i)
+		}
 	}
 	if p.fault != "" && d.end == len(d.records) {
 		p.out.WriteString(p.fault)

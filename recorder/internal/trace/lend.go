@@ -56,7 +56,7 @@ func lend(s *survey) *lender {
 	for g := range l.numbers {
 		l.numbers[g] = g
 	}
-	if s.living() <= maxGoroutines {
+	if s.living() <= s.limit() {
 		return l
 	}
 	for i := range s.records {
@@ -95,7 +95,7 @@ func (l *lender) start(r *wire.Record) bool {
 		}
 	}
 	if number < 0 {
-		if len(l.counts) == maxGoroutines {
+		if len(l.counts) == l.limit() {
 			return false
 		}
 		number = len(l.counts)

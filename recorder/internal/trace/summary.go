@@ -34,10 +34,20 @@ type Summary struct {
 type Options struct {
 	Version int  // of its text
 	All     bool // what one goroutine alone does isn't left out
+
+	Goroutines int // names of goroutines at most; 0: as many as a trace may have
 }
 
 // hasTries: the version has words for TryLock and TryRLock, with and without success.
 func (o Options) hasTries() bool { return o.Version >= 2 }
+
+// limit is how many names of goroutines there may be.
+func (o Options) limit() int {
+	if o.Goroutines > 0 {
+		return o.Goroutines
+	}
+	return maxGoroutines
+}
 
 // Write writes the trace of a log. What one goroutine alone does with a variable, a channel,
 // a lock or a once is left out, unless all is wanted.

@@ -106,7 +106,7 @@ func (o *options) report(judge []string, copy *instrument.Copy, out *os.File, en
 	}
 	fmt.Fprintln(os.Stderr, "gorec: "+summary.Counts())
 	report, err := askJudge(judge, o.out)
-	explain(os.Stdout, report, summary, copy)
+	explain(os.Stdout, report, summary, copy, readStacks(o.log+stacksSuffix))
 	switch {
 	case err != nil:
 		return err
@@ -203,6 +203,12 @@ func (o *options) record(cmd *exec.Cmd) (ended, err error) {
 	if o.seed != "" {
 		cmd.Env = append(cmd.Env, "GOREC_SEED="+o.seed)
 	}
+	if o.stacks {
+		cmd.Env = append(cmd.Env, "GOREC_STACKS="+o.log+stacksSuffix)
+	}
+	if o.all {
+		cmd.Env = append(cmd.Env, "GOREC_ALL=1")
+	}
 	if o.format != 0 {
 		cmd.Env = append(cmd.Env, fmt.Sprintf("GOREC_FORMAT=%d", o.format))
 	}
@@ -253,7 +259,7 @@ func (o *options) writeLog(log *trace.Log, table sites.Table, out io.Writer) (*t
 		return nil, fmt.Errorf("the log was written for version %d of a trace; GOREC_FORMAT=%d makes one for version %d",
 			log.Version(), version, version)
 	}
-	return trace.Write(log.Records(), table, trace.Options{Version: version, All: o.all}, out)
+	return trace.Write(log.Records(), table, trace.Options{Version: version, All: o.all, Variables: log.Variables()}, out)
 }
 
 func (o *options) buildOnly(args []string) error {

@@ -69,10 +69,11 @@ var racing = regexp.MustCompile(`(?m)^race on \S+: (\w+) by (\w+) at (\S+) \(eve
 
 // explain writes behind a report which places race, who started the goroutines named in it,
 // and what isn't recorded.
-func explain(w io.Writer, report string, s *trace.Summary, c *instrument.Copy) {
+func explain(w io.Writer, report string, s *trace.Summary, c *instrument.Copy, stacks stackTable) {
 	races := racing.FindAllStringSubmatch(report, -1)
 	groups(w, races)
 	starters(w, races, s.Starts)
+	stacks.stacks(w, races, s)
 	tell(w, s, c.Missed)
 }
 

@@ -54,7 +54,7 @@ races: 3
 		},
 	}
 	var b strings.Builder
-	explain(&b, report, summary, &instrument.Copy{Missed: map[string]int{"flag.Var": 2}})
+	explain(&b, report, summary, &instrument.Copy{Missed: map[string]int{"flag.Var": 2}}, nil)
 	want := `pairs of places: 2
      2  read at a.go:9, write at a.go:3
      1  read at a.go:4, write at a.go:5

@@ -29,6 +29,7 @@ gorec's own flags stand before PACKAGE; what stands behind it goes to the progra
   -force  goes on without what can't be recorded
   -gorace the command that judges: a file, or words between blanks
   -all    keeps what one goroutine alone uses
+  -stacks=false  doesn't record which calls led to each access
   -format the version of the trace, 1 or 2; 2 has words for TryLock and TryRLock
 
 A program that was built writes its log to the file that GOREC_LOG names, for the version that
@@ -61,6 +62,7 @@ type options struct {
 	out, log, judge, seed string
 	format                int // the version of the trace, 0 for none named
 	all, force, tests     bool
+	stacks                bool
 }
 
 func main() {
@@ -102,6 +104,7 @@ func command(name string, args []string) error {
 	flags.StringVar(&o.seed, "seed", "", "of the yields that let runs differ; 0 for none")
 	flags.IntVar(&o.format, "format", 0, "the version of the trace, 1 or 2")
 	flags.BoolVar(&o.all, "all", false, "keep what one goroutine alone uses")
+	flags.BoolVar(&o.stacks, "stacks", true, "record the calls that led to each access")
 	flags.BoolVar(&o.tests, "tests", false, "build the package's tests")
 	flags.BoolVar(&o.force, "force", false, "go on without what can't be recorded")
 	if err := flags.Parse(args); err != nil {

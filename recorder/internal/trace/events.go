@@ -42,7 +42,8 @@ type printer struct {
 	goroutines []string
 	starts     map[string][]Start
 	events     int
-	fault      string // the last record, unless something follows it
+	stacks     []uint32 // of the accesses, by event
+	fault      string   // the last record, unless something follows it
 	line       []byte
 }
 
@@ -60,8 +61,8 @@ func (d *declarer) print(out io.Writer) (*printer, error) {
 	fmt.Fprintf(p.out, "gotrace %d\n", p.Version)
 	p.out.WriteString(d.text.String())
 	for i := 0; i < d.end; i++ {
-		if p.events+p.most(i) > maxEvents {
-			d.cutAt(i, "more than 16,777,216 events")
+		if p.events+p.most(i) > d.limit() {
+			d.cutAt(i, fmt.Sprintf("more than %s events", thousands(d.limit())))
 			break
 		}
 		p.print(i)
@@ -128,7 +129,8 @@ func (p *printer) isLending() bool { return p.living() > maxGoroutines }
 
 // access writes an access. Where atomic operations come to the location too, each goroutine
 // that does them has a variable of its own, which they read or write; a plain access does so
-// with all of them. So two atomic operations don't race, and one with a plain access does.
+// with all of them. So two atomic operations don't race, and one with a plain access does. The
+// writes of a variable are numbered, so that each read finds the last one.
 func (p *printer) access(r *wire.Record) {
 	o := &p.objects[r.Object]
 	if r.Op == wire.AtomicRead || r.Op == wire.AtomicWrite {
@@ -136,7 +138,10 @@ func (p *printer) access(r *wire.Record) {
 		return
 	}
 	if o.several && o.written || p.All {
-		p.valued(words[r.Op], r, o.name, r.Value^o.base)
+		if r.Op == wire.Write {
+			o.writes++
+		}
+		p.valued(words[r.Op], r, o.name, o.writes)
 	}
 	if o.mixed() {
 		for g, name := range o.atomics {
@@ -159,8 +164,8 @@ func (p *printer) start(r *wire.Record) {
 	} else {
 		p.event("go", r, name)
 	}
-	s := Start{By: p.goroutines[r.Goroutine], Place: p.table[r.Site].Place, Event: p.events}
-	if r.Kind == wire.GoForeign {
+	s := Start{By: p.goroutines[r.Goroutine], Place: p.table[r.Site].Place, Event: p.events, Stack: r.OtherSite}
+	if wire.GoKind(r.Kind) == wire.GoForeign {
 		s.Place = "a place that isn't recorded"
 	}
 	p.starts[name] = append(p.starts[name], s)
@@ -219,6 +224,10 @@ func (p *printer) event(word string, r *wire.Record, what string) {
 // valued writes a read or a write.
 func (p *printer) valued(word string, r *wire.Record, name string, value uint64) {
 	p.startLine(word, r)
+	for len(p.stacks) <= p.events {
+		p.stacks = append(p.stacks, 0)
+	}
+	p.stacks[p.events] = r.OtherSite
 	p.line = append(append(p.line, ' '), name...)
 	p.line = strconv.AppendUint(append(p.line, ' '), value, 10)
 	p.finish(r)

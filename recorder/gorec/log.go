@@ -35,7 +35,8 @@ func Generic(id uint32) Site { return Site{ID: id, generic: true} }
 // declarations.
 const room = 1<<24 + 1<<22
 
-// spare records are kept for those that follow one another without a break.
+// spare records are kept for those that follow one another without a break; in a part makeRoom
+// keeps more.
 const spare = 64
 
 var (
@@ -152,7 +153,7 @@ func put(r wire.Record) {
 	if sealed {
 		return
 	}
-	if written == len(records)-spare {
+	if written == len(records)-1 || written == len(records)-spare && partRecords == 0 {
 		sealed, live = true, false
 		r = wire.Record{Op: wire.Full}
 	}

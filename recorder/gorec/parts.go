@@ -58,6 +58,7 @@ func nextPart() {
 	}
 	ended := header
 	if err := openLog(logPath + "." + strconv.Itoa(int(part+1))); err != nil {
+		put(wire.Record{Op: wire.Full})
 		sealed, live = true, false
 		return
 	}

@@ -8,15 +8,13 @@ import (
 	"path/filepath"
 	"strconv"
 	"strings"
-
-	"gorace.local/recorder/internal/trace"
 )
 
 // stacksSuffix is behind the name of a log in that of the file with its stacks.
 const stacksSuffix = ".stacks"
 
 // frame is a call on a stack.
-type frame struct{ function, place string }
+type frame struct{ Function, Place string }
 
 // stackTable has the stacks of a run by their numbers.
 type stackTable map[uint32][]frame
@@ -54,7 +52,7 @@ func (t stackTable) show(w io.Writer, id uint32) {
 		fmt.Fprintln(w, "  [no stack]")
 	}
 	for _, f := range frames {
-		fmt.Fprintf(w, "  %s()\n      %s\n", f.function, near(f.place))
+		fmt.Fprintf(w, "  %s()\n      %s\n", f.Function, near(f.Place))
 	}
 }
 
@@ -68,47 +66,40 @@ func near(place string) string {
 	return place
 }
 
-// stackOf is the stack of the access that an event is.
-func stackOf(s *trace.Summary, event string) uint32 {
-	n, err := strconv.Atoi(event)
-	if err != nil || n >= len(s.Stacks) {
-		return 0
-	}
-	return s.Stacks[n]
-}
-
-// stacks writes for each race how its two accesses came about, and how the goroutines that
+// tellStacks writes for each race how its two accesses came about, and how the goroutines that
 // did them were started; the later access first, as Go's detector does. Races with the same
 // two stacks are told once.
-func (t stackTable) stacks(w io.Writer, races [][]string, s *trace.Summary) {
-	if len(t) == 0 {
+func (o *outcome) tellStacks(w io.Writer) {
+	if len(o.stacks) == 0 {
 		return
 	}
 	told := map[string]bool{}
-	for _, r := range races {
-		former, latter := stackOf(s, r[4]), stackOf(s, r[8])
-		key := fmt.Sprint(r[1], former, r[5], latter)
+	for _, r := range o.races {
+		first, second := o.moments[r.First.Event].Stack, o.moments[r.Second.Event].Stack
+		key := fmt.Sprint(r.First.Kind, first, r.Second.Kind, second)
 		if told[key] {
 			continue
 		}
 		told[key] = true
-		fmt.Fprintf(w, "==================\n%s by %s:\n", title(r[5]), r[6])
-		t.show(w, latter)
-		fmt.Fprintf(w, "\nPrevious %s by %s:\n", r[1], r[2])
-		t.show(w, former)
-		t.created(w, r[6], r[8], s)
-		t.created(w, r[2], r[4], s)
+		fmt.Fprintf(w, "==================\n%s by %s:\n", title(r.Second.Kind), r.Second.Goroutine)
+		o.stacks.show(w, second)
+		fmt.Fprintf(w, "\nPrevious %s by %s:\n", r.First.Kind, r.First.Goroutine)
+		o.stacks.show(w, first)
+		o.tellCreation(w, r.Second)
+		if r.First.Goroutine != r.Second.Goroutine {
+			o.tellCreation(w, r.First)
+		}
 		fmt.Fprintln(w, "==================")
 	}
 }
 
 func title(word string) string { return strings.ToUpper(word[:1]) + word[1:] }
 
-// created writes where a goroutine was started that does an event.
-func (t stackTable) created(w io.Writer, who, event string, s *trace.Summary) {
-	n, _ := strconv.Atoi(event)
-	if start := lastBefore(s.Starts[who], n); start != nil && len(t[start.Stack]) > 0 {
-		fmt.Fprintf(w, "\nGoroutine %s created at:\n", who)
-		t.show(w, start.Stack)
+// tellCreation writes where the goroutine of an access was started.
+func (o *outcome) tellCreation(w io.Writer, a access) {
+	start := lastBefore(o.summary.Starts[a.Goroutine], a.Event)
+	if start != nil && len(o.stacks[start.Stack]) > 0 {
+		fmt.Fprintf(w, "\nGoroutine %s created at:\n", a.Goroutine)
+		o.stacks.show(w, start.Stack)
 	}
 }

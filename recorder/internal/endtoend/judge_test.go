@@ -28,6 +28,13 @@ var gorec string
 
 func TestMain(m *testing.M) {
 	flag.Parse()
+	cache, err := exec.Command("go", "env", "GOCACHE").Output()
+	if err == nil {
+		err = os.Setenv("GOCACHE", strings.TrimSpace(string(cache))) // for tests with a home of their own
+	}
+	if err != nil {
+		panic(err)
+	}
 	dir, err := os.MkdirTemp("", "gorec-test")
 	if err != nil {
 		panic(err)

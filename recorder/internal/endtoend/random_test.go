@@ -1,6 +1,7 @@
 package endtoend
 
 import (
+	"bytes"
 	"flag"
 	"fmt"
 	"math/rand"
@@ -11,6 +12,10 @@ import (
 	"sort"
 	"strings"
 	"testing"
+	"time"
+
+	"gorace.local/recorder/internal/sites"
+	"gorace.local/recorder/internal/trace"
 )
 
 var (
@@ -52,7 +57,85 @@ func TestRandomPrograms(t *testing.T) {
 				t.Errorf("seed %d, all %s: races on %s, not on %s\n%s%s", *randomSeed+n, all, got, racy, report, source)
 			}
 		}
+		segments := recordParts(t, program, fmt.Sprint(n+1), 150+int(n*37%300), 25+int(n*11%200))
+		for segment, report := range judgeAll(t, segments) {
+			for _, got := range strings.Fields(racyOnes(report)) {
+				if !strings.Contains(" "+racy+" ", " "+got+" ") {
+					t.Errorf("seed %d, segment %s: a race on %s, not on %s\n%s%s", *randomSeed+n, segment, got, racy, report, source)
+				}
+			}
+		}
+		t.Logf("seed %d: %d segments", *randomSeed+n, len(segments))
 		os.RemoveAll(dir)
+	}
+}
+
+// recordParts runs a program whose log has short parts, and writes their traces in short
+// segments. Races between segments aren't told, but no race is told that is none.
+func recordParts(t *testing.T, program, seed string, part, events int) map[string]string {
+	t.Helper()
+	table, err := sites.Read(program + ".sites")
+	if err != nil {
+		t.Fatal(err)
+	}
+	log := program + ".parts"
+	cmd := exec.Command(program)
+	cmd.Env = append(os.Environ(), "GOREC_LOG="+log, "GOREC_SEED="+seed, fmt.Sprintf("GOREC_PART=%d", part))
+	var output bytes.Buffer
+	cmd.Stdout, cmd.Stderr = &output, &output
+	if err := cmd.Start(); err != nil {
+		t.Fatal(err)
+	}
+	ended := make(chan error, 1)
+	go func() { ended <- cmd.Wait() }()
+	traces := map[string]string{}
+	over := false
+	for i := 0; ; {
+		path := log
+		if i > 0 {
+			path = fmt.Sprintf("%s.%d", log, i)
+		}
+		l, err := trace.Open(path)
+		if err == nil && (over || l.GoesOn()) {
+			goesOn := l.GoesOn()
+			writeSegments(t, l, table, events, fmt.Sprintf("%s.%d", log, i), traces)
+			l.Done()
+			l.Close()
+			if i++; goesOn {
+				continue
+			}
+			return traces
+		}
+		select {
+		case err := <-ended:
+			if over = true; err != nil {
+				t.Errorf("%s: %v\n%s", program, err, output.String())
+			}
+		case <-time.After(time.Millisecond):
+			if over {
+				t.Fatalf("no log %s", path)
+			}
+		}
+	}
+}
+
+func writeSegments(t *testing.T, l *trace.Log, table sites.Table, events int, name string, traces map[string]string) {
+	t.Helper()
+	s := trace.NewSegments(l.Records())
+	for k := 0; ; k++ {
+		path := fmt.Sprintf("%s.%d.gotrace", name, k)
+		f, err := os.Create(path)
+		if err != nil {
+			t.Fatal(err)
+		}
+		if _, err := s.Write(table, trace.Options{Version: l.Version(), Events: events}, f); err != nil {
+			t.Fatal(err)
+		}
+		f.Close()
+		traces[filepath.Base(path)] = path
+		if !s.Next() {
+			return
+		}
 	}
 }
 

@@ -66,6 +66,7 @@ type declarer struct {
 	counts   map[wire.Op]int
 	end      int // the record at which the trace is cut off
 	cut      string
+	printed  func(p *printer, i int) // called behind the events of each record
 }
 
 func declare(l *lender, table sites.Table) *declarer {

@@ -42,8 +42,7 @@ type printer struct {
 	goroutines []string
 	starts     map[string][]Start
 	events     int
-	stacks     []uint32 // of the accesses, by event
-	fault      string   // the last record, unless something follows it
+	fault      string // the last record, unless something follows it
 	line       []byte
 }
 
@@ -66,6 +65,9 @@ func (d *declarer) print(out io.Writer) (*printer, error) {
 			break
 		}
 		p.print(i)
+		if d.printed != nil {
+			d.printed(p, i)
+		}
 	}
 	if p.fault != "" && d.end == len(d.records) {
 		p.out.WriteString(p.fault)
@@ -168,6 +170,9 @@ func (p *printer) start(r *wire.Record) {
 	if wire.GoKind(r.Kind) == wire.GoForeign {
 		s.Place = "a place that isn't recorded"
 	}
+	if wire.GoKind(r.Kind) == wire.GoEarlier {
+		s.By = "who isn't in this segment"
+	}
 	p.starts[name] = append(p.starts[name], s)
 }
 
@@ -224,10 +229,6 @@ func (p *printer) event(word string, r *wire.Record, what string) {
 // valued writes a read or a write.
 func (p *printer) valued(word string, r *wire.Record, name string, value uint64) {
 	p.startLine(word, r)
-	for len(p.stacks) <= p.events {
-		p.stacks = append(p.stacks, 0)
-	}
-	p.stacks[p.events] = r.OtherSite
 	p.line = append(append(p.line, ' '), name...)
 	p.line = strconv.AppendUint(append(p.line, ' '), value, 10)
 	p.finish(r)

@@ -12,27 +12,37 @@ import (
 // go on, so a cut orders nothing; and what was done in another segment is in no race of this
 // one.
 
-// Segments are those of a log.
+// Segments are those of a log, one after another.
 type Segments struct {
-	records []wire.Record
-	state   int // so many records make the state at the segment's begin
+	records    []wire.Record
+	state, end int // up to where they make the state at the segment's begin, and where it ends
 }
 
-// NewSegments begins with the first one of records that are in order.
+// NewSegments begins with the first segment of records that are in order.
 func NewSegments(records []wire.Record) *Segments { return &Segments{records: records} }
 
-// Write writes the next segment. More reports whether another one follows; where it doesn't
-// and the summary has a cut, what is behind that has no trace.
-func (s *Segments) Write(table sites.Table, o Options, out io.Writer) (sum *Summary, more bool, err error) {
-	sum, end, err := write(s.records, table, o, out)
-	if err != nil || end == len(s.records) {
-		return sum, false, err
+// Write writes the trace of the segment.
+func (s *Segments) Write(table sites.Table, o Options, out io.Writer) (sum *Summary, err error) {
+	sum, s.end, err = write(s.records, table, o, out)
+	return sum, err
+}
+
+// Moments are those of the trace that was written.
+func (s *Segments) Moments(table sites.Table, o Options, wanted map[int]bool) (map[int]Moment, error) {
+	return Moments(s.records, table, o, wanted)
+}
+
+// More reports whether there is a next segment.
+func (s *Segments) More() bool { return s.end < len(s.records) && s.end > s.state }
+
+// Next goes on with the next segment, if there is one. Where there is none, and the trace that
+// was written has a cut, what is behind that has no trace: the state alone is too much for one.
+func (s *Segments) Next() bool {
+	if !s.More() {
+		return false
 	}
-	if end <= s.state {
-		return sum, false, nil // the state alone is too much
-	}
-	s.records, s.state = goOn(s.records, end)
-	return sum, true, nil
+	s.records, s.state = goOn(s.records, s.end)
+	return true
 }
 
 // standing is the state of an object where a segment ends.

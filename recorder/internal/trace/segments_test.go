@@ -11,15 +11,20 @@ import (
 func segments(t *testing.T, records []wire.Record, o Options) (texts []string, last *Summary) {
 	t.Helper()
 	s := NewSegments(records)
-	for more := true; more; {
+	for {
 		var b strings.Builder
 		var err error
-		if last, more, err = s.Write(table, o, &b); err != nil {
+		if last, err = s.Write(table, o, &b); err != nil {
 			t.Fatal(err)
 		}
 		texts = append(texts, b.String())
+		if !s.Next() {
+			return texts, last
+		}
+		if last.Cut == "" {
+			t.Errorf("a segment ended for no reason")
+		}
 	}
-	return texts, last
 }
 
 // Three thousand goroutines at once each write a variable, and nothing joins them: each trace

@@ -27,7 +27,6 @@ type Summary struct {
 	Goroutines, Variables, Channels, Locks Count
 	Names                                  int                // of the goroutines in the trace
 	Starts                                 map[string][]Start // by the goroutine's name
-	Stacks                                 []uint32           // of the accesses, by event
 	Cut                                    string             // why the trace is cut off, and where
 	unseen                                 map[string]int     // places and names of reads that found unrecorded writes
 	losses                                 [wire.Losses]map[string]int
@@ -77,7 +76,7 @@ func write(records []wire.Record, table sites.Table, o Options, out io.Writer) (
 	if err != nil {
 		return nil, 0, err
 	}
-	s = &Summary{Records: d.end, Events: p.events, Starts: p.starts, Stacks: p.stacks, unseen: map[string]int{}}
+	s = &Summary{Records: d.end, Events: p.events, Starts: p.starts, unseen: map[string]int{}}
 	s.count(d)
 	for i := range s.losses {
 		s.losses[i] = map[string]int{}
@@ -126,6 +125,34 @@ func (s *Summary) look(r *wire.Record, d *declarer) {
 	case wire.Full:
 		if d.cut == "" {
 			d.cut = "the log has no room for more records"
+		}
+	}
+}
+
+// Add adds what another segment has; the counts of both are summed, also those of what is in
+// both.
+func (s *Summary) Add(t *Summary) {
+	s.Records += t.Records
+	s.Events += t.Events
+	s.Names += t.Names
+	for _, c := range [][2]*Count{
+		{&s.Goroutines, &t.Goroutines}, {&s.Variables, &t.Variables}, {&s.Channels, &t.Channels}, {&s.Locks, &t.Locks},
+	} {
+		c[0].Kept += c[1].Kept
+		c[0].Met += c[1].Met
+	}
+	if s.unseen == nil {
+		s.unseen = map[string]int{}
+	}
+	for k, n := range t.unseen {
+		s.unseen[k] += n
+	}
+	for i := range s.losses {
+		if s.losses[i] == nil {
+			s.losses[i] = map[string]int{}
+		}
+		for k, n := range t.losses[i] {
+			s.losses[i][k] += n
 		}
 	}
 }

@@ -33,25 +33,21 @@ func (g *G) atomic(p unsafe.Pointer, size uintptr, what int, s *Site) {
 	}
 }
 
-// atomicAccess has the lock. What was stored goes to the location's base, so that the next
-// plain read finds what the last plain write wrote.
+// atomicAccess has the lock.
 func (g *G) atomicAccess(p unsafe.Pointer, size uintptr, what int, s *Site) {
 	if !live {
 		return
 	}
-	bits := bitsOf(p, size)
 	l := locate(p)
-	if l.id == 0 {
-		l.id = declare(wire.DeclareVar, wire.VarMemory, 0, s)
-		l.base, l.bits = bits, bits
+	if !l.isOthers(g, wire.VarMemory, 0, s) {
+		l.share(wire.VarMemory)
 	}
-	l.base ^= bits ^ l.bits
-	l.bits = bits
+	l.bits = bitsOf(p, size)
+	op := wire.AtomicRead
 	if what&stores != 0 {
-		g.note(wire.AtomicWrite, l.id, s)
-	} else {
-		g.note(wire.AtomicRead, l.id, s)
+		op = wire.AtomicWrite
 	}
+	g.step(wire.Record{Op: op, Object: l.id, Site: s.ID, OtherSite: stackNumber()})
 }
 
 func swapped(ok bool) int {
@@ -69,7 +65,7 @@ func AtomicLoad[P, R any](f func(*P) R, s *Site) func(*P) R {
 	return func(p *P) R {
 		_ = *p
 		g := current(s)
-		mu.Lock()
+		begin()
 		defer mu.Unlock()
 		r := f(p)
 		g.atomic(unsafe.Pointer(p), unsafe.Sizeof(*p), loads, s)
@@ -84,7 +80,7 @@ func AtomicStore[P, V any](f func(*P, V), s *Site) func(*P, V) {
 	return func(p *P, v V) {
 		_ = *p
 		g := current(s)
-		mu.Lock()
+		begin()
 		defer mu.Unlock()
 		f(p, v)
 		g.atomic(unsafe.Pointer(p), unsafe.Sizeof(*p), stores, s)
@@ -99,7 +95,7 @@ func AtomicChange[P, V, R any](f func(*P, V) R, s *Site) func(*P, V) R {
 	return func(p *P, v V) R {
 		_ = *p
 		g := current(s)
-		mu.Lock()
+		begin()
 		defer mu.Unlock()
 		r := f(p, v)
 		g.atomic(unsafe.Pointer(p), unsafe.Sizeof(*p), loads|stores, s)
@@ -114,7 +110,7 @@ func AtomicCompareAndSwap[P, V any](f func(*P, V, V) bool, s *Site) func(*P, V, 
 	return func(p *P, from, to V) bool {
 		_ = *p
 		g := current(s)
-		mu.Lock()
+		begin()
 		defer mu.Unlock()
 		ok := f(p, from, to)
 		g.atomic(unsafe.Pointer(p), unsafe.Sizeof(*p), swapped(ok), s)
@@ -150,7 +146,7 @@ func inOneStep(s *Site, f func() int, note func(g *G, what int)) {
 		return
 	}
 	g := current(s)
-	mu.Lock()
+	begin()
 	defer mu.Unlock()
 	note(g, f())
 }

@@ -44,13 +44,13 @@ func (x CondAt) Wait() {
 	}
 	g := current(x.s)
 	w := &sleeper{wake: make(chan struct{}, 1)}
-	mu.Lock()
+	begin()
 	c := conditionAt(x.c)
 	c.queue = append(c.queue, w)
 	mu.Unlock()
 	Locker(x.c.L, x.s).Unlock()
 	<-w.wake
-	mu.Lock()
+	begin()
 	g.acquire(w.order, x.s)
 	mu.Unlock()
 	Locker(x.c.L, x.s).Lock()
@@ -75,7 +75,7 @@ func (x CondAt) Broadcast() {
 // wake lets the first n of those who wait go on.
 func (x CondAt) wake(n int) {
 	g := current(x.s)
-	mu.Lock()
+	begin()
 	defer mu.Unlock()
 	c := conditionAt(x.c)
 	if n > len(c.queue) {

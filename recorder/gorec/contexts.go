@@ -22,19 +22,19 @@ type doneChannel struct {
 func newDone(parent, ctx context.Context, deadline bool, s *Site) *doneChannel {
 	above, done := parent.Done(), ctx.Done()
 	g := current(s)
-	mu.Lock()
+	begin()
 	defer mu.Unlock()
 	if done == nil {
 		return nil
 	}
-	ch := &channel{p: pointerTo(&done), id: declare(wire.DeclareChan, 0, 0, s)}
+	ch := &channel{p: pointerTo(&done), id: declare(wire.DeclareChan, 0, 0, s), part: part, site: s.ID}
 	d := &doneChannel{channel: ch}
 	ch.done = d
 	channels[ch.p] = ch
 	if deadline {
 		d.timer = newGoroutine()
-		g.epoch++
-		write(wire.Record{Op: wire.Go, Goroutine: g.id, Other: d.timer.id, Site: s.ID})
+		d.timer.site, d.timer.stack = s.ID, stackNumber()
+		g.step(wire.Record{Op: wire.Go, Other: d.timer.id, Site: s.ID, OtherSite: d.timer.stack})
 	}
 	if up := channels[pointerTo(&above)]; up != nil && up.done != nil {
 		up.done.children = append(up.done.children, d)
@@ -50,6 +50,7 @@ func newDone(parent, ctx context.Context, deadline bool, s *Site) *doneChannel {
 // close has the lock.
 func (d *doneChannel) close(g *G, s *Site) {
 	if !d.channel.closed {
+		d.channel.enter()
 		d.channel.closed = true
 		g.note(wire.Close, d.channel.id, s)
 		d.channel.serve()
@@ -91,11 +92,11 @@ func (d *doneChannel) canceler(f context.CancelFunc, s *Site) context.CancelFunc
 	}
 	return func() {
 		g := current(s)
-		mu.Lock()
+		begin()
 		d.cancels(g, s)
 		mu.Unlock()
 		f()
-		mu.Lock()
+		begin()
 		d.close(g, s)
 		mu.Unlock()
 	}
@@ -137,9 +138,10 @@ func (x ContextAt) Err() error {
 	}
 	done := x.Context.Done()
 	g := current(x.s)
-	mu.Lock()
+	begin()
 	defer mu.Unlock()
 	if ch := channels[pointerTo(&done)]; ch != nil && ch.done != nil {
+		ch.enter()
 		ch.done.ended()
 		g.note(wire.ReceiveClosed, ch.id, x.s)
 	}

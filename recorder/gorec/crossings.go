@@ -43,7 +43,7 @@ func (g *G) takeSent(s *Site) {
 func Out[T any](w T, s *Site) T {
 	if !off {
 		g := current(s)
-		mu.Lock()
+		begin()
 		g.sendOut(s)
 		mu.Unlock()
 	}
@@ -58,7 +58,7 @@ func cross(s *Site) (back func()) {
 	Out(0, s)
 	return func() {
 		g := current(s)
-		mu.Lock()
+		begin()
 		g.takeIn(s)
 		mu.Unlock()
 	}

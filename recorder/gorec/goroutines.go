@@ -2,6 +2,7 @@ package gorec
 
 import (
 	"runtime"
+	"sync/atomic"
 	"unsafe"
 
 	"gorace.local/recorder/wire"
@@ -18,6 +19,11 @@ type G struct {
 	over   bool
 	random uint32
 	epoch  uint32 // grows with each operation that may order something
+	behind uint32 // the steps up to its last such operation
+	part   uint32 // the last one that it is in
+	tables uint32 // the part that reads and writes are of
+	site   uint32 // where it was started
+	stack  uint32
 	reads  repeats
 	writes repeats
 	ended  uint32        // leaves to repeat a write that others ended
@@ -58,6 +64,9 @@ func current(s *Site) *G {
 		if g.foreign || g.reading {
 			g.meets(s)
 		}
+		if p := atomic.LoadUint32(&part); g.tables != p {
+			g.tables, g.reads, g.writes = p, repeats{}, repeats{}
+		}
 		return g
 	}
 	return adopt(g, s)
@@ -65,7 +74,7 @@ func current(s *Site) *G {
 
 // meets takes in what others sent: they may have asked g anew, or g has read.
 func (g *G) meets(s *Site) {
-	mu.Lock()
+	begin()
 	defer mu.Unlock()
 	if g.reading {
 		g.reading = false
@@ -98,14 +107,13 @@ func adopt(parent *G, s *Site) *G {
 	if parent == nil {
 		parent = mainGoroutine
 	}
-	mu.Lock()
+	begin()
 	g := newGoroutine()
 	g.g = getg()
 	g.foreign = true
 	adopted = append(adopted, g)
 	g.lose(wire.LostGoroutine, s)
-	parent.epoch++
-	write(wire.Record{Op: wire.Go, Kind: wire.GoForeign, Goroutine: parent.id, Other: g.id})
+	parent.step(wire.Record{Op: wire.Go, Kind: uint8(wire.GoForeign), Other: g.id})
 	g.takeSent(s)
 	mu.Unlock()
 	setLabel(unsafe.Pointer(g))
@@ -116,7 +124,7 @@ func adopt(parent *G, s *Site) *G {
 func newGoroutine() *G {
 	goroutines++
 	live = !sealed
-	return &G{id: goroutines, random: seed*2654435761 + goroutines*40503 | 1, wake: make(chan struct{}, 2)}
+	return &G{id: goroutines, part: part, tables: part, random: seed*2654435761 + goroutines*40503 | 1, wake: make(chan struct{}, 2)}
 }
 
 // Go starts f.
@@ -130,7 +138,7 @@ func Go(s *Site, f func()) {
 
 func start(s *Site) *G {
 	starter := current(s)
-	mu.Lock()
+	begin()
 	defer mu.Unlock()
 	return starter.start(s)
 }
@@ -138,8 +146,8 @@ func start(s *Site) *G {
 // start has the lock: the answer is started by g.
 func (g *G) start(s *Site) *G {
 	started := newGoroutine()
-	g.epoch++
-	write(wire.Record{Op: wire.Go, Goroutine: g.id, Other: started.id, Site: s.ID})
+	started.site, started.stack = s.ID, stackNumber()
+	g.step(wire.Record{Op: wire.Go, Other: started.id, Site: s.ID, OtherSite: started.stack})
 	return started
 }
 
@@ -151,7 +159,7 @@ func (g *G) run(s *Site, f func()) {
 }
 
 func (g *G) exit(s *Site) {
-	mu.Lock()
+	begin()
 	g.note(wire.Exit, 0, s)
 	g.over = true
 	mu.Unlock()
@@ -161,7 +169,7 @@ func (g *G) exit(s *Site) {
 // Main runs the function main.
 func Main(s *Site, f func()) {
 	f()
-	mu.Lock()
+	begin()
 	mainGoroutine.note(wire.Exit, 0, s)
 	sealed, live = true, false
 	mu.Unlock()

@@ -55,7 +55,7 @@ var (
 )
 
 func embeddedMutex(t reflect.Type, s *Site) int {
-	mu.Lock()
+	begin()
 	i, known := embeddedMutexes[t]
 	mu.Unlock()
 	if known {
@@ -63,7 +63,7 @@ func embeddedMutex(t reflect.Type, s *Site) int {
 	}
 	i, own := findMutex(t)
 	g := current(s)
-	mu.Lock()
+	begin()
 	embeddedMutexes[t] = i
 	if i < 0 && !own {
 		g.lose(wire.LostLocker, s)

@@ -11,8 +11,13 @@ import (
 type lock struct {
 	p       unsafe.Pointer
 	id      uint32
+	part    uint32 // the last one that it is in
+	site    uint32 // where it was met
+	kind    uint8
 	held    bool
 	readers int
+
+	forgotten bool // another one stands for it in a newer part
 }
 
 var locks = map[unsafe.Pointer]*lock{}
@@ -25,14 +30,16 @@ const (
 
 // lockAt has the lock mu.
 func lockAt(p unsafe.Pointer, kind uint8, s *Site) *lock {
-	if s.lock != nil && s.lock.p == p {
+	if s.lock != nil && s.lock.p == p && !s.lock.forgotten {
+		s.lock.enter()
 		return s.lock
 	}
 	l := locks[p]
 	if l == nil {
-		l = &lock{p: p, id: declare(wire.DeclareLock, kind, 0, s)}
+		l = &lock{p: p, id: declare(wire.DeclareLock, kind, 0, s), part: part, site: s.ID, kind: kind}
 		locks[p] = l
 	}
+	l.enter()
 	s.lock = l
 	return l
 }
@@ -43,7 +50,7 @@ func locked(p unsafe.Pointer, kind uint8, op wire.Op, s *Site) {
 		return
 	}
 	g := current(s)
-	mu.Lock()
+	begin()
 	l := lockAt(p, kind, s)
 	writes := op == wire.Lock || op == wire.TryLock
 	if l.held || writes && l.readers > 0 { // it was set back to its zero value
@@ -65,7 +72,8 @@ func tried(ok bool, p unsafe.Pointer, kind uint8, op wire.Op, s *Site) bool {
 		locked(p, kind, op, s)
 	case !off && writesFailures():
 		g := current(s)
-		mu.Lock()
+		begin()
+		g.enter()
 		write(wire.Record{Op: wire.TryFail, Goroutine: g.id, Object: lockAt(p, kind, s).id, Site: s.ID})
 		mu.Unlock()
 	}
@@ -79,7 +87,7 @@ func unlocking(p unsafe.Pointer, kind uint8, op wire.Op, s *Site) {
 		return
 	}
 	g := current(s)
-	mu.Lock()
+	begin()
 	l := lockAt(p, kind, s)
 	switch {
 	case op == wire.Unlock && !l.held:

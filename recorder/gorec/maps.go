@@ -7,32 +7,24 @@ import (
 	"gorace.local/recorder/wire"
 )
 
-// A map is one variable, which a look-up reads and a change writes; its value is the
-// count of changes.
-type mapState struct {
-	p       unsafe.Pointer
-	id      uint32
-	changes uint64
-}
-
-var mapStates = map[unsafe.Pointer]*mapState{}
+// A map is one variable, which a look-up reads and a change writes.
+var maps = map[unsafe.Pointer]*variable{}
 
 // touchMap has the lock.
 func (g *G) touchMap(p unsafe.Pointer, change bool, s *Site) {
 	if p == nil {
 		return
 	}
-	m := mapStates[p]
+	m := maps[p]
 	if m == nil {
-		m = &mapState{p: p, id: declare(wire.DeclareVar, wire.VarMap, 0, s)}
-		mapStates[p] = m
+		m = &variable{}
+		maps[p] = m
 	}
 	op := wire.Read
 	if change {
-		m.changes++
 		op = wire.Write
 	}
-	write(wire.Record{Op: op, Goroutine: g.id, Object: m.id, Site: s.ID, Value: m.changes})
+	m.accessed(g, op, wire.VarMap, 0, s)
 }
 
 // Mapping is a map at a place where it is used.
@@ -60,7 +52,7 @@ func (x Mapping[K, V]) Lookup(k K) (V, bool) {
 		return v, ok
 	}
 	g := current(x.s)
-	mu.Lock()
+	begin()
 	defer mu.Unlock() // a key that can't be hashed panics
 	v, ok := x.m[k]
 	x.touch(g, false)
@@ -73,7 +65,7 @@ func (x Mapping[K, V]) Set(k K, v V) {
 		return
 	}
 	g := current(x.s)
-	mu.Lock()
+	begin()
 	defer mu.Unlock()
 	x.m[k] = v
 	x.touch(g, true)
@@ -85,7 +77,7 @@ func (x Mapping[K, V]) Delete(k K) {
 		return
 	}
 	g := current(x.s)
-	mu.Lock()
+	begin()
 	defer mu.Unlock()
 	delete(x.m, k)
 	x.touch(g, true)
@@ -96,7 +88,7 @@ func (x Mapping[K, V]) Len() int {
 		return len(x.m)
 	}
 	g := current(x.s)
-	mu.Lock()
+	begin()
 	defer mu.Unlock()
 	x.touch(g, false)
 	return len(x.m)
@@ -139,7 +131,7 @@ func (x Mapping[K, V]) Iterate() *Iteration[K, V] {
 	it.keyAt, it.valueAt = reflect.ValueOf(&it.key).Elem(), reflect.ValueOf(&it.value).Elem()
 	if !alone() {
 		g := current(x.s)
-		mu.Lock()
+		begin()
 		x.touch(g, false)
 		mu.Unlock()
 	}
@@ -160,7 +152,7 @@ func (it *Iteration[K, V]) Len() int {
 		return it.steps
 	}
 	g := current(it.x.s)
-	mu.Lock()
+	begin()
 	defer mu.Unlock()
 	if it.step() {
 		it.x.touch(g, false)
@@ -189,7 +181,7 @@ func WriteMap[M any](m M, s *Site) M { return aboutMap(m, true, s) }
 func aboutMap[M any](m M, change bool, s *Site) M {
 	if !alone() {
 		g := current(s)
-		mu.Lock()
+		begin()
 		g.touchMap(*(*unsafe.Pointer)(unsafe.Pointer(&m)), change, s)
 		mu.Unlock()
 	}

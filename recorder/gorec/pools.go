@@ -22,7 +22,7 @@ func dataOf(x *any) unsafe.Pointer { return (*[2]unsafe.Pointer)(unsafe.Pointer(
 func (x PoolAt) Put(v any) {
 	if !off && v != nil {
 		g := current(x.s)
-		mu.Lock()
+		begin()
 		pooled[dataOf(&v)] = g.release(x.s)
 		mu.Unlock()
 	}
@@ -33,7 +33,7 @@ func (x PoolAt) Get() any {
 	v := x.p.Get()
 	if !off && v != nil {
 		g := current(x.s)
-		mu.Lock()
+		begin()
 		g.acquire(pooled[dataOf(&v)], x.s)
 		delete(pooled, dataOf(&v))
 		mu.Unlock()

@@ -70,18 +70,21 @@ func (g *G) hasRead(p unsafe.Pointer, s *Site) bool {
 	if s.generic {
 		return false
 	}
-	if g.reads.has(p, s, g.epoch) {
+	stamp := g.epoch + atomic.LoadUint32(&part)
+	if g.reads.has(p, s, stamp) {
 		return true
 	}
-	g.reads.put(p, s, g.epoch)
+	g.reads.put(p, s, stamp)
 	return false
 }
 
 // hasLeave: a write of p at s needs no record and no lock.
 func (g *G) hasLeave(p unsafe.Pointer, s *Site) bool { return g.writes.has(p, s, g.stamp()) }
 
-// stamp is the sum of two numbers that only grow, so it changes with each of them.
-func (g *G) stamp() uint32 { return g.epoch + atomic.LoadUint32(&g.ended) }
+// stamp is the sum of numbers that only grow, so it changes with each of them.
+func (g *G) stamp() uint32 {
+	return g.epoch + atomic.LoadUint32(&g.ended) + atomic.LoadUint32(&part)
+}
 
 // giveLeave has the lock: g has repeated its write of the location p at s.
 func (g *G) giveLeave(p unsafe.Pointer, s *Site) {

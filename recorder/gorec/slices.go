@@ -57,7 +57,7 @@ func (x Appended[S, E]) Append(values ...E) S {
 		return append(x.a, values...)
 	}
 	g := current(x.s)
-	mu.Lock()
+	begin()
 	n := len(x.a)
 	if n+len(values) > cap(x.a) {
 		for i := range x.a {
@@ -100,7 +100,7 @@ func readElements[E any](a []E, wanted int, s *Site) {
 		return
 	}
 	g := current(s)
-	mu.Lock()
+	begin()
 	for i := 0; i < len(a); i = nextAtEnds(i, len(a), wanted) {
 		readAll(g, &a[i], s)
 	}
@@ -121,7 +121,7 @@ func Copy[T any](s *Site, to, from []T) int {
 		return copy(to, from)
 	}
 	g := current(s)
-	mu.Lock()
+	begin()
 	n := len(from)
 	if len(to) < n {
 		n = len(to)

@@ -13,7 +13,7 @@ func Sorts[E any](f func([]E), s *Site) func([]E) {
 			return
 		}
 		g := current(s)
-		mu.Lock()
+		begin()
 		defer mu.Unlock()
 		for i := range a {
 			readAll(g, &a[i], s)
@@ -61,7 +61,7 @@ func (x swapping) Len() int           { return x.elements.Len() }
 func (x swapping) Less(i, j int) bool { return x.less(i, j) }
 
 func (x swapping) Swap(i, j int) {
-	mu.Lock()
+	begin()
 	defer mu.Unlock()
 	a, b := x.elements.Index(i), x.elements.Index(j)
 	x.g.accessValue(a, false, x.s)

@@ -22,7 +22,7 @@ func (g *G) set(c <-chan time.Time, s *Site) {
 func TimerChannel(c <-chan time.Time, s *Site) <-chan time.Time {
 	if !off && c != nil {
 		g := current(s)
-		mu.Lock()
+		begin()
 		g.set(c, s)
 		mu.Unlock()
 	}
@@ -57,7 +57,7 @@ func AfterFunc(d time.Duration, f func(), s *Site) *time.Timer {
 		return time.AfterFunc(d, f)
 	}
 	g := current(s)
-	mu.Lock()
+	begin()
 	defer mu.Unlock()
 	l := &later{f: f, s: s, next: g.start(s)}
 	t := time.AfterFunc(d, l.call)
@@ -66,7 +66,7 @@ func AfterFunc(d time.Duration, f func(), s *Site) *time.Timer {
 }
 
 func (l *later) call() {
-	mu.Lock()
+	begin()
 	g, order := l.next, l.order
 	l.next, l.order = nil, 0
 	mu.Unlock()
@@ -75,7 +75,7 @@ func (l *later) call() {
 		return
 	}
 	g.run(l.s, func() {
-		mu.Lock()
+		begin()
 		g.acquire(order, l.s)
 		mu.Unlock()
 		l.f()
@@ -108,7 +108,7 @@ func Ticker(t *time.Ticker, s *Site) TickerAt { return TickerAt{t, s} }
 func (x TimerAt) Reset(d time.Duration) bool {
 	if !off && x.t.C == nil {
 		g := current(x.s)
-		mu.Lock()
+		begin()
 		if l := laters[unsafe.Pointer(x.t)]; l != nil {
 			l.setAgain(g, x.s)
 		}

@@ -52,7 +52,7 @@ func Read[T any](p *T, s *Site) T {
 	if g.hasRead(unsafe.Pointer(p), s) {
 		return *p
 	}
-	mu.Lock()
+	begin()
 	v := *p
 	readAll(g, p, s)
 	mu.Unlock()
@@ -70,7 +70,7 @@ func set[T any](p *T, v T, s *Site) {
 		*p = v
 		return
 	}
-	mu.Lock()
+	begin()
 	*p = v
 	if wroteAll(g, p, s) {
 		g.giveLeave(unsafe.Pointer(p), s)
@@ -84,7 +84,7 @@ func New[T any](p *T, s *Site) *T {
 		return p
 	}
 	g := current(s)
-	mu.Lock()
+	begin()
 	for _, f := range layoutAt(p, s).leaves {
 		if q := unsafe.Add(unsafe.Pointer(p), f.offset); bitsOf(q, f.size) != 0 {
 			g.wrote(q, f.size, f.offset, s)

@@ -24,7 +24,7 @@ type group struct {
 	waiting  int
 	returned bool     // a Wait returned behind the dones
 	dones    []uint32 // orders
-	misuse   uint32   // the variable
+	misuse   variable
 }
 
 var groups = map[unsafe.Pointer]*group{}
@@ -41,13 +41,9 @@ func groupAt(w *sync.WaitGroup) *group {
 
 // use has the lock.
 func (x *group) use(g *G, op wire.Op, s *Site) {
-	if !live {
-		return
+	if live {
+		x.misuse.accessed(g, op, wire.VarGroup, 0, s)
 	}
-	if x.misuse == 0 {
-		x.misuse = declare(wire.DeclareVar, wire.VarGroup, 0, s)
-	}
-	write(wire.Record{Op: op, Goroutine: g.id, Object: x.misuse, Site: s.ID})
 }
 
 func (x WaitGroupAt) Add(n int) {
@@ -56,7 +52,7 @@ func (x WaitGroupAt) Add(n int) {
 		return
 	}
 	g := current(x.s)
-	mu.Lock()
+	begin()
 	w := groupAt(x.w)
 	if n > 0 && w.count == 0 {
 		w.use(g, wire.Read, x.s)
@@ -80,7 +76,7 @@ func (x WaitGroupAt) Wait() {
 		return
 	}
 	g := current(x.s)
-	mu.Lock()
+	begin()
 	w := groupAt(x.w)
 	if w.count > 0 && w.waiting == 0 {
 		w.use(g, wire.Write, x.s)
@@ -88,10 +84,11 @@ func (x WaitGroupAt) Wait() {
 	w.waiting++
 	mu.Unlock()
 	x.w.Wait()
-	mu.Lock()
+	begin()
 	w.waiting--
 	w.returned = true
 	for _, done := range w.dones {
+		makeRoom()
 		g.acquire(done, x.s)
 	}
 	mu.Unlock()

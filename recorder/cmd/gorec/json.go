@@ -26,10 +26,14 @@ type toldRace struct {
 type toldAccess struct {
 	access
 	Behind  string       // what it held, and last synchronized by
+	Stack   []frame      `json:",omitempty"`
 	Started *startedFrom `json:",omitempty"` // unless it is main
 }
 
-type startedFrom struct{ By, Place string }
+type startedFrom struct {
+	By, Place string
+	Stack     []frame `json:",omitempty"`
+}
 
 // verdict is how a package ended.
 type verdict struct {
@@ -106,8 +110,10 @@ var actions = map[int]string{0: "pass", cutOff: "pass", racing: "racing"}
 
 // verdict writes the races of a run, and how it ended.
 func (e *eventWriter) verdict(o *outcome) {
-	for _, r := range o.races {
-		e.write(event{Action: "race", Race: &toldRace{r.Variable, [2]toldAccess{o.told(r.First), o.told(r.Second)}}})
+	for _, s := range o.racing {
+		for _, r := range s.races {
+			e.write(event{Action: "race", Race: &toldRace{r.Variable, [2]toldAccess{s.told(r.First), s.told(r.Second)}}})
+		}
 	}
 	v := &verdict{
 		Status: o.status, Races: len(o.races), Events: o.summary.Events, Records: o.summary.Records, Cut: o.summary.Cut,
@@ -125,9 +131,9 @@ func (e *eventWriter) verdict(o *outcome) {
 
 // told is an access, with what is known of its goroutine.
 func (o *outcome) told(a access) toldAccess {
-	t := toldAccess{access: a, Behind: o.moments[a.Event].String()}
+	t := toldAccess{access: a, Behind: o.moments[a.Event].String(), Stack: o.stacks[o.moments[a.Event].Stack]}
 	if s := lastBefore(o.summary.Starts[a.Goroutine], a.Event); s != nil {
-		t.Started = &startedFrom{s.By, s.Place}
+		t.Started = &startedFrom{s.By, s.Place, o.stacks[s.Stack]}
 	}
 	return t
 }

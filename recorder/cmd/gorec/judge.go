@@ -57,8 +57,8 @@ func judgeWords(command string) []string {
 	return strings.Fields(command)
 }
 
-// ask has a trace judged. The report is printed, and stands in the outcome, with its status.
-func (j *judge) ask(k *process.Keeper, path string, c *console, o *outcome) error {
+// ask has a trace judged. The report is written, and stands in the outcome, with its status.
+func (j *judge) ask(k *process.Keeper, path string, to, notes io.Writer, o *outcome) error {
 	in, err := os.Open(path)
 	if err != nil {
 		return err
@@ -66,7 +66,7 @@ func (j *judge) ask(k *process.Keeper, path string, c *console, o *outcome) erro
 	defer in.Close()
 	var report bytes.Buffer
 	cmd := exec.Command(j.words[0], append(j.words[1:], "check")...)
-	cmd.Stdin, cmd.Stdout, cmd.Stderr = in, io.MultiWriter(c.out, &report), c.notes
+	cmd.Stdin, cmd.Stdout, cmd.Stderr = in, io.MultiWriter(to, &report), notes
 	err = k.Run(cmd)
 	var ended *exec.ExitError
 	switch {

@@ -60,7 +60,8 @@ races: 3
 		20: {Last: trace.Deed{What: "unlock of mu", Place: "a.go:4"}}, 21: {},
 	}
 	var b strings.Builder
-	o.explain(&b, map[string]int{"flag.Var": 2})
+	o.explain(&b)
+	tell(&b, o.summary, map[string]int{"flag.Var": 2})
 	want := `pairs of places: 2
      2  read at a.go:9, write at a.go:3
      1  read at a.go:4, write at a.go:5

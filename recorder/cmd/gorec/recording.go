@@ -23,7 +23,7 @@ type recording struct {
 	building
 	out, log, judge, seed string
 	format, runs          int
-	all, json             bool
+	all, json, stacks     bool
 }
 
 func (r *recording) define(flags *flag.FlagSet) {
@@ -35,6 +35,7 @@ func (r *recording) define(flags *flag.FlagSet) {
 	flags.IntVar(&r.format, "format", 0, "the `version` of the trace, 1 or 2; 2 has words for TryLock and TryRLock")
 	flags.IntVar(&r.runs, "runs", 1, "run up to `N` times, each with another seed, until a race is found")
 	flags.BoolVar(&r.all, "all", false, "keep what one goroutine alone uses")
+	flags.BoolVar(&r.stacks, "stacks", true, "record the calls that led to each access")
 	flags.BoolVar(&r.json, "json", false, "write lines of JSON: output, races and verdicts")
 }
 
@@ -108,7 +109,9 @@ type outcome struct {
 	report  string
 	races   []race
 	moments map[int]trace.Moment // of the races' accesses, by event
-	trace   string               // where it is kept
+	stacks  stackTable
+	racing  []*outcome // of a run: its segments with races
+	trace   string     // where it is kept
 }
 
 // repeat runs a program until a race is found, as often as is wanted.
@@ -153,6 +156,7 @@ func (s *session) once(t *target, c *console, seed string) (*outcome, error) {
 	}
 	if s.log == "" {
 		defer os.Remove(log)
+		defer os.Remove(log + stacksSuffix)
 	}
 	out, err := s.createTrace(t)
 	if err != nil {
@@ -160,14 +164,7 @@ func (s *session) once(t *target, c *console, seed string) (*outcome, error) {
 	}
 	defer out.drop()
 	o := &outcome{seed: seed}
-	if err := s.record(t, c, log, o); err != nil {
-		return nil, err
-	}
-	if o.summary, err = s.writeTrace(log, t.copied.Sites, out.file); err != nil {
-		return nil, err
-	}
-	fmt.Fprintln(c.notes, "gorec: "+o.summary.Counts())
-	if err := s.judge.ask(s.keeper, out.path, c, o); err != nil {
+	if err := s.recordAndJudge(t, c.locked(), log, out, o); err != nil {
 		return nil, err
 	}
 	switch {
@@ -177,13 +174,22 @@ func (s *session) once(t *target, c *console, seed string) (*outcome, error) {
 	case o.summary.Cut != "":
 		o.status = cutOff
 	}
-	if o.moments, err = s.momentsOf(log, t.copied.Sites, o.races); err != nil {
-		return nil, err
-	}
-	o.explain(c.out, t.Missed)
 	o.trace = out.keep(o.status, t.folder == "")
 	s.tellTrace(c.out, o)
 	return o, nil
+}
+
+// recordAndJudge runs a program. Parts of a long run are judged while it goes on.
+func (s *session) recordAndJudge(t *target, c *console, log string, out *traceFile, o *outcome) error {
+	j := &judging{session: s, t: t, c: c, log: log, out: out, o: o, ends: map[string]int{}}
+	ended, judged := make(chan struct{}), make(chan error, 1)
+	go func() { judged <- j.follow(ended) }()
+	err := s.record(t, c, log, o)
+	close(ended)
+	if judging := <-judged; err == nil {
+		err = judging
+	}
+	return err
 }
 
 // createLog makes the log before the run, which may be long. A log that is there is that of
@@ -204,6 +210,15 @@ func (s *session) createLog(t *target) (string, error) {
 func (s *session) record(t *target, c *console, log string, o *outcome) error {
 	cmd := exec.Command(t.file, t.words...)
 	cmd.Env = append(os.Environ(), "GOREC_LOG="+log)
+	if os.Getenv("GOREC_PART") == "" {
+		cmd.Env = append(cmd.Env, fmt.Sprintf("GOREC_PART=%d", partRecords))
+	}
+	if s.stacks {
+		cmd.Env = append(cmd.Env, "GOREC_STACKS="+log+stacksSuffix)
+	}
+	if s.all {
+		cmd.Env = append(cmd.Env, "GOREC_ALL=1")
+	}
 	if o.seed != "" {
 		cmd.Env = append(cmd.Env, "GOREC_SEED="+o.seed)
 	}

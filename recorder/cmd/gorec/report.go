@@ -8,7 +8,6 @@ import (
 	"strconv"
 	"strings"
 
-	"gorace.local/recorder/internal/sites"
 	"gorace.local/recorder/internal/trace"
 )
 
@@ -39,12 +38,12 @@ func racesOf(report string) []race {
 }
 
 // explain writes behind a report which places race, what each goroutine held and had done, who
-// started it, and what isn't recorded.
-func (o *outcome) explain(w io.Writer, missed map[string]int) {
+// started it, and how it came there.
+func (o *outcome) explain(w io.Writer) {
 	groups(w, o.races)
 	holdings(w, o.races, o.moments)
 	starters(w, o.races, o.summary.Starts)
-	tell(w, o.summary, missed)
+	o.tellStacks(w)
 }
 
 // groups tells which pairs of places race, where many variables do at few of them.
@@ -70,21 +69,13 @@ func groups(w io.Writer, races []race) {
 	}
 }
 
-// momentsOf makes of the log what stood before each access of the races.
-func (s *session) momentsOf(path string, table sites.Table, races []race) (map[int]trace.Moment, error) {
-	if len(races) == 0 {
-		return nil, nil
-	}
-	log, err := trace.Open(path)
-	if err != nil {
-		return nil, err
-	}
-	defer log.Close()
+// events are those of the races' accesses.
+func (o *outcome) events() map[int]bool {
 	events := map[int]bool{}
-	for _, r := range races {
+	for _, r := range o.races {
 		events[r.First.Event], events[r.Second.Event] = true, true
 	}
-	return trace.Moments(log.Records(), table, s.traceOptions(log), events)
+	return events
 }
 
 // holdings tells what each of the two of a race held and last synchronized by. Of races at the

@@ -43,7 +43,11 @@ func printTrace(path, sitesPath string, format int, all bool) error {
 		return err
 	}
 	defer log.Close()
-	summary, err := writeLog(log, table, traceOptions(log, format, all), os.Stdout)
+	options := traceOptions(log, format, all)
+	if err := checkVersion(log, options); err != nil {
+		return err
+	}
+	summary, err := trace.Write(log.Records(), table, options, os.Stdout)
 	if err != nil {
 		return err
 	}

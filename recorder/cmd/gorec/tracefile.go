@@ -10,7 +10,6 @@ import (
 	"strings"
 	"time"
 
-	"gorace.local/recorder/internal/sites"
 	"gorace.local/recorder/internal/trace"
 )
 
@@ -152,20 +151,6 @@ func shown(path string) string {
 	return "'" + strings.ReplaceAll(short, "'", `'\''`) + "'"
 }
 
-// writeTrace makes the trace of a log.
-func (s *session) writeTrace(path string, table sites.Table, out *os.File) (*trace.Summary, error) {
-	log, err := trace.Open(path)
-	if err != nil {
-		return nil, fmt.Errorf("the program left no log: %w", err)
-	}
-	defer log.Close()
-	summary, err := writeLog(log, table, s.traceOptions(log), out)
-	if err != nil {
-		return nil, err
-	}
-	return summary, out.Close()
-}
-
 // traceOptions are those that the flags ask for.
 func (r *recording) traceOptions(log *trace.Log) trace.Options {
 	return traceOptions(log, r.format, r.all)
@@ -176,14 +161,14 @@ func traceOptions(log *trace.Log, version int, all bool) trace.Options {
 	if version == 0 {
 		version = log.Version()
 	}
-	return trace.Options{Version: version, All: all}
+	return trace.Options{Version: version, All: all, Variables: log.Variables()}
 }
 
-// writeLog makes the trace of a log.
-func writeLog(log *trace.Log, table sites.Table, o trace.Options, out io.Writer) (*trace.Summary, error) {
+// checkVersion refuses a newer version than that which the log is for.
+func checkVersion(log *trace.Log, o trace.Options) error {
 	if o.Version > log.Version() {
-		return nil, fmt.Errorf("the log was written for version %d of a trace; GOREC_FORMAT=%d makes one for version %d",
+		return fmt.Errorf("the log was written for version %d of a trace; GOREC_FORMAT=%d makes one for version %d",
 			log.Version(), o.Version, o.Version)
 	}
-	return trace.Write(log.Records(), table, o, out)
+	return nil
 }

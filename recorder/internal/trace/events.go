@@ -60,8 +60,8 @@ func (d *declarer) print(out io.Writer) (*printer, error) {
 	fmt.Fprintf(p.out, "gotrace %d\n", p.Version)
 	p.out.WriteString(d.text.String())
 	for i := 0; i < d.end; i++ {
-		if p.events+p.most(i) > maxEvents {
-			d.cutAt(i, "more than 16,777,216 events")
+		if p.events+p.most(i) > d.limit() {
+			d.cutAt(i, fmt.Sprintf("more than %s events", thousands(d.limit())))
 			break
 		}
 		p.print(i)
@@ -127,11 +127,12 @@ func (p *printer) word(op wire.Op) string {
 	return words[op]
 }
 
-func (p *printer) isLending() bool { return p.living() > p.limit() }
+func (p *printer) isLending() bool { return p.living() > p.goroutineLimit() }
 
 // access writes an access. Where atomic operations come to the location too, each goroutine
 // that does them has a variable of its own, which they read or write; a plain access does so
-// with all of them. So two atomic operations don't race, and one with a plain access does.
+// with all of them. So two atomic operations don't race, and one with a plain access does. The
+// writes of a variable are numbered, so that each read finds the last one.
 func (p *printer) access(r *wire.Record) {
 	o := &p.objects[r.Object]
 	if r.Op == wire.AtomicRead || r.Op == wire.AtomicWrite {
@@ -139,7 +140,10 @@ func (p *printer) access(r *wire.Record) {
 		return
 	}
 	if o.several && o.written || p.All {
-		p.valued(words[r.Op], r, o.name, r.Value^o.base)
+		if r.Op == wire.Write {
+			o.writes++
+		}
+		p.valued(words[r.Op], r, o.name, o.writes)
 	}
 	if o.mixed() {
 		for g, name := range o.atomics {
@@ -162,9 +166,12 @@ func (p *printer) start(r *wire.Record) {
 	} else {
 		p.event("go", r, name)
 	}
-	s := Start{By: p.goroutines[r.Goroutine], Place: p.table[r.Site].Place, Event: p.events}
-	if r.Kind == wire.GoForeign {
+	s := Start{By: p.goroutines[r.Goroutine], Place: p.table[r.Site].Place, Event: p.events, Stack: r.OtherSite}
+	if wire.GoKind(r.Kind) == wire.GoForeign {
 		s.Place = "a place that isn't recorded"
+	}
+	if wire.GoKind(r.Kind) == wire.GoEarlier {
+		s.By = "who isn't in this segment"
 	}
 	p.starts[name] = append(p.starts[name], s)
 }

@@ -18,6 +18,7 @@ func (d Deed) String() string { return d.What + " at " + d.Place }
 type Moment struct {
 	Locks []Deed // the oldest first
 	Last  Deed
+	Stack uint32 // of an access: the number of the calls that led there, 0 for none known
 }
 
 // String tells a moment behind the name of an access.
@@ -57,14 +58,14 @@ type follower struct {
 // makes of the same log.
 func Moments(records []wire.Record, table sites.Table, o Options, wanted map[int]bool) (map[int]Moment, error) {
 	f := &follower{held: map[uint32][]holding{}, last: map[uint32]Deed{}, wanted: wanted, moments: map[int]Moment{}}
-	d := declare(lend(newSurvey(records, o)), table)
+	d := declare(named(records, o), table)
 	told := 0
 	d.printed = func(p *printer, i int) {
 		f.printer = p
 		r := &records[i]
 		for told < p.events {
 			if told++; wanted[told] {
-				f.moments[told] = f.moment(r.Goroutine)
+				f.moments[told] = f.moment(r)
 			}
 		}
 		f.follow(r)
@@ -73,9 +74,12 @@ func Moments(records []wire.Record, table sites.Table, o Options, wanted map[int
 	return f.moments, err
 }
 
-func (f *follower) moment(goroutine uint32) Moment {
-	m := Moment{Last: f.last[goroutine]}
-	for _, h := range f.held[goroutine] {
+func (f *follower) moment(r *wire.Record) Moment {
+	m := Moment{Last: f.last[r.Goroutine]}
+	if isAccess(r.Op) {
+		m.Stack = r.OtherSite
+	}
+	for _, h := range f.held[r.Goroutine] {
 		m.Locks = append(m.Locks, h.since)
 	}
 	return m

@@ -4,6 +4,7 @@ import (
 	"fmt"
 	"io"
 	"sort"
+	"strconv"
 	"strings"
 
 	"gorace.local/recorder/internal/sites"
@@ -14,6 +15,7 @@ import (
 type Start struct {
 	By, Place string
 	Event     int
+	Stack     uint32 // the number of the calls that led there, 0 for none known
 }
 
 // Count is how many of what was met are in a trace.
@@ -36,13 +38,32 @@ type Options struct {
 	All     bool // what one goroutine alone does isn't left out
 
 	Goroutines int // names of goroutines at most; 0: as many as a trace may have
+	Variables  int // how many were met, if it is known; else as many as have a record
+	Events     int // at most so many, 0 for as many as a trace may have
+}
+
+// limit is the most events.
+func (o Options) limit() int {
+	if o.Events > 0 && o.Events < maxEvents {
+		return o.Events
+	}
+	return maxEvents
+}
+
+// thousands is a number with commas.
+func thousands(n int) string {
+	s := strconv.Itoa(n)
+	for i := len(s) - 3; i > 0; i -= 3 {
+		s = s[:i] + "," + s[i:]
+	}
+	return s
 }
 
 // hasTries: the version has words for TryLock and TryRLock, with and without success.
 func (o Options) hasTries() bool { return o.Version >= 2 }
 
-// limit is how many names of goroutines there may be.
-func (o Options) limit() int {
+// goroutineLimit is how many names of goroutines there may be.
+func (o Options) goroutineLimit() int {
 	if o.Goroutines > 0 {
 		return o.Goroutines
 	}
@@ -51,18 +72,27 @@ func (o Options) limit() int {
 
 // Write writes the trace of a log. What one goroutine alone does with a variable, a channel,
 // a lock or a once is left out, unless all is wanted.
+// Write writes the trace of records that are in order, up to where a limit is reached. What one
+// goroutine alone does with a variable, a channel, a lock or a once is left out, unless all is
+// wanted.
 func Write(records []wire.Record, table sites.Table, o Options, out io.Writer) (*Summary, error) {
-	d := declare(lend(newSurvey(records, o)), table)
+	s, _, err := write(records, table, o, out)
+	return s, err
+}
+
+// write answers also how many of the records have become a trace.
+func write(records []wire.Record, table sites.Table, o Options, out io.Writer) (s *Summary, end int, err error) {
+	d := declare(named(records, o), table)
 	p, err := d.print(out)
 	if err != nil {
-		return nil, err
+		return nil, 0, err
 	}
-	s := &Summary{Records: len(records), Events: p.events, Starts: p.starts, unseen: map[string]int{}}
+	s = &Summary{Records: d.end, Events: p.events, Starts: p.starts, unseen: map[string]int{}}
 	s.count(d)
 	for i := range s.losses {
 		s.losses[i] = map[string]int{}
 	}
-	for i := range records {
+	for i := range records[:d.end] {
 		s.look(&records[i], d)
 	}
 	if d.cut != "" {
@@ -71,7 +101,7 @@ func Write(records []wire.Record, table sites.Table, o Options, out io.Writer) (
 			s.Cut += fmt.Sprintf(", at %s", table[records[d.end].Site].Place)
 		}
 	}
-	return s, nil
+	return s, d.end, nil
 }
 
 // count counts what was met, and which of it has a name in the trace. Among the channels are
@@ -92,6 +122,9 @@ func (s *Summary) count(d *declarer) {
 			c.Kept++
 		}
 	}
+	if s.Variables.Met < d.Variables {
+		s.Variables.Met = d.Variables
+	}
 }
 
 func (s *Summary) look(r *wire.Record, d *declarer) {
@@ -101,7 +134,37 @@ func (s *Summary) look(r *wire.Record, d *declarer) {
 	case wire.Lost:
 		s.losses[r.Kind][d.table[r.Site].Place]++
 	case wire.Full:
-		d.cut = "the log has no room for more records"
+		if d.cut == "" {
+			d.cut = "the log has no room for more records"
+		}
+	}
+}
+
+// Add adds what another segment has; the counts of both are summed, also those of what is in
+// both.
+func (s *Summary) Add(t *Summary) {
+	s.Records += t.Records
+	s.Events += t.Events
+	s.Names += t.Names
+	for _, c := range [][2]*Count{
+		{&s.Goroutines, &t.Goroutines}, {&s.Variables, &t.Variables}, {&s.Channels, &t.Channels}, {&s.Locks, &t.Locks},
+	} {
+		c[0].Kept += c[1].Kept
+		c[0].Met += c[1].Met
+	}
+	if s.unseen == nil {
+		s.unseen = map[string]int{}
+	}
+	for k, n := range t.unseen {
+		s.unseen[k] += n
+	}
+	for i := range s.losses {
+		if s.losses[i] == nil {
+			s.losses[i] = map[string]int{}
+		}
+		for k, n := range t.losses[i] {
+			s.losses[i][k] += n
+		}
 	}
 }
 

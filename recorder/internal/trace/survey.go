@@ -12,7 +12,7 @@ type object struct {
 	user    int64 // the first goroutine that uses it, -1 for none
 	several bool  // more than one does
 	written bool
-	base    uint64 // the value that a variable has when the first goroutine is started
+	writes  uint64 // of a variable, that are written
 
 	atomics       map[uint32]string // the goroutines with atomic operations on it: their variables
 	atomicWritten bool
@@ -26,6 +26,7 @@ type object struct {
 // survey is what is known of a log before it is written.
 type survey struct {
 	records []wire.Record
+	to      int // so many of them are looked at
 	Options
 	objects []object
 	started uint32 // the number of goroutines beside main
@@ -33,12 +34,12 @@ type survey struct {
 	alive   []bool // goroutines that do something that is kept, or start one that does
 }
 
-func newSurvey(records []wire.Record, o Options) *survey {
-	s := &survey{records: records, Options: o, objects: []object{{user: -1}}}
-	for !s.All && s.begin < len(records) && records[s.begin].Op != wire.Go {
+func newSurvey(records []wire.Record, to int, o Options) *survey {
+	s := &survey{records: records, to: to, Options: o, objects: []object{{user: -1}}}
+	for !s.All && s.begin < to && records[s.begin].Op != wire.Go {
 		s.begin++
 	}
-	for i := range records {
+	for i := range records[:to] {
 		s.look(i)
 	}
 	s.findAlive()
@@ -71,7 +72,6 @@ func isAccess(op wire.Op) bool {
 func (s *survey) look(i int) {
 	r := &s.records[i]
 	if i < s.begin && isAccess(r.Op) {
-		s.object(r.Object).base = r.Value
 		return
 	}
 	switch r.Op {
@@ -160,7 +160,7 @@ func (s *survey) kept(i int) bool {
 func (s *survey) findAlive() {
 	s.alive = make([]bool, s.started+1)
 	s.alive[0] = true
-	for i := len(s.records) - 1; i >= 0; i-- {
+	for i := s.to - 1; i >= 0; i-- {
 		r := &s.records[i]
 		switch {
 		case r.Op == wire.Go:

@@ -110,7 +110,7 @@ func TestTooManyGoroutinesAreCutOff(t *testing.T) {
 		}
 	}
 	_, s := written(t, records)
-	if !strings.HasPrefix(s.Cut, "more than 1,024 goroutines") || !strings.HasSuffix(s.Cut, "at a.go:1") {
+	if !strings.HasPrefix(s.Cut, "more than 1,024 goroutines") || !strings.HasSuffix(s.Cut, "at a.go:3") {
 		t.Errorf("cut off: %q", s.Cut)
 	}
 	if s.Goroutines.Kept != maxGoroutines {
@@ -192,19 +192,22 @@ func TestTooManyEventsAreCutOff(t *testing.T) {
 		{Op: wire.Write, Object: 1, Site: 2, Value: 2}, // two events
 		{Op: wire.FaultClose, Site: 3},
 	}
-	defer func(n int) { maxEvents = n }(maxEvents)
 	for _, c := range []struct {
 		limit, events int
 		cut           string
 	}{
 		{8, 8, ""},
-		{7, 7, "more than 16,777,216 events, at a.go:3"},
-		{6, 5, "more than 16,777,216 events, at a.go:2"},
-		{5, 4, "more than 16,777,216 events, at a.go:2"},
-		{3, 2, "more than 16,777,216 events, at a.go:2"},
+		{7, 7, "more than 7 events, at a.go:3"},
+		{6, 5, "more than 6 events, at a.go:2"},
+		{5, 4, "more than 5 events, at a.go:2"},
+		{3, 2, "more than 3 events, at a.go:2"},
 	} {
-		maxEvents = c.limit
-		text, s := written(t, records)
+		var b strings.Builder
+		s, err := Write(records, table, Options{Version: 1, Events: c.limit}, &b)
+		if err != nil {
+			t.Fatal(err)
+		}
+		text := b.String()
 		_, events, _ := strings.Cut(text, "\ngo main ")
 		if n := 1 + strings.Count(events, "\n") - 1; n != c.events || s.Events != c.events || s.Cut != c.cut {
 			t.Errorf("%+v: %d events, cut off: %q\n%s", c, n, s.Cut, text)

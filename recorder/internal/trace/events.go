@@ -171,7 +171,7 @@ func (p *printer) start(r *wire.Record) {
 		s.Place = "a place that isn't recorded"
 	}
 	if wire.GoKind(r.Kind) == wire.GoEarlier {
-		s.By = "who isn't in this segment"
+		s.By = ""
 	}
 	p.starts[name] = append(p.starts[name], s)
 }

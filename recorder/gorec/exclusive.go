@@ -59,8 +59,13 @@ func (v *variable) share(kind wire.VarKind) {
 		}
 	}
 	put(wire.Record{Op: wire.DeclareVar, Kind: uint8(kind), Object: v.id, Site: v.site, OtherSite: v.offset, Value: uint64(at - 1)})
-	v.put(wire.Write, v.write)
-	v.put(wire.Read, v.read)
+	if v.read.at == v.write.at && v.read.site == v.write.site { // as x++ reads and writes
+		v.put(wire.Read, v.read)
+		v.put(wire.Write, v.write)
+	} else {
+		v.put(wire.Write, v.write)
+		v.put(wire.Read, v.read)
+	}
 	v.owner, v.read, v.write = 0, access{}, access{}
 }
 

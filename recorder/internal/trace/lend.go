@@ -81,7 +81,7 @@ func (s *survey) crowd() int {
 				names++
 			}
 		}
-		if names > maxGoroutines {
+		if names > s.goroutineLimit() {
 			return i
 		}
 	}
@@ -102,7 +102,7 @@ func lend(s *survey) *lender {
 	for g := range l.numbers {
 		l.numbers[g] = g
 	}
-	if s.living() <= maxGoroutines {
+	if s.living() <= s.goroutineLimit() {
 		return l
 	}
 	for i := range s.records[:s.to] {
@@ -141,7 +141,7 @@ func (l *lender) start(r *wire.Record) bool {
 		}
 	}
 	if number < 0 {
-		if len(l.counts) == maxGoroutines {
+		if len(l.counts) == l.goroutineLimit() {
 			return false
 		}
 		number = len(l.counts)

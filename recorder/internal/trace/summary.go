@@ -38,8 +38,9 @@ type Options struct {
 	Version int  // of its text
 	All     bool // what one goroutine alone does isn't left out
 
-	Variables int // how many were met, if it is known; else as many as have a record
-	Events    int // at most so many, 0 for as many as a trace may have
+	Goroutines int // names of goroutines at most; 0: as many as a trace may have
+	Variables  int // how many were met, if it is known; else as many as have a record
+	Events     int // at most so many, 0 for as many as a trace may have
 }
 
 // limit is the most events.
@@ -62,6 +63,16 @@ func thousands(n int) string {
 // hasTries: the version has words for TryLock and TryRLock, with and without success.
 func (o Options) hasTries() bool { return o.Version >= 2 }
 
+// goroutineLimit is how many names of goroutines there may be.
+func (o Options) goroutineLimit() int {
+	if o.Goroutines > 0 {
+		return o.Goroutines
+	}
+	return maxGoroutines
+}
+
+// Write writes the trace of a log. What one goroutine alone does with a variable, a channel,
+// a lock or a once is left out, unless all is wanted.
 // Write writes the trace of records that are in order, up to where a limit is reached. What one
 // goroutine alone does with a variable, a channel, a lock or a once is left out, unless all is
 // wanted.

@@ -87,7 +87,7 @@ func forget() {
 	locations, met = make([]location, 1<<12), 0
 	maps, contents = map[unsafe.Pointer]*variable{}, map[unsafe.Pointer]*variable{}
 	lastAtomic, pooled = map[unsafe.Pointer]uint32{}, map[unsafe.Pointer]uint32{}
-	lastStores, sentOut, ends = map[syncMapKey]uint32{}, map[uint32]uint32{}, nil
+	lastStores, sentOut, ends = map[syncMapKey]uint32{}, nil, nil
 	for p, l := range locks {
 		if !l.held && l.readers == 0 {
 			l.forgotten = true

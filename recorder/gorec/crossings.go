@@ -5,38 +5,47 @@ package gorec
 // another one does behind a read of any of them.
 
 var (
-	sentOut = map[uint32]uint32{} // goroutines: the order of their last write
-	adopted []*G                  // those that code without the recorder started
+	sentOut []sending           // the oldest first
+	adopted = map[*G]struct{}{} // those that code without the recorder started, and that go on
 )
 
+// sending is a write of a goroutine, and the order of it.
+type sending struct {
+	g     *G
+	order uint32
+}
+
 // sendOut has the lock: g is about to write, or to ask a server.
-func (g *G) sendOut(s *Site) { sentOut[g.id] = g.release(s) }
+func (g *G) sendOut(s *Site) {
+	g.lastOut = g.release(s)
+	sentOut = append(sentOut, sending{g, g.lastOut})
+}
 
 // takeIn has the lock: g has read, or was answered. Besides what was written, what the
 // goroutines of the standard library did so far comes before, since a handler's return
 // isn't seen.
 func (g *G) takeIn(s *Site) {
 	g.takeSent(s)
-	for _, h := range adopted {
-		if h != g && !h.over && h.epoch != h.joined {
+	for h := range adopted {
+		if h != g && (h.didMore || h.epoch != h.joined) {
 			g.acquire(h.release(s), s)
-			h.joined = h.epoch
+			h.joined, h.didMore = h.epoch, false
 		}
 	}
 }
 
-// takeSent has the lock.
+// takeSent has the lock. Of each goroutine the last write counts, behind those before it.
 func (g *G) takeSent(s *Site) {
-	newest := g.taken
-	for id, order := range sentOut {
-		if order > g.taken && id != g.id {
-			g.acquire(order, s)
-		}
-		if order > newest {
-			newest = order
-		}
+	i := len(sentOut)
+	for i > 0 && sentOut[i-1].order > g.taken {
+		i--
 	}
-	g.taken = newest
+	for _, w := range sentOut[i:] {
+		if w.g != g && w.order == w.g.lastOut {
+			g.acquire(w.order, s)
+		}
+		g.taken = w.order
+	}
 }
 
 // Out is a file or a connection that is written to.

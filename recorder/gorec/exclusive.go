@@ -78,6 +78,7 @@ func (v *variable) put(op wire.Op, a access) {
 
 // accessed has the lock: g reads or writes the variable.
 func (v *variable) accessed(g *G, op wire.Op, kind wire.VarKind, offset uintptr, s *Site) {
+	g.didMore = true
 	others := v.isOthers(g, kind, offset, s)
 	a := access{at: steps + 1, site: s.ID, stack: stackNumber()}
 	if op == wire.Write {

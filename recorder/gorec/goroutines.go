@@ -13,7 +13,7 @@ import (
 // known by a g of its own and another one's label. The first words make it an empty set of
 // labels, for a profiler that reads them.
 type G struct {
-	label  [4]uintptr
+	tag
 	g      uintptr
 	id     uint32
 	over   bool
@@ -36,8 +36,17 @@ type G struct {
 
 	foreign bool   // code without the recorder started it
 	reading bool   // it was about to read a file or a connection
+	lastOut uint32 // the order of its last write to a file or a connection
 	taken   uint32 // the newest order of sentOut that it is behind
 	joined  uint32 // the epoch up to which others are behind it
+	didMore bool   // it has read or written a variable since
+}
+
+// tag is what a goroutine's label points to. Nothing but the goroutine, and those that code
+// without the recorder starts for it, keeps that of an adopted one alive.
+type tag struct {
+	label [4]uintptr
+	of    *G
 }
 
 //go:linkname getLabel runtime/pprof.runtime_getProfLabel
@@ -56,7 +65,10 @@ var (
 
 // current is the goroutine that runs; s is where it is met.
 func current(s *Site) *G {
-	g := (*G)(getLabel())
+	var g *G
+	if t := (*tag)(getLabel()); t != nil {
+		g = t.of
+	}
 	if g != nil && g.g == getg() && !g.over {
 		if seed != 0 {
 			g.yield()
@@ -111,20 +123,36 @@ func adopt(parent *G, s *Site) *G {
 	g := newGoroutine()
 	g.g = getg()
 	g.foreign = true
-	adopted = append(adopted, g)
+	adopted[g] = struct{}{}
 	g.lose(wire.LostGoroutine, s)
 	parent.step(wire.Record{Op: wire.Go, Kind: uint8(wire.GoForeign), Other: g.id})
 	g.takeSent(s)
 	mu.Unlock()
-	setLabel(unsafe.Pointer(g))
+	t := &tag{of: g}
+	runtime.SetFinalizer(t, (*tag).ended)
+	setLabel(unsafe.Pointer(t))
 	return g
+}
+
+// ended is called some time after the end of an adopted goroutine.
+func (t *tag) ended() {
+	begin()
+	defer mu.Unlock()
+	delete(adopted, t.of)
+	if t.of.part == part {
+		t.of.note(wire.Exit, 0, nowhere)
+	}
+	t.of.over = true
+	t.of.reads, t.of.writes = repeats{}, repeats{}
 }
 
 // newGoroutine has the lock.
 func newGoroutine() *G {
 	goroutines++
 	live = !sealed
-	return &G{id: goroutines, part: part, tables: part, random: seed*2654435761 + goroutines*40503 | 1, wake: make(chan struct{}, 2)}
+	g := &G{id: goroutines, part: part, tables: part, random: seed*2654435761 + goroutines*40503 | 1, wake: make(chan struct{}, 2)}
+	g.of = g
+	return g
 }
 
 // Go starts f.
@@ -153,7 +181,7 @@ func (g *G) start(s *Site) *G {
 
 func (g *G) run(s *Site, f func()) {
 	g.g = getg()
-	setLabel(unsafe.Pointer(g))
+	setLabel(unsafe.Pointer(&g.tag))
 	defer g.exit(s)
 	f()
 }

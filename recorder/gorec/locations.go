@@ -38,7 +38,7 @@ func locate(p unsafe.Pointer) *location {
 			return l
 		}
 		if l.p == nil {
-			if met*2 >= len(locations) {
+			if met*4 >= len(locations)*3 {
 				growLocations()
 				return locate(p)
 			}

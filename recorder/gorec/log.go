@@ -59,7 +59,8 @@ var (
 
 func init() {
 	mainGoroutine.g = getg()
-	setLabel(unsafe.Pointer(mainGoroutine))
+	mainGoroutine.of = mainGoroutine
+	setLabel(unsafe.Pointer(&mainGoroutine.tag))
 	path := os.Getenv("GOREC_LOG")
 	if path == "" {
 		return

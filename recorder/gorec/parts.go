@@ -18,8 +18,8 @@ import (
 // that go on are started by it. It does nothing else, and nothing comes before what it does;
 // so it orders nothing.
 
-// mostLocations ends a part, where there may be several.
-const mostLocations = 1 << 20
+// mostLocations ends a part, where there may be several: their table is full with so many.
+const mostLocations = 3 << 18
 
 var (
 	partRecords int    // of a part, or 0 where the run has one log
@@ -45,7 +45,7 @@ func begin() {
 
 // makeRoom has the lock, and no operation is half done.
 func makeRoom() {
-	if partRecords > 0 && !sealed && (written > len(records)-len(records)/8 || met > mostLocations) {
+	if partRecords > 0 && !sealed && (written > len(records)-len(records)/8 || met >= mostLocations) {
 		nextPart()
 	}
 }
@@ -87,7 +87,7 @@ func forget() {
 	locations, met = make([]location, 1<<12), 0
 	maps, contents = map[unsafe.Pointer]*variable{}, map[unsafe.Pointer]*variable{}
 	lastAtomic, pooled = map[unsafe.Pointer]uint32{}, map[unsafe.Pointer]uint32{}
-	lastStores, sentOut, ends = map[syncMapKey]uint32{}, map[uint32]uint32{}, nil
+	lastStores, sentOut, ends = map[syncMapKey]uint32{}, nil, nil
 	for p, l := range locks {
 		if !l.held && l.readers == 0 {
 			l.forgotten = true

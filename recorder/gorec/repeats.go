@@ -15,10 +15,11 @@ import (
 // location, so one goroutine at most has it. Until then, and until the next read, it isn't
 // known what the location holds.
 
-// repeats is a table of accesses by their addresses; it grows with what it hadn't.
+// repeats is a table of accesses by their addresses; it grows with those that had to go while
+// they could have been repeated.
 type repeats struct {
 	entries []repeat
-	missed  int
+	gone    int
 }
 
 type repeat struct {
@@ -47,15 +48,18 @@ func (t *repeats) has(p unsafe.Pointer, s *Site, stamp uint32) bool {
 }
 
 func (t *repeats) put(p unsafe.Pointer, s *Site, stamp uint32) {
-	if t.missed >= len(t.entries) && len(t.entries) < mostRepeats {
+	if t.gone >= len(t.entries)/2 && len(t.entries) < mostRepeats {
 		size := 2 * len(t.entries)
 		if size == 0 {
 			size = fewestRepeats
 		}
 		*t = repeats{entries: make([]repeat, size)}
 	}
-	t.missed++
-	*t.at(p) = repeat{p, s.ID, stamp}
+	e := t.at(p)
+	if e.p != nil && e.p != p && e.stamp == stamp {
+		t.gone++
+	}
+	*e = repeat{p, s.ID, stamp}
 }
 
 func (t *repeats) drop(p unsafe.Pointer) {

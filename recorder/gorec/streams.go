@@ -72,9 +72,10 @@ func stillReading() (again func()) {
 	if off {
 		return func() {}
 	}
-	g := (*G)(getLabel())
-	if g == nil || !g.reading {
+	t := (*tag)(getLabel())
+	if t == nil || !t.of.reading {
 		return func() {}
 	}
+	g := t.of
 	return func() { g.reading = true }
 }

@@ -31,8 +31,9 @@ type toldAccess struct {
 }
 
 type startedFrom struct {
-	By, Place string
-	Stack     []frame `json:",omitempty"`
+	By    string `json:",omitempty"` // nobody where it was in an earlier segment
+	Place string
+	Stack []frame `json:",omitempty"`
 }
 
 // verdict is how a package ended.

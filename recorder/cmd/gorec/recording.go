@@ -181,7 +181,7 @@ func (s *session) once(t *target, c *console, seed string) (*outcome, error) {
 
 // recordAndJudge runs a program. Parts of a long run are judged while it goes on.
 func (s *session) recordAndJudge(t *target, c *console, log string, out *traceFile, o *outcome) error {
-	j := &judging{session: s, t: t, c: c, log: log, out: out, o: o, ends: map[string]int{}}
+	j := &judging{session: s, t: t, c: c, log: log, out: out, o: o, told: map[string]bool{}, ends: map[string]int{}}
 	ended, judged := make(chan struct{}), make(chan error, 1)
 	go func() { judged <- j.follow(ended) }()
 	err := s.record(t, c, log, o)

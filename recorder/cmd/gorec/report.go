@@ -107,6 +107,9 @@ func starters(w io.Writer, races []race, starts map[string][]trace.Start) {
 				continue
 			}
 			line := fmt.Sprintf("%s was started by %s at %s", a.Goroutine, s.By, s.Place)
+			if s.By == "" {
+				line = fmt.Sprintf("%s was started at %s, in an earlier segment", a.Goroutine, s.Place)
+			}
 			if !told[line] {
 				told[line] = true
 				fmt.Fprintln(w, line)

@@ -16,7 +16,7 @@ import (
 
 // partRecords is how many records a part of a log has. There are two parts at most: one that
 // is written, and one that is judged meanwhile.
-const partRecords = 1 << 21
+const partRecords = 1 << 20
 
 // A judging has the parts of a run's log judged, while the program runs, each in one segment
 // or several.
@@ -32,7 +32,8 @@ type judging struct {
 	part     int
 	segments int
 	racing   int
-	ends     map[string]int // why segments ended
+	told     map[string]bool // what races at which places
+	ends     map[string]int  // why segments ended
 }
 
 // follow has each part judged once the run goes on in another one, until the program has ended.
@@ -135,12 +136,32 @@ func (j *judging) judge1(s *trace.Segments, options trace.Options, goesOn bool) 
 		}
 		o.stacks = readStacks(j.log + stacksSuffix)
 	}
-	o.explain(j.c.out)
+	if j.isNew(o) {
+		o.explain(j.c.out)
+	}
+	for i := range o.races {
+		j.told[o.races[i].places()] = true
+	}
 	if only {
 		tell(j.c.out, o.summary, j.t.Missed)
 	}
 	j.add(o, s.More() || goesOn)
 	return nil
+}
+
+// places are where a race is.
+func (r *race) places() string {
+	return fmt.Sprint(r.First.Kind, r.First.Place, r.Second.Kind, r.Second.Place)
+}
+
+// isNew reports whether a segment has a race at other places than those that were told.
+func (j *judging) isNew(o *outcome) bool {
+	for i := range o.races {
+		if !j.told[o.races[i].places()] {
+			return true
+		}
+	}
+	return false
 }
 
 // traceOf is the file for the trace of a segment: the one that is kept, until that has a race.
@@ -170,12 +191,16 @@ func (j *judging) askBeside(path string, o *outcome) error {
 	}
 	fmt.Fprintf(j.c.notes, "gorec: segment %d: %s\n", j.segments, o.summary.Counts())
 	first, _, _ := strings.Cut(report.String(), "\n")
-	if o.status == 0 {
+	switch {
+	case o.status == 0:
 		fmt.Fprintf(j.c.notes, "gorec: segment %d: %s\n", j.segments, first)
-		return nil
+	case len(o.races) > 0 && !j.isNew(o):
+		fmt.Fprintf(j.c.notes, "gorec: segment %d: %d races, at places that were told\n", j.segments, len(o.races))
+	default:
+		_, err := report.WriteTo(j.c.out)
+		return err
 	}
-	_, err := report.WriteTo(j.c.out)
-	return err
+	return nil
 }
 
 // add adds a segment to what is known of the run; ends says that another one follows.

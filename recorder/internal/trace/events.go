@@ -95,7 +95,7 @@ func (p *printer) print(i int) {
 		p.start(r)
 	case wire.Exit:
 		// where names are lent, who exits may go on under another's go
-		if p.alive[r.Goroutine] && !p.isLending() {
+		if p.alive[r.Goroutine] && !p.isLending() && p.ends(i) {
 			p.event("exit", r, "")
 		}
 	case wire.Default:
@@ -171,7 +171,7 @@ func (p *printer) start(r *wire.Record) {
 		s.Place = "a place that isn't recorded"
 	}
 	if wire.GoKind(r.Kind) == wire.GoEarlier {
-		s.By = "who isn't in this segment"
+		s.By = ""
 	}
 	p.starts[name] = append(p.starts[name], s)
 }

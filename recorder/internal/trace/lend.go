@@ -114,7 +114,7 @@ func lend(s *survey) *lender {
 				return l
 			}
 		case r.Op == wire.Exit:
-			if s.alive[r.Goroutine] && r.Goroutine != 0 {
+			if s.alive[r.Goroutine] && r.Goroutine != 0 && s.ends(i) {
 				l.free = append(l.free, l.numbers[r.Goroutine])
 				l.clocks[r.Goroutine] = nil
 			}

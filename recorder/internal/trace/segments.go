@@ -60,20 +60,24 @@ type standing struct {
 // carrier makes the records of the next segment.
 type carrier struct {
 	objects map[uint32]*standing
-	starts  map[uint32]wire.Record // the go of each goroutine that goes on
-	onces   []wire.Record          // the begins of those that are under way
+	goesOn  map[uint32]bool // it does something in the next segment
+	onces   []wire.Record   // the begins of those that are under way
 	next    []wire.Record
 }
 
 // goOn is what follows the record number end, behind the records that make its state.
 func goOn(records []wire.Record, end int) (next []wire.Record, state int) {
-	c := &carrier{objects: map[uint32]*standing{}, starts: map[uint32]wire.Record{}}
+	c := &carrier{objects: map[uint32]*standing{}, goesOn: map[uint32]bool{}}
 	for i := range records[:end] {
 		c.follow(&records[i])
 	}
 	for _, r := range records[end:] {
 		if o := c.objects[r.Object]; o != nil {
 			o.used = true
+		}
+		c.goesOn[r.Goroutine] = true
+		if r.Op == wire.Meet {
+			c.goesOn[r.Other] = true
 		}
 	}
 	c.begin(records[:end])
@@ -97,10 +101,6 @@ func (c *carrier) follow(r *wire.Record) {
 	case wire.DeclareVar, wire.DeclareChan, wire.DeclareLock, wire.DeclareOnce:
 		c.objects[r.Object] = &standing{declared: *r}
 		return
-	case wire.Go:
-		c.starts[r.Other] = *r
-	case wire.Exit:
-		delete(c.starts, r.Goroutine)
 	}
 	o := c.objects[r.Object]
 	if o == nil {
@@ -143,14 +143,16 @@ func (c *carrier) begin(records []wire.Record) {
 		}
 	}
 	for i := range records {
-		if r := records[i]; r.Op == wire.Go && c.starts[r.Other] == r {
+		if r := records[i]; r.Op == wire.Go && c.goesOn[r.Other] {
 			r.Goroutine, r.Kind = 0, uint8(wire.GoEarlier)
 			c.next = append(c.next, r)
 		}
 	}
 	for _, r := range c.onces {
-		c.declare(r.Object)
-		c.next = append(c.next, r)
+		if c.goesOn[r.Goroutine] {
+			c.declare(r.Object)
+			c.next = append(c.next, r)
+		}
 	}
 }
 

@@ -11,7 +11,8 @@ import (
 	"gorace.local/recorder/wire"
 )
 
-// Start is where a goroutine was started, before the event that is counted from 1.
+// Start is where a goroutine was started, before the event that is counted from 1. By is "" for
+// one that was started before the segment.
 type Start struct {
 	By, Place string
 	Event     int

@@ -32,6 +32,7 @@ type survey struct {
 	started uint32 // the number of goroutines beside main
 	begin   int    // the first go: what stands before happens before all that others do
 	alive   []bool // goroutines that do something that is kept, or start one that does
+	last    []int  // of each goroutine the last record
 }
 
 func newSurvey(records []wire.Record, to int, o Options) *survey {
@@ -41,10 +42,26 @@ func newSurvey(records []wire.Record, to int, o Options) *survey {
 	}
 	for i := range records[:to] {
 		s.look(i)
+		s.acts(records[i].Goroutine, i)
+		if records[i].Op == wire.Meet {
+			s.acts(records[i].Other, i)
+		}
 	}
 	s.findAlive()
 	return s
 }
+
+// acts notes a record of a goroutine.
+func (s *survey) acts(goroutine uint32, i int) {
+	for int(goroutine) >= len(s.last) {
+		s.last = append(s.last, 0)
+	}
+	s.last[goroutine] = i
+}
+
+// ends reports whether an exit is its goroutine's last record. Code that isn't recorded may go
+// on for a goroutine, and start others.
+func (s *survey) ends(i int) bool { return s.last[s.records[i].Goroutine] == i }
 
 func (s *survey) object(id uint32) *object {
 	for int(id) >= len(s.objects) {

@@ -318,3 +318,29 @@ func TestNames(t *testing.T) {
 		t.Errorf("got %v", got)
 	}
 }
+
+// What code without the recorder starts for a goroutine may begin behind its exit.
+func TestAStartBehindAnExit(t *testing.T) {
+	text, _ := written(t, []wire.Record{
+		{Op: wire.DeclareVar, Object: 1, Site: 1},
+		{Op: wire.Go, Other: 1, Site: 1},
+		{Op: wire.Write, Object: 1, Goroutine: 1, Site: 1},
+		{Op: wire.Exit, Goroutine: 1, Site: 1},
+		{Op: wire.Go, Kind: uint8(wire.GoForeign), Goroutine: 1, Other: 2},
+		{Op: wire.Write, Object: 1, Goroutine: 2, Site: 2},
+		{Op: wire.Exit, Goroutine: 2, Site: 1},
+	})
+	want := `gotrace 1
+var x
+goroutine g1
+goroutine g2
+go main g1 a.go:1
+write g1 x 1 a.go:1
+go g1 g2 -
+write g2 x 2 a.go:2
+exit g2 a.go:1
+`
+	if text != want {
+		t.Errorf("got\n%s", text)
+	}
+}

@@ -26,11 +26,11 @@ type Count struct{ Kept, Met int }
 type Summary struct {
 	Records, Events                        int
 	Goroutines, Variables, Channels, Locks Count
-	Names                                  int                // of the goroutines in the trace
-	Starts                                 map[string][]Start // by the goroutine's name
-	Cut                                    string             // why the trace is cut off, and where
-	unseen                                 map[string]int     // places and names of reads that found unrecorded writes
-	losses                                 [wire.Losses]map[string]int
+	Names                                  int                             // of the goroutines in the trace
+	Starts                                 map[string][]Start              // by the goroutine's name
+	Cut                                    string                          // why the trace is cut off, and where
+	unseen                                 map[string]int                  // places and names of reads that found unrecorded writes
+	losses                                 [wire.Losses + 1]map[string]int // the last: tests
 }
 
 // Options are what is asked of a trace.
@@ -133,12 +133,23 @@ func (s *Summary) look(r *wire.Record, d *declarer) {
 	case wire.Unseen:
 		s.unseen[d.table[r.Site].Place+" ("+d.variableName(&d.objects[r.Object])+")"]++
 	case wire.Lost:
-		s.losses[r.Kind][d.table[r.Site].Place]++
+		kind, site := int(r.Kind), d.table[r.Site]
+		if kind == int(wire.LostGoroutine) && isTest(site) {
+			kind = int(wire.Losses)
+		}
+		s.losses[kind][site.Place]++
 	case wire.Full:
 		if d.cut == "" {
 			d.cut = "the log has no room for more records"
 		}
 	}
+}
+
+// isTest reports whether a goroutine that is met at a site is a test's, which package testing
+// started.
+func isTest(s sites.Site) bool {
+	file, _, _ := strings.Cut(s.Place, ":")
+	return s.Name == "test" && strings.HasSuffix(file, "_test.go")
 }
 
 // Add adds what another segment has; the counts of both are summed, also those of what is in
@@ -184,16 +195,22 @@ func (s *Summary) Counts() string {
 func (s *Summary) Losses() string {
 	var parts []string
 	for _, l := range []struct {
-		counts map[string]int
-		what   string
+		counts    map[string]int
+		one, more string
+		what      string
 	}{
-		{s.unseen, "reads found writes by code that isn't recorded, whose races aren't told"},
-		{s.losses[wire.LostGoroutine], "goroutines were started by code that isn't recorded, so races with them may be missed"},
-		{s.losses[wire.LostChannel], "channels are used by code that isn't recorded, so races may be told that they order"},
-		{s.losses[wire.LostLocker], "lockers are of types that aren't recorded, so races may be told that they order"},
+		{s.unseen, "read", "reads", "found writes by code that isn't recorded, whose races aren't told"},
+		{s.losses[wire.LostGoroutine], "goroutine was", "goroutines were", "started by code that isn't recorded, so races with them may be missed"},
+		{s.losses[wire.Losses], "test", "tests", "began in package testing, which isn't recorded"},
+		{s.losses[wire.LostChannel], "channel is", "channels are", "used by code that isn't recorded, so races may be told that they order"},
+		{s.losses[wire.LostLocker], "locker is", "lockers are", "of types that aren't recorded, so races may be told that they order"},
 	} {
-		if n := total(l.counts); n > 0 {
-			parts = append(parts, fmt.Sprintf("%d %s (%s)", n, l.what, first(l.counts)))
+		switch n := total(l.counts); n {
+		case 0:
+		case 1:
+			parts = append(parts, fmt.Sprintf("1 %s %s (%s)", l.one, l.what, first(l.counts)))
+		default:
+			parts = append(parts, fmt.Sprintf("%d %s %s (%s)", n, l.more, l.what, first(l.counts)))
 		}
 	}
 	return strings.Join(parts, "; ")

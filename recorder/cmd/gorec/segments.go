@@ -5,6 +5,7 @@ import (
 	"fmt"
 	"io"
 	"os"
+	"runtime/debug"
 	"sort"
 	"strconv"
 	"strings"
@@ -14,9 +15,13 @@ import (
 	"gorace.local/recorder/internal/trace"
 )
 
-// partRecords is how many records a part of a log has. There are two parts at most: one that
-// is written, and one that is judged meanwhile.
-const partRecords = 1 << 20
+// partRecords is how many records a part of a log has, unless -records says it. There are two
+// parts at most: one that is written, and one that is judged meanwhile.
+const (
+	fewestRecords = 1 << 10
+	partRecords   = 1 << 19
+	mostRecords   = 1<<24 + 1<<22
+)
 
 // A judging has the parts of a run's log judged, while the program runs, each in one segment
 // or several.
@@ -92,6 +97,9 @@ func (j *judging) judgePart(log *trace.Log) error {
 	if err := checkVersion(log, options); err != nil {
 		return err
 	}
+	// What a part takes is needed once, and the program that runs beside needs memory too.
+	defer debug.SetGCPercent(debug.SetGCPercent(20))
+	defer debug.FreeOSMemory()
 	s := trace.NewSegments(log.Records())
 	for {
 		if err := j.judge1(s, options, goesOn); err != nil {

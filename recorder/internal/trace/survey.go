@@ -6,21 +6,20 @@ import "gorace.local/recorder/wire"
 type object struct {
 	op    wire.Op // its declaration, or Release
 	kind  uint8
+	word  wire.Op // for an order: the declaration of what stands for it
 	site  uint32
 	value uint64
 
-	user    int64 // the first goroutine that uses it, -1 for none
-	several bool  // more than one does
-	written bool
+	user    int64  // the first goroutine that uses it, -1 for none
 	writes  uint64 // of a variable, that are written
+	waiting int    // of a channel: values in its buffer
+	several bool   // more than one goroutine uses it
+	written bool
 
-	atomics       map[uint32]string // the goroutines with atomic operations on it: their variables
 	atomicWritten bool
-
-	waiting int // of a channel: values in its buffer
+	atomics       map[uint32]string // the goroutines with atomic operations on it: their variables
 
 	name string
-	word wire.Op // for an order: the declaration of what stands for it
 }
 
 // survey is what is known of a log before it is written.

@@ -18,9 +18,6 @@ import (
 // that go on are started by it. It does nothing else, and nothing comes before what it does;
 // so it orders nothing.
 
-// mostLocations ends a part, where there may be several: their table is full with so many.
-const mostLocations = 3 << 18
-
 var (
 	partRecords int    // of a part, or 0 where the run has one log
 	part        uint32 // the number of the log, read without the lock too
@@ -45,7 +42,7 @@ func begin() {
 
 // makeRoom has the lock, and no operation is half done.
 func makeRoom() {
-	if partRecords > 0 && !sealed && (written > len(records)-len(records)/8 || met >= mostLocations) {
+	if partRecords > 0 && !sealed && (written > len(records)-len(records)/8 || met >= partRecords/8*3) {
 		nextPart()
 	}
 }

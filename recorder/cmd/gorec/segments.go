@@ -15,11 +15,12 @@ import (
 	"gorace.local/recorder/internal/trace"
 )
 
-// partRecords is how many records a part of a log has, unless -records says it. There are two
-// parts at most: one that is written, and one that is judged meanwhile.
+// How many records a part of a log has, unless -records says it: of tests more, since they end.
+// There are two parts at most: one that is written, and one that is judged meanwhile.
 const (
 	fewestRecords = 1 << 10
-	partRecords   = 1 << 19
+	programPart   = 1 << 19
+	testPart      = 1 << 22
 	mostRecords   = 1<<24 + 1<<22
 )
 
@@ -100,9 +101,9 @@ func (j *judging) judgePart(log *trace.Log) error {
 	// What a part takes is needed once, and the program that runs beside needs memory too.
 	defer debug.SetGCPercent(debug.SetGCPercent(20))
 	defer debug.FreeOSMemory()
-	s := trace.NewSegments(log.Records())
+	s := trace.NewSegments(log.Records(), options)
 	for {
-		if err := j.judge1(s, options, goesOn); err != nil {
+		if err := j.judgeSegment(s, options, goesOn); err != nil {
 			return err
 		}
 		if !s.Next() {
@@ -112,9 +113,9 @@ func (j *judging) judgePart(log *trace.Log) error {
 	}
 }
 
-// judge1 has a segment judged. Where it is the only one of the run its report is printed as it
+// judgeSegment has a segment judged. Where it is the only one of the run its report is printed as it
 // comes; else that of a clean one is a note.
-func (j *judging) judge1(s *trace.Segments, options trace.Options, goesOn bool) error {
+func (j *judging) judgeSegment(s *trace.Segments, options trace.Options, goesOn bool) error {
 	file, path, done, err := j.traceOf()
 	if err != nil {
 		return err
@@ -125,7 +126,7 @@ func (j *judging) judge1(s *trace.Segments, options trace.Options, goesOn bool) 
 		return err
 	}
 	if !s.More() && goesOn {
-		o.summary.Cut = "the log has no room for more records"
+		o.summary.Cut = "a log that was full"
 	}
 	j.segments++
 	only := j.segments == 1 && !goesOn && !s.More()
@@ -227,7 +228,7 @@ func (j *judging) add(o *outcome, ends bool) {
 		run.summary.Add(o.summary)
 	}
 	run.summary.Cut = o.summary.Cut
-	if ends {
+	if ends && o.summary.Cut != "" {
 		reason, _, _ := strings.Cut(o.summary.Cut, ", at ")
 		j.ends[reason]++
 		run.summary.Cut = ""
@@ -242,7 +243,11 @@ func (j *judging) tell() {
 		reasons = append(reasons, fmt.Sprintf("%s (%d)", reason, n))
 	}
 	sort.Strings(reasons)
-	fmt.Fprintf(j.c.out, "gorec: recorded in %d segments, %d of them with races; of what stands in different ones no race is told; "+
+	if len(reasons) == 0 {
+		fmt.Fprintf(j.c.out, "gorec: judged in %d traces, since there are more variables than one has names for\n", j.segments)
+		return
+	}
+	fmt.Fprintf(j.c.out, "gorec: judged in %d segments, %d of them with races; of what stands in different ones no race is told; "+
 		"they ended with %s\n", j.segments, j.racing, strings.Join(reasons, ", "))
 }
 

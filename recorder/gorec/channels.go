@@ -84,6 +84,7 @@ func Lent[C any](c C, s *Site) C {
 // Sender is a channel that is sent on.
 type Sender[T any] struct{ c chan<- T }
 
+// Chan is a channel that is sent on.
 func Chan[T any](c chan<- T) Sender[T] { return Sender[T]{c} }
 
 // Send is c <- v.
@@ -134,12 +135,13 @@ func (x Sender[T]) sendNow(ch *channel, v T, g *G, s *Site) bool {
 	return true
 }
 
-// Receive is <-c, ReceiveOK v, ok = <-c.
+// Receive is <-c.
 func Receive[T any](c <-chan T, s *Site) T {
 	v, _ := ReceiveOK(c, s)
 	return v
 }
 
+// ReceiveOK is v, ok = <-c.
 func ReceiveOK[T any](c <-chan T, s *Site) (v T, ok bool) {
 	if off {
 		v, ok = <-c

@@ -6,7 +6,7 @@ import (
 	"gorace.local/recorder/wire"
 )
 
-// none: no case can be done.
+// none says that no case can be done.
 const none = -2
 
 var selectRandom = uint32(2463534242)

@@ -12,6 +12,7 @@ type CondAt struct {
 	s *Site
 }
 
+// Cond is a sync.Cond that is used at s.
 func Cond(c *sync.Cond, s *Site) CondAt { return CondAt{c, s} }
 
 type sleeper struct {
@@ -37,6 +38,7 @@ func conditionAt(c *sync.Cond) *condition {
 	return x
 }
 
+// Wait is that of the cond; it is ordered after what wakes it.
 func (x CondAt) Wait() {
 	if off {
 		x.c.Wait()
@@ -56,6 +58,7 @@ func (x CondAt) Wait() {
 	Locker(x.c.L, x.s).Lock()
 }
 
+// Signal is that of the cond; it wakes one that waits.
 func (x CondAt) Signal() {
 	if off {
 		x.c.Signal()
@@ -64,6 +67,7 @@ func (x CondAt) Signal() {
 	x.wake(1)
 }
 
+// Broadcast is that of the cond; it wakes all that wait.
 func (x CondAt) Broadcast() {
 	if off {
 		x.c.Broadcast()

@@ -38,12 +38,13 @@ func useContent(p unsafe.Pointer, change bool, s *Site) {
 	mu.Unlock()
 }
 
-// Reads and Writes are an object of which a method is called that reads or writes.
+// Reads is an object of which a method is called that reads.
 func Reads[T any](p *T, s *Site) *T {
 	useContent(unsafe.Pointer(p), false, s)
 	return p
 }
 
+// Writes is an object of which a method is called that writes.
 func Writes[T any](p *T, s *Site) *T {
 	useContent(unsafe.Pointer(p), true, s)
 	return p

@@ -102,7 +102,7 @@ func (d *doneChannel) canceler(f context.CancelFunc, s *Site) context.CancelFunc
 	}
 }
 
-// WithCancel, WithTimeout and WithDeadline are those of package context.
+// WithCancel is that of package context.
 func WithCancel(parent context.Context, s *Site) (context.Context, context.CancelFunc) {
 	ctx, cancel := context.WithCancel(parent)
 	if off {
@@ -111,10 +111,12 @@ func WithCancel(parent context.Context, s *Site) (context.Context, context.Cance
 	return ctx, newDone(parent, ctx, false, s).canceler(cancel, s)
 }
 
+// WithTimeout is that of package context.
 func WithTimeout(parent context.Context, d time.Duration, s *Site) (context.Context, context.CancelFunc) {
 	return WithDeadline(parent, time.Now().Add(d), s)
 }
 
+// WithDeadline is that of package context.
 func WithDeadline(parent context.Context, at time.Time, s *Site) (context.Context, context.CancelFunc) {
 	ctx, cancel := context.WithDeadline(parent, at)
 	if off {
@@ -129,8 +131,10 @@ type ContextAt struct {
 	s *Site
 }
 
+// Context is a context that is used at s.
 func Context(ctx context.Context, s *Site) ContextAt { return ContextAt{ctx, s} }
 
+// Err is that of the context.
 func (x ContextAt) Err() error {
 	err := x.Context.Err()
 	if err == nil || off {

@@ -73,7 +73,7 @@ func cross(s *Site) (back func()) {
 	}
 }
 
-// Ask to Ask3 are functions that ask a server, or wait for one.
+// Ask is a function that asks a server, or waits for one, and answers nothing.
 func Ask(f func(), s *Site) func() {
 	return func() {
 		defer cross(s)()
@@ -81,6 +81,7 @@ func Ask(f func(), s *Site) func() {
 	}
 }
 
+// AskError is one that answers an error.
 func AskError[A any](f func(A) error, s *Site) func(A) error {
 	return func(a A) error {
 		defer cross(s)()
@@ -88,6 +89,7 @@ func AskError[A any](f func(A) error, s *Site) func(A) error {
 	}
 }
 
+// Ask1 is one with one argument that answers a value and an error.
 func Ask1[A, R any](f func(A) (R, error), s *Site) func(A) (R, error) {
 	return func(a A) (R, error) {
 		defer cross(s)()
@@ -95,6 +97,7 @@ func Ask1[A, R any](f func(A) (R, error), s *Site) func(A) (R, error) {
 	}
 }
 
+// Ask2 is one with two arguments that answers these.
 func Ask2[A, B, R any](f func(A, B) (R, error), s *Site) func(A, B) (R, error) {
 	return func(a A, b B) (R, error) {
 		defer cross(s)()
@@ -102,6 +105,7 @@ func Ask2[A, B, R any](f func(A, B) (R, error), s *Site) func(A, B) (R, error) {
 	}
 }
 
+// Ask3 is one with three arguments that answers these.
 func Ask3[A, B, C, R any](f func(A, B, C) (R, error), s *Site) func(A, B, C) (R, error) {
 	return func(a A, b B, c C) (R, error) {
 		defer cross(s)()

@@ -96,8 +96,8 @@ func (g *G) meets(s *Site) {
 	g.takeSent(s)
 }
 
-// alone: there is no second goroutine yet, or no log. What main does before there is one
-// comes before all that others do.
+// alone reports whether there is no second goroutine yet, or no log. What main does before there
+// is one comes before all that others do.
 func alone() bool { return !live && (off || sealed || getg() == mainGoroutine.g) }
 
 // yield lets others go on now and then, so that runs differ.

@@ -15,9 +15,13 @@ type LockerAt struct {
 	s *Site
 }
 
+// Locker is a lock that is used at s.
 func Locker(l sync.Locker, s *Site) LockerAt { return LockerAt{l, s} }
 
-func (x LockerAt) Lock()   { x.recorded().Lock() }
+// Lock is that of the lock.
+func (x LockerAt) Lock() { x.recorded().Lock() }
+
+// Unlock is that of the lock.
 func (x LockerAt) Unlock() { x.recorded().Unlock() }
 
 // recorded is the locker by which the calls are recorded. A Lock that the program declares

@@ -109,11 +109,16 @@ type MutexAt struct {
 	s *Site
 }
 
+// Mutex is a sync.Mutex that is used at s.
 func Mutex(m *sync.Mutex, s *Site) MutexAt { return MutexAt{m, s} }
 
-func (x MutexAt) Lock()   { x.m.Lock(); locked(unsafe.Pointer(x.m), mutex, wire.Lock, x.s) }
+// Lock is that of the mutex.
+func (x MutexAt) Lock() { x.m.Lock(); locked(unsafe.Pointer(x.m), mutex, wire.Lock, x.s) }
+
+// Unlock is that of the mutex.
 func (x MutexAt) Unlock() { unlocking(unsafe.Pointer(x.m), mutex, wire.Unlock, x.s); x.m.Unlock() }
 
+// TryLock is that of the mutex.
 func (x MutexAt) TryLock() bool {
 	return tried(x.m.TryLock(), unsafe.Pointer(x.m), mutex, wire.TryLock, x.s)
 }
@@ -124,20 +129,30 @@ type RWMutexAt struct {
 	s *Site
 }
 
+// RWMutex is a sync.RWMutex that is used at s.
 func RWMutex(m *sync.RWMutex, s *Site) RWMutexAt { return RWMutexAt{m, s} }
 
-func (x RWMutexAt) Lock()   { x.m.Lock(); locked(unsafe.Pointer(x.m), rwmutex, wire.Lock, x.s) }
+// Lock is that of the rwmutex.
+func (x RWMutexAt) Lock() { x.m.Lock(); locked(unsafe.Pointer(x.m), rwmutex, wire.Lock, x.s) }
+
+// Unlock is that of the rwmutex.
 func (x RWMutexAt) Unlock() { unlocking(unsafe.Pointer(x.m), rwmutex, wire.Unlock, x.s); x.m.Unlock() }
-func (x RWMutexAt) RLock()  { x.m.RLock(); locked(unsafe.Pointer(x.m), rwmutex, wire.ReadLock, x.s) }
+
+// RLock is that of the rwmutex.
+func (x RWMutexAt) RLock() { x.m.RLock(); locked(unsafe.Pointer(x.m), rwmutex, wire.ReadLock, x.s) }
+
+// RUnlock is that of the rwmutex.
 func (x RWMutexAt) RUnlock() {
 	unlocking(unsafe.Pointer(x.m), rwmutex, wire.ReadUnlock, x.s)
 	x.m.RUnlock()
 }
 
+// TryLock is that of the rwmutex.
 func (x RWMutexAt) TryLock() bool {
 	return tried(x.m.TryLock(), unsafe.Pointer(x.m), rwmutex, wire.TryLock, x.s)
 }
 
+// TryRLock is that of the rwmutex.
 func (x RWMutexAt) TryRLock() bool {
 	return tried(x.m.TryRLock(), unsafe.Pointer(x.m), rwmutex, wire.TryReadLock, x.s)
 }
@@ -147,5 +162,8 @@ func (x RWMutexAt) RLocker() sync.Locker { return &readLocker{x} }
 
 type readLocker struct{ at RWMutexAt }
 
-func (r *readLocker) Lock()   { r.at.RLock() }
+// Lock locks for reading.
+func (r *readLocker) Lock() { r.at.RLock() }
+
+// Unlock unlocks from reading.
 func (r *readLocker) Unlock() { r.at.RUnlock() }

@@ -1,5 +1,7 @@
-// Package gorec records what the goroutines of a program do. Calls of it are put into a
-// copy of the program by the tool gorec. Nothing here is proved.
+// Package gorec records what the goroutines of a program do. Nothing here is proved.
+//
+// All that is exported is called by the code that the tool gorec puts into a copy of the
+// program, and by nothing else: names, types and arguments change with the tool.
 //
 // There is one lock, mu. Every operation that takes effect at once is done, and its record
 // written, while it is held; so the records stand in an order in which the operations did
@@ -140,7 +142,7 @@ func setVersion(s string) error {
 	return nil
 }
 
-// writesFailures: a TryLock that doesn't succeed has a record.
+// writesFailures reports whether a TryLock that doesn't succeed has a record.
 func writesFailures() bool { return header.Version >= 2 }
 
 // write has the lock. The record is that of a step, or of what was met, and no read or write.

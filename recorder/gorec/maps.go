@@ -33,6 +33,7 @@ type Mapping[K comparable, V any] struct {
 	s *Site
 }
 
+// Map is a map that is used at s.
 func Map[K comparable, V any](m map[K]V, s *Site) Mapping[K, V] { return Mapping[K, V]{m, s} }
 
 // touch has the lock.
@@ -40,12 +41,13 @@ func (x Mapping[K, V]) touch(g *G, change bool) {
 	g.touchMap(*(*unsafe.Pointer)(unsafe.Pointer(&x.m)), change, x.s)
 }
 
-// Get is m[k], Lookup v, ok = m[k].
+// Get is m[k].
 func (x Mapping[K, V]) Get(k K) V {
 	v, _ := x.Lookup(k)
 	return v
 }
 
+// Lookup is v, ok = m[k].
 func (x Mapping[K, V]) Lookup(k K) (V, bool) {
 	if alone() {
 		v, ok := x.m[k]
@@ -59,6 +61,7 @@ func (x Mapping[K, V]) Lookup(k K) (V, bool) {
 	return v, ok
 }
 
+// Set is m[k] = v.
 func (x Mapping[K, V]) Set(k K, v V) {
 	if alone() {
 		x.m[k] = v
@@ -71,6 +74,7 @@ func (x Mapping[K, V]) Set(k K, v V) {
 	x.touch(g, true)
 }
 
+// Delete is delete(m, k).
 func (x Mapping[K, V]) Delete(k K) {
 	if alone() {
 		delete(x.m, k)
@@ -83,6 +87,7 @@ func (x Mapping[K, V]) Delete(k K) {
 	x.touch(g, true)
 }
 
+// Len is len(m).
 func (x Mapping[K, V]) Len() int {
 	if alone() {
 		return len(x.m)
@@ -100,18 +105,30 @@ type Element[K comparable, V any] struct {
 	k K
 }
 
+// At is m[k], which is changed by an op=.
 func (x Mapping[K, V]) At(k K) Element[K, V] { return Element[K, V]{x, k} }
-func (e Element[K, V]) Get() V               { return e.x.Get(e.k) }
-func (e Element[K, V]) Set(v V)              { e.x.Set(e.k, v) }
-func (e Element[K, V]) To() Target[V]        { return Target[V]{set: e.Set} }
+
+// Get reads the element.
+func (e Element[K, V]) Get() V { return e.x.Get(e.k) }
+
+// Set writes the element.
+func (e Element[K, V]) Set(v V) { e.x.Set(e.k, v) }
+
+// To is the element as a target of an assignment.
+func (e Element[K, V]) To() Target[V] { return Target[V]{set: e.Set} }
 
 // Counted is a map of numbers whose element is changed by one.
 type Counted[K comparable, V number] struct{ x Mapping[K, V] }
 
+// Counts is a map of numbers that is used at s.
 func Counts[K comparable, V number](m map[K]V, s *Site) Counted[K, V] {
 	return Counted[K, V]{Map(m, s)}
 }
+
+// Increment is m[k]++.
 func (c Counted[K, V]) Increment(k K) { c.x.Set(k, c.x.Get(k)+1) }
+
+// Decrement is m[k]--.
 func (c Counted[K, V]) Decrement(k K) { c.x.Set(k, c.x.Get(k)-1) }
 
 // Iteration is a loop over a map. Each step is done, and recorded, when the loop asks whether
@@ -126,6 +143,7 @@ type Iteration[K comparable, V any] struct {
 	keyAt, valueAt reflect.Value
 }
 
+// Iterate begins a loop over a map.
 func (x Mapping[K, V]) Iterate() *Iteration[K, V] {
 	it := &Iteration[K, V]{x: x, it: reflect.ValueOf(x.m).MapRange()}
 	it.keyAt, it.valueAt = reflect.ValueOf(&it.key).Elem(), reflect.ValueOf(&it.value).Elem()
@@ -173,9 +191,11 @@ func (it *Iteration[K, V]) step() bool {
 // Next is what the last step came to.
 func (it *Iteration[K, V]) Next() (K, V) { return it.key, it.value }
 
-// ReadMap and WriteMap are a map that is about to be read or changed: for keys of interface
-// types, which Go 1.19 doesn't take for comparable. Not in one step with what follows.
-func ReadMap[M any](m M, s *Site) M  { return aboutMap(m, false, s) }
+// ReadMap is a map that is about to be read: for keys of interface types, which Go 1.19 doesn't
+// take for comparable. It isn't in one step with what follows.
+func ReadMap[M any](m M, s *Site) M { return aboutMap(m, false, s) }
+
+// WriteMap is such a map that is about to be changed.
 func WriteMap[M any](m M, s *Site) M { return aboutMap(m, true, s) }
 
 func aboutMap[M any](m M, change bool, s *Site) M {

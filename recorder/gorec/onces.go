@@ -13,6 +13,7 @@ type OnceAt struct {
 	s *Site
 }
 
+// Once is a sync.Once that is used at s.
 func Once(o *sync.Once, s *Site) OnceAt { return OnceAt{o, s} }
 
 // once is what was recorded of one. The program may set it back to its zero value: then it

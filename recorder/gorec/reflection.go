@@ -98,8 +98,7 @@ func Encoded[T any](v T, s *Site) T {
 	return v
 }
 
-// Fills is a function as Decode, which writes what its argument points to; Fills2 is one as
-// json.Unmarshal.
+// Fills is a function as Decode, which writes what its argument points to.
 func Fills(f func(any) error, s *Site) func(any) error {
 	again := stillReading()
 	return func(v any) error {
@@ -110,6 +109,7 @@ func Fills(f func(any) error, s *Site) func(any) error {
 	}
 }
 
+// Fills2 is a function as json.Unmarshal, which writes what its second argument points to.
 func Fills2[A any](f func(A, any) error, s *Site) func(A, any) error {
 	return func(a A, v any) error { return fillBy(v, s, func() error { return f(a, v) }) }
 }
@@ -175,7 +175,7 @@ func (w *walk) value(v reflect.Value, depth int) {
 	}
 }
 
-// printsItself: a value's own methods, which are recorded by themselves, print it.
+// printsItself reports whether a value's own methods, which are recorded by themselves, print it.
 func printsItself(v reflect.Value) bool {
 	if !v.CanInterface() {
 		return false

@@ -68,8 +68,8 @@ func (t *repeats) drop(p unsafe.Pointer) {
 	}
 }
 
-// hasRead: a read of p at s has a record, which stands for this one too. Otherwise this one
-// is going to have it.
+// hasRead reports whether a read of p at s has a record, which stands for this one too. Otherwise
+// this one is going to have it.
 func (g *G) hasRead(p unsafe.Pointer, s *Site) bool {
 	if s.generic {
 		return false
@@ -82,7 +82,7 @@ func (g *G) hasRead(p unsafe.Pointer, s *Site) bool {
 	return false
 }
 
-// hasLeave: a write of p at s needs no record and no lock.
+// hasLeave reports whether a write of p at s needs no record and no lock.
 func (g *G) hasLeave(p unsafe.Pointer, s *Site) bool { return g.writes.has(p, s, g.stamp()) }
 
 // stamp is the sum of numbers that only grow, so it changes with each of them.

@@ -6,6 +6,7 @@ func Range[T any](a []T) ([]T, int, T) {
 	return a, 0, value
 }
 
+// RangeKey begins a loop over a slice whose index is a variable of the program too.
 func RangeKey[T any](a []T) ([]T, int, int, T) {
 	var value T
 	return a, 0, 0, value
@@ -32,9 +33,11 @@ func RangeChannel[T any](c <-chan T) (<-chan T, T) {
 	return c, value
 }
 
-// Len, Bytes, True and False are Go's own, for where the program has other things by their
-// names.
-func Len[T any](a []T) int        { return len(a) }
+// Len is Go's len, for where the program has something else by that name.
+func Len[T any](a []T) int { return len(a) }
+
+// Bytes is Go's conversion of a string to bytes, for where the program has something else by the
+// name byte.
 func Bytes[S ~string](s S) []byte { return []byte(s) }
 
 const (
@@ -48,6 +51,7 @@ type Appended[S ~[]E, E any] struct {
 	s *Site
 }
 
+// AppendTo is a slice that is appended to at s.
 func AppendTo[S ~[]E, E any](a S, s *Site) Appended[S, E] { return Appended[S, E]{a, s} }
 
 // Append appends. Where the elements fit they are written; else those that are copied are

@@ -29,12 +29,13 @@ func TimerChannel(c <-chan time.Time, s *Site) <-chan time.Time {
 	return c
 }
 
-// NewTimer is what time.NewTimer answers, NewTicker what time.NewTicker does.
+// NewTimer is what time.NewTimer answers.
 func NewTimer(t *time.Timer, s *Site) *time.Timer {
 	TimerChannel(t.C, s)
 	return t
 }
 
+// NewTicker is what time.NewTicker answers.
 func NewTicker(t *time.Ticker, s *Site) *time.Ticker {
 	TimerChannel(t.C, s)
 	return t
@@ -91,20 +92,25 @@ func (l *later) setAgain(g *G, s *Site) {
 	}
 }
 
-// TimerAt and TickerAt are those of package time at a place where they are set again.
+// TimerAt is a time.Timer at a place where it is set again.
 type TimerAt struct {
 	t *time.Timer
 	s *Site
 }
 
+// TickerAt is a time.Ticker at a place where it is set again.
 type TickerAt struct {
 	t *time.Ticker
 	s *Site
 }
 
-func Timer(t *time.Timer, s *Site) TimerAt    { return TimerAt{t, s} }
+// Timer is a time.Timer that is set again at s.
+func Timer(t *time.Timer, s *Site) TimerAt { return TimerAt{t, s} }
+
+// Ticker is a time.Ticker that is set again at s.
 func Ticker(t *time.Ticker, s *Site) TickerAt { return TickerAt{t, s} }
 
+// Reset is that of the timer.
 func (x TimerAt) Reset(d time.Duration) bool {
 	if !off && x.t.C == nil {
 		g := current(x.s)
@@ -118,6 +124,7 @@ func (x TimerAt) Reset(d time.Duration) bool {
 	return x.t.Reset(d)
 }
 
+// Reset is that of the ticker.
 func (x TickerAt) Reset(d time.Duration) {
 	TimerChannel(x.t.C, x.s)
 	x.t.Reset(d)

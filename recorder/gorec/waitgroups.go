@@ -13,6 +13,7 @@ type WaitGroupAt struct {
 	s *Site
 }
 
+// WaitGroup is a sync.WaitGroup that is used at s.
 func WaitGroup(w *sync.WaitGroup, s *Site) WaitGroupAt { return WaitGroupAt{w, s} }
 
 // A group's Wait comes behind each Done since the last Wait that returned, also where the
@@ -46,6 +47,7 @@ func (x *group) use(g *G, op wire.Op, s *Site) {
 	}
 }
 
+// Add is that of the group.
 func (x WaitGroupAt) Add(n int) {
 	if off {
 		x.w.Add(n)
@@ -68,8 +70,10 @@ func (x WaitGroupAt) Add(n int) {
 	x.w.Add(n)
 }
 
+// Done is that of the group.
 func (x WaitGroupAt) Done() { x.Add(-1) }
 
+// Wait is that of the group; it comes after the Dones of its round.
 func (x WaitGroupAt) Wait() {
 	if off {
 		x.w.Wait()

@@ -27,7 +27,7 @@ type Package struct {
 	Toolchain string // the version of the command go, as go1.22.1
 }
 
-// Recorded: packages with cgo are copied as they are.
+// Recorded reports whether a package gets calls of the recorder; one with cgo is copied as it is.
 func (p *Package) Recorded() bool { return len(p.CgoFiles) == 0 }
 
 // A Query is what is asked of Packages.
@@ -127,13 +127,14 @@ func (p *Package) check(exports map[string]string) error {
 	return err
 }
 
-// IterationVariables: the package's loops have variables of each iteration, as from Go 1.22.
+// IterationVariables reports whether the package's loops have variables of each iteration, as
+// from Go 1.22.
 func (p *Package) IterationVariables() bool {
 	return p.NewToolchain() && (p.Module == nil || isFrom22(p.Module.GoVersion))
 }
 
-// NewToolchain: the command go gives loops variables of each iteration, unless a module's go
-// line is older.
+// NewToolchain reports whether the command go gives loops variables of each iteration, unless a
+// module's go line is older.
 func (p *Package) NewToolchain() bool { return isFrom22(strings.TrimPrefix(p.Toolchain, "go")) }
 
 func isFrom22(version string) bool {

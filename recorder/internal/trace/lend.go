@@ -203,7 +203,8 @@ func (l *lender) follow(r *wire.Record) {
 	}
 }
 
-// followBuffer: from send number k to receive number k, and from that to send k + capacity.
+// followBuffer adds the edges from send number k to receive number k, and from that to send
+// k + capacity.
 func (l *lender) followBuffer(r *wire.Record, c clock) {
 	p := l.pairing(r.Object)
 	if r.Op == wire.Receive {

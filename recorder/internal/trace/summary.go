@@ -63,7 +63,8 @@ func thousands(n int) string {
 	return s
 }
 
-// hasTries: the version has words for TryLock and TryRLock, with and without success.
+// hasTries reports whether the version has words for TryLock and TryRLock, with and without
+// success.
 func (o Options) hasTries() bool { return o.Version >= 2 }
 
 // goroutineLimit is how many names of goroutines there may be.

@@ -80,7 +80,8 @@ func (s *survey) use(id, goroutine uint32) *object {
 	return o
 }
 
-// isAccess: a read or a write, which is left out before the first go.
+// isAccess reports whether an operation is a read or a write, which is left out before the first
+// go.
 func isAccess(op wire.Op) bool {
 	return op == wire.Read || op == wire.Write || op == wire.AtomicRead || op == wire.AtomicWrite
 }
@@ -129,8 +130,8 @@ func (s *survey) look(i int) {
 	}
 }
 
-// mixed: atomic operations of one goroutine and plain accesses of another come to a
-// variable, and one of them writes.
+// mixed reports whether atomic operations of one goroutine and plain accesses of another come to
+// a variable, and one of them writes.
 func (o *object) mixed() bool {
 	if len(o.atomics) == 0 || o.user < 0 || !o.written && !o.atomicWritten {
 		return false
@@ -139,7 +140,8 @@ func (o *object) mixed() bool {
 	return o.several || len(o.atomics) > 1 || !only
 }
 
-// keep: what one goroutine alone does, and what is only read, is left out.
+// keep reports whether an object stands in the trace: what one goroutine alone does, and what is
+// only read, is left out.
 func (s *survey) keep(id uint32) bool {
 	if id == 0 {
 		return true
@@ -161,7 +163,7 @@ func (s *survey) keep(id uint32) bool {
 // inGroup reports whether a variable is one of those that the trace has.
 func (s *survey) inGroup(id uint32) bool { return s.groups == nil || s.groups[id] == s.group }
 
-// kept: the record i becomes an event that orders, reads or writes.
+// kept reports whether the record i becomes an event that orders, reads or writes.
 func (s *survey) kept(i int) bool {
 	r := &s.records[i]
 	switch r.Op {

@@ -18,9 +18,6 @@ import (
 // that go on are started by it. It does nothing else, and nothing comes before what it does;
 // so it orders nothing.
 
-// mostLocations ends a part, where there may be several: their table is full with so many.
-const mostLocations = 3 << 18
-
 var (
 	partRecords int    // of a part, or 0 where the run has one log
 	part        uint32 // the number of the log, read without the lock too
@@ -45,10 +42,13 @@ func begin() {
 
 // makeRoom has the lock, and no operation is half done.
 func makeRoom() {
-	if partRecords > 0 && !sealed && (written > len(records)-len(records)/8 || met >= mostLocations) {
+	if partRecords > 0 && !sealed && (written > len(records)-len(records)/8 || met >= mostLocations()) {
 		nextPart()
 	}
 }
+
+// mostLocations is how many of them a part has, since their table takes memory too.
+func mostLocations() int { return partRecords / 8 * 3 }
 
 // nextPart has the lock. The part before the one that ends has to be judged first, so that
 // there are two at most.
@@ -63,7 +63,11 @@ func nextPart() {
 		return
 	}
 	header.Version = ended.Version
-	atomic.StoreUint32(&ended.Next, 1)
+	why := wire.AfterRecords
+	if met >= mostLocations() {
+		why = wire.AfterVariables
+	}
+	atomic.StoreUint32(&ended.Next, uint32(why))
 	previous = ended
 	written, steps = 0, 0
 	atomic.AddUint32(&part, 1)

@@ -12,8 +12,10 @@ import (
 // lead. A stack that is met for the first time is numbered, and its functions and places go
 // to a file: a line for each stack.
 
-// deepest is how many calls of a stack are told apart, and written.
-const deepest = 64
+const (
+	deepest    = 64      // calls of a stack are told apart, and written
+	mostStacks = 1 << 16 // are numbered; those that are met later have none
+)
 
 // stackKey is a hash of the return addresses on a stack.
 type stackKey uint64
@@ -46,6 +48,9 @@ func stackNumber() uint32 {
 	}
 	id, known := stacks[key]
 	if !known {
+		if len(stacks) == mostStacks {
+			return 0
+		}
 		id = uint32(len(stacks) + 1)
 		stacks[key] = id
 		writeStack(id)

@@ -17,11 +17,20 @@ type Header struct {
 	Magic     uint64
 	Records   uint32 // so many follow; each that is counted is whole
 	Variables uint32 // so many were met, most of them without a record
-	Next      uint32 // 1: the run goes on in another log, and this one is whole
+	Next      uint32 // a Successor
 	Judged    uint32 // 1: who reads the log has done with it
 	Version   uint8  // of the trace that the log is for: in one for version 1 there is no TryFail
 	_         [7]byte
 }
+
+// Successor says whether a run goes on in another log, so that this one is whole.
+type Successor uint32
+
+const (
+	NoSuccessor    Successor = iota
+	AfterRecords             // since there was no room for more records
+	AfterVariables           // since as many variables were met as may be in one log
+)
 
 // Record is one thing that a goroutine did, or one thing that was met for the first time.
 type Record struct {

@@ -35,7 +35,7 @@ func (r *recording) define(flags *flag.FlagSet) {
 	flags.IntVar(&r.format, "format", 0, "the `version` of the trace, 1 or 2; 2 has words for TryLock and TryRLock")
 	flags.IntVar(&r.runs, "runs", 1, "run up to `N` times, each with another seed, until a race is found")
 	flags.BoolVar(&r.all, "all", false, "keep what one goroutine alone uses")
-	flags.IntVar(&r.records, "records", partRecords, "judge the log each `N` records, up to 20,971,520, while the program goes on")
+	flags.IntVar(&r.records, "records", 0, "judge the log each `N` records, up to 20,971,520, while the program goes on; 0: 524,288, or 4,194,304 of tests")
 	flags.BoolVar(&r.stacks, "stacks", true, "record the calls that led to each access")
 	flags.BoolVar(&r.json, "json", false, "write lines of JSON: output, races and verdicts")
 }
@@ -57,7 +57,7 @@ func (r *recording) check() error {
 		return fmt.Errorf("-format %d: a trace has version 1 or 2", r.format)
 	case r.format == 0 && version != "" && (err != nil || n < 1 || n > wire.Newest):
 		return errors.New("GOREC_FORMAT=" + version + ": a trace has version 1 or 2")
-	case r.records < fewestRecords || r.records > mostRecords:
+	case r.records != 0 && (r.records < fewestRecords || r.records > mostRecords):
 		return fmt.Errorf("-records %d: a log has from 1,024 to 20,971,520", r.records)
 	case r.runs < 1:
 		return fmt.Errorf("-runs %d: there is no run", r.runs)
@@ -212,7 +212,7 @@ func (s *session) createLog(t *target) (string, error) {
 // record runs a program; its trace is judged however it ends.
 func (s *session) record(t *target, c *console, log string, o *outcome) error {
 	cmd := exec.Command(t.file, t.words...)
-	cmd.Env = append(os.Environ(), "GOREC_LOG="+log, fmt.Sprintf("GOREC_PART=%d", s.records))
+	cmd.Env = append(os.Environ(), "GOREC_LOG="+log, fmt.Sprintf("GOREC_PART=%d", s.partRecords(t)))
 	if s.stacks {
 		cmd.Env = append(cmd.Env, "GOREC_STACKS="+log+stacksSuffix)
 	}
@@ -250,6 +250,17 @@ func (s *session) record(t *target, c *console, log string, o *outcome) error {
 		return o.ended
 	}
 	return nil
+}
+
+// partRecords is how many records a part of the log has.
+func (s *session) partRecords(t *target) int {
+	switch {
+	case s.records > 0:
+		return s.records
+	case t.tests:
+		return testPart
+	}
+	return programPart
 }
 
 // A console is where the output of a program and the reports on it go.

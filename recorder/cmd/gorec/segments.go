@@ -13,13 +13,15 @@ import (
 	"time"
 
 	"gorace.local/recorder/internal/trace"
+	"gorace.local/recorder/wire"
 )
 
-// partRecords is how many records a part of a log has, unless -records says it. There are two
-// parts at most: one that is written, and one that is judged meanwhile.
+// How many records a part of a log has, unless -records says it: of tests more, since they end.
+// There are two parts at most: one that is written, and one that is judged meanwhile.
 const (
 	fewestRecords = 1 << 10
-	partRecords   = 1 << 19
+	programPart   = 1 << 19
+	testPart      = 1 << 22
 	mostRecords   = 1<<24 + 1<<22
 )
 
@@ -42,15 +44,18 @@ type judging struct {
 }
 
 // follow has each part judged once the run goes on in another one, until the program has ended.
-func (j *judging) follow(ended <-chan struct{}) error {
+// Where one can't be judged the program isn't stopped, which would wait for that.
+func (j *judging) follow(ended <-chan struct{}) (failed error) {
 	var log *trace.Log
 	for over := false; ; {
 		if log == nil {
 			log, _ = trace.Open(j.path()) // not there yet
 		}
 		if log != nil && log.GoesOn() {
-			if err := j.judgePart(log); err != nil {
-				return err
+			if failed == nil {
+				failed = j.judgePart(log)
+			} else {
+				j.pass(log)
 			}
 			log = nil
 			continue
@@ -64,14 +69,28 @@ func (j *judging) follow(ended <-chan struct{}) error {
 		case <-time.After(20 * time.Millisecond):
 		}
 	}
-	if log == nil {
+	switch {
+	case log == nil:
 		return fmt.Errorf("the program left no log: %s", j.path())
+	case failed != nil:
+		j.pass(log)
+		return failed
 	}
 	err := j.judgePart(log)
 	if err == nil && j.segments > 1 {
 		j.tell()
 	}
 	return err
+}
+
+// pass lets the program go on behind a part.
+func (j *judging) pass(log *trace.Log) {
+	log.Done()
+	log.Close()
+	if j.session.log == "" {
+		os.Remove(j.path())
+	}
+	j.part++
 }
 
 // path is the file of the part.
@@ -84,15 +103,8 @@ func (j *judging) path() string {
 
 // judgePart has the segments of a part judged. Then the program may go on with another one.
 func (j *judging) judgePart(log *trace.Log) error {
-	goesOn := log.GoesOn()
-	defer func() {
-		log.Done()
-		log.Close()
-		if j.session.log == "" {
-			os.Remove(j.path())
-		}
-		j.part++
-	}()
+	successor := log.Successor()
+	defer j.pass(log)
 	options := j.traceOptions(log)
 	if err := checkVersion(log, options); err != nil {
 		return err
@@ -100,9 +112,9 @@ func (j *judging) judgePart(log *trace.Log) error {
 	// What a part takes is needed once, and the program that runs beside needs memory too.
 	defer debug.SetGCPercent(debug.SetGCPercent(20))
 	defer debug.FreeOSMemory()
-	s := trace.NewSegments(log.Records())
+	s := trace.NewSegments(log.Records(), options)
 	for {
-		if err := j.judge1(s, options, goesOn); err != nil {
+		if err := j.judgeSegment(s, options, successor); err != nil {
 			return err
 		}
 		if !s.Next() {
@@ -112,9 +124,15 @@ func (j *judging) judgePart(log *trace.Log) error {
 	}
 }
 
-// judge1 has a segment judged. Where it is the only one of the run its report is printed as it
+// partEnds say why a part has ended, which the run hasn't.
+var partEnds = map[wire.Successor]string{
+	wire.AfterRecords: "a log that was full", wire.AfterVariables: "as many variables as a log is for",
+}
+
+// judgeSegment has a segment judged. Where it is the only one of the run its report is printed as it
 // comes; else that of a clean one is a note.
-func (j *judging) judge1(s *trace.Segments, options trace.Options, goesOn bool) error {
+func (j *judging) judgeSegment(s *trace.Segments, options trace.Options, successor wire.Successor) error {
+	goesOn := successor != wire.NoSuccessor
 	file, path, done, err := j.traceOf()
 	if err != nil {
 		return err
@@ -125,7 +143,7 @@ func (j *judging) judge1(s *trace.Segments, options trace.Options, goesOn bool) 
 		return err
 	}
 	if !s.More() && goesOn {
-		o.summary.Cut = "the log has no room for more records"
+		o.summary.Cut = partEnds[successor]
 	}
 	j.segments++
 	only := j.segments == 1 && !goesOn && !s.More()
@@ -227,7 +245,7 @@ func (j *judging) add(o *outcome, ends bool) {
 		run.summary.Add(o.summary)
 	}
 	run.summary.Cut = o.summary.Cut
-	if ends {
+	if ends && o.summary.Cut != "" {
 		reason, _, _ := strings.Cut(o.summary.Cut, ", at ")
 		j.ends[reason]++
 		run.summary.Cut = ""
@@ -242,7 +260,11 @@ func (j *judging) tell() {
 		reasons = append(reasons, fmt.Sprintf("%s (%d)", reason, n))
 	}
 	sort.Strings(reasons)
-	fmt.Fprintf(j.c.out, "gorec: recorded in %d segments, %d of them with races; of what stands in different ones no race is told; "+
+	if len(reasons) == 0 {
+		fmt.Fprintf(j.c.out, "gorec: judged in %d traces, since there are more variables than one has names for\n", j.segments)
+		return
+	}
+	fmt.Fprintf(j.c.out, "gorec: judged in %d segments, %d of them with races; of what stands in different ones no race is told; "+
 		"they ended with %s\n", j.segments, j.racing, strings.Join(reasons, ", "))
 }
 

@@ -121,14 +121,15 @@ func recordParts(t *testing.T, program, seed string, part, events int) map[strin
 
 func writeSegments(t *testing.T, l *trace.Log, table sites.Table, events int, name string, traces map[string]string) {
 	t.Helper()
-	s := trace.NewSegments(l.Records())
+	options := trace.Options{Version: l.Version(), Events: events}
+	s := trace.NewSegments(l.Records(), options)
 	for k := 0; ; k++ {
 		path := fmt.Sprintf("%s.%d.gotrace", name, k)
 		f, err := os.Create(path)
 		if err != nil {
 			t.Fatal(err)
 		}
-		if _, err := s.Write(table, trace.Options{Version: l.Version(), Events: events}, f); err != nil {
+		if _, err := s.Write(table, options, f); err != nil {
 			t.Fatal(err)
 		}
 		f.Close()

@@ -127,7 +127,7 @@ func (d *declarer) record(i int) {
 		}
 	case wire.AtomicRead, wire.AtomicWrite:
 		o := &d.objects[r.Object]
-		if i < d.begin || !o.mixed() || o.atomics[r.Goroutine] != "" || !d.room(i, wire.DeclareVar, "variables") {
+		if i < d.begin || !d.inGroup(r.Object) || !o.mixed() || o.atomics[r.Goroutine] != "" || !d.room(i, wire.DeclareVar, "variables") {
 			return
 		}
 		name := d.names.take(d.variableName(o) + "_atomic_" + d.goroutine(r.Goroutine))

@@ -61,7 +61,10 @@ func (l *Log) Records() []wire.Record {
 }
 
 // GoesOn reports whether the run has another log, so that this one is whole.
-func (l *Log) GoesOn() bool { return atomic.LoadUint32(&l.header.Next) != 0 }
+func (l *Log) GoesOn() bool { return l.Successor() != wire.NoSuccessor }
+
+// Successor says why the run has another log, if it does.
+func (l *Log) Successor() wire.Successor { return wire.Successor(atomic.LoadUint32(&l.header.Next)) }
 
 // Done tells the recorded program that the log isn't needed any more.
 func (l *Log) Done() { atomic.StoreUint32(&l.header.Judged, 1) }

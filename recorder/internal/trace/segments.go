@@ -7,41 +7,98 @@ import (
 	"gorace.local/recorder/wire"
 )
 
-// A log becomes one trace, or several: where a limit of traces is reached a segment ends, and
-// the next one begins with what stood then. Main makes that state before it starts those that
-// go on, so a cut orders nothing; and what was done in another segment is in no race of this
-// one.
+// A log becomes one trace, or several. Where there are more variables than names, each trace
+// has some of them, and all that orders; so no race is lost. Where another limit of traces is
+// reached a segment ends, and the next one begins with what stood then. Main makes that state
+// before it starts those that go on, so a cut orders nothing; and what was done in another
+// segment is in no race of this one.
 
 // Segments are those of a log, one after another.
 type Segments struct {
-	records    []wire.Record
-	state, end int // up to where they make the state at the segment's begin, and where it ends
+	all        []wire.Record
+	groups     groups
+	group      int
+	records    []wire.Record // of the segment, and what is behind it
+	state, end int           // up to where they make the state at the segment's begin, and where it ends
 }
 
 // NewSegments begins with the first segment of records that are in order.
-func NewSegments(records []wire.Record) *Segments { return &Segments{records: records} }
+func NewSegments(records []wire.Record, o Options) *Segments {
+	return &Segments{all: records, records: records, groups: groupsOf(newSurvey(records, len(records), o))}
+}
+
+// groups say for each variable, by its number, which traces it is in; nil is that one group has
+// all.
+type groups []uint16
+
+// groupsOf are as few groups of variables as have names.
+func groupsOf(s *survey) groups {
+	all := make(groups, len(s.objects))
+	group, names := uint16(0), 0
+	for id := range s.objects {
+		o := &s.objects[id]
+		if o.op != wire.DeclareVar || !s.keep(uint32(id)) {
+			continue
+		}
+		needed := 1 + len(o.atomics)
+		if names+needed > maxKind {
+			group, names = group+1, 0
+		}
+		names += needed
+		all[id] = group
+	}
+	if group == 0 {
+		return nil
+	}
+	return all
+}
+
+// count is the number of groups.
+func (g groups) count() int {
+	most := 0
+	for _, n := range g {
+		if int(n) > most {
+			most = int(n)
+		}
+	}
+	return most + 1
+}
+
+// options are those of the segment's group.
+func (s *Segments) options(o Options) Options {
+	o.groups, o.group = s.groups, uint16(s.group)
+	return o
+}
 
 // Write writes the trace of the segment.
 func (s *Segments) Write(table sites.Table, o Options, out io.Writer) (sum *Summary, err error) {
-	sum, s.end, err = write(s.records, table, o, out)
+	sum, s.end, err = write(s.records, table, s.options(o), out)
 	return sum, err
 }
 
 // Moments are those of the trace that was written.
 func (s *Segments) Moments(table sites.Table, o Options, wanted map[int]bool) (map[int]Moment, error) {
-	return Moments(s.records, table, o, wanted)
+	return Moments(s.records, table, s.options(o), wanted)
 }
 
 // More reports whether there is a next segment.
-func (s *Segments) More() bool { return s.end < len(s.records) && s.end > s.state }
+func (s *Segments) More() bool { return s.goesOn() || s.group+1 < s.groups.count() }
+
+// goesOn reports whether there is another one of the same variables.
+func (s *Segments) goesOn() bool { return s.end < len(s.records) && s.end > s.state }
 
 // Next goes on with the next segment, if there is one. Where there is none, and the trace that
 // was written has a cut, what is behind that has no trace: the state alone is too much for one.
 func (s *Segments) Next() bool {
-	if !s.More() {
+	switch {
+	case s.goesOn():
+		s.records, s.state = goOn(s.records, s.end)
+	case s.More():
+		s.group++
+		s.records, s.state = s.all, 0
+	default:
 		return false
 	}
-	s.records, s.state = goOn(s.records, s.end)
 	return true
 }
 

@@ -10,7 +10,7 @@ import (
 // segments are the traces of a log.
 func segments(t *testing.T, records []wire.Record, o Options) (texts []string, last *Summary) {
 	t.Helper()
-	s := NewSegments(records)
+	s := NewSegments(records, o)
 	for {
 		var b strings.Builder
 		var err error
@@ -20,9 +20,6 @@ func segments(t *testing.T, records []wire.Record, o Options) (texts []string, l
 		texts = append(texts, b.String())
 		if !s.Next() {
 			return texts, last
-		}
-		if last.Cut == "" {
-			t.Errorf("a segment ended for no reason")
 		}
 	}
 }
@@ -51,16 +48,26 @@ func TestManyGoroutinesAtOnce(t *testing.T) {
 	}
 }
 
-// More variables than a trace has names for take several traces.
+// More variables than a trace has names for take several traces, each of which has all that
+// orders.
 func TestManyVariables(t *testing.T) {
 	const n = 100000
 	records := []wire.Record{{Op: wire.Go, Other: 1, Site: 1}}
 	for v := uint32(1); v <= n; v++ {
 		records = append(records, wire.Record{Op: wire.DeclareVar, Object: v, Site: 1})
-		records = append(records, wire.Record{Op: wire.Write, Object: v, Site: 2}, wire.Record{Op: wire.Write, Object: v, Goroutine: 1, Site: 2})
+		records = append(records, wire.Record{Op: wire.Write, Object: v, Site: 2}, wire.Record{Op: wire.Read, Object: n + 1 - v, Goroutine: 1, Site: 2})
+	}
+	records = append(records, wire.Record{Op: wire.DeclareLock, Object: n + 1, Site: 3})
+	for g := uint32(0); g < 2; g++ {
+		records = append(records, wire.Record{Op: wire.Lock, Object: n + 1, Goroutine: g, Site: 3}, wire.Record{Op: wire.Unlock, Object: n + 1, Goroutine: g, Site: 3})
 	}
 	texts, s := segments(t, records, Options{Version: 1})
-	if len(texts) != 2 || s.Cut != "" || strings.Count(texts[0], "\nwrite ") != 2*maxKind || strings.Count(texts[1], "\nwrite ") != 2*(n-maxKind) {
+	for i, want := range []int{maxKind, n - maxKind} {
+		if i < len(texts) && (strings.Count(texts[i], "\nwrite ") != want || strings.Count(texts[i], "\nread ") != want || strings.Count(texts[i], "lock ") != 4) {
+			t.Errorf("segment %d hasn't all accesses of its variables, or not all locks", i)
+		}
+	}
+	if len(texts) != 2 || s.Cut != "" {
 		t.Errorf("%d segments, cut off: %q", len(texts), s.Cut)
 	}
 }

@@ -41,6 +41,9 @@ type Options struct {
 	Goroutines int // names of goroutines at most; 0: as many as a trace may have
 	Variables  int // how many were met, if it is known; else as many as have a record
 	Events     int // at most so many, 0 for as many as a trace may have
+
+	groups groups // of the variables, unless a trace has all
+	group  uint16
 }
 
 // limit is the most events.

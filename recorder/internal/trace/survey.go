@@ -150,6 +150,8 @@ func (s *survey) keep(id uint32) bool {
 	switch {
 	case o.op == wire.None:
 		return false
+	case o.op == wire.DeclareVar && !s.inGroup(id):
+		return false
 	case s.All:
 		return true
 	case o.op == wire.DeclareVar:
@@ -158,6 +160,9 @@ func (s *survey) keep(id uint32) bool {
 	return o.several
 }
 
+// inGroup reports whether a variable is one of those that the trace has.
+func (s *survey) inGroup(id uint32) bool { return s.groups == nil || s.groups[id] == s.group }
+
 // kept reports whether the record i becomes an event that orders, reads or writes.
 func (s *survey) kept(i int) bool {
 	r := &s.records[i]
@@ -165,7 +170,7 @@ func (s *survey) kept(i int) bool {
 	case wire.Read, wire.Write:
 		return i >= s.begin && s.keep(r.Object)
 	case wire.AtomicRead, wire.AtomicWrite:
-		return i >= s.begin && s.objects[r.Object].mixed()
+		return i >= s.begin && s.inGroup(r.Object) && s.objects[r.Object].mixed()
 	case wire.Send, wire.Receive, wire.Meet, wire.ReceiveClosed, wire.Close, wire.Lock, wire.Unlock, wire.ReadLock,
 		wire.ReadUnlock, wire.TryLock, wire.TryReadLock, wire.OnceBegin, wire.OnceEnd, wire.OnceDone, wire.Release, wire.Acquire:
 		return s.keep(r.Object)

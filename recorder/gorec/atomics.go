@@ -33,25 +33,21 @@ func (g *G) atomic(p unsafe.Pointer, size uintptr, what int, s *Site) {
 	}
 }
 
-// atomicAccess has the lock. What was stored goes to the location's base, so that the next
-// plain read finds what the last plain write wrote.
+// atomicAccess has the lock.
 func (g *G) atomicAccess(p unsafe.Pointer, size uintptr, what int, s *Site) {
 	if !live {
 		return
 	}
-	bits := bitsOf(p, size)
 	l := locate(p)
-	if l.id == 0 {
-		l.id = declare(wire.DeclareVar, wire.VarMemory, 0, s)
-		l.base, l.bits = bits, bits
+	if !l.isOthers(g, wire.VarMemory, 0, s) {
+		l.share(wire.VarMemory)
 	}
-	l.base ^= bits ^ l.bits
-	l.bits = bits
+	l.bits = bitsOf(p, size)
+	op := wire.AtomicRead
 	if what&stores != 0 {
-		g.note(wire.AtomicWrite, l.id, s)
-	} else {
-		g.note(wire.AtomicRead, l.id, s)
+		op = wire.AtomicWrite
 	}
+	g.step(wire.Record{Op: op, Object: l.id, Site: s.ID, OtherSite: stackNumber()})
 }
 
 func swapped(ok bool) int {
@@ -61,7 +57,7 @@ func swapped(ok bool) int {
 	return loads
 }
 
-// AtomicLoad to AtomicCompareAndSwap are the functions of package atomic, recorded.
+// AtomicLoad is a Load of package atomic.
 func AtomicLoad[P, R any](f func(*P) R, s *Site) func(*P) R {
 	if off {
 		return f
@@ -69,7 +65,7 @@ func AtomicLoad[P, R any](f func(*P) R, s *Site) func(*P) R {
 	return func(p *P) R {
 		_ = *p
 		g := current(s)
-		mu.Lock()
+		begin()
 		defer mu.Unlock()
 		r := f(p)
 		g.atomic(unsafe.Pointer(p), unsafe.Sizeof(*p), loads, s)
@@ -77,6 +73,7 @@ func AtomicLoad[P, R any](f func(*P) R, s *Site) func(*P) R {
 	}
 }
 
+// AtomicStore is a Store of package atomic.
 func AtomicStore[P, V any](f func(*P, V), s *Site) func(*P, V) {
 	if off {
 		return f
@@ -84,14 +81,14 @@ func AtomicStore[P, V any](f func(*P, V), s *Site) func(*P, V) {
 	return func(p *P, v V) {
 		_ = *p
 		g := current(s)
-		mu.Lock()
+		begin()
 		defer mu.Unlock()
 		f(p, v)
 		g.atomic(unsafe.Pointer(p), unsafe.Sizeof(*p), stores, s)
 	}
 }
 
-// AtomicChange is Add and Swap.
+// AtomicChange is an Add or a Swap of package atomic.
 func AtomicChange[P, V, R any](f func(*P, V) R, s *Site) func(*P, V) R {
 	if off {
 		return f
@@ -99,7 +96,7 @@ func AtomicChange[P, V, R any](f func(*P, V) R, s *Site) func(*P, V) R {
 	return func(p *P, v V) R {
 		_ = *p
 		g := current(s)
-		mu.Lock()
+		begin()
 		defer mu.Unlock()
 		r := f(p, v)
 		g.atomic(unsafe.Pointer(p), unsafe.Sizeof(*p), loads|stores, s)
@@ -107,6 +104,7 @@ func AtomicChange[P, V, R any](f func(*P, V) R, s *Site) func(*P, V) R {
 	}
 }
 
+// AtomicCompareAndSwap is a CompareAndSwap of package atomic.
 func AtomicCompareAndSwap[P, V any](f func(*P, V, V) bool, s *Site) func(*P, V, V) bool {
 	if off {
 		return f
@@ -114,7 +112,7 @@ func AtomicCompareAndSwap[P, V any](f func(*P, V, V) bool, s *Site) func(*P, V, 
 	return func(p *P, from, to V) bool {
 		_ = *p
 		g := current(s)
-		mu.Lock()
+		begin()
 		defer mu.Unlock()
 		ok := f(p, from, to)
 		g.atomic(unsafe.Pointer(p), unsafe.Sizeof(*p), swapped(ok), s)
@@ -150,63 +148,76 @@ func inOneStep(s *Site, f func() int, note func(g *G, what int)) {
 		return
 	}
 	g := current(s)
-	mu.Lock()
+	begin()
 	defer mu.Unlock()
 	note(g, f())
 }
 
+// Load is that of the value.
 func (x Atomic[T]) Load() (r T) {
 	x.with(func() int { r = x.box.Load(); return loads })
 	return r
 }
 
+// Store is that of the value.
 func (x Atomic[T]) Store(v T) {
 	x.with(func() int { x.box.Store(v); return stores })
 }
 
+// Swap is that of the value.
 func (x Atomic[T]) Swap(v T) (r T) {
 	x.with(func() int { r = x.box.Swap(v); return loads | stores })
 	return r
 }
 
+// Add is that of the value.
 func (x Atomic[T]) Add(v T) (r T) {
 	x.with(func() int { r = x.add(v); return loads | stores })
 	return r
 }
 
+// CompareAndSwap is that of the value.
 func (x Atomic[T]) CompareAndSwap(from, to T) (ok bool) {
 	x.with(func() int { ok = x.box.CompareAndSwap(from, to); return swapped(ok) })
 	return ok
 }
 
+// AtomicInt32 is an atomic.Int32 that is used at s.
 func AtomicInt32(x *atomic.Int32, s *Site) Atomic[int32] {
 	return Atomic[int32]{x, unsafe.Pointer(x), s, x.Add}
 }
 
+// AtomicInt64 is an atomic.Int64 that is used at s.
 func AtomicInt64(x *atomic.Int64, s *Site) Atomic[int64] {
 	return Atomic[int64]{x, unsafe.Pointer(x), s, x.Add}
 }
 
+// AtomicUint32 is an atomic.Uint32 that is used at s.
 func AtomicUint32(x *atomic.Uint32, s *Site) Atomic[uint32] {
 	return Atomic[uint32]{x, unsafe.Pointer(x), s, x.Add}
 }
 
+// AtomicUint64 is an atomic.Uint64 that is used at s.
 func AtomicUint64(x *atomic.Uint64, s *Site) Atomic[uint64] {
 	return Atomic[uint64]{x, unsafe.Pointer(x), s, x.Add}
 }
 
+// AtomicUintptr is an atomic.Uintptr that is used at s.
 func AtomicUintptr(x *atomic.Uintptr, s *Site) Atomic[uintptr] {
 	return Atomic[uintptr]{x, unsafe.Pointer(x), s, x.Add}
 }
 
+// AtomicBool is an atomic.Bool that is used at s.
 func AtomicBool(x *atomic.Bool, s *Site) Atomic[bool] {
 	return Atomic[bool]{x, unsafe.Pointer(x), s, nil}
 }
 
+// AtomicValue is an atomic.Value that is used at s.
 func AtomicValue(x *atomic.Value, s *Site) Atomic[any] {
 	return Atomic[any]{x, unsafe.Pointer(x), s, nil}
 }
 
+// AtomicPointer is an atomic.Pointer that is used at s.
 func AtomicPointer[T any](x *atomic.Pointer[T], s *Site) Atomic[*T] {
 	return Atomic[*T]{x, unsafe.Pointer(x), s, nil}
 }

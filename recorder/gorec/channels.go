@@ -14,6 +14,8 @@ import (
 type channel struct {
 	p        unsafe.Pointer
 	id       uint32
+	part     uint32 // the last one that it is in
+	site     uint32 // where it was made
 	capacity int
 	buffered int // values in the buffer
 	closed   bool
@@ -37,6 +39,7 @@ func channelAt(p unsafe.Pointer, g *G, s *Site) *channel {
 		return nil
 	}
 	if s.channel != nil && s.channel.p == p {
+		s.channel.enter()
 		return s.channel
 	}
 	c := channels[p]
@@ -45,6 +48,7 @@ func channelAt(p unsafe.Pointer, g *G, s *Site) *channel {
 		channels[p] = c
 		g.lose(wire.LostChannel, s)
 	}
+	c.enter()
 	s.channel = c
 	return c
 }
@@ -54,10 +58,10 @@ func Made[C any](c C, s *Site) C {
 	if off {
 		return c
 	}
-	mu.Lock()
+	begin()
 	p := pointerTo(&c)
 	capacity := reflect.ValueOf(c).Cap()
-	channels[p] = &channel{p: p, capacity: capacity, id: declare(wire.DeclareChan, 0, uint64(capacity), s)}
+	channels[p] = &channel{p: p, capacity: capacity, id: declare(wire.DeclareChan, 0, uint64(capacity), s), part: part, site: s.ID}
 	mu.Unlock()
 	return c
 }
@@ -68,7 +72,7 @@ func Lent[C any](c C, s *Site) C {
 		return c
 	}
 	g := current(s)
-	mu.Lock()
+	begin()
 	if ch := channelAt(pointerTo(&c), g, s); ch != nil && ch.done == nil && !ch.foreign {
 		ch.lend()
 		g.lose(wire.LostChannel, s)
@@ -80,6 +84,7 @@ func Lent[C any](c C, s *Site) C {
 // Sender is a channel that is sent on.
 type Sender[T any] struct{ c chan<- T }
 
+// Chan is a channel that is sent on.
 func Chan[T any](c chan<- T) Sender[T] { return Sender[T]{c} }
 
 // Send is c <- v.
@@ -89,7 +94,7 @@ func (x Sender[T]) Send(v T, s *Site) {
 		return
 	}
 	g := current(s)
-	mu.Lock()
+	begin()
 	ch := channelAt(pointerTo(&x.c), g, s)
 	switch {
 	case !ch.isPlain() || ch.closed:
@@ -130,19 +135,20 @@ func (x Sender[T]) sendNow(ch *channel, v T, g *G, s *Site) bool {
 	return true
 }
 
-// Receive is <-c, ReceiveOK v, ok = <-c.
+// Receive is <-c.
 func Receive[T any](c <-chan T, s *Site) T {
 	v, _ := ReceiveOK(c, s)
 	return v
 }
 
+// ReceiveOK is v, ok = <-c.
 func ReceiveOK[T any](c <-chan T, s *Site) (v T, ok bool) {
 	if off {
 		v, ok = <-c
 		return v, ok
 	}
 	g := current(s)
-	mu.Lock()
+	begin()
 	ch := channelAt(pointerTo(&c), g, s)
 	if ch.isPlain() {
 		if v, ok = receiveNow(ch, c, g, s); ok {
@@ -191,7 +197,7 @@ func Close[T any](c chan<- T, s *Site) {
 		return
 	}
 	g := current(s)
-	mu.Lock()
+	begin()
 	ch := channelAt(pointerTo(&c), g, s)
 	switch {
 	case ch == nil:

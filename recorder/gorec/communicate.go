@@ -6,7 +6,7 @@ import (
 	"gorace.local/recorder/wire"
 )
 
-// none: no case can be done.
+// none says that no case can be done.
 const none = -2
 
 var selectRandom = uint32(2463534242)
@@ -34,6 +34,9 @@ func (g *G) try(s *Site, cases []communication) (index int, panics bool) {
 	for j := range cases {
 		i := (first + j) % len(cases)
 		ch := cases[i].state().channel
+		if ch != nil {
+			ch.enter()
+		}
 		did := false
 		switch {
 		case ch == nil:
@@ -173,15 +176,16 @@ func (o *operation) give(g *G, s *Site) {
 
 // meet has the lock: a value went over an unbuffered channel.
 func meet(ch *channel, sender *G, at *Site, receiver *G, to *Site) {
+	ch.enter()
+	receiver.enter()
 	ch.sent++
-	sender.epoch++
-	receiver.epoch++
-	write(wire.Record{Op: wire.Meet, Goroutine: sender.id, Other: receiver.id, Object: ch.id, Value: ch.sent,
-		Site: at.ID, OtherSite: to.ID})
+	sender.step(wire.Record{Op: wire.Meet, Other: receiver.id, Object: ch.id, Value: ch.sent, Site: at.ID, OtherSite: to.ID})
+	receiver.stepped()
 }
 
 // serve has the lock. It does for those who wait what has become possible.
 func (ch *channel) serve() {
+	ch.enter()
 	for ch.serveOne() {
 	}
 }

@@ -12,6 +12,7 @@ type CondAt struct {
 	s *Site
 }
 
+// Cond is a sync.Cond that is used at s.
 func Cond(c *sync.Cond, s *Site) CondAt { return CondAt{c, s} }
 
 type sleeper struct {
@@ -37,6 +38,7 @@ func conditionAt(c *sync.Cond) *condition {
 	return x
 }
 
+// Wait is that of the cond; it is ordered after what wakes it.
 func (x CondAt) Wait() {
 	if off {
 		x.c.Wait()
@@ -44,18 +46,19 @@ func (x CondAt) Wait() {
 	}
 	g := current(x.s)
 	w := &sleeper{wake: make(chan struct{}, 1)}
-	mu.Lock()
+	begin()
 	c := conditionAt(x.c)
 	c.queue = append(c.queue, w)
 	mu.Unlock()
 	Locker(x.c.L, x.s).Unlock()
 	<-w.wake
-	mu.Lock()
+	begin()
 	g.acquire(w.order, x.s)
 	mu.Unlock()
 	Locker(x.c.L, x.s).Lock()
 }
 
+// Signal is that of the cond; it wakes one that waits.
 func (x CondAt) Signal() {
 	if off {
 		x.c.Signal()
@@ -64,6 +67,7 @@ func (x CondAt) Signal() {
 	x.wake(1)
 }
 
+// Broadcast is that of the cond; it wakes all that wait.
 func (x CondAt) Broadcast() {
 	if off {
 		x.c.Broadcast()
@@ -75,7 +79,7 @@ func (x CondAt) Broadcast() {
 // wake lets the first n of those who wait go on.
 func (x CondAt) wake(n int) {
 	g := current(x.s)
-	mu.Lock()
+	begin()
 	defer mu.Unlock()
 	c := conditionAt(x.c)
 	if n > len(c.queue) {

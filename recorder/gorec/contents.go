@@ -9,23 +9,23 @@ import (
 
 // What an object of the standard library holds, as a bytes.Buffer its bytes, is one
 // variable, which the object's methods read or write. The record stands before the call.
-var contents = map[unsafe.Pointer]uint32{}
+var contents = map[unsafe.Pointer]*variable{}
 
 // content has the lock.
 func (g *G) content(p unsafe.Pointer, change bool, s *Site) {
 	if p == nil {
 		return
 	}
-	id := contents[p]
-	if id == 0 {
-		id = declare(wire.DeclareVar, wire.VarContent, 0, s)
-		contents[p] = id
+	v := contents[p]
+	if v == nil {
+		v = &variable{}
+		contents[p] = v
 	}
 	op := wire.Read
 	if change {
 		op = wire.Write
 	}
-	write(wire.Record{Op: op, Goroutine: g.id, Object: id, Site: s.ID})
+	v.accessed(g, op, wire.VarContent, 0, s)
 }
 
 func useContent(p unsafe.Pointer, change bool, s *Site) {
@@ -33,17 +33,18 @@ func useContent(p unsafe.Pointer, change bool, s *Site) {
 		return
 	}
 	g := current(s)
-	mu.Lock()
+	begin()
 	g.content(p, change, s)
 	mu.Unlock()
 }
 
-// Reads and Writes are an object of which a method is called that reads or writes.
+// Reads is an object of which a method is called that reads.
 func Reads[T any](p *T, s *Site) *T {
 	useContent(unsafe.Pointer(p), false, s)
 	return p
 }
 
+// Writes is an object of which a method is called that writes.
 func Writes[T any](p *T, s *Site) *T {
 	useContent(unsafe.Pointer(p), true, s)
 	return p
@@ -75,7 +76,7 @@ func Stream[T any](w T, s *Site) T {
 	if t == nil || t.Kind() != reflect.Pointer {
 		return w
 	}
-	mu.Lock()
+	begin()
 	known, seen := isStream[t]
 	if !seen {
 		known = streams[t.String()]
@@ -120,7 +121,7 @@ func filled(b []byte, n int, s *Site) {
 		return
 	}
 	g := current(s)
-	mu.Lock()
+	begin()
 	g.takeIn(s)
 	for i := 0; i < n; i = nextAtEnds(i, n, most) {
 		wroteAll(g, &b[i], s)

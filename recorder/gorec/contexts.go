@@ -22,19 +22,19 @@ type doneChannel struct {
 func newDone(parent, ctx context.Context, deadline bool, s *Site) *doneChannel {
 	above, done := parent.Done(), ctx.Done()
 	g := current(s)
-	mu.Lock()
+	begin()
 	defer mu.Unlock()
 	if done == nil {
 		return nil
 	}
-	ch := &channel{p: pointerTo(&done), id: declare(wire.DeclareChan, 0, 0, s)}
+	ch := &channel{p: pointerTo(&done), id: declare(wire.DeclareChan, 0, 0, s), part: part, site: s.ID}
 	d := &doneChannel{channel: ch}
 	ch.done = d
 	channels[ch.p] = ch
 	if deadline {
 		d.timer = newGoroutine()
-		g.epoch++
-		write(wire.Record{Op: wire.Go, Goroutine: g.id, Other: d.timer.id, Site: s.ID})
+		d.timer.site, d.timer.stack = s.ID, stackNumber()
+		g.step(wire.Record{Op: wire.Go, Other: d.timer.id, Site: s.ID, OtherSite: d.timer.stack})
 	}
 	if up := channels[pointerTo(&above)]; up != nil && up.done != nil {
 		up.done.children = append(up.done.children, d)
@@ -50,6 +50,7 @@ func newDone(parent, ctx context.Context, deadline bool, s *Site) *doneChannel {
 // close has the lock.
 func (d *doneChannel) close(g *G, s *Site) {
 	if !d.channel.closed {
+		d.channel.enter()
 		d.channel.closed = true
 		g.note(wire.Close, d.channel.id, s)
 		d.channel.serve()
@@ -91,17 +92,17 @@ func (d *doneChannel) canceler(f context.CancelFunc, s *Site) context.CancelFunc
 	}
 	return func() {
 		g := current(s)
-		mu.Lock()
+		begin()
 		d.cancels(g, s)
 		mu.Unlock()
 		f()
-		mu.Lock()
+		begin()
 		d.close(g, s)
 		mu.Unlock()
 	}
 }
 
-// WithCancel, WithTimeout and WithDeadline are those of package context.
+// WithCancel is that of package context.
 func WithCancel(parent context.Context, s *Site) (context.Context, context.CancelFunc) {
 	ctx, cancel := context.WithCancel(parent)
 	if off {
@@ -110,10 +111,12 @@ func WithCancel(parent context.Context, s *Site) (context.Context, context.Cance
 	return ctx, newDone(parent, ctx, false, s).canceler(cancel, s)
 }
 
+// WithTimeout is that of package context.
 func WithTimeout(parent context.Context, d time.Duration, s *Site) (context.Context, context.CancelFunc) {
 	return WithDeadline(parent, time.Now().Add(d), s)
 }
 
+// WithDeadline is that of package context.
 func WithDeadline(parent context.Context, at time.Time, s *Site) (context.Context, context.CancelFunc) {
 	ctx, cancel := context.WithDeadline(parent, at)
 	if off {
@@ -128,8 +131,10 @@ type ContextAt struct {
 	s *Site
 }
 
+// Context is a context that is used at s.
 func Context(ctx context.Context, s *Site) ContextAt { return ContextAt{ctx, s} }
 
+// Err is that of the context.
 func (x ContextAt) Err() error {
 	err := x.Context.Err()
 	if err == nil || off {
@@ -137,9 +142,10 @@ func (x ContextAt) Err() error {
 	}
 	done := x.Context.Done()
 	g := current(x.s)
-	mu.Lock()
+	begin()
 	defer mu.Unlock()
 	if ch := channels[pointerTo(&done)]; ch != nil && ch.done != nil {
+		ch.enter()
 		ch.done.ended()
 		g.note(wire.ReceiveClosed, ch.id, x.s)
 	}

@@ -5,45 +5,54 @@ package gorec
 // another one does behind a read of any of them.
 
 var (
-	sentOut = map[uint32]uint32{} // goroutines: the order of their last write
-	adopted []*G                  // those that code without the recorder started
+	sentOut []sending           // the oldest first
+	adopted = map[*G]struct{}{} // those that code without the recorder started, and that go on
 )
 
+// sending is a write of a goroutine, and the order of it.
+type sending struct {
+	g     *G
+	order uint32
+}
+
 // sendOut has the lock: g is about to write, or to ask a server.
-func (g *G) sendOut(s *Site) { sentOut[g.id] = g.release(s) }
+func (g *G) sendOut(s *Site) {
+	g.lastOut = g.release(s)
+	sentOut = append(sentOut, sending{g, g.lastOut})
+}
 
 // takeIn has the lock: g has read, or was answered. Besides what was written, what the
 // goroutines of the standard library did so far comes before, since a handler's return
 // isn't seen.
 func (g *G) takeIn(s *Site) {
 	g.takeSent(s)
-	for _, h := range adopted {
-		if h != g && !h.over && h.epoch != h.joined {
+	for h := range adopted {
+		if h != g && (h.didMore || h.epoch != h.joined) {
 			g.acquire(h.release(s), s)
-			h.joined = h.epoch
+			h.joined, h.didMore = h.epoch, false
 		}
 	}
 }
 
-// takeSent has the lock.
+// takeSent has the lock. Of each goroutine the last write counts, behind those before it.
 func (g *G) takeSent(s *Site) {
-	newest := g.taken
-	for id, order := range sentOut {
-		if order > g.taken && id != g.id {
-			g.acquire(order, s)
-		}
-		if order > newest {
-			newest = order
-		}
+	i := len(sentOut)
+	for i > 0 && sentOut[i-1].order > g.taken {
+		i--
 	}
-	g.taken = newest
+	for _, w := range sentOut[i:] {
+		if w.g != g && w.order == w.g.lastOut {
+			g.acquire(w.order, s)
+		}
+		g.taken = w.order
+	}
 }
 
 // Out is a file or a connection that is written to.
 func Out[T any](w T, s *Site) T {
 	if !off {
 		g := current(s)
-		mu.Lock()
+		begin()
 		g.sendOut(s)
 		mu.Unlock()
 	}
@@ -58,13 +67,13 @@ func cross(s *Site) (back func()) {
 	Out(0, s)
 	return func() {
 		g := current(s)
-		mu.Lock()
+		begin()
 		g.takeIn(s)
 		mu.Unlock()
 	}
 }
 
-// Ask to Ask3 are functions that ask a server, or wait for one.
+// Ask is a function that asks a server, or waits for one, and answers nothing.
 func Ask(f func(), s *Site) func() {
 	return func() {
 		defer cross(s)()
@@ -72,6 +81,7 @@ func Ask(f func(), s *Site) func() {
 	}
 }
 
+// AskError is one that answers an error.
 func AskError[A any](f func(A) error, s *Site) func(A) error {
 	return func(a A) error {
 		defer cross(s)()
@@ -79,6 +89,7 @@ func AskError[A any](f func(A) error, s *Site) func(A) error {
 	}
 }
 
+// Ask1 is one with one argument that answers a value and an error.
 func Ask1[A, R any](f func(A) (R, error), s *Site) func(A) (R, error) {
 	return func(a A) (R, error) {
 		defer cross(s)()
@@ -86,6 +97,7 @@ func Ask1[A, R any](f func(A) (R, error), s *Site) func(A) (R, error) {
 	}
 }
 
+// Ask2 is one with two arguments that answers these.
 func Ask2[A, B, R any](f func(A, B) (R, error), s *Site) func(A, B) (R, error) {
 	return func(a A, b B) (R, error) {
 		defer cross(s)()
@@ -93,6 +105,7 @@ func Ask2[A, B, R any](f func(A, B) (R, error), s *Site) func(A, B) (R, error) {
 	}
 }
 
+// Ask3 is one with three arguments that answers these.
 func Ask3[A, B, C, R any](f func(A, B, C) (R, error), s *Site) func(A, B, C) (R, error) {
 	return func(a A, b B, c C) (R, error) {
 		defer cross(s)()

@@ -2,6 +2,7 @@ package gorec
 
 import (
 	"runtime"
+	"sync/atomic"
 	"unsafe"
 
 	"gorace.local/recorder/wire"
@@ -12,12 +13,17 @@ import (
 // known by a g of its own and another one's label. The first words make it an empty set of
 // labels, for a profiler that reads them.
 type G struct {
-	label  [4]uintptr
+	tag
 	g      uintptr
 	id     uint32
 	over   bool
 	random uint32
 	epoch  uint32 // grows with each operation that may order something
+	behind uint32 // the steps up to its last such operation
+	part   uint32 // the last one that it is in
+	tables uint32 // the part that reads and writes are of
+	site   uint32 // where it was started
+	stack  uint32
 	reads  repeats
 	writes repeats
 	ended  uint32        // leaves to repeat a write that others ended
@@ -30,8 +36,17 @@ type G struct {
 
 	foreign bool   // code without the recorder started it
 	reading bool   // it was about to read a file or a connection
+	lastOut uint32 // the order of its last write to a file or a connection
 	taken   uint32 // the newest order of sentOut that it is behind
 	joined  uint32 // the epoch up to which others are behind it
+	didMore bool   // it has read or written a variable since
+}
+
+// tag is what a goroutine's label points to. Nothing but the goroutine, and those that code
+// without the recorder starts for it, keeps that of an adopted one alive.
+type tag struct {
+	label [4]uintptr
+	of    *G
 }
 
 //go:linkname getLabel runtime/pprof.runtime_getProfLabel
@@ -50,13 +65,19 @@ var (
 
 // current is the goroutine that runs; s is where it is met.
 func current(s *Site) *G {
-	g := (*G)(getLabel())
+	var g *G
+	if t := (*tag)(getLabel()); t != nil {
+		g = t.of
+	}
 	if g != nil && g.g == getg() && !g.over {
 		if seed != 0 {
 			g.yield()
 		}
 		if g.foreign || g.reading {
 			g.meets(s)
+		}
+		if p := atomic.LoadUint32(&part); g.tables != p {
+			g.tables, g.reads, g.writes = p, repeats{}, repeats{}
 		}
 		return g
 	}
@@ -65,7 +86,7 @@ func current(s *Site) *G {
 
 // meets takes in what others sent: they may have asked g anew, or g has read.
 func (g *G) meets(s *Site) {
-	mu.Lock()
+	begin()
 	defer mu.Unlock()
 	if g.reading {
 		g.reading = false
@@ -75,8 +96,8 @@ func (g *G) meets(s *Site) {
 	g.takeSent(s)
 }
 
-// alone: there is no second goroutine yet, or no log. What main does before there is one
-// comes before all that others do.
+// alone reports whether there is no second goroutine yet, or no log. What main does before there
+// is one comes before all that others do.
 func alone() bool { return !live && (off || sealed || getg() == mainGoroutine.g) }
 
 // yield lets others go on now and then, so that runs differ.
@@ -98,25 +119,40 @@ func adopt(parent *G, s *Site) *G {
 	if parent == nil {
 		parent = mainGoroutine
 	}
-	mu.Lock()
+	begin()
 	g := newGoroutine()
 	g.g = getg()
 	g.foreign = true
-	adopted = append(adopted, g)
+	adopted[g] = struct{}{}
 	g.lose(wire.LostGoroutine, s)
-	parent.epoch++
-	write(wire.Record{Op: wire.Go, Kind: wire.GoForeign, Goroutine: parent.id, Other: g.id})
+	parent.step(wire.Record{Op: wire.Go, Kind: uint8(wire.GoForeign), Other: g.id})
 	g.takeSent(s)
 	mu.Unlock()
-	setLabel(unsafe.Pointer(g))
+	t := &tag{of: g}
+	runtime.SetFinalizer(t, (*tag).ended)
+	setLabel(unsafe.Pointer(t))
 	return g
+}
+
+// ended is called some time after the end of an adopted goroutine.
+func (t *tag) ended() {
+	begin()
+	defer mu.Unlock()
+	delete(adopted, t.of)
+	if t.of.part == part {
+		t.of.note(wire.Exit, 0, nowhere)
+	}
+	t.of.over = true
+	t.of.reads, t.of.writes = repeats{}, repeats{}
 }
 
 // newGoroutine has the lock.
 func newGoroutine() *G {
 	goroutines++
 	live = !sealed
-	return &G{id: goroutines, random: seed*2654435761 + goroutines*40503 | 1, wake: make(chan struct{}, 2)}
+	g := &G{id: goroutines, part: part, tables: part, random: seed*2654435761 + goroutines*40503 | 1, wake: make(chan struct{}, 2)}
+	g.of = g
+	return g
 }
 
 // Go starts f.
@@ -130,7 +166,7 @@ func Go(s *Site, f func()) {
 
 func start(s *Site) *G {
 	starter := current(s)
-	mu.Lock()
+	begin()
 	defer mu.Unlock()
 	return starter.start(s)
 }
@@ -138,20 +174,20 @@ func start(s *Site) *G {
 // start has the lock: the answer is started by g.
 func (g *G) start(s *Site) *G {
 	started := newGoroutine()
-	g.epoch++
-	write(wire.Record{Op: wire.Go, Goroutine: g.id, Other: started.id, Site: s.ID})
+	started.site, started.stack = s.ID, stackNumber()
+	g.step(wire.Record{Op: wire.Go, Other: started.id, Site: s.ID, OtherSite: started.stack})
 	return started
 }
 
 func (g *G) run(s *Site, f func()) {
 	g.g = getg()
-	setLabel(unsafe.Pointer(g))
+	setLabel(unsafe.Pointer(&g.tag))
 	defer g.exit(s)
 	f()
 }
 
 func (g *G) exit(s *Site) {
-	mu.Lock()
+	begin()
 	g.note(wire.Exit, 0, s)
 	g.over = true
 	mu.Unlock()
@@ -161,7 +197,7 @@ func (g *G) exit(s *Site) {
 // Main runs the function main.
 func Main(s *Site, f func()) {
 	f()
-	mu.Lock()
+	begin()
 	mainGoroutine.note(wire.Exit, 0, s)
 	sealed, live = true, false
 	mu.Unlock()

@@ -13,19 +13,15 @@ import (
 type location struct {
 	p    unsafe.Pointer
 	bits uint64 // what it held last
-	base uint64 // bits that are written as 0
-	id   uint32
+	variable
 
 	// a write was recorded before it was done, or may have been repeated without the lock:
 	// what it holds isn't known until it is read
 	unsettled bool
 
-	// the last write that has a record
-	writer, epoch, site uint32
-
-	// who has the leave to repeat this write without the lock, while its stamp is this one
-	repeater *G
+	// who has the leave to repeat the last write without the lock, while its stamp is this one
 	stamp    uint32
+	repeater *G
 }
 
 var (
@@ -42,7 +38,7 @@ func locate(p unsafe.Pointer) *location {
 			return l
 		}
 		if l.p == nil {
-			if met*2 >= len(locations) {
+			if met*4 >= len(locations)*3 {
 				growLocations()
 				return locate(p)
 			}
@@ -137,48 +133,34 @@ func bitsOf(p unsafe.Pointer, size uintptr) uint64 {
 	return h
 }
 
-// read has the lock. The values of a location are its bits, but for those of the base: what
-// it holds at first is 0, whoever put it there, and what code without the recorder wrote
-// since makes no stale read.
+// read has the lock.
 func (g *G) read(p unsafe.Pointer, size, offset uintptr, s *Site) {
+	makeRoom()
 	bits := bitsOf(p, size)
 	l := locate(p)
-	if l.id == 0 {
-		l.id = declare(wire.DeclareVar, wire.VarMemory, uint64(offset), s)
-		l.base, l.bits = bits, bits
+	if !l.isMet() {
+		l.bits = bits
 	}
-	if bits != l.bits {
-		l.rebase(bits)
-		if !l.unsettled {
-			write(wire.Record{Op: wire.Unseen, Site: s.ID, Object: l.id})
-		}
+	if others := l.isOthers(g, wire.VarMemory, offset, s); others && bits != l.bits && !l.unsettled {
+		write(wire.Record{Op: wire.Unseen, Site: s.ID, Object: l.id})
 	}
-	l.unsettled = l.hasLeave()
-	write(wire.Record{Op: wire.Read, Goroutine: g.id, Object: l.id, Site: s.ID, Value: bits ^ l.base})
-}
-
-// rebase has the lock: the location holds other bits, and its value is the same.
-func (l *location) rebase(bits uint64) {
-	l.base ^= bits ^ l.bits
 	l.bits = bits
+	l.unsettled = l.hasLeave()
+	l.accessed(g, wire.Read, wire.VarMemory, offset, s)
 }
 
 // wrote has the lock, and the new bits are there. A write at the same place as g's last one,
 // with nothing between them that orders g before others, races with whatever that one races
-// with. It has no record, and its bits go to the base; repeats says so.
+// with. It has no record; repeats says so.
 func (g *G) wrote(p unsafe.Pointer, size, offset uintptr, s *Site) (repeats bool) {
-	bits := bitsOf(p, size)
+	makeRoom()
 	l := locate(p)
-	switch {
-	case l.id == 0:
-		l.id = declare(wire.DeclareVar, wire.VarMemory, uint64(offset), s)
-	case l.site == s.ID && l.writer == g.id && l.epoch == g.epoch:
-		l.rebase(bits)
+	l.bits = bitsOf(p, size)
+	if l.repeats(g, s) {
 		return true
 	}
-	l.bits, l.unsettled = bits, false
+	l.unsettled = false
 	l.endLeave(g)
-	l.writer, l.epoch, l.site = g.id, g.epoch, s.ID
-	write(wire.Record{Op: wire.Write, Goroutine: g.id, Object: l.id, Site: s.ID, Value: bits ^ l.base})
+	l.accessed(g, wire.Write, wire.VarMemory, offset, s)
 	return false
 }

@@ -15,9 +15,13 @@ type LockerAt struct {
 	s *Site
 }
 
+// Locker is a lock that is used at s.
 func Locker(l sync.Locker, s *Site) LockerAt { return LockerAt{l, s} }
 
-func (x LockerAt) Lock()   { x.recorded().Lock() }
+// Lock is that of the lock.
+func (x LockerAt) Lock() { x.recorded().Lock() }
+
+// Unlock is that of the lock.
 func (x LockerAt) Unlock() { x.recorded().Unlock() }
 
 // recorded is the locker by which the calls are recorded. A Lock that the program declares
@@ -55,7 +59,7 @@ var (
 )
 
 func embeddedMutex(t reflect.Type, s *Site) int {
-	mu.Lock()
+	begin()
 	i, known := embeddedMutexes[t]
 	mu.Unlock()
 	if known {
@@ -63,7 +67,7 @@ func embeddedMutex(t reflect.Type, s *Site) int {
 	}
 	i, own := findMutex(t)
 	g := current(s)
-	mu.Lock()
+	begin()
 	embeddedMutexes[t] = i
 	if i < 0 && !own {
 		g.lose(wire.LostLocker, s)

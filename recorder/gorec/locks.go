@@ -11,8 +11,13 @@ import (
 type lock struct {
 	p       unsafe.Pointer
 	id      uint32
+	part    uint32 // the last one that it is in
+	site    uint32 // where it was met
+	kind    uint8
 	held    bool
 	readers int
+
+	forgotten bool // another one stands for it in a newer part
 }
 
 var locks = map[unsafe.Pointer]*lock{}
@@ -25,14 +30,16 @@ const (
 
 // lockAt has the lock mu.
 func lockAt(p unsafe.Pointer, kind uint8, s *Site) *lock {
-	if s.lock != nil && s.lock.p == p {
+	if s.lock != nil && s.lock.p == p && !s.lock.forgotten {
+		s.lock.enter()
 		return s.lock
 	}
 	l := locks[p]
 	if l == nil {
-		l = &lock{p: p, id: declare(wire.DeclareLock, kind, 0, s)}
+		l = &lock{p: p, id: declare(wire.DeclareLock, kind, 0, s), part: part, site: s.ID, kind: kind}
 		locks[p] = l
 	}
+	l.enter()
 	s.lock = l
 	return l
 }
@@ -43,7 +50,7 @@ func locked(p unsafe.Pointer, kind uint8, op wire.Op, s *Site) {
 		return
 	}
 	g := current(s)
-	mu.Lock()
+	begin()
 	l := lockAt(p, kind, s)
 	writes := op == wire.Lock || op == wire.TryLock
 	if l.held || writes && l.readers > 0 { // it was set back to its zero value
@@ -65,7 +72,8 @@ func tried(ok bool, p unsafe.Pointer, kind uint8, op wire.Op, s *Site) bool {
 		locked(p, kind, op, s)
 	case !off && writesFailures():
 		g := current(s)
-		mu.Lock()
+		begin()
+		g.enter()
 		write(wire.Record{Op: wire.TryFail, Goroutine: g.id, Object: lockAt(p, kind, s).id, Site: s.ID})
 		mu.Unlock()
 	}
@@ -79,7 +87,7 @@ func unlocking(p unsafe.Pointer, kind uint8, op wire.Op, s *Site) {
 		return
 	}
 	g := current(s)
-	mu.Lock()
+	begin()
 	l := lockAt(p, kind, s)
 	switch {
 	case op == wire.Unlock && !l.held:
@@ -101,11 +109,16 @@ type MutexAt struct {
 	s *Site
 }
 
+// Mutex is a sync.Mutex that is used at s.
 func Mutex(m *sync.Mutex, s *Site) MutexAt { return MutexAt{m, s} }
 
-func (x MutexAt) Lock()   { x.m.Lock(); locked(unsafe.Pointer(x.m), mutex, wire.Lock, x.s) }
+// Lock is that of the mutex.
+func (x MutexAt) Lock() { x.m.Lock(); locked(unsafe.Pointer(x.m), mutex, wire.Lock, x.s) }
+
+// Unlock is that of the mutex.
 func (x MutexAt) Unlock() { unlocking(unsafe.Pointer(x.m), mutex, wire.Unlock, x.s); x.m.Unlock() }
 
+// TryLock is that of the mutex.
 func (x MutexAt) TryLock() bool {
 	return tried(x.m.TryLock(), unsafe.Pointer(x.m), mutex, wire.TryLock, x.s)
 }
@@ -116,20 +129,30 @@ type RWMutexAt struct {
 	s *Site
 }
 
+// RWMutex is a sync.RWMutex that is used at s.
 func RWMutex(m *sync.RWMutex, s *Site) RWMutexAt { return RWMutexAt{m, s} }
 
-func (x RWMutexAt) Lock()   { x.m.Lock(); locked(unsafe.Pointer(x.m), rwmutex, wire.Lock, x.s) }
+// Lock is that of the rwmutex.
+func (x RWMutexAt) Lock() { x.m.Lock(); locked(unsafe.Pointer(x.m), rwmutex, wire.Lock, x.s) }
+
+// Unlock is that of the rwmutex.
 func (x RWMutexAt) Unlock() { unlocking(unsafe.Pointer(x.m), rwmutex, wire.Unlock, x.s); x.m.Unlock() }
-func (x RWMutexAt) RLock()  { x.m.RLock(); locked(unsafe.Pointer(x.m), rwmutex, wire.ReadLock, x.s) }
+
+// RLock is that of the rwmutex.
+func (x RWMutexAt) RLock() { x.m.RLock(); locked(unsafe.Pointer(x.m), rwmutex, wire.ReadLock, x.s) }
+
+// RUnlock is that of the rwmutex.
 func (x RWMutexAt) RUnlock() {
 	unlocking(unsafe.Pointer(x.m), rwmutex, wire.ReadUnlock, x.s)
 	x.m.RUnlock()
 }
 
+// TryLock is that of the rwmutex.
 func (x RWMutexAt) TryLock() bool {
 	return tried(x.m.TryLock(), unsafe.Pointer(x.m), rwmutex, wire.TryLock, x.s)
 }
 
+// TryRLock is that of the rwmutex.
 func (x RWMutexAt) TryRLock() bool {
 	return tried(x.m.TryRLock(), unsafe.Pointer(x.m), rwmutex, wire.TryReadLock, x.s)
 }
@@ -139,5 +162,8 @@ func (x RWMutexAt) RLocker() sync.Locker { return &readLocker{x} }
 
 type readLocker struct{ at RWMutexAt }
 
-func (r *readLocker) Lock()   { r.at.RLock() }
+// Lock locks for reading.
+func (r *readLocker) Lock() { r.at.RLock() }
+
+// Unlock unlocks from reading.
 func (r *readLocker) Unlock() { r.at.RUnlock() }

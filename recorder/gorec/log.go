@@ -1,5 +1,7 @@
-// Package gorec records what the goroutines of a program do. Calls of it are put into a
-// copy of the program by the tool gorec. Nothing here is proved.
+// Package gorec records what the goroutines of a program do. Nothing here is proved.
+//
+// All that is exported is called by the code that the tool gorec puts into a copy of the
+// program, and by nothing else: names, types and arguments change with the tool.
 //
 // There is one lock, mu. Every operation that takes effect at once is done, and its record
 // written, while it is held; so the records stand in an order in which the operations did
@@ -31,16 +33,20 @@ type Site struct {
 // Generic makes a site of a generic function, where a type isn't the same at each use.
 func Generic(id uint32) Site { return Site{ID: id, generic: true} }
 
-// room is the number of records of a log: those of the longest trace, and declarations.
+// room is the number of records of a log where a run has one: those of the longest trace, and
+// declarations.
 const room = 1<<24 + 1<<22
 
-// spare records are kept for those that follow one another without a break.
+// spare records are kept for those that follow one another without a break; in a part makeRoom
+// keeps more.
 const spare = 64
 
 var (
 	mu      sync.Mutex
+	header  *wire.Header
 	records []wire.Record
-	written int
+	written int    // records
+	steps   uint32 // of them, those that aren't reads or writes
 	objects uint32
 	seed    uint32 // of the yields that let runs differ; 0: none
 
@@ -55,7 +61,8 @@ var (
 
 func init() {
 	mainGoroutine.g = getg()
-	setLabel(unsafe.Pointer(mainGoroutine))
+	mainGoroutine.of = mainGoroutine
+	setLabel(unsafe.Pointer(&mainGoroutine.tag))
 	path := os.Getenv("GOREC_LOG")
 	if path == "" {
 		return
@@ -63,15 +70,23 @@ func init() {
 	os.Unsetenv("GOREC_LOG") // a process that this one starts is another run
 	err := setSeed(os.Getenv("GOREC_SEED"))
 	if err == nil {
+		err = setParts(os.Getenv("GOREC_PART"))
+	}
+	if err == nil {
+		logPath = path
 		err = openLog(path)
 	}
 	if err == nil {
 		err = setVersion(os.Getenv("GOREC_FORMAT"))
 	}
+	if err == nil {
+		err = openStacks(os.Getenv("GOREC_STACKS"))
+	}
 	if err != nil {
 		os.Stderr.WriteString("gorec: no log: " + err.Error() + "\n")
 		os.Exit(3)
 	}
+	exclusive = os.Getenv("GOREC_ALL") != "1"
 	off, sealed = false, false
 }
 
@@ -95,17 +110,21 @@ func openLog(path string) error {
 		return err
 	}
 	defer f.Close()
-	if err := f.Truncate(room * wire.Size); err != nil {
+	count := room
+	if partRecords > 0 {
+		count = partRecords
+	}
+	size := (1 + count) * wire.Size
+	if err := f.Truncate(int64(size)); err != nil {
 		return err
 	}
-	b, err := syscall.Mmap(int(f.Fd()), 0, room*wire.Size, syscall.PROT_READ|syscall.PROT_WRITE, syscall.MAP_SHARED)
+	b, err := syscall.Mmap(int(f.Fd()), 0, size, syscall.PROT_READ|syscall.PROT_WRITE, syscall.MAP_SHARED)
 	if err != nil {
 		return err
 	}
-	records = unsafe.Slice((*wire.Record)(unsafe.Pointer(&b[0])), room)
-	written = 1
-	records[0].Value = wire.Magic
-	records[0].Goroutine = 1
+	header = (*wire.Header)(unsafe.Pointer(&b[0]))
+	records = unsafe.Slice((*wire.Record)(unsafe.Pointer(&b[wire.Size])), count)
+	header.Magic = wire.Magic
 	return nil
 }
 
@@ -119,38 +138,56 @@ func setVersion(s string) error {
 		}
 		version = n
 	}
-	records[0].Kind = uint8(version)
+	header.Version = uint8(version)
 	return nil
 }
 
-// writesFailures: a TryLock that doesn't succeed has a record.
-func writesFailures() bool { return records[0].Kind >= 2 }
+// writesFailures reports whether a TryLock that doesn't succeed has a record.
+func writesFailures() bool { return header.Version >= 2 }
 
-// write has the lock.
+// write has the lock. The record is that of a step, or of what was met, and no read or write.
 func write(r wire.Record) {
+	steps++
+	put(r)
+}
+
+// put has the lock.
+func put(r wire.Record) {
 	if sealed {
 		return
 	}
-	if written == len(records)-spare {
+	if written == len(records)-1 || written == len(records)-spare && partRecords == 0 {
 		sealed, live = true, false
 		r = wire.Record{Op: wire.Full}
 	}
 	records[written] = r
 	written++
-	records[0].Goroutine = uint32(written) // what is counted is whole
+	header.Records = uint32(written) // what is counted is whole
 }
 
-// note has the lock. It writes an operation of g that may order what g did, so that an
-// access of g isn't the same behind it as before.
-func (g *G) note(op wire.Op, object uint32, s *Site) {
+// step has the lock. It writes an operation of g that may order what g did, so that an access
+// of g isn't the same behind it as before.
+func (g *G) step(r wire.Record) {
+	g.enter()
+	r.Goroutine = g.id
+	write(r)
+	g.stepped()
+}
+
+// stepped has the lock: the last record is of an operation of g, too, that may order.
+func (g *G) stepped() {
 	g.epoch++
-	write(wire.Record{Op: op, Goroutine: g.id, Object: object, Site: s.ID})
+	g.behind = steps
+}
+
+// note is a step that has an object alone.
+func (g *G) note(op wire.Op, object uint32, s *Site) {
+	g.step(wire.Record{Op: op, Object: object, Site: s.ID})
 }
 
 // numbered is a note with a value.
 func (g *G) numbered(op wire.Op, object uint32, value uint64, s *Site) {
-	g.epoch++
-	write(wire.Record{Op: op, Goroutine: g.id, Object: object, Value: value, Site: s.ID})
+	g.step(wire.Record{Op: op, Object: object, Value: value, Site: s.ID})
 }
 
 // declare has the lock; it makes an object of a kind.
@@ -175,6 +212,7 @@ func (g *G) acquire(order uint32, s *Site) {
 }
 
 // lose has the lock: something that isn't recorded was met.
-func (g *G) lose(kind uint8, s *Site) {
-	write(wire.Record{Op: wire.Lost, Kind: kind, Goroutine: g.id, Site: s.ID})
+func (g *G) lose(kind wire.Loss, s *Site) {
+	g.enter()
+	write(wire.Record{Op: wire.Lost, Kind: uint8(kind), Goroutine: g.id, Site: s.ID})
 }

@@ -13,12 +13,14 @@ type OnceAt struct {
 	s *Site
 }
 
+// Once is a sync.Once that is used at s.
 func Once(o *sync.Once, s *Site) OnceAt { return OnceAt{o, s} }
 
 // once is what was recorded of one. The program may set it back to its zero value: then it
 // runs its function again, and is another one.
 type once struct {
 	id           uint32
+	part         uint32 // in which it is declared
 	begun, ended bool
 }
 
@@ -28,7 +30,7 @@ var onces = map[unsafe.Pointer]*once{}
 func onceAt(p unsafe.Pointer, s *Site) *once {
 	o := onces[p]
 	if o == nil {
-		o = &once{id: declare(wire.DeclareOnce, 0, 0, s)}
+		o = &once{id: declare(wire.DeclareOnce, 0, 0, s), part: part}
 		onces[p] = o
 	}
 	return o
@@ -54,7 +56,7 @@ func (x OnceAt) Do(f func()) {
 
 func (x OnceAt) begin() *once {
 	g := current(x.s)
-	mu.Lock()
+	begin()
 	defer mu.Unlock()
 	if o := onces[unsafe.Pointer(x.o)]; o != nil && o.begun {
 		delete(onces, unsafe.Pointer(x.o))
@@ -67,7 +69,8 @@ func (x OnceAt) begin() *once {
 
 func (x OnceAt) end(o *once) {
 	g := current(x.s)
-	mu.Lock()
+	begin()
+	o.enter(g, x.s)
 	o.ended = true
 	g.note(wire.OnceEnd, o.id, x.s)
 	mu.Unlock()
@@ -76,7 +79,7 @@ func (x OnceAt) end(o *once) {
 // done is a call that found it done; of a copy of one that ran nothing is known.
 func (x OnceAt) done() {
 	g := current(x.s)
-	mu.Lock()
+	begin()
 	if o := onceAt(unsafe.Pointer(x.o), x.s); o.ended {
 		g.note(wire.OnceDone, o.id, x.s)
 	}

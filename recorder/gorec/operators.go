@@ -10,27 +10,52 @@ type number interface {
 
 type addable interface{ number | ~string }
 
-// Add to AndNot are x op= y, whose right side is the argument of By: it is evaluated first,
-// then the left side is read. Each has a type of its own, so that no function is made.
-func Add[T addable](p *T, s *Site) AddAt[T]       { return AddAt[T]{p, s} }
-func Sub[T number](p *T, s *Site) SubAt[T]        { return SubAt[T]{p, s} }
-func Mul[T number](p *T, s *Site) MulAt[T]        { return MulAt[T]{p, s} }
-func Quo[T number](p *T, s *Site) QuoAt[T]        { return QuoAt[T]{p, s} }
-func Rem[T integer](p *T, s *Site) RemAt[T]       { return RemAt[T]{p, s} }
-func And[T integer](p *T, s *Site) AndAt[T]       { return AndAt[T]{p, s} }
-func Or[T integer](p *T, s *Site) OrAt[T]         { return OrAt[T]{p, s} }
-func Xor[T integer](p *T, s *Site) XorAt[T]       { return XorAt[T]{p, s} }
+// Add is x += y, whose right side is the argument of By. It is evaluated first, then the left
+// side is read. Each operator has a type of its own, so that no function is made.
+func Add[T addable](p *T, s *Site) AddAt[T] { return AddAt[T]{p, s} }
+
+// Sub is x -= y, whose right side is the argument of By.
+func Sub[T number](p *T, s *Site) SubAt[T] { return SubAt[T]{p, s} }
+
+// Mul is x *= y, whose right side is the argument of By.
+func Mul[T number](p *T, s *Site) MulAt[T] { return MulAt[T]{p, s} }
+
+// Quo is x /= y, whose right side is the argument of By.
+func Quo[T number](p *T, s *Site) QuoAt[T] { return QuoAt[T]{p, s} }
+
+// Rem is x %= y, whose right side is the argument of By.
+func Rem[T integer](p *T, s *Site) RemAt[T] { return RemAt[T]{p, s} }
+
+// And is x &= y, whose right side is the argument of By.
+func And[T integer](p *T, s *Site) AndAt[T] { return AndAt[T]{p, s} }
+
+// Or is x |= y, whose right side is the argument of By.
+func Or[T integer](p *T, s *Site) OrAt[T] { return OrAt[T]{p, s} }
+
+// Xor is x ^= y, whose right side is the argument of By.
+func Xor[T integer](p *T, s *Site) XorAt[T] { return XorAt[T]{p, s} }
+
+// AndNot is x &^= y, whose right side is the argument of By.
 func AndNot[T integer](p *T, s *Site) AndNotAt[T] { return AndNotAt[T]{p, s} }
 
 type (
-	AddAt[T addable]    at[T]
-	SubAt[T number]     at[T]
-	MulAt[T number]     at[T]
-	QuoAt[T number]     at[T]
-	RemAt[T integer]    at[T]
-	AndAt[T integer]    at[T]
-	OrAt[T integer]     at[T]
-	XorAt[T integer]    at[T]
+	// AddAt is the left side of a +=.
+	AddAt[T addable] at[T]
+	// SubAt is the left side of a -=.
+	SubAt[T number] at[T]
+	// MulAt is the left side of a *=.
+	MulAt[T number] at[T]
+	// QuoAt is the left side of a /=.
+	QuoAt[T number] at[T]
+	// RemAt is the left side of a %=.
+	RemAt[T integer] at[T]
+	// AndAt is the left side of a &=.
+	AndAt[T integer] at[T]
+	// OrAt is the left side of a |=.
+	OrAt[T integer] at[T]
+	// XorAt is the left side of a ^=.
+	XorAt[T integer] at[T]
+	// AndNotAt is the left side of a &^=.
 	AndNotAt[T integer] at[T]
 )
 
@@ -40,16 +65,35 @@ type at[T any] struct {
 	s *Site
 }
 
-func (x AddAt[T]) By(v T)    { set(x.p, Read(x.p, x.s)+v, x.s) }
-func (x SubAt[T]) By(v T)    { set(x.p, Read(x.p, x.s)-v, x.s) }
-func (x MulAt[T]) By(v T)    { set(x.p, Read(x.p, x.s)*v, x.s) }
-func (x QuoAt[T]) By(v T)    { set(x.p, Read(x.p, x.s)/v, x.s) }
-func (x RemAt[T]) By(v T)    { set(x.p, Read(x.p, x.s)%v, x.s) }
-func (x AndAt[T]) By(v T)    { set(x.p, Read(x.p, x.s)&v, x.s) }
-func (x OrAt[T]) By(v T)     { set(x.p, Read(x.p, x.s)|v, x.s) }
-func (x XorAt[T]) By(v T)    { set(x.p, Read(x.p, x.s)^v, x.s) }
+// By does it, with the right side.
+func (x AddAt[T]) By(v T) { set(x.p, Read(x.p, x.s)+v, x.s) }
+
+// By does it, with the right side.
+func (x SubAt[T]) By(v T) { set(x.p, Read(x.p, x.s)-v, x.s) }
+
+// By does it, with the right side.
+func (x MulAt[T]) By(v T) { set(x.p, Read(x.p, x.s)*v, x.s) }
+
+// By does it, with the right side.
+func (x QuoAt[T]) By(v T) { set(x.p, Read(x.p, x.s)/v, x.s) }
+
+// By does it, with the right side.
+func (x RemAt[T]) By(v T) { set(x.p, Read(x.p, x.s)%v, x.s) }
+
+// By does it, with the right side.
+func (x AndAt[T]) By(v T) { set(x.p, Read(x.p, x.s)&v, x.s) }
+
+// By does it, with the right side.
+func (x OrAt[T]) By(v T) { set(x.p, Read(x.p, x.s)|v, x.s) }
+
+// By does it, with the right side.
+func (x XorAt[T]) By(v T) { set(x.p, Read(x.p, x.s)^v, x.s) }
+
+// By does it, with the right side.
 func (x AndNotAt[T]) By(v T) { set(x.p, Read(x.p, x.s)&^v, x.s) }
 
-// Increment and Decrement are x++ and x--.
+// Increment is x++.
 func Increment[T number](p *T, s *Site) { set(p, Read(p, s)+1, s) }
+
+// Decrement is x--.
 func Decrement[T number](p *T, s *Site) { set(p, Read(p, s)-1, s) }

@@ -27,7 +27,7 @@ func Reflected(v reflect.Value, change bool, s *Site) reflect.Value {
 		return v
 	}
 	g := current(s)
-	mu.Lock()
+	begin()
 	g.accessValue(v, change, s)
 	if change && v.CanAddr() {
 		for _, f := range layoutOf(v.Type()).leaves {
@@ -44,7 +44,7 @@ func ReflectCopy(to, from reflect.Value, s *Site) int {
 		return reflect.Copy(to, from)
 	}
 	g := current(s)
-	mu.Lock()
+	begin()
 	defer mu.Unlock()
 	if from.Kind() == reflect.Slice {
 		for i := 0; i < from.Len() && i < to.Len(); i++ {
@@ -64,7 +64,7 @@ func ReflectedMap(v reflect.Value, change bool, s *Site) reflect.Value {
 		return v
 	}
 	g := current(s)
-	mu.Lock()
+	begin()
 	g.touchMap(v.UnsafePointer(), change, s)
 	mu.Unlock()
 	return v
@@ -98,8 +98,7 @@ func Encoded[T any](v T, s *Site) T {
 	return v
 }
 
-// Fills is a function as Decode, which writes what its argument points to; Fills2 is one as
-// json.Unmarshal.
+// Fills is a function as Decode, which writes what its argument points to.
 func Fills(f func(any) error, s *Site) func(any) error {
 	again := stillReading()
 	return func(v any) error {
@@ -110,6 +109,7 @@ func Fills(f func(any) error, s *Site) func(any) error {
 	}
 }
 
+// Fills2 is a function as json.Unmarshal, which writes what its second argument points to.
 func Fills2[A any](f func(A, any) error, s *Site) func(A, any) error {
 	return func(a A, v any) error { return fillBy(v, s, func() error { return f(a, v) }) }
 }
@@ -119,7 +119,7 @@ func Fills2[A any](f func(A, any) error, s *Site) func(A, any) error {
 var filling int
 
 func fills(n int) {
-	mu.Lock()
+	begin()
 	filling += n
 	mu.Unlock()
 }
@@ -143,7 +143,7 @@ func walkAll(w *walk, v any) {
 	w.g = current(w.s)
 	w.left = 10000
 	w.visited = map[unsafe.Pointer]bool{}
-	mu.Lock()
+	begin()
 	defer mu.Unlock()
 	w.value(reflect.ValueOf(v), 0)
 }
@@ -175,7 +175,7 @@ func (w *walk) value(v reflect.Value, depth int) {
 	}
 }
 
-// printsItself: a value's own methods, which are recorded by themselves, print it.
+// printsItself reports whether a value's own methods, which are recorded by themselves, print it.
 func printsItself(v reflect.Value) bool {
 	if !v.CanInterface() {
 		return false
@@ -237,11 +237,11 @@ func (w *walk) compare(p unsafe.Pointer, f leaf) {
 	switch {
 	case w.settle:
 		if l.unsettled {
-			l.rebase(bits)
+			l.bits = bits
 			l.endLeave(w.g)
 			l.unsettled = false
 		}
-	case l.id != 0 && l.bits != bits && !l.unsettled || l.id == 0 && bits != 0:
+	case l.isMet() && l.bits != bits && !l.unsettled || !l.isMet() && bits != 0:
 		w.g.wrote(p, f.size, f.offset, w.s)
 	}
 }

@@ -15,10 +15,11 @@ import (
 // location, so one goroutine at most has it. Until then, and until the next read, it isn't
 // known what the location holds.
 
-// repeats is a table of accesses by their addresses; it grows with what it hadn't.
+// repeats is a table of accesses by their addresses; it grows with those that had to go while
+// they could have been repeated.
 type repeats struct {
 	entries []repeat
-	missed  int
+	gone    int
 }
 
 type repeat struct {
@@ -47,15 +48,18 @@ func (t *repeats) has(p unsafe.Pointer, s *Site, stamp uint32) bool {
 }
 
 func (t *repeats) put(p unsafe.Pointer, s *Site, stamp uint32) {
-	if t.missed >= len(t.entries) && len(t.entries) < mostRepeats {
+	if t.gone >= len(t.entries)/2 && len(t.entries) < mostRepeats {
 		size := 2 * len(t.entries)
 		if size == 0 {
 			size = fewestRepeats
 		}
 		*t = repeats{entries: make([]repeat, size)}
 	}
-	t.missed++
-	*t.at(p) = repeat{p, s.ID, stamp}
+	e := t.at(p)
+	if e.p != nil && e.p != p && e.stamp == stamp {
+		t.gone++
+	}
+	*e = repeat{p, s.ID, stamp}
 }
 
 func (t *repeats) drop(p unsafe.Pointer) {
@@ -64,24 +68,27 @@ func (t *repeats) drop(p unsafe.Pointer) {
 	}
 }
 
-// hasRead: a read of p at s has a record, which stands for this one too. Otherwise this one
-// is going to have it.
+// hasRead reports whether a read of p at s has a record, which stands for this one too. Otherwise
+// this one is going to have it.
 func (g *G) hasRead(p unsafe.Pointer, s *Site) bool {
 	if s.generic {
 		return false
 	}
-	if g.reads.has(p, s, g.epoch) {
+	stamp := g.epoch + atomic.LoadUint32(&part)
+	if g.reads.has(p, s, stamp) {
 		return true
 	}
-	g.reads.put(p, s, g.epoch)
+	g.reads.put(p, s, stamp)
 	return false
 }
 
-// hasLeave: a write of p at s needs no record and no lock.
+// hasLeave reports whether a write of p at s needs no record and no lock.
 func (g *G) hasLeave(p unsafe.Pointer, s *Site) bool { return g.writes.has(p, s, g.stamp()) }
 
-// stamp is the sum of two numbers that only grow, so it changes with each of them.
-func (g *G) stamp() uint32 { return g.epoch + atomic.LoadUint32(&g.ended) }
+// stamp is the sum of numbers that only grow, so it changes with each of them.
+func (g *G) stamp() uint32 {
+	return g.epoch + atomic.LoadUint32(&g.ended) + atomic.LoadUint32(&part)
+}
 
 // giveLeave has the lock: g has repeated its write of the location p at s.
 func (g *G) giveLeave(p unsafe.Pointer, s *Site) {

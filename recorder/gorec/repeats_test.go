@@ -9,16 +9,17 @@ import (
 	"gorace.local/recorder/wire"
 )
 
-// record begins a log, and answers what it has: who reads (r) and writes (w) at which sites,
-// where a read found what it didn't write (?), and other operations (-).
+// record begins a log of all accesses, and answers what it has: who reads (r) and writes (w) at
+// which sites, where a read found what it didn't write (?), and other operations (-).
 func record(t *testing.T) (log func() string) {
 	t.Helper()
-	records = make([]wire.Record, 1<<12)
-	written, off, sealed, live = 1, false, false, true
-	t.Cleanup(func() { off, sealed, live = true, true, false })
+	exclusive = false
+	header, records = &wire.Header{}, make([]wire.Record, 1<<12)
+	written, off, sealed, live = 0, false, false, true
+	t.Cleanup(func() { exclusive, off, sealed, live = true, true, true, false })
 	return func() string {
 		var b strings.Builder
-		for _, r := range records[1:written] {
+		for _, r := range records[:written] {
 			switch r.Op {
 			case wire.Read:
 				fmt.Fprintf(&b, "r%d ", r.Site)

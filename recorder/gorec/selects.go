@@ -146,7 +146,7 @@ func Select(s *Site, hasDefault bool, cases ...communication) int {
 // communicate does one of the cases; none of the channels is known to be ready.
 func communicate(s *Site, hasDefault bool, cases []communication) int {
 	g := current(s)
-	mu.Lock()
+	begin()
 	poll := false
 	for i, c := range cases {
 		o := c.state()
@@ -182,7 +182,7 @@ func communicate(s *Site, hasDefault bool, cases []communication) int {
 // waitForeign does a lone operation on a foreign channel, which is waited for by Go's means.
 func waitForeign(g *G, s *Site, c communication) {
 	c.wait()
-	mu.Lock()
+	begin()
 	g.acquire(c.state().channel.order, s)
 	mu.Unlock()
 }
@@ -192,6 +192,7 @@ func (g *G) noteDefault(s *Site, cases []communication) {
 	if len(cases) > 16 {
 		return
 	}
+	g.enter()
 	write(wire.Record{Op: wire.Default, Goroutine: g.id, Site: s.ID, Count: uint16(len(cases))})
 	for _, c := range cases {
 		r := wire.Record{Op: wire.Case}

@@ -6,6 +6,7 @@ func Range[T any](a []T) ([]T, int, T) {
 	return a, 0, value
 }
 
+// RangeKey begins a loop over a slice whose index is a variable of the program too.
 func RangeKey[T any](a []T) ([]T, int, int, T) {
 	var value T
 	return a, 0, 0, value
@@ -32,9 +33,11 @@ func RangeChannel[T any](c <-chan T) (<-chan T, T) {
 	return c, value
 }
 
-// Len, Bytes, True and False are Go's own, for where the program has other things by their
-// names.
-func Len[T any](a []T) int        { return len(a) }
+// Len is Go's len, for where the program has something else by that name.
+func Len[T any](a []T) int { return len(a) }
+
+// Bytes is Go's conversion of a string to bytes, for where the program has something else by the
+// name byte.
 func Bytes[S ~string](s S) []byte { return []byte(s) }
 
 const (
@@ -48,6 +51,7 @@ type Appended[S ~[]E, E any] struct {
 	s *Site
 }
 
+// AppendTo is a slice that is appended to at s.
 func AppendTo[S ~[]E, E any](a S, s *Site) Appended[S, E] { return Appended[S, E]{a, s} }
 
 // Append appends. Where the elements fit they are written; else those that are copied are
@@ -57,7 +61,7 @@ func (x Appended[S, E]) Append(values ...E) S {
 		return append(x.a, values...)
 	}
 	g := current(x.s)
-	mu.Lock()
+	begin()
 	n := len(x.a)
 	if n+len(values) > cap(x.a) {
 		for i := range x.a {
@@ -100,7 +104,7 @@ func readElements[E any](a []E, wanted int, s *Site) {
 		return
 	}
 	g := current(s)
-	mu.Lock()
+	begin()
 	for i := 0; i < len(a); i = nextAtEnds(i, len(a), wanted) {
 		readAll(g, &a[i], s)
 	}
@@ -121,7 +125,7 @@ func Copy[T any](s *Site, to, from []T) int {
 		return copy(to, from)
 	}
 	g := current(s)
-	mu.Lock()
+	begin()
 	n := len(from)
 	if len(to) < n {
 		n = len(to)

@@ -13,7 +13,7 @@ func Sorts[E any](f func([]E), s *Site) func([]E) {
 			return
 		}
 		g := current(s)
-		mu.Lock()
+		begin()
 		defer mu.Unlock()
 		for i := range a {
 			readAll(g, &a[i], s)
@@ -25,8 +25,7 @@ func Sorts[E any](f func([]E), s *Site) func([]E) {
 	}
 }
 
-// SortSlice and SortSliceStable are those of package sort. What less reads is recorded
-// where it stands.
+// SortSlice is sort.Slice. What less reads is recorded where it stands.
 func SortSlice(x any, less func(i, j int) bool, s *Site) {
 	if alone() {
 		sort.Slice(x, less)
@@ -35,6 +34,7 @@ func SortSlice(x any, less func(i, j int) bool, s *Site) {
 	sort.Sort(newSwapping(x, less, s))
 }
 
+// SortSliceStable is sort.SliceStable.
 func SortSliceStable(x any, less func(i, j int) bool, s *Site) {
 	if alone() {
 		sort.SliceStable(x, less)
@@ -57,11 +57,15 @@ func newSwapping(x any, less func(i, j int) bool, s *Site) swapping {
 	return swapping{reflect.ValueOf(x), reflect.Swapper(x), less, current(s), s}
 }
 
-func (x swapping) Len() int           { return x.elements.Len() }
+// Len is that of sort.Interface.
+func (x swapping) Len() int { return x.elements.Len() }
+
+// Less is that of sort.Interface.
 func (x swapping) Less(i, j int) bool { return x.less(i, j) }
 
+// Swap is that of sort.Interface; it writes both elements.
 func (x swapping) Swap(i, j int) {
-	mu.Lock()
+	begin()
 	defer mu.Unlock()
 	a, b := x.elements.Index(i), x.elements.Index(j)
 	x.g.accessValue(a, false, x.s)

@@ -17,7 +17,7 @@ var passing = map[string]string{
 	"*json.Decoder": "r", "*json.Encoder": "w", "*tabwriter.Writer": "output",
 }
 
-// leadsOut: a Reader or a Writer is a file or a connection, or stands before one.
+// leadsOut reports whether a Reader or a Writer is a file or a connection, or stands before one.
 func leadsOut(v reflect.Value) bool {
 	for {
 		for v.IsValid() && v.Kind() == reflect.Interface {
@@ -56,12 +56,13 @@ func StreamIn[T any](r T, s *Site) T {
 	return r
 }
 
-// WritesOut and WritesIn are Writes of an object that may stand before a file.
+// WritesOut is Writes of an object that may stand before a file or a connection that is written.
 func WritesOut[T any](p *T, s *Site) *T {
 	StreamOut(p, s)
 	return Writes(p, s)
 }
 
+// WritesIn is Writes of an object that may stand before a file or a connection that is read.
 func WritesIn[T any](p *T, s *Site) *T {
 	Writes(p, s)
 	return StreamIn(p, s)
@@ -72,9 +73,10 @@ func stillReading() (again func()) {
 	if off {
 		return func() {}
 	}
-	g := (*G)(getLabel())
-	if g == nil || !g.reading {
+	t := (*tag)(getLabel())
+	if t == nil || !t.of.reading {
 		return func() {}
 	}
+	g := t.of
 	return func() { g.reading = true }
 }

@@ -9,6 +9,7 @@ type SyncMapAt struct {
 	s *Site
 }
 
+// SyncMap is a sync.Map that is used at s.
 func SyncMap(m *sync.Map, s *Site) SyncMapAt { return SyncMapAt{m, s} }
 
 type syncMapKey struct {
@@ -31,25 +32,30 @@ func (x SyncMapAt) do(k any, f func() int) {
 	})
 }
 
+// Load is that of the map.
 func (x SyncMapAt) Load(k any) (v any, ok bool) {
 	x.do(k, func() int { v, ok = x.m.Load(k); return loads })
 	return v, ok
 }
 
+// Store is that of the map.
 func (x SyncMapAt) Store(k, v any) {
 	x.do(k, func() int { x.m.Store(k, v); return stores })
 }
 
+// LoadOrStore is that of the map.
 func (x SyncMapAt) LoadOrStore(k, v any) (actual any, loaded bool) {
 	x.do(k, func() int { actual, loaded = x.m.LoadOrStore(k, v); return swapped(!loaded) })
 	return actual, loaded
 }
 
+// LoadAndDelete is that of the map.
 func (x SyncMapAt) LoadAndDelete(k any) (v any, loaded bool) {
 	x.do(k, func() int { v, loaded = x.m.LoadAndDelete(k); return swapped(loaded) })
 	return v, loaded
 }
 
+// Delete is that of the map.
 func (x SyncMapAt) Delete(k any) {
 	x.do(k, func() int { x.m.Delete(k); return loads | stores })
 }

@@ -12,7 +12,7 @@ func follow(s *Site) {
 		return
 	}
 	g := current(s)
-	mu.Lock()
+	begin()
 	for _, end := range ends {
 		g.acquire(end, s)
 	}
@@ -35,7 +35,7 @@ func end(s *Site) {
 		return
 	}
 	g := current(s)
-	mu.Lock()
+	begin()
 	ends = append(ends, g.release(s))
 	mu.Unlock()
 }

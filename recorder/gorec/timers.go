@@ -22,19 +22,20 @@ func (g *G) set(c <-chan time.Time, s *Site) {
 func TimerChannel(c <-chan time.Time, s *Site) <-chan time.Time {
 	if !off && c != nil {
 		g := current(s)
-		mu.Lock()
+		begin()
 		g.set(c, s)
 		mu.Unlock()
 	}
 	return c
 }
 
-// NewTimer is what time.NewTimer answers, NewTicker what time.NewTicker does.
+// NewTimer is what time.NewTimer answers.
 func NewTimer(t *time.Timer, s *Site) *time.Timer {
 	TimerChannel(t.C, s)
 	return t
 }
 
+// NewTicker is what time.NewTicker answers.
 func NewTicker(t *time.Ticker, s *Site) *time.Ticker {
 	TimerChannel(t.C, s)
 	return t
@@ -57,7 +58,7 @@ func AfterFunc(d time.Duration, f func(), s *Site) *time.Timer {
 		return time.AfterFunc(d, f)
 	}
 	g := current(s)
-	mu.Lock()
+	begin()
 	defer mu.Unlock()
 	l := &later{f: f, s: s, next: g.start(s)}
 	t := time.AfterFunc(d, l.call)
@@ -66,7 +67,7 @@ func AfterFunc(d time.Duration, f func(), s *Site) *time.Timer {
 }
 
 func (l *later) call() {
-	mu.Lock()
+	begin()
 	g, order := l.next, l.order
 	l.next, l.order = nil, 0
 	mu.Unlock()
@@ -75,7 +76,7 @@ func (l *later) call() {
 		return
 	}
 	g.run(l.s, func() {
-		mu.Lock()
+		begin()
 		g.acquire(order, l.s)
 		mu.Unlock()
 		l.f()
@@ -91,24 +92,29 @@ func (l *later) setAgain(g *G, s *Site) {
 	}
 }
 
-// TimerAt and TickerAt are those of package time at a place where they are set again.
+// TimerAt is a time.Timer at a place where it is set again.
 type TimerAt struct {
 	t *time.Timer
 	s *Site
 }
 
+// TickerAt is a time.Ticker at a place where it is set again.
 type TickerAt struct {
 	t *time.Ticker
 	s *Site
 }
 
-func Timer(t *time.Timer, s *Site) TimerAt    { return TimerAt{t, s} }
+// Timer is a time.Timer that is set again at s.
+func Timer(t *time.Timer, s *Site) TimerAt { return TimerAt{t, s} }
+
+// Ticker is a time.Ticker that is set again at s.
 func Ticker(t *time.Ticker, s *Site) TickerAt { return TickerAt{t, s} }
 
+// Reset is that of the timer.
 func (x TimerAt) Reset(d time.Duration) bool {
 	if !off && x.t.C == nil {
 		g := current(x.s)
-		mu.Lock()
+		begin()
 		if l := laters[unsafe.Pointer(x.t)]; l != nil {
 			l.setAgain(g, x.s)
 		}
@@ -118,6 +124,7 @@ func (x TimerAt) Reset(d time.Duration) bool {
 	return x.t.Reset(d)
 }
 
+// Reset is that of the ticker.
 func (x TickerAt) Reset(d time.Duration) {
 	TimerChannel(x.t.C, x.s)
 	x.t.Reset(d)

@@ -52,7 +52,7 @@ func Read[T any](p *T, s *Site) T {
 	if g.hasRead(unsafe.Pointer(p), s) {
 		return *p
 	}
-	mu.Lock()
+	begin()
 	v := *p
 	readAll(g, p, s)
 	mu.Unlock()
@@ -70,7 +70,7 @@ func set[T any](p *T, v T, s *Site) {
 		*p = v
 		return
 	}
-	mu.Lock()
+	begin()
 	*p = v
 	if wroteAll(g, p, s) {
 		g.giveLeave(unsafe.Pointer(p), s)
@@ -84,7 +84,7 @@ func New[T any](p *T, s *Site) *T {
 		return p
 	}
 	g := current(s)
-	mu.Lock()
+	begin()
 	for _, f := range layoutAt(p, s).leaves {
 		if q := unsafe.Add(unsafe.Pointer(p), f.offset); bitsOf(q, f.size) != 0 {
 			g.wrote(q, f.size, f.offset, s)
@@ -102,10 +102,14 @@ type Target[T any] struct {
 	set func(T)
 }
 
-// To is a recorded location, Plain one that isn't recorded, and Blank the blank one.
+// To is a recorded location that is assigned to.
 func To[T any](p *T, s *Site) Target[T] { return Target[T]{p: p, s: s} }
-func Plain[T any](p *T) Target[T]       { return Target[T]{p: p} }
-func Blank() Target[any]                { return Target[any]{set: func(any) {}} }
+
+// Plain is a location that isn't recorded.
+func Plain[T any](p *T) Target[T] { return Target[T]{p: p} }
+
+// Blank is the blank one.
+func Blank() Target[any] { return Target[any]{set: func(any) {}} }
 
 // OKAs is v, ok of a type that is a bool.
 func OKAs[B ~bool, T any](v T, ok bool) (T, B) { return v, B(ok) }
@@ -113,8 +117,11 @@ func OKAs[B ~bool, T any](v T, ok bool) (T, B) { return v, B(ok) }
 // Alike has the type that a value gets by an assignment to a variable.
 type Alike[T any] struct{}
 
+// Like has the type of the variable that p points to.
 func Like[T any](*T) Alike[T] { return Alike[T]{} }
-func (Alike[T]) Of(v T) T     { return v }
+
+// Of is the value in that type.
+func (Alike[T]) Of(v T) T { return v }
 
 // Assert is v, ok = x.(T). It isn't called in a function of its own, in which recover would
 // recover nothing.
@@ -135,34 +142,42 @@ func (t Target[T]) Set(v T) {
 	}
 }
 
-// Targets2 to Targets4 are assigned to at once, from left to right.
+// Targets2 are two locations that are assigned to at once, from left to right.
 type Targets2[A, B any] struct {
 	a Target[A]
 	b Target[B]
 }
 
+// Targets3 are three.
 type Targets3[A, B, C any] struct {
 	Targets2[A, B]
 	c Target[C]
 }
 
+// Targets4 are four.
 type Targets4[A, B, C, D any] struct {
 	Targets3[A, B, C]
 	d Target[D]
 }
 
+// To2 makes Targets2.
 func To2[A, B any](a Target[A], b Target[B]) Targets2[A, B] { return Targets2[A, B]{a, b} }
 
+// To3 makes Targets3.
 func To3[A, B, C any](a Target[A], b Target[B], c Target[C]) Targets3[A, B, C] {
 	return Targets3[A, B, C]{To2(a, b), c}
 }
 
+// To4 makes Targets4.
 func To4[A, B, C, D any](a Target[A], b Target[B], c Target[C], d Target[D]) Targets4[A, B, C, D] {
 	return Targets4[A, B, C, D]{To3(a, b, c), d}
 }
 
+// Set assigns to both.
 func (t Targets2[A, B]) Set(a A, b B) { t.a.Set(a); t.b.Set(b) }
 
+// Set assigns to the three.
 func (t Targets3[A, B, C]) Set(a A, b B, c C) { t.Targets2.Set(a, b); t.c.Set(c) }
 
+// Set assigns to the four.
 func (t Targets4[A, B, C, D]) Set(a A, b B, c C, d D) { t.Targets3.Set(a, b, c); t.d.Set(d) }

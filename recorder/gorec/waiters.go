@@ -178,7 +178,7 @@ func (w *waiter) poll() (i int, did bool) {
 
 // again tries the cases once more; done says that another goroutine did one meanwhile.
 func (w *waiter) again() (i int, done, panics bool) {
-	mu.Lock()
+	begin()
 	defer mu.Unlock()
 	if w.done {
 		return none, true, false

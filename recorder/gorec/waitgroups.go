@@ -13,6 +13,7 @@ type WaitGroupAt struct {
 	s *Site
 }
 
+// WaitGroup is a sync.WaitGroup that is used at s.
 func WaitGroup(w *sync.WaitGroup, s *Site) WaitGroupAt { return WaitGroupAt{w, s} }
 
 // A group's Wait comes behind each Done since the last Wait that returned, also where the
@@ -24,7 +25,7 @@ type group struct {
 	waiting  int
 	returned bool     // a Wait returned behind the dones
 	dones    []uint32 // orders
-	misuse   uint32   // the variable
+	misuse   variable
 }
 
 var groups = map[unsafe.Pointer]*group{}
@@ -41,22 +42,19 @@ func groupAt(w *sync.WaitGroup) *group {
 
 // use has the lock.
 func (x *group) use(g *G, op wire.Op, s *Site) {
-	if !live {
-		return
+	if live {
+		x.misuse.accessed(g, op, wire.VarGroup, 0, s)
 	}
-	if x.misuse == 0 {
-		x.misuse = declare(wire.DeclareVar, wire.VarGroup, 0, s)
-	}
-	write(wire.Record{Op: op, Goroutine: g.id, Object: x.misuse, Site: s.ID})
 }
 
+// Add is that of the group.
 func (x WaitGroupAt) Add(n int) {
 	if off {
 		x.w.Add(n)
 		return
 	}
 	g := current(x.s)
-	mu.Lock()
+	begin()
 	w := groupAt(x.w)
 	if n > 0 && w.count == 0 {
 		w.use(g, wire.Read, x.s)
@@ -72,15 +70,17 @@ func (x WaitGroupAt) Add(n int) {
 	x.w.Add(n)
 }
 
+// Done is that of the group.
 func (x WaitGroupAt) Done() { x.Add(-1) }
 
+// Wait is that of the group; it comes after the Dones of its round.
 func (x WaitGroupAt) Wait() {
 	if off {
 		x.w.Wait()
 		return
 	}
 	g := current(x.s)
-	mu.Lock()
+	begin()
 	w := groupAt(x.w)
 	if w.count > 0 && w.waiting == 0 {
 		w.use(g, wire.Write, x.s)
@@ -88,10 +88,11 @@ func (x WaitGroupAt) Wait() {
 	w.waiting++
 	mu.Unlock()
 	x.w.Wait()
-	mu.Lock()
+	begin()
 	w.waiting--
 	w.returned = true
 	for _, done := range w.dones {
+		makeRoom()
 		g.acquire(done, x.s)
 	}
 	mu.Unlock()

@@ -3,15 +3,33 @@
 // up to its last record however the program ends.
 package wire
 
+// Size is that of a record, and of a log's header, in bytes.
+const Size = 32
+
+// Magic is the first word of a log.
+const Magic = 0x676f7265632d3034 // "gorec-04"
+
+// Newest is the newest version of a trace.
+const Newest = 2
+
+// Header stands in front of a log's records.
+type Header struct {
+	Magic     uint64
+	Records   uint32 // so many follow; each that is counted is whole
+	Variables uint32 // so many were met, most of them without a record
+	Next      uint32 // a Successor
+	Judged    uint32 // 1: who reads the log has done with it
+	Version   uint8  // of the trace that the log is for: in one for version 1 there is no TryFail
+	_         [7]byte
+}
+
+// Successor says whether a run goes on in another log, so that this one is whole.
+type Successor uint32
+
 const (
-	// Size of a record, in bytes.
-	Size = 32
-	// Magic is the Value of the log's first record, whose Goroutine is the number of records,
-	// and whose Kind the version of the trace that the log is for: in one for version 1 no
-	// TryFail is written.
-	Magic = 0x676f7265632d3033 // "gorec-03"
-	// Newest is the newest version of a trace.
-	Newest = 2
+	NoSuccessor    Successor = iota
+	AfterRecords             // since there was no room for more records
+	AfterVariables           // since as many variables were met as may be in one log
 )
 
 // Record is one thing that a goroutine did, or one thing that was met for the first time.
@@ -19,7 +37,7 @@ type Record struct {
 	Value     uint64
 	Object    uint32 // a variable, channel, lock, once or order; 0 is none
 	Site      uint32 // where in the source; sites are numbered over all packages
-	OtherSite uint32 // of a meet: where the receiver stands
+	OtherSite uint32 // of a meet: where the receiver stands; of a go or an access: the number of its stack
 	Goroutine uint32 // 0 is main
 	Other     uint32 // of a go: who is started; of a meet: the receiver
 	Op        Op
@@ -30,14 +48,16 @@ type Record struct {
 // Op says what a record is.
 type Op uint8
 
-// The fields that a record has beside Goroutine and Site stand behind its Op.
+// The fields that a record has beside Goroutine and Site stand behind its Op. The records
+// stand in the order in which the operations were done, but for a Read or a Write: it was
+// done behind as many other records as its Value says.
 const (
 	None            Op = iota
 	DeclareVar         // Object; Value: the offset in what the site names; Kind: a VarKind
 	DeclareChan        // Object; Value: the capacity
 	DeclareLock        // Object; Kind 1: an rwmutex
 	DeclareOnce        // Object
-	Go                 // Other; Kind: GoForeign
+	Go                 // Other; Kind: a GoKind
 	Exit               //
 	Read               // Object, Value
 	Write              // Object, Value
@@ -71,21 +91,35 @@ const (
 	Full               // no room for more records
 )
 
-// Kinds of a Go.
-const GoForeign = 1 // started by code that isn't recorded, at an unknown place
+// GoKind is how a goroutine was started.
+type GoKind uint8
 
-// Kinds of a DeclareVar.
+// The kinds of a Go.
 const (
-	VarMemory  = 0
-	VarMap     = 1 // a map, whose value is the count of its changes
-	VarGroup   = 2 // a WaitGroup's first Add against its first Wait
-	VarContent = 3 // what an object of the standard library holds
+	GoPlain   GoKind = iota
+	GoForeign        // by code that isn't recorded, at an unknown place
+	GoEarlier        // in a log before this one
 )
 
-// Kinds of a Lost.
+// VarKind is what a variable is.
+type VarKind uint8
+
+// The kinds of a DeclareVar.
 const (
-	LostGoroutine = 1 // a goroutine that code without the recorder started
-	LostChannel   = 2 // a channel that code without the recorder uses
-	LostLocker    = 3 // a Locker of a type that isn't recorded
-	Losses        = 4
+	VarMemory  VarKind = iota
+	VarMap             // what a map holds
+	VarGroup           // a WaitGroup's first Add against its first Wait
+	VarContent         // what an object of the standard library holds
+)
+
+// Loss is what a Lost has met.
+type Loss uint8
+
+// The kinds of a Lost.
+const (
+	_             Loss = iota
+	LostGoroutine      // a goroutine that code without the recorder started
+	LostChannel        // a channel that code without the recorder uses
+	LostLocker         // a Locker of a type that isn't recorded
+	Losses             // the number of losses
 )

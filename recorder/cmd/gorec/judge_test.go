@@ -6,7 +6,6 @@ import (
 	"strings"
 	"testing"
 
-	"gorace.local/recorder/internal/instrument"
 	"gorace.local/recorder/internal/trace"
 )
 
@@ -28,10 +27,11 @@ func TestFindJudge(t *testing.T) {
 		{blank + "/gorace", blank + "/gorace"},
 		{blank + "/none", `no judge: exec: "` + filepath.Dir(blank) + `/a": stat ` + filepath.Dir(blank) + "/a: no such file or directory"},
 	} {
-		words, err := findJudge(c.flag)
-		got := strings.Join(words, "|")
-		if err != nil {
+		got := ""
+		if j, err := findJudge(c.flag); err != nil {
 			got = err.Error()
+		} else {
+			got = strings.Join(j.words, "|")
 		}
 		if got != c.want {
 			t.Errorf("%q: got %s", c.flag, got)
@@ -45,19 +45,30 @@ race on x_2: write by g1 at a.go:3 (event 6), read by main at a.go:9 (event 9)
 race on y: read by g1 at a.go:4 (event 20), write by g2 at a.go:5 (event 21)
 races: 3
 `
-	summary := &trace.Summary{
+	o := &outcome{races: racesOf(report), summary: &trace.Summary{
 		Events: 21,
 		Cut:    "more than 65,535 variables, at a.go:7",
 		Starts: map[string][]trace.Start{
 			"g1": {{By: "main", Place: "a.go:1", Event: 1}, {By: "main", Place: "a.go:2", Event: 10}},
 			"g2": {{By: "g1", Place: "a.go:6", Event: 12}},
 		},
+	}}
+	o.moments = map[int]trace.Moment{
+		5: {Locks: []trace.Deed{{What: "lock of mu", Place: "a.go:2"}}, Last: trace.Deed{What: "lock of mu", Place: "a.go:2"}},
+		6: {Locks: []trace.Deed{{What: "lock of mu", Place: "a.go:2"}}, Last: trace.Deed{What: "lock of mu", Place: "a.go:2"}},
+		8: {Last: trace.Deed{What: "go of g2", Place: "a.go:6"}}, 9: {Last: trace.Deed{What: "go of g2", Place: "a.go:6"}},
+		20: {Last: trace.Deed{What: "unlock of mu", Place: "a.go:4"}}, 21: {},
 	}
 	var b strings.Builder
-	explain(&b, report, summary, &instrument.Copy{Missed: map[string]int{"flag.Var": 2}})
+	o.explain(&b)
+	tell(&b, o.summary, map[string]int{"flag.Var": 2})
 	want := `pairs of places: 2
      2  read at a.go:9, write at a.go:3
      1  read at a.go:4, write at a.go:5
+g1's write of x: behind lock of mu at a.go:2
+main's read of x: without a lock, behind go of g2 at a.go:6
+g1's read of y: without a lock, behind unlock of mu at a.go:4
+g2's write of y: without a lock
 g1 was started by main at a.go:1
 g1 was started by main at a.go:2
 g2 was started by g1 at a.go:6

@@ -1,54 +1,204 @@
 package main
 
 import (
+	"errors"
+	"flag"
 	"fmt"
+	"os"
+	"strconv"
 	"strings"
+	"time"
 )
 
-// testFlags are the flags of go test that its programs have too, by whether a value follows.
-var testFlags = map[string]bool{
-	"bench": true, "benchmem": false, "benchtime": true, "blockprofile": true, "blockprofilerate": true, "count": true,
-	"cpu": true, "cpuprofile": true, "failfast": false, "fullpath": false, "fuzz": true, "fuzzminimizetime": true,
-	"fuzztime": true, "list": true, "memprofile": true, "memprofilerate": true, "mutexprofile": true,
-	"mutexprofilefraction": true, "outputdir": true, "parallel": true, "run": true, "short": false, "shuffle": true,
-	"skip": true, "timeout": true, "trace": true, "v": false,
+// testWords are the words of gorec test, taken apart as go test does: packages, flags of the
+// tests' program under the names that it knows, and words for the tests.
+type testWords struct {
+	packages []string
+	passed   []string // flags and words for the tests' program
+	names    map[string]bool
 }
 
-// buildFlags are flags of the command go test itself, which isn't run.
-var buildFlags = strings.Fields("c cover covermode coverpkg coverprofile exec json o race tags vet")
+// passedFlag is a flag of go test that its programs have too.
+type passedFlag struct {
+	words  *testWords
+	name   string
+	isBool bool
+	check  func(string) error
+}
 
-// testWords gives flags of go test the names that its programs know: -test.run for -run.
-// What stands behind -args is as it is.
-func testWords(words []string) ([]string, error) {
-	var out []string
-	for i := 0; i < len(words); i++ {
-		name, _, hasValue := strings.Cut(flagName(words[i]), "=")
-		if name == "args" {
-			return append(out, words[i+1:]...), nil
+func (f *passedFlag) String() string   { return "" }
+func (f *passedFlag) IsBoolFlag() bool { return f.isBool }
+
+// Set passes a flag on.
+func (f *passedFlag) Set(value string) error {
+	if f.check != nil {
+		if err := f.check(value); err != nil {
+			return err
 		}
-		for _, f := range buildFlags {
-			if name == f {
-				return nil, fmt.Errorf("%s is a flag of go test itself, which isn't run; behind -args it goes to the tests", words[i])
+	}
+	f.words.names[f.name] = true
+	f.words.passed = append(f.words.passed, "-test."+f.name+"="+value)
+	return nil
+}
+
+func checkBool(s string) error     { _, err := strconv.ParseBool(s); return err }
+func checkDuration(s string) error { _, err := time.ParseDuration(s); return err }
+
+// valueFlags and boolFlags are those of go test that its programs have too.
+var (
+	valueFlags = strings.Fields(`bench benchtime blockprofile blockprofilerate count cpu cpuprofile list
+		memprofile memprofilerate mutexprofile mutexprofilefraction outputdir parallel run shuffle skip timeout trace`)
+	boolFlags = strings.Fields("benchmem failfast fullpath short v")
+)
+
+// define adds the flags of go test that are passed on.
+func (w *testWords) define(flags *flag.FlagSet) {
+	w.names = map[string]bool{}
+	for _, name := range valueFlags {
+		f := &passedFlag{words: w, name: name}
+		if name == "timeout" {
+			f.check = checkDuration
+		}
+		w.both(flags, f, "as go test's, with a `value`")
+	}
+	for _, name := range boolFlags {
+		w.both(flags, &passedFlag{words: w, name: name, isBool: true, check: checkBool}, "as go test's")
+	}
+}
+
+// both has a flag under the name that go test gives it, and the one that its programs do.
+func (w *testWords) both(flags *flag.FlagSet, f *passedFlag, about string) {
+	flags.Var(f, f.name, about)
+	flags.Var(f, "test."+f.name, "the same as -"+f.name)
+}
+
+const fuzzing = "it runs processes of its own, which aren't recorded"
+
+// otherFlags are flags of go test that gorec doesn't have, and why.
+var otherFlags = map[string]string{
+	"race": "gorec looks for races itself", "c": "gorec build -tests builds them", "vet": "go vet isn't run",
+	"cover": "coverage isn't counted", "covermode": "coverage isn't counted", "coverpkg": "coverage isn't counted",
+	"coverprofile": "coverage isn't counted", "fuzz": fuzzing, "fuzztime": fuzzing, "fuzzminimizetime": fuzzing, "exec": "the tests are run by gorec", "i": "", "x": "", "n": "", "work": "", "a": "",
+	"ldflags": "", "gcflags": "", "asmflags": "", "gccgoflags": "", "toolexec": "", "compiler": "", "overlay": "", "msan": "", "asan": "",
+	"linkshared": "", "pkgdir": "", "installsuffix": "", "buildmode": "", "trimpath": "", "buildvcs": "", "pgo": "",
+}
+
+// parse takes words apart. In front of the packages stand flags of gorec and of go test, behind
+// them those of go test, and what neither knows is for the tests; behind -args all is.
+func (w *testWords) parse(flags *flag.FlagSet, args []string) error {
+	known := flags.Lookup
+	inFront, ended := true, false // whether packages may follow; whether nothing but words does
+	for len(args) > 0 {
+		word := args[0]
+		args = args[1:]
+		name, value, hasValue := cutFlag(word)
+		switch {
+		case ended || word == "--":
+			w.passed = append(w.passed, word)
+			ended = true
+			continue
+		case name == "" && inFront:
+			w.packages = append(w.packages, word)
+			for len(args) > 0 && !strings.HasPrefix(args[0], "-") {
+				w.packages = append(w.packages, args[0])
+				args = args[1:]
 			}
+			inFront = false
+			known = goTestFlag(flags)
+			continue
+		case name == "":
+			w.passed = append(w.passed, word)
+			ended = true
+			continue
+		case name == "args":
+			w.passed = append(w.passed, args...)
+			return nil
+		case name == "h" || name == "help":
+			return flag.ErrHelp
 		}
-		takesValue, known := testFlags[name]
-		if !known {
-			out = append(out, words[i])
+		if why, is := otherFlags[name]; is {
+			return refused(name, why)
+		}
+		f := known(name)
+		if f == nil {
+			if inFront && len(args) > 0 && !hasValue && !strings.HasPrefix(args[0], "-") {
+				return &usageError{"test", fmt.Errorf("gorec and go test don't know -%s; a flag of the tests stands behind the packages", name)}
+			}
+			w.passed = append(w.passed, word)
+			if !hasValue && len(args) > 0 && !strings.HasPrefix(args[0], "-") {
+				w.passed = append(w.passed, args[0]) // it may be its value
+				args = args[1:]
+			}
+			inFront = false
 			continue
 		}
-		out = append(out, "-test."+flagName(words[i]))
-		if takesValue && !hasValue && i+1 < len(words) {
-			i++
-			out = append(out, words[i])
+		b, isBool := f.Value.(interface{ IsBoolFlag() bool })
+		switch {
+		case hasValue:
+		case isBool && b.IsBoolFlag():
+			value = "true"
+		case len(args) == 0:
+			return &usageError{"test", fmt.Errorf("-%s needs a value", name)}
+		default:
+			value, args = args[0], args[1:]
+		}
+		if err := flags.Set(name, value); err != nil {
+			return &usageError{"test", fmt.Errorf("-%s %s: %w", name, value, err)}
 		}
 	}
-	return out, nil
+	return nil
 }
 
-// flagName is a flag's name, and its value if that stands behind =; "" where it is no flag.
-func flagName(word string) string {
-	if !strings.HasPrefix(word, "-") {
-		return ""
+// goTestFlag finds the flags of go test alone.
+func goTestFlag(flags *flag.FlagSet) func(string) *flag.Flag {
+	return func(name string) *flag.Flag {
+		f := flags.Lookup(name)
+		if f == nil {
+			return nil
+		}
+		if _, passed := f.Value.(*passedFlag); passed {
+			return f
+		}
+		switch name {
+		case "json", "p", "tags", "mod", "modfile":
+			return f
+		}
+		return nil
 	}
-	return strings.TrimPrefix(strings.TrimPrefix(word, "-"), "-")
 }
+
+func refused(name, why string) error {
+	text := "-" + name + " is a flag of go test that gorec doesn't have"
+	if why != "" {
+		text += ": " + why
+	}
+	return &usageError{"test", errors.New(text + "; behind -args it goes to the tests")}
+}
+
+// cutFlag is a flag's name, and its value if that stands behind =; "" where it is no flag.
+func cutFlag(word string) (name, value string, hasValue bool) {
+	if len(word) < 2 || word[0] != '-' {
+		return "", "", false
+	}
+	return strings.Cut(strings.TrimPrefix(word[1:], "-"), "=")
+}
+
+// programWords are those of the tests' program, with what go test adds.
+func (w *testWords) programWords() []string {
+	words := []string{"-test.paniconexit0"}
+	if !w.names["timeout"] {
+		words = append(words, "-test.timeout=10m0s")
+	}
+	if !w.names["outputdir"] {
+		for _, name := range profiles {
+			if base, err := os.Getwd(); err == nil && w.names[name] {
+				words = append(words, "-test.outputdir="+base)
+				break
+			}
+		}
+	}
+	return append(words, w.passed...)
+}
+
+// profiles are flags that name a file, which is below the folder of outputdir.
+var profiles = strings.Fields("blockprofile cpuprofile memprofile mutexprofile trace")

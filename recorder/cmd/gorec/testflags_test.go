@@ -1,30 +1,40 @@
 package main
 
 import (
+	"flag"
 	"strings"
 	"testing"
 )
 
+// TestTestWords: words are taken apart as go help test and go help testflag say.
 func TestTestWords(t *testing.T) {
-	for _, c := range []struct{ words, want string }{
-		{"", ""},
-		{"-run Race -v", "-test.run Race -test.v"},
-		{"-run=Race --count=2 -short", "-test.run=Race -test.count=2 -test.short"},
-		{"-test.run Race -test.v", "-test.run Race -test.v"},
-		{"-run -v", "-test.run -v"}, // as package flag takes it
-		{"-bench . -timeout 20s -parallel 2", "-test.bench . -test.timeout 20s -test.parallel 2"},
-		{"-own 3 word -v=true", "-own 3 word -test.v=true"},
-		{"-v -args -run x -race", "-test.v -run x -race"},
-		{"-v -race", "refused: -race is a flag of go test itself, which isn't run; behind -args it goes to the tests"},
-		{"-tags=x", "refused: -tags=x is a flag of go test itself, which isn't run; behind -args it goes to the tests"},
+	for _, c := range []struct{ words, packages, passed string }{
+		{"", "", ""},
+		{"./bank ./store -run X -v", "./bank ./store", "-test.run=X -test.v=true"},
+		{"-run X -v ./bank ./store", "./bank ./store", "-test.run=X -test.v=true"},
+		{"-run=Race ./a --count=2 -short", "./a", "-test.run=Race -test.count=2 -test.short=true"},
+		{"./a -test.run Race -test.v", "./a", "-test.run=Race -test.v=true"},
+		{". -run -v", ".", "-test.run=-v"}, // as package flag takes it
+		{"./... -bench . -timeout 20s -parallel 2", "./...", "-test.bench=. -test.timeout=20s -test.parallel=2"},
+		{". -own 3 -short word -v=true", ".", "-own 3 -test.short=true word -v=true"},
+		{". -v -args -run x -race", ".", "-test.v=true -run x -race"},
+		{"-seed 5 . -seed 7", ".", "-seed 7"}, // gorec's own flags stand in front
+		{"-tags x . -p 2 -json", ".", ""},
+		{". -v -race", "", "refused: test: -race is a flag of go test that gorec doesn't have: gorec looks for races itself; behind -args it goes to the tests (gorec help test)"},
+		{"-none .", "", "refused: test: gorec and go test don't know -none; a flag of the tests stands behind the packages (gorec help test)"},
+		{". -run", "", "refused: test: -run needs a value (gorec help test)"},
+		{". -timeout 5", "", `refused: test: -timeout 5: time: missing unit in duration "5" (gorec help test)`},
 	} {
-		words, err := testWords(strings.Fields(c.words))
-		got := strings.Join(words, " ")
+		var r testRun
+		flags := flag.NewFlagSet("test", flag.ContinueOnError)
+		r.define(flags)
+		err := r.parse(flags, strings.Fields(c.words))
+		packages, passed := strings.Join(r.packages, " "), strings.Join(r.passed, " ")
 		if err != nil {
-			got = "refused: " + err.Error()
+			packages, passed = "", "refused: "+err.Error()
 		}
-		if got != c.want {
-			t.Errorf("%s: got %s", c.words, got)
+		if packages != c.packages || passed != c.passed {
+			t.Errorf("%s: got %s, %s", c.words, packages, passed)
 		}
 	}
 }

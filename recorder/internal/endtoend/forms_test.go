@@ -47,7 +47,7 @@ func TestSeveralPrograms(t *testing.T) {
 // TestAllCgo: a program in which nothing is recorded isn't run.
 func TestAllCgo(t *testing.T) {
 	p := &load.Package{Listed: &load.Listed{ImportPath: "a", Name: "main", CgoFiles: []string{"a.go"}}}
-	_, err := instrument.Packages([]*load.Package{p}, t.TempDir())
+	_, err := instrument.Packages(&load.Set{Packages: []*load.Package{p}}, "", t.TempDir(), nil)
 	if err == nil || err.Error() != "nothing can be recorded: each package has cgo" {
 		t.Error(err)
 	}

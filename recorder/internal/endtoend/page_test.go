@@ -16,7 +16,7 @@ const page = root + "/../docs/GETTING_STARTED.md"
 type block struct{ kind, text string }
 
 // counts differ from run to run: a goroutine may not have come to its end where main does.
-var counts = regexp.MustCompile(`\d+ (events|records|accesses)`)
+var counts = regexp.MustCompile(`\d+ (events|records|accesses)|\d+\.\d+s`)
 
 func readPage(t *testing.T) []block {
 	t.Helper()
@@ -34,9 +34,9 @@ func readPage(t *testing.T) []block {
 // script is a shell's input that does what a reader does, and the output that it wants.
 func script(blocks []block) (input, output string) {
 	for _, b := range blocks {
-		if b.kind == "go" {
-			name, _, _ := strings.Cut(strings.TrimPrefix(b.text, "// "), "\n")
-			input += "cat > " + name + " <<'END'\n" + b.text + "END\n"
+		if b.kind != "console" { // a file, of which the first line has the name
+			name, _, _ := strings.Cut(strings.TrimLeft(b.text, "/# "), "\n")
+			input += "mkdir -p $(dirname " + name + ") && cat > " + name + " <<'END'\n" + b.text + "END\n"
 			continue
 		}
 		for _, line := range strings.Split(strings.TrimSuffix(b.text, "\n"), "\n") {
@@ -85,14 +85,10 @@ fi
 
 func (r reader) follow(t *testing.T, input string) string {
 	t.Helper()
-	cache, err := exec.Command("go", "env", "GOCACHE").Output()
-	if err != nil {
-		t.Fatal(err)
-	}
 	cmd := exec.Command("bash")
 	cmd.Dir = r.clone
 	cmd.Stdin = strings.NewReader(input)
-	cmd.Env = append(os.Environ(), "HOME="+r.home, "GOCACHE="+strings.TrimSpace(string(cache)))
+	cmd.Env = append(os.Environ(), "HOME="+r.home, "XDG_CACHE_HOME=")
 	out, err := cmd.CombinedOutput()
 	if err != nil {
 		t.Fatalf("%v\n%s", err, out)

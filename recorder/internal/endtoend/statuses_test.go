@@ -27,13 +27,15 @@ func TestStatuses(t *testing.T) {
 		{clean, []string{"test", "./fails", "-run", "Fails", "-v"}, 21, "--- FAIL: TestFails"},
 		{clean, []string{"test", "./fails", "-test.run", "Passes"}, 0, "PASS\n"},
 		{clean, []string{"test", "./fails", "-run", "Passes", "-v"}, 0, "--- PASS: TestPasses"},
-		{clean, []string{"test", "./fails", "-race"}, 3, "gorec: -race is a flag of go test itself"},
-		{clean, []string{"test", "./runs"}, 3, "gorec: there are no test files in ./runs\n"},
+		{clean, []string{"test", "./fails", "-race"}, 3, "gorec: test: -race is a flag of go test that gorec doesn't have"},
 		{clean, []string{"build", "-tests", "-o", "/dev/null", "./runs"}, 3, "gorec: there are no test files in ./runs\n"},
 		{clean, []string{"run", "./library"}, 3, "gorec: there is no package main in ./library\n"},
 		{clean, []string{"test", "./fails", "-none"}, 21, "flag provided but not defined: -none"},
 	} {
-		args := append([]string{c.args[0], "-gorace", c.judge}, c.args[1:]...)
+		args := c.args
+		if args[0] != "build" {
+			args = append([]string{args[0], "-gorace", c.judge}, args[1:]...)
+		}
 		out, errs, status := runTool(t, args...)
 		if status != c.status || !strings.Contains(out+errs, c.told) {
 			t.Errorf("%v: status %d, not %d\n%s%s", c.args, status, c.status, out, errs)

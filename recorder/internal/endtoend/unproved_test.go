@@ -8,8 +8,8 @@ import (
 	"testing"
 )
 
-// judgeUnproved builds gorace once, before any proof, and has it check all traces.
-func judgeUnproved(t *testing.T, traces map[string]string) map[string]string {
+// askUnproved builds gorace once, before any proof, and has it do a command with all traces.
+func askUnproved(t *testing.T, command string, traces map[string]string) map[string]string {
 	t.Helper()
 	dir := t.TempDir()
 	for name, path := range traces {
@@ -22,7 +22,7 @@ func judgeUnproved(t *testing.T, traces map[string]string) map[string]string {
 		}
 	}
 	// The interpreter, which rt try runs too, can't run a program with arguments: one step ends it.
-	cmd := exec.Command("rt", "try", "--steps", "1", "--cases", dir, "--", "check")
+	cmd := exec.Command("rt", "try", "--steps", "1", "--cases", dir, "--", command)
 	cmd.Dir = root + "/../crates/gorace"
 	out, err := cmd.Output()
 	if _, ended := err.(*exec.ExitError); err != nil && !ended {

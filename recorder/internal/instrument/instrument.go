@@ -10,6 +10,7 @@ import (
 	"os/exec"
 	"path"
 	"path/filepath"
+	"regexp"
 	"sort"
 	"strings"
 
@@ -19,46 +20,61 @@ import (
 	"gorace.local/recorder/internal/sites"
 )
 
-// Copy is an instrumented program.
+// Copy is instrumented programs.
 type Copy struct {
-	Dir     string // a GOPATH: each package stands at its import path below src
-	Main    string // the import path of the main package, or of the tested one
-	Sites   sites.Table
-	Refused []string // what can't be recorded
-	Notes   []string // what is recorded in part
-	Missed  map[string]int
+	Dir      string // a GOPATH: each package stands at its import path below src
+	Programs []*Program
+	Sites    sites.Table
+	Notes    []string // what is recorded in part
 
 	oldLoops []string // packages whose loops have one variable each, with a newer Go
+	flags    []string // of the command go, with which the packages were listed
+}
+
+// Program is one that can be built of a copy.
+type Program struct {
+	*load.Program
+	Unseen  bool           // none of its packages is recorded
+	Refused []string       // what can't be recorded
+	Missed  map[string]int // calls whose accesses aren't recorded, by their names
+
+	path string // in the copy
+	copy *Copy
 }
 
 // tree is the work on a copy.
 type tree struct {
 	*Copy
-	own   map[string]bool
-	table *sites.Table
-	files string // where a program that is named by its files stands
-	loose int
+	base    string // the folder that places are relative to
+	own     map[string]bool
+	table   *sites.Table
+	files   string // where a program that is named by its files stands
+	loose   int
+	results map[string][]rewrite.Result // by the packages' import paths
 }
 
-// Packages writes an instrumented copy to dir, and the recorder beside it.
-func Packages(packages []*load.Package, dir string) (*Copy, error) {
+// Packages writes an instrumented copy to dir, and the recorder beside it. Places are relative
+// to the folder base; flags are those of the command go for the build.
+func Packages(set *load.Set, base, dir string, flags []string) (*Copy, error) {
 	t := &tree{
-		Copy:  &Copy{Dir: dir, Missed: map[string]int{}},
-		own:   map[string]bool{},
-		table: sites.New(),
+		Copy:    &Copy{Dir: dir, flags: flags},
+		base:    base,
+		own:     map[string]bool{},
+		table:   sites.New(),
+		results: map[string][]rewrite.Result{},
 	}
-	some := false
-	for _, p := range packages {
+	some := len(set.Packages) == 0
+	for _, p := range set.Packages {
 		t.own[p.ImportPath] = p.Recorded()
 		some = some || p.Recorded()
-		if p.ImportPath == "command-line-arguments" {
-			t.files = pathOf(packages, p.Dir)
+		if p.ImportPath == commandLine {
+			t.files = pathOf(set.Packages, p.Dir)
 		}
 	}
 	if !some {
 		return nil, errors.New("nothing can be recorded: each package has cgo")
 	}
-	for _, p := range packages {
+	for _, p := range set.Packages {
 		if err := t.add(p); err != nil {
 			return nil, err
 		}
@@ -67,9 +83,39 @@ func Packages(packages []*load.Package, dir string) (*Copy, error) {
 		t.Notes = append(t.Notes, fmt.Sprintf("%d calls in the keys and values of maps with keys of interface types, "+
 			"or in arguments, come behind the record of the use that they stand in", t.loose))
 	}
-	sort.Strings(t.Refused)
+	for _, p := range set.Programs {
+		t.Programs = append(t.Programs, t.program(p))
+	}
 	t.Sites = *t.table
 	return t.Copy, t.addRuntime()
+}
+
+// commandLine is the import path of a program that is named by its files.
+const commandLine = "command-line-arguments"
+
+// program gathers what is known of the packages of a program.
+func (t *tree) program(p *load.Program) *Program {
+	is := &Program{Program: p, Missed: map[string]int{}, path: p.ImportPath, copy: t.Copy}
+	if p.ImportPath == commandLine {
+		is.path = t.files
+	}
+	for path, results := range t.results {
+		if !p.Parts[path] {
+			continue
+		}
+		for _, r := range results {
+			is.Refused = append(is.Refused, r.Refused...)
+			for _, m := range r.Missed {
+				is.Missed[m]++
+			}
+		}
+	}
+	is.Unseen = true
+	for path := range p.Parts {
+		is.Unseen = is.Unseen && !t.own[path]
+	}
+	sort.Strings(is.Refused)
+	return is
 }
 
 // pathOf is the path of files that are in dir: below its own, so that they may import what is
@@ -96,14 +142,8 @@ func (t *tree) add(p *load.Package) error {
 		path = strings.TrimSuffix(path, "_test")
 		sitesFile = "gorec_sites_test.go"
 	}
-	if path == "command-line-arguments" {
+	if path == commandLine {
 		path = t.files
-	}
-	if p.ForTest == path || p.Name == "main" && p.ForTest == "" {
-		if t.Main != "" && t.Main != path {
-			return fmt.Errorf("%s and %s are programs both; name one", t.Main, path)
-		}
-		t.Main = path
 	}
 	to := filepath.Join(t.Dir, "src", filepath.FromSlash(path))
 	if err := copyFiles(p, to); err != nil {
@@ -116,18 +156,29 @@ func (t *tree) add(p *load.Package) error {
 	if p.NewToolchain() && !p.IterationVariables() {
 		t.oldLoops = append(t.oldLoops, path)
 	}
-	result := rewrite.Package(p, t.own, t.table)
-	t.Refused = append(t.Refused, result.Refused...)
+	result := rewrite.Package(p, t.base, t.own, t.table)
+	t.results[p.ImportPath] = append(t.results[p.ImportPath], result)
 	t.loose += result.Loose
-	for _, m := range result.Missed {
-		t.Missed[m]++
-	}
 	for i, text := range result.Files {
+		text = placed(text, p.Fset.File(p.Files[i].Pos()).Name())
 		if err := os.WriteFile(filepath.Join(to, filepath.Base(p.GoFiles[i])), []byte(text), 0o644); err != nil {
 			return err
 		}
 	}
 	return os.WriteFile(filepath.Join(to, sitesFile), []byte(result.Sites), 0o644)
+}
+
+// relativeLine is a line directive of a source that a tool made of another file beside it.
+var relativeLine = regexp.MustCompile(`(?m)^//line ([^/:\s][^:\n]*)(:\d+(:\d+)?)$`)
+
+// placed is a source that tells where it was copied from, so that panics, runtime.Caller and
+// profiles name the program's own file.
+func placed(text, file string) string {
+	text = relativeLine.ReplaceAllStringFunc(text, func(line string) string {
+		m := relativeLine.FindStringSubmatch(line)
+		return "//line " + filepath.Join(filepath.Dir(file), m[1]) + m[2]
+	})
+	return "//line " + file + ":1\n" + text
 }
 
 // copyFiles copies what a package is made of but for its Go files, which follow.
@@ -142,19 +193,18 @@ func copyFiles(p *load.Package, to string) error {
 		return err
 	}
 	for _, name := range names {
-		if err := copyFile(filepath.Join(p.Dir, name), filepath.Join(to, name)); err != nil {
+		b, err := os.ReadFile(filepath.Join(p.Dir, name))
+		if err != nil {
+			return err
+		}
+		if filepath.Ext(name) == ".go" && filepath.Dir(name) == "." {
+			b = []byte(placed(string(b), filepath.Join(p.Dir, name)))
+		}
+		if err := writeFile(filepath.Join(to, name), b); err != nil {
 			return err
 		}
 	}
 	return nil
-}
-
-func copyFile(from, to string) error {
-	b, err := os.ReadFile(from)
-	if err != nil {
-		return err
-	}
-	return writeFile(to, b)
 }
 
 func writeFile(path string, b []byte) error {
@@ -179,15 +229,24 @@ func (t *tree) addRuntime() error {
 	})
 }
 
+// goEnv is what go env says of a variable.
+func goEnv(name string) (string, error) {
+	value, err := exec.Command("go", "env", name).Output()
+	if err != nil {
+		return "", fmt.Errorf("go env: %w", err)
+	}
+	return strings.TrimSpace(string(value)), nil
+}
+
 // buildTags is the -tags of GOFLAGS, with which the packages were listed; its other flags are
 // those of modules. What go env -w sets holds only where GOFLAGS is empty.
 func buildTags() (string, error) {
-	flags, err := exec.Command("go", "env", "GOFLAGS").Output()
+	flags, err := goEnv("GOFLAGS")
 	if err != nil {
-		return "", fmt.Errorf("go env: %v", err)
+		return "", err
 	}
 	tags := ""
-	for _, f := range strings.Fields(string(flags)) {
+	for _, f := range strings.Fields(flags) {
 		if strings.HasPrefix(strings.TrimLeft(f, "-"), "tags=") {
 			tags = " " + f
 		}
@@ -195,25 +254,33 @@ func buildTags() (string, error) {
 	return tags, nil
 }
 
-// Build builds the copy as a program, or as one of tests.
-func (c *Copy) Build(program string, test bool) error {
+// Build builds a program, or one of tests, to a file, beside which the sites are written.
+// -trimpath lets the build cache serve copies in other folders; the sources tell where they
+// were copied from, and the linker where Go stands.
+func (p *Program) Build(run func(*exec.Cmd) error, file string, tests bool) error {
 	words := []string{"build"}
-	if test {
+	if tests {
 		words = []string{"test", "-vet=off", "-c"}
 	}
-	for _, path := range c.oldLoops { // a GOPATH has no go lines
+	for _, path := range p.copy.oldLoops { // a GOPATH has no go lines
 		words = append(words, "-gcflags="+path+"=-lang=go1.21")
 	}
 	tags, err := buildTags()
 	if err != nil {
 		return err
 	}
-	cmd := exec.Command("go", append(words, "-trimpath", "-o", program, c.Main)...)
-	cmd.Dir = c.Dir
-	cmd.Stdout, cmd.Stderr = os.Stderr, os.Stderr
-	cmd.Env = append(os.Environ(), "GOFLAGS=-trimpath"+tags, "GO111MODULE=off", "GOWORK=off", "GOPATH="+c.Dir)
-	if err := cmd.Run(); err != nil {
-		return fmt.Errorf("the instrumented copy doesn't build, which is a mistake of gorec: %v", err)
+	goroot, err := goEnv("GOROOT")
+	if err != nil {
+		return err
 	}
-	return c.Sites.Write(program + ".sites")
+	words = append(words, p.copy.flags...)
+	words = append(words, "-trimpath", "-ldflags=-X 'runtime.defaultGOROOT="+goroot+"'", "-o", file, p.path)
+	cmd := exec.Command("go", words...)
+	cmd.Dir = p.copy.Dir
+	cmd.Stdout, cmd.Stderr = os.Stderr, os.Stderr
+	cmd.Env = append(os.Environ(), "GOFLAGS=-trimpath"+tags, "GO111MODULE=off", "GOWORK=off", "GOPATH="+p.copy.Dir)
+	if err := run(cmd); err != nil {
+		return fmt.Errorf("the instrumented copy doesn't build, which is a mistake of gorec: %w", err)
+	}
+	return p.copy.Sites.Write(file + ".sites")
 }

@@ -29,7 +29,7 @@ func (r *rewriter) assign(s *ast.AssignStmt, inBlock bool) {
 	}
 }
 
-// isNew: a := declares e.
+// isNew reports whether a := declares e.
 func (r *rewriter) isNew(e ast.Expr, tok token.Token) bool {
 	id, ok := e.(*ast.Ident)
 	return ok && tok == token.DEFINE && r.info.Defs[id] != nil
@@ -161,7 +161,7 @@ func (r *rewriter) refusesSeveral(s *ast.AssignStmt) bool {
 	return false
 }
 
-// isTwo: v, ok = e.
+// isTwo reports whether an assignment is v, ok = e.
 func isTwo(s *ast.AssignStmt) bool { return len(s.Lhs) == 2 && len(s.Rhs) == 1 }
 
 // oneOfSeveral is one of several left sides.

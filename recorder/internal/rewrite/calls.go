@@ -23,7 +23,7 @@ func (r *rewriter) callee(e *ast.CallExpr) *types.Func {
 	return nil
 }
 
-// isMethodExpression: e is T.M.
+// isMethodExpression reports whether e is T.M.
 func (r *rewriter) isMethodExpression(e *ast.SelectorExpr) bool {
 	s := r.info.Selections[e]
 	return s != nil && s.Kind() == types.MethodExpr
@@ -99,8 +99,8 @@ func (r *rewriter) argument(e *ast.CallExpr, f *types.Func, i int) {
 	r.insert(a.End(), end)
 }
 
-// takesChannels: f may send, receive or close where its argument i is a channel. What is handed
-// over as an interface is only kept or printed, but by reflection.
+// takesChannels reports whether f may send, receive or close where its argument i is a channel.
+// What is handed over as an interface is only kept or printed, but by reflection.
 func (r *rewriter) takesChannels(f *types.Func, i int) bool {
 	if p := f.Pkg().Path(); p == "reflect" || strings.HasSuffix(p, "/template") {
 		return true

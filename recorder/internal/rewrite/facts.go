@@ -19,7 +19,7 @@ type facts struct {
 	results      map[ast.Node][]*types.Var
 }
 
-// shared: more than one goroutine may come to a local variable while it changes.
+// shared reports whether more than one goroutine may come to a local variable while it changes.
 func (f *facts) shared(v *types.Var) bool {
 	return f.captured[v] && f.written[v] || f.pointed[v]
 }
@@ -101,7 +101,7 @@ func (f *facts) node(n, function ast.Node) {
 	}
 }
 
-// method: one with a pointer receiver takes the address of what it is called on.
+// method notes that one with a pointer receiver takes the address of what it is called on.
 func (f *facts) method(n *ast.SelectorExpr) {
 	s := f.info.Selections[n]
 	if s == nil || s.Kind() != types.MethodVal {

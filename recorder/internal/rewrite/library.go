@@ -160,7 +160,7 @@ func (r *rewriter) lastCalling(args []ast.Expr) int {
 	return -1
 }
 
-// isSimple: to evaluate e twice does nothing more.
+// isSimple reports whether to evaluate e twice does nothing more.
 func isSimple(e ast.Expr) bool {
 	switch e := unparen(e).(type) {
 	case *ast.Ident:
@@ -220,12 +220,12 @@ func streamCall(in bool) string {
 	return "StreamOut"
 }
 
-// readsStream: one of the streamFunctions reads what its argument i is.
+// readsStream reports whether one of the streamFunctions reads what its argument i is.
 func readsStream(full string, i int) bool {
 	return strings.Contains(full, ".Fscan") || strings.Contains(full, ".Read") || i == 1 && strings.HasPrefix(full, "io.Copy")
 }
 
-// isEnd: the type is that of a file or a connection.
+// isEnd reports whether the type is that of a file or a connection.
 func isEnd(t types.Type) bool {
 	n, ok := pointee(t).(*types.Named)
 	if !ok || n.Obj().Pkg() == nil {
@@ -235,8 +235,8 @@ func isEnd(t types.Type) bool {
 	return outTypes[name] || name == "io.PipeReader"
 }
 
-// mayStream: a value of the type may be a Reader or a Writer of which the recorder follows
-// what it holds, as a file is none.
+// mayStream reports whether a value of the type may be a Reader or a Writer of which the recorder
+// follows what it holds, as a file is none.
 func mayStream(t types.Type) bool {
 	n, ok := pointee(t).(*types.Named)
 	if isInterface(t) || !ok || n.Obj().Pkg() == nil {
@@ -246,7 +246,7 @@ func mayStream(t types.Type) bool {
 	return ok
 }
 
-// leads: from a value of the type a function may come to memory.
+// leads reports whether from a value of the type a function may come to memory.
 func leads(t types.Type) bool {
 	switch t := under(t).(type) {
 	case *types.Pointer, *types.Slice, *types.Map, *types.Interface:
@@ -263,7 +263,7 @@ func leads(t types.Type) bool {
 	return false
 }
 
-// readsElements: a function of the standard library reads the elements of slices.
+// readsElements reports whether a function of the standard library reads the elements of slices.
 func readsElements(f *types.Func) bool {
 	top, _, _ := strings.Cut(f.Pkg().Path(), "/")
 	if !readingPackages[top] {

@@ -30,7 +30,7 @@ func (r *rewriter) name(e ast.Expr) string {
 	return "x"
 }
 
-// refuseOwnName: what is called gorec would hide the recorder from its calls.
+// refuseOwnName refuses what is called gorec, which would hide the recorder from its calls.
 func (s *shared) refuseOwnName() {
 	refuse := func(n ast.Node, o types.Object) {
 		if v, ok := o.(*types.Var); o == nil || o.Name() != "gorec" || ok && v.IsField() {
@@ -108,7 +108,7 @@ func addFields(names map[uint64]string, t types.Type, offset int64, prefix strin
 	}
 }
 
-// hasParameter: the size of t may depend on a type parameter.
+// hasParameter reports whether the size of t may depend on a type parameter.
 func hasParameter(t types.Type) bool {
 	switch t := t.(type) {
 	case *types.TypeParam:

@@ -188,7 +188,8 @@ func (l *loop) setAll(left []ast.Expr, values []string) string {
 	return " gorec.To2(" + text + ").Set(" + strings.Join(values, ", ") + ");"
 }
 
-// mayDepend: one of two left sides may be another location once the other one is set.
+// mayDepend reports whether one of two left sides may be another location once the other one is
+// set.
 func (l *loop) mayDepend(left []ast.Expr) bool {
 	names := 0
 	for _, e := range left {

@@ -96,7 +96,7 @@ func (r *rewriter) embeddedFields(e *ast.SelectorExpr) []*types.Var {
 	return fields
 }
 
-// canName: the embedded fields can be named in this package.
+// canName reports whether the embedded fields can be named in this package.
 func (r *rewriter) canName(e *ast.SelectorExpr) bool {
 	for _, f := range r.embeddedFields(e) {
 		if !f.Exported() && f.Pkg() != r.p.Types {

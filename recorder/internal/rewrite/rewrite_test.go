@@ -85,7 +85,7 @@ func form(t *testing.T, name, body string) string {
 	t.Helper()
 	start := "func form(bytes []byte) {\n"
 	p := checked(t, name, prelude+start+body+"\n}\n")
-	result := Package(p, map[string]bool{"forms": true}, sites.New())
+	result := Package(p, "", map[string]bool{"forms": true}, sites.New())
 	_, text, _ := strings.Cut(result.Files[0], start)
 	text, _, _ = strings.Cut(text, "\n}\n\nvar _ gorec.Site")
 	for _, r := range result.Refused {

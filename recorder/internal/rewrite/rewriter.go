@@ -8,6 +8,7 @@ import (
 	"go/ast"
 	"go/token"
 	"go/types"
+	"path/filepath"
 	"sort"
 	"strings"
 
@@ -42,6 +43,7 @@ type rewriter struct {
 // shared is the work on a package.
 type shared struct {
 	p        *load.Package
+	base     string // the folder that places are relative to
 	info     *types.Info
 	facts    *facts
 	own      map[string]bool // paths of the packages that are recorded
@@ -51,9 +53,10 @@ type shared struct {
 	result   Result
 }
 
-// Package rewrites a package; own has the paths of the packages that are rewritten.
-func Package(p *load.Package, own map[string]bool, table *sites.Table) Result {
-	s := &shared{p: p, info: p.Info, facts: factsOf(p), own: own, table: table}
+// Package rewrites a package. Places are relative to the folder base, and own has the paths of
+// the packages that are rewritten.
+func Package(p *load.Package, base string, own map[string]bool, table *sites.Table) Result {
+	s := &shared{p: p, base: base, info: p.Info, facts: factsOf(p), own: own, table: table}
 	for i, f := range p.Files {
 		r := &rewriter{shared: s, file: f, keep: map[string]bool{}, behind: map[ast.Expr]string{}, pointers: map[ast.Node]string{}}
 		r.src = p.Sources[i]
@@ -159,10 +162,18 @@ func (r *rewriter) isTest(d *ast.FuncDecl) bool {
 	return false
 }
 
-// place is a line of the source, relative to the module.
+// place is a line of the source, as the command go prints it.
 func (s *shared) place(pos token.Pos) string {
 	p := s.p.Fset.Position(pos)
-	return fmt.Sprintf("%s:%d", strings.TrimPrefix(strings.TrimPrefix(p.Filename, s.p.Root()), "/"), p.Line)
+	return fmt.Sprintf("%s:%d", shortPath(s.base, p.Filename), p.Line)
+}
+
+// shortPath is a file's path from base, unless that is longer than the file's own.
+func shortPath(base, file string) string {
+	if rel, err := filepath.Rel(base, file); err == nil && len(rel) < len(file) {
+		return rel
+	}
+	return file
 }
 
 // site is the text of a new site's address.

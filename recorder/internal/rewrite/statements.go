@@ -211,8 +211,8 @@ func (r *rewriter) startedArguments(c *ast.CallExpr) (before, args string) {
 	return before, args
 }
 
-// isUntyped: e has its type from what it is handed to, and would have another one by itself,
-// as a comparison or 1 << n.
+// isUntyped reports whether e has its type from what it is handed to, and would have another one
+// by itself, as a comparison or 1 << n.
 func (r *rewriter) isUntyped(e ast.Expr) bool {
 	if r.isConstant(e) {
 		return true

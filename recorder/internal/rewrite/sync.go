@@ -74,8 +74,8 @@ func (r *rewriter) syncMethod(e *ast.SelectorExpr, m *types.Func) bool {
 	return true
 }
 
-// mayHoldSync: the X of X.M is an interface that has methods of one of package sync's types
-// and no others.
+// mayHoldSync reports whether the X of X.M is an interface that has methods of one of package
+// sync's types and no others.
 func (r *rewriter) mayHoldSync(e *ast.SelectorExpr) bool {
 	t := r.typeOf(e.X)
 	iface, ok := under(t).(*types.Interface)
@@ -94,7 +94,7 @@ func (r *rewriter) mayHoldSync(e *ast.SelectorExpr) bool {
 	return false
 }
 
-// isLockerMethod: m is Lock or Unlock of an interface that has both.
+// isLockerMethod reports whether m is Lock or Unlock of an interface that has both.
 func isLockerMethod(m *types.Func) bool {
 	recv := m.Type().(*types.Signature).Recv()
 	if recv == nil || m.Name() != "Lock" && m.Name() != "Unlock" {

@@ -144,7 +144,7 @@ func (r *rewriter) isMap(e ast.Expr) bool {
 	return ok
 }
 
-// isLoose: e is a map whose keys Go 1.19 doesn't take for comparable.
+// isLoose reports whether e is a map whose keys Go 1.19 doesn't take for comparable.
 func (r *rewriter) isLoose(e ast.Expr) bool {
 	m, ok := core(r.typeOf(e)).(*types.Map)
 	return ok && !comparable119(m.Key())
@@ -155,7 +155,7 @@ func (r *rewriter) isChan(e ast.Expr) bool {
 	return ok
 }
 
-// isConstant: nothing is evaluated for e.
+// isConstant reports whether nothing is evaluated for e.
 func (r *rewriter) isConstant(e ast.Expr) bool {
 	tv, ok := r.info.Types[e]
 	return ok && (tv.Value != nil || tv.IsType() || tv.IsBuiltin() || tv.IsNil())
@@ -169,7 +169,7 @@ func (r *rewriter) mapElement(e ast.Expr) *ast.IndexExpr {
 	return nil
 }
 
-// isRecorded: e is a location that more than one goroutine may come to.
+// isRecorded reports whether e is a location that more than one goroutine may come to.
 func (r *rewriter) isRecorded(e ast.Expr) bool {
 	switch e := unparen(e).(type) {
 	case *ast.Ident:
@@ -200,7 +200,7 @@ func (r *rewriter) isRecorded(e ast.Expr) bool {
 	return false
 }
 
-// calls: a call or a receive is made in one of es, outside of function literals.
+// calls reports whether a call or a receive is made in one of es, outside of function literals.
 func (r *rewriter) calls(es ...ast.Expr) bool { return r.countCalls(es...) > 0 }
 
 func (r *rewriter) countCalls(es ...ast.Expr) int {

@@ -6,6 +6,7 @@ import (
 	"bufio"
 	"fmt"
 	"os"
+	"sort"
 	"strconv"
 	"strings"
 )
@@ -49,12 +50,23 @@ func (t Table) Write(path string) error {
 	var b strings.Builder
 	for _, s := range t {
 		fmt.Fprintf(&b, "%s\t%s", s.Place, s.Name)
-		for offset, name := range s.Fields {
-			fmt.Fprintf(&b, "\t%d=%s", offset, name)
+		for _, offset := range s.offsets() {
+			fmt.Fprintf(&b, "\t%d=%s", offset, s.Fields[offset])
 		}
 		b.WriteByte('\n')
 	}
 	return os.WriteFile(path, []byte(b.String()), 0o644)
+}
+
+// offsets are those of the fields, in their order, so that files are the same from build to
+// build.
+func (s *Site) offsets() []uint64 {
+	var list []uint64
+	for offset := range s.Fields {
+		list = append(list, offset)
+	}
+	sort.Slice(list, func(i, j int) bool { return list[i] < list[j] })
+	return list
 }
 
 // Read reads what Write wrote.

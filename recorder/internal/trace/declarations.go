@@ -12,10 +12,11 @@ import (
 const (
 	maxGoroutines = 1024
 	maxKind       = 65535
+	maxEvents     = 1 << 24
 	longestName   = 48 // so that a number fits behind it
 )
 
-var maxEvents = 1 << 24 // less in a test
+const tooManyGoroutines = "more than 1,024 goroutines at once, or that nothing joins"
 
 // names gives each thing a name of its own.
 type names map[string]int
@@ -65,6 +66,7 @@ type declarer struct {
 	counts   map[wire.Op]int
 	end      int // the record at which the trace is cut off
 	cut      string
+	printed  func(p *printer, i int) // called behind the events of each record
 }
 
 func declare(l *lender, table sites.Table) *declarer {
@@ -74,12 +76,15 @@ func declare(l *lender, table sites.Table) *declarer {
 		names:    names{"main": 1},
 		channels: map[uint32]string{},
 		counts:   map[wire.Op]int{},
-		end:      len(l.records),
+		end:      l.to,
+	}
+	if l.to < len(l.records) {
+		d.cut = tooManyGoroutines
 	}
 	for g := uint32(1); g <= l.started; g++ {
 		d.names[d.goroutine(g)] = 1
 	}
-	for i := range l.records {
+	for i := range l.records[:l.to] {
 		if d.end < i {
 			break
 		}
@@ -122,7 +127,7 @@ func (d *declarer) record(i int) {
 		}
 	case wire.AtomicRead, wire.AtomicWrite:
 		o := &d.objects[r.Object]
-		if i < d.begin || !o.mixed() || o.atomics[r.Goroutine] != "" || !d.room(i, wire.DeclareVar, "variables") {
+		if i < d.begin || !d.inGroup(r.Object) || !o.mixed() || o.atomics[r.Goroutine] != "" || !d.room(i, wire.DeclareVar, "variables") {
 			return
 		}
 		name := d.names.take(d.variableName(o) + "_atomic_" + d.goroutine(r.Goroutine))
@@ -151,7 +156,7 @@ func (d *declarer) declareGoroutine(i int, r *wire.Record) {
 	switch {
 	case !d.alive[r.Other]:
 	case i >= d.lender.end:
-		d.cutAt(i, "more than 1,024 goroutines at once, or that nothing joins")
+		d.cutAt(i, tooManyGoroutines)
 	case d.lent[r.Other]:
 		if d.room(i, wire.DeclareChan, "channels") {
 			d.counts[wire.Go]++
@@ -222,7 +227,7 @@ func (d *declarer) order(i int, o *object) {
 // variableName is the name at a variable's first site, and that of its field.
 func (d *declarer) variableName(o *object) string {
 	site := d.table[o.site]
-	if o.kind != wire.VarMemory {
+	if wire.VarKind(o.kind) != wire.VarMemory {
 		return site.Name
 	}
 	if field := site.Fields[o.value]; field != "" {

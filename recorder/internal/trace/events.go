@@ -60,11 +60,14 @@ func (d *declarer) print(out io.Writer) (*printer, error) {
 	fmt.Fprintf(p.out, "gotrace %d\n", p.Version)
 	p.out.WriteString(d.text.String())
 	for i := 0; i < d.end; i++ {
-		if p.events+p.most(i) > maxEvents {
-			d.cutAt(i, "more than 16,777,216 events")
+		if p.events+p.most(i) > d.limit() {
+			d.cutAt(i, fmt.Sprintf("more than %s events", thousands(d.limit())))
 			break
 		}
 		p.print(i)
+		if d.printed != nil {
+			d.printed(p, i)
+		}
 	}
 	if p.fault != "" && d.end == len(d.records) {
 		p.out.WriteString(p.fault)
@@ -92,7 +95,7 @@ func (p *printer) print(i int) {
 		p.start(r)
 	case wire.Exit:
 		// where names are lent, who exits may go on under another's go
-		if p.alive[r.Goroutine] && !p.isLending() {
+		if p.alive[r.Goroutine] && !p.isLending() && p.ends(i) {
 			p.event("exit", r, "")
 		}
 	case wire.Default:
@@ -124,11 +127,12 @@ func (p *printer) word(op wire.Op) string {
 	return words[op]
 }
 
-func (p *printer) isLending() bool { return p.living() > maxGoroutines }
+func (p *printer) isLending() bool { return p.living() > p.goroutineLimit() }
 
 // access writes an access. Where atomic operations come to the location too, each goroutine
 // that does them has a variable of its own, which they read or write; a plain access does so
-// with all of them. So two atomic operations don't race, and one with a plain access does.
+// with all of them. So two atomic operations don't race, and one with a plain access does. The
+// writes of a variable are numbered, so that each read finds the last one.
 func (p *printer) access(r *wire.Record) {
 	o := &p.objects[r.Object]
 	if r.Op == wire.AtomicRead || r.Op == wire.AtomicWrite {
@@ -136,7 +140,10 @@ func (p *printer) access(r *wire.Record) {
 		return
 	}
 	if o.several && o.written || p.All {
-		p.valued(words[r.Op], r, o.name, r.Value^o.base)
+		if r.Op == wire.Write {
+			o.writes++
+		}
+		p.valued(words[r.Op], r, o.name, o.writes)
 	}
 	if o.mixed() {
 		for g, name := range o.atomics {
@@ -159,9 +166,12 @@ func (p *printer) start(r *wire.Record) {
 	} else {
 		p.event("go", r, name)
 	}
-	s := Start{By: p.goroutines[r.Goroutine], Place: p.table[r.Site].Place, Event: p.events}
-	if r.Kind == wire.GoForeign {
+	s := Start{By: p.goroutines[r.Goroutine], Place: p.table[r.Site].Place, Event: p.events, Stack: r.OtherSite}
+	if wire.GoKind(r.Kind) == wire.GoForeign {
 		s.Place = "a place that isn't recorded"
+	}
+	if wire.GoKind(r.Kind) == wire.GoEarlier {
+		s.By = ""
 	}
 	p.starts[name] = append(p.starts[name], s)
 }

@@ -42,6 +42,52 @@ type lender struct {
 	end     int // the record at which no number was left
 }
 
+// named numbers the goroutines that have a name. Where there are too many at once, the trace
+// goes as far as names last for those that do something; who was started and did nothing up to
+// there has none.
+func named(records []wire.Record, o Options) *lender {
+	l := lend(newSurvey(records, len(records), o))
+	if l.end == len(records) || o.All {
+		return l
+	}
+	if end := l.crowd(); end > l.end {
+		return lend(newSurvey(records, end, o))
+	}
+	return l
+}
+
+// crowd is the first record of a goroutine that has no name any more, if each of those that do
+// something has one, and each that started one of these.
+func (s *survey) crowd() int {
+	starter := make([]uint32, s.started+1)
+	named := make([]bool, s.started+1)
+	named[0] = true
+	names := 1
+	for i := range s.records {
+		r := &s.records[i]
+		if r.Op == wire.Go {
+			starter[r.Other] = r.Goroutine
+		}
+		if !s.kept(i) && !s.isFault(r) {
+			continue
+		}
+		who := [...]uint32{r.Goroutine, r.Goroutine}
+		if r.Op == wire.Meet {
+			who[1] = r.Other
+		}
+		for _, g := range who {
+			for ; !named[g]; g = starter[g] {
+				named[g] = true
+				names++
+			}
+		}
+		if names > s.goroutineLimit() {
+			return i
+		}
+	}
+	return len(s.records)
+}
+
 // lend numbers the goroutines that are alive.
 func lend(s *survey) *lender {
 	l := &lender{
@@ -51,15 +97,15 @@ func lend(s *survey) *lender {
 		clocks:  make([]clock, s.started+1),
 		counts:  []uint32{0},
 		pairs:   map[uint32]*pairing{},
-		end:     len(s.records),
+		end:     s.to,
 	}
 	for g := range l.numbers {
 		l.numbers[g] = g
 	}
-	if s.living() <= maxGoroutines {
+	if s.living() <= s.goroutineLimit() {
 		return l
 	}
-	for i := range s.records {
+	for i := range s.records[:s.to] {
 		r := &s.records[i]
 		switch {
 		case r.Op == wire.Go:
@@ -68,7 +114,7 @@ func lend(s *survey) *lender {
 				return l
 			}
 		case r.Op == wire.Exit:
-			if s.alive[r.Goroutine] && r.Goroutine != 0 {
+			if s.alive[r.Goroutine] && r.Goroutine != 0 && s.ends(i) {
 				l.free = append(l.free, l.numbers[r.Goroutine])
 				l.clocks[r.Goroutine] = nil
 			}
@@ -95,7 +141,7 @@ func (l *lender) start(r *wire.Record) bool {
 		}
 	}
 	if number < 0 {
-		if len(l.counts) == maxGoroutines {
+		if len(l.counts) == l.goroutineLimit() {
 			return false
 		}
 		number = len(l.counts)
@@ -157,7 +203,8 @@ func (l *lender) follow(r *wire.Record) {
 	}
 }
 
-// followBuffer: from send number k to receive number k, and from that to send k + capacity.
+// followBuffer adds the edges from send number k to receive number k, and from that to send
+// k + capacity.
 func (l *lender) followBuffer(r *wire.Record, c clock) {
 	p := l.pairing(r.Object)
 	if r.Op == wire.Receive {

@@ -14,12 +14,18 @@ import (
 // Log is the records of a run. It may still be written.
 type Log struct {
 	mapped  []byte
+	header  *wire.Header
 	records []wire.Record
 }
 
 // Open maps a log into memory.
 func Open(path string) (*Log, error) {
-	f, err := os.Open(path)
+	protection := syscall.PROT_READ | syscall.PROT_WRITE
+	f, err := os.OpenFile(path, os.O_RDWR, 0)
+	if os.IsPermission(err) {
+		protection = syscall.PROT_READ
+		f, err = os.Open(path)
+	}
 	if err != nil {
 		return nil, err
 	}
@@ -31,26 +37,43 @@ func Open(path string) (*Log, error) {
 	if st.Size() < wire.Size {
 		return nil, fmt.Errorf("%s is no log", path)
 	}
-	b, err := syscall.Mmap(int(f.Fd()), 0, int(st.Size()), syscall.PROT_READ, syscall.MAP_SHARED)
+	b, err := syscall.Mmap(int(f.Fd()), 0, int(st.Size()), protection, syscall.MAP_SHARED)
 	if err != nil {
 		return nil, err
 	}
-	records := unsafe.Slice((*wire.Record)(unsafe.Pointer(&b[0])), len(b)/wire.Size)
-	if records[0].Value != wire.Magic {
+	header := (*wire.Header)(unsafe.Pointer(&b[0]))
+	if header.Magic != wire.Magic {
 		syscall.Munmap(b)
 		return nil, fmt.Errorf("%s is no log of this gorec", path)
 	}
-	return &Log{b, records}, nil
+	records := unsafe.Slice((*wire.Record)(unsafe.Pointer(&b[0])), len(b)/wire.Size)[1:]
+	return &Log{b, header, records}, nil
 }
 
 // Len is how many records the log has.
-func (l *Log) Len() int { return int(atomic.LoadUint32(&l.records[0].Goroutine)) - 1 }
+func (l *Log) Len() int { return int(atomic.LoadUint32(&l.header.Records)) }
 
-// Records are those up to Len.
-func (l *Log) Records() []wire.Record { return l.records[1 : l.Len()+1] }
+// Records are those up to Len, in the order in which the operations were done.
+func (l *Log) Records() []wire.Record {
+	records := inOrder(l.records[:l.Len()])
+	renumber(records)
+	return records
+}
+
+// GoesOn reports whether the run has another log, so that this one is whole.
+func (l *Log) GoesOn() bool { return l.Successor() != wire.NoSuccessor }
+
+// Successor says why the run has another log, if it does.
+func (l *Log) Successor() wire.Successor { return wire.Successor(atomic.LoadUint32(&l.header.Next)) }
+
+// Done tells the recorded program that the log isn't needed any more.
+func (l *Log) Done() { atomic.StoreUint32(&l.header.Judged, 1) }
+
+// Variables is how many variables the program has used, those without a record too.
+func (l *Log) Variables() int { return int(atomic.LoadUint32(&l.header.Variables)) }
 
 // Version is that of the trace which the log is for.
-func (l *Log) Version() int { return int(l.records[0].Kind) }
+func (l *Log) Version() int { return int(l.header.Version) }
 
 // Close unmaps the log.
 func (l *Log) Close() error { return syscall.Munmap(l.mapped) }

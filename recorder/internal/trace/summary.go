@@ -4,16 +4,19 @@ import (
 	"fmt"
 	"io"
 	"sort"
+	"strconv"
 	"strings"
 
 	"gorace.local/recorder/internal/sites"
 	"gorace.local/recorder/wire"
 )
 
-// Start is where a goroutine was started, before the event that is counted from 1.
+// Start is where a goroutine was started, before the event that is counted from 1. By is "" for
+// one that was started before the segment.
 type Start struct {
 	By, Place string
 	Event     int
+	Stack     uint32 // the number of the calls that led there, 0 for none known
 }
 
 // Count is how many of what was met are in a trace.
@@ -23,36 +26,78 @@ type Count struct{ Kept, Met int }
 type Summary struct {
 	Records, Events                        int
 	Goroutines, Variables, Channels, Locks Count
-	Names                                  int                // of the goroutines in the trace
-	Starts                                 map[string][]Start // by the goroutine's name
-	Cut                                    string             // why the trace is cut off, and where
-	unseen                                 map[string]int     // places and names of reads that found unrecorded writes
-	losses                                 [wire.Losses]map[string]int
+	Names                                  int                             // of the goroutines in the trace
+	Starts                                 map[string][]Start              // by the goroutine's name
+	Cut                                    string                          // why the trace is cut off, and where
+	unseen                                 map[string]int                  // places and names of reads that found unrecorded writes
+	losses                                 [wire.Losses + 1]map[string]int // the last: tests
 }
 
 // Options are what is asked of a trace.
 type Options struct {
 	Version int  // of its text
 	All     bool // what one goroutine alone does isn't left out
+
+	Goroutines int // names of goroutines at most; 0: as many as a trace may have
+	Variables  int // how many were met, if it is known; else as many as have a record
+	Events     int // at most so many, 0 for as many as a trace may have
+
+	groups groups // of the variables, unless a trace has all
+	group  uint16
 }
 
-// hasTries: the version has words for TryLock and TryRLock, with and without success.
+// limit is the most events.
+func (o Options) limit() int {
+	if o.Events > 0 && o.Events < maxEvents {
+		return o.Events
+	}
+	return maxEvents
+}
+
+// thousands is a number with commas.
+func thousands(n int) string {
+	s := strconv.Itoa(n)
+	for i := len(s) - 3; i > 0; i -= 3 {
+		s = s[:i] + "," + s[i:]
+	}
+	return s
+}
+
+// hasTries reports whether the version has words for TryLock and TryRLock, with and without
+// success.
 func (o Options) hasTries() bool { return o.Version >= 2 }
+
+// goroutineLimit is how many names of goroutines there may be.
+func (o Options) goroutineLimit() int {
+	if o.Goroutines > 0 {
+		return o.Goroutines
+	}
+	return maxGoroutines
+}
 
 // Write writes the trace of a log. What one goroutine alone does with a variable, a channel,
 // a lock or a once is left out, unless all is wanted.
+// Write writes the trace of records that are in order, up to where a limit is reached. What one
+// goroutine alone does with a variable, a channel, a lock or a once is left out, unless all is
+// wanted.
 func Write(records []wire.Record, table sites.Table, o Options, out io.Writer) (*Summary, error) {
-	d := declare(lend(newSurvey(records, o)), table)
+	s, _, err := write(records, table, o, out)
+	return s, err
+}
+
+// write answers also how many of the records have become a trace.
+func write(records []wire.Record, table sites.Table, o Options, out io.Writer) (s *Summary, end int, err error) {
+	d := declare(named(records, o), table)
 	p, err := d.print(out)
 	if err != nil {
-		return nil, err
+		return nil, 0, err
 	}
-	s := &Summary{Records: len(records), Events: p.events, Starts: p.starts, unseen: map[string]int{}}
+	s = &Summary{Records: d.end, Events: p.events, Starts: p.starts, unseen: map[string]int{}}
 	s.count(d)
 	for i := range s.losses {
 		s.losses[i] = map[string]int{}
 	}
-	for i := range records {
+	for i := range records[:d.end] {
 		s.look(&records[i], d)
 	}
 	if d.cut != "" {
@@ -61,7 +106,7 @@ func Write(records []wire.Record, table sites.Table, o Options, out io.Writer) (
 			s.Cut += fmt.Sprintf(", at %s", table[records[d.end].Site].Place)
 		}
 	}
-	return s, nil
+	return s, d.end, nil
 }
 
 // count counts what was met, and which of it has a name in the trace. Among the channels are
@@ -82,6 +127,9 @@ func (s *Summary) count(d *declarer) {
 			c.Kept++
 		}
 	}
+	if s.Variables.Met < d.Variables {
+		s.Variables.Met = d.Variables
+	}
 }
 
 func (s *Summary) look(r *wire.Record, d *declarer) {
@@ -89,9 +137,50 @@ func (s *Summary) look(r *wire.Record, d *declarer) {
 	case wire.Unseen:
 		s.unseen[d.table[r.Site].Place+" ("+d.variableName(&d.objects[r.Object])+")"]++
 	case wire.Lost:
-		s.losses[r.Kind][d.table[r.Site].Place]++
+		kind, site := int(r.Kind), d.table[r.Site]
+		if kind == int(wire.LostGoroutine) && isTest(site) {
+			kind = int(wire.Losses)
+		}
+		s.losses[kind][site.Place]++
 	case wire.Full:
-		d.cut = "the log has no room for more records"
+		if d.cut == "" {
+			d.cut = "the log has no room for more records"
+		}
+	}
+}
+
+// isTest reports whether a goroutine that is met at a site is a test's, which package testing
+// started.
+func isTest(s sites.Site) bool {
+	file, _, _ := strings.Cut(s.Place, ":")
+	return s.Name == "test" && strings.HasSuffix(file, "_test.go")
+}
+
+// Add adds what another segment has; the counts of both are summed, also those of what is in
+// both.
+func (s *Summary) Add(t *Summary) {
+	s.Records += t.Records
+	s.Events += t.Events
+	s.Names += t.Names
+	for _, c := range [][2]*Count{
+		{&s.Goroutines, &t.Goroutines}, {&s.Variables, &t.Variables}, {&s.Channels, &t.Channels}, {&s.Locks, &t.Locks},
+	} {
+		c[0].Kept += c[1].Kept
+		c[0].Met += c[1].Met
+	}
+	if s.unseen == nil {
+		s.unseen = map[string]int{}
+	}
+	for k, n := range t.unseen {
+		s.unseen[k] += n
+	}
+	for i := range s.losses {
+		if s.losses[i] == nil {
+			s.losses[i] = map[string]int{}
+		}
+		for k, n := range t.losses[i] {
+			s.losses[i][k] += n
+		}
 	}
 }
 
@@ -110,16 +199,22 @@ func (s *Summary) Counts() string {
 func (s *Summary) Losses() string {
 	var parts []string
 	for _, l := range []struct {
-		counts map[string]int
-		what   string
+		counts    map[string]int
+		one, more string
+		what      string
 	}{
-		{s.unseen, "reads found writes by code that isn't recorded, whose races aren't told"},
-		{s.losses[wire.LostGoroutine], "goroutines were started by code that isn't recorded, so races with them may be missed"},
-		{s.losses[wire.LostChannel], "channels are used by code that isn't recorded, so races may be told that they order"},
-		{s.losses[wire.LostLocker], "lockers are of types that aren't recorded, so races may be told that they order"},
+		{s.unseen, "read", "reads", "found writes by code that isn't recorded, whose races aren't told"},
+		{s.losses[wire.LostGoroutine], "goroutine was", "goroutines were", "started by code that isn't recorded, so races with them may be missed"},
+		{s.losses[wire.Losses], "test", "tests", "began in package testing, which isn't recorded"},
+		{s.losses[wire.LostChannel], "channel is", "channels are", "used by code that isn't recorded, so races may be told that they order"},
+		{s.losses[wire.LostLocker], "locker is", "lockers are", "of types that aren't recorded, so races may be told that they order"},
 	} {
-		if n := total(l.counts); n > 0 {
-			parts = append(parts, fmt.Sprintf("%d %s (%s)", n, l.what, first(l.counts)))
+		switch n := total(l.counts); n {
+		case 0:
+		case 1:
+			parts = append(parts, fmt.Sprintf("1 %s %s (%s)", l.one, l.what, first(l.counts)))
+		default:
+			parts = append(parts, fmt.Sprintf("%d %s %s (%s)", n, l.more, l.what, first(l.counts)))
 		}
 	}
 	return strings.Join(parts, "; ")

@@ -6,44 +6,61 @@ import "gorace.local/recorder/wire"
 type object struct {
 	op    wire.Op // its declaration, or Release
 	kind  uint8
+	word  wire.Op // for an order: the declaration of what stands for it
 	site  uint32
 	value uint64
 
-	user    int64 // the first goroutine that uses it, -1 for none
-	several bool  // more than one does
+	user    int64  // the first goroutine that uses it, -1 for none
+	writes  uint64 // of a variable, that are written
+	waiting int    // of a channel: values in its buffer
+	several bool   // more than one goroutine uses it
 	written bool
-	base    uint64 // the value that a variable has when the first goroutine is started
 
-	atomics       map[uint32]string // the goroutines with atomic operations on it: their variables
 	atomicWritten bool
-
-	waiting int // of a channel: values in its buffer
+	atomics       map[uint32]string // the goroutines with atomic operations on it: their variables
 
 	name string
-	word wire.Op // for an order: the declaration of what stands for it
 }
 
 // survey is what is known of a log before it is written.
 type survey struct {
 	records []wire.Record
+	to      int // so many of them are looked at
 	Options
 	objects []object
 	started uint32 // the number of goroutines beside main
 	begin   int    // the first go: what stands before happens before all that others do
 	alive   []bool // goroutines that do something that is kept, or start one that does
+	last    []int  // of each goroutine the last record
 }
 
-func newSurvey(records []wire.Record, o Options) *survey {
-	s := &survey{records: records, Options: o, objects: []object{{user: -1}}}
-	for !s.All && s.begin < len(records) && records[s.begin].Op != wire.Go {
+func newSurvey(records []wire.Record, to int, o Options) *survey {
+	s := &survey{records: records, to: to, Options: o, objects: []object{{user: -1}}}
+	for !s.All && s.begin < to && records[s.begin].Op != wire.Go {
 		s.begin++
 	}
-	for i := range records {
+	for i := range records[:to] {
 		s.look(i)
+		s.acts(records[i].Goroutine, i)
+		if records[i].Op == wire.Meet {
+			s.acts(records[i].Other, i)
+		}
 	}
 	s.findAlive()
 	return s
 }
+
+// acts notes a record of a goroutine.
+func (s *survey) acts(goroutine uint32, i int) {
+	for int(goroutine) >= len(s.last) {
+		s.last = append(s.last, 0)
+	}
+	s.last[goroutine] = i
+}
+
+// ends reports whether an exit is its goroutine's last record. Code that isn't recorded may go
+// on for a goroutine, and start others.
+func (s *survey) ends(i int) bool { return s.last[s.records[i].Goroutine] == i }
 
 func (s *survey) object(id uint32) *object {
 	for int(id) >= len(s.objects) {
@@ -63,7 +80,8 @@ func (s *survey) use(id, goroutine uint32) *object {
 	return o
 }
 
-// isAccess: a read or a write, which is left out before the first go.
+// isAccess reports whether an operation is a read or a write, which is left out before the first
+// go.
 func isAccess(op wire.Op) bool {
 	return op == wire.Read || op == wire.Write || op == wire.AtomicRead || op == wire.AtomicWrite
 }
@@ -71,7 +89,6 @@ func isAccess(op wire.Op) bool {
 func (s *survey) look(i int) {
 	r := &s.records[i]
 	if i < s.begin && isAccess(r.Op) {
-		s.object(r.Object).base = r.Value
 		return
 	}
 	switch r.Op {
@@ -113,8 +130,8 @@ func (s *survey) look(i int) {
 	}
 }
 
-// mixed: atomic operations of one goroutine and plain accesses of another come to a
-// variable, and one of them writes.
+// mixed reports whether atomic operations of one goroutine and plain accesses of another come to
+// a variable, and one of them writes.
 func (o *object) mixed() bool {
 	if len(o.atomics) == 0 || o.user < 0 || !o.written && !o.atomicWritten {
 		return false
@@ -123,7 +140,8 @@ func (o *object) mixed() bool {
 	return o.several || len(o.atomics) > 1 || !only
 }
 
-// keep: what one goroutine alone does, and what is only read, is left out.
+// keep reports whether an object stands in the trace: what one goroutine alone does, and what is
+// only read, is left out.
 func (s *survey) keep(id uint32) bool {
 	if id == 0 {
 		return true
@@ -131,6 +149,8 @@ func (s *survey) keep(id uint32) bool {
 	o := &s.objects[id]
 	switch {
 	case o.op == wire.None:
+		return false
+	case o.op == wire.DeclareVar && !s.inGroup(id):
 		return false
 	case s.All:
 		return true
@@ -140,14 +160,17 @@ func (s *survey) keep(id uint32) bool {
 	return o.several
 }
 
-// kept: the record i becomes an event that orders, reads or writes.
+// inGroup reports whether a variable is one of those that the trace has.
+func (s *survey) inGroup(id uint32) bool { return s.groups == nil || s.groups[id] == s.group }
+
+// kept reports whether the record i becomes an event that orders, reads or writes.
 func (s *survey) kept(i int) bool {
 	r := &s.records[i]
 	switch r.Op {
 	case wire.Read, wire.Write:
 		return i >= s.begin && s.keep(r.Object)
 	case wire.AtomicRead, wire.AtomicWrite:
-		return i >= s.begin && s.objects[r.Object].mixed()
+		return i >= s.begin && s.inGroup(r.Object) && s.objects[r.Object].mixed()
 	case wire.Send, wire.Receive, wire.Meet, wire.ReceiveClosed, wire.Close, wire.Lock, wire.Unlock, wire.ReadLock,
 		wire.ReadUnlock, wire.TryLock, wire.TryReadLock, wire.OnceBegin, wire.OnceEnd, wire.OnceDone, wire.Release, wire.Acquire:
 		return s.keep(r.Object)
@@ -160,7 +183,7 @@ func (s *survey) kept(i int) bool {
 func (s *survey) findAlive() {
 	s.alive = make([]bool, s.started+1)
 	s.alive[0] = true
-	for i := len(s.records) - 1; i >= 0; i-- {
+	for i := s.to - 1; i >= 0; i-- {
 		r := &s.records[i]
 		switch {
 		case r.Op == wire.Go:

@@ -110,7 +110,7 @@ func TestTooManyGoroutinesAreCutOff(t *testing.T) {
 		}
 	}
 	_, s := written(t, records)
-	if !strings.HasPrefix(s.Cut, "more than 1,024 goroutines") || !strings.HasSuffix(s.Cut, "at a.go:1") {
+	if !strings.HasPrefix(s.Cut, "more than 1,024 goroutines") || !strings.HasSuffix(s.Cut, "at a.go:3") {
 		t.Errorf("cut off: %q", s.Cut)
 	}
 	if s.Goroutines.Kept != maxGoroutines {
@@ -192,19 +192,22 @@ func TestTooManyEventsAreCutOff(t *testing.T) {
 		{Op: wire.Write, Object: 1, Site: 2, Value: 2}, // two events
 		{Op: wire.FaultClose, Site: 3},
 	}
-	defer func(n int) { maxEvents = n }(maxEvents)
 	for _, c := range []struct {
 		limit, events int
 		cut           string
 	}{
 		{8, 8, ""},
-		{7, 7, "more than 16,777,216 events, at a.go:3"},
-		{6, 5, "more than 16,777,216 events, at a.go:2"},
-		{5, 4, "more than 16,777,216 events, at a.go:2"},
-		{3, 2, "more than 16,777,216 events, at a.go:2"},
+		{7, 7, "more than 7 events, at a.go:3"},
+		{6, 5, "more than 6 events, at a.go:2"},
+		{5, 4, "more than 5 events, at a.go:2"},
+		{3, 2, "more than 3 events, at a.go:2"},
 	} {
-		maxEvents = c.limit
-		text, s := written(t, records)
+		var b strings.Builder
+		s, err := Write(records, table, Options{Version: 1, Events: c.limit}, &b)
+		if err != nil {
+			t.Fatal(err)
+		}
+		text := b.String()
 		_, events, _ := strings.Cut(text, "\ngo main ")
 		if n := 1 + strings.Count(events, "\n") - 1; n != c.events || s.Events != c.events || s.Cut != c.cut {
 			t.Errorf("%+v: %d events, cut off: %q\n%s", c, n, s.Cut, text)
@@ -313,5 +316,31 @@ func TestNames(t *testing.T) {
 	want := "[x x_2 a_b nil_ main_ _ x_2_2 " + strings.Repeat("y", longestName) + "]"
 	if fmt.Sprint(got) != want {
 		t.Errorf("got %v", got)
+	}
+}
+
+// What code without the recorder starts for a goroutine may begin behind its exit.
+func TestAStartBehindAnExit(t *testing.T) {
+	text, _ := written(t, []wire.Record{
+		{Op: wire.DeclareVar, Object: 1, Site: 1},
+		{Op: wire.Go, Other: 1, Site: 1},
+		{Op: wire.Write, Object: 1, Goroutine: 1, Site: 1},
+		{Op: wire.Exit, Goroutine: 1, Site: 1},
+		{Op: wire.Go, Kind: uint8(wire.GoForeign), Goroutine: 1, Other: 2},
+		{Op: wire.Write, Object: 1, Goroutine: 2, Site: 2},
+		{Op: wire.Exit, Goroutine: 2, Site: 1},
+	})
+	want := `gotrace 1
+var x
+goroutine g1
+goroutine g2
+go main g1 a.go:1
+write g1 x 1 a.go:1
+go g1 g2 -
+write g2 x 2 a.go:2
+exit g2 a.go:1
+`
+	if text != want {
+		t.Errorf("got\n%s", text)
 	}
 }

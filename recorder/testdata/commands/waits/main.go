@@ -2,6 +2,7 @@ package main
 
 import (
 	"fmt"
+	"os"
 	"time"
 )
 
@@ -10,6 +11,10 @@ func main() {
 	go func() { n++ }()
 	time.Sleep(20 * time.Millisecond)
 	n++
-	fmt.Println("waits")
+	if len(os.Args) > 1 {
+		fmt.Println(os.Getpid())
+	} else {
+		fmt.Println("waits")
+	}
 	time.Sleep(time.Minute)
 }

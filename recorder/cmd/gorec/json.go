@@ -1,0 +1,149 @@
+package main
+
+import (
+	"bytes"
+	"encoding/json"
+	"io"
+	"sync"
+)
+
+// An event is a line of -json. The last one of a package has its verdict.
+type event struct {
+	Action  string // output; race, of one race; pass, fail, skip, or racing, with the verdict
+	Package string
+	Output  string    `json:",omitempty"`
+	Elapsed float64   `json:",omitempty"`
+	Race    *toldRace `json:",omitempty"`
+	Verdict *verdict  `json:",omitempty"`
+}
+
+// toldRace is what is known of a race.
+type toldRace struct {
+	Variable string
+	Accesses [2]toldAccess
+}
+
+type toldAccess struct {
+	access
+	Behind  string       // what it held, and last synchronized by
+	Stack   []frame      `json:",omitempty"`
+	Started *startedFrom `json:",omitempty"` // unless it is main
+}
+
+type startedFrom struct {
+	By    string `json:",omitempty"` // nobody where it was in an earlier segment
+	Place string
+	Stack []frame `json:",omitempty"`
+}
+
+// verdict is how a package ended.
+type verdict struct {
+	Status          int // as gorec's, of this package alone
+	Races           int
+	Events, Records int
+	Cut             string `json:",omitempty"` // why the trace is cut off, and where
+	Ended           string `json:",omitempty"` // how the program failed
+	Seed            string `json:",omitempty"`
+	Trace           string `json:",omitempty"` // the file
+	Told            string `json:",omitempty"` // why there is no trace
+}
+
+// eventWriter writes events; what is written to it is output.
+type eventWriter struct {
+	mu   sync.Mutex
+	to   *json.Encoder
+	of   string
+	line []byte
+}
+
+func newEvents(to io.Writer, of string) *eventWriter {
+	e := json.NewEncoder(to)
+	e.SetEscapeHTML(false)
+	return &eventWriter{to: e, of: of}
+}
+
+// events is the writer of events that a program's output goes to, if it does.
+func events(w io.Writer) (*eventWriter, bool) {
+	e, is := w.(*eventWriter)
+	return e, is
+}
+
+// Write writes whole lines as output.
+func (e *eventWriter) Write(b []byte) (int, error) {
+	e.mu.Lock()
+	defer e.mu.Unlock()
+	e.line = append(e.line, b...)
+	for {
+		i := bytes.IndexByte(e.line, '\n')
+		if i < 0 {
+			return len(b), nil
+		}
+		if err := e.to.Encode(event{Action: "output", Package: e.of, Output: string(e.line[:i+1])}); err != nil {
+			return 0, err
+		}
+		e.line = append(e.line[:0], e.line[i+1:]...)
+	}
+}
+
+// Close writes what isn't ended by a newline.
+func (e *eventWriter) Close() error {
+	e.mu.Lock()
+	defer e.mu.Unlock()
+	if len(e.line) == 0 {
+		return nil
+	}
+	line := e.line
+	e.line = nil
+	return e.to.Encode(event{Action: "output", Package: e.of, Output: string(line)})
+}
+
+// write writes an event behind all output.
+func (e *eventWriter) write(v event) {
+	e.Close()
+	e.mu.Lock()
+	defer e.mu.Unlock()
+	v.Package = e.of
+	e.to.Encode(v)
+}
+
+// actions are the last events of a package, by its status.
+var actions = map[int]string{0: "pass", cutOff: "pass", racing: "racing"}
+
+// verdict writes the races of a run, and how it ended.
+func (e *eventWriter) verdict(o *outcome) {
+	for _, s := range o.racing {
+		for _, r := range s.races {
+			e.write(event{Action: "race", Race: &toldRace{r.Variable, [2]toldAccess{s.told(r.First), s.told(r.Second)}}})
+		}
+	}
+	v := &verdict{
+		Status: o.status, Races: len(o.races), Events: o.summary.Events, Records: o.summary.Records, Cut: o.summary.Cut,
+		Seed: o.seed, Trace: o.trace,
+	}
+	if o.ended != nil {
+		v.Ended = o.ended.Error()
+	}
+	action := actions[o.status]
+	if action == "" {
+		action = "fail"
+	}
+	e.write(event{Action: action, Elapsed: o.elapsed.Seconds(), Verdict: v})
+}
+
+// told is an access, with what is known of its goroutine.
+func (o *outcome) told(a access) toldAccess {
+	t := toldAccess{access: a, Behind: o.moments[a.Event].String(), Stack: o.stacks[o.moments[a.Event].Stack]}
+	if s := lastBefore(o.summary.Starts[a.Goroutine], a.Event); s != nil {
+		t.Started = &startedFrom{s.By, s.Place, o.stacks[s.Stack]}
+	}
+	return t
+}
+
+// notRun tells of a package that wasn't run.
+func (e *eventWriter) notRun(isFailure bool, why string) {
+	action, status := "skip", 0
+	if isFailure {
+		action, status = "fail", unusable
+	}
+	e.write(event{Action: action, Verdict: &verdict{Status: status, Told: why}})
+}

@@ -1,0 +1,298 @@
+package main
+
+import (
+	"errors"
+	"flag"
+	"fmt"
+	"io"
+	"math/rand"
+	"os"
+	"os/exec"
+	"path/filepath"
+	"strconv"
+	"time"
+
+	"gorace.local/recorder/internal/instrument"
+	"gorace.local/recorder/internal/process"
+	"gorace.local/recorder/internal/trace"
+	"gorace.local/recorder/wire"
+)
+
+// recording are the flags by which runs are recorded and judged.
+type recording struct {
+	building
+	out, log, judge, seed string
+	format, runs, records int
+	all, json, stacks     bool
+}
+
+func (r *recording) define(flags *flag.FlagSet) {
+	r.building.define(flags)
+	flags.StringVar(&r.out, "o", "", "keep the trace in this `file`; of several packages, those with races in this folder")
+	flags.StringVar(&r.log, "log", "", "keep the log, of up to 671 MB, in this `file`; else it is a temporary one, in $TMPDIR or /tmp")
+	flags.StringVar(&r.judge, "gorace", "", "the `command` that judges: a file, or words between blanks")
+	flags.StringVar(&r.seed, "seed", "", "a `number` up to 4,294,967,295, which sets where goroutines yield; 0: nowhere")
+	flags.IntVar(&r.format, "format", 0, "the `version` of the trace, 1 or 2; 2 has words for TryLock and TryRLock")
+	flags.IntVar(&r.runs, "runs", 1, "run up to `N` times, each with another seed, until a race is found")
+	flags.BoolVar(&r.all, "all", false, "keep what one goroutine alone uses")
+	flags.IntVar(&r.records, "records", 0, "judge the log each `N` records, up to 20,971,520, while the program goes on; 0: 524,288, or 4,194,304 of tests")
+	flags.BoolVar(&r.stacks, "stacks", true, "record the calls that led to each access")
+	flags.BoolVar(&r.json, "json", false, "write lines of JSON: output, races and verdicts")
+}
+
+// check refuses what the recorded program would refuse.
+func (r *recording) check() error {
+	seed, told := r.seed, "-seed "+r.seed
+	if seed == "" {
+		seed = os.Getenv("GOREC_SEED")
+		told = "GOREC_SEED=" + seed
+	}
+	if _, err := strconv.ParseUint(seed, 10, 32); seed != "" && err != nil {
+		return errors.New(told + ": a seed is a number from 0 to 4,294,967,295")
+	}
+	version := os.Getenv("GOREC_FORMAT")
+	n, err := strconv.Atoi(version)
+	switch {
+	case r.format < 0 || r.format > wire.Newest:
+		return fmt.Errorf("-format %d: a trace has version 1 or 2", r.format)
+	case r.format == 0 && version != "" && (err != nil || n < 1 || n > wire.Newest):
+		return errors.New("GOREC_FORMAT=" + version + ": a trace has version 1 or 2")
+	case r.records != 0 && (r.records < fewestRecords || r.records > mostRecords):
+		return fmt.Errorf("-records %d: a log has from 1,024 to 20,971,520", r.records)
+	case r.runs < 1:
+		return fmt.Errorf("-runs %d: there is no run", r.runs)
+	}
+	return nil
+}
+
+// A session is a command that records.
+type session struct {
+	*recording
+	keeper *process.Keeper
+	judge  *judge
+	folder *folder
+}
+
+// begin finds what a session needs, before anything runs.
+func (r *recording) begin(k *process.Keeper) (*session, error) {
+	if err := r.check(); err != nil {
+		return nil, err
+	}
+	judge, err := findJudge(r.judge)
+	if err != nil {
+		return nil, err
+	}
+	folder, err := newFolder()
+	if err != nil {
+		return nil, err
+	}
+	return &session{r, k, judge, folder}, nil
+}
+
+func (s *session) end() { s.folder.remove() }
+
+// A target is a program that was built, and how it is run.
+type target struct {
+	*instrument.Program
+	copied *instrument.Copy
+	name   string // of its files
+	file   string
+	words  []string
+	tests  bool
+	folder string // for its trace, where there are several
+}
+
+// An outcome is how a run ended.
+type outcome struct {
+	status  int
+	seed    string
+	ended   error // how the program itself failed
+	elapsed time.Duration
+	summary *trace.Summary
+	report  string
+	races   []race
+	moments map[int]trace.Moment // of the races' accesses, by event
+	stacks  stackTable
+	racing  []*outcome // of a run: its segments with races
+	trace   string     // where it is kept
+}
+
+// repeat runs a program until a race is found, as often as is wanted.
+func (s *session) repeat(t *target, c *console) (*outcome, error) {
+	worst := 0
+	for i := 0; ; i++ {
+		o, err := s.once(t, c, s.seedOf(i))
+		if err != nil {
+			return nil, err
+		}
+		worst = worse(o.status, worst)
+		if s.runs > 1 {
+			fmt.Fprintf(c.notes, "gorec: run %d of at most %d, with seed %s\n", i+1, s.runs, o.seed)
+		}
+		if o.status == racing || i+1 == s.runs || s.keeper.Interrupted() {
+			o.status = worst
+			return o, nil
+		}
+	}
+}
+
+var firstSeed = rand.New(rand.NewSource(time.Now().UnixNano())).Uint32()>>1 | 1
+
+// seedOf is that of one of several runs.
+func (s *session) seedOf(i int) string {
+	if s.runs == 1 || s.seed == "0" {
+		return s.seed
+	}
+	first := firstSeed
+	if n, err := strconv.ParseUint(s.seed, 10, 32); err == nil {
+		first = uint32(n)
+	}
+	return strconv.FormatUint(uint64(first+uint32(i)), 10)
+}
+
+// once runs a program, has its trace judged, and explains the report. Where no race is found
+// the status is 0 only if the trace is whole and the program didn't fail.
+func (s *session) once(t *target, c *console, seed string) (*outcome, error) {
+	log, err := s.createLog(t)
+	if err != nil {
+		return nil, err
+	}
+	if s.log == "" {
+		defer os.Remove(log)
+		defer os.Remove(log + stacksSuffix)
+	}
+	out, err := s.createTrace(t)
+	if err != nil {
+		return nil, err
+	}
+	defer out.drop()
+	o := &outcome{seed: seed}
+	if err := s.recordAndJudge(t, c.locked(), log, out, o); err != nil {
+		return nil, err
+	}
+	switch {
+	case o.status != 0:
+	case o.ended != nil:
+		o.status = failed
+	case o.summary.Cut != "":
+		o.status = cutOff
+	}
+	o.trace = out.keep(o.status, t.folder == "")
+	s.tellTrace(c.out, o)
+	return o, nil
+}
+
+// recordAndJudge runs a program. Parts of a long run are judged while it goes on.
+func (s *session) recordAndJudge(t *target, c *console, log string, out *traceFile, o *outcome) error {
+	j := &judging{session: s, t: t, c: c, log: log, out: out, o: o, told: map[string]bool{}, ends: map[string]int{}}
+	ended, judged := make(chan struct{}), make(chan error, 1)
+	go func() { judged <- j.follow(ended) }()
+	err := s.record(t, c, log, o)
+	close(ended)
+	if judging := <-judged; err == nil {
+		err = judging
+	}
+	return err
+}
+
+// createLog makes the log before the run, which may be long. A log that is there is that of
+// another run. Tests run in their package's folder, so its path is whole.
+func (s *session) createLog(t *target) (string, error) {
+	log := s.log
+	if log == "" {
+		log = t.file + ".log"
+	}
+	log, err := filepath.Abs(log)
+	if err != nil {
+		return "", err
+	}
+	return log, os.WriteFile(log, nil, 0o644)
+}
+
+// record runs a program; its trace is judged however it ends.
+func (s *session) record(t *target, c *console, log string, o *outcome) error {
+	cmd := exec.Command(t.file, t.words...)
+	cmd.Env = append(os.Environ(), "GOREC_LOG="+log, fmt.Sprintf("GOREC_PART=%d", s.partRecords(t)))
+	if s.stacks {
+		cmd.Env = append(cmd.Env, "GOREC_STACKS="+log+stacksSuffix)
+	}
+	if s.all {
+		cmd.Env = append(cmd.Env, "GOREC_ALL=1")
+	}
+	if o.seed != "" {
+		cmd.Env = append(cmd.Env, "GOREC_SEED="+o.seed)
+	}
+	if s.format != 0 {
+		cmd.Env = append(cmd.Env, fmt.Sprintf("GOREC_FORMAT=%d", s.format))
+	}
+	if t.tests {
+		cmd.Dir = t.Dir
+		cmd.Env = append(cmd.Env, "PWD="+t.Dir)
+	} else {
+		cmd.Stdin = os.Stdin
+	}
+	finish, err := c.attach(cmd)
+	if err != nil {
+		return err
+	}
+	stop := showProgress(log)
+	began := time.Now()
+	o.ended = s.keeper.Run(cmd)
+	o.elapsed = time.Since(began)
+	stop()
+	finish()
+	var ended *exec.ExitError
+	switch {
+	case o.ended == nil:
+	case errors.As(o.ended, &ended):
+		fmt.Fprintln(c.notes, "gorec: the program ended with "+o.ended.Error())
+	default:
+		return o.ended
+	}
+	return nil
+}
+
+// partRecords is how many records a part of the log has.
+func (s *session) partRecords(t *target) int {
+	switch {
+	case s.records > 0:
+		return s.records
+	case t.tests:
+		return testPart
+	}
+	return programPart
+}
+
+// A console is where the output of a program and the reports on it go.
+type console struct {
+	own        bool // the program has gorec's own output
+	out, notes io.Writer
+}
+
+// attach gives a program its output; finish waits for it, unless what the program started keeps
+// it.
+func (c *console) attach(cmd *exec.Cmd) (finish func(), err error) {
+	if c.own {
+		cmd.Stdout, cmd.Stderr = os.Stdout, os.Stderr
+		return func() {}, nil
+	}
+	r, w, err := os.Pipe()
+	if err != nil {
+		return nil, err
+	}
+	cmd.Stdout, cmd.Stderr = w, w
+	done := make(chan struct{})
+	go func() {
+		defer close(done)
+		io.Copy(c.out, r)
+	}()
+	return func() {
+		w.Close()
+		select {
+		case <-done:
+		case <-time.After(2 * time.Second):
+		}
+		r.Close()
+		<-done
+	}, nil
+}

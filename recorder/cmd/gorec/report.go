@@ -1,0 +1,160 @@
+package main
+
+import (
+	"fmt"
+	"io"
+	"regexp"
+	"sort"
+	"strconv"
+	"strings"
+
+	"gorace.local/recorder/internal/trace"
+)
+
+// An access is one of the two of a race.
+type access struct {
+	Kind, Goroutine, Place string
+	Event                  int
+}
+
+// A race is one of a report.
+type race struct {
+	Variable      string
+	First, Second access
+}
+
+// raceLine is a race's line in a report.
+var raceLine = regexp.MustCompile(`(?m)^race on (\S+): (\w+) by (\w+) at (\S+) \(event (\d+)\), (\w+) by (\w+) at (\S+) \(event (\d+)\)$`)
+
+// racesOf are the races of a report.
+func racesOf(report string) []race {
+	var races []race
+	for _, m := range raceLine.FindAllStringSubmatch(report, -1) {
+		first, _ := strconv.Atoi(m[5])
+		second, _ := strconv.Atoi(m[9])
+		races = append(races, race{m[1], access{m[2], m[3], m[4], first}, access{m[6], m[7], m[8], second}})
+	}
+	return races
+}
+
+// explain writes behind a report which places race, what each goroutine held and had done, who
+// started it, and how it came there.
+func (o *outcome) explain(w io.Writer) {
+	groups(w, o.races)
+	holdings(w, o.races, o.moments)
+	starters(w, o.races, o.summary.Starts)
+	o.tellStacks(w)
+}
+
+// groups tells which pairs of places race, where many variables do at few of them.
+func groups(w io.Writer, races []race) {
+	count := map[string]int{}
+	var order []string
+	for _, r := range races {
+		a, b := r.First.Kind+" at "+r.First.Place, r.Second.Kind+" at "+r.Second.Place
+		if b < a {
+			a, b = b, a
+		}
+		pair := a + ", " + b
+		if count[pair]++; count[pair] == 1 {
+			order = append(order, pair)
+		}
+	}
+	if len(races) == len(order) {
+		return
+	}
+	fmt.Fprintf(w, "pairs of places: %d\n", len(order))
+	for _, pair := range order {
+		fmt.Fprintf(w, "%6d  %s\n", count[pair], pair)
+	}
+}
+
+// events are those of the races' accesses.
+func (o *outcome) events() map[int]bool {
+	events := map[int]bool{}
+	for _, r := range o.races {
+		events[r.First.Event], events[r.Second.Event] = true, true
+	}
+	return events
+}
+
+// holdings tells what each of the two of a race held and last synchronized by. Of races at the
+// same places the first is told.
+func holdings(w io.Writer, races []race, moments map[int]trace.Moment) {
+	told := map[string]bool{}
+	for _, r := range races {
+		lines, places := "", ""
+		for _, a := range []access{r.First, r.Second} {
+			if m, there := moments[a.Event]; there {
+				lines += fmt.Sprintf("%s's %s of %s: %s\n", a.Goroutine, a.Kind, r.Variable, m)
+				places += a.Kind + a.Place + m.String()
+			}
+		}
+		if !told[places] {
+			told[places] = true
+			io.WriteString(w, lines)
+		}
+	}
+}
+
+// starters tells where the goroutines of the races were started.
+func starters(w io.Writer, races []race, starts map[string][]trace.Start) {
+	told := map[string]bool{}
+	for _, r := range races {
+		for _, a := range []access{r.First, r.Second} {
+			s := lastBefore(starts[a.Goroutine], a.Event)
+			if s == nil {
+				continue
+			}
+			line := fmt.Sprintf("%s was started by %s at %s", a.Goroutine, s.By, s.Place)
+			if s.By == "" {
+				line = fmt.Sprintf("%s was started at %s, in an earlier segment", a.Goroutine, s.Place)
+			}
+			if !told[line] {
+				told[line] = true
+				fmt.Fprintln(w, line)
+			}
+		}
+	}
+}
+
+// lastBefore is the start of the goroutine that an event is of; a name that is lent has
+// several.
+func lastBefore(starts []trace.Start, event int) *trace.Start {
+	for i := len(starts) - 1; i >= 0; i-- {
+		if starts[i].Event <= event {
+			return &starts[i]
+		}
+	}
+	return nil
+}
+
+// tell writes what the trace hasn't, and last where it is cut off.
+func tell(w io.Writer, s *trace.Summary, missed map[string]int) {
+	line := s.Losses()
+	if len(missed) > 0 {
+		if line != "" {
+			line += "; "
+		}
+		line += "not recorded is what these calls do with what their arguments point at: " + listed(missed)
+	}
+	if line != "" {
+		fmt.Fprintln(w, "gorec: "+line)
+	}
+	if s.Cut != "" {
+		fmt.Fprintf(w, "gorec: the trace is cut off behind %d events: %s\n", s.Events, s.Cut)
+	}
+}
+
+// listed names each call with its number of places.
+func listed(missed map[string]int) string {
+	var names []string
+	for name, n := range missed {
+		if n > 1 {
+			name += fmt.Sprintf(" (%d places)", n)
+		}
+		names = append(names, name)
+	}
+	sort.Strings(names)
+	return strings.Join(names, ", ")
+}

@@ -1,0 +1,105 @@
+package main
+
+import (
+	"bufio"
+	"fmt"
+	"io"
+	"os"
+	"path/filepath"
+	"strconv"
+	"strings"
+)
+
+// stacksSuffix is behind the name of a log in that of the file with its stacks.
+const stacksSuffix = ".stacks"
+
+// frame is a call on a stack.
+type frame struct{ Function, Place string }
+
+// stackTable has the stacks of a run by their numbers.
+type stackTable map[uint32][]frame
+
+// readStacks reads what the recorded program wrote: a line for each stack, with its number,
+// and a function and a place for each call. Where there is no file there are no stacks.
+func readStacks(path string) stackTable {
+	f, err := os.Open(path)
+	if err != nil {
+		return nil
+	}
+	defer f.Close()
+	t := stackTable{}
+	in := bufio.NewScanner(f)
+	in.Buffer(nil, 1<<20)
+	for in.Scan() {
+		words := strings.Split(in.Text(), "\t")
+		id, err := strconv.ParseUint(words[0], 10, 32)
+		if err != nil {
+			continue
+		}
+		var frames []frame
+		for i := 1; i+1 < len(words); i += 2 {
+			frames = append(frames, frame{words[i], words[i+1]})
+		}
+		t[uint32(id)] = frames
+	}
+	return t
+}
+
+// show writes a stack as Go's detector does.
+func (t stackTable) show(w io.Writer, id uint32) {
+	frames := t[id]
+	if len(frames) == 0 {
+		fmt.Fprintln(w, "  [no stack]")
+	}
+	for _, f := range frames {
+		fmt.Fprintf(w, "  %s()\n      %s\n", f.Function, near(f.Place))
+	}
+}
+
+// near is a place as seen from the folder that one is in, where it is below that.
+func near(place string) string {
+	if dir, err := os.Getwd(); err == nil && filepath.IsAbs(place) {
+		if rel, err := filepath.Rel(dir, place); err == nil && !strings.HasPrefix(rel, "..") {
+			return rel
+		}
+	}
+	return place
+}
+
+// tellStacks writes for each race how its two accesses came about, and how the goroutines that
+// did them were started; the later access first, as Go's detector does. Races with the same
+// two stacks are told once.
+func (o *outcome) tellStacks(w io.Writer) {
+	if len(o.stacks) == 0 {
+		return
+	}
+	told := map[string]bool{}
+	for _, r := range o.races {
+		first, second := o.moments[r.First.Event].Stack, o.moments[r.Second.Event].Stack
+		key := fmt.Sprint(r.First.Kind, first, r.Second.Kind, second)
+		if told[key] {
+			continue
+		}
+		told[key] = true
+		fmt.Fprintf(w, "==================\n%s by %s:\n", title(r.Second.Kind), r.Second.Goroutine)
+		o.stacks.show(w, second)
+		fmt.Fprintf(w, "\nPrevious %s by %s:\n", r.First.Kind, r.First.Goroutine)
+		o.stacks.show(w, first)
+		o.tellCreation(w, r.Second)
+		if r.First.Goroutine != r.Second.Goroutine {
+			o.tellCreation(w, r.First)
+		}
+		fmt.Fprintln(w, "==================")
+	}
+}
+
+func title(word string) string { return strings.ToUpper(word[:1]) + word[1:] }
+
+// tellCreation writes where the goroutine of an access was started.
+func (o *outcome) tellCreation(w io.Writer, a access) {
+	start := lastBefore(o.summary.Starts[a.Goroutine], a.Event)
+	if start != nil && len(o.stacks[start.Stack]) > 0 {
+		fmt.Fprintf(w, "\nGoroutine %s created at:\n", a.Goroutine)
+		o.stacks.show(w, start.Stack)
+	}
+}

@@ -1,0 +1,57 @@
+package main
+
+import (
+	"errors"
+	"flag"
+	"fmt"
+	"os"
+
+	"gorace.local/recorder/internal/process"
+	"gorace.local/recorder/internal/sites"
+	"gorace.local/recorder/internal/trace"
+	"gorace.local/recorder/wire"
+)
+
+var traceCommand = command{
+	name:  "trace",
+	words: "[flags] LOG SITES",
+	about: "writes the trace of a log; where it is cut off is told on standard error",
+	prepare: func(flags *flag.FlagSet) func(*process.Keeper, []string) (int, error) {
+		all := flags.Bool("all", false, "keep what one goroutine alone uses")
+		format := flags.Int("format", 0, "the `version` of the trace, 1 or 2; without it that of the log")
+		return func(_ *process.Keeper, args []string) (int, error) {
+			if len(args) != 2 {
+				return 0, &usageError{"trace", errors.New("a log and its sites have to be named")}
+			}
+			if *format < 0 || *format > wire.Newest {
+				return 0, fmt.Errorf("-format %d: a trace has version 1 or 2", *format)
+			}
+			return 0, printTrace(args[0], args[1], *format, *all)
+		}
+	},
+}
+
+// printTrace writes the trace of a log to standard output, and what is to be known of it to
+// standard error.
+func printTrace(path, sitesPath string, format int, all bool) error {
+	table, err := sites.Read(sitesPath)
+	if err != nil {
+		return err
+	}
+	log, err := trace.Open(path)
+	if err != nil {
+		return err
+	}
+	defer log.Close()
+	options := traceOptions(log, format, all)
+	if err := checkVersion(log, options); err != nil {
+		return err
+	}
+	summary, err := trace.Write(log.Records(), table, options, os.Stdout)
+	if err != nil {
+		return err
+	}
+	fmt.Fprintln(os.Stderr, "gorec: "+summary.Counts())
+	tell(os.Stderr, summary, nil)
+	return nil
+}

@@ -1,0 +1,10 @@
+package gorec
+
+import "unsafe"
+
+// hasFramePointers reports whether stacks can be followed by frame pointers.
+const hasFramePointers = true
+
+// framePointer is that of who calls it, and stackTop the end of the goroutine's stack.
+func framePointer() unsafe.Pointer
+func stackTop() uintptr

@@ -1,0 +1,171 @@
+package gorec
+
+import (
+	"os"
+	"strconv"
+	"sync/atomic"
+	"syscall"
+	"time"
+	"unsafe"
+
+	"gorace.local/recorder/wire"
+)
+
+// A long run has several logs, its parts. Where a log is full, or too much memory was met, the
+// next one begins, and all that was known of variables is forgotten; so a part is read without
+// those before it. What of an earlier part is used again is declared again where it is: its
+// state is made by a goroutine of the recorder's own, the first that a part has. All others
+// that go on are started by it. It does nothing else, and nothing comes before what it does;
+// so it orders nothing.
+
+var (
+	partRecords int    // of a part, or 0 where the run has one log
+	part        uint32 // the number of the log, read without the lock too
+	logPath     string
+	previous    *wire.Header // of the part before, until it is judged
+	earlier     *G           // who starts what goes on
+)
+
+// setParts is how many records a part has; "" is that there is one log.
+func setParts(s string) (err error) {
+	if s != "" {
+		partRecords, err = strconv.Atoi(s)
+	}
+	return err
+}
+
+// begin takes the lock, once there is room for the records of an operation.
+func begin() {
+	mu.Lock()
+	makeRoom()
+}
+
+// makeRoom has the lock, and no operation is half done.
+func makeRoom() {
+	if partRecords > 0 && !sealed && (written > len(records)-len(records)/8 || met >= mostLocations()) {
+		nextPart()
+	}
+}
+
+// mostLocations is how many of them a part has, since their table takes memory too.
+func mostLocations() int { return partRecords / 8 * 3 }
+
+// nextPart has the lock. The part before the one that ends has to be judged first, so that
+// there are two at most.
+func nextPart() {
+	if previous != nil {
+		awaitJudge()
+	}
+	ended := header
+	if err := openLog(logPath + "." + strconv.Itoa(int(part+1))); err != nil {
+		put(wire.Record{Op: wire.Full})
+		sealed, live = true, false
+		return
+	}
+	header.Version = ended.Version
+	why := wire.AfterRecords
+	if met >= mostLocations() {
+		why = wire.AfterVariables
+	}
+	atomic.StoreUint32(&ended.Next, uint32(why))
+	previous = ended
+	written, steps = 0, 0
+	atomic.AddUint32(&part, 1)
+	forget()
+	earlier = newGoroutine()
+	mainGoroutine.step(wire.Record{Op: wire.Go, Kind: uint8(wire.GoEarlier), Other: earlier.id})
+}
+
+// awaitJudge waits until the last part was judged, unless nobody is there any more to do it.
+func awaitJudge() {
+	judge := os.Getppid()
+	for atomic.LoadUint32(&previous.Judged) == 0 && os.Getppid() == judge {
+		time.Sleep(2 * time.Millisecond)
+	}
+	syscall.Munmap(unsafe.Slice((*byte)(unsafe.Pointer(previous)), (1+len(records))*wire.Size))
+	previous = nil
+}
+
+// forget has the lock. What a new part needs is what is in use.
+func forget() {
+	locations, met = make([]location, 1<<12), 0
+	maps, contents = map[unsafe.Pointer]*variable{}, map[unsafe.Pointer]*variable{}
+	lastAtomic, pooled = map[unsafe.Pointer]uint32{}, map[unsafe.Pointer]uint32{}
+	lastStores, sentOut, ends = map[syncMapKey]uint32{}, nil, nil
+	for p, l := range locks {
+		if !l.held && l.readers == 0 {
+			l.forgotten = true
+			delete(locks, p)
+		}
+	}
+	for p, o := range onces {
+		if !o.begun || o.ended {
+			delete(onces, p)
+		}
+	}
+	for p, x := range groups {
+		x.dones, x.misuse = nil, variable{}
+		if x.count == 0 && x.waiting == 0 {
+			delete(groups, p)
+		}
+	}
+	for p, c := range conditions {
+		if len(c.queue) == 0 {
+			delete(conditions, p)
+		}
+	}
+}
+
+// enter has the lock: the goroutine is there in this part.
+func (g *G) enter() {
+	if g.part == part {
+		return
+	}
+	g.part = part
+	if g != mainGoroutine {
+		earlier.step(wire.Record{Op: wire.Go, Kind: uint8(wire.GoEarlier), Other: g.id, Site: g.site, OtherSite: g.stack})
+	}
+	g.behind = steps
+}
+
+// enter has the lock mu: the lock is there in this part, held as it was.
+func (l *lock) enter() {
+	if l.part == part {
+		return
+	}
+	l.part = part
+	write(wire.Record{Op: wire.DeclareLock, Kind: l.kind, Object: l.id, Site: l.site})
+	if l.held {
+		earlier.note(wire.Lock, l.id, nowhere)
+	}
+	for i := 0; i < l.readers; i++ {
+		earlier.note(wire.ReadLock, l.id, nowhere)
+	}
+}
+
+// enter has the lock: the channel is there in this part, with the values in its buffer.
+func (ch *channel) enter() {
+	if ch.part == part || ch.id == 0 {
+		return
+	}
+	ch.part = part
+	write(wire.Record{Op: wire.DeclareChan, Object: ch.id, Site: ch.site, Value: uint64(ch.capacity)})
+	ch.sent, ch.received = 0, 0
+	for i := 0; i < ch.buffered; i++ {
+		ch.sent++
+		earlier.numbered(wire.Send, ch.id, ch.sent, nowhere)
+	}
+	if ch.closed {
+		earlier.note(wire.Close, ch.id, nowhere)
+	}
+}
+
+// enter has the lock: the once is there in this part, and g runs its function.
+func (o *once) enter(g *G, s *Site) {
+	if o.part == part {
+		return
+	}
+	o.part = part
+	write(wire.Record{Op: wire.DeclareOnce, Object: o.id, Site: s.ID})
+	g.note(wire.OnceBegin, o.id, s)
+}

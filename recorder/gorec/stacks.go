@@ -1,0 +1,109 @@
+package gorec
+
+import (
+	"os"
+	"runtime"
+	"strconv"
+	"strings"
+	"unsafe"
+)
+
+// Stacks are told by the return addresses on them, which stand where the frame pointers
+// lead. A stack that is met for the first time is numbered, and its functions and places go
+// to a file: a line for each stack.
+
+const (
+	deepest    = 64      // calls of a stack are told apart, and written
+	mostStacks = 1 << 16 // are numbered; those that are met later have none
+)
+
+// stackKey is a hash of the return addresses on a stack.
+type stackKey uint64
+
+var (
+	stackFile    *os.File // nil: none is wanted
+	stacks       = map[stackKey]uint32{}
+	recentStacks [1 << 10]struct { // before that table
+		key stackKey
+		id  uint32
+	}
+)
+
+func openStacks(path string) (err error) {
+	if path != "" && hasFramePointers {
+		stackFile, err = os.Create(path)
+	}
+	return err
+}
+
+// stackNumber has the lock; it is that of the calls that led here, 0 where none are wanted.
+func stackNumber() uint32 {
+	if stackFile == nil {
+		return 0
+	}
+	key := hashReturns()
+	recent := &recentStacks[key>>54]
+	if recent.key == key {
+		return recent.id
+	}
+	id, known := stacks[key]
+	if !known {
+		if len(stacks) == mostStacks {
+			return 0
+		}
+		id = uint32(len(stacks) + 1)
+		stacks[key] = id
+		writeStack(id)
+	}
+	recent.key, recent.id = key, id
+	return id
+}
+
+// hashReturns follows the frame pointers. It is nosplit, and calls what is too, so the stack
+// doesn't move meanwhile. Each leads to the next one, above which the return address stands.
+//
+//go:nosplit
+//go:noinline
+func hashReturns() stackKey {
+	const word = unsafe.Sizeof(uintptr(0))
+	high := stackTop() - 2*word
+	h := uint64(0xcbf29ce484222325)
+	fp := framePointer()
+	for n := 0; n < deepest && fp != nil && uintptr(fp) < high; n++ {
+		h = (h ^ uint64(*(*uintptr)(unsafe.Add(fp, word)))) * 0x9e3779b97f4a7c15
+		h ^= h >> 29
+		next := *(*unsafe.Pointer)(fp)
+		if uintptr(next) <= uintptr(fp) {
+			break
+		}
+		fp = next
+	}
+	return stackKey(h)
+}
+
+// writeStack writes the calls that led here, those of the recorder itself left out: function
+// and place, function and place.
+func writeStack(id uint32) {
+	var pcs [deepest]uintptr
+	frames := runtime.CallersFrames(pcs[:runtime.Callers(2, pcs[:])])
+	line := strconv.AppendUint(nil, uint64(id), 10)
+	for {
+		f, more := frames.Next()
+		if f.Function != "" && !isOurs(f.Function) && !strings.HasSuffix(f.File, "/gorec_sites.go") {
+			line = append(append(line, '\t'), strings.Replace(f.Function, ".gorec_main", ".main", 1)...)
+			line = append(append(append(line, '\t'), f.File...), ':')
+			line = strconv.AppendInt(line, int64(f.Line), 10)
+		}
+		if !more {
+			break
+		}
+	}
+	stackFile.Write(append(line, '\n'))
+}
+
+const ownPackage = "gorace.local/recorder/gorec."
+
+// isOurs reports whether a function is the recorder's, or one that begins each goroutine.
+func isOurs(function string) bool {
+	return strings.HasPrefix(function, ownPackage) || function == "runtime.goexit" || function == "runtime.main"
+}

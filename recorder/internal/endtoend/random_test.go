@@ -1,0 +1,412 @@
+package endtoend
+
+import (
+	"bytes"
+	"flag"
+	"fmt"
+	"math/rand"
+	"os"
+	"os/exec"
+	"path/filepath"
+	"regexp"
+	"sort"
+	"strings"
+	"testing"
+	"time"
+
+	"gorace.local/recorder/internal/sites"
+	"gorace.local/recorder/internal/trace"
+)
+
+var (
+	randomPrograms = flag.Int("random", 0, "so many random programs are recorded")
+	randomSeed     = flag.Int64("randomseed", 1, "the first of them")
+)
+
+// TestRandomPrograms records random programs, with what one goroutine alone does and without
+// it. The variables that race are those that race by construction, and no trace is illegal.
+func TestRandomPrograms(t *testing.T) {
+	requireJudge(t)
+	if *randomPrograms == 0 {
+		t.Skip("no -random")
+	}
+	for n := int64(0); n < int64(*randomPrograms); n++ {
+		dir := t.TempDir()
+		source, racy := randomProgram(*randomSeed + n)
+		files := map[string]string{"go.mod": "module random\n\ngo 1.18\n", "main.go": source}
+		for name, text := range files {
+			if err := os.WriteFile(filepath.Join(dir, name), []byte(text), 0o644); err != nil {
+				t.Fatal(err)
+			}
+		}
+		program := filepath.Join(dir, "program")
+		build := exec.Command(gorec, "build", "-o", program, ".")
+		build.Dir = dir
+		if out, err := build.CombinedOutput(); err != nil {
+			t.Fatalf("seed %d: %v\n%s\n%s", *randomSeed+n, err, out, source)
+		}
+		traces := map[string]string{}
+		for _, all := range []string{"0", "1"} {
+			os.Setenv("GOREC_ALL", all)
+			traces[all] = record(t, program, fmt.Sprint(n+1), "0")
+			traces[all] = rename(t, traces[all], all)
+		}
+		os.Unsetenv("GOREC_ALL")
+		for all, report := range judgeAll(t, traces) {
+			if got := racyOnes(report); got != racy {
+				t.Errorf("seed %d, all %s: races on %s, not on %s\n%s%s", *randomSeed+n, all, got, racy, report, source)
+			}
+		}
+		segments := recordParts(t, program, fmt.Sprint(n+1), 150+int(n*37%300), 25+int(n*11%200))
+		for segment, report := range judgeAll(t, segments) {
+			for _, got := range strings.Fields(racyOnes(report)) {
+				if !strings.Contains(" "+racy+" ", " "+got+" ") {
+					t.Errorf("seed %d, segment %s: a race on %s, not on %s\n%s%s", *randomSeed+n, segment, got, racy, report, source)
+				}
+			}
+		}
+		t.Logf("seed %d: %d segments", *randomSeed+n, len(segments))
+		os.RemoveAll(dir)
+	}
+}
+
+// recordParts runs a program whose log has short parts, and writes their traces in short
+// segments. Races between segments aren't told, but no race is told that is none.
+func recordParts(t *testing.T, program, seed string, part, events int) map[string]string {
+	t.Helper()
+	table, err := sites.Read(program + ".sites")
+	if err != nil {
+		t.Fatal(err)
+	}
+	log := program + ".parts"
+	cmd := exec.Command(program)
+	cmd.Env = append(os.Environ(), "GOREC_LOG="+log, "GOREC_SEED="+seed, fmt.Sprintf("GOREC_PART=%d", part))
+	var output bytes.Buffer
+	cmd.Stdout, cmd.Stderr = &output, &output
+	if err := cmd.Start(); err != nil {
+		t.Fatal(err)
+	}
+	ended := make(chan error, 1)
+	go func() { ended <- cmd.Wait() }()
+	traces := map[string]string{}
+	over := false
+	for i := 0; ; {
+		path := log
+		if i > 0 {
+			path = fmt.Sprintf("%s.%d", log, i)
+		}
+		l, err := trace.Open(path)
+		if err == nil && (over || l.GoesOn()) {
+			goesOn := l.GoesOn()
+			writeSegments(t, l, table, events, fmt.Sprintf("%s.%d", log, i), traces)
+			l.Done()
+			l.Close()
+			if i++; goesOn {
+				continue
+			}
+			return traces
+		}
+		select {
+		case err := <-ended:
+			if over = true; err != nil {
+				t.Errorf("%s: %v\n%s", program, err, output.String())
+			}
+		case <-time.After(time.Millisecond):
+			if over {
+				t.Fatalf("no log %s", path)
+			}
+		}
+	}
+}
+
+func writeSegments(t *testing.T, l *trace.Log, table sites.Table, events int, name string, traces map[string]string) {
+	t.Helper()
+	options := trace.Options{Version: l.Version(), Events: events}
+	s := trace.NewSegments(l.Records(), options)
+	for k := 0; ; k++ {
+		path := fmt.Sprintf("%s.%d.gotrace", name, k)
+		f, err := os.Create(path)
+		if err != nil {
+			t.Fatal(err)
+		}
+		if _, err := s.Write(table, options, f); err != nil {
+			t.Fatal(err)
+		}
+		f.Close()
+		traces[filepath.Base(path)] = path
+		if !s.Next() {
+			return
+		}
+	}
+}
+
+func rename(t *testing.T, path, more string) string {
+	t.Helper()
+	if err := os.Rename(path, path+more); err != nil {
+		t.Fatal(err)
+	}
+	return path + more
+}
+
+var gadgetName = regexp.MustCompile(`q(\d+)q`)
+
+// racyOnes are the numbers of the gadgets whose variables race; or the report, if it is of no
+// legal trace.
+func racyOnes(report string) string {
+	if !strings.HasPrefix(report, "clean: ") && !strings.Contains("\n"+report, "\nraces: ") {
+		return "an illegal trace"
+	}
+	found := map[string]bool{}
+	for _, m := range raced.FindAllStringSubmatch(report, -1) {
+		if n := gadgetName.FindStringSubmatch(m[1]); n != nil {
+			found[n[1]] = true
+		} else {
+			found[m[1]] = true
+		}
+	}
+	var names []string
+	for n := range found {
+		names = append(names, n)
+	}
+	sort.Strings(names)
+	return strings.Join(names, " ")
+}
+
+// maker makes a program of gadgets. A gadget is a variable, and goroutines that use it in one
+// of the ways below; none but main has anything to do with another one.
+type maker struct {
+	*rand.Rand
+	strings.Builder
+	n    int
+	form form
+}
+
+// form is how a variable is declared and used; %d is the number of its gadget.
+type form struct{ top, local, place, value string }
+
+var variableForms = []form{
+	{"var q%dq int", "", "q%dq", "%d"},
+	{"", "var q%dq int", "q%dq", "%d"},
+	{"", "q%dq := make([]int, 4)", "q%dq[2]", "%d"},
+	{"var q%dq [3]int", "", "q%dq[1]", "%d"},
+	{"type t%[1]d struct{ a string; q%[1]dq int; b byte }", "p := &t%d{a: \"a\"}", "p.q%dq", "%d"},
+	{"type t%[1]d struct{ a [2]string; q%[1]dq uint8 }; var p%[1]d t%[1]d", "", "p%[1]d.q%[1]dq", "%d"},
+	{"", "q%dq := new(int)", "*q%dq", "%d"},
+	{"", "q%dq := map[string]int{}", "q%dq[\"k\"]", "%d"},
+	{"var q%dq string", "", "q%dq", "name(%d)"},
+	{"", "var q%dq any", "q%dq", "any(%d)"},
+}
+
+func (m *maker) write(format string, a ...any) { fmt.Fprintf(m, format+"\n", a...) }
+
+func (m *maker) pick(s ...string) string { return s[m.Intn(len(s))] }
+
+func (m *maker) number(format string) string {
+	if !strings.Contains(format, "%") {
+		return format
+	}
+	return fmt.Sprintf(format, m.n)
+}
+
+// reads and writes are statements that use the variable.
+func (m *maker) reads() string {
+	place := m.number(m.form.place)
+	return m.pick("use("+place+")", "for i := 0; i < 3; i++ { use("+place+") }", "{ x := "+place+"; use(x) }", "help(func() { use("+place+") })")
+}
+
+func (m *maker) writes() string {
+	place := m.number(m.form.place)
+	set := place + " = " + fmt.Sprintf(m.form.value, m.Intn(200))
+	forms := []string{set, set, "for i := 0; i < 4; i++ { " + set + " }", "help(func() { " + set + " })", "use(" + place + "); " + set, set + "; use(" + place + ")"}
+	if m.form.value == "%d" {
+		forms = append(forms, place+"++", place+" += 3", "for i := 0; i < 3; i++ { "+place+"++ }")
+	}
+	return m.pick(forms...)
+}
+
+func (m *maker) either() string {
+	if m.Intn(2) == 0 {
+		return m.reads()
+	}
+	return m.writes()
+}
+
+// some is a few of what f makes, with what orders nothing between.
+func (m *maker) some(f func() string) string {
+	lines := []string{f()}
+	for m.Intn(3) > 0 {
+		lines = append(lines, m.noise(), f())
+	}
+	return strings.Join(lines, "\n")
+}
+
+// noise orders nothing before what another goroutine does.
+func (m *maker) noise() string {
+	return m.pick("", "runtime.Gosched()", "own.Lock(); own.Unlock()", "common.RLock(); common.RUnlock()", "line <- 1; <-line",
+		"atomic.AddInt64(&count, 1)", "mine++", "mine = mine*3 + 1", fmt.Sprintf("time.Sleep(%d * time.Microsecond)", m.Intn(60)),
+		"pause.Lock(); mine += 2; pause.Unlock()", "if common.TryRLock() { common.RUnlock() }")
+}
+
+// spawn starts a goroutine.
+func (m *maker) spawn(lines ...string) {
+	m.write("wg.Add(1)\ngo func() {\ndefer wg.Done()\nvar own, pause, first, second sync.Mutex\nvar count int64\nline, mine := make(chan int, 1), 0")
+	m.write("use(&own); use(&pause); use(&first); use(&second); use(&count); use(line); use(mine)")
+	for _, l := range lines {
+		m.write("%s\n%s", m.noise(), l)
+	}
+	m.write("%s\n}()", m.noise())
+}
+
+func locked(lock, what, unlock string) string { return lock + "\n" + what + "\n" + unlock }
+
+// clean are gadgets without a race.
+var clean = []func(*maker){
+	func(m *maker) { // a mutex
+		m.write("var mu sync.Mutex")
+		for i := m.Intn(3); i >= -1; i-- {
+			m.spawn(locked("mu.Lock()", m.some(m.either), "mu.Unlock()"), locked("mu.Lock()", m.some(m.either), "mu.Unlock()"))
+		}
+	},
+	func(m *maker) { // an rwmutex
+		m.write("var mu sync.RWMutex")
+		for i := m.Intn(2); i >= -1; i-- {
+			m.spawn(locked("mu.RLock()", m.some(m.reads), "mu.RUnlock()"), locked("mu.Lock()", m.some(m.either), "mu.Unlock()"))
+		}
+	},
+	func(m *maker) { // handed on by a channel, there and back
+		m.write("there, back := make(chan int%s), make(chan int%s)", m.pick("", ", 1"), m.pick("", ", 1"))
+		m.spawn(m.some(m.either), "there <- 1", "<-back", m.some(m.either))
+		m.spawn("<-there", m.some(m.either), "back <- 1")
+	},
+	func(m *maker) { // alone
+		m.spawn(m.some(m.either), m.some(m.either), m.some(m.either))
+	},
+	func(m *maker) { // by who starts those that read
+		m.write(m.writes())
+		m.spawn(m.some(m.reads))
+		m.spawn(m.some(m.reads), m.some(m.reads))
+	},
+	func(m *maker) { // waited for
+		m.write("var done sync.WaitGroup\ndone.Add(1)")
+		m.spawn(m.some(m.either), m.some(m.either), "done.Done()")
+		m.spawn("done.Wait()", m.some(m.either))
+	},
+	func(m *maker) { // closed, and both only read behind it
+		m.write("c := make(chan int)")
+		m.spawn(m.some(m.either), m.writes(), "close(c)", m.some(m.reads))
+		m.spawn("<-c", m.some(m.reads))
+		m.spawn("for range c {}", m.some(m.reads))
+	},
+	func(m *maker) { // once
+		m.write("var once sync.Once")
+		for i := 0; i < 3; i++ {
+			m.spawn("once.Do(func() {", m.some(m.writes), "})", m.some(m.reads))
+		}
+	},
+	func(m *maker) { // a starter's, then the started one's, then the starter's again
+		m.write("c := make(chan int)")
+		m.spawn(m.some(m.either), "wg.Add(1)\ngo func() {\ndefer wg.Done()\n"+m.writes()+"\n"+m.either()+"\nclose(c)\n}()", "<-c", m.some(m.either))
+	},
+	func(m *maker) { // a ready flag
+		m.write("var ready int32")
+		m.spawn(m.some(m.either), "atomic.StoreInt32(&ready, 1)")
+		m.spawn("for atomic.LoadInt32(&ready) == 0 { runtime.Gosched() }", m.some(m.either))
+	},
+}
+
+// racing are gadgets with a race, in whatever order things happen.
+var racing = []func(*maker){
+	func(m *maker) { // no order at all
+		m.spawn(m.some(m.either), m.some(m.writes))
+		m.spawn(m.some(m.either))
+	},
+	func(m *maker) { // written behind what orders
+		m.write("c := make(chan int)")
+		m.spawn(m.some(m.either), "close(c)", m.some(m.writes))
+		m.spawn("<-c", m.some(m.either))
+	},
+	func(m *maker) { // read behind what orders
+		m.write("c := make(chan int)")
+		m.spawn(m.some(m.either), "close(c)", m.some(m.reads))
+		m.spawn("<-c", m.some(m.writes))
+	},
+	func(m *maker) { // one has it in order, the other not
+		m.write("c := make(chan int, 1)")
+		m.spawn(m.some(m.either), m.writes(), "c <- 1")
+		m.spawn("<-c", m.some(m.reads))
+		m.spawn(m.some(m.either))
+	},
+	func(m *maker) { // two locks
+		m.spawn(locked("first.Lock()", m.some(m.either), "first.Unlock()"), locked("second.Lock()", m.some(m.writes), "second.Unlock()"))
+		m.spawn(locked("first.Lock()", m.some(m.either), "first.Unlock()"))
+	},
+	func(m *maker) { // locked for reading, and written
+		m.spawn(locked("common.RLock()", m.some(m.writes), "common.RUnlock()"))
+		m.spawn(locked("common.RLock()", m.some(m.either), "common.RUnlock()"))
+	},
+	func(m *maker) { // one forgets the lock
+		m.write("var mu sync.Mutex")
+		m.spawn(locked("mu.Lock()", m.some(m.writes), "mu.Unlock()"), locked("mu.Lock()", m.some(m.either), "mu.Unlock()"))
+		m.spawn(locked("mu.Lock()", m.some(m.either), "mu.Unlock()"))
+		m.spawn(m.some(m.reads))
+	},
+	func(m *maker) { // who starts goes on
+		m.spawn(m.some(m.either), "wg.Add(1)\ngo func() {\ndefer wg.Done()\n"+m.writes()+"\n}()", m.some(m.either))
+	},
+	func(m *maker) { // the last of many
+		for i := 0; i < 4; i++ {
+			m.spawn(m.some(m.reads))
+		}
+		m.spawn("time.Sleep(200 * time.Microsecond)", m.writes())
+	},
+}
+
+// randomProgram is a program, and the numbers of its gadgets that race.
+func randomProgram(seed int64) (source, racy string) {
+	m := &maker{Rand: rand.New(rand.NewSource(seed))}
+	var names []string
+	var calls, all strings.Builder
+	all.WriteString(`package main
+
+import (
+	"fmt"
+	"runtime"
+	"sync"
+	"sync/atomic"
+	"time"
+)
+
+var (
+	common sync.RWMutex
+	other  int64
+	_      = time.Microsecond
+	_      = runtime.Gosched
+)
+
+func use[T any](T) {}
+
+func help(f func()) { f() }
+
+func name(n int) string { return fmt.Sprint("n", n) }
+`)
+	for m.n = 0; m.n < 12; m.n++ {
+		m.Reset()
+		m.form = variableForms[m.Intn(len(variableForms))]
+		m.write("%s\nfunc gadget%d(wg *sync.WaitGroup) {\n%s", m.number(m.form.top), m.n, m.number(m.form.local))
+		if m.form.local != "" {
+			m.write("use(&%s)", strings.TrimSuffix(strings.Fields(strings.TrimPrefix(m.number(m.form.local), "var "))[0], ":="))
+		}
+		if m.Intn(2) == 0 {
+			racing[m.Intn(len(racing))](m)
+			names = append(names, fmt.Sprint(m.n))
+		} else {
+			clean[m.Intn(len(clean))](m)
+		}
+		m.write("}")
+		all.WriteString(m.String())
+		fmt.Fprintf(&calls, "gadget%d(&wg)\n", m.n)
+	}
+	sort.Strings(names)
+	all.WriteString("\nfunc main() {\nvar wg sync.WaitGroup\n" + calls.String() + "atomic.AddInt64(&other, 1)\nwg.Wait()\n}\n")
+	return all.String(), strings.Join(names, " ")
+}

@@ -1,0 +1,102 @@
+package endtoend
+
+import (
+	"bufio"
+	"fmt"
+	"os"
+	"os/exec"
+	"path/filepath"
+	"strconv"
+	"strings"
+	"syscall"
+	"testing"
+	"time"
+)
+
+// waiting starts gorec over a program that tells its process and waits; the folder is that of
+// temporary files.
+func waiting(t *testing.T, errs *strings.Builder) (cmd *exec.Cmd, out *bufio.Reader, pid int, folder string) {
+	t.Helper()
+	folder = t.TempDir()
+	cmd = exec.Command(gorec, "run", "-gorace", stub(t), "./waits", "tell")
+	cmd.Dir = root + "/testdata/commands"
+	cmd.Env = append(os.Environ(), "TMPDIR="+folder, "XDG_CACHE_HOME="+t.TempDir())
+	cmd.SysProcAttr = &syscall.SysProcAttr{Setpgid: true}
+	cmd.Stderr = errs
+	pipe, err := cmd.StdoutPipe()
+	if err != nil {
+		t.Fatal(err)
+	}
+	if err := cmd.Start(); err != nil {
+		t.Fatal(err)
+	}
+	out = bufio.NewReader(pipe)
+	line, err := out.ReadString('\n')
+	if err == nil {
+		pid, err = strconv.Atoi(strings.TrimSpace(line))
+	}
+	if err != nil {
+		t.Fatalf("%s: %v\n%s", line, err, errs)
+	}
+	return cmd, out, pid, folder
+}
+
+// runs reports whether a process does, until it has ended or ten seconds are over.
+func runs(pid int) bool {
+	for i := 0; i < 100; i++ {
+		b, err := os.ReadFile(fmt.Sprintf("/proc/%d/stat", pid))
+		if err != nil || strings.Contains(string(b), ") Z ") {
+			return false
+		}
+		time.Sleep(100 * time.Millisecond)
+	}
+	return true
+}
+
+// TestKilled: a program doesn't outlive a gorec that is killed, and the next gorec removes what
+// it left.
+func TestKilled(t *testing.T) {
+	var errs strings.Builder
+	cmd, _, pid, folder := waiting(t, &errs)
+	cmd.Process.Kill()
+	cmd.Wait()
+	if runs(pid) {
+		t.Errorf("the program runs on")
+		syscall.Kill(pid, syscall.SIGKILL)
+	}
+	left, _ := filepath.Glob(folder + "/gorec-run.*")
+	if len(left) != 1 {
+		t.Fatalf("left are %v", left)
+	}
+	old := time.Now().Add(-time.Hour)
+	if err := os.Chtimes(left[0], old, old); err != nil {
+		t.Fatal(err)
+	}
+	next := exec.Command(gorec, "run", "-o", "/dev/null", "-gorace", stub(t), "./runs")
+	next.Dir = root + "/testdata/commands"
+	next.Env = append(os.Environ(), "TMPDIR="+folder)
+	if out, err := next.CombinedOutput(); err != nil {
+		t.Fatalf("%v\n%s", err, out)
+	}
+	if left, _ = filepath.Glob(folder + "/*"); len(left) > 0 {
+		t.Errorf("left are %v", left)
+	}
+}
+
+// TestEnded: a signal that gorec alone gets ends the program too; what it did is judged, and no
+// file is left.
+func TestEnded(t *testing.T) {
+	for _, s := range []syscall.Signal{syscall.SIGINT, syscall.SIGTERM, syscall.SIGHUP} {
+		var errs strings.Builder
+		cmd, out, pid, folder := waiting(t, &errs)
+		cmd.Process.Signal(s)
+		report, _ := out.ReadString('\n')
+		cmd.Wait()
+		if cmd.ProcessState.ExitCode() != 21 || !strings.HasPrefix(report, "clean: ") || runs(pid) {
+			t.Errorf("%v: status %d, %s%s", s, cmd.ProcessState.ExitCode(), report, errs.String())
+		}
+		if left, _ := filepath.Glob(folder + "/*"); len(left) > 0 {
+			t.Errorf("%v: left are %v", s, left)
+		}
+	}
+}

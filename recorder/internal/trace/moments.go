@@ -1,0 +1,161 @@
+package trace
+
+import (
+	"io"
+	"strings"
+
+	"gorace.local/recorder/internal/sites"
+	"gorace.local/recorder/wire"
+)
+
+// A Deed is something that a goroutine did which may order it after others, or others after it.
+type Deed struct{ What, Place string }
+
+func (d Deed) String() string { return d.What + " at " + d.Place }
+
+// A Moment is what a goroutine held in front of an event, and its last deed, also where the
+// trace leaves these out, since one goroutine alone used the lock.
+type Moment struct {
+	Locks []Deed // the oldest first
+	Last  Deed
+	Stack uint32 // of an access: the number of the calls that led there, 0 for none known
+}
+
+// String tells a moment behind the name of an access.
+func (m Moment) String() string {
+	var held []string
+	for _, l := range m.Locks {
+		held = append(held, l.String())
+	}
+	switch n := len(m.Locks); {
+	case n == 0 && m.Last.What == "":
+		return "without a lock"
+	case n == 0:
+		return "without a lock, behind " + m.Last.String()
+	case m.Locks[n-1] == m.Last:
+		return "behind " + strings.Join(held, ", ")
+	}
+	return "behind " + strings.Join(held, ", ") + ", last " + m.Last.String()
+}
+
+// holding is a lock that a goroutine holds.
+type holding struct {
+	lock    uint32
+	reading bool
+	since   Deed
+}
+
+// follower follows what goroutines hold and do.
+type follower struct {
+	*printer
+	held    map[uint32][]holding // by goroutine
+	last    map[uint32]Deed
+	wanted  map[int]bool
+	moments map[int]Moment
+}
+
+// Moments are those of the wanted events, which are counted from 1, of the trace that Write
+// makes of the same log.
+func Moments(records []wire.Record, table sites.Table, o Options, wanted map[int]bool) (map[int]Moment, error) {
+	f := &follower{held: map[uint32][]holding{}, last: map[uint32]Deed{}, wanted: wanted, moments: map[int]Moment{}}
+	d := declare(named(records, o), table)
+	told := 0
+	d.printed = func(p *printer, i int) {
+		f.printer = p
+		r := &records[i]
+		for told < p.events {
+			if told++; wanted[told] {
+				f.moments[told] = f.moment(r)
+			}
+		}
+		f.follow(r)
+	}
+	_, err := d.print(io.Discard)
+	return f.moments, err
+}
+
+func (f *follower) moment(r *wire.Record) Moment {
+	m := Moment{Last: f.last[r.Goroutine]}
+	if isAccess(r.Op) {
+		m.Stack = r.OtherSite
+	}
+	for _, h := range f.held[r.Goroutine] {
+		m.Locks = append(m.Locks, h.since)
+	}
+	return m
+}
+
+// name is that of an object, also of one that is left out.
+func (f *follower) name(id uint32) string {
+	if int(id) >= len(f.objects) {
+		return "nil"
+	}
+	if o := &f.objects[id]; o.name != "" && o.op != wire.Release {
+		return o.name
+	}
+	return f.table[f.objects[id].site].Name
+}
+
+// deeds say what a record is of a goroutine's, in front of the name of the object.
+var deeds = map[wire.Op]string{
+	wire.Send: "send on ", wire.Receive: "receive from ", wire.ReceiveClosed: "receive from the closed ", wire.Close: "close of ",
+	wire.Lock: "lock of ", wire.TryLock: "trylock of ", wire.ReadLock: "rlock of ", wire.TryReadLock: "tryrlock of ",
+	wire.Unlock: "unlock of ", wire.ReadUnlock: "runlock of ",
+	wire.OnceBegin: "begin of ", wire.OnceEnd: "end of ", wire.OnceDone: "end of ",
+	wire.Release: "what others come after, of ", wire.Acquire: "what it comes after, of ",
+}
+
+// follow takes in a record.
+func (f *follower) follow(r *wire.Record) {
+	g, place := r.Goroutine, f.table[r.Site].Place
+	switch r.Op {
+	case wire.Go:
+		f.last[g] = Deed{"go of " + f.goroutines[r.Other], place}
+		f.last[r.Other] = Deed{"its start", place}
+		return
+	case wire.Exit:
+		delete(f.held, g)
+		return
+	case wire.Meet:
+		f.last[g] = Deed{"send on " + f.name(r.Object), place}
+		f.last[r.Other] = Deed{"receive from " + f.name(r.Object), f.table[r.OtherSite].Place}
+		return
+	}
+	what := deeds[r.Op]
+	if what == "" {
+		return
+	}
+	d := Deed{what + f.name(r.Object), place}
+	f.last[g] = d
+	switch r.Op {
+	case wire.Lock, wire.TryLock:
+		f.held[g] = append(f.held[g], holding{r.Object, false, d})
+	case wire.ReadLock, wire.TryReadLock:
+		f.held[g] = append(f.held[g], holding{r.Object, true, d})
+	case wire.Unlock, wire.ReadUnlock:
+		f.release(g, r.Object, r.Op == wire.ReadUnlock)
+	}
+}
+
+// release ends a holding: the goroutine's own, or one of another, whose lock it may unlock.
+func (f *follower) release(g, lock uint32, reading bool) {
+	if f.drop(g, lock, reading) {
+		return
+	}
+	for other := range f.held {
+		if f.drop(other, lock, reading) {
+			return
+		}
+	}
+}
+
+func (f *follower) drop(g, lock uint32, reading bool) bool {
+	list := f.held[g]
+	for i := len(list) - 1; i >= 0; i-- {
+		if list[i].lock == lock && list[i].reading == reading {
+			f.held[g] = append(list[:i:i], list[i+1:]...)
+			return true
+		}
+	}
+	return false
+}

@@ -1,0 +1,81 @@
+package trace
+
+import (
+	"strings"
+	"testing"
+
+	"gorace.local/recorder/internal/sites"
+	"gorace.local/recorder/wire"
+)
+
+// TestMoments: what is held and done stands in the log, also where the trace leaves it out.
+func TestMoments(t *testing.T) {
+	table := sites.Table{{Place: "-"}}
+	for _, s := range []sites.Site{{Name: "x"}, {Name: "mu"}, {Name: "own"}, {Name: "c"}, {Name: "group"}, {}} {
+		for _, line := range "12" {
+			s.Place = s.Name + ".go:" + string(line)
+			table = append(table, s)
+		}
+	}
+	const x, mu, own, c, group, start = 1, 3, 5, 7, 9, 11
+	records := []wire.Record{
+		{Op: wire.Go, Other: 1, Site: start},
+		{Op: wire.Go, Other: 2, Site: start + 1},
+		{Op: wire.DeclareVar, Object: 1, Site: x},
+		{Op: wire.DeclareLock, Object: 2, Site: mu, Kind: 1},
+		{Op: wire.DeclareLock, Object: 3, Site: own},
+		{Op: wire.DeclareChan, Object: 4, Site: c},
+		{Op: wire.Read, Object: 1, Goroutine: 1, Site: x}, // A
+		{Op: wire.ReadLock, Object: 2, Goroutine: 1, Site: mu},
+		{Op: wire.Write, Object: 1, Goroutine: 1, Site: x, Value: 1}, // B
+		{Op: wire.ReadLock, Object: 2, Goroutine: 2, Site: mu},
+		{Op: wire.Lock, Object: 3, Goroutine: 2, Site: own},              // which g2 alone uses
+		{Op: wire.Write, Object: 1, Goroutine: 2, Site: x + 1, Value: 2}, // C
+		{Op: wire.Meet, Object: 4, Goroutine: 2, Other: 1, Site: c, OtherSite: c + 1, Value: 1},
+		{Op: wire.ReadUnlock, Object: 2, Goroutine: 2, Site: mu + 1},
+		{Op: wire.Write, Object: 1, Goroutine: 1, Site: x, Value: 3}, // D
+		{Op: wire.Unlock, Object: 3, Goroutine: 2, Site: own + 1},
+		{Op: wire.Release, Object: 5, Goroutine: 2, Site: group},
+		{Op: wire.Acquire, Object: 5, Site: group + 1},
+		{Op: wire.Read, Object: 1, Site: x, Value: 3},               // E
+		{Op: wire.Read, Object: 1, Goroutine: 2, Site: x, Value: 3}, // F
+	}
+	var b strings.Builder
+	if _, err := Write(records, table, Options{Version: 1}, &b); err != nil {
+		t.Fatal(err)
+	}
+	events := map[int]bool{}
+	var accesses []int
+	event := 0
+	for _, line := range strings.Split(b.String(), "\n")[1:] {
+		word, _, _ := strings.Cut(line, " ")
+		switch word {
+		case "goroutine", "var", "chan", "mutex", "rwmutex", "once", "":
+			continue
+		}
+		event++
+		if word == "read" || word == "write" {
+			events[event] = true
+			accesses = append(accesses, event)
+		}
+	}
+	moments, err := Moments(records, table, Options{Version: 1}, events)
+	if err != nil {
+		t.Fatal(err)
+	}
+	for i, want := range []string{
+		"without a lock, behind its start at .go:1",
+		"behind rlock of mu at mu.go:1",
+		"behind rlock of mu at mu.go:1, lock of own at own.go:1",
+		"behind rlock of mu at mu.go:1, last receive from c at c.go:2",
+		"without a lock, behind what it comes after, of group at group.go:2",
+		"without a lock, behind what others come after, of group at group.go:1",
+	} {
+		if i >= len(accesses) {
+			t.Fatalf("%d accesses\n%s", len(accesses), b.String())
+		}
+		if got := moments[accesses[i]].String(); got != want {
+			t.Errorf("access %c: %s, not %s", 'A'+i, got, want)
+		}
+	}
+}

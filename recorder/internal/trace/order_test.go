@@ -1,0 +1,34 @@
+package trace
+
+import (
+	"fmt"
+	"strings"
+	"testing"
+
+	"gorace.local/recorder/wire"
+)
+
+// An access stands behind as many steps as it says, however late its record was written.
+func TestInOrder(t *testing.T) {
+	records := []wire.Record{
+		{Op: wire.Go, Other: 1},
+		{Op: wire.Lock, Object: 7},
+		{Op: wire.Unlock, Object: 7},
+		{Op: wire.DeclareVar, Object: 1, OtherSite: 16, Value: 1},
+		{Op: wire.Write, Object: 1, Value: 1},
+		{Op: wire.Read, Object: 1, Value: 2, OtherSite: 5},
+		{Op: wire.Read, Object: 1, Value: 3, Goroutine: 1},
+		{Op: wire.Exit, Goroutine: 1},
+		{Op: wire.Write, Object: 1, Value: 9}, // behind all
+		{Op: wire.Read, Object: 1, Value: 0},
+	}
+	var got []string
+	for _, r := range inOrder(records) {
+		got = append(got, fmt.Sprintf("%d:%d.%d.%d", r.Op, r.Value, r.OtherSite, r.Goroutine))
+	}
+	want := fmt.Sprintf("%d:0.0.0 %d:0.0.0 %d:16.0.0 %d:0.0.0 %d:0.0.0 %d:0.5.0 %d:0.0.0 %d:0.0.1 %d:0.0.1 %d:0.0.0",
+		wire.Read, wire.Go, wire.DeclareVar, wire.Write, wire.Lock, wire.Read, wire.Unlock, wire.Read, wire.Exit, wire.Write)
+	if strings.Join(got, " ") != want {
+		t.Errorf("got %v\nnot %s", got, want)
+	}
+}

@@ -1,0 +1,4 @@
+// Package broken doesn't compile.
+package broken
+
+var n int = "no number"

@@ -1,0 +1,2 @@
+// Package wrong has a test that fails.
+package wrong

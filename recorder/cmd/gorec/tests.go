@@ -176,6 +176,11 @@ func (c *testRun) test(p *instrument.Program, name, folder string, out *console)
 		c.notRun(out.out, p, "?", "no test files")
 		return 0, nil
 	}
+	if p.Unseen {
+		fmt.Fprintf(out.notes, "gorec: nothing of %s can be recorded: each package has cgo\n", p.ImportPath)
+		c.notRun(out.out, p, "FAIL", "not recorded")
+		return unusable, nil
+	}
 	for _, line := range p.Refused {
 		fmt.Fprintln(out.notes, "gorec: "+line)
 	}

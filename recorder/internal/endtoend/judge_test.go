@@ -54,6 +54,7 @@ func TestMain(m *testing.M) {
 	if err != nil {
 		panic(err)
 	}
+	os.Setenv("XDG_CACHE_HOME", filepath.Join(dir, "cache")) // for the traces that are kept
 	gorec = filepath.Join(dir, "gorec")
 	build := exec.Command("go", "build", "-o", gorec, "./cmd/gorec")
 	build.Dir = root

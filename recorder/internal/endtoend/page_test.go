@@ -88,7 +88,7 @@ func (r reader) follow(t *testing.T, input string) string {
 	cmd := exec.Command("bash")
 	cmd.Dir = r.clone
 	cmd.Stdin = strings.NewReader(input)
-	cmd.Env = append(os.Environ(), "HOME="+r.home)
+	cmd.Env = append(os.Environ(), "HOME="+r.home, "XDG_CACHE_HOME=")
 	out, err := cmd.CombinedOutput()
 	if err != nil {
 		t.Fatalf("%v\n%s", err, out)

@@ -34,6 +34,7 @@ type Copy struct {
 // Program is one that can be built of a copy.
 type Program struct {
 	*load.Program
+	Unseen  bool           // none of its packages is recorded
 	Refused []string       // what can't be recorded
 	Missed  map[string]int // calls whose accesses aren't recorded, by their names
 
@@ -108,6 +109,10 @@ func (t *tree) program(p *load.Program) *Program {
 				is.Missed[m]++
 			}
 		}
+	}
+	is.Unseen = true
+	for path := range p.Parts {
+		is.Unseen = is.Unseen && !t.own[path]
 	}
 	sort.Strings(is.Refused)
 	return is

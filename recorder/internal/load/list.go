@@ -139,7 +139,8 @@ func isMade(l *Listed, all map[string]*Listed) bool {
 }
 
 // recorded leaves out the library, what doesn't compile, and all but one of the variants of a
-// package: that with its own tests, where it is there.
+// package: that with its own tests, where it is there. Their paths don't say for which test they
+// are.
 func recorded(all []*Listed) []*Listed {
 	made := map[string]*Listed{}
 	for _, l := range all {
@@ -165,6 +166,7 @@ func recorded(all []*Listed) []*Listed {
 	kept := make([]*Listed, len(order))
 	for i, key := range order {
 		kept[i] = best[key]
+		kept[i].ImportPath = path(kept[i].ImportPath)
 	}
 	return kept
 }

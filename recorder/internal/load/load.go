@@ -120,7 +120,6 @@ func (p *Package) check(exports map[string]string) error {
 		}
 		return os.Open(exports[path])
 	}
-	p.ImportPath, _, _ = strings.Cut(p.ImportPath, " ")
 	conf := types.Config{Importer: importer.ForCompiler(p.Fset, "gc", lookup)}
 	var err error
 	p.Types, err = conf.Check(p.ImportPath, p.Fset, p.Files, p.Info)

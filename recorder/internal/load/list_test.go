@@ -1,0 +1,58 @@
+package load
+
+import (
+	"strings"
+	"testing"
+)
+
+// listed is what go list says of two packages with tests, of which b imports a, and of one that
+// doesn't compile; made by hand after its documentation.
+func listed() []*Listed {
+	return []*Listed{
+		{ImportPath: "unsafe", Standard: true, DepOnly: true},
+		{ImportPath: "x/a", Name: "a", Export: "1", CgoFiles: []string{"a.go"}, TestGoFiles: []string{"a_test.go"}},
+		{ImportPath: "x/a [x/a.test]", Name: "a", ForTest: "x/a", Export: "2", CgoFiles: []string{"a.go"}},
+		{ImportPath: "x/a_test [x/a.test]", Name: "a_test", ForTest: "x/a", Export: "3"},
+		{ImportPath: "x/a.test", Name: "main", Export: "4", Deps: []string{"unsafe", "x/a [x/a.test]", "x/a_test [x/a.test]", "x/b [x/a.test]"}},
+		{ImportPath: "x/b", Name: "b", Export: "5", XTestGoFiles: []string{"b_test.go"}},
+		{ImportPath: "x/b [x/a.test]", Name: "b", ForTest: "x/a", Export: "6"},
+		{ImportPath: "x/b [x/b.test]", Name: "b", ForTest: "x/b", Export: "7"},
+		{ImportPath: "x/b.test", Name: "main", Export: "8", Deps: []string{"x/a", "x/b [x/b.test]"}},
+		{ImportPath: "x/c", Name: "c", TestGoFiles: []string{"c_test.go"}},
+		{ImportPath: "x/c.test", Name: "main"},
+		{ImportPath: "x/d", Name: "d", Export: "9"},
+		{ImportPath: "y", Name: "y", Export: "10", DepOnly: true},
+	}
+}
+
+// TestRecorded: of each package that with its own tests is taken, the library's and those that
+// don't compile aside; and no path says for which test.
+func TestRecorded(t *testing.T) {
+	var got []string
+	for _, l := range recorded(listed()) {
+		got = append(got, l.ImportPath+"="+l.Export)
+	}
+	if want := "x/a=2 x/a_test=3 x/b=7 x/d=9 y=10"; strings.Join(got, " ") != want {
+		t.Error(got)
+	}
+}
+
+// TestTests: each named package is one program of tests, with the packages that it has.
+func TestTests(t *testing.T) {
+	programs := tests(listed())
+	want := []Program{
+		{ImportPath: "x/a", HasTests: true}, {ImportPath: "x/b", HasTests: true},
+		{ImportPath: "x/c", HasTests: true, Broken: "build failed"}, {ImportPath: "x/d"},
+	}
+	if len(programs) != len(want) {
+		t.Fatal(programs)
+	}
+	for i, p := range programs {
+		if p.ImportPath != want[i].ImportPath || p.HasTests != want[i].HasTests || p.Broken != want[i].Broken {
+			t.Errorf("%+v", p)
+		}
+	}
+	if p := programs[0].Parts; !p["x/a"] || !p["x/a_test"] || !p["x/b"] || p["x/c"] {
+		t.Error(p)
+	}
+}

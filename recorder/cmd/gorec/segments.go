@@ -40,7 +40,8 @@ type judging struct {
 	segments int
 	racing   int
 	told     map[string]bool // what races at which places
-	ends     map[string]int  // why segments ended
+	ends     map[string]int  // why segments ended that others follow
+	cut      string          // why one ended that none follows
 }
 
 // follow has each part judged once the run goes on in another one, until the program has ended.
@@ -171,7 +172,7 @@ func (j *judging) judgeSegment(s *trace.Segments, options trace.Options, success
 	if only {
 		tell(j.c.out, o.summary, j.t.Missed)
 	}
-	j.add(o, s.More() || goesOn)
+	j.add(o, s.GoesOn() || !s.More() && goesOn)
 	return nil
 }
 
@@ -229,8 +230,9 @@ func (j *judging) askBeside(path string, o *outcome) error {
 	return nil
 }
 
-// add adds a segment to what is known of the run; ends says that another one follows.
-func (j *judging) add(o *outcome, ends bool) {
+// add adds a segment to what is known of the run; followed says that another one goes on where
+// it is cut off.
+func (j *judging) add(o *outcome, followed bool) {
 	run := j.o
 	run.status = worse(o.status, run.status)
 	if len(o.races) > 0 {
@@ -244,12 +246,14 @@ func (j *judging) add(o *outcome, ends bool) {
 	} else {
 		run.summary.Add(o.summary)
 	}
-	run.summary.Cut = o.summary.Cut
-	if ends && o.summary.Cut != "" {
-		reason, _, _ := strings.Cut(o.summary.Cut, ", at ")
+	reason, _, _ := strings.Cut(o.summary.Cut, ", at ")
+	switch {
+	case reason != "" && followed:
 		j.ends[reason]++
-		run.summary.Cut = ""
+	case reason != "":
+		j.cut = o.summary.Cut
 	}
+	run.summary.Cut = j.cut
 }
 
 // tell tells at the end what lies between segments.

@@ -42,6 +42,8 @@ type judging struct {
 	told     map[string]bool // what races at which places
 	ends     map[string]int  // why segments ended that others follow
 	cut      string          // why one ended that none follows
+
+	forgotten int // variables that one goroutine alone had used
 }
 
 // follow has each part judged once the run goes on in another one, until the program has ended.
@@ -77,11 +79,10 @@ func (j *judging) follow(ended <-chan struct{}) (failed error) {
 		j.pass(log)
 		return failed
 	}
-	err := j.judgePart(log)
-	if err == nil && j.segments > 1 {
+	if failed = j.judgePart(log); failed == nil {
 		j.tell()
 	}
-	return err
+	return failed
 }
 
 // pass lets the program go on behind a part.
@@ -105,6 +106,7 @@ func (j *judging) path() string {
 // judgePart has the segments of a part judged. Then the program may go on with another one.
 func (j *judging) judgePart(log *trace.Log) error {
 	successor := log.Successor()
+	j.forgotten += log.Forgotten()
 	defer j.pass(log)
 	options := j.traceOptions(log)
 	if err := checkVersion(log, options); err != nil {
@@ -258,6 +260,13 @@ func (j *judging) add(o *outcome, followed bool) {
 
 // tell tells at the end what lies between segments.
 func (j *judging) tell() {
+	if j.forgotten > 0 {
+		fmt.Fprintf(j.c.out, "gorec: there was no room for all variables: %d times one was forgotten that one goroutine alone had used; "+
+			"with what that did no race is told\n", j.forgotten)
+	}
+	if j.segments == 1 {
+		return
+	}
 	tell(j.c.out, j.o.summary, j.t.Missed)
 	var reasons []string
 	for reason, n := range j.ends {

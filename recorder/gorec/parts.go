@@ -42,13 +42,16 @@ func begin() {
 
 // makeRoom has the lock, and no operation is half done.
 func makeRoom() {
-	if partRecords > 0 && !sealed && (written > len(records)-len(records)/8 || met >= mostLocations()) {
+	if partRecords == 0 || sealed {
+		return
+	}
+	if written > len(records)-len(records)/8 || tooMuch() && !sweep() {
 		nextPart()
 	}
 }
 
-// mostLocations is how many of them a part has, since their table takes memory too.
-func mostLocations() int { return partRecords / 8 * 3 }
+// mostLocations is how many variables are known at once, since that takes memory too.
+func mostLocations() int { return partRecords / 16 * 3 }
 
 // nextPart has the lock. The part before the one that ends has to be judged first, so that
 // there are two at most.
@@ -64,7 +67,7 @@ func nextPart() {
 	}
 	header.Version = ended.Version
 	why := wire.AfterRecords
-	if met >= mostLocations() {
+	if written <= len(records)-len(records)/8 {
 		why = wire.AfterVariables
 	}
 	atomic.StoreUint32(&ended.Next, uint32(why))
@@ -88,7 +91,7 @@ func awaitJudge() {
 
 // forget has the lock. What a new part needs is what is in use.
 func forget() {
-	locations, met = make([]location, 1<<12), 0
+	locations, met, swept = make([]location, 1<<12), 0, 0
 	maps, contents = map[unsafe.Pointer]*variable{}, map[unsafe.Pointer]*variable{}
 	lastAtomic, pooled = map[unsafe.Pointer]uint32{}, map[unsafe.Pointer]uint32{}
 	lastStores, sentOut, ends = map[syncMapKey]uint32{}, nil, nil

@@ -1,6 +1,7 @@
 package gorec
 
 import (
+	"errors"
 	"os"
 	"strconv"
 	"sync/atomic"
@@ -27,11 +28,16 @@ var (
 )
 
 // setParts is how many records a part has; "" is that there is one log.
-func setParts(s string) (err error) {
-	if s != "" {
-		partRecords, err = strconv.Atoi(s)
+func setParts(s string) error {
+	if s == "" {
+		return nil
 	}
-	return err
+	n, err := strconv.Atoi(s)
+	if err != nil || n < 64 || n > room {
+		return errors.New("GOREC_PART is no number of records from 64 to " + strconv.Itoa(room) + ": " + s)
+	}
+	partRecords = n
+	return nil
 }
 
 // begin takes the lock, once there is room for the records of an operation.

@@ -158,7 +158,7 @@ func newGoroutine() *G {
 // Go starts f.
 func Go(s *Site, f func()) {
 	g := start(s)
-	go g.run(s, f)
+	go func() { g.run(s, f) }() // with a frame of its own, as a program's: no dump shows runtime.goexit
 	if seed != 0 && g.random>>9&1 == 0 {
 		runtime.Gosched()
 	}

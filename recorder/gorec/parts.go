@@ -1,6 +1,7 @@
 package gorec
 
 import (
+	"errors"
 	"os"
 	"strconv"
 	"sync/atomic"
@@ -27,11 +28,16 @@ var (
 )
 
 // setParts is how many records a part has; "" is that there is one log.
-func setParts(s string) (err error) {
-	if s != "" {
-		partRecords, err = strconv.Atoi(s)
+func setParts(s string) error {
+	if s == "" {
+		return nil
 	}
-	return err
+	n, err := strconv.Atoi(s)
+	if err != nil || n < 64 || n > room {
+		return errors.New("GOREC_PART is no number of records from 64 to " + strconv.Itoa(room) + ": " + s)
+	}
+	partRecords = n
+	return nil
 }
 
 // begin takes the lock, once there is room for the records of an operation.
@@ -42,13 +48,16 @@ func begin() {
 
 // makeRoom has the lock, and no operation is half done.
 func makeRoom() {
-	if partRecords > 0 && !sealed && (written > len(records)-len(records)/8 || met >= mostLocations()) {
+	if partRecords == 0 || sealed {
+		return
+	}
+	if written > len(records)-len(records)/8 || tooMuch() && !sweep() {
 		nextPart()
 	}
 }
 
-// mostLocations is how many of them a part has, since their table takes memory too.
-func mostLocations() int { return partRecords / 8 * 3 }
+// mostLocations is how many variables are known at once, since that takes memory too.
+func mostLocations() int { return partRecords / 16 * 3 }
 
 // nextPart has the lock. The part before the one that ends has to be judged first, so that
 // there are two at most.
@@ -64,7 +73,7 @@ func nextPart() {
 	}
 	header.Version = ended.Version
 	why := wire.AfterRecords
-	if met >= mostLocations() {
+	if written <= len(records)-len(records)/8 {
 		why = wire.AfterVariables
 	}
 	atomic.StoreUint32(&ended.Next, uint32(why))
@@ -88,7 +97,7 @@ func awaitJudge() {
 
 // forget has the lock. What a new part needs is what is in use.
 func forget() {
-	locations, met = make([]location, 1<<12), 0
+	locations, met, swept = make([]location, 1<<12), 0, 0
 	maps, contents = map[unsafe.Pointer]*variable{}, map[unsafe.Pointer]*variable{}
 	lastAtomic, pooled = map[unsafe.Pointer]uint32{}, map[unsafe.Pointer]uint32{}
 	lastStores, sentOut, ends = map[syncMapKey]uint32{}, nil, nil

@@ -19,8 +19,9 @@ type Header struct {
 	Variables uint32 // so many were met, most of them without a record
 	Next      uint32 // a Successor
 	Judged    uint32 // 1: who reads the log has done with it
+	Forgotten uint32 // so many that one goroutine alone had used were forgotten
 	Version   uint8  // of the trace that the log is for: in one for version 1 there is no TryFail
-	_         [7]byte
+	_         [3]byte
 }
 
 // Successor says whether a run goes on in another log, so that this one is whole.

@@ -58,7 +58,17 @@ func judgeWords(command string) []string {
 }
 
 // ask has a trace judged. The report is written, and stands in the outcome, with its status.
+// Where a signal for the program has ended the judge too, it is asked once more.
 func (j *judge) ask(k *process.Keeper, path string, to, notes io.Writer, o *outcome) error {
+	interrupted := k.Interrupted()
+	err := j.askOnce(k, path, to, notes, o)
+	if err != nil && !interrupted && k.Interrupted() {
+		err = j.askOnce(k, path, to, notes, o)
+	}
+	return err
+}
+
+func (j *judge) askOnce(k *process.Keeper, path string, to, notes io.Writer, o *outcome) error {
 	in, err := os.Open(path)
 	if err != nil {
 		return err

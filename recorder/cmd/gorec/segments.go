@@ -40,7 +40,10 @@ type judging struct {
 	segments int
 	racing   int
 	told     map[string]bool // what races at which places
-	ends     map[string]int  // why segments ended
+	ends     map[string]int  // why segments ended that others follow
+	cut      string          // why one ended that none follows
+
+	forgotten int // variables that one goroutine alone had used
 }
 
 // follow has each part judged once the run goes on in another one, until the program has ended.
@@ -76,11 +79,10 @@ func (j *judging) follow(ended <-chan struct{}) (failed error) {
 		j.pass(log)
 		return failed
 	}
-	err := j.judgePart(log)
-	if err == nil && j.segments > 1 {
+	if failed = j.judgePart(log); failed == nil {
 		j.tell()
 	}
-	return err
+	return failed
 }
 
 // pass lets the program go on behind a part.
@@ -104,6 +106,7 @@ func (j *judging) path() string {
 // judgePart has the segments of a part judged. Then the program may go on with another one.
 func (j *judging) judgePart(log *trace.Log) error {
 	successor := log.Successor()
+	j.forgotten += log.Forgotten()
 	defer j.pass(log)
 	options := j.traceOptions(log)
 	if err := checkVersion(log, options); err != nil {
@@ -171,7 +174,7 @@ func (j *judging) judgeSegment(s *trace.Segments, options trace.Options, success
 	if only {
 		tell(j.c.out, o.summary, j.t.Missed)
 	}
-	j.add(o, s.More() || goesOn)
+	j.add(o, s.GoesOn() || !s.More() && goesOn)
 	return nil
 }
 
@@ -229,8 +232,9 @@ func (j *judging) askBeside(path string, o *outcome) error {
 	return nil
 }
 
-// add adds a segment to what is known of the run; ends says that another one follows.
-func (j *judging) add(o *outcome, ends bool) {
+// add adds a segment to what is known of the run; followed says that another one goes on where
+// it is cut off.
+func (j *judging) add(o *outcome, followed bool) {
 	run := j.o
 	run.status = worse(o.status, run.status)
 	if len(o.races) > 0 {
@@ -244,16 +248,25 @@ func (j *judging) add(o *outcome, ends bool) {
 	} else {
 		run.summary.Add(o.summary)
 	}
-	run.summary.Cut = o.summary.Cut
-	if ends && o.summary.Cut != "" {
-		reason, _, _ := strings.Cut(o.summary.Cut, ", at ")
+	reason, _, _ := strings.Cut(o.summary.Cut, ", at ")
+	switch {
+	case reason != "" && followed:
 		j.ends[reason]++
-		run.summary.Cut = ""
+	case reason != "":
+		j.cut = o.summary.Cut
 	}
+	run.summary.Cut = j.cut
 }
 
 // tell tells at the end what lies between segments.
 func (j *judging) tell() {
+	if j.forgotten > 0 {
+		fmt.Fprintf(j.c.out, "gorec: there was no room for all variables: %d times one was forgotten that one goroutine alone had used; "+
+			"with what that did no race is told\n", j.forgotten)
+	}
+	if j.segments == 1 {
+		return
+	}
 	tell(j.c.out, j.o.summary, j.t.Missed)
 	var reasons []string
 	for reason, n := range j.ends {

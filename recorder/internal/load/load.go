@@ -12,6 +12,7 @@ import (
 	"os"
 	"os/exec"
 	"path/filepath"
+	"runtime"
 	"strings"
 )
 
@@ -46,6 +47,21 @@ type Set struct {
 	Toolchain string // the version of the command go, as go1.22.1
 }
 
+// A ToolchainError is a command go that is newer than the one which built gorec: what it
+// compiles can't be read.
+type ToolchainError struct{ Toolchain string }
+
+func (e *ToolchainError) Error() string {
+	return fmt.Sprintf("this gorec was built with %s, and can't read what %s compiles: build gorec with that", runtime.Version(), e.Toolchain)
+}
+
+// minorOf is the y of a version go1.y.z, and 0 of one that isn't known.
+func minorOf(version string) int {
+	var minor int
+	fmt.Sscanf(version, "go1.%d", &minor)
+	return minor
+}
+
 // Packages lists and checks the packages of programs but for the standard library's; where
 // tests are wanted, those of the packages' tests.
 func Packages(q Query) (*Set, error) {
@@ -58,6 +74,9 @@ func Packages(q Query) (*Set, error) {
 		return nil, fmt.Errorf("go env: %w", err)
 	}
 	s := &Set{Programs: mains(listed), Toolchain: strings.TrimSpace(string(version))}
+	if minorOf(s.Toolchain) > minorOf(runtime.Version()) {
+		return nil, &ToolchainError{s.Toolchain}
+	}
 	if q.Tests {
 		s.Programs = tests(listed)
 	}

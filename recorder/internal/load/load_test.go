@@ -29,3 +29,11 @@ func TestIterationVariables(t *testing.T) {
 		}
 	}
 }
+
+func TestMinorOf(t *testing.T) {
+	for version, want := range map[string]int{"go1.19.8": 19, "go1.23": 23, "go1.24rc1": 24, "devel go1.25-abc": 0} {
+		if got := minorOf(version); got != want {
+			t.Errorf("%s: %d", version, got)
+		}
+	}
+}

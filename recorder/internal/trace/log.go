@@ -72,6 +72,9 @@ func (l *Log) Done() { atomic.StoreUint32(&l.header.Judged, 1) }
 // Variables is how many variables the program has used, those without a record too.
 func (l *Log) Variables() int { return int(atomic.LoadUint32(&l.header.Variables)) }
 
+// Forgotten is how often a variable was forgotten that one goroutine alone had used.
+func (l *Log) Forgotten() int { return int(atomic.LoadUint32(&l.header.Forgotten)) }
+
 // Version is that of the trace which the log is for.
 func (l *Log) Version() int { return int(l.header.Version) }
 

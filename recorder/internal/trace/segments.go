@@ -82,16 +82,16 @@ func (s *Segments) Moments(table sites.Table, o Options, wanted map[int]bool) (m
 }
 
 // More reports whether there is a next segment.
-func (s *Segments) More() bool { return s.goesOn() || s.group+1 < s.groups.count() }
+func (s *Segments) More() bool { return s.GoesOn() || s.group+1 < s.groups.count() }
 
-// goesOn reports whether there is another one of the same variables.
-func (s *Segments) goesOn() bool { return s.end < len(s.records) && s.end > s.state }
+// GoesOn reports whether there is another one of the same variables, behind a cut of this one.
+func (s *Segments) GoesOn() bool { return s.end < len(s.records) && s.end > s.state }
 
 // Next goes on with the next segment, if there is one. Where there is none, and the trace that
 // was written has a cut, what is behind that has no trace: the state alone is too much for one.
 func (s *Segments) Next() bool {
 	switch {
-	case s.goesOn():
+	case s.GoesOn():
 		s.records, s.state = goOn(s.records, s.end)
 	case s.More():
 		s.group++

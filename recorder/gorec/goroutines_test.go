@@ -1,0 +1,27 @@
+package gorec
+
+import (
+	"runtime"
+	"strings"
+	"testing"
+)
+
+// A goroutine that was started, and hasn't run, looks in a dump as one of the program's does:
+// of one that begins with a wrapper the runtime shows its own frames.
+func TestDumpOfAStart(t *testing.T) {
+	record(t)
+	defer runtime.GOMAXPROCS(runtime.GOMAXPROCS(1))
+	done := make(chan bool)
+	Go(&Site{}, func() { done <- true })
+	text := make([]byte, 1<<20)
+	text = text[:runtime.Stack(text, true)]
+	<-done
+	for _, dump := range strings.Split(string(text), "\n\n") {
+		if strings.Contains(dump, "created by gorace.local/recorder/gorec.Go") && strings.Contains(dump, "runtime.goexit") {
+			t.Errorf("%s", dump)
+		}
+	}
+	if !strings.Contains(string(text), "created by gorace.local/recorder/gorec.Go") {
+		t.Errorf("the goroutine isn't there:\n%s", text)
+	}
+}

@@ -197,8 +197,10 @@ func (j *judging) isNew(o *outcome) bool {
 func (j *judging) traceOf() (f *os.File, path string, done func(), err error) {
 	if j.racing == 0 {
 		f = j.out.file
-		if err = f.Truncate(0); err == nil {
-			_, err = f.Seek(0, io.SeekStart)
+		if j.segments > 0 {
+			if err = f.Truncate(0); err == nil {
+				_, err = f.Seek(0, io.SeekStart)
+			}
 		}
 		return f, j.out.path, func() {}, err
 	}

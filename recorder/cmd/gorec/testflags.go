@@ -83,69 +83,92 @@ var otherFlags = map[string]string{
 	"linkshared": "", "pkgdir": "", "installsuffix": "", "buildmode": "", "trimpath": "", "buildvcs": "", "pgo": "",
 }
 
+// A testParser takes words apart.
+type testParser struct {
+	*testWords
+	flags   *flag.FlagSet
+	known   func(string) *flag.Flag
+	args    []string // what is still to be read
+	inFront bool     // packages may follow
+}
+
 // parse takes words apart. In front of the packages stand flags of gorec and of go test, behind
 // them those of go test, and what neither knows is for the tests; behind -args all is.
 func (w *testWords) parse(flags *flag.FlagSet, args []string) error {
-	known := flags.Lookup
-	inFront, ended := true, false // whether packages may follow; whether nothing but words does
-	for len(args) > 0 {
-		word := args[0]
-		args = args[1:]
-		name, value, hasValue := cutFlag(word)
+	p := &testParser{testWords: w, flags: flags, known: flags.Lookup, args: args, inFront: true}
+	for len(p.args) > 0 {
+		word := p.args[0]
+		p.args = p.args[1:]
+		name, _, _ := cutFlag(word)
 		switch {
-		case ended || word == "--":
-			w.passed = append(w.passed, word)
-			ended = true
-			continue
-		case name == "" && inFront:
-			w.packages = append(w.packages, word)
-			for len(args) > 0 && !strings.HasPrefix(args[0], "-") {
-				w.packages = append(w.packages, args[0])
-				args = args[1:]
-			}
-			inFront = false
-			known = goTestFlag(flags)
-			continue
-		case name == "":
-			w.passed = append(w.passed, word)
-			ended = true
-			continue
+		case name == "" && word != "--" && p.inFront:
+			p.takePackages(word)
+		case name == "" || word == "--": // no flag stands behind it
+			w.passed = append(append(w.passed, word), p.args...)
+			return nil
 		case name == "args":
-			w.passed = append(w.passed, args...)
+			w.passed = append(w.passed, p.args...)
 			return nil
 		case name == "h" || name == "help":
 			return flag.ErrHelp
-		}
-		if why, is := otherFlags[name]; is {
-			return refused(name, why)
-		}
-		f := known(name)
-		if f == nil {
-			if inFront && len(args) > 0 && !hasValue && !strings.HasPrefix(args[0], "-") {
-				return &usageError{"test", fmt.Errorf("gorec and go test don't know -%s; a flag of the tests stands behind the packages", name)}
-			}
-			w.passed = append(w.passed, word)
-			if !hasValue && len(args) > 0 && !strings.HasPrefix(args[0], "-") {
-				w.passed = append(w.passed, args[0]) // it may be its value
-				args = args[1:]
-			}
-			inFront = false
-			continue
-		}
-		b, isBool := f.Value.(interface{ IsBoolFlag() bool })
-		switch {
-		case hasValue:
-		case isBool && b.IsBoolFlag():
-			value = "true"
-		case len(args) == 0:
-			return &usageError{"test", fmt.Errorf("-%s needs a value", name)}
 		default:
-			value, args = args[0], args[1:]
-		}
-		if err := flags.Set(name, value); err != nil {
-			return &usageError{"test", fmt.Errorf("-%s %s: %w", name, value, err)}
+			if err := p.takeFlag(word); err != nil {
+				return err
+			}
 		}
 	}
+	return nil
+}
+
+// takePackages takes a package and those behind it.
+func (p *testParser) takePackages(first string) {
+	p.packages = append(p.packages, first)
+	for len(p.args) > 0 && !strings.HasPrefix(p.args[0], "-") {
+		p.packages = append(p.packages, p.args[0])
+		p.args = p.args[1:]
+	}
+	p.inFront, p.known = false, goTestFlag(p.flags)
+}
+
+// takeFlag takes a flag, with its value.
+func (p *testParser) takeFlag(word string) error {
+	name, value, hasValue := cutFlag(word)
+	if why, is := otherFlags[name]; is {
+		return refused(name, why)
+	}
+	f := p.known(name)
+	if f == nil {
+		return p.takeUnknown(word, name, hasValue)
+	}
+	b, isBool := f.Value.(interface{ IsBoolFlag() bool })
+	switch {
+	case hasValue:
+	case isBool && b.IsBoolFlag():
+		value = "true"
+	case len(p.args) == 0:
+		return &usageError{"test", fmt.Errorf("-%s needs a value", name)}
+	default:
+		value, p.args = p.args[0], p.args[1:]
+	}
+	if err := p.flags.Set(name, value); err != nil {
+		return &usageError{"test", fmt.Errorf("-%s %s: %w", name, value, err)}
+	}
+	return nil
+}
+
+// takeUnknown passes on a flag of the tests, and the word behind it, which may be its value.
+// In front of packages nobody could tell that word from one of them.
+func (p *testParser) takeUnknown(word, name string, hasValue bool) error {
+	wordFollows := !hasValue && len(p.args) > 0 && !strings.HasPrefix(p.args[0], "-")
+	if p.inFront && wordFollows {
+		return &usageError{"test", fmt.Errorf("gorec and go test don't know -%s; a flag of the tests stands behind the packages", name)}
+	}
+	p.passed = append(p.passed, word)
+	if wordFollows {
+		p.passed = append(p.passed, p.args[0])
+		p.args = p.args[1:]
+	}
+	p.inFront = false
 	return nil
 }
 

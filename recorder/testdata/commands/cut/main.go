@@ -1,20 +1,24 @@
 package main
 
-import "sync"
-
-// What is behind the 1,024th goroutine isn't in the trace, and with it the race on n.
+// What is behind the 65,536th value that waits isn't in the trace, and with it the race on n.
 func main() {
 	n := 0
-	begin := make(chan struct{})
-	var group sync.WaitGroup
-	for i := 0; i < 2000; i++ {
-		group.Add(1)
-		go func() {
-			defer group.Done()
-			<-begin
-			n++
-		}()
+	c := make(chan int, 100_000)
+	done := make(chan bool)
+	go func() {
+		c <- 0
+		done <- true
+	}()
+	<-done
+	for i := 0; i < 70_000; i++ {
+		c <- i
 	}
-	close(begin)
-	group.Wait()
+	go func() {
+		<-c
+		n++
+		done <- true
+	}()
+	<-c
+	n++
+	<-done
 }

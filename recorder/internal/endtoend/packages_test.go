@@ -77,8 +77,8 @@ FAIL	example.com/service/broken [build failed]
 ok  	example.com/service/store	N
 ok  	example.com/service/wrong	N	[no tests to run]`, 3},
 		{"./bank ./wrong ./plain", stub(t), `ok  	example.com/service/bank	N
-FAIL	example.com/service/wrong	N
-?   	example.com/service/plain	[no test files]`, 21},
+?   	example.com/service/plain	[no test files]
+FAIL	example.com/service/wrong	N`, 21},
 		{"./store ./bank -run Sell -v", stub(t), `ok  	example.com/service/bank	N	[no tests to run]
 ok  	example.com/service/store	N`, 0},
 		{"./plain", stub(t), "?   	example.com/service/plain	[no test files]", 0},

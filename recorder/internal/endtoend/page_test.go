@@ -1,7 +1,6 @@
 package endtoend
 
 import (
-	"fmt"
 	"os"
 	"os/exec"
 	"path/filepath"
@@ -50,31 +49,18 @@ func script(blocks []block) (input, output string) {
 	return input, output
 }
 
-// reader is somebody who follows the page in a clone of their own. Their judge keeps each
-// trace that it is given, and answers with the report that stands beside it, if one does.
-type reader struct{ home, clone, traces string }
+// reader is somebody who follows the page in a clone of their own.
+type reader struct{ home, clone string }
 
-func newReader(t *testing.T, traces string) reader {
+func newReader(t *testing.T) reader {
 	t.Helper()
-	r := reader{t.TempDir(), t.TempDir(), traces}
+	r := reader{t.TempDir(), t.TempDir()}
 	here, err := filepath.Abs(root)
 	if err == nil {
 		err = os.Symlink(here, filepath.Join(r.clone, "recorder"))
 	}
-	judge := `#!/bin/sh
-n=$(($(cat "$HOME/asked" 2>/dev/null || echo 0) + 1))
-echo $n >"$HOME/asked"
-cat >"$HOME/trace.$n"
-if [ -f "` + traces + `/$n.report" ]; then
-    cmp -s "$HOME/trace.$n" "` + traces + `/$n" || grep -q '^clean: ' "` + traces + `/$n.report" ||
-        echo "the trace isn't that of the run before"
-    cat "` + traces + `/$n.report"
-    ! grep -q '^races: ' "` + traces + `/$n.report" || exit 66
-else
-    cp "$HOME/trace.$n" "` + traces + `/$n"
-fi
-`
 	if err == nil {
+		judge := "#!/bin/sh\nexec " + *judgeFlag + " \"$@\"\n"
 		err = os.WriteFile(filepath.Join(r.clone, "gorace"), []byte(judge), 0o755)
 	}
 	if err != nil {
@@ -96,28 +82,17 @@ func (r reader) follow(t *testing.T, input string) string {
 	return string(out)
 }
 
-// addPage records what the page has recorded, and, once that is judged, follows the page
-// once more with the judge's reports.
-func addPage(t *testing.T, b *batch) {
-	t.Helper()
+// TestPage follows the page and compares what its commands print. A judge that takes minutes
+// for each trace is too slow for it.
+func TestPage(t *testing.T) {
+	t.Parallel()
+	requireJudge(t)
+	if *judgeFlag == "unproved" {
+		t.Skip("the page is followed with a built judge")
+	}
 	input, want := script(readPage(t))
-	traces := t.TempDir()
-	newReader(t, traces).follow(t, input)
-	files, err := filepath.Glob(filepath.Join(traces, "*"))
-	if err != nil || len(files) == 0 {
-		t.Fatalf("the page records nothing")
+	got := newReader(t).follow(t, input)
+	if counts.ReplaceAllString(got, "N $1") != counts.ReplaceAllString(want, "N $1") {
+		t.Errorf("the page says\n%s\nbut its commands print\n%s", want, got)
 	}
-	for _, f := range files {
-		f := f
-		b.add("page."+filepath.Base(f), f, func(report string) error {
-			return os.WriteFile(f+".report", []byte(report), 0o644)
-		})
-	}
-	b.behind = append(b.behind, func() error {
-		got := newReader(t, traces).follow(t, input)
-		if counts.ReplaceAllString(got, "N $1") != counts.ReplaceAllString(want, "N $1") {
-			return fmt.Errorf("the page says\n%s\nbut its commands print\n%s", want, got)
-		}
-		return nil
-	})
 }

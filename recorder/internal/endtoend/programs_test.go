@@ -18,7 +18,6 @@ var seeds = []string{"1", "2", "3"}
 type batch struct {
 	traces map[string]string // by the run's name
 	checks map[string]func(report string) error
-	behind []func() error
 }
 
 func (b *batch) add(run, trace string, check func(string) error) {
@@ -26,23 +25,16 @@ func (b *batch) add(run, trace string, check func(string) error) {
 	b.checks[run] = check
 }
 
-// TestRecordings records the example programs at each seed, and what the page for beginners
-// records. Each race that a program tells at its head is found, and no other; no trace is
-// illegal; and the page's commands print what the page says.
+// TestRecordings records the example programs at each seed. Each race that a program tells at
+// its head is found, and no other, and no trace is illegal.
 func TestRecordings(t *testing.T) {
 	requireJudge(t)
 	b := &batch{traces: map[string]string{}, checks: map[string]func(string) error{}}
 	addPrograms(t, b)
 	addTries(t, b)
-	addPage(t, b)
 	for run, report := range judgeAll(t, b.traces) {
 		if err := b.checks[run](report); err != nil {
 			t.Errorf("%s: %v\n%s", run, err, report)
-		}
-	}
-	for _, check := range b.behind {
-		if err := check(); err != nil {
-			t.Error(err)
 		}
 	}
 }

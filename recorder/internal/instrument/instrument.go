@@ -5,6 +5,8 @@ package instrument
 import (
 	"errors"
 	"fmt"
+	"go/scanner"
+	"go/token"
 	"io/fs"
 	"os"
 	"os/exec"
@@ -169,16 +171,27 @@ func (t *tree) add(p *load.Package) error {
 }
 
 // relativeLine is a line directive of a source that a tool made of another file beside it.
-var relativeLine = regexp.MustCompile(`(?m)^//line ([^/:\s][^:\n]*)(:\d+(:\d+)?)$`)
+var relativeLine = regexp.MustCompile(`^//line ([^/:\s][^:\n]*)(:\d+(:\d+)?)$`)
 
 // placed is a source that tells where it was copied from, so that panics, runtime.Caller and
 // profiles name the program's own file.
 func placed(text, file string) string {
-	text = relativeLine.ReplaceAllStringFunc(text, func(line string) string {
-		m := relativeLine.FindStringSubmatch(line)
-		return "//line " + filepath.Join(filepath.Dir(file), m[1]) + m[2]
-	})
-	return "//line " + file + ":1\n" + text
+	files := token.NewFileSet()
+	source := files.AddFile(file, files.Base(), len(text))
+	var tokens scanner.Scanner
+	tokens.Init(source, []byte(text), nil, scanner.ScanComments)
+	placed, done := "//line "+file+":1\n", 0
+	for pos, tok, literal := tokens.Scan(); tok != token.EOF; pos, tok, literal = tokens.Scan() {
+		at := source.Offset(pos)
+		if tok != token.COMMENT || at > 0 && text[at-1] != '\n' {
+			continue
+		}
+		if m := relativeLine.FindStringSubmatch(literal); m != nil {
+			placed += text[done:at] + "//line " + filepath.Join(filepath.Dir(file), m[1]) + m[2]
+			done = at + len(literal)
+		}
+	}
+	return placed + text[done:]
 }
 
 // copyFiles copies what a package is made of but for its Go files, which follow.

@@ -1,5 +1,5 @@
 #!/usr/bin/env python3
-"""Runs the cases of tests/*/*.txt with no proof, in some minutes: writes them as one table into a copy of the crate program_tests and has
+"""Runs the cases of tests/*/*.txt with no proof, in some minutes: writes them as tables into a copy of the crate program_tests and has
 `rt try --test` build and run that.
 
     tests/unproved.py [WORD..]
@@ -21,6 +21,20 @@ LONGEST = 4096
 SECONDS = 300
 WITHOUT = shutil.ignore_patterns("out", "proofs", "must-fail", "wrong")
 MARKS = {10: "\\n", 9: "\\t", 13: "\\r", 34: '\\"', 92: "\\\\"}
+# A constant has at most 140,000 expressions, of which each byte of a text is one.
+LARGEST = 100_000
+TABLE = """#[test]
+fn cases_{number}(rt: HostRuntime) -> Result<(), Fail> {{
+    for row in &ROWS_{number} {{
+        let wrong = first_wrong(&rt, row)?;
+        assert!(rt; wrong.is_none(), "{{}}, line {{wrong:?}}", row.0);
+    }}
+    Ok(())
+}}
+
+static ROWS_{number}: [Row; {count}] = [
+{rows}];
+"""
 LIBRARY = "//! The cases of tests/.\n#![tactic(auto)]\n\n#[cfg(test)]\nmod golden;\n"
 
 
@@ -44,12 +58,23 @@ def rows_of(case):
     return [row(case, given) for given in case.inputs if len(given) <= LONGEST]
 
 
+def tables_of(rows):
+    """Returns the text of the tables, each with as many rows as a constant can have."""
+    tables, size = [[]], 0
+    for it in rows:
+        if size + len(it) > LARGEST:
+            tables, size = [*tables, []], 0
+        tables[-1].append(it)
+        size += len(it)
+    return "\n".join(TABLE.format(number=at, count=len(it), rows="".join(it)) for at, it in enumerate(tables))
+
+
 def write_crate(room, rows):
-    """Makes a copy of the crates in which program_tests is the table alone."""
+    """Makes a copy of the crates in which program_tests is the tables alone."""
     shutil.copy(ROOT / "crates.txt", room)
     shutil.copytree(ROOT / "crates", f"{room}/crates", ignore=WITHOUT)
     source = HERE / "golden.rt.in"
-    text = source.read_text(encoding="utf-8").replace("@COUNT@", str(len(rows))).replace("@ROWS@", "".join(rows))
+    text = source.read_text(encoding="utf-8").replace("@TABLES@", tables_of(rows))
     folder = f"{room}/crates/program_tests"
     shutil.rmtree(f"{folder}/src")
     os.makedirs(f"{folder}/src")

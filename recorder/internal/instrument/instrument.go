@@ -180,15 +180,19 @@ func placed(text, file string) string {
 	source := files.AddFile(file, files.Base(), len(text))
 	var tokens scanner.Scanner
 	tokens.Init(source, []byte(text), nil, scanner.ScanComments)
-	placed, done := "//line "+file+":1\n", 0
+	placed, done, isTold := "", 0, false
 	for pos, tok, literal := tokens.Scan(); tok != token.EOF; pos, tok, literal = tokens.Scan() {
 		at := source.Offset(pos)
-		if tok != token.COMMENT || at > 0 && text[at-1] != '\n' {
-			continue
-		}
-		if m := relativeLine.FindStringSubmatch(literal); m != nil {
-			placed += text[done:at] + "//line " + filepath.Join(filepath.Dir(file), m[1]) + m[2]
-			done = at + len(literal)
+		switch {
+		case tok == token.SEMICOLON && literal == "\n" && !isTold:
+			isTold = true
+			placed += text[done:at] + "\n" + fmt.Sprintf("//line %s:%d", file, source.Line(pos)+1)
+			done = at
+		case tok == token.COMMENT && (at == 0 || text[at-1] == '\n'):
+			if m := relativeLine.FindStringSubmatch(literal); m != nil {
+				placed += text[done:at] + "//line " + filepath.Join(filepath.Dir(file), m[1]) + m[2]
+				done = at + len(literal)
+			}
 		}
 	}
 	return placed + text[done:]
@@ -275,8 +279,10 @@ func (p *Program) Build(run func(*exec.Cmd) error, file string, tests bool) erro
 	if tests {
 		words = []string{"test", "-vet=off", "-c"}
 	}
-	for _, path := range p.copy.oldLoops { // a GOPATH has no go lines
-		words = append(words, "-gcflags="+path+"=-lang=go1.21")
+	// A GOPATH has no go lines; and where a file has a line directive the compiler takes its loops
+	// for new ones, unless its search for them is told to find none.
+	for _, path := range p.copy.oldLoops {
+		words = append(words, "-gcflags="+path+"=-lang=go1.21 -d=loopvarhash=qn")
 	}
 	tags, err := buildTags()
 	if err != nil {

@@ -114,7 +114,7 @@ func tests(all []*Listed) []*Program {
 		programs = append(programs, p)
 		switch of := made[l.ImportPath+".test"]; {
 		case l.Error != nil:
-			p.Broken = "setup failed"
+			p.Broken = failed(l.Error.Err)
 			fmt.Fprintln(os.Stderr, l.Error.Err)
 		case !p.HasTests:
 		case of == nil || len(of.DepsErrors) > 0 || of.Error != nil:
@@ -130,6 +130,15 @@ func tests(all []*Listed) []*Program {
 	}
 	sort.Slice(programs, func(i, j int) bool { return programs[i].ImportPath < programs[j].ImportPath })
 	return programs
+}
+
+// failed says as go test does what an error of go list is of. Newer Go answers what the compiler
+// said, behind a line with the package.
+func failed(message string) string {
+	if strings.HasPrefix(message, "# ") {
+		return "build failed"
+	}
+	return "setup failed"
 }
 
 // isMade reports whether a package is the program of tests that go list makes of another.

@@ -48,8 +48,11 @@ fn read_up_to<A: Allocator + Copy>(state: &mut VarState<A>, clock: &Clock<A>, la
 }
 
 // A clock that knows the reads behind this one.
-fn behind<A: Allocator + Copy>(alloc: A, read: u32) -> Option<Clock<A>> {
-    let mut clock = Clock::new(alloc);
+fn behind<'a>(
+    heap: &'a RefusingHeap<Global>,
+    read: u32,
+) -> Option<Clock<&'a RefusingHeap<Global>>> {
+    let mut clock = Clock::new(heap);
     for who in 1..7 {
         if who > read && clock.knows(who) == 0 {
             clock.tick(who).ok()?;

@@ -165,8 +165,8 @@ const SECOND: Option<Stamp> = Some(Stamp {
 const GO: Call = Call::Step((None, &[(8, 0, 2)]));
 
 static CALLS: [(Row, u64); 10] = [
-    // The list of nine goroutines grows to four, to eight and to sixteen; the clock of the last has a
-    // count behind the eight in place; channels, locks and onces are a list each.
+    // The list of nine goroutines grows to four, to eight and to sixteen; the clock of the last has more
+    // than the eight counts in place; channels, locks and onces are a list each.
     (Row(Call::New, b""), 7),
     // The count of a goroutine's own events is written out from the start.
     (Row(WRITE, b"write main x 7 p\nwrite main x 8 p\n"), 0),

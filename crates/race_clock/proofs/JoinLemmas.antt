@@ -1,9 +1,9 @@
 -- Joined clocks as lists.
-use Rattle.std.proofs.Common.{◌≡◌, ◌⊎◌, inl, inr, ℕ, zero, suc, ◌+◌, ◌-◌, ◌<◌, ◌≤◌, max, List, [], ◌∷◌}
+use Rattle.std.proofs.Common.{◌≡◌, ℕ, zero, suc, ◌+◌, ◌-◌, ◌<◌, ◌≤◌, max, List, [], ◌∷◌}
 use Rattle.std.proofs.Common.{◌++◌, take, drop, length, get_or, set, refl, sym, ap, ◌∙◌, arith, append-nil, take_at, length-append, replicate}
 use Rattle.std.proofs.Math.Nat.{max_comm, max-zero, zero-max, le-max_left, le-max_right}
 use Rattle.race_model.proofs.ClockLemmas.{max_within}
-use Rattle.std.proofs.lemmas.List.{append_assoc, length-replicate, replicate-append-replicate, set-get_or}
+use Rattle.std.proofs.lemmas.List.{append_assoc, length-replicate, replicate-append-replicate, take-replicate, set-get_or}
 use Rattle.race_clock.specs.ClockState.{joined, padded}
 use Rattle.race_clock.specs.ClocksState.{filled}
 
@@ -109,49 +109,6 @@ fill_opened (c ∷ queue) b = go (length queue) refl (fill_opened queue b)
         (let last : length (c ∷ queue ++ [] ∷ []) - 1 ≡ suc (length (queue ++ [] ∷ []) - 1) = omega (arith, long) in last)
         ∙ ap (λ q. c ∷ q) rest
 
--- clocks in two parts, of which the first fills up first, are joined part by part
-pub joined_parts : (f m g n : List ℕ) → length g ≤ length f → (length g ≡ length f) ⊎ (n ≡ []) → joined (f ++ m) (g ++ n) ≡ joined f g ++ joined m n
-joined_parts [] m [] n le full = refl
-joined_parts [] m (y ∷ g) n le full = absurd (omega arith)
-joined_parts (x ∷ f) m [] n le (inl same) = absurd (omega (arith, same))
-joined_parts (x ∷ f) m [] n le (inr none) = ap (joined (x ∷ f ++ m)) none
-    ∙ ap (λ t. x ∷ f ++ t) (sym (joined_nothing m)) ∙ ap (λ n. x ∷ f ++ joined m n) (sym none)
-joined_parts (x ∷ f) m (y ∷ g) n le (inl same) = ap (λ t. max x y ∷ t) (joined_parts f m g n (omega arith) (inl (omega (arith, same))))
-joined_parts (x ∷ f) m (y ∷ g) n le (inr none) = ap (λ t. max x y ∷ t) (joined_parts f m g n (omega arith) (inr none))
-
--- so one covers the other where its parts do
-pub covered_parts : (f m g n : List ℕ) → length g ≤ length f → (length g ≡ length f) ⊎ (n ≡ []) → joined f g ≡ f → joined m n ≡ m
-    → joined (f ++ m) (g ++ n) ≡ f ++ m
-covered_parts f m g n le full few many = joined_parts f m g n le full ∙ ap (λ t. t ++ joined m n) few ∙ ap (λ t. f ++ t) many
-
--- where the first parts hold eight before the second hold any, the second part of a shorter clock is no longer
-pub parts_fit : (f m g n : List ℕ) → length f ≤ 8 → (0 < length n → length g ≡ 8) → length (g ++ n) ≤ length (f ++ m) → length n ≤ length m
-parts_fit f m g [] most eight le = omega arith
-parts_fit f m g (y ∷ n) most eight le =
-    let full : length g ≡ 8 = eight (omega arith) in
-    omega (arith, le, full, most, length-append g (y ∷ n), length-append f m)
-
--- and then the first parts are of one length, or it is empty
-pub parts_full : (f m g n : List ℕ) → length f ≤ 8 → (0 < length m → length f ≡ 8) → (0 < length n → length g ≡ 8) → length (g ++ n) ≤ length (f ++ m)
-    → (length g ≡ length f) ⊎ (n ≡ [])
-parts_full f m g [] most old eight le = inr refl
-parts_full f m g (y ∷ n) most old eight le =
-    let full : length g ≡ 8 = eight (omega arith) in
-    let fits : length (y ∷ n) ≤ length m = parts_fit f m g (y ∷ n) most eight le in
-    let other : length f ≡ 8 = old (omega (arith, fits)) in
-    inl (full ∙ sym other)
-
--- nor is the first
-pub parts_below : (f m g n : List ℕ) → length g ≤ 8 → (0 < length m → length f ≡ 8) → length (g ++ n) ≤ length (f ++ m) → length g ≤ length f
-parts_below f [] g n most old le = omega (arith, le, length-append g n, length-append {A = ℕ} f [])
-parts_below f (x ∷ m) g n most old le = let full : length f ≡ 8 = old (omega arith) in omega (arith, full, most)
-
--- a shorter clock is covered where its parts are
-pub covered_whole : (f m g n : List ℕ) → length f ≤ 8 → length g ≤ 8 → (0 < length m → length f ≡ 8) → (0 < length n → length g ≡ 8)
-    → length (g ++ n) ≤ length (f ++ m) → joined f g ≡ f → joined m n ≡ m → joined (f ++ m) (g ++ n) ≡ f ++ m
-covered_whole f m g n most other old eight le few many =
-    covered_parts f m g n (parts_below f m g n other old le) (parts_full f m g n most old eight le) few many
-
 -- zeros joined with a list of as many
 joined_zeros : (k : ℕ) (d : List ℕ) → k ≡ length d → joined (replicate k 0) d ≡ d
 joined_zeros zero [] same = refl
@@ -186,21 +143,20 @@ joined_both c d e n is =
     ∙ ap (λ n. joined (padded c n) (joined d e)) (is ∙ sym (length_joined_any d e))
     ∙ joined_padded c (joined d e)
 
--- zeros written out in two parts, of which the first fills up first
-pub padded_parts : (f m : List ℕ) (n : ℕ) → length f ≤ 8 → (0 < length m → length f ≡ 8) → 8 < n → padded f 8 ++ padded m (n - 8) ≡ padded (f ++ m) n
-padded_parts f m n most eight more =
-    append_assoc f (replicate (8 - length f) 0) (padded m (n - 8))
-    ∙ ap (λ t. f ++ t) (rest m eight)
-    ∙ sym (append_assoc f m (replicate (n - length (f ++ m)) 0))
-  where
-    rest : (m : List ℕ) → (0 < length m → length f ≡ 8) → replicate (8 - length f) 0 ++ padded m (n - 8) ≡ m ++ replicate (n - length (f ++ m)) 0
-    rest [] eight =
-        replicate-append-replicate (8 - length f) (n - 8 - 0) 0
-        ∙ ap (λ k. replicate k 0) (let same : 8 - length f + (n - 8 - 0) ≡ n - length (f ++ []) = omega (arith, most, more, length-append {A = ℕ} f []) in same)
-    rest (x ∷ m) eight =
-        ap (λ k. replicate k 0 ++ padded (x ∷ m) (n - 8)) (let none : 8 - length f ≡ 0 = omega (arith, full) in none)
-        ∙ ap (λ k. x ∷ m ++ replicate k 0) (let same : n - 8 - length (x ∷ m) ≡ n - length (f ++ x ∷ m) =
-        omega (arith, full, more, length-append f (x ∷ m)) in same)
-      where
-        full : length f ≡ 8
-        full = eight (omega arith)
+-- a block of zeros more is written out
+pub padded_on : (c now new : List ℕ) (k m : ℕ) → k ≤ m → now ≡ padded c (length now) → new ≡ now ++ take k (replicate m 0) → new ≡ padded c (length new)
+padded_on c now new k m le was is =
+    let block : take k (replicate {A = ℕ} m 0) ≡ replicate k 0 = take-replicate k m 0 le in
+    let long : length new ≡ length now + k =
+    omega (arith, ap length is, length-append now (take k (replicate m 0)), ap (length {A = ℕ}) block, length-replicate {A = ℕ} k 0) in
+    let most : length c ≤ length now = omega (arith, ap length was, length-append c (replicate (length now - length c) 0)) in
+    is ∙ ap (λ l. l ++ take k (replicate m 0)) was ∙ ap (λ l. padded c (length now) ++ l) block
+    ∙ append_assoc c (replicate (length now - length c) 0) (replicate k 0)
+    ∙ ap (λ l. c ++ l) (replicate-append-replicate (length now - length c) k 0)
+    ∙ ap (λ n. c ++ replicate n 0) (let same : length now - length c + k ≡ length new - length c = omega (arith, long, most) in same)
+
+-- and no more than are asked for
+pub padded_to : (c new : List ℕ) (n : ℕ) → new ≡ padded c (length new) → n ≤ length new → length new ≤ max n (length c) → new ≡ padded c n
+padded_to c new n is all most =
+    let fits : length c ≤ length new = omega (arith, ap length is, length-append c (replicate (length new - length c) 0)) in
+    is ∙ ap (λ k. c ++ replicate k 0) (let same : length new - length c ≡ n - length c = omega (arith, fits, all, most) in same)

@@ -1,4 +1,5 @@
 pub mod ClockState
+pub mod ClockFits
 pub mod ClocksState
 pub mod UnlocksState
 pub mod First

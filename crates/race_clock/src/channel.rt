@@ -28,7 +28,7 @@ impl<A: Allocator> Model for Queue<A> {
     ghost view = { λ q. q.clocks.items };
 }
 
-impl<A: Allocator> Queue<A> {
+impl<A: Allocator + Copy> Queue<A> {
     fn len(&self) -> usize
         ensures { result ≡ length self.now }
     {
@@ -47,14 +47,11 @@ impl<A: Allocator> Queue<A> {
     }
 
     // Opens a place at the end, for a clock to come.
-    fn open(&mut self) -> Result<(), AllocError>
-    where
-        A: Copy,
+    fn open(&mut self, like: &Clock<A>) -> Result<(), AllocError>
         ensures ok { OnOk result (self.new ≡ self.old ++ [] ∷ []) }
         ensures unchanged { OnErr result (self.new ≡ self.old) }
     {
-        let alloc = *self.clocks.allocator();
-        self.clocks.push_back(Clock::new(alloc))?;
+        self.clocks.push_back(like.another())?;
         Ok(())
     }
 
@@ -119,7 +116,7 @@ impl<A: Allocator> Model for Channel<A> {
     } };
 }
 
-impl<A: Allocator> Channel<A> {
+impl<A: Allocator + Copy> Channel<A> {
     /// A channel with nothing on its way.
     pub(crate) fn new(capacity: usize) -> Channel<A>
         ensures { result ≡ first_channel capacity }
@@ -179,9 +176,7 @@ impl<A: Allocator> Channel<A> {
     }
 
     /// Opens a place for a send's clock.
-    pub(crate) fn open_send(&mut self, alloc: A) -> Result<(), AllocError>
-    where
-        A: Copy,
+    pub(crate) fn open_send(&mut self, like: &Clock<A>) -> Result<(), AllocError>
         ensures ok { OnOk result (self.new ≡ record {
           capacity = self.old.capacity;
           sent = self.old.sent ++ [] ∷ [];
@@ -191,18 +186,16 @@ impl<A: Allocator> Channel<A> {
         ensures unchanged { OnErr result (self.new ≡ self.old) }
     {
         if let Some(queues) = &mut self.queues {
-            return queues.sent.open();
+            return queues.sent.open(like);
         }
-        let mut queues = Box::new(alloc, Queues::new(alloc))?;
-        queues.sent.open()?;
+        let mut queues = Box::new(like.allocator(), Queues::new(like.allocator()))?;
+        queues.sent.open(like)?;
         self.queues = Some(queues);
         Ok(())
     }
 
     /// Opens a place for a receive's clock.
-    pub(crate) fn open_receive(&mut self, alloc: A) -> Result<(), AllocError>
-    where
-        A: Copy,
+    pub(crate) fn open_receive(&mut self, like: &Clock<A>) -> Result<(), AllocError>
         ensures ok { OnOk result (self.new ≡ record {
           capacity = self.old.capacity;
           sent = self.old.sent;
@@ -212,10 +205,10 @@ impl<A: Allocator> Channel<A> {
         ensures unchanged { OnErr result (self.new ≡ self.old) }
     {
         if let Some(queues) = &mut self.queues {
-            return queues.freed.open();
+            return queues.freed.open(like);
         }
-        let mut queues = Box::new(alloc, Queues::new(alloc))?;
-        queues.freed.open()?;
+        let mut queues = Box::new(like.allocator(), Queues::new(like.allocator()))?;
+        queues.freed.open(like)?;
         self.queues = Some(queues);
         Ok(())
     }

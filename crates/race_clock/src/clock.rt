@@ -1,7 +1,7 @@
 //! A clock: of each goroutine, how many of its begins are known.
 //!
-//! The counts of the first eight goroutines stand in the clock itself, and only those behind them take memory. So a run
-//! of few goroutines allocates no clock.
+//! Up to eight counts stand in the clock itself, and more than that take memory. So a run of few goroutines allocates no
+//! clock.
 ghost use Rattle.std.specs.Prelude.{
   ◌≡◌,
   ◌+◌,
@@ -12,65 +12,82 @@ ghost use Rattle.std.specs.Prelude.{
   max,
   List,
   [],
-  ◌++◌,
   length,
   slice_set,
   IsTrue,
   IsOk,
+  IfOk,
   OnOk,
   OnErr,
 };
 ghost use Rattle.race_model.specs.Clocks.{owning};
+ghost use Rattle.race_clock.specs.ClockFits.{FitsInClock};
 ghost use Rattle.race_clock.specs.ClockState.{knows, joined, padded};
 
-use arrayvec::ArrayVec;
+use crate::fits::Fits;
+use smallvec::SmallVec;
 use std::alloc::{AllocError, Allocator, Global};
 use std::marker::Model;
+use std::mem;
 
-// How many counts stand in the clock itself.
-const FEW: usize = 8;
+// How many counts are written out at once.
+const BLOCK: usize = 64;
 
 /// A count for each goroutine. A count that isn't written out is 0.
 #[derive(Debug, Drop)]
-pub struct Clock<A: Allocator = Global> {
-    few: ArrayVec<u32, 8>,
-    many: Vec<u32, A>,
+pub struct Clock<A: Allocator + Fits = Global> {
+    counts: SmallVec<u32, 8, A>,
 }
 
-impl<A: Allocator> Model for Clock<A> {
-    ghost use Rattle.std.specs.Prelude.{◌≡◌, ◌<◌, ◌++◌, ℕ, List, length};
+impl<A: Allocator + Fits> Model for Clock<A> {
+    ghost use Rattle.std.specs.Prelude.{◌≤◌, ℕ, List};
 
     ghost Value = { List ℕ };
 
-    ghost view = { λ c. c.few.items ++ c.many.items };
+    ghost view = { λ c. c.counts.items };
 
-    ghost invariant = { λ c. 0 < length c.many.items → length c.few.items ≡ 8 };
+    ghost invariant = { λ c. (8 ≤ c.counts.capacity) × A.fits };
 }
 
-impl<A: Allocator> Clock<A> {
+impl<A: Allocator + Copy> Clock<A> {
     /// Nothing is known.
     pub fn new(alloc: A) -> Clock<A>
+        requires { FitsInClock A.row A.Allocator }
         ensures { result ≡ [] }
     {
         Clock {
-            few: ArrayVec::new(),
-            many: Vec::new(alloc),
+            counts: SmallVec::new(alloc),
         }
     }
 
-    /// How many begins of the goroutine are known.
-    pub fn knows(&self, goroutine: u32) -> u32
-        ensures { result ≡ knows self.now goroutine }
+    /// Nothing is known. It asks nothing of the allocator's type.
+    pub(crate) fn first(alloc: A) -> Result<Clock<A>, AllocError>
+        ensures { IfOk result (λ clock. clock ≡ []) }
     {
-        let index = goroutine as usize;
-        let few = self.few.len();
-        if index < few {
-            return self.few[index];
+        let none: Option<SmallVec<u32, 8, A>> = None;
+        // Always true, and known at compile time. It tells the proof that the type fits in memory.
+        if mem::size_of_val(&none) <= isize::MAX as usize {
+            return Ok(Clock::new(alloc));
         }
-        if index - few < self.many.len() {
-            return self.many[index - few];
+        Err(AllocError)
+    }
+
+    /// Nothing is known. It asks nothing of the allocator's type, since another clock is here.
+    pub(crate) fn another(&self) -> Clock<A>
+        ensures { result ≡ [] }
+    {
+        Clock {
+            counts: SmallVec::new(*self.counts.allocator()),
         }
-        0
+    }
+
+    /// The same counts.
+    pub fn copy(&self) -> Result<Clock<A>, AllocError>
+        ensures { IfOk result (λ copy. copy ≡ self.now) }
+    {
+        let mut copy = self.another();
+        copy.become_copy(self)?;
+        Ok(copy)
     }
 
     /// Takes the greater count for each goroutine.
@@ -101,51 +118,32 @@ impl<A: Allocator> Clock<A> {
     }
 
     /// Writes out at least so many counts.
-    #[tactic(auto, using(crate::proofs::JoinLemmas::padded_parts))]
     pub(crate) fn grow(&mut self, counts: usize) -> Result<(), AllocError>
         ensures ok { OnOk result (self.new ≡ padded self.old counts) }
         ensures in_place { counts ≤ 8 → IsOk result }
         ensures unchanged { OnErr result (self.new ≡ self.old) }
     {
-        if counts <= FEW {
-            fill(&mut self.few, counts);
-            return Ok(());
+        let len = self.counts.len();
+        if len < counts {
+            self.counts.reserve(counts - len)?;
+            fill(&mut self.counts, counts);
         }
-        // The counts in place come last: they can't be refused.
-        grow_many(&mut self.many, counts - FEW)?;
-        fill(&mut self.few, FEW);
         Ok(())
-    }
-
-    /// The count of a goroutine becomes this, where it is written out.
-    pub(crate) fn set(&mut self, goroutine: u32, count: u32)
-        ensures { self.new ≡ slice_set self.old goroutine count }
-    {
-        let index = goroutine as usize;
-        let few = self.few.len();
-        if index < few {
-            self.few[index] = count;
-        } else if index - few < self.many.len() {
-            self.many[index - few] = count;
-        }
     }
 
     /// All counts are 0 again.
     pub(crate) fn clear(&mut self)
         ensures { self.new ≡ [] }
     {
-        self.few.clear();
-        self.many.clear();
+        self.counts.clear();
     }
 
     /// The clock becomes a copy of the other. Where a growth is refused it is any clock.
     pub(crate) fn become_copy(&mut self, other: &Clock<A>) -> Result<(), AllocError>
         ensures { OnOk result (self.new ≡ other.now) }
     {
-        self.many.clear();
-        self.few = copy_few(other.few.as_slice());
-        self.many.reserve_exact(other.many.len())?;
-        self.many.extend_from_slice(other.many.as_slice())?;
+        self.counts.clear();
+        self.counts.extend_from_slice(other.counts.as_slice())?;
         Ok(())
     }
 
@@ -164,6 +162,35 @@ impl<A: Allocator> Clock<A> {
         Ok(())
     }
 
+    pub(crate) fn allocator(&self) -> A {
+        *self.counts.allocator()
+    }
+}
+
+impl<A: Allocator> Clock<A> {
+    /// How many begins of the goroutine are known.
+    pub fn knows(&self, goroutine: u32) -> u32
+        ensures { result ≡ knows self.now goroutine }
+    {
+        let counts = self.counts.as_slice();
+        let index = goroutine as usize;
+        if index < counts.len() {
+            return counts[index];
+        }
+        0
+    }
+
+    /// The count of a goroutine becomes this, where it is written out.
+    pub(crate) fn set(&mut self, goroutine: u32, count: u32)
+        ensures { self.new ≡ slice_set self.old goroutine count }
+    {
+        let counts = self.counts.as_mut_slice();
+        let index = goroutine as usize;
+        if index < counts.len() {
+            counts[index] = count;
+        }
+    }
+
     /// Whether a join of the other would change nothing.
     pub(crate) fn covers(&self, other: &Clock<A>) -> bool
         ensures { IsTrue result → joined self.now other.now ≡ self.now }
@@ -171,33 +198,22 @@ impl<A: Allocator> Clock<A> {
         if self.len() < other.len() {
             return false;
         }
-        let few = covers_each(self.few.as_slice(), other.few.as_slice());
-        let many = covers_each(self.many.as_slice(), other.many.as_slice());
-        few && many
-    }
-
-    pub(crate) fn allocator(&self) -> A
-    where
-        A: Copy,
-    {
-        *self.many.allocator()
+        covers_each(self.counts.as_slice(), other.counts.as_slice())
     }
 
     /// How many counts are written out.
     pub(crate) fn len(&self) -> usize
         ensures { result ≡ length self.now }
     {
-        self.few.as_slice().len() + self.many.as_slice().len()
+        self.counts.len()
     }
 
     /// Raises each count to the other's, whose counts are written out here.
-    #[tactic(auto, using(crate::proofs::JoinLemmas::joined_parts))]
     pub(crate) fn raise_to<B: Allocator>(&mut self, by: &Clock<B>)
         requires { length by.now ≤ length self.old }
         ensures { self.new ≡ joined self.old by.now }
     {
-        raise_few(&mut self.few, by.few.as_slice());
-        raise_many(&mut self.many, by.many.as_slice());
+        raise(self.counts.as_mut_slice(), by.counts.as_slice());
     }
 }
 
@@ -227,52 +243,16 @@ fn covers_each(counts: &[u32], other: &[u32]) -> bool
     !below
 }
 
-fn raise_few(counts: &mut ArrayVec<u32, 8>, by: &[u32])
-    requires { length by.now ≤ length counts.old.items }
-    ensures joined { counts.new.items ≡ joined counts.old.items by.now }
-    ensures len { length counts.new.items ≡ length counts.old.items }
-    ensures few { length counts.old.items ≤ 8 }
+// Writes out at least so many counts, for which there is room. It goes by blocks, since a count at a time costs more.
+fn fill<A: Allocator + Copy>(counts: &mut SmallVec<u32, 8, A>, to: usize)
+    requires fits { FitsInClock A.row A.Allocator }
+    requires room { to ≤ counts.old.capacity }
+    ensures padded { counts.new.items ≡ padded counts.old.items to }
+    ensures capacity { counts.old.capacity ≤ counts.new.capacity }
 {
-    raise(counts.as_mut_slice(), by);
-}
-
-fn raise_many<A: Allocator>(counts: &mut Vec<u32, A>, by: &[u32])
-    requires { length by.now ≤ length counts.old.items }
-    ensures joined { counts.new.items ≡ joined counts.old.items by.now }
-    ensures len { length counts.new.items ≡ length counts.old.items }
-{
-    raise(counts.as_mut_slice(), by);
-}
-
-// Writes out at least so many counts in place.
-fn fill(few: &mut ArrayVec<u32, 8>, counts: usize)
-    requires { counts ≤ 8 }
-    ensures padded { few.new.items ≡ padded few.old.items counts }
-    ensures few { length few.old.items ≤ 8 }
-{
-    if few.len() < counts {
-        let zeros = [0; FEW];
-        let _fits = few.try_extend_from_slice(&zeros[few.len()..counts]);
+    let zeros = [0; BLOCK];
+    while counts.len() < to {
+        let more = (to - counts.len()).min(BLOCK);
+        let _fits = counts.extend_from_slice(&zeros[..more]);
     }
-}
-
-// Writes out at least so many counts behind those.
-fn grow_many<A: Allocator>(many: &mut Vec<u32, A>, counts: usize) -> Result<(), AllocError>
-    ensures ok { OnOk result (many.new.items ≡ padded many.old.items counts) }
-    ensures unchanged { OnErr result (many.new.items ≡ many.old.items) }
-{
-    if many.len() < counts {
-        many.resize(counts, 0)?;
-    }
-    Ok(())
-}
-
-// A copy of at most eight counts.
-fn copy_few(counts: &[u32]) -> ArrayVec<u32, 8>
-    requires { length counts.now ≤ 8 }
-    ensures { result.items ≡ counts.now }
-{
-    let mut few = ArrayVec::new();
-    let _fits = few.try_extend_from_slice(counts);
-    few
 }

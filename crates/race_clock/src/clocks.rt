@@ -117,8 +117,8 @@ impl<A: Allocator + Copy> Clocks<A> {
             channels: first_channels(alloc, decls)?,
             locks: first_locks(alloc, decls.count(Kind::Lock) as usize)?,
             ends: first_ends(alloc, decls.count(Kind::Once) as usize)?,
-            spare: Clock::new(alloc),
-            second: Clock::new(alloc),
+            spare: Clock::first(alloc)?,
+            second: Clock::first(alloc)?,
         })
     }
 
@@ -246,7 +246,7 @@ impl<A: Allocator + Copy> Clocks<A> {
         let channel = &mut self.channels[chan as usize];
         channel.hand_to_send(slot.clock(), &mut self.spare)?;
         let takes_freed = channel.takes_freed();
-        channel.open_send(self.spare.allocator())?;
+        channel.open_send(&self.spare)?;
         slot.exchange(who, &mut self.spare);
         channel.fill_send(&mut self.spare, takes_freed);
         Ok(())
@@ -320,7 +320,7 @@ impl<A: Allocator + Copy> Clocks<A> {
         let slot = &mut self.slots[who as usize];
         let channel = &mut self.channels[chan as usize];
         channel.hand_to_receive(slot.clock(), &mut self.spare)?;
-        channel.open_receive(self.spare.allocator())?;
+        channel.open_receive(&self.spare)?;
         slot.exchange(who, &mut self.spare);
         channel.fill_receive(&mut self.spare);
         Ok(())

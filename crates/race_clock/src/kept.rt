@@ -19,7 +19,7 @@ impl<A: Allocator> Model for Kept<A> {
     ghost view = { λ k. option_map_or (λ kept. kept.value) k.clock [] };
 }
 
-impl<A: Allocator> Kept<A> {
+impl<A: Allocator + Copy> Kept<A> {
     /// Nothing was put here.
     pub(crate) fn new() -> Kept<A>
         ensures { result ≡ [] }
@@ -71,8 +71,6 @@ impl<A: Allocator> Kept<A> {
 
     /// Joins the clock to what is kept. The clock is then free to be written.
     pub(crate) fn join(&mut self, clock: &mut Clock<A>) -> Result<(), AllocError>
-    where
-        A: Copy,
         ensures ok { OnOk result (self.new ≡ joined self.old clock.old) }
         ensures unchanged { OnErr result (self.new ≡ self.old) }
     {
@@ -80,8 +78,7 @@ impl<A: Allocator> Kept<A> {
             Some(kept) if kept.len() == 0 => mem::swap(&mut **kept, clock),
             Some(kept) => return kept.join(clock),
             None => {
-                let alloc = clock.allocator();
-                let mut kept = Box::new(alloc, Clock::new(alloc))?;
+                let mut kept = Box::new(clock.allocator(), clock.another())?;
                 mem::swap(&mut *kept, clock);
                 self.clock = Some(kept);
             }

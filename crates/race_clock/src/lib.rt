@@ -4,6 +4,7 @@
 mod channel;
 mod clock;
 mod clocks;
+mod fits;
 mod kept;
 pub mod laws;
 mod lock;
@@ -12,5 +13,6 @@ mod stamp;
 mod stamper;
 
 pub use clock::Clock;
+pub use fits::Fits;
 pub use stamp::Stamp;
 pub use stamper::Stamper;

@@ -40,7 +40,7 @@ impl<A: Allocator> Model for LockClocks<A> {
     } };
 }
 
-impl<A: Allocator> LockClocks<A> {
+impl<A: Allocator + Copy> LockClocks<A> {
     /// A lock that nobody has unlocked.
     pub(crate) fn new() -> LockClocks<A>
         ensures { result ≡ no_lock }
@@ -93,28 +93,25 @@ impl<A: Allocator> LockClocks<A> {
     /// Takes the clock of an unlock's begin, which is then free to be written.
     #[inline(always)]
     pub(crate) fn unlock(&mut self, begin: &mut Clock<A>) -> Result<(), AllocError>
-    where
-        A: Copy,
         ensures ok { OnOk result (self.new ≡ lock_unlocked self.old begin.old) }
         ensures unchanged { OnErr result (self.new ≡ self.old) }
     {
         if let Some(unlocks) = &mut self.unlocks {
             return unlocks.add(begin);
         }
-        let alloc = begin.allocator();
-        let mut unlocks = Box::new(alloc, Unlocks::new(alloc))?;
+        let mut unlocks = Box::new(begin.allocator(), Unlocks::new(begin))?;
         unlocks.add(begin)?;
         self.unlocks = Some(unlocks);
         Ok(())
     }
 }
 
-impl<A: Allocator> Unlocks<A> {
-    fn new(alloc: A) -> Unlocks<A>
+impl<A: Allocator + Copy> Unlocks<A> {
+    fn new(like: &Clock<A>) -> Unlocks<A>
         ensures { result ≡ record { all = []; last = [] } }
     {
         Unlocks {
-            last: Clock::new(alloc),
+            last: like.another(),
             all: None,
         }
     }
@@ -131,8 +128,6 @@ impl<A: Allocator> Unlocks<A> {
     // Takes the clock of one more unlock's begin.
     #[tactic(auto, using(crate::proofs::JoinLemmas::joined_comm))]
     fn add(&mut self, begin: &mut Clock<A>) -> Result<(), AllocError>
-    where
-        A: Copy,
         ensures ok { OnOk result (self.new ≡ record { all = joined self.old.all begin.old; last = begin.old }) }
         ensures unchanged { OnErr result (self.new ≡ self.old) }
     {
@@ -147,8 +142,6 @@ impl<A: Allocator> Unlocks<A> {
 
     // The same, where all of them bring more than this one.
     fn add_apart(&mut self, begin: &mut Clock<A>) -> Result<(), AllocError>
-    where
-        A: Copy,
         ensures ok { OnOk result (self.new ≡ record { all = joined self.old.all begin.old; last = begin.old }) }
         ensures unchanged { OnErr result (self.new ≡ self.old) }
     {
@@ -157,7 +150,7 @@ impl<A: Allocator> Unlocks<A> {
             mem::swap(&mut self.last, begin);
             return Ok(());
         }
-        let mut all = Clock::new(begin.allocator());
+        let mut all = begin.another();
         all.become_join(&self.last, begin)?;
         mem::swap(&mut self.last, begin);
         self.all = Some(all);

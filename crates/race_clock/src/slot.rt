@@ -22,12 +22,12 @@ impl<A: Allocator> Model for Slot<A> {
     ghost view = { λ s. record { clock = s.clock; parts = s.parts } };
 }
 
-impl<A: Allocator> Slot<A> {
+impl<A: Allocator + Copy> Slot<A> {
     /// A goroutine that has seen nothing.
     pub(crate) fn new(alloc: A, who: u32) -> Result<Slot<A>, AllocError>
         ensures { IfOk result (λ slot. slot ≡ first_slot who) }
     {
-        let mut clock = Clock::new(alloc);
+        let mut clock = Clock::first(alloc)?;
         clock.grow(who as usize + 1)?;
         Ok(Slot { clock, parts: 0 })
     }
@@ -137,8 +137,6 @@ impl<A: Allocator> Slot<A> {
         to: &mut Kept<A>,
         spare: &mut Clock<A>,
     ) -> Result<(), AllocError>
-    where
-        A: Copy,
         requires { self.old.parts + 1 < 2 ^ 32 }
         ensures slot { OnOk result (self.new ≡ record { clock = self.old.clock; parts = self.old.parts + 1 }) }
         ensures kept { OnOk result (to.new ≡ joined to.old (with_count self.old.clock who (self.old.parts + 1))) }

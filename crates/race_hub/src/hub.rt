@@ -230,6 +230,13 @@ impl<R, A: Allocator> Hub<R, A> {
         self.limit
     }
 
+    /// How many goroutines are ready.
+    pub fn ready(&self) -> usize
+        ensures { result ≡ length self.now.ready }
+    {
+        self.ready.len()
+    }
+
     /// How many jobs were taken and aren't back.
     pub fn out(&self) -> usize
         ensures { result ≡ length self.now.out }

@@ -1,5 +1,5 @@
 //! What the workers share under the lock, and what each does there.
-ghost use Rattle.std.specs.Prelude.{◌≡◌, ◌≢◌, ◌≤◌, ◌⊎◌, [], Bool, true, false, Some, None, IfSome, IsSome};
+ghost use Rattle.std.specs.Prelude.{◌≡◌, ◌≢◌, ◌≤◌, ◌⊎◌, [], Bool, true, false, Some, None, IfSome, IsSome, nat_le, length};
 ghost use Rattle.rand_xoshiro.specs.SplitMix64.{mix_u64};
 ghost use Rattle.race_hub.specs.Hub.{end_of};
 ghost use Rattle.race_hub.specs.Job.{JobState};
@@ -9,7 +9,6 @@ ghost use Rattle.race_record.specs.Serial.{IsTurned};
 ghost use Rattle.race_record.specs.Stops.{rank};
 
 use race_hub::{Hub, Job, Routine, SubmitFault};
-use race_records::Op;
 use rand_core::SeedableRng;
 use rand_core::utils::NextWord;
 use rand_xoshiro::SplitMix64;
@@ -58,15 +57,6 @@ pub(crate) enum Turn<R, A: Allocator> {
     Leave,
 }
 
-// Whether two goroutines go on behind the operation.
-fn lets_two_go_on(op: &Op) -> bool {
-    match op {
-        Op::Go(_) => true,
-        Op::Meet(_, _, _) => true,
-        _ => false,
-    }
-}
-
 /// A job that was let go on, with no lock held.
 pub(crate) enum Turned<R, A: Allocator> {
     /// It has asked.
@@ -112,6 +102,7 @@ impl<R: Routine, A: Allocator + Copy> Shared<R, A> {
             → (end_of self.old.hub ≡ None) × Takes self.old.hub job self.new.hub }
         ensures fired { (two : Bool) → result ≡ Turn.Fired two → IsFired self.old.pick self.old.hub self.new.hub }
         ensures idle { (two : Bool) → result ≡ Turn.Fired two → self.old.hub.ready ≡ [] }
+        ensures two { (two : Bool) → result ≡ Turn.Fired two → two ≡ nat_le 2 (length self.new.hub.ready) }
         ensures uses { (two : Bool) → result ≡ Turn.Fired two → (self.new.pick, self.new.picks) ≡ mix_u64 self.old.picks }
         ensures keeps { ((two : Bool) → result ≢ Turn.Fired two)
             → (self.new.pick ≡ self.old.pick) × (self.new.picks ≡ self.old.picks) }
@@ -135,6 +126,7 @@ impl<R: Routine, A: Allocator + Copy> Shared<R, A> {
         ensures run { (job : JobState R) → result ≢ Turn.Run job }
         ensures memory { self.old.stop ≡ None → IfSome self.new.stop (λ stop. stop ≡ Stop.OutOfMemory) }
         ensures fired { (two : Bool) → result ≡ Turn.Fired two → IsFired self.old.pick self.old.hub self.new.hub }
+        ensures two { (two : Bool) → result ≡ Turn.Fired two → two ≡ nat_le 2 (length self.new.hub.ready) }
         ensures uses { (two : Bool) → result ≡ Turn.Fired two → (self.new.pick, self.new.picks) ≡ mix_u64 self.old.picks }
         ensures keeps { ((two : Bool) → result ≢ Turn.Fired two)
             → (self.new.pick ≡ self.old.pick) × (self.new.picks ≡ self.old.picks) }
@@ -145,7 +137,7 @@ impl<R: Routine, A: Allocator + Copy> Shared<R, A> {
         match self.hub.fire(self.pick) {
             Ok(true) => {
                 self.pick = self.picks.next_word();
-                Turn::Fired(self.let_two_go_on())
+                Turn::Fired(self.hub.ready() >= 2)
             }
             Ok(false) => if self.hub.end().is_some() {
                 Turn::Leave
@@ -157,13 +149,6 @@ impl<R: Routine, A: Allocator + Copy> Shared<R, A> {
                 Turn::Leave
             }
         }
-    }
-
-    // Whether two goroutines go on behind the last event.
-    fn let_two_go_on(&self) -> bool {
-        let trace = self.hub.trace();
-        let len = trace.len();
-        len > 0 && lets_two_go_on(&trace.event(len - 1).op)
     }
 
     /// Puts back a job that has asked since it was taken; or, where memory was refused to it, all workers are to leave, and the

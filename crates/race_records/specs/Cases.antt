@@ -1,5 +1,5 @@
 -- What the numbers of a list of cases stand for, and which lists of cases are equal.
-use Rattle.std.proofs.Common.{◌≡◌, ℕ, ◌/◌, ◌%◌, ◌==◌, ◌&&◌, Bool, true, false, if◌then◌else◌}
+use Rattle.std.proofs.Common.{◌≡◌, ℕ, ◌/◌, ◌%◌, ◌==◌, ◌&&◌, Bool, true, false, if◌then◌else◌, nat_lt}
 use Rattle.std.proofs.Common.{List, [], ◌∷◌, Option, Some, None, Decides, refl, sym, ap}
 use Rattle.std.proofs.Common.{true≢false}
 use Rattle.std.proofs.lemmas.Bool.Decides.{Decides-eqb}
@@ -9,22 +9,34 @@ use Rattle.std.specs.Cmp.{IsEquivalence, IsPartialEquivalence, partial_equiv_fro
 use Rattle.race_records.specs.declared.cases.Case.{Case}
 use Rattle.race_records.specs.declared.cases.Dir.{Dir}
 
--- the channel that the number stands for: 65,535 stands for nil
-abbrev pub chan_of : ℕ → Option ℕ
-chan_of number = if number == 65_535 then None else Some number
+-- the channel that the number stands for, which is nil where the bit is 1
+abbrev pub chan_of : ℕ → ℕ → Option ℕ
+chan_of nil number = if nil == 1 then None else Some number
 
 -- what a case of this bit would do: it sends where the bit is 1
 abbrev pub dir_of : ℕ → Dir
 dir_of bit = if bit == 1 then Dir.Send else Dir.Recv
 
--- the case of a bit and a number
-abbrev pub case_of : ℕ → ℕ → Case
-case_of bit number = record { dir = dir_of bit; chan = chan_of number }
+-- the case of two bits and a number
+abbrev pub case_of : ℕ → ℕ → ℕ → Case
+case_of bit nil number = record { dir = dir_of bit; chan = chan_of nil number }
 
--- the cases: bit k of `sends` tells whether case k sends
-abbrev pub cases_of : List ℕ → ℕ → List Case
-cases_of [] sends = []
-cases_of (number ∷ numbers) sends = case_of (sends % 2) number ∷ cases_of numbers (sends / 2)
+-- the cases: bit k of `sends` tells whether case k sends, and of `nils` whether its channel is nil
+abbrev pub cases_of : List ℕ → ℕ → ℕ → List Case
+cases_of [] sends nils = []
+cases_of (number ∷ numbers) sends nils = case_of (sends % 2) (nils % 2) number ∷ cases_of numbers (sends / 2) (nils / 2)
+
+-- what is kept of a channel's number: no channel has 65,535 or more, and of all these 65,535 is kept
+abbrev pub kept_number : ℕ → ℕ
+kept_number c = if nat_lt c 65_535 then c else 65_535
+
+abbrev pub kept_chan : Option ℕ → Option ℕ
+kept_chan None = None
+kept_chan (Some c) = Some (kept_number c)
+
+-- what is kept of a case: all of it, where its channel's number is below 65,535
+abbrev pub kept : Case → Case
+kept case = record { dir = case.dir; chan = kept_chan case.chan }
 
 -- the two would do the same
 abbrev pub same_dir : Dir → Dir → Bool

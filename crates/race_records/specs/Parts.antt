@@ -1,5 +1,5 @@
 -- What each operation says: its word, and its parts in the order of its text.
-use Rattle.std.specs.Prelude.{ℕ, ◌^◌, ◌&&◌, Bool, true, false, if◌then◌else◌, nat_lt, nat_le, List, [], ◌∷◌, length, Option, Some, None}
+use Rattle.std.specs.Prelude.{◌≡◌, ℕ, ◌≤◌, ◌^◌, ◌&&◌, Bool, true, false, if◌then◌else◌, nat_lt, nat_le, List, [], ◌∷◌, length, Option, Some, None}
 use Rattle.std.specs.List.{list_all}
 use Rattle.std.specs.Option.{option_map, option_map_or}
 use Rattle.race_records.specs.declared.event.Op.{Op}
@@ -10,6 +10,7 @@ use Rattle.race_records.specs.declared.event.Cause.{Cause}
 use Rattle.race_records.specs.declared.event.Cause.TheVariants.{SendClosed, CloseClosed, CloseNil, UnlockFree, RUnlockFree}
 use Rattle.race_records.specs.declared.cases.Case.{Case}
 use Rattle.race_records.specs.declared.cases.TheConstants.{MAX_CASES}
+use Rattle.race_records.specs.Cases.{kept}
 use Rattle.race_records.specs.declared.kind.Kind.{Kind}
 use Rattle.race_records.specs.declared.kind.Named.{Named}
 use Rattle.race_records.specs.declared.parts.Part.{Part}
@@ -180,6 +181,10 @@ chan_is_in_range chans (Some c) = nat_lt c chans
 
 abbrev pub case_is_in_range : ℕ → Case → Bool
 case_is_in_range chans case = chan_is_in_range chans case.chan
+
+-- what a list keeps of a case is in range exactly where the case is
+abbrev pub KeepsRange : Type 0
+KeepsRange = (chans : ℕ) (case : Case) → chans ≤ 65_535 → case_is_in_range chans (kept case) ≡ case_is_in_range chans case
 
 -- the object at which the run failed; a nil channel is none
 abbrev pub failed_at : Cause → Option Named

@@ -1,6 +1,7 @@
 //! The cases of a select.
 ghost use Rattle.std.specs.Prelude.{◌≡◌, ◌<◌, ◌≤◌, ◌↔◌, [], ◌∷◌, ◌++◌, length, IsTrue, IfSome, Some, slice_get, IsErr, OnOk, OnErr};
 ghost use Rattle.race_records.specs.Cases as spec;
+ghost use Rattle.race_records.specs.Parts.{KeepsRange};
 
 use std::marker::Model;
 use thiserror::Error;
@@ -11,8 +12,8 @@ pub const MAX_CASES: usize = 16;
 // Definitions cite this number, so it is written down twice.
 const _: () = prove!(MAX_CASES == 16);
 
-// Stands for nil: a channel's number is below it.
-const NIL: u16 = 65_535;
+// Kept of each number from it on: no channel has one of these.
+const BEYOND: u16 = 65_535;
 
 /// What a case of a select would do with its channel.
 #[derive(Clone, Copy, Debug, PartialEq, Eq)]
@@ -37,13 +38,16 @@ pub struct Case {
 #[error("there are too many cases")]
 pub struct CasesFull;
 
-/// The cases of a select in order, at most 16. They lie in place, so that an event stays small.
+/// The cases of a select in order, at most 16. They lie in place, so that an event stays small: of a channel's number that no
+/// declaration can have they keep that there is one.
 #[derive(Debug, Drop)]
 pub struct Cases {
-    // The number of each case's channel, or `NIL`. What stands behind the last case says nothing.
+    // The number of each case's channel, at most `BEYOND`. What stands behind the last case says nothing.
     chans: [u16; MAX_CASES],
     // Bit k is set where case k sends.
     sends: u16,
+    // Bit k is set where the channel of case k is nil; its number says nothing then.
+    nils: u16,
     // How many cases there are. An `ArrayVec` would count them in eight bytes.
     count: u16,
 }
@@ -55,9 +59,9 @@ impl Model for Cases {
 
     ghost Value = { List Case };
 
-    ghost view = { λ c. cases_of (take c.count c.chans) c.sends };
+    ghost view = { λ c. cases_of (take c.count c.chans) c.sends c.nils };
 
-    ghost invariant = { λ c. (c.count ≤ 16) × (c.sends < 2 ^ c.count) };
+    ghost invariant = { λ c. (c.count ≤ 16) × (c.sends < 2 ^ c.count) × (c.nils < 2 ^ c.count) };
 }
 
 impl Cases {
@@ -68,6 +72,7 @@ impl Cases {
         Cases {
             chans: [0; MAX_CASES],
             sends: 0,
+            nils: 0,
             count: 0,
         }
     }
@@ -81,6 +86,7 @@ impl Cases {
         Cases {
             chans: self.chans,
             sends: self.sends,
+            nils: self.nils,
             count: self.count,
         }
     }
@@ -107,22 +113,24 @@ impl Cases {
         requires { k < length self.now }
         ensures { slice_get self.now k ≡ Some result }
     {
-        case_in(&self.chans[..self.len()], self.sends, k)
+        case_in(&self.chans[..self.len()], self.sends, self.nils, k)
     }
 
-    /// Puts a case last. A channel's number is at most 65,534. Refused where there are 16; then the list stays as it was.
+    /// Puts a case last. Of a channel's number from 65,535 on, which no channel has, it keeps 65,535. Refused where there are 16;
+    /// then the list stays as it was.
     pub fn push(&mut self, case: Case) -> Result<(), CasesFull>
-        requires { IfSome case.chan (λ c. c < 65_535) }
         ensures full { IsErr result ↔ (MAX_CASES ≤ length self.old) }
-        ensures pushed { OnOk result (self.new ≡ self.old ++ case ∷ []) }
+        ensures pushed { OnOk result (self.new ≡ self.old ++ spec.kept case ∷ []) }
+        ensures whole { IfSome case.chan (λ c. c < 65_535) → OnOk result (self.new ≡ self.old ++ case ∷ []) }
         ensures err { OnErr result (self.new ≡ self.old) }
     {
         if self.len() == MAX_CASES {
             return Err(CasesFull);
         }
-        let (bit, number) = numbers_of(case);
+        let (bit, nil, number) = numbers_of(case);
         self.chans[self.len()] = number;
         self.sends += bit << self.count;
+        self.nils += nil << self.count;
         self.count += 1;
         Ok(())
     }
@@ -172,15 +180,20 @@ fn is_same(case: Case, other: Case) -> bool
     case == other
 }
 
+/// A channel's number is out of range exactly where what a list of cases keeps of it is.
+pub fn cases_keep_their_range()
+    ensures { KeepsRange }
+{}
+
 // Case `k` of those that the numbers stand for.
-fn case_in(numbers: &[u16], sends: u16, k: usize) -> Case
+fn case_in(numbers: &[u16], sends: u16, nils: u16, k: usize) -> Case
     requires within { k < length numbers.now }
     requires few { length numbers.now ≤ 16 }
-    ensures { slice_get (spec.cases_of numbers.now sends) k ≡ Some result }
+    ensures { slice_get (spec.cases_of numbers.now sends nils) k ≡ Some result }
 {
     Case {
         dir: dir_of((sends >> k) % 2),
-        chan: chan_of(numbers[k]),
+        chan: chan_of((nils >> k) % 2, numbers[k]),
     }
 }
 
@@ -191,30 +204,36 @@ fn dir_of(bit: u16) -> Dir
     if bit == 1 { Dir::Send } else { Dir::Recv }
 }
 
-// The channel that the number stands for.
-fn chan_of(number: u16) -> Option<u32>
-    ensures { result ≡ spec.chan_of number }
+// The channel that the number stands for, which is nil where the bit is 1.
+fn chan_of(nil: u16, number: u16) -> Option<u32>
+    ensures { result ≡ spec.chan_of nil number }
 {
-    if number == NIL {
-        None
-    } else {
-        Some(number as u32)
-    }
+    if nil == 1 { None } else { Some(number as u32) }
 }
 
-// The bit and the number that stand for the case.
-fn numbers_of(case: Case) -> (u16, u16)
-    requires { IfSome case.chan (λ c. c < 65_535) }
+// The bits and the number that stand for what is kept of the case.
+fn numbers_of(case: Case) -> (u16, u16, u16)
     ensures bit { result.0 < 2 }
-    ensures case { spec.case_of result.0 result.1 ≡ case }
+    ensures nil { result.1 < 2 }
+    ensures case { spec.case_of result.0 result.1 result.2 ≡ spec.kept case }
 {
     let bit = match case.dir {
         Dir::Send => 1,
         Dir::Recv => 0,
     };
-    let number = match case.chan {
-        None => NIL,
-        Some(chan) => chan as u16,
-    };
-    (bit, number)
+    match case.chan {
+        None => (bit, 1, 0),
+        Some(chan) => (bit, 0, kept_number(chan)),
+    }
+}
+
+// What is kept of a channel's number.
+fn kept_number(chan: u32) -> u16
+    ensures { result ≡ spec.kept_number chan }
+{
+    if chan < BEYOND as u32 {
+        chan as u16
+    } else {
+        BEYOND
+    }
 }

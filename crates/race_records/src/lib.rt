@@ -20,7 +20,7 @@ mod source;
 mod trace;
 mod version;
 
-pub use cases::{Case, Cases, CasesFull, Dir, MAX_CASES};
+pub use cases::{Case, Cases, CasesFull, Dir, MAX_CASES, cases_keep_their_range};
 pub use declarations::{DeclFault, Decls, MAX_PLACES};
 pub use event::{Cause, Event, Op};
 #[doc(hidden)]

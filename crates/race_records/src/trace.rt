@@ -1,5 +1,5 @@
 //! A trace: declarations, and the events of a run in one order in which it could have gone.
-ghost use Rattle.std.specs.Prelude.{◌≡◌, ◌-◌, ◌<◌, ◌≤◌, ◌↔◌, [], ◌∷◌, ◌++◌, length, IsTrue, Some, None, true, slice_get, IsOk, IfOk, OnOk, OnErr};
+ghost use Rattle.std.specs.Prelude.{◌≡◌, ◌+◌, ◌-◌, ◌<◌, ◌≤◌, ◌↔◌, [], ◌∷◌, ◌++◌, length, IsTrue, Some, None, true, slice_get, vec_capacity, IsOk, IfOk, OnOk, OnErr};
 ghost use Rattle.race_records.specs.Declarations as declarations;
 ghost use Rattle.race_records.specs.Refusal.{Refuses, AllowsUnless};
 ghost use Rattle.race_records.specs.Events as spec;
@@ -151,25 +151,28 @@ impl<A: Allocator> Trace<A> {
         Ok(())
     }
 
-    /// Forgets the events, and keeps their room.
+    /// Forgets the events, whose room is spare then.
     pub fn clear_events(&mut self)
         ensures decls { self.new.decls ≡ self.old.decls }
         ensures events { self.new.events ≡ [] }
-        ensures room { self.old.spare ≤ self.new.spare }
+        ensures room { length self.old.events + self.old.spare ≤ self.new.spare }
     {
         self.events.clear();
         self.spare = self.events.capacity();
     }
 
-    /// Moves the events into a list, whose own are forgotten, and takes its room for those to come.
+    /// Moves the events into a list, whose own are forgotten, and takes its room for those to come: the spare room goes with the
+    /// events, and the list's stands in its place.
     pub fn move_events(&mut self, list: &mut Vec<Event, A>)
         ensures decls { self.new.decls ≡ self.old.decls }
         ensures events { self.new.events ≡ [] }
         ensures moved { list.new.items ≡ self.old.events }
+        ensures room { self.new.spare ≡ vec_capacity list.old }
     {
+        let room = list.capacity();
         list.clear();
         mem::swap(&mut self.events, list);
-        self.spare = self.events.capacity();
+        self.spare = room;
     }
 
     /// How many events there are.

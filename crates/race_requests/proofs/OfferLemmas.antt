@@ -8,13 +8,15 @@ use Rattle.std.proofs.lemmas.Bool.Decides.{nat_tests}
 use Rattle.std.proofs.lemmas.Option.{none-some}
 use Rattle.race_records.specs.declared.cases.TheConstants.{MAX_CASES}
 use Rattle.race_records.specs.declared.kind.Kind.{Kind}
-use Rattle.race_records.specs.Parts.{case_is_in_range}
+use Rattle.race_records.specs.Cases.{kept_chan, kept as kept_case}
+use Rattle.race_records.specs.Parts.{case_is_in_range, chan_is_in_range}
+use Rattle.race_records.proofs.CaseLemmas.{kept_whole, kept_range}
 use Rattle.race_legal.proofs.Searches.{each_passes}
 use Rattle.race_records.specs.declared.cases.Case.{Case}
 use Rattle.race_records.specs.declared.cases.Dir.{Dir}
 use Rattle.race_requests.specs.declared.request.Ask.{Ask}
 use Rattle.race_requests.specs.declared.request.Offer.{Offer}
-use Rattle.race_requests.specs.Offers.{case_of}
+use Rattle.race_requests.specs.Offers.{case_of, chan_of, kept}
 use Rattle.race_requests.specs.Table.{offers_of}
 use Rattle.race_requests.specs.Choices.{ways}
 use Rattle.race_requests.specs.Possible.{ask_is_in_range, offer_is_in_range}
@@ -61,6 +63,31 @@ case_of_offer case value = by case.dir refl
       where
         sym_is : Dir.Recv ≡ case.dir
         sym_is = cc
+
+-- what is kept of an offer is the offer of what is kept of its case
+pub kept_offer : (case : Case) (value : ℕ) → offer_of (kept_case case) value ≡ kept (offer_of case value)
+kept_offer case value = by case.dir
+  where
+    by : (d : Dir) → elim d [ Dir.Send ↦ Offer.Send (kept_chan case.chan) value | Dir.Recv ↦ Offer.Recv (kept_chan case.chan) ]
+        ≡ kept (elim d [ Dir.Send ↦ Offer.Send case.chan value | Dir.Recv ↦ Offer.Recv case.chan ])
+    by Dir.Send = refl
+    by Dir.Recv = refl
+
+kept_chan_whole : (chan : Option ℕ) → IfSome chan (λ c. c < 65535) → kept_chan chan ≡ chan
+kept_chan_whole chan low = ap (λ (case : Case). case.chan) (kept_whole (record { dir = Dir.Recv; chan = chan }) low)
+
+-- all of an offer is kept where its channel's number is one that a channel can have
+pub kept_whole_offer : (offer : Offer) → IfSome (chan_of offer) (λ c. c < 65535) → kept offer ≡ offer
+kept_whole_offer (Offer.Send c v) low = ap (λ chan. Offer.Send chan v) (kept_chan_whole c low)
+kept_whole_offer (Offer.Recv c) low = ap (λ chan. Offer.Recv chan) (kept_chan_whole c low)
+
+kept_chan_range : (chans : ℕ) (chan : Option ℕ) → chans ≤ 65535 → chan_is_in_range chans (kept_chan chan) ≡ chan_is_in_range chans chan
+kept_chan_range chans chan few = kept_range chans (record { dir = Dir.Recv; chan = chan }) few
+
+-- what is kept of an offer is declared exactly where its channel is
+pub kept_offer_range : (chans : ℕ) (offer : Offer) → chans ≤ 65535 → offer_is_in_range chans (kept offer) ≡ offer_is_in_range chans offer
+kept_offer_range chans (Offer.Send c v) few = kept_chan_range chans c few
+kept_offer_range chans (Offer.Recv c) few = kept_chan_range chans c few
 
 -- each offer has its case
 pub cases_again : (cases : List Case) (values : List ℕ) → length cases ≤ length values → cases ≡ map case_of (offers_with cases values)

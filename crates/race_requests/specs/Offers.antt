@@ -7,7 +7,7 @@ use Rattle.std.specs.Cmp.Lexicographic.{pointwise}
 use Rattle.std.specs.Cmp.{IsEquivalence, IsPartialEquivalence, partial_equiv_from_equiv, decided}
 use Rattle.race_records.specs.declared.cases.Case.{Case}
 use Rattle.race_records.specs.declared.cases.Dir.{Dir}
-use Rattle.race_records.specs.Cases.{same_chan}
+use Rattle.race_records.specs.Cases.{kept_chan, same_chan}
 use Rattle.race_requests.specs.declared.request.Offer.{Offer}
 
 -- the channel of an offer
@@ -19,6 +19,11 @@ chan_of (Offer.Recv c) = c
 abbrev pub case_of : Offer → Case
 case_of (Offer.Send c v) = record { dir = Dir.Send; chan = c }
 case_of (Offer.Recv c) = record { dir = Dir.Recv; chan = c }
+
+-- what is kept of an offer: all of it, where its channel's number is below 65,535
+abbrev pub kept : Offer → Offer
+kept (Offer.Send c v) = Offer.Send (kept_chan c) v
+kept (Offer.Recv c) = Offer.Recv (kept_chan c)
 
 -- the offer of a case, where a send would send the value
 abbrev pub offer_of : Case → ℕ → Offer

@@ -1,6 +1,6 @@
 -- Where a request can go on, in the words of the run so far. (The Go Programming Language Specification, "Go statements", "Send statements", "Receive
 -- operator", "Close", "Select statements"; package sync)
-use Rattle.std.specs.Prelude.{ℕ, if◌then◌else◌, ◌==◌, ◌||◌, ◌&&◌, not, nat_lt, nat_le, cond}
+use Rattle.std.specs.Prelude.{◌≡◌, ℕ, ◌≤◌, if◌then◌else◌, ◌==◌, ◌||◌, ◌&&◌, not, nat_lt, nat_le, cond}
 use Rattle.std.specs.Prelude.{Bool, true, false, List, length, map, slice_get, Option, Some}
 use Rattle.std.specs.Prelude.{None, is_none}
 use Rattle.std.specs.List.{list_any, list_all}
@@ -13,7 +13,7 @@ use Rattle.race_model.specs.State.{started, is_closed, buffered, front, is_held,
 use Rattle.race_model.specs.Legal.{is_ready}
 use Rattle.race_requests.specs.declared.request.Ask.{Ask}
 use Rattle.race_requests.specs.declared.request.Offer.{Offer}
-use Rattle.race_requests.specs.Offers.{case_of}
+use Rattle.race_requests.specs.Offers.{case_of, kept}
 
 -- who sends goes on alone where the channel is closed, which is a fault, or where its buffer has room
 abbrev pub sender_goes_on : (ℕ → ℕ) → List Event → Option ℕ → Bool
@@ -68,6 +68,10 @@ meet_goes_on caps past sender receiver c = not (receiver == sender) && ((caps c 
 abbrev pub offer_is_in_range : ℕ → Offer → Bool
 offer_is_in_range chans (Offer.Send c v) = chan_is_in_range chans c
 offer_is_in_range chans (Offer.Recv c) = chan_is_in_range chans c
+
+-- what a list keeps of an offer is in range exactly where the offer is
+abbrev pub KeepsRange : Type 0
+KeepsRange = (chans : ℕ) (offer : Offer) → chans ≤ 65_535 → offer_is_in_range chans (kept offer) ≡ offer_is_in_range chans offer
 
 -- with so many objects of each kind, every number that the ask names is in range; a select has no more offers than it can have
 abbrev pub ask_is_in_range : (Kind → ℕ) → Ask → Bool

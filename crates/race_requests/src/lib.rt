@@ -20,7 +20,7 @@ pub use choice::Choice;
 pub use list::RequestList;
 pub use making::lone_event;
 pub use meet::{can_meet, meet_event};
-pub use offers::{Offers, OffersFull};
+pub use offers::{Offers, OffersFull, offers_keep_their_range};
 pub use possible::can_go_on;
 pub use request::{Answer, Ask, Offer, Request, Step, Waiter};
 pub use search::{Board, Found, find, pick_choice};

@@ -3,6 +3,7 @@ ghost use Rattle.std.specs.Prelude.{◌≡◌, ◌<◌, ◌≤◌, ◌↔◌, []
 ghost use Rattle.race_records.specs.declared.cases.TheConstants.{MAX_CASES};
 ghost use Rattle.race_requests.specs.Offers as spec;
 ghost use Rattle.race_requests.specs.Offers.{case_of, chan_of};
+ghost use Rattle.race_requests.specs.Possible.{KeepsRange};
 
 use crate::Offer;
 use race_records::{Case, Cases, Dir, MAX_CASES};
@@ -86,11 +87,12 @@ impl Offers {
         self.cases.copy()
     }
 
-    /// Puts an offer last. A channel's number is at most 65,534. Refused where there are 16; then the list stays as it was.
+    /// Puts an offer last. Of a channel's number from 65,535 on, which no channel has, it keeps 65,535. Refused where there are 16;
+    /// then the list stays as it was.
     pub fn push(&mut self, offer: Offer) -> Result<(), OffersFull>
-        requires { IfSome (chan_of offer) (λ c. c < 65_535) }
         ensures full { IsErr result ↔ (MAX_CASES ≤ length self.old) }
-        ensures pushed { OnOk result (self.new ≡ self.old ++ offer ∷ []) }
+        ensures pushed { OnOk result (self.new ≡ self.old ++ spec.kept offer ∷ []) }
+        ensures whole { IfSome (chan_of offer) (λ c. c < 65_535) → OnOk result (self.new ≡ self.old ++ offer ∷ []) }
         ensures err { OnErr result (self.new ≡ self.old) }
     {
         let at = self.len();
@@ -147,6 +149,11 @@ fn is_same(offer: Offer, other: Offer) -> bool
     offer == other
 }
 
+/// A channel's number is out of range exactly where what a list of offers keeps of it is.
+pub fn offers_keep_their_range()
+    ensures { KeepsRange }
+{}
+
 // The offer of a case.
 fn offer_of(case: Case, value: u64) -> Offer
     ensures { result ≡ spec.offer_of case value }
@@ -159,9 +166,7 @@ fn offer_of(case: Case, value: u64) -> Offer
 
 // The case of an offer, and the value that it would send.
 fn parts_of(offer: Offer) -> (Case, u64)
-    requires { IfSome (chan_of offer) (λ c. c < 65_535) }
-    ensures offer { spec.offer_of result.0 result.1 ≡ offer }
-    ensures chan { IfSome result.0.chan (λ c. c < 65_535) }
+    ensures { spec.offer_of result.0 result.1 ≡ offer }
 {
     match offer {
         Offer::Send(chan, value) => (

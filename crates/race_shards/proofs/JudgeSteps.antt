@@ -3,6 +3,9 @@ use Rattle.std.proofs.Common.{◌≡◌, ℕ, ◌+◌, ◌<◌, ◌≤◌, false
 use Rattle.std.proofs.Common.{append_assoc, append-nil, length-append, length-drop, true, ◌==◌, eqb-true, Result, Err, slice_index_or}
 use Rattle.std.proofs.lemmas.Option.{slice_get_within}
 use Rattle.std.proofs.lemmas.Bool.{cases_lt}
+use Rattle.std.proofs.lemmas.Bool.Decides.{nat_tests}
+use Rattle.std.specs.Prelude.{IsTrue}
+use Rattle.race_shards.specs.Limits.{is_shards}
 use Rattle.std.proofs.lemmas.List.{take-append-drop, take-append-le, length-take-le, get_or_append_left, get_or-append_right}
 use Rattle.race_records.specs.declared.event.Event.{Event}
 use Rattle.race_records.specs.declared.kind.Kind.{Kind}
@@ -213,6 +216,10 @@ pub sound_on : (old new : JudgeState) (block : List Event) → IsSound old → o
 sound_on old new block sound well goes now =
     let some = sound well in
     record { declarations = some.declarations; past = some.past ++ block; stands = goes some.declarations some.past some.stands }
+
+-- judges have a shard at least
+pub some_shards : (count : ℕ) → IsTrue (is_shards count) → 0 < count
+some_shards count is = grind (arith, nat_tests)
 
 -- before the first event
 pub stands_first : (declarations : List Declaration) (vars count : ℕ) (replay : ReplayState) (shards : List ShardState) → 0 < count

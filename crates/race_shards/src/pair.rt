@@ -30,17 +30,17 @@ impl<A: Allocator> Model for Seen<A> {
 
 impl<A: Allocator + Copy> Seen<A> {
     // The stamp, with a copy of the clock.
-    fn new(alloc: A, stamp: Stamp, clock: &Clock<A>) -> Result<Seen<A>, AllocError>
+    fn new(stamp: Stamp, clock: &Clock<A>) -> Result<Seen<A>, AllocError>
         ensures { IfOk result (λ seen. seen ≡ record { stamp = stamp; clock = clock.now }) }
     {
-        let mut copy = Clock::new(alloc);
-        copy.join(clock)?;
-        Ok(Seen { stamp, clock: copy })
+        Ok(Seen {
+            stamp,
+            clock: clock.copy()?,
+        })
     }
 
     // Goes on from event `from` to event `at`, which is told where it is an access.
     fn walk<B: Allocator>(
-        alloc: A,
         stamper: &mut Stamper<A>,
         trace: &Trace<B>,
         from: usize,
@@ -57,7 +57,7 @@ impl<A: Allocator + Copy> Seen<A> {
             step(stamper, trace, index)?;
         }
         match step(stamper, trace, at)? {
-            Some(stamp) => Ok(Some(Seen::new(alloc, stamp, stamper.clock(stamp.who))?)),
+            Some(stamp) => Ok(Some(Seen::new(stamp, stamper.clock(stamp.who))?)),
             None => Ok(None),
         }
     }
@@ -103,11 +103,10 @@ impl<A: Allocator + Copy> Pair<A> {
         }
         let first = race.first as usize;
         let mut stamper = Stamper::new(alloc, trace.decls())?;
-        let Some(earlier) = Seen::walk(alloc, &mut stamper, trace, 0, first)? else {
+        let Some(earlier) = Seen::walk(&mut stamper, trace, 0, first)? else {
             return Ok(None);
         };
-        let Some(later) = Seen::walk(alloc, &mut stamper, trace, first + 1, race.second as usize)?
-        else {
+        let Some(later) = Seen::walk(&mut stamper, trace, first + 1, race.second as usize)? else {
             return Ok(None);
         };
         let pair = Pair {

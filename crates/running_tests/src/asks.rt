@@ -23,6 +23,8 @@ pub(crate) enum Plain {
     EndDo(u32),
     /// The offers in order: the value that one sends, or none where it receives; and whether it has a default.
     Select(&'static [Option<u64>], bool),
+    /// A select that receives from this channel.
+    SelectFrom(u32),
 }
 
 fn offers(wanted: &[Option<u64>]) -> Offers {
@@ -34,6 +36,12 @@ fn offers(wanted: &[Option<u64>]) -> Offers {
         };
         let _full = offers.push(offer);
     }
+    offers
+}
+
+fn offer_from(chan: u32) -> Offers {
+    let mut offers = Offers::new();
+    let _fits = offers.push(Offer::Recv(Some(chan)));
     offers
 }
 
@@ -53,6 +61,7 @@ pub(crate) fn ask_of(plain: Plain) -> Ask {
         Plain::Do(once) => Ask::Do(once),
         Plain::EndDo(once) => Ask::EndDo(once),
         Plain::Select(wanted, has_default) => Ask::Select(offers(wanted), has_default),
+        Plain::SelectFrom(chan) => Ask::Select(offer_from(chan), false),
     }
 }
 

@@ -136,7 +136,7 @@ fn joined(alloc: Global, goroutine: u32) -> Result<[u32; 4], AllocError> {
     ])
 }
 
-// The last counts stand in the clock itself, or behind them.
+// Up to eight counts stand in the clock itself, and more in memory.
 #[test]
 fn clocks_are_joined(rt: HostRuntime) -> Result<(), Fail> {
     for &goroutine in &[0, 7, 8, 1023] {

@@ -72,9 +72,7 @@ fn last(trace: &Trace) -> Option<(usize, &Op)> {
 // A case of the first channel, or of the second, or of nil.
 fn cases_on(dir: Dir, chan: Option<u32>) -> Cases {
     let mut cases = Cases::new();
-    if chan.unwrap_or(0) < 65_535 {
-        let _ = cases.push(Case { dir, chan });
-    }
+    let _ = cases.push(Case { dir, chan });
     cases
 }
 
@@ -89,7 +87,7 @@ static EACH: [Addition; 6] = [
 ];
 
 // Events, and why a trace with one of each refuses it.
-fn events() -> [(u32, Op, u32, Option<u32>, Option<PushFault>); 32] {
+fn events() -> [(u32, Op, u32, Option<u32>, Option<PushFault>); 35] {
     let refused = Some(PushFault::BadNumber);
     let wrong = Some(PushFault::WrongKind);
     [
@@ -111,6 +109,28 @@ fn events() -> [(u32, Op, u32, Option<u32>, Option<PushFault>); 32] {
         (
             0,
             Op::Default(cases_on(Dir::Recv, Some(1))),
+            0,
+            None,
+            refused,
+        ),
+        // No channel has one of these numbers, of which no list of cases keeps more.
+        (
+            0,
+            Op::Default(cases_on(Dir::Send, Some(65_535))),
+            0,
+            None,
+            refused,
+        ),
+        (
+            0,
+            Op::Default(cases_on(Dir::Recv, Some(65_536))),
+            0,
+            None,
+            refused,
+        ),
+        (
+            0,
+            Op::Default(cases_on(Dir::Send, Some(u32::MAX))),
             0,
             None,
             refused,

@@ -55,7 +55,7 @@ static CASES: [(Dir, Option<u32>); 3] = [
 fn cases() -> Cases {
     let mut cases = Cases::new();
     for &(dir, chan) in &CASES {
-        if chan.is_some_and(|chan| chan >= 65_535) || cases.push(Case { dir, chan }).is_err() {
+        if cases.push(Case { dir, chan }).is_err() {
             return Cases::new();
         }
     }

@@ -10,10 +10,14 @@ use std::test::Fail;
 /// What main asks, of which the last can't be, whether there is a place, and whether the version is 2.
 type Row = (&'static [Plain], bool, bool);
 
-static ROWS: [Row; 10] = [
+static ROWS: [Row; 13] = [
     // A variable and a place that aren't there.
     (&[Plain::Read(1)], true, false),
     (&[Plain::Read(0)], false, false),
+    // Channels that aren't there, two of them with numbers that no channel has.
+    (&[Plain::SelectFrom(0)], true, false),
+    (&[Plain::SelectFrom(65_535)], true, false),
+    (&[Plain::SelectFrom(u32::MAX)], true, false),
     // A mutex can't be locked for reading, and main runs.
     (&[Plain::RLock(0)], true, false),
     (&[Plain::Go(0)], true, false),

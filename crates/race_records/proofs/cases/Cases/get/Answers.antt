@@ -8,6 +8,7 @@ pub returns : goal.returns
 returns c =
     let chans = c.self.inside.chans in
     let sends = c.self.inside.sends in
-    let len = counted_len chans sends c.self.inside.count c.self.told c.self.invariant.0 in
+    let nils = c.self.inside.nils in
+    let len = counted_len chans sends nils c.self.inside.count c.self.told c.self.invariant.0 in
     let counted : c.self.inside.count ≡ c.len.result = sym len ∙ ap (λ (cases : List Case). length cases) c.self.view_is ∙ sym c.len.ensures.len in
-    ap (λ cases. slice_get cases c.args.k) (sym c.self.view_is ∙ ap (λ n. cases_of (take n chans) sends) counted) ∙ c.case_in.ensures
+    ap (λ cases. slice_get cases c.args.k) (sym c.self.view_is ∙ ap (λ n. cases_of (take n chans) sends nils) counted) ∙ c.case_in.ensures

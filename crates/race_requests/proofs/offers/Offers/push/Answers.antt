@@ -1,8 +1,9 @@
 use Rattle.std.proofs.lemmas.Grind.{common_steps}
 use Rattle.std.proofs.Common.{◌≡◌, ◌++◌, ◌∷◌, [], length, set, List, true≢false, refl, sym, ap, ◌∙◌, arith}
 use Rattle.race_requests.specs.declared.request.Offer.{Offer}
-use Rattle.race_requests.specs.Offers.{offers_with}
-use Rattle.race_requests.proofs.OfferLemmas.{below_if, offers_len, offers_push}
+use Rattle.race_records.specs.Cases.{kept as kept_case}
+use Rattle.race_requests.specs.Offers.{offers_with, kept}
+use Rattle.race_requests.proofs.OfferLemmas.{below_if, offers_len, offers_push, kept_offer, kept_whole_offer}
 use Rattle.race_requests.proofs.offers.Offers.push.Goals as goal
 
 pub returns-in_default-clause-full : goal.returns-in_default-clause-full
@@ -31,8 +32,12 @@ returns-clause-pushed c =
     let less = below_if (length cases) 16 c.in-Ok.ensures.full.1 in
     let at : c.len-at.result ≡ length cases = omega (arith, len, ap (λ (offers : List Offer). length offers) c.self.view_is, c.len-at.ensures.len) in
     (λ i. offers_with (c.in-Ok.ensures.pushed i) (set values (at i) c.parts_of-value.result.1))
-    ∙ offers_push cases values c.parts_of-value.result.0 c.parts_of-value.result.1 (omega (arith, less, c.self.invariant.1))
-    ∙ (λ i. c.self.view_is i ++ c.parts_of-value.ensures.offer i ∷ [])
+    ∙ offers_push cases values (kept_case c.parts_of-value.result.0) c.parts_of-value.result.1 (omega (arith, less, c.self.invariant.1))
+    ∙ (λ i. c.self.view_is i ++ kept_offer c.parts_of-value.result.0 c.parts_of-value.result.1 i ∷ [])
+    ∙ ap (λ (o : Offer). c.args.self.now ++ kept o ∷ []) c.parts_of-value.ensures
+
+pub returns-clause-whole : goal.returns-clause-whole
+returns-clause-whole c = λ low. returns-clause-pushed c ∙ ap (λ (o : Offer). c.args.self.now ++ o ∷ []) (kept_whole_offer c.args.offer low)
 
 pub invariant_of-self-2 : goal.invariant_of-self-2
 invariant_of-self-2 c = grind (arith, common_steps) steps 1000000

@@ -1,13 +1,18 @@
 -- The judge hasn't failed, so it stands for a list, and no event of it breaks a rule.
-use Rattle.std.proofs.Common.{◌≡◌, List, sym, subst}
+use Rattle.std.proofs.Common.{◌≡◌, ◌<◌, List, length, sym, subst}
 use Rattle.race_verdict.specs.declared.races.Race.{Race}
 use Rattle.race_verdict.specs.Races.{races_of}
 use Rattle.race_verdict.specs.Verdicts.{verdict_of}
 use Rattle.race_shards.specs.Shards.{ShardState}
 use Rattle.race_shards.specs.Telling.{told_below, HavePlaces}
 use Rattle.race_shards.specs.Judging.{JudgeState, Tells}
-use Rattle.race_shards.proofs.JudgeSteps.{seen, places_of, tells_races}
+use Rattle.race_shards.proofs.JudgeSteps.{seen, has_shard, places_of, tells_races}
 use Rattle.race_shards.proofs.judge.Judge.finish.Goals as goal
+
+pub races-requires-clause-some : goal.races-requires-clause-some
+races-requires-clause-some g c =
+    let j : JudgeState = seen c.self.inside in
+    subst (λ (shards : List ShardState). 0 < length shards) (sym c.as_slice.ensures.value) (has_shard j c.in_default.is c.self.invariant c.if-self.false)
 
 pub races-requires-clause-places : goal.races-requires-clause-places
 races-requires-clause-places g c =

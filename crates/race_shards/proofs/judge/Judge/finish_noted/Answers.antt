@@ -1,5 +1,5 @@
 -- The judge hasn't failed, so it stands for a list, and no event of it breaks a rule.
-use Rattle.std.proofs.Common.{◌≡◌, ◌∙◌, List, All, map, refl, sym, ap, subst}
+use Rattle.std.proofs.Common.{◌≡◌, ◌<◌, ◌∙◌, List, All, length, arith, map, refl, sym, ap, subst}
 use Rattle.race_model.specs.Verdict.{AreReportedRaces}
 use Rattle.race_verdict.specs.declared.notes.NotedRace.{NotedRace}
 use Rattle.race_verdict.specs.Notes.{race_noted, verdict_noted}
@@ -10,6 +10,16 @@ use Rattle.race_shards.specs.Judging.{JudgeState, Tells, Notes}
 use Rattle.race_shards.proofs.JudgeSteps.{seen, has_shard, places_of, tells_races}
 use Rattle.race_shards.proofs.NotedSteps.{notes_right, accesses_right}
 use Rattle.race_shards.proofs.judge.Judge.finish_noted.Goals as goal
+
+pub index-requires : goal.index-requires
+index-requires g c =
+    let some : 0 < length c.self.inside.shards.items = has_shard (seen c.self.inside) c.in_default.is c.self.invariant c.if-self.false in
+    omega (arith, some, c.self.inside.shards.ok.0)
+
+pub noted_races-requires-clause-some : goal.noted_races-requires-clause-some
+noted_races-requires-clause-some g c =
+    let j : JudgeState = seen c.self.inside in
+    subst (λ (shards : List ShardState). 0 < length shards) (sym c.as_slice.ensures.value) (has_shard j c.in_default.is c.self.invariant c.if-self.false)
 
 pub noted_races-requires-clause-places : goal.noted_races-requires-clause-places
 noted_races-requires-clause-places g c =

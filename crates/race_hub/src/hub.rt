@@ -360,7 +360,7 @@ impl<R, A: Allocator> Hub<R, A> {
         self.is_out_of_turn(waiter)
     }
 
-    // Whether it asks for what can't be now and never will be.
+    // Whether it asks for a step out of turn.
     fn is_out_of_turn(&self, waiter: &Waiter) -> bool
         requires { IsTrue (sound.is_sound self.now.decls waiter.now) }
         ensures { result ≡ sound.is_out_of_turn self.now.events self.now.waiting waiter.now.who waiter.now.asked.ask }

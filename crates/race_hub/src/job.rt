@@ -111,7 +111,7 @@ impl<R, A: Allocator> Job<R, A> {
     }
 
     /// Lets the box go on with the last answer up to its next request, which is kept. Until that is answered, every turn gives
-    /// the kept request. A turn that is refused has called nothing.
+    /// the kept request. A turn that is refused has changed nothing.
     #[inline(always)]
     pub fn turn(&mut self) -> Result<Request, AllocError>
     where

@@ -53,8 +53,8 @@ abbrev pub asks_to_start : ℕ → Ask → Bool
 asks_to_start h (Ask.Go k) = k == h
 asks_to_start h _ = false
 
--- g asks for what can't be now and never will be: a start of main or of whom a Go starts or is to start, an exit in the function
--- of a once, an end of another once than the innermost
+-- g asks for a step out of turn: a start of main or of whom a Go starts or is to start, an exit in the function of a once, an end
+-- of another once than the innermost
 abbrev pub is_out_of_turn : List Event → List Waiter → ℕ → Ask → Bool
 is_out_of_turn past waiting g (Ask.Go h) = (h == 0) || (started h past || list_any (λ w. asks_to_start h w.asked.ask) waiting)
 is_out_of_turn past waiting g Ask.Exit = is_some (innermost g past)

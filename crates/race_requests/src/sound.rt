@@ -132,7 +132,8 @@ fn asks_to_start(ask: &Ask, goroutine: u32) -> bool
     }
 }
 
-/// Whether the goroutine asks for what can't be now and never will be.
+/// Whether the goroutine asks for a step out of turn: to start main, or whom a `go` starts or is to start; to exit in the
+/// function of a once; to end another once than its innermost.
 pub fn is_out_of_turn<A: Allocator>(replay: &Replay<A>, waiting: &[Waiter], waiter: &Waiter) -> bool
     requires who { waiter.now.who < counts_in replay.now Kind.Goroutine }
     requires range { IsTrue (possible.ask_is_in_range (counts_in replay.now) waiter.now.asked.ask) }

@@ -12,7 +12,15 @@ func TestForgetting(t *testing.T) {
 	record(t)
 	exclusive, partRecords = true, 64
 	t.Cleanup(func() { partRecords = 0 })
-	locations, met, swept = make([]location, 1<<12), 0, 0
+	met := func() (n int) {
+		for i := range shards {
+			n += shards[i].met
+		}
+		return n
+	}
+	for i := range shards {
+		shards[i].clear()
+	}
 	sites := make([]Site, 10)
 	for i := range sites {
 		sites[i].ID = uint32(i)
@@ -22,7 +30,7 @@ func TestForgetting(t *testing.T) {
 	ts.do(1, func() { To(shared, &sites[2]).Set(2) })
 	ts.do(0, func() {
 		To(alone, &sites[3]).Set(1)
-		for i := 0; i < 10*mostLocations(); i++ {
+		for i := 0; i < 20*shardCount*mostOfShard(); i++ {
 			To(new(int), &sites[4]).Set(1)
 		}
 	})
@@ -30,14 +38,14 @@ func TestForgetting(t *testing.T) {
 	ts.do(0, func() { To(alone, &sites[6]).Set(2) })
 	ts.do(0, func() { To(shared, &sites[7]).Set(3) })
 	objects := map[uint32]uint32{} // by site
-	for _, r := range records[:written] {
+	for _, r := range records {
 		if r.Op == wire.Read || r.Op == wire.Write {
 			objects[r.Site] = r.Object
 		}
 	}
 	switch {
-	case header.Forgotten == 0 || met > mostLocations():
-		t.Errorf("%d were forgotten, %d are known", header.Forgotten, met)
+	case header.Forgotten == 0 || met() > shardCount*mostOfShard():
+		t.Errorf("%d were forgotten, %d are known", header.Forgotten, met())
 	case objects[3] != 0 || objects[4] != 0:
 		t.Errorf("what was forgotten has records: %v", objects)
 	case objects[5] == 0 || objects[5] != objects[6]:

@@ -24,6 +24,7 @@ type G struct {
 	tables uint32 // the part that reads and writes are of
 	site   uint32 // where it was started
 	stack  uint32
+	window window
 	reads  repeats
 	writes repeats
 	ended  uint32        // leaves to repeat a write that others ended
@@ -126,6 +127,7 @@ func adopt(parent *G, s *Site) *G {
 	adopted[g] = struct{}{}
 	g.lose(wire.LostGoroutine, s)
 	parent.step(wire.Record{Op: wire.Go, Kind: uint8(wire.GoForeign), Other: g.id})
+	g.behind = steps
 	g.takeSent(s)
 	mu.Unlock()
 	t := &tag{of: g}
@@ -176,6 +178,7 @@ func (g *G) start(s *Site) *G {
 	started := newGoroutine()
 	started.site, started.stack = s.ID, stackNumber()
 	g.step(wire.Record{Op: wire.Go, Other: started.id, Site: s.ID, OtherSite: started.stack})
+	started.behind = steps
 	return started
 }
 

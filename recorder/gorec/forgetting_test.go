@@ -44,7 +44,7 @@ func TestForgetting(t *testing.T) {
 		}
 	}
 	switch {
-	case header.Forgotten == 0 || met() > shardCount*mostOfShard():
+	case header.Forgotten == 0 || met() > shardCount*fewest*3/4:
 		t.Errorf("%d were forgotten, %d are known", header.Forgotten, met())
 	case objects[3] != 0 || objects[4] != 0:
 		t.Errorf("what was forgotten has records: %v", objects)

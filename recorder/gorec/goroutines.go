@@ -87,6 +87,9 @@ func current(s *Site) *G {
 
 // meets takes in what others sent: they may have asked g anew, or g has read.
 func (g *G) meets(s *Site) {
+	if !g.reading && g.taken == atomic.LoadUint32(&newest) {
+		return
+	}
 	begin()
 	defer mu.Unlock()
 	if g.reading {

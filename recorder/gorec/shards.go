@@ -31,7 +31,8 @@ type shard struct {
 	keys    []key
 	entries []location
 	met     int
-	_       [64]byte // no other one's lock is in the same line of a processor's cache
+	limit   int      // so many are known before some are forgotten
+	_       [56]byte // no other one's lock is in the same line of a processor's cache
 }
 
 type key struct {
@@ -173,7 +174,7 @@ func (sh *shard) resize(size int) {
 // clear has the lock.
 func (sh *shard) clear() {
 	freeEntries(sh.entries)
-	sh.keys, sh.entries, sh.met = nil, nil, 0
+	sh.keys, sh.entries, sh.met, sh.limit = nil, nil, 0, 0
 }
 
 // makeEntries is memory of the system's, in which all is zero. Where there is none it is Go's.

@@ -60,7 +60,9 @@ func (l *Log) Len() int {
 
 // Records are those of the log, in the order in which the operations were done.
 func (l *Log) Records() []wire.Record {
-	records := apart(inOrder(l.records[:l.Len()]))
+	ordered := inOrder(l.records[:l.Len()])
+	syscall.Madvise(l.mapped, syscall.MADV_DONTNEED) // it isn't needed any more, and can be had again
+	records := apart(ordered)
 	renumber(records)
 	return records
 }

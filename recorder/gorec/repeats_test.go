@@ -49,13 +49,23 @@ func newTurns(t *testing.T, n int) turns {
 	for i := range ts {
 		c := make(chan func())
 		ts[i] = c
+		var g *G
 		Go(&Site{}, func() {
+			g = current(nowhere)
 			for f := range c {
 				f()
 				c <- nil
 			}
 		})
-		t.Cleanup(func() { close(c) })
+		ts.do(i, func() {})
+		t.Cleanup(func() {
+			close(c)
+			for over := false; !over; { // so that it writes nothing into another test's log
+				mu.Lock()
+				over = g.over
+				mu.Unlock()
+			}
+		})
 	}
 	return ts
 }

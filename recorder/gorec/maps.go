@@ -21,6 +21,9 @@ func (o user) touch(p unsafe.Pointer, kind wire.VarKind, change bool) {
 	sh := shardOf(p)
 	l := &sh.entries[sh.locate(p, kind)]
 	l.used = true
+	if change && l.repeats(o, whole) {
+		return
+	}
 	l.isOthers(o, kind, 0)
 	l.accessed(o, op, whole)
 }
@@ -58,10 +61,16 @@ func (x Mapping[K, V]) Lookup(k K) (v V, ok bool) {
 		v, ok = x.m[k]
 		return v, ok
 	}
-	o := current(x.s).at(x.s)
+	o := user{g: current(x.s), s: x.s}
+	repeats := o.g.hasRead(x.pointer(), x.s)
+	if !repeats {
+		o = o.g.at(x.s)
+	}
 	defer o.g.hold(x.pointer(), 1).release() // a key that can't be hashed panics
 	v, ok = x.m[k]
-	o.touch(x.pointer(), wire.VarMap, false)
+	if !repeats {
+		o.touch(x.pointer(), wire.VarMap, false)
+	}
 	return v, ok
 }
 

@@ -86,7 +86,7 @@ func (o user) wroteBytes(p unsafe.Pointer, n, offset uintptr) {
 }
 
 // isApart has the lock. It reports whether the bytes of a word have locations of their own. They
-// get them where the operation would leave more to be known of the word than it can keep.
+// get them where the access would leave more to be known of the word than it can keep.
 func (sh *shard) isApart(i int, o user, op wire.Op, bytes uint8) bool {
 	l := &sh.entries[i]
 	if l.apart || l.id != 0 || l.owner != o.g.id+1 || l.fits(o, op, bytes) {
@@ -104,7 +104,7 @@ func (sh *shard) isApart(i int, o user, op wire.Op, bytes uint8) bool {
 		}
 		b := &sh.entries[sh.locate(unsafe.Add(word, k), wire.VarMemory)]
 		b.owner, b.site, b.offset = old.owner, old.site, old.offset
-		b.used = true
+		b.age = sh.age
 		if old.reads&bit != 0 {
 			b.read, b.reads = old.read, whole
 		}

@@ -31,9 +31,10 @@ func (g *G) sendOut(s *Site) {
 func (g *G) takeIn(s *Site) {
 	g.takeSent(s)
 	for h := range adopted {
-		if h != g && (h.didMore || h.epoch != h.joined) {
+		if h != g && (atomic.LoadUint32(&h.didMore) != 0 || h.epoch != h.joined) {
+			atomic.StoreUint32(&h.didMore, 0)
 			g.acquire(h.release(s), s)
-			h.joined, h.didMore = h.epoch, false
+			h.joined = h.epoch
 		}
 	}
 }

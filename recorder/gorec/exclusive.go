@@ -101,16 +101,18 @@ func partly(bytes uint8) uint16 {
 
 // accessed has the lock, behind isOthers: these bytes of the variable are read or written.
 func (v *variable) accessed(o user, op wire.Op, bytes uint8) {
-	o.g.didMore = true
 	a := access{at: o.g.behind + 1, site: o.s.ID, stack: o.stack}
-	switch {
-	case v.id == 0:
+	if v.id == 0 {
 		v.keep(op, a, bytes)
-		return
-	case op == wire.Write:
-		v.owner, v.write, v.writes = o.g.id+1, a, bytes
+	} else {
+		if op == wire.Write {
+			v.owner, v.write, v.writes = o.g.id+1, a, bytes
+		}
+		o.put(op, v.id, bytes)
 	}
-	o.put(op, v.id, bytes)
+	if atomic.LoadUint32(&o.g.didMore) == 0 { // behind the access, since others set it back in front of a release
+		atomic.StoreUint32(&o.g.didMore, 1)
+	}
 }
 
 // keep has the lock: the owner reads or writes these bytes, and all others of the last such

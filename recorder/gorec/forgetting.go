@@ -14,7 +14,10 @@ import (
 
 // enough is how many variables a shard knows before some are forgotten, unless those that several
 // goroutines use take most of that.
-const enough = 1 << 18 / shardCount
+const enough = 3 << 10 // three quarters of a table
+
+// ages are told apart of what isn't used. One lasts while that part of the limit is met anew.
+const ages = 4
 
 // mostOfShard is how many variables a shard knows at once, since that takes memory too.
 func mostOfShard() int {
@@ -24,64 +27,78 @@ func mostOfShard() int {
 	return fewest / 2
 }
 
+// firstLimit is a shard's limit before it is found to be too low.
+func firstLimit() int {
+	if most := mostOfShard(); most < enough {
+		return most
+	}
+	return enough
+}
+
 // makeRoom has the lock. The table grows, or loses what may be forgotten. Where too little may be
 // it grows further, and at its most another part has to begin.
 func (sh *shard) makeRoom() {
-	most := mostOfShard()
-	if sh.limit < enough {
-		sh.limit = enough
-	}
-	if sh.limit > most {
-		sh.limit = most
-	}
-	if partRecords == 0 || sh.met < sh.limit {
+	if !sh.isCrowded() {
 		sh.resize(2 * len(sh.keys))
 		return
 	}
-	if sh.forget(true); sh.met > sh.limit*3/4 {
-		sh.forget(false)
+	for unused := ages; unused > 0 && sh.met > sh.limit*3/4; unused-- {
+		sh.forget(uint8(unused - 1))
 	}
 	size := fewest
 	for size*3 < sh.met*8 {
 		size *= 2
 	}
 	sh.resize(size)
-	if sh.met > sh.limit*3/4 {
-		if sh.limit == most {
-			atomic.StoreUint32(&full, 1)
-		}
-		sh.limit *= 2
+	if sh.met <= sh.limit*3/4 {
+		return
+	}
+	most := mostOfShard()
+	if sh.limit >= most {
+		atomic.StoreUint32(&full, 1)
+		sh.limit += most / 4 // until the part begins
+	} else if sh.limit *= 2; sh.limit > most {
+		sh.limit = most
 	}
 }
 
-// forget has the lock. It takes away the keys of the variables of one goroutine each, but for
-// those that were used since the last time, if these are to be spared.
-func (sh *shard) forget(spare bool) {
+// isCrowded reports whether so many variables are known that some are to be forgotten.
+func (sh *shard) isCrowded() bool { return partRecords > 0 && sh.met >= sh.limit }
+
+// forget has the lock. It takes away the keys of the variables of one goroutine each that weren't
+// used for at least so many ages.
+func (sh *shard) forget(unused uint8) {
 	for i := range sh.entries {
-		if l := &sh.entries[i]; l.apart && sh.bytesMayGo(i, spare) {
-			l.apart, l.used = false, false
+		if l := &sh.entries[i]; l.apart && sh.bytesMayGo(i, unused) {
+			l.apart, l.age = false, sh.age-unused
 		}
 	}
+	gone := uint32(0)
 	for i := range sh.keys {
-		k, l := &sh.keys[i], &sh.entries[i]
-		if k.p != nil && l.mayGo(k, spare) {
+		k := &sh.keys[i]
+		if k.p != nil && sh.mayGo(i, unused) {
 			*k = key{}
-			sh.met--
-			atomic.AddUint32(&header.Forgotten, 1)
+			gone++
 		}
-		l.used = false
 	}
+	sh.met -= int(gone)
+	before := atomic.AddUint32(&header.Forgotten, gone) - gone
+	if each := uint32(firstLimit() * shardCount / ages / 2); (before+gone)/each != before/each {
+		atomic.AddUint32(&era, 1)
+	}
+	sh.resize(len(sh.keys)) // so that what is looked for next is found
 }
 
-func (l *location) mayGo(k *key, spare bool) bool {
-	return l.id == 0 && !l.apart && !(spare && l.used) && !k.mayRepeat(l)
+func (sh *shard) mayGo(i int, unused uint8) bool {
+	l := &sh.entries[i]
+	return l.id == 0 && !l.apart && sh.age-l.age >= unused && !sh.keys[i].mayRepeat(l)
 }
 
 // bytesMayGo reports whether all may go that the bytes of a word have.
-func (sh *shard) bytesMayGo(word int, spare bool) bool {
+func (sh *shard) bytesMayGo(word int, unused uint8) bool {
 	for b := 0; b < 8; b++ {
 		i := sh.find(unsafe.Add(sh.keys[word].p, b), wire.VarMemory)
-		if sh.keys[i].p != nil && !sh.entries[i].mayGo(&sh.keys[i], spare) {
+		if sh.keys[i].p != nil && !sh.mayGo(i, unused) {
 			return false
 		}
 	}

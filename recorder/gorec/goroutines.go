@@ -40,7 +40,7 @@ type G struct {
 	lastOut uint32 // the order of its last write to a file or a connection
 	taken   uint32 // the newest order of sentOut that it is behind
 	joined  uint32 // the epoch up to which others are behind it
-	didMore bool   // it has read or written a variable since
+	didMore uint32 // 1: it has read or written a variable since
 }
 
 // tag is what a goroutine's label points to. Nothing but the goroutine, and those that code

@@ -17,7 +17,7 @@ type location struct {
 	kind  wire.VarKind
 	known uint8 // the bytes of bits that are what it holds, unless others write without a record
 	apart bool  // its bytes have locations of their own
-	used  bool  // since variables were forgotten the last time
+	age   uint8 // the shard's when it was used last
 }
 
 // whole are the bytes of a location that isn't told apart by them.
@@ -128,7 +128,7 @@ func (o user) read(p unsafe.Pointer, size, offset uintptr) {
 // readAt has the lock of the shard: these bytes of its location i are read.
 func (o user) readAt(sh *shard, i int, bits uint64, bytes uint8, offset uintptr) {
 	l := &sh.entries[i]
-	l.used = true
+	l.age = sh.age
 	if others := l.isOthers(o, l.kind&^inWord, offset); others && (bits^l.bits)&spread(l.known&bytes) != 0 {
 		o.put(wire.Unseen, l.id, whole)
 	}
@@ -167,7 +167,7 @@ func (o user) wroteAt(sh *shard, i int, bits uint64, bytes uint8, offset uintptr
 		l.known = known
 		return true
 	}
-	l.used = true
+	l.age = sh.age
 	l.hold(bits, bytes)
 	sh.keys[i].endLeave(l, o.g)
 	l.isOthers(o, l.kind&^inWord, offset)

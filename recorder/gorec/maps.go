@@ -20,7 +20,7 @@ func (o user) touch(p unsafe.Pointer, kind wire.VarKind, change bool) {
 	}
 	sh := shardOf(p)
 	l := &sh.entries[sh.locate(p, kind)]
-	l.used = true
+	l.age = sh.age
 	if change && l.repeats(o, whole) {
 		return
 	}

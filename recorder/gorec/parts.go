@@ -68,6 +68,7 @@ func nextPart() {
 	previous = ended
 	atomic.StoreUint32(&steps, 0)
 	atomic.AddUint32(&part, 1)
+	atomic.AddUint32(&era, 1)
 	forget()
 	atomic.StoreUint32(&full, 0)
 	unlockAll()

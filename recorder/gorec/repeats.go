@@ -17,6 +17,10 @@ import (
 // location, so one goroutine at most has it. Until then, and until the next read, it isn't
 // known what the location holds.
 
+// era grows with what is forgotten, so that what is used all the time is met again. It is read
+// without a lock.
+var era uint32
+
 // repeats is a table of accesses by their addresses; it grows with those that had to go while
 // they could have been repeated.
 type repeats struct {
@@ -76,7 +80,7 @@ func (g *G) hasRead(p unsafe.Pointer, s *Site) bool {
 	if s.generic {
 		return false
 	}
-	stamp := g.epoch + atomic.LoadUint32(&part)
+	stamp := g.epoch + atomic.LoadUint32(&era)
 	if g.reads.has(p, s, stamp) {
 		return true
 	}
@@ -89,7 +93,7 @@ func (g *G) hasLeave(p unsafe.Pointer, s *Site) bool { return g.writes.has(p, s,
 
 // stamp is the sum of numbers that only grow, so it changes with each of them.
 func (g *G) stamp() uint32 {
-	return atomic.LoadUint32(&g.epoch) + atomic.LoadUint32(&g.ended) + atomic.LoadUint32(&part)
+	return atomic.LoadUint32(&g.epoch) + atomic.LoadUint32(&g.ended) + atomic.LoadUint32(&era)
 }
 
 // giveLeave has the lock of p: g has repeated its write of the location at s.

@@ -31,8 +31,10 @@ type shard struct {
 	keys    []key
 	entries []location
 	met     int
-	limit   int      // so many are known before some are forgotten
-	_       [56]byte // no other one's lock is in the same line of a processor's cache
+	limit   int // so many are known before some are forgotten
+	fresh   int // that were met at this age
+	age     uint8
+	_       [40]byte // no other one's lock is in the same line of a processor's cache
 }
 
 type key struct {
@@ -126,16 +128,20 @@ func unlockAll() {
 func (sh *shard) locate(p unsafe.Pointer, kind wire.VarKind) int {
 	if len(sh.keys) == 0 {
 		sh.resize(fewest)
+		sh.limit = firstLimit()
 	}
 	i := sh.find(p, kind)
 	if sh.keys[i].p != nil {
 		return i
 	}
-	if sh.met*4 >= len(sh.keys)*3 {
+	if sh.met*4 >= len(sh.keys)*3 || sh.isCrowded() {
 		sh.makeRoom()
 		i = sh.find(p, kind)
 	}
 	sh.met++
+	if sh.fresh++; sh.fresh >= sh.limit/ages {
+		sh.age, sh.fresh = sh.age+1, 0
+	}
 	sh.keys[i].p = p
 	sh.entries[i].kind = kind
 	return i
@@ -174,7 +180,7 @@ func (sh *shard) resize(size int) {
 // clear has the lock.
 func (sh *shard) clear() {
 	freeEntries(sh.entries)
-	sh.keys, sh.entries, sh.met, sh.limit = nil, nil, 0, 0
+	sh.keys, sh.entries, sh.met = nil, nil, 0
 }
 
 // makeEntries is memory of the system's, in which all is zero. Where there is none it is Go's.

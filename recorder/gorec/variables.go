@@ -44,23 +44,32 @@ func wroteAll[T any](o user, p *T) (repeats bool) {
 
 // Read is the value at p.
 func Read[T any](p *T, s *Site) T {
-	_ = *p // nil panics without the lock
-	if alone() {
-		return *p
-	}
-	g := current(s)
-	if g.hasRead(unsafe.Pointer(p), s) {
-		return *p
-	}
-	o := g.at(s)
-	h := g.hold(unsafe.Pointer(p), unsafe.Sizeof(*p))
-	v := *p
-	readAll(o, p)
-	h.release()
+	v, _ := read(p, s)
 	return v
 }
 
-func set[T any](p *T, v T, s *Site) {
+// read answers the value at p, and who read it unless that has no record.
+func read[T any](p *T, s *Site) (v T, o user) {
+	_ = *p // nil panics without the lock
+	if alone() {
+		return *p, o
+	}
+	g := current(s)
+	if g.hasRead(unsafe.Pointer(p), s) {
+		return *p, o
+	}
+	o = g.at(s)
+	h := g.hold(unsafe.Pointer(p), unsafe.Sizeof(*p))
+	v = *p
+	readAll(o, p)
+	h.release()
+	return v, o
+}
+
+func set[T any](p *T, v T, s *Site) { setBy(p, v, s, user{}) }
+
+// setBy is set by who has read at the same place, if that is known.
+func setBy[T any](p *T, v T, s *Site, o user) {
 	_ = *p
 	if alone() {
 		*p = v
@@ -71,7 +80,9 @@ func set[T any](p *T, v T, s *Site) {
 		*p = v
 		return
 	}
-	o := g.at(s)
+	if o.g != g {
+		o = g.at(s)
+	}
 	h := g.hold(unsafe.Pointer(p), unsafe.Sizeof(*p))
 	*p = v
 	if wroteAll(o, p) {

@@ -42,14 +42,10 @@ func (sh *shard) makeRoom() {
 		sh.resize(2 * len(sh.keys))
 		return
 	}
-	for unused := ages; unused > 0 && sh.met > sh.limit*3/4; unused-- {
-		sh.forget(uint8(unused - 1))
+	sh.forget(sh.oldest())
+	if sh.met*4 >= len(sh.keys)*3 {
+		sh.resize(2 * len(sh.keys))
 	}
-	size := fewest
-	for size*3 < sh.met*8 {
-		size *= 2
-	}
-	sh.resize(size)
 	if sh.met <= sh.limit*3/4 {
 		return
 	}
@@ -65,28 +61,62 @@ func (sh *shard) makeRoom() {
 // isCrowded reports whether so many variables are known that some are to be forgotten.
 func (sh *shard) isCrowded() bool { return partRecords > 0 && sh.met >= sh.limit }
 
-// forget has the lock. It takes away the keys of the variables of one goroutine each that weren't
-// used for at least so many ages.
+// oldest is for how many ages a variable wasn't used if it goes, so that a quarter goes.
+func (sh *shard) oldest() uint8 {
+	var count [ages]int
+	for i := range sh.keys {
+		if sh.keys[i].p != nil && sh.mayGo(i, 0) {
+			count[least(sh.age-sh.entries[i].age, ages-1)]++
+		}
+	}
+	unused, going := uint8(ages-1), count[ages-1]
+	for ; unused > 0 && sh.met-going > sh.limit*3/4; unused-- {
+		going += count[unused-1]
+	}
+	return unused
+}
+
+func least(a, b uint8) uint8 {
+	if a < b {
+		return a
+	}
+	return b
+}
+
+// forget has the lock. It takes away the variables of one goroutine each that weren't used for at
+// least so many ages.
 func (sh *shard) forget(unused uint8) {
 	for i := range sh.entries {
 		if l := &sh.entries[i]; l.apart && sh.bytesMayGo(i, unused) {
 			l.apart, l.age = false, sh.age-unused
 		}
 	}
-	gone := uint32(0)
-	for i := range sh.keys {
-		k := &sh.keys[i]
-		if k.p != nil && sh.mayGo(i, unused) {
-			*k = key{}
-			gone++
+	before := sh.met
+	for i := 0; i < len(sh.keys); {
+		if sh.keys[i].p != nil && sh.mayGo(i, unused) {
+			sh.remove(i) // and look at what came in its place
+		} else {
+			i++
 		}
 	}
-	sh.met -= int(gone)
-	before := atomic.AddUint32(&header.Forgotten, gone) - gone
-	if each := uint32(firstLimit() * shardCount / ages / 2); (before+gone)/each != before/each {
+	gone := uint32(before - sh.met)
+	all := atomic.AddUint32(&header.Forgotten, gone)
+	if each := uint32(firstLimit() * shardCount / ages / 2); all/each != (all-gone)/each {
 		atomic.AddUint32(&era, 1)
 	}
-	sh.resize(len(sh.keys)) // so that what is looked for next is found
+}
+
+// remove has the lock. What stands behind an entry since it was there moves up.
+func (sh *shard) remove(i int) {
+	mask := len(sh.keys) - 1
+	for j := (i + 1) & mask; sh.keys[j].p != nil; j = (j + 1) & mask {
+		if home := int(hash(sh.keys[j].p)) & mask; (j-home)&mask >= (j-i)&mask {
+			sh.keys[i], sh.entries[i] = sh.keys[j], sh.entries[j]
+			i = j
+		}
+	}
+	sh.keys[i], sh.entries[i] = key{}, location{}
+	sh.met--
 }
 
 func (sh *shard) mayGo(i int, unused uint8) bool {

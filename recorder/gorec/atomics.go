@@ -38,16 +38,22 @@ func (g *G) atomicAccess(p unsafe.Pointer, size uintptr, what int, s *Site) {
 	if !live {
 		return
 	}
-	l := locate(p)
-	if !l.isOthers(g, wire.VarMemory, 0, s) {
-		l.share(wire.VarMemory)
+	o := g.at(s)
+	g.enter()
+	sh := shardOf(p)
+	sh.Lock()
+	l := &sh.entries[sh.locate(p, wire.VarMemory)]
+	if !l.isOthers(o, wire.VarMemory, 0) {
+		l.share(o, wire.VarMemory)
 	}
-	l.bits = bitsOf(p, size)
+	l.hold(bitsOf(p, size), whole)
+	id := l.id
+	sh.Unlock()
 	op := wire.AtomicRead
 	if what&stores != 0 {
 		op = wire.AtomicWrite
 	}
-	g.step(wire.Record{Op: op, Object: l.id, Site: s.ID, OtherSite: stackNumber()})
+	g.step(wire.Record{Op: op, Object: id, Site: s.ID, OtherSite: o.stack})
 }
 
 func swapped(ok bool) int {

@@ -9,33 +9,11 @@ import (
 
 // What an object of the standard library holds, as a bytes.Buffer its bytes, is one
 // variable, which the object's methods read or write. The record stands before the call.
-var contents = map[unsafe.Pointer]*variable{}
-
-// content has the lock.
-func (g *G) content(p unsafe.Pointer, change bool, s *Site) {
-	if p == nil {
-		return
-	}
-	v := contents[p]
-	if v == nil {
-		v = &variable{}
-		contents[p] = v
-	}
-	op := wire.Read
-	if change {
-		op = wire.Write
-	}
-	v.accessed(g, op, wire.VarContent, 0, s)
-}
 
 func useContent(p unsafe.Pointer, change bool, s *Site) {
-	if alone() {
-		return
+	if !alone() {
+		current(s).use(p, wire.VarContent, change, s)
 	}
-	g := current(s)
-	begin()
-	g.content(p, change, s)
-	mu.Unlock()
 }
 
 // Reads is an object of which a method is called that reads.
@@ -76,13 +54,13 @@ func Stream[T any](w T, s *Site) T {
 	if t == nil || t.Kind() != reflect.Pointer {
 		return w
 	}
-	begin()
+	layoutsLock.Lock()
 	known, seen := isStream[t]
 	if !seen {
 		known = streams[t.String()]
 		isStream[t] = known
 	}
-	mu.Unlock()
+	layoutsLock.Unlock()
 	if known {
 		useContent(dataOf(&v), true, s)
 	}
@@ -123,8 +101,8 @@ func filled(b []byte, n int, s *Site) {
 	g := current(s)
 	begin()
 	g.takeIn(s)
-	for i := 0; i < n; i = nextAtEnds(i, n, most) {
-		wroteAll(g, &b[i], s)
-	}
 	mu.Unlock()
+	for _, part := range atEnds(b[:n], most) {
+		writeElements(g.at(s), part)
+	}
 }

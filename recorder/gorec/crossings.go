@@ -1,11 +1,14 @@
 package gorec
 
+import "sync/atomic"
+
 // Goroutines also meet in files, sockets and HTTP, by means of the standard library. As in
 // Go's own detector, what a goroutine did before it wrote to any of them comes before what
 // another one does behind a read of any of them.
 
 var (
 	sentOut []sending           // the oldest first
+	newest  uint32              // the order of the last one, read without the lock too
 	adopted = map[*G]struct{}{} // those that code without the recorder started, and that go on
 )
 
@@ -19,6 +22,7 @@ type sending struct {
 func (g *G) sendOut(s *Site) {
 	g.lastOut = g.release(s)
 	sentOut = append(sentOut, sending{g, g.lastOut})
+	atomic.StoreUint32(&newest, g.lastOut)
 }
 
 // takeIn has the lock: g has read, or was answered. Besides what was written, what the
@@ -27,9 +31,10 @@ func (g *G) sendOut(s *Site) {
 func (g *G) takeIn(s *Site) {
 	g.takeSent(s)
 	for h := range adopted {
-		if h != g && (h.didMore || h.epoch != h.joined) {
+		if h != g && (atomic.LoadUint32(&h.didMore) != 0 || h.epoch != h.joined) {
+			atomic.StoreUint32(&h.didMore, 0)
 			g.acquire(h.release(s), s)
-			h.joined, h.didMore = h.epoch, false
+			h.joined = h.epoch
 		}
 	}
 }
@@ -44,8 +49,8 @@ func (g *G) takeSent(s *Site) {
 		if w.g != g && w.order == w.g.lastOut {
 			g.acquire(w.order, s)
 		}
-		g.taken = w.order
 	}
+	g.taken = newest
 }
 
 // Out is a file or a connection that is written to.

@@ -1,6 +1,10 @@
 package gorec
 
-import "gorace.local/recorder/wire"
+import (
+	"sync/atomic"
+
+	"gorace.local/recorder/wire"
+)
 
 // As long as one goroutine alone uses a variable nothing of it is written: its last read and
 // its last write are kept, and written once a second goroutine comes. No variable that races
@@ -10,7 +14,8 @@ import "gorace.local/recorder/wire"
 // exclusive is false where all is wanted that one goroutine alone does.
 var exclusive = true
 
-// access is a read or a write that has no record yet.
+// access is a read or a write that has no record yet. It stands behind its goroutine's last
+// step, so that neighbours have one and the same.
 type access struct {
 	at    uint32 // one more than the steps before it; 0 is none
 	site  uint32
@@ -25,74 +30,115 @@ type variable struct {
 	offset uint32 // in what the site names
 	read   access // of the owner; of a shared variable the last write alone is known
 	write  access
+
+	reads, writes uint8 // the bytes that these came to
 }
 
 // isMet reports whether anything was recorded of a variable.
 func (v *variable) isMet() bool { return v.id != 0 || v.owner != 0 }
 
-// isOthers has the lock. It reports whether a goroutine other than g has used the variable,
-// which is met here if it wasn't; then it has an id.
-func (v *variable) isOthers(g *G, kind wire.VarKind, offset uintptr, s *Site) bool {
-	g.enter()
+// put writes what the user did to an object, behind all steps so far.
+func (o user) put(op wire.Op, object uint32, bytes uint8) {
+	if r := o.g.window.take(); r != nil {
+		r.Value, r.Object, r.Site, r.OtherSite = uint64(atomic.LoadUint32(&steps)), object, o.s.ID, o.stack
+		r.Goroutine, r.Count = o.g.id, partly(bytes)
+		r.Op = op
+	}
+}
+
+// isOthers has the lock. It reports whether a goroutine other than this one has used the
+// variable, which is met here if it wasn't; then it has an id.
+func (v *variable) isOthers(o user, kind wire.VarKind, offset uintptr) bool {
 	if v.id != 0 {
 		return true
 	}
 	if v.owner == 0 {
-		header.Variables++
-		v.owner, v.site, v.offset = g.id+1, s.ID, uint32(offset)
+		atomic.AddUint32(&header.Variables, 1)
+		v.owner, v.site, v.offset = o.g.id+1, o.s.ID, uint32(offset)
 	}
-	if exclusive && v.owner == g.id+1 {
+	if exclusive && v.owner == o.g.id+1 {
 		return false
 	}
-	v.share(kind)
+	v.share(o, kind)
 	return true
 }
 
 // share has the lock. It declares a variable, and writes what its owner did.
-func (v *variable) share(kind wire.VarKind) {
-	objects++
-	v.id = objects
-	at := steps + 1
+func (v *variable) share(o user, kind wire.VarKind) {
+	v.id = atomic.AddUint32(&objects, 1)
+	at := atomic.LoadUint32(&steps) + 1
 	for _, a := range [...]access{v.read, v.write} {
 		if a.at != 0 && a.at < at {
 			at = a.at
 		}
 	}
-	put(wire.Record{Op: wire.DeclareVar, Kind: uint8(kind), Object: v.id, Site: v.site, OtherSite: v.offset, Value: uint64(at - 1)})
+	o.g.window.put(wire.Record{Op: wire.DeclareVar, Kind: uint8(kind), Object: v.id, Site: v.site, OtherSite: v.offset, Value: uint64(at - 1)})
 	if v.read.at == v.write.at && v.read.site == v.write.site { // as x++ reads and writes
-		v.put(wire.Read, v.read)
-		v.put(wire.Write, v.write)
+		v.put(o.g, wire.Read, v.read, v.reads)
+		v.put(o.g, wire.Write, v.write, v.writes)
 	} else {
-		v.put(wire.Write, v.write)
-		v.put(wire.Read, v.read)
+		v.put(o.g, wire.Write, v.write, v.writes)
+		v.put(o.g, wire.Read, v.read, v.reads)
 	}
 	v.owner, v.read, v.write = 0, access{}, access{}
 }
 
-// put has the lock; it writes an access of the owner.
-func (v *variable) put(op wire.Op, a access) {
+// put has the lock; it writes an access of the owner, in the window of g.
+func (v *variable) put(g *G, op wire.Op, a access, bytes uint8) {
 	if a.at != 0 {
-		put(wire.Record{Op: op, Goroutine: v.owner - 1, Object: v.id, Site: a.site, OtherSite: a.stack, Value: uint64(a.at - 1)})
+		g.window.put(wire.Record{Op: op, Goroutine: v.owner - 1, Object: v.id, Site: a.site, OtherSite: a.stack,
+			Value: uint64(a.at - 1), Count: partly(bytes)})
 	}
 }
 
-// accessed has the lock: g reads or writes the variable.
-func (v *variable) accessed(g *G, op wire.Op, kind wire.VarKind, offset uintptr, s *Site) {
-	g.didMore = true
-	others := v.isOthers(g, kind, offset, s)
-	a := access{at: steps + 1, site: s.ID, stack: stackNumber()}
+// partly is what a record says of the bytes that it is about, 0 where there is nothing to say.
+func partly(bytes uint8) uint16 {
+	if bytes == whole {
+		return 0
+	}
+	return uint16(bytes)
+}
+
+// accessed has the lock, behind isOthers: these bytes of the variable are read or written.
+func (v *variable) accessed(o user, op wire.Op, bytes uint8) {
+	a := access{at: o.g.behind + 1, site: o.s.ID, stack: o.stack}
+	if v.id == 0 {
+		v.keep(op, a, bytes)
+	} else {
+		if op == wire.Write {
+			v.owner, v.write, v.writes = o.g.id+1, a, bytes
+		}
+		o.put(op, v.id, bytes)
+	}
+	if atomic.LoadUint32(&o.g.didMore) == 0 { // behind the access, since others set it back in front of a release
+		atomic.StoreUint32(&o.g.didMore, 1)
+	}
+}
+
+// keep has the lock: the owner reads or writes these bytes, and all others of the last such
+// access, or as that one did.
+func (v *variable) keep(op wire.Op, a access, bytes uint8) {
+	last, of := &v.read, &v.reads
 	if op == wire.Write {
-		v.owner, v.write = g.id+1, a
-	} else if !others {
-		v.read = a
+		last, of = &v.write, &v.writes
 	}
-	if others {
-		put(wire.Record{Op: op, Goroutine: g.id, Object: v.id, Site: a.site, OtherSite: a.stack, Value: uint64(steps)})
+	if *last == a {
+		bytes |= *of
 	}
+	*last, *of = a, bytes
 }
 
-// repeats has the lock. It reports whether a write of g at s would repeat its last one, with
-// nothing between the two that orders g before others.
-func (v *variable) repeats(g *G, s *Site) bool {
-	return v.owner == g.id+1 && v.write.site == s.ID && v.write.at > g.behind
+// fits has the lock. It reports whether the variable can keep such an access of its owner.
+func (v *variable) fits(o user, op wire.Op, bytes uint8) bool {
+	last, of := v.read, v.reads
+	if op == wire.Write {
+		last, of = v.write, v.writes
+	}
+	return last.at == 0 || of&^bytes == 0 || last == access{o.g.behind + 1, o.s.ID, o.stack}
+}
+
+// repeats has the lock. It reports whether a write of these bytes would repeat the goroutine's
+// last one, with nothing between the two that orders it before others.
+func (v *variable) repeats(o user, bytes uint8) bool {
+	return v.owner == o.g.id+1 && v.write.site == o.s.ID && v.write.at > o.g.behind && bytes&^v.writes == 0
 }

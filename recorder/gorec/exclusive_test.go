@@ -9,7 +9,7 @@ import (
 // positions are the sites of the accesses that have a record, with the steps that each is
 // behind, as in w1@0.
 func positions() (r []wire.Record) {
-	for _, r0 := range records[:written] {
+	for _, r0 := range records {
 		if r0.Op == wire.Read || r0.Op == wire.Write {
 			r = append(r, wire.Record{Op: r0.Op, Site: r0.Site, Value: r0.Value, Goroutine: r0.Goroutine})
 		}

@@ -1,65 +1,136 @@
 package gorec
 
-import "unsafe"
+import (
+	"sync/atomic"
+	"unsafe"
+
+	"gorace.local/recorder/wire"
+)
 
 // What was met takes memory, and is kept alive. Where too much was, the variables that one
 // goroutine alone has used are forgotten, first those that weren't used since this was done the
 // last time. Such a variable is a new one where it is used again; so what its goroutine did
 // before is in no race, and none is told falsely.
 
-var swept uint32 // the steps when variables were forgotten the last time
+// enough is how many variables a shard knows before some are forgotten, unless those that several
+// goroutines use take most of that.
+const enough = 3 << 10 // three quarters of a table
 
-// tooMuch has the lock. It reports whether as many variables are known as a part may have.
-func tooMuch() bool { return met+len(maps)+len(contents) >= mostLocations() }
+// ages are told apart of what isn't used. One lasts while that part of the limit is met anew.
+const ages = 4
 
-// sweep has the lock. It makes room among what is known, if a quarter can be had.
-func sweep() bool {
-	if swept == 0 {
-		swept = steps / 2
+// mostOfShard is how many variables a shard knows at once, since that takes memory too.
+func mostOfShard() int {
+	if n := partRecords / 16 * 3 / shardCount; n > fewest/2 {
+		return n
 	}
-	for _, since := range [...]uint32{swept, ^uint32(0)} {
-		forgetExclusive(since)
-		if (met+len(maps)+len(contents))/3 < mostLocations()/4 {
-			swept = steps
-			return true
-		}
-	}
-	swept = steps
-	return false
+	return fewest / 2
 }
 
-// forgetExclusive has the lock. It forgets the variables of one goroutine each that weren't used
-// behind so many steps.
-func forgetExclusive(since uint32) {
-	old := locations
-	kept := 0
-	for i := range old {
-		if l := &old[i]; l.p != nil && (l.isNeeded(since) || l.hasLeave()) {
-			kept++
-		}
+// firstLimit is a shard's limit before it is found to be too low.
+func firstLimit() int {
+	if most := mostOfShard(); most < enough {
+		return most
 	}
-	size := 1 << 12
-	for size*3 < kept*8 {
-		size *= 2
+	return enough
+}
+
+// makeRoom has the lock. The table grows, or loses what may be forgotten. Where too little may be
+// it grows further, and at its most another part has to begin.
+func (sh *shard) makeRoom() {
+	if !sh.isCrowded() {
+		sh.resize(2 * len(sh.keys))
+		return
 	}
-	header.Forgotten += uint32(met - kept)
-	locations, met = make([]location, size), 0
-	for i := range old {
-		if l := &old[i]; l.p != nil && (l.isNeeded(since) || l.hasLeave()) {
-			*locate(l.p) = *l
-		}
+	sh.forget(sh.oldest())
+	if sh.met*4 >= len(sh.keys)*3 {
+		sh.resize(2 * len(sh.keys))
 	}
-	for _, table := range [...]map[unsafe.Pointer]*variable{maps, contents} {
-		for p, v := range table {
-			if !v.isNeeded(since) {
-				header.Forgotten++
-				delete(table, p)
-			}
-		}
+	if sh.met <= sh.limit*3/4 {
+		return
+	}
+	most := mostOfShard()
+	if sh.limit >= most {
+		atomic.StoreUint32(&full, 1)
+		sh.limit += most / 4 // until the part begins
+	} else if sh.limit *= 2; sh.limit > most {
+		sh.limit = most
 	}
 }
 
-// isNeeded reports whether a variable is shared, or was used behind so many steps.
-func (v *variable) isNeeded(since uint32) bool {
-	return v.id != 0 || v.read.at > since || v.write.at > since
+// isCrowded reports whether so many variables are known that some are to be forgotten.
+func (sh *shard) isCrowded() bool { return partRecords > 0 && sh.met >= sh.limit }
+
+// oldest is for how many ages a variable wasn't used if it goes, so that a quarter goes.
+func (sh *shard) oldest() uint8 {
+	var count [ages]int
+	for i := range sh.keys {
+		if sh.keys[i].p != nil && sh.mayGo(i, 0) {
+			count[least(sh.age-sh.entries[i].age, ages-1)]++
+		}
+	}
+	unused, going := uint8(ages-1), count[ages-1]
+	for ; unused > 0 && sh.met-going > sh.limit*3/4; unused-- {
+		going += count[unused-1]
+	}
+	return unused
+}
+
+func least(a, b uint8) uint8 {
+	if a < b {
+		return a
+	}
+	return b
+}
+
+// forget has the lock. It takes away the variables of one goroutine each that weren't used for at
+// least so many ages.
+func (sh *shard) forget(unused uint8) {
+	for i := range sh.entries {
+		if l := &sh.entries[i]; l.apart && sh.bytesMayGo(i, unused) {
+			l.apart, l.age = false, sh.age-unused
+		}
+	}
+	before := sh.met
+	for i := 0; i < len(sh.keys); {
+		if sh.keys[i].p != nil && sh.mayGo(i, unused) {
+			sh.remove(i) // and look at what came in its place
+		} else {
+			i++
+		}
+	}
+	gone := uint32(before - sh.met)
+	all := atomic.AddUint32(&header.Forgotten, gone)
+	if each := uint32(firstLimit() * shardCount / ages / 2); all/each != (all-gone)/each {
+		atomic.AddUint32(&era, 1)
+	}
+}
+
+// remove has the lock. What stands behind an entry since it was there moves up.
+func (sh *shard) remove(i int) {
+	mask := len(sh.keys) - 1
+	for j := (i + 1) & mask; sh.keys[j].p != nil; j = (j + 1) & mask {
+		if home := int(hash(sh.keys[j].p)) & mask; (j-home)&mask >= (j-i)&mask {
+			sh.keys[i], sh.entries[i] = sh.keys[j], sh.entries[j]
+			i = j
+		}
+	}
+	sh.keys[i], sh.entries[i] = key{}, location{}
+	sh.met--
+}
+
+func (sh *shard) mayGo(i int, unused uint8) bool {
+	l := &sh.entries[i]
+	return l.id == 0 && !l.apart && sh.age-l.age >= unused && !sh.keys[i].mayRepeat(l)
+}
+
+// bytesMayGo reports whether all may go that the bytes of a word have.
+func (sh *shard) bytesMayGo(word int, unused uint8) bool {
+	for b := 0; b < 8; b++ {
+		i := sh.find(unsafe.Add(sh.keys[word].p, b), wire.VarMemory)
+		if sh.keys[i].p != nil && !sh.mayGo(i, unused) {
+			return false
+		}
+	}
+	return true
 }

@@ -24,6 +24,7 @@ type G struct {
 	tables uint32 // the part that reads and writes are of
 	site   uint32 // where it was started
 	stack  uint32
+	window window
 	reads  repeats
 	writes repeats
 	ended  uint32        // leaves to repeat a write that others ended
@@ -39,7 +40,7 @@ type G struct {
 	lastOut uint32 // the order of its last write to a file or a connection
 	taken   uint32 // the newest order of sentOut that it is behind
 	joined  uint32 // the epoch up to which others are behind it
-	didMore bool   // it has read or written a variable since
+	didMore uint32 // 1: it has read or written a variable since
 }
 
 // tag is what a goroutine's label points to. Nothing but the goroutine, and those that code
@@ -86,6 +87,9 @@ func current(s *Site) *G {
 
 // meets takes in what others sent: they may have asked g anew, or g has read.
 func (g *G) meets(s *Site) {
+	if !g.reading && g.taken == atomic.LoadUint32(&newest) {
+		return
+	}
 	begin()
 	defer mu.Unlock()
 	if g.reading {
@@ -126,6 +130,7 @@ func adopt(parent *G, s *Site) *G {
 	adopted[g] = struct{}{}
 	g.lose(wire.LostGoroutine, s)
 	parent.step(wire.Record{Op: wire.Go, Kind: uint8(wire.GoForeign), Other: g.id})
+	g.behind = steps
 	g.takeSent(s)
 	mu.Unlock()
 	t := &tag{of: g}
@@ -176,6 +181,7 @@ func (g *G) start(s *Site) *G {
 	started := newGoroutine()
 	started.site, started.stack = s.ID, stackNumber()
 	g.step(wire.Record{Op: wire.Go, Other: started.id, Site: s.ID, OtherSite: started.stack})
+	started.behind = steps
 	return started
 }
 

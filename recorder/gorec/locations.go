@@ -2,69 +2,37 @@ package gorec
 
 import (
 	"reflect"
+	"sync"
 	"unsafe"
 
 	"gorace.local/recorder/wire"
 )
 
-// A location is told by its address. The table keeps it alive, so its address is never
-// given to another one; and since an address that is in the table escapes, it is never
-// one of a stack.
+// location is what is known of one: of what a variable of at least two bytes has, or of up to
+// eight bytes that stand in one word and have each to be told from the others (bytes.go).
 type location struct {
-	p    unsafe.Pointer
 	bits uint64 // what it held last
 	variable
-
-	// a write was recorded before it was done, or may have been repeated without the lock:
-	// what it holds isn't known until it is read
-	unsettled bool
-
-	// who has the leave to repeat the last write without the lock, while its stamp is this one
-	stamp    uint32
-	repeater *G
+	stamp uint32 // of the leave to repeat the last write (repeats.go)
+	kind  wire.VarKind
+	known uint8 // the bytes of bits that are what it holds, unless others write without a record
+	apart bool  // its bytes have locations of their own
+	age   uint8 // the shard's when it was used last
 }
 
-var (
-	locations = make([]location, 1<<12)
-	met       int
-)
+// whole are the bytes of a location that isn't told apart by them.
+const whole = 0xff
 
-// locate has the lock; what it answers is good until the next call.
-func locate(p unsafe.Pointer) *location {
-	mask := uintptr(len(locations) - 1)
-	for i := hash(p) & mask; ; i = (i + 1) & mask {
-		l := &locations[i]
-		if l.p == p {
-			return l
-		}
-		if l.p == nil {
-			if met*4 >= len(locations)*3 {
-				growLocations()
-				return locate(p)
-			}
-			met++
-			l.p = p
-			return l
-		}
+// spread has all bits of the bytes that are named.
+func spread(bytes uint8) uint64 {
+	if bytes == whole {
+		return ^uint64(0)
 	}
-}
-
-// hash has the words of 64 bytes beside one another, and each of their other bytes elsewhere.
-func hash(p unsafe.Pointer) uintptr {
-	h := uintptr(p)
-	line := h>>6<<3 | h&7
-	return (line^line>>17)*0x9e3779b97f4a7c15>>20<<3 | h>>3&7
-}
-
-func growLocations() {
-	old := locations
-	locations = make([]location, 2*len(old))
-	met = 0
-	for i := range old {
-		if old[i].p != nil {
-			*locate(old[i].p) = old[i]
-		}
-	}
+	x := uint64(bytes)
+	x = (x | x<<28) & 0x0000000f0000000f
+	x = (x | x<<14) & 0x0003000300030003
+	x = (x | x<<7) & 0x0101010101010101
+	return x * 0xff
 }
 
 // A layout lists the locations that a value of a type has.
@@ -75,10 +43,14 @@ type layout struct {
 
 type leaf struct{ offset, size uintptr }
 
-var layouts = map[reflect.Type]*layout{}
+var (
+	layouts     = map[reflect.Type]*layout{}
+	layoutsLock sync.Mutex
+)
 
-// layoutOf has the lock.
 func layoutOf(t reflect.Type) *layout {
+	layoutsLock.Lock()
+	defer layoutsLock.Unlock()
 	l := layouts[t]
 	if l == nil {
 		l = &layout{}
@@ -133,34 +105,72 @@ func bitsOf(p unsafe.Pointer, size uintptr) uint64 {
 	return h
 }
 
-// read has the lock.
-func (g *G) read(p unsafe.Pointer, size, offset uintptr, s *Site) {
-	makeRoom()
-	bits := bitsOf(p, size)
-	l := locate(p)
-	if !l.isMet() {
-		l.bits = bits
-	}
-	if others := l.isOthers(g, wire.VarMemory, offset, s); others && bits != l.bits && !l.unsettled {
-		write(wire.Record{Op: wire.Unseen, Site: s.ID, Object: l.id})
-	}
-	l.bits = bits
-	l.unsettled = l.hasLeave()
-	l.accessed(g, wire.Read, wire.VarMemory, offset, s)
+// user is a goroutine at a place where it uses something.
+type user struct {
+	g     *G
+	s     *Site
+	stack uint32
 }
 
-// wrote has the lock, and the new bits are there. A write at the same place as g's last one,
+// at is g at s, as it was called there.
+func (g *G) at(s *Site) user { return user{g, s, stackNumber()} }
+
+// read has the locks of what is read.
+func (o user) read(p unsafe.Pointer, size, offset uintptr) {
+	if size == 1 {
+		o.readBytes(p, 1, offset)
+		return
+	}
+	sh := shardOf(p)
+	o.readAt(sh, sh.locate(p, wire.VarMemory), bitsOf(p, size), whole, offset)
+}
+
+// readAt has the lock of the shard: these bytes of its location i are read.
+func (o user) readAt(sh *shard, i int, bits uint64, bytes uint8, offset uintptr) {
+	l := &sh.entries[i]
+	l.age = sh.age
+	if others := l.isOthers(o, l.kind&^inWord, offset); others && (bits^l.bits)&spread(l.known&bytes) != 0 {
+		o.put(wire.Unseen, l.id, whole)
+	}
+	l.hold(bits, bytes)
+	if sh.keys[i].mayRepeat(l) {
+		l.known &^= bytes
+	}
+	l.accessed(o, wire.Read, bytes)
+}
+
+// hold is that the location holds bits in these bytes.
+func (l *location) hold(bits uint64, bytes uint8) {
+	m := spread(bytes)
+	l.bits = l.bits&^m | bits&m
+	l.known |= bytes
+}
+
+// wrote has the locks, and the new bits are there. A write at the same place as g's last one,
 // with nothing between them that orders g before others, races with whatever that one races
 // with. It has no record; repeats says so.
-func (g *G) wrote(p unsafe.Pointer, size, offset uintptr, s *Site) (repeats bool) {
-	makeRoom()
-	l := locate(p)
-	l.bits = bitsOf(p, size)
-	if l.repeats(g, s) {
+func (o user) wrote(p unsafe.Pointer, size, offset uintptr) (repeats bool) {
+	if size == 1 {
+		o.wroteBytes(p, 1, offset)
+		return false
+	}
+	sh := shardOf(p)
+	return o.wroteAt(sh, sh.locate(p, wire.VarMemory), bitsOf(p, size), whole, offset)
+}
+
+// wroteAt has the lock of the shard: these bytes of its location i were written.
+func (o user) wroteAt(sh *shard, i int, bits uint64, bytes uint8, offset uintptr) (repeats bool) {
+	l := &sh.entries[i]
+	if l.repeats(o, bytes) {
+		known := l.known
+		l.hold(bits, bytes)
+		l.known = known
 		return true
 	}
-	l.unsettled = false
-	l.endLeave(g)
-	l.accessed(g, wire.Write, wire.VarMemory, offset, s)
+	l.age = sh.age
+	l.hold(bits, bytes)
+	sh.keys[i].endLeave(l, o.g)
+	l.isOthers(o, l.kind&^inWord, offset)
+	l.accessed(o, wire.Write, bytes)
 	return false
 }

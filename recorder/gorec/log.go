@@ -3,10 +3,12 @@
 // All that is exported is called by the code that the tool gorec puts into a copy of the
 // program, and by nothing else: names, types and arguments change with the tool.
 //
-// There is one lock, mu. Every operation that takes effect at once is done, and its record
-// written, while it is held; so the records stand in an order in which the operations did
-// happen one after another. What can wait never waits with mu held. Accesses that repeat
-// others and have no record are done without it (repeats.go).
+// Every operation that takes effect at once is done, and its record written, while a lock is held:
+// one that may order goroutines holds mu, and a read or a write the locks of its memory
+// (shards.go). So the records of steps stand in an order in which these did happen one after
+// another, and each access says behind how many of them it stands. What can wait never waits
+// with a lock held. Accesses that repeat others and have no record are done without one
+// (repeats.go).
 package gorec
 
 import (
@@ -14,7 +16,7 @@ import (
 	"os"
 	"strconv"
 	"sync"
-	"syscall"
+	"sync/atomic"
 	"time"
 	"unsafe"
 
@@ -25,30 +27,17 @@ import (
 type Site struct {
 	ID      uint32
 	generic bool
-	layout  *layout  // of the type, unless that differs from use to use
-	channel *channel // the last one that was used here
+	layout  unsafe.Pointer // *layout, of the type, unless that differs from use to use
+	channel *channel       // the last one that was used here
 	lock    *lock
 }
 
 // Generic makes a site of a generic function, where a type isn't the same at each use.
 func Generic(id uint32) Site { return Site{ID: id, generic: true} }
 
-// room is the number of records of a log where a run has one: those of the longest trace, and
-// declarations.
-const room = 1<<24 + 1<<22
-
-// spare records are kept for those that follow one another without a break; in a part makeRoom
-// keeps more.
-const spare = 64
-
 var (
-	mu      sync.Mutex
-	header  *wire.Header
-	records []wire.Record
-	written int    // records
-	steps   uint32 // of them, those that aren't reads or writes
-	objects uint32
-	seed    uint32 // of the yields that let runs differ; 0: none
+	mu   sync.Mutex
+	seed uint32 // of the yields that let runs differ; 0: none
 
 	// off: this run has no log. sealed: nothing more is written.
 	// live: accesses are written, since there is a second goroutine and room for records.
@@ -104,30 +93,6 @@ func setSeed(s string) error {
 	return nil
 }
 
-func openLog(path string) error {
-	f, err := os.OpenFile(path, os.O_RDWR|os.O_CREATE|os.O_TRUNC, 0o644)
-	if err != nil {
-		return err
-	}
-	defer f.Close()
-	count := room
-	if partRecords > 0 {
-		count = partRecords
-	}
-	size := (1 + count) * wire.Size
-	if err := f.Truncate(int64(size)); err != nil {
-		return err
-	}
-	b, err := syscall.Mmap(int(f.Fd()), 0, size, syscall.PROT_READ|syscall.PROT_WRITE, syscall.MAP_SHARED)
-	if err != nil {
-		return err
-	}
-	header = (*wire.Header)(unsafe.Pointer(&b[0]))
-	records = unsafe.Slice((*wire.Record)(unsafe.Pointer(&b[wire.Size])), count)
-	header.Magic = wire.Magic
-	return nil
-}
-
 // setVersion is for which version of a trace the log is; "" is 1.
 func setVersion(s string) error {
 	version := uint64(1)
@@ -145,24 +110,10 @@ func setVersion(s string) error {
 // writesFailures reports whether a TryLock that doesn't succeed has a record.
 func writesFailures() bool { return header.Version >= 2 }
 
-// write has the lock. The record is that of a step, or of what was met, and no read or write.
+// write has the lock. The record stands where it is written.
 func write(r wire.Record) {
-	steps++
-	put(r)
-}
-
-// put has the lock.
-func put(r wire.Record) {
-	if sealed {
-		return
-	}
-	if written == len(records)-1 || written == len(records)-spare && partRecords == 0 {
-		sealed, live = true, false
-		r = wire.Record{Op: wire.Full}
-	}
-	records[written] = r
-	written++
-	header.Records = uint32(written) // what is counted is whole
+	atomic.StoreUint32(&steps, steps+1)
+	stepped.put(r)
 }
 
 // step has the lock. It writes an operation of g that may order what g did, so that an access
@@ -176,7 +127,7 @@ func (g *G) step(r wire.Record) {
 
 // stepped has the lock: the last record is of an operation of g, too, that may order.
 func (g *G) stepped() {
-	g.epoch++
+	atomic.StoreUint32(&g.epoch, g.epoch+1)
 	g.behind = steps
 }
 
@@ -192,16 +143,16 @@ func (g *G) numbered(op wire.Op, object uint32, value uint64, s *Site) {
 
 // declare has the lock; it makes an object of a kind.
 func declare(op wire.Op, kind uint8, value uint64, s *Site) uint32 {
-	objects++
-	write(wire.Record{Op: op, Kind: kind, Object: objects, Site: s.ID, Value: value})
-	return objects
+	object := atomic.AddUint32(&objects, 1)
+	write(wire.Record{Op: op, Kind: kind, Object: object, Site: s.ID, Value: value})
+	return object
 }
 
 // release has the lock: what g did comes before each acquire of the answer.
 func (g *G) release(s *Site) uint32 {
-	objects++
-	g.note(wire.Release, objects, s)
-	return objects
+	order := atomic.AddUint32(&objects, 1)
+	g.note(wire.Release, order, s)
+	return order
 }
 
 // acquire has the lock.

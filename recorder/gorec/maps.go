@@ -8,23 +8,32 @@ import (
 )
 
 // A map is one variable, which a look-up reads and a change writes.
-var maps = map[unsafe.Pointer]*variable{}
 
-// touchMap has the lock.
-func (g *G) touchMap(p unsafe.Pointer, change bool, s *Site) {
+// touch has the lock of p: a variable is used that is told by p, and is no memory of the program's.
+func (o user) touch(p unsafe.Pointer, kind wire.VarKind, change bool) {
 	if p == nil {
 		return
-	}
-	m := maps[p]
-	if m == nil {
-		m = &variable{}
-		maps[p] = m
 	}
 	op := wire.Read
 	if change {
 		op = wire.Write
 	}
-	m.accessed(g, op, wire.VarMap, 0, s)
+	sh := shardOf(p)
+	l := &sh.entries[sh.locate(p, kind)]
+	l.age = sh.age
+	if change && l.repeats(o, whole) {
+		return
+	}
+	l.isOthers(o, kind, 0)
+	l.accessed(o, op, whole)
+}
+
+// use is touch, with the lock.
+func (g *G) use(p unsafe.Pointer, kind wire.VarKind, change bool, s *Site) {
+	o := g.at(s)
+	h := g.hold(p, 1)
+	o.touch(p, kind, change)
+	h.release()
 }
 
 // Mapping is a map at a place where it is used.
@@ -36,9 +45,8 @@ type Mapping[K comparable, V any] struct {
 // Map is a map that is used at s.
 func Map[K comparable, V any](m map[K]V, s *Site) Mapping[K, V] { return Mapping[K, V]{m, s} }
 
-// touch has the lock.
-func (x Mapping[K, V]) touch(g *G, change bool) {
-	g.touchMap(*(*unsafe.Pointer)(unsafe.Pointer(&x.m)), change, x.s)
+func (x Mapping[K, V]) pointer() unsafe.Pointer {
+	return *(*unsafe.Pointer)(unsafe.Pointer(&x.m))
 }
 
 // Get is m[k].
@@ -48,16 +56,21 @@ func (x Mapping[K, V]) Get(k K) V {
 }
 
 // Lookup is v, ok = m[k].
-func (x Mapping[K, V]) Lookup(k K) (V, bool) {
+func (x Mapping[K, V]) Lookup(k K) (v V, ok bool) {
 	if alone() {
-		v, ok := x.m[k]
+		v, ok = x.m[k]
 		return v, ok
 	}
-	g := current(x.s)
-	begin()
-	defer mu.Unlock() // a key that can't be hashed panics
-	v, ok := x.m[k]
-	x.touch(g, false)
+	o := user{g: current(x.s), s: x.s}
+	repeats := o.g.hasRead(x.pointer(), x.s)
+	if !repeats {
+		o = o.g.at(x.s)
+	}
+	defer o.g.hold(x.pointer(), 1).release() // a key that can't be hashed panics
+	v, ok = x.m[k]
+	if !repeats {
+		o.touch(x.pointer(), wire.VarMap, false)
+	}
 	return v, ok
 }
 
@@ -67,11 +80,10 @@ func (x Mapping[K, V]) Set(k K, v V) {
 		x.m[k] = v
 		return
 	}
-	g := current(x.s)
-	begin()
-	defer mu.Unlock()
+	o := current(x.s).at(x.s)
+	defer o.g.hold(x.pointer(), 1).release()
 	x.m[k] = v
-	x.touch(g, true)
+	o.touch(x.pointer(), wire.VarMap, true)
 }
 
 // Delete is delete(m, k).
@@ -80,11 +92,10 @@ func (x Mapping[K, V]) Delete(k K) {
 		delete(x.m, k)
 		return
 	}
-	g := current(x.s)
-	begin()
-	defer mu.Unlock()
+	o := current(x.s).at(x.s)
+	defer o.g.hold(x.pointer(), 1).release()
 	delete(x.m, k)
-	x.touch(g, true)
+	o.touch(x.pointer(), wire.VarMap, true)
 }
 
 // Len is len(m).
@@ -92,10 +103,9 @@ func (x Mapping[K, V]) Len() int {
 	if alone() {
 		return len(x.m)
 	}
-	g := current(x.s)
-	begin()
-	defer mu.Unlock()
-	x.touch(g, false)
+	o := current(x.s).at(x.s)
+	defer o.g.hold(x.pointer(), 1).release()
+	o.touch(x.pointer(), wire.VarMap, false)
 	return len(x.m)
 }
 
@@ -148,10 +158,7 @@ func (x Mapping[K, V]) Iterate() *Iteration[K, V] {
 	it := &Iteration[K, V]{x: x, it: reflect.ValueOf(x.m).MapRange()}
 	it.keyAt, it.valueAt = reflect.ValueOf(&it.key).Elem(), reflect.ValueOf(&it.value).Elem()
 	if !alone() {
-		g := current(x.s)
-		begin()
-		x.touch(g, false)
-		mu.Unlock()
+		current(x.s).use(x.pointer(), wire.VarMap, false, x.s)
 	}
 	return it
 }
@@ -169,11 +176,10 @@ func (it *Iteration[K, V]) Len() int {
 		it.step()
 		return it.steps
 	}
-	g := current(it.x.s)
-	begin()
-	defer mu.Unlock()
+	o := current(it.x.s).at(it.x.s)
+	defer o.g.hold(it.x.pointer(), 1).release()
 	if it.step() {
-		it.x.touch(g, false)
+		o.touch(it.x.pointer(), wire.VarMap, false)
 	}
 	return it.steps
 }
@@ -200,10 +206,7 @@ func WriteMap[M any](m M, s *Site) M { return aboutMap(m, true, s) }
 
 func aboutMap[M any](m M, change bool, s *Site) M {
 	if !alone() {
-		g := current(s)
-		begin()
-		g.touchMap(*(*unsafe.Pointer)(unsafe.Pointer(&m)), change, s)
-		mu.Unlock()
+		current(s).use(*(*unsafe.Pointer)(unsafe.Pointer(&m)), wire.VarMap, change, s)
 	}
 	return m
 }

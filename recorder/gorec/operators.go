@@ -66,34 +66,67 @@ type at[T any] struct {
 }
 
 // By does it, with the right side.
-func (x AddAt[T]) By(v T) { set(x.p, Read(x.p, x.s)+v, x.s) }
+func (x AddAt[T]) By(v T) {
+	old, by := read(x.p, x.s)
+	setBy(x.p, old+v, x.s, by)
+}
 
 // By does it, with the right side.
-func (x SubAt[T]) By(v T) { set(x.p, Read(x.p, x.s)-v, x.s) }
+func (x SubAt[T]) By(v T) {
+	old, by := read(x.p, x.s)
+	setBy(x.p, old-v, x.s, by)
+}
 
 // By does it, with the right side.
-func (x MulAt[T]) By(v T) { set(x.p, Read(x.p, x.s)*v, x.s) }
+func (x MulAt[T]) By(v T) {
+	old, by := read(x.p, x.s)
+	setBy(x.p, old*v, x.s, by)
+}
 
 // By does it, with the right side.
-func (x QuoAt[T]) By(v T) { set(x.p, Read(x.p, x.s)/v, x.s) }
+func (x QuoAt[T]) By(v T) {
+	old, by := read(x.p, x.s)
+	setBy(x.p, old/v, x.s, by)
+}
 
 // By does it, with the right side.
-func (x RemAt[T]) By(v T) { set(x.p, Read(x.p, x.s)%v, x.s) }
+func (x RemAt[T]) By(v T) {
+	old, by := read(x.p, x.s)
+	setBy(x.p, old%v, x.s, by)
+}
 
 // By does it, with the right side.
-func (x AndAt[T]) By(v T) { set(x.p, Read(x.p, x.s)&v, x.s) }
+func (x AndAt[T]) By(v T) {
+	old, by := read(x.p, x.s)
+	setBy(x.p, old&v, x.s, by)
+}
 
 // By does it, with the right side.
-func (x OrAt[T]) By(v T) { set(x.p, Read(x.p, x.s)|v, x.s) }
+func (x OrAt[T]) By(v T) {
+	old, by := read(x.p, x.s)
+	setBy(x.p, old|v, x.s, by)
+}
 
 // By does it, with the right side.
-func (x XorAt[T]) By(v T) { set(x.p, Read(x.p, x.s)^v, x.s) }
+func (x XorAt[T]) By(v T) {
+	old, by := read(x.p, x.s)
+	setBy(x.p, old^v, x.s, by)
+}
 
 // By does it, with the right side.
-func (x AndNotAt[T]) By(v T) { set(x.p, Read(x.p, x.s)&^v, x.s) }
+func (x AndNotAt[T]) By(v T) {
+	old, by := read(x.p, x.s)
+	setBy(x.p, old&^v, x.s, by)
+}
 
 // Increment is x++.
-func Increment[T number](p *T, s *Site) { set(p, Read(p, s)+1, s) }
+func Increment[T number](p *T, s *Site) {
+	old, by := read(p, s)
+	setBy(p, old+1, s, by)
+}
 
 // Decrement is x--.
-func Decrement[T number](p *T, s *Site) { set(p, Read(p, s)-1, s) }
+func Decrement[T number](p *T, s *Site) {
+	old, by := read(p, s)
+	setBy(p, old-1, s, by)
+}

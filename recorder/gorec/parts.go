@@ -46,41 +46,32 @@ func begin() {
 	makeRoom()
 }
 
-// makeRoom has the lock, and no operation is half done.
-func makeRoom() {
-	if partRecords == 0 || sealed {
-		return
-	}
-	if written > len(records)-len(records)/8 || tooMuch() && !sweep() {
-		nextPart()
-	}
-}
-
-// mostLocations is how many variables are known at once, since that takes memory too.
-func mostLocations() int { return partRecords / 16 * 3 }
-
 // nextPart has the lock. The part before the one that ends has to be judged first, so that
 // there are two at most.
 func nextPart() {
 	if previous != nil {
 		awaitJudge()
 	}
+	lockAll()
 	ended := header
 	if err := openLog(logPath + "." + strconv.Itoa(int(part+1))); err != nil {
-		put(wire.Record{Op: wire.Full})
-		sealed, live = true, false
+		seal()
+		unlockAll()
 		return
 	}
 	header.Version = ended.Version
-	why := wire.AfterRecords
-	if written <= len(records)-len(records)/8 {
-		why = wire.AfterVariables
+	why := wire.AfterVariables
+	if isFull(ended.Records) {
+		why = wire.AfterRecords
 	}
 	atomic.StoreUint32(&ended.Next, uint32(why))
 	previous = ended
-	written, steps = 0, 0
+	atomic.StoreUint32(&steps, 0)
 	atomic.AddUint32(&part, 1)
+	atomic.AddUint32(&era, 1)
 	forget()
+	atomic.StoreUint32(&full, 0)
+	unlockAll()
 	earlier = newGoroutine()
 	mainGoroutine.step(wire.Record{Op: wire.Go, Kind: uint8(wire.GoEarlier), Other: earlier.id})
 }
@@ -97,8 +88,9 @@ func awaitJudge() {
 
 // forget has the lock. What a new part needs is what is in use.
 func forget() {
-	locations, met, swept = make([]location, 1<<12), 0, 0
-	maps, contents = map[unsafe.Pointer]*variable{}, map[unsafe.Pointer]*variable{}
+	for i := range shards {
+		shards[i].clear()
+	}
 	lastAtomic, pooled = map[unsafe.Pointer]uint32{}, map[unsafe.Pointer]uint32{}
 	lastStores, sentOut, ends = map[syncMapKey]uint32{}, nil, nil
 	for p, l := range locks {

@@ -3,20 +3,24 @@ package gorec
 import (
 	"fmt"
 	"reflect"
+	"sync/atomic"
 	"unsafe"
+
+	"gorace.local/recorder/wire"
 )
 
-// accessValue has the lock. It reads or writes all locations of a value that has an address.
-func (g *G) accessValue(v reflect.Value, change bool, s *Site) {
+// useValue reads or wrote all locations of a value that has an address.
+func (o user) useValue(v reflect.Value, change bool) {
 	if !v.CanAddr() {
 		return
 	}
 	p := unsafe.Pointer(v.UnsafeAddr())
+	defer o.g.hold(p, v.Type().Size()).release()
 	for _, f := range layoutOf(v.Type()).leaves {
 		if change {
-			g.wrote(unsafe.Add(p, f.offset), f.size, f.offset, s)
+			o.wrote(unsafe.Add(p, f.offset), f.size, f.offset)
 		} else {
-			g.read(unsafe.Add(p, f.offset), f.size, f.offset, s)
+			o.read(unsafe.Add(p, f.offset), f.size, f.offset)
 		}
 	}
 }
@@ -26,54 +30,55 @@ func Reflected(v reflect.Value, change bool, s *Site) reflect.Value {
 	if alone() || !v.IsValid() {
 		return v
 	}
-	g := current(s)
-	begin()
-	g.accessValue(v, change, s)
+	o := current(s).at(s)
+	o.useValue(v, change)
 	if change && v.CanAddr() {
-		for _, f := range layoutOf(v.Type()).leaves {
-			locate(unsafe.Add(unsafe.Pointer(v.UnsafeAddr()), f.offset)).unsettled = true
-		}
+		o.unsettle(v)
 	}
-	mu.Unlock()
 	return v
 }
 
-// ReflectCopy is reflect.Copy, in one step.
+// unsettle is that a value is about to change.
+func (o user) unsettle(v reflect.Value) {
+	p := unsafe.Pointer(v.UnsafeAddr())
+	defer o.g.hold(p, v.Type().Size()).release()
+	for _, f := range layoutOf(v.Type()).leaves {
+		q := unsafe.Add(p, f.offset)
+		sh := shardOf(q)
+		i, bytes := sh.locationOf(q, f.size)
+		sh.entries[i].known &^= bytes
+	}
+}
+
+// ReflectCopy is reflect.Copy.
 func ReflectCopy(to, from reflect.Value, s *Site) int {
 	if alone() {
 		return reflect.Copy(to, from)
 	}
-	g := current(s)
-	begin()
-	defer mu.Unlock()
+	o := current(s).at(s)
 	if from.Kind() == reflect.Slice {
 		for i := 0; i < from.Len() && i < to.Len(); i++ {
-			g.accessValue(from.Index(i), false, s)
+			o.useValue(from.Index(i), false)
 		}
 	}
 	n := reflect.Copy(to, from)
 	for i := 0; i < n; i++ {
-		g.accessValue(to.Index(i), true, s)
+		o.useValue(to.Index(i), true)
 	}
 	return n
 }
 
 // ReflectedMap is a reflect.Value whose map is read or changed.
 func ReflectedMap(v reflect.Value, change bool, s *Site) reflect.Value {
-	if alone() || !v.IsValid() || v.Kind() != reflect.Map {
-		return v
+	if !alone() && v.IsValid() && v.Kind() == reflect.Map {
+		current(s).use(v.UnsafePointer(), wire.VarMap, change, s)
 	}
-	g := current(s)
-	begin()
-	g.touchMap(v.UnsafePointer(), change, s)
-	mu.Unlock()
 	return v
 }
 
 // walk follows what a function of the standard library finds behind a value.
 type walk struct {
-	g       *G
-	s       *Site
+	user
 	deep    bool // pointers are followed wherever they stand
 	settle  bool // nothing is recorded, but it is known what each location holds
 	fill    bool // what changed since, unrecorded, was written by the function
@@ -85,7 +90,7 @@ type walk struct {
 // slices and maps hold, is read.
 func Shown[T any](v T, s *Site) T {
 	if !alone() {
-		walkAll(&walk{s: s}, v)
+		walkAll(&walk{}, v, s)
 	}
 	return v
 }
@@ -93,7 +98,7 @@ func Shown[T any](v T, s *Site) T {
 // Encoded is a value that a function as json.Marshal reads, behind pointers too.
 func Encoded[T any](v T, s *Site) T {
 	if !alone() {
-		walkAll(&walk{s: s, deep: true}, v)
+		walkAll(&walk{deep: true}, v, s)
 	}
 	return v
 }
@@ -116,35 +121,26 @@ func Fills2[A any](f func(A, any) error, s *Site) func(A, any) error {
 
 // filling is the number of functions that are filling: meanwhile each write has the lock, so
 // that what they change is told from what others write.
-var filling int
-
-func fills(n int) {
-	begin()
-	filling += n
-	mu.Unlock()
-}
+var filling int32
 
 // fillBy does f, which writes what v points to.
 func fillBy(v any, s *Site, f func() error) error {
-	fills(1)
-	defer fills(-1)
+	atomic.AddInt32(&filling, 1)
+	defer atomic.AddInt32(&filling, -1)
 	if !alone() {
-		walkAll(&walk{s: s, deep: true, settle: true}, v)
+		walkAll(&walk{deep: true, settle: true}, v, s)
 	}
 	err := f()
 	if !alone() {
-		walkAll(&walk{s: s, deep: true, fill: true}, v)
+		walkAll(&walk{deep: true, fill: true}, v, s)
 	}
 	return err
 }
 
-// walkAll has the lock while it walks.
-func walkAll(w *walk, v any) {
-	w.g = current(w.s)
+func walkAll(w *walk, v any, s *Site) {
+	w.user = current(s).at(s)
 	w.left = 10000
 	w.visited = map[unsafe.Pointer]bool{}
-	begin()
-	defer mu.Unlock()
 	w.value(reflect.ValueOf(v), 0)
 }
 
@@ -206,24 +202,32 @@ func (w *walk) pointer(v reflect.Value, depth int) {
 
 func (w *walk) mapping(v reflect.Value, depth int) {
 	if !w.settle {
-		w.g.touchMap(v.UnsafePointer(), w.fill, w.s)
+		w.g.use(v.UnsafePointer(), wire.VarMap, w.fill, w.s)
 	}
-	for it := v.MapRange(); it.Next() && w.left > 0; {
-		w.value(it.Key(), depth+1)
-		w.value(it.Value(), depth+1)
+	for _, x := range w.inMap(v) {
+		w.value(x, depth+1)
 	}
 }
 
-// access has the lock.
+// inMap are a map's keys and values, which nobody changes meanwhile.
+func (w *walk) inMap(v reflect.Value) (all []reflect.Value) {
+	defer w.g.hold(v.UnsafePointer(), 1).release()
+	for it := v.MapRange(); it.Next() && len(all) < 2*w.left; {
+		all = append(all, it.Key(), it.Value())
+	}
+	return all
+}
+
 func (w *walk) access(v reflect.Value) {
 	if !w.settle && !w.fill {
-		w.g.accessValue(v, false, w.s)
+		w.useValue(v, false)
 		return
 	}
 	if !v.CanAddr() {
 		return
 	}
 	p := unsafe.Pointer(v.UnsafeAddr())
+	defer w.g.hold(p, v.Type().Size()).release()
 	for _, f := range layoutOf(v.Type()).leaves {
 		w.compare(unsafe.Add(p, f.offset), f)
 	}
@@ -232,16 +236,20 @@ func (w *walk) access(v reflect.Value) {
 // compare has the lock. Before a function that fills it settles what a location holds; what
 // changed behind it was written, unless the function has led to it and others may have.
 func (w *walk) compare(p unsafe.Pointer, f leaf) {
-	bits := bitsOf(p, f.size)
-	l := locate(p)
+	sh := shardOf(p)
+	i, bytes := sh.locationOf(p, f.size)
+	l, bits := &sh.entries[i], bitsOf(p, f.size)
+	if bytes != whole {
+		bits <<= 8 * (uintptr(p) & 7)
+	}
+	settled := l.known&bytes == bytes
 	switch {
 	case w.settle:
-		if l.unsettled {
-			l.bits = bits
-			l.endLeave(w.g)
-			l.unsettled = false
+		if l.isMet() && !settled {
+			sh.keys[i].endLeave(l, w.g)
+			l.hold(bits, bytes)
 		}
-	case l.isMet() && l.bits != bits && !l.unsettled || !l.isMet() && bits != 0:
-		w.g.wrote(p, f.size, f.offset, w.s)
+	case l.isMet() && settled && (bits^l.bits)&spread(bytes) != 0 || !l.isMet() && bits != 0:
+		w.wrote(p, f.size, f.offset)
 	}
 }

@@ -15,11 +15,17 @@ func record(t *testing.T) (log func() string) {
 	t.Helper()
 	exclusive = false
 	header, records = &wire.Header{}, make([]wire.Record, 1<<12)
-	written, off, sealed, live = 0, false, false, true
-	t.Cleanup(func() { exclusive, off, sealed, live = true, true, true, false })
+	stepped, mainGoroutine.window = window{}, window{}
+	off, sealed, live = false, false, true
+	largest := largestWindow
+	largestWindow = 1 // so that records stand in the order in which they were written
+	t.Cleanup(func() {
+		exclusive, off, sealed, live = true, true, true, false
+		largestWindow = largest
+	})
 	return func() string {
 		var b strings.Builder
-		for _, r := range records[:written] {
+		for _, r := range records {
 			switch r.Op {
 			case wire.Read:
 				fmt.Fprintf(&b, "r%d ", r.Site)
@@ -43,13 +49,23 @@ func newTurns(t *testing.T, n int) turns {
 	for i := range ts {
 		c := make(chan func())
 		ts[i] = c
+		var g *G
 		Go(&Site{}, func() {
+			g = current(nowhere)
 			for f := range c {
 				f()
 				c <- nil
 			}
 		})
-		t.Cleanup(func() { close(c) })
+		ts.do(i, func() {})
+		t.Cleanup(func() {
+			close(c)
+			for over := false; !over; { // so that it writes nothing into another test's log
+				mu.Lock()
+				over = g.over
+				mu.Unlock()
+			}
+		})
 	}
 	return ts
 }

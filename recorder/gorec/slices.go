@@ -60,22 +60,14 @@ func (x Appended[S, E]) Append(values ...E) S {
 	if alone() {
 		return append(x.a, values...)
 	}
-	g := current(x.s)
-	begin()
+	o := current(x.s).at(x.s)
 	n := len(x.a)
 	if n+len(values) > cap(x.a) {
-		for i := range x.a {
-			readAll(g, &x.a[i], x.s)
-		}
-		r := append(x.a, values...)
-		mu.Unlock()
-		return r
+		readElements(o, x.a)
+		return append(x.a, values...)
 	}
-	r := append(x.a, values...)
-	for i := n; i < len(r); i++ {
-		wroteAll(g, &r[i], x.s)
-	}
-	mu.Unlock()
+	r := x.a[:n+len(values)]
+	move(o, r[n:], values)
 	return r
 }
 
@@ -84,13 +76,13 @@ func (x Appended[S, E]) AppendAll(values []E) S { return x.Append(Elements(value
 
 // Elements reads the elements of a slice.
 func Elements[S ~[]E, E any](a S, s *Site) S {
-	readElements(a, len(a), s)
+	readAtEnds(a, len(a), s)
 	return a
 }
 
 // Handed is a slice whose elements a function of the standard library reads.
 func Handed[S ~[]E, E any](a S, s *Site) S {
-	readElements(a, most, s)
+	readAtEnds(a, most, s)
 	return a
 }
 
@@ -98,45 +90,35 @@ func Handed[S ~[]E, E any](a S, s *Site) S {
 // of the standard library works on it.
 const most = 256
 
-// readElements reads as many elements at each end as are wanted.
-func readElements[E any](a []E, wanted int, s *Site) {
+// readAtEnds reads as many elements at each end as are wanted.
+func readAtEnds[E any](a []E, wanted int, s *Site) {
 	if len(a) == 0 || alone() {
 		return
 	}
-	g := current(s)
-	begin()
-	for i := 0; i < len(a); i = nextAtEnds(i, len(a), wanted) {
-		readAll(g, &a[i], s)
+	o := current(s).at(s)
+	for _, part := range atEnds(a, wanted) {
+		readElements(o, part)
 	}
-	mu.Unlock()
 }
 
-// nextAtEnds is the index behind i among the first and the last wanted ones of n.
-func nextAtEnds(i, n, wanted int) int {
-	if i++; i >= wanted && i < n-wanted {
-		return n - wanted
+// atEnds are the first and the last wanted ones of a slice's elements.
+func atEnds[E any](a []E, wanted int) [2][]E {
+	if len(a) <= 2*wanted {
+		return [2][]E{a}
 	}
-	return i
+	return [2][]E{a[:wanted], a[len(a)-wanted:]}
 }
 
-// Copy is copy, in one step.
+// Copy is copy.
 func Copy[T any](s *Site, to, from []T) int {
 	if alone() {
 		return copy(to, from)
 	}
-	g := current(s)
-	begin()
-	n := len(from)
-	if len(to) < n {
-		n = len(to)
+	if len(from) > len(to) {
+		from = from[:len(to)]
 	}
-	for i := 0; i < n; i++ {
-		readAll(g, &from[i], s)
-	}
-	copy(to, from)
-	for i := 0; i < n; i++ {
-		wroteAll(g, &to[i], s)
-	}
-	mu.Unlock()
-	return n
+	o := current(s).at(s)
+	readElements(o, from)
+	move(o, to[:len(from)], from)
+	return len(from)
 }

@@ -12,16 +12,10 @@ func Sorts[E any](f func([]E), s *Site) func([]E) {
 			f(a)
 			return
 		}
-		g := current(s)
-		begin()
-		defer mu.Unlock()
-		for i := range a {
-			readAll(g, &a[i], s)
-		}
+		o := current(s).at(s)
+		readElements(o, a)
 		f(a)
-		for i := range a {
-			wroteAll(g, &a[i], s)
-		}
+		writeElements(o, a)
 	}
 }
 
@@ -65,12 +59,11 @@ func (x swapping) Less(i, j int) bool { return x.less(i, j) }
 
 // Swap is that of sort.Interface; it writes both elements.
 func (x swapping) Swap(i, j int) {
-	begin()
-	defer mu.Unlock()
+	o := x.g.at(x.s)
 	a, b := x.elements.Index(i), x.elements.Index(j)
-	x.g.accessValue(a, false, x.s)
-	x.g.accessValue(b, false, x.s)
+	o.useValue(a, false)
+	o.useValue(b, false)
 	x.swap(i, j)
-	x.g.accessValue(a, true, x.s)
-	x.g.accessValue(b, true, x.s)
+	o.useValue(a, true)
+	o.useValue(b, true)
 }

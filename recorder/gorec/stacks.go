@@ -1,10 +1,13 @@
 package gorec
 
 import (
+	"math/bits"
 	"os"
 	"runtime"
 	"strconv"
 	"strings"
+	"sync"
+	"sync/atomic"
 	"unsafe"
 )
 
@@ -22,12 +25,13 @@ type stackKey uint64
 
 var (
 	stackFile    *os.File // nil: none is wanted
+	stacksLock   sync.Mutex
 	stacks       = map[stackKey]uint32{}
-	recentStacks [1 << 10]struct { // before that table
-		key stackKey
-		id  uint32
-	}
+	recentStacks [1 << 10]uint64 // before that table: all of a key but its last bits, and the number
 )
+
+// numberBits are those of a stack's number.
+const numberBits = 17
 
 func openStacks(path string) (err error) {
 	if path != "" && hasFramePointers {
@@ -36,26 +40,31 @@ func openStacks(path string) (err error) {
 	return err
 }
 
-// stackNumber has the lock; it is that of the calls that led here, 0 where none are wanted.
+// stackNumber is that of the calls that led here, 0 where none are wanted.
 func stackNumber() uint32 {
 	if stackFile == nil {
 		return 0
 	}
 	key := hashReturns()
 	recent := &recentStacks[key>>54]
-	if recent.key == key {
-		return recent.id
+	if r := atomic.LoadUint64(recent); r != 0 && r>>numberBits == uint64(key)<<10>>(10+numberBits) {
+		return uint32(r & (1<<numberBits - 1))
 	}
+	id := numberOf(key)
+	atomic.StoreUint64(recent, uint64(key)<<10>>(10+numberBits)<<numberBits|uint64(id))
+	return id
+}
+
+// numberOf is the number of the calls that led here, which are written if they are new.
+func numberOf(key stackKey) uint32 {
+	stacksLock.Lock()
+	defer stacksLock.Unlock()
 	id, known := stacks[key]
-	if !known {
-		if len(stacks) == mostStacks {
-			return 0
-		}
+	if !known && len(stacks) < mostStacks {
 		id = uint32(len(stacks) + 1)
 		stacks[key] = id
 		writeStack(id)
 	}
-	recent.key, recent.id = key, id
 	return id
 }
 
@@ -67,18 +76,18 @@ func stackNumber() uint32 {
 func hashReturns() stackKey {
 	const word = unsafe.Sizeof(uintptr(0))
 	high := stackTop() - 2*word
-	h := uint64(0xcbf29ce484222325)
+	h := uint64(0)
 	fp := framePointer()
 	for n := 0; n < deepest && fp != nil && uintptr(fp) < high; n++ {
-		h = (h ^ uint64(*(*uintptr)(unsafe.Add(fp, word)))) * 0x9e3779b97f4a7c15
-		h ^= h >> 29
+		h = bits.RotateLeft64(h, 11)*5 + uint64(*(*uintptr)(unsafe.Add(fp, word)))
 		next := *(*unsafe.Pointer)(fp)
 		if uintptr(next) <= uintptr(fp) {
 			break
 		}
 		fp = next
 	}
-	return stackKey(h)
+	h = (h ^ h>>32) * 0x9e3779b97f4a7c15
+	return stackKey(h ^ h>>29)
 }
 
 // writeStack writes the calls that led here, those of the recorder itself left out: function

@@ -2,64 +2,74 @@ package gorec
 
 import (
 	"reflect"
+	"sync/atomic"
 	"unsafe"
 )
 
-// layoutAt has the lock.
 func layoutAt[T any](p *T, s *Site) *layout {
-	if s.layout != nil {
-		return s.layout
+	if l := (*layout)(atomic.LoadPointer(&s.layout)); l != nil {
+		return l
 	}
 	l := layoutOf(reflect.TypeOf(p).Elem())
 	if !s.generic {
-		s.layout = l
+		atomic.StorePointer(&s.layout, unsafe.Pointer(l))
 	}
 	return l
 }
 
-// readAll has the lock.
-func readAll[T any](g *G, p *T, s *Site) {
-	l := layoutAt(p, s)
+// readAll has the locks of what p points to.
+func readAll[T any](o user, p *T) {
+	l := layoutAt(p, o.s)
 	if l.single != 0 {
-		g.read(unsafe.Pointer(p), l.single, 0, s)
+		o.read(unsafe.Pointer(p), l.single, 0)
 		return
 	}
 	for _, f := range l.leaves {
-		g.read(unsafe.Add(unsafe.Pointer(p), f.offset), f.size, f.offset, s)
+		o.read(unsafe.Add(unsafe.Pointer(p), f.offset), f.size, f.offset)
 	}
 }
 
-// wroteAll has the lock; repeats says that no record was needed, and that what was written
-// is one location of at most eight bytes, which a processor writes at once.
-func wroteAll[T any](g *G, p *T, s *Site) (repeats bool) {
-	l := layoutAt(p, s)
+// wroteAll has the locks of what p points to; repeats says that no record was needed, and that what
+// was written is one location of at most eight bytes, which a processor writes at once.
+func wroteAll[T any](o user, p *T) (repeats bool) {
+	l := layoutAt(p, o.s)
 	if l.single != 0 {
-		return g.wrote(unsafe.Pointer(p), l.single, 0, s) && unsafe.Sizeof(*p) <= 8
+		return o.wrote(unsafe.Pointer(p), l.single, 0) && unsafe.Sizeof(*p) <= 8
 	}
 	for _, f := range l.leaves {
-		g.wrote(unsafe.Add(unsafe.Pointer(p), f.offset), f.size, f.offset, s)
+		o.wrote(unsafe.Add(unsafe.Pointer(p), f.offset), f.size, f.offset)
 	}
 	return false
 }
 
 // Read is the value at p.
 func Read[T any](p *T, s *Site) T {
-	_ = *p // nil panics without the lock
-	if alone() {
-		return *p
-	}
-	g := current(s)
-	if g.hasRead(unsafe.Pointer(p), s) {
-		return *p
-	}
-	begin()
-	v := *p
-	readAll(g, p, s)
-	mu.Unlock()
+	v, _ := read(p, s)
 	return v
 }
 
-func set[T any](p *T, v T, s *Site) {
+// read answers the value at p, and who read it unless that has no record.
+func read[T any](p *T, s *Site) (v T, o user) {
+	_ = *p // nil panics without the lock
+	if alone() {
+		return *p, o
+	}
+	g := current(s)
+	if g.hasRead(unsafe.Pointer(p), s) {
+		return *p, o
+	}
+	o = g.at(s)
+	h := g.hold(unsafe.Pointer(p), unsafe.Sizeof(*p))
+	v = *p
+	readAll(o, p)
+	h.release()
+	return v, o
+}
+
+func set[T any](p *T, v T, s *Site) { setBy(p, v, s, user{}) }
+
+// setBy is set by who has read at the same place, if that is known.
+func setBy[T any](p *T, v T, s *Site, o user) {
 	_ = *p
 	if alone() {
 		*p = v
@@ -70,12 +80,15 @@ func set[T any](p *T, v T, s *Site) {
 		*p = v
 		return
 	}
-	begin()
+	if o.g != g {
+		o = g.at(s)
+	}
+	h := g.hold(unsafe.Pointer(p), unsafe.Sizeof(*p))
 	*p = v
-	if wroteAll(g, p, s) {
+	if wroteAll(o, p) {
 		g.giveLeave(unsafe.Pointer(p), s)
 	}
-	mu.Unlock()
+	h.release()
 }
 
 // New is what a composite literal made; what isn't zero was written.
@@ -84,13 +97,14 @@ func New[T any](p *T, s *Site) *T {
 		return p
 	}
 	g := current(s)
-	begin()
+	o := g.at(s)
+	h := g.hold(unsafe.Pointer(p), unsafe.Sizeof(*p))
 	for _, f := range layoutAt(p, s).leaves {
 		if q := unsafe.Add(unsafe.Pointer(p), f.offset); bitsOf(q, f.size) != 0 {
-			g.wrote(q, f.size, f.offset, s)
+			o.wrote(q, f.size, f.offset)
 		}
 	}
-	mu.Unlock()
+	h.release()
 	return p
 }
 

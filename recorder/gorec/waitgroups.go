@@ -43,7 +43,10 @@ func groupAt(w *sync.WaitGroup) *group {
 // use has the lock.
 func (x *group) use(g *G, op wire.Op, s *Site) {
 	if live {
-		x.misuse.accessed(g, op, wire.VarGroup, 0, s)
+		o := g.at(s)
+		g.enter()
+		x.misuse.isOthers(o, wire.VarGroup, 0)
+		x.misuse.accessed(o, op, whole)
 	}
 }
 

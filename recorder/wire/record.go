@@ -7,7 +7,7 @@ package wire
 const Size = 32
 
 // Magic is the first word of a log.
-const Magic = 0x676f7265632d3034 // "gorec-04"
+const Magic = 0x676f7265632d3035 // "gorec-05"
 
 // Newest is the newest version of a trace.
 const Newest = 2
@@ -15,7 +15,7 @@ const Newest = 2
 // Header stands in front of a log's records.
 type Header struct {
 	Magic     uint64
-	Records   uint32 // so many follow; each that is counted is whole
+	Records   uint32 // so many were handed out; of them those are there that have an Op
 	Variables uint32 // so many were met, most of them without a record
 	Next      uint32 // a Successor
 	Judged    uint32 // 1: who reads the log has done with it
@@ -50,46 +50,47 @@ type Record struct {
 type Op uint8
 
 // The fields that a record has beside Goroutine and Site stand behind its Op. The records
-// stand in the order in which the operations were done, but for a Read or a Write: it was
-// done behind as many other records as its Value says.
+// stand in the order in which the operations were done, but for those of variables: such a one
+// was done behind as many others as its Value says. The Count of a Read or a Write is 0, or has
+// a bit for each byte of the variable that it is about.
 const (
-	None            Op = iota
-	DeclareVar         // Object; Value: the offset in what the site names; Kind: a VarKind
-	DeclareChan        // Object; Value: the capacity
-	DeclareLock        // Object; Kind 1: an rwmutex
-	DeclareOnce        // Object
-	Go                 // Other; Kind: a GoKind
-	Exit               //
-	Read               // Object, Value
-	Write              // Object, Value
-	AtomicRead         // Object
-	AtomicWrite        // Object
-	Send               // Object, Value: the number of the send
-	Receive            // Object, Value: the number of the receive
-	Meet               // Other, OtherSite, Object, Value
-	ReceiveClosed      // Object
-	Close              // Object
-	Default            // Count: so many Cases follow
-	Case               // Object, 0 for nil; Kind 1: a send; Count 1: a channel that is left out
-	Lock               // Object
-	Unlock             // Object
-	ReadLock           // Object
-	ReadUnlock         // Object
-	TryLock            // Object: a TryLock that succeeded
-	TryReadLock        // Object: a TryRLock that succeeded
-	TryFail            // Object: either of the two that didn't
-	OnceBegin          // Object
-	OnceEnd            // Object
-	OnceDone           // Object
-	Release            // Object: what is done before it comes before each Acquire of the same object
-	Acquire            // Object
-	FaultSend          // Object
-	FaultClose         // Object, 0 for nil
-	FaultUnlock        // Object
-	FaultReadUnlock    // Object
-	Unseen             // Object: a read found what no recorded write wrote
-	Lost               // Kind: a Loss
-	Full               // no room for more records
+	None            Op = iota // nothing was written here
+	DeclareVar                // Object; Value: the offset in what the site names; Kind: a VarKind
+	DeclareChan               // Object; Value: the capacity
+	DeclareLock               // Object; Kind 1: an rwmutex
+	DeclareOnce               // Object
+	Go                        // Other; Kind: a GoKind
+	Exit                      //
+	Read                      // Object, Value, Count
+	Write                     // Object, Value, Count
+	AtomicRead                // Object
+	AtomicWrite               // Object
+	Send                      // Object, Value: the number of the send
+	Receive                   // Object, Value: the number of the receive
+	Meet                      // Other, OtherSite, Object, Value
+	ReceiveClosed             // Object
+	Close                     // Object
+	Default                   // Count: so many Cases follow
+	Case                      // Object, 0 for nil; Kind 1: a send; Count 1: a channel that is left out
+	Lock                      // Object
+	Unlock                    // Object
+	ReadLock                  // Object
+	ReadUnlock                // Object
+	TryLock                   // Object: a TryLock that succeeded
+	TryReadLock               // Object: a TryRLock that succeeded
+	TryFail                   // Object: either of the two that didn't
+	OnceBegin                 // Object
+	OnceEnd                   // Object
+	OnceDone                  // Object
+	Release                   // Object: what is done before it comes before each Acquire of the same object
+	Acquire                   // Object
+	FaultSend                 // Object
+	FaultClose                // Object, 0 for nil
+	FaultUnlock               // Object
+	FaultReadUnlock           // Object
+	Unseen                    // Object, Value: a read found what no recorded write wrote
+	Lost                      // Kind: a Loss
+	Full                      // no room for more records
 )
 
 // GoKind is how a goroutine was started.

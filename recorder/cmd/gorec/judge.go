@@ -32,7 +32,7 @@ func findJudge(flag string) (*judge, error) {
 		}
 		j := &judge{words: append([]string{path}, words[1:]...), shown: flag}
 		if len(words) == 1 {
-			j.shown = shown(words[0])
+			j.shown = shownJudge(path)
 		}
 		return j, nil
 	}
@@ -40,13 +40,25 @@ func findJudge(flag string) (*judge, error) {
 	if own, failed := os.Executable(); failed == nil {
 		beside := filepath.Join(filepath.Dir(own), "gorace")
 		if st, missing := os.Stat(beside); missing == nil && !st.IsDir() && beside != path {
-			return &judge{[]string{beside}, shown(beside)}, nil
+			return &judge{[]string{beside}, shownJudge(beside)}, nil
 		}
 	}
 	if err != nil {
 		return nil, errors.New("no judge: gorace is neither beside gorec nor on the PATH; -gorace CMD or GOREC_JUDGE names it")
 	}
 	return &judge{[]string{path}, "gorace"}, nil
+}
+
+// shownJudge is how a user may call a judge: by its name where the PATH has it.
+func shownJudge(path string) string {
+	if onPath, err := exec.LookPath("gorace"); err == nil {
+		a, failed := os.Stat(onPath)
+		b, err := os.Stat(path)
+		if failed == nil && err == nil && os.SameFile(a, b) {
+			return "gorace"
+		}
+	}
+	return shown(path)
 }
 
 // judgeWords splits a command at its blanks, unless it is the path of a file.

@@ -9,6 +9,26 @@ import (
 	"gorace.local/recorder/internal/trace"
 )
 
+// TestShownJudge: a judge that the PATH has too is called by its name.
+func TestShownJudge(t *testing.T) {
+	dir := t.TempDir()
+	for _, name := range []string{"gorace", "other"} {
+		if err := os.WriteFile(filepath.Join(dir, name), []byte("#!/bin/sh\n"), 0o755); err != nil {
+			t.Fatal(err)
+		}
+	}
+	link := filepath.Join(t.TempDir(), "gorace")
+	if err := os.Symlink(filepath.Join(dir, "gorace"), link); err != nil {
+		t.Fatal(err)
+	}
+	t.Setenv("PATH", filepath.Dir(link))
+	for _, c := range []struct{ flag, want string }{{dir + "/gorace", "gorace"}, {dir + "/other", shown(dir + "/other")}} {
+		if j, err := findJudge(c.flag); err != nil || j.shown != c.want {
+			t.Errorf("%s: %+v, %v", c.flag, j, err)
+		}
+	}
+}
+
 // TestFindJudge: a command is split at its blanks, unless it is the path of a file.
 func TestFindJudge(t *testing.T) {
 	blank := filepath.Join(t.TempDir(), "a b")

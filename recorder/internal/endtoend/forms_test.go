@@ -1,6 +1,9 @@
 package endtoend
 
 import (
+	"os"
+	"os/exec"
+	"path/filepath"
 	"strings"
 	"testing"
 
@@ -50,5 +53,34 @@ func TestAllCgo(t *testing.T) {
 	_, err := instrument.Packages(&load.Set{Packages: []*load.Package{p}}, "", t.TempDir(), nil)
 	if err == nil || err.Error() != "nothing can be recorded: each package has cgo" {
 		t.Error(err)
+	}
+}
+
+// TestOwnCgo: tests of a package that has cgo itself aren't run, and the others are.
+func TestOwnCgo(t *testing.T) {
+	dir := t.TempDir()
+	for name, text := range map[string]string{
+		"go.mod":      "module example.com/own\n\ngo 1.18\n",
+		"a/a.go":      "package a\n\n// int one() { return 1; }\nimport \"C\"\n\nfunc One() int { return int(C.one()) }\n",
+		"a/a_test.go": "package a\n\nimport \"testing\"\n\nfunc TestOne(t *testing.T) {}\n",
+		"b/b.go":      "package b\n",
+		"b/b_test.go": "package b\n\nimport \"testing\"\n\nfunc TestNone(t *testing.T) {}\n",
+	} {
+		path := filepath.Join(dir, name)
+		if err := os.MkdirAll(filepath.Dir(path), 0o755); err != nil {
+			t.Fatal(err)
+		}
+		if err := os.WriteFile(path, []byte(text), 0o644); err != nil {
+			t.Fatal(err)
+		}
+	}
+	cmd := exec.Command(gorec, "test", "-gorace", stub(t), "./...")
+	cmd.Dir = dir
+	cmd.Env = append(os.Environ(), "CGO_ENABLED=1")
+	out, _ := cmd.CombinedOutput()
+	text := string(out)
+	if cmd.ProcessState.ExitCode() != 3 || !strings.Contains(text, "nothing of example.com/own/a can be recorded: each package has cgo\n") ||
+		!strings.Contains(text, "FAIL\texample.com/own/a [not recorded]\n") || !strings.Contains(text, "ok  \texample.com/own/b\t") {
+		t.Errorf("%v\n%s", cmd.ProcessState, text)
 	}
 }

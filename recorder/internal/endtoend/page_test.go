@@ -63,6 +63,13 @@ func newReader(t *testing.T) reader {
 		judge := "#!/bin/sh\nexec " + *judgeFlag + " \"$@\"\n"
 		err = os.WriteFile(filepath.Join(r.clone, "gorace"), []byte(judge), 0o755)
 	}
+	var launcher []byte
+	if err == nil {
+		launcher, err = os.ReadFile(filepath.Join(here, "..", "gorec"))
+	}
+	if err == nil {
+		err = os.WriteFile(filepath.Join(r.clone, "gorec"), launcher, 0o755)
+	}
 	if err != nil {
 		t.Fatal(err)
 	}

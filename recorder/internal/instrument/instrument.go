@@ -186,8 +186,9 @@ func placed(text, file string) string {
 		switch {
 		case tok == token.SEMICOLON && literal == "\n" && !isTold:
 			isTold = true
-			placed += text[done:at] + "\n" + fmt.Sprintf("//line %s:%d", file, source.Line(pos)+1)
-			done = at
+			end := at + commentsAt(text[at:])
+			placed += text[done:end] + toldLine(text, file, end)
+			done = end
 		case tok == token.COMMENT && (at == 0 || text[at-1] == '\n'):
 			if m := relativeLine.FindStringSubmatch(literal); m != nil {
 				placed += text[done:at] + "//line " + filepath.Join(filepath.Dir(file), m[1]) + m[2]
@@ -196,6 +197,35 @@ func placed(text, file string) string {
 		}
 	}
 	return placed + text[done:]
+}
+
+// commentsAt is the length of the blanks and comments up to the end of a line.
+func commentsAt(text string) int {
+	at := 0
+	for {
+		rest := strings.TrimLeft(text[at:], " \t\r")
+		start, end := len(text)-len(rest), 0
+		switch {
+		case strings.HasPrefix(rest, "//"):
+			if end = strings.Index(rest, "\n"); end < 0 {
+				end = len(rest)
+			}
+		case strings.HasPrefix(rest, "/*"):
+			end = strings.Index(rest, "*/") + len("*/")
+		default:
+			return at
+		}
+		at = start + end
+	}
+}
+
+// toldLine is a directive behind so much of a file's text.
+func toldLine(text, file string, end int) string {
+	line := 1 + strings.Count(text[:end], "\n")
+	if end < len(text) && text[end] != '\n' { // a comment of several lines, and something behind it
+		return fmt.Sprintf("\n//line %s:%d\n", file, line)
+	}
+	return fmt.Sprintf("\n//line %s:%d", file, line+1)
 }
 
 // copyFiles copies what a package is made of but for its Go files, which follow.

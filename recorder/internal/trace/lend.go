@@ -46,8 +46,22 @@ type lender struct {
 // goes as far as names last for those that do something; who was started and did nothing up to
 // there has none.
 func named(records []wire.Record, o Options) *lender {
-	l := lend(newSurvey(records, len(records), o))
-	if l.end == len(records) || o.All {
+	for to := lookAhead; to < len(records) && !o.All; to *= 4 {
+		if l := namedUpTo(records, to, o); l.to < to || l.end < to {
+			return l
+		}
+	}
+	return namedUpTo(records, len(records), o)
+}
+
+// lookAhead is how many records are looked at first for where a trace ends. A long log of many
+// goroutines becomes many traces, and would be looked at to its end for each of them.
+var lookAhead = 1 << 18
+
+// namedUpTo is named for so many records.
+func namedUpTo(records []wire.Record, to int, o Options) *lender {
+	l := lend(newSurvey(records, to, o))
+	if l.end == to || o.All {
 		return l
 	}
 	if end := l.crowd(); end > l.end {
@@ -63,7 +77,7 @@ func (s *survey) crowd() int {
 	named := make([]bool, s.started+1)
 	named[0] = true
 	names := 1
-	for i := range s.records {
+	for i := range s.records[:s.to] {
 		r := &s.records[i]
 		if r.Op == wire.Go {
 			starter[r.Other] = r.Goroutine
@@ -85,7 +99,7 @@ func (s *survey) crowd() int {
 			return i
 		}
 	}
-	return len(s.records)
+	return s.to
 }
 
 // lend numbers the goroutines that are alive.

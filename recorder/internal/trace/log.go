@@ -50,12 +50,19 @@ func Open(path string) (*Log, error) {
 	return &Log{b, header, records}, nil
 }
 
-// Len is how many records the log has.
-func (l *Log) Len() int { return int(atomic.LoadUint32(&l.header.Records)) }
+// Len is up to where the log has records.
+func (l *Log) Len() int {
+	if n := int(atomic.LoadUint32(&l.header.Records)); n < len(l.records) {
+		return n
+	}
+	return len(l.records)
+}
 
-// Records are those up to Len, in the order in which the operations were done.
+// Records are those of the log, in the order in which the operations were done.
 func (l *Log) Records() []wire.Record {
-	records := inOrder(l.records[:l.Len()])
+	ordered := inOrder(l.records[:l.Len()])
+	syscall.Madvise(l.mapped, syscall.MADV_DONTNEED) // it isn't needed any more, and can be had again
+	records := apart(ordered)
 	renumber(records)
 	return records
 }

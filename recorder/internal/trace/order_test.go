@@ -32,3 +32,28 @@ func TestInOrder(t *testing.T) {
 		t.Errorf("got %v\nnot %s", got, want)
 	}
 }
+
+// Places of a log where nothing was written are passed over, a declaration stands in front of
+// what it declares, and nothing stands between a default and its cases.
+func TestInOrderOfWindows(t *testing.T) {
+	records := []wire.Record{
+		{Op: wire.Write, Object: 1, Value: 2},
+		{},
+		{Op: wire.Default, Count: 2},
+		{Op: wire.Case, Object: 8},
+		{},
+		{Op: wire.DeclareVar, Object: 1, Value: 2},
+		{Op: wire.Unseen, Object: 1, Value: 2},
+		{Op: wire.Case, Object: 9},
+		{Op: wire.Exit},
+		{},
+	}
+	var got []wire.Op
+	for _, r := range inOrder(records) {
+		got = append(got, r.Op)
+	}
+	want := []wire.Op{wire.Default, wire.Case, wire.Case, wire.DeclareVar, wire.Write, wire.Unseen, wire.Exit}
+	if fmt.Sprint(got) != fmt.Sprint(want) {
+		t.Errorf("got %v, not %v", got, want)
+	}
+}

@@ -145,3 +145,23 @@ read g2 x_4 1 a.go:2
 		t.Errorf("behind %d records of the state:\n%s", state, b.String())
 	}
 }
+
+// However far a trace looks ahead, its segments are the same.
+func TestLookAhead(t *testing.T) {
+	records := []wire.Record{{Op: wire.DeclareVar, Object: 1, Site: 1}}
+	for g := uint32(1); g <= 300; g++ {
+		records = append(records, wire.Record{Op: wire.Go, Other: g, Site: 1}, wire.Record{Op: wire.Write, Object: 1, Goroutine: g, Site: 2})
+	}
+	defer func(n int) { lookAhead = n }(lookAhead)
+	var want []string
+	for _, ahead := range []int{1 << 18, 7, 30, 100} {
+		lookAhead = ahead
+		texts, _ := segments(t, records, Options{Version: 1, Goroutines: 20})
+		if want == nil {
+			want = texts
+		}
+		if len(texts) != 16 || strings.Join(texts, "") != strings.Join(want, "") {
+			t.Errorf("with %d: %d segments, or others", ahead, len(texts))
+		}
+	}
+}

@@ -1,0 +1,119 @@
+package gorec
+
+import (
+	"unsafe"
+
+	"gorace.local/recorder/wire"
+)
+
+// Variables of one byte, of which buffers have thousands, stand by eights in one location, the
+// word that they are in. As long as one goroutine alone uses it, it has one last read and one
+// last write, of these or those bytes. Where these differ from byte to byte each has a location
+// of its own. Once several goroutines use it, it is one variable, and each record says which
+// bytes it is about; who reads the log makes as many variables of it as are told apart.
+
+// inWord is a location of bytes, by the address of its word.
+const inWord wire.VarKind = 0x80
+
+// wordAt is the word in which the first of n bytes stand, and which of its bytes these are.
+func wordAt(p unsafe.Pointer, n uintptr) (word unsafe.Pointer, bytes uint8, count uintptr) {
+	at := uintptr(p) & 7
+	count = 8 - at
+	if count > n {
+		count = n
+	}
+	return unsafe.Add(p, -int(at)), uint8(1<<count-1) << at, count
+}
+
+// bitsIn are these bytes of a word, and no others, which may be another one's.
+func bitsIn(p unsafe.Pointer, bytes uint8, count uintptr) uint64 {
+	if bytes == whole {
+		return *(*uint64)(p)
+	}
+	at := uintptr(p) & 7
+	x := uint64(0)
+	for i := uintptr(0); i < count; i++ {
+		x |= uint64(*(*uint8)(unsafe.Add(p, i))) << (8 * (at + i))
+	}
+	return x
+}
+
+// locationOf has the lock. It is where the bits of a location are, and which bytes of them.
+func (sh *shard) locationOf(p unsafe.Pointer, size uintptr) (i int, bytes uint8) {
+	if size == 1 {
+		word, bytes, _ := wordAt(p, 1)
+		if i := sh.locate(word, inWord); !sh.entries[i].apart {
+			return i, bytes
+		}
+	}
+	return sh.locate(p, wire.VarMemory), whole
+}
+
+// readBytes has the locks of n bytes, which are read.
+func (o user) readBytes(p unsafe.Pointer, n, offset uintptr) {
+	for n > 0 {
+		word, bytes, count := wordAt(p, n)
+		sh := shardOf(word)
+		i := sh.locate(word, inWord)
+		if sh.isApart(i, o, wire.Read, bytes) {
+			for k := uintptr(0); k < count; k++ {
+				q := unsafe.Add(p, k)
+				o.readAt(sh, sh.locate(q, wire.VarMemory), bitsOf(q, 1), whole, offset)
+			}
+		} else {
+			o.readAt(sh, i, bitsIn(p, bytes, count), bytes, offset)
+		}
+		p, n = unsafe.Add(p, count), n-count
+	}
+}
+
+// wroteBytes has the locks of n bytes, which were written.
+func (o user) wroteBytes(p unsafe.Pointer, n, offset uintptr) {
+	for n > 0 {
+		word, bytes, count := wordAt(p, n)
+		sh := shardOf(word)
+		i := sh.locate(word, inWord)
+		if sh.isApart(i, o, wire.Write, bytes) {
+			for k := uintptr(0); k < count; k++ {
+				q := unsafe.Add(p, k)
+				o.wroteAt(sh, sh.locate(q, wire.VarMemory), bitsOf(q, 1), whole, offset)
+			}
+		} else {
+			o.wroteAt(sh, i, bitsIn(p, bytes, count), bytes, offset)
+		}
+		p, n = unsafe.Add(p, count), n-count
+	}
+}
+
+// isApart has the lock. It reports whether the bytes of a word have locations of their own. They
+// get them where the access would leave more to be known of the word than it can keep.
+func (sh *shard) isApart(i int, o user, op wire.Op, bytes uint8) bool {
+	l := &sh.entries[i]
+	if l.apart || l.id != 0 || l.owner != o.g.id+1 || l.fits(o, op, bytes) {
+		return l.apart
+	}
+	if op == wire.Write && l.repeats(o, bytes) {
+		return false
+	}
+	l.apart = true
+	word, old := sh.keys[i].p, *l
+	for k := 0; k < 8; k++ {
+		bit := uint8(1) << k
+		if (old.reads|old.writes)&bit == 0 {
+			continue
+		}
+		b := &sh.entries[sh.locate(unsafe.Add(word, k), wire.VarMemory)]
+		b.owner, b.site, b.offset = old.owner, old.site, old.offset
+		b.age = sh.age
+		if old.reads&bit != 0 {
+			b.read, b.reads = old.read, whole
+		}
+		if old.writes&bit != 0 {
+			b.write, b.writes = old.write, whole
+		}
+		if old.known&bit != 0 {
+			b.hold(old.bits>>(8*k)&0xff, whole)
+		}
+	}
+	return true
+}

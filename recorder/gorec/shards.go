@@ -1,0 +1,199 @@
+package gorec
+
+import (
+	"sync"
+	"sync/atomic"
+	"syscall"
+	"unsafe"
+
+	"gorace.local/recorder/wire"
+)
+
+// What is known of memory stands in tables, each with a lock of its own: memory is divided into
+// blocks, and each block belongs to a table. An access is done and recorded while the locks of
+// its blocks are held, so no other goroutine is seen in between. Where mu is held too it was
+// taken first. Who holds mu and all of these locks is alone: so another part begins.
+
+const (
+	shardBits  = 6
+	shardCount = 1 << shardBits
+	blockBits  = 9
+	block      = 1 << blockBits // bytes
+	fewest     = 1 << 6         // entries of a table
+)
+
+// A shard is a table of locations by their addresses. A key keeps its memory alive, so that an
+// address is never given to another location; and since an address that is in the table
+// escapes, it is never one of a stack. What else is known is kept out of the reach of Go's
+// collector, which would let the heap grow by twice as much.
+type shard struct {
+	sync.Mutex
+	keys    []key
+	entries []location
+	met     int
+	limit   int // so many are known before some are forgotten
+	fresh   int // that were met at this age
+	age     uint8
+	_       [40]byte // no other one's lock is in the same line of a processor's cache
+}
+
+type key struct {
+	p        unsafe.Pointer
+	repeater *G // who has the leave to repeat the last write without the lock, while its stamp is the location's
+}
+
+var shards [shardCount]shard
+
+// shardOf is the shard of an address.
+func shardOf(p unsafe.Pointer) *shard {
+	return &shards[uintptr(p)>>blockBits*0x9e3779b97f4a7c15>>(64-shardBits)]
+}
+
+// held are the locks of what is accessed: one or two, or all where first is nil.
+type held struct{ first, second *shard }
+
+// hold takes the locks of memory, in a part in which the goroutine is, and that has room.
+func (g *G) hold(p unsafe.Pointer, size uintptr) held {
+	h := locksOf(p, size)
+	for {
+		if atomic.LoadUint32(&full) != 0 {
+			begin()
+			mu.Unlock()
+		}
+		h.lock()
+		if g.part == part {
+			return h
+		}
+		h.release()
+		mu.Lock()
+		g.enter()
+		mu.Unlock()
+	}
+}
+
+// locksOf are the locks of memory.
+func locksOf(p unsafe.Pointer, size uintptr) held {
+	first := shardOf(p)
+	if size == 0 || uintptr(p)>>blockBits == (uintptr(p)+size-1)>>blockBits {
+		return held{first: first}
+	}
+	if size > block {
+		return held{}
+	}
+	second := shardOf(unsafe.Add(p, size-1))
+	switch {
+	case first == second:
+		return held{first: first}
+	case uintptr(unsafe.Pointer(first)) > uintptr(unsafe.Pointer(second)):
+		first, second = second, first
+	}
+	return held{first, second}
+}
+
+func (h held) lock() {
+	if h.first == nil {
+		lockAll()
+		return
+	}
+	h.first.Lock()
+	if h.second != nil {
+		h.second.Lock()
+	}
+}
+
+func (h held) release() {
+	if h.first == nil {
+		unlockAll()
+		return
+	}
+	if h.second != nil {
+		h.second.Unlock()
+	}
+	h.first.Unlock()
+}
+
+func lockAll() {
+	for i := range shards {
+		shards[i].Lock()
+	}
+}
+
+func unlockAll() {
+	for i := range shards {
+		shards[i].Unlock()
+	}
+}
+
+// locate has the lock. It is the number of the entry, which is good until the next call.
+func (sh *shard) locate(p unsafe.Pointer, kind wire.VarKind) int {
+	if len(sh.keys) == 0 {
+		sh.resize(fewest)
+		sh.limit = firstLimit()
+	}
+	i := sh.find(p, kind)
+	if sh.keys[i].p != nil {
+		return i
+	}
+	if sh.met*4 >= len(sh.keys)*3 || sh.isCrowded() {
+		sh.makeRoom()
+		i = sh.find(p, kind)
+	}
+	sh.met++
+	if sh.fresh++; sh.fresh >= sh.limit/ages {
+		sh.age, sh.fresh = sh.age+1, 0
+	}
+	sh.keys[i].p = p
+	sh.entries[i].kind = kind
+	return i
+}
+
+// find is where a location stands, or would.
+func (sh *shard) find(p unsafe.Pointer, kind wire.VarKind) int {
+	mask := uintptr(len(sh.keys) - 1)
+	i := hash(p) & mask
+	for sh.keys[i].p != nil && (sh.keys[i].p != p || sh.entries[i].kind != kind) {
+		i = (i + 1) & mask
+	}
+	return int(i)
+}
+
+// hash has the words of 64 bytes beside one another, and each of their other bytes elsewhere.
+func hash(p unsafe.Pointer) uintptr {
+	h := uintptr(p)
+	line := h>>6<<3 | h&7
+	return (line^line>>17)*0x9e3779b97f4a7c15>>20<<3 | h>>3&7
+}
+
+// resize has the lock. It makes a table of so many entries, without those that aren't kept.
+func (sh *shard) resize(size int) {
+	keys, entries := sh.keys, sh.entries
+	sh.keys, sh.entries = make([]key, size), makeEntries(size)
+	for i := range keys {
+		if keys[i].p != nil {
+			at := sh.find(keys[i].p, entries[i].kind)
+			sh.keys[at], sh.entries[at] = keys[i], entries[i]
+		}
+	}
+	freeEntries(entries)
+}
+
+// clear has the lock.
+func (sh *shard) clear() {
+	freeEntries(sh.entries)
+	sh.keys, sh.entries, sh.met = nil, nil, 0
+}
+
+// makeEntries is memory of the system's, in which all is zero. Where there is none it is Go's.
+func makeEntries(n int) []location {
+	b, err := syscall.Mmap(-1, 0, n*int(unsafe.Sizeof(location{})), syscall.PROT_READ|syscall.PROT_WRITE, syscall.MAP_ANON|syscall.MAP_PRIVATE)
+	if err != nil {
+		return make([]location, n)
+	}
+	return unsafe.Slice((*location)(unsafe.Pointer(&b[0])), n)
+}
+
+func freeEntries(e []location) {
+	if len(e) > 0 {
+		syscall.Munmap(unsafe.Slice((*byte)(unsafe.Pointer(&e[0])), len(e)*int(unsafe.Sizeof(e[0]))))
+	}
+}

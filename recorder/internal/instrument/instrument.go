@@ -181,12 +181,13 @@ func placed(text, file string) string {
 	var tokens scanner.Scanner
 	tokens.Init(source, []byte(text), nil, scanner.ScanComments)
 	placed, done, isTold := "", 0, false
+	code := 0 // the end of the last token; where a scanner sets the newline behind it differs from Go to Go
 	for pos, tok, literal := tokens.Scan(); tok != token.EOF; pos, tok, literal = tokens.Scan() {
 		at := source.Offset(pos)
 		switch {
 		case tok == token.SEMICOLON && literal == "\n" && !isTold:
 			isTold = true
-			end := at + commentsAt(text[at:])
+			end := code + commentsAt(text[code:])
 			placed += text[done:end] + toldLine(text, file, end)
 			done = end
 		case tok == token.COMMENT && (at == 0 || text[at-1] == '\n'):
@@ -194,9 +195,19 @@ func placed(text, file string) string {
 				placed += text[done:at] + "//line " + filepath.Join(filepath.Dir(file), m[1]) + m[2]
 				done = at + len(literal)
 			}
+		case tok != token.COMMENT && !isTold:
+			code = at + lengthOf(tok, literal)
 		}
 	}
 	return placed + text[done:]
+}
+
+// lengthOf is the length of a token's text. The scanner gives no literal for an operator.
+func lengthOf(tok token.Token, literal string) int {
+	if literal == "" {
+		return len(tok.String())
+	}
+	return len(literal)
 }
 
 // commentsAt is the length of the blanks and comments up to the end of a line.

@@ -52,7 +52,7 @@ fn behind<'a>(
     heap: &'a RefusingHeap<Global>,
     read: u32,
 ) -> Option<Clock<&'a RefusingHeap<Global>>> {
-    let mut clock = Clock::new(heap);
+    let mut clock = Clock::new(heap).ok()?;
     for who in 1..7 {
         if who > read && clock.knows(who) == 0 {
             clock.tick(who).ok()?;
@@ -86,8 +86,9 @@ fn reply_of<A: Allocator>(answer: Result<(), AllocError>, clock: &Clock<A>, who:
 fn joined(heap: &RefusingHeap<Global>, nth: u64, who: u32) -> Reply
     requires { 0 < nth }
 {
-    let mut clock = Clock::new(heap);
-    let mut other = Clock::new(heap);
+    let (Ok(mut clock), Ok(mut other)) = (Clock::new(heap), Clock::new(heap)) else {
+        return Reply::Wrong;
+    };
     let is_counted = clock.tick(COUNTED).is_ok() && other.tick(who).is_ok();
     heap.refuse(nth);
     let answer = clock.join(&other);
@@ -106,7 +107,9 @@ impl Growing for Call {
         nth: u64,
     ) -> Reply {
         let mut state = VarState::new(heap);
-        let mut clock = Clock::new(heap);
+        let Ok(mut clock) = Clock::new(heap) else {
+            return Reply::Wrong;
+        };
         match self {
             Call::OneReads => {
                 heap.refuse(nth);

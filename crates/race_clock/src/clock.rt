@@ -50,29 +50,21 @@ impl<A: Allocator + Fits> Model for Clock<A> {
 }
 
 impl<A: Allocator + Copy> Clock<A> {
-    /// Nothing is known.
-    pub fn new(alloc: A) -> Clock<A>
-        requires { FitsInClock A.row A.Allocator }
-        ensures { result ≡ [] }
+    /// Nothing is known. An error says that a clock is larger than memory, which it is for no allocator that there is.
+    pub fn new(alloc: A) -> Result<Clock<A>, AllocError>
+        ensures nothing { IfOk result (λ clock. clock ≡ []) }
+        ensures fits { FitsInClock A.row A.Allocator → IsOk result }
     {
-        Clock {
-            counts: SmallVec::new(alloc),
-        }
-    }
-
-    /// Nothing is known. It asks nothing of the allocator's type.
-    pub(crate) fn first(alloc: A) -> Result<Clock<A>, AllocError>
-        ensures { IfOk result (λ clock. clock ≡ []) }
-    {
-        let none: Option<SmallVec<u32, 8, A>> = None;
-        // Always true, and known at compile time. It tells the proof that the type fits in memory.
-        if mem::size_of_val(&none) <= isize::MAX as usize {
-            return Ok(Clock::new(alloc));
+        // It is known at compile time, and tells the proof that the type fits in memory.
+        if mem::size_of::<SmallVec<u32, 8, A>>() <= isize::MAX as usize {
+            return Ok(Clock {
+                counts: SmallVec::new(alloc),
+            });
         }
         Err(AllocError)
     }
 
-    /// Nothing is known. It asks nothing of the allocator's type, since another clock is here.
+    /// Nothing is known.
     pub(crate) fn another(&self) -> Clock<A>
         ensures { result ≡ [] }
     {

@@ -117,8 +117,8 @@ impl<A: Allocator + Copy> Clocks<A> {
             channels: first_channels(alloc, decls)?,
             locks: first_locks(alloc, decls.count(Kind::Lock) as usize)?,
             ends: first_ends(alloc, decls.count(Kind::Once) as usize)?,
-            spare: Clock::first(alloc)?,
-            second: Clock::first(alloc)?,
+            spare: Clock::new(alloc)?,
+            second: Clock::new(alloc)?,
         })
     }
 

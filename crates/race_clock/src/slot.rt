@@ -27,7 +27,7 @@ impl<A: Allocator + Copy> Slot<A> {
     pub(crate) fn new(alloc: A, who: u32) -> Result<Slot<A>, AllocError>
         ensures { IfOk result (λ slot. slot ≡ first_slot who) }
     {
-        let mut clock = Clock::first(alloc)?;
+        let mut clock = Clock::new(alloc)?;
         clock.grow(who as usize + 1)?;
         Ok(Slot { clock, parts: 0 })
     }

@@ -108,7 +108,7 @@ static ROWS: [(&[Row], Option<(u32, u32)>); 11] = [
 ];
 
 fn clock(alloc: Global, counts: &[(u32, u32)]) -> Result<Clock, AllocError> {
-    let mut clock = Clock::new(alloc);
+    let mut clock = Clock::new(alloc)?;
     for (goroutine, count) in counts {
         for _ in 0..*count {
             if clock.knows(*goroutine) < *count {
@@ -169,7 +169,7 @@ fn raced_by_nine(alloc: Global, meets: u32) -> Result<Option<(u32, u32)>, AllocE
     requires { meets < 10 }
 {
     let mut state = VarState::new(alloc);
-    let mut met = Clock::new(alloc);
+    let mut met = Clock::new(alloc)?;
     for _ in 0..9 + meets {
         if met.knows(0) < 18 {
             met.tick(0)?;

@@ -123,8 +123,8 @@ fn accesses_are_stamped(rt: HostRuntime) -> Result<(), Fail> {
 // A clock in which the goroutine was counted joins one in which goroutine 3 was: what the first then knows
 // of these two and of goroutine 2, and the second of the goroutine.
 fn joined(alloc: Global, goroutine: u32) -> Result<[u32; 4], AllocError> {
-    let mut clock = Clock::new(alloc);
-    let mut other = Clock::new(alloc);
+    let mut clock = Clock::new(alloc)?;
+    let mut other = Clock::new(alloc)?;
     clock.tick(goroutine)?;
     other.tick(3)?;
     clock.join(&other)?;

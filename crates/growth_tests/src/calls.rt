@@ -1,6 +1,5 @@
 //! A call that takes memory, of which each growth is refused in turn.
-ghost use Rattle.std.specs.Prelude.{◌<◌};
-ghost use Rattle.std.specs.Thread.{IsSync};
+ghost use Rattle.std.specs.{Prelude.◌<◌, Thread.IsSync};
 
 use refusing_heap::RefusingHeap;
 use std::alloc::{AllocGlobal, Global};

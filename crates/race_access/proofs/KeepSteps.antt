@@ -1,16 +1,13 @@
 -- What is kept of a list of accesses, and what is dropped.
-use Rattle.std.proofs.Common.{◌≡◌, ◌⊎◌, ℕ, zero, suc, ◌<◌, ◌≤◌, not, Bool, true, false, List, [], ◌∷◌, ◌++◌}
-use Rattle.std.proofs.Common.{length, take, drop, Option, Some, None, refl, sym, ap, subst, inl, inr, arith}
-use Rattle.std.proofs.Common.{cond, ltb-true}
-use Rattle.std.specs.Prelude.{T, nat_lt, if◌then◌else◌}
-use Rattle.std.proofs.Math.Facts.{leb_yes}
-use Rattle.std.specs.List.{Contains, filter, insert}
-use Rattle.std.proofs.lemmas.Bool.{ltb-false}
-use Rattle.std.proofs.lemmas.List.{take-append-drop}
-use Rattle.std.proofs.lemmas.List.Elements.{Contains-append_left, Contains-append_right, Contains-append_cases, All-filter, All-contains, All-contains_itself}
+use Rattle.std.proofs.Common.{◌≡◌, ◌⊎◌, ℕ, zero, suc, ◌<◌, ◌≤◌, not, Bool, true, false, List, [], ◌∷◌, ◌++◌, length}
+use Rattle.std.proofs.Common.{take, drop, Option, Some, None, refl, sym, ap, subst, inl, inr, arith, cond, ltb-true}
+use Rattle.std.proofs.{Math.Facts.leb_yes, lemmas.{Bool.ltb-false, List.take-append-drop}}
+use Rattle.std.proofs.lemmas.List.Elements.{Contains-append_left, Contains-append_right, Contains-append_cases}
+use Rattle.std.proofs.lemmas.List.Elements.{All-filter, All-contains, All-contains_itself}
+use Rattle.std.specs.{Prelude.{T, nat_lt, if◌then◌else◌}, List.{Contains, filter, insert}}
 use Rattle.race_verdict.specs.declared.notes.Noted.{Noted}
-use Rattle.race_access.specs.declared.access.Access.{Access}
-use Rattle.race_access.specs.Kept.{Knows, is_known, IsGreatestUnknown, greater, KeepsRead, DropsKnown}
+use Rattle.race_access.specs.{declared.access.Access.Access, Kept.{Knows, is_known, IsGreatestUnknown, greater}}
+use Rattle.race_access.specs.Kept.{KeepsRead, DropsKnown}
 
 -- an element of a list is its first or one of the rest
 pub cons_cases : {X : Type 0} (x : X) (xs : List X) (e : X) → Contains (x ∷ xs) e → (x ≡ e) ⊎ Contains xs e

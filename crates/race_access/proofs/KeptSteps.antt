@@ -1,14 +1,12 @@
 -- What is kept stands for the list, one touch on.
-use Rattle.std.proofs.Common.{◌≡◌, ◌⊎◌, ◌<◌, ◌≤◌, Bool, true, false, List, [], ◌∷◌, ◌++◌, Some, sym, ap, ◌∙◌, subst, inl, inr, arith, IsTrue}
-use Rattle.std.specs.List.{Contains}
-use Rattle.std.proofs.lemmas.Bool.{cases_lt}
+use Rattle.std.proofs.Common.{◌≡◌, ◌⊎◌, ◌<◌, ◌≤◌, Bool, true, false, List, [], ◌∷◌, ◌++◌, Some, sym, ap, ◌∙◌, subst}
+use Rattle.std.proofs.{Common.{inl, inr, arith, IsTrue}, lemmas.Bool.cases_lt}
 use Rattle.std.proofs.lemmas.List.Elements.{Contains-append_left, Contains-push, Contains-push_cases}
+use Rattle.std.specs.List.{Contains}
 use Rattle.race_verdict.specs.declared.notes.Noted.{Noted}
-use Rattle.race_access.specs.declared.access.Access.{Access}
-use Rattle.race_access.specs.Touches.{Touch, IsKnownTo, IsLawful, noted_of}
+use Rattle.race_access.specs.{declared.access.Access.Access, Touches.{Touch, IsKnownTo, IsLawful, noted_of}}
 use Rattle.race_access.specs.Kept.{access_of, note_of, Knows, IsGreatestUnknown, KeepsRead}
-use Rattle.race_access.specs.TouchHolds.{IsCovered, Covers}
-use Rattle.race_access.proofs.TouchSteps.{later}
+use Rattle.race_access.{specs.TouchHolds.{IsCovered, Covers}, proofs.TouchSteps.later}
 
 module _ (touched : List Touch) (t : Touch) (lawful : IsLawful (touched ++ t ∷ [])) (passes : Touch → Bool) where
   inside : (a : Touch) → Contains touched a → Contains (touched ++ t ∷ []) a

@@ -1,19 +1,10 @@
 -- What is noted of touches is noted of the events.
 use Rattle.std.proofs.Common.{◌≡◌, ℕ, ◌+◌, true, false, List, length, take, Option, Some, None, refl, sym, ap, subst}
-use Rattle.race_records.specs.declared.event.Event.{Event}
-use Rattle.race_records.specs.declared.event.Op.{Op}
-use Rattle.race_records.specs.declared.event.Op.TheVariants.{Read, Write}
-use Rattle.race_model.specs.Events.{is_access}
-use Rattle.race_model.specs.Clocks.{participations}
-use Rattle.race_clock.specs.declared.stamp.Stamp.{Stamp}
-use Rattle.race_clock.specs.Stamps.{stamp_with}
-use Rattle.race_clock.specs.Laws.{IsStampIn}
-use Rattle.race_clock.proofs.StampLaws.{says}
-use Rattle.race_verdict.specs.declared.notes.Noted.{Noted}
-use Rattle.race_verdict.specs.Accesses.{is_write}
-use Rattle.race_verdict.specs.Notes.{IsNoteOf}
-use Rattle.race_access.specs.Touches.{Touch, noted_of, IsNotedIn, AreNotedIn}
-use Rattle.race_access.specs.StampsOf.{AreStampsOf}
+use Rattle.race_records.specs.declared.event.{Event.Event, Op.{Op, TheVariants.{Read, Write}}}
+use Rattle.race_model.specs.{Events.is_access, Clocks.participations}
+use Rattle.race_clock.{specs.{declared.stamp.Stamp.Stamp, Stamps.stamp_with, Laws.IsStampIn}, proofs.StampLaws.says}
+use Rattle.race_verdict.specs.{declared.notes.Noted.Noted, Accesses.is_write, Notes.IsNoteOf}
+use Rattle.race_access.specs.{Touches.{Touch, noted_of, IsNotedIn, AreNotedIn}, StampsOf.AreStampsOf}
 
 -- whether an operation with a stamp writes
 write_said : (at who count : ℕ) (o : Op) (stamp : Stamp) → stamp_with at who count o ≡ Some stamp → is_write o ≡ stamp.write

@@ -1,15 +1,11 @@
 -- The kept Reads stand in rising order of their goroutines, and go on standing so.
-use Rattle.std.proofs.Common.{◌≡◌, ◌≢◌, ℕ, zero, suc, ◌+◌, ◌<◌, ◌≤◌, List, [], ◌∷◌, length, get_or, All, sym, subst, ◌∙◌, inl, inr, arith}
-use Rattle.std.proofs.Math.ListN.{set}
-use Rattle.std.specs.List.{insert}
-use Rattle.std.specs.List.Sorted.{IsNonDecreasingBy}
-use Rattle.std.proofs.lemmas.Bool.{cases_lt, cases_order}
-use Rattle.std.proofs.lemmas.List.{length-set, get_or-set_other}
-use Rattle.std.proofs.lemmas.List.Edits.{length-insert, get_or-insert_at, get_or-insert_below, get_or-insert_above}
-use Rattle.std.proofs.lemmas.List.Elements.{All-contains, All-contains_itself}
-use Rattle.std.proofs.lemmas.Grind.{get_or-set_at}
-use Rattle.race_access.specs.declared.access.Access.{Access}
-use Rattle.race_access.specs.Kept.{AreRising, IsPlaceOf, DropsKnown}
+use Rattle.std.proofs.Common.{◌≡◌, ◌≢◌, ℕ, zero, suc, ◌+◌, ◌<◌, ◌≤◌, List, [], ◌∷◌, length, get_or, All, sym, subst}
+use Rattle.std.proofs.{Common.{◌∙◌, inl, inr, arith}, Math.ListN.set, lemmas.Bool.{cases_lt, cases_order}}
+use Rattle.std.proofs.lemmas.List.{length-set, get_or-set_other, Edits.{length-insert, get_or-insert_at}}
+use Rattle.std.proofs.lemmas.List.Edits.{get_or-insert_below, get_or-insert_above}
+use Rattle.std.proofs.lemmas.{List.Elements.{All-contains, All-contains_itself}, Grind.get_or-set_at}
+use Rattle.std.specs.List.{insert, Sorted.IsNonDecreasingBy}
+use Rattle.race_access.specs.{declared.access.Access.Access, Kept.{AreRising, IsPlaceOf, DropsKnown}}
 
 pub none_rise : AreRising []
 none_rise i j d less within = absurd (omega (arith, less, within))

@@ -1,25 +1,17 @@
 -- The touches of one variable are lawful, and their reported race is that of the events.
-use Rattle.std.proofs.Common.{◌≡◌, ◌⊎◌, ◌↔◌, ℕ, ◌+◌, ◌<◌, ◌==◌, ◌||◌, Bool, true, false, List, [], ◌∷◌, ◌++◌, length, take}
-use Rattle.std.proofs.Common.{Option, Some, None, slice_get, refl, sym, ap, ◌∙◌, subst, inl, inr, arith, IsTrue, length-append}
-use Rattle.std.proofs.Common.{eq-eqb, eqb-true}
-use Rattle.std.specs.List.{Contains}
-use Rattle.std.proofs.lemmas.Bool.{cases_lt}
+use Rattle.std.proofs.Common.{◌≡◌, ◌⊎◌, ◌↔◌, ℕ, ◌+◌, ◌<◌, ◌==◌, ◌||◌, Bool, true, false, List, [], ◌∷◌, ◌++◌, length}
+use Rattle.std.proofs.Common.{take, Option, Some, None, slice_get, refl, sym, ap, ◌∙◌, subst, inl, inr, arith, IsTrue}
+use Rattle.std.proofs.{Common.{length-append, eq-eqb, eqb-true}, lemmas.Bool.cases_lt}
 use Rattle.std.proofs.lemmas.List.{take-append-le, take_all}
 use Rattle.std.proofs.lemmas.List.Elements.{Contains-append_left, Contains-push, Contains-push_cases}
-use Rattle.std.proofs.lemmas.Option.{slice_get_within, get_or_from_slice_get}
-use Rattle.race_records.specs.declared.event.Event.{Event}
-use Rattle.race_records.specs.declared.event.Op.{Op}
-use Rattle.race_records.specs.declared.event.Op.TheVariants.{Read, Write}
-use Rattle.race_model.specs.Events.{At, accesses, writes}
-use Rattle.race_model.specs.Order.{HappensBefore}
-use Rattle.race_model.specs.Race.{IsAccessOf, IsWriteOf, Conflict, RaceBy, IsReportedBy}
-use Rattle.race_model.specs.Clocks.{participations}
-use Rattle.race_model.proofs.Indexes.{at_same, append_at_old, slice_get-push, slice_get-append}
-use Rattle.race_clock.specs.declared.stamp.Stamp.{Stamp}
-use Rattle.race_clock.specs.Stamps.{stamp_with, stamp_of}
-use Rattle.race_clock.specs.StandsFor.{CountsReaching}
-use Rattle.race_clock.specs.Laws.{IsStampIn, StampsAreLawful}
-use Rattle.race_clock.proofs.StampLaws.{Says, says, known_is_happens_before, stamps_are_lawful}
+use Rattle.std.{proofs.lemmas.Option.{slice_get_within, get_or_from_slice_get}, specs.List.Contains}
+use Rattle.race_records.specs.declared.event.{Event.Event, Op.{Op, TheVariants.{Read, Write}}}
+use Rattle.race_model.specs.{Events.{At, accesses, writes}, Order.HappensBefore, Race.{IsAccessOf, IsWriteOf, Conflict}}
+use Rattle.race_model.{specs.{Race.{RaceBy, IsReportedBy}, Clocks.participations}, proofs.Indexes.at_same}
+use Rattle.race_model.proofs.Indexes.{append_at_old, slice_get-push, slice_get-append}
+use Rattle.race_clock.specs.{declared.stamp.Stamp.Stamp, Stamps.{stamp_with, stamp_of}, StandsFor.CountsReaching}
+use Rattle.race_clock.{specs.Laws.{IsStampIn, StampsAreLawful}, proofs.StampLaws.{Says, says, known_is_happens_before}}
+use Rattle.race_clock.proofs.StampLaws.{stamps_are_lawful}
 use Rattle.race_access.specs.Touches.{Touch, IsKnownTo, IsLawful, IsAt, Conflicting, Known, IsReported}
 use Rattle.race_access.specs.StampsOf.{AreStampsOf, IsReportedOn}
 

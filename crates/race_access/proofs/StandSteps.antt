@@ -1,17 +1,17 @@
 -- What is kept stands for the list, one touch on.
-use Rattle.std.proofs.Common.{◌≡◌, ℕ, ◌≤◌, Bool, true, false, List, [], ◌∷◌, ◌++◌, Option, Some, None, refl, sym, ap, ◌∙◌, subst, inl, inr, arith, IsTrue}
-use Rattle.std.specs.Option.{is_some}
+use Rattle.std.proofs.Common.{◌≡◌, ℕ, ◌≤◌, Bool, true, false, List, [], ◌∷◌, ◌++◌, Option, Some, None, refl, sym, ap}
+use Rattle.std.proofs.Common.{◌∙◌, subst, inl, inr, arith, IsTrue}
+use Rattle.std.{proofs.lemmas.List.Elements.{Contains-append_left, Contains-push}, specs.Option.is_some}
 use Rattle.std.specs.List.{Contains}
-use Rattle.std.proofs.lemmas.List.Elements.{Contains-append_left, Contains-push}
 use Rattle.race_model.specs.Race.{IsReportedBy}
-use Rattle.race_access.specs.declared.access.Access.{Access}
-use Rattle.race_verdict.specs.declared.notes.Noted.{Noted}
-use Rattle.race_access.specs.Touches.{Touch, IsKnownTo, IsLawful, Conflicting, Known, IsReported, noted_of, IsNotedIn, AreNotedIn}
-use Rattle.race_access.specs.Kept.{Kept, no_access, access_of, Knows, IsGreatestUnknown, candidates, candidates_by, KeepsBy, IsKeptOn}
+use Rattle.race_access.specs.{declared.access.Access.Access, Touches.{Touch, IsKnownTo, IsLawful, Conflicting, Known}}
+use Rattle.race_access.specs.{Touches.{IsReported, noted_of, IsNotedIn, AreNotedIn}, Kept.{Kept, no_access, access_of}}
+use Rattle.race_access.specs.Kept.{Knows, IsGreatestUnknown, candidates, candidates_by, KeepsBy, IsKeptOn}
 use Rattle.race_access.specs.TouchHolds.{Covers, is_write, is_any, CoversAll, HoldsBy, StandsFor}
-use Rattle.race_access.proofs.TouchSteps.{IsPartner, first_race, still_free, race_stays}
-use Rattle.race_access.proofs.KeptSteps.{all_known, greatest_of_all, covers_on, covers_next}
-use Rattle.race_access.proofs.KeepSteps.{only_one, cons_first, keeps_alone, keeps_under}
+use Rattle.race_access.proofs.{TouchSteps.{IsPartner, first_race, still_free, race_stays}, KeptSteps.all_known}
+use Rattle.race_access.proofs.{KeptSteps.{greatest_of_all, covers_on, covers_next}, KeepSteps.{only_one, cons_first}}
+use Rattle.race_access.proofs.KeepSteps.{keeps_alone, keeps_under}
+use Rattle.race_verdict.specs.declared.notes.Noted.{Noted}
 
 not_both : true ≡ false → ⊥
 not_both e = cc

@@ -1,13 +1,10 @@
 -- The races of a lawful list of touches, one touch on.
-use Rattle.std.proofs.Common.{◌≡◌, ◌≢◌, ◌⊎◌, ℕ, ◌<◌, ◌≤◌, List, [], ◌∷◌, ◌++◌, length, Option}
-use Rattle.std.proofs.Common.{Some, None, slice_get, refl, sym, ap, ◌∙◌, subst, inl, inr, arith}
-use Rattle.std.proofs.Common.{IsTrue}
-use Rattle.std.specs.List.{Contains}
-use Rattle.std.proofs.lemmas.Bool.{cases_lt, cases_eq}
+use Rattle.std.proofs.Common.{◌≡◌, ◌≢◌, ◌⊎◌, ℕ, ◌<◌, ◌≤◌, List, [], ◌∷◌, ◌++◌, length, Option, Some, None, slice_get}
+use Rattle.std.proofs.{Common.{refl, sym, ap, ◌∙◌, subst, inl, inr, arith, IsTrue}, lemmas.Bool.{cases_lt, cases_eq}}
 use Rattle.std.proofs.lemmas.Option.{slice_get-get_or}
 use Rattle.std.proofs.lemmas.List.Elements.{Contains-append_left, Contains-push, Contains-push_cases}
-use Rattle.race_model.specs.Race.{RaceBy, IsReportedBy}
-use Rattle.race_model.proofs.Uniqueness.{reported_unique}
+use Rattle.std.specs.List.{Contains}
+use Rattle.race_model.{specs.Race.{RaceBy, IsReportedBy}, proofs.Uniqueness.reported_unique}
 use Rattle.race_model.proofs.Indexes.{append_at_old, slice_get-push}
 use Rattle.race_access.specs.Touches.{Touch, IsKnownTo, IsLawful, IsAt, Conflicting, Known, IsReported}
 

@@ -1,12 +1,9 @@
 -- What is kept of a variable's accesses.
-use Rattle.std.specs.Prelude.{ℕ, ◌≡◌, ◌<◌, ◌≤◌, ◌⊎◌, nat_le, nat_lt, if◌then◌else◌, Bool, true, false, List, [], ◌∷◌, length, Option, Some, None, AllPairs}
-use Rattle.std.specs.Borrow.{Bor}
-use Rattle.std.specs.List.{Contains}
-use Rattle.std.specs.List.Sorted.{IsPartitionPoint}
-use Rattle.std.specs.Option.{option_map}
+use Rattle.std.specs.Prelude.{ℕ, ◌≡◌, ◌<◌, ◌≤◌, ◌⊎◌, nat_le, nat_lt, if◌then◌else◌, Bool, true, false, List, [], ◌∷◌}
+use Rattle.std.specs.{Prelude.{length, Option, Some, None, AllPairs}, Borrow.Bor, List.Contains}
+use Rattle.std.specs.{List.Sorted.IsPartitionPoint, Option.option_map}
 use Rattle.race_access.specs.declared.access.Access.{Access}
-use Rattle.race_clock.specs.ClockState.{knows}
-use Rattle.race_clock.specs.declared.stamp.Stamp.{Stamp}
+use Rattle.race_clock.specs.{ClockState.knows, declared.stamp.Stamp.Stamp}
 use Rattle.race_verdict.specs.declared.notes.Noted.{Noted}
 
 -- the pair of the first race, with what is printed of both; before it the last Write, and Reads

@@ -1,8 +1,7 @@
 -- The laws of touches. Each is the contract of a function in src/laws.rt that does nothing.
 use Rattle.std.specs.Prelude.{ℕ, ◌≡◌, List, Option}
 use Rattle.race_records.specs.declared.event.Event.{Event}
-use Rattle.race_access.specs.Touches.{Touch, IsLawful, IsReported}
-use Rattle.race_access.specs.StampsOf.{AreStampsOf, IsReportedOn}
+use Rattle.race_access.specs.{Touches.{Touch, IsLawful, IsReported}, StampsOf.{AreStampsOf, IsReportedOn}}
 
 -- the touches that the events give of a variable are lawful
 abbrev pub TouchesAreLawful : List Event → Type 0

@@ -1,9 +1,7 @@
 -- The touches of a variable that a list of events gives. (The Go Memory Model, "Memory Model": data race)
-use Rattle.std.specs.Prelude.{ℕ, ◌≡◌, ◌<◌, List, Option, Some, None, slice_get}
-use Rattle.std.specs.List.{Contains}
+use Rattle.std.specs.{Prelude.{ℕ, ◌≡◌, ◌<◌, List, Option, Some, None, slice_get}, List.Contains}
 use Rattle.race_records.specs.declared.event.Event.{Event}
-use Rattle.race_model.specs.Events.{At}
-use Rattle.race_model.specs.Race.{IsAccessOf, IsRace, IsReportedRace}
+use Rattle.race_model.specs.{Events.At, Race.{IsAccessOf, IsRace, IsReportedRace}}
 use Rattle.race_clock.specs.Laws.{IsStampIn}
 use Rattle.race_access.specs.Touches.{Touch, IsAt}
 

@@ -1,9 +1,7 @@
 -- The stamps of a variable's accesses with their clocks, and which of them race. (The Go Memory Model, "Memory Model": data race)
-use Rattle.std.specs.Prelude.{ℕ, ◌≡◌, ◌≢◌, ◌<◌, ◌⊎◌, ⊤, IsTrue, List, Option, Some, None, slice_get}
-use Rattle.std.specs.List.{Contains}
+use Rattle.std.specs.{Prelude.{ℕ, ◌≡◌, ◌≢◌, ◌<◌, ◌⊎◌, ⊤, IsTrue, List, Option, Some, None, slice_get}, List.Contains}
 use Rattle.race_model.specs.Race.{RaceBy, IsReportedBy}
-use Rattle.race_clock.specs.declared.stamp.Stamp.{Stamp}
-use Rattle.race_clock.specs.Laws.{IsKnown}
+use Rattle.race_clock.specs.{declared.stamp.Stamp.Stamp, Laws.IsKnown}
 use Rattle.race_verdict.specs.declared.notes.Noted.{Noted}
 
 -- an access of the variable: its stamp, the number of its place, and the clock of its goroutine behind it

@@ -1,8 +1,8 @@
 //! What is kept of a variable's accesses.
-ghost use Rattle.std.specs.Prelude.{◌≡◌, ◌≤◌, ◌∷◌, [], false, not, filter, length, vec_capacity, All, ◌≢◌, IfOk, OnOk, OnErr, IsTrue};
-ghost use Rattle.std.specs.Option.{is_some};
-ghost use Rattle.race_access.specs.Kept as spec;
+ghost use Rattle.std.specs.Prelude.{◌≡◌, ◌≤◌, ◌∷◌, [], false, not, filter, length, vec_capacity, All, ◌≢◌, IfOk, OnOk};
+ghost use Rattle.std.specs.{Prelude.{OnErr, IsTrue}, Option.is_some};
 ghost use Rattle.race_access.specs.KeptOf.{kept_of};
+ghost use Rattle.race_access.specs.Kept as spec;
 
 use crate::access::Access;
 use race_clock::Clock;

@@ -4,11 +4,9 @@
 //! one either, which is the greater. So the greatest access with which the next one races is always among those that
 //! are kept. The last Write stays also where a Read knows it, since a later Read races with Writes alone: behind
 //! `write x` by main, which a knows and b doesn't, `read x` by a and then by b race in main's Write and b's Read.
-ghost use Rattle.std.specs.Prelude.{◌≡◌, List, [], true, OnOk, OnErr, IsTrue};
-ghost use Rattle.std.specs.Option.{is_some, option_map};
+ghost use Rattle.std.specs.{Prelude.{◌≡◌, List, [], true, OnOk, OnErr, IsTrue}, Option.{is_some, option_map}};
 ghost use Rattle.race_access.specs.Touches.{Touch, IsReported, AreNotedIn, pair_noted};
-ghost use Rattle.race_access.specs.TouchHolds.{StandsFor, GoesOn};
-ghost use Rattle.race_access.specs.Kept.{AreRising};
+ghost use Rattle.race_access.specs.{TouchHolds.{StandsFor, GoesOn}, Kept.AreRising};
 
 use crate::access::Access;
 use crate::accesses::Accesses;

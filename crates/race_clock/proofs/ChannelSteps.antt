@@ -1,21 +1,13 @@
 -- The clocks of a channel, one event on.
-use Rattle.std.proofs.Common.{◌≡◌, ℕ, ◌+◌, ◌-◌, ◌<◌, ◌≤◌, max, Bool, true, false, List, [], ◌∷◌, ◌++◌}
-use Rattle.std.proofs.Common.{take, drop, length, refl, sym, ap, ◌∙◌, subst, arith, IsTrue, if◌then◌else◌, eqb-true, eq-eqb}
-use Rattle.race_records.specs.declared.event.Event.{Event}
-use Rattle.race_records.specs.declared.event.Op.{Op}
-use Rattle.race_records.specs.declared.event.Op.TheVariants.{Send, Recv, RecvClosed}
-use Rattle.race_model.specs.Events.{count, IsKth, sends, receives, closes}
-use Rattle.race_model.specs.Order.{IsSource}
-use Rattle.race_model.specs.Clocks.{CountsFrom}
-use Rattle.race_model.proofs.ClockSteps.{CountsAt}
-use Rattle.race_model.proofs.CountSteps.{count_push, as_number}
-use Rattle.race_model.proofs.ClockLemmas.{counts_like}
+use Rattle.std.proofs.Common.{◌≡◌, ℕ, ◌+◌, ◌-◌, ◌<◌, ◌≤◌, max, Bool, true, false, List, [], ◌∷◌, ◌++◌, take, drop}
+use Rattle.std.proofs.Common.{length, refl, sym, ap, ◌∙◌, subst, arith, IsTrue, if◌then◌else◌, eqb-true, eq-eqb}
+use Rattle.race_records.specs.declared.event.{Event.Event, Op.{Op, TheVariants.{Send, Recv, RecvClosed}}}
+use Rattle.race_model.specs.{Events.{count, IsKth, sends, receives, closes}, Order.IsSource, Clocks.CountsFrom}
+use Rattle.race_model.proofs.{ClockSteps.CountsAt, CountSteps.{count_push, as_number}, ClockLemmas.counts_like}
 use Rattle.race_model.proofs.SourceSteps.{from_none, from_as, from_same, from_more}
-use Rattle.race_clock.specs.ClockState.{knows, joined}
-use Rattle.race_clock.specs.ClocksState.{ChannelState, is_used_up, front, channel_sent, channel_received, channel_closed}
-use Rattle.race_clock.specs.StandsFor.{IsQueue, StandsForChannel}
-use Rattle.race_clock.proofs.ClockLists.{knows_joined}
-use Rattle.race_clock.proofs.QueueSteps.{queue_front, queue_pop, queue_same, queue_push}
+use Rattle.race_clock.specs.{ClockState.{knows, joined}, ClocksState.{ChannelState, is_used_up, front, channel_sent}}
+use Rattle.race_clock.specs.{ClocksState.{channel_received, channel_closed}, StandsFor.{IsQueue, StandsForChannel}}
+use Rattle.race_clock.proofs.{ClockLists.knows_joined, QueueSteps.{queue_front, queue_pop, queue_same, queue_push}}
 
 -- the same queue by another name of its first number
 queue_from : (caps : ℕ → ℕ) (past : List Event) (kind : Op → Bool) (n m : ℕ) (queue : List (List ℕ))

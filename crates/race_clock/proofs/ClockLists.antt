@@ -1,9 +1,9 @@
 -- What a clock knows after a change.
-use Rattle.std.proofs.Common.{◌≡◌, ℕ, zero, suc, ◌+◌, ◌-◌, ◌<◌, ◌≤◌, ◌==◌, max, List, [], ◌∷◌, ◌++◌, length}
-use Rattle.std.proofs.Common.{replicate, get_or, set, refl, sym, ap, ◌∙◌, inl, inr, arith, if◌then◌else◌, eq-eqb, ne_eqb, length-append}
-use Rattle.std.proofs.Math.Nat.{max-zero, zero-max}
-use Rattle.std.proofs.lemmas.Bool.{cases_eq, cases_lt}
-use Rattle.std.proofs.lemmas.List.{get_or-set_same, get_or-set_other, length-replicate, get_or-replicate, get_or-append_right, get_or_append_left}
+use Rattle.std.proofs.Common.{◌≡◌, ℕ, zero, suc, ◌+◌, ◌-◌, ◌<◌, ◌≤◌, ◌==◌, max, List, [], ◌∷◌, ◌++◌, length, replicate}
+use Rattle.std.proofs.Common.{get_or, set, refl, sym, ap, ◌∙◌, inl, inr, arith, if◌then◌else◌, eq-eqb, ne_eqb}
+use Rattle.std.proofs.{Common.length-append, Math.Nat.{max-zero, zero-max}, lemmas.Bool.{cases_eq, cases_lt}}
+use Rattle.std.proofs.lemmas.List.{get_or-set_same, get_or-set_other, length-replicate, get_or-replicate}
+use Rattle.std.proofs.lemmas.List.{get_or-append_right, get_or_append_left}
 use Rattle.race_model.specs.Clocks.{owning}
 use Rattle.race_clock.specs.ClockState.{knows, joined, padded, with_count}
 

@@ -1,34 +1,28 @@
 -- The clocks stand for the events, one event on.
 use Rattle.std.proofs.Common.{◌≡◌, ◌≢◌, ℕ, ◌+◌, ◌<◌, ◌≤◌, ◌==◌, ◌||◌, max, false, Some, None, List, [], ◌∷◌, ◌++◌}
-use Rattle.std.proofs.Common.{length, get_or, set, refl, sym, ap, ◌∙◌, subst, inl, inr, arith, IsTrue, if◌then◌else◌, eq-eqb, ne_eqb}
-use Rattle.std.proofs.Math.Nat.{max-zero, max_comm, le-max_right}
-use Rattle.std.proofs.lemmas.Bool.{cases_eq, or_right}
-use Rattle.std.proofs.lemmas.List.{get_or-set_same, get_or-set_other, length-set}
-use Rattle.race_records.specs.declared.event.Event.{Event}
-use Rattle.race_records.specs.declared.event.Op.{Op}
-use Rattle.race_records.specs.declared.event.Op.TheVariants.{Go, Read, Write, Send, Recv}
-use Rattle.race_records.specs.declared.event.Op.TheVariants.{Meet, RecvClosed, Close, Lock}
-use Rattle.race_records.specs.declared.event.Op.TheVariants.{Unlock, RLock, RUnlock, TryLock, TryRLock, OnceEnd}
-use Rattle.race_records.specs.declared.event.Op.TheVariants.{OnceDone}
-use Rattle.race_model.specs.Events.{is_access, partner, gives, takes_part, count, sends, receives, closes, locks, unlocks, runlocks, once_ends}
-use Rattle.race_model.specs.Order.{Begin, SynchronizedInside, IsSource, Reaches}
-use Rattle.race_model.specs.Clocks.{participations, CountsBegins, owning, CountsSeen, CountsFrom}
-use Rattle.race_model.proofs.ClockSteps.{Handed, CountsAt}
-use Rattle.race_model.proofs.Reaching.{who_takes_part}
-use Rattle.race_model.proofs.ClockLemmas.{one_if, participations_push, counts_like, max_within}
-use Rattle.race_model.proofs.ClockSteps.{counts_seen_from, counts_before, counts_at_begin, counts_alone, counts_pair, counts_other}
-use Rattle.race_model.proofs.SourceSteps.{from_none}
-use Rattle.race_clock.specs.ClockState.{knows, joined, with_count}
-use Rattle.race_clock.specs.ClocksState.{SlotState, ClocksState, no_slot, no_channel, no_lock, slot_of, next_slot, both_seen, met, clock_of}
-use Rattle.race_clock.specs.ClocksState.{parts_of, channel_of, lock_of, end_of, begin_of, handed, channels_after, locks_after, ends_after, acted}
-use Rattle.race_clock.specs.ClocksState.{paired, after, channel_sent, channel_received, channel_closed, lock_locked, lock_unlocked, lock_read_unlocked}
+use Rattle.std.proofs.Common.{length, get_or, set, refl, sym, ap, ◌∙◌, subst, inl, inr, arith, IsTrue, if◌then◌else◌}
+use Rattle.std.proofs.{Common.{eq-eqb, ne_eqb}, Math.Nat.{max-zero, max_comm, le-max_right}}
+use Rattle.std.proofs.lemmas.{Bool.{cases_eq, or_right}, List.{get_or-set_same, get_or-set_other, length-set}}
+use Rattle.race_records.specs.declared.event.{Event.Event, Op.{Op, TheVariants.{Go, Read, Write, Send, Recv, Meet}}}
+use Rattle.race_records.specs.declared.event.Op.TheVariants.{RecvClosed, Close, Lock, Unlock, RLock, RUnlock, TryLock}
+use Rattle.race_records.specs.declared.event.Op.TheVariants.{TryRLock, OnceEnd, OnceDone}
+use Rattle.race_model.specs.Events.{is_access, partner, gives, takes_part, count, sends, receives, closes, locks}
+use Rattle.race_model.specs.{Events.{unlocks, runlocks, once_ends}, Order.{Begin, SynchronizedInside, IsSource}}
+use Rattle.race_model.specs.{Order.Reaches, Clocks.{participations, CountsBegins, owning, CountsSeen, CountsFrom}}
+use Rattle.race_model.proofs.ClockSteps.{Handed, CountsAt, counts_seen_from, counts_before, counts_at_begin}
+use Rattle.race_model.proofs.{ClockSteps.{counts_alone, counts_pair, counts_other}, Reaching.who_takes_part}
+use Rattle.race_model.proofs.{ClockLemmas.{one_if, participations_push, counts_like, max_within}, SourceSteps.from_none}
+use Rattle.race_clock.specs.{ClockState.{knows, joined, with_count}, ClocksState.{SlotState, ClocksState, no_slot}}
+use Rattle.race_clock.specs.ClocksState.{no_channel, no_lock, slot_of, next_slot, both_seen, met, clock_of, parts_of}
+use Rattle.race_clock.specs.ClocksState.{channel_of, lock_of, end_of, begin_of, handed, channels_after, locks_after}
+use Rattle.race_clock.specs.ClocksState.{ends_after, acted, paired, after, channel_sent, channel_received}
+use Rattle.race_clock.specs.ClocksState.{channel_closed, lock_locked, lock_unlocked, lock_read_unlocked}
 use Rattle.race_clock.specs.StandsFor.{StandsForChannel, StandsForLock, ClocksStandFor, CountsReaching}
-use Rattle.race_clock.specs.Needs.{OpHasClocks, HasClocks}
-use Rattle.race_clock.proofs.ClockLists.{knows_joined, knows_with_count, joined_long, joined_long_right}
-use Rattle.race_clock.proofs.ChannelSteps.{all_same, all_more, hands_receive, hands_send}
-use Rattle.race_clock.proofs.ChannelSteps.{hands_closed, channel_same, channel_send}
-use Rattle.race_clock.proofs.ChannelSteps.{channel_receive, channel_close}
-use Rattle.race_clock.proofs.LockSteps.{hands_lock, hands_rlock, lock_same, lock_lock, lock_unlock, lock_runlock}
+use Rattle.race_clock.{specs.Needs.{OpHasClocks, HasClocks}, proofs.ClockLists.{knows_joined, knows_with_count}}
+use Rattle.race_clock.proofs.{ClockLists.{joined_long, joined_long_right}, ChannelSteps.{all_same, all_more}}
+use Rattle.race_clock.proofs.ChannelSteps.{hands_receive, hands_send, hands_closed, channel_same, channel_send}
+use Rattle.race_clock.proofs.{ChannelSteps.{channel_receive, channel_close}, LockSteps.{hands_lock, hands_rlock}}
+use Rattle.race_clock.proofs.LockSteps.{lock_same, lock_lock, lock_unlock, lock_runlock}
 
 -- a send finds room, and a receive finds a value
 abbrev pub FindsRoom : (ℕ → ℕ) → List Event → Op → Type 0

@@ -1,11 +1,10 @@
 -- Joined clocks as lists.
-use Rattle.std.proofs.Common.{◌≡◌, ℕ, zero, suc, ◌+◌, ◌-◌, ◌<◌, ◌≤◌, max, List, [], ◌∷◌}
-use Rattle.std.proofs.Common.{◌++◌, take, drop, length, get_or, set, refl, sym, ap, ◌∙◌, arith, append-nil, take_at, length-append, replicate}
-use Rattle.std.proofs.Math.Nat.{max_comm, max-zero, zero-max, le-max_left, le-max_right}
+use Rattle.std.proofs.Common.{◌≡◌, ℕ, zero, suc, ◌+◌, ◌-◌, ◌<◌, ◌≤◌, max, List, [], ◌∷◌, ◌++◌, take, drop, length}
+use Rattle.std.proofs.Common.{get_or, set, refl, sym, ap, ◌∙◌, arith, append-nil, take_at, length-append, replicate}
+use Rattle.std.proofs.{Math.Nat.{max_comm, max-zero, zero-max, le-max_left, le-max_right}, lemmas.List.append_assoc}
+use Rattle.std.proofs.lemmas.List.{length-replicate, replicate-append-replicate, take-replicate, set-get_or}
 use Rattle.race_model.proofs.ClockLemmas.{max_within}
-use Rattle.std.proofs.lemmas.List.{append_assoc, length-replicate, replicate-append-replicate, take-replicate, set-get_or}
-use Rattle.race_clock.specs.ClockState.{joined, padded}
-use Rattle.race_clock.specs.ClocksState.{filled}
+use Rattle.race_clock.specs.{ClockState.{joined, padded}, ClocksState.filled}
 
 -- a clock joined with nothing
 pub joined_nothing : (c : List ℕ) → joined c [] ≡ c

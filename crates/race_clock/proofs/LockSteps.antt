@@ -1,21 +1,14 @@
 -- The clocks of a lock, one event on.
-use Rattle.std.proofs.Common.{◌≡◌, ℕ, ◌+◌, ◌<◌, ◌≤◌, Bool, true, false, List, [], ◌∷◌, ◌++◌, take, length, refl, sym, ap, ◌∙◌, arith, IsTrue, length-append}
-use Rattle.std.proofs.lemmas.List.{take_all}
-use Rattle.std.proofs.lemmas.Option.{slice_get_within}
-use Rattle.race_records.specs.declared.event.Event.{Event}
-use Rattle.race_records.specs.declared.event.Op.{Op}
-use Rattle.race_records.specs.declared.event.Op.TheVariants.{Lock, RLock}
-use Rattle.race_model.specs.Events.{At, count, IsKth, locks, unlocks, runlocks}
-use Rattle.race_model.specs.Order.{IsSource}
-use Rattle.race_model.specs.Clocks.{CountsFrom}
-use Rattle.race_model.proofs.ClockSteps.{CountsAt}
-use Rattle.race_model.proofs.CountSteps.{count_up, count_below}
-use Rattle.race_model.proofs.ClockLemmas.{front_old, front_new}
-use Rattle.race_model.proofs.SourceSteps.{from_none, from_either, from_same, from_more, from_only, Agree}
-use Rattle.race_clock.specs.ClockState.{knows, joined}
-use Rattle.race_clock.specs.ClocksState.{LockState, lock_locked, lock_unlocked, lock_read_unlocked}
-use Rattle.race_clock.specs.StandsFor.{StandsForLock}
-use Rattle.race_clock.proofs.ChannelSteps.{count_one, count_same, from_joined, all_same, all_more}
+use Rattle.std.proofs.Common.{◌≡◌, ℕ, ◌+◌, ◌<◌, ◌≤◌, Bool, true, false, List, [], ◌∷◌, ◌++◌, take, length, refl, sym}
+use Rattle.std.proofs.{Common.{ap, ◌∙◌, arith, IsTrue, length-append}, lemmas.{List.take_all, Option.slice_get_within}}
+use Rattle.race_records.specs.declared.event.{Event.Event, Op.{Op, TheVariants.{Lock, RLock}}}
+use Rattle.race_model.specs.{Events.{At, count, IsKth, locks, unlocks, runlocks}, Order.IsSource, Clocks.CountsFrom}
+use Rattle.race_model.proofs.{ClockSteps.CountsAt, CountSteps.{count_up, count_below}}
+use Rattle.race_model.proofs.{ClockLemmas.{front_old, front_new}, SourceSteps.{from_none, from_either, from_same}}
+use Rattle.race_model.proofs.SourceSteps.{from_more, from_only, Agree}
+use Rattle.race_clock.specs.{ClockState.{knows, joined}, ClocksState.{LockState, lock_locked, lock_unlocked}}
+use Rattle.race_clock.{specs.{ClocksState.lock_read_unlocked, StandsFor.StandsForLock}, proofs.ChannelSteps.count_one}
+use Rattle.race_clock.proofs.ChannelSteps.{count_same, from_joined, all_same, all_more}
 
 -- the last of a kind
 abbrev pub IsLastOf : (Op → Bool) → List Event → ℕ → Op → Type 0

@@ -1,20 +1,13 @@
 -- An event that fits the declarations, and that keeps a list legal, may come next: so a caller that replays the trace
 -- beside the stamper meets its condition.
 use Rattle.std.proofs.Common.{◌≡◌, ℕ, ◌<◌, ◌≤◌, List, [], ◌∷◌, ◌++◌, None, take, length, refl, subst, arith, IsTrue}
-use Rattle.std.proofs.lemmas.List.{length-take-le}
-use Rattle.std.proofs.lemmas.Option.{slice_get_within}
-use Rattle.race_records.specs.declared.event.Event.{Event}
-use Rattle.race_records.specs.declared.kind.Kind.{Kind}
-use Rattle.race_records.specs.declared.trace.TheConstants.{MAX_EVENTS}
-use Rattle.race_records.specs.Declarations.{DeclsState, count_of, capacity_of}
-use Rattle.race_records.specs.Events.{fits}
-use Rattle.race_model.specs.Events.{At}
-use Rattle.race_model.specs.Legal.{IsLegal, broken}
-use Rattle.race_model.proofs.Indexes.{slice_get-push}
+use Rattle.std.proofs.lemmas.{List.length-take-le, Option.slice_get_within}
+use Rattle.race_records.specs.declared.{event.Event.Event, kind.Kind.Kind, trace.TheConstants.MAX_EVENTS}
+use Rattle.race_records.specs.{Declarations.{DeclsState, count_of, capacity_of}, Events.fits}
+use Rattle.race_model.{specs.{Events.At, Legal.{IsLegal, broken}}, proofs.Indexes.slice_get-push}
 use Rattle.race_model.proofs.ClockLemmas.{front_new}
 use Rattle.race_legal.proofs.RangeLemmas.{range_from_fits}
-use Rattle.race_clock.specs.StamperState.{StamperState}
-use Rattle.race_clock.specs.StandsFor.{StandsFor, IsNext}
+use Rattle.race_clock.specs.{StamperState.StamperState, StandsFor.{StandsFor, IsNext}}
 
 -- the last event of a legal list breaks no rule
 pub allowed_last : (caps : ℕ → ℕ) (past : List Event) (e : Event) → IsLegal caps (past ++ e ∷ []) → broken caps past e ≡ None

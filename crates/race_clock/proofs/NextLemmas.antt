@@ -1,28 +1,19 @@
 -- What a step needs, from the next event's being in range and breaking no rule.
-use Rattle.std.proofs.Common.{◌≡◌, ◌≢◌, ℕ, suc, ◌+◌, ◌<◌, ◌≤◌, ◌^◌, ◌==◌, ◌||◌, ◌&&◌, not, nat_lt, Bool}
-use Rattle.std.proofs.Common.{true, false, List, Some, length, slice_get, refl, sym, ◌∙◌, subst, arith, IsTrue, eq-eqb, ltb-true}
-use Rattle.std.proofs.lemmas.List.Sums.{count_by-le-length}
-use Rattle.std.proofs.lemmas.Bool.{not-false}
-use Rattle.race_records.specs.declared.event.Event.{Event}
-use Rattle.race_records.specs.declared.event.Op.{Op}
-use Rattle.race_records.specs.declared.event.Op.TheVariants.{Go, Send, Recv, Meet, RecvClosed, Close, Lock, Unlock, RLock, RUnlock}
-use Rattle.race_records.specs.declared.event.Op.TheVariants.{TryLock, TryRLock, OnceEnd, OnceDone}
-use Rattle.race_records.specs.declared.kind.Kind.{Kind}
-use Rattle.race_records.specs.declared.trace.TheConstants.{MAX_EVENTS}
-use Rattle.race_records.specs.Declarations.{Declaration, count_of, counts_of, capacity_of}
-use Rattle.race_records.specs.Parts.{op_is_in_range}
-use Rattle.race_model.specs.Events.{takes_part, has_exited, count, sends, receives}
-use Rattle.race_model.specs.State.{started, runs, buffered}
-use Rattle.race_model.specs.Legal.{op_rules, rules, actors_run, receiver_runs}
-use Rattle.race_model.specs.Clocks.{participations}
+use Rattle.std.proofs.Common.{◌≡◌, ◌≢◌, ℕ, suc, ◌+◌, ◌<◌, ◌≤◌, ◌^◌, ◌==◌, ◌||◌, ◌&&◌, not, nat_lt, Bool, true, false}
+use Rattle.std.proofs.Common.{List, Some, length, slice_get, refl, sym, ◌∙◌, subst, arith, IsTrue, eq-eqb, ltb-true}
+use Rattle.std.proofs.lemmas.{List.Sums.count_by-le-length, Bool.not-false}
+use Rattle.race_records.specs.declared.event.{Event.Event, Op.{Op, TheVariants.{Go, Send, Recv, Meet, RecvClosed}}}
+use Rattle.race_records.specs.declared.event.Op.TheVariants.{Close, Lock, Unlock, RLock, RUnlock, TryLock, TryRLock}
+use Rattle.race_records.specs.declared.{event.Op.TheVariants.{OnceEnd, OnceDone}, kind.Kind.Kind}
+use Rattle.race_records.specs.{declared.trace.TheConstants.MAX_EVENTS, Declarations.{Declaration, count_of, counts_of}}
+use Rattle.race_records.specs.{Declarations.capacity_of, Parts.op_is_in_range}
+use Rattle.race_model.specs.{Events.{takes_part, has_exited, count, sends, receives}, State.{started, runs, buffered}}
+use Rattle.race_model.specs.{Legal.{op_rules, rules, actors_run, receiver_runs}, Clocks.participations}
 use Rattle.race_model.proofs.ChannelOrder.{rules_kept}
 use Rattle.race_legal.specs.ReplayState.{IsInRange}
-use Rattle.race_clock.specs.ClocksState.{ClocksState, parts_of, channel_of}
-use Rattle.race_clock.specs.StamperState.{StamperState}
-use Rattle.race_clock.specs.StandsFor.{ClocksStandFor, StandsFor, IsAllowed}
-use Rattle.race_clock.specs.Needs.{OpHasClocks, HasClocks, IsApart, CountsFit}
-use Rattle.race_clock.proofs.ClocksSteps.{FindsRoom}
-use Rattle.race_clock.proofs.RoomLemmas.{send_room, receive_room}
+use Rattle.race_clock.specs.{ClocksState.{ClocksState, parts_of, channel_of}, StamperState.StamperState}
+use Rattle.race_clock.specs.{StandsFor.{ClocksStandFor, StandsFor, IsAllowed}, Needs.{OpHasClocks, HasClocks, IsApart}}
+use Rattle.race_clock.{specs.Needs.CountsFit, proofs.{ClocksSteps.FindsRoom, RoomLemmas.{send_room, receive_room}}}
 
 and_first : (a b : Bool) → (a && b) ≡ true → a ≡ true
 and_first true b is = refl

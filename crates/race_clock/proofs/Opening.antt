@@ -1,21 +1,16 @@
 -- Before the first event.
-use Rattle.std.proofs.Common.{◌≡◌, ℕ, zero, suc, ◌+◌, ◌-◌, ◌<◌, ◌==◌, Bool, true, false, List, [], ◌∷◌}
-use Rattle.std.proofs.Common.{◌++◌, length, replicate, get_or, refl, sym, ap, ◌∙◌, subst, inl, inr, arith, if◌then◌else◌, length-append}
-use Rattle.std.proofs.lemmas.Bool.{cases_lt}
+use Rattle.std.proofs.Common.{◌≡◌, ℕ, zero, suc, ◌+◌, ◌-◌, ◌<◌, ◌==◌, Bool, true, false, List, [], ◌∷◌, ◌++◌, length}
+use Rattle.std.proofs.Common.{replicate, get_or, refl, sym, ap, ◌∙◌, subst, inl, inr, arith, if◌then◌else◌}
+use Rattle.std.proofs.{Common.length-append, lemmas.Bool.cases_lt}
 use Rattle.std.proofs.lemmas.List.{get_or_append_left, length-replicate, get_or-replicate}
 use Rattle.std.proofs.Math.Seq.{get_or-append_seam}
-use Rattle.race_records.specs.declared.event.Op.{Op}
-use Rattle.race_records.specs.declared.kind.Kind.{Kind}
+use Rattle.race_records.specs.declared.{event.Op.Op, kind.Kind.Kind}
 use Rattle.race_records.specs.Declarations.{Declaration, count_of, capacity_of}
-use Rattle.race_model.specs.Known.{SeenBy}
-use Rattle.race_model.specs.Clocks.{CountsSeen, CountsFrom}
-use Rattle.race_model.proofs.SeenSteps.{seen_none}
-use Rattle.race_model.proofs.ClockLemmas.{counts_none}
-use Rattle.race_model.proofs.SourceSteps.{from_none}
-use Rattle.race_clock.specs.ClockState.{knows, padded}
-use Rattle.race_clock.specs.ClocksState.{ChannelState, SlotState, ClocksState, no_slot, no_channel, no_lock, slot_of}
-use Rattle.race_clock.specs.ClocksState.{channel_of, lock_of, end_of, first_slot, first_slots}
-use Rattle.race_clock.specs.First.{IsFirst}
+use Rattle.race_model.{specs.{Known.SeenBy, Clocks.{CountsSeen, CountsFrom}}, proofs.SeenSteps.seen_none}
+use Rattle.race_model.proofs.{ClockLemmas.counts_none, SourceSteps.from_none}
+use Rattle.race_clock.specs.{ClockState.{knows, padded}, ClocksState.{ChannelState, SlotState, ClocksState, no_slot}}
+use Rattle.race_clock.specs.ClocksState.{no_channel, no_lock, slot_of, channel_of, lock_of, end_of, first_slot}
+use Rattle.race_clock.specs.{ClocksState.first_slots, First.IsFirst}
 use Rattle.race_clock.specs.StandsFor.{StandsForChannel, StandsForLock, StandsFor}
 use Rattle.race_clock.proofs.ClockLists.{knows_padded, long_enough}
 

@@ -1,20 +1,13 @@
 -- A queue of clocks, one event on.
-use Rattle.std.proofs.Common.{◌≡◌, ℕ, ◌+◌, ◌-◌, ◌<◌, Bool, true, false, List, [], ◌∷◌, ◌++◌, take}
-use Rattle.std.proofs.Common.{drop, length, get_or, refl, sym, ap, ◌∙◌, subst, inl, inr, arith, length-append, length-drop}
-use Rattle.std.proofs.lemmas.Bool.{cases_lt}
-use Rattle.std.proofs.lemmas.List.{get_or-drop, get_or_append_left, take_all}
+use Rattle.std.proofs.Common.{◌≡◌, ℕ, ◌+◌, ◌-◌, ◌<◌, Bool, true, false, List, [], ◌∷◌, ◌++◌, take, drop, length, get_or}
+use Rattle.std.proofs.Common.{refl, sym, ap, ◌∙◌, subst, inl, inr, arith, length-append, length-drop}
+use Rattle.std.proofs.lemmas.{Bool.cases_lt, List.{get_or-drop, get_or_append_left, take_all}, Option.slice_get_within}
 use Rattle.std.proofs.Math.Seq.{get_or-append_seam}
-use Rattle.std.proofs.lemmas.Option.{slice_get_within}
-use Rattle.race_records.specs.declared.event.Event.{Event}
-use Rattle.race_records.specs.declared.event.Op.{Op}
-use Rattle.race_model.specs.Events.{At, count, IsKth}
-use Rattle.race_model.specs.Clocks.{CountsFrom}
-use Rattle.race_model.proofs.ClockSteps.{CountsAt}
-use Rattle.race_model.proofs.CountSteps.{count_push, count_below, as_number}
-use Rattle.race_model.proofs.ClockLemmas.{front_old, front_new}
+use Rattle.race_records.specs.declared.event.{Event.Event, Op.Op}
+use Rattle.race_model.{specs.{Events.{At, count, IsKth}, Clocks.CountsFrom}, proofs.ClockSteps.CountsAt}
+use Rattle.race_model.proofs.{CountSteps.{count_push, count_below, as_number}, ClockLemmas.{front_old, front_new}}
 use Rattle.race_model.proofs.SourceSteps.{Agree, from_same, from_only}
-use Rattle.race_clock.specs.ClockState.{knows}
-use Rattle.race_clock.specs.StandsFor.{IsQueue}
+use Rattle.race_clock.specs.{ClockState.knows, StandsFor.IsQueue}
 
 -- which event is number n of its kind stays
 pub kth_agrees : (caps : ℕ → ℕ) (past : List Event) (e : Event) (kind : Op → Bool) (n : ℕ)

@@ -3,8 +3,7 @@ use Rattle.std.proofs.Common.{◌≡◌, ℕ, ◌+◌, ◌-◌, ◌<◌, ◌==�
 use Rattle.std.proofs.lemmas.Bool.{cases_lt}
 use Rattle.race_records.specs.declared.event.Event.{Event}
 use Rattle.race_model.specs.Events.{count, sends, receives}
-use Rattle.race_clock.specs.ClocksState.{ChannelState}
-use Rattle.race_clock.specs.StandsFor.{StandsForChannel}
+use Rattle.race_clock.specs.{ClocksState.ChannelState, StandsFor.StandsForChannel}
 
 module _ (caps : ℕ → ℕ) (past : List Event) (c : ℕ) (ch : ChannelState) (S : StandsForChannel caps past c ch) where
   -- a send into a buffer that isn't full finds room

@@ -1,19 +1,11 @@
 -- The laws of race_model's stamps are those of this crate's.
-use Rattle.std.proofs.Common.{◌≡◌, ℕ, ◌+◌, ◌<◌, true, false, List, [], ◌∷◌, ◌++◌, Some, take, length, refl, sym, ap, ◌∙◌, subst, arith, IsTrue}
-use Rattle.std.proofs.lemmas.List.{length-take-le}
-use Rattle.std.proofs.lemmas.Option.{slice_get_within}
-use Rattle.race_records.specs.declared.event.Event.{Event}
-use Rattle.race_records.specs.declared.event.Op.{Op}
-use Rattle.race_records.specs.declared.event.Op.TheVariants.{Read, Write}
-use Rattle.race_model.specs.Events.{At, is_access}
-use Rattle.race_model.specs.Order.{Begin, Reaches}
-use Rattle.race_model.specs.Clocks.{participations, CountsBegins}
-use Rattle.race_model.proofs.StampsLawful.{IsStamped}
-use Rattle.race_model.proofs.StampsLawful.{front_one, known_is_before, known_own, known_not_back, known_on}
-use Rattle.race_clock.specs.declared.stamp.Stamp.{Stamp}
-use Rattle.race_clock.specs.ClockState.{knows}
-use Rattle.race_clock.specs.Stamps.{stamp_with}
-use Rattle.race_clock.specs.Laws.{IsStampIn, KnownIsHappensBefore, IndexesRise, StampsAreLawful}
+use Rattle.std.proofs.Common.{◌≡◌, ℕ, ◌+◌, ◌<◌, true, false, List, [], ◌∷◌, ◌++◌, Some, take, length, refl, sym, ap}
+use Rattle.std.proofs.{Common.{◌∙◌, subst, arith, IsTrue}, lemmas.{List.length-take-le, Option.slice_get_within}}
+use Rattle.race_records.specs.declared.event.{Event.Event, Op.{Op, TheVariants.{Read, Write}}}
+use Rattle.race_model.specs.{Events.{At, is_access}, Order.{Begin, Reaches}, Clocks.{participations, CountsBegins}}
+use Rattle.race_model.proofs.StampsLawful.{IsStamped, front_one, known_is_before, known_own, known_not_back, known_on}
+use Rattle.race_clock.specs.{declared.stamp.Stamp.Stamp, ClockState.knows, Stamps.stamp_with, Laws.IsStampIn}
+use Rattle.race_clock.specs.Laws.{KnownIsHappensBefore, IndexesRise, StampsAreLawful}
 
 -- what the stamp of an operation says
 pub record Says (at who count : ℕ) (o : Op) (stamp : Stamp) : Type 0 where

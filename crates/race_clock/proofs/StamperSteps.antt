@@ -1,19 +1,15 @@
 -- A stamper stands for the events, one event on.
 use Rattle.std.proofs.Common.{◌≡◌, ℕ, ◌+◌, List, [], ◌∷◌, ◌++◌, length, sym, ap, ◌∙◌, subst, IsTrue, length-append}
 use Rattle.std.proofs.lemmas.List.{length-set}
-use Rattle.race_records.specs.declared.event.Event.{Event}
-use Rattle.race_records.specs.declared.event.Op.{Op}
-use Rattle.race_records.specs.declared.event.Op.TheVariants.{Send, Recv, Close, Lock, Unlock, RUnlock, TryLock, OnceEnd}
+use Rattle.race_records.specs.declared.event.{Event.Event, Op.{Op, TheVariants.{Send, Recv, Close, Lock, Unlock}}}
+use Rattle.race_records.specs.declared.event.Op.TheVariants.{RUnlock, TryLock, OnceEnd}
 use Rattle.race_records.specs.Declarations.{Declaration, capacity_of}
 use Rattle.race_model.specs.Events.{is_access}
 use Rattle.race_clock.specs.ClocksState.{ClocksState, clock_of, channel_of, lock_of, end_of, begin_of, channel_sent}
-use Rattle.race_clock.specs.ClocksState.{channel_received, channel_closed, lock_locked, lock_unlocked, lock_read_unlocked, after}
-use Rattle.race_clock.specs.ClockState.{joined}
-use Rattle.race_clock.specs.StamperState.{StamperState}
-use Rattle.race_clock.specs.StandsFor.{ClocksStandFor, StandsFor, IsAllowed, CountsReaching}
-use Rattle.race_clock.specs.Needs.{HasClocks}
-use Rattle.race_clock.proofs.ClocksSteps.{stands_after, reaching_after, length_after}
-use Rattle.race_clock.proofs.NextLemmas.{finds_room}
+use Rattle.race_clock.specs.ClocksState.{channel_received, channel_closed, lock_locked, lock_unlocked}
+use Rattle.race_clock.specs.{ClocksState.{lock_read_unlocked, after}, ClockState.joined, StamperState.StamperState}
+use Rattle.race_clock.specs.{StandsFor.{ClocksStandFor, StandsFor, IsAllowed, CountsReaching}, Needs.HasClocks}
+use Rattle.race_clock.proofs.{ClocksSteps.{stands_after, reaching_after, length_after}, NextLemmas.finds_room}
 
 -- no object comes or goes
 length_channels_after : (k : ClocksState) (who : ℕ) (o : Op) → length (after k who o).channels ≡ length k.channels

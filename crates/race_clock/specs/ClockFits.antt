@@ -1,6 +1,5 @@
 -- What a clock asks of its allocator's type.
-use Rattle.std.specs.Borrow.{RattleType, u32}
-use Rattle.std.specs.declared.alloc.Allocator.{Ghosts}
+use Rattle.std.specs.{Borrow.{RattleType, u32}, declared.alloc.Allocator.Ghosts}
 use Rattle.smallvec.specs.Iter.{SmallVecFitsInMemory}
 use denote.Param.{number}
 

@@ -1,6 +1,5 @@
 -- A clock is a list of counts, one for each goroutine; a count that is missing is 0.
-use Rattle.std.specs.Prelude.{ℕ, ◌-◌, List, [], ◌∷◌, ◌++◌, length, replicate, max, slice_set}
-use Rattle.std.specs.List.{slice_index_or}
+use Rattle.std.specs.{Prelude.{ℕ, ◌-◌, List, [], ◌∷◌, ◌++◌, length, replicate, max, slice_set}, List.slice_index_or}
 
 -- the count of goroutine g
 abbrev pub knows : List ℕ → ℕ → ℕ

@@ -1,11 +1,9 @@
 -- The clocks that a stamper keeps, and how an operation changes them.
-use Rattle.std.specs.Prelude.{ℕ, if◌then◌else◌, ◌==◌, ◌+◌, ◌-◌, Bool, List, [], ◌∷◌, ◌++◌, length, drop, zero, suc, slice_set}
-use Rattle.std.specs.List.{slice_index_or}
-use Rattle.race_records.specs.declared.event.Op.{Op}
-use Rattle.race_records.specs.declared.event.Op.TheVariants.{Go, Read, Write, Send, Recv}
-use Rattle.race_records.specs.declared.event.Op.TheVariants.{Meet, RecvClosed, Close, Lock}
-use Rattle.race_records.specs.declared.event.Op.TheVariants.{Unlock, RLock, RUnlock, TryLock, TryRLock, TryFail, OnceEnd}
-use Rattle.race_records.specs.declared.event.Op.TheVariants.{OnceDone}
+use Rattle.std.specs.Prelude.{ℕ, if◌then◌else◌, ◌==◌, ◌+◌, ◌-◌, Bool, List, [], ◌∷◌, ◌++◌, length, drop, zero, suc}
+use Rattle.std.specs.{Prelude.slice_set, List.slice_index_or}
+use Rattle.race_records.specs.declared.event.Op.{Op, TheVariants.{Go, Read, Write, Send, Recv, Meet, RecvClosed, Close}}
+use Rattle.race_records.specs.declared.event.Op.TheVariants.{Lock, Unlock, RLock, RUnlock, TryLock, TryRLock, TryFail}
+use Rattle.race_records.specs.declared.event.Op.TheVariants.{OnceEnd, OnceDone}
 use Rattle.race_clock.specs.ClockState.{joined, padded, with_count}
 
 -- of a channel: the clocks of the sends whose values wait in the buffer, those of the receives whose room no send has

@@ -1,7 +1,6 @@
 -- The clocks before the first event.
 use Rattle.std.specs.Prelude.{ℕ, ◌≡◌, ◌<◌, List, [], length, replicate}
-use Rattle.race_records.specs.declared.kind.Kind.{Kind}
-use Rattle.race_records.specs.Declarations.{Declaration, count_of, capacity_of}
+use Rattle.race_records.specs.{declared.kind.Kind.Kind, Declarations.{Declaration, count_of, capacity_of}}
 use Rattle.race_clock.specs.ClocksState.{ClocksState, channel_of, no_lock, first_slots, first_channel}
 
 -- under the declarations, nothing is known of what is declared

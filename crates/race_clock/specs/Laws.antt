@@ -1,12 +1,8 @@
 -- The laws of stamps. Each is the contract of a function in src/laws.rt that does nothing. (The Go Memory Model, "Memory Model": happens before)
 use Rattle.std.specs.Prelude.{ℕ, ◌≡◌, ◌<◌, ◌≤◌, ◌↔◌, List, Some, take}
 use Rattle.race_records.specs.declared.event.Event.{Event}
-use Rattle.race_model.specs.Events.{At}
-use Rattle.race_model.specs.Order.{HappensBefore}
-use Rattle.race_clock.specs.declared.stamp.Stamp.{Stamp}
-use Rattle.race_clock.specs.ClockState.{knows}
-use Rattle.race_clock.specs.Stamps.{stamp_of}
-use Rattle.race_clock.specs.StandsFor.{CountsReaching}
+use Rattle.race_model.specs.{Events.At, Order.HappensBefore}
+use Rattle.race_clock.specs.{declared.stamp.Stamp.Stamp, ClockState.knows, Stamps.stamp_of, StandsFor.CountsReaching}
 
 -- the stamp is that of an access among the events, and the clock is its goroutine's behind it, as `step` gives both
 pub record IsStampIn (caps : ℕ → ℕ) (events : List Event) (stamp : Stamp) (clock : List ℕ) : Type 0 where

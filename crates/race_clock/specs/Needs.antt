@@ -1,8 +1,8 @@
 -- What a step needs of the next operation: not needed to understand a contract.
 use Rattle.std.specs.Prelude.{ℕ, ◌≢◌, ◌<◌, ◌+◌, ◌^◌, length}
-use Rattle.race_records.specs.declared.event.Op.{Op}
-use Rattle.race_records.specs.declared.event.Op.TheVariants.{Go, Send, Recv, Meet, RecvClosed, Close, Lock, Unlock, RLock, RUnlock}
-use Rattle.race_records.specs.declared.event.Op.TheVariants.{TryLock, TryRLock, OnceEnd, OnceDone}
+use Rattle.race_records.specs.declared.event.Op.{Op, TheVariants.{Go, Send, Recv, Meet, RecvClosed, Close, Lock}}
+use Rattle.race_records.specs.declared.event.Op.TheVariants.{Unlock, RLock, RUnlock, TryLock, TryRLock, OnceEnd}
+use Rattle.race_records.specs.declared.event.Op.TheVariants.{OnceDone}
 use Rattle.race_clock.specs.ClocksState.{ClocksState, parts_of}
 
 -- there is a clock for each number that the operation names

@@ -1,8 +1,6 @@
 -- Stamps of accesses.
 use Rattle.std.specs.Prelude.{ℕ, ◌+◌, true, false, List, Option, Some, None, length}
-use Rattle.race_records.specs.declared.event.Event.{Event}
-use Rattle.race_records.specs.declared.event.Op.{Op}
-use Rattle.race_records.specs.declared.event.Op.TheVariants.{Read, Write}
+use Rattle.race_records.specs.declared.event.{Event.Event, Op.{Op, TheVariants.{Read, Write}}}
 use Rattle.race_model.specs.Clocks.{participations}
 use Rattle.race_clock.specs.declared.stamp.Stamp.{Stamp}
 

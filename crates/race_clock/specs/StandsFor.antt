@@ -1,19 +1,14 @@
 -- What a stamper says of the events that it took. (The Go Memory Model, "Memory Model": happens before)
 use Rattle.std.specs.Prelude.{ℕ, ◌≡◌, ◌<◌, ◌+◌, ◌-◌, Bool, IsTrue, None, List, [], ◌∷◌, ◌++◌, length, take}
 use Rattle.std.specs.List.{slice_index_or}
-use Rattle.race_records.specs.declared.event.Event.{Event}
-use Rattle.race_records.specs.declared.event.Op.{Op}
-use Rattle.race_records.specs.declared.kind.Kind.{Kind}
-use Rattle.race_records.specs.declared.trace.TheConstants.{MAX_EVENTS}
+use Rattle.race_records.specs.declared.{event.{Event.Event, Op.Op}, kind.Kind.Kind, trace.TheConstants.MAX_EVENTS}
 use Rattle.race_records.specs.Declarations.{Declaration, count_of, counts_of, capacity_of}
-use Rattle.race_model.specs.Events.{is_access, count, IsKth, sends, receives, closes, locks, unlocks, runlocks, once_ends}
-use Rattle.race_model.specs.Legal.{broken}
-use Rattle.race_model.specs.Order.{Begin, Reaches, IsLastUnlock}
+use Rattle.race_model.specs.Events.{is_access, count, IsKth, sends, receives, closes, locks, unlocks, runlocks}
+use Rattle.race_model.specs.{Events.once_ends, Legal.broken, Order.{Begin, Reaches, IsLastUnlock}}
 use Rattle.race_model.specs.Clocks.{participations, CountsBegins, CountsSeen, CountsFrom}
 use Rattle.race_legal.specs.ReplayState.{IsInRange}
-use Rattle.race_clock.specs.ClockState.{knows}
-use Rattle.race_clock.specs.ClocksState.{ChannelState, LockState, ClocksState, clock_of, parts_of, channel_of, lock_of, end_of}
-use Rattle.race_clock.specs.StamperState.{StamperState}
+use Rattle.race_clock.specs.{ClockState.knows, ClocksState.{ChannelState, LockState, ClocksState, clock_of, parts_of}}
+use Rattle.race_clock.specs.{ClocksState.{channel_of, lock_of, end_of}, StamperState.StamperState}
 
 -- the clocks of the events of a kind, from number `first` of them on to the last
 pub record IsQueue (caps : ℕ → ℕ) (past : List Event) (kind : Op → Bool) (first : ℕ) (queue : List (List ℕ)) : Type 0 where

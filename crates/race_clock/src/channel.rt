@@ -3,10 +3,10 @@
 //! A value that waits in the buffer has the clock of its send, and room that was freed that of its receive. So a channel
 //! keeps a clock for each value that was ever on its way, up to its capacity, and each clock that a send or a receive
 //! takes out is written again by the same event: in the long run none is allocated.
-ghost use Rattle.std.specs.Prelude.{◌≡◌, if◌then◌else◌, ◌+◌, ◌-◌, ◌<◌, ◌^◌, ℕ, List, [], ◌∷◌, ◌++◌, length, take, drop, OnOk, OnErr};
-ghost use Rattle.std.specs.Option.{option_map_or};
-ghost use Rattle.race_clock.specs.ClockState.{joined};
-ghost use Rattle.race_clock.specs.ClocksState.{ChannelState, first_channel, is_used_up, front, filled};
+ghost use Rattle.std.specs.Prelude.{◌≡◌, if◌then◌else◌, ◌+◌, ◌-◌, ◌<◌, ◌^◌, ℕ, List, [], ◌∷◌, ◌++◌, length, take, drop};
+ghost use Rattle.std.specs.{Prelude.{OnOk, OnErr}, Option.option_map_or};
+ghost use Rattle.race_clock.specs.{ClockState.joined, ClocksState.{ChannelState, first_channel, is_used_up, front}};
+ghost use Rattle.race_clock.specs.ClocksState.{filled};
 
 use crate::clock::Clock;
 use crate::kept::Kept;

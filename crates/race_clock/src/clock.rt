@@ -2,27 +2,10 @@
 //!
 //! Up to eight counts stand in the clock itself, and more than that take memory. So a run of few goroutines allocates no
 //! clock.
-ghost use Rattle.std.specs.Prelude.{
-  ◌≡◌,
-  ◌+◌,
-  ◌<◌,
-  ◌≤◌,
-  ◌^◌,
-  ℕ,
-  max,
-  List,
-  [],
-  length,
-  slice_set,
-  IsTrue,
-  IsOk,
-  IfOk,
-  OnOk,
-  OnErr,
-};
+ghost use Rattle.std.specs.Prelude.{◌≡◌, ◌+◌, ◌<◌, ◌≤◌, ◌^◌, ℕ, max, List, [], length, slice_set, IsTrue, IsOk, IfOk};
+ghost use Rattle.std.specs.Prelude.{OnOk, OnErr};
 ghost use Rattle.race_model.specs.Clocks.{owning};
-ghost use Rattle.race_clock.specs.ClockFits.{FitsInClock};
-ghost use Rattle.race_clock.specs.ClockState.{knows, joined, padded};
+ghost use Rattle.race_clock.specs.{ClockFits.FitsInClock, ClockState.{knows, joined, padded}};
 
 use crate::fits::Fits;
 use smallvec::SmallVec;

@@ -6,13 +6,11 @@
 //! allocated.
 ghost use Rattle.std.specs.Prelude.{◌≡◌, ◌≢◌, ◌+◌, ◌<◌, ◌^◌, ℕ, [], length, replicate, IfOk, OnOk, OnErr};
 ghost use Rattle.std.specs.List.{slice_index_or};
-ghost use Rattle.race_records.specs.declared.event.Op.TheVariants as op;
-ghost use Rattle.race_records.specs.declared.kind.Kind.{Kind};
-ghost use Rattle.race_records.specs.Declarations.{count_of, capacity_of};
-ghost use Rattle.race_clock.specs.ClocksState.{ClocksState, clock_of, parts_of, after};
-ghost use Rattle.race_clock.specs.ClocksState as spec;
-ghost use Rattle.race_clock.specs.First.{IsFirst};
+ghost use Rattle.race_records.specs.{declared.kind.Kind.Kind, Declarations.{count_of, capacity_of}};
+ghost use Rattle.race_clock.specs.{ClocksState.{ClocksState, clock_of, parts_of, after}, First.IsFirst};
 ghost use Rattle.race_clock.specs.Needs.{HasClocks, IsApart, CountsFit};
+ghost use Rattle.race_records.specs.declared.event.Op.TheVariants as op;
+ghost use Rattle.race_clock.specs.ClocksState as spec;
 
 use crate::channel::Channel;
 use crate::clock::Clock;

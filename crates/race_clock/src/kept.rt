@@ -1,6 +1,5 @@
 //! The clock that an object keeps for whoever comes later: two words, until it is first put there.
-ghost use Rattle.std.specs.Prelude.{◌≡◌, ◌≤◌, ℕ, List, [], length, OnOk, OnErr};
-ghost use Rattle.std.specs.Option.{option_map_or};
+ghost use Rattle.std.specs.{Prelude.{◌≡◌, ◌≤◌, ℕ, List, [], length, OnOk, OnErr}, Option.option_map_or};
 ghost use Rattle.race_clock.specs.ClockState.{joined};
 
 use crate::clock::Clock;

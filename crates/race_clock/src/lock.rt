@@ -1,8 +1,6 @@
 //! The clocks of a lock: four words, until it is first unlocked.
-ghost use Rattle.std.specs.Prelude.{◌≡◌, ◌+◌, ◌<◌, ◌^◌, List, [], OnOk, OnErr};
-ghost use Rattle.std.specs.Option.{option_map_or};
-ghost use Rattle.race_clock.specs.ClockState.{joined};
-ghost use Rattle.race_clock.specs.ClocksState.{LockState, no_lock, lock_locked, lock_unlocked};
+ghost use Rattle.std.specs.{Prelude.{◌≡◌, ◌+◌, ◌<◌, ◌^◌, List, [], OnOk, OnErr}, Option.option_map_or};
+ghost use Rattle.race_clock.specs.{ClockState.joined, ClocksState.{LockState, no_lock, lock_locked, lock_unlocked}};
 ghost use Rattle.race_clock.specs.UnlocksState.{UnlocksState};
 
 use crate::clock::Clock;

@@ -1,7 +1,6 @@
 //! A goroutine's clock, with how many events it took part in.
 ghost use Rattle.std.specs.Prelude.{◌≡◌, ◌+◌, ◌<◌, ◌^◌, IfOk, OnOk, OnErr};
-ghost use Rattle.race_clock.specs.ClockState.{joined, with_count};
-ghost use Rattle.race_clock.specs.ClocksState.{SlotState, first_slot};
+ghost use Rattle.race_clock.specs.{ClockState.{joined, with_count}, ClocksState.{SlotState, first_slot}};
 
 use crate::clock::Clock;
 use crate::kept::Kept;

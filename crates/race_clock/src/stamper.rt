@@ -1,9 +1,8 @@
 //! Stamps: which begins each access has seen.
 ghost use Rattle.std.specs.Prelude.{◌≡◌, ◌<◌, [], length, IfOk, OnOk, OnErr};
-ghost use Rattle.race_clock.specs.ClocksState.{clock_of, parts_of};
-ghost use Rattle.race_clock.specs.StamperState.{StamperState};
-ghost use Rattle.race_clock.specs.Stamps.{stamp_of, stamp_with};
-ghost use Rattle.race_clock.specs.StandsFor.{StandsFor, ForEachPast, IsNext, GoesOn, CountsAtAccess};
+ghost use Rattle.race_clock.specs.{ClocksState.{clock_of, parts_of}, StamperState.StamperState};
+ghost use Rattle.race_clock.specs.{Stamps.{stamp_of, stamp_with}, StandsFor.{StandsFor, ForEachPast, IsNext, GoesOn}};
+ghost use Rattle.race_clock.specs.StandsFor.{CountsAtAccess};
 
 use crate::Stamp;
 use crate::clock::Clock;

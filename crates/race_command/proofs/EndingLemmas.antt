@@ -1,21 +1,15 @@
 -- How the program ends, by what was asked for.
-use Rattle.std.proofs.Common.{◌≡◌, ◌&&◌, inl, inr, ℕ, true, List, Option, Result, Ok, Err, IfOk, IfErr, IsTrue, Global, ap, subst, sym, ◌∙◌}
-use Rattle.std.specs.declared.io.Error.{Error as IoError}
-use Rattle.std.specs.declared.io.ErrorKind.TheVariants as io
+use Rattle.std.proofs.Common.{◌≡◌, ◌&&◌, inl, inr, ℕ, true, List, Option, Result, Ok, Err, IfOk, IfErr, IsTrue, Global}
+use Rattle.std.{proofs.Common.{ap, subst, sym, ◌∙◌}, specs.{declared.{io.{Error.{Error as IoError}}}}}
 use Rattle.std.specs.IoError.{error_kind}
-use Rattle.clap.specs.declared.error.Error.{Error}
-use Rattle.clap.specs.declared.error.kind.ErrorKind.TheVariants as kind
-use Rattle.clap.specs.Values.{kind_of}
-use Rattle.race_records.specs.declared.source.Source.{Source}
-use Rattle.race_records.specs.declared.sink.Sink.{Sink}
-use Rattle.race_command.specs.declared.command.Request.{Request}
-use Rattle.race_tool.specs.declared.check.CheckOptions.{CheckOptions}
-use Rattle.race_tool.specs.declared.run_engine.RunOptions.{RunOptions}
-use Rattle.race_tool.specs.Engines.{Judges}
-use Rattle.race_tool.specs.Outcome.{are_in_limits}
-use Rattle.race_tool.specs.Options.{are_run_limits, picks_asked}
-use Rattle.race_command.specs.Ending.{Does, Declines, Ends, answer_without_words}
+use Rattle.clap.specs.{declared.error.Error.Error, Values.kind_of}
+use Rattle.race_records.specs.declared.{source.Source.Source, sink.Sink.Sink}
+use Rattle.race_command.specs.{declared.command.Request.Request, Ending.{Does, Declines, Ends, answer_without_words}}
 use Rattle.race_command.specs.Request.{is_in_limits}
+use Rattle.race_tool.specs.declared.{check.CheckOptions.CheckOptions, run_engine.RunOptions.RunOptions}
+use Rattle.race_tool.specs.{Engines.Judges, Outcome.are_in_limits, Options.{are_run_limits, picks_asked}}
+use Rattle.std.specs.declared.io.ErrorKind.TheVariants as io
+use Rattle.clap.specs.declared.error.kind.ErrorKind.TheVariants as kind
 
 -- the options of a run that is to be judged are in their limits
 pub both_in_limits : {request : Result Request Error} {asked : Request} {run : RunOptions Global} {check : CheckOptions}

@@ -1,8 +1,6 @@
 -- A number that is read is at most its limit.
-use Rattle.std.proofs.Common.{◌≡◌, ℕ, ◌≤◌, ◌&&◌, Bool, true, false, nat_le, if◌then◌else◌, List, Some, None, IfSome, refl, arith}
-use Rattle.std.proofs.lemmas.Bool.Decides.{nat_tests}
-use Rattle.std.specs.Str.{bytes_eq}
-use Rattle.std.specs.Str.Parse.{digits_value}
+use Rattle.std.proofs.Common.{◌≡◌, ℕ, ◌≤◌, ◌&&◌, Bool, true, false, nat_le, if◌then◌else◌, List, Some, None, IfSome}
+use Rattle.std.{proofs.{Common.{refl, arith}, lemmas.Bool.Decides.nat_tests}, specs.Str.{bytes_eq, Parse.digits_value}}
 use Rattle.std.specs.Fmt.{decimal}
 use Rattle.race_text.specs.Words.{number}
 

@@ -1,19 +1,12 @@
 -- How the program ends: with which status, and what was read and written.
 use Rattle.std.specs.Prelude.{◌≡◌, ◌⊎◌, ◌==◌, ℕ, IsTrue, if◌then◌else◌, List, Option, Some, None, codes}
-use Rattle.std.specs.Option.{option_map}
-use Rattle.std.specs.String.{string_bytes}
-use Rattle.std.specs.declared.io.ErrorKind.{ErrorKind as IoErrorKind}
-use Rattle.std.specs.declared.io.ErrorKind.TheVariants as io
+use Rattle.std.specs.{Option.option_map, String.string_bytes, declared.{io.{ErrorKind.{ErrorKind as IoErrorKind}}}}
 use Rattle.clap.specs.declared.error.kind.ErrorKind.{ErrorKind}
+use Rattle.race_records.specs.declared.{source.Source.Source, sink.Sink.Sink}
+use Rattle.race_command.specs.{declared.command.Request.Request, Request.is_in_limits}
+use Rattle.race_tool.specs.{Engines.{Checks, Lists, Runs, Judges}, Options.picks_asked, Witnesses.Shows, Drawings.Draws}
+use Rattle.std.specs.declared.io.ErrorKind.TheVariants as io
 use Rattle.clap.specs.declared.error.kind.ErrorKind.TheVariants as kind
-use Rattle.race_records.specs.declared.source.Source.{Source}
-use Rattle.race_records.specs.declared.sink.Sink.{Sink}
-use Rattle.race_command.specs.declared.command.Request.{Request}
-use Rattle.race_command.specs.Request.{is_in_limits}
-use Rattle.race_tool.specs.Engines.{Checks, Lists, Runs, Judges}
-use Rattle.race_tool.specs.Options.{picks_asked}
-use Rattle.race_tool.specs.Witnesses.{Shows}
-use Rattle.race_tool.specs.Drawings.{Draws}
 use Rattle.race_tool.specs.declared.status.TheConstants as status
 
 -- what was asked for is done: what its engine promises of options in their limits holds

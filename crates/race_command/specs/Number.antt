@@ -1,6 +1,5 @@
 -- Which words of the command line are numbers.
-use Rattle.std.specs.Prelude.{ℕ, nat_lt, if◌then◌else◌, List, Option, Some, None}
-use Rattle.std.specs.Option.{option_and_then}
+use Rattle.std.specs.{Prelude.{ℕ, nat_lt, if◌then◌else◌, List, Option, Some, None}, Option.option_and_then}
 use Rattle.race_text.specs.Words.{number}
 
 -- the number that the word is, from the least to the most

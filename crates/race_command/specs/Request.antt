@@ -1,8 +1,7 @@
 -- What a command line asks for.
 use Rattle.std.specs.Prelude.{◌&&◌, Bool, true}
 use Rattle.race_command.specs.declared.command.Request.{Request}
-use Rattle.race_tool.specs.Outcome.{are_in_limits}
-use Rattle.race_tool.specs.Options.{are_run_limits}
+use Rattle.race_tool.specs.{Outcome.are_in_limits, Options.are_run_limits}
 
 -- the options of the request are in their limits
 abbrev pub is_in_limits : Request → Bool

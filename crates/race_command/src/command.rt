@@ -1,7 +1,6 @@
 //! The command line: what it asks for.
 ghost use Rattle.std.specs.Prelude.{◌≤◌, IsTrue, IfOk, IfSome};
-ghost use Rattle.race_tool.specs.Outcome.{are_in_limits};
-ghost use Rattle.race_tool.specs.Options.{are_run_limits};
+ghost use Rattle.race_tool.specs.{Outcome.are_in_limits, Options.are_run_limits};
 ghost use Rattle.race_command.specs.Request.{is_in_limits};
 
 use crate::drawing::{draw, drawn_variable};

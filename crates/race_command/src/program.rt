@@ -1,13 +1,11 @@
 //! The program over any reader and any writer: from the words of the command line to a status.
-ghost use Rattle.std.specs.Prelude.{◌≡◌, IsTrue, IfOk, IfErr, option_map};
-ghost use Rattle.std.specs.declared.io.ErrorKind.TheVariants as io;
-ghost use Rattle.std.specs.IoError.{error_kind};
-ghost use Rattle.std.specs.Process.{exit_status};
+ghost use Rattle.std.specs.{Prelude.{◌≡◌, IsTrue, IfOk, IfErr, option_map}, IoError.error_kind, Process.exit_status};
 ghost use Rattle.std.specs.String.{string_bytes};
 ghost use Rattle.clap.specs.Values.{kind_of};
 ghost use Rattle.race_tool.specs.Drawings.{Draws};
 ghost use Rattle.race_command.specs.Ending.{Does, Declines, Ends, IsAnswerTo, answer_without_words, message_of};
 ghost use Rattle.race_command.specs.Request.{is_in_limits};
+ghost use Rattle.std.specs.declared.io.ErrorKind.TheVariants as io;
 
 use crate::command::{Request, parse};
 use clap::Error;

@@ -1,17 +1,12 @@
 -- Strands are added one by one, and what is drawn of a clean trace has the trace's numbers.
-use Rattle.std.proofs.Common.{◌≡◌, ℕ, zero, suc, ◌+◌, ◌<◌, Bool, List, [], ◌∷◌, ◌++◌, All, Option, length, get_or, take, drop, sym, subst, ap, ◌∙◌, arith}
-use Rattle.std.specs.List.{filter, range_with_len}
-use Rattle.std.proofs.lemmas.List.{at_drop_more}
-use Rattle.std.proofs.lemmas.List.Elements.{All-take}
+use Rattle.std.proofs.Common.{◌≡◌, ℕ, zero, suc, ◌+◌, ◌<◌, Bool, List, [], ◌∷◌, ◌++◌, All, Option, length, get_or, take}
+use Rattle.std.proofs.{Common.{drop, sym, subst, ap, ◌∙◌, arith}, lemmas.List.{at_drop_more, Elements.All-take}}
 use Rattle.std.proofs.lemmas.List.FromFn.{get_or-range_with_len, length-range_with_len}
-use Rattle.race_records.specs.declared.kind.Kind.{Kind}
-use Rattle.race_records.specs.Declarations.{count_of}
-use Rattle.race_records.specs.Events.{TraceState}
+use Rattle.std.specs.List.{filter, range_with_len}
+use Rattle.race_records.specs.{declared.kind.Kind.Kind, Declarations.count_of, Events.TraceState}
 use Rattle.race_edges.specs.declared.listing.Edge.{Edge}
-use Rattle.race_draw.specs.declared.clean.Strand.{Strand}
-use Rattle.race_draw.specs.declared.clean.TheConstants.{MAX_COLUMNS}
-use Rattle.race_draw.specs.Clean.{CleanState, strands_behind, lane_of}
-use Rattle.race_draw.specs.Chart.{CanBeCharted}
+use Rattle.race_draw.specs.declared.clean.{Strand.Strand, TheConstants.MAX_COLUMNS}
+use Rattle.race_draw.specs.{Clean.{CleanState, strands_behind, lane_of}, Chart.CanBeCharted}
 use Rattle.race_draw.proofs.LayoutLemmas.{below}
 
 -- one more

@@ -1,9 +1,7 @@
 -- A text is folded byte by byte, and its longest line is found so.
-use Rattle.std.proofs.Common.{◌≡◌, if◌then◌else◌, ◌==◌, ℕ, ◌+◌, ◌<◌, max, Bool, List, ◌∷◌, ◌++◌, length, get_or, drop, sym, ap, ◌∙◌, append_assoc}
-use Rattle.std.proofs.lemmas.List.{at_drop_more}
-use Rattle.race_draw.specs.declared.fold.Spot.{Spot}
-use Rattle.race_draw.specs.Fold.{folded, folds, piece, next}
-use Rattle.race_draw.specs.Svg.{longest}
+use Rattle.std.proofs.Common.{◌≡◌, if◌then◌else◌, ◌==◌, ℕ, ◌+◌, ◌<◌, max, Bool, List, ◌∷◌, ◌++◌, length, get_or, drop}
+use Rattle.std.proofs.{Common.{sym, ap, ◌∙◌, append_assoc}, lemmas.List.at_drop_more}
+use Rattle.race_draw.specs.{declared.fold.Spot.Spot, Fold.{folded, folds, piece, next}, Svg.longest}
 
 -- one byte more
 pub one_more : (spot after : Spot) (text out new : List ℕ) (i d : ℕ) (fold : Bool) → i < length text

@@ -1,20 +1,16 @@
 -- What is laid out of a race has the trace's numbers, so it can be drawn.
-use Rattle.std.proofs.Common.{◌≡◌, if◌then◌else◌, ℕ, zero, suc, ◌+◌, ◌<◌, ◌≤◌, Bool, true, false, List, [], ◌∷◌, ◌++◌, length, All, get_or, Option, Some, None, IfSome, slice_get, inl, inr, sym, subst, ap, ◌∙◌, arith}
+use Rattle.std.proofs.Common.{◌≡◌, if◌then◌else◌, ℕ, zero, suc, ◌+◌, ◌<◌, ◌≤◌, Bool, true, false, List, [], ◌∷◌, ◌++◌}
+use Rattle.std.proofs.Common.{length, All, get_or, Option, Some, None, IfSome, slice_get, inl, inr, sym, subst, ap, ◌∙◌}
+use Rattle.std.proofs.{Common.arith, lemmas.Option.{slice_get_within, slice_get-get_or}}
 use Rattle.std.specs.List.{filter, range_with_len}
-use Rattle.std.proofs.lemmas.Option.{slice_get_within, slice_get-get_or}
 use Rattle.race_model.proofs.Indexes.{at_same, push_at}
 use Rattle.race_records.specs.Events.{TraceState, IsTrace}
-use Rattle.race_verdict.specs.declared.races.Race.{Race}
-use Rattle.race_verdict.specs.Races.{race_of}
-use Rattle.race_verdict.specs.Traces.{capacities}
+use Rattle.race_verdict.specs.{declared.races.Race.Race, Races.race_of, Traces.capacities}
 use Rattle.race_verdict.proofs.RangeLemmas.{race_declared}
-use Rattle.race_edges.specs.declared.listing.Edge.{Edge}
-use Rattle.race_edges.specs.Edges.{IsEdge}
+use Rattle.race_edges.specs.{declared.listing.Edge.Edge, Edges.IsEdge}
 use Rattle.race_report.specs.Printable.{IsOf}
-use Rattle.race_shards.specs.Seen.{IsLastSeen}
-use Rattle.race_shards.specs.Witness.{RacesInOrder}
-use Rattle.race_draw.specs.declared.arrow.Arrow.{Arrow}
-use Rattle.race_draw.specs.Layout.{LayoutState, IsLayoutOf, AreListed, is_shown, rows_of}
+use Rattle.race_shards.specs.{Seen.IsLastSeen, Witness.RacesInOrder}
+use Rattle.race_draw.specs.{declared.arrow.Arrow.Arrow, Layout.{LayoutState, IsLayoutOf, AreListed, is_shown, rows_of}}
 use Rattle.race_draw.specs.Text.{CanBeDrawn}
 
 -- so is a list with one number in front, or without it

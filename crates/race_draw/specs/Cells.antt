@@ -2,14 +2,9 @@
 -- access's goroutine, the second one's, all others), and one for each of the four lanes beside them, in which the arrows go down.
 use Rattle.std.specs.Prelude.{ℕ, if◌then◌else◌, ◌==◌, ◌&&◌, nat_lt, nat_le, Bool, false, List, ◌++◌, codes}
 use Rattle.std.specs.List.{list_any}
-use Rattle.race_records.specs.declared.event.Op.{Op}
-use Rattle.race_records.specs.declared.event.Op.TheVariants.{Read, Write}
+use Rattle.race_records.specs.declared.event.Op.{Op, TheVariants.{Read, Write}}
 use Rattle.race_edges.specs.declared.listing.Edge.{Edge}
-use Rattle.race_draw.specs.declared.arrow.Arrow.{Arrow}
-use Rattle.race_draw.specs.declared.arrow.Lane.{Lane}
-use Rattle.race_draw.specs.declared.cells.Column.{Column}
-use Rattle.race_draw.specs.declared.cells.Mark.{Mark}
-use Rattle.race_draw.specs.declared.cells.Line.{Line}
+use Rattle.race_draw.specs.declared.{arrow.{Arrow.Arrow, Lane.Lane}, cells.{Column.Column, Mark.Mark, Line.Line}}
 
 -- the column of a goroutine
 abbrev pub column_of : Edge → ℕ → Column

@@ -1,21 +1,14 @@
 -- The chart of a clean trace: its report, the heads of the columns, and a row for each event. Events are printed with numbers from 1.
-use Rattle.std.specs.Prelude.{ℕ, if◌then◌else◌, ◌<◌, nat_lt, ◌==◌, ◌+◌, ◌-◌, ◌&&◌, Bool, false, All}
-use Rattle.std.specs.Prelude.{List, [], ◌∷◌, ◌++◌, length, slice_get, codes, decimal, unwrap_or, Some, None}
-use Rattle.std.specs.List.{concat, flat_map}
-use Rattle.race_records.specs.declared.kind.Kind.{Kind}
-use Rattle.race_records.specs.Declarations.{count_of}
-use Rattle.race_records.specs.Events.{TraceState}
-use Rattle.race_model.specs.Verdict as model
+use Rattle.std.specs.Prelude.{ℕ, if◌then◌else◌, ◌<◌, nat_lt, ◌==◌, ◌+◌, ◌-◌, ◌&&◌, Bool, false, All, List, [], ◌∷◌}
+use Rattle.std.specs.{Prelude.{◌++◌, length, slice_get, codes, decimal, unwrap_or, Some, None}, List.{concat, flat_map}}
+use Rattle.race_records.specs.{declared.kind.Kind.Kind, Declarations.count_of, Events.TraceState}
 use Rattle.race_text.specs.Text.{goroutine_name}
 use Rattle.race_shards.specs.Seen.{who_at}
 use Rattle.race_report.specs.Report.{newline, report}
-use Rattle.race_draw.specs.declared.clean.Strand.{Strand}
-use Rattle.race_draw.specs.declared.strokes.Row.{Row}
-use Rattle.race_draw.specs.Clean.{CleanState}
-use Rattle.race_draw.specs.Strokes.{row_of, column_cell, lane_cell}
-use Rattle.race_draw.specs.Text.{blanks, width_of}
-use Rattle.race_draw.specs.Words.{event_text}
+use Rattle.race_draw.specs.{declared.{clean.Strand.Strand, strokes.Row.Row}, Clean.CleanState}
+use Rattle.race_draw.specs.{Strokes.{row_of, column_cell, lane_cell}, Text.{blanks, width_of}, Words.event_text}
 use Rattle.race_draw.specs.Fold.{folded, line_start}
+use Rattle.race_model.specs.Verdict as model
 
 -- the last column
 abbrev pub last_of : List ℕ → ℕ

@@ -1,15 +1,10 @@
 -- What is drawn of a clean trace: each event, and the edges between them without those that say nothing new. (Our own; compare The Go Memory
 -- Model, "Memory Model": happens before)
-use Rattle.std.specs.Prelude.{ℕ, ◌≡◌, if◌then◌else◌, ◌==◌, ◌&&◌, ◌||◌, not, nat_lt, nat_le, Bool, false, List, [], ◌∷◌, ◌++◌, length, take, Option, Some, None}
-use Rattle.std.specs.List.{filter, find, list_any, range_with_len}
-use Rattle.race_records.specs.declared.event.Event.{Event}
-use Rattle.race_records.specs.declared.kind.Kind.{Kind}
-use Rattle.race_records.specs.Declarations.{count_of}
-use Rattle.race_records.specs.Events.{TraceState}
+use Rattle.std.specs.Prelude.{ℕ, ◌≡◌, if◌then◌else◌, ◌==◌, ◌&&◌, ◌||◌, not, nat_lt, nat_le, Bool, false, List, [], ◌∷◌}
+use Rattle.std.specs.{Prelude.{◌++◌, length, take, Option, Some, None}, List.{filter, find, list_any, range_with_len}}
+use Rattle.race_records.specs.{declared.{event.Event.Event, kind.Kind.Kind}, Declarations.count_of, Events.TraceState}
 use Rattle.race_edges.specs.declared.listing.Edge.{Edge}
-use Rattle.race_draw.specs.declared.clean.Strand.{Strand}
-use Rattle.race_draw.specs.declared.clean.TheConstants.{MAX_COLUMNS, MAX_LANES}
-use Rattle.race_draw.specs.Layout.{AreListed}
+use Rattle.race_draw.specs.{declared.clean.{Strand.Strand, TheConstants.{MAX_COLUMNS, MAX_LANES}}, Layout.AreListed}
 
 -- what its printer draws: the edges, each in its lane, the goroutines that have columns, whether others share the last one, the lanes that
 -- are used, and the events that are shown

@@ -1,9 +1,9 @@
 -- Lines of at most 100 columns. A tab stands where the text of a line begins, and isn't shown. From there on the line is folded: where the word
 -- behind a blank has no room in 100 columns, a new line stands in place of the blank, indented by two columns more than the text. A word
 -- that is longer than a line stands alone, whole.
-use Rattle.std.specs.Prelude.{ℕ, ◌+◌, ◌-◌, if◌then◌else◌, ◌==◌, ◌&&◌, ◌||◌, nat_le, Bool, true, false, List, [], ◌∷◌, ◌++◌, length, replicate, unwrap_or, position}
-use Rattle.race_draw.specs.declared.fold.Spot.{Spot}
-use Rattle.race_draw.specs.declared.fold.TheConstants.{COLUMNS, HANGING}
+use Rattle.std.specs.Prelude.{ℕ, ◌+◌, ◌-◌, if◌then◌else◌, ◌==◌, ◌&&◌, ◌||◌, nat_le, Bool, true, false, List, [], ◌∷◌}
+use Rattle.std.specs.Prelude.{◌++◌, length, replicate, unwrap_or, position}
+use Rattle.race_draw.specs.declared.fold.{Spot.Spot, TheConstants.{COLUMNS, HANGING}}
 
 -- before the first byte of a line
 abbrev pub line_start : Spot

@@ -2,19 +2,15 @@
 -- The first arrow is the one that is missing, from the first access to the second. Then come the way by which the second access got to know
 -- of the last event that it has seen of the first one's goroutine; the next edge that leaves that goroutine behind its access; and the edges
 -- by which the two goroutines were started. (Our own; compare The Go Memory Model, "Memory Model": data race)
-use Rattle.std.specs.Prelude.{ℕ, ◌≡◌, ◌<◌, ◌≤◌, ◌⊎◌, ◌==◌, ◌&&◌, ◌||◌, not, nat_lt, Bool, List, [], ◌∷◌, ◌++◌, map, length, slice_get, unwrap_or, Option, Some, None}
-use Rattle.std.specs.List.{filter, find, list_any, range_with_len}
-use Rattle.std.specs.Option.{option_to_list}
-use Rattle.race_records.specs.declared.event.Event.{Event}
-use Rattle.race_records.specs.Events.{TraceState}
-use Rattle.race_verdict.specs.declared.races.Race.{Race}
-use Rattle.race_verdict.specs.Traces.{capacities}
-use Rattle.race_edges.specs.declared.fault.TheConstants.{MAX_PLAIN_EVENTS}
-use Rattle.race_edges.specs.declared.listing.Edge.{Edge}
+use Rattle.std.specs.Prelude.{ℕ, ◌≡◌, ◌<◌, ◌≤◌, ◌⊎◌, ◌==◌, ◌&&◌, ◌||◌, not, nat_lt, Bool, List, [], ◌∷◌, ◌++◌, map}
+use Rattle.std.specs.{Prelude.{length, slice_get, unwrap_or, Option, Some, None}, List.{filter, find, list_any}}
+use Rattle.std.specs.{List.range_with_len, Option.option_to_list}
+use Rattle.race_records.specs.{declared.event.Event.Event, Events.TraceState}
+use Rattle.race_verdict.specs.{declared.races.Race.Race, Traces.capacities}
+use Rattle.race_edges.specs.declared.{fault.TheConstants.MAX_PLAIN_EVENTS, listing.Edge.Edge}
 use Rattle.race_edges.specs.Edges.{IsEdge, AreEdges}
 use Rattle.race_shards.specs.Seen.{who_at, IsLastSeen}
-use Rattle.race_draw.specs.declared.arrow.Arrow.{Arrow}
-use Rattle.race_draw.specs.declared.arrow.Lane.{Lane}
+use Rattle.race_draw.specs.declared.arrow.{Arrow.Arrow, Lane.Lane}
 
 -- what a printer draws: the race, the last event that the second access has seen of the first one's goroutine, the arrows, and the events that are shown
 pub record LayoutState : Type 0 where

@@ -1,8 +1,7 @@
 -- The rows of a clean trace's drawing, one for each event: four bytes for each column of goroutines, and three for each lane beside them.
-use Rattle.std.specs.Prelude.{ℕ, if◌then◌else◌, ◌==◌, ◌&&◌, ◌||◌, not, nat_lt, nat_le, min, max, Bool, false, List, [], ◌∷◌, Some, None, is_some}
-use Rattle.std.specs.List.{find, list_any}
-use Rattle.race_draw.specs.declared.clean.Strand.{Strand}
-use Rattle.race_draw.specs.declared.strokes.Row.{Row}
+use Rattle.std.specs.Prelude.{ℕ, if◌then◌else◌, ◌==◌, ◌&&◌, ◌||◌, not, nat_lt, nat_le, min, max, Bool, false, List, []}
+use Rattle.std.specs.{Prelude.{◌∷◌, Some, None, is_some}, List.{find, list_any}}
+use Rattle.race_draw.specs.declared.{clean.Strand.Strand, strokes.Row.Row}
 
 -- the strand is inside event k
 abbrev pub is_inside : ℕ → Strand → Bool

@@ -1,7 +1,7 @@
 -- The SVG document of a text: each line of the text is one of the picture. (Scalable Vector Graphics 2, "Text"; Extensible Markup
 -- Language 1.0, 2.4)
-use Rattle.std.specs.Prelude.{ℕ, ◌+◌, ◌-◌, ◌*◌, ◌^◌, min, max, count_by, if◌then◌else◌, ◌==◌, List, [], ◌∷◌, ◌++◌, codes, decimal, unwrap_or, Option, Some, None}
-use Rattle.std.specs.List.{concat, flat_map}
+use Rattle.std.specs.Prelude.{ℕ, ◌+◌, ◌-◌, ◌*◌, ◌^◌, min, max, count_by, if◌then◌else◌, ◌==◌, List, [], ◌∷◌, ◌++◌}
+use Rattle.std.specs.{Prelude.{codes, decimal, unwrap_or, Option, Some, None}, List.{concat, flat_map}}
 use Rattle.race_draw.specs.declared.svg.Size.{Size}
 
 -- what stands for a byte that can't stand in the document itself: a line's end begins the next line of the picture

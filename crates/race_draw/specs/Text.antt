@@ -1,24 +1,16 @@
 -- The text of drawings. Events are printed with numbers from 1, and as the trace has them. A tab in it marks where the text of a line begins
 -- (Fold).
 use Rattle.std.specs.Prelude.{ℕ, if◌then◌else◌, ◌<◌, nat_lt, ◌==◌, ◌+◌, ◌-◌, ◌&&◌, ◌||◌, not, Bool, true, false, All}
-use Rattle.std.specs.Prelude.{List, [], ◌∷◌, ◌++◌, length, take, slice_get, codes, decimal, unwrap_or, Option, Some, None, IfSome}
-use Rattle.std.specs.List.{concat, flat_map, list_any}
+use Rattle.std.specs.Prelude.{List, [], ◌∷◌, ◌++◌, length, take, slice_get, codes, decimal, unwrap_or, Option, Some}
+use Rattle.std.specs.{Prelude.{None, IfSome}, List.{concat, flat_map, list_any}}
 use Rattle.race_records.specs.Events.{TraceState}
 use Rattle.race_text.specs.Text.{ended}
-use Rattle.race_verdict.specs.Races.{race_of}
-use Rattle.race_edges.specs.declared.fault.TheConstants.{MAX_PLAIN_EVENTS}
-use Rattle.race_edges.specs.declared.listing.Edge.{Edge}
-use Rattle.race_verdict.specs.declared.races.Race.{Race}
-use Rattle.race_report.specs.Printable.{IsOf}
-use Rattle.race_report.specs.Report.{newline, access_word, race_line, races_line}
-use Rattle.race_draw.specs.declared.arrow.Arrow.{Arrow}
-use Rattle.race_draw.specs.declared.arrow.Lane.{Lane}
-use Rattle.race_draw.specs.declared.cells.Column.{Column}
-use Rattle.race_draw.specs.declared.cells.Line.{Line}
-use Rattle.race_draw.specs.Layout.{LayoutState, missing}
-use Rattle.race_draw.specs.Cells.{end_at, line_at, cell, lane_cell}
-use Rattle.race_draw.specs.Words.{event_text, name_at, op_at}
-use Rattle.race_draw.specs.Fold.{folded, line_start}
+use Rattle.race_verdict.specs.{Races.race_of, declared.races.Race.Race}
+use Rattle.race_edges.specs.declared.{fault.TheConstants.MAX_PLAIN_EVENTS, listing.Edge.Edge}
+use Rattle.race_report.specs.{Printable.IsOf, Report.{newline, access_word, race_line, races_line}}
+use Rattle.race_draw.specs.declared.{arrow.{Arrow.Arrow, Lane.Lane}, cells.{Column.Column, Line.Line}}
+use Rattle.race_draw.specs.{Layout.{LayoutState, missing}, Cells.{end_at, line_at, cell, lane_cell}}
+use Rattle.race_draw.specs.{Words.{event_text, name_at, op_at}, Fold.{folded, line_start}}
 
 -- as many blanks, up to ten
 abbrev pub blanks : ℕ → List ℕ

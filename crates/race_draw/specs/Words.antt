@@ -1,9 +1,6 @@
 -- The words of a drawing that come from the trace.
 use Rattle.std.specs.Prelude.{ℕ, List, [], slice_get, Some, None}
-use Rattle.race_records.specs.declared.event.Event.{Event}
-use Rattle.race_records.specs.declared.event.Op.{Op}
-use Rattle.race_records.specs.declared.event.Op.TheVariants.{Exit}
-use Rattle.race_records.specs.Events.{TraceState}
+use Rattle.race_records.specs.{declared.event.{Event.Event, Op.{Op, TheVariants.Exit}}, Events.TraceState}
 use Rattle.race_text.specs.Text.{ended, event_line, goroutine_name}
 use Rattle.race_shards.specs.Seen.{who_at}
 

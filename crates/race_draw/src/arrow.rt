@@ -1,7 +1,5 @@
 //! Arrows, and which edges become arrows.
-ghost use Rattle.std.specs.Prelude.{◌≡◌, ◌++◌, map, IfOk, OnOk};
-ghost use Rattle.std.specs.List.{find};
-ghost use Rattle.std.specs.Option.{option_copied, option_to_list};
+ghost use Rattle.std.specs.{Prelude.{◌≡◌, ◌++◌, map, IfOk, OnOk}, List.find, Option.{option_copied, option_to_list}};
 ghost use Rattle.race_draw.specs.Layout as spec;
 
 use race_edges::Edge;

@@ -1,14 +1,11 @@
 //! The chart of a clean trace as text.
-ghost use Rattle.std.specs.Prelude.{◌≡◌, ◌<◌, ◌++◌, All, length, codes, IfOk};
-ghost use Rattle.std.specs.List.{flat_map};
-ghost use Rattle.race_records.specs.declared.kind.Kind.{Kind};
-ghost use Rattle.race_records.specs.Declarations.{count_of};
-ghost use Rattle.race_records.specs.Page.{Printing};
+ghost use Rattle.std.specs.{Prelude.{◌≡◌, ◌<◌, ◌++◌, All, length, codes, IfOk}, List.flat_map};
+ghost use Rattle.race_records.specs.{declared.kind.Kind.Kind, Declarations.count_of, Page.Printing};
 ghost use Rattle.race_text.specs.Output.{Writes};
-ghost use Rattle.race_model.specs.Verdict as model;
 ghost use Rattle.race_report.specs.Report.{newline, report};
-ghost use Rattle.race_draw.specs.Chart as spec;
 ghost use Rattle.race_draw.specs.Chart.{CanBeCharted};
+ghost use Rattle.race_model.specs.Verdict as model;
+ghost use Rattle.race_draw.specs.Chart as spec;
 
 use crate::chart_rows::print_rows;
 use crate::clean::{CleanLayout, Strand};

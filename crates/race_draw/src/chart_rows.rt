@@ -1,10 +1,9 @@
 //! The rows of a clean trace's chart.
-ghost use Rattle.std.specs.Prelude.{◌≡◌, ◌<◌, ◌++◌, All, length};
-ghost use Rattle.std.specs.List.{flat_map};
+ghost use Rattle.std.specs.{Prelude.{◌≡◌, ◌<◌, ◌++◌, All, length}, List.flat_map};
 ghost use Rattle.race_records.specs.Page.{Printing};
+ghost use Rattle.race_draw.specs.Words.{event_text};
 ghost use Rattle.race_draw.specs.Chart as spec;
 ghost use Rattle.race_draw.specs.Strokes as strokes;
-ghost use Rattle.race_draw.specs.Words.{event_text};
 
 use crate::chart::last_of;
 use crate::clean::Strand;

@@ -1,11 +1,9 @@
 //! What is drawn of a clean trace, as a value that its printer takes.
-ghost use Rattle.std.specs.Prelude.{◌≡◌, IfOk};
-ghost use Rattle.std.specs.List.{list_any, range_with_len};
+ghost use Rattle.std.specs.{Prelude.{◌≡◌, IfOk}, List.{list_any, range_with_len}};
 ghost use Rattle.race_model.specs.Legal.{IsLegal};
 ghost use Rattle.race_verdict.specs.Traces.{capacities};
+ghost use Rattle.race_draw.specs.{Clean.IsCleanLayoutOf, Chart.CanBeCharted};
 ghost use Rattle.race_draw.specs.Clean as spec;
-ghost use Rattle.race_draw.specs.Clean.{IsCleanLayoutOf};
-ghost use Rattle.race_draw.specs.Chart.{CanBeCharted};
 
 use crate::layout::listed;
 use crate::reduced::kept;

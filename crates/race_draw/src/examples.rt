@@ -1,10 +1,8 @@
 //! What is drawn of a few edges, and beside each what isn't. Each function does nothing, and its contract is the example.
 ghost use Rattle.std.specs.Prelude.{◌≡◌, [], ◌∷◌, true, false, codes, Some, None};
-ghost use Rattle.race_draw.specs.Clean.{are_too_many, kept};
-ghost use Rattle.race_draw.specs.Fold.{folds};
-ghost use Rattle.race_draw.specs.Layout.{next_of};
-ghost use Rattle.race_draw.specs.Svg.{escaped};
-ghost use Rattle.race_draw.specs.Examples.{edge, lanes_of, goroutines, over_a_receive, handed_on, unlock_for_both, missing_to, at};
+ghost use Rattle.race_draw.specs.{Clean.{are_too_many, kept}, Fold.folds, Layout.next_of, Svg.escaped, Examples.edge};
+ghost use Rattle.race_draw.specs.Examples.{lanes_of, goroutines, over_a_receive, handed_on, unlock_for_both};
+ghost use Rattle.race_draw.specs.Examples.{missing_to, at};
 
 /// Nine goroutines have a column each; of ten the last ones share one.
 pub fn nine_have_columns()

@@ -3,9 +3,8 @@ ghost use Rattle.std.specs.Prelude.{◌≡◌, ◌<◌, All, length, IfOk};
 ghost use Rattle.race_model.specs.Legal.{IsLegal};
 ghost use Rattle.race_verdict.specs.Traces.{capacities};
 ghost use Rattle.race_shards.specs.Witness.{RacesInOrder};
+ghost use Rattle.race_draw.specs.{Text.CanBeDrawn, Layout.{AreListed, IsLayoutOf, AreLaidOut, AreLayoutsOf}};
 ghost use Rattle.race_draw.specs.Layout as spec;
-ghost use Rattle.race_draw.specs.Text.{CanBeDrawn};
-ghost use Rattle.race_draw.specs.Layout.{AreListed, IsLayoutOf, AreLaidOut, AreLayoutsOf};
 
 use crate::arrow::{Arrow, arrows};
 use crate::way::way;

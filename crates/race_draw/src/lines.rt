@@ -1,9 +1,8 @@
 //! The lines of a drawing: for each event that is shown one for each arrow that leaves it, and for each that enters it.
-ghost use Rattle.std.specs.Prelude.{◌≡◌, ◌<◌, ◌++◌, All, length, codes};
-ghost use Rattle.std.specs.List.{flat_map};
+ghost use Rattle.std.specs.{Prelude.{◌≡◌, ◌<◌, ◌++◌, All, length, codes}, List.flat_map};
 ghost use Rattle.race_records.specs.Page.{Printing};
-ghost use Rattle.race_draw.specs.Text as spec;
 ghost use Rattle.race_draw.specs.Words.{event_text};
+ghost use Rattle.race_draw.specs.Text as spec;
 
 use crate::arrow::{Arrow, Lane};
 use crate::cells::{Column, Line, cell, lane_cell, line_at};

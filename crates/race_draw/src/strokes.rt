@@ -1,7 +1,5 @@
 //! The pieces of a clean trace's rows: a cell for each column of goroutines, and one for each lane of edges.
-ghost use Rattle.std.specs.Prelude.{◌≡◌};
-ghost use Rattle.std.specs.List.{find};
-ghost use Rattle.std.specs.Option.{option_copied};
+ghost use Rattle.std.specs.{Prelude.◌≡◌, List.find, Option.option_copied};
 ghost use Rattle.race_draw.specs.Strokes as spec;
 
 use crate::clean::Strand;

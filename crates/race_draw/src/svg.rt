@@ -1,6 +1,5 @@
 //! A drawing's text as an SVG document: each line of the text is one of the picture, in light or dark as the reader has it.
-ghost use Rattle.std.specs.Prelude.{◌≡◌, ◌++◌, option_map};
-ghost use Rattle.std.specs.List.{flat_map};
+ghost use Rattle.std.specs.{Prelude.{◌≡◌, ◌++◌, option_map}, List.flat_map};
 ghost use Rattle.race_records.specs.Page.{Printing};
 ghost use Rattle.race_text.specs.Output.{Writes};
 ghost use Rattle.race_draw.specs.Svg as spec;

@@ -1,13 +1,11 @@
 //! Drawings as text.
-ghost use Rattle.std.specs.Prelude.{◌≡◌, ◌<◌, ◌++◌, All, length, IfOk, IfSome};
-ghost use Rattle.std.specs.List.{flat_map};
+ghost use Rattle.std.specs.{Prelude.{◌≡◌, ◌<◌, ◌++◌, All, length, IfOk, IfSome}, List.flat_map};
 ghost use Rattle.race_records.specs.Page.{Printing};
 ghost use Rattle.race_text.specs.Output.{Writes};
 ghost use Rattle.race_verdict.specs.Races.{race_of};
-ghost use Rattle.race_report.specs.Report.{race_line};
-ghost use Rattle.race_report.specs.Printable.{IsOf};
-ghost use Rattle.race_draw.specs.Text as spec;
+ghost use Rattle.race_report.specs.{Report.race_line, Printable.IsOf};
 ghost use Rattle.race_draw.specs.Text.{CanBeDrawn};
+ghost use Rattle.race_draw.specs.Text as spec;
 
 use crate::arrow::Arrow;
 use crate::fold::folded;

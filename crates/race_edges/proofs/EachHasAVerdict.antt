@@ -1,34 +1,20 @@
 -- Every trace has a verdict: an event breaks a rule, or tables read off the races.
-use Rattle.std.proofs.Common.{◌≡◌, ℕ, zero, suc, ◌+◌, ◌<◌, ◌≤◌, ◌==◌, Bool, true, false, List, [], ◌∷◌, length, map, take, replicate}
-use Rattle.std.proofs.Common.{slice_set, Option, Some, None, is_some, if◌then◌else◌, refl, ap, ◌∙◌, subst, inl, inr, ◌⊎◌, arith}
-use Rattle.std.proofs.Common.{take-take}
-use Rattle.std.proofs.lemmas.Bool.Decides.{nat_tests}
-use Rattle.std.proofs.lemmas.List.{length-replicate, length-set, take_all}
-use Rattle.std.proofs.lemmas.Option.{slice_get_within}
+use Rattle.std.proofs.Common.{◌≡◌, ℕ, zero, suc, ◌+◌, ◌<◌, ◌≤◌, ◌==◌, Bool, true, false, List, [], ◌∷◌, length, map}
+use Rattle.std.proofs.Common.{take, replicate, slice_set, Option, Some, None, is_some, if◌then◌else◌, refl, ap, ◌∙◌}
+use Rattle.std.proofs.{Common.{subst, inl, inr, ◌⊎◌, arith, take-take}, lemmas.Bool.Decides.nat_tests}
+use Rattle.std.proofs.lemmas.{List.{length-replicate, length-set, take_all}, Option.slice_get_within}
 use Rattle.std.specs.List.{slice_index_or}
-use Rattle.race_records.specs.declared.event.Event.{Event}
-use Rattle.race_records.specs.declared.event.Op.{Op}
-use Rattle.race_records.specs.declared.kind.Kind.{Kind}
-use Rattle.race_records.specs.Declarations.{count_of}
+use Rattle.race_records.specs.{declared.{event.{Event.Event, Op.Op}, kind.Kind.Kind}, Declarations.count_of}
 use Rattle.race_records.specs.Events.{TraceState, IsTrace}
-use Rattle.race_model.specs.Events.{At}
-use Rattle.race_model.specs.Legal.{broken, IsLegal, IsIllegalAt}
-use Rattle.race_model.specs.Verdict.{Verdict, Illegal, Clean, Races}
+use Rattle.race_model.specs.{Events.At, Legal.{broken, IsLegal, IsIllegalAt}, Verdict.{Verdict, Illegal, Clean, Races}}
 use Rattle.race_model.proofs.Indexes.{at_below, at_same, take_within, take_at_old}
-use Rattle.race_verdict.specs.declared.races.Race.{Race}
-use Rattle.race_edges.specs.Synchronized.{source_at}
-use Rattle.race_edges.specs.TableState.{TableState, with_seen, inside, table_after}
-use Rattle.race_edges.proofs.IsTable.{IsTable}
-use Rattle.race_edges.specs.Partners.{noted, found_after, race_at}
-use Rattle.race_verdict.specs.Accesses.{accessed}
-use Rattle.race_verdict.specs.Races.{race_of, AreFound, races_of, AreRaces}
-use Rattle.race_verdict.specs.Traces.{capacities, HasVerdict}
-use Rattle.race_edges.proofs.RowLemmas.{shape_with_seen, shape_inside, shape_taken}
-use Rattle.race_edges.proofs.TableSteps.{table_none}
-use Rattle.race_edges.proofs.FoundSteps.{found_none}
-use Rattle.race_edges.proofs.JudgeSteps.{has_rows, has_place, table_next, found_next}
-use Rattle.race_verdict.proofs.RangeLemmas.{race_declared}
+use Rattle.race_verdict.specs.{declared.races.Race.Race, Accesses.accessed, Races.{race_of, AreFound, races_of}}
+use Rattle.race_verdict.{specs.{Races.AreRaces, Traces.{capacities, HasVerdict}}, proofs.RangeLemmas.race_declared}
 use Rattle.race_verdict.proofs.RaceLists.{are_races, free_from_none, listed_some}
+use Rattle.race_edges.specs.{Synchronized.source_at, TableState.{TableState, with_seen, inside, table_after}}
+use Rattle.race_edges.{specs.Partners.{noted, found_after, race_at}, proofs.IsTable.IsTable}
+use Rattle.race_edges.proofs.{RowLemmas.{shape_with_seen, shape_inside, shape_taken}, TableSteps.table_none}
+use Rattle.race_edges.proofs.{FoundSteps.found_none, JudgeSteps.{has_rows, has_place, table_next, found_next}}
 
 -- the tables keep their sizes
 rows_kept : (is : ℕ → Bool) (table : TableState) (n who : ℕ) (o : Op) → length (table_after is table n who o).rows ≡ length table.rows

@@ -1,20 +1,13 @@
 -- The list of edges, one edge on.
-use Rattle.std.proofs.Common.{◌≡◌, ◌⊎◌, ◌↔◌, ℕ, ◌+◌, ◌<◌, ◌≤◌, Bool, true, false, List, [], ◌∷◌, ◌++◌}
-use Rattle.std.proofs.Common.{length, take, Some, None, slice_get, refl, sym, ap, ◌∙◌, subst, inl, inr}
-use Rattle.std.proofs.Common.{arith, IsTrue}
-use Rattle.std.proofs.lemmas.Option.{none-some, same_Some, slice_get_within}
-use Rattle.std.proofs.lemmas.Bool.{cases_eq}
+use Rattle.std.proofs.Common.{◌≡◌, ◌⊎◌, ◌↔◌, ℕ, ◌+◌, ◌<◌, ◌≤◌, Bool, true, false, List, [], ◌∷◌, ◌++◌, length, take}
+use Rattle.std.proofs.Common.{Some, None, slice_get, refl, sym, ap, ◌∙◌, subst, inl, inr, arith, IsTrue}
+use Rattle.std.proofs.lemmas.{Option.{none-some, same_Some, slice_get_within}, Bool.cases_eq}
 use Rattle.race_records.specs.declared.event.Event.{Event}
-use Rattle.race_model.specs.Events.{At, partner}
-use Rattle.race_model.specs.Order.{SynchronizedInside, IsSource}
-use Rattle.race_model.proofs.Indexes.{at_same, slice_get-take, slice_get-push, push_at, append_at_old, take_within, take_at_old}
-use Rattle.race_model.proofs.Ranks.{synchronized_up}
-use Rattle.race_edges.specs.declared.listing.Edge.{Edge}
-use Rattle.race_model.specs.Synchronized.{joins}
-use Rattle.race_edges.specs.Synchronized.{source_at}
-use Rattle.race_edges.specs.Edges.{IsEdge, ComesBefore, AreEdges}
+use Rattle.race_model.specs.{Events.{At, partner}, Order.{SynchronizedInside, IsSource}, Synchronized.joins}
+use Rattle.race_model.proofs.Indexes.{at_same, slice_get-take, slice_get-push, push_at, append_at_old, take_within}
+use Rattle.race_model.proofs.{Indexes.take_at_old, Ranks.synchronized_up, SynchronizedTests.{joins_is, source_is}}
+use Rattle.race_edges.specs.{declared.listing.Edge.Edge, Synchronized.source_at, Edges.{IsEdge, ComesBefore, AreEdges}}
 use Rattle.race_edges.specs.EdgesSoFar.{AreEdgesWhere, LeadsBefore, AreEdgesBefore, edge_inside, with_edge}
-use Rattle.race_model.proofs.SynchronizedTests.{joins_is, source_is}
 use Rattle.race_edges.proofs.SynchronizedLemmas.{source_at_is, inside_pair}
 
 -- edges with the same numbers are the same

@@ -1,23 +1,18 @@
 -- What is noted of each variable is right, one event on.
-use Rattle.std.proofs.Common.{◌≡◌, ◌⊎◌, ℕ, ◌+◌, ◌<◌, ◌≤◌, Bool, true, false, List, [], ◌∷◌, ◌++◌, length, replicate, Option, Some, None}
-use Rattle.std.proofs.Common.{IfSome, is_some, get_or, set, if◌then◌else◌, refl, sym, ◌∙◌, subst, inl, inr, arith, IsTrue, eqb-true, eq-eqb}
-use Rattle.std.proofs.Common.{length-append}
-use Rattle.std.specs.Option.{option_map}
-use Rattle.std.proofs.lemmas.Bool.{cases_eq, cases_lt}
-use Rattle.std.proofs.lemmas.List.{get_or-set_same, get_or-set_other, get_or-replicate, length-set, length-replicate}
+use Rattle.std.proofs.Common.{◌≡◌, ◌⊎◌, ℕ, ◌+◌, ◌<◌, ◌≤◌, Bool, true, false, List, [], ◌∷◌, ◌++◌, length, replicate}
+use Rattle.std.proofs.Common.{Option, Some, None, IfSome, is_some, get_or, set, if◌then◌else◌, refl, sym, ◌∙◌, subst}
+use Rattle.std.proofs.Common.{inl, inr, arith, IsTrue, eqb-true, eq-eqb, length-append}
+use Rattle.std.proofs.lemmas.{Bool.{cases_eq, cases_lt}, List.{get_or-set_same, get_or-set_other, get_or-replicate}}
+use Rattle.std.{proofs.lemmas.List.{length-set, length-replicate}, specs.Option.option_map}
 use Rattle.race_records.specs.declared.event.Event.{Event}
-use Rattle.race_model.specs.Events.{gives, accesses}
-use Rattle.race_model.specs.Race.{IsAccessOf, IsRace}
-use Rattle.race_model.proofs.Indexes.{at_same, slice_get-push}
-use Rattle.race_model.proofs.RaceSteps.{race_turned, access_within, race_old, reported_grow}
-use Rattle.race_verdict.specs.declared.races.Race.{Race}
-use Rattle.race_edges.specs.TableState.{TableState}
-use Rattle.race_edges.proofs.IsTable.{IsTable}
-use Rattle.race_edges.specs.Partners.{is_partner, greatest_below, race_at, HasPlace, noted, found_after}
-use Rattle.race_verdict.specs.Accesses.{accessed}
-use Rattle.race_verdict.specs.Races.{IsFound, AreFound}
+use Rattle.race_model.specs.{Events.{gives, accesses}, Race.{IsAccessOf, IsRace}}
+use Rattle.race_model.proofs.{Indexes.{at_same, slice_get-push}, RaceSteps.{race_turned, access_within, race_old}}
+use Rattle.race_model.proofs.RaceSteps.{reported_grow}
+use Rattle.race_verdict.specs.{declared.races.Race.Race, Accesses.accessed, Races.{IsFound, AreFound}}
 use Rattle.race_verdict.proofs.RangeLemmas.{accesses_is}
-use Rattle.race_edges.proofs.PartnerLemmas.{IsGreatest, greatest_is, race_from_partner, partner_from_race}
+use Rattle.race_edges.specs.{TableState.TableState, Partners.{is_partner, greatest_below, race_at, HasPlace, noted}}
+use Rattle.race_edges.{specs.Partners.found_after, proofs.{IsTable.IsTable, PartnerLemmas.{IsGreatest, greatest_is}}}
+use Rattle.race_edges.proofs.PartnerLemmas.{race_from_partner, partner_from_race}
 
 -- before the first event there is no race
 pub found_none : (caps : ℕ → ℕ) (vars : ℕ) → AreFound caps [] (replicate vars None)

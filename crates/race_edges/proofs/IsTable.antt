@@ -1,10 +1,8 @@
 -- What a table says of the events so far.
 use Rattle.std.specs.Prelude.{ℕ, ◌≡◌, ◌<◌, ◌≤◌, ◌↔◌, IsTrue, List, length}
 use Rattle.race_records.specs.declared.event.Event.{Event}
-use Rattle.race_model.specs.Events.{At}
-use Rattle.race_model.specs.Known.{SeenBy, SeenAt}
-use Rattle.race_edges.specs.Synchronized.{can_be_source}
-use Rattle.race_edges.specs.TableState.{TableState, row_of, sees}
+use Rattle.race_model.specs.{Events.At, Known.{SeenBy, SeenAt}}
+use Rattle.race_edges.specs.{Synchronized.can_be_source, TableState.{TableState, row_of, sees}}
 
 -- goroutine g has seen the begin of event i
 abbrev pub HasSeen : (ℕ → ℕ) → List Event → ℕ → ℕ → Type 0

@@ -1,27 +1,17 @@
 -- The judge's tables are right, one event on.
-use Rattle.std.proofs.Common.{◌≡◌, ◌↔◌, ℕ, ◌+◌, ◌<◌, Bool, List, [], ◌∷◌, ◌++◌, length, take, Option, Some, IfSome, IsTrue, slice_get, sym, ◌∙◌, subst, arith}
-use Rattle.std.proofs.lemmas.Option.{slice_get_within}
+use Rattle.std.proofs.Common.{◌≡◌, ◌↔◌, ℕ, ◌+◌, ◌<◌, Bool, List, [], ◌∷◌, ◌++◌, length, take, Option, Some, IfSome}
+use Rattle.std.proofs.{Common.{IsTrue, slice_get, sym, ◌∙◌, subst, arith}, lemmas.Option.slice_get_within}
 use Rattle.std.proofs.lemmas.List.{length-take-le}
-use Rattle.race_records.specs.declared.event.Event.{Event}
-use Rattle.race_records.specs.declared.kind.Kind.{Kind}
-use Rattle.race_records.specs.Declarations.{count_of, counts_of}
+use Rattle.race_records.specs.{declared.{event.Event.Event, kind.Kind.Kind}, Declarations.{count_of, counts_of}}
 use Rattle.race_records.specs.Events.{TraceState, IsTrace}
-use Rattle.race_model.specs.Events.{At, partner}
-use Rattle.race_model.specs.Order.{IsSource}
-use Rattle.race_model.proofs.Indexes.{take_at_old}
-use Rattle.race_legal.proofs.Fronts.{take_next}
-use Rattle.race_verdict.specs.declared.races.Race.{Race}
-use Rattle.race_edges.specs.Synchronized.{source_at}
-use Rattle.race_edges.specs.TableState.{TableState, HasRows, table_after}
-use Rattle.race_edges.proofs.IsTable.{IsTable}
-use Rattle.race_edges.specs.Partners.{HasPlace, found_after}
-use Rattle.race_verdict.specs.Accesses.{accessed}
-use Rattle.race_verdict.specs.Races.{AreFound}
-use Rattle.race_verdict.proofs.RangeLemmas.{range_in_trace, partner_in_range, accessed_in_range}
+use Rattle.race_model.{specs.{Events.{At, partner}, Order.IsSource}, proofs.Indexes.take_at_old}
 use Rattle.race_model.proofs.SynchronizedTests.{source_is}
-use Rattle.race_edges.proofs.SynchronizedLemmas.{source_at_is}
-use Rattle.race_edges.proofs.TableSteps.{table_step}
-use Rattle.race_edges.proofs.FoundSteps.{found_step}
+use Rattle.race_legal.proofs.Fronts.{take_next}
+use Rattle.race_verdict.specs.{declared.races.Race.Race, Accesses.accessed, Races.AreFound}
+use Rattle.race_verdict.proofs.RangeLemmas.{range_in_trace, partner_in_range, accessed_in_range}
+use Rattle.race_edges.specs.{Synchronized.source_at, TableState.{TableState, HasRows, table_after}}
+use Rattle.race_edges.{specs.Partners.{HasPlace, found_after}, proofs.IsTable.IsTable}
+use Rattle.race_edges.proofs.{SynchronizedLemmas.source_at_is, TableSteps.table_step, FoundSteps.found_step}
 
 -- what is said of the event at an index, and the other way
 pub said_of : (events : List Event) (i : ℕ) (e : Event) (Holds : Event → Type 0) → slice_get events i ≡ Some e → IfSome (slice_get events i) Holds → Holds e

@@ -1,18 +1,11 @@
 -- The numbers of two events tell whether one is a source of the other.
-use Rattle.std.proofs.Common.{◌≡◌, ◌∙◌, ℕ, ◌+◌, ◌<◌, ◌==◌, ◌&&◌, ◌||◌, Bool, true, false, List, take, Some, None, IsTrue, refl, sym, ap, arith, eqb-true}
-use Rattle.std.proofs.lemmas.Bool.Decides.{nat_tests}
-use Rattle.std.proofs.lemmas.List.{take-take}
-use Rattle.std.proofs.lemmas.Option.{slice_get_within}
-use Rattle.std.specs.List.{slice_index_or}
-use Rattle.race_records.specs.declared.event.Event.{Event}
-use Rattle.race_records.specs.declared.event.Op.{Op}
-use Rattle.race_records.specs.declared.event.Op.TheVariants.{Send, Recv, Unlock, RUnlock}
-use Rattle.race_records.specs.declared.kind.Kind.{Kind}
-use Rattle.race_records.specs.Parts.{op_is_in_range}
-use Rattle.race_model.specs.Events.{At, sends, receives, locks, unlocks, runlocks, count}
-use Rattle.race_edges.specs.Numbers.{counts, AreNumbers}
-use Rattle.race_model.specs.Synchronized.{is_source}
-use Rattle.race_edges.specs.Synchronized.{source_at, is_before_lock, is_last_unlock}
+use Rattle.std.proofs.Common.{◌≡◌, ◌∙◌, ℕ, ◌+◌, ◌<◌, ◌==◌, ◌&&◌, ◌||◌, Bool, true, false, List, take, Some, None}
+use Rattle.std.proofs.{Common.{IsTrue, refl, sym, ap, arith, eqb-true}, lemmas.{Bool.Decides.nat_tests, List.take-take}}
+use Rattle.std.{proofs.lemmas.Option.slice_get_within, specs.List.slice_index_or}
+use Rattle.race_records.specs.declared.event.{Event.Event, Op.{Op, TheVariants.{Send, Recv, Unlock, RUnlock}}}
+use Rattle.race_records.specs.{declared.kind.Kind.Kind, Parts.op_is_in_range}
+use Rattle.race_model.specs.{Events.{At, sends, receives, locks, unlocks, runlocks, count}, Synchronized.is_source}
+use Rattle.race_edges.specs.{Numbers.{counts, AreNumbers}, Synchronized.{source_at, is_before_lock, is_last_unlock}}
 use Rattle.race_edges.proofs.SynchronizedLemmas.{source_at_is}
 
 -- the channel of a send is in range

@@ -1,18 +1,13 @@
 -- Which events an access races with, read off the table.
-use Rattle.std.proofs.Common.{◌≡◌, ◌⊎◌, ℕ, zero, suc, ◌<◌, ◌≤◌, ◌&&◌, ◌||◌, ◌↔◌, not, Bool, true, false, List, [], ◌∷◌, ◌++◌}
-use Rattle.std.proofs.Common.{length, take, Option, Some, None, if◌then◌else◌, refl, sym, ap, ◌∙◌, subst, inl, inr, arith}
-use Rattle.std.proofs.Common.{IsTrue, take_at}
-use Rattle.std.proofs.lemmas.Bool.{cases_eq, or_cases, or_left, or_right}
+use Rattle.std.proofs.Common.{◌≡◌, ◌⊎◌, ℕ, zero, suc, ◌<◌, ◌≤◌, ◌&&◌, ◌||◌, ◌↔◌, not, Bool, true, false, List, [], ◌∷◌}
+use Rattle.std.proofs.Common.{◌++◌, length, take, Option, Some, None, if◌then◌else◌, refl, sym, ap, ◌∙◌, subst, inl}
+use Rattle.std.proofs.{Common.{inr, arith, IsTrue, take_at}, lemmas.Bool.{cases_eq, or_cases, or_left, or_right}}
 use Rattle.race_records.specs.declared.event.Event.{Event}
-use Rattle.race_model.specs.Events.{At, accesses, writes}
-use Rattle.race_model.specs.Known.{SeenBy}
-use Rattle.race_model.specs.Race.{IsAccessOf, IsWriteOf, Conflict, IsRace}
-use Rattle.race_model.proofs.Indexes.{at_same, at_below, slice_get-push, append_at_old}
+use Rattle.race_model.specs.{Events.{At, accesses, writes}, Known.SeenBy, Race.{IsAccessOf, IsWriteOf, Conflict}}
+use Rattle.race_model.{specs.Race.IsRace, proofs.Indexes.{at_same, at_below, slice_get-push, append_at_old}}
 use Rattle.race_model.proofs.BeforeSeen.{race_from_unseen, unseen_from_race}
-use Rattle.race_edges.specs.TableState.{TableState, sees}
-use Rattle.race_edges.proofs.IsTable.{IsTable}
-use Rattle.race_edges.specs.Partners.{is_partner, greatest_below}
-use Rattle.race_edges.proofs.TableSteps.{table_seen}
+use Rattle.race_edges.specs.{TableState.{TableState, sees}, Partners.{is_partner, greatest_below}}
+use Rattle.race_edges.proofs.{IsTable.IsTable, TableSteps.table_seen}
 
 -- what isn't true is false
 false_from : (b : Bool) → (IsTrue b → ⊥) → b ≡ false

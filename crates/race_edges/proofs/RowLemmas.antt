@@ -1,16 +1,12 @@
 -- What rows tell after a change.
-use Rattle.std.proofs.Common.{◌≡◌, ◌≢◌, ◌⊎◌, ◌↔◌, ℕ, zero, suc, ◌<◌, ◌≤◌, ◌&&◌, not, Bool, true, false, List, [], length}
-use Rattle.std.proofs.Common.{get_or, set, if◌then◌else◌, Option, Some, None, IfSome, refl, sym, ap, ◌∙◌, subst, inl, inr}
-use Rattle.std.proofs.Common.{arith, IsTrue}
-use Rattle.std.proofs.lemmas.Bool.{cases_eq}
-use Rattle.std.proofs.lemmas.List.{get_or-set_same, get_or-set_other, length-set}
-use Rattle.std.proofs.lemmas.Option.{none-some, same_Some}
+use Rattle.std.proofs.Common.{◌≡◌, ◌≢◌, ◌⊎◌, ◌↔◌, ℕ, zero, suc, ◌<◌, ◌≤◌, ◌&&◌, not, Bool, true, false, List, []}
+use Rattle.std.proofs.Common.{length, get_or, set, if◌then◌else◌, Option, Some, None, IfSome, refl, sym, ap, ◌∙◌, subst}
+use Rattle.std.proofs.{Common.{inl, inr, arith, IsTrue}, lemmas.Bool.cases_eq}
+use Rattle.std.proofs.lemmas.{List.{get_or-set_same, get_or-set_other, length-set}, Option.{none-some, same_Some}}
 use Rattle.race_records.specs.declared.event.Op.{Op}
-use Rattle.race_model.specs.Events.{partner}
-use Rattle.race_model.specs.Order.{SynchronizedInside}
-use Rattle.race_model.specs.Synchronized.{joins}
-use Rattle.race_edges.specs.TableState.{row_of, sees, joined, with_seen, with_row, given, inside, taken}
+use Rattle.race_model.specs.{Events.partner, Order.SynchronizedInside, Synchronized.joins}
 use Rattle.race_model.proofs.SynchronizedTests.{joins_is}
+use Rattle.race_edges.specs.TableState.{row_of, sees, joined, with_seen, with_row, given, inside, taken}
 use Rattle.race_edges.proofs.SynchronizedLemmas.{inside_pair}
 
 -- One row.

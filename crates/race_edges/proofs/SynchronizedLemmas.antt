@@ -1,12 +1,10 @@
 -- Which operations can be sources, and between whom an edge inside an event leads.
 use Rattle.std.proofs.Common.{◌≡◌, ◌⊎◌, ◌∙◌, ℕ, false, List, Some, refl, ap, inl, inr, IsTrue, take, slice_get, None}
-use Rattle.race_records.specs.declared.event.Event.{Event}
-use Rattle.race_records.specs.declared.event.Op.{Op}
-use Rattle.race_records.specs.declared.event.Op.TheVariants.{Go, Send, Recv, Meet, RecvClosed, Close, Lock, Unlock, RLock, RUnlock}
-use Rattle.race_records.specs.declared.event.Op.TheVariants.{TryLock, TryRLock, OnceEnd, OnceDone}
+use Rattle.race_records.specs.declared.event.{Event.Event, Op.{Op, TheVariants.{Go, Send, Recv, Meet, RecvClosed}}}
+use Rattle.race_records.specs.declared.event.Op.TheVariants.{Close, Lock, Unlock, RLock, RUnlock, TryLock, TryRLock}
+use Rattle.race_records.specs.declared.event.Op.TheVariants.{OnceEnd, OnceDone}
 use Rattle.race_model.specs.Events.{At, partner, sends, receives, closes, unlocks, runlocks, once_ends}
-use Rattle.race_model.specs.Order.{SynchronizedInside, IsSource}
-use Rattle.race_model.specs.Synchronized.{is_source}
+use Rattle.race_model.specs.{Order.{SynchronizedInside, IsSource}, Synchronized.is_source}
 use Rattle.race_edges.specs.Synchronized.{can_be_source, source_at}
 
 -- the test on two events of a list

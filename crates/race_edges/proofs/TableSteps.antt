@@ -1,25 +1,18 @@
 -- A table tells what each goroutine has seen, one event on.
 use Rattle.std.proofs.Common.{◌≡◌, ◌⊎◌, ◌↔◌, ℕ, ◌+◌, ◌<◌, ◌≤◌, Bool, true, false, List, [], ◌∷◌, ◌++◌, if◌then◌else◌}
 use Rattle.std.proofs.Common.{length, replicate, IfSome, get_or, refl, sym, ap, ◌∙◌, subst, inl, inr, arith, IsTrue}
-use Rattle.std.proofs.Common.{length-append}
-use Rattle.std.proofs.Math.Seq.{get_or-append_seam}
-use Rattle.std.proofs.lemmas.List.{get_or-replicate, get_or_append_left, length-replicate}
-use Rattle.std.proofs.lemmas.Option.{slice_get_within}
+use Rattle.std.proofs.{Common.length-append, Math.Seq.get_or-append_seam}
+use Rattle.std.proofs.lemmas.{List.{get_or-replicate, get_or_append_left, length-replicate}, Option.slice_get_within}
 use Rattle.race_records.specs.declared.event.Event.{Event}
-use Rattle.race_model.specs.Events.{At, takes_part, partner}
-use Rattle.race_model.specs.Order.{Begin, SynchronizedInside, IsSource, Reaches}
-use Rattle.race_model.specs.Known.{SeenBy, SeenAt}
-use Rattle.race_model.proofs.SeenSteps.{Brings}
-use Rattle.race_model.proofs.Indexes.{at_same, at_below, slice_get-append, append_at_old, slice_get-push, push_at}
-use Rattle.race_model.proofs.Ranks.{reaches_up}
+use Rattle.race_model.specs.{Events.{At, takes_part, partner}, Order.{Begin, SynchronizedInside, IsSource, Reaches}}
+use Rattle.race_model.{specs.Known.{SeenBy, SeenAt}, proofs.SeenSteps.{Brings, seen_at_new, seen_at_from, seen_at_grow}}
+use Rattle.race_model.proofs.{SeenSteps.{seen_at_old, seen_grow, seen_brings, seen_step}, Indexes.{at_same, at_below}}
+use Rattle.race_model.proofs.{Indexes.{slice_get-append, append_at_old, slice_get-push, push_at}, Ranks.reaches_up}
 use Rattle.race_model.proofs.Reaching.{reaches_on, who_takes_part, inside_to}
-use Rattle.race_model.proofs.SeenSteps.{seen_at_new, seen_at_from, seen_at_grow, seen_at_old, seen_grow, seen_brings, seen_step}
-use Rattle.race_edges.specs.Synchronized.{can_be_source}
-use Rattle.race_edges.specs.TableState.{TableState, row_of, sees, with_seen, inside, kept, table_after, HasRows}
-use Rattle.race_edges.proofs.IsTable.{HasSeen, HadSeen, IsTable}
-use Rattle.race_edges.proofs.SynchronizedLemmas.{source_can_be, inside_pair}
-use Rattle.race_edges.proofs.RowLemmas.{shape_with_seen, sees_with_seen, shape_inside}
-use Rattle.race_edges.proofs.RowLemmas.{sees_inside, SeesInside, shape_taken, sees_taken}
+use Rattle.race_edges.specs.{Synchronized.can_be_source, TableState.{TableState, row_of, sees, with_seen, inside, kept}}
+use Rattle.race_edges.{specs.TableState.{table_after, HasRows}, proofs.IsTable.{HasSeen, HadSeen, IsTable}}
+use Rattle.race_edges.proofs.{SynchronizedLemmas.{source_can_be, inside_pair}, RowLemmas.shape_with_seen}
+use Rattle.race_edges.proofs.RowLemmas.{sees_with_seen, shape_inside, sees_inside, SeesInside, shape_taken, sees_taken}
 use Rattle.race_edges.proofs.RowLemmas.{SeesTaken, HoldsSeen, HeldSeen}
 
 -- only events of the list are seen

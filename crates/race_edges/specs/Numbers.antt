@@ -1,9 +1,8 @@
 -- The numbers by which operations of a kind are matched: the kth send with the kth receive, an RLock or a TryRLock with the last Unlock before it.
 use Rattle.std.specs.Prelude.{ℕ, ◌≡◌, ◌<◌, Bool, false, List, length, take, slice_get, Some, None}
 use Rattle.std.specs.List.{slice_index_or}
-use Rattle.race_records.specs.declared.event.Event.{Event}
-use Rattle.race_records.specs.declared.event.Op.{Op}
-use Rattle.race_records.specs.declared.event.Op.TheVariants.{Send, Recv, Lock, Unlock, RLock, RUnlock, TryLock, TryRLock, TryFail}
+use Rattle.race_records.specs.declared.event.{Event.Event, Op.{Op, TheVariants.{Send, Recv, Lock, Unlock, RLock}}}
+use Rattle.race_records.specs.declared.event.Op.TheVariants.{RUnlock, TryLock, TryRLock, TryFail}
 use Rattle.race_model.specs.Events.{sends, receives, locks, unlocks, count}
 
 -- the operations among which o has its number

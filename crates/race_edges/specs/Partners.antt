@@ -1,14 +1,10 @@
 -- The race that is noted for a variable: an event, and the greatest earlier access that it races with.
-use Rattle.std.specs.Prelude.{ℕ, zero, suc, ◌<◌, ◌||◌, ◌&&◌, not, if◌then◌else◌, Bool, false}
-use Rattle.std.specs.Prelude.{List, length, Option, Some, None, IfSome, is_some, slice_get}
-use Rattle.std.specs.Prelude.{slice_set}
-use Rattle.std.specs.List.{slice_index_or}
+use Rattle.std.specs.Prelude.{ℕ, zero, suc, ◌<◌, ◌||◌, ◌&&◌, not, if◌then◌else◌, Bool, false, List, length, Option}
+use Rattle.std.specs.{Prelude.{Some, None, IfSome, is_some, slice_get, slice_set}, List.slice_index_or}
 use Rattle.std.specs.Option.{option_map}
-use Rattle.race_records.specs.declared.event.Event.{Event}
-use Rattle.race_records.specs.declared.event.Op.{Op}
+use Rattle.race_records.specs.declared.event.{Event.Event, Op.Op}
 use Rattle.race_model.specs.Events.{writes, accesses}
-use Rattle.race_verdict.specs.Accesses.{accessed}
-use Rattle.race_verdict.specs.declared.races.Race.{Race}
+use Rattle.race_verdict.specs.{Accesses.accessed, declared.races.Race.Race}
 use Rattle.race_edges.specs.TableState.{sees}
 
 -- it has a place in the list

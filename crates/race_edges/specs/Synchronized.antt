@@ -1,10 +1,8 @@
 -- Which events are sources of an event of a list, and which operations can be one.
 use Rattle.std.specs.Prelude.{ℕ, ◌+◌, ◌==◌, ◌||◌, ◌&&◌, Bool, true, false, List, take, slice_get, Some, None}
-use Rattle.race_records.specs.declared.event.Event.{Event}
-use Rattle.race_records.specs.declared.event.Op.{Op}
-use Rattle.race_records.specs.declared.event.Op.TheVariants.{Send, Recv, Close, Unlock, RUnlock, TryLock, TryRLock, TryFail, OnceEnd}
-use Rattle.race_model.specs.Events.{unlocks, runlocks}
-use Rattle.race_model.specs.Synchronized.{is_source}
+use Rattle.race_records.specs.declared.event.{Event.Event, Op.{Op, TheVariants.{Send, Recv, Close, Unlock, RUnlock}}}
+use Rattle.race_records.specs.declared.event.Op.TheVariants.{TryLock, TryRLock, TryFail, OnceEnd}
+use Rattle.race_model.specs.{Events.{unlocks, runlocks}, Synchronized.is_source}
 
 -- an event of the operation can be a source
 abbrev pub can_be_source : Op → Bool

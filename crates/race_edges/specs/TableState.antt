@@ -1,10 +1,8 @@
 -- What the judge keeps of the events so far, and how the next event changes it.
-use Rattle.std.specs.Prelude.{ℕ, zero, suc, ◌<◌, if◌then◌else◌, Bool, true, false, List, [], ◌∷◌, ◌++◌, not, ◌&&◌, length, slice_set, IfSome, Some, None}
-use Rattle.std.specs.List.{slice_index_or}
-use Rattle.race_records.specs.declared.event.Event.{Event}
-use Rattle.race_records.specs.declared.event.Op.{Op}
-use Rattle.race_model.specs.Events.{partner}
-use Rattle.race_model.specs.Synchronized.{joins}
+use Rattle.std.specs.Prelude.{ℕ, zero, suc, ◌<◌, if◌then◌else◌, Bool, true, false, List, [], ◌∷◌, ◌++◌, not, ◌&&◌}
+use Rattle.std.specs.{Prelude.{length, slice_set, IfSome, Some, None}, List.slice_index_or}
+use Rattle.race_records.specs.declared.event.{Event.Event, Op.Op}
+use Rattle.race_model.specs.{Events.partner, Synchronized.joins}
 use Rattle.race_edges.specs.Synchronized.{can_be_source}
 
 -- a `Table` as its callers see it

@@ -4,9 +4,7 @@
 //! So a row of flags for each goroutine decides every pair of accesses when the later one comes. It
 //! takes time in the square of the events, and is what faster judges are compared with.
 ghost use Rattle.std.specs.Prelude.{◌≡◌, ◌≢◌, ◌↔◌, ◌<◌, length, IfOk};
-ghost use Rattle.race_verdict.specs.Races.{AreRaces};
-ghost use Rattle.race_verdict.specs.Traces.{capacities, HasVerdict};
-ghost use Rattle.race_verdict.specs.Verdicts.{verdict_of};
+ghost use Rattle.race_verdict.specs.{Races.AreRaces, Traces.{capacities, HasVerdict}, Verdicts.verdict_of};
 
 use crate::fault::{EdgeFault, MAX_PLAIN_EVENTS};
 use crate::numbers::Numbers;

@@ -1,8 +1,7 @@
 //! The synchronization edges of a short trace, in order.
 ghost use Rattle.std.specs.Prelude.{◌≡◌, ◌↔◌, ◌⊎◌, ◌<◌, ◌≤◌, ◌+◌, length, IfOk, OnOk};
 ghost use Rattle.race_model.specs.Legal.{IsLegal};
-ghost use Rattle.race_edges.specs.Edges.{AreEdges};
-ghost use Rattle.race_edges.specs.Numbers.{AreNumbers};
+ghost use Rattle.race_edges.specs.{Edges.AreEdges, Numbers.AreNumbers};
 ghost use Rattle.race_edges.specs.EdgesSoFar.{AreEdgesBefore, with_edge, edge_inside};
 ghost use Rattle.race_verdict.specs.Traces.{capacities, IsIllegal};
 

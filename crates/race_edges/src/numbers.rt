@@ -1,8 +1,7 @@
 //! The numbers by which operations are matched: how many of the kind that it counts stand before each
 //! on its object. A send counts sends and a receive receives; a lock, tried or not, and an RUnlock
 //! count locks, an Unlock and a lock for reading, tried or not, count Unlocks.
-ghost use Rattle.std.specs.Prelude.{◌≡◌, ◌<◌, length, IfOk};
-ghost use Rattle.std.specs.List.{slice_index_or};
+ghost use Rattle.std.specs.{Prelude.{◌≡◌, ◌<◌, length, IfOk}, List.slice_index_or};
 ghost use Rattle.race_edges.specs.Numbers as spec;
 
 use crate::kinds::{is_lock, is_receive, is_send, is_unlock};

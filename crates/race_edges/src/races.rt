@@ -1,15 +1,8 @@
 //! The races of a list of events, found event by event.
 ghost use Rattle.std.specs.Prelude.{◌≡◌, ◌<◌, ◌^◌, None, replicate, length, IfOk};
 ghost use Rattle.race_model.specs.Events.{reads, writes, accesses};
-ghost use Rattle.race_verdict.specs.Accesses.{accessed};
-ghost use Rattle.race_edges.specs.Partners.{
-  is_partner,
-  greatest_below,
-  found_after,
-  noted,
-  HasPlace,
-};
-ghost use Rattle.race_verdict.specs.Races.{races_of};
+ghost use Rattle.race_verdict.specs.{Accesses.accessed, Races.races_of};
+ghost use Rattle.race_edges.specs.Partners.{is_partner, greatest_below, found_after, noted, HasPlace};
 
 use crate::table::Table;
 use race_records::{Event, Op};

@@ -1,12 +1,11 @@
 //! What each operation brings to the order. The list of edges and the judge go by these tests, so
 //! that an operation has its arms here, and in numbers where it is matched by its number.
-ghost use Rattle.std.specs.Prelude.{◌≡◌, ◌<◌, length};
-ghost use Rattle.std.specs.List.{slice_index_or};
-ghost use Rattle.race_model.specs.Events as model;
+ghost use Rattle.std.specs.{Prelude.{◌≡◌, ◌<◌, length}, List.slice_index_or};
 ghost use Rattle.race_model.specs.Synchronized.{joins};
-ghost use Rattle.race_edges.specs.Synchronized as spec;
 ghost use Rattle.race_edges.specs.Numbers.{AreNumbers};
 ghost use Rattle.race_verdict.specs.Traces.{capacities};
+ghost use Rattle.race_model.specs.Events as model;
+ghost use Rattle.race_edges.specs.Synchronized as spec;
 
 use crate::kinds::{is_close, is_once_end, is_receive, is_runlock, is_send, is_unlock};
 use crate::numbers::Numbers;

@@ -3,13 +3,12 @@
 //! By its own events a goroutine sees their begins. By an edge inside an event it sees all that the
 //! other participant has seen, and by an edge from an earlier event, its source, all that had been
 //! seen at the begin of that one; so this is kept for the events that can be a source.
-ghost use Rattle.std.specs.Prelude.{◌≡◌, ◌<◌, ◌+◌, Bool, List, [], false, true, length, replicate, slice_set, slice_get, IfSome, IfOk, OnOk};
-ghost use Rattle.std.specs.List.{slice_index_or};
-ghost use Rattle.race_edges.specs.Numbers.{AreNumbers};
+ghost use Rattle.std.specs.Prelude.{◌≡◌, ◌<◌, ◌+◌, Bool, List, [], false, true, length, replicate, slice_set};
+ghost use Rattle.std.specs.{Prelude.{slice_get, IfSome, IfOk, OnOk}, List.slice_index_or};
+ghost use Rattle.race_edges.specs.{Numbers.AreNumbers, Synchronized.source_at};
 ghost use Rattle.race_model.specs.Synchronized.{joins};
-ghost use Rattle.race_edges.specs.Synchronized.{source_at};
-ghost use Rattle.race_edges.specs.TableState as spec;
 ghost use Rattle.race_verdict.specs.Traces.{capacities};
+ghost use Rattle.race_edges.specs.TableState as spec;
 
 use crate::numbers::Numbers;
 use crate::synchronized::{can_be_source, is_source, joins, partner};

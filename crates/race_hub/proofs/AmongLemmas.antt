@@ -1,13 +1,9 @@
 -- The first number of a list that is the one looked for.
-use Rattle.std.proofs.Common.{◌≡◌, ◌||◌, ℕ, zero, suc, ◌<◌, ◌≤◌, Bool, true, false, List, [], ◌∷◌, length, take, get_or, cond, nat_lt, Some, ◌==◌, ◌+◌, refl}
-use Rattle.std.proofs.Common.{sym, ap, ◌∙◌, arith, true≢false}
-use Rattle.std.specs.List.{list_any, count_by, position_or_len}
-use Rattle.std.proofs.lemmas.Bool.Decides.{nat_tests}
-use Rattle.std.proofs.lemmas.List.Sums.{fails_before_first, passes_at_first}
-use Rattle.std.proofs.lemmas.Option.{slice_get-get_or}
-use Rattle.race_hub.specs.Submits.{without_first}
-use Rattle.race_hub.proofs.OnceLemmas.{count_remove}
-use Rattle.std.proofs.lemmas.List.{take_all}
+use Rattle.std.proofs.Common.{◌≡◌, ◌||◌, ℕ, zero, suc, ◌<◌, ◌≤◌, Bool, true, false, List, [], ◌∷◌, length, take, get_or}
+use Rattle.std.proofs.Common.{cond, nat_lt, Some, ◌==◌, ◌+◌, refl, sym, ap, ◌∙◌, arith, true≢false}
+use Rattle.std.proofs.lemmas.{Bool.Decides.nat_tests, List.{take_all, Sums.{fails_before_first, passes_at_first}}}
+use Rattle.std.{proofs.lemmas.Option.slice_get-get_or, specs.List.{list_any, count_by, position_or_len}}
+use Rattle.race_hub.{specs.Submits.without_first, proofs.OnceLemmas.count_remove}
 
 either_false : (a b : Bool) → (a || b) ≡ false → (a ≡ false) × (b ≡ false)
 either_false true b is = absurd cc

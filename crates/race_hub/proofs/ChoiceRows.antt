@@ -1,23 +1,14 @@
 -- Who takes part in the event of a choice, and what each is told.
-use Rattle.std.proofs.Common.{◌≡◌, ◌==◌, ℕ, ◌<◌, ◌+◌, ◌-◌}
-use Rattle.std.proofs.Common.{Bool, true, false, cond, List}
-use Rattle.std.proofs.Common.{Option, Some, None, refl, sym, ap, ◌∙◌, subst, arith, slice_get, eqb-true, eq-eqb, true≢false}
+use Rattle.std.proofs.Common.{◌≡◌, ◌==◌, ℕ, ◌<◌, ◌+◌, ◌-◌, Bool, true, false, cond, List, Option, Some, None, refl, sym}
+use Rattle.std.proofs.Common.{ap, ◌∙◌, subst, arith, slice_get, eqb-true, eq-eqb, true≢false}
 use Rattle.std.proofs.lemmas.Option.{none-some, slice_get_within}
-use Rattle.race_records.specs.declared.event.Event.{Event}
-use Rattle.race_records.specs.declared.event.Op.{Op}
-use Rattle.race_records.specs.declared.event.Op.TheVariants.{Send, Recv, Meet}
-use Rattle.race_model.specs.Legal.{broken, rules}
-use Rattle.race_model.proofs.ChannelOrder.{rules_kept}
-use Rattle.race_requests.specs.declared.choice.Choice.{Choice}
-use Rattle.race_requests.specs.declared.request.Ask.{Ask}
-use Rattle.race_requests.specs.declared.request.Waiter.{Waiter}
-use Rattle.race_requests.specs.Table.{offers_of, done_by}
-use Rattle.race_requests.specs.Choices.{op_of, lone_event, meet_event, event_of}
-use Rattle.race_requests.specs.Choices.{ways}
-use Rattle.race_requests.specs.Choices.{ways_at}
-use Rattle.race_hub.specs.Fires.{IsPartnerRow}
-use Rattle.race_requests.proofs.ChoiceLemmas.{some_is, HasAnswer, sender_has, receiver_has, lone_told, meets_by, IsMeet, is_meet}
-use Rattle.race_hub.specs.Firing.{HasSomeRows}
+use Rattle.race_records.specs.declared.event.{Event.Event, Op.{Op, TheVariants.{Send, Recv, Meet}}}
+use Rattle.race_model.{specs.Legal.{broken, rules}, proofs.ChannelOrder.rules_kept}
+use Rattle.race_requests.specs.declared.{choice.Choice.Choice, request.{Ask.Ask, Waiter.Waiter}}
+use Rattle.race_requests.specs.{Table.{offers_of, done_by}, Choices.{op_of, lone_event, meet_event, event_of, ways}}
+use Rattle.race_requests.{specs.Choices.ways_at, proofs.ChoiceLemmas.{some_is, HasAnswer, sender_has, receiver_has}}
+use Rattle.race_requests.proofs.ChoiceLemmas.{lone_told, meets_by, IsMeet, is_meet}
+use Rattle.race_hub.specs.{Fires.IsPartnerRow, Firing.HasSomeRows}
 
 -- the row of a Meet that its sender has, and that of its receiver
 module _ (g r : ℕ) (apart : (r == g) ≡ false) (a b : Ask) (k q : ℕ) (op : Op)

@@ -1,12 +1,9 @@
 -- When the hub has ended.
-use Rattle.std.proofs.Common.{◌≡◌, ◌==◌, ◌&&◌, ℕ, ◌%◌, Bool, true, false, if◌then◌else◌, List, [], ◌∷◌, length, Option, Some, None, refl, ap, slice_get, arith}
-use Rattle.std.specs.List.{list_any}
-use Rattle.std.proofs.lemmas.Bool.Decides.{nat_tests}
-use Rattle.std.proofs.lemmas.Option.{slice_get_within}
-use Rattle.race_requests.specs.declared.choice.Choice.{Choice}
-use Rattle.race_hub.specs.declared.ending.End.{End}
-use Rattle.race_requests.specs.Search.{picked}
-use Rattle.race_hub.specs.Hub.{HubState, stop_of, end_of, is_deadlock, choices_of}
+use Rattle.std.proofs.Common.{◌≡◌, ◌==◌, ◌&&◌, ℕ, ◌%◌, Bool, true, false, if◌then◌else◌, List, [], ◌∷◌, length, Option}
+use Rattle.std.proofs.{Common.{Some, None, refl, ap, slice_get, arith}, lemmas.Bool.Decides.nat_tests}
+use Rattle.std.{proofs.lemmas.Option.slice_get_within, specs.List.list_any}
+use Rattle.race_requests.specs.{declared.choice.Choice.Choice, Search.picked}
+use Rattle.race_hub.specs.{declared.ending.End.End, Hub.{HubState, stop_of, end_of, is_deadlock, choices_of}}
 
 end_by : (stop : Option End) (dead : Bool) → stop ≡ None → dead ≡ false
     → ◌≡◌ {A = Option End} (elim stop [ Some e ↦ Some e | None ↦ if dead then Some End.Deadlock else None ]) None

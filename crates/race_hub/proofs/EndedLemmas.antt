@@ -1,24 +1,14 @@
 -- Who is through, one step on, and what becomes of a bad request.
-use Rattle.std.proofs.Common.{◌≡◌, ◌==◌, ◌||◌, ◌&&◌, not, ℕ, ◌<◌, ◌≤◌, ◌+◌, ◌++◌, Bool, true, false, cond, List, [], ◌∷◌, Option, Some, None, refl, sym, ap}
-use Rattle.std.proofs.Common.{◌∙◌, arith, true≢false, eq-eqb}
-use Rattle.std.specs.List.{count_by, find, list_any}
-use Rattle.std.specs.Prelude.{is_some}
-use Rattle.std.specs.Option.{option_or}
-use Rattle.std.proofs.lemmas.List.Folds.{find-append, list_any-append}
-use Rattle.std.proofs.lemmas.List.Elements.{filter-append}
-use Rattle.race_records.specs.declared.event.Event.{Event}
-use Rattle.race_records.specs.Declarations.{DeclsState}
-use Rattle.race_model.specs.Events.{is_exit, is_fault, has_exited}
-use Rattle.race_model.proofs.CountSteps.{as_number, has_exited_push}
-use Rattle.race_requests.specs.declared.request.Answer.{Answer}
-use Rattle.race_requests.specs.declared.request.Ask.{Ask}
-use Rattle.race_requests.specs.declared.request.Step.{Step}
-use Rattle.race_requests.specs.declared.request.Waiter.{Waiter}
-use Rattle.race_hub.specs.Hub.{ParkedState, HubState}
-use Rattle.race_hub.specs.Fires.{is_through, with_step}
-use Rattle.race_hub.specs.Kept.{is_active, has_failed, has_left, StandOnce}
-use Rattle.race_hub.specs.Recording.{others_of, HasBadRequest}
+use Rattle.std.proofs.Common.{◌≡◌, ◌==◌, ◌||◌, ◌&&◌, not, ℕ, ◌<◌, ◌≤◌, ◌+◌, ◌++◌, Bool, true, false, cond, List, []}
+use Rattle.std.proofs.Common.{◌∷◌, Option, Some, None, refl, sym, ap, ◌∙◌, arith, true≢false, eq-eqb}
+use Rattle.std.proofs.lemmas.List.{Folds.{find-append, list_any-append}, Elements.filter-append}
+use Rattle.std.specs.{List.{count_by, find, list_any}, Prelude.is_some, Option.option_or}
+use Rattle.race_records.specs.{declared.event.Event.Event, Declarations.DeclsState}
+use Rattle.race_model.{specs.Events.{is_exit, is_fault, has_exited}, proofs.CountSteps.{as_number, has_exited_push}}
+use Rattle.race_requests.specs.declared.request.{Answer.Answer, Ask.Ask, Step.Step, Waiter.Waiter}
 use Rattle.race_requests.specs.Sound.{asks_to_start, is_sound, is_out_of_turn, is_bad_among}
+use Rattle.race_hub.specs.{Hub.{ParkedState, HubState}, Fires.{is_through, with_step}, Kept.{is_active, has_failed}}
+use Rattle.race_hub.specs.{Kept.{has_left, StandOnce}, Recording.{others_of, HasBadRequest}}
 use Rattle.race_hub.proofs.OnceLemmas.{count_one, count_cons, has_failed_push}
 
 pub not_not : (b : Bool) → not (not b) ≡ b

@@ -1,34 +1,19 @@
 -- What a hub records as it ends.
-use Rattle.std.proofs.Common.{◌≡◌, ◌==◌, ◌||◌, ◌&&◌, not, ℕ, ◌<◌, ◌≤◌, ◌+◌, ◌++◌, Bool, true, false, cond, if◌then◌else◌, List, [], ◌∷◌, length}
-use Rattle.std.proofs.Common.{slice_get, slice_set, map, Option, Some, None, refl, sym, ap, ◌∙◌, subst, arith, true≢false, eq-eqb}
-use Rattle.std.specs.List.{find, count_by}
-use Rattle.std.specs.Prelude.{IsSome}
-use Rattle.std.specs.Option.{option_map}
-use Rattle.std.proofs.lemmas.Bool.Decides.{nat_tests}
-use Rattle.std.proofs.lemmas.Option.{none-some, slice_get_within, slice_get-map}
-use Rattle.std.proofs.lemmas.List.{length-set}
+use Rattle.std.proofs.Common.{◌≡◌, ◌==◌, ◌||◌, ◌&&◌, not, ℕ, ◌<◌, ◌≤◌, ◌+◌, ◌++◌, Bool, true, false, cond}
+use Rattle.std.proofs.Common.{if◌then◌else◌, List, [], ◌∷◌, length, slice_get, slice_set, map, Option, Some, None, refl}
+use Rattle.std.proofs.{Common.{sym, ap, ◌∙◌, subst, arith, true≢false, eq-eqb}, lemmas.Bool.Decides.nat_tests}
+use Rattle.std.proofs.lemmas.{Option.{none-some, slice_get_within, slice_get-map}, List.length-set}
+use Rattle.std.specs.{List.{find, count_by}, Prelude.IsSome, Option.option_map}
 use Rattle.race_records.specs.declared.event.Event.{Event}
-use Rattle.race_model.specs.Events.{has_exited}
-use Rattle.race_model.specs.State.{started}
-use Rattle.race_model.proofs.CountSteps.{as_number}
-use Rattle.race_model.proofs.Indexes.{at_below}
-use Rattle.race_hub.specs.declared.ending.End.{End}
-use Rattle.race_requests.specs.declared.request.Step.{Step}
-use Rattle.race_requests.specs.declared.request.Waiter.{Waiter}
-use Rattle.race_hub.specs.Part.{IsPart}
-use Rattle.race_hub.specs.Hub.{ParkedState, HubState, stop_by, stop_of, end_of, is_deadlock, choices_of}
-use Rattle.race_hub.specs.Job.{JobState}
-use Rattle.race_hub.specs.Kept.{is_active, has_failed, StandOnce, EndOnce}
-use Rattle.race_hub.specs.Recording.{AreParts, AllWait, IsEnd}
-use Rattle.race_hub.specs.Tracks.{TrackState, fresh, AreBlank, IsTracked, HavePassed, IsFirstOther}
-use Rattle.race_hub.specs.Finish.{logs_behind, logs_of_jobs, kept_logs, log_of, placed}
-use Rattle.race_requests.proofs.ChoiceLemmas.{some_is}
-use Rattle.race_hub.proofs.FiringLemmas.{both_true}
-use Rattle.race_hub.proofs.OnceLemmas.{count_append, count_cons}
-use Rattle.race_hub.proofs.EndedLemmas.{through_of, kept_by}
-use Rattle.race_hub.proofs.PerformLemmas.{set_other}
-use Rattle.race_hub.proofs.OpeningLemmas.{length_map}
-use Rattle.race_hub.proofs.TrackLemmas.{placed_more, get_set}
+use Rattle.race_model.{specs.{Events.has_exited, State.started}, proofs.{CountSteps.as_number, Indexes.at_below}}
+use Rattle.race_hub.specs.{declared.ending.End.End, Part.IsPart, Hub.{ParkedState, HubState, stop_by, stop_of, end_of}}
+use Rattle.race_hub.specs.{Hub.{is_deadlock, choices_of}, Job.JobState, Kept.{is_active, has_failed, StandOnce}}
+use Rattle.race_hub.specs.{Kept.EndOnce, Recording.{AreParts, AllWait, IsEnd}, Tracks.{TrackState, fresh, AreBlank}}
+use Rattle.race_hub.specs.{Tracks.{IsTracked, HavePassed, IsFirstOther}, Finish.{logs_behind, logs_of_jobs, kept_logs}}
+use Rattle.race_hub.{specs.Finish.{log_of, placed}, proofs.FiringLemmas.both_true}
+use Rattle.race_hub.proofs.{OnceLemmas.{count_append, count_cons}, EndedLemmas.{through_of, kept_by}}
+use Rattle.race_hub.proofs.{PerformLemmas.set_other, OpeningLemmas.length_map, TrackLemmas.{placed_more, get_set}}
+use Rattle.race_requests.{specs.declared.request.{Step.Step, Waiter.Waiter}, proofs.ChoiceLemmas.some_is}
 
 -- Each goroutine's log is kept once.
 

@@ -1,30 +1,19 @@
 -- What the hub owes to a firing, and what its choice says of it.
-use Rattle.std.proofs.Common.{◌≡◌, ◌==◌, ◌||◌, ◌&&◌, ℕ, ◌<◌, ◌%◌, nat_lt, Bool, true, false, List, [], length, All, IsTrue, Option, Some, None, IsNone, refl}
-use Rattle.std.proofs.Common.{sym, ap, ◌∙◌, subst}
-use Rattle.std.proofs.Common.{arith, slice_get}
+use Rattle.std.proofs.Common.{◌≡◌, ◌==◌, ◌||◌, ◌&&◌, ℕ, ◌<◌, ◌%◌, nat_lt, Bool, true, false, List, [], length, All}
+use Rattle.std.proofs.Common.{IsTrue, Option, Some, None, IsNone, refl, sym, ap, ◌∙◌, subst, arith, slice_get}
 use Rattle.std.proofs.lemmas.Bool.Decides.{nat_tests}
-use Rattle.race_records.specs.declared.event.Event.{Event}
-use Rattle.race_records.specs.declared.event.Op.{Op}
-use Rattle.race_records.specs.declared.event.Op.TheVariants.{Go, Exit, Read, Write, Send, Recv, Meet, RecvClosed, Close, Lock, Unlock, RLock, RUnlock}
-use Rattle.race_records.specs.declared.event.Op.TheVariants.{TryLock, TryRLock, TryFail, OnceBegin, OnceEnd, OnceDone, Fault, Default}
-use Rattle.race_records.specs.declared.kind.Kind.{Kind}
-use Rattle.race_records.specs.Declarations.{DeclsState, capacity_of, count_of}
-use Rattle.race_records.specs.Events.{fits, is_in_range, is_right_kind, op_fits}
-use Rattle.race_model.specs.State.{started}
-use Rattle.race_model.specs.Legal.{broken, rules}
-use Rattle.race_model.proofs.ChannelOrder.{rules_kept}
-use Rattle.race_requests.specs.declared.choice.Choice.{Choice}
-use Rattle.race_hub.specs.declared.firing.Firing.{Firing}
-use Rattle.race_requests.specs.Choices.{event_of}
-use Rattle.race_requests.specs.Search.{picked}
-use Rattle.race_hub.specs.Hub.{HubState, choices_of}
-use Rattle.race_hub.specs.Holds.{HaveBoxes}
-use Rattle.race_requests.specs.Sound.{is_sound}
-use Rattle.race_hub.specs.Fires.{started_by, HasBox}
-use Rattle.race_hub.specs.Firing.{HasRows, HasSomeRows, IsFiring}
+use Rattle.race_records.specs.declared.event.{Event.Event, Op.{Op, TheVariants.{Go, Exit, Read, Write, Send, Recv}}}
+use Rattle.race_records.specs.declared.event.Op.TheVariants.{Meet, RecvClosed, Close, Lock, Unlock, RLock, RUnlock}
+use Rattle.race_records.specs.declared.event.Op.TheVariants.{TryLock, TryRLock, TryFail, OnceBegin, OnceEnd, OnceDone}
+use Rattle.race_records.specs.declared.{event.Op.TheVariants.{Fault, Default}, kind.Kind.Kind}
+use Rattle.race_records.specs.{Declarations.{DeclsState, capacity_of, count_of}, Events.{fits, is_in_range}}
+use Rattle.race_records.specs.Events.{is_right_kind, op_fits}
+use Rattle.race_model.{specs.{State.started, Legal.{broken, rules}}, proofs.ChannelOrder.rules_kept}
+use Rattle.race_requests.specs.{declared.choice.Choice.Choice, Choices.event_of, Search.picked, Sound.is_sound}
 use Rattle.race_requests.proofs.ChoiceLemmas.{some_is, none_picked, IsPossible, listed_is_possible}
-use Rattle.race_hub.proofs.ChoiceRows.{rows_of}
-use Rattle.race_hub.proofs.FitLemmas.{choice_fits}
+use Rattle.race_hub.specs.{declared.firing.Firing.Firing, Hub.{HubState, choices_of}, Holds.HaveBoxes}
+use Rattle.race_hub.specs.{Fires.{started_by, HasBox}, Firing.{HasRows, HasSomeRows, IsFiring}}
+use Rattle.race_hub.proofs.{ChoiceRows.rows_of, FitLemmas.choice_fits}
 
 -- what a legal start starts: not main, and whom no Go started
 pub go_kept : (caps : ℕ → ℕ) (past : List Event) (e : Event) (h : ℕ) → broken caps past e ≡ None → e.op ≡ Go h → (h == 0 || started h past) ≡ false

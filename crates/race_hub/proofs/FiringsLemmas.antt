@@ -1,25 +1,14 @@
 -- Small firings are computed, and a wrong state is none.
-use Rattle.std.proofs.Common.{◌≡◌, ℕ, ◌++◌, List, [], ◌∷◌, length, Option, Some, None, slice_get, refl, sym, ap, ◌∙◌, subst, arith}
-use Rattle.std.proofs.Common.{length-append}
-use Rattle.race_records.specs.Declarations.{capacity_of}
+use Rattle.std.proofs.Common.{◌≡◌, ℕ, ◌++◌, List, [], ◌∷◌, length, Option, Some, None, slice_get, refl, sym, ap, ◌∙◌}
+use Rattle.std.proofs.Common.{subst, arith, length-append}
+use Rattle.race_records.specs.{Declarations.capacity_of, declared.event.Op.{Op, TheVariants.Go}}
 use Rattle.race_model.proofs.LegalSteps.{legal_none}
-use Rattle.race_requests.specs.declared.choice.Choice.{Choice}
-use Rattle.race_requests.specs.declared.request.Answer.{Answer}
-use Rattle.race_requests.specs.declared.request.Ask.{Ask}
-use Rattle.race_requests.specs.declared.request.Waiter.{Waiter}
-use Rattle.race_requests.specs.Choices.{choice}
-use Rattle.race_requests.specs.Rows.{waits}
-use Rattle.race_hub.specs.Job.{JobState}
-use Rattle.race_requests.specs.Table.{IsRow, done_by, told_by}
-use Rattle.race_requests.proofs.RowLemmas.{by_first, wanted}
-use Rattle.race_records.specs.declared.event.Op.{Op}
-use Rattle.race_records.specs.declared.event.Op.TheVariants.{Go}
-use Rattle.race_hub.specs.Hub.{stop_by}
-use Rattle.race_hub.specs.Fires.{goes_on, partner_goes_on, partner_of, born_of, started_by}
-use Rattle.race_requests.proofs.ChoiceLemmas.{some_is}
-use Rattle.race_hub.proofs.OpeningLemmas.{opening_once}
-use Rattle.race_hub.specs.Firings.{before_go, went, met, behind, AGoIsFired, AMeetIsFired, OpeningIsKept, AFiringIsAnEvent}
-use Rattle.race_hub.specs.Firings.{AStarterIsReadyFirst}
+use Rattle.race_requests.specs.declared.{choice.Choice.Choice, request.{Answer.Answer, Ask.Ask, Waiter.Waiter}}
+use Rattle.race_requests.specs.{Choices.choice, Rows.waits, Table.{IsRow, done_by, told_by}}
+use Rattle.race_requests.proofs.{RowLemmas.{by_first, wanted}, ChoiceLemmas.some_is}
+use Rattle.race_hub.specs.{Job.JobState, Hub.stop_by, Fires.{goes_on, partner_goes_on, partner_of, born_of, started_by}}
+use Rattle.race_hub.specs.Firings.{before_go, went, met, behind, AGoIsFired, AMeetIsFired, OpeningIsKept}
+use Rattle.race_hub.{specs.Firings.{AFiringIsAnEvent, AStarterIsReadyFirst}, proofs.OpeningLemmas.opening_once}
 
 pub go_is_fired : AGoIsFired
 unfolding stop_by

@@ -1,31 +1,21 @@
 -- The event of sound requests fits the declarations.
-use Rattle.std.proofs.Common.{◌≡◌, ◌==◌, ℕ, ◌-◌, ◌&&◌, nat_lt, Bool, true, false, cond, List, length, All, IsTrue, Option, Some, None, refl, sym, ap, subst}
-use Rattle.std.proofs.Common.{slice_get, map, IfSome}
-use Rattle.std.specs.List.{list_all}
-use Rattle.std.proofs.lemmas.Option.{none-some}
-use Rattle.race_records.specs.declared.event.Event.{Event}
-use Rattle.race_records.specs.declared.event.Op.{Op}
-use Rattle.race_records.specs.declared.event.Cause.TheVariants.{SendClosed, CloseClosed, UnlockFree, RUnlockFree}
-use Rattle.race_records.specs.declared.event.Op.TheVariants.{Send, Recv, Meet, RecvClosed, Close, Default, Unlock, RUnlock}
-use Rattle.race_records.specs.declared.event.Op.TheVariants.{TryLock, TryRLock, TryFail, OnceBegin, OnceDone, Fault}
-use Rattle.race_records.specs.declared.kind.Kind.{Kind}
-use Rattle.race_records.specs.Declarations.{DeclsState, counts_of}
-use Rattle.race_records.specs.declared.version.Version.{Version}
-use Rattle.race_records.specs.Parts.{says, is_in, has_two_places, op_is_in_range}
-use Rattle.race_records.specs.Events.{has_op, lock_fits, second_place_fits, fits}
+use Rattle.std.proofs.Common.{◌≡◌, ◌==◌, ℕ, ◌-◌, ◌&&◌, nat_lt, Bool, true, false, cond, List, length, All, IsTrue}
+use Rattle.std.proofs.Common.{Option, Some, None, refl, sym, ap, subst, slice_get, map, IfSome}
+use Rattle.std.{proofs.lemmas.Option.none-some, specs.List.list_all}
+use Rattle.race_records.specs.declared.event.{Event.Event, Op.{Op, TheVariants.{Send, Recv, Meet, RecvClosed, Close}}}
+use Rattle.race_records.specs.declared.event.Op.TheVariants.{Default, Unlock, RUnlock, TryLock, TryRLock, TryFail}
+use Rattle.race_records.specs.declared.event.{Op.TheVariants.{OnceBegin, OnceDone, Fault}, Cause.TheVariants.SendClosed}
+use Rattle.race_records.specs.declared.{event.Cause.TheVariants.{CloseClosed, UnlockFree, RUnlockFree}, kind.Kind.Kind}
+use Rattle.race_records.specs.{declared.version.Version.Version, Declarations.{DeclsState, counts_of}, Parts.says}
+use Rattle.race_records.specs.{Parts.{is_in, has_two_places, op_is_in_range}, Events.{has_op, lock_fits}}
+use Rattle.race_records.specs.Events.{second_place_fits, fits}
 use Rattle.race_model.specs.State.{is_closed, front, is_held, is_read_held, is_begun}
-use Rattle.race_requests.specs.declared.choice.Choice.{Choice}
-use Rattle.race_requests.specs.declared.request.Ask.{Ask}
-use Rattle.race_requests.specs.declared.request.Offer.{Offer}
-use Rattle.race_requests.specs.declared.request.Waiter.{Waiter}
-use Rattle.race_requests.specs.Possible.{ask_is_in_range, offer_is_in_range}
-use Rattle.race_requests.specs.Waiting.{is_declared}
-use Rattle.race_requests.specs.Offers.{case_of}
-use Rattle.race_requests.specs.Table.{offers_of}
-use Rattle.race_requests.specs.Choices.{lone_op, offer_at, op_of, lone_event, meet_event, event_of}
-use Rattle.race_requests.specs.Sound.{is_sound, has_ask, lock_suits}
-use Rattle.race_requests.proofs.ChoiceLemmas.{some_is, all_at, meets_by, is_meet}
-use Rattle.race_requests.proofs.OfferLemmas.{offers_in_range, offer_in_range, cases_in_range, sent_in_range}
+use Rattle.race_requests.specs.declared.{choice.Choice.Choice, request.{Ask.Ask, Offer.Offer, Waiter.Waiter}}
+use Rattle.race_requests.specs.{Possible.{ask_is_in_range, offer_is_in_range}, Waiting.is_declared, Offers.case_of}
+use Rattle.race_requests.specs.{Table.offers_of, Choices.{lone_op, offer_at, op_of, lone_event, meet_event, event_of}}
+use Rattle.race_requests.{specs.Sound.{is_sound, has_ask, lock_suits}, proofs.ChoiceLemmas.{some_is, all_at, meets_by}}
+use Rattle.race_requests.proofs.{ChoiceLemmas.is_meet, OfferLemmas.{offers_in_range, offer_in_range, cases_in_range}}
+use Rattle.race_requests.proofs.OfferLemmas.{sent_in_range}
 
 -- what a sound request says
 pub record IsSound (decls : DeclsState) (w : Waiter) : Type 0 where

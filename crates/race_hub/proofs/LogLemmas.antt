@@ -1,10 +1,8 @@
 -- A log, read and made longer by what was asked and what was told.
 use Rattle.std.proofs.Common.{◌≡◌, ℕ, zero, suc, List, [], ◌∷◌, ◌++◌, length, Some, slice_get, refl, ap, arith}
 use Rattle.std.proofs.lemmas.Option.{none-some}
-use Rattle.race_requests.specs.declared.request.Request.{Request}
-use Rattle.race_requests.specs.declared.request.Step.{Step}
-use Rattle.race_hub.specs.declared.log.Told.{Told}
-use Rattle.race_hub.specs.Log.{answer_of, steps_of}
+use Rattle.race_requests.specs.declared.request.{Request.Request, Step.Step}
+use Rattle.race_hub.specs.{declared.log.Told.Told, Log.{answer_of, steps_of}}
 
 -- a step, by what was asked and what was told
 abbrev pub step_of : Request → Told → Step

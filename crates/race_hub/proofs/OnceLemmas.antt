@@ -1,39 +1,28 @@
 -- How often a goroutine stands in the lists of a hub, one step on.
-use Rattle.std.proofs.Common.{◌≡◌, ◌≢◌, ◌==◌, ◌||◌, ◌&&◌, not, ℕ, zero, suc, ◌<◌, ◌≤◌, ◌+◌, ◌-◌, ◌++◌, nat_lt, Bool, true, false, cond, if◌then◌else◌, List}
-use Rattle.std.proofs.Common.{[], ◌∷◌}
-use Rattle.std.proofs.Common.{length, take, Option, Some, None, refl, sym, ap, ◌∙◌, subst, arith, slice_get, true≢false, take_all, inl, inr, ◌⊎◌, option_map}
-use Rattle.std.specs.List.{remove, count_by}
-use Rattle.std.specs.Prelude.{is_some}
-use Rattle.std.proofs.Math.Bool.{or-false}
-use Rattle.std.proofs.lemmas.Bool.Decides.{nat_tests}
-use Rattle.std.proofs.lemmas.List.Sums.{sum_by-append, sum_by-cons, sum_by-remove, sum_by_push, sum_by-le-sum_by}
+use Rattle.std.proofs.Common.{◌≡◌, ◌≢◌, ◌==◌, ◌||◌, ◌&&◌, not, ℕ, zero, suc, ◌<◌, ◌≤◌, ◌+◌, ◌-◌, ◌++◌, nat_lt, Bool}
+use Rattle.std.proofs.Common.{true, false, cond, if◌then◌else◌, List, [], ◌∷◌, length, take, Option, Some, None, refl}
+use Rattle.std.proofs.Common.{sym, ap, ◌∙◌, subst, arith, slice_get, true≢false, take_all, inl, inr, ◌⊎◌, option_map}
+use Rattle.std.proofs.{Math.Bool.or-false, lemmas.{Bool.Decides.nat_tests, List.Sums.{sum_by-append, sum_by-cons}}}
+use Rattle.std.proofs.lemmas.List.Sums.{sum_by-remove, sum_by_push, sum_by-le-sum_by}
 use Rattle.std.proofs.lemmas.Option.{none-some, slice_get_within, get_or_from_slice_get}
-use Rattle.race_records.specs.declared.event.Cause.TheVariants.{SendClosed, CloseClosed, CloseNil, UnlockFree, RUnlockFree}
-use Rattle.race_records.specs.declared.event.Event.{Event}
-use Rattle.race_records.specs.declared.event.Op.{Op}
-use Rattle.race_records.specs.declared.event.Op.TheVariants.{Go, Exit, Read, Write, Send, Recv, Meet, RecvClosed, Close, Lock, Unlock, RLock, RUnlock}
-use Rattle.race_records.specs.declared.event.Op.TheVariants.{TryLock, TryRLock, TryFail, OnceBegin, OnceEnd, OnceDone, Fault, Default}
-use Rattle.race_model.specs.Events.{starts, is_exit, is_fault, has, has_exited, count}
-use Rattle.race_model.specs.State.{over, started, runs}
+use Rattle.std.specs.{List.{remove, count_by}, Prelude.is_some}
+use Rattle.race_records.specs.declared.event.Cause.TheVariants.{SendClosed, CloseClosed, CloseNil, UnlockFree}
+use Rattle.race_records.specs.declared.event.{Cause.TheVariants.RUnlockFree, Event.Event, Op.{Op, TheVariants.Go}}
+use Rattle.race_records.specs.declared.event.Op.TheVariants.{Exit, Read, Write, Send, Recv, Meet, RecvClosed, Close}
+use Rattle.race_records.specs.declared.event.Op.TheVariants.{Lock, Unlock, RLock, RUnlock, TryLock, TryRLock, TryFail}
+use Rattle.race_records.specs.declared.event.Op.TheVariants.{OnceBegin, OnceEnd, OnceDone, Fault, Default}
+use Rattle.race_model.specs.{Events.{starts, is_exit, is_fault, has, has_exited, count}, State.{over, started, runs}}
 use Rattle.race_model.specs.Legal.{broken, rules, actors_run, receiver_runs, IsLegal}
-use Rattle.race_model.proofs.Indexes.{at_below, take_suc}
-use Rattle.race_model.proofs.CountSteps.{as_number, positive_more, has_exited_push}
-use Rattle.race_model.proofs.StateSteps.{started_push, runs_push}
-use Rattle.race_model.proofs.ChannelOrder.{rules_kept}
-use Rattle.race_requests.specs.declared.choice.Choice.{Choice}
-use Rattle.race_requests.specs.declared.request.Answer.{Answer}
-use Rattle.race_requests.specs.declared.request.Ask.{Ask}
-use Rattle.race_requests.specs.declared.request.Offer.{Offer}
-use Rattle.race_requests.specs.declared.request.Waiter.{Waiter}
-use Rattle.race_requests.specs.Choices.{op_of, meet_op, offer_at, lone_event, meet_event, event_of}
-use Rattle.race_requests.specs.Table.{IsRow, done_by, offers_of, told_if, told_sender, told_receiver, told_closer, told_trier, told_rtrier, told_by, told_plain, chosen}
-use Rattle.race_requests.proofs.RowLemmas.{IsByOffer, IsByDefault, by_either, by_first}
-use Rattle.race_hub.specs.Job.{JobState, begun}
-use Rattle.race_hub.specs.Hub.{ParkedState}
-use Rattle.race_hub.specs.Fires.{without, partner_of, answered, goes_on, partner_goes_on, IsPartnerRow, started_by, begins, born_of, HasBox}
-use Rattle.race_hub.specs.Kept.{has_failed, is_active}
-use Rattle.race_requests.proofs.ChoiceLemmas.{some_is}
-use Rattle.race_hub.proofs.FiringLemmas.{both_true, both_false, go_kept}
+use Rattle.race_model.proofs.{Indexes.{at_below, take_suc}, CountSteps.{as_number, positive_more, has_exited_push}}
+use Rattle.race_model.proofs.{StateSteps.{started_push, runs_push}, ChannelOrder.rules_kept}
+use Rattle.race_requests.specs.declared.{choice.Choice.Choice, request.{Answer.Answer, Ask.Ask, Offer.Offer}}
+use Rattle.race_requests.specs.{declared.request.Waiter.Waiter, Choices.{op_of, meet_op, offer_at, lone_event}}
+use Rattle.race_requests.specs.{Choices.{meet_event, event_of}, Table.{IsRow, done_by, offers_of, told_if, told_sender}}
+use Rattle.race_requests.specs.Table.{told_receiver, told_closer, told_trier, told_rtrier, told_by, told_plain, chosen}
+use Rattle.race_requests.proofs.{RowLemmas.{IsByOffer, IsByDefault, by_either, by_first}, ChoiceLemmas.some_is}
+use Rattle.race_hub.specs.{Job.{JobState, begun}, Hub.ParkedState, Fires.{without, partner_of, answered, goes_on}}
+use Rattle.race_hub.specs.Fires.{partner_goes_on, IsPartnerRow, started_by, begins, born_of, HasBox}
+use Rattle.race_hub.{specs.Kept.{has_failed, is_active}, proofs.FiringLemmas.{both_true, both_false, go_kept}}
 
 -- Counts by a test.
 

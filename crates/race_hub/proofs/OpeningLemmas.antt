@@ -1,20 +1,12 @@
 -- What the first state holds.
-use Rattle.std.proofs.Common.{◌≡◌, ◌==◌, ◌||◌, ◌&&◌, Bool, true, cond, ℕ, zero, suc, ◌<◌, ◌≤◌, ◌+◌, false, List, [], ◌∷◌, length, map, Option, Some, None}
-use Rattle.std.proofs.Common.{get_or, slice_get, refl, sym, ap, ◌∙◌, arith}
-use Rattle.std.specs.List.{count_by, remove}
-use Rattle.std.specs.Prelude.{is_some}
-use Rattle.std.proofs.lemmas.Bool.Decides.{nat_tests}
-use Rattle.std.proofs.lemmas.Option.{none-some}
-use Rattle.std.proofs.lemmas.List.Sums.{count_by-le-length}
-use Rattle.race_records.specs.declared.kind.Kind.{Kind}
-use Rattle.race_records.specs.declared.kind.TheConstants.{MAX_GOROUTINES}
-use Rattle.race_records.specs.declared.trace.TheConstants.{MAX_EVENTS}
+use Rattle.std.proofs.Common.{◌≡◌, ◌==◌, ◌||◌, ◌&&◌, Bool, true, cond, ℕ, zero, suc, ◌<◌, ◌≤◌, ◌+◌, false, List, []}
+use Rattle.std.proofs.Common.{◌∷◌, length, map, Option, Some, None, get_or, slice_get, refl, sym, ap, ◌∙◌, arith}
+use Rattle.std.proofs.lemmas.{Bool.Decides.nat_tests, Option.none-some, List.Sums.count_by-le-length}
+use Rattle.std.specs.{List.{count_by, remove}, Prelude.is_some}
+use Rattle.race_records.specs.declared.{kind.{Kind.Kind, TheConstants.MAX_GOROUTINES}, trace.TheConstants.MAX_EVENTS}
 use Rattle.race_records.specs.Declarations.{DeclsState, count_of}
-use Rattle.race_legal.specs.ReplayState.{ReplayState}
-use Rattle.race_legal.specs.StandsFor.{StandsFor}
-use Rattle.race_hub.specs.Hub.{opening}
-use Rattle.race_hub.specs.Holds.{Holds}
-use Rattle.race_hub.specs.Kept.{standing, is_active}
+use Rattle.race_legal.specs.{ReplayState.ReplayState, StandsFor.StandsFor}
+use Rattle.race_hub.specs.{Hub.opening, Holds.Holds, Kept.{standing, is_active}}
 
 pub length_map : {X Y : Type 0} (f : X → Y) (xs : List X) → length (map f xs) ≡ length xs
 length_map f [] = refl

@@ -1,52 +1,34 @@
 -- The state after a firing.
-use Rattle.std.proofs.Common.{◌≡◌, ◌≢◌, ◌==◌, ◌⊎◌, ℕ, zero, suc, ◌<◌, ◌≤◌, ◌+◌, ◌-◌, ◌++◌, nat_lt, Bool, true, false, if◌then◌else◌, List, [], ◌∷◌, length}
-use Rattle.std.proofs.Common.{take, drop, All}
-use Rattle.std.proofs.Common.{IsTrue, IsOk, Result, Err, IfSome, Option, Some, None, refl, sym, ap, ◌∙◌, subst, inl, inr, arith, not, ◌&&◌, nat_le, slice_get}
-use Rattle.std.proofs.Common.{slice_set, get_or, length-append, eq-eqb, true≢false, ◌||◌}
-use Rattle.std.specs.List.{remove, count_by}
-use Rattle.std.specs.Prelude.{is_some, cond}
-use Rattle.std.proofs.lemmas.List.Sums.{sum_by-set}
-use Rattle.std.proofs.lemmas.Bool.Decides.{nat_tests}
+use Rattle.std.proofs.Common.{◌≡◌, ◌≢◌, ◌==◌, ◌⊎◌, ℕ, zero, suc, ◌<◌, ◌≤◌, ◌+◌, ◌-◌, ◌++◌, nat_lt, Bool, true, false}
+use Rattle.std.proofs.Common.{if◌then◌else◌, List, [], ◌∷◌, length, take, drop, All, IsTrue, IsOk, Result, Err, IfSome}
+use Rattle.std.proofs.Common.{Option, Some, None, refl, sym, ap, ◌∙◌, subst, inl, inr, arith, not, ◌&&◌, nat_le}
+use Rattle.std.proofs.Common.{slice_get, slice_set, get_or, length-append, eq-eqb, true≢false, ◌||◌}
+use Rattle.std.proofs.lemmas.{List.{length-set, Sums.sum_by-set, Edits.length-remove}, Bool.Decides.nat_tests}
 use Rattle.std.proofs.lemmas.Option.{none-some, slice_get_within, slice_get-get_or, get_or_from_slice_get}
-use Rattle.std.proofs.lemmas.List.{length-set}
-use Rattle.std.proofs.lemmas.List.Edits.{length-remove}
-use Rattle.race_records.specs.declared.event.Event.{Event}
-use Rattle.race_records.specs.declared.event.Op.{Op}
-use Rattle.race_records.specs.declared.event.Op.TheVariants.{Go, Exit, Read, Write, Send, Recv, Meet, RecvClosed, Close, Lock, Unlock, RLock, RUnlock}
-use Rattle.race_records.specs.declared.event.Op.TheVariants.{TryLock, TryRLock, TryFail, OnceBegin, OnceEnd, OnceDone, Fault, Default}
-use Rattle.race_records.specs.declared.kind.Kind.{Kind}
+use Rattle.std.specs.{List.{remove, count_by}, Prelude.{is_some, cond}}
+use Rattle.race_records.specs.declared.event.{Event.Event, Op.{Op, TheVariants.{Go, Exit, Read, Write, Send, Recv}}}
+use Rattle.race_records.specs.declared.event.Op.TheVariants.{Meet, RecvClosed, Close, Lock, Unlock, RLock, RUnlock}
+use Rattle.race_records.specs.declared.event.Op.TheVariants.{TryLock, TryRLock, TryFail, OnceBegin, OnceEnd, OnceDone}
+use Rattle.race_records.specs.declared.{event.Op.TheVariants.{Fault, Default}, kind.Kind.Kind}
 use Rattle.race_records.specs.declared.trace.PushFault.TheVariants.{BadNumber, WrongKind, Full}
 use Rattle.race_records.specs.declared.trace.TheConstants.{MAX_EVENTS}
-use Rattle.race_records.specs.Declarations.{DeclsState, capacity_of, counts_of}
-use Rattle.race_records.specs.Events.{TraceState, fits, push_fault, is_in_range, is_right_kind}
-use Rattle.race_model.specs.Events.{starts, is_exit, is_fault, has_exited}
-use Rattle.race_model.specs.State.{started}
-use Rattle.race_model.proofs.Indexes.{take_at_old}
-use Rattle.race_model.proofs.CountSteps.{has_push, as_number}
-use Rattle.race_legal.specs.ReplayState.{ReplayState, counts_in, IsInRange}
-use Rattle.race_legal.specs.StandsFor.{StandsFor}
-use Rattle.race_requests.specs.declared.choice.Choice.{Choice}
-use Rattle.race_hub.specs.declared.ending.End.{End}
-use Rattle.race_requests.specs.declared.request.Waiter.{Waiter}
-use Rattle.race_hub.specs.Hub.{ParkedState, HubState, stop_by, stop_of, is_last, is_main_exit}
-use Rattle.race_hub.specs.Holds.{Holds}
-use Rattle.race_hub.specs.Kept.{standing, has_failed, has_left, is_active, StandOnce, EndOnce}
-use Rattle.race_requests.specs.declared.request.Step.{Step}
-use Rattle.race_requests.specs.Choices.{event_of}
-use Rattle.race_model.specs.Legal.{broken, IsLegal}
-use Rattle.race_requests.specs.Table.{IsRow, done_by}
-use Rattle.race_requests.specs.Sound.{is_sound}
-use Rattle.race_requests.specs.declared.request.Answer.{Answer}
-use Rattle.race_hub.specs.declared.firing.Firing.{Firing}
-use Rattle.race_hub.specs.Job.{JobState}
-use Rattle.race_hub.specs.Firing.{IsFiring, HasRows}
-use Rattle.race_hub.specs.Fires.{without, partner_of, goes_on, is_through, partner_goes_on, started_by, begins, born_of, boxes_after, HasBox}
+use Rattle.race_records.specs.{Declarations.{DeclsState, capacity_of, counts_of}, Events.{TraceState, fits, push_fault}}
+use Rattle.race_records.specs.Events.{is_in_range, is_right_kind}
+use Rattle.race_model.specs.{Events.{starts, is_exit, is_fault, has_exited}, State.started, Legal.{broken, IsLegal}}
+use Rattle.race_model.proofs.{Indexes.take_at_old, CountSteps.{has_push, as_number}}
+use Rattle.race_legal.specs.{ReplayState.{ReplayState, counts_in, IsInRange}, StandsFor.StandsFor}
+use Rattle.race_requests.specs.declared.{choice.Choice.Choice, request.{Waiter.Waiter, Step.Step, Answer.Answer}}
+use Rattle.race_requests.specs.{Choices.event_of, Table.{IsRow, done_by}, Sound.is_sound}
 use Rattle.race_requests.proofs.ChoiceLemmas.{all_at, some_is}
-use Rattle.race_hub.proofs.OnceLemmas.{leaves, told_leaves, event_who, count_without, jobs_of, goes_count, partner_count, begun_count, four_counts}
+use Rattle.race_hub.specs.{declared.{ending.End.End, firing.Firing.Firing}, Hub.{ParkedState, HubState, stop_by}}
+use Rattle.race_hub.specs.{Hub.{stop_of, is_last, is_main_exit}, Holds.Holds, Kept.{standing, has_failed, has_left}}
+use Rattle.race_hub.specs.{Kept.{is_active, StandOnce, EndOnce}, Job.JobState, Firing.{IsFiring, HasRows}}
+use Rattle.race_hub.specs.Fires.{without, partner_of, goes_on, is_through, partner_goes_on, started_by, begins, born_of}
+use Rattle.race_hub.{specs.Fires.{boxes_after, HasBox}, proofs.OnceLemmas.{leaves, told_leaves, event_who}}
+use Rattle.race_hub.proofs.OnceLemmas.{count_without, jobs_of, goes_count, partner_count, begun_count, four_counts}
 use Rattle.race_hub.proofs.OnceLemmas.{asker_balance, one_step, started_fresh, active_push, count_append}
 use Rattle.race_hub.proofs.EndedLemmas.{through_of, through_count, standing_stays, left_push, not_not}
-use Rattle.race_hub.proofs.SubmitLemmas.{bad_stops}
-use Rattle.race_hub.proofs.FiringLemmas.{both_true, both_false, below}
+use Rattle.race_hub.proofs.{SubmitLemmas.bad_stops, FiringLemmas.{both_true, both_false, below}}
 
 -- what is right isn't wrong
 pub not_both : {X E : Type 0} (r : Result X E) (e : E) → IsOk r → r ≡ Err e → ⊥

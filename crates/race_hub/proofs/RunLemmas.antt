@@ -1,30 +1,17 @@
 -- Every step of a hub goes from a kept state to a kept one.
-use Rattle.std.proofs.Common.{◌≡◌, ◌==◌, not, ℕ, zero, suc, ◌<◌, ◌≤◌, ◌+◌, ◌++◌, Bool, true, false, if◌then◌else◌, List, [], ◌∷◌, length, Option, Some}
-use Rattle.std.proofs.Common.{None}
-use Rattle.std.proofs.Common.{refl, sym, ap, ◌∙◌, subst, inl, inr, arith, slice_get, length-append}
-use Rattle.std.specs.List.{count_by, list_any}
+use Rattle.std.proofs.Common.{◌≡◌, ◌==◌, not, ℕ, zero, suc, ◌<◌, ◌≤◌, ◌+◌, ◌++◌, Bool, true, false, if◌then◌else◌, List}
+use Rattle.std.proofs.Common.{[], ◌∷◌, length, Option, Some, None, refl, sym, ap, ◌∙◌, subst, inl, inr, arith}
+use Rattle.std.{proofs.{Common.{slice_get, length-append}, lemmas.Option.none-some}, specs.List.{count_by, list_any}}
 use Rattle.std.specs.Prelude.{is_some, cond}
-use Rattle.std.proofs.lemmas.Option.{none-some}
-use Rattle.race_records.specs.declared.event.Event.{Event}
-use Rattle.race_records.specs.Declarations.{DeclsState, capacity_of}
-use Rattle.race_model.specs.Legal.{IsLegal}
-use Rattle.race_model.proofs.LegalSteps.{legal_push}
-use Rattle.race_hub.specs.declared.ending.End.{End}
-use Rattle.race_hub.specs.declared.firing.Firing.{Firing}
-use Rattle.race_requests.specs.declared.request.Waiter.{Waiter}
-use Rattle.race_hub.specs.Job.{JobState}
-use Rattle.race_hub.specs.Hub.{HubState, opening, stop_of, is_deadlock}
-use Rattle.race_hub.specs.Firing.{HasRows}
-use Rattle.race_hub.specs.Fires.{IsFired}
-use Rattle.race_hub.specs.Submits.{Takes, Submits, is_stray}
-use Rattle.race_hub.specs.Kept.{IsKept}
-use Rattle.race_hub.specs.Runs.{IsStep, AreSteps, EachRunIsKept}
-use Rattle.race_hub.proofs.AmongLemmas.{first_gone}
-use Rattle.race_requests.proofs.ChoiceLemmas.{some_is}
-use Rattle.race_hub.proofs.FiringLemmas.{both_true, picked_rows}
-use Rattle.race_hub.proofs.FiringsLemmas.{opening_kept}
+use Rattle.race_records.specs.{declared.event.Event.Event, Declarations.{DeclsState, capacity_of}}
+use Rattle.race_model.{specs.Legal.IsLegal, proofs.LegalSteps.legal_push}
+use Rattle.race_hub.specs.{declared.{ending.End.End, firing.Firing.Firing}, Job.JobState, Hub.{HubState, opening}}
+use Rattle.race_hub.specs.{Hub.{stop_of, is_deadlock}, Firing.HasRows, Fires.IsFired}
+use Rattle.race_hub.specs.{Submits.{Takes, Submits, is_stray}, Kept.IsKept, Runs.{IsStep, AreSteps, EachRunIsKept}}
+use Rattle.race_hub.proofs.{AmongLemmas.first_gone, FiringLemmas.{both_true, picked_rows}, FiringsLemmas.opening_kept}
 use Rattle.race_hub.proofs.PerformLemmas.{Moves, once_after, ends_after, below_limit, length_without}
 use Rattle.race_hub.proofs.SubmitLemmas.{once_joined, once_taken, ends_same}
+use Rattle.race_requests.{specs.declared.request.Waiter.Waiter, proofs.ChoiceLemmas.some_is}
 
 not_false : (b : Bool) → not b ≡ false → b ≡ true
 not_false true is = refl

@@ -1,30 +1,18 @@
 -- The state after a job was put back, or taken.
-use Rattle.std.proofs.Common.{List, ◌≡◌, ◌==◌, ◌&&◌, ◌||◌, not, ℕ, ◌<◌, ◌+◌, ◌++◌, Bool, true, false, if◌then◌else◌, [], ◌∷◌, length, All, IsTrue, Option}
-use Rattle.std.proofs.Common.{Some, None, is_none, refl, sym, ap, ◌∙◌, subst, arith, length-append, slice_get, zero, suc, eq-eqb}
-use Rattle.std.proofs.lemmas.Option.{none-some}
-use Rattle.std.proofs.lemmas.List.Elements.{All-append}
-use Rattle.std.specs.List.{count_by, list_any}
-use Rattle.std.specs.Prelude.{cond, is_some}
-use Rattle.race_model.proofs.CountSteps.{as_number}
+use Rattle.std.proofs.Common.{List, ◌≡◌, ◌==◌, ◌&&◌, ◌||◌, not, ℕ, ◌<◌, ◌+◌, ◌++◌, Bool, true, false, if◌then◌else◌, []}
+use Rattle.std.proofs.Common.{◌∷◌, length, All, IsTrue, Option, Some, None, is_none, refl, sym, ap, ◌∙◌, subst, arith}
+use Rattle.std.proofs.{Common.{length-append, slice_get, zero, suc, eq-eqb}, lemmas.Option.none-some}
+use Rattle.std.{proofs.lemmas.List.Elements.All-append, specs.{List.{count_by, list_any}, Prelude.{cond, is_some}}}
+use Rattle.race_model.{proofs.CountSteps.as_number, specs.{Events.is_fault, State.started}}
 use Rattle.race_legal.specs.ReplayState.{ReplayState}
-use Rattle.race_hub.specs.declared.ending.End.{End}
-use Rattle.race_requests.specs.declared.request.Waiter.{Waiter}
-use Rattle.race_hub.specs.Hub.{ParkedState, HubState, stop_by, stop_of, end_of, is_last, is_main_exit}
-use Rattle.race_hub.specs.Holds.{Holds}
-use Rattle.race_hub.specs.Job.{JobState}
-use Rattle.race_hub.specs.Kept.{standing, is_active, has_left, StandOnce, EndOnce}
-use Rattle.race_hub.specs.Recording.{HasBadRequest}
-use Rattle.race_requests.specs.Sound.{is_sound, is_out_of_turn}
-use Rattle.race_hub.specs.Submits.{is_bad, is_back, ends_hub, without_first, Takes}
-use Rattle.race_requests.specs.declared.request.Request.{Request}
-use Rattle.race_hub.proofs.AmongLemmas.{first_gone}
-use Rattle.race_requests.proofs.ChoiceLemmas.{some_is}
-use Rattle.race_hub.proofs.EndLemmas.{end_while_out}
-use Rattle.race_hub.proofs.EndedLemmas.{through_of, bad_stays, bad_joins, out_waits_not}
-use Rattle.race_hub.proofs.FiringLemmas.{both_true}
+use Rattle.race_hub.specs.{declared.ending.End.End, Hub.{ParkedState, HubState, stop_by, stop_of, end_of, is_last}}
+use Rattle.race_hub.specs.{Hub.is_main_exit, Holds.Holds, Job.JobState, Kept.{standing, is_active, has_left, StandOnce}}
+use Rattle.race_hub.specs.{Kept.EndOnce, Recording.HasBadRequest, Submits.{is_bad, is_back, ends_hub, without_first}}
+use Rattle.race_hub.{specs.Submits.Takes, proofs.{AmongLemmas.first_gone, EndLemmas.end_while_out}}
+use Rattle.race_hub.proofs.{EndedLemmas.{through_of, bad_stays, bad_joins, out_waits_not}, FiringLemmas.both_true}
 use Rattle.race_hub.proofs.OnceLemmas.{count_append, count_one, count_cons}
-use Rattle.race_model.specs.Events.{is_fault}
-use Rattle.race_model.specs.State.{started}
+use Rattle.race_requests.specs.{declared.request.{Waiter.Waiter, Request.Request}, Sound.{is_sound, is_out_of_turn}}
+use Rattle.race_requests.proofs.ChoiceLemmas.{some_is}
 
 -- one more request with its box waits, and one number fewer is out
 pub record Joins {R : Type 0} (old new : HubState R) (w : Waiter) (p : ParkedState R) : Type 0 where

@@ -1,28 +1,16 @@
 -- Logs in their places, and how a trace passes along them.
-use Rattle.std.proofs.Common.{◌≡◌, ◌≢◌, ◌==◌, ◌||◌, ◌&&◌, not, ℕ, zero, suc, ◌<◌, ◌≤◌, ◌+◌, ◌++◌, Bool, true, false, cond, if◌then◌else◌, List, [], ◌∷◌, length}
-use Rattle.std.proofs.Common.{slice_get, slice_set, Option, Some, None, refl, sym, ap, ◌∙◌}
-use Rattle.std.proofs.Common.{subst, arith, true≢false, length-append, append-nil}
-use Rattle.std.proofs.Common.{append_assoc, eq-eqb}
-use Rattle.std.proofs.lemmas.Bool.Decides.{nat_tests}
-use Rattle.std.proofs.lemmas.Option.{none-some, slice_get_within}
-use Rattle.std.proofs.lemmas.List.Elements.{filter-append}
-use Rattle.race_records.specs.declared.event.Event.{Event}
-use Rattle.race_model.specs.Events.{starts, gives, partner}
-use Rattle.race_model.proofs.Indexes.{append_at_old, slice_get-push}
-use Rattle.race_requests.specs.declared.request.Step.{Step}
-use Rattle.race_requests.specs.Table.{Fits}
-use Rattle.race_hub.specs.Part.{part_of, IsPart}
-use Rattle.race_hub.specs.Tracks.{TrackState, fresh, HasPart, IsPassed, IsTracked, is_in_part, HavePassed, OneHasPassed, AreBlank, is_through, asker_of}
-use Rattle.race_hub.specs.Tracks.{receiver_of}
-use Rattle.race_hub.specs.Finish.{placed, logs_behind, logs_of_jobs}
-use Rattle.race_hub.specs.Job.{JobState}
-use Rattle.race_hub.specs.Hub.{ParkedState}
-use Rattle.race_requests.specs.declared.request.Waiter.{Waiter}
+use Rattle.std.proofs.Common.{◌≡◌, ◌≢◌, ◌==◌, ◌||◌, ◌&&◌, not, ℕ, zero, suc, ◌<◌, ◌≤◌, ◌+◌, ◌++◌, Bool, true, false}
+use Rattle.std.proofs.Common.{cond, if◌then◌else◌, List, [], ◌∷◌, length, slice_get, slice_set, Option, Some, None}
+use Rattle.std.proofs.Common.{refl, sym, ap, ◌∙◌, subst, arith, true≢false, length-append, append-nil, append_assoc}
+use Rattle.std.proofs.{Common.eq-eqb, lemmas.{Bool.Decides.nat_tests, Option.{none-some, slice_get_within}}}
+use Rattle.std.proofs.lemmas.List.{length-set, Elements.filter-append}
+use Rattle.race_records.specs.declared.event.{Event.Event, Op.{Op, TheVariants.{Go, Meet}}}
+use Rattle.race_model.{specs.Events.{starts, gives, partner}, proofs.Indexes.{append_at_old, slice_get-push}}
+use Rattle.race_requests.{specs.{declared.request.{Step.Step, Waiter.Waiter}, Table.Fits}, proofs.ChoiceLemmas.some_is}
+use Rattle.race_hub.specs.{Part.{part_of, IsPart}, Tracks.{TrackState, fresh, HasPart, IsPassed, IsTracked, is_in_part}}
+use Rattle.race_hub.specs.Tracks.{HavePassed, OneHasPassed, AreBlank, is_through, asker_of, receiver_of}
+use Rattle.race_hub.specs.{Finish.{placed, logs_behind, logs_of_jobs}, Job.JobState, Hub.ParkedState}
 use Rattle.race_hub.proofs.PerformLemmas.{set_other}
-use Rattle.race_records.specs.declared.event.Op.{Op}
-use Rattle.race_records.specs.declared.event.Op.TheVariants.{Go, Meet}
-use Rattle.std.proofs.lemmas.List.{length-set}
-use Rattle.race_requests.proofs.ChoiceLemmas.{some_is}
 
 -- the part with one event more
 part_push : (g : ℕ) (past : List Event) (e : Event) → part_of g (past ++ e ∷ []) ≡ part_of g past ++ cond (is_in_part g e) (e ∷ []) []

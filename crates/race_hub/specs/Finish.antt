@@ -1,16 +1,10 @@
 -- What a hub's recording is, and why there is none. (Our own)
-use Rattle.std.specs.Prelude.{ℕ, ◌≡◌, ◌<◌, ◌≤◌, ◌==◌, List, [], ◌∷◌, ◌++◌, length, map, slice_get, slice_set, Some, None, IsSome}
-use Rattle.std.specs.List.{find}
-use Rattle.race_records.specs.declared.kind.Kind.{Kind}
-use Rattle.race_records.specs.Declarations.{count_of}
-use Rattle.race_hub.specs.declared.recording.Mismatch.{Mismatch}
-use Rattle.race_requests.specs.declared.request.Step.{Step}
-use Rattle.race_requests.specs.declared.request.Waiter.{Waiter}
-use Rattle.race_hub.specs.Part.{IsPart}
-use Rattle.race_hub.specs.Hub.{ParkedState, HubState, end_of}
-use Rattle.race_hub.specs.Job.{JobState}
-use Rattle.race_hub.specs.Recording.{RecordingState}
-use Rattle.race_hub.specs.Tracks.{TrackState, fresh}
+use Rattle.std.specs.Prelude.{ℕ, ◌≡◌, ◌<◌, ◌≤◌, ◌==◌, List, [], ◌∷◌, ◌++◌, length, map, slice_get, slice_set, Some}
+use Rattle.std.specs.{Prelude.{None, IsSome}, List.find}
+use Rattle.race_records.specs.{declared.kind.Kind.Kind, Declarations.count_of}
+use Rattle.race_hub.specs.{declared.recording.Mismatch.Mismatch, Part.IsPart, Hub.{ParkedState, HubState, end_of}}
+use Rattle.race_hub.specs.{Job.JobState, Recording.RecordingState, Tracks.{TrackState, fresh}}
+use Rattle.race_requests.specs.declared.request.{Step.Step, Waiter.Waiter}
 
 -- the log behind each request that waits, with its goroutine
 abbrev pub logs_behind : {R : Type 0} → List Waiter → List (ParkedState R) → List (ℕ × List Step)

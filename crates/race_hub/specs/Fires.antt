@@ -1,20 +1,12 @@
 -- What a firing does to the hub. (The Go Programming Language Specification, "Go statements", "Send statements",
 -- "Receive operator", "Run-time panics")
-use Rattle.std.specs.Prelude.{ℕ, ◌≡◌, ◌==◌, ◌-◌, nat_lt, if◌then◌else◌, List, [], ◌∷◌, ◌++◌, remove, slice_set, slice_get, Option, Some, None}
-use Rattle.race_records.specs.declared.event.Event.{Event}
-use Rattle.race_records.specs.declared.event.Op.{Op}
-use Rattle.race_records.specs.declared.event.Op.TheVariants.{Go}
-use Rattle.race_records.specs.Declarations.{capacity_of}
+use Rattle.std.specs.Prelude.{ℕ, ◌≡◌, ◌==◌, ◌-◌, nat_lt, if◌then◌else◌, List, [], ◌∷◌, ◌++◌, remove, slice_set}
+use Rattle.std.specs.Prelude.{slice_get, Option, Some, None}
+use Rattle.race_records.specs.{declared.event.{Event.Event, Op.{Op, TheVariants.Go}}, Declarations.capacity_of}
 use Rattle.race_model.specs.Legal.{broken}
-use Rattle.race_requests.specs.declared.choice.Choice.{Choice}
-use Rattle.race_requests.specs.declared.request.Answer.{Answer}
-use Rattle.race_requests.specs.declared.request.Step.{Step}
-use Rattle.race_requests.specs.declared.request.Waiter.{Waiter}
-use Rattle.race_requests.specs.Choices.{event_of}
-use Rattle.race_requests.specs.Search.{picked}
-use Rattle.race_requests.specs.Table.{IsRow, done_by}
-use Rattle.race_hub.specs.Job.{JobState, begun}
-use Rattle.race_hub.specs.Hub.{ParkedState, HubState, choices_of, end_of}
+use Rattle.race_requests.specs.declared.{choice.Choice.Choice, request.{Answer.Answer, Step.Step, Waiter.Waiter}}
+use Rattle.race_requests.specs.{Choices.event_of, Search.picked, Table.{IsRow, done_by}}
+use Rattle.race_hub.specs.{Job.{JobState, begun}, Hub.{ParkedState, HubState, choices_of, end_of}}
 
 -- the log with one step more: what was asked, and what was told
 abbrev pub with_step : {R : Type 0} → Waiter → ParkedState R → Option Answer → List Step

@@ -1,17 +1,11 @@
 -- What a firing is to do, by the choice that is picked.
 use Rattle.std.specs.Prelude.{◌≡◌, ◌≢◌, ◌<◌, ◌≤◌, ◌+◌, ◌-◌, List, length, slice_get, Option, Some, None, IsTrue}
-use Rattle.race_records.specs.declared.event.Event.{Event}
-use Rattle.race_records.specs.Declarations.{capacity_of}
-use Rattle.race_records.specs.Events.{fits}
+use Rattle.race_records.specs.{declared.event.Event.Event, Declarations.capacity_of, Events.fits}
 use Rattle.race_model.specs.Legal.{broken}
-use Rattle.race_requests.specs.declared.choice.Choice.{Choice}
-use Rattle.race_hub.specs.declared.firing.Firing.{Firing}
-use Rattle.race_requests.specs.declared.request.Answer.{Answer}
-use Rattle.race_requests.specs.declared.request.Waiter.{Waiter}
-use Rattle.race_requests.specs.Choices.{event_of}
-use Rattle.race_requests.specs.Table.{IsRow, done_by}
-use Rattle.race_hub.specs.Hub.{HubState}
-use Rattle.race_hub.specs.Fires.{partner_of, IsPartnerRow, started_by, HasBox}
+use Rattle.race_requests.specs.declared.{choice.Choice.Choice, request.{Answer.Answer, Waiter.Waiter}}
+use Rattle.race_requests.specs.{Choices.event_of, Table.{IsRow, done_by}}
+use Rattle.race_hub.specs.{declared.firing.Firing.Firing, Hub.HubState, Fires.{partner_of, IsPartnerRow, started_by}}
+use Rattle.race_hub.specs.Fires.{HasBox}
 
 -- who takes part in the choice's event, and what each is told
 pub record HasRows (waiting : List Waiter) (t : Choice) (e : Event) (told partner_told : Option Answer) : Type 0 where

@@ -1,18 +1,9 @@
 -- Small hubs, and what one firing makes of each. (The Go Programming Language Specification, "Go statements", "Send statements", "Receive operator")
 use Rattle.std.specs.Prelude.{ℕ, ◌≡◌, List, [], ◌∷◌, Option, Some, None}
-use Rattle.race_records.specs.declared.event.Event.{Event}
-use Rattle.race_records.specs.declared.event.Op.TheVariants.{Go, Meet}
-use Rattle.race_records.specs.declared.kind.Object.{Object}
-use Rattle.race_records.specs.declared.version.Version.{Version}
-use Rattle.race_records.specs.Declarations.{DeclsState}
-use Rattle.race_requests.specs.declared.request.Answer.{Answer}
-use Rattle.race_requests.specs.declared.request.Ask.{Ask}
-use Rattle.race_requests.specs.declared.request.Waiter.{Waiter}
-use Rattle.race_requests.specs.Rows.{waits}
-use Rattle.race_hub.specs.Job.{JobState, begun}
-use Rattle.race_hub.specs.Hub.{ParkedState, HubState, opening}
-use Rattle.race_hub.specs.Fires.{IsFired}
-use Rattle.race_hub.specs.Kept.{IsKept}
+use Rattle.race_records.specs.declared.{event.{Event.Event, Op.TheVariants.{Go, Meet}}, kind.Object.Object}
+use Rattle.race_records.specs.{declared.version.Version.Version, Declarations.DeclsState}
+use Rattle.race_requests.specs.{declared.request.{Answer.Answer, Ask.Ask, Waiter.Waiter}, Rows.waits}
+use Rattle.race_hub.specs.{Job.{JobState, begun}, Hub.{ParkedState, HubState, opening}, Fires.IsFired, Kept.IsKept}
 
 -- goroutine w, an unbuffered channel c and a place p
 abbrev pub w_and_c : DeclsState

@@ -1,15 +1,11 @@
 -- What holds of every `Hub`.
-use Rattle.std.specs.Prelude.{ℕ, ◌≡◌, ◌<◌, ◌≤◌, ◌+◌, false, length, count_by, slice_get, Some, None, is_some, All, IsTrue}
-use Rattle.race_records.specs.declared.kind.Kind.{Kind}
-use Rattle.race_records.specs.declared.kind.TheConstants.{MAX_GOROUTINES}
-use Rattle.race_records.specs.declared.trace.TheConstants.{MAX_EVENTS}
+use Rattle.std.specs.Prelude.{ℕ, ◌≡◌, ◌<◌, ◌≤◌, ◌+◌, false, length, count_by, slice_get, Some, None, is_some, All}
+use Rattle.std.specs.Prelude.{IsTrue}
+use Rattle.race_records.specs.declared.{kind.{Kind.Kind, TheConstants.MAX_GOROUTINES}, trace.TheConstants.MAX_EVENTS}
 use Rattle.race_records.specs.Declarations.{count_of}
 use Rattle.race_model.specs.State.{started}
-use Rattle.race_legal.specs.ReplayState.{ReplayState}
-use Rattle.race_legal.specs.StandsFor.{StandsFor}
-use Rattle.race_hub.specs.Hub.{HubState, stop_of}
-use Rattle.race_hub.specs.Kept.{StandOnce, EndOnce}
-use Rattle.race_hub.specs.Recording.{HasBadRequest}
+use Rattle.race_legal.specs.{ReplayState.ReplayState, StandsFor.StandsFor}
+use Rattle.race_hub.specs.{Hub.{HubState, stop_of}, Kept.{StandOnce, EndOnce}, Recording.HasBadRequest}
 use Rattle.race_requests.specs.Sound.{is_sound}
 
 -- whoever wasn't started has its box there

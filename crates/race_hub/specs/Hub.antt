@@ -1,16 +1,11 @@
 -- The hub: its state, the opening one, and when it has ended. (Our own; compare The Go Programming Language Specification, "Program execution")
-use Rattle.std.specs.Prelude.{ℕ, ◌==◌, ◌-◌, ◌&&◌, if◌then◌else◌, Bool, false, List, [], ◌∷◌, length, map, slice_get, Option}
-use Rattle.std.specs.Prelude.{Some, None}
-use Rattle.race_records.specs.declared.event.Event.{Event}
-use Rattle.race_records.specs.Declarations.{DeclsState, capacity_of}
+use Rattle.std.specs.Prelude.{ℕ, ◌==◌, ◌-◌, ◌&&◌, if◌then◌else◌, Bool, false, List, [], ◌∷◌, length, map, slice_get}
+use Rattle.std.specs.Prelude.{Option, Some, None}
+use Rattle.race_records.specs.{declared.event.Event.Event, Declarations.{DeclsState, capacity_of}}
 use Rattle.race_model.specs.Events.{is_exit, is_fault}
-use Rattle.race_requests.specs.declared.choice.Choice.{Choice}
-use Rattle.race_hub.specs.declared.ending.End.{End}
-use Rattle.race_requests.specs.declared.request.Step.{Step}
-use Rattle.race_requests.specs.declared.request.Waiter.{Waiter}
-use Rattle.race_requests.specs.Choices.{choices}
-use Rattle.race_hub.specs.Job.{JobState, begun}
+use Rattle.race_requests.specs.{declared.{choice.Choice.Choice, request.{Step.Step, Waiter.Waiter}}, Choices.choices}
 use Rattle.race_requests.specs.Waiting.{WaitingState}
+use Rattle.race_hub.specs.{declared.ending.End.End, Job.{JobState, begun}}
 
 -- the box of a goroutine that waits, and its log so far
 pub record ParkedState (R : Type 0) : Type 0 where

@@ -1,9 +1,6 @@
 -- What the fields of a `Hub` stand for, and what holds of them.
 use Rattle.std.specs.Prelude.{◌+◌, ◌≤◌, length, vec_len, vec_capacity}
-use Rattle.race_hub.specs.declared.hub.Hub.TheInside.{Inside}
-use Rattle.race_hub.specs.Hub.{HubState}
-use Rattle.race_hub.specs.Holds.{Holds}
-use Rattle.race_hub.specs.Tracks.{AreBlank}
+use Rattle.race_hub.specs.{declared.hub.Hub.TheInside.Inside, Hub.HubState, Holds.Holds, Tracks.AreBlank}
 
 module _ {R A : Type 0} where
   abbrev pub hub_state : Inside R A → HubState R

@@ -1,8 +1,6 @@
 -- A goroutine between its turns: what it was told and asked. (Our own)
 use Rattle.std.specs.Prelude.{ℕ, List, [], Option, Some, None}
-use Rattle.race_requests.specs.declared.request.Answer.{Answer}
-use Rattle.race_requests.specs.declared.request.Request.{Request}
-use Rattle.race_requests.specs.declared.request.Step.{Step}
+use Rattle.race_requests.specs.declared.request.{Answer.Answer, Request.Request, Step.Step}
 
 -- a `Job` as its callers see it: the goroutine, its box, what it was last told, its log, what it asks and isn't told yet
 pub record JobState (R : Type 0) : Type 0 where

@@ -1,10 +1,7 @@
 -- The states that a hub keeps to. (Our own)
 use Rattle.std.specs.Prelude.{ℕ, ◌≡◌, ◌==◌, ◌≤◌, ◌+◌, ◌&&◌, ◌||◌, not, nat_lt, cond, Bool, List, length, count_by}
-use Rattle.race_records.specs.declared.event.Event.{Event}
-use Rattle.race_records.specs.Declarations.{capacity_of}
-use Rattle.race_model.specs.Events.{is_fault, has_exited}
-use Rattle.race_model.specs.State.{runs}
-use Rattle.race_model.specs.Legal.{IsLegal}
+use Rattle.race_records.specs.{declared.event.Event.Event, Declarations.capacity_of}
+use Rattle.race_model.specs.{Events.{is_fault, has_exited}, State.runs, Legal.IsLegal}
 use Rattle.race_hub.specs.Hub.{HubState}
 
 -- g failed

@@ -1,10 +1,8 @@
 -- The law of the ends, which a function of src/laws.rt that does nothing has as its contract.
 use Rattle.std.specs.Prelude.{◌≡◌, [], ◌∷◌, Some, None}
-use Rattle.race_records.specs.declared.event.Cause.TheVariants.{CloseNil}
-use Rattle.race_records.specs.declared.event.Op.TheVariants.{Exit, Write, Fault}
+use Rattle.race_records.specs.declared.event.{Cause.TheVariants.CloseNil, Op.TheVariants.{Exit, Write, Fault}}
 use Rattle.race_model.specs.Examples.{does}
-use Rattle.race_hub.specs.declared.ending.End.{End}
-use Rattle.race_hub.specs.Hub.{stop_by}
+use Rattle.race_hub.specs.{declared.ending.End.End, Hub.stop_by}
 
 -- of several ends that hold the first is told: main's exit, a failure, a bad request, the limit
 pub record EndsComeInOrder : Type 0 where

@@ -1,10 +1,7 @@
 -- A log, and what stands for what was told. (Our own)
 use Rattle.std.specs.Prelude.{ℕ, List, [], ◌∷◌, Bool, Option, Some, None}
-use Rattle.race_hub.specs.declared.log.BriefAnswer.{BriefAnswer}
-use Rattle.race_hub.specs.declared.log.Told.{Told}
-use Rattle.race_requests.specs.declared.request.Answer.{Answer}
-use Rattle.race_requests.specs.declared.request.Request.{Request}
-use Rattle.race_requests.specs.declared.request.Step.{Step}
+use Rattle.race_hub.specs.declared.log.{BriefAnswer.BriefAnswer, Told.Told}
+use Rattle.race_requests.specs.declared.request.{Answer.Answer, Request.Request, Step.Step}
 
 -- a `Log` as its callers see it: the steps, and whether there is room for one more
 pub record LogState : Type 0 where

@@ -1,7 +1,6 @@
 -- What the fields of a `Log` stand for, and what holds of them.
 use Rattle.std.specs.Prelude.{◌≡◌, ◌&&◌, nat_lt, length, vec_len, vec_capacity}
-use Rattle.race_hub.specs.declared.log.Log.TheInside.{Inside}
-use Rattle.race_hub.specs.Log.{LogState, steps_of}
+use Rattle.race_hub.specs.{declared.log.Log.TheInside.Inside, Log.{LogState, steps_of}}
 
 module _ {A : Type 0} where
   abbrev pub log_state : Inside A → LogState

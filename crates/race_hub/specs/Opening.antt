@@ -1,10 +1,8 @@
 -- When a hub can be made. (Our own)
 use Rattle.std.specs.Prelude.{ℕ, ◌==◌, ◌||◌, not, nat_lt, ◌≡◌, if◌then◌else◌, List, ◌∷◌, Option, Some, None}
-use Rattle.race_records.specs.declared.kind.Kind.{Kind}
-use Rattle.race_records.specs.declared.trace.TheConstants.{MAX_EVENTS}
+use Rattle.race_records.specs.declared.{kind.Kind.Kind, trace.TheConstants.MAX_EVENTS}
 use Rattle.race_records.specs.Declarations.{DeclsState, count_of}
-use Rattle.race_hub.specs.declared.opening.HubFault.{HubFault}
-use Rattle.race_hub.specs.Hub.{HubState, opening}
+use Rattle.race_hub.specs.{declared.opening.HubFault.HubFault, Hub.{HubState, opening}}
 
 -- why no hub of so many boxes is made: the first cause, in the order in which they are tested
 unfoldable pub hub_fault : DeclsState → ℕ → ℕ → Option HubFault

@@ -3,8 +3,7 @@
 use Rattle.std.specs.Prelude.{ℕ, ◌≡◌, ◌&&◌, not, List, filter, length, slice_get, Some}
 use Rattle.race_records.specs.declared.event.Event.{Event}
 use Rattle.race_model.specs.Events.{takes_part, starts}
-use Rattle.race_requests.specs.declared.request.Step.{Step}
-use Rattle.race_requests.specs.Table.{Fits}
+use Rattle.race_requests.specs.{declared.request.Step.Step, Table.Fits}
 
 -- the events in which g takes part, its own start left out
 abbrev pub part_of : ℕ → List Event → List Event

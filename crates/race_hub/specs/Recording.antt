@@ -1,16 +1,9 @@
 -- A recording: the trace of a run, what each goroutine asked and was told, what waits, and how the run ended. (Our own)
 use Rattle.std.specs.Prelude.{ℕ, ◌≡◌, ◌==◌, not, true, List, length, filter, slice_get, Option, Some, None, IsSome}
 use Rattle.std.specs.List.{find}
-use Rattle.race_records.specs.declared.event.Event.{Event}
-use Rattle.race_records.specs.Declarations.{DeclsState, capacity_of}
-use Rattle.race_hub.specs.declared.ending.End.{End}
-use Rattle.race_requests.specs.declared.request.Step.{Step}
-use Rattle.race_requests.specs.declared.request.Waiter.{Waiter}
-use Rattle.race_requests.specs.Choices.{choices}
-use Rattle.race_hub.specs.Part.{IsPart}
-use Rattle.race_hub.specs.Hub.{stop_by}
-use Rattle.race_hub.specs.Kept.{is_active}
-use Rattle.race_requests.specs.Sound.{is_bad_among}
+use Rattle.race_records.specs.{declared.event.Event.Event, Declarations.{DeclsState, capacity_of}}
+use Rattle.race_hub.specs.{declared.ending.End.End, Part.IsPart, Hub.stop_by, Kept.is_active}
+use Rattle.race_requests.specs.{declared.request.{Step.Step, Waiter.Waiter}, Choices.choices, Sound.is_bad_among}
 
 -- a `Recording` as its callers see it: the logs by goroutine, and the requests that have no event, in the order in which they came
 pub record RecordingState : Type 0 where

@@ -1,10 +1,8 @@
 -- What the fields of a `Recording` stand for, and what holds of them.
 use Rattle.std.specs.Prelude.{◌≡◌, length, map}
-use Rattle.race_records.specs.declared.kind.Kind.{Kind}
-use Rattle.race_records.specs.Declarations.{capacity_of, count_of}
+use Rattle.race_records.specs.{declared.kind.Kind.Kind, Declarations.{capacity_of, count_of}}
 use Rattle.race_model.specs.Legal.{IsLegal}
-use Rattle.race_hub.specs.declared.recording.Recording.TheInside.{Inside}
-use Rattle.race_hub.specs.Recording.{RecordingState, AreParts}
+use Rattle.race_hub.specs.{declared.recording.Recording.TheInside.Inside, Recording.{RecordingState, AreParts}}
 
 module _ {A : Type 0} where
   abbrev pub recording_state : Inside A → RecordingState

@@ -1,11 +1,8 @@
 -- A run of a hub: one step after another, whoever makes them. (Our own)
 use Rattle.std.specs.Prelude.{ℕ, ◌≡◌, ◌⊎◌, false, List, [], ◌∷◌, slice_get, Some, None}
 use Rattle.race_records.specs.Declarations.{DeclsState}
-use Rattle.race_hub.specs.Job.{JobState}
-use Rattle.race_hub.specs.Hub.{HubState, opening, end_of}
-use Rattle.race_hub.specs.Fires.{IsFired}
-use Rattle.race_hub.specs.Submits.{Takes, Submits, is_stray}
-use Rattle.race_hub.specs.Kept.{IsKept}
+use Rattle.race_hub.specs.{Job.JobState, Hub.{HubState, opening, end_of}, Fires.IsFired}
+use Rattle.race_hub.specs.{Submits.{Takes, Submits, is_stray}, Kept.IsKept}
 
 -- a job is taken, or one is put back, or a choice is performed, of whatever pick; what is refused is no step
 abbrev pub IsStep : {R : Type 0} → HubState R → HubState R → Type 0

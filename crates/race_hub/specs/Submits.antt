@@ -1,13 +1,9 @@
 -- What a job that is put back does to the hub. (Our own; compare The Go Programming Language Specification, "Go statements";
 -- package sync)
 use Rattle.std.specs.Prelude.{ℕ, ◌≡◌, ◌==◌, ◌&&◌, not, if◌then◌else◌, Bool, false, List, [], ◌∷◌, ◌++◌, remove, Some}
-use Rattle.std.specs.Prelude.{None, is_none, is_some}
-use Rattle.std.specs.List.{list_any, position_or_len}
-use Rattle.race_requests.specs.declared.request.Request.{Request}
-use Rattle.race_requests.specs.declared.request.Waiter.{Waiter}
-use Rattle.race_requests.specs.Sound.{is_bad_among}
-use Rattle.race_hub.specs.Job.{JobState}
-use Rattle.race_hub.specs.Hub.{HubState, end_of}
+use Rattle.std.specs.{Prelude.{None, is_none, is_some}, List.{list_any, position_or_len}}
+use Rattle.race_requests.specs.{declared.request.{Request.Request, Waiter.Waiter}, Sound.is_bad_among}
+use Rattle.race_hub.specs.{Job.JobState, Hub.{HubState, end_of}}
 
 -- it is bad in the hub
 abbrev pub is_bad : {R : Type 0} → HubState R → Waiter → Bool

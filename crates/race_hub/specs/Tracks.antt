@@ -1,10 +1,9 @@
 -- How far a trace has come along the logs of its goroutines.
-use Rattle.std.specs.Prelude.{ℕ, ◌≡◌, ◌<◌, ◌≤◌, ◌==◌, ◌&&◌, not, if◌then◌else◌, Bool, true, false, List, [], ◌∷◌, ◌++◌, length, slice_get, Option, Some, None}
-use Rattle.race_records.specs.declared.event.Event.{Event}
-use Rattle.race_records.specs.declared.event.Op.TheVariants.{Meet}
+use Rattle.std.specs.Prelude.{ℕ, ◌≡◌, ◌<◌, ◌≤◌, ◌==◌, ◌&&◌, not, if◌then◌else◌, Bool, true, false, List, [], ◌∷◌, ◌++◌}
+use Rattle.std.specs.Prelude.{length, slice_get, Option, Some, None}
+use Rattle.race_records.specs.declared.event.{Event.Event, Op.TheVariants.Meet}
 use Rattle.race_model.specs.Events.{takes_part, starts, gives}
-use Rattle.race_requests.specs.declared.request.Step.{Step}
-use Rattle.race_requests.specs.Table.{Fits}
+use Rattle.race_requests.specs.{declared.request.Step.Step, Table.Fits}
 use Rattle.race_hub.specs.Part.{part_of, IsPart}
 
 -- a `Track` as its callers see it: a log, and how many of its steps the events so far have, None where they aren't its first

@@ -1,8 +1,7 @@
 //! A choice with its event, and with what its goroutines are told.
 ghost use Rattle.std.specs.Prelude.{◌≡◌, ◌≤◌, ◌-◌, length, Option, Some, None};
 ghost use Rattle.race_requests.specs.declared.request.Answer.{Answer};
-ghost use Rattle.race_hub.specs.Fires.{partner_of, IsPartnerRow, started_by};
-ghost use Rattle.race_hub.specs.Firing.{HasRows, HasSomeRows};
+ghost use Rattle.race_hub.specs.{Fires.{partner_of, IsPartnerRow, started_by}, Firing.{HasRows, HasSomeRows}};
 
 use crate::{Answer, Choice, Waiter, answer_of};
 use race_records::{Event, Op};

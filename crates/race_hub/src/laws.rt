@@ -1,7 +1,6 @@
 //! The laws of the hub. Each function does nothing, and its contract is the law.
-ghost use Rattle.race_hub.specs.Firings.{AFiringIsAnEvent, AGoIsFired, AMeetIsFired, AStarterIsReadyFirst, OpeningIsKept};
-ghost use Rattle.race_hub.specs.Runs.{EachRunIsKept};
-ghost use Rattle.race_hub.specs.Laws.{EndsComeInOrder};
+ghost use Rattle.race_hub.specs.Firings.{AFiringIsAnEvent, AGoIsFired, AMeetIsFired, AStarterIsReadyFirst};
+ghost use Rattle.race_hub.specs.{Firings.OpeningIsKept, Runs.EachRunIsKept, Laws.EndsComeInOrder};
 
 /// A start is a firing: one event more, and both are ready, the starter first.
 pub fn a_go_is_fired()

@@ -1,10 +1,9 @@
 //! How a choice moves goroutines from list to list. Room is made first, so that nothing behind that takes memory.
-ghost use Rattle.std.specs.Prelude.{◌≡◌, ◌≢◌, ◌==◌, true, ◌<◌, ◌≤◌, ◌+◌, ◌++◌, Some, None, length, slice_get, vec_len, vec_capacity, IfSome, OnOk};
-ghost use Rattle.std.specs.List.{list_any, position_or_len};
+ghost use Rattle.std.specs.Prelude.{◌≡◌, ◌≢◌, ◌==◌, true, ◌<◌, ◌≤◌, ◌+◌, ◌++◌, Some, None, length, slice_get, vec_len};
+ghost use Rattle.std.specs.{Prelude.{vec_capacity, IfSome, OnOk}, List.{list_any, position_or_len}};
 ghost use Rattle.race_requests.specs.declared.request.Waiter.{Waiter as WaiterValue};
-ghost use Rattle.race_hub.specs.Hub.{ParkedState};
-ghost use Rattle.race_hub.specs.Submits.{without_first};
-ghost use Rattle.race_hub.specs.Fires.{without, partner_of, goes_on, is_through, partner_goes_on, born_of, boxes_after};
+ghost use Rattle.race_hub.specs.{Hub.ParkedState, Submits.without_first, Fires.{without, partner_of, goes_on}};
+ghost use Rattle.race_hub.specs.Fires.{is_through, partner_goes_on, born_of, boxes_after};
 
 use crate::parked::{Ended, Parked};
 use crate::{Answer, Choice, Job, Waiter};

@@ -1,8 +1,6 @@
 //! What a hub needs before its first event, and why it can't be made.
 ghost use Rattle.std.specs.Prelude.{◌≡◌, ◌==◌, ◌||◌, ◌∷◌, ◌≤◌, nat_lt, map, Some, None, IfOk, IsNone};
-ghost use Rattle.race_records.specs.declared.kind.Kind.{Kind};
-ghost use Rattle.race_records.specs.declared.trace.TheConstants.{MAX_EVENTS};
-ghost use Rattle.race_records.specs.Declarations.{count_of};
+ghost use Rattle.race_records.specs.{declared.{kind.Kind.Kind, trace.TheConstants.MAX_EVENTS}, Declarations.count_of};
 ghost use Rattle.race_hub.specs.Opening.{hub_fault};
 
 use race_records::{Decls, Kind, MAX_EVENTS};

@@ -1,7 +1,6 @@
 //! The box and the log behind a request that waits.
 ghost use Rattle.std.specs.Prelude.{◌≡◌, true, Some, None};
-ghost use Rattle.race_hub.specs.Hub.{ParkedState};
-ghost use Rattle.race_hub.specs.Fires.{answered, with_step};
+ghost use Rattle.race_hub.specs.{Hub.ParkedState, Fires.{answered, with_step}};
 
 use crate::{Answer, Job, Log, Step, Waiter};
 use std::alloc::{Allocator, Global};

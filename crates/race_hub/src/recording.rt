@@ -1,12 +1,9 @@
 //! A recording: a run that has ended, with its trace and the log of each goroutine.
-ghost use Rattle.std.specs.Prelude.{◌≡◌, ◌==◌, ◌<◌, length, map, slice_get, Some};
-ghost use Rattle.std.specs.List.{find};
+ghost use Rattle.std.specs.{Prelude.{◌≡◌, ◌==◌, ◌<◌, length, map, slice_get, Some}, List.find};
 ghost use Rattle.std.specs.Option.{option_copied, option_map};
-ghost use Rattle.race_records.specs.declared.kind.Kind.{Kind};
-ghost use Rattle.race_records.specs.Declarations.{capacity_of, count_of};
+ghost use Rattle.race_records.specs.{declared.kind.Kind.Kind, Declarations.{capacity_of, count_of}};
 ghost use Rattle.race_model.specs.Legal.{IsLegal};
-ghost use Rattle.race_hub.specs.Part.{IsPart};
-ghost use Rattle.race_hub.specs.Recording.{AreParts};
+ghost use Rattle.race_hub.specs.{Part.IsPart, Recording.AreParts};
 
 use crate::track::Track;
 use crate::waiters::request_of;

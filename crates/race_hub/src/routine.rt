@@ -4,8 +4,7 @@ use crate::{Answer, Request};
 
 /// The code of one goroutine, as a box that is told and asks. It is started with `Answer::Begin`.
 pub trait Routine: Send + Drop {
-    ghost use Rattle.race_requests.specs.declared.request.Answer.{Answer};
-    ghost use Rattle.race_requests.specs.declared.request.Request.{Request};
+    ghost use Rattle.race_requests.specs.declared.request.{Answer.Answer, Request.Request};
 
     // What `next` makes of the box and the answer: the request, and the box after.
     ghost asks: { Self → Answer → Request → Self → Type 0 };

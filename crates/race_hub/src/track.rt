@@ -1,10 +1,11 @@
 //! How far a trace has come along the logs of its goroutines: one pass over the events with a place in each log.
-ghost use Rattle.std.specs.Prelude.{ℕ, ◌≡◌, ◌≤◌, ◌<◌, ◌++◌, ◌∷◌, [], List, true, length, map, slice_get, slice_set, IfOk, IfSome, IsNone};
-ghost use Rattle.race_records.specs.declared.event.Event.{Event as EventValue};
-ghost use Rattle.race_records.specs.declared.kind.TheConstants.{MAX_GOROUTINES};
-ghost use Rattle.race_hub.specs.Tracks.{TrackState, fresh, AreBlank, IsPassed, IsTracked, is_in_part, HavePassed, OneHasPassed, IsFirstOther};
+ghost use Rattle.std.specs.Prelude.{ℕ, ◌≡◌, ◌≤◌, ◌<◌, ◌++◌, ◌∷◌, [], List, true, length, map, slice_get, slice_set};
+ghost use Rattle.std.specs.Prelude.{IfOk, IfSome, IsNone};
+ghost use Rattle.race_records.specs.{declared.{event.{Event.{Event as EventValue}}, kind.TheConstants.MAX_GOROUTINES}};
+ghost use Rattle.race_hub.specs.Tracks.{TrackState, fresh, AreBlank, IsPassed, IsTracked, is_in_part, HavePassed};
+ghost use Rattle.race_hub.specs.{Tracks.{OneHasPassed, IsFirstOther}, Finish.{placed, logs_of_jobs, logs_behind}};
+ghost use Rattle.race_hub.specs.Finish.{IsLeast};
 ghost use Rattle.race_hub.specs.Tracks as spec;
-ghost use Rattle.race_hub.specs.Finish.{placed, logs_of_jobs, logs_behind, IsLeast};
 
 use crate::firing::started_in;
 use crate::parked::{Ended, Parked};

@@ -1,7 +1,5 @@
 //! Requests that wait, by their goroutines.
-ghost use Rattle.std.specs.Prelude.{◌≡◌, ◌==◌};
-ghost use Rattle.std.specs.List.{find};
-ghost use Rattle.std.specs.Option.{option_copied, option_map};
+ghost use Rattle.std.specs.{Prelude.{◌≡◌, ◌==◌}, List.find, Option.{option_copied, option_map}};
 
 use crate::{Request, Waiter};
 

@@ -1,23 +1,13 @@
 -- The table of channels, one event on.
 use Rattle.std.proofs.Common.{◌≡◌, ℕ, ◌+◌, ◌-◌, ◌<◌, ◌≤◌, ◌==◌, ◌||◌, Bool, true, false, List, [], ◌∷◌, ◌++◌, length}
 use Rattle.std.proofs.Common.{Some, None, drop, filter_map, if◌then◌else◌, refl, sym, ap, ◌∙◌, subst, arith, append-nil}
-use Rattle.std.proofs.Common.{drop-drop}
-use Rattle.std.specs.Option.{option_to_list}
-use Rattle.std.proofs.Math.Bool.{or-true, or-false}
-use Rattle.std.proofs.lemmas.Bool.{eqb-true, eqb-false}
-use Rattle.std.proofs.lemmas.List.{drop-append-le}
-use Rattle.race_records.specs.declared.event.Event.{Event}
-use Rattle.race_records.specs.declared.event.Op.{Op}
-use Rattle.race_records.specs.declared.event.Op.TheVariants.{Send, Recv, Close}
-use Rattle.race_model.specs.Events.{sends, receives, closes, count}
-use Rattle.race_model.specs.State.{sent}
-use Rattle.race_model.specs.Legal.{least_broken}
-use Rattle.race_model.proofs.CountSteps.{as_number, count_push}
-use Rattle.race_model.proofs.StateSteps.{sent_push, sent_count}
-use Rattle.race_legal.specs.ReplayState.{ChannelsState, ReplayState, closed_in, queue_in}
-use Rattle.race_legal.specs.After.{channels_after}
-use Rattle.race_legal.specs.RulesKept.{op_rules_in}
-use Rattle.race_legal.proofs.TableSteps.{get_or-set}
+use Rattle.std.proofs.{Common.drop-drop, Math.Bool.{or-true, or-false}, lemmas.Bool.{eqb-true, eqb-false}}
+use Rattle.std.{proofs.lemmas.List.drop-append-le, specs.Option.option_to_list}
+use Rattle.race_records.specs.declared.event.{Event.Event, Op.{Op, TheVariants.{Send, Recv, Close}}}
+use Rattle.race_model.specs.{Events.{sends, receives, closes, count}, State.sent, Legal.least_broken}
+use Rattle.race_model.proofs.{CountSteps.{as_number, count_push}, StateSteps.{sent_push, sent_count}}
+use Rattle.race_legal.specs.{ReplayState.{ChannelsState, ReplayState, closed_in, queue_in}, After.channels_after}
+use Rattle.race_legal.{specs.RulesKept.op_rules_in, proofs.TableSteps.get_or-set}
 
 -- a Close closes its channel, and nothing else does
 pub closed_step : (t : ChannelsState) (o : Op) (c : ℕ) → c < length t.closed → (closed_in t c || closes c o) ≡ closed_in (channels_after t o) c

@@ -1,16 +1,10 @@
 -- What the table of channels says of a list for which the replay stands: the words of the rules.
-use Rattle.std.proofs.Common.{◌≡◌, ℕ, zero, suc, ◌-◌, ◌<◌, ◌≤◌, ◌==◌, nat_lt, List, [], ◌∷◌}
-use Rattle.std.proofs.Common.{length, drop, filter_map, slice_get, refl, sym, ap, ◌∙◌, arith}
-use Rattle.std.proofs.Common.{length-drop}
-use Rattle.std.proofs.lemmas.Bool.Decides.{nat_tests}
-use Rattle.race_records.specs.declared.kind.Kind.{Kind}
-use Rattle.race_records.specs.declared.event.Event.{Event}
-use Rattle.race_records.specs.Declarations.{Declaration}
-use Rattle.race_model.specs.Events.{sends, receives, count}
-use Rattle.race_model.specs.State.{buffered, front, sent}
+use Rattle.std.proofs.Common.{◌≡◌, ℕ, zero, suc, ◌-◌, ◌<◌, ◌≤◌, ◌==◌, nat_lt, List, [], ◌∷◌, length, drop, filter_map}
+use Rattle.std.proofs.{Common.{slice_get, refl, sym, ap, ◌∙◌, arith, length-drop}, lemmas.Bool.Decides.nat_tests}
+use Rattle.race_records.specs.{declared.{kind.Kind.Kind, event.Event.Event}, Declarations.Declaration}
+use Rattle.race_model.specs.{Events.{sends, receives, count}, State.{buffered, front, sent}}
 use Rattle.race_model.proofs.StateSteps.{sent_count}
-use Rattle.race_legal.specs.ReplayState.{ReplayState, counts_in, queue_in}
-use Rattle.race_legal.specs.StandsFor.{StandsFor}
+use Rattle.race_legal.specs.{ReplayState.{ReplayState, counts_in, queue_in}, StandsFor.StandsFor}
 
 -- as many are equal as none are left, where the one is no more than the other
 equal_if_none : (m n q : ℕ) → n ≤ m → m - n ≡ q → (m == n) ≡ (q == 0)

@@ -1,15 +1,10 @@
 -- Before the first event the tables answer the state words on the empty list.
-use Rattle.std.proofs.Common.{◌≡◌, ℕ, ◌+◌, ◌<◌, ◌≤◌, false, List, [], length, replicate, refl, sym, ap, ◌∙◌, subst, arith}
-use Rattle.std.specs.List.{slice_index_or}
-use Rattle.std.proofs.lemmas.Grind.{common_steps}
-use Rattle.std.proofs.lemmas.Bool.{false≢true}
-use Rattle.std.proofs.lemmas.List.{length-replicate, get_or-replicate}
-use Rattle.race_records.specs.declared.kind.Kind.{Kind}
-use Rattle.race_records.specs.Declarations.{Declaration, count_of, counts_of, capacity_of}
-use Rattle.race_model.proofs.CountSteps.{as_number}
-use Rattle.race_model.proofs.LegalSteps.{legal_none}
-use Rattle.race_legal.specs.ReplayState.{ReplayState, counts_in}
-use Rattle.race_legal.specs.StandsFor.{StandsFor}
+use Rattle.std.proofs.Common.{◌≡◌, ℕ, ◌+◌, ◌<◌, ◌≤◌, false, List, [], length, replicate, refl, sym, ap, ◌∙◌, subst}
+use Rattle.std.proofs.{Common.arith, lemmas.{Grind.common_steps, Bool.false≢true}}
+use Rattle.std.{proofs.lemmas.List.{length-replicate, get_or-replicate}, specs.List.slice_index_or}
+use Rattle.race_records.specs.{declared.kind.Kind.Kind, Declarations.{Declaration, count_of, counts_of, capacity_of}}
+use Rattle.race_model.proofs.{CountSteps.as_number, LegalSteps.legal_none}
+use Rattle.race_legal.specs.{ReplayState.{ReplayState, counts_in}, StandsFor.StandsFor}
 
 -- no row of a column of zeros has more
 pub none_reads : (n l : ℕ) → slice_index_or (replicate n 0) l 0 ≤ 0

@@ -1,16 +1,12 @@
 -- The table of locks, one event on.
-use Rattle.std.proofs.Common.{◌≡◌, ℕ, ◌+◌, ◌-◌, ◌<◌, ◌==◌, nat_lt, length, Bool, true, false, if◌then◌else◌, refl, sym, ap, ◌∙◌, arith}
-use Rattle.std.proofs.lemmas.Bool.{eqb-true, not-false}
-use Rattle.std.proofs.lemmas.Bool.Decides.{nat_tests}
-use Rattle.race_records.specs.declared.event.Op.{Op}
-use Rattle.race_records.specs.declared.event.Op.TheVariants.{Lock, Unlock, RLock, RUnlock, TryLock, TryRLock, TryFail}
-use Rattle.race_model.specs.Events.{locks, unlocks, rlocks, runlocks}
-use Rattle.race_model.proofs.CountSteps.{as_number}
+use Rattle.std.proofs.Common.{◌≡◌, ℕ, ◌+◌, ◌-◌, ◌<◌, ◌==◌, nat_lt, length, Bool, true, false, if◌then◌else◌, refl, sym}
+use Rattle.std.proofs.{Common.{ap, ◌∙◌, arith}, lemmas.Bool.{eqb-true, not-false, Decides.nat_tests}}
+use Rattle.race_records.specs.declared.event.Op.{Op, TheVariants.{Lock, Unlock, RLock, RUnlock, TryLock, TryRLock}}
+use Rattle.race_records.specs.declared.event.Op.TheVariants.{TryFail}
+use Rattle.race_model.{specs.Events.{locks, unlocks, rlocks, runlocks}, proofs.CountSteps.as_number}
 use Rattle.race_legal.specs.ReplayState.{LocksState, ReplayState, held_in, readers_in}
-use Rattle.race_legal.specs.After.{with_held, with_readers, locks_after}
-use Rattle.race_legal.specs.RulesKept.{op_rules_in}
-use Rattle.race_legal.proofs.TableSteps.{get_or-set}
-use Rattle.race_legal.proofs.ChannelSteps.{NoneBroken}
+use Rattle.race_legal.specs.{After.{with_held, with_readers, locks_after}, RulesKept.op_rules_in}
+use Rattle.race_legal.proofs.{TableSteps.get_or-set, ChannelSteps.NoneBroken}
 
 -- a lock that is found free is locked behind it
 locked_step : (t : LocksState) (p l n m : ℕ) → l < length t.held → held_in t p ≡ false → n ≡ m + as_number (held_in t l)

@@ -1,13 +1,8 @@
 -- What the table of locks says of a list for which the replay stands: the words of the rules.
-use Rattle.std.proofs.Common.{◌≡◌, ℕ, ◌+◌, ◌<◌, nat_lt, Bool, true, false, List, arith}
-use Rattle.std.proofs.lemmas.Bool.Decides.{nat_tests}
-use Rattle.race_records.specs.declared.kind.Kind.{Kind}
-use Rattle.race_records.specs.declared.event.Event.{Event}
-use Rattle.race_records.specs.Declarations.{Declaration}
-use Rattle.race_model.specs.State.{is_held, is_read_held}
-use Rattle.race_model.proofs.CountSteps.{as_number}
-use Rattle.race_legal.specs.ReplayState.{ReplayState, counts_in, held_in, read_held_in}
-use Rattle.race_legal.specs.StandsFor.{StandsFor}
+use Rattle.std.proofs.{Common.{◌≡◌, ℕ, ◌+◌, ◌<◌, nat_lt, Bool, true, false, List, arith}, lemmas.Bool.Decides.nat_tests}
+use Rattle.race_records.specs.{declared.{kind.Kind.Kind, event.Event.Event}, Declarations.Declaration}
+use Rattle.race_model.{specs.State.{is_held, is_read_held}, proofs.CountSteps.as_number}
+use Rattle.race_legal.specs.{ReplayState.{ReplayState, counts_in, held_in, read_held_in}, StandsFor.StandsFor}
 
 -- one number is the greater where something is left between them
 more_by : (m n r : ℕ) → n ≡ m + r → nat_lt m n ≡ nat_lt 0 r

@@ -1,16 +1,10 @@
 -- The table of onces, one event on.
-use Rattle.std.proofs.Common.{◌≡◌, ℕ, ◌+◌, ◌<◌, ◌==◌, ◌||◌, length, IsTrue, Bool, true, false, if◌then◌else◌, refl, sym, ap, ◌∙◌, arith}
-use Rattle.std.proofs.Math.Bool.{or-true, or-false}
-use Rattle.std.proofs.lemmas.Bool.{eqb-true}
-use Rattle.race_records.specs.declared.event.Op.{Op}
-use Rattle.race_records.specs.declared.event.Op.TheVariants.{OnceBegin, OnceEnd}
-use Rattle.race_model.specs.Events.{once_begins, once_ends}
-use Rattle.race_model.proofs.CountSteps.{as_number}
-use Rattle.race_legal.specs.ReplayState.{OncesState, ReplayState, begun_in, ended_in}
-use Rattle.race_legal.specs.After.{onces_after}
-use Rattle.race_legal.specs.RulesKept.{op_rules_in}
-use Rattle.race_legal.proofs.TableSteps.{get_or-set}
-use Rattle.race_legal.proofs.ChannelSteps.{NoneBroken}
+use Rattle.std.proofs.Common.{◌≡◌, ℕ, ◌+◌, ◌<◌, ◌==◌, ◌||◌, length, IsTrue, Bool, true, false, if◌then◌else◌, refl, sym}
+use Rattle.std.proofs.{Common.{ap, ◌∙◌, arith}, Math.Bool.{or-true, or-false}, lemmas.Bool.eqb-true}
+use Rattle.race_records.specs.declared.event.Op.{Op, TheVariants.{OnceBegin, OnceEnd}}
+use Rattle.race_model.{specs.Events.{once_begins, once_ends}, proofs.CountSteps.as_number}
+use Rattle.race_legal.specs.{ReplayState.{OncesState, ReplayState, begun_in, ended_in}, After.onces_after}
+use Rattle.race_legal.{specs.RulesKept.op_rules_in, proofs.{TableSteps.get_or-set, ChannelSteps.NoneBroken}}
 
 -- an OnceBegin that breaks no rule finds the once as it was declared, and nothing else changes which began
 pub begun_step : (k : ReplayState) (who : ℕ) (o : Op) (q n : ℕ) → q < length k.onces.begun

@@ -1,29 +1,18 @@
 -- What the stacks say of a list for which the replay stands, and what they say one event on.
-use Rattle.std.proofs.Common.{◌≡◌, ℕ, ◌+◌, ◌-◌, ◌<◌, ◌≤◌, ◌==◌, ◌||◌, ◌&&◌, not, nat_lt, if◌then◌else◌, Bool, true, false, List, []}
-use Rattle.std.proofs.Common.{◌∷◌, ◌++◌, length, take, Option, Some, None, filter_map, refl, sym, ap, ◌∙◌, subst, arith, append-nil}
-use Rattle.std.proofs.Common.{IsTrue}
+use Rattle.std.proofs.Common.{◌≡◌, ℕ, ◌+◌, ◌-◌, ◌<◌, ◌≤◌, ◌==◌, ◌||◌, ◌&&◌, not, nat_lt, if◌then◌else◌, Bool, true}
+use Rattle.std.proofs.Common.{false, List, [], ◌∷◌, ◌++◌, length, take, Option, Some, None, filter_map, refl, sym, ap}
+use Rattle.std.proofs.{Common.{◌∙◌, subst, arith, append-nil, IsTrue}, Math.Bool.or-false, lemmas.Bool.eqb-true}
+use Rattle.std.proofs.lemmas.Bool.{eqb-false, not-false, false_from_ne_true, false≢true, Decides.nat_tests}
 use Rattle.std.specs.Option.{option_to_list}
-use Rattle.std.proofs.Math.Bool.{or-false}
-use Rattle.std.proofs.lemmas.Bool.{eqb-true, eqb-false, not-false, false_from_ne_true, false≢true}
-use Rattle.std.proofs.lemmas.Bool.Decides.{nat_tests}
-use Rattle.race_records.specs.declared.event.Event.{Event}
-use Rattle.race_records.specs.declared.event.Op.{Op}
-use Rattle.race_records.specs.declared.event.Op.TheVariants.{Go, Exit, OnceBegin, OnceEnd}
-use Rattle.race_records.specs.declared.kind.Kind.{Kind}
-use Rattle.race_records.specs.Declarations.{Declaration}
-use Rattle.race_records.specs.Parts.{op_is_in_range}
-use Rattle.race_model.specs.Events.{gives, once_begins, once_ends, count}
-use Rattle.race_model.specs.State.{is_begun, is_ended, unended_once, innermost}
-use Rattle.race_model.proofs.CountSteps.{as_number, has_push}
+use Rattle.race_records.specs.declared.event.{Event.Event, Op.{Op, TheVariants.{Go, Exit, OnceBegin, OnceEnd}}}
+use Rattle.race_records.specs.{declared.kind.Kind.Kind, Declarations.Declaration, Parts.op_is_in_range}
+use Rattle.race_model.specs.{Events.{gives, once_begins, once_ends, count}, State.{is_begun, is_ended, unended_once}}
+use Rattle.race_model.{specs.State.innermost, proofs.CountSteps.{as_number, has_push}}
 use Rattle.race_legal.specs.ReplayState.{ReplayState, counts_in, stack_in, innermost_in, begun_in, ended_in}
-use Rattle.race_legal.specs.After.{goroutines_after}
-use Rattle.race_legal.specs.RulesKept.{op_rules_in}
-use Rattle.race_legal.specs.StandsFor.{StandsFor}
-use Rattle.race_legal.proofs.TableSteps.{get_or-set}
-use Rattle.race_legal.proofs.ChannelSteps.{NoneBroken}
-use Rattle.race_legal.proofs.OpenOnces.{entered, open_onces, open_is, open_push, times, open_apart}
-use Rattle.race_legal.proofs.OpenOnces.{open_begun, without, open_without, without_none, last, stands_in}
-use Rattle.race_legal.proofs.OpenOnces.{without_last, last_of_is}
+use Rattle.race_legal.specs.{After.goroutines_after, RulesKept.op_rules_in, StandsFor.StandsFor}
+use Rattle.race_legal.proofs.{TableSteps.get_or-set, ChannelSteps.NoneBroken, OpenOnces.{entered, open_onces, open_is}}
+use Rattle.race_legal.proofs.OpenOnces.{open_push, times, open_apart, open_begun, without, open_without, without_none}
+use Rattle.race_legal.proofs.OpenOnces.{last, stands_in, without_last, last_of_is}
 
 -- it gives what it is
 gives_is : (o : Option ℕ) (n : ℕ) → gives o n ≡ true → o ≡ Some n

@@ -1,18 +1,12 @@
 -- The onces that a goroutine began and that haven't ended, as a list of numbers.
-use Rattle.std.proofs.Common.{◌≡◌, ℕ, suc, ◌+◌, ◌-◌, ◌<◌, ◌≤◌, ◌==◌, ◌||◌, ◌&&◌, not, cond, if◌then◌else◌, Bool, true, false, List, [], ◌∷◌}
-use Rattle.std.proofs.Common.{◌++◌, length, take, slice_get, Option, Some, None, filter_map, count_by, refl, sym, ap, ◌∙◌, arith, take_all}
-use Rattle.std.proofs.Common.{append-nil}
-use Rattle.std.specs.List.{cons_option, filter}
-use Rattle.std.specs.Option.{option_to_list}
-use Rattle.std.proofs.lemmas.Bool.{eqb-true, eq-eqb}
-use Rattle.std.proofs.lemmas.List.Elements.{filter-append, filter_map-append}
-use Rattle.std.proofs.lemmas.List.Sums.{sum_by-cons, sum_by_push}
-use Rattle.std.proofs.lemmas.Option.{slice_get_within, slice_get-get_or}
-use Rattle.race_records.specs.declared.event.Event.{Event}
-use Rattle.race_records.specs.declared.event.Op.{Op}
-use Rattle.race_records.specs.declared.event.Op.TheVariants.{OnceBegin}
-use Rattle.race_model.specs.Events.{gives, once_begins, count, last_of}
-use Rattle.race_model.specs.State.{is_ended, unended_once}
+use Rattle.std.proofs.Common.{◌≡◌, ℕ, suc, ◌+◌, ◌-◌, ◌<◌, ◌≤◌, ◌==◌, ◌||◌, ◌&&◌, not, cond, if◌then◌else◌, Bool, true}
+use Rattle.std.proofs.Common.{false, List, [], ◌∷◌, ◌++◌, length, take, slice_get, Option, Some, None, filter_map}
+use Rattle.std.proofs.Common.{count_by, refl, sym, ap, ◌∙◌, arith, take_all, append-nil}
+use Rattle.std.proofs.lemmas.{Bool.{eqb-true, eq-eqb}, List.Elements.{filter-append, filter_map-append}}
+use Rattle.std.proofs.lemmas.{List.Sums.{sum_by-cons, sum_by_push}, Option.{slice_get_within, slice_get-get_or}}
+use Rattle.std.specs.{List.{cons_option, filter}, Option.option_to_list}
+use Rattle.race_records.specs.declared.event.{Event.Event, Op.{Op, TheVariants.OnceBegin}}
+use Rattle.race_model.specs.{Events.{gives, once_begins, count, last_of}, State.{is_ended, unended_once}}
 use Rattle.race_model.proofs.CountSteps.{as_number, count_cons}
 use Rattle.race_legal.proofs.Fronts.{take_next}
 

@@ -1,14 +1,10 @@
 -- Which events a replay may be asked about: those that fit the declarations, while the list isn't full.
 use Rattle.std.proofs.Common.{◌≡◌, ℕ, ◌<◌, ◌&&◌, Bool, true, List, nat_lt, length, sym, subst, refl, arith, IsTrue}
 use Rattle.std.proofs.lemmas.Bool.Decides.{nat_tests}
-use Rattle.race_records.specs.declared.event.Event.{Event}
-use Rattle.race_records.specs.declared.kind.Kind.{Kind}
-use Rattle.race_records.specs.declared.trace.TheConstants.{MAX_EVENTS}
-use Rattle.race_records.specs.Declarations.{Declaration, DeclsState, count_of, counts_of}
-use Rattle.race_records.specs.Events.{op_fits, second_place_fits, is_right_kind, fits}
-use Rattle.race_records.specs.Parts.{says, has_two_places}
-use Rattle.race_legal.specs.ReplayState.{ReplayState, IsInRange, counts_in}
-use Rattle.race_legal.specs.StandsFor.{StandsFor}
+use Rattle.race_records.specs.declared.{event.Event.Event, kind.Kind.Kind, trace.TheConstants.MAX_EVENTS}
+use Rattle.race_records.specs.{Declarations.{Declaration, DeclsState, count_of, counts_of}, Events.op_fits}
+use Rattle.race_records.specs.{Events.{second_place_fits, is_right_kind, fits}, Parts.{says, has_two_places}}
+use Rattle.race_legal.specs.{ReplayState.{ReplayState, IsInRange, counts_in}, StandsFor.StandsFor}
 
 -- an event that fits is in range of the declarations
 pub range_from_fits : (decls : DeclsState) (e : Event) → IsTrue (fits decls e) → IsInRange (counts_of decls.declarations) e

@@ -1,44 +1,32 @@
 -- The tables of a replay answer the state words, one event on.
 use Rattle.std.proofs.Common.{◌≡◌, ℕ, ◌+◌, ◌<◌, ◌==◌, ◌||◌, ◌&&◌, not, nat_lt, true, List, [], ◌∷◌, ◌++◌, drop, Option}
 use Rattle.std.proofs.Common.{Some, None, is_some, unwrap_or, refl, sym, ap, ◌∙◌, subst, arith, rules, IsTrue}
-use Rattle.std.proofs.Common.{length-append}
-use Rattle.std.specs.List.{slice_index_or, list_all, list_any}
-use Rattle.std.specs.Option.{option_to_list, option_map_or}
-use Rattle.std.proofs.lemmas.Bool.{eqb-true, not-false}
-use Rattle.std.proofs.lemmas.Bool.Decides.{nat_tests}
-use Rattle.race_records.specs.declared.kind.Kind.{Kind}
-use Rattle.race_records.specs.declared.event.Event.{Event}
-use Rattle.race_records.specs.declared.cases.Case.{Case}
-use Rattle.race_records.specs.declared.cases.Dir.{Dir}
-use Rattle.race_records.specs.declared.event.Cause.{Cause}
-use Rattle.race_records.specs.declared.event.Cause.TheVariants.{SendClosed, CloseClosed, CloseNil, UnlockFree, RUnlockFree}
-use Rattle.race_records.specs.declared.event.Op.{Op}
-use Rattle.race_records.specs.declared.event.Op.TheVariants.{Go, Exit, Read, Write, Send, Recv, Meet}
-use Rattle.race_records.specs.declared.event.Op.TheVariants.{RecvClosed, Close, Default, Lock, Unlock, RLock}
-use Rattle.race_records.specs.declared.event.Op.TheVariants.{RUnlock, TryLock, TryRLock, TryFail, OnceBegin, OnceEnd, OnceDone, Fault}
-use Rattle.race_records.specs.Declarations.{Declaration, capacity_of}
+use Rattle.std.proofs.{Common.length-append, lemmas.Bool.{eqb-true, not-false, Decides.nat_tests}}
+use Rattle.std.specs.{List.{slice_index_or, list_all, list_any}, Option.{option_to_list, option_map_or}}
+use Rattle.race_records.specs.declared.{kind.Kind.Kind, event.{Event.Event, Cause.{Cause, TheVariants.SendClosed}}}
+use Rattle.race_records.specs.declared.event.{Cause.TheVariants.{CloseClosed, CloseNil, UnlockFree, RUnlockFree}, Op.Op}
+use Rattle.race_records.specs.declared.event.Op.TheVariants.{Go, Exit, Read, Write, Send, Recv, Meet, RecvClosed, Close}
+use Rattle.race_records.specs.declared.event.Op.TheVariants.{Default, Lock, Unlock, RLock, RUnlock, TryLock, TryRLock}
+use Rattle.race_records.specs.declared.event.Op.TheVariants.{TryFail, OnceBegin, OnceEnd, OnceDone, Fault}
+use Rattle.race_records.specs.{declared.cases.{Case.Case, Dir.Dir}, Declarations.{Declaration, capacity_of}}
 use Rattle.race_records.specs.Parts.{op_is_in_range, chan_is_in_range, case_is_in_range, named_is_in_range, failed_at}
-use Rattle.race_model.specs.Events.{starts, is_exit, is_fault, gives, receives, sends, closes, locks, unlocks, rlocks, runlocks, once_begins, once_ends}
-use Rattle.race_model.specs.State.{runs, written, sent}
-use Rattle.race_model.specs.Legal.{broken, least_broken, op_rules, receiver_runs, actors_run, can_proceed, is_ready, cause_holds}
-use Rattle.race_model.proofs.StateSteps.{over_push, started_push, last_value_push, is_closed_push}
-use Rattle.race_model.proofs.CountSteps.{as_number, count_push, has_push, has_exited_push}
+use Rattle.race_model.specs.Events.{starts, is_exit, is_fault, gives, receives, sends, closes, locks, unlocks, rlocks}
+use Rattle.race_model.specs.{Events.{runlocks, once_begins, once_ends}, State.{runs, written, sent}, Legal.broken}
+use Rattle.race_model.specs.Legal.{least_broken, op_rules, receiver_runs, actors_run, can_proceed, is_ready}
+use Rattle.race_model.{specs.Legal.cause_holds, proofs.StateSteps.{over_push, started_push, last_value_push}}
+use Rattle.race_model.proofs.{StateSteps.is_closed_push, CountSteps.{as_number, count_push, has_push, has_exited_push}}
 use Rattle.race_model.proofs.LegalSteps.{legal_push}
 use Rattle.race_legal.specs.ReplayState.{ReplayState, IsInRange, counts_in, runs_in, innermost_in, begun_in}
-use Rattle.race_legal.specs.After.{after}
-use Rattle.race_legal.specs.RulesKept.{send_rules, recv_rules, meet_rules, recv_closed_rules, lock_rules}
+use Rattle.race_legal.specs.{After.after, RulesKept.{send_rules, recv_rules, meet_rules, recv_closed_rules, lock_rules}}
 use Rattle.race_legal.specs.RulesKept.{can_proceed_in, is_ready_in, cause_holds_in, op_rules_in, receiver_runs_in}
-use Rattle.race_legal.specs.RulesKept.{actors_run_in, rules_in, broken_in}
-use Rattle.race_legal.specs.StandsFor.{StandsFor}
-use Rattle.race_legal.proofs.TableSteps.{started_step, exited_step, values_step}
-use Rattle.race_legal.proofs.ChannelSteps.{closed_step, queue_step, waiting_push, NoneBroken, none_broken, received_step}
-use Rattle.race_legal.proofs.LockSteps.{held_step, readers_step}
-use Rattle.race_legal.proofs.OnceSteps.{begun_step, ended_step, ended_begun_step}
-use Rattle.race_legal.proofs.Searches.{finds_the_same}
-use Rattle.race_legal.proofs.Shape.{capacities_same, square_after, counts_after}
+use Rattle.race_legal.specs.{RulesKept.{actors_run_in, rules_in, broken_in}, StandsFor.StandsFor}
+use Rattle.race_legal.proofs.{TableSteps.{started_step, exited_step, values_step}, ChannelSteps.closed_step}
+use Rattle.race_legal.proofs.ChannelSteps.{queue_step, waiting_push, NoneBroken, none_broken, received_step}
+use Rattle.race_legal.proofs.{LockSteps.{held_step, readers_step}, OnceSteps.{begun_step, ended_step, ended_begun_step}}
+use Rattle.race_legal.proofs.{Searches.finds_the_same, Shape.{capacities_same, square_after, counts_after}}
 use Rattle.race_legal.proofs.ChannelWords.{buffered_is, front_is, empty_is, left_is}
-use Rattle.race_legal.proofs.LockWords.{is_held_is, is_read_held_is}
-use Rattle.race_legal.proofs.OnceWords.{is_begun_is, innermost_is, innermost_began, stack_step}
+use Rattle.race_legal.proofs.{LockWords.{is_held_is, is_read_held_is}, OnceWords.{is_begun_is, innermost_is}}
+use Rattle.race_legal.proofs.OnceWords.{innermost_began, stack_step}
 
 module _ (declarations : List Declaration) (k : ReplayState) (past : List Event) (S : StandsFor declarations k past) where
   -- a goroutine runs where the tables say so

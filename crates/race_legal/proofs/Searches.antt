@@ -1,9 +1,7 @@
 -- Searches through a list all of whose elements pass a test.
-use Rattle.std.proofs.Common.{◌≡◌, ℕ, ◌||◌, Bool, true, false, List, [], ◌∷◌, Some, slice_get, get_or, refl, sym, ap, ◌∙◌, IsTrue, true≢false}
-use Rattle.std.specs.List.{list_all, list_any}
-use Rattle.std.proofs.lemmas.Bool.{and_parts}
-use Rattle.std.proofs.lemmas.List.Folds.{list_all_at}
-use Rattle.std.proofs.lemmas.Option.{slice_get_within, get_or_from_slice_get}
+use Rattle.std.proofs.Common.{◌≡◌, ℕ, ◌||◌, Bool, true, false, List, [], ◌∷◌, Some, slice_get, get_or, refl, sym, ap}
+use Rattle.std.proofs.{Common.{◌∙◌, IsTrue, true≢false}, lemmas.{Bool.and_parts, List.Folds.list_all_at}}
+use Rattle.std.{proofs.lemmas.Option.{slice_get_within, get_or_from_slice_get}, specs.List.{list_all, list_any}}
 
 -- each element passes
 pub each_passes : {X : Type 0} (p : X → Bool) (xs : List X) (i : ℕ) (x : X) → IsTrue (list_all p xs) → slice_get xs i ≡ Some x → IsTrue (p x)

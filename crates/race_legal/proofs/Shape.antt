@@ -1,15 +1,12 @@
 -- Each table of a replay keeps its length.
-use Rattle.std.proofs.Common.{◌≡◌, ℕ, ◌+◌, ◌-◌, true, false, List, [], ◌∷◌, ◌++◌, length, drop, take, refl, sym, ap, ◌∙◌}
-use Rattle.std.proofs.lemmas.List.{length-set}
-use Rattle.race_records.specs.declared.event.Event.{Event}
-use Rattle.race_records.specs.declared.event.Op.{Op}
-use Rattle.race_records.specs.declared.event.Op.TheVariants.{Go, Exit, Write, Send, Recv, Close, Lock, Unlock, RLock, RUnlock}
-use Rattle.race_records.specs.declared.event.Op.TheVariants.{TryLock, TryRLock, TryFail, OnceBegin, OnceEnd}
-use Rattle.race_records.specs.declared.kind.Kind.{Kind}
-use Rattle.race_legal.specs.ReplayState.{GoroutinesState, ChannelsState, LocksState}
-use Rattle.race_legal.specs.ReplayState.{OncesState, ReplayState, counts_in, stack_in}
-use Rattle.race_legal.specs.ReplayState.{queue_in, readers_in, IsSquare}
-use Rattle.race_legal.specs.After.{goroutines_after, values_after, channels_after, locks_after, onces_after, after}
+use Rattle.std.proofs.Common.{◌≡◌, ℕ, ◌+◌, ◌-◌, true, false, List, [], ◌∷◌, ◌++◌, length, drop, take, refl, sym, ap}
+use Rattle.std.proofs.{Common.◌∙◌, lemmas.List.length-set}
+use Rattle.race_records.specs.declared.event.{Event.Event, Op.{Op, TheVariants.{Go, Exit, Write, Send, Recv, Close}}}
+use Rattle.race_records.specs.declared.event.Op.TheVariants.{Lock, Unlock, RLock, RUnlock, TryLock, TryRLock, TryFail}
+use Rattle.race_records.specs.declared.{event.Op.TheVariants.{OnceBegin, OnceEnd}, kind.Kind.Kind}
+use Rattle.race_legal.specs.ReplayState.{GoroutinesState, ChannelsState, LocksState, OncesState, ReplayState, counts_in}
+use Rattle.race_legal.specs.{ReplayState.{stack_in, queue_in, readers_in, IsSquare}, After.goroutines_after}
+use Rattle.race_legal.specs.After.{values_after, channels_after, locks_after, onces_after, after}
 
 length-started : (t : GoroutinesState) (who : ℕ) (o : Op) → length (goroutines_after t who o).started ≡ length t.started
 length-started t who (Go h) = length-set t.started h true

@@ -1,14 +1,9 @@
 -- The tables of goroutines and of values, one event on: each changes where its word does.
-use Rattle.std.proofs.Common.{◌≡◌, ℕ, ◌<◌, ◌==◌, ◌||◌, ◌&&◌, Bool, true, false, List, length, Some}
-use Rattle.std.proofs.Common.{None, unwrap_or, get_or, set, if◌then◌else◌, refl, sym, inl, inr}
-use Rattle.std.proofs.Common.{ne_eqb, eq-eqb}
-use Rattle.std.proofs.lemmas.Bool.{cases_eq}
-use Rattle.std.proofs.Math.Bool.{or-true, or-false}
-use Rattle.std.proofs.lemmas.List.{get_or-set_same, get_or-set_other}
-use Rattle.race_records.specs.declared.event.Op.{Op}
-use Rattle.race_records.specs.declared.event.Op.TheVariants.{Go, Exit, Write, OnceBegin, OnceEnd}
-use Rattle.race_model.specs.Events.{starts, is_exit}
-use Rattle.race_model.specs.State.{written}
+use Rattle.std.proofs.Common.{◌≡◌, ℕ, ◌<◌, ◌==◌, ◌||◌, ◌&&◌, Bool, true, false, List, length, Some, None, unwrap_or}
+use Rattle.std.proofs.{Common.{get_or, set, if◌then◌else◌, refl, sym, inl, inr, ne_eqb, eq-eqb}, lemmas.Bool.cases_eq}
+use Rattle.std.proofs.{lemmas.List.{get_or-set_same, get_or-set_other}, Math.Bool.{or-true, or-false}}
+use Rattle.race_records.specs.declared.event.Op.{Op, TheVariants.{Go, Exit, Write, OnceBegin, OnceEnd}}
+use Rattle.race_model.specs.{Events.{starts, is_exit}, State.written}
 use Rattle.race_legal.specs.ReplayState.{GoroutinesState, started_in, exited_in}
 use Rattle.race_legal.specs.After.{goroutines_after, values_after}
 

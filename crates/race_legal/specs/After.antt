@@ -1,11 +1,12 @@
 -- How an event changes what a replay keeps.
-use Rattle.std.specs.Prelude.{ℕ, ◌+◌, ◌-◌, ◌==◌, ◌||◌, ◌&&◌, Bool, true, false, List, [], ◌∷◌, ◌++◌, length, drop, take, slice_set}
-use Rattle.race_records.specs.declared.event.Event.{Event}
-use Rattle.race_records.specs.declared.event.Op.{Op}
-use Rattle.race_records.specs.declared.event.Op.TheVariants.{Go, Exit, Write, Send, Recv, Close, Lock, Unlock, RLock, RUnlock}
-use Rattle.race_records.specs.declared.event.Op.TheVariants.{TryLock, TryRLock, TryFail, OnceBegin, OnceEnd}
+use Rattle.std.specs.Prelude.{ℕ, ◌+◌, ◌-◌, ◌==◌, ◌||◌, ◌&&◌, Bool, true, false, List, [], ◌∷◌, ◌++◌, length, drop, take}
+use Rattle.std.specs.Prelude.{slice_set}
+use Rattle.race_records.specs.declared.event.{Event.Event, Op.{Op, TheVariants.{Go, Exit, Write, Send, Recv, Close}}}
+use Rattle.race_records.specs.declared.event.Op.TheVariants.{Lock, Unlock, RLock, RUnlock, TryLock, TryRLock, TryFail}
+use Rattle.race_records.specs.declared.event.Op.TheVariants.{OnceBegin, OnceEnd}
 use Rattle.race_model.specs.Events.{is_exit, is_fault}
-use Rattle.race_legal.specs.ReplayState.{GoroutinesState, ChannelsState, LocksState, OncesState, ReplayState, stack_in, queue_in, readers_in}
+use Rattle.race_legal.specs.ReplayState.{GoroutinesState, ChannelsState, LocksState, OncesState, ReplayState, stack_in}
+use Rattle.race_legal.specs.ReplayState.{queue_in, readers_in}
 
 -- the run is over with main's exit, and with a fault
 abbrev pub over_after : Bool → ℕ → Op → Bool

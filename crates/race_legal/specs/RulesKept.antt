@@ -1,20 +1,16 @@
 -- The rules, read off what a replay keeps.
-use Rattle.std.specs.Prelude.{ℕ, ◌==◌, ◌||◌, ◌&&◌, not, nat_lt, Bool, true, false, List, [], ◌∷◌, length, slice_get, Option, Some, None, is_some}
-use Rattle.std.specs.List.{list_any}
-use Rattle.race_records.specs.declared.cases.Case.{Case}
-use Rattle.race_records.specs.declared.cases.Dir.{Dir}
-use Rattle.race_records.specs.declared.event.Cause.{Cause}
-use Rattle.race_records.specs.declared.event.Cause.TheVariants.{SendClosed, CloseClosed, CloseNil, UnlockFree, RUnlockFree}
-use Rattle.race_records.specs.declared.event.Event.{Event}
-use Rattle.race_records.specs.declared.event.Op.{Op}
-use Rattle.race_records.specs.declared.event.Op.TheVariants.{Go, Exit, Read, Write, Send, Recv, Meet}
-use Rattle.race_records.specs.declared.event.Op.TheVariants.{RecvClosed, Close, Default, Lock, Unlock, RLock}
-use Rattle.race_records.specs.declared.event.Op.TheVariants.{RUnlock, TryLock, TryRLock, TryFail, OnceBegin, OnceEnd, OnceDone, Fault}
-use Rattle.race_model.specs.Events.{gives}
-use Rattle.race_model.specs.Legal.{least_broken}
+use Rattle.std.specs.Prelude.{ℕ, ◌==◌, ◌||◌, ◌&&◌, not, nat_lt, Bool, true, false, List, [], ◌∷◌, length, slice_get}
+use Rattle.std.specs.{Prelude.{Option, Some, None, is_some}, List.list_any}
+use Rattle.race_records.specs.declared.{cases.{Case.Case, Dir.Dir}, event.Cause.{Cause, TheVariants.SendClosed}}
+use Rattle.race_records.specs.declared.event.Cause.TheVariants.{CloseClosed, CloseNil, UnlockFree, RUnlockFree}
+use Rattle.race_records.specs.declared.event.{Event.Event, Op.{Op, TheVariants.{Go, Exit, Read, Write, Send, Recv}}}
+use Rattle.race_records.specs.declared.event.Op.TheVariants.{Meet, RecvClosed, Close, Default, Lock, Unlock, RLock}
+use Rattle.race_records.specs.declared.event.Op.TheVariants.{RUnlock, TryLock, TryRLock, TryFail, OnceBegin, OnceEnd}
+use Rattle.race_records.specs.declared.event.Op.TheVariants.{OnceDone, Fault}
+use Rattle.race_model.specs.{Events.gives, Legal.least_broken}
 use Rattle.race_legal.specs.ReplayState.{GoroutinesState, ChannelsState, LocksState, ReplayState, started_in, runs_in}
-use Rattle.race_legal.specs.ReplayState.{innermost_in, value_in, capacity_in, closed_in, queue_in, held_in, read_held_in}
-use Rattle.race_legal.specs.ReplayState.{begun_in, ended_in}
+use Rattle.race_legal.specs.ReplayState.{innermost_in, value_in, capacity_in, closed_in, queue_in, held_in}
+use Rattle.race_legal.specs.ReplayState.{read_held_in, begun_in, ended_in}
 
 -- the rules on a send
 abbrev pub send_rules : ChannelsState → ℕ → List (ℕ × Bool)

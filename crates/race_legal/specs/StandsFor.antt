@@ -1,14 +1,14 @@
 -- What a replay says of the events that it accepted.
-use Rattle.std.specs.Prelude.{ℕ, ◌≡◌, ◌<◌, ◌+◌, cond, IsTrue, List, [], ◌∷◌, ◌++◌, ◌≤◌, length, drop, filter_map, Option}
-use Rattle.race_records.specs.declared.kind.Kind.{Kind}
-use Rattle.race_records.specs.declared.event.Event.{Event}
+use Rattle.std.specs.Prelude.{ℕ, ◌≡◌, ◌<◌, ◌+◌, cond, IsTrue, List, [], ◌∷◌, ◌++◌, ◌≤◌, length, drop, filter_map}
+use Rattle.std.specs.Prelude.{Option}
+use Rattle.race_records.specs.declared.{kind.Kind.Kind, event.Event.Event}
 use Rattle.race_records.specs.Declarations.{Declaration, counts_of, capacity_of}
 use Rattle.race_model.specs.Events.{has_exited, sends, receives, locks, unlocks, rlocks, runlocks, once_begins, count}
 use Rattle.race_model.specs.State.{over, started, last_value, is_closed, sent, is_ended, unended_once}
 use Rattle.race_model.specs.Legal.{broken, IsLegal}
-use Rattle.race_legal.specs.ReplayState.{ReplayState, counts_in, started_in, exited_in, value_in}
-use Rattle.race_legal.specs.ReplayState.{capacity_in, closed_in, queue_in, stack_in, held_in, readers_in}
-use Rattle.race_legal.specs.ReplayState.{begun_in, ended_in, IsSquare}
+use Rattle.race_legal.specs.ReplayState.{ReplayState, counts_in, started_in, exited_in, value_in, capacity_in}
+use Rattle.race_legal.specs.ReplayState.{closed_in, queue_in, stack_in, held_in, readers_in, begun_in, ended_in}
+use Rattle.race_legal.specs.ReplayState.{IsSquare}
 
 -- under the declarations, the replay stands for a legal list of events: its tables answer each state word
 pub record StandsFor (declarations : List Declaration) (k : ReplayState) (past : List Event) : Type 0 where

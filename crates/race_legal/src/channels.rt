@@ -1,41 +1,13 @@
 //! The channels: how many values fit into each, which are closed, and which values wait.
-ghost use Rattle.std.specs.Prelude.{
-  ◌≡◌,
-  if◌then◌else◌,
-  ℕ,
-  ◌<◌,
-  ◌∷◌,
-  [],
-  ◌++◌,
-  length,
-  slice_get,
-  false,
-  replicate,
-  is_ok,
-  IfOk,
-  IsTrue,
-};
-ghost use Rattle.std.specs.List.{slice_index_or, list_all, list_any};
+ghost use Rattle.std.specs.Prelude.{◌≡◌, if◌then◌else◌, ℕ, ◌<◌, ◌∷◌, [], ◌++◌, length, slice_get, false, replicate};
+ghost use Rattle.std.specs.{Prelude.{is_ok, IfOk, IsTrue}, List.{slice_index_or, list_all, list_any}};
 ghost use Rattle.std.specs.Option.{option_map};
-ghost use Rattle.race_records.specs.declared.kind.Kind.{Kind};
-ghost use Rattle.race_records.specs.Declarations.{count_of, capacity_of};
+ghost use Rattle.race_records.specs.{declared.kind.Kind.Kind, Declarations.{count_of, capacity_of}};
 ghost use Rattle.race_records.specs.Parts.{case_is_in_range};
 ghost use Rattle.race_model.specs.Legal.{least_broken};
-ghost use Rattle.race_legal.specs.Rules.{number_of};
-ghost use Rattle.race_legal.specs.ReplayState.{
-  ChannelsState,
-  closed_in,
-  queue_in,
-};
-ghost use Rattle.race_legal.specs.After.{with_sent, with_received, with_closed};
-ghost use Rattle.race_legal.specs.RulesKept.{
-  send_rules,
-  recv_rules,
-  meet_rules,
-  recv_closed_rules,
-  can_proceed_in,
-  is_ready_in,
-};
+ghost use Rattle.race_legal.specs.{Rules.number_of, ReplayState.{ChannelsState, closed_in, queue_in}};
+ghost use Rattle.race_legal.specs.{After.{with_sent, with_received, with_closed}, RulesKept.{send_rules, recv_rules}};
+ghost use Rattle.race_legal.specs.RulesKept.{meet_rules, recv_closed_rules, can_proceed_in, is_ready_in};
 
 use crate::Rule;
 use crate::queue::Queue;

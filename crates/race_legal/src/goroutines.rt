@@ -1,27 +1,7 @@
 //! Which goroutines were started, which have exited, and in the functions of which onces each is.
-ghost use Rattle.std.specs.Prelude.{
-  ◌≡◌,
-  if◌then◌else◌,
-  ◌<◌,
-  [],
-  length,
-  false,
-  replicate,
-  is_ok,
-  IfOk,
-};
-ghost use Rattle.race_legal.specs.ReplayState.{
-  GoroutinesState,
-  started_in,
-  runs_in,
-  innermost_in,
-};
-ghost use Rattle.race_legal.specs.After.{
-  with_started,
-  with_exited,
-  with_entered,
-  with_left,
-};
+ghost use Rattle.std.specs.Prelude.{◌≡◌, if◌then◌else◌, ◌<◌, [], length, false, replicate, is_ok, IfOk};
+ghost use Rattle.race_legal.specs.ReplayState.{GoroutinesState, started_in, runs_in, innermost_in};
+ghost use Rattle.race_legal.specs.After.{with_started, with_exited, with_entered, with_left};
 
 use crate::stack::Stack;
 use std::alloc::{AllocError, Allocator};

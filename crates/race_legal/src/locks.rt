@@ -1,26 +1,8 @@
 //! The mutexes and rwmutexes: which are locked, and how many goroutines hold each for reading.
-ghost use Rattle.std.specs.Prelude.{
-  ◌≡◌,
-  ◌<◌,
-  ◌+◌,
-  ◌-◌,
-  length,
-  true,
-  false,
-  replicate,
-  IfOk,
-};
-ghost use Rattle.std.specs.Option.{option_map};
+ghost use Rattle.std.specs.{Prelude.{◌≡◌, ◌<◌, ◌+◌, ◌-◌, length, true, false, replicate, IfOk}, Option.option_map};
 ghost use Rattle.race_model.specs.Legal.{least_broken};
-ghost use Rattle.race_legal.specs.Rules.{number_of};
-ghost use Rattle.race_legal.specs.ReplayState.{
-  LocksState,
-  held_in,
-  readers_in,
-  read_held_in,
-};
-ghost use Rattle.race_legal.specs.After.{with_held, with_readers};
-ghost use Rattle.race_legal.specs.RulesKept.{lock_rules};
+ghost use Rattle.race_legal.specs.{Rules.number_of, ReplayState.{LocksState, held_in, readers_in, read_held_in}};
+ghost use Rattle.race_legal.specs.{After.{with_held, with_readers}, RulesKept.lock_rules};
 
 use crate::Rule;
 use crate::rule::rule_if;

@@ -1,18 +1,6 @@
 //! The onces: whose function began, and whose ended.
-ghost use Rattle.std.specs.Prelude.{
-  ◌≡◌,
-  ◌<◌,
-  length,
-  false,
-  replicate,
-  IfOk,
-};
-ghost use Rattle.race_legal.specs.ReplayState.{
-  OncesState,
-  begun_in,
-  ended_in,
-};
-ghost use Rattle.race_legal.specs.After.{with_begun, with_ended};
+ghost use Rattle.std.specs.Prelude.{◌≡◌, ◌<◌, length, false, replicate, IfOk};
+ghost use Rattle.race_legal.specs.{ReplayState.{OncesState, begun_in, ended_in}, After.{with_begun, with_ended}};
 
 use std::alloc::{AllocError, Allocator};
 use std::marker::Model;

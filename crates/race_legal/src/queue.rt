@@ -1,17 +1,5 @@
 //! The values that wait in a channel.
-ghost use Rattle.std.specs.Prelude.{
-  ◌≡◌,
-  if◌then◌else◌,
-  ℕ,
-  List,
-  [],
-  ◌∷◌,
-  ◌++◌,
-  length,
-  drop,
-  slice_get,
-  is_ok,
-};
+ghost use Rattle.std.specs.Prelude.{◌≡◌, if◌then◌else◌, ℕ, List, [], ◌∷◌, ◌++◌, length, drop, slice_get, is_ok};
 
 use std::alloc::{AllocError, Allocator};
 use std::collections::VecDeque;

@@ -2,16 +2,15 @@
 //!
 //! The tables are a state machine of their own, with exact contracts; that they answer as the words
 //! of the memory model on the list of events do is a matter of lists alone (proofs/ReplayLemmas).
-ghost use Rattle.std.specs.Prelude.{◌≡◌, if◌then◌else◌, ℕ, ◌+◌, ◌<◌, ◌≤◌, [], length, is_ok, IsTrue, true, Some, None, Err, IfOk, OnOk, OnErr};
-ghost use Rattle.std.specs.Option.{option_map, option_map_or};
+ghost use Rattle.std.specs.Prelude.{◌≡◌, if◌then◌else◌, ℕ, ◌+◌, ◌<◌, ◌≤◌, [], length, is_ok, IsTrue, true, Some, None};
+ghost use Rattle.std.specs.{Prelude.{Err, IfOk, OnOk, OnErr}, Option.{option_map, option_map_or}};
 ghost use Rattle.race_records.specs.Parts.{op_is_in_range, named_is_in_range, failed_at};
 ghost use Rattle.race_model.specs.Legal.{least_broken};
+ghost use Rattle.race_legal.specs.{Rules.number_of, ReplayState.{ReplayState, IsInRange, counts_in, value_in}};
+ghost use Rattle.race_legal.specs.{ReplayState.readers_in, After.after, RulesKept.{op_rules_in, cause_holds_in}};
+ghost use Rattle.race_legal.specs.{RulesKept.{receiver_runs_in, broken_in}, StandsFor.{StandsFor, ForEachPast, GoesOn}};
+ghost use Rattle.race_legal.specs.StandsFor.{IsLeastBroken};
 ghost use Rattle.race_model.specs.State as words;
-ghost use Rattle.race_legal.specs.Rules.{number_of};
-ghost use Rattle.race_legal.specs.ReplayState.{ReplayState, IsInRange, counts_in, value_in, readers_in};
-ghost use Rattle.race_legal.specs.After.{after};
-ghost use Rattle.race_legal.specs.RulesKept.{op_rules_in, cause_holds_in, receiver_runs_in, broken_in};
-ghost use Rattle.race_legal.specs.StandsFor.{StandsFor, ForEachPast, GoesOn, IsLeastBroken};
 
 use crate::Rule;
 use crate::channels::Channels;

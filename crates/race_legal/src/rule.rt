@@ -1,6 +1,5 @@
 //! The rules of legality.
-ghost use Rattle.std.specs.Prelude.{◌≡◌, [], ◌∷◌};
-ghost use Rattle.std.specs.Option.{option_map};
+ghost use Rattle.std.specs.{Prelude.{◌≡◌, [], ◌∷◌}, Option.option_map};
 ghost use Rattle.race_model.specs.Legal.{least_broken};
 ghost use Rattle.race_legal.specs.Rules.{number_of};
 

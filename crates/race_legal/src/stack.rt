@@ -1,18 +1,5 @@
 //! The onces in whose functions a goroutine is.
-ghost use Rattle.std.specs.Prelude.{
-  ◌≡◌,
-  if◌then◌else◌,
-  ℕ,
-  ◌-◌,
-  List,
-  [],
-  ◌∷◌,
-  ◌++◌,
-  length,
-  take,
-  slice_get,
-  is_ok,
-};
+ghost use Rattle.std.specs.Prelude.{◌≡◌, if◌then◌else◌, ℕ, ◌-◌, List, [], ◌∷◌, ◌++◌, length, take, slice_get, is_ok};
 
 use std::alloc::{AllocError, Allocator};
 use std::marker::Model;

@@ -1,19 +1,15 @@
 -- An access happens before a later event exactly where the later one's goroutine has seen it before.
-use Rattle.std.proofs.Common.{◌≡◌, ◌⊎◌, ℕ, ◌<◌, ◌≤◌, List, take, drop, length, slice_get, refl, sym, ap, ◌∙◌, subst, inl, inr, arith, IsTrue, take-append-drop}
-use Rattle.std.proofs.lemmas.Option.{slice_get_within}
+use Rattle.std.proofs.Common.{◌≡◌, ◌⊎◌, ℕ, ◌<◌, ◌≤◌, List, take, drop, length, slice_get, refl, sym, ap, ◌∙◌, subst}
+use Rattle.std.proofs.{Common.{inl, inr, arith, IsTrue, take-append-drop}, lemmas.Option.slice_get_within}
 use Rattle.std.proofs.lemmas.List.{length-take-le}
-use Rattle.race_records.specs.declared.event.Event.{Event}
-use Rattle.race_records.specs.declared.event.Op.{Op}
-use Rattle.race_records.specs.declared.event.Op.TheVariants.{Go, Meet, Read, Write, Send, Recv, RecvClosed, Lock, RLock, TryLock, TryRLock, OnceDone}
-use Rattle.race_model.specs.Events.{At, accesses, is_access}
-use Rattle.race_model.specs.Order.{Point, Begin, End, SynchronizedInside, IsSource, SynchronizedBefore, Step, Reaches, one_step, then_step, HappensBefore}
-use Rattle.race_model.specs.Race.{Conflict, IsRace}
-use Rattle.race_model.specs.Known.{SeenBy}
-use Rattle.race_model.proofs.Indexes.{at_same, slice_get-take, take_within, take_at_old}
-use Rattle.race_model.proofs.Ranks.{index_of, happens_before_up}
-use Rattle.race_model.proofs.Grow.{reaches_grow, reaches_old}
-use Rattle.race_model.proofs.Reaching.{reaches_on, who_takes_part, ReachesEarlier, into_begin}
-use Rattle.race_model.proofs.ReorderLemmas.{is_access_from}
+use Rattle.race_records.specs.declared.event.{Event.Event, Op.{Op, TheVariants.{Go, Meet, Read, Write, Send, Recv}}}
+use Rattle.race_records.specs.declared.event.Op.TheVariants.{RecvClosed, Lock, RLock, TryLock, TryRLock, OnceDone}
+use Rattle.race_model.specs.{Events.{At, accesses, is_access}, Order.{Point, Begin, End, SynchronizedInside, IsSource}}
+use Rattle.race_model.specs.Order.{SynchronizedBefore, Step, Reaches, one_step, then_step, HappensBefore}
+use Rattle.race_model.{specs.{Race.{Conflict, IsRace}, Known.SeenBy}, proofs.Indexes.{at_same, slice_get-take}}
+use Rattle.race_model.proofs.{Indexes.{take_within, take_at_old}, Ranks.{index_of, happens_before_up}}
+use Rattle.race_model.proofs.{Grow.{reaches_grow, reaches_old}, Reaching.{reaches_on, who_takes_part, ReachesEarlier}}
+use Rattle.race_model.proofs.{Reaching.into_begin, ReorderLemmas.is_access_from}
 
 -- an access has no edge inside its event
 pub access_alone : (who : ℕ) (o : Op) (g h : ℕ) → IsTrue (is_access o) → SynchronizedInside who o g h → ⊥

@@ -1,18 +1,13 @@
 -- In a legal list no channel's buffer is below empty or over full, so what a channel's edges lead from stands before what they lead to.
-use Rattle.std.proofs.Common.{◌≡◌, ◌≢◌, if◌then◌else◌, ℕ, zero, suc, ◌+◌, ◌-◌, ◌<◌, ◌≤◌, ◌==◌, Bool, true, false, List, [], ◌∷◌, ◌++◌, Some}
-use Rattle.std.proofs.Common.{None, take, length, slice_get, refl, sym, ap, ◌∙◌, subst, inl, inr, arith, eqb-true, not, lt-ltb, ltb-true}
-use Rattle.std.proofs.Common.{IsTrue}
-use Rattle.std.proofs.lemmas.Bool.{cases_lt, cases_order, both_ways, not-false}
-use Rattle.std.proofs.lemmas.Bool.Decides.{Decides-eqb, not_from_Decides}
+use Rattle.std.proofs.Common.{◌≡◌, ◌≢◌, if◌then◌else◌, ℕ, zero, suc, ◌+◌, ◌-◌, ◌<◌, ◌≤◌, ◌==◌, Bool, true, false, List}
+use Rattle.std.proofs.Common.{[], ◌∷◌, ◌++◌, Some, None, take, length, slice_get, refl, sym, ap, ◌∙◌, subst, inl, inr}
+use Rattle.std.proofs.{Common.{arith, eqb-true, not, lt-ltb, ltb-true, IsTrue}, lemmas.Bool.{cases_lt, cases_order}}
+use Rattle.std.proofs.lemmas.Bool.{both_ways, not-false, Decides.{Decides-eqb, not_from_Decides}}
 use Rattle.std.proofs.lemmas.Option.{slice_get_within}
-use Rattle.race_records.specs.declared.event.Event.{Event}
-use Rattle.race_records.specs.declared.event.Op.{Op}
-use Rattle.race_records.specs.declared.event.Op.TheVariants.{Send, Recv, RecvClosed, Close}
-use Rattle.race_model.specs.Events.{At, sends, receives, closes, count, IsKth}
-use Rattle.race_model.specs.State.{is_closed, buffered}
+use Rattle.race_records.specs.declared.event.{Event.Event, Op.{Op, TheVariants.{Send, Recv, RecvClosed, Close}}}
+use Rattle.race_model.specs.{Events.{At, sends, receives, closes, count, IsKth}, State.{is_closed, buffered}}
 use Rattle.race_model.specs.Legal.{op_rules, rules, least_broken, IsLegal}
-use Rattle.race_model.proofs.Indexes.{at_same, at_below, take_suc}
-use Rattle.race_model.proofs.CountSteps.{as_number, count_push, count_up}
+use Rattle.race_model.proofs.{Indexes.{at_same, at_below, take_suc}, CountSteps.{as_number, count_push, count_up}}
 
 -- where no rule of a list is broken, each one is kept
 pub rules_kept : (rs : List (ℕ × Bool)) (k : ℕ) (r : ℕ × Bool) → least_broken rs ≡ None → slice_get rs k ≡ Some r → r.1 ≡ false

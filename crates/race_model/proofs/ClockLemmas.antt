@@ -1,15 +1,11 @@
 -- Counting begins: what clocks with the same begins, more of them, or the begins of two clocks count.
-use Rattle.std.proofs.Common.{◌≡◌, ◌⊎◌, ◌↔◌, ℕ, zero, suc, ◌+◌, ◌<◌, ◌≤◌, max, Bool, true, false, cond, List}
-use Rattle.std.proofs.Common.{[], ◌∷◌, ◌++◌, take, length, refl, sym, ap, ◌∙◌, subst, inl, inr, arith, IsTrue}
-use Rattle.std.proofs.Common.{take_at}
-use Rattle.std.proofs.Math.Nat.{le-max_left, le-max_right}
-use Rattle.std.proofs.lemmas.Bool.{cases_lt}
-use Rattle.std.proofs.lemmas.List.{take-append-le}
+use Rattle.std.proofs.Common.{◌≡◌, ◌⊎◌, ◌↔◌, ℕ, zero, suc, ◌+◌, ◌<◌, ◌≤◌, max, Bool, true, false, cond, List, [], ◌∷◌}
+use Rattle.std.proofs.Common.{◌++◌, take, length, refl, sym, ap, ◌∙◌, subst, inl, inr, arith, IsTrue, take_at}
+use Rattle.std.proofs.{Math.Nat.{le-max_left, le-max_right}, lemmas.{Bool.cases_lt, List.take-append-le}}
 use Rattle.std.proofs.lemmas.List.Sums.{sum_by_push, sum_by-cons, sum_by-take-le, count_by_more_yes}
 use Rattle.std.proofs.lemmas.Option.{slice_get_within, get_or_from_slice_get}
 use Rattle.race_records.specs.declared.event.Event.{Event}
-use Rattle.race_model.specs.Events.{takes_part, TakesPart}
-use Rattle.race_model.specs.Clocks.{participations, CountsBegins}
+use Rattle.race_model.specs.{Events.{takes_part, TakesPart}, Clocks.{participations, CountsBegins}}
 use Rattle.race_model.proofs.Indexes.{push_at}
 
 -- 1 for true and 0 for false

@@ -1,23 +1,16 @@
 -- The clock of a goroutine, one event on.
-use Rattle.std.proofs.Common.{◌≡◌, ◌≢◌, ◌⊎◌, ◌↔◌, ℕ, ◌+◌, ◌<◌, ◌≤◌, max, true, false, List, [], ◌∷◌, ◌++◌}
-use Rattle.std.proofs.Common.{take, length, refl, sym, ap, ◌∙◌, subst, inl, inr, arith, IsTrue, eq-eqb}
-use Rattle.std.proofs.Common.{ne_eqb}
-use Rattle.std.proofs.lemmas.Bool.{cases_eq, cases_lt}
-use Rattle.std.proofs.lemmas.Option.{slice_get_within}
-use Rattle.race_records.specs.declared.event.Event.{Event}
-use Rattle.race_records.specs.declared.event.Op.{Op}
-use Rattle.race_model.specs.Events.{takes_part, TakesPart}
-use Rattle.race_model.specs.Order.{Begin, SynchronizedInside, IsSource, Reaches, then_step}
-use Rattle.race_model.specs.Known.{SeenBy, SeenAt}
-use Rattle.race_model.specs.Clocks.{participations, CountsBegins, SeenFrom, owning, CountsSeen}
-use Rattle.race_model.proofs.Indexes.{slice_get-push}
-use Rattle.race_model.proofs.Ranks.{reaches_up}
-use Rattle.race_model.proofs.Grow.{takes_part_grow, takes_part_old, reaches_grow, reaches_old}
-use Rattle.race_model.proofs.Reaching.{inside_from, ReachesEarlier, into_begin, out_of_seen, who_takes_part}
-use Rattle.race_model.proofs.SeenSteps.{Brings, own_seen, new_part, seen_at_from, seen_grow, seen_step, seen_brings}
-use Rattle.race_model.proofs.ClockLemmas.{one_if, participations_push, nth_participation}
-use Rattle.race_model.proofs.ClockLemmas.{counts_as, counts_like, counts_join, counts_grow}
-use Rattle.race_model.proofs.ClockLemmas.{part_push, front_new}
+use Rattle.std.proofs.Common.{◌≡◌, ◌≢◌, ◌⊎◌, ◌↔◌, ℕ, ◌+◌, ◌<◌, ◌≤◌, max, true, false, List, [], ◌∷◌, ◌++◌, take, length}
+use Rattle.std.proofs.Common.{refl, sym, ap, ◌∙◌, subst, inl, inr, arith, IsTrue, eq-eqb, ne_eqb}
+use Rattle.std.proofs.lemmas.{Bool.{cases_eq, cases_lt}, Option.slice_get_within}
+use Rattle.race_records.specs.declared.event.{Event.Event, Op.Op}
+use Rattle.race_model.specs.{Events.{takes_part, TakesPart}, Order.{Begin, SynchronizedInside, IsSource, Reaches}}
+use Rattle.race_model.specs.{Order.then_step, Known.{SeenBy, SeenAt}, Clocks.{participations, CountsBegins, SeenFrom}}
+use Rattle.race_model.{specs.Clocks.{owning, CountsSeen}, proofs.{Indexes.slice_get-push, Ranks.reaches_up}}
+use Rattle.race_model.proofs.{Grow.{takes_part_grow, takes_part_old, reaches_grow, reaches_old}, Reaching.inside_from}
+use Rattle.race_model.proofs.{Reaching.{ReachesEarlier, into_begin, out_of_seen, who_takes_part}, SeenSteps.Brings}
+use Rattle.race_model.proofs.SeenSteps.{own_seen, new_part, seen_at_from, seen_grow, seen_step, seen_brings}
+use Rattle.race_model.proofs.ClockLemmas.{one_if, participations_push, nth_participation, counts_as, counts_like}
+use Rattle.race_model.proofs.ClockLemmas.{counts_join, counts_grow, part_push, front_new}
 
 -- what o, coming next, is handed by its sources: all that they had seen by their begins
 abbrev pub Handed : (ℕ → ℕ) → List Event → Op → ℕ → ℕ → Type 0

@@ -1,26 +1,15 @@
 -- Verdicts on small lists, by tests that compute: on a list that is written out, refl answers.
-use Rattle.std.proofs.Common.{◌≡◌, ◌⊎◌, ℕ, zero, suc, ◌<◌, ◌||◌, ◌&&◌, not, Bool, true, false, Option, List, [], ◌∷◌, ◌++◌}
-use Rattle.std.proofs.Common.{length, append-nil, Some, slice_get, refl, sym, ap, ◌∙◌, subst, inl, inr, arith, eqb-true}
-use Rattle.std.proofs.Common.{IsTrue}
-use Rattle.std.proofs.lemmas.Bool.{cases_order, or_left, or_right, or_cases, and_parts}
-use Rattle.std.proofs.lemmas.Bool.Decides.{not_from_Decides}
-use Rattle.std.proofs.lemmas.Option.{slice_get_within}
-use Rattle.race_records.specs.declared.event.Event.{Event}
-use Rattle.race_records.specs.declared.event.Op.{Op}
-use Rattle.race_records.specs.declared.event.Op.TheVariants.{Read, Write}
-use Rattle.race_model.specs.Events.{At, writes, accesses, is_access}
-use Rattle.race_model.specs.Order.{HappensBefore}
-use Rattle.race_model.specs.Legal.{broken, IsIllegalAt}
-use Rattle.race_model.specs.Race.{IsAccessOf, IsWriteOf, IsRace, IsReportedRace}
-use Rattle.race_model.specs.Reorder.{StandsBefore, own_order}
-use Rattle.race_model.specs.Verdict.{Race, AreReportedRaces, IsVerdict, Clean, Races, Illegal}
-use Rattle.race_model.proofs.Indexes.{at_same}
-use Rattle.race_model.proofs.ReorderLemmas.{passes_from, is_access_from}
-use Rattle.race_model.proofs.OwnOrder.{own_each, own_stands_before}
-use Rattle.race_model.proofs.LegalSteps.{AllKept, legal_none, legal_by, illegal_push}
-use Rattle.race_model.proofs.RaceSteps.{race_turned}
-use Rattle.race_model.proofs.SeenByComputing.{has_seen, Decides-seen}
-use Rattle.race_model.proofs.BeforeSeen.{before_from_seen, race_from_unseen}
+use Rattle.std.proofs.Common.{◌≡◌, ◌⊎◌, ℕ, zero, suc, ◌<◌, ◌||◌, ◌&&◌, not, Bool, true, false, Option, List, [], ◌∷◌}
+use Rattle.std.proofs.Common.{◌++◌, length, append-nil, Some, slice_get, refl, sym, ap, ◌∙◌, subst, inl, inr, arith}
+use Rattle.std.proofs.{Common.{eqb-true, IsTrue}, lemmas.Bool.{cases_order, or_left, or_right, or_cases, and_parts}}
+use Rattle.std.proofs.lemmas.{Bool.Decides.not_from_Decides, Option.slice_get_within}
+use Rattle.race_records.specs.declared.event.{Event.Event, Op.{Op, TheVariants.{Read, Write}}}
+use Rattle.race_model.specs.{Events.{At, writes, accesses, is_access}, Order.HappensBefore, Legal.{broken, IsIllegalAt}}
+use Rattle.race_model.specs.{Race.{IsAccessOf, IsWriteOf, IsRace, IsReportedRace}, Reorder.{StandsBefore, own_order}}
+use Rattle.race_model.{specs.Verdict.{Race, AreReportedRaces, IsVerdict, Clean, Races, Illegal}, proofs.Indexes.at_same}
+use Rattle.race_model.proofs.{ReorderLemmas.{passes_from, is_access_from}, OwnOrder.{own_each, own_stands_before}}
+use Rattle.race_model.proofs.{LegalSteps.{AllKept, legal_none, legal_by, illegal_push}, RaceSteps.race_turned}
+use Rattle.race_model.proofs.{SeenByComputing.{has_seen, Decides-seen}, BeforeSeen.{before_from_seen, race_from_unseen}}
 
 -- a Write of any variable
 abbrev pub is_write : Op → Bool

@@ -1,15 +1,11 @@
 -- The verdicts on the small lists of specs/Examples with no channel.
 use Rattle.std.proofs.Common.{◌≡◌, ℕ, zero, suc, ◌<◌, [], ◌∷◌, Some, slice_get, subst, refl, arith, IsTrue}
 use Rattle.race_records.specs.declared.event.Op.TheVariants.{Go, Exit, Read, Write}
-use Rattle.race_model.specs.Events.{is_access}
-use Rattle.race_model.specs.Order.{HappensBefore}
-use Rattle.race_model.specs.Race.{IsRace}
-use Rattle.race_model.specs.Reorder.{op_passes, IsReordering}
-use Rattle.race_model.specs.Verdict.{IsVerdict, Clean, Races, Illegal}
-use Rattle.race_model.specs.Examples.{main, w, x, does, race_on_x, write_then_go, go_then_write, exit_then_read, exit_then_go}
-use Rattle.race_model.specs.Examples.{two_reads, exit_twice, write_unstarted, go_main, read_unwritten, go_twice, write_exited}
-use Rattle.race_model.specs.Examples.{read_overwritten, read_the_first}
-use Rattle.race_model.proofs.Ranks.{happens_before_up}
+use Rattle.race_model.specs.{Events.is_access, Order.HappensBefore, Race.IsRace, Reorder.{op_passes, IsReordering}}
+use Rattle.race_model.specs.{Verdict.{IsVerdict, Clean, Races, Illegal}, Examples.{main, w, x, does, race_on_x}}
+use Rattle.race_model.specs.Examples.{write_then_go, go_then_write, exit_then_read, exit_then_go, two_reads, exit_twice}
+use Rattle.race_model.specs.Examples.{write_unstarted, go_main, read_unwritten, go_twice, write_exited}
+use Rattle.race_model.{specs.Examples.{read_overwritten, read_the_first}, proofs.Ranks.happens_before_up}
 use Rattle.race_model.proofs.ExampleLemmas.{before_by, clean_by, race_by, races_by, illegal_by}
 
 module _ (caps : ℕ → ℕ) where

@@ -1,12 +1,10 @@
 -- Legality, one event on.
-use Rattle.std.proofs.Common.{◌≡◌, ℕ, ◌<◌, List, [], ◌∷◌, ◌++◌, Some, None, take, length, refl, sym}
-use Rattle.std.proofs.Common.{ap, ◌∙◌, subst, inl, inr, arith, take_at, take-take, append_assoc}
-use Rattle.std.proofs.Common.{append-nil}
-use Rattle.std.proofs.lemmas.Option.{slice_get_within}
-use Rattle.std.proofs.lemmas.List.{take-append-le}
+use Rattle.std.proofs.Common.{◌≡◌, ℕ, ◌<◌, List, [], ◌∷◌, ◌++◌, Some, None, take, length, refl, sym, ap, ◌∙◌, subst}
+use Rattle.std.proofs.Common.{inl, inr, arith, take_at, take-take, append_assoc, append-nil}
+use Rattle.std.proofs.lemmas.{Option.slice_get_within, List.take-append-le}
 use Rattle.race_records.specs.declared.event.Event.{Event}
-use Rattle.race_model.specs.Legal.{broken, IsLegal, IsIllegalAt}
-use Rattle.race_model.proofs.Indexes.{slice_get-push, push_at, append_at_old, take_within, take_at_old}
+use Rattle.race_model.{specs.Legal.{broken, IsLegal, IsIllegalAt}, proofs.Indexes.{slice_get-push, push_at}}
+use Rattle.race_model.proofs.Indexes.{append_at_old, take_within, take_at_old}
 
 module _ (caps : ℕ → ℕ) where
   -- no event breaks no rule

@@ -1,20 +1,15 @@
 -- In a legal list the locks and unlocks of a lock take turns, and the function of a once ends before it is found to have run.
-use Rattle.std.proofs.Common.{◌≡◌, ◌<◌, ◌≤◌, ◌↔◌, if◌then◌else◌, ℕ, zero, suc, ◌+◌, ◌==◌, ◌&&◌, Bool, true, false, not, List, [], ◌∷◌, ◌++◌}
-use Rattle.std.proofs.Common.{Option, Some, None, take, length, slice_get, refl, sym, ap, ◌∙◌, subst, inl, inr, arith, eqb-true, lt-ltb, ltb-true}
-use Rattle.std.proofs.Common.{IsTrue}
-use Rattle.std.proofs.lemmas.Bool.{cases_lt, cases_order, both_ways, not-false}
-use Rattle.std.proofs.lemmas.Bool.Decides.{nat_tests}
+use Rattle.std.proofs.Common.{◌≡◌, ◌<◌, ◌≤◌, ◌↔◌, if◌then◌else◌, ℕ, zero, suc, ◌+◌, ◌==◌, ◌&&◌, Bool, true, false, not}
+use Rattle.std.proofs.Common.{List, [], ◌∷◌, ◌++◌, Option, Some, None, take, length, slice_get, refl, sym, ap, ◌∙◌}
+use Rattle.std.proofs.{Common.{subst, inl, inr, arith, eqb-true, lt-ltb, ltb-true, IsTrue}, lemmas.Bool.cases_lt}
+use Rattle.std.proofs.lemmas.Bool.{cases_order, both_ways, not-false, Decides.nat_tests}
 use Rattle.std.proofs.lemmas.Option.{none-some, same_Some, slice_get_within}
-use Rattle.race_records.specs.declared.event.Event.{Event}
-use Rattle.race_records.specs.declared.event.Op.{Op}
-use Rattle.race_records.specs.declared.event.Op.TheVariants.{Lock, Unlock, RLock, TryLock, TryRLock, OnceBegin, OnceEnd, OnceDone}
-use Rattle.race_model.specs.Events.{At, gives, locks, unlocks, rlocks, once_ends, count, IsKth}
-use Rattle.race_model.specs.State.{is_held, is_ended, unended_once, innermost}
-use Rattle.race_model.specs.Legal.{IsLegal}
-use Rattle.race_model.proofs.Indexes.{at_same, at_below, take_suc}
-use Rattle.race_model.proofs.LastOf.{IsLast, last_of_is}
-use Rattle.race_model.proofs.CountSteps.{as_number, count_push, count_up, count_below}
-use Rattle.race_model.proofs.ChannelOrder.{RulesKept, kept_at}
+use Rattle.race_records.specs.declared.event.{Event.Event, Op.{Op, TheVariants.{Lock, Unlock, RLock, TryLock}}}
+use Rattle.race_records.specs.declared.event.Op.TheVariants.{TryRLock, OnceBegin, OnceEnd, OnceDone}
+use Rattle.race_model.specs.{Events.{At, gives, locks, unlocks, rlocks, once_ends, count, IsKth}, State.is_held}
+use Rattle.race_model.specs.{State.{is_ended, unended_once, innermost}, Legal.IsLegal}
+use Rattle.race_model.proofs.{Indexes.{at_same, at_below, take_suc}, LastOf.{IsLast, last_of_is}, CountSteps.as_number}
+use Rattle.race_model.proofs.{CountSteps.{count_push, count_up, count_below}, ChannelOrder.{RulesKept, kept_at}}
 
 -- there are as many Locks of l as Unlocks, or one more
 abbrev TakeTurns : ℕ → List Event → Type 0

@@ -1,13 +1,10 @@
 -- The trace's own order of its accesses.
-use Rattle.std.proofs.Common.{◌≡◌, ℕ, zero, suc, ◌+◌, ◌<◌, Bool, true, false, cond, List, [], ◌∷◌, Some}
-use Rattle.std.proofs.Common.{slice_get, refl, sym, ap, ◌∙◌, subst, inl, inr, arith, IsTrue, zero-add}
-use Rattle.std.proofs.Common.{add-zero, cond}
+use Rattle.std.proofs.Common.{◌≡◌, ℕ, zero, suc, ◌+◌, ◌<◌, Bool, true, false, cond, List, [], ◌∷◌, Some, slice_get}
+use Rattle.std.proofs.Common.{refl, sym, ap, ◌∙◌, subst, inl, inr, arith, IsTrue, zero-add, add-zero}
 use Rattle.std.proofs.lemmas.Bool.{cases_order}
 use Rattle.race_records.specs.declared.event.Event.{Event}
-use Rattle.race_model.specs.Events.{is_access}
-use Rattle.race_model.specs.Reorder.{op_passes, StandsBefore, IsReordering, accesses_from, own_order}
-use Rattle.race_model.proofs.Indexes.{at_same}
-use Rattle.race_model.proofs.Ranks.{happens_before_up}
+use Rattle.race_model.specs.{Events.is_access, Reorder.{op_passes, StandsBefore, IsReordering, accesses_from}}
+use Rattle.race_model.{specs.Reorder.own_order, proofs.{Indexes.at_same, Ranks.happens_before_up}}
 
 -- one access or none in front
 abbrev pub in_front : Bool → ℕ → List ℕ → List ℕ

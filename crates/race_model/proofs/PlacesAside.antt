@@ -1,30 +1,24 @@
 -- Lists of events that differ in places alone are judged alike.
-use Rattle.std.proofs.Common.{◌≡◌, ℕ, ◌+◌, ◌-◌, cond, ◌==◌, ◌||◌, ◌&&◌, not, Bool, false, IsTrue, nat_lt, List, [], ◌∷◌, Option, Some, None}
-use Rattle.std.proofs.Common.{is_some, if◌then◌else◌, option_map, count_by, filter_map, take, slice_get, unwrap_or, refl, sym, ap, ◌∙◌, subst}
-use Rattle.std.proofs.Common.{inl, inr}
+use Rattle.std.proofs.Common.{◌≡◌, ℕ, ◌+◌, ◌-◌, cond, ◌==◌, ◌||◌, ◌&&◌, not, Bool, false, IsTrue, nat_lt, List, [], ◌∷◌}
+use Rattle.std.proofs.Common.{Option, Some, None, is_some, if◌then◌else◌, option_map, count_by, filter_map, take}
+use Rattle.std.proofs.{Common.{slice_get, unwrap_or, refl, sym, ap, ◌∙◌, subst, inl, inr}, lemmas.List.take-map}
+use Rattle.std.proofs.lemmas.{List.Folds.fold-map, Option.{none-some, same_Some, slice_get-map}}
 use Rattle.std.specs.List.{cons_option, list_any}
-use Rattle.std.proofs.lemmas.List.{take-map}
-use Rattle.std.proofs.lemmas.List.Folds.{fold-map}
-use Rattle.std.proofs.lemmas.Option.{none-some, same_Some, slice_get-map}
-use Rattle.race_records.specs.declared.event.Event.{Event}
-use Rattle.race_records.specs.declared.cases.Case.{Case}
-use Rattle.race_records.specs.declared.cases.Dir.{Dir}
-use Rattle.race_records.specs.declared.event.Cause.{Cause}
-use Rattle.race_records.specs.declared.event.Cause.TheVariants.{SendClosed, CloseClosed, CloseNil, UnlockFree, RUnlockFree}
-use Rattle.race_records.specs.declared.event.Op.{Op}
-use Rattle.race_records.specs.declared.event.Op.TheVariants.{Go, Exit, Read, Write, Send, Recv, Meet}
-use Rattle.race_records.specs.declared.event.Op.TheVariants.{RecvClosed, Close, Default, Lock, Unlock, RLock, TryLock, TryRLock, TryFail}
+use Rattle.race_records.specs.declared.event.{Event.Event, Cause.{Cause, TheVariants.{SendClosed, CloseClosed}}}
+use Rattle.race_records.specs.declared.event.{Cause.TheVariants.{CloseNil, UnlockFree, RUnlockFree}, Op.Op}
+use Rattle.race_records.specs.declared.event.Op.TheVariants.{Go, Exit, Read, Write, Send, Recv, Meet, RecvClosed, Close}
+use Rattle.race_records.specs.declared.event.Op.TheVariants.{Default, Lock, Unlock, RLock, TryLock, TryRLock, TryFail}
 use Rattle.race_records.specs.declared.event.Op.TheVariants.{RUnlock, OnceBegin, OnceEnd, OnceDone, Fault}
-use Rattle.race_model.specs.Events.{At, operations, TakesPart, partner, gives, starts, is_exit, writes, accesses, count, sends}
-use Rattle.race_model.specs.Events.{receives, closes, locks, unlocks, rlocks, runlocks, once_begins, once_ends, is_fault, has}
-use Rattle.race_model.specs.Events.{has_exited, last_of}
-use Rattle.race_model.specs.State.{over, started, runs, written, last_value, is_closed, buffered, sent, front, is_held, is_read_held, unended_once, innermost}
-use Rattle.race_model.specs.Legal.{op_rules, can_proceed, is_ready, cause_holds, receiver_runs, least_broken, broken, IsLegal, IsIllegalAt}
-use Rattle.race_model.specs.Order.{Point, Begin, End, SequencedBefore, SynchronizedInside}
-use Rattle.race_model.specs.Order.{IsSource, SynchronizedBefore, Step, Reaches, one_step}
-use Rattle.race_model.specs.Order.{then_step, HappensBefore}
-use Rattle.race_model.specs.Race.{IsAccessOf, IsWriteOf, Conflict, IsRace, IsReportedRace}
-use Rattle.race_model.specs.Verdict.{Verdict, Illegal, Clean, Races, IsVerdict}
+use Rattle.race_records.specs.declared.cases.{Case.Case, Dir.Dir}
+use Rattle.race_model.specs.Events.{At, operations, TakesPart, partner, gives, starts, is_exit, writes, accesses, count}
+use Rattle.race_model.specs.Events.{sends, receives, closes, locks, unlocks, rlocks, runlocks, once_begins, once_ends}
+use Rattle.race_model.specs.{Events.{is_fault, has, has_exited, last_of}, State.{over, started, runs, written}}
+use Rattle.race_model.specs.State.{last_value, is_closed, buffered, sent, front, is_held, is_read_held, unended_once}
+use Rattle.race_model.specs.{State.innermost, Legal.{op_rules, can_proceed, is_ready, cause_holds, receiver_runs}}
+use Rattle.race_model.specs.{Legal.{least_broken, broken, IsLegal, IsIllegalAt}, Order.{Point, Begin, End}}
+use Rattle.race_model.specs.Order.{SequencedBefore, SynchronizedInside, IsSource, SynchronizedBefore, Step, Reaches}
+use Rattle.race_model.specs.{Order.{one_step, then_step, HappensBefore}, Race.{IsAccessOf, IsWriteOf, Conflict, IsRace}}
+use Rattle.race_model.specs.{Race.IsReportedRace, Verdict.{Verdict, Illegal, Clean, Races, IsVerdict}}
 
 abbrev doing : Event → ℕ × Op
 doing e = (e.who, e.op)

@@ -1,12 +1,9 @@
 -- Events behind the list change nothing among the races of the list.
-use Rattle.std.proofs.Common.{ℕ, ◌<◌, List, ◌++◌, length, sym, ◌∙◌, inl, inr, arith}
-use Rattle.std.proofs.lemmas.Bool.{cases_lt}
+use Rattle.std.proofs.{Common.{ℕ, ◌<◌, List, ◌++◌, length, sym, ◌∙◌, inl, inr, arith}, lemmas.Bool.cases_lt}
 use Rattle.std.proofs.lemmas.Option.{slice_get_within}
 use Rattle.race_records.specs.declared.event.Event.{Event}
-use Rattle.race_model.specs.Order.{HappensBefore}
-use Rattle.race_model.specs.Race.{IsAccessOf, IsWriteOf, Conflict, IsRace, IsReportedRace}
-use Rattle.race_model.proofs.Indexes.{slice_get-append, append_at_old}
-use Rattle.race_model.proofs.Ranks.{happens_before_up}
+use Rattle.race_model.specs.{Order.HappensBefore, Race.{IsAccessOf, IsWriteOf, Conflict, IsRace, IsReportedRace}}
+use Rattle.race_model.proofs.{Indexes.{slice_get-append, append_at_old}, Ranks.happens_before_up}
 use Rattle.race_model.proofs.Grow.{reaches_grow, reaches_old}
 
 -- a race is one whichever event is named first

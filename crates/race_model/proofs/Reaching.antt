@@ -1,12 +1,9 @@
 -- How a way from a begin goes: it goes on, it comes into a begin from an end of the same goroutine, and into an end from a begin.
 use Rattle.std.proofs.Common.{◌≡◌, ℕ, ◌<◌, ◌==◌, ◌||◌, true, List, refl, sym, subst, inl, inr, eq-eqb, IsTrue}
 use Rattle.std.proofs.lemmas.Bool.{or_left, or_right}
-use Rattle.race_records.specs.declared.event.Event.{Event}
-use Rattle.race_records.specs.declared.event.Op.{Op}
-use Rattle.race_records.specs.declared.event.Op.TheVariants.{Go, Meet}
-use Rattle.race_model.specs.Events.{partner, gives, takes_part, TakesPart}
-use Rattle.race_model.specs.Order.{Point, Begin, End, SynchronizedInside, Step, Reaches, one_step, then_step}
-use Rattle.race_model.specs.Known.{SeenAt}
+use Rattle.race_records.specs.declared.event.{Event.Event, Op.{Op, TheVariants.{Go, Meet}}}
+use Rattle.race_model.specs.{Events.{partner, gives, takes_part, TakesPart}, Order.{Point, Begin, End}}
+use Rattle.race_model.specs.{Order.{SynchronizedInside, Step, Reaches, one_step, then_step}, Known.SeenAt}
 
 -- reaching goes on behind reaching
 pub reaches_on : {caps : ℕ → ℕ} {events : List Event} {p q r : Point} → Reaches caps events p q → Reaches caps events q r → Reaches caps events p r

@@ -1,17 +1,12 @@
 -- Without a data race two reorderings let every read find the same write.
-use Rattle.std.proofs.Common.{◌≡◌, ◌≢◌, ℕ, ◌<◌, Bool, true, false, List, Option, Some, None}
-use Rattle.std.proofs.Common.{take, slice_get, refl, sym, ap, ◌∙◌, subst, inl, inr, arith}
-use Rattle.std.proofs.Common.{IsTrue}
-use Rattle.std.proofs.lemmas.Bool.{cases_order, cases_eq, or_left, or_right, cond-true}
-use Rattle.std.proofs.lemmas.Option.{cond_some}
-use Rattle.race_records.specs.declared.event.Event.{Event}
-use Rattle.race_records.specs.declared.event.Op.{Op}
-use Rattle.race_records.specs.declared.event.Op.TheVariants.{Read, Write}
-use Rattle.race_model.specs.Events.{At, reads, writes, accesses, is_access, last_of}
-use Rattle.race_model.specs.Race.{IsAccessOf, IsWriteOf, Conflict, IsDataRaceFree}
-use Rattle.race_model.specs.Reorder.{op_passes, StandsBefore, IsReordering, write_at, finds}
-use Rattle.race_model.proofs.Indexes.{at_same, before_only, slice_get-take, take_within, take_at_old}
-use Rattle.race_model.proofs.LastOf.{IsLast, last_of_is}
+use Rattle.std.proofs.Common.{◌≡◌, ◌≢◌, ℕ, ◌<◌, Bool, true, false, List, Option, Some, None, take, slice_get, refl, sym}
+use Rattle.std.proofs.{Common.{ap, ◌∙◌, subst, inl, inr, arith, IsTrue}, lemmas.Bool.{cases_order, cases_eq, or_left}}
+use Rattle.std.proofs.lemmas.{Bool.{or_right, cond-true}, Option.cond_some}
+use Rattle.race_records.specs.declared.event.{Event.Event, Op.{Op, TheVariants.{Read, Write}}}
+use Rattle.race_model.specs.{Events.{At, reads, writes, accesses, is_access, last_of}, Race.{IsAccessOf, IsWriteOf}}
+use Rattle.race_model.specs.{Race.{Conflict, IsDataRaceFree}, Reorder.{op_passes, StandsBefore, IsReordering, write_at}}
+use Rattle.race_model.{specs.Reorder.finds, proofs.Indexes.{at_same, before_only, slice_get-take, take_within}}
+use Rattle.race_model.proofs.{Indexes.take_at_old, LastOf.{IsLast, last_of_is}}
 
 -- the event behind a test that passes
 pub passes_at : (test : Op → Bool) (events : List Event) (i : ℕ) → IsTrue (op_passes test events i) → (e : Event) × At events i e × IsTrue (test e.op)

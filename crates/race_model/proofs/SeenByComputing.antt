@@ -1,23 +1,15 @@
 -- What a goroutine has seen, as a test that computes: on a list that is written out, refl answers.
 use Rattle.std.proofs.Common.{◌≡◌, ◌⊎◌, ℕ, zero, suc, ◌<◌, ◌≤◌, ◌==◌, ◌||◌, ◌&&◌, Bool, false, List, [], ◌∷◌, ◌++◌}
 use Rattle.std.proofs.Common.{Option, Some, None, take, length, slice_get, refl, sym, ◌∙◌, subst, inl, inr, arith}
-use Rattle.std.proofs.Common.{take-take}
+use Rattle.std.proofs.{Common.take-take, lemmas.Bool.Decides.{Decides-eqb, Decides-and, Decides-or, Decides-like}}
+use Rattle.std.proofs.lemmas.{Bool.Decides.Decides-below_or, Option.slice_get_within, List.{take_all, length-take-le}}
 use Rattle.std.specs.Bool.{Decides}
-use Rattle.std.proofs.lemmas.Bool.Decides.{Decides-eqb, Decides-and, Decides-or, Decides-like, Decides-below_or}
-use Rattle.std.proofs.lemmas.Option.{slice_get_within}
-use Rattle.std.proofs.lemmas.List.{take_all, length-take-le}
-use Rattle.race_records.specs.declared.event.Event.{Event}
-use Rattle.race_records.specs.declared.event.Op.{Op}
-use Rattle.race_records.specs.declared.event.Op.TheVariants.{Go, Meet}
-use Rattle.race_model.specs.Events.{At, takes_part}
-use Rattle.race_model.specs.Order.{SynchronizedInside, IsSource, then_step}
-use Rattle.race_model.specs.Synchronized.{is_source}
-use Rattle.race_model.proofs.SynchronizedTests.{source_is}
-use Rattle.race_model.specs.Known.{SeenBy, SeenAt}
-use Rattle.race_model.proofs.SeenSteps.{Brings}
-use Rattle.race_model.proofs.Indexes.{at_same, at_below, take_within, take_at_old, take_suc, slice_get-take}
+use Rattle.race_records.specs.declared.event.{Event.Event, Op.{Op, TheVariants.{Go, Meet}}}
+use Rattle.race_model.specs.{Events.{At, takes_part}, Order.{SynchronizedInside, IsSource, then_step}}
+use Rattle.race_model.{specs.{Synchronized.is_source, Known.{SeenBy, SeenAt}}, proofs.SynchronizedTests.source_is}
+use Rattle.race_model.proofs.{SeenSteps.{Brings, seen_none, seen_one_on}, Indexes.{at_same, at_below, take_within}}
+use Rattle.race_model.proofs.Indexes.{take_at_old, take_suc, slice_get-take}
 use Rattle.race_model.proofs.Reaching.{ReachesEarlier, into_begin, who_takes_part}
-use Rattle.race_model.proofs.SeenSteps.{seen_none, seen_one_on}
 use Rattle.race_model.proofs.BeforeSeen.{front_reaches, front_grow}
 
 -- some f passes whose begin is synchronized before g's end, in one event

@@ -1,16 +1,11 @@
 -- The clock of a set of sources, one event on.
 use Rattle.std.proofs.Common.{◌≡◌, ◌⊎◌, ◌↔◌, ℕ, ◌+◌, ◌<◌, max, List, [], ◌∷◌, ◌++◌, length, sym, subst, inl, inr, arith}
 use Rattle.std.proofs.lemmas.Option.{slice_get_within}
-use Rattle.race_records.specs.declared.event.Event.{Event}
-use Rattle.race_records.specs.declared.event.Op.{Op}
-use Rattle.race_model.specs.Events.{At}
-use Rattle.race_model.specs.Known.{SeenAt}
-use Rattle.race_model.specs.Clocks.{SeenFrom, CountsFrom}
-use Rattle.race_model.proofs.ClockSteps.{CountsAt}
-use Rattle.race_model.proofs.Indexes.{push_at, append_at_old, slice_get-push}
-use Rattle.race_model.proofs.Ranks.{reaches_up}
-use Rattle.race_model.proofs.SeenSteps.{seen_at_grow, seen_at_old}
-use Rattle.race_model.proofs.ClockLemmas.{counts_as, counts_none, counts_join, counts_grow}
+use Rattle.race_records.specs.declared.event.{Event.Event, Op.Op}
+use Rattle.race_model.{specs.{Events.At, Known.SeenAt, Clocks.{SeenFrom, CountsFrom}}, proofs.ClockSteps.CountsAt}
+use Rattle.race_model.proofs.{Indexes.{push_at, append_at_old, slice_get-push}, Ranks.reaches_up}
+use Rattle.race_model.proofs.{SeenSteps.{seen_at_grow, seen_at_old}, ClockLemmas.{counts_as, counts_none, counts_join}}
+use Rattle.race_model.proofs.ClockLemmas.{counts_grow}
 
 -- no event passes the test
 pub from_none : (caps : ℕ → ℕ) (events : List Event) (Q : ℕ → Op → Type 0) (c : ℕ → ℕ)

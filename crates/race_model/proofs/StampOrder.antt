@@ -1,14 +1,11 @@
 -- An access happens before a stamped one exactly where the stamped one's clock knows it.
-use Rattle.std.proofs.Common.{◌≡◌, ◌⊎◌, ℕ, ◌+◌, ◌<◌, ◌≤◌, List, [], ◌∷◌, ◌++◌, take, length, refl, ap, subst, inl, inr, arith, IsTrue}
-use Rattle.std.proofs.lemmas.Option.{slice_get_within}
+use Rattle.std.proofs.Common.{◌≡◌, ◌⊎◌, ℕ, ◌+◌, ◌<◌, ◌≤◌, List, [], ◌∷◌, ◌++◌, take, length, refl, ap, subst, inl, inr}
+use Rattle.std.proofs.{Common.{arith, IsTrue}, lemmas.Option.slice_get_within}
 use Rattle.race_records.specs.declared.event.Event.{Event}
-use Rattle.race_model.specs.Events.{At, TakesPart, is_access}
-use Rattle.race_model.specs.Order.{Begin, End, Reaches, one_step, HappensBefore}
+use Rattle.race_model.specs.{Events.{At, TakesPart, is_access}, Order.{Begin, End, Reaches, one_step, HappensBefore}}
 use Rattle.race_model.specs.Clocks.{participations, CountsBegins}
-use Rattle.race_model.proofs.Indexes.{at_same, append_at_old, slice_get-push}
-use Rattle.race_model.proofs.Reaching.{reaches_on, who_takes_part}
-use Rattle.race_model.proofs.BeforeSeen.{access_no_edge, leaves_by_end}
-use Rattle.race_model.proofs.ClockLemmas.{front_old}
+use Rattle.race_model.proofs.{Indexes.{at_same, append_at_old, slice_get-push}, Reaching.{reaches_on, who_takes_part}}
+use Rattle.race_model.proofs.{BeforeSeen.{access_no_edge, leaves_by_end}, ClockLemmas.front_old}
 
 -- c counts what reaches the begin of e, which comes behind the events past
 module _ (caps : ℕ → ℕ) (past : List Event) (e : Event) (c : ℕ → ℕ)

@@ -1,17 +1,13 @@
 -- Among stamps with their clocks, known is happens before.
-use Rattle.std.proofs.Common.{◌≡◌, ◌↔◌, ℕ, ◌+◌, ◌<◌, ◌≤◌, List, [], ◌∷◌, ◌++◌, take, length, slice_get, sym, ap, ◌∙◌, subst, inl, inr, arith, IsTrue, take-take}
-use Rattle.std.proofs.lemmas.Bool.{cases_order}
-use Rattle.std.proofs.lemmas.List.{length-take-le, take_more}
-use Rattle.std.proofs.lemmas.List.Sums.{sum_by-take-le}
+use Rattle.std.proofs.Common.{◌≡◌, ◌↔◌, ℕ, ◌+◌, ◌<◌, ◌≤◌, List, [], ◌∷◌, ◌++◌, take, length, slice_get, sym, ap, ◌∙◌}
+use Rattle.std.proofs.{Common.{subst, inl, inr, arith, IsTrue, take-take}, lemmas.Bool.cases_order}
+use Rattle.std.proofs.lemmas.List.{length-take-le, take_more, Sums.sum_by-take-le}
 use Rattle.std.proofs.lemmas.Option.{slice_get_within, get_or_from_slice_get}
 use Rattle.race_records.specs.declared.event.Event.{Event}
-use Rattle.race_model.specs.Events.{At, TakesPart, takes_part, is_access}
-use Rattle.race_model.specs.Order.{Begin, Reaches, one_step, HappensBefore}
-use Rattle.race_model.specs.Clocks.{participations, CountsBegins}
-use Rattle.race_model.proofs.Indexes.{slice_get-take, take_at_old}
-use Rattle.race_model.proofs.Ranks.{reaches_up, happens_before_up}
-use Rattle.race_model.proofs.Reaching.{who_takes_part}
-use Rattle.race_model.proofs.BeforeSeen.{front_reaches, front_grow, happens_before_on}
+use Rattle.race_model.specs.{Events.{At, TakesPart, takes_part, is_access}, Order.{Begin, Reaches, one_step}}
+use Rattle.race_model.specs.{Order.HappensBefore, Clocks.{participations, CountsBegins}}
+use Rattle.race_model.proofs.{Indexes.{slice_get-take, take_at_old}, Ranks.{reaches_up, happens_before_up}}
+use Rattle.race_model.proofs.{Reaching.who_takes_part, BeforeSeen.{front_reaches, front_grow, happens_before_on}}
 use Rattle.race_model.proofs.StampOrder.{known_from_before, before_from_known}
 
 -- the stamp of an access, with its clock, among the events: who, and number `count` of its goroutine's events; the clock

@@ -1,17 +1,12 @@
 -- The state words one event on.
-use Rattle.std.proofs.Common.{◌≡◌, ℕ, ◌+◌, ◌==◌, ◌||◌, ◌&&◌, not, Bool, true, false, length, List, [], ◌∷◌}
-use Rattle.std.proofs.Common.{◌++◌, Option, Some, None, unwrap_or, filter_map, if◌then◌else◌, refl, sym, ap}
-use Rattle.std.proofs.Common.{◌∙◌, arith}
-use Rattle.std.specs.List.{cons_option}
-use Rattle.std.specs.Option.{option_to_list}
-use Rattle.std.proofs.lemmas.List.Elements.{filter_map-append}
-use Rattle.race_records.specs.declared.event.Event.{Event}
-use Rattle.race_records.specs.declared.event.Op.{Op}
-use Rattle.race_records.specs.declared.event.Op.TheVariants.{Send}
-use Rattle.race_model.specs.Events.{starts, is_exit, is_fault, sends, closes, has, has_exited, count}
-use Rattle.race_model.specs.State.{over, started, runs, written, last_value, is_closed, sent}
-use Rattle.race_model.proofs.LastOf.{last_of_push_some, last_of_push_none}
-use Rattle.race_model.proofs.CountSteps.{as_number, count_cons, has_push, has_exited_push}
+use Rattle.std.proofs.Common.{◌≡◌, ℕ, ◌+◌, ◌==◌, ◌||◌, ◌&&◌, not, Bool, true, false, length, List, [], ◌∷◌, ◌++◌}
+use Rattle.std.proofs.Common.{Option, Some, None, unwrap_or, filter_map, if◌then◌else◌, refl, sym, ap, ◌∙◌, arith}
+use Rattle.std.{proofs.lemmas.List.Elements.filter_map-append, specs.{List.cons_option, Option.option_to_list}}
+use Rattle.race_records.specs.declared.event.{Event.Event, Op.{Op, TheVariants.Send}}
+use Rattle.race_model.specs.{Events.{starts, is_exit, is_fault, sends, closes, has, has_exited, count}, State.over}
+use Rattle.race_model.specs.State.{started, runs, written, last_value, is_closed, sent}
+use Rattle.race_model.proofs.{LastOf.{last_of_push_some, last_of_push_none}, CountSteps.{as_number, count_cons}}
+use Rattle.race_model.proofs.CountSteps.{has_push, has_exited_push}
 
 -- the run is over with main's exit, and with a fault
 pub over_push : (past : List Event) (e : Event) → over (past ++ e ∷ []) ≡ (over past || (((e.who == 0) && is_exit e.op) || is_fault e.op))

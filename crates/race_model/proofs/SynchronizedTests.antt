@@ -1,13 +1,10 @@
 -- The tests pass exactly where the memory model's words hold.
-use Rattle.std.proofs.Common.{◌≡◌, ◌⊎◌, ◌↔◌, ◌∙◌, ℕ, ◌+◌, ◌==◌, ◌&&◌, ◌||◌, Bool, true, false}
-use Rattle.std.proofs.Common.{List, refl, sym, ap, inl, inr, true≢false, IsTrue, eqb-true}
-use Rattle.std.proofs.Common.{eq-eqb, take}
-use Rattle.race_records.specs.declared.event.Event.{Event}
-use Rattle.race_records.specs.declared.event.Op.{Op}
-use Rattle.race_records.specs.declared.event.Op.TheVariants.{Go, Send, Recv, Meet, RecvClosed, Lock, RLock, TryLock, TryRLock, OnceDone}
-use Rattle.race_model.specs.Events.{sends, receives, locks, unlocks, runlocks, count}
-use Rattle.race_model.specs.Order.{SynchronizedInside, IsSource, IsBeforeLock, IsLastUnlock}
-use Rattle.race_model.specs.Synchronized.{joins, is_source}
+use Rattle.std.proofs.Common.{◌≡◌, ◌⊎◌, ◌↔◌, ◌∙◌, ℕ, ◌+◌, ◌==◌, ◌&&◌, ◌||◌, Bool, true, false, List, refl, sym, ap, inl}
+use Rattle.std.proofs.Common.{inr, true≢false, IsTrue, eqb-true, eq-eqb, take}
+use Rattle.race_records.specs.declared.event.{Event.Event, Op.{Op, TheVariants.{Go, Send, Recv, Meet, RecvClosed}}}
+use Rattle.race_records.specs.declared.event.Op.TheVariants.{Lock, RLock, TryLock, TryRLock, OnceDone}
+use Rattle.race_model.specs.{Events.{sends, receives, locks, unlocks, runlocks, count}, Order.SynchronizedInside}
+use Rattle.race_model.specs.{Order.{IsSource, IsBeforeLock, IsLastUnlock}, Synchronized.{joins, is_source}}
 
 -- both tests pass exactly where both numbers are equal
 both_equal : (a b c d : ℕ) → IsTrue ((a == b) && (c == d)) ↔ ((a ≡ b) × (c ≡ d))

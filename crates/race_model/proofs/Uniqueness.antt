@@ -1,14 +1,10 @@
 -- A variable has one reported race, and a list of events one verdict.
-use Rattle.std.proofs.Common.{◌≡◌, ◌≢◌, ℕ, zero, suc, ◌<◌, ◌≤◌, List, [], ◌∷◌, Some, None, take}
-use Rattle.std.proofs.Common.{slice_get, refl, sym, ap, ◌∙◌, subst, inl, inr, arith, le_antisymm}
-use Rattle.std.proofs.Common.{take-take}
-use Rattle.std.proofs.lemmas.Bool.{cases_order}
+use Rattle.std.proofs.Common.{◌≡◌, ◌≢◌, ℕ, zero, suc, ◌<◌, ◌≤◌, List, [], ◌∷◌, Some, None, take, slice_get, refl, sym}
+use Rattle.std.proofs.{Common.{ap, ◌∙◌, subst, inl, inr, arith, le_antisymm, take-take}, lemmas.Bool.cases_order}
 use Rattle.race_records.specs.declared.event.Event.{Event}
-use Rattle.race_model.specs.Events.{At}
-use Rattle.race_model.specs.Legal.{broken, IsLegal, IsIllegalAt}
-use Rattle.race_model.specs.Race.{RaceBy, IsReportedBy, IsDataRaceFree, IsReportedRace}
-use Rattle.race_model.specs.Verdict.{Race, Verdict, Illegal, Clean, Races, AreReportedRaces, IsVerdict}
-use Rattle.race_model.proofs.Indexes.{at_same, slice_get-take}
+use Rattle.race_model.specs.{Events.At, Legal.{broken, IsLegal, IsIllegalAt}, Race.{RaceBy, IsReportedBy}}
+use Rattle.race_model.specs.{Race.{IsDataRaceFree, IsReportedRace}, Verdict.{Race, Verdict, Illegal, Clean, Races}}
+use Rattle.race_model.{specs.Verdict.{AreReportedRaces, IsVerdict}, proofs.Indexes.{at_same, slice_get-take}}
 
 -- whatever the order, one pair at most is reported
 pub reported_unique : {conflicts ordered : ℕ → ℕ → Type 0} (i j k m : ℕ) → IsReportedBy conflicts ordered i j → IsReportedBy conflicts ordered k m

@@ -1,11 +1,9 @@
 -- Who takes part in an event, what it does, and how many events of a kind there are. (The Go Memory Model, "Memory Model": memory operation)
-use Rattle.std.specs.Prelude.{ℕ, ◌≡◌, ◌==◌, ◌||◌, ◌&&◌, nat_lt, Bool, true, false, IsTrue, List, [], ◌∷◌, Option, Some, None, count_by, map, take, slice_get}
-use Rattle.race_records.specs.declared.event.Event.{Event}
-use Rattle.race_records.specs.declared.event.Op.{Op}
-use Rattle.race_records.specs.declared.event.Op.TheVariants.{Go, Exit, Read, Write, Send}
-use Rattle.race_records.specs.declared.event.Op.TheVariants.{Recv, Meet, Close, Lock, Unlock}
-use Rattle.race_records.specs.declared.event.Op.TheVariants.{RLock, RUnlock, TryLock, TryRLock, OnceBegin}
-use Rattle.race_records.specs.declared.event.Op.TheVariants.{OnceEnd, Fault}
+use Rattle.std.specs.Prelude.{ℕ, ◌≡◌, ◌==◌, ◌||◌, ◌&&◌, nat_lt, Bool, true, false, IsTrue, List, [], ◌∷◌, Option, Some}
+use Rattle.std.specs.Prelude.{None, count_by, map, take, slice_get}
+use Rattle.race_records.specs.declared.event.{Event.Event, Op.{Op, TheVariants.{Go, Exit, Read, Write, Send, Recv}}}
+use Rattle.race_records.specs.declared.event.Op.TheVariants.{Meet, Close, Lock, Unlock, RLock, RUnlock, TryLock}
+use Rattle.race_records.specs.declared.event.Op.TheVariants.{TryRLock, OnceBegin, OnceEnd, Fault}
 
 -- e is the event at index i of the list; indexes count from 0
 abbrev pub At : List Event → ℕ → Event → Type 0

@@ -1,14 +1,10 @@
 -- Small lists of events, whose verdicts are proved in src/examples.rt. (The Go Memory Model, "Goroutine creation",
 -- "Goroutine destruction", "Channel communication"; the Specification, "Select statements", "Run-time panics")
 use Rattle.std.specs.Prelude.{ℕ, if◌then◌else◌, ◌==◌, List, [], ◌∷◌, ◌++◌, Some, None, length}
-use Rattle.race_records.specs.declared.event.Event.{Event}
-use Rattle.race_records.specs.declared.cases.Case.{Case}
-use Rattle.race_records.specs.declared.cases.Dir.{Dir}
-use Rattle.race_records.specs.declared.event.Cause.TheVariants.{SendClosed, CloseNil}
-use Rattle.race_records.specs.declared.event.Op.{Op}
-use Rattle.race_records.specs.declared.event.Op.TheVariants.{Go, Exit, Read, Write, Send, Recv, Meet, RecvClosed, Close, Default, Fault}
-use Rattle.race_model.specs.Legal.{IsLegal}
-use Rattle.race_model.specs.Verdict.{Race, IsVerdict, Illegal}
+use Rattle.race_records.specs.declared.event.{Event.Event, Cause.TheVariants.{SendClosed, CloseNil}, Op.Op}
+use Rattle.race_records.specs.declared.event.Op.TheVariants.{Go, Exit, Read, Write, Send, Recv, Meet, RecvClosed, Close}
+use Rattle.race_records.specs.declared.{event.Op.TheVariants.{Default, Fault}, cases.{Case.Case, Dir.Dir}}
+use Rattle.race_model.specs.{Legal.IsLegal, Verdict.{Race, IsVerdict, Illegal}}
 
 -- the goroutine that runs first
 abbrev pub main : ℕ

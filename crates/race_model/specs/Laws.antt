@@ -1,14 +1,10 @@
 -- The laws of the definitions. Each is the contract of a function in src/laws.rt that does nothing. (The Go Memory
 -- Model, "Memory Model": DRF-SC; "Channel communication", "Locks", "Once")
 use Rattle.std.specs.Prelude.{ℕ, ◌≡◌, ◌<◌, ◌↔◌, ◌+◌, IsTrue, List, take}
-use Rattle.race_records.specs.declared.event.Event.{Event}
-use Rattle.race_records.specs.declared.event.Op.TheVariants.{RecvClosed, OnceDone}
-use Rattle.race_model.specs.Events.{At, operations, sends, receives, closes, locks, unlocks, rlocks, once_ends, count, IsKth}
-use Rattle.race_model.specs.Legal.{IsLegal}
-use Rattle.race_model.specs.Order.{HappensBefore}
-use Rattle.race_model.specs.Race.{IsDataRaceFree, IsReportedRace}
-use Rattle.race_model.specs.Reorder.{IsReordering, own_order, EachReadFindsTheSame}
-use Rattle.race_model.specs.Verdict.{Verdict, IsVerdict}
+use Rattle.race_records.specs.declared.event.{Event.Event, Op.TheVariants.{RecvClosed, OnceDone}}
+use Rattle.race_model.specs.Events.{At, operations, sends, receives, closes, locks, unlocks, rlocks, once_ends, count}
+use Rattle.race_model.specs.{Events.IsKth, Legal.IsLegal, Order.HappensBefore, Race.{IsDataRaceFree, IsReportedRace}}
+use Rattle.race_model.specs.{Reorder.{IsReordering, own_order, EachReadFindsTheSame}, Verdict.{Verdict, IsVerdict}}
 
 -- what happens before stands before in the list
 abbrev pub HappensBeforeGoesUp : List Event → Type 0

@@ -1,19 +1,16 @@
 -- Which rules an event breaks after the events before it, and which lists of events are legal. (The Go Programming
 -- Language Specification, "Program execution", "Go statements", "Send statements", "Receive operator", "Close", "Select
 -- statements", "Channel types", "Run-time panics", "Handling panics"; package sync)
-use Rattle.std.specs.Prelude.{ℕ, if◌then◌else◌, ◌≡◌, ◌==◌, ◌||◌, ◌&&◌, not, nat_lt, Bool, true, false, List, [], ◌∷◌, Option, Some, None, is_some, take}
-use Rattle.std.specs.List.{list_any}
-use Rattle.race_records.specs.declared.event.Event.{Event}
-use Rattle.race_records.specs.declared.cases.Case.{Case}
-use Rattle.race_records.specs.declared.cases.Dir.{Dir}
-use Rattle.race_records.specs.declared.event.Cause.{Cause}
-use Rattle.race_records.specs.declared.event.Cause.TheVariants.{SendClosed, CloseClosed, CloseNil, UnlockFree, RUnlockFree}
-use Rattle.race_records.specs.declared.event.Op.{Op}
-use Rattle.race_records.specs.declared.event.Op.TheVariants.{Go, Exit, Read, Write, Send, Recv, Meet}
-use Rattle.race_records.specs.declared.event.Op.TheVariants.{RecvClosed, Close, Default, Lock, Unlock, RLock}
-use Rattle.race_records.specs.declared.event.Op.TheVariants.{RUnlock, TryLock, TryRLock, TryFail, OnceBegin, OnceEnd, OnceDone, Fault}
-use Rattle.race_model.specs.Events.{At, gives, sends, receives, count}
-use Rattle.race_model.specs.State.{over, started, runs, last_value, is_closed, buffered, front, is_held, is_read_held, is_begun, is_ended, innermost}
+use Rattle.std.specs.Prelude.{ℕ, if◌then◌else◌, ◌≡◌, ◌==◌, ◌||◌, ◌&&◌, not, nat_lt, Bool, true, false, List, [], ◌∷◌}
+use Rattle.std.specs.{Prelude.{Option, Some, None, is_some, take}, List.list_any}
+use Rattle.race_records.specs.declared.event.{Event.Event, Cause.{Cause, TheVariants.{SendClosed, CloseClosed}}}
+use Rattle.race_records.specs.declared.event.{Cause.TheVariants.{CloseNil, UnlockFree, RUnlockFree}, Op.Op}
+use Rattle.race_records.specs.declared.event.Op.TheVariants.{Go, Exit, Read, Write, Send, Recv, Meet, RecvClosed, Close}
+use Rattle.race_records.specs.declared.event.Op.TheVariants.{Default, Lock, Unlock, RLock, RUnlock, TryLock, TryRLock}
+use Rattle.race_records.specs.declared.event.Op.TheVariants.{TryFail, OnceBegin, OnceEnd, OnceDone, Fault}
+use Rattle.race_records.specs.declared.cases.{Case.Case, Dir.Dir}
+use Rattle.race_model.specs.{Events.{At, gives, sends, receives, count}, State.{over, started, runs, last_value}}
+use Rattle.race_model.specs.State.{is_closed, buffered, front, is_held, is_read_held, is_begun, is_ended, innermost}
 
 -- Each rule has a number of its own for good. caps gives the capacity of each channel.
 

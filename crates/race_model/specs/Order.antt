@@ -2,10 +2,10 @@
 -- happens before; "Goroutine creation", "Goroutine destruction", "Channel communication", "Locks", "Once"; for the numbering of sends and
 -- receives The Go Programming Language Specification, "Channel types": a channel is a first-in-first-out queue)
 use Rattle.std.specs.Prelude.{ℕ, ◌≡◌, ◌<◌, ◌+◌, ◌⊎◌, IsTrue, List, take}
-use Rattle.race_records.specs.declared.event.Event.{Event}
-use Rattle.race_records.specs.declared.event.Op.{Op}
-use Rattle.race_records.specs.declared.event.Op.TheVariants.{Go, Send, Recv, Meet, RecvClosed, Lock, RLock, TryLock, TryRLock, OnceDone}
-use Rattle.race_model.specs.Events.{At, TakesPart, sends, receives, closes, locks, unlocks, runlocks, once_ends, count, IsKth}
+use Rattle.race_records.specs.declared.event.{Event.Event, Op.{Op, TheVariants.{Go, Send, Recv, Meet, RecvClosed}}}
+use Rattle.race_records.specs.declared.event.Op.TheVariants.{Lock, RLock, TryLock, TryRLock, OnceDone}
+use Rattle.race_model.specs.Events.{At, TakesPart, sends, receives, closes, locks, unlocks, runlocks, once_ends, count}
+use Rattle.race_model.specs.Events.{IsKth}
 
 -- the begin of goroutine g's part in the event at index i, and its end, which the memory model calls its completion
 pub data Point : Type 0 where

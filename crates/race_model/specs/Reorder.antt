@@ -1,11 +1,9 @@
 -- All orders of the accesses that keep happens before, and what a read finds in each. (Our own; compare The Go Memory
 -- Model, "Memory Model": the mapping from reads to writes)
-use Rattle.std.specs.Prelude.{ℕ, if◌then◌else◌, ◌≡◌, ◌<◌, ◌+◌, ◌==◌, Bool, false, IsTrue, List, [], ◌∷◌, Option, Some, None, slice_get}
-use Rattle.std.specs.List.{before_first}
-use Rattle.race_records.specs.declared.event.Event.{Event}
-use Rattle.race_records.specs.declared.event.Op.{Op}
-use Rattle.race_model.specs.Events.{is_access, reads, writes, last_of}
-use Rattle.race_model.specs.Order.{HappensBefore}
+use Rattle.std.specs.Prelude.{ℕ, if◌then◌else◌, ◌≡◌, ◌<◌, ◌+◌, ◌==◌, Bool, false, IsTrue, List, [], ◌∷◌, Option, Some}
+use Rattle.std.specs.{Prelude.{None, slice_get}, List.before_first}
+use Rattle.race_records.specs.declared.event.{Event.Event, Op.Op}
+use Rattle.race_model.specs.{Events.{is_access, reads, writes, last_of}, Order.HappensBefore}
 
 -- there is an event at index i, and its operation passes the test
 abbrev pub op_passes : (Op → Bool) → List Event → ℕ → Bool

@@ -1,13 +1,11 @@
 -- What the events so far say of the run, its goroutines, variables, channels, locks and onces. (The Go Programming
 -- Language Specification, "Program execution", "Go statements", "Channel types", "Close", "Run-time panics", "Handling panics"; package
 -- sync)
-use Rattle.std.specs.Prelude.{ℕ, if◌then◌else◌, ◌==◌, ◌-◌, ◌||◌, ◌&&◌, not, nat_lt, Bool, List, Option, Some, None, filter_map, slice_get, unwrap_or}
-use Rattle.race_records.specs.declared.event.Event.{Event}
-use Rattle.race_records.specs.declared.event.Op.{Op}
-use Rattle.race_records.specs.declared.event.Op.TheVariants.{Write, Send, OnceBegin}
-use Rattle.race_model.specs.Events.{starts, is_fault, sends, receives, closes, locks, unlocks}
-use Rattle.race_model.specs.Events.{rlocks, runlocks, once_begins, once_ends, count, has}
-use Rattle.race_model.specs.Events.{has_exited, last_of}
+use Rattle.std.specs.Prelude.{ℕ, if◌then◌else◌, ◌==◌, ◌-◌, ◌||◌, ◌&&◌, not, nat_lt, Bool, List, Option, Some, None}
+use Rattle.std.specs.Prelude.{filter_map, slice_get, unwrap_or}
+use Rattle.race_records.specs.declared.event.{Event.Event, Op.{Op, TheVariants.{Write, Send, OnceBegin}}}
+use Rattle.race_model.specs.Events.{starts, is_fault, sends, receives, closes, locks, unlocks, rlocks, runlocks}
+use Rattle.race_model.specs.Events.{once_begins, once_ends, count, has, has_exited, last_of}
 
 -- the run is over: main, goroutine 0, has exited, or a goroutine has failed
 abbrev pub over : List Event → Bool

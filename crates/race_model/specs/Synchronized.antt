@@ -1,8 +1,7 @@
 -- The edges of Order as tests: they pass exactly where SynchronizedInside and IsSource hold, as proofs/SynchronizedTests shows.
 use Rattle.std.specs.Prelude.{ℕ, ◌+◌, ◌==◌, ◌&&◌, ◌||◌, Bool, false, List, take}
-use Rattle.race_records.specs.declared.event.Event.{Event}
-use Rattle.race_records.specs.declared.event.Op.{Op}
-use Rattle.race_records.specs.declared.event.Op.TheVariants.{Go, Send, Recv, Meet, RecvClosed, Lock, RLock, TryLock, TryRLock, OnceDone}
+use Rattle.race_records.specs.declared.event.{Event.Event, Op.{Op, TheVariants.{Go, Send, Recv, Meet, RecvClosed}}}
+use Rattle.race_records.specs.declared.event.Op.TheVariants.{Lock, RLock, TryLock, TryRLock, OnceDone}
 use Rattle.race_model.specs.Events.{sends, receives, closes, locks, unlocks, runlocks, once_ends, count}
 
 -- in one event, in which goroutine who does o, g's begin is synchronized before h's end

@@ -1,10 +1,9 @@
 -- Small lists of events with tries to lock, whose verdicts are proved in src/try_examples.rt. (The Go Memory Model, "Locks": TryLock,
 -- TryRLock; package sync, Mutex, RWMutex)
 use Rattle.std.specs.Prelude.{List, [], ◌∷◌}
-use Rattle.race_records.specs.declared.event.Event.{Event}
-use Rattle.race_records.specs.declared.event.Op.TheVariants.{Go, Read, Write, Lock, Unlock, RLock, RUnlock, TryLock, TryRLock, TryFail}
-use Rattle.race_model.specs.Examples.{main, w, v, x, does}
-use Rattle.race_model.specs.LockExamples.{l, m}
+use Rattle.race_records.specs.declared.event.{Event.Event, Op.TheVariants.{Go, Read, Write, Lock, Unlock, RLock}}
+use Rattle.race_records.specs.declared.event.Op.TheVariants.{RUnlock, TryLock, TryRLock, TryFail}
+use Rattle.race_model.specs.{Examples.{main, w, v, x, does}, LockExamples.{l, m}}
 
 -- Small lists to come before an event.
 

@@ -2,8 +2,7 @@
 -- Programs Containing Data Races": report the race)
 use Rattle.std.specs.Prelude.{ℕ, ◌≡◌, ◌≢◌, ◌<◌, List, [], Some, slice_get}
 use Rattle.race_records.specs.declared.event.Event.{Event}
-use Rattle.race_model.specs.Legal.{IsLegal, IsIllegalAt}
-use Rattle.race_model.specs.Race.{IsRace, IsDataRaceFree, IsReportedRace}
+use Rattle.race_model.specs.{Legal.{IsLegal, IsIllegalAt}, Race.{IsRace, IsDataRaceFree, IsReportedRace}}
 
 -- two accesses of variable var, by their indexes
 pub record Race : Type 0 where

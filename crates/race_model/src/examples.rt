@@ -1,86 +1,25 @@
 //! Small lists of events with their verdicts. Each function does nothing, and its contract is the example.
 ghost use Rattle.std.specs.Prelude.{ℕ, ◌≡◌, [], ◌∷◌};
-ghost use Rattle.race_records.specs.declared.event.Op.TheVariants.{Exit, Read, Send, Recv, Meet, RecvClosed, Close, Default, Fault};
+ghost use Rattle.race_records.specs.declared.event.Op.TheVariants.{Exit, Read, Send, Recv, Meet, RecvClosed, Close};
+ghost use Rattle.race_records.specs.declared.event.Op.TheVariants.{Default, Fault};
 ghost use Rattle.race_records.specs.declared.event.Cause.TheVariants.{SendClosed, CloseClosed, CloseNil};
-ghost use Rattle.race_model.specs.Order.{HappensBefore};
-ghost use Rattle.race_model.specs.Reorder.{IsReordering, own_order, finds};
-ghost use Rattle.race_model.specs.Verdict.{IsVerdict, Clean, Races, Illegal};
-ghost use Rattle.race_model.specs.Examples.{
-  write_then_go,
-  go_then_write,
-  exit_then_read,
-  exit_then_go,
-  two_reads,
-  exit_twice,
-  write_unstarted,
-  go_main,
-  read_unwritten,
-  go_twice,
-  write_exited,
-  read_overwritten,
-  read_the_first,
-  race_on_x,
-  x,
-  c,
-  d,
-  e,
-  capacities,
-  Breaks,
-  Fits,
-  main,
-  w,
-  does,
-  started,
-  gone,
-  one_sent,
-  one_received,
-  second_sent,
-  two_waiting,
-  closed,
-  unbuffered_closed,
-  sent_and_closed,
-  closed_and_emptied,
-  write_then_send,
-  send_then_write,
-  first_received,
-  second_received,
-  another_channel_sent,
-  room_then_read,
-  read_then_no_send,
-  room_then_write,
-  room_for_two,
-  room_for_a_third,
-  send_as_lock,
-  sender_reads,
-  next_receiver_reads,
-  sender_writes,
-  receiver_writes,
-  sender_writes_behind,
-  receiver_writes_behind,
-  another_reads,
-  write_then_close,
-  close_then_write,
-  another_channel_closed,
-  value_behind_close,
-  close_behind_value,
-  a_send,
-  a_receive,
-  send_on_nil,
-  receive_on_nil,
-  none_ready,
-  first_ready,
-  last_ready,
-  one_of_two_sent,
-  full_and_passed,
-  nobody_meets,
-  finds_it_full,
-  finds_it_empty,
-  defaults_between,
-  main_failed,
-  w_failed,
-  reads_and_fails,
-  finds_it_closed_and_fails,
-};
+ghost use Rattle.race_model.specs.{Order.HappensBefore, Reorder.{IsReordering, own_order, finds}, Verdict.IsVerdict};
+ghost use Rattle.race_model.specs.{Verdict.{Clean, Races, Illegal}, Examples.{write_then_go, go_then_write}};
+ghost use Rattle.race_model.specs.Examples.{exit_then_read, exit_then_go, two_reads, exit_twice, write_unstarted};
+ghost use Rattle.race_model.specs.Examples.{go_main, read_unwritten, go_twice, write_exited, read_overwritten};
+ghost use Rattle.race_model.specs.Examples.{read_the_first, race_on_x, x, c, d, e, capacities, Breaks, Fits, main, w};
+ghost use Rattle.race_model.specs.Examples.{does, started, gone, one_sent, one_received, second_sent, two_waiting};
+ghost use Rattle.race_model.specs.Examples.{closed, unbuffered_closed, sent_and_closed, closed_and_emptied};
+ghost use Rattle.race_model.specs.Examples.{write_then_send, send_then_write, first_received, second_received};
+ghost use Rattle.race_model.specs.Examples.{another_channel_sent, room_then_read, read_then_no_send, room_then_write};
+ghost use Rattle.race_model.specs.Examples.{room_for_two, room_for_a_third, send_as_lock, sender_reads};
+ghost use Rattle.race_model.specs.Examples.{next_receiver_reads, sender_writes, receiver_writes, sender_writes_behind};
+ghost use Rattle.race_model.specs.Examples.{receiver_writes_behind, another_reads, write_then_close, close_then_write};
+ghost use Rattle.race_model.specs.Examples.{another_channel_closed, value_behind_close, close_behind_value, a_send};
+ghost use Rattle.race_model.specs.Examples.{a_receive, send_on_nil, receive_on_nil, none_ready, first_ready};
+ghost use Rattle.race_model.specs.Examples.{last_ready, one_of_two_sent, full_and_passed, nobody_meets, finds_it_full};
+ghost use Rattle.race_model.specs.Examples.{finds_it_empty, defaults_between, main_failed, w_failed, reads_and_fails};
+ghost use Rattle.race_model.specs.Examples.{finds_it_closed_and_fails};
 
 /// A write before the `go` happens before what the new goroutine reads.
 pub fn write_before_the_go_is_ordered()

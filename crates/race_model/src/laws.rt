@@ -1,19 +1,10 @@
 //! The laws of the definitions. Each function does nothing, and its contract is the law.
-ghost use Rattle.race_model.specs.Laws.{
-  AsManyLocksAsUnlocksStandBeforeAnRLock,
-  CloseStandsBeforeWhatFindsIt,
-  HappensBeforeGoesUp,
-  HappensBeforeIsTransitive,
-  HasOneReportedRace,
-  HasOneVerdict,
-  OnceEndStandsBeforeEachOnceDone,
-  OwnOrderIsReordering,
-  ReceiveStandsBeforeTheSendItMakesRoomFor,
-  ReorderingsFindTheSame,
-  SendStandsBeforeItsReceive,
-  UnlocksOfALowerNumberStandBeforeALock,
-  VerdictIsOnOperations,
-};
+ghost use Rattle.race_model.specs.Laws.{AsManyLocksAsUnlocksStandBeforeAnRLock, CloseStandsBeforeWhatFindsIt};
+ghost use Rattle.race_model.specs.Laws.{HappensBeforeGoesUp, HappensBeforeIsTransitive, HasOneReportedRace};
+ghost use Rattle.race_model.specs.Laws.{HasOneVerdict, OnceEndStandsBeforeEachOnceDone, OwnOrderIsReordering};
+ghost use Rattle.race_model.specs.Laws.{ReceiveStandsBeforeTheSendItMakesRoomFor, ReorderingsFindTheSame};
+ghost use Rattle.race_model.specs.Laws.{SendStandsBeforeItsReceive, UnlocksOfALowerNumberStandBeforeALock};
+ghost use Rattle.race_model.specs.Laws.{VerdictIsOnOperations};
 
 use race_records::Event;
 

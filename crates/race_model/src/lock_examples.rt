@@ -1,49 +1,19 @@
 //! Small lists of events on mutexes and rwmutexes with their verdicts. Each function does nothing, and its contract is the example.
 ghost use Rattle.race_records.specs.declared.event.Op.TheVariants.{Exit, Fault, Lock, RLock, RUnlock, Unlock};
 ghost use Rattle.race_records.specs.declared.event.Cause.TheVariants.{RUnlockFree, UnlockFree};
-ghost use Rattle.race_model.specs.Order.{HappensBefore};
-ghost use Rattle.race_model.specs.Verdict.{IsVerdict, Clean, Races};
-ghost use Rattle.race_model.specs.Examples.{main, w, does, race_on_x, capacities, Breaks, Fits, started};
-ghost use Rattle.race_model.specs.LockExamples.{
-  l,
-  m,
-  locked,
-  unlocked,
-  locked_again,
-  one_reader,
-  two_readers,
-  one_reader_left,
-  no_reader_left,
-  locked_by_main_alone,
-  left_locked,
-  left_read_locked,
-  write_then_unlock,
-  unlock_then_write,
-  unlocked_by_another,
-  two_locks_on,
-  no_second_lock,
-  another_unlocked,
-  both_locked,
-  write_then_rlocks,
-  unlock_then_write_then_rlock,
-  second_unlock,
-  earlier_unlock,
-  no_rlock,
-  another_unlocked_then_rlock,
-  read_then_runlock,
-  runlock_then_read,
-  two_read_then_runlock,
-  others_between,
-  two_locks_on_from_read,
-  another_runlocked,
-  readers_side_by_side,
-  reader_after_reader,
-  write_then_rlocks_alone,
-  write_then_lock,
-  write_then_lock_then_lock,
-  write_then_lock_then_rlock,
-  write_then_rlock_then_lock,
-};
+ghost use Rattle.race_model.specs.{Order.HappensBefore, Verdict.{IsVerdict, Clean, Races}, Examples.{main, w, does}};
+ghost use Rattle.race_model.specs.{Examples.{race_on_x, capacities, Breaks, Fits, started}, LockExamples.{l, m}};
+ghost use Rattle.race_model.specs.LockExamples.{locked, unlocked, locked_again, one_reader, two_readers};
+ghost use Rattle.race_model.specs.LockExamples.{one_reader_left, no_reader_left, locked_by_main_alone, left_locked};
+ghost use Rattle.race_model.specs.LockExamples.{left_read_locked, write_then_unlock, unlock_then_write};
+ghost use Rattle.race_model.specs.LockExamples.{unlocked_by_another, two_locks_on, no_second_lock, another_unlocked};
+ghost use Rattle.race_model.specs.LockExamples.{both_locked, write_then_rlocks, unlock_then_write_then_rlock};
+ghost use Rattle.race_model.specs.LockExamples.{second_unlock, earlier_unlock, no_rlock, another_unlocked_then_rlock};
+ghost use Rattle.race_model.specs.LockExamples.{read_then_runlock, runlock_then_read, two_read_then_runlock};
+ghost use Rattle.race_model.specs.LockExamples.{others_between, two_locks_on_from_read, another_runlocked};
+ghost use Rattle.race_model.specs.LockExamples.{readers_side_by_side, reader_after_reader, write_then_rlocks_alone};
+ghost use Rattle.race_model.specs.LockExamples.{write_then_lock, write_then_lock_then_lock, write_then_lock_then_rlock};
+ghost use Rattle.race_model.specs.LockExamples.{write_then_rlock_then_lock};
 
 /// A `Lock` wants the lock neither locked nor locked for reading, by whichever goroutine.
 pub fn a_lock_wants_a_free_lock()

@@ -1,30 +1,11 @@
 //! Small lists of events on onces with their verdicts. Each function does nothing, and its contract is the example.
 ghost use Rattle.race_records.specs.declared.event.Op.TheVariants.{Exit, OnceBegin, OnceDone, OnceEnd};
-ghost use Rattle.race_model.specs.Order.{HappensBefore};
-ghost use Rattle.race_model.specs.Verdict.{IsVerdict, Clean, Races};
-ghost use Rattle.race_model.specs.Examples.{main, w, does, race_on_x, capacities, Breaks, Fits, started};
-ghost use Rattle.race_model.specs.OnceExamples.{
-  o,
-  p,
-  begun,
-  ended,
-  nested,
-  inner_ended,
-  side_by_side,
-  found_done,
-  begun_by_w,
-  left_begun,
-  write_in_function,
-  write_behind_function,
-  read_without_do,
-  another_ended,
-  both_done,
-  inner_done,
-  outer_done,
-  once_then_begin,
-  once_then_end,
-  done_then_done,
-};
+ghost use Rattle.race_model.specs.{Order.HappensBefore, Verdict.{IsVerdict, Clean, Races}, Examples.{main, w, does}};
+ghost use Rattle.race_model.specs.{Examples.{race_on_x, capacities, Breaks, Fits, started}, OnceExamples.{o, p, begun}};
+ghost use Rattle.race_model.specs.OnceExamples.{ended, nested, inner_ended, side_by_side, found_done, begun_by_w};
+ghost use Rattle.race_model.specs.OnceExamples.{left_begun, write_in_function, write_behind_function, read_without_do};
+ghost use Rattle.race_model.specs.OnceExamples.{another_ended, both_done, inner_done, outer_done, once_then_begin};
+ghost use Rattle.race_model.specs.OnceExamples.{once_then_end, done_then_done};
 
 /// The function of a once begins once.
 pub fn a_once_begins_once()

@@ -1,10 +1,10 @@
 //! Small lists of events with tries to lock, and their verdicts. Each function does nothing, and its contract is the example.
-ghost use Rattle.race_records.specs.declared.event.Op.TheVariants.{Fault, Lock, RLock, RUnlock, TryFail, TryLock, TryRLock, Unlock};
+ghost use Rattle.race_records.specs.declared.event.Op.TheVariants.{Fault, Lock, RLock, RUnlock, TryFail, TryLock};
+ghost use Rattle.race_records.specs.declared.event.Op.TheVariants.{TryRLock, Unlock};
 ghost use Rattle.race_records.specs.declared.event.Cause.TheVariants.{RUnlockFree, UnlockFree};
-ghost use Rattle.race_model.specs.Order.{HappensBefore};
-ghost use Rattle.race_model.specs.Verdict.{IsVerdict, Clean, Races};
-ghost use Rattle.race_model.specs.Examples.{main, w, does, race_on_x, capacities, Breaks, Fits, started};
-ghost use Rattle.race_model.specs.LockExamples.{l, m, locked, unlocked, one_reader, locked_by_main_alone, left_read_locked};
+ghost use Rattle.race_model.specs.{Order.HappensBefore, Verdict.{IsVerdict, Clean, Races}, Examples.{main, w, does}};
+ghost use Rattle.race_model.specs.{Examples.{race_on_x, capacities, Breaks, Fits, started}, LockExamples.{l, m}};
+ghost use Rattle.race_model.specs.LockExamples.{locked, unlocked, one_reader, locked_by_main_alone, left_read_locked};
 ghost use Rattle.race_model.specs.TryExamples as tries;
 
 /// A `TryLock` that succeeds wants what a `Lock` wants, and a `TryRLock` what an `RLock` wants.

@@ -1,24 +1,16 @@
 -- What turns and firings leave of a hub, and when its run is out.
-use Rattle.std.proofs.Common.{ℕ, ◌≡◌, ◌≢◌, ◌==◌, ◌⊎◌, ◌<◌, ◌≤◌, ◌+◌, ◌-◌, ◌++◌, List, [], ◌∷◌}
-use Rattle.std.proofs.Common.{length, Bool, true, false, Option, Some, None, IsSome, refl, sym}
-use Rattle.std.proofs.Common.{ap, ◌∙◌}
-use Rattle.std.proofs.lemmas.List.{append_assoc}
-use Rattle.std.proofs.lemmas.Bool.Decides.{nat_tests}
-use Rattle.std.proofs.lemmas.Option.{none-some}
-use Rattle.std.proofs.Common.{arith, subst, suc, append-nil, length-append, ◌&&◌, ◌||◌, not, if◌then◌else◌, eq-eqb, true≢false, inl, inr}
-use Rattle.std.specs.List.{list_any}
+use Rattle.std.proofs.Common.{ℕ, ◌≡◌, ◌≢◌, ◌==◌, ◌⊎◌, ◌<◌, ◌≤◌, ◌+◌, ◌-◌, ◌++◌, List, [], ◌∷◌, length, Bool, true}
+use Rattle.std.proofs.Common.{false, Option, Some, None, IsSome, refl, sym, ap, ◌∙◌, arith, subst, suc, append-nil}
+use Rattle.std.proofs.Common.{length-append, ◌&&◌, ◌||◌, not, if◌then◌else◌, eq-eqb, true≢false, inl, inr}
+use Rattle.std.{proofs.lemmas.{List.append_assoc, Bool.Decides.nat_tests, Option.none-some}, specs.List.list_any}
 use Rattle.std.specs.Prelude.{cond, is_some, nat_lt, remove, slice_get}
 use Rattle.race_records.specs.declared.event.Event.{Event}
-use Rattle.race_hub.specs.declared.recording.Mismatch.{Mismatch}
-use Rattle.race_hub.specs.Finish.{IsMismatch}
-use Rattle.race_requests.specs.declared.request.Answer.{Answer}
-use Rattle.race_requests.specs.declared.request.Request.{Request}
-use Rattle.race_hub.specs.Job.{JobState, asking}
-use Rattle.race_hub.specs.declared.ending.End.{End}
+use Rattle.race_hub.specs.{declared.{recording.Mismatch.Mismatch, ending.End.End}, Finish.IsMismatch}
+use Rattle.race_hub.specs.{Job.{JobState, asking}, Hub.{HubState, stop_by, is_last, is_main_exit, stop_of, end_of}}
+use Rattle.race_hub.specs.{Hub.{choices_of, is_deadlock}, Fires.IsFired, Submits.{Takes, Submits, is_stray}}
+use Rattle.race_hub.specs.Submits.{without_first}
+use Rattle.race_requests.specs.declared.request.{Answer.Answer, Request.Request}
 use Rattle.race_model.specs.Events.{is_fault}
-use Rattle.race_hub.specs.Hub.{HubState, stop_by, is_last, is_main_exit, stop_of, end_of, choices_of, is_deadlock}
-use Rattle.race_hub.specs.Fires.{IsFired}
-use Rattle.race_hub.specs.Submits.{Takes, Submits, is_stray, without_first}
 use Rattle.race_record.specs.Serial.{IsTurned, TakesTurn, Comes, IsRunOut, pick_of, begins, turns, fires}
 
 -- declarations and limit stay, and more events may follow

@@ -1,14 +1,9 @@
 -- A run of main alone, which returns at once, and what is recorded of it: src/examples.rt proves it.
 use Rattle.std.specs.Prelude.{ℕ, List, [], ◌∷◌, None}
-use Rattle.race_records.specs.declared.event.Op.TheVariants.{Exit}
-use Rattle.race_records.specs.declared.version.Version.{Version}
-use Rattle.race_records.specs.Declarations.{DeclsState}
+use Rattle.race_records.specs.{declared.{event.Op.TheVariants.Exit, version.Version.Version}, Declarations.DeclsState}
 use Rattle.race_model.specs.Examples.{does}
-use Rattle.race_requests.specs.declared.request.Ask.{Ask}
-use Rattle.race_requests.specs.declared.request.Step.{Step}
-use Rattle.race_hub.specs.declared.ending.End.{End}
-use Rattle.race_hub.specs.Hub.{HubState, opening}
-use Rattle.race_hub.specs.Recording.{RecordingState}
+use Rattle.race_requests.specs.declared.request.{Ask.Ask, Step.Step}
+use Rattle.race_hub.specs.{declared.ending.End.End, Hub.{HubState, opening}, Recording.RecordingState}
 
 -- nothing is declared, and main stands at the only place
 abbrev pub nothing : DeclsState

@@ -1,14 +1,9 @@
 -- What a recording on one thread makes of a hub, by its picks. (Our own)
 use Rattle.std.specs.Prelude.{ℕ, ◌≡◌, ◌-◌, List, [], length, slice_get, Option, Some, None, IsSome, unwrap_or}
-use Rattle.race_hub.specs.declared.recording.Mismatch.{Mismatch}
-use Rattle.race_requests.specs.declared.request.Answer.{Answer}
-use Rattle.race_requests.specs.declared.request.Request.{Request}
-use Rattle.race_hub.specs.Job.{JobState, asking}
-use Rattle.race_hub.specs.Hub.{HubState, end_of}
-use Rattle.race_hub.specs.Fires.{IsFired}
-use Rattle.race_hub.specs.Submits.{Takes, Submits}
-use Rattle.race_hub.specs.Recording.{RecordingState}
+use Rattle.race_hub.specs.{declared.recording.Mismatch.Mismatch, Job.{JobState, asking}, Hub.{HubState, end_of}}
+use Rattle.race_hub.specs.{Fires.IsFired, Submits.{Takes, Submits}, Recording.RecordingState}
 use Rattle.race_hub.specs.Finish.{IsRecorded, IsMismatch}
+use Rattle.race_requests.specs.declared.request.{Answer.Answer, Request.Request}
 
 -- the pick of this number, 0 behind the last
 abbrev pub pick_of : List ℕ → ℕ → ℕ

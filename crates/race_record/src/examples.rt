@@ -1,8 +1,6 @@
 //! Which recordings are of a hub, and which stop is told. Each function does nothing, and its contract is the example.
 ghost use Rattle.std.specs.Prelude.{◌<◌};
-ghost use Rattle.race_record.specs.declared.shared.Stop.{Stop};
-ghost use Rattle.race_record.specs.Examples.{hub_of, main_returns};
-ghost use Rattle.race_record.specs.Recorded.{IsRecordingOf};
+ghost use Rattle.race_record.specs.{declared.shared.Stop.Stop, Examples.{hub_of, main_returns}, Recorded.IsRecordingOf};
 ghost use Rattle.race_record.specs.Stops.{rank};
 
 /// A recording has no more events than its hub may make, although main's return ends it whatever the limit is.

@@ -1,12 +1,9 @@
 //! What the workers share under the lock, and what each does there.
-ghost use Rattle.std.specs.Prelude.{◌≡◌, ◌≢◌, ◌≤◌, ◌⊎◌, [], Bool, true, false, Some, None, IfSome, IsSome, nat_le, length};
+ghost use Rattle.std.specs.Prelude.{◌≡◌, ◌≢◌, ◌≤◌, ◌⊎◌, [], Bool, true, false, Some, None, IfSome, IsSome, nat_le};
+ghost use Rattle.std.specs.Prelude.{length};
 ghost use Rattle.rand_xoshiro.specs.SplitMix64.{mix_u64};
-ghost use Rattle.race_hub.specs.Hub.{end_of};
-ghost use Rattle.race_hub.specs.Job.{JobState};
-ghost use Rattle.race_hub.specs.Fires.{IsFired};
-ghost use Rattle.race_hub.specs.Submits.{Takes, Submits, is_stray};
-ghost use Rattle.race_record.specs.Serial.{IsTurned};
-ghost use Rattle.race_record.specs.Stops.{rank};
+ghost use Rattle.race_hub.specs.{Hub.end_of, Job.JobState, Fires.IsFired, Submits.{Takes, Submits, is_stray}};
+ghost use Rattle.race_record.specs.{Serial.IsTurned, Stops.rank};
 
 use race_hub::{Hub, Job, Routine, SubmitFault};
 use rand_core::SeedableRng;

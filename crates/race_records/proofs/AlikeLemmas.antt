@@ -1,10 +1,8 @@
 -- Two events with the texts of their places, compared part by part.
-use Rattle.std.proofs.Common.{◌≡◌, ◌==◌, ◌&&◌, ℕ, Bool, true, false, List, Some, slice_get, IsTrue, sym, ap, ◌∙◌, option_map}
-use Rattle.std.proofs.lemmas.Option.{slice_get-map, same_Some}
-use Rattle.std.specs.Str.{bytes_eq}
-use Rattle.race_records.specs.declared.event.Event.{Event}
-use Rattle.race_records.specs.Events.{TraceState}
-use Rattle.race_records.specs.TraceEquality.{placed, placed_events, same_op, same_text, same_placed, same_placed-Decides}
+use Rattle.std.proofs.Common.{◌≡◌, ◌==◌, ◌&&◌, ℕ, Bool, true, false, List, Some, slice_get, IsTrue, sym, ap, ◌∙◌}
+use Rattle.std.{proofs.{Common.option_map, lemmas.Option.{slice_get-map, same_Some}}, specs.Str.bytes_eq}
+use Rattle.race_records.specs.{declared.event.Event.Event, Events.TraceState, TraceEquality.{placed, placed_events}}
+use Rattle.race_records.specs.TraceEquality.{same_op, same_text, same_placed, same_placed-Decides}
 
 -- the event at an index, with the texts of its places
 placed_at : (trace : TraceState) (i : ℕ) (e : Event) → slice_get trace.events i ≡ Some e

@@ -1,16 +1,11 @@
 -- A list of cases, read and made longer by the numbers that stand for it.
-use Rattle.std.proofs.Common.{◌≡◌, ℕ, zero, suc, ◌+◌, ◌*◌, ◌/◌, ◌%◌, ◌^◌, ◌<◌, List, [], ◌∷◌, ◌++◌, ◌≤◌}
-use Rattle.std.proofs.Common.{length, take, set, Some, option_map, slice_get, refl, sym, subst, ap, ◌∙◌}
-use Rattle.std.proofs.Common.{arith, Option, None, IfSome, Bool, true, false, if◌then◌else◌}
-use Rattle.std.proofs.Math.Dec.{ltb}
-use Rattle.std.proofs.lemmas.Bool.{lt-ltb, ltb-false, le-ltb}
-use Rattle.std.specs.Int.{bit_at}
-use Rattle.std.proofs.Math.Nat.{add-mul-mod_self_right, mod-eq_of_lt}
-use Rattle.std.proofs.Math.Pow.{pow_mono}
-use Rattle.std.proofs.lemmas.List.{length-take-le, take_more_set}
-use Rattle.std.proofs.lemmas.Nat.Bits.{bit_at-suc, bit_at_lowest}
-use Rattle.race_records.specs.declared.cases.Case.{Case}
-use Rattle.race_records.specs.Cases.{case_of, cases_of, kept, kept_chan}
+use Rattle.std.proofs.Common.{◌≡◌, ℕ, zero, suc, ◌+◌, ◌*◌, ◌/◌, ◌%◌, ◌^◌, ◌<◌, List, [], ◌∷◌, ◌++◌, ◌≤◌, length, take}
+use Rattle.std.proofs.Common.{set, Some, option_map, slice_get, refl, sym, subst, ap, ◌∙◌, arith, Option, None, IfSome}
+use Rattle.std.proofs.{Common.{Bool, true, false, if◌then◌else◌}, Math.Dec.ltb}
+use Rattle.std.proofs.Math.{Nat.{add-mul-mod_self_right, mod-eq_of_lt}, Pow.pow_mono}
+use Rattle.std.proofs.lemmas.{Bool.{lt-ltb, ltb-false, le-ltb}, List.{length-take-le, take_more_set}}
+use Rattle.std.{proofs.lemmas.Nat.Bits.{bit_at-suc, bit_at_lowest}, specs.Int.bit_at}
+use Rattle.race_records.specs.{declared.cases.Case.Case, Cases.{case_of, cases_of, kept, kept_chan}}
 use Rattle.race_records.specs.Parts.{chan_is_in_range, case_is_in_range}
 
 -- there is a case for each number

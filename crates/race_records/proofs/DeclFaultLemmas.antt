@@ -1,22 +1,14 @@
 -- What it means that nothing refuses a declaration or a place.
-use Rattle.std.proofs.Common.{◌≡◌, ◌≢◌, ℕ, ◌<◌, Bool, true, false, not, nat_le, List, [], length, position, get_or, Option}
-use Rattle.std.proofs.Common.{Some, None, IsNone, IsTrue, is_some, option_map, if◌then◌else◌, take, refl, sym, ap, ◌∙◌}
-use Rattle.std.proofs.Common.{true≢false, arith}
-use Rattle.std.proofs.lemmas.Bool.Decides.{nat_tests}
-use Rattle.std.proofs.lemmas.List.Folds.{list_any_at}
-use Rattle.std.proofs.lemmas.List.Quantifiers.{position-Some}
-use Rattle.std.proofs.lemmas.Option.{none-some}
-use Rattle.std.proofs.lemmas.Slice.Eq.{bytes_eq-Decides}
-use Rattle.std.specs.Option.{option_and_then}
-use Rattle.std.specs.Str.{bytes_eq}
-use Rattle.race_records.specs.declared.kind.Named.{Named}
-use Rattle.race_records.specs.declared.kind.Object.{Object}
-use Rattle.race_records.specs.declared.declarations.DeclFault.{DeclFault}
+use Rattle.std.proofs.Common.{◌≡◌, ◌≢◌, ℕ, ◌<◌, Bool, true, false, not, nat_le, List, [], length, position, get_or}
+use Rattle.std.proofs.Common.{Option, Some, None, IsNone, IsTrue, is_some, option_map, if◌then◌else◌, take, refl, sym}
+use Rattle.std.proofs.{Common.{ap, ◌∙◌, true≢false, arith}, lemmas.{Bool.Decides.nat_tests, List.Folds.list_any_at}}
+use Rattle.std.proofs.lemmas.{List.Quantifiers.position-Some, Option.none-some, Slice.Eq.bytes_eq-Decides}
+use Rattle.std.specs.{Option.option_and_then, Str.bytes_eq}
+use Rattle.race_records.specs.declared.{kind.{Named.Named, Object.Object}, declarations.DeclFault.DeclFault}
 use Rattle.race_records.specs.declared.declarations.DeclFault.TheVariants.{BadName, Taken, TooMany, BadCapacity}
-use Rattle.race_records.specs.Name.{main, is_name}
-use Rattle.race_records.specs.Declarations.{Declaration, decl_fault, declared_at, find_name, named, kind_of, count_of, limit_of, is_too_wide}
-use Rattle.race_records.proofs.ListLemmas.{slice_get-within}
-use Rattle.race_records.proofs.TextLemmas.{list_any-absent}
+use Rattle.race_records.specs.{Name.{main, is_name}, Declarations.{Declaration, decl_fault, declared_at, find_name}}
+use Rattle.race_records.specs.Declarations.{named, kind_of, count_of, limit_of, is_too_wide}
+use Rattle.race_records.proofs.{ListLemmas.slice_get-within, TextLemmas.list_any-absent}
 
 -- a word that nothing is named by isn't `main`, and no declaration has it
 pub record IsFree (ds : List Declaration) (word : List ℕ) : Type 0 where

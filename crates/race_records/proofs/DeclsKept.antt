@@ -1,24 +1,16 @@
 -- The invariant of a `Decls`: with nothing declared, and after one more declaration.
 use Rattle.std.proofs.Common.{◌≡◌, ◌≢◌, ℕ, ◌+◌, ◌<◌, ◌≤◌, Bool, true, false, cond, List, [], ◌∷◌, ◌++◌, length, take}
 use Rattle.std.proofs.Common.{slice_get, Some, IsTrue, if◌then◌else◌, refl, sym, ap, subst, ◌∙◌, append-nil, inl, inr}
-use Rattle.std.proofs.Common.{arith, true≢false}
-use Rattle.std.proofs.lemmas.List.{length-append, length-map, map-append, take-append-le}
-use Rattle.std.proofs.lemmas.List.Elements.{All-push, filter-append}
-use Rattle.std.proofs.lemmas.List.Quantifiers.{all_pairs_push}
-use Rattle.std.proofs.lemmas.Option.{none-some, slice_get_within}
-use Rattle.std.proofs.Math.Seq.{take-append_seam}
-use Rattle.race_records.specs.declared.kind.Kind.{Kind}
-use Rattle.race_records.specs.declared.kind.Object.{Object}
-use Rattle.race_records.specs.declared.version.Version.{Version}
-use Rattle.race_records.specs.Name.{main, is_name}
-use Rattle.race_records.specs.Declarations.{Declaration, DeclsState, IsWellFormed, with_declaration}
-use Rattle.race_records.specs.Declarations.{is_of_kind, kind_of, of_kind, count_of, limit_of}
-use Rattle.race_records.specs.Declarations.{first_number, is_too_wide}
-use Rattle.race_records.specs.declared.declarations.Decls.TheInside.{Inside}
+use Rattle.std.proofs.{Common.{arith, true≢false}, lemmas.List.{length-append, length-map, map-append, take-append-le}}
+use Rattle.std.proofs.lemmas.List.{Elements.{All-push, filter-append}, Quantifiers.all_pairs_push}
+use Rattle.std.proofs.{lemmas.Option.{none-some, slice_get_within}, Math.Seq.take-append_seam}
+use Rattle.race_records.specs.declared.{kind.{Kind.Kind, Object.Object}, version.Version.Version}
+use Rattle.race_records.specs.{declared.declarations.Decls.TheInside.Inside, Name.{main, is_name}}
+use Rattle.race_records.specs.Declarations.{Declaration, DeclsState, IsWellFormed, with_declaration, is_of_kind}
+use Rattle.race_records.specs.Declarations.{kind_of, of_kind, count_of, limit_of, first_number, is_too_wide}
 use Rattle.race_records.specs.DeclsHold.{decls_state, Leads, AreNumbered, DeclsHold}
-use Rattle.race_records.specs.Rows.{declaration_of, declarations_of}
-use Rattle.race_records.specs.Tables.{Row, row, IndexesState, indexes_of, no_indexes, with_index}
-use Rattle.race_records.proofs.DeclFaultLemmas.{IsAllowed, differs_from_absent}
+use Rattle.race_records.specs.{Rows.{declaration_of, declarations_of}, Tables.{Row, row, IndexesState, indexes_of}}
+use Rattle.race_records.{specs.Tables.{no_indexes, with_index}, proofs.DeclFaultLemmas.{IsAllowed, differs_from_absent}}
 use Rattle.race_records.proofs.ListLemmas.{slice_get-push_cases, Leads-same, Leads-other}
 
 -- only the kind of the object itself fits it

@@ -1,24 +1,14 @@
 -- What the tables of a `Decls` say of its declarations.
-use Rattle.std.proofs.Common.{◌≡◌, subst, ◌≢◌, All, Bool, true, get_or, ℕ, zero, suc, ◌<◌, false, if◌then◌else◌, List, []}
-use Rattle.std.proofs.Common.{◌∷◌, length, take, position, slice_get, Option, Some, None, option_map, refl, sym, ap, ◌∙◌}
-use Rattle.std.proofs.Common.{arith}
-use Rattle.std.proofs.lemmas.List.{get_or-map, length-map}
-use Rattle.std.proofs.lemmas.List.Elements.{All-get_or}
-use Rattle.std.proofs.lemmas.List.Quantifiers.{position-Some}
-use Rattle.std.proofs.lemmas.Slice.Eq.{bytes_eq-Decides}
+use Rattle.std.proofs.Common.{◌≡◌, subst, ◌≢◌, All, Bool, true, get_or, ℕ, zero, suc, ◌<◌, false, if◌then◌else◌, List}
+use Rattle.std.proofs.Common.{[], ◌∷◌, length, take, position, slice_get, Option, Some, None, option_map, refl, sym, ap}
+use Rattle.std.proofs.{Common.{◌∙◌, arith}, lemmas.List.{get_or-map, length-map, Elements.All-get_or}}
+use Rattle.std.proofs.lemmas.{List.Quantifiers.position-Some, Slice.Eq.bytes_eq-Decides}
 use Rattle.std.proofs.lemmas.Option.{slice_get-map, slice_get-get_or, none-some}
-use Rattle.std.specs.Option.{option_map_or, option_and_then}
-use Rattle.std.specs.Str.{bytes_eq}
-use Rattle.race_records.specs.declared.kind.Kind.{Kind}
-use Rattle.race_records.specs.declared.kind.Object.{Object}
-use Rattle.race_records.specs.declared.names.Slot.{Slot}
-use Rattle.race_records.specs.declared.kind.Named.{Named}
+use Rattle.std.specs.{Option.{option_map_or, option_and_then}, Str.bytes_eq}
+use Rattle.race_records.specs.declared.{kind.{Kind.Kind, Object.Object, Named.Named}, names.Slot.Slot}
 use Rattle.race_records.specs.Declarations.{Declaration, count_of, declared_at, find_name, kind_of, named, of_kind}
-use Rattle.race_records.specs.Name.{main}
-use Rattle.race_records.specs.DeclsHold.{AreNumbered}
-use Rattle.race_records.specs.Rows.{declaration_of, declarations_of}
-use Rattle.race_records.specs.Tables.{Row, row, IndexesState, indexes_of, slot_named}
-use Rattle.race_records.proofs.TextLemmas.{position-map}
+use Rattle.race_records.specs.{Name.main, DeclsHold.AreNumbered, Rows.{declaration_of, declarations_of}, Tables.Row}
+use Rattle.race_records.{specs.Tables.{row, IndexesState, indexes_of, slot_named}, proofs.TextLemmas.position-map}
 
 option_map-option_map : {A B C : Type 0} (f : A → B) (g : B → C) (o : Option A) → option_map g (option_map f o) ≡ option_map (λ x. g (f x)) o
 option_map-option_map f g None = refl

@@ -1,9 +1,7 @@
 -- One more write of a loop that sends a text.
-use Rattle.std.proofs.Common.{◌≡◌, ℕ, ◌+◌, ◌-◌, ◌==◌, ◌&&◌, Bool, true, false, List, length, take, drop, Option, refl, sym, ap, subst, ◌∙◌, arith, length-drop}
-use Rattle.std.proofs.Math.Seq.{take-add, take-length}
-use Rattle.std.proofs.KnownBytes.{Appends-trans}
-use Rattle.std.proofs.lemmas.Bool.Decides.{nat_tests}
-use Rattle.std.specs.Io.KnownBytes.{Appends}
+use Rattle.std.proofs.Common.{◌≡◌, ℕ, ◌+◌, ◌-◌, ◌==◌, ◌&&◌, Bool, true, false, List, length, take, drop, Option, refl}
+use Rattle.std.proofs.{Common.{sym, ap, subst, ◌∙◌, arith, length-drop}, Math.Seq.{take-add, take-length}}
+use Rattle.std.{proofs.{KnownBytes.Appends-trans, lemmas.Bool.Decides.nat_tests}, specs.Io.KnownBytes.Appends}
 use Rattle.race_records.specs.Devices.{counted}
 
 -- what was sent, and then what one write took of the rest

@@ -1,18 +1,12 @@
 -- What keeps a trace a trace.
-use Rattle.std.proofs.Common.{◌≡◌, ℕ, ◌<◌, ◌≤◌, ◌&&◌, Bool, true, false, not, nat_le, List, [], ◌∷◌, ◌++◌}
-use Rattle.std.proofs.Common.{length, Option, Some, None, IsTrue, IfSome, if◌then◌else◌, refl, sym, subst}
-use Rattle.std.proofs.Common.{get_or, arith, All}
-use Rattle.std.proofs.lemmas.Bool.Decides.{nat_tests}
-use Rattle.std.proofs.lemmas.List.{length-append}
-use Rattle.std.proofs.lemmas.List.Elements.{All-push}
-use Rattle.std.proofs.lemmas.Option.{none-some}
-use Rattle.race_records.specs.declared.event.Event.{Event}
-use Rattle.race_records.specs.declared.trace.PushFault.{PushFault}
+use Rattle.std.proofs.Common.{◌≡◌, ℕ, ◌<◌, ◌≤◌, ◌&&◌, Bool, true, false, not, nat_le, List, [], ◌∷◌, ◌++◌, length}
+use Rattle.std.proofs.Common.{Option, Some, None, IsTrue, IfSome, if◌then◌else◌, refl, sym, subst, get_or, arith, All}
+use Rattle.std.proofs.lemmas.{Bool.Decides.nat_tests, List.{length-append, Elements.All-push}, Option.none-some}
+use Rattle.race_records.specs.declared.{event.Event.Event, trace.PushFault.PushFault}
 use Rattle.race_records.specs.declared.trace.PushFault.TheVariants.{BadNumber, WrongKind, Full}
-use Rattle.race_records.specs.declared.trace.TheConstants.{MAX_EVENTS}
-use Rattle.race_records.specs.Declarations.{Declaration, DeclsState, is_known, with_place}
-use Rattle.race_records.specs.declared.version.Version.{Version}
-use Rattle.race_records.specs.Events.{TraceState, IsTrace, is_in_range, is_right_kind, fits, op_is_limited, push_fault}
+use Rattle.race_records.specs.declared.{trace.TheConstants.MAX_EVENTS, version.Version.Version}
+use Rattle.race_records.specs.{Declarations.{Declaration, DeclsState, is_known, with_place}, Events.TraceState}
+use Rattle.race_records.specs.Events.{IsTrace, is_in_range, is_right_kind, fits, op_is_limited, push_fault}
 
 -- what no fault means for an event
 pub record IsAllowedEvent (trace : TraceState) (e : Event) : Type 0 where

@@ -1,17 +1,11 @@
 -- The table of names: what its entries say as rows.
-use Rattle.std.proofs.Common.{◌≡◌, ℕ, Bool, true, false, cond, ◌||◌, List, [], ◌∷◌, ◌++◌, map, position}
-use Rattle.std.proofs.Common.{slice_get, String, Option, Some, None, IsNone, option_map, refl, sym, ap, subst}
-use Rattle.std.proofs.Common.{◌∙◌, true≢false}
-use Rattle.std.proofs.lemmas.List.{map-append}
-use Rattle.std.proofs.lemmas.Option.{slice_get-map, none-some, same_Some}
-use Rattle.std.specs.List.{list_any, AllZip}
-use Rattle.std.specs.Str.{bytes_eq}
-use Rattle.std.specs.String.{string_bytes, string_eq}
+use Rattle.std.proofs.Common.{◌≡◌, ℕ, Bool, true, false, cond, ◌||◌, List, [], ◌∷◌, ◌++◌, map, position, slice_get}
+use Rattle.std.proofs.Common.{String, Option, Some, None, IsNone, option_map, refl, sym, ap, subst, ◌∙◌, true≢false}
+use Rattle.std.proofs.lemmas.{List.map-append, Option.{slice_get-map, none-some, same_Some}}
+use Rattle.std.specs.{List.{list_any, AllZip}, Str.bytes_eq, String.{string_bytes, string_eq}}
 use Rattle.indexmap.specs.IndexMap.{insert_entry}
-use Rattle.race_records.specs.declared.names.Slot.{Slot}
-use Rattle.race_records.specs.Declarations.{Declaration}
-use Rattle.race_records.specs.Rows.{declaration_of, declarations_of}
-use Rattle.race_records.specs.Tables.{Row, row}
+use Rattle.race_records.specs.{declared.names.Slot.Slot, Declarations.Declaration}
+use Rattle.race_records.specs.{Rows.{declaration_of, declarations_of}, Tables.{Row, row}}
 use Rattle.race_records.proofs.TextLemmas.{position-map, list_any-absent}
 
 module _ {Z : Type 0} where

@@ -1,12 +1,9 @@
 -- The table of what declarations say, and its way back.
 use Rattle.std.proofs.Common.{◌≡◌, ◌≤◌, ℕ, true, false, Option, Some, None, refl, sym, ap, arith}
-use Rattle.std.proofs.lemmas.Bool.Decides.{nat_tests}
-use Rattle.std.proofs.lemmas.Option.{none-some, same_Some}
-use Rattle.race_records.specs.declared.kind.Object.{Object}
-use Rattle.race_records.specs.declared.kind.TheConstants.{MAX_CAPACITY}
-use Rattle.race_records.specs.declared.nouns.Noun.{Noun}
-use Rattle.race_records.specs.Declarations.{kind_of, is_too_wide}
-use Rattle.race_records.specs.Nouns.{object_says, object_by, number_limit, kind_of_noun}
+use Rattle.std.proofs.lemmas.{Bool.Decides.nat_tests, Option.{none-some, same_Some}}
+use Rattle.race_records.specs.declared.{kind.{Object.Object, TheConstants.MAX_CAPACITY}, nouns.Noun.Noun}
+use Rattle.race_records.specs.{Declarations.{kind_of, is_too_wide}, Nouns.{object_says, object_by, number_limit}}
+use Rattle.race_records.specs.Nouns.{kind_of_noun}
 
 -- what the declaration of an object says leads back to it
 pub object_says_again : (object : Object) → object_by (object_says object).0 (object_says object).1 ≡ Some object

@@ -1,19 +1,13 @@
 -- What one more write makes of a text that is printed piece by piece.
-use Rattle.std.proofs.Common.{◌≡◌, ℕ, suc, ◌+◌, ◌-◌, ◌^◌, ◌<◌, ◌≤◌, min, List, [], ◌∷◌, ◌++◌, get_or, subst, length, take, drop, Option}
-use Rattle.std.proofs.Common.{Result, Ok, Err, OnOk, OnErr, IfErr, refl, sym, ap, ◌∙◌, arith, append-nil, append_assoc, length-append}
-use Rattle.std.proofs.Common.{length-drop}
-use Rattle.std.proofs.KnownBytes.{Appends-trans, Appends-nil}
-use Rattle.std.specs.Bool.{⊤}
-use Rattle.std.proofs.Math.Seq.{drop-cons}
-use Rattle.std.proofs.lemmas.Grind.{flat_map-append}
-use Rattle.std.specs.List.{flat_map}
-use Rattle.std.proofs.lemmas.List.{take_more, take-append-drop, length-take-le}
+use Rattle.std.proofs.Common.{◌≡◌, ℕ, suc, ◌+◌, ◌-◌, ◌^◌, ◌<◌, ◌≤◌, min, List, [], ◌∷◌, ◌++◌, get_or, subst, length}
+use Rattle.std.proofs.Common.{take, drop, Option, Result, Ok, Err, OnOk, OnErr, IfErr, refl, sym, ap, ◌∙◌, arith}
+use Rattle.std.proofs.Common.{append-nil, append_assoc, length-append, length-drop}
+use Rattle.std.proofs.{KnownBytes.{Appends-trans, Appends-nil}, Math.Seq.drop-cons, lemmas.Grind.flat_map-append}
+use Rattle.std.{proofs.lemmas.List.{take_more, take-append-drop, length-take-le}, specs.{Bool.⊤, List.flat_map}}
 use Rattle.std.specs.Io.KnownBytes.{Appends}
-use Rattle.race_records.specs.declared.sink.Sink.{Sink}
-use Rattle.race_records.specs.declared.sink.WriteFault.{WriteFault}
-use Rattle.race_records.specs.Devices.{written, sink_failures, one_more}
-use Rattle.race_records.specs.declared.page.TheConstants.{BLOCK}
-use Rattle.race_records.specs.Page.{PageState, IsPrinted, IsCutOff, Prints, BreaksOff, WaitsIfRoom, Printing, count_of_bytes}
+use Rattle.race_records.specs.declared.{sink.{Sink.Sink, WriteFault.WriteFault}, page.TheConstants.BLOCK}
+use Rattle.race_records.specs.{Devices.{written, sink_failures, one_more}, Page.{PageState, IsPrinted, IsCutOff}}
+use Rattle.race_records.specs.Page.{Prints, BreaksOff, WaitsIfRoom, Printing, count_of_bytes}
 
 -- a count goes on where it stopped
 counted_more : (sent : ℕ) (out bytes : List ℕ) (more : ℕ) → sent ≡ count_of_bytes (length out) → more ≡ length bytes

@@ -1,16 +1,12 @@
 -- The table of what operations say, and its way back. Where a proof has a last line `_`, it serves all operations that no line before it names.
-use Rattle.std.proofs.Common.{◌≡◌, ◌∙◌, ℕ, Bool, false, if◌then◌else◌, option_map, List, [], ◌∷◌, Option, Some, None, true, true≢false, refl, sym, ap}
-use Rattle.std.proofs.lemmas.Option.{none-some, same_Some}
-use Rattle.race_records.specs.declared.event.Op.{Op}
-use Rattle.race_records.specs.declared.event.Op.TheVariants.{Go, Exit, Read, Write, Send, Recv, Meet}
-use Rattle.race_records.specs.declared.event.Op.TheVariants.{RecvClosed, Close, Default, Lock, Unlock, RLock}
-use Rattle.race_records.specs.declared.event.Op.TheVariants.{RUnlock, TryLock, TryRLock, TryFail, OnceBegin, OnceEnd, OnceDone, Fault}
-use Rattle.race_records.specs.declared.kind.Kind.{Kind}
-use Rattle.race_records.specs.declared.kind.Named.{Named}
-use Rattle.race_records.specs.Declarations.{is_named, number_of}
-use Rattle.race_records.specs.declared.parts.Part.{Part}
-use Rattle.race_records.specs.declared.parts.Verb.{Verb}
-use Rattle.race_records.specs.Parts.{says, op_by, object_alone, object_value, exit_of, meet_of, default_of, fault_of, suit, part_kinds}
+use Rattle.std.proofs.Common.{◌≡◌, ◌∙◌, ℕ, Bool, false, if◌then◌else◌, option_map, List, [], ◌∷◌, Option, Some, None}
+use Rattle.std.proofs.{Common.{true, true≢false, refl, sym, ap}, lemmas.Option.{none-some, same_Some}}
+use Rattle.race_records.specs.declared.event.Op.{Op, TheVariants.{Go, Exit, Read, Write, Send, Recv, Meet, RecvClosed}}
+use Rattle.race_records.specs.declared.event.Op.TheVariants.{Close, Default, Lock, Unlock, RLock, RUnlock, TryLock}
+use Rattle.race_records.specs.declared.event.Op.TheVariants.{TryRLock, TryFail, OnceBegin, OnceEnd, OnceDone, Fault}
+use Rattle.race_records.specs.declared.{kind.{Kind.Kind, Named.Named}, parts.{Part.Part, Verb.Verb}}
+use Rattle.race_records.specs.{Declarations.{is_named, number_of}, Parts.{says, op_by, object_alone, object_value}}
+use Rattle.race_records.specs.Parts.{exit_of, meet_of, default_of, fault_of, suit, part_kinds}
 
 -- what an operation says leads back to it
 pub says_again : (op : Op) → op_by (says op).0 (says op).1 ≡ Some op

@@ -1,20 +1,12 @@
 -- The table of places: a known place is never refused, and a new one keeps the table well formed.
-use Rattle.std.proofs.Common.{◌≡◌, ◌≢◌, ℕ, ◌<◌, Bool, true, false, not, nat_le, List, [], ◌∷◌, ◌++◌, length}
-use Rattle.std.proofs.Common.{get_or, Option, Some, None, IsTrue, if◌then◌else◌, refl, sym, subst, ◌∙◌, arith, All}
-use Rattle.std.proofs.Common.{true≢false}
-use Rattle.std.proofs.lemmas.Bool.Decides.{nat_tests}
-use Rattle.std.proofs.lemmas.List.{length-append}
-use Rattle.std.proofs.lemmas.List.Elements.{All-push}
-use Rattle.std.proofs.lemmas.List.Folds.{Any-from_list_any, list_any_at}
-use Rattle.std.proofs.lemmas.List.Quantifiers.{all_pairs_push}
-use Rattle.std.proofs.lemmas.Option.{none-some}
-use Rattle.std.proofs.lemmas.Slice.Eq.{bytes_eq-Decides}
-use Rattle.std.specs.Str.{bytes_eq}
-use Rattle.race_records.specs.declared.declarations.DeclFault.{DeclFault}
-use Rattle.race_records.specs.declared.declarations.DeclFault.TheVariants.{BadName, TooMany}
-use Rattle.race_records.specs.declared.declarations.TheConstants.{MAX_PLACES}
-use Rattle.race_records.specs.Name.{is_place}
-use Rattle.race_records.specs.Declarations.{DeclsState, IsWellFormed, is_known, place_fault, with_place}
+use Rattle.std.proofs.Common.{◌≡◌, ◌≢◌, ℕ, ◌<◌, Bool, true, false, not, nat_le, List, [], ◌∷◌, ◌++◌, length, get_or}
+use Rattle.std.proofs.Common.{Option, Some, None, IsTrue, if◌then◌else◌, refl, sym, subst, ◌∙◌, arith, All, true≢false}
+use Rattle.std.proofs.lemmas.{Bool.Decides.nat_tests, List.{length-append, Elements.All-push}}
+use Rattle.std.proofs.lemmas.List.{Folds.{Any-from_list_any, list_any_at}, Quantifiers.all_pairs_push}
+use Rattle.std.{proofs.lemmas.{Option.none-some, Slice.Eq.bytes_eq-Decides}, specs.Str.bytes_eq}
+use Rattle.race_records.specs.declared.declarations.DeclFault.{DeclFault, TheVariants.{BadName, TooMany}}
+use Rattle.race_records.specs.{declared.declarations.TheConstants.MAX_PLACES, Name.is_place, Declarations.DeclsState}
+use Rattle.race_records.specs.Declarations.{IsWellFormed, is_known, place_fault, with_place}
 
 -- a known place has a place's form
 known_is_place : (places : List (List ℕ)) (word : List ℕ) → All (λ (p : List ℕ). IsTrue (is_place p)) places → is_known places word ≡ true

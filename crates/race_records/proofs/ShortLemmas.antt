@@ -2,25 +2,15 @@
 use Rattle.std.proofs.Common.{◌≡◌, ℕ, zero, suc, ◌+◌, ◌-◌, ◌*◌, ◌^◌, ◌%◌, min, get_or, bit_and, ◌<◌, ◌≤◌, nat_lt}
 use Rattle.std.proofs.Common.{nat_le, eqb, cond, not, Bool, true, false, true≢false, if◌then◌else◌, List, [], ◌∷◌, ◌++◌}
 use Rattle.std.proofs.Common.{length, take, drop, position, slice_get, option_map, Option, Some, None, IsNone, refl}
-use Rattle.std.proofs.Common.{sym, ap, subst, ◌∙◌, arith, w64}
-use Rattle.std.specs.Int.{from_le_bytes, to_le_bytes, sum_through, byte_worth}
-use Rattle.std.proofs.Math.Nat.{mul-le-mul_right, pow-suc, pow-le-pow_right, mod-eq_of_lt, add-mul-mod_self_right, mul_assoc}
-use Rattle.std.proofs.lemmas.Nat.{le_bytes_8, and_mask, pow-add}
-use Rattle.std.proofs.lemmas.List.{length-take-le, length-drop, get_or-take, get_or_past, drop-take, drop_all, get_or-drop, ext_get_or}
-use Rattle.std.proofs.lemmas.Bool.Decides.{nat_tests}
-use Rattle.std.proofs.lemmas.Option.{none-some, same_Some, cond_some}
-use Rattle.std.proofs.lemmas.List.{length-append}
-use Rattle.std.proofs.lemmas.List.Folds.{position_or_len_push}
-use Rattle.std.proofs.lemmas.List.Quantifiers.{position-Some}
-use Rattle.std.proofs.lemmas.Slice.Eq.{bytes_eq-Decides}
-use Rattle.std.specs.List.{position_or_len}
-use Rattle.std.specs.Option.{option_and_then}
-use Rattle.std.proofs.lemmas.List.Elements.{All-weaker}
-use Rattle.std.specs.Str.{bytes_eq}
-use Rattle.race_records.specs.declared.names.Slot.{Slot}
-use Rattle.race_records.specs.declared.shorts.Key.{Key}
-use Rattle.race_records.specs.declared.shorts.Short.{Short}
-use Rattle.race_records.specs.Tables.{Row, row, slot_named}
+use Rattle.std.proofs.{Common.{sym, ap, subst, ◌∙◌, arith, w64}, Math.Nat.{mul-le-mul_right, pow-suc, pow-le-pow_right}}
+use Rattle.std.proofs.Math.Nat.{mod-eq_of_lt, add-mul-mod_self_right, mul_assoc}
+use Rattle.std.proofs.lemmas.{Nat.{le_bytes_8, and_mask, pow-add}, List.{length-take-le, length-drop, get_or-take}}
+use Rattle.std.proofs.lemmas.List.{get_or_past, drop-take, drop_all, get_or-drop, ext_get_or, length-append}
+use Rattle.std.proofs.lemmas.List.{Folds.position_or_len_push, Quantifiers.position-Some, Elements.All-weaker}
+use Rattle.std.proofs.lemmas.{Bool.Decides.nat_tests, Option.{none-some, same_Some, cond_some}}
+use Rattle.std.{proofs.lemmas.Slice.Eq.bytes_eq-Decides, specs.Int.{from_le_bytes, to_le_bytes, sum_through}}
+use Rattle.std.specs.{Int.byte_worth, List.position_or_len, Option.option_and_then, Str.bytes_eq}
+use Rattle.race_records.specs.{declared.{names.Slot.Slot, shorts.{Key.Key, Short.Short}}, Tables.{Row, row, slot_named}}
 use Rattle.race_records.specs.Shorts.{front_of, back_of, short_key, key_in, AreBytes, IsNoted, AreNoted}
 use Rattle.race_records.proofs.ListLemmas.{slice_get-push_within, slice_get-push_last}
 

@@ -1,10 +1,7 @@
 -- Bytes that can be seen are text.
 use Rattle.std.proofs.Common.{◌≡◌, ℕ, ◌<◌, ◌&&◌, Bool, true, false, List, [], ◌∷◌, refl, sym, arith, true≢false}
-use Rattle.std.proofs.lemmas.Bool.Decides.{nat_tests}
-use Rattle.std.proofs.lemmas.Str.{IsUtf8-from_ascii}
-use Rattle.std.proofs.lemmas.Str.Ascii.{IsAscii-nil, IsAscii-cons}
-use Rattle.std.specs.List.{list_all}
-use Rattle.std.specs.Str.{IsUtf8, IsAscii}
+use Rattle.std.proofs.lemmas.{Bool.Decides.nat_tests, Str.{IsUtf8-from_ascii, Ascii.{IsAscii-nil, IsAscii-cons}}}
+use Rattle.std.specs.{List.list_all, Str.{IsUtf8, IsAscii}}
 use Rattle.race_records.specs.Name.{is_place_byte}
 
 both : (a b : Bool) → (a && b) ≡ true → (a ≡ true) × (b ≡ true)

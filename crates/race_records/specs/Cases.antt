@@ -1,13 +1,9 @@
 -- What the numbers of a list of cases stand for, and which lists of cases are equal.
-use Rattle.std.proofs.Common.{◌≡◌, ℕ, ◌/◌, ◌%◌, ◌==◌, ◌&&◌, Bool, true, false, if◌then◌else◌, nat_lt}
-use Rattle.std.proofs.Common.{List, [], ◌∷◌, Option, Some, None, Decides, refl, sym, ap}
-use Rattle.std.proofs.Common.{true≢false}
-use Rattle.std.proofs.lemmas.Bool.Decides.{Decides-eqb}
-use Rattle.std.proofs.lemmas.Slice.Eq.{slice_eq-Decides}
-use Rattle.std.specs.Cmp.Lexicographic.{pointwise}
-use Rattle.std.specs.Cmp.{IsEquivalence, IsPartialEquivalence, partial_equiv_from_equiv, decided}
-use Rattle.race_records.specs.declared.cases.Case.{Case}
-use Rattle.race_records.specs.declared.cases.Dir.{Dir}
+use Rattle.std.proofs.Common.{◌≡◌, ℕ, ◌/◌, ◌%◌, ◌==◌, ◌&&◌, Bool, true, false, if◌then◌else◌, nat_lt, List, [], ◌∷◌}
+use Rattle.std.proofs.{Common.{Option, Some, None, Decides, refl, sym, ap, true≢false}, lemmas.Bool.Decides.Decides-eqb}
+use Rattle.std.{proofs.lemmas.Slice.Eq.slice_eq-Decides, specs.Cmp.{IsEquivalence, IsPartialEquivalence}}
+use Rattle.std.specs.Cmp.{partial_equiv_from_equiv, decided, Lexicographic.pointwise}
+use Rattle.race_records.specs.declared.cases.{Case.Case, Dir.Dir}
 
 -- the channel that the number stands for, which is nil where the bit is 1
 abbrev pub chan_of : ℕ → ℕ → Option ℕ

@@ -1,19 +1,13 @@
 -- What a list of declarations and a table of places say to a caller: numbers, names, and when an addition is refused.
-use Rattle.std.specs.Prelude.{◌≡◌, ◌≢◌, ℕ, ◌+◌, ◌-◌, ◌<◌, ◌≤◌, ◌==◌, Bool, true, false, not, if◌then◌else◌, nat_le, nat_lt, List, [], ◌∷◌}
-use Rattle.std.specs.Prelude.{◌++◌, length, filter, take, position, slice_get, Option, Some, None, is_some, option_and_then, IsTrue, All}
-use Rattle.std.specs.Prelude.{AllPairs}
-use Rattle.std.specs.List.{list_any, position_or_len}
-use Rattle.std.specs.Option.{option_map, option_map_or}
-use Rattle.std.specs.Str.{bytes_eq}
-use Rattle.race_records.specs.declared.kind.Kind.{Kind}
-use Rattle.race_records.specs.declared.kind.Named.{Named}
-use Rattle.race_records.specs.declared.kind.Object.{Object}
-use Rattle.race_records.specs.declared.declarations.DeclFault.{DeclFault}
-use Rattle.race_records.specs.declared.declarations.DeclFault.TheVariants.{BadName, Taken, TooMany, BadCapacity}
+use Rattle.std.specs.Prelude.{◌≡◌, ◌≢◌, ℕ, ◌+◌, ◌-◌, ◌<◌, ◌≤◌, ◌==◌, Bool, true, false, not, if◌then◌else◌, nat_le}
+use Rattle.std.specs.Prelude.{nat_lt, List, [], ◌∷◌, ◌++◌, length, filter, take, position, slice_get, Option, Some}
+use Rattle.std.specs.{Prelude.{None, is_some, option_and_then, IsTrue, All, AllPairs}, List.{list_any, position_or_len}}
+use Rattle.std.specs.{Option.{option_map, option_map_or}, Str.bytes_eq}
+use Rattle.race_records.specs.declared.kind.{Kind.Kind, Named.Named, Object.Object}
 use Rattle.race_records.specs.declared.kind.TheConstants.{MAX_GOROUTINES, MAX_OBJECTS, MAX_CAPACITY}
-use Rattle.race_records.specs.declared.declarations.TheConstants.{MAX_PLACES}
-use Rattle.race_records.specs.declared.version.Version.{Version}
-use Rattle.race_records.specs.Name.{main, is_name, is_place}
+use Rattle.race_records.specs.declared.declarations.DeclFault.{DeclFault, TheVariants.{BadName, Taken, TooMany}}
+use Rattle.race_records.specs.declared.declarations.{DeclFault.TheVariants.BadCapacity, TheConstants.MAX_PLACES}
+use Rattle.race_records.specs.{declared.version.Version.Version, Name.{main, is_name, is_place}}
 
 -- a name, and what it is declared as
 pub record Declaration : Type 0 where

@@ -1,9 +1,7 @@
 -- What the fields of a `Decls` stand for, and what holds of them.
 use Rattle.std.specs.Prelude.{◌≡◌, ℕ, List, length, take, slice_get, Some}
-use Rattle.race_records.specs.declared.kind.Kind.{Kind}
-use Rattle.race_records.specs.declared.declarations.Decls.TheInside.{Inside}
-use Rattle.race_records.specs.Declarations.{DeclsState, IsWellFormed, kind_of, of_kind, count_of}
-use Rattle.race_records.specs.Rows.{declarations_of}
+use Rattle.race_records.specs.{declared.{kind.Kind.Kind, declarations.Decls.TheInside.Inside}, Declarations.DeclsState}
+use Rattle.race_records.specs.{Declarations.{IsWellFormed, kind_of, of_kind, count_of}, Rows.declarations_of}
 use Rattle.race_records.specs.Tables.{Row, IndexesState, indexes_of}
 
 -- the indexes lead, in order, to just those of the list that stand in part

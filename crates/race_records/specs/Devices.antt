@@ -1,7 +1,7 @@
 -- What a reader and a writer show that count their calls.
-use Rattle.std.specs.Prelude.{ℕ, ◌+◌, ◌-◌, ◌^◌, ◌==◌, ◌&&◌, Bool, true, false, min, not, if◌then◌else◌, List, length, Option, Result, Ok, Err}
-use Rattle.race_records.specs.declared.source.Source.{Source}
-use Rattle.race_records.specs.declared.sink.Sink.{Sink}
+use Rattle.std.specs.Prelude.{ℕ, ◌+◌, ◌-◌, ◌^◌, ◌==◌, ◌&&◌, Bool, true, false, min, not, if◌then◌else◌, List, length}
+use Rattle.std.specs.Prelude.{Option, Result, Ok, Err}
+use Rattle.race_records.specs.declared.{source.Source.Source, sink.Sink.Sink}
 
 -- the reader itself
 abbrev pub reader_of : {R : Type 0} → Source R → R

@@ -1,13 +1,9 @@
 -- What `==` of two `Decls` tests, and that it holds just where the versions and the lists of declarations are equal.
 use Rattle.std.proofs.Common.{◌≡◌, ◌==◌, ◌&&◌, Bool, true, false, List, Decides, refl, sym, ap, true≢false}
-use Rattle.std.proofs.lemmas.Bool.Decides.{Decides-eqb}
-use Rattle.std.proofs.lemmas.Slice.Eq.{bytes_eq-Decides, slice_eq-Decides}
-use Rattle.std.specs.Bool.{beq}
-use Rattle.std.specs.Cmp.Lexicographic.{pointwise}
+use Rattle.std.{proofs.lemmas.{Bool.Decides.Decides-eqb, Slice.Eq.{bytes_eq-Decides, slice_eq-Decides}}, specs.Bool.beq}
 use Rattle.std.specs.Cmp.{IsPartialEquivalence, partial_equiv_from_equiv, decided, on_per, booleans_Decides}
-use Rattle.std.specs.Str.{bytes_eq}
-use Rattle.race_records.specs.declared.kind.Object.{Object}
-use Rattle.race_records.specs.declared.version.Version.{Version}
+use Rattle.std.specs.{Cmp.Lexicographic.pointwise, Str.bytes_eq}
+use Rattle.race_records.specs.declared.{kind.Object.Object, version.Version.Version}
 use Rattle.race_records.specs.Declarations.{Declaration, DeclsState}
 
 -- the two are declared alike

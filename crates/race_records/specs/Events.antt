@@ -1,16 +1,11 @@
 -- Which events fit the declarations, and when a trace takes one.
-use Rattle.std.specs.Prelude.{◌≡◌, ℕ, ◌≤◌, ◌&&◌, Bool, true, not, if◌then◌else◌, nat_lt, nat_le, List, length, Option, Some, None, IsTrue, All}
-use Rattle.std.specs.List.{list_all}
-use Rattle.std.specs.Option.{option_map_or}
-use Rattle.race_records.specs.declared.event.Event.{Event}
-use Rattle.race_records.specs.declared.event.Op.{Op}
-use Rattle.race_records.specs.declared.kind.Kind.{Kind}
-use Rattle.race_records.specs.declared.trace.PushFault.{PushFault}
+use Rattle.std.specs.Prelude.{◌≡◌, ℕ, ◌≤◌, ◌&&◌, Bool, true, not, if◌then◌else◌, nat_lt, nat_le, List, length, Option}
+use Rattle.std.specs.{Prelude.{Some, None, IsTrue, All}, List.list_all, Option.option_map_or}
+use Rattle.race_records.specs.declared.{event.{Event.Event, Op.Op}, kind.Kind.Kind, trace.PushFault.PushFault}
 use Rattle.race_records.specs.declared.trace.PushFault.TheVariants.{BadNumber, WrongKind, Full}
-use Rattle.race_records.specs.declared.trace.TheConstants.{MAX_EVENTS}
-use Rattle.race_records.specs.Declarations.{Declaration, DeclsState, count_of, counts_of, is_rw}
-use Rattle.race_records.specs.declared.version.Version.{Version}
-use Rattle.race_records.specs.Parts.{says, has_verb, has_two_places, op_is_in_range, part_is_limited, rwmutex_of}
+use Rattle.race_records.specs.declared.{trace.TheConstants.MAX_EVENTS, version.Version.Version}
+use Rattle.race_records.specs.{Declarations.{Declaration, DeclsState, count_of, counts_of, is_rw}, Parts.says}
+use Rattle.race_records.specs.Parts.{has_verb, has_two_places, op_is_in_range, part_is_limited, rwmutex_of}
 
 -- the numbers that the operation names are declared, each of its kind
 abbrev pub op_fits : List Declaration → Op → Bool

@@ -1,8 +1,6 @@
 -- Which words are names, and which are places in a source.
-use Rattle.std.specs.Prelude.{ℕ, ◌==◌, ◌||◌, ◌&&◌, not, Bool, List, length, nat_le, codes}
-use Rattle.std.specs.List.{list_all}
-use Rattle.std.specs.Str.{bytes_eq}
-use Rattle.std.specs.Char.{is_ascii_alphanumeric}
+use Rattle.std.specs.{Prelude.{ℕ, ◌==◌, ◌||◌, ◌&&◌, not, Bool, List, length, nat_le, codes}, List.list_all}
+use Rattle.std.specs.{Str.bytes_eq, Char.is_ascii_alphanumeric}
 use Rattle.race_records.specs.declared.name.TheConstants.{MAX_NAME_LEN, MAX_PLACE_LEN}
 
 -- the word `main`, which names goroutine 0

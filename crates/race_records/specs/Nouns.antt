@@ -1,9 +1,6 @@
 -- What each declaration says: its word, and the number behind the name where it has one.
 use Rattle.std.specs.Prelude.{ℕ, true, false, Option, Some, None}
-use Rattle.race_records.specs.declared.kind.Kind.{Kind}
-use Rattle.race_records.specs.declared.kind.Object.{Object}
-use Rattle.race_records.specs.declared.kind.TheConstants.{MAX_CAPACITY}
-use Rattle.race_records.specs.declared.nouns.Noun.{Noun}
+use Rattle.race_records.specs.declared.{kind.{Kind.Kind, Object.Object, TheConstants.MAX_CAPACITY}, nouns.Noun.Noun}
 
 -- what the declaration of an object says
 abbrev pub object_says : Object → Noun × Option ℕ

@@ -1,13 +1,8 @@
 -- A text that is printed piece by piece: what is out, and what waits for the next write.
-use Rattle.std.specs.Prelude.{◌≡◌, ℕ, ◌+◌, ◌-◌, ◌^◌, ◌<◌, ◌≤◌, min, List, ◌++◌, length, Option, Result, IsOk, OnOk, OnErr, IfErr}
-use Rattle.std.specs.Bool.{⊤}
-use Rattle.std.specs.Borrow.{Bor}
-use Rattle.std.specs.List.{flat_map}
-use Rattle.std.specs.Io.KnownBytes.{Appends}
-use Rattle.race_records.specs.declared.sink.Sink.{Sink}
-use Rattle.race_records.specs.declared.sink.WriteFault.{WriteFault}
+use Rattle.std.specs.Prelude.{◌≡◌, ℕ, ◌+◌, ◌-◌, ◌^◌, ◌<◌, ◌≤◌, min, List, ◌++◌, length, Option, Result, IsOk, OnOk}
+use Rattle.std.specs.{Prelude.{OnErr, IfErr}, Bool.⊤, Borrow.Bor, List.flat_map, Io.KnownBytes.Appends}
+use Rattle.race_records.specs.declared.{sink.{Sink.Sink, WriteFault.WriteFault}, page.TheConstants.BLOCK}
 use Rattle.race_records.specs.Devices.{written, sink_failures, one_more}
-use Rattle.race_records.specs.declared.page.TheConstants.{BLOCK}
 
 -- the bytes that wait, and how many are out
 pub record PageState : Type 0 where

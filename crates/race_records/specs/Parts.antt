@@ -1,23 +1,14 @@
 -- What each operation says: its word, and its parts in the order of its text.
-use Rattle.std.specs.Prelude.{◌≡◌, ℕ, ◌≤◌, ◌^◌, ◌&&◌, Bool, true, false, if◌then◌else◌, nat_lt, nat_le, List, [], ◌∷◌, length, Option, Some, None}
-use Rattle.std.specs.List.{list_all}
-use Rattle.std.specs.Option.{option_map, option_map_or}
-use Rattle.race_records.specs.declared.event.Op.{Op}
-use Rattle.race_records.specs.declared.event.Op.TheVariants.{Go, Exit, Read, Write, Send, Recv, Meet}
-use Rattle.race_records.specs.declared.event.Op.TheVariants.{RecvClosed, Close, Default, Lock, Unlock, RLock}
-use Rattle.race_records.specs.declared.event.Op.TheVariants.{RUnlock, TryLock, TryRLock, TryFail, OnceBegin, OnceEnd, OnceDone, Fault}
-use Rattle.race_records.specs.declared.event.Cause.{Cause}
-use Rattle.race_records.specs.declared.event.Cause.TheVariants.{SendClosed, CloseClosed, CloseNil, UnlockFree, RUnlockFree}
-use Rattle.race_records.specs.declared.cases.Case.{Case}
-use Rattle.race_records.specs.declared.cases.TheConstants.{MAX_CASES}
-use Rattle.race_records.specs.Cases.{kept}
-use Rattle.race_records.specs.declared.kind.Kind.{Kind}
-use Rattle.race_records.specs.declared.kind.Named.{Named}
-use Rattle.race_records.specs.declared.parts.Part.{Part}
-use Rattle.race_records.specs.declared.parts.PartKind.{PartKind}
-use Rattle.race_records.specs.declared.parts.Verb.{Verb}
-use Rattle.race_records.specs.declared.version.Version.{Version}
-use Rattle.race_records.specs.Declarations.{Declaration, kind_of_named, is_named, number_of, counts_of}
+use Rattle.std.specs.Prelude.{◌≡◌, ℕ, ◌≤◌, ◌^◌, ◌&&◌, Bool, true, false, if◌then◌else◌, nat_lt, nat_le, List, [], ◌∷◌}
+use Rattle.std.specs.{Prelude.{length, Option, Some, None}, List.list_all, Option.{option_map, option_map_or}}
+use Rattle.race_records.specs.declared.event.Op.{Op, TheVariants.{Go, Exit, Read, Write, Send, Recv, Meet, RecvClosed}}
+use Rattle.race_records.specs.declared.event.Op.TheVariants.{Close, Default, Lock, Unlock, RLock, RUnlock, TryLock}
+use Rattle.race_records.specs.declared.event.Op.TheVariants.{TryRLock, TryFail, OnceBegin, OnceEnd, OnceDone, Fault}
+use Rattle.race_records.specs.declared.event.Cause.{Cause, TheVariants.{SendClosed, CloseClosed, CloseNil, UnlockFree}}
+use Rattle.race_records.specs.declared.{event.Cause.TheVariants.RUnlockFree, cases.{Case.Case, TheConstants.MAX_CASES}}
+use Rattle.race_records.specs.declared.{kind.{Kind.Kind, Named.Named}, parts.{Part.Part, PartKind.PartKind, Verb.Verb}}
+use Rattle.race_records.specs.{declared.version.Version.Version, Cases.kept, Declarations.{Declaration, kind_of_named}}
+use Rattle.race_records.specs.Declarations.{is_named, number_of, counts_of}
 
 -- what the operation says
 abbrev pub says : Op → Verb × List Part

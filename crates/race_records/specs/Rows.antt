@@ -1,7 +1,6 @@
 -- The declarations that the table of names tells.
 use Rattle.std.specs.Prelude.{List, map}
-use Rattle.race_records.specs.Declarations.{Declaration}
-use Rattle.race_records.specs.Tables.{Row}
+use Rattle.race_records.specs.{Declarations.Declaration, Tables.Row}
 
 -- the declaration that a row of the table of names tells
 abbrev pub declaration_of : Row → Declaration

@@ -1,9 +1,7 @@
 -- A table of short names that are found by their bytes alone: what it may say of the table of all names.
-use Rattle.std.specs.Prelude.{◌≡◌, ◌<◌, ◌≤◌, ◌*◌, ℕ, max, nat_le, if◌then◌else◌, List, length, drop, get_or, All, Option, Some, None}
-use Rattle.std.specs.Int.{from_le_bytes, w64}
-use Rattle.race_records.specs.declared.shorts.Key.{Key}
-use Rattle.race_records.specs.declared.shorts.Short.{Short}
-use Rattle.race_records.specs.Tables.{Row, slot_named}
+use Rattle.std.specs.Prelude.{◌≡◌, ◌<◌, ◌≤◌, ◌*◌, ℕ, max, nat_le, if◌then◌else◌, List, length, drop, get_or, All}
+use Rattle.std.specs.{Prelude.{Option, Some, None}, Int.{from_le_bytes, w64}}
+use Rattle.race_records.specs.{declared.shorts.{Key.Key, Short.Short}, Tables.{Row, slot_named}}
 
 -- the first eight bytes as a number, the lowest first, 0 for each that isn't there
 abbrev pub front_of : List ℕ → ℕ

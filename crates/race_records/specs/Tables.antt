@@ -1,9 +1,7 @@
 -- The private tables under a `Decls`: names with what they stand for, and where the objects of each kind stand.
-use Rattle.std.specs.Prelude.{ℕ, List, [], ◌∷◌, ◌++◌, Option, position, slice_get, option_map}
-use Rattle.std.specs.Option.{option_and_then}
+use Rattle.std.specs.{Prelude.{ℕ, List, [], ◌∷◌, ◌++◌, Option, position, slice_get, option_map}, Option.option_and_then}
 use Rattle.std.specs.Str.{bytes_eq}
-use Rattle.race_records.specs.declared.kind.Kind.{Kind}
-use Rattle.race_records.specs.declared.names.Slot.{Slot}
+use Rattle.race_records.specs.declared.{kind.Kind.Kind, names.Slot.Slot}
 
 -- one row of the table of names
 pub record Row : Type 0 where

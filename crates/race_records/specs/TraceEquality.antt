@@ -1,21 +1,16 @@
 -- What `==` of two `Trace`s tests, and that it holds just where the two record the same.
-use Rattle.std.proofs.Common.{◌≡◌, ◌==◌, ◌&&◌, ℕ, Bool, true, false, List, Option, Some, None, map, slice_get, Decides, refl, sym, ap, true≢false}
-use Rattle.std.proofs.lemmas.Bool.Decides.{Decides-eqb}
-use Rattle.std.proofs.lemmas.Slice.Eq.{bytes_eq-Decides, slice_eq-Decides}
-use Rattle.std.specs.Option.{option_and_then}
-use Rattle.std.specs.Cmp.Lexicographic.{pointwise}
-use Rattle.std.specs.Cmp.{IsPartialEquivalence, partial_equiv_from_equiv, decided, on_per}
+use Rattle.std.proofs.Common.{◌≡◌, ◌==◌, ◌&&◌, ℕ, Bool, true, false, List, Option, Some, None, map, slice_get, Decides}
+use Rattle.std.proofs.{Common.{refl, sym, ap, true≢false}, lemmas.Bool.Decides.Decides-eqb}
+use Rattle.std.{proofs.lemmas.Slice.Eq.{bytes_eq-Decides, slice_eq-Decides}, specs.Option.option_and_then}
+use Rattle.std.specs.Cmp.{IsPartialEquivalence, partial_equiv_from_equiv, decided, on_per, Lexicographic.pointwise}
 use Rattle.std.specs.Str.{bytes_eq}
-use Rattle.race_records.specs.declared.event.Event.{Event}
-use Rattle.race_records.specs.declared.event.Op.{Op}
-use Rattle.race_records.specs.declared.event.Op.TheVariants.{Go, Exit, Read, Write, Send, Recv, Meet}
-use Rattle.race_records.specs.declared.event.Op.TheVariants.{RecvClosed, Close, Default, Lock, Unlock, RLock}
-use Rattle.race_records.specs.declared.event.Op.TheVariants.{RUnlock, TryLock, TryRLock, TryFail, OnceBegin, OnceEnd, OnceDone, Fault}
-use Rattle.race_records.specs.declared.event.Cause.{Cause}
-use Rattle.race_records.specs.declared.event.Cause.TheVariants.{SendClosed, CloseClosed, CloseNil, UnlockFree, RUnlockFree}
-use Rattle.race_records.specs.Cases.{same_cases, same_cases-Decides}
-use Rattle.race_records.specs.Events.{TraceState}
-use Rattle.race_records.specs.Equality.{Declared, declared, same_declared, same_declared-Decides}
+use Rattle.race_records.specs.declared.event.{Event.Event, Op.{Op, TheVariants.{Go, Exit, Read, Write, Send, Recv}}}
+use Rattle.race_records.specs.declared.event.Op.TheVariants.{Meet, RecvClosed, Close, Default, Lock, Unlock, RLock}
+use Rattle.race_records.specs.declared.event.Op.TheVariants.{RUnlock, TryLock, TryRLock, TryFail, OnceBegin, OnceEnd}
+use Rattle.race_records.specs.declared.event.{Op.TheVariants.{OnceDone, Fault}, Cause.{Cause, TheVariants.SendClosed}}
+use Rattle.race_records.specs.declared.event.Cause.TheVariants.{CloseClosed, CloseNil, UnlockFree, RUnlockFree}
+use Rattle.race_records.specs.{Cases.{same_cases, same_cases-Decides}, Events.TraceState, Equality.{Declared, declared}}
+use Rattle.race_records.specs.Equality.{same_declared, same_declared-Decides}
 
 -- an event with the texts of its places
 pub record PlacedEvent : Type 0 where

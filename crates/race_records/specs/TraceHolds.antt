@@ -1,7 +1,6 @@
 -- What the fields of a `Trace` stand for, and what holds of them.
 use Rattle.std.specs.Prelude.{◌+◌, ◌≤◌, vec_len, vec_capacity}
-use Rattle.race_records.specs.declared.trace.Trace.TheInside.{Inside}
-use Rattle.race_records.specs.Declarations.{IsWellFormed}
+use Rattle.race_records.specs.{declared.trace.Trace.TheInside.Inside, Declarations.IsWellFormed}
 use Rattle.race_records.specs.Events.{TraceState, IsTrace}
 
 module _ {A : Type 0} where

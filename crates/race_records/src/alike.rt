@@ -1,6 +1,5 @@
 //! Which traces are equal.
-ghost use Rattle.std.specs.Prelude.{◌≡◌, ◌↔◌, ◌<◌, length, slice_get, IsTrue, IfSome};
-ghost use Rattle.std.specs.Option.{option_and_then};
+ghost use Rattle.std.specs.{Prelude.{◌≡◌, ◌↔◌, ◌<◌, length, slice_get, IsTrue, IfSome}, Option.option_and_then};
 ghost use Rattle.race_records.specs.TraceEquality.{placed_events, same_op, same_text};
 
 use crate::{Op, Trace};

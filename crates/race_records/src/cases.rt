@@ -1,7 +1,8 @@
 //! The cases of a select.
-ghost use Rattle.std.specs.Prelude.{◌≡◌, ◌<◌, ◌≤◌, ◌↔◌, [], ◌∷◌, ◌++◌, length, IsTrue, IfSome, Some, slice_get, IsErr, OnOk, OnErr};
-ghost use Rattle.race_records.specs.Cases as spec;
+ghost use Rattle.std.specs.Prelude.{◌≡◌, ◌<◌, ◌≤◌, ◌↔◌, [], ◌∷◌, ◌++◌, length, IsTrue, IfSome, Some, slice_get, IsErr};
+ghost use Rattle.std.specs.Prelude.{OnOk, OnErr};
 ghost use Rattle.race_records.specs.Parts.{KeepsRange};
+ghost use Rattle.race_records.specs.Cases as spec;
 
 use std::marker::Model;
 use thiserror::Error;
@@ -54,8 +55,7 @@ pub struct Cases {
 
 impl Model for Cases {
     ghost use Rattle.std.specs.Prelude.{◌<◌, ◌≤◌, ◌^◌, List, take};
-    ghost use Rattle.race_records.specs.declared.cases.Case.{Case};
-    ghost use Rattle.race_records.specs.Cases.{cases_of};
+    ghost use Rattle.race_records.specs.{declared.cases.Case.Case, Cases.cases_of};
 
     ghost Value = { List Case };
 

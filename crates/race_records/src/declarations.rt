@@ -1,12 +1,9 @@
 //! The declarations of a trace, and its table of places.
-ghost use Rattle.std.specs.Prelude.{◌≡◌, ◌<◌, ◌≤◌, ◌↔◌, ℕ, [], length, take, IsTrue, true, false};
-ghost use Rattle.std.specs.Prelude.{Some, None, slice_get, IsOk, IfSome, IfNone, OnSome, IfOk};
-ghost use Rattle.std.specs.Prelude.{OnOk, OnErr};
-ghost use Rattle.std.specs.List.{list_all};
+ghost use Rattle.std.specs.Prelude.{◌≡◌, ◌<◌, ◌≤◌, ◌↔◌, ℕ, [], length, take, IsTrue, true, false, Some, None};
+ghost use Rattle.std.specs.{Prelude.{slice_get, IsOk, IfSome, IfNone, OnSome, IfOk, OnOk, OnErr}, List.list_all};
 ghost use Rattle.std.specs.Str.{bytes_eq};
-ghost use Rattle.race_records.specs.Name.{is_place_byte};
+ghost use Rattle.race_records.specs.{Name.is_place_byte, Refusal.{Refuses, AllowsUnless}};
 ghost use Rattle.race_records.specs.Declarations as spec;
-ghost use Rattle.race_records.specs.Refusal.{Refuses, AllowsUnless};
 
 use crate::indexes::Indexes;
 use crate::names::{Names, Slot};

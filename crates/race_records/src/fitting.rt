@@ -1,9 +1,8 @@
 //! Which events fit their declarations.
-ghost use Rattle.std.specs.Prelude.{◌≡◌, length, IsTrue};
-ghost use Rattle.std.specs.List.{list_all};
+ghost use Rattle.std.specs.{Prelude.{◌≡◌, length, IsTrue}, List.list_all};
+ghost use Rattle.race_records.specs.Parts.{part_fits, named_is_in_range, chan_is_in_range};
 ghost use Rattle.race_records.specs.Declarations as spec;
 ghost use Rattle.race_records.specs.Events as events;
-ghost use Rattle.race_records.specs.Parts.{part_fits, named_is_in_range, chan_is_in_range};
 
 use crate::{Cases, Cause, Decls, Event, Kind, Named, Op, Part, failed_at, rwmutex_of, says};
 use std::alloc::Allocator;

@@ -1,6 +1,5 @@
 //! Which words are names, and which are places in a source.
-ghost use Rattle.std.specs.Prelude.{◌≡◌, ◌<◌, ◌≤◌, true};
-ghost use Rattle.std.specs.List.{list_all};
+ghost use Rattle.std.specs.{Prelude.{◌≡◌, ◌<◌, ◌≤◌, true}, List.list_all};
 ghost use Rattle.race_records.specs.Name as spec;
 
 /// The most bytes of a name.

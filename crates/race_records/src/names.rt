@@ -1,10 +1,7 @@
 //! The table of names: what each was declared as, in the order of the declarations.
-ghost use Rattle.std.specs.Prelude.{◌≡◌, ◌<◌, ◌≤◌, take, IfSome, [], ◌∷◌, ◌++◌, length, ◌↔◌};
-ghost use Rattle.std.specs.Prelude.{Some, slice_get, position, option_map, IsTrue, IfOk, OnOk};
-ghost use Rattle.std.specs.Prelude.{OnErr, IsNone};
-ghost use Rattle.std.specs.Str.{bytes_eq};
-ghost use Rattle.race_records.specs.Rows.{declarations_of};
-ghost use Rattle.race_records.specs.Tables.{Row, row, slot_named};
+ghost use Rattle.std.specs.Prelude.{◌≡◌, ◌<◌, ◌≤◌, take, IfSome, [], ◌∷◌, ◌++◌, length, ◌↔◌, Some, slice_get, position};
+ghost use Rattle.std.specs.{Prelude.{option_map, IsTrue, IfOk, OnOk, OnErr, IsNone}, Str.bytes_eq};
+ghost use Rattle.race_records.specs.{Rows.declarations_of, Tables.{Row, row, slot_named}};
 
 use crate::Object;
 use crate::shorts::Shorts;
@@ -35,10 +32,8 @@ pub struct Names<A: Allocator> {
 }
 
 impl<A: Allocator> Model for Names<A> {
-    ghost use Rattle.std.specs.Prelude.{List, map};
-    ghost use Rattle.std.specs.String.{string_bytes};
-    ghost use Rattle.race_records.specs.Tables.{Row, row};
-    ghost use Rattle.race_records.specs.Shorts.{AreNoted};
+    ghost use Rattle.std.specs.{Prelude.{List, map}, String.string_bytes};
+    ghost use Rattle.race_records.specs.{Tables.{Row, row}, Shorts.AreNoted};
 
     ghost Value = { List Row };
 

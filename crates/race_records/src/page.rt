@@ -1,8 +1,9 @@
 //! A text on its way to a writer, gathered into blocks so that a short word costs no write.
-ghost use Rattle.std.specs.Prelude.{◌≡◌, ◌≤◌, ℕ, ◌+◌, ◌<◌, [], ◌++◌, length, min, ◌^◌, ◌-◌, List, Option, OnOk, OnErr, IfErr};
+ghost use Rattle.std.specs.Prelude.{◌≡◌, ◌≤◌, ℕ, ◌+◌, ◌<◌, [], ◌++◌, length, min, ◌^◌, ◌-◌, List, Option, OnOk, OnErr};
+ghost use Rattle.std.specs.Prelude.{IfErr};
 ghost use Rattle.arrayvec.specs.ArrayVec.{array_vec_len};
-ghost use Rattle.race_records.specs.Devices.{written, sink_failures, one_more};
-ghost use Rattle.race_records.specs.Page.{IsPrinted, IsCutOff, Printing, joined};
+ghost use Rattle.race_records.specs.{Devices.{written, sink_failures, one_more}, Page.{IsPrinted, IsCutOff, Printing}};
+ghost use Rattle.race_records.specs.Page.{joined};
 
 use crate::{Sink, WriteFault};
 use arrayvec::ArrayVec;

@@ -1,6 +1,6 @@
 //! The table of places: texts that each stand once, in the order in which they came.
-ghost use Rattle.std.specs.Prelude.{◌≡◌, ◌<◌, [], ◌∷◌, ◌++◌, length, Some, slice_get, position, IfOk, OnOk, OnErr, IsNone};
-ghost use Rattle.std.specs.Str.{bytes_eq};
+ghost use Rattle.std.specs.Prelude.{◌≡◌, ◌<◌, [], ◌∷◌, ◌++◌, length, Some, slice_get, position, IfOk, OnOk, OnErr};
+ghost use Rattle.std.specs.{Prelude.IsNone, Str.bytes_eq};
 
 use indexmap::IndexSet;
 use std::alloc::{AllocError, Allocator};
@@ -14,8 +14,7 @@ pub struct Places<A: Allocator> {
 }
 
 impl<A: Allocator> Model for Places<A> {
-    ghost use Rattle.std.specs.Prelude.{List, ℕ, map};
-    ghost use Rattle.std.specs.String.{string_bytes};
+    ghost use Rattle.std.specs.{Prelude.{List, ℕ, map}, String.string_bytes};
 
     ghost Value = { List (List ℕ) };
 

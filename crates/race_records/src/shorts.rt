@@ -1,10 +1,9 @@
 //! Short names with what they stand for, found by their bytes alone: one look at memory for a name,
 //! where a map has four.
-ghost use Rattle.std.specs.Prelude.{ℕ, ◌≡◌, ◌↔◌, ◌<◌, ◌≤◌, ◌-◌, ◌*◌, ◌^◌, min, [], List, length, take, Some, IfSome, IsTrue};
-ghost use Rattle.std.specs.Int.{from_le_bytes, w64};
-ghost use Rattle.race_records.specs.Tables.{Row, slot_named};
+ghost use Rattle.std.specs.Prelude.{ℕ, ◌≡◌, ◌↔◌, ◌<◌, ◌≤◌, ◌-◌, ◌*◌, ◌^◌, min, [], List, length, take, Some, IfSome};
+ghost use Rattle.std.specs.{Prelude.IsTrue, Int.{from_le_bytes, w64}};
+ghost use Rattle.race_records.specs.{Tables.{Row, slot_named}, Shorts.{AreBytes, AreNoted, IsNoted}};
 ghost use Rattle.race_records.specs.Shorts as spec;
-ghost use Rattle.race_records.specs.Shorts.{AreBytes, AreNoted, IsNoted};
 
 use crate::Object;
 use crate::names::Slot;

@@ -1,7 +1,6 @@
 //! A writer with a count of failures, and the loop that writes a whole text.
-ghost use Rattle.std.specs.Prelude.{◌≡◌, ◌<◌, length, take, IfErr, OnOk, OnErr};
+ghost use Rattle.std.specs.{Prelude.{◌≡◌, ◌<◌, length, take, IfErr, OnOk, OnErr}, Io.WritesAtMost};
 ghost use Rattle.std.specs.Io.KnownBytes.{WriteAppends, Appends};
-ghost use Rattle.std.specs.Io.{WritesAtMost};
 
 use std::io;
 use std::io::Write;

@@ -1,7 +1,5 @@
 //! A reader with a count of its reads, and of those that failed.
-ghost use Rattle.std.specs.Prelude.{◌≡◌};
-ghost use Rattle.std.specs.Io.KnownBytes.{ReadConsumes};
-ghost use Rattle.std.specs.Io.{ReadsAtMost};
+ghost use Rattle.std.specs.{Prelude.◌≡◌, Io.{ReadsAtMost, KnownBytes.ReadConsumes}};
 
 use std::io;
 use std::io::Read;
@@ -17,7 +15,8 @@ pub struct Source<R: Read> {
 }
 
 impl<R: Read> Source<R> {
-    ghost use Rattle.race_records.specs.Devices.{reader_of, unread, source_reads, source_failures, is_failed_read, counted, one_more};
+    ghost use Rattle.race_records.specs.Devices.{reader_of, unread, source_reads, source_failures, is_failed_read};
+    ghost use Rattle.race_records.specs.Devices.{counted, one_more};
 
     /// The reader with no read so far.
     pub fn new(reader: R) -> Source<R>

@@ -1,7 +1,8 @@
 //! A trace: declarations, and the events of a run in one order in which it could have gone.
-ghost use Rattle.std.specs.Prelude.{◌≡◌, ◌+◌, ◌-◌, ◌<◌, ◌≤◌, ◌↔◌, [], ◌∷◌, ◌++◌, length, IsTrue, Some, None, true, slice_get, vec_capacity, IsOk, IfOk, OnOk, OnErr};
-ghost use Rattle.race_records.specs.Declarations as declarations;
+ghost use Rattle.std.specs.Prelude.{◌≡◌, ◌+◌, ◌-◌, ◌<◌, ◌≤◌, ◌↔◌, [], ◌∷◌, ◌++◌, length, IsTrue, Some, None, true};
+ghost use Rattle.std.specs.Prelude.{slice_get, vec_capacity, IsOk, IfOk, OnOk, OnErr};
 ghost use Rattle.race_records.specs.Refusal.{Refuses, AllowsUnless};
+ghost use Rattle.race_records.specs.Declarations as declarations;
 ghost use Rattle.race_records.specs.Events as spec;
 
 use crate::{DeclFault, Decls, Event, Op, says};

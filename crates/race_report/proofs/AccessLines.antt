@@ -1,12 +1,9 @@
 -- The line of an access, from the words that are put into it.
-use Rattle.std.proofs.Common.{◌≡◌, ℕ, ◌+◌, ◌<◌, List, [], ◌∷◌, ◌++◌, length, codes, decimal, slice_get, Option, Some, None, IfSome, sym}
-use Rattle.std.specs.List.{concat}
-use Rattle.race_records.specs.declared.event.Event.{Event}
-use Rattle.race_records.specs.Events.{TraceState}
-use Rattle.race_records.proofs.ListLemmas.{slice_get-within}
+use Rattle.std.proofs.Common.{◌≡◌, ℕ, ◌+◌, ◌<◌, List, [], ◌∷◌, ◌++◌, length, codes, decimal, slice_get, Option, Some}
+use Rattle.std.{proofs.Common.{None, IfSome, sym}, specs.List.concat}
+use Rattle.race_records.{specs.{declared.event.Event.Event, Events.TraceState}, proofs.ListLemmas.slice_get-within}
 use Rattle.race_text.specs.Text.{goroutine_name}
-use Rattle.race_report.specs.Report.{access_word, newline}
-use Rattle.race_report.specs.Witness.{accessed_name, access_line}
+use Rattle.race_report.specs.{Report.{access_word, newline}, Witness.{accessed_name, access_line}}
 
 -- the words are those of the access at the index
 abbrev pub AreLineWordsOf : TraceState → ℕ → List ℕ → List ℕ → List ℕ → Type 0

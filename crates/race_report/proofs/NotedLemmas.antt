@@ -1,20 +1,15 @@
 -- The report from what is noted of a trace is the trace's.
 use Rattle.std.proofs.Common.{◌≡◌, suc, Bool, List, [], ◌∷◌, ◌++◌, All, map, refl, sym, ap, ◌∙◌, arith, IsTrue}
-use Rattle.std.specs.List.{flat_map}
-use Rattle.std.proofs.lemmas.List.{length-map}
-use Rattle.race_records.specs.declared.event.Op.{Op}
-use Rattle.race_records.specs.declared.event.Op.TheVariants.{Read, Write}
-use Rattle.race_records.specs.Declarations.{DeclsState}
+use Rattle.std.{proofs.lemmas.List.length-map, specs.List.flat_map}
+use Rattle.race_records.specs.{declared.event.Op.{Op, TheVariants.{Read, Write}}, Declarations.DeclsState}
 use Rattle.race_records.specs.Events.{TraceState}
 use Rattle.race_model.specs.Events.{is_access}
-use Rattle.race_verdict.specs.declared.notes.Noted.{Noted}
-use Rattle.race_verdict.specs.declared.notes.NotedRace.{NotedRace}
-use Rattle.race_verdict.specs.declared.notes.NotedVerdict.{NotedVerdict}
-use Rattle.race_verdict.specs.Accesses.{is_write}
-use Rattle.race_verdict.specs.Notes.{IsNoteOf, IsNotedRaceOf, IsNotedOf, race_noted, verdict_noted}
+use Rattle.race_verdict.specs.declared.notes.{Noted.Noted, NotedRace.NotedRace, NotedVerdict.NotedVerdict}
+use Rattle.race_verdict.specs.{Accesses.is_write, Notes.{IsNoteOf, IsNotedRaceOf, IsNotedOf, race_noted, verdict_noted}}
 use Rattle.race_text.specs.Text.{goroutine_name, place_text}
-use Rattle.race_report.specs.Report.{access_word, access_text, clean_line, clean_text, race_line, races_line, races_text, report}
-use Rattle.race_report.specs.Noted.{noted_word, access_noted, race_noted_line, races_noted_text, report_noted}
+use Rattle.race_report.specs.Report.{access_word, access_text, clean_line, clean_text, race_line, races_line}
+use Rattle.race_report.specs.{Report.{races_text, report}, Noted.{noted_word, access_noted, race_noted_line}}
+use Rattle.race_report.specs.Noted.{races_noted_text, report_noted}
 use Rattle.race_report.proofs.ReportLemmas.{access_text_is, race_line_is}
 
 -- the word for an access

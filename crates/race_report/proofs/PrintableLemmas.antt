@@ -1,30 +1,20 @@
 -- Races of a right verdict and edges of a trace have the trace's numbers, so they can be printed.
-use Rattle.std.proofs.Common.{◌≡◌, ℕ, ◌<◌, inl, inr, List, length, map, Option, Some, IfSome, slice_get, get_or, All, IsTrue, subst, ap, ◌∙◌, arith}
-use Rattle.std.proofs.lemmas.Bool.Decides.{nat_tests}
-use Rattle.std.proofs.lemmas.Option.{slice_get_within, slice_get-map, slice_get-get_or, get_or_from_slice_get}
-use Rattle.std.specs.Option.{option_map}
-use Rattle.race_records.specs.declared.event.Event.{Event}
-use Rattle.race_records.specs.declared.kind.Kind.{Kind}
-use Rattle.race_records.specs.Declarations.{DeclsState, count_of, counts_of}
-use Rattle.race_records.specs.Events.{TraceState, IsTrace, fits}
+use Rattle.std.proofs.Common.{◌≡◌, ℕ, ◌<◌, inl, inr, List, length, map, Option, Some, IfSome, slice_get, get_or, All}
+use Rattle.std.proofs.{Common.{IsTrue, subst, ap, ◌∙◌, arith}, lemmas.{Bool.Decides.nat_tests, Option.slice_get_within}}
+use Rattle.std.{proofs.lemmas.Option.{slice_get-map, slice_get-get_or, get_or_from_slice_get}, specs.Option.option_map}
+use Rattle.race_records.specs.declared.{event.Event.Event, kind.Kind.Kind}
+use Rattle.race_records.specs.{Declarations.{DeclsState, count_of, counts_of}, Events.{TraceState, IsTrace, fits}}
 use Rattle.race_legal.proofs.RangeLemmas.{range_from_fits}
-use Rattle.race_model.specs.Events.{partner}
-use Rattle.race_model.proofs.Indexes.{take_at_old}
-use Rattle.race_edges.specs.declared.listing.Edge.{Edge}
-use Rattle.race_edges.specs.Edges.{IsEdge, AreEdges}
-use Rattle.race_verdict.proofs.RangeLemmas.{range_in_trace, partner_in_range, race_declared}
+use Rattle.race_model.{specs.{Events.partner, Race.IsReportedRace}, proofs.Indexes.take_at_old}
+use Rattle.race_edges.specs.{declared.listing.Edge.Edge, Edges.{IsEdge, AreEdges}}
 use Rattle.race_edges.proofs.SynchronizedLemmas.{inside_pair}
-use Rattle.race_model.specs.Race.{IsReportedRace}
-use Rattle.race_model.specs.Verdict as model
-use Rattle.race_verdict.specs.declared.notes.Noted.{Noted}
-use Rattle.race_verdict.specs.declared.notes.NotedVerdict.{NotedVerdict}
-use Rattle.race_verdict.specs.declared.verdict.Verdict.{Verdict}
-use Rattle.race_verdict.specs.Notes.{IsNoteOf, IsNotedRaceOf, IsNotedOf, race_noted, verdict_noted}
-use Rattle.race_verdict.specs.declared.races.Race as tool
-use Rattle.race_verdict.specs.Races.{race_of}
-use Rattle.race_verdict.specs.Traces.{capacities, HasVerdict}
-use Rattle.race_verdict.specs.Verdicts.{verdict_of}
+use Rattle.race_verdict.proofs.RangeLemmas.{range_in_trace, partner_in_range, race_declared}
+use Rattle.race_verdict.specs.declared.{notes.{Noted.Noted, NotedVerdict.NotedVerdict}, verdict.Verdict.Verdict}
+use Rattle.race_verdict.specs.{Notes.{IsNoteOf, IsNotedRaceOf, IsNotedOf, race_noted, verdict_noted}, Races.race_of}
+use Rattle.race_verdict.specs.{Traces.{capacities, HasVerdict}, Verdicts.verdict_of}
 use Rattle.race_report.specs.Printable.{IsOf, RacesAreOf, IsNoteNamed, AreNamed, IsEdgeOf}
+use Rattle.race_model.specs.Verdict as model
+use Rattle.race_verdict.specs.declared.races.Race as tool
 
 module _ (trace : TraceState) (is_trace : IsTrace trace) where
   race_is_of : (caps : ℕ → ℕ) (race : model.Race) → IsReportedRace caps trace.events race.var race.first race.second → IsOf trace race

@@ -1,16 +1,14 @@
 -- The lines of a report, from the words that are put into them.
-use Rattle.std.proofs.Common.{◌≡◌, ℕ, take, ◌≤◌, List, [], ◌++◌, length, slice_get, Option, Some, None, map, sym, ap, ◌∙◌}
-use Rattle.std.specs.List.{flat_map}
-use Rattle.std.proofs.lemmas.List as lists
-use Rattle.std.proofs.lemmas.List.{length-map}
-use Rattle.race_records.specs.declared.event.Event.{Event}
-use Rattle.race_records.specs.Events.{TraceState}
-use Rattle.race_records.proofs.ListLemmas.{flat_map-map}
+use Rattle.std.proofs.Common.{◌≡◌, ℕ, take, ◌≤◌, List, [], ◌++◌, length, slice_get, Option, Some, None, map, sym, ap}
+use Rattle.std.{proofs.{Common.◌∙◌, lemmas.List.length-map}, specs.List.flat_map}
+use Rattle.race_records.{specs.{declared.event.Event.Event, Events.TraceState}, proofs.ListLemmas.flat_map-map}
 use Rattle.race_model.specs.Verdict.{Race}
 use Rattle.race_text.specs.Text.{goroutine_name, var_name, place_text}
-use Rattle.race_verdict.specs.declared.races.Race as tool
 use Rattle.race_verdict.specs.Races.{race_of}
-use Rattle.race_report.specs.Report.{races_line, races_text, access_told, access_text, access_word, race_told, race_line}
+use Rattle.race_report.specs.Report.{races_line, races_text, access_told, access_text, access_word, race_told}
+use Rattle.race_report.specs.Report.{race_line}
+use Rattle.std.proofs.lemmas.List as lists
+use Rattle.race_verdict.specs.declared.races.Race as tool
 
 -- the words for the event at the index
 pub access_text_is : (trace : TraceState) (index : ℕ) (e : Event) (what who place : List ℕ) → slice_get trace.events index ≡ Some e

@@ -1,11 +1,8 @@
 -- The report of a verdict that is noted, from the notes and the declarations.
-use Rattle.std.specs.Prelude.{ℕ, if◌then◌else◌, Bool, List, ◌++◌, length, codes}
-use Rattle.std.specs.List.{flat_map}
+use Rattle.std.specs.{Prelude.{ℕ, if◌then◌else◌, Bool, List, ◌++◌, length, codes}, List.flat_map}
 use Rattle.race_records.specs.Declarations.{DeclsState}
 use Rattle.race_text.specs.Text.{goroutine_name, var_name, place_text}
-use Rattle.race_verdict.specs.declared.notes.Noted.{Noted}
-use Rattle.race_verdict.specs.declared.notes.NotedRace.{NotedRace}
-use Rattle.race_verdict.specs.declared.notes.NotedVerdict.{NotedVerdict}
+use Rattle.race_verdict.specs.declared.notes.{Noted.Noted, NotedRace.NotedRace, NotedVerdict.NotedVerdict}
 use Rattle.race_legal.specs.Rules.{number_of}
 use Rattle.race_report.specs.Report.{access_told, clean_text, illegal_line, race_told, races_line}
 

@@ -1,15 +1,10 @@
 -- What can be printed of a trace by name.
 use Rattle.std.specs.Prelude.{◌<◌, All, length, ⊤}
-use Rattle.race_records.specs.declared.kind.Kind.{Kind}
-use Rattle.race_records.specs.Declarations.{DeclsState, count_of}
-use Rattle.race_records.specs.Events.{TraceState}
+use Rattle.race_records.specs.{declared.kind.Kind.Kind, Declarations.{DeclsState, count_of}, Events.TraceState}
 use Rattle.race_model.specs.Verdict.{Race}
-use Rattle.race_verdict.specs.declared.notes.Noted.{Noted}
-use Rattle.race_verdict.specs.declared.notes.NotedRace.{NotedRace}
-use Rattle.race_verdict.specs.declared.notes.NotedVerdict.{NotedVerdict}
-use Rattle.race_verdict.specs.declared.verdict.Verdict.{Verdict}
+use Rattle.race_verdict.specs.declared.notes.{Noted.Noted, NotedRace.NotedRace, NotedVerdict.NotedVerdict}
+use Rattle.race_verdict.specs.{declared.verdict.Verdict.Verdict, Races.race_of}
 use Rattle.race_edges.specs.declared.listing.Edge.{Edge}
-use Rattle.race_verdict.specs.Races.{race_of}
 
 -- the numbers of the race are the trace's
 pub record IsOf (trace : TraceState) (race : Race) : Type 0 where

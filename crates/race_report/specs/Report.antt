@@ -1,16 +1,11 @@
 -- The printed report of a verdict, the lines of edges, and the line of a text fault. Events are printed with numbers from 1.
 use Rattle.std.specs.Prelude.{ℕ, ◌+◌, List, [], ◌∷◌, ◌++◌, length, codes, decimal, slice_get, Some, None}
 use Rattle.std.specs.List.{concat, flat_map}
-use Rattle.race_records.specs.declared.event.Op.{Op}
-use Rattle.race_records.specs.declared.event.Op.TheVariants.{Read, Write}
-use Rattle.race_records.specs.Events.{TraceState}
-use Rattle.race_model.specs.Events.{count, is_access}
-use Rattle.race_model.specs.Verdict.{Race, Verdict, Illegal, Clean, Races}
-use Rattle.race_text.specs.declared.cause.TextFault.{TextFault}
+use Rattle.race_records.specs.{declared.event.Op.{Op, TheVariants.{Read, Write}}, Events.TraceState}
+use Rattle.race_model.specs.{Events.{count, is_access}, Verdict.{Race, Verdict, Illegal, Clean, Races}}
+use Rattle.race_text.specs.{declared.cause.TextFault.TextFault, Text.{goroutine_name, var_name, place_text}}
 use Rattle.race_edges.specs.declared.listing.Edge.{Edge}
-use Rattle.race_text.specs.Text.{goroutine_name, var_name, place_text}
-use Rattle.race_report.specs.Causes.{cause_text}
-use Rattle.race_report.specs.Rules.{rule_text}
+use Rattle.race_report.specs.{Causes.cause_text, Rules.rule_text}
 
 -- the end of a line
 abbrev pub newline : List ℕ

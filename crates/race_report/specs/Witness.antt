@@ -1,9 +1,7 @@
 -- The lines of a witness: its accesses in their order, and how many there are. Events are printed with numbers from 1.
 use Rattle.std.specs.Prelude.{ℕ, ◌+◌, List, [], ◌∷◌, ◌++◌, length, codes, decimal, slice_get, Some, None}
 use Rattle.std.specs.List.{concat, flat_map}
-use Rattle.race_records.specs.declared.event.Op.{Op}
-use Rattle.race_records.specs.declared.event.Op.TheVariants.{Read, Write}
-use Rattle.race_records.specs.Declarations.{Declaration}
+use Rattle.race_records.specs.{declared.event.Op.{Op, TheVariants.{Read, Write}}, Declarations.Declaration}
 use Rattle.race_records.specs.Events.{TraceState}
 use Rattle.race_text.specs.Text.{goroutine_name, var_name}
 use Rattle.race_report.specs.Report.{access_word, counted_line, newline}

@@ -1,12 +1,11 @@
 //! The report of a verdict that carries what is printed of it: no event is looked up.
 ghost use Rattle.std.specs.Prelude.{◌≡◌, All};
-ghost use Rattle.race_records.specs.Events.{TraceState};
-ghost use Rattle.race_records.specs.Page.{Printing};
+ghost use Rattle.race_records.specs.{Events.TraceState, Page.Printing};
 ghost use Rattle.race_text.specs.Output.{Writes};
 ghost use Rattle.race_verdict.specs.Notes.{IsNotedOf, verdict_noted};
-ghost use Rattle.race_report.specs.Printable.{IsNoteNamed, IsRaceNamed, AreNamed};
+ghost use Rattle.race_report.specs.{Printable.{IsNoteNamed, IsRaceNamed, AreNamed}, Noted.access_noted};
+ghost use Rattle.race_report.specs.Noted.{race_noted_line, races_noted_text, report_noted};
 ghost use Rattle.race_report.specs.Report as spec;
-ghost use Rattle.race_report.specs.Noted.{access_noted, race_noted_line, races_noted_text, report_noted};
 
 use crate::verdict::{
     AccessWords, access_name, print_clean, print_illegal, print_race_count, print_race_words,

@@ -4,11 +4,9 @@ ghost use Rattle.race_records.specs.Page.{Printing};
 ghost use Rattle.race_model.specs.Events.{count, is_access};
 ghost use Rattle.race_legal.specs.Rules.{number_of};
 ghost use Rattle.race_text.specs.Output.{Writes};
-ghost use Rattle.race_verdict.specs.Races.{race_of};
-ghost use Rattle.race_verdict.specs.Verdicts.{verdict_of};
-ghost use Rattle.race_report.specs.Printable.{IsOf, RacesAreOf};
+ghost use Rattle.race_verdict.specs.{Races.race_of, Verdicts.verdict_of};
+ghost use Rattle.race_report.specs.{Printable.{IsOf, RacesAreOf}, Noted.noted_word};
 ghost use Rattle.race_report.specs.Report as spec;
-ghost use Rattle.race_report.specs.Noted.{noted_word};
 
 use crate::counted::print_count;
 use crate::rule::text_of;

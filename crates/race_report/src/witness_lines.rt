@@ -1,10 +1,7 @@
 //! A witness, a line for each access.
 ghost use Rattle.std.specs.Prelude.{◌≡◌, ◌<◌, All, length, slice_get, Some, IfSome};
-ghost use Rattle.race_records.specs.declared.kind.Kind.{Kind};
-ghost use Rattle.race_records.specs.Declarations.{count_of};
-ghost use Rattle.race_records.specs.Page.{Printing};
-ghost use Rattle.race_text.specs.Output.{Writes};
-ghost use Rattle.race_text.specs.Text.{goroutine_name};
+ghost use Rattle.race_records.specs.{declared.kind.Kind.Kind, Declarations.count_of, Page.Printing};
+ghost use Rattle.race_text.specs.{Output.Writes, Text.goroutine_name};
 ghost use Rattle.race_verdict.specs.Accesses.{accessed};
 ghost use Rattle.race_report.specs.Report.{access_word};
 ghost use Rattle.race_report.specs.Witness as spec;

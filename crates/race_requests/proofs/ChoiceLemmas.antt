@@ -1,31 +1,20 @@
 -- What a listed choice is: what each who takes part in its event is told.
-use Rattle.std.proofs.Common.{◌≡◌, ◌==◌, ℕ, zero, suc, ◌<◌, ◌≤◌, ◌+◌, ◌%◌, ◌++◌, ◌&&◌}
-use Rattle.std.proofs.Common.{Bool, true, false, cond, List, [], ◌∷◌, map, filter}
-use Rattle.std.proofs.Common.{flat_map, length, option_map}
-use Rattle.std.proofs.Common.{All}
-use Rattle.std.proofs.Common.{Option, Some, None, is_none, refl, sym, ap, ◌∙◌, subst, arith, slice_get, eqb-true, eq-eqb}
-use Rattle.std.specs.List.{range_with_len}
-use Rattle.std.proofs.lemmas.Bool.Decides.{nat_tests}
-use Rattle.std.proofs.lemmas.Option.{none-some, slice_get_within, get_or_from_slice_get}
-use Rattle.std.proofs.lemmas.List.Elements.{filter_passes}
-use Rattle.race_records.specs.declared.event.Event.{Event}
-use Rattle.race_records.specs.declared.event.Op.{Op}
-use Rattle.race_records.specs.declared.event.Cause.TheVariants.{SendClosed, CloseClosed, UnlockFree, RUnlockFree}
-use Rattle.race_records.specs.declared.event.Op.TheVariants.{Send, Recv, Meet, RecvClosed, Close, Default, Unlock, RUnlock}
-use Rattle.race_records.specs.declared.event.Op.TheVariants.{TryLock, TryRLock, TryFail, OnceBegin, OnceDone, Fault}
-use Rattle.race_model.specs.State.{is_closed, front, is_held, is_read_held, is_begun, last_value}
-use Rattle.race_model.specs.Legal.{broken}
+use Rattle.std.proofs.Common.{◌≡◌, ◌==◌, ℕ, zero, suc, ◌<◌, ◌≤◌, ◌+◌, ◌%◌, ◌++◌, ◌&&◌, Bool, true, false, cond, List}
+use Rattle.std.proofs.Common.{[], ◌∷◌, map, filter, flat_map, length, option_map, All, Option, Some, None, is_none}
+use Rattle.std.proofs.Common.{refl, sym, ap, ◌∙◌, subst, arith, slice_get, eqb-true, eq-eqb}
+use Rattle.std.proofs.lemmas.{Bool.Decides.nat_tests, Option.{none-some, slice_get_within, get_or_from_slice_get}}
+use Rattle.std.{proofs.lemmas.List.Elements.filter_passes, specs.List.range_with_len}
+use Rattle.race_records.specs.declared.event.{Event.Event, Op.{Op, TheVariants.{Send, Recv, Meet, RecvClosed, Close}}}
+use Rattle.race_records.specs.declared.event.Op.TheVariants.{Default, Unlock, RUnlock, TryLock, TryRLock, TryFail}
+use Rattle.race_records.specs.declared.event.{Op.TheVariants.{OnceBegin, OnceDone, Fault}, Cause.TheVariants.SendClosed}
+use Rattle.race_records.specs.declared.event.Cause.TheVariants.{CloseClosed, UnlockFree, RUnlockFree}
+use Rattle.race_model.specs.{State.{is_closed, front, is_held, is_read_held, is_begun, last_value}, Legal.broken}
 use Rattle.race_model.proofs.Indexes.{at_below}
-use Rattle.race_requests.specs.declared.choice.Choice.{Choice}
-use Rattle.race_requests.specs.declared.request.Answer.{Answer}
-use Rattle.race_requests.specs.declared.request.Ask.{Ask}
-use Rattle.race_requests.specs.declared.request.Offer.{Offer}
-use Rattle.race_requests.specs.declared.request.Waiter.{Waiter}
-use Rattle.race_requests.specs.Offers.{chan_of, case_of}
-use Rattle.race_requests.specs.Table.{offers_of, done_by, told_sender, told_receiver, chosen, told_plain, IsRow}
-use Rattle.race_requests.specs.Choices.{choice, lone_op, offer_at, op_of, meet_op, event_of, is_legal_next, is_choice}
-use Rattle.race_requests.specs.Choices.{ways, below, with_partner, of_way, tuples}
-use Rattle.race_requests.specs.Choices.{ways_at, tuples_of, choices}
+use Rattle.race_requests.specs.declared.{choice.Choice.Choice, request.{Answer.Answer, Ask.Ask, Offer.Offer}}
+use Rattle.race_requests.specs.{declared.request.Waiter.Waiter, Offers.{chan_of, case_of}, Table.{offers_of, done_by}}
+use Rattle.race_requests.specs.{Table.{told_sender, told_receiver, chosen, told_plain, IsRow}, Choices.choice}
+use Rattle.race_requests.specs.Choices.{lone_op, offer_at, op_of, meet_op, event_of, is_legal_next, is_choice, ways}
+use Rattle.race_requests.specs.Choices.{below, with_partner, of_way, tuples, ways_at, tuples_of, choices}
 use Rattle.race_requests.proofs.RowLemmas.{told_same, told_both, told_same_two, at_first, at_offer, at_default}
 
 pub some_is : {X : Type 0} {x y : X} → Some x ≡ Some y → x ≡ y

@@ -1,16 +1,11 @@
 -- How a search goes on from one part of a list to the next.
-use Rattle.std.proofs.Common.{◌≡◌, ℕ, zero, suc, ◌+◌, ◌-◌, ◌<◌, ◌≤◌, Bool, false, cond, List, [], ◌∷◌, ◌++◌, length, map, filter, flat_map, slice_get, refl}
-use Rattle.std.proofs.Common.{sym, ap}
-use Rattle.std.proofs.Common.{◌∙◌, subst, arith, append-nil, length-append}
+use Rattle.std.proofs.Common.{◌≡◌, ℕ, zero, suc, ◌+◌, ◌-◌, ◌<◌, ◌≤◌, Bool, false, cond, List, [], ◌∷◌, ◌++◌, length}
+use Rattle.std.proofs.Common.{map, filter, flat_map, slice_get, refl, sym, ap, ◌∙◌, subst, arith, append-nil}
+use Rattle.std.proofs.{Common.length-append, lemmas.{Grind.flat_map-append, List.Elements.filter-append}}
 use Rattle.std.specs.List.{range_with_len}
-use Rattle.std.proofs.lemmas.Grind.{flat_map-append}
-use Rattle.std.proofs.lemmas.List.Elements.{filter-append}
 use Rattle.race_model.proofs.Indexes.{append_at_old}
-use Rattle.race_requests.specs.declared.choice.Choice.{Choice}
-use Rattle.race_requests.specs.declared.search.Found.{Found}
-use Rattle.race_requests.specs.declared.search.Found.TheVariants.{At, Left}
-use Rattle.race_requests.specs.Choices.{below, choice, with_partner, of_way}
-use Rattle.race_requests.specs.Search.{IsFound}
+use Rattle.race_requests.specs.declared.{choice.Choice.Choice, search.Found.{Found, TheVariants.{At, Left}}}
+use Rattle.race_requests.specs.{Choices.{below, choice, with_partner, of_way}, Search.IsFound}
 
 -- behind the first list an element stands by its number in the second one
 behind : {X : Type 0} (xs ys : List X) (k m : ℕ) → k ≡ length xs + m → slice_get (xs ++ ys) k ≡ slice_get ys m

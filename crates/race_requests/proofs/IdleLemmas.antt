@@ -1,16 +1,11 @@
 -- Who can do nothing, alone or with another.
-use Rattle.std.proofs.Common.{◌≡◌, ℕ, ◌+◌, ◌-◌, ◌==◌, ◌&&◌, not, cond, Bool, true, false, List, slice_get, Option, Some, None, refl, sym, ap, ◌∙◌, arith}
-use Rattle.std.proofs.lemmas.Bool.Decides.{nat_tests}
+use Rattle.std.proofs.Common.{◌≡◌, ℕ, ◌+◌, ◌-◌, ◌==◌, ◌&&◌, not, cond, Bool, true, false, List, slice_get, Option, Some}
+use Rattle.std.proofs.{Common.{None, refl, sym, ap, ◌∙◌, arith}, lemmas.Bool.Decides.nat_tests}
 use Rattle.race_records.specs.declared.event.Event.{Event}
 use Rattle.race_model.specs.State.{over, runs}
-use Rattle.race_requests.specs.declared.request.Offer.{Offer}
-use Rattle.race_requests.specs.declared.request.Waiter.{Waiter}
-use Rattle.race_requests.specs.Table.{offers_of}
-use Rattle.race_requests.specs.Choices.{choice, lone_event, meet_event, is_legal_next, is_possible}
-use Rattle.race_requests.specs.Possible.{goes_on}
-use Rattle.race_requests.specs.Waiting.{sent_on, receives_at}
-use Rattle.race_requests.proofs.ChoiceLemmas.{meets_by}
-use Rattle.race_requests.proofs.MoveLemmas.{passed_over}
+use Rattle.race_requests.specs.{declared.request.{Offer.Offer, Waiter.Waiter}, Table.offers_of, Choices.choice}
+use Rattle.race_requests.specs.{Choices.{lone_event, meet_event, is_legal_next, is_possible}, Possible.goes_on}
+use Rattle.race_requests.{specs.Waiting.{sent_on, receives_at}, proofs.{ChoiceLemmas.meets_by, MoveLemmas.passed_over}}
 use Rattle.race_requests.proofs.PossibleLemmas.{each_row}
 
 -- who can't go on in the words of the run so far makes no legal event

@@ -1,15 +1,9 @@
 -- A list of requests, read and made longer in brief.
-use Rattle.std.proofs.Common.{◌≡◌, ℕ, zero, suc, ◌≤◌, List, [], ◌∷◌, ◌++◌, length, map}
-use Rattle.std.proofs.Common.{Option, Some, slice_get, refl, ap, subst, ◌∙◌, arith}
-use Rattle.std.specs.Option.{option_map}
-use Rattle.std.proofs.lemmas.List.{get_or_append_left}
-use Rattle.std.proofs.lemmas.Option.{none-some, slice_get-map}
-use Rattle.race_requests.specs.declared.list.Brief.{Brief}
-use Rattle.race_requests.specs.declared.list.BriefAsk.{BriefAsk}
-use Rattle.race_requests.specs.declared.request.Ask.{Ask}
-use Rattle.race_requests.specs.declared.request.Offer.{Offer}
-use Rattle.race_requests.specs.declared.request.Request.{Request}
-use Rattle.race_requests.specs.List.{ask_of, request_of, IsWithin, AreWithin}
+use Rattle.std.proofs.Common.{◌≡◌, ℕ, zero, suc, ◌≤◌, List, [], ◌∷◌, ◌++◌, length, map, Option, Some, slice_get, refl}
+use Rattle.std.proofs.{Common.{ap, subst, ◌∙◌, arith}, lemmas.List.get_or_append_left}
+use Rattle.std.{proofs.lemmas.Option.{none-some, slice_get-map}, specs.Option.option_map}
+use Rattle.race_requests.specs.declared.{list.{Brief.Brief, BriefAsk.BriefAsk}, request.{Ask.Ask, Offer.Offer}}
+use Rattle.race_requests.specs.{declared.request.Request.Request, List.{ask_of, request_of, IsWithin, AreWithin}}
 
 -- offers of more selects change nothing
 same_ask : (selects more : List (List Offer)) (ask : BriefAsk) (value : ℕ) → IsWithin (length selects) ask value

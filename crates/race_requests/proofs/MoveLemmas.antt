@@ -1,22 +1,12 @@
 -- Who meets nobody by an offer, and which default stands back.
-use Rattle.std.proofs.Common.{◌≡◌, ℕ, ◌+◌, ◌-◌, ◌==◌, ◌&&◌, ◌||◌, cond, Bool, true, false}
-use Rattle.std.proofs.Common.{true≢false, List, [], ◌∷◌, length, filter, slice_get, Option}
-use Rattle.std.proofs.Common.{Some, None}
-use Rattle.std.proofs.Common.{refl, sym, ap, ◌∙◌, arith}
-use Rattle.std.specs.List.{list_any}
-use Rattle.std.proofs.lemmas.Bool.Decides.{nat_tests}
-use Rattle.std.proofs.lemmas.List.Folds.{list_any_at}
-use Rattle.std.proofs.lemmas.Option.{none-some, slice_get_within, get_or_from_slice_get}
-use Rattle.race_records.specs.declared.event.Event.{Event}
-use Rattle.race_records.specs.declared.event.Op.{Op}
-use Rattle.race_records.specs.declared.event.Op.TheVariants.{Meet}
-use Rattle.race_requests.specs.declared.choice.Choice.{Choice}
-use Rattle.race_requests.specs.declared.request.Offer.{Offer}
-use Rattle.race_requests.specs.declared.request.Waiter.{Waiter}
-use Rattle.race_requests.specs.Table.{offers_of}
-use Rattle.race_requests.specs.Choices.{choice, lone_event, meet_event, is_legal_next, is_possible}
-use Rattle.race_requests.specs.Waiting.{sent_on, receives_from, receives, receives_at}
-use Rattle.race_requests.proofs.ChoiceLemmas.{meets_by}
+use Rattle.std.proofs.Common.{◌≡◌, ℕ, ◌+◌, ◌-◌, ◌==◌, ◌&&◌, ◌||◌, cond, Bool, true, false, true≢false, List, [], ◌∷◌}
+use Rattle.std.proofs.Common.{length, filter, slice_get, Option, Some, None, refl, sym, ap, ◌∙◌, arith}
+use Rattle.std.proofs.lemmas.{Bool.Decides.nat_tests, List.Folds.list_any_at}
+use Rattle.std.{proofs.lemmas.Option.{none-some, slice_get_within, get_or_from_slice_get}, specs.List.list_any}
+use Rattle.race_records.specs.declared.event.{Event.Event, Op.{Op, TheVariants.Meet}}
+use Rattle.race_requests.specs.{declared.{choice.Choice.Choice, request.{Offer.Offer, Waiter.Waiter}}, Table.offers_of}
+use Rattle.race_requests.specs.{Choices.{choice, lone_event, meet_event, is_legal_next, is_possible}, Waiting.sent_on}
+use Rattle.race_requests.{specs.Waiting.{receives_from, receives, receives_at}, proofs.ChoiceLemmas.meets_by}
 
 -- where no element passes, this one doesn't
 none_at : {X : Type 0} (p : X → Bool) (xs : List X) (k : ℕ) (x : X) → list_any p xs ≡ false → slice_get xs k ≡ Some x → p x ≡ false

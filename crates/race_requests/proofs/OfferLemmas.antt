@@ -1,26 +1,15 @@
 -- A list of offers, read and made longer by its cases and values.
-use Rattle.std.proofs.Common.{◌≡◌, ℕ, zero, suc, ◌<◌, ◌≤◌, ◌&&◌, cond, nat_lt, nat_le, Bool}
-use Rattle.std.proofs.Common.{true, false, List, [], ◌∷◌, ◌++◌, length, map, set, get_or, Option, Some}
-use Rattle.std.proofs.Common.{None}
-use Rattle.std.proofs.Common.{IfSome, IsTrue, slice_get, true≢false, refl, sym, ap, ◌∙◌, arith}
+use Rattle.std.proofs.Common.{◌≡◌, ℕ, zero, suc, ◌<◌, ◌≤◌, ◌&&◌, cond, nat_lt, nat_le, Bool, true, false, List, [], ◌∷◌}
+use Rattle.std.proofs.Common.{◌++◌, length, map, set, get_or, Option, Some, None, IfSome, IsTrue, slice_get, true≢false}
+use Rattle.std.proofs.{Common.{refl, sym, ap, ◌∙◌, arith}, lemmas.{Bool.Decides.nat_tests, Option.none-some}}
 use Rattle.std.specs.List.{list_all}
-use Rattle.std.proofs.lemmas.Bool.Decides.{nat_tests}
-use Rattle.std.proofs.lemmas.Option.{none-some}
-use Rattle.race_records.specs.declared.cases.TheConstants.{MAX_CASES}
-use Rattle.race_records.specs.declared.kind.Kind.{Kind}
-use Rattle.race_records.specs.Cases.{kept_chan, kept as kept_case}
-use Rattle.race_records.specs.Parts.{case_is_in_range, chan_is_in_range}
+use Rattle.race_records.specs.declared.{cases.{TheConstants.MAX_CASES, Case.Case, Dir.Dir}, kind.Kind.Kind}
+use Rattle.race_records.specs.{Cases.{kept_chan, kept as kept_case}, Parts.{case_is_in_range, chan_is_in_range}}
 use Rattle.race_records.proofs.CaseLemmas.{kept_whole, kept_range}
 use Rattle.race_legal.proofs.Searches.{each_passes}
-use Rattle.race_records.specs.declared.cases.Case.{Case}
-use Rattle.race_records.specs.declared.cases.Dir.{Dir}
-use Rattle.race_requests.specs.declared.request.Ask.{Ask}
-use Rattle.race_requests.specs.declared.request.Offer.{Offer}
-use Rattle.race_requests.specs.Offers.{case_of, chan_of, kept}
-use Rattle.race_requests.specs.Table.{offers_of}
-use Rattle.race_requests.specs.Choices.{ways}
+use Rattle.race_requests.specs.{declared.request.{Ask.Ask, Offer.Offer}, Offers.{case_of, chan_of, kept, offer_of}}
+use Rattle.race_requests.specs.{Offers.offers_with, Table.offers_of, Choices.ways}
 use Rattle.race_requests.specs.Possible.{ask_is_in_range, offer_is_in_range}
-use Rattle.race_requests.specs.Offers.{offer_of, offers_with}
 
 pub below_if : (n m : ℕ) → (m ≤ n → false ≡ true) → n < m
 below_if n m never = by (nat_lt n m) refl

@@ -1,32 +1,19 @@
 -- For each row: its event breaks no rule just where the words of the run so far let it go on.
-use Rattle.std.proofs.Common.{◌≡◌, ℕ, ◌<◌, ◌≤◌, ◌==◌, ◌||◌, ◌&&◌, not, nat_lt, cond, Bool, true}
-use Rattle.std.proofs.Common.{false, List, [], ◌∷◌, length, map, slice_get, filter_map, Option}
-use Rattle.std.proofs.Common.{Some, None}
-use Rattle.std.proofs.Common.{is_none, is_some, refl, sym, ap, ◌∙◌, arith}
-use Rattle.std.specs.List.{list_any}
-use Rattle.std.specs.Option.{option_map}
-use Rattle.std.proofs.lemmas.Bool.Decides.{nat_tests, Decides-eqb}
-use Rattle.race_records.specs.declared.cases.Case.{Case}
-use Rattle.std.proofs.lemmas.Option.{slice_get_within}
+use Rattle.std.proofs.Common.{◌≡◌, ℕ, ◌<◌, ◌≤◌, ◌==◌, ◌||◌, ◌&&◌, not, nat_lt, cond, Bool, true, false, List, [], ◌∷◌}
+use Rattle.std.proofs.Common.{length, map, slice_get, filter_map, Option, Some, None, is_none, is_some, refl, sym, ap}
+use Rattle.std.proofs.{Common.{◌∙◌, arith}, lemmas.{Bool.Decides.{nat_tests, Decides-eqb}, Option.slice_get_within}}
+use Rattle.std.specs.{List.list_any, Option.option_map}
+use Rattle.race_records.specs.declared.{cases.Case.Case, event.{Event.Event, Cause.TheVariants.SendClosed}}
+use Rattle.race_records.specs.declared.event.{Cause.TheVariants.{CloseClosed, CloseNil, UnlockFree, RUnlockFree}, Op.Op}
+use Rattle.race_records.specs.declared.event.Op.TheVariants.{Go, Exit, Read, Lock, RLock, OnceEnd, Send, Recv, Meet}
+use Rattle.race_records.specs.declared.event.Op.TheVariants.{RecvClosed, Close, Default, Unlock, RUnlock, TryLock}
+use Rattle.race_records.specs.declared.event.Op.TheVariants.{TryRLock, TryFail, OnceBegin, OnceDone, Fault}
 use Rattle.race_records.proofs.ListLemmas.{slice_get-within}
-use Rattle.race_records.specs.declared.event.Event.{Event}
-use Rattle.race_records.specs.declared.event.Cause.TheVariants.{SendClosed, CloseClosed, CloseNil, UnlockFree, RUnlockFree}
-use Rattle.race_records.specs.declared.event.Op.{Op}
-use Rattle.race_records.specs.declared.event.Op.TheVariants.{Go, Exit, Read, Lock, RLock}
-use Rattle.race_records.specs.declared.event.Op.TheVariants.{OnceEnd, Send, Recv, Meet}
-use Rattle.race_records.specs.declared.event.Op.TheVariants.{RecvClosed, Close, Default}
-use Rattle.race_records.specs.declared.event.Op.TheVariants.{Unlock, RUnlock, TryLock, TryRLock, TryFail}
-use Rattle.race_records.specs.declared.event.Op.TheVariants.{OnceBegin, OnceDone, Fault}
-use Rattle.race_model.specs.Events.{gives, sends, receives, count}
-use Rattle.race_model.specs.State.{over, runs, is_closed, buffered, front, sent, is_held, is_read_held, is_begun, is_ended, innermost, started, last_value}
-use Rattle.race_model.specs.Legal.{least_broken, broken, op_rules, is_ready}
-use Rattle.race_model.proofs.StateSteps.{sent_count}
-use Rattle.race_legal.specs.declared.rule.Rule.{Rule}
-use Rattle.race_legal.specs.Rules.{number_of}
-use Rattle.race_requests.specs.declared.request.Ask.{Ask}
-use Rattle.race_requests.specs.declared.request.Offer.{Offer}
-use Rattle.race_requests.specs.declared.request.Waiter.{Waiter}
-use Rattle.race_requests.specs.Offers.{case_of}
+use Rattle.race_model.specs.{Events.{gives, sends, receives, count}, State.{over, runs, is_closed, buffered, front}}
+use Rattle.race_model.specs.State.{sent, is_held, is_read_held, is_begun, is_ended, innermost, started, last_value}
+use Rattle.race_model.{specs.Legal.{least_broken, broken, op_rules, is_ready}, proofs.StateSteps.sent_count}
+use Rattle.race_legal.specs.{declared.rule.Rule.Rule, Rules.number_of}
+use Rattle.race_requests.specs.{declared.request.{Ask.Ask, Offer.Offer, Waiter.Waiter}, Offers.case_of}
 use Rattle.race_requests.specs.Choices.{is_legal_next, lone_event, lone_op, offer_at}
 use Rattle.race_requests.specs.Possible.{goes_on, offer_goes_on, meet_goes_on}
 

@@ -1,18 +1,11 @@
 -- What a request in range does names only what is in range.
-use Rattle.std.proofs.Common.{◌≡◌, ℕ, ◌<◌, ◌&&◌, nat_lt, cond, Bool, true, false, Option, Some, None, IsTrue, refl, sym, ap, subst, ◌∙◌, slice_get, arith}
-use Rattle.std.proofs.lemmas.Bool.Decides.{nat_tests}
-use Rattle.std.proofs.lemmas.Option.{none-some}
-use Rattle.race_records.specs.declared.event.Event.{Event}
-use Rattle.race_records.specs.declared.event.Op.{Op}
-use Rattle.race_records.specs.declared.event.Op.TheVariants.{Recv, RecvClosed}
-use Rattle.race_records.specs.declared.kind.Kind.{Kind}
+use Rattle.std.proofs.Common.{◌≡◌, ℕ, ◌<◌, ◌&&◌, nat_lt, cond, Bool, true, false, Option, Some, None, IsTrue, refl, sym}
+use Rattle.std.proofs.{Common.{ap, subst, ◌∙◌, slice_get, arith}, lemmas.{Bool.Decides.nat_tests, Option.none-some}}
+use Rattle.race_records.specs.declared.{event.{Event.Event, Op.{Op, TheVariants.{Recv, RecvClosed}}}, kind.Kind.Kind}
 use Rattle.race_records.specs.Parts.{op_is_in_range}
 use Rattle.race_legal.specs.ReplayState.{IsInRange}
-use Rattle.race_requests.specs.declared.request.Waiter.{Waiter}
-use Rattle.race_requests.specs.Table.{offers_of}
-use Rattle.race_requests.specs.Choices.{meet_event}
-use Rattle.race_requests.specs.Possible.{ask_is_in_range}
-use Rattle.race_requests.proofs.OfferLemmas.{sent_in_range}
+use Rattle.race_requests.specs.{declared.request.Waiter.Waiter, Table.offers_of, Choices.meet_event}
+use Rattle.race_requests.{specs.Possible.ask_is_in_range, proofs.OfferLemmas.sent_in_range}
 use Rattle.race_requests.proofs.ChoiceLemmas.{some_is, meets_by, is_meet}
 
 -- an operation whose one object is in range

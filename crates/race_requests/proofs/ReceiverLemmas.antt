@@ -1,13 +1,8 @@
 -- Who receives from a channel is a request of the list.
-use Rattle.std.proofs.Common.{◌≡◌, ℕ, suc, ◌<◌, ◌||◌, Bool, true, false, List, [], ◌∷◌, arith}
-use Rattle.std.proofs.Common.{length, get_or, slice_get, Option, Some, None, refl, sym, ap}
-use Rattle.std.proofs.Common.{◌∙◌, eqb-true}
-use Rattle.std.specs.List.{list_any}
-use Rattle.race_requests.specs.declared.request.Offer.{Offer}
-use Rattle.std.proofs.lemmas.Bool.{true≢false}
-use Rattle.std.proofs.lemmas.Option.{slice_get-get_or, slice_get_within}
-use Rattle.race_requests.specs.declared.request.Waiter.{Waiter}
-use Rattle.race_requests.specs.Receivers.{Spans, IsInSpan, AreInSpans}
+use Rattle.std.proofs.Common.{◌≡◌, ℕ, suc, ◌<◌, ◌||◌, Bool, true, false, List, [], ◌∷◌, arith, length, get_or}
+use Rattle.std.proofs.{Common.{slice_get, Option, Some, None, refl, sym, ap, ◌∙◌, eqb-true}, lemmas.Bool.true≢false}
+use Rattle.std.{proofs.lemmas.Option.{slice_get-get_or, slice_get_within}, specs.List.list_any}
+use Rattle.race_requests.specs.{declared.request.{Offer.Offer, Waiter.Waiter}, Receivers.{Spans, IsInSpan, AreInSpans}}
 use Rattle.race_requests.specs.Waiting.{receives_from, receives, receives_at}
 
 within_by : (waiting : List Waiter) (c i : ℕ) (o : Option Waiter) → slice_get waiting i ≡ o

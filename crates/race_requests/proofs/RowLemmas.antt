@@ -1,20 +1,12 @@
 -- Rows of the table: how one is made, and what one says.
-use Rattle.std.proofs.Common.{◌≡◌, ℕ, ◌+◌, ◌<◌, ◌==◌, ◌&&◌, ◌⊎◌, cond, if◌then◌else◌, Bool, true, false, List}
-use Rattle.std.proofs.Common.{length, map, slice_get, Option, Some, None, option_map, inl, inr, refl, sym, subst}
-use Rattle.std.proofs.Common.{ap, ◌∙◌}
-use Rattle.std.proofs.Common.{arith}
-use Rattle.std.proofs.lemmas.Option.{slice_get_within}
-use Rattle.race_records.specs.Cases.{same_cases, same_cases-Decides}
-use Rattle.race_records.specs.declared.cases.Case.{Case}
-use Rattle.std.proofs.lemmas.Bool.Decides.{Decides-eqb}
-use Rattle.race_records.specs.declared.event.Op.{Op}
+use Rattle.std.proofs.Common.{◌≡◌, ℕ, ◌+◌, ◌<◌, ◌==◌, ◌&&◌, ◌⊎◌, cond, if◌then◌else◌, Bool, true, false, List, length}
+use Rattle.std.proofs.Common.{map, slice_get, Option, Some, None, option_map, inl, inr, refl, sym, subst, ap, ◌∙◌}
+use Rattle.std.proofs.{Common.arith, lemmas.{Option.slice_get_within, Bool.Decides.Decides-eqb}}
+use Rattle.race_records.specs.{Cases.{same_cases, same_cases-Decides}, declared.{cases.Case.Case, event.Op.Op}}
 use Rattle.race_records.specs.declared.event.Op.TheVariants.{Default, TryLock, TryRLock, TryFail}
-use Rattle.race_requests.specs.declared.request.Answer.{Answer}
-use Rattle.race_requests.specs.declared.request.Ask.{Ask}
-use Rattle.race_requests.specs.declared.request.Offer.{Offer}
-use Rattle.race_requests.specs.Offers.{case_of}
-use Rattle.race_requests.specs.Choices.{ways}
-use Rattle.race_requests.specs.Table.{IsRow, told_if, told_trier, told_rtrier, told_by, chosen, told_plain, told_offer, told_selector}
+use Rattle.race_requests.specs.{declared.request.{Answer.Answer, Ask.Ask, Offer.Offer}, Offers.case_of, Choices.ways}
+use Rattle.race_requests.specs.Table.{IsRow, told_if, told_trier, told_rtrier, told_by, chosen, told_plain, told_offer}
+use Rattle.race_requests.specs.Table.{told_selector}
 
 -- where the number is the one that is wanted
 pub told_same : (n : ℕ) (a : Option Answer) → told_if (n == n) a ≡ Some a

@@ -1,20 +1,12 @@
 -- What a waiting list names has a row in the tables of a replay that stands for its events.
-use Rattle.std.proofs.Common.{ℕ, ◌≡◌, ◌<◌, ◌≤◌, All, slice_get, ◌&&◌, nat_lt, Bool, true}
-use Rattle.std.proofs.Common.{false, IfSome, List, Option, Some, None, IsTrue, refl, sym, ap}
-use Rattle.std.proofs.Common.{subst, arith}
-use Rattle.std.proofs.lemmas.Bool.Decides.{nat_tests}
-use Rattle.race_records.specs.declared.event.Event.{Event}
-use Rattle.race_records.specs.declared.kind.Kind.{Kind}
+use Rattle.std.proofs.Common.{ℕ, ◌≡◌, ◌<◌, ◌≤◌, All, slice_get, ◌&&◌, nat_lt, Bool, true, false, IfSome, List, Option}
+use Rattle.std.proofs.{Common.{Some, None, IsTrue, refl, sym, ap, subst, arith}, lemmas.Bool.Decides.nat_tests}
+use Rattle.race_records.specs.declared.{event.Event.Event, kind.Kind.Kind}
 use Rattle.race_records.specs.Declarations.{Declaration, count_of, counts_of}
-use Rattle.race_legal.specs.ReplayState.{ReplayState, counts_in}
-use Rattle.race_legal.specs.StandsFor.{StandsFor}
-use Rattle.race_requests.specs.declared.request.Offer.{Offer}
-use Rattle.race_requests.specs.declared.request.Waiter.{Waiter}
-use Rattle.race_requests.specs.Possible.{ask_is_in_range, offer_is_in_range}
-use Rattle.race_requests.specs.Choices.{ways, ways_at}
-use Rattle.race_requests.specs.Waiting.{is_declared, sent_on}
-use Rattle.race_requests.proofs.OfferLemmas.{few_ways}
-use Rattle.race_requests.proofs.ChoiceLemmas.{all_at}
+use Rattle.race_legal.specs.{ReplayState.{ReplayState, counts_in}, StandsFor.StandsFor}
+use Rattle.race_requests.specs.declared.request.{Offer.Offer, Waiter.Waiter}
+use Rattle.race_requests.specs.{Possible.{ask_is_in_range, offer_is_in_range}, Choices.{ways, ways_at}}
+use Rattle.race_requests.{specs.Waiting.{is_declared, sent_on}, proofs.{OfferLemmas.few_ways, ChoiceLemmas.all_at}}
 
 -- what is declared has a row in the replay's tables
 module _ (declarations : List Declaration) (k : ReplayState) (past : List Event) (stands : StandsFor declarations k past) where

@@ -1,20 +1,15 @@
 -- The choices of a waiting list: which of its requests can go on, each alone or with whom it meets. (The Go Programming Language Specification, "Send
 -- statements", "Receive operator", "Channel types", "Select statements"; package sync)
-use Rattle.std.specs.Prelude.{ℕ, ◌+◌, ◌-◌, ◌==◌, ◌&&◌, ◌||◌, not, cond, Bool, false, List, ◌∷◌, length, map, filter, slice_get, Option, Some, None, is_none}
-use Rattle.std.specs.List.{flat_map, range_with_len, list_any}
-use Rattle.race_records.specs.declared.event.Cause.TheVariants.{SendClosed, CloseClosed, CloseNil, UnlockFree, RUnlockFree}
-use Rattle.race_records.specs.declared.event.Event.{Event}
-use Rattle.race_records.specs.declared.event.Op.{Op}
-use Rattle.race_records.specs.declared.event.Op.TheVariants.{Go, Exit, Read, Write, Send, Recv, Meet, RecvClosed, Close, Default, Lock, Unlock, RLock, RUnlock}
-use Rattle.race_records.specs.declared.event.Op.TheVariants.{TryLock, TryRLock, TryFail, OnceBegin, OnceEnd, OnceDone, Fault}
-use Rattle.race_model.specs.State.{last_value, is_closed, front, is_held, is_read_held, is_begun}
-use Rattle.race_model.specs.Legal.{broken}
-use Rattle.race_requests.specs.declared.choice.Choice.{Choice}
-use Rattle.race_requests.specs.declared.request.Ask.{Ask}
-use Rattle.race_requests.specs.declared.request.Offer.{Offer}
-use Rattle.race_requests.specs.declared.request.Waiter.{Waiter}
-use Rattle.race_requests.specs.Offers.{case_of}
-use Rattle.race_requests.specs.Table.{offers_of}
+use Rattle.std.specs.Prelude.{ℕ, ◌+◌, ◌-◌, ◌==◌, ◌&&◌, ◌||◌, not, cond, Bool, false, List, ◌∷◌, length, map, filter}
+use Rattle.std.specs.{Prelude.{slice_get, Option, Some, None, is_none}, List.{flat_map, range_with_len, list_any}}
+use Rattle.race_records.specs.declared.event.Cause.TheVariants.{SendClosed, CloseClosed, CloseNil, UnlockFree}
+use Rattle.race_records.specs.declared.event.{Cause.TheVariants.RUnlockFree, Event.Event, Op.{Op, TheVariants.Go}}
+use Rattle.race_records.specs.declared.event.Op.TheVariants.{Exit, Read, Write, Send, Recv, Meet, RecvClosed, Close}
+use Rattle.race_records.specs.declared.event.Op.TheVariants.{Default, Lock, Unlock, RLock, RUnlock, TryLock, TryRLock}
+use Rattle.race_records.specs.declared.event.Op.TheVariants.{TryFail, OnceBegin, OnceEnd, OnceDone, Fault}
+use Rattle.race_model.specs.{State.{last_value, is_closed, front, is_held, is_read_held, is_begun}, Legal.broken}
+use Rattle.race_requests.specs.declared.{choice.Choice.Choice, request.{Ask.Ask, Offer.Offer, Waiter.Waiter}}
+use Rattle.race_requests.specs.{Offers.case_of, Table.offers_of}
 
 -- request w of the list by its way k: p and q are 0, or one more than the partner's place and way
 abbrev pub choice : ℕ → ℕ → ℕ → ℕ → Choice

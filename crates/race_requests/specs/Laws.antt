@@ -1,20 +1,16 @@
 -- The laws of the table and of the choices, which functions of src/laws.rt that do nothing have as their contracts.
 use Rattle.std.specs.Prelude.{ℕ, ◌≡◌, ◌&&◌, not, true, false, List, [], ◌∷◌, Option, Some, None}
-use Rattle.race_records.specs.declared.event.Cause.TheVariants.{SendClosed, CloseClosed, CloseNil, UnlockFree, RUnlockFree}
-use Rattle.race_records.specs.declared.event.Event.{Event}
-use Rattle.race_records.specs.declared.event.Op.TheVariants.{Go, Exit, Read, Write, Send, Recv, Meet, RecvClosed, Close, Default, Lock, Unlock, RLock, RUnlock}
-use Rattle.race_records.specs.declared.event.Op.TheVariants.{TryLock, TryRLock, TryFail, OnceBegin, OnceEnd, OnceDone, Fault}
+use Rattle.race_records.specs.declared.event.Cause.TheVariants.{SendClosed, CloseClosed, CloseNil, UnlockFree}
+use Rattle.race_records.specs.declared.event.{Cause.TheVariants.RUnlockFree, Event.Event, Op.TheVariants.{Go, Exit}}
+use Rattle.race_records.specs.declared.event.Op.TheVariants.{Read, Write, Send, Recv, Meet, RecvClosed, Close, Default}
+use Rattle.race_records.specs.declared.event.Op.TheVariants.{Lock, Unlock, RLock, RUnlock, TryLock, TryRLock, TryFail}
+use Rattle.race_records.specs.declared.event.Op.TheVariants.{OnceBegin, OnceEnd, OnceDone, Fault}
 use Rattle.race_records.specs.declared.version.Version.{Version}
-use Rattle.race_model.specs.State.{over, runs}
-use Rattle.race_model.specs.Examples.{does}
-use Rattle.race_requests.specs.declared.request.Answer.{Answer}
-use Rattle.race_requests.specs.declared.request.Ask.{Ask}
-use Rattle.race_requests.specs.declared.request.Offer.{Offer}
-use Rattle.race_requests.specs.declared.request.Waiter.{Waiter}
-use Rattle.race_requests.specs.Table.{done_by, IsRow}
-use Rattle.race_requests.specs.Choices.{choice, choices, event_of, is_legal_next, lone_event, meet_event}
-use Rattle.race_requests.specs.Possible.{goes_on, meet_goes_on}
-use Rattle.race_requests.specs.Rows.{capacities, waits, alone, HasWay, HasRow, Stays, sends_on, receives_from, three_started, one_meets_main}
+use Rattle.race_model.specs.{State.{over, runs}, Examples.does}
+use Rattle.race_requests.specs.declared.request.{Answer.Answer, Ask.Ask, Offer.Offer, Waiter.Waiter}
+use Rattle.race_requests.specs.{Table.{done_by, IsRow}, Choices.{choice, choices, event_of, is_legal_next, lone_event}}
+use Rattle.race_requests.specs.{Choices.meet_event, Possible.{goes_on, meet_goes_on}, Rows.{capacities, waits, alone}}
+use Rattle.race_requests.specs.Rows.{HasWay, HasRow, Stays, sends_on, receives_from, three_started, one_meets_main}
 use Rattle.race_requests.specs.Rows.{sends_or_receives, receives_or_sends, HasBothWays, FailsAlone, is_sound_in}
 
 -- the table has a row for a start and one for an exit, and in a run without events each goes on by it

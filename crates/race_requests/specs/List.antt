@@ -1,9 +1,6 @@
 -- A list of requests, and what stands for each. (Our own)
 use Rattle.std.specs.Prelude.{ℕ, ◌<◌, List, [], ◌∷◌, Bool, true, false, get_or}
-use Rattle.race_requests.specs.declared.list.Brief.{Brief}
-use Rattle.race_requests.specs.declared.list.BriefAsk.{BriefAsk}
-use Rattle.race_requests.specs.declared.request.Ask.{Ask}
-use Rattle.race_requests.specs.declared.request.Offer.{Offer}
+use Rattle.race_requests.specs.declared.{list.{Brief.Brief, BriefAsk.BriefAsk}, request.{Ask.Ask, Offer.Offer}}
 use Rattle.race_requests.specs.declared.request.Request.{Request}
 
 -- a `RequestList` as its callers see it: the requests, and whether there is room for one more

@@ -1,13 +1,10 @@
 -- What offers say, what the parts of a list of them stand for, and which lists are equal. (The Go Programming Language
 -- Specification, "Select statements")
-use Rattle.std.proofs.Common.{◌≡◌, ℕ, ◌==◌, ◌&&◌, Bool, true, false, List, [], ◌∷◌, Option, Some, None, Decides, refl, sym, ap, true≢false}
-use Rattle.std.proofs.lemmas.Bool.Decides.{Decides-eqb}
-use Rattle.std.proofs.lemmas.Slice.Eq.{slice_eq-Decides}
-use Rattle.std.specs.Cmp.Lexicographic.{pointwise}
+use Rattle.std.proofs.Common.{◌≡◌, ℕ, ◌==◌, ◌&&◌, Bool, true, false, List, [], ◌∷◌, Option, Some, None, Decides, refl}
+use Rattle.std.proofs.{Common.{sym, ap, true≢false}, lemmas.{Bool.Decides.Decides-eqb, Slice.Eq.slice_eq-Decides}}
 use Rattle.std.specs.Cmp.{IsEquivalence, IsPartialEquivalence, partial_equiv_from_equiv, decided}
-use Rattle.race_records.specs.declared.cases.Case.{Case}
-use Rattle.race_records.specs.declared.cases.Dir.{Dir}
-use Rattle.race_records.specs.Cases.{kept_chan, same_chan}
+use Rattle.std.specs.Cmp.Lexicographic.{pointwise}
+use Rattle.race_records.specs.{declared.cases.{Case.Case, Dir.Dir}, Cases.{kept_chan, same_chan}}
 use Rattle.race_requests.specs.declared.request.Offer.{Offer}
 
 -- the channel of an offer

@@ -1,19 +1,13 @@
 -- Where a request can go on, in the words of the run so far. (The Go Programming Language Specification, "Go statements", "Send statements", "Receive
 -- operator", "Close", "Select statements"; package sync)
-use Rattle.std.specs.Prelude.{◌≡◌, ℕ, ◌≤◌, if◌then◌else◌, ◌==◌, ◌||◌, ◌&&◌, not, nat_lt, nat_le, cond}
-use Rattle.std.specs.Prelude.{Bool, true, false, List, length, map, slice_get, Option, Some}
-use Rattle.std.specs.Prelude.{None, is_none}
+use Rattle.std.specs.Prelude.{◌≡◌, ℕ, ◌≤◌, if◌then◌else◌, ◌==◌, ◌||◌, ◌&&◌, not, nat_lt, nat_le, cond, Bool, true}
+use Rattle.std.specs.Prelude.{false, List, length, map, slice_get, Option, Some, None, is_none}
 use Rattle.std.specs.List.{list_any, list_all}
-use Rattle.race_records.specs.declared.cases.TheConstants.{MAX_CASES}
-use Rattle.race_records.specs.declared.event.Event.{Event}
-use Rattle.race_records.specs.declared.kind.Kind.{Kind}
+use Rattle.race_records.specs.declared.{cases.TheConstants.MAX_CASES, event.Event.Event, kind.Kind.Kind}
 use Rattle.race_records.specs.Parts.{chan_is_in_range}
-use Rattle.race_model.specs.Events.{gives}
-use Rattle.race_model.specs.State.{started, is_closed, buffered, front, is_held, is_read_held, is_begun, is_ended, innermost}
-use Rattle.race_model.specs.Legal.{is_ready}
-use Rattle.race_requests.specs.declared.request.Ask.{Ask}
-use Rattle.race_requests.specs.declared.request.Offer.{Offer}
-use Rattle.race_requests.specs.Offers.{case_of, kept}
+use Rattle.race_model.specs.{Events.gives, State.{started, is_closed, buffered, front, is_held, is_read_held, is_begun}}
+use Rattle.race_model.specs.{State.{is_ended, innermost}, Legal.is_ready}
+use Rattle.race_requests.specs.{declared.request.{Ask.Ask, Offer.Offer}, Offers.{case_of, kept}}
 
 -- who sends goes on alone where the channel is closed, which is a fault, or where its buffer has room
 abbrev pub sender_goes_on : (ℕ → ℕ) → List Event → Option ℕ → Bool

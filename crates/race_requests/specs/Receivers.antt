@@ -1,7 +1,6 @@
 -- Spans of places: a waiting request that receives from a channel stands in the channel's span.
 use Rattle.std.specs.Prelude.{ℕ, ◌≡◌, ◌<◌, ◌≤◌, ◌%◌, false, List, slice_index}
-use Rattle.race_requests.specs.declared.request.Waiter.{Waiter}
-use Rattle.race_requests.specs.Waiting.{receives_at}
+use Rattle.race_requests.specs.{declared.request.Waiter.Waiter, Waiting.receives_at}
 
 -- the first place of each span, and one more than the last
 pub record Spans : Type 0 where

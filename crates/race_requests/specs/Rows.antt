@@ -2,22 +2,12 @@
 -- statements", "Receive operator",
 -- "Close", "Select statements"; package sync)
 use Rattle.std.specs.Prelude.{ℕ, ◌≡◌, ◌+◌, Bool, true, false, List, [], ◌∷◌, Option, Some, None}
-use Rattle.race_records.specs.declared.cases.Case.{Case}
-use Rattle.race_records.specs.declared.cases.Dir.{Dir}
-use Rattle.race_records.specs.declared.event.Event.{Event}
-use Rattle.race_records.specs.declared.event.Op.{Op}
-use Rattle.race_records.specs.declared.event.Op.TheVariants.{Go, Meet}
-use Rattle.race_records.specs.declared.kind.Object.{Object}
-use Rattle.race_records.specs.declared.version.Version.{Version}
+use Rattle.race_records.specs.declared.{cases.{Case.Case, Dir.Dir}, event.{Event.Event, Op.Op}}
+use Rattle.race_records.specs.declared.{event.Op.TheVariants.{Go, Meet}, kind.Object.Object, version.Version.Version}
 use Rattle.race_records.specs.Declarations.{DeclsState}
 use Rattle.race_model.specs.Examples.{does}
-use Rattle.race_requests.specs.declared.request.Answer.{Answer}
-use Rattle.race_requests.specs.declared.request.Ask.{Ask}
-use Rattle.race_requests.specs.declared.request.Offer.{Offer}
-use Rattle.race_requests.specs.declared.request.Waiter.{Waiter}
-use Rattle.race_requests.specs.Table.{IsRow}
-use Rattle.race_requests.specs.Choices.{choice, choices, event_of}
-use Rattle.race_requests.specs.Sound.{is_sound}
+use Rattle.race_requests.specs.{declared.request.{Answer.Answer, Ask.Ask, Offer.Offer, Waiter.Waiter}, Table.IsRow}
+use Rattle.race_requests.specs.{Choices.{choice, choices, event_of}, Sound.is_sound}
 
 -- as many values fit into a channel as its number says: channel 0 is unbuffered
 abbrev pub capacities : ℕ → ℕ

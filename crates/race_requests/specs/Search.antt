@@ -1,8 +1,6 @@
 -- Which choice is found by its number.
 use Rattle.std.specs.Prelude.{ℕ, ◌≡◌, ◌+◌, ◌%◌, List, length, slice_get, Option, Some}
-use Rattle.race_requests.specs.declared.choice.Choice.{Choice}
-use Rattle.race_requests.specs.declared.search.Found.{Found}
-use Rattle.race_requests.specs.declared.search.Found.TheVariants.{At, Left}
+use Rattle.race_requests.specs.declared.{choice.Choice.Choice, search.Found.{Found, TheVariants.{At, Left}}}
 
 -- it is the choice number k of the list, or how far k lies behind the list's end
 abbrev pub IsFound : List Choice → ℕ → Found → Type 0

@@ -1,17 +1,10 @@
 -- Which requests are bad. (Our own; compare The Go Programming Language Specification, "Go statements"; package sync)
-use Rattle.std.specs.Prelude.{ℕ, ◌==◌, ◌||◌, ◌&&◌, not, nat_lt, Bool, true, false, List, length, Option, Some, None, is_some}
-use Rattle.std.specs.List.{list_any}
-use Rattle.std.specs.Option.{option_map_or}
-use Rattle.race_records.specs.declared.event.Event.{Event}
-use Rattle.race_records.specs.declared.parts.Verb.{Verb}
-use Rattle.race_records.specs.declared.version.Version.{Version}
-use Rattle.race_records.specs.Declarations.{DeclsState, is_rw}
-use Rattle.race_records.specs.Parts.{has_verb}
-use Rattle.race_model.specs.Events.{gives}
-use Rattle.race_model.specs.State.{started, innermost}
-use Rattle.race_requests.specs.declared.request.Ask.{Ask}
-use Rattle.race_requests.specs.declared.request.Waiter.{Waiter}
-use Rattle.race_requests.specs.Waiting.{is_declared}
+use Rattle.std.specs.Prelude.{ℕ, ◌==◌, ◌||◌, ◌&&◌, not, nat_lt, Bool, true, false, List, length, Option, Some, None}
+use Rattle.std.specs.{Prelude.is_some, List.list_any, Option.option_map_or}
+use Rattle.race_records.specs.declared.{event.Event.Event, parts.Verb.Verb, version.Version.Version}
+use Rattle.race_records.specs.{Declarations.{DeclsState, is_rw}, Parts.has_verb}
+use Rattle.race_model.specs.{Events.gives, State.{started, innermost}}
+use Rattle.race_requests.specs.{declared.request.{Ask.Ask, Waiter.Waiter}, Waiting.is_declared}
 
 -- the lock that the ask names and that has to be an rwmutex
 abbrev pub rwmutex_asked : Ask → Option ℕ

@@ -1,19 +1,14 @@
 -- The table of requests: what a goroutine that asks does in an event, and what it is told. (The Go Programming Language
 -- Specification, "Go statements",
 -- "Send statements", "Receive operator", "Close", "Select statements", "Run-time panics"; package sync)
-use Rattle.std.specs.Prelude.{ℕ, ◌≡◌, if◌then◌else◌, ◌==◌, ◌&&◌, cond, Bool, true, false, Option, Some, None, option_map, List, [], ◌∷◌}
-use Rattle.std.specs.Prelude.{length, map, slice_get}
-use Rattle.race_records.specs.Cases.{same_cases}
-use Rattle.race_records.specs.declared.event.Cause.TheVariants.{SendClosed, CloseClosed, CloseNil, UnlockFree, RUnlockFree}
-use Rattle.race_records.specs.declared.event.Event.{Event}
-use Rattle.race_records.specs.declared.event.Op.{Op}
-use Rattle.race_records.specs.declared.event.Op.TheVariants.{Go, Exit, Read, Write, Send, Recv, Meet, RecvClosed, Close, Default, Lock, Unlock, RLock, RUnlock}
-use Rattle.race_records.specs.declared.event.Op.TheVariants.{TryLock, TryRLock, TryFail, OnceBegin, OnceEnd, OnceDone, Fault}
-use Rattle.race_requests.specs.declared.request.Answer.{Answer}
-use Rattle.race_requests.specs.declared.request.Ask.{Ask}
-use Rattle.race_requests.specs.declared.request.Offer.{Offer}
-use Rattle.race_requests.specs.declared.request.Step.{Step}
-use Rattle.race_requests.specs.Offers.{case_of}
+use Rattle.std.specs.Prelude.{ℕ, ◌≡◌, if◌then◌else◌, ◌==◌, ◌&&◌, cond, Bool, true, false, Option, Some, None}
+use Rattle.std.specs.Prelude.{option_map, List, [], ◌∷◌, length, map, slice_get}
+use Rattle.race_records.specs.{Cases.same_cases, declared.event.Cause.TheVariants.{SendClosed, CloseClosed, CloseNil}}
+use Rattle.race_records.specs.declared.event.{Cause.TheVariants.{UnlockFree, RUnlockFree}, Event.Event, Op.Op}
+use Rattle.race_records.specs.declared.event.Op.TheVariants.{Go, Exit, Read, Write, Send, Recv, Meet, RecvClosed, Close}
+use Rattle.race_records.specs.declared.event.Op.TheVariants.{Default, Lock, Unlock, RLock, RUnlock, TryLock, TryRLock}
+use Rattle.race_records.specs.declared.event.Op.TheVariants.{TryFail, OnceBegin, OnceEnd, OnceDone, Fault}
+use Rattle.race_requests.specs.{declared.request.{Answer.Answer, Ask.Ask, Offer.Offer, Step.Step}, Offers.case_of}
 
 -- what a request offers to do with channels: a send or a receive is one offer, and a select has all of its own
 abbrev pub offers_of : Ask → List Offer

@@ -2,17 +2,11 @@
 -- receiver wait for one another)
 use Rattle.std.specs.Prelude.{ℕ, ◌==◌, ◌&&◌, not, nat_lt, Bool, false, List, slice_get, Option, Some, None}
 use Rattle.std.specs.List.{list_any}
-use Rattle.race_records.specs.declared.event.Event.{Event}
-use Rattle.race_records.specs.declared.kind.Kind.{Kind}
+use Rattle.race_records.specs.declared.{event.Event.Event, kind.Kind.Kind}
 use Rattle.race_records.specs.Declarations.{Declaration, capacity_of, counts_of}
 use Rattle.race_model.specs.State.{is_closed}
-use Rattle.race_requests.specs.declared.choice.Choice.{Choice}
-use Rattle.race_requests.specs.declared.request.Ask.{Ask}
-use Rattle.race_requests.specs.declared.request.Offer.{Offer}
-use Rattle.race_requests.specs.declared.request.Waiter.{Waiter}
-use Rattle.race_requests.specs.Choices.{choices}
-use Rattle.race_requests.specs.Possible.{ask_is_in_range}
-use Rattle.race_requests.specs.Table.{offers_of}
+use Rattle.race_requests.specs.declared.{choice.Choice.Choice, request.{Ask.Ask, Offer.Offer, Waiter.Waiter}}
+use Rattle.race_requests.specs.{Choices.choices, Possible.ask_is_in_range, Table.offers_of}
 
 -- a `WaitingList` as its callers see it: the declarations, the events so far, and the requests in order
 pub record WaitingState : Type 0 where

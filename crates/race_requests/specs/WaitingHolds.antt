@@ -1,13 +1,8 @@
 -- What holds of every `WaitingList`.
 use Rattle.std.specs.Prelude.{◌≤◌, List, length, IsTrue, All}
-use Rattle.race_records.specs.declared.event.Event.{Event}
-use Rattle.race_records.specs.declared.kind.TheConstants.{MAX_GOROUTINES}
-use Rattle.race_records.specs.Declarations.{Declaration}
-use Rattle.race_legal.specs.ReplayState.{ReplayState}
-use Rattle.race_legal.specs.StandsFor.{StandsFor}
-use Rattle.race_requests.specs.declared.request.Waiter.{Waiter}
-use Rattle.race_requests.specs.Receivers.{Spans, AreInSpans}
-use Rattle.race_requests.specs.Waiting.{is_declared}
+use Rattle.race_records.specs.{declared.{event.Event.Event, kind.TheConstants.MAX_GOROUTINES}, Declarations.Declaration}
+use Rattle.race_legal.specs.{ReplayState.ReplayState, StandsFor.StandsFor}
+use Rattle.race_requests.specs.{declared.request.Waiter.Waiter, Receivers.{Spans, AreInSpans}, Waiting.is_declared}
 
 -- the replay stands for the events so far, all that the requests name is declared, they aren't too many, and who receives
 -- from a channel stands in its span

@@ -1,15 +1,11 @@
 //! The requests that wait, where the run stands, and which of their choices is picked.
-ghost use Rattle.std.specs.Prelude.{ℕ, ◌≡◌, ◌≤◌, ◌<◌, ◌+◌, ◌==◌, ◌&&◌, not, false, Some, IsTrue, IfSome, All, length, slice_get};
-ghost use Rattle.std.specs.List.{list_any};
-ghost use Rattle.std.specs.Option.{option_copied};
-ghost use Rattle.race_records.specs.declared.kind.Kind.{Kind};
-ghost use Rattle.race_records.specs.declared.kind.TheConstants.{MAX_GOROUTINES};
+ghost use Rattle.std.specs.Prelude.{ℕ, ◌≡◌, ◌≤◌, ◌<◌, ◌+◌, ◌==◌, ◌&&◌, not, false, Some, IsTrue, IfSome, All, length};
+ghost use Rattle.std.specs.{Prelude.slice_get, List.list_any, Option.option_copied};
+ghost use Rattle.race_records.specs.declared.kind.{Kind.Kind, TheConstants.MAX_GOROUTINES};
 ghost use Rattle.race_records.specs.Declarations.{capacity_of, count_of};
 ghost use Rattle.race_legal.specs.StandsFor.{StandsFor};
+ghost use Rattle.race_requests.specs.{Possible.offer_is_in_range, Search.picked, Table.offers_of};
 ghost use Rattle.race_requests.specs.Choices as spec;
-ghost use Rattle.race_requests.specs.Possible.{offer_is_in_range};
-ghost use Rattle.race_requests.specs.Search.{picked};
-ghost use Rattle.race_requests.specs.Table.{offers_of};
 ghost use Rattle.race_requests.specs.Waiting as list;
 
 use crate::meet::offer_at;
@@ -35,8 +31,7 @@ pub struct WaitingList<'a, A: Allocator = Global, B: Allocator = Global> {
 }
 
 impl<'a, A: Allocator, B: Allocator> Model for WaitingList<'a, A, B> {
-    ghost use Rattle.race_requests.specs.Waiting.{WaitingState};
-    ghost use Rattle.race_requests.specs.WaitingHolds.{WaitingHolds};
+    ghost use Rattle.race_requests.specs.{Waiting.WaitingState, WaitingHolds.WaitingHolds};
 
     ghost Value = { WaitingState };
 

@@ -1,23 +1,8 @@
 //! The laws of the table and of the choices. Each function does nothing, and its contract is the law.
-ghost use Rattle.race_requests.specs.Laws.{
-  EachMeetGoesOn,
-  EachRowGoesOn,
-  MeetsAreListedBySender,
-  NobodyMeetsItself,
-  OthersStandAtTheirPlace,
-  RowsOfCloses,
-  RowsOfGoroutines,
-  RowsOfLocks,
-  RowsOfMeets,
-  RowsOfOnces,
-  RowsOfReceives,
-  RowsOfSelects,
-  RowsOfSends,
-  RowsOfTries,
-  RowsOfVariables,
-  SelectsMeet,
-  SoundTries,
-};
+ghost use Rattle.race_requests.specs.Laws.{EachMeetGoesOn, EachRowGoesOn, MeetsAreListedBySender, NobodyMeetsItself};
+ghost use Rattle.race_requests.specs.Laws.{OthersStandAtTheirPlace, RowsOfCloses, RowsOfGoroutines, RowsOfLocks};
+ghost use Rattle.race_requests.specs.Laws.{RowsOfMeets, RowsOfOnces, RowsOfReceives, RowsOfSelects, RowsOfSends};
+ghost use Rattle.race_requests.specs.Laws.{RowsOfTries, RowsOfVariables, SelectsMeet, SoundTries};
 
 /// The table has a row for a start and one for an exit, and in a run without events each goes on by it.
 pub fn rows_of_goroutines()

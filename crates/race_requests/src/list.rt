@@ -1,7 +1,8 @@
 //! Requests one behind another, each in 24 bytes but for the offers of a select: a request alone has room for 16 offers.
-ghost use Rattle.std.specs.Prelude.{◌≡◌, ◌<◌, ◌++◌, ◌∷◌, [], true, length, map, slice_get, Some, OnOk, OnErr, vec_len, vec_capacity};
-ghost use Rattle.race_requests.specs.List as spec;
+ghost use Rattle.std.specs.Prelude.{◌≡◌, ◌<◌, ◌++◌, ◌∷◌, [], true, length, map, slice_get, Some, OnOk, OnErr, vec_len};
+ghost use Rattle.std.specs.Prelude.{vec_capacity};
 ghost use Rattle.race_requests.specs.List.{IsWithin, AreWithin, offers_in};
+ghost use Rattle.race_requests.specs.List as spec;
 
 use crate::{Ask, Offers, Request};
 use std::alloc::{AllocError, Allocator, Global};

@@ -1,14 +1,12 @@
 //! Which event a waiting request makes alone, after the events so far.
-ghost use Rattle.std.specs.Prelude.{ℕ, ◌≡◌, ◌==◌, cond, Option, Some, None, IsTrue, IfSome};
-ghost use Rattle.std.specs.List.{list_all};
+ghost use Rattle.std.specs.{Prelude.{ℕ, ◌≡◌, ◌==◌, cond, Option, Some, None, IsTrue, IfSome}, List.list_all};
 ghost use Rattle.race_records.specs.declared.event.Cause.TheVariants.{SendClosed, CloseClosed, UnlockFree, RUnlockFree};
-ghost use Rattle.race_records.specs.declared.event.Op.TheVariants.{Send, Recv, RecvClosed, Close, Unlock, RUnlock, TryLock, TryRLock, TryFail};
-ghost use Rattle.race_records.specs.declared.event.Op.TheVariants.{OnceBegin, OnceDone, Fault};
-ghost use Rattle.race_records.specs.Parts.{chan_is_in_range, op_is_in_range};
-ghost use Rattle.race_legal.specs.ReplayState.{counts_in};
-ghost use Rattle.race_legal.specs.StandsFor.{ForEachPast};
-ghost use Rattle.race_requests.specs.Choices as spec;
+ghost use Rattle.race_records.specs.declared.event.Op.TheVariants.{Send, Recv, RecvClosed, Close, Unlock, RUnlock};
+ghost use Rattle.race_records.specs.declared.event.Op.TheVariants.{TryLock, TryRLock, TryFail, OnceBegin, OnceDone};
+ghost use Rattle.race_records.specs.{declared.event.Op.TheVariants.Fault, Parts.{chan_is_in_range, op_is_in_range}};
+ghost use Rattle.race_legal.specs.{ReplayState.counts_in, StandsFor.ForEachPast};
 ghost use Rattle.race_requests.specs.Possible.{ask_is_in_range, offer_is_in_range};
+ghost use Rattle.race_requests.specs.Choices as spec;
 
 use crate::possible::is_default_way;
 use crate::{Ask, Offer, Offers, Waiter};

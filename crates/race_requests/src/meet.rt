@@ -1,13 +1,10 @@
 //! Which two requests meet, and which event they make.
 ghost use Rattle.std.specs.Prelude.{ℕ, ◌≡◌, ◌<◌, List, slice_get, Option, Some, IsTrue, IfSome};
-ghost use Rattle.race_records.specs.declared.kind.Kind.{Kind};
-ghost use Rattle.race_records.specs.declared.event.Event.{Event};
+ghost use Rattle.race_records.specs.declared.{kind.Kind.Kind, event.Event.Event};
 ghost use Rattle.race_records.specs.Declarations.{capacity_of, count_of};
-ghost use Rattle.race_legal.specs.ReplayState.{counts_in};
-ghost use Rattle.race_legal.specs.StandsFor.{StandsFor};
+ghost use Rattle.race_legal.specs.{ReplayState.counts_in, StandsFor.StandsFor};
+ghost use Rattle.race_requests.specs.{Table.offers_of, Possible.{handed, ask_is_in_range, offer_is_in_range}};
 ghost use Rattle.race_requests.specs.Choices as spec;
-ghost use Rattle.race_requests.specs.Table.{offers_of};
-ghost use Rattle.race_requests.specs.Possible.{handed, ask_is_in_range, offer_is_in_range};
 
 use crate::{Ask, Offer, Waiter};
 use race_legal::Replay;

@@ -1,9 +1,9 @@
 //! The offers of a select.
-ghost use Rattle.std.specs.Prelude.{◌≡◌, ◌<◌, ◌≤◌, ◌↔◌, [], ◌∷◌, ◌++◌, length, map, slice_get, IsTrue, IfSome, Some, IsErr, OnOk, OnErr};
+ghost use Rattle.std.specs.Prelude.{◌≡◌, ◌<◌, ◌≤◌, ◌↔◌, [], ◌∷◌, ◌++◌, length, map, slice_get, IsTrue, IfSome, Some};
+ghost use Rattle.std.specs.Prelude.{IsErr, OnOk, OnErr};
 ghost use Rattle.race_records.specs.declared.cases.TheConstants.{MAX_CASES};
+ghost use Rattle.race_requests.specs.{Offers.{case_of, chan_of}, Possible.KeepsRange};
 ghost use Rattle.race_requests.specs.Offers as spec;
-ghost use Rattle.race_requests.specs.Offers.{case_of, chan_of};
-ghost use Rattle.race_requests.specs.Possible.{KeepsRange};
 
 use crate::Offer;
 use race_records::{Case, Cases, Dir, MAX_CASES};
@@ -26,8 +26,7 @@ pub struct Offers {
 
 impl Model for Offers {
     ghost use Rattle.std.specs.Prelude.{List, ◌≡◌, ◌≤◌, length};
-    ghost use Rattle.race_requests.specs.declared.request.Offer.{Offer};
-    ghost use Rattle.race_requests.specs.Offers.{offers_with};
+    ghost use Rattle.race_requests.specs.{declared.request.Offer.Offer, Offers.offers_with};
 
     ghost Value = { List Offer };
 

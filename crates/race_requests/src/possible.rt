@@ -1,13 +1,12 @@
 //! Which requests can go on alone after the events so far, asked of a replay of these events.
-ghost use Rattle.std.specs.Prelude.{ℕ, ◌≡◌, ◌<◌, ◌==◌, ◌&&◌, ◌||◌, not, nat_lt, Some, None, false, List, length, IsTrue};
-ghost use Rattle.race_records.specs.declared.event.Event.{Event};
-ghost use Rattle.race_records.specs.Declarations.{capacity_of, count_of};
-ghost use Rattle.race_legal.specs.ReplayState.{counts_in};
-ghost use Rattle.race_legal.specs.StandsFor.{StandsFor};
+ghost use Rattle.std.specs.Prelude.{ℕ, ◌≡◌, ◌<◌, ◌==◌, ◌&&◌, ◌||◌, not, nat_lt, Some, None, false, List, length};
+ghost use Rattle.std.specs.Prelude.{IsTrue};
+ghost use Rattle.race_records.specs.{declared.event.Event.Event, Declarations.{capacity_of, count_of}};
 ghost use Rattle.race_records.specs.Parts.{chan_is_in_range};
+ghost use Rattle.race_legal.specs.{ReplayState.counts_in, StandsFor.StandsFor};
+ghost use Rattle.race_requests.specs.Possible.{ask_is_in_range};
 ghost use Rattle.race_requests.specs.Choices as spec;
 ghost use Rattle.race_requests.specs.Possible as possible;
-ghost use Rattle.race_requests.specs.Possible.{ask_is_in_range};
 
 use crate::making::{event_alone, lone_op};
 use crate::{Ask, Offers, Waiter};

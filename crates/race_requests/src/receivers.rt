@@ -1,9 +1,8 @@
 //! Where the waiting requests stand that may receive from a channel.
 ghost use Rattle.std.specs.Prelude.{ℕ, ◌≡◌, ◌<◌, ◌≤◌, ◌+◌, length, true, Some};
 ghost use Rattle.race_records.specs.declared.kind.TheConstants.{MAX_GOROUTINES};
-ghost use Rattle.race_requests.specs.declared.request.Offer.TheVariants.{Recv};
+ghost use Rattle.race_requests.specs.{declared.request.Offer.TheVariants.Recv, Waiting.receives};
 ghost use Rattle.race_requests.specs.Receivers as spec;
-ghost use Rattle.race_requests.specs.Waiting.{receives};
 
 use crate::meet::offer_at;
 use crate::table::offer_count;

@@ -3,8 +3,7 @@
 //! All tuples of requests and ways are gone through in lexicographic order, and those that are admitted are counted. What is
 //! admitted the caller tells, so that nothing here knows of channels but one thing: where the next partner may be.
 ghost use Rattle.std.specs.Prelude.{◌≡◌, ◌<◌, ◌≤◌, ◌%◌, ◌∷◌, [], length, filter, flat_map, slice_get};
-ghost use Rattle.race_requests.specs.Choices.{below, choice, with_partner, of_way, tuples};
-ghost use Rattle.race_requests.specs.Search.{IsFound, picked};
+ghost use Rattle.race_requests.specs.{Choices.{below, choice, with_partner, of_way, tuples}, Search.{IsFound, picked}};
 
 use crate::Choice;
 use race_records::MAX_GOROUTINES;
@@ -22,8 +21,7 @@ pub enum Found {
 pub trait Board {
     ghost use Rattle.std.specs.Prelude.{ℕ, ◌≡◌, ◌+◌, ◌<◌, ◌≤◌, Bool, false, IsTrue};
     ghost use Rattle.race_records.specs.declared.kind.TheConstants.{MAX_GOROUTINES};
-    ghost use Rattle.race_requests.specs.declared.choice.Choice.{Choice};
-    ghost use Rattle.race_requests.specs.Choices.{choice};
+    ghost use Rattle.race_requests.specs.{declared.choice.Choice.Choice, Choices.choice};
 
     ghost size: { Self → ℕ };
 

@@ -1,14 +1,11 @@
 //! Which requests are bad.
 ghost use Rattle.std.specs.Prelude.{◌≡◌, ◌<◌, ◌||◌, ◌&&◌, not, nat_le, length, is_some, IsTrue};
-ghost use Rattle.race_records.specs.declared.cases.TheConstants.{MAX_CASES};
 ghost use Rattle.std.specs.List.{list_any, list_all};
-ghost use Rattle.race_records.specs.declared.kind.Kind.{Kind};
-ghost use Rattle.race_records.specs.Declarations.{count_of, counts_of, is_rw};
-ghost use Rattle.race_records.specs.Parts.{chan_is_in_range};
+ghost use Rattle.race_records.specs.declared.{cases.TheConstants.MAX_CASES, kind.Kind.Kind};
+ghost use Rattle.race_records.specs.{Declarations.{count_of, counts_of, is_rw}, Parts.chan_is_in_range};
 ghost use Rattle.race_model.specs.Events.{gives};
+ghost use Rattle.race_legal.specs.{ReplayState.counts_in, StandsFor.ForEachPast};
 ghost use Rattle.race_model.specs.State as words;
-ghost use Rattle.race_legal.specs.ReplayState.{counts_in};
-ghost use Rattle.race_legal.specs.StandsFor.{ForEachPast};
 ghost use Rattle.race_requests.specs.Possible as possible;
 ghost use Rattle.race_requests.specs.Sound as spec;
 

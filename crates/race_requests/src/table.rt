@@ -1,10 +1,9 @@
 //! The rows of the table: what a goroutine is told, and which event a step of its log fits.
 ghost use Rattle.std.specs.Prelude.{ℕ, ◌≡◌, ◌≤◌, ◌↔◌, if◌then◌else◌, length, Option, Some, None, IsTrue, option_map};
-ghost use Rattle.race_requests.specs.declared.request.Answer.{Answer};
-ghost use Rattle.race_requests.specs.Choices.{ways};
+ghost use Rattle.race_requests.specs.{declared.request.Answer.Answer, Choices.ways, Table.{offers_of, done_by, IsRow}};
+ghost use Rattle.race_requests.specs.Table.{Fits, CanMake, told_if, told_sender, told_receiver, told_closer, told_by};
+ghost use Rattle.race_requests.specs.Table.{chosen, told_offer, told_selector, told_at};
 ghost use Rattle.race_requests.specs.Table as spec;
-ghost use Rattle.race_requests.specs.Table.{offers_of, done_by, IsRow, Fits, CanMake};
-ghost use Rattle.race_requests.specs.Table.{told_if, told_sender, told_receiver, told_closer, told_by, chosen, told_offer, told_selector, told_at};
 
 use crate::possible::is_default_way;
 use crate::{Answer, Ask, Offer, Offers, Step};

@@ -1,38 +1,19 @@
 -- The table of what asks say, and its way back; and the table of the words of lines.
-use Rattle.std.proofs.Common.{◌≡◌, ℕ, ◌^◌, ◌&&◌, Bool, true, false, true≢false, nat_lt, if◌then◌else◌, List, []}
-use Rattle.std.proofs.Common.{◌∷◌, ◌++◌, map, codes, Option, Some, None, IfSome, option_map, refl, sym, ap}
-use Rattle.std.proofs.Common.{subst, ◌∙◌}
-use Rattle.std.proofs.lemmas.Option.{none-some, same_Some}
-use Rattle.std.proofs.lemmas.Slice.Eq.{bytes_eq-Decides}
-use Rattle.std.specs.List.{list_all}
-use Rattle.std.specs.Option.{option_and_then}
-use Rattle.std.specs.Str.{bytes_eq}
-use Rattle.race_records.specs.declared.kind.Kind.{Kind}
-use Rattle.race_records.specs.declared.kind.Named.{Named}
-use Rattle.race_records.specs.declared.parts.Part.{Part}
-use Rattle.race_records.specs.declared.parts.PartKind.{PartKind}
-use Rattle.race_records.specs.declared.version.Version.{Version}
-use Rattle.race_records.specs.Declarations.{Declaration, counts_of, is_rw}
-use Rattle.race_records.specs.Name.{is_place_byte}
+use Rattle.std.proofs.Common.{◌≡◌, ℕ, ◌^◌, ◌&&◌, Bool, true, false, true≢false, nat_lt, if◌then◌else◌, List, [], ◌∷◌}
+use Rattle.std.proofs.Common.{◌++◌, map, codes, Option, Some, None, IfSome, option_map, refl, sym, ap, subst, ◌∙◌}
+use Rattle.std.{proofs.lemmas.{Option.{none-some, same_Some}, Slice.Eq.bytes_eq-Decides}, specs.List.list_all}
+use Rattle.std.specs.{Option.option_and_then, Str.bytes_eq}
+use Rattle.race_records.specs.declared.{kind.{Kind.Kind, Named.Named}, parts.{Part.Part, PartKind.PartKind}}
+use Rattle.race_records.specs.declared.{version.Version.Version, nouns.Noun.Noun}
+use Rattle.race_records.specs.{Declarations.{Declaration, counts_of, is_rw}, Name.is_place_byte, Parts.object_alone}
+use Rattle.race_records.specs.Parts.{object_value, suit, part_fits, part_is_limited}
 use Rattle.race_records.proofs.PartLaws.{named_by, alone_again, valued_again}
-use Rattle.race_records.specs.Parts.{object_alone, object_value, suit, part_fits, part_is_limited}
-use Rattle.race_requests.specs.declared.request.Ask.{Ask}
-use Rattle.race_requests.specs.declared.request.Offer.{Offer}
-use Rattle.race_requests.specs.Sound.{has_ask}
-use Rattle.race_text.specs.declared.form.Word.{Word}
-use Rattle.race_text.specs.Fault.{declared_as}
-use Rattle.race_text.specs.Form.{word_named}
-use Rattle.race_text.specs.Writing.{noun_text, part_text}
-use Rattle.race_text.proofs.WantedParts.{are_wanted}
-use Rattle.race_text.proofs.WordLemmas.{both}
-use Rattle.race_records.specs.declared.nouns.Noun.{Noun}
-use Rattle.race_script.specs.declared.form.AskWord.{AskWord}
-use Rattle.race_script.specs.declared.form.LineWord.{LineWord}
-use Rattle.race_script.specs.declared.form.TheConstants.{BODY_WORDS}
-use Rattle.race_script.specs.Form.{lookup, noun_or, line_word, has_ask_word, has_line_word, as_had, line_word_in, word_on_nil, ask_kinds, value_alone}
-use Rattle.race_script.specs.Form.{if_none, ask_by}
-use Rattle.race_script.specs.Program.{ask_fits}
-use Rattle.race_script.specs.Text.{ask_words}
+use Rattle.race_requests.specs.{declared.request.{Ask.Ask, Offer.Offer}, Sound.has_ask}
+use Rattle.race_text.specs.{declared.form.Word.Word, Fault.declared_as, Form.word_named, Writing.{noun_text, part_text}}
+use Rattle.race_text.proofs.{WantedParts.are_wanted, WordLemmas.both}
+use Rattle.race_script.specs.{declared.form.{AskWord.AskWord, LineWord.LineWord, TheConstants.BODY_WORDS}, Form.lookup}
+use Rattle.race_script.specs.Form.{noun_or, line_word, has_ask_word, has_line_word, as_had, line_word_in, word_on_nil}
+use Rattle.race_script.specs.{Form.{ask_kinds, value_alone, if_none, ask_by}, Program.ask_fits, Text.ask_words}
 
 -- an ask's word and parts
 abbrev pub SaidAsk : Type 0

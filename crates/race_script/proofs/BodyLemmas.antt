@@ -1,19 +1,15 @@
 -- Where a body ends, and where the functions of its onces do.
-use Rattle.std.proofs.Common.{◌≡◌, ℕ, zero, suc, ◌+◌, ◌-◌, ◌<◌, ◌≤◌, ◌==◌, ◌&&◌, Bool, true, false, true≢false, nat_lt, nat_le}
-use Rattle.std.proofs.Common.{if◌then◌else◌, List, [], ◌∷◌, length, drop, get_or, slice_get, Option, Some, None, refl, sym, ap}
-use Rattle.std.proofs.Common.{◌∙◌, arith}
-use Rattle.std.proofs.lemmas.Bool.Decides.{nat_tests}
-use Rattle.std.proofs.lemmas.Option.{none-some, same_Some, slice_get_within, get_or_from_slice_get}
-use Rattle.std.proofs.lemmas.List.{length-map, get_or-map, drop_all}
-use Rattle.std.proofs.lemmas.List.Sums.{AllPass-from_list_all}
-use Rattle.std.specs.List.{list_all}
+use Rattle.std.proofs.Common.{◌≡◌, ℕ, zero, suc, ◌+◌, ◌-◌, ◌<◌, ◌≤◌, ◌==◌, ◌&&◌, Bool, true, false, true≢false, nat_lt}
+use Rattle.std.proofs.Common.{nat_le, if◌then◌else◌, List, [], ◌∷◌, length, drop, get_or, slice_get, Option, Some, None}
+use Rattle.std.proofs.{Common.{refl, sym, ap, ◌∙◌, arith}, lemmas.{Bool.Decides.nat_tests, Option.none-some}}
+use Rattle.std.proofs.lemmas.Option.{same_Some, slice_get_within, get_or_from_slice_get}
+use Rattle.std.{proofs.lemmas.List.{length-map, get_or-map, drop_all, Sums.AllPass-from_list_all}, specs.List.list_all}
 use Rattle.std.specs.Option.{option_map_or}
-use Rattle.race_requests.specs.declared.request.Ask.{Ask}
-use Rattle.race_requests.specs.declared.request.Request.{Request}
+use Rattle.race_requests.specs.declared.request.{Ask.Ask, Request.Request}
 use Rattle.race_text.proofs.WordLemmas.{both}
-use Rattle.race_script.specs.declared.program.TheConstants.{MAX_STEPS}
-use Rattle.race_script.specs.Bodies.{is_exit, is_do, after_ask, ends, is_body, is_end, is_behind_do, steps_to_end}
-use Rattle.race_script.specs.Program.{ProgramState, IsProgram, asks_of, request_fits, is_body_of}
+use Rattle.race_script.specs.{declared.program.TheConstants.MAX_STEPS, Bodies.{is_exit, is_do, after_ask, ends}}
+use Rattle.race_script.specs.{Bodies.{is_body, is_end, is_behind_do, steps_to_end}, Program.{ProgramState, IsProgram}}
+use Rattle.race_script.specs.Program.{asks_of, request_fits, is_body_of}
 
 -- the asks from an index on
 asks_from : (body : List Request) (i : ℕ) (d : Request) → i < length body → drop i (asks_of body) ≡ (get_or body i d).ask ∷ drop (i + 1) (asks_of body)

@@ -1,18 +1,13 @@
 -- A recording is certified where each goroutine in turn runs its body.
-use Rattle.std.proofs.Common.{◌≡◌, ℕ, ◌+◌, ◌<◌, ◌≤◌, ◌==◌, not, Bool, true, false, List, length, slice_get}
-use Rattle.std.proofs.Common.{Option, Some, None, refl, sym, ap, subst, ◌∙◌, arith, true≢false}
-use Rattle.std.proofs.Common.{eq-eqb}
-use Rattle.std.proofs.lemmas.Bool.Decides.{nat_tests}
-use Rattle.std.proofs.lemmas.Option.{slice_get_within}
-use Rattle.race_records.proofs.ListLemmas.{slice_get-within}
-use Rattle.race_records.specs.Equality.{Declared, declared, same_declared, same_declared-Decides}
+use Rattle.std.proofs.Common.{◌≡◌, ℕ, ◌+◌, ◌<◌, ◌≤◌, ◌==◌, not, Bool, true, false, List, length, slice_get, Option}
+use Rattle.std.proofs.Common.{Some, None, refl, sym, ap, subst, ◌∙◌, arith, true≢false, eq-eqb}
+use Rattle.std.proofs.lemmas.{Bool.Decides.nat_tests, Option.slice_get_within}
+use Rattle.race_records.{proofs.ListLemmas.slice_get-within, specs.Equality.{Declared, declared, same_declared}}
+use Rattle.race_records.specs.Equality.{same_declared-Decides}
 use Rattle.race_requests.specs.declared.request.Request.{Request}
-use Rattle.race_hub.specs.Part.{part_of}
-use Rattle.race_hub.specs.Recording.{RecordingState}
-use Rattle.race_script.specs.declared.certificate.NotARun.{NotARun}
-use Rattle.race_script.specs.Certificate.{Runs, waiting_of, IsCertified, IsStuck}
-use Rattle.race_script.specs.Course.{IsStop}
-use Rattle.race_script.specs.Program.{ProgramState, spelled}
+use Rattle.race_hub.specs.{Part.part_of, Recording.RecordingState}
+use Rattle.race_script.specs.{declared.certificate.NotARun.NotARun, Certificate.{Runs, waiting_of, IsCertified}}
+use Rattle.race_script.specs.{Certificate.IsStuck, Course.IsStop, Program.{ProgramState, spelled}}
 use Rattle.race_script.proofs.CourseLemmas.{runs_or_stuck}
 
 -- the test says that the version is another, or that something else is declared

@@ -1,23 +1,15 @@
 -- A goroutine's part of a trace goes along its body event by event, and where a run fails it ends.
 use Rattle.std.proofs.Common.{◌≡◌, ℕ, ◌+◌, ◌<◌, ◌==◌, ◌&&◌, ◌||◌, not, Bool, true, false, if◌then◌else◌, List, [], ◌∷◌}
-use Rattle.std.proofs.Common.{◌++◌, length, take, slice_get, Option, Some, None, option_map, inl, inr, refl, sym, ap, subst, ◌∙◌}
-use Rattle.std.proofs.Common.{arith}
-use Rattle.std.proofs.lemmas.Bool.Decides.{nat_tests}
-use Rattle.std.proofs.lemmas.List.{take-append-le}
-use Rattle.std.proofs.lemmas.List.Sums.{fold-append}
-use Rattle.std.proofs.lemmas.Option.{slice_get-map, slice_get_within}
+use Rattle.std.proofs.Common.{◌++◌, length, take, slice_get, Option, Some, None, option_map, inl, inr, refl, sym, ap}
+use Rattle.std.proofs.{Common.{subst, ◌∙◌, arith}, lemmas.{Bool.Decides.nat_tests, List.take-append-le}}
+use Rattle.std.proofs.lemmas.{List.Sums.fold-append, Option.{slice_get-map, slice_get_within}}
 use Rattle.std.proofs.Math.Seq.{take-append_seam}
-use Rattle.race_records.specs.declared.event.Cause.{Cause}
-use Rattle.race_records.specs.declared.event.Event.{Event}
-use Rattle.race_records.specs.declared.event.Op.TheVariants.{Fault}
+use Rattle.race_records.specs.declared.event.{Cause.Cause, Event.Event, Op.TheVariants.Fault}
 use Rattle.race_records.proofs.ListLemmas.{slice_get-push_cases, slice_get-within}
-use Rattle.race_model.proofs.StateSteps.{over_push}
-use Rattle.race_model.specs.Events.{is_exit, is_fault}
-use Rattle.race_model.specs.Legal.{IsLegal, broken, op_rules, actors_run, least_broken}
-use Rattle.race_model.specs.State.{over}
+use Rattle.race_model.{proofs.StateSteps.over_push, specs.{Events.{is_exit, is_fault}, Legal.{IsLegal, broken}}}
+use Rattle.race_model.specs.{Legal.{op_rules, actors_run, least_broken}, State.over}
 use Rattle.race_legal.proofs.Fronts.{take_next}
-use Rattle.race_requests.specs.declared.request.Ask.{Ask}
-use Rattle.race_requests.specs.declared.request.Request.{Request}
+use Rattle.race_requests.specs.declared.request.{Ask.Ask, Request.Request}
 use Rattle.race_script.specs.Certificate.{after_event, behind, FitsAt, Follows, WaitsAt, IsRun, IsStuckAt}
 use Rattle.race_script.specs.Program.{Instruction, asks_of, asked_by, instruction, spelled}
 

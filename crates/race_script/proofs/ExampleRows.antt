@@ -1,16 +1,10 @@
 -- The first faults of the examples: they compute.
-use Rattle.std.proofs.Common.{◌≡◌, Some, None, refl}
-use Rattle.std.specs.Fmt.{digits}
-use Rattle.race_text.specs.declared.cause.TextCause.{TextCause}
-use Rattle.race_text.specs.Fault.{field_cause}
-use Rattle.race_text.specs.Form.{word_named}
-use Rattle.race_text.specs.Lines.{fault_after, first_fault}
-use Rattle.race_text.specs.Words.{number}
-use Rattle.race_script.specs.Examples.{fault_at, locks, locks_2, tries, early_try, early_try_to_read, mutex_tried_for_rwmutex}
-use Rattle.race_script.specs.Examples.{asked_failure, no_newline_2, nothing_2, no_version}
-use Rattle.race_script.specs.Fault.{line_cause, cause, end_cause, text_fault}
-use Rattle.race_script.specs.Form.{line_word}
-use Rattle.race_script.specs.Reading.{seen}
+use Rattle.std.{proofs.Common.{◌≡◌, Some, None, refl}, specs.Fmt.digits}
+use Rattle.race_text.specs.{declared.cause.TextCause.TextCause, Fault.field_cause, Form.word_named}
+use Rattle.race_text.specs.{Lines.{fault_after, first_fault}, Words.number}
+use Rattle.race_script.specs.Examples.{fault_at, locks, locks_2, tries, early_try, early_try_to_read}
+use Rattle.race_script.specs.Examples.{mutex_tried_for_rwmutex, asked_failure, no_newline_2, nothing_2, no_version}
+use Rattle.race_script.specs.{Fault.{line_cause, cause, end_cause, text_fault}, Form.line_word, Reading.seen}
 
 pub locks_row : text_fault locks ≡ None
 unfolding first_fault fault_after cause end_cause line_cause seen line_word word_named field_cause number digits

@@ -1,23 +1,15 @@
 -- How many lines were read.
-use Rattle.std.proofs.Common.{◌≡◌, ℕ, ◌+◌, ◌*◌, ◌<◌, ◌≤◌, ◌^◌, ◌&&◌, true, nat_le, List, [], ◌∷◌}
-use Rattle.std.proofs.Common.{◌++◌, length, map, sum_by, Option, Some, None, refl, sym, ap, subst, ◌∙◌}
-use Rattle.std.proofs.Common.{arith}
-use Rattle.std.proofs.lemmas.Bool.Decides.{nat_tests}
-use Rattle.std.proofs.lemmas.List.{length-append, length-map}
-use Rattle.std.proofs.lemmas.List.Sums.{sum_by-append}
-use Rattle.std.specs.List.{list_all}
-use Rattle.std.specs.Option.{option_map_or}
-use Rattle.race_records.specs.declared.kind.Kind.{Kind}
-use Rattle.race_records.specs.Declarations.{DeclsState}
+use Rattle.std.proofs.Common.{◌≡◌, ℕ, ◌+◌, ◌*◌, ◌<◌, ◌≤◌, ◌^◌, ◌&&◌, true, nat_le, List, [], ◌∷◌, ◌++◌, length, map}
+use Rattle.std.proofs.Common.{sum_by, Option, Some, None, refl, sym, ap, subst, ◌∙◌, arith}
+use Rattle.std.proofs.lemmas.{Bool.Decides.nat_tests, List.{length-append, length-map, Sums.sum_by-append}}
+use Rattle.std.specs.{List.list_all, Option.option_map_or}
+use Rattle.race_records.specs.{declared.kind.Kind.Kind, Declarations.DeclsState}
 use Rattle.race_requests.specs.declared.request.Request.{Request}
-use Rattle.race_text.specs.Text.{declaration_line}
-use Rattle.race_text.proofs.LineCount.{few_declared}
-use Rattle.race_text.proofs.WordLemmas.{both}
-use Rattle.race_script.specs.declared.program.TheConstants.{MAX_STEPS}
-use Rattle.race_script.specs.Bodies.{is_body}
-use Rattle.race_script.specs.Program.{Instruction, Draft, asks_of, request_fits, is_body_of, instruction, spelled, bodies_of}
-use Rattle.race_script.specs.Reader.{UnendedState, ReadState, spelled_unended, draft_read, IsSound, IsRead, IsReadBy, IsReading}
-use Rattle.race_script.specs.Text.{Begins, Asks, said_line, saids, lines}
+use Rattle.race_text.{specs.Text.declaration_line, proofs.{LineCount.few_declared, WordLemmas.both}}
+use Rattle.race_script.specs.{declared.program.TheConstants.MAX_STEPS, Bodies.is_body, Program.{Instruction, Draft}}
+use Rattle.race_script.specs.Program.{asks_of, request_fits, is_body_of, instruction, spelled, bodies_of}
+use Rattle.race_script.specs.Reader.{UnendedState, ReadState, spelled_unended, draft_read, IsSound, IsRead, IsReadBy}
+use Rattle.race_script.specs.{Reader.IsReading, Text.{Begins, Asks, said_line, saids, lines}}
 use Rattle.race_script.proofs.LineLemmas.{saids_body}
 
 -- the lines of a body

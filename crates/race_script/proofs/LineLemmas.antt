@@ -1,45 +1,27 @@
 -- A line of a body as a whole, and what lines say together.
-use Rattle.std.proofs.Common.{◌≡◌, ℕ, ◌+◌, ◌<◌, ◌==◌, ◌&&◌, ◌⊎◌, inl, inr, Bool, true, false, true≢false, if◌then◌else◌, is_none}
-use Rattle.std.proofs.Common.{List, [], ◌∷◌, ◌++◌, length, map, fold, Option, Some, None, Ok, refl, sym, ap, ◌∙◌, arith, append-nil}
-use Rattle.std.proofs.Common.{append_assoc}
-use Rattle.std.proofs.lemmas.Bool.Decides.{nat_tests}
-use Rattle.std.proofs.lemmas.List.{map-append}
-use Rattle.std.proofs.lemmas.List.Elements.{filter_map-append}
-use Rattle.std.proofs.lemmas.List.Splits.{join_with_byte-slice_split}
-use Rattle.std.proofs.lemmas.List.Sums.{fold-append}
-use Rattle.std.proofs.lemmas.Option.{none-some, same_Some}
-use Rattle.std.proofs.lemmas.Slice.Eq.{bytes_eq-Decides}
-use Rattle.std.specs.List.{filter_map, cons_option}
-use Rattle.std.specs.Option.{option_and_then, option_map, option_map_or}
-use Rattle.std.specs.Str.{bytes_eq}
+use Rattle.std.proofs.Common.{◌≡◌, ℕ, ◌+◌, ◌<◌, ◌==◌, ◌&&◌, ◌⊎◌, inl, inr, Bool, true, false, true≢false, if◌then◌else◌}
+use Rattle.std.proofs.Common.{is_none, List, [], ◌∷◌, ◌++◌, length, map, fold, Option, Some, None, Ok, refl, sym, ap}
+use Rattle.std.proofs.{Common.{◌∙◌, arith, append-nil, append_assoc}, lemmas.{Bool.Decides.nat_tests, List.map-append}}
+use Rattle.std.proofs.lemmas.List.{Elements.filter_map-append, Splits.join_with_byte-slice_split, Sums.fold-append}
+use Rattle.std.proofs.lemmas.{Option.{none-some, same_Some}, Slice.Eq.bytes_eq-Decides}
+use Rattle.std.specs.{List.{filter_map, cons_option}, Option.{option_and_then, option_map, option_map_or}, Str.bytes_eq}
 use Rattle.std.specs.Result.{result_ok, result_err}
-use Rattle.race_records.specs.declared.kind.Kind.{Kind}
-use Rattle.race_records.specs.Declarations.{Declaration, DeclsState, IsWellFormed, count_of}
-use Rattle.race_records.specs.Equality.{Declared, declared}
-use Rattle.race_records.specs.Name.{is_place}
+use Rattle.race_records.specs.{declared.kind.Kind.Kind, Declarations.{Declaration, DeclsState, IsWellFormed, count_of}}
+use Rattle.race_records.specs.{Equality.{Declared, declared}, Name.is_place}
 use Rattle.race_requests.specs.Sound.{has_ask}
-use Rattle.race_text.specs.declared.cause.TextCause.{TextCause}
-use Rattle.race_text.specs.Fault.{or_else, declaration_in, declared_as}
-use Rattle.race_text.specs.Form.{word_named, first_word, arguments}
-use Rattle.race_text.specs.Select.{nil}
-use Rattle.race_text.specs.Text.{line_of, declaration_line}
-use Rattle.race_text.specs.Words.{words_of}
-use Rattle.race_text.specs.Writing.{part_text}
-use Rattle.race_script.specs.declared.form.AskWord.{AskWord}
-use Rattle.race_script.specs.declared.form.LineWord.{LineWord}
-use Rattle.race_script.specs.Bodies.{is_exit}
-use Rattle.race_script.specs.Fault.{words_cause, asked_cause, said_cause, word_cause, line_cause, cause}
-use Rattle.race_script.specs.Form.{has_ask_word, line_word_in, word_on_nil, AskedWords, on_nil, ask_fields, begin_fields}
-use Rattle.race_script.specs.Offers.{select_words}
-use Rattle.race_script.specs.Program.{Instruction, Draft, ask_fits, declared_by, bodies_of}
-use Rattle.race_script.specs.Reader.{HasWords}
-use Rattle.race_script.specs.Reading.{version_in, asked_in, selected_in, begun_in, asks_by, said_by, said_in, with_instruction}
-use Rattle.race_script.specs.Reading.{with_said, nothing_said, all_said, declared_in, seen}
+use Rattle.race_text.specs.{declared.cause.TextCause.TextCause, Fault.{or_else, declaration_in, declared_as}}
+use Rattle.race_text.specs.{Form.{word_named, first_word, arguments}, Select.nil, Text.{line_of, declaration_line}}
+use Rattle.race_text.specs.{Words.words_of, Writing.part_text}
+use Rattle.race_script.specs.{declared.form.{AskWord.AskWord, LineWord.LineWord}, Bodies.is_exit, Fault.words_cause}
+use Rattle.race_script.specs.{Fault.{asked_cause, said_cause, word_cause, line_cause, cause}, Form.has_ask_word}
+use Rattle.race_script.specs.Form.{line_word_in, word_on_nil, AskedWords, on_nil, ask_fields, begin_fields}
+use Rattle.race_script.specs.{Offers.select_words, Program.{Instruction, Draft, ask_fits, declared_by, bodies_of}}
+use Rattle.race_script.specs.{Reader.HasWords, Reading.{version_in, asked_in, selected_in, begun_in, asks_by, said_by}}
+use Rattle.race_script.specs.Reading.{said_in, with_instruction, with_said, nothing_said, all_said, declared_in, seen}
 use Rattle.race_script.specs.Text.{header, Said, Begins, Asks, ask_words, said_line, saids, lines}
-use Rattle.race_script.proofs.AskTable.{ask_says, so_it_says, ask_words_are, front_words, body_word, first_text, has_front}
-use Rattle.race_script.proofs.AskTable.{found_has_front, had_by_word, has_on_nil, found_is_had}
-use Rattle.race_script.proofs.SaidLines.{are_asked, is_begun}
-use Rattle.race_script.proofs.SelectLines.{are_selected}
+use Rattle.race_script.proofs.AskTable.{ask_says, so_it_says, ask_words_are, front_words, body_word, first_text}
+use Rattle.race_script.proofs.AskTable.{has_front, found_has_front, had_by_word, has_on_nil, found_is_had}
+use Rattle.race_script.proofs.{SaidLines.{are_asked, is_begun}, SelectLines.are_selected}
 
 -- what is said fits the declarations and their version
 abbrev pub SaidFits : Declared → Said → Type 0

@@ -1,20 +1,16 @@
 -- What was done in a step of a log, by its ask and its answer.
-use Rattle.std.proofs.Common.{◌≡◌, ℕ, ◌==◌, cond, Bool, true, false, List, Option, Some, None, slice_get}
-use Rattle.std.proofs.Common.{option_map, ◌⊎◌, ◌+◌, inl, inr, refl, sym, ap}
-use Rattle.std.proofs.Common.{subst, ◌∙◌}
-use Rattle.std.specs.Option.{option_and_then}
-use Rattle.race_records.specs.declared.event.Cause.{Cause}
-use Rattle.race_records.specs.declared.event.Cause.TheVariants.{SendClosed, CloseClosed, CloseNil, UnlockFree, RUnlockFree}
-use Rattle.race_records.specs.declared.event.Op.{Op}
-use Rattle.race_records.specs.declared.event.Op.TheVariants.{Go, Exit, Read, Write, Send, Recv, Meet, RecvClosed, Close, Default, Lock, Unlock, RLock, RUnlock}
-use Rattle.race_records.specs.declared.event.Op.TheVariants.{TryLock, TryRLock, TryFail, OnceBegin, OnceEnd, OnceDone, Fault}
-use Rattle.race_requests.specs.declared.request.Answer.{Answer}
-use Rattle.race_requests.specs.declared.request.Ask.{Ask}
-use Rattle.race_requests.specs.declared.request.Offer.{Offer}
-use Rattle.race_requests.specs.Table.{done_by, IsRow, chosen, told_if, told_sender, told_receiver, told_closer, told_trier, told_rtrier, told_plain, told_by}
-use Rattle.race_requests.proofs.RowLemmas.{IsByOffer, IsByDefault, by_either, by_first, wanted, wanted_two}
-use Rattle.race_script.specs.Certificate.{after_event}
-use Rattle.race_script.specs.Course.{made_by_offer, made_in, FailsBy}
+use Rattle.std.proofs.Common.{◌≡◌, ℕ, ◌==◌, cond, Bool, true, false, List, Option, Some, None, slice_get, option_map}
+use Rattle.std.{proofs.Common.{◌⊎◌, ◌+◌, inl, inr, refl, sym, ap, subst, ◌∙◌}, specs.Option.option_and_then}
+use Rattle.race_records.specs.declared.event.Cause.{Cause, TheVariants.{SendClosed, CloseClosed, CloseNil, UnlockFree}}
+use Rattle.race_records.specs.declared.event.{Cause.TheVariants.RUnlockFree, Op.{Op, TheVariants.{Go, Exit, Read}}}
+use Rattle.race_records.specs.declared.event.Op.TheVariants.{Write, Send, Recv, Meet, RecvClosed, Close, Default, Lock}
+use Rattle.race_records.specs.declared.event.Op.TheVariants.{Unlock, RLock, RUnlock, TryLock, TryRLock, TryFail}
+use Rattle.race_records.specs.declared.event.Op.TheVariants.{OnceBegin, OnceEnd, OnceDone, Fault}
+use Rattle.race_requests.specs.{declared.request.{Answer.Answer, Ask.Ask, Offer.Offer}, Table.{done_by, IsRow, chosen}}
+use Rattle.race_requests.specs.Table.{told_if, told_sender, told_receiver, told_closer, told_trier, told_rtrier}
+use Rattle.race_requests.{specs.Table.{told_plain, told_by}, proofs.RowLemmas.{IsByOffer, IsByDefault, by_either}}
+use Rattle.race_requests.proofs.RowLemmas.{by_first, wanted, wanted_two}
+use Rattle.race_script.specs.{Certificate.after_event, Course.{made_by_offer, made_in, FailsBy}}
 
 -- it fails by the cause of its run
 failed : (fault : Option Cause) (op : Op) (cause : Cause) → FailsBy fault op → op ≡ Fault cause → option_map Fault fault ≡ Some op

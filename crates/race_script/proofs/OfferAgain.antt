@@ -1,31 +1,17 @@
 -- What is printed of a select's offers says them again.
-use Rattle.std.proofs.Common.{◌≡◌, ℕ, ◌-◌, ◌<◌, ◌==◌, ◌&&◌, ◌^◌, Bool, true, false, not, nat_lt, nat_le, List, [], ◌∷◌, length, codes}
-use Rattle.std.proofs.Common.{ok_or, Ok, refl, ap, ◌∙◌, arith}
-use Rattle.std.proofs.lemmas.Bool.Decides.{nat_tests}
-use Rattle.std.proofs.lemmas.Fmt.{decimal_is_IsNumeral}
-use Rattle.std.proofs.lemmas.Str.Parse.{digit_from_value}
-use Rattle.std.specs.Fmt.{decimal}
-use Rattle.std.specs.List.{list_all, AllByRecursion, join_with_byte}
-use Rattle.std.specs.Str.{bytes_eq}
-use Rattle.std.specs.Str.Parse.{AllDigits}
-use Rattle.race_records.specs.declared.cases.TheConstants.{MAX_CASES}
-use Rattle.race_records.specs.declared.kind.Kind.{Kind}
-use Rattle.race_records.specs.Declarations.{Declaration, DeclsState, IsWellFormed, count_of}
-use Rattle.race_records.specs.Name.{is_name_byte, is_place_byte}
-use Rattle.race_requests.specs.declared.request.Offer.{Offer}
-use Rattle.race_requests.specs.Possible.{offer_is_in_range}
-use Rattle.race_text.specs.declared.cause.TextCause.{TextCause}
-use Rattle.race_text.specs.Least.{then_says, says_by, both_say}
-use Rattle.race_text.specs.Meaning.{value_in}
-use Rattle.race_text.specs.Select.{no_cases}
-use Rattle.race_text.specs.Text.{chan_text}
-use Rattle.race_text.proofs.CaseWords.{chan_again, chan_bytes}
-use Rattle.race_text.proofs.NumberLemmas.{number-some}
-use Rattle.race_text.proofs.PieceWords.{is_case_byte, joined_all, each_weaken, each_without, word_visible, word_again}
-use Rattle.race_text.proofs.WordLemmas.{both}
-use Rattle.race_text.proofs.WordsAgain.{split_again}
-use Rattle.race_script.specs.Offers.{offer_by, spelled_offer_in, offer_in, offers_in, offer_parts, offer_text, offers_text}
-use Rattle.race_script.specs.Program.{offer_is_limited}
+use Rattle.std.proofs.Common.{◌≡◌, ℕ, ◌-◌, ◌<◌, ◌==◌, ◌&&◌, ◌^◌, Bool, true, false, not, nat_lt, nat_le, List, [], ◌∷◌}
+use Rattle.std.proofs.{Common.{length, codes, ok_or, Ok, refl, ap, ◌∙◌, arith}, lemmas.Bool.Decides.nat_tests}
+use Rattle.std.{proofs.lemmas.{Fmt.decimal_is_IsNumeral, Str.Parse.digit_from_value}, specs.Fmt.decimal}
+use Rattle.std.specs.{List.{list_all, AllByRecursion, join_with_byte}, Str.{bytes_eq, Parse.AllDigits}}
+use Rattle.race_records.specs.{declared.{cases.TheConstants.MAX_CASES, kind.Kind.Kind}, Declarations.Declaration}
+use Rattle.race_records.specs.{Declarations.{DeclsState, IsWellFormed, count_of}, Name.{is_name_byte, is_place_byte}}
+use Rattle.race_requests.specs.{declared.request.Offer.Offer, Possible.offer_is_in_range}
+use Rattle.race_text.specs.{declared.cause.TextCause.TextCause, Least.{then_says, says_by, both_say}, Meaning.value_in}
+use Rattle.race_text.{specs.{Select.no_cases, Text.chan_text}, proofs.CaseWords.{chan_again, chan_bytes}}
+use Rattle.race_text.proofs.{NumberLemmas.number-some, PieceWords.{is_case_byte, joined_all, each_weaken, each_without}}
+use Rattle.race_text.proofs.{PieceWords.{word_visible, word_again}, WordLemmas.both, WordsAgain.split_again}
+use Rattle.race_script.specs.Offers.{offer_by, spelled_offer_in, offer_in, offers_in, offer_parts, offer_text}
+use Rattle.race_script.specs.{Offers.offers_text, Program.offer_is_limited}
 
 -- a byte of a part of an offer: one that can be seen, no comma and no colon
 abbrev is_part_byte : ℕ → Bool

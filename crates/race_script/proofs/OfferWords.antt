@@ -1,22 +1,15 @@
 -- What the word of a select's offers says, offer by offer.
-use Rattle.std.proofs.Common.{◌≡◌, ℕ, ◌<◌, ◌-◌, ◌^◌, ◌&&◌, Bool, true, false, if◌then◌else◌, List, [], ◌∷◌, length, codes}
-use Rattle.std.proofs.Common.{Some, None, ok_or, Ok, refl, sym, ap, subst, ◌∙◌, arith}
-use Rattle.std.proofs.lemmas.List.Splits.{join_with_byte-slice_split}
-use Rattle.std.proofs.lemmas.Option.{none-some, same_Some}
-use Rattle.std.proofs.lemmas.Slice.Eq.{bytes_eq-Decides}
-use Rattle.std.specs.List.{join_with_byte}
-use Rattle.std.specs.Str.{bytes_eq}
+use Rattle.std.proofs.Common.{◌≡◌, ℕ, ◌<◌, ◌-◌, ◌^◌, ◌&&◌, Bool, true, false, if◌then◌else◌, List, [], ◌∷◌, length}
+use Rattle.std.proofs.Common.{codes, Some, None, ok_or, Ok, refl, sym, ap, subst, ◌∙◌, arith}
+use Rattle.std.proofs.lemmas.{List.Splits.join_with_byte-slice_split, Option.{none-some, same_Some}}
+use Rattle.std.{proofs.lemmas.Slice.Eq.bytes_eq-Decides, specs.{List.join_with_byte, Str.bytes_eq}}
 use Rattle.race_records.specs.Declarations.{Declaration}
 use Rattle.race_requests.specs.declared.request.Offer.{Offer}
-use Rattle.race_text.specs.declared.cause.TextCause.{TextCause}
-use Rattle.race_text.specs.Meaning.{chan_in, value_in}
-use Rattle.race_text.specs.Words.{number}
-use Rattle.race_text.proofs.CaseWords.{is_chan}
-use Rattle.race_text.proofs.CauseLemmas.{then_is, with_is, both_are, same_Ok, ok_or_is}
-use Rattle.race_text.proofs.PartWords.{number_spelled, number_within}
-use Rattle.race_text.proofs.PieceWords.{IsWord, is_word}
-use Rattle.race_script.specs.Offers.{SpelledOffer, offer_by, parts_of_offer, offer_spelled, spelled_offer_in, offer_in, offers_in, offer_parts, offer_text}
-use Rattle.race_script.proofs.OfferAgain.{offer_is_fine}
+use Rattle.race_text.specs.{declared.cause.TextCause.TextCause, Meaning.{chan_in, value_in}, Words.number}
+use Rattle.race_text.proofs.{CaseWords.is_chan, CauseLemmas.{then_is, with_is, both_are, same_Ok, ok_or_is}}
+use Rattle.race_text.proofs.{PartWords.{number_spelled, number_within}, PieceWords.{IsWord, is_word}}
+use Rattle.race_script.specs.Offers.{SpelledOffer, offer_by, parts_of_offer, offer_spelled, spelled_offer_in, offer_in}
+use Rattle.race_script.{specs.Offers.{offers_in, offer_parts, offer_text}, proofs.OfferAgain.offer_is_fine}
 
 -- the parts of an offer as it is spelled
 abbrev spelled_parts : SpelledOffer → List (List ℕ)

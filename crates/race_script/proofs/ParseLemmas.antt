@@ -1,16 +1,9 @@
 -- A program's text whose last part has no cause: nothing is left, and all bodies have ended.
-use Rattle.std.proofs.Common.{◌≡◌, ℕ, ◌<◌, ◌==◌, ◌&&◌, nat_lt, Bool, true, false}
-use Rattle.std.proofs.Common.{if◌then◌else◌, List, [], ◌∷◌, length, Option, Some, None, refl, sym}
-use Rattle.std.proofs.Common.{arith}
-use Rattle.std.proofs.lemmas.Bool.Decides.{nat_tests}
-use Rattle.std.proofs.lemmas.Option.{none-some}
+use Rattle.std.proofs.Common.{◌≡◌, ℕ, ◌<◌, ◌==◌, ◌&&◌, nat_lt, Bool, true, false, if◌then◌else◌, List, [], ◌∷◌, length}
+use Rattle.std.proofs.{Common.{Option, Some, None, refl, sym, arith}, lemmas.{Bool.Decides.nat_tests, Option.none-some}}
 use Rattle.race_records.specs.declared.version.Version.{Version}
-use Rattle.race_text.specs.declared.cause.TextCause.{TextCause}
-use Rattle.race_text.proofs.WordLemmas.{both}
-use Rattle.race_text.specs.Fault.{header_cause}
-use Rattle.race_script.specs.Fault.{cause, end_cause, is_whole}
-use Rattle.race_script.specs.Program.{Draft}
-use Rattle.race_script.specs.Reader.{lines_by}
+use Rattle.race_text.{specs.{declared.cause.TextCause.TextCause, Fault.header_cause}, proofs.WordLemmas.both}
+use Rattle.race_script.specs.{Fault.{cause, end_cause, is_whole}, Program.Draft, Reader.lines_by}
 use Rattle.race_script.specs.Reading.{version_said, seen}
 
 -- a part that no newline ends is at fault where it is a line

@@ -1,18 +1,14 @@
 -- A body's step makes an event exactly where the tests of the code hold.
-use Rattle.std.proofs.Common.{◌≡◌, ◌↔◌, ℕ, Bool, IsTrue, List, slice_get, Option, Some, None, option_map, sym, ap, subst, ◌∙◌}
-use Rattle.race_records.specs.declared.event.Cause.{Cause}
-use Rattle.race_records.specs.declared.event.Event.{Event}
-use Rattle.race_records.specs.declared.event.Op.{Op}
-use Rattle.race_requests.specs.declared.request.Ask.{Ask}
-use Rattle.race_requests.specs.declared.request.Request.{Request}
-use Rattle.race_requests.specs.declared.request.Step.{Step}
-use Rattle.race_requests.specs.Table.{done_by, Fits, IsRow, CanMake}
+use Rattle.std.proofs.Common.{◌≡◌, ◌↔◌, ℕ, Bool, IsTrue, List, slice_get, Option, Some, None, option_map, sym, ap}
+use Rattle.std.proofs.Common.{subst, ◌∙◌}
+use Rattle.race_records.specs.declared.event.{Cause.Cause, Event.Event, Op.Op}
+use Rattle.race_requests.specs.{declared.request.{Ask.Ask, Request.Request, Step.Step}, Table.{done_by, Fits, IsRow}}
+use Rattle.race_requests.specs.Table.{CanMake}
 use Rattle.race_text.specs.Text.{place_text}
-use Rattle.race_script.specs.Certificate.{after_event}
-use Rattle.race_script.specs.Course.{made_in, FailsBy, IsPassed}
-use Rattle.race_script.specs.Program.{Instruction, asks_of, instruction, spelled}
-use Rattle.race_script.proofs.CourseLemmas.{asks_spelled, spelled_at, spelled_past}
-use Rattle.race_script.proofs.MadeLemmas.{row_made, done_again, after_done, fails_done}
+use Rattle.race_script.specs.{Certificate.after_event, Course.{made_in, FailsBy, IsPassed}, Program.Instruction}
+use Rattle.race_script.specs.Program.{asks_of, instruction, spelled}
+use Rattle.race_script.proofs.{CourseLemmas.{asks_spelled, spelled_at, spelled_past}, MadeLemmas.{row_made, done_again}}
+use Rattle.race_script.proofs.MadeLemmas.{after_done, fails_done}
 
 -- what is made of what was done is made of the event
 can_make_done : (g : ℕ) (ask : Ask) (op : Op) → CanMake g ask (done_by g op) → CanMake g ask op

@@ -1,55 +1,35 @@
 -- One more line that is read: of a body, or a declaration, or the header.
-use Rattle.std.proofs.Common.{◌≡◌, ℕ, suc, ◌<◌, ◌==◌, ◌&&◌, Bool, true, false, true≢false, nat_lt}
-use Rattle.std.proofs.Common.{if◌then◌else◌, is_none, List, [], ◌∷◌, ◌++◌, length, map, get_or, unwrap_or, Option}
-use Rattle.std.proofs.Common.{Some, None, Result, Ok, Err, IfOk, IfSome, MatchResult, fold, refl, sym, ap}
-use Rattle.std.proofs.Common.{subst, ◌∙◌, arith, append-nil}
-use Rattle.std.proofs.lemmas.Bool.Decides.{nat_tests}
-use Rattle.std.proofs.lemmas.List.{length-append, length-map, map-append}
-use Rattle.std.proofs.lemmas.Option.{none-some, same_Some}
-use Rattle.std.proofs.lemmas.Slice.Eq.{bytes_eq-Decides}
-use Rattle.std.specs.List.{filter_map, cons_option, list_all}
-use Rattle.std.specs.Option.{option_and_then, option_map_or}
-use Rattle.std.specs.Str.{bytes_eq}
+use Rattle.std.proofs.Common.{◌≡◌, ℕ, suc, ◌<◌, ◌==◌, ◌&&◌, Bool, true, false, true≢false, nat_lt, if◌then◌else◌}
+use Rattle.std.proofs.Common.{is_none, List, [], ◌∷◌, ◌++◌, length, map, get_or, unwrap_or, Option, Some, None, Result}
+use Rattle.std.proofs.Common.{Ok, Err, IfOk, IfSome, MatchResult, fold, refl, sym, ap, subst, ◌∙◌, arith, append-nil}
+use Rattle.std.proofs.lemmas.{Bool.Decides.nat_tests, List.{length-append, length-map, map-append}}
+use Rattle.std.{proofs.lemmas.{Option.{none-some, same_Some}, Slice.Eq.bytes_eq-Decides}, specs.List.filter_map}
+use Rattle.std.specs.{List.{cons_option, list_all, flat_map}, Option.{option_and_then, option_map_or}, Str.bytes_eq}
 use Rattle.std.specs.Result.{result_err}
-use Rattle.race_records.specs.declared.kind.Kind.{Kind}
-use Rattle.race_records.specs.declared.nouns.Noun.{Noun}
-use Rattle.race_records.specs.declared.version.Version.{Version}
+use Rattle.race_records.specs.declared.{kind.Kind.Kind, nouns.Noun.Noun, version.Version.Version}
 use Rattle.race_records.specs.Declarations.{Declaration, DeclsState, IsWellFormed, count_of, with_declaration}
-use Rattle.race_records.specs.Equality.{Declared, declared}
-use Rattle.race_records.specs.Refusal.{Refuses, AllowsUnless}
-use Rattle.race_records.proofs.DeclFaultLemmas.{allowed_from_no_fault}
-use Rattle.race_records.proofs.DeclsKept.{empty_well_formed, push_well_formed}
+use Rattle.race_records.specs.{Equality.{Declared, declared}, Refusal.{Refuses, AllowsUnless}}
+use Rattle.race_records.proofs.{DeclFaultLemmas.allowed_from_no_fault, DeclsKept.{empty_well_formed, push_well_formed}}
 use Rattle.race_requests.specs.declared.request.Request.{Request}
-use Rattle.race_text.specs.declared.cause.TextCause.{TextCause}
-use Rattle.race_text.specs.declared.form.Word.{Word}
-use Rattle.race_text.specs.Declaring.{is_declaration_line, is_declaration_word, declaration_cause, with_declared, with_declaration_in}
-use Rattle.race_text.specs.Fault.{or_else, seen_so_far, declaration_in, header_cause}
-use Rattle.race_text.specs.Fault.{word_cause as text_cause}
-use Rattle.race_text.specs.Form.{word_named, first_word, arguments}
-use Rattle.race_text.specs.Lines.{GoesOn}
-use Rattle.race_text.specs.Owed.{owed}
-use Rattle.race_text.specs.Reader.{nothing_in}
-use Rattle.race_text.specs.Text.{declaration_line}
-use Rattle.race_text.specs.Words.{words_of, has_bad_byte}
-use Rattle.race_text.proofs.ReaderLemmas.{declaration_of_line}
-use Rattle.race_text.proofs.TextLaws.{IsDeclarationLine, declaration_again}
+use Rattle.race_text.specs.{declared.{cause.TextCause.TextCause, form.Word.Word}, Declaring.is_declaration_line}
+use Rattle.race_text.specs.Declaring.{is_declaration_word, declaration_cause, with_declared, with_declaration_in}
+use Rattle.race_text.specs.Fault.{or_else, seen_so_far, declaration_in, header_cause, word_cause as text_cause}
+use Rattle.race_text.specs.{Form.{word_named, first_word, arguments}, Lines.GoesOn, Owed.owed, Reader.nothing_in}
+use Rattle.race_text.specs.{Text.{declaration_line, ended}, Words.{words_of, has_bad_byte}}
+use Rattle.race_text.proofs.{ReaderLemmas.declaration_of_line, TextLaws.{IsDeclarationLine, declaration_again}}
 use Rattle.race_text.proofs.WordLemmas.{both}
-use Rattle.race_script.specs.declared.form.AskWord.{AskWord}
-use Rattle.race_script.specs.declared.form.LineWord.{LineWord}
-use Rattle.race_script.specs.Fault.{words_cause, said_cause, word_cause, line_cause, cause, end_cause, program_causes, is_whole}
-use Rattle.race_script.specs.Form.{line_word, line_word_in, on_nil, ask_fields, begin_fields}
-use Rattle.race_script.specs.Offers.{select_words}
-use Rattle.race_script.specs.Program.{Instruction, Draft, IsProgram, draft_of, is_body_of, spelled, bodies_of, places_of}
-use Rattle.race_script.specs.Reader.{UnendedState, ReadState, draft_read, spelled_unended, lines_by, lines_read}
-use Rattle.race_script.specs.Reader.{program_read, IsUnended, IsRead, IsReadBy, HasWords, TakesSaid}
-use Rattle.race_script.specs.Reader.{TakesLine, TakesOrTells}
-use Rattle.race_script.specs.Reading.{version_said, selected_in, said_by, asks_by, said_in, with_said, nothing_said, all_said, declared_in, seen}
-use Rattle.std.specs.List.{flat_map}
-use Rattle.race_text.specs.Text.{ended}
-use Rattle.race_script.proofs.ParseLemmas.{header_before_end, end_empty}
+use Rattle.race_script.specs.{declared.form.{AskWord.AskWord, LineWord.LineWord}, Fault.{words_cause, said_cause}}
+use Rattle.race_script.specs.Fault.{word_cause, line_cause, cause, end_cause, program_causes, is_whole}
+use Rattle.race_script.specs.{Form.{line_word, line_word_in, on_nil, ask_fields, begin_fields}, Offers.select_words}
+use Rattle.race_script.specs.Program.{Instruction, Draft, IsProgram, draft_of, is_body_of, spelled, bodies_of}
+use Rattle.race_script.specs.{Program.places_of, Reader.{UnendedState, ReadState, draft_read, spelled_unended}}
+use Rattle.race_script.specs.Reader.{lines_by, lines_read, program_read, IsUnended, IsRead, IsReadBy, HasWords}
+use Rattle.race_script.specs.{Reader.{TakesSaid, TakesLine, TakesOrTells}, Reading.{version_said, selected_in, said_by}}
+use Rattle.race_script.specs.Reading.{asks_by, said_in, with_said, nothing_said, all_said, declared_in, seen}
 use Rattle.race_script.specs.Text.{header, Said, lines, draft_text, program_text}
-use Rattle.race_script.proofs.AskTable.{noun_word, noun_word_in, found_is_had}
-use Rattle.race_script.proofs.LineLemmas.{IsSaidLine, clean_cause, seen_said, lines_said, cause_behind}
+use Rattle.race_script.proofs.ParseLemmas.{header_before_end, end_empty}
+use Rattle.race_script.proofs.{AskTable.{noun_word, noun_word_in, found_is_had}, LineLemmas.{IsSaidLine, clean_cause}}
+use Rattle.race_script.proofs.LineLemmas.{seen_said, lines_said, cause_behind}
 
 -- lines that declare say nothing of bodies, and all that is declared
 pub all_declared : (ds : List Declaration) → ((i : ℕ) (d : Declaration) → i < length ds → IsDeclarationLine (get_or ds i d) (declaration_line (get_or ds i d)))

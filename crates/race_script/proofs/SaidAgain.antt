@@ -1,42 +1,22 @@
 -- What is printed of a line of a body says it again.
-use Rattle.std.proofs.Common.{◌≡◌, ℕ, Bool, true, false, nat_lt, if◌then◌else◌, List, [], ◌∷◌, ◌++◌}
-use Rattle.std.proofs.Common.{map, codes, Option, Some, None, IfSome, refl, sym, ap, subst, ◌∙◌, ◌&&◌}
-use Rattle.std.proofs.Common.{◌^◌, arith, is_some}
-use Rattle.std.proofs.lemmas.Bool.Decides.{nat_tests}
-use Rattle.std.specs.Option.{option_map_or}
-use Rattle.std.specs.Str.{bytes_eq}
-use Rattle.race_records.specs.declared.kind.Kind.{Kind}
-use Rattle.race_records.specs.declared.kind.Named.{Named}
-use Rattle.race_records.specs.declared.parts.PartKind.{PartKind}
-use Rattle.race_records.specs.declared.version.Version.{Version}
-use Rattle.race_records.specs.Declarations.{Declaration, DeclsState, IsWellFormed, counts_of}
-use Rattle.race_records.specs.Equality.{declared}
+use Rattle.std.proofs.Common.{◌≡◌, ℕ, Bool, true, false, nat_lt, if◌then◌else◌, List, [], ◌∷◌, ◌++◌, map, codes, Option}
+use Rattle.std.proofs.Common.{Some, None, IfSome, refl, sym, ap, subst, ◌∙◌, ◌&&◌, ◌^◌, arith, is_some}
+use Rattle.std.{proofs.lemmas.Bool.Decides.nat_tests, specs.{Option.option_map_or, Str.bytes_eq}}
+use Rattle.race_records.specs.declared.{kind.{Kind.Kind, Named.Named}, parts.PartKind.PartKind, version.Version.Version}
+use Rattle.race_records.specs.{Declarations.{Declaration, DeclsState, IsWellFormed, counts_of}, Equality.declared}
 use Rattle.race_records.specs.Name.{is_name}
-use Rattle.race_requests.specs.declared.request.Ask.{Ask}
-use Rattle.race_requests.specs.declared.request.Offer.{Offer}
-use Rattle.race_requests.specs.Sound.{has_ask}
-use Rattle.race_text.specs.Form.{word_named, first_word}
-use Rattle.race_text.specs.Select.{nil}
-use Rattle.race_text.specs.Text.{line_of, goroutine_name, chan_name}
-use Rattle.race_text.specs.Words.{has_bad_byte}
-use Rattle.race_text.specs.Writing.{part_text}
-use Rattle.race_text.proofs.CaseWords.{not_nil}
-use Rattle.race_text.proofs.UsedNames.{used_again}
-use Rattle.race_text.proofs.WordLemmas.{both}
-use Rattle.race_text.proofs.WordsAgain.{AreVisible, words_again, visible_line_clean}
-use Rattle.race_script.specs.declared.form.AskWord.{AskWord}
-use Rattle.race_script.specs.declared.form.LineWord.{LineWord}
-use Rattle.race_script.specs.Form.{line_word, has_ask_word, has_line_word, line_word_in, word_on_nil, AskedWords, on_nil}
-use Rattle.race_script.specs.Offers.{offers_text, mode_text}
-use Rattle.race_script.specs.Program.{Instruction, ask_fits}
-use Rattle.race_script.specs.Reader.{HasWords}
-use Rattle.race_script.specs.Reading.{asked_at, asked_in}
-use Rattle.race_script.specs.Text.{Said, Begins, Asks, ask_words, said_line}
-use Rattle.race_script.proofs.AskTable.{SaidAsk, ask_says, so_it_says, selects_alone, ask_words_are, front_words, body_word}
-use Rattle.race_script.proofs.AskTable.{had_by_word, had_is_found, begins_again, selects_again}
+use Rattle.race_requests.specs.{declared.request.{Ask.Ask, Offer.Offer}, Sound.has_ask}
+use Rattle.race_text.specs.{Form.{word_named, first_word}, Select.nil, Text.{line_of, goroutine_name, chan_name}}
+use Rattle.race_text.{specs.{Words.has_bad_byte, Writing.part_text}, proofs.{CaseWords.not_nil, UsedNames.used_again}}
+use Rattle.race_text.proofs.{WordLemmas.both, WordsAgain.{AreVisible, words_again, visible_line_clean}}
+use Rattle.race_script.specs.{declared.form.{AskWord.AskWord, LineWord.LineWord}, Form.{line_word, has_ask_word}}
+use Rattle.race_script.specs.Form.{has_line_word, line_word_in, word_on_nil, AskedWords, on_nil}
+use Rattle.race_script.specs.{Offers.{offers_text, mode_text}, Program.{Instruction, ask_fits}, Reader.HasWords}
+use Rattle.race_script.specs.{Reading.{asked_at, asked_in}, Text.{Said, Begins, Asks, ask_words, said_line}}
+use Rattle.race_script.proofs.AskTable.{SaidAsk, ask_says, so_it_says, selects_alone, ask_words_are, front_words}
+use Rattle.race_script.proofs.AskTable.{body_word, had_by_word, had_is_found, begins_again, selects_again}
 use Rattle.race_script.proofs.LineLemmas.{SaidFits, IsSaidLine, begins_line, asks_line, selects_line}
-use Rattle.race_script.proofs.SaidLines.{asked_again, begun_again}
-use Rattle.race_script.proofs.SelectLines.{selected_again}
+use Rattle.race_script.proofs.{SaidLines.{asked_again, begun_again}, SelectLines.selected_again}
 
 -- a word of which nil can't be asked
 plain : (word : AskWord) (args : List (List ℕ)) → word_on_nil word ≡ None → on_nil word args ≡ (word, args)

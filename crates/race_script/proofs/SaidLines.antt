@@ -1,45 +1,25 @@
 -- A line of a body: what it says, and that no cause holds of its words.
-use Rattle.std.proofs.Common.{◌≡◌, ℕ, ◌<◌, ◌==◌, ◌&&◌, Bool, true, false, true≢false, not, if◌then◌else◌}
-use Rattle.std.proofs.Common.{List, [], ◌∷◌, ◌++◌, length, map, Option, Some, None, Ok, refl, sym, ap, ◌∙◌}
-use Rattle.std.proofs.Common.{arith}
-use Rattle.std.proofs.lemmas.Bool.Decides.{nat_tests, Decides-eqb}
-use Rattle.std.proofs.lemmas.Option.{none-some}
-use Rattle.std.specs.List.{list_all}
-use Rattle.std.specs.Option.{option_and_then, option_map}
-use Rattle.std.specs.Result.{result_ok, result_err}
-use Rattle.race_records.specs.declared.kind.Kind.{Kind}
-use Rattle.race_records.specs.declared.kind.Named.{Named}
-use Rattle.race_records.specs.declared.parts.Part.{Part}
-use Rattle.race_records.specs.declared.parts.PartKind.{PartKind}
-use Rattle.race_records.specs.Declarations.{Declaration, DeclsState, IsWellFormed, count_of}
-use Rattle.race_records.specs.Name.{is_place}
+use Rattle.std.proofs.Common.{◌≡◌, ℕ, ◌<◌, ◌==◌, ◌&&◌, Bool, true, false, true≢false, not, if◌then◌else◌, List, [], ◌∷◌}
+use Rattle.std.proofs.Common.{◌++◌, length, map, Option, Some, None, Ok, refl, sym, ap, ◌∙◌, arith}
+use Rattle.std.{proofs.lemmas.{Bool.Decides.{nat_tests, Decides-eqb}, Option.none-some}, specs.List.list_all}
+use Rattle.std.specs.{Option.{option_and_then, option_map}, Result.{result_ok, result_err}}
+use Rattle.race_records.specs.declared.{kind.{Kind.Kind, Named.Named}, parts.{Part.Part, PartKind.PartKind}}
+use Rattle.race_records.specs.{Declarations.{Declaration, DeclsState, IsWellFormed, count_of}, Name.is_place}
 use Rattle.race_records.specs.Parts.{part_fits, part_is_limited}
-use Rattle.race_text.specs.declared.cause.TextCause.{TextCause}
-use Rattle.race_text.specs.declared.form.Field.{Field}
-use Rattle.race_text.specs.Fault.{fields_cause, field_cause}
-use Rattle.race_text.specs.Form.{place_fields}
-use Rattle.race_text.specs.Meaning.{part_in}
-use Rattle.race_text.specs.Reading.{parts_on, last_place, alone, goroutine_of}
-use Rattle.race_text.specs.Text.{goroutine_name, place_words}
-use Rattle.race_text.specs.Writing.{part_text}
-use Rattle.race_text.proofs.CauseLemmas.{and_then_some, map_some, fine_is_ok, ok_is}
-use Rattle.race_text.proofs.CleanLemmas.{place_is_visible}
-use Rattle.race_text.proofs.EventsAgain.{part_again, parts_again}
-use Rattle.race_text.proofs.EventWords.{goroutine_is, goroutine_is_there}
-use Rattle.race_text.proofs.PartWords.{is_part, are_read, texts_are, parts_are_limited}
-use Rattle.race_text.proofs.PartWords.{parts_are_wanted, words_count, words_fine}
-use Rattle.race_text.proofs.PartWords.{are_there, read_suits}
-use Rattle.race_text.proofs.PartWords.{parts_fit as all_parts_fit}
+use Rattle.race_text.specs.{declared.{cause.TextCause.TextCause, form.Field.Field}, Fault.{fields_cause, field_cause}}
+use Rattle.race_text.specs.{Form.place_fields, Meaning.part_in, Reading.{parts_on, last_place, alone, goroutine_of}}
+use Rattle.race_text.{specs.{Text.{goroutine_name, place_words}, Writing.part_text}, proofs.CauseLemmas.and_then_some}
+use Rattle.race_text.proofs.{CauseLemmas.{map_some, fine_is_ok, ok_is}, CleanLemmas.place_is_visible}
+use Rattle.race_text.proofs.{EventsAgain.{part_again, parts_again}, EventWords.{goroutine_is, goroutine_is_there}}
+use Rattle.race_text.proofs.PartWords.{is_part, are_read, texts_are, parts_are_limited, parts_are_wanted, words_count}
+use Rattle.race_text.proofs.PartWords.{words_fine, are_there, read_suits, parts_fit as all_parts_fit}
 use Rattle.race_text.proofs.PlaceWords.{ArePlaces, last_by_form, are_places, places_fine, places_are_there}
-use Rattle.race_text.proofs.WantedParts.{are_wanted}
-use Rattle.race_text.proofs.WordLemmas.{both}
-use Rattle.race_text.proofs.WordsAgain.{AreVisible}
-use Rattle.race_script.specs.declared.form.AskWord.{AskWord}
-use Rattle.race_script.specs.Fault.{words_cause}
-use Rattle.race_script.specs.Form.{ask_kinds, ask_fields, begin_fields, ask_by}
-use Rattle.race_script.specs.Program.{Instruction, ask_fits}
-use Rattle.race_script.specs.Reading.{asked_at, before_place, asked_by_parts, asked_in, begun_in}
-use Rattle.race_script.proofs.AskTable.{SaidAsk, ask_says, so_it_says, ask_by_says, ask_is_there, says_again, fits_are, parts_fit}
+use Rattle.race_text.proofs.{WantedParts.are_wanted, WordLemmas.both, WordsAgain.AreVisible}
+use Rattle.race_script.specs.{declared.form.AskWord.AskWord, Fault.words_cause, Form.{ask_kinds, ask_fields}}
+use Rattle.race_script.specs.{Form.{begin_fields, ask_by}, Program.{Instruction, ask_fits}, Reading.asked_at}
+use Rattle.race_script.{specs.Reading.{before_place, asked_by_parts, asked_in, begun_in}, proofs.AskTable.SaidAsk}
+use Rattle.race_script.proofs.AskTable.{ask_says, so_it_says, ask_by_says, ask_is_there, says_again, fits_are}
+use Rattle.race_script.proofs.AskTable.{parts_fit}
 
 -- no cause holds of the words just where there are as many as there have to be, and none holds of each
 pub words_fine_by : (ds : List Declaration) (fields : List Field) (words : List (List ℕ)) → length words ≡ length fields → fields_cause ds fields words ≡ None

@@ -1,11 +1,8 @@
 -- The test of two asks holds where they are the same, and there alone.
-use Rattle.std.proofs.Common.{◌≡◌, ◌==◌, ◌&&◌, ℕ, Bool, true, false, Option, Some, None, Decides, refl, sym, ap, true≢false}
-use Rattle.std.proofs.lemmas.Bool.Decides.{Decides-eqb}
-use Rattle.std.specs.Bool.{beq}
-use Rattle.std.specs.Cmp.{booleans_Decides}
+use Rattle.std.proofs.Common.{◌≡◌, ◌==◌, ◌&&◌, ℕ, Bool, true, false, Option, Some, None, Decides, refl, sym, ap}
+use Rattle.std.{proofs.{Common.true≢false, lemmas.Bool.Decides.Decides-eqb}, specs.{Bool.beq, Cmp.booleans_Decides}}
 use Rattle.race_records.specs.Cases.{same_chan}
-use Rattle.race_requests.specs.declared.request.Ask.{Ask}
-use Rattle.race_requests.specs.Offers.{same_offers, same_offers-Decides}
+use Rattle.race_requests.specs.{declared.request.Ask.Ask, Offers.{same_offers, same_offers-Decides}}
 use Rattle.race_script.specs.Course.{same_ask}
 
 same_chan-Decides : (a b : Option ℕ) → Decides (same_chan a b) (a ≡ b)

@@ -1,54 +1,33 @@
 -- Bytes without a fault are some program's text: line by line, each is taken into a program.
-use Rattle.std.proofs.Common.{◌≡◌, ℕ, zero, suc, ◌<◌, ◌==◌, ◌&&◌, ◌||◌, Bool, true, false, true≢false, not, nat_le, if◌then◌else◌}
-use Rattle.std.proofs.Common.{is_some, List, [], ◌∷◌, ◌++◌, length, Option, Some, None, Result, Ok, Err, refl, sym, ap, ◌∙◌, arith, append-nil}
-use Rattle.std.proofs.Common.{append_assoc}
-use Rattle.std.proofs.lemmas.Bool.Decides.{nat_tests}
-use Rattle.std.proofs.lemmas.Grind.{flat_map-append}
-use Rattle.std.proofs.lemmas.List.{reverse-reverse}
-use Rattle.std.proofs.lemmas.List.Splits.{join_with_byte-slice_split, length-slice_split}
-use Rattle.std.proofs.lemmas.Option.{none-some}
-use Rattle.std.specs.List.{flat_map, join_with_byte}
-use Rattle.std.specs.Prelude.{reverse}
-use Rattle.std.specs.Result.{result_err}
-use Rattle.race_records.specs.declared.declarations.DeclFault.{DeclFault}
-use Rattle.race_records.specs.declared.declarations.TheConstants.{MAX_PLACES}
-use Rattle.race_records.specs.declared.nouns.Noun.{Noun}
-use Rattle.race_records.specs.declared.version.Version.{Version}
-use Rattle.race_records.specs.Declarations.{Declaration, is_known, place_fault, place_number, with_place}
-use Rattle.race_records.specs.Equality.{declared}
-use Rattle.race_records.specs.Name.{is_place}
+use Rattle.std.proofs.Common.{◌≡◌, ℕ, zero, suc, ◌<◌, ◌==◌, ◌&&◌, ◌||◌, Bool, true, false, true≢false, not, nat_le}
+use Rattle.std.proofs.Common.{if◌then◌else◌, is_some, List, [], ◌∷◌, ◌++◌, length, Option, Some, None, Result, Ok, Err}
+use Rattle.std.proofs.{Common.{refl, sym, ap, ◌∙◌, arith, append-nil, append_assoc}, lemmas.Bool.Decides.nat_tests}
+use Rattle.std.proofs.lemmas.{Grind.flat_map-append, List.reverse-reverse}
+use Rattle.std.proofs.lemmas.{List.Splits.{join_with_byte-slice_split, length-slice_split}, Option.none-some}
+use Rattle.std.specs.{List.{flat_map, join_with_byte}, Prelude.reverse, Result.result_err}
+use Rattle.race_records.specs.declared.{declarations.{DeclFault.DeclFault, TheConstants.MAX_PLACES}, nouns.Noun.Noun}
+use Rattle.race_records.specs.{declared.version.Version.Version, Declarations.{Declaration, is_known, place_fault}}
+use Rattle.race_records.specs.{Declarations.{place_number, with_place}, Equality.declared, Name.is_place}
 use Rattle.race_records.specs.Nouns.{kind_of_noun}
 use Rattle.race_requests.specs.Sound.{has_ask}
-use Rattle.race_text.specs.declared.cause.TextCause.{TextCause}
-use Rattle.race_text.specs.declared.form.Word.{Word}
-use Rattle.race_text.specs.Declaring.{with_declaration_in}
-use Rattle.race_text.specs.Lines.{fault_after, first_fault}
-use Rattle.race_text.specs.Form.{word_named, first_word}
-use Rattle.race_text.specs.Text.{ended}
-use Rattle.race_text.specs.Words.{parts_of, words_of, has_bad_byte}
-use Rattle.race_text.proofs.ParseLemmas.{none_step, none_end, no_bytes}
-use Rattle.race_text.proofs.TraceLemmas.{late_declaration}
-use Rattle.race_script.specs.declared.form.AskWord.{AskWord}
-use Rattle.race_script.specs.declared.form.LineWord.{LineWord}
-use Rattle.race_script.specs.declared.program.TheConstants.{MAX_STEPS}
-use Rattle.race_script.specs.Bodies.{is_exit, after_ask}
-use Rattle.race_text.specs.Fault.{header_cause}
-use Rattle.race_script.specs.Fault.{words_cause, has_no_room, may_follow, may_begin}
-use Rattle.race_script.specs.Fault.{said_cause, asked_cause, cause, program_causes}
-use Rattle.race_script.specs.Fault.{text_fault, is_whole}
-use Rattle.race_script.specs.Form.{line_word, line_word_in, on_nil, ask_fields, begin_fields}
-use Rattle.race_script.specs.Offers.{select_words}
-use Rattle.race_script.specs.Program.{Instruction, Draft, ask_fits, bodies_of}
-use Rattle.race_script.specs.Reader.{UnendedState, ReadState, draft_read, spelled_unended, program_read, IsRead, HasWords, TakesLine}
-use Rattle.race_script.specs.Reading.{version_said, selected_in}
-use Rattle.race_script.specs.Text.{header, Said, Begins, Asks, lines, draft_text, IsProgramText}
-use Rattle.race_script.proofs.LineLemmas.{IsSaidLine, cause_behind, begins_line, asks_line, selects_line}
-use Rattle.race_script.proofs.ParseLemmas.{end_empty}
-use Rattle.race_script.proofs.ReadLemmas.{begin_told, asks_told, selects_told, bad_byte_told, unknown_told, declares_cause}
-use Rattle.race_script.proofs.ReadLemmas.{first_cause, declared_taken, said_taken, whole_program, nothing_read}
-use Rattle.race_script.proofs.ReadLemmas.{nothing_is_read, nothing_lines_read, said_header}
-use Rattle.race_script.proofs.SaidLines.{begun_is_there, is_begun, asked_is_there}
-use Rattle.race_script.proofs.TakingLemmas.{begin_taken, asked_cause_is, ended_taken, more_taken}
+use Rattle.race_text.specs.{declared.{cause.TextCause.TextCause, form.Word.Word}, Declaring.with_declaration_in}
+use Rattle.race_text.specs.{Lines.{fault_after, first_fault}, Form.{word_named, first_word}, Text.ended}
+use Rattle.race_text.specs.{Words.{parts_of, words_of, has_bad_byte}, Fault.header_cause}
+use Rattle.race_text.proofs.{ParseLemmas.{none_step, none_end, no_bytes}, TraceLemmas.late_declaration}
+use Rattle.race_script.specs.declared.{form.{AskWord.AskWord, LineWord.LineWord}, program.TheConstants.MAX_STEPS}
+use Rattle.race_script.specs.{Bodies.{is_exit, after_ask}, Fault.{words_cause, has_no_room, may_follow, may_begin}}
+use Rattle.race_script.specs.Fault.{said_cause, asked_cause, cause, program_causes, text_fault, is_whole}
+use Rattle.race_script.specs.{Form.{line_word, line_word_in, on_nil, ask_fields, begin_fields}, Offers.select_words}
+use Rattle.race_script.specs.{Program.{Instruction, Draft, ask_fits, bodies_of}, Reader.{UnendedState, ReadState}}
+use Rattle.race_script.specs.Reader.{draft_read, spelled_unended, program_read, IsRead, HasWords, TakesLine}
+use Rattle.race_script.specs.{Reading.{version_said, selected_in}, Text.{header, Said, Begins, Asks, lines, draft_text}}
+use Rattle.race_script.{specs.Text.IsProgramText, proofs.LineLemmas.{IsSaidLine, cause_behind, begins_line, asks_line}}
+use Rattle.race_script.proofs.{LineLemmas.selects_line, ParseLemmas.end_empty, ReadLemmas.{begin_told, asks_told}}
+use Rattle.race_script.proofs.ReadLemmas.{selects_told, bad_byte_told, unknown_told, declares_cause, first_cause}
+use Rattle.race_script.proofs.ReadLemmas.{declared_taken, said_taken, whole_program, nothing_read, nothing_is_read}
+use Rattle.race_script.proofs.ReadLemmas.{nothing_lines_read, said_header}
+use Rattle.race_script.proofs.{SaidLines.{begun_is_there, is_begun, asked_is_there}, TakingLemmas.begin_taken}
+use Rattle.race_script.proofs.TakingLemmas.{asked_cause_is, ended_taken, more_taken}
 
 -- what was read with one more line
 record IsNext (s : ReadState) (line : List ℕ) : Type 0 where

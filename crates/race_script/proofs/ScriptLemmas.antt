@@ -1,13 +1,9 @@
 -- The step that is asked after an answer.
-use Rattle.std.proofs.Common.{◌≡◌, ℕ, ◌+◌, ◌<◌, ◌&&◌, true, false, if◌then◌else◌, List, length, drop, get_or, slice_get, Some, sym, ap, ◌∙◌, arith}
-use Rattle.std.proofs.lemmas.List.{length-map}
-use Rattle.std.proofs.lemmas.Option.{slice_get-get_or}
-use Rattle.race_requests.specs.declared.request.Answer.{Answer}
-use Rattle.race_requests.specs.declared.request.Request.{Request}
-use Rattle.race_script.specs.Bodies.{is_body, is_behind_do, is_exit, steps_to_end}
-use Rattle.race_script.specs.Program.{asks_of}
-use Rattle.race_script.specs.Run.{ScriptState, is_done, next_step, position_after}
-use Rattle.race_script.proofs.BodyLemmas.{behind_do_within}
+use Rattle.std.proofs.Common.{◌≡◌, ℕ, ◌+◌, ◌<◌, ◌&&◌, true, false, if◌then◌else◌, List, length, drop, get_or, slice_get}
+use Rattle.std.proofs.{Common.{Some, sym, ap, ◌∙◌, arith}, lemmas.{List.length-map, Option.slice_get-get_or}}
+use Rattle.race_requests.specs.declared.request.{Answer.Answer, Request.Request}
+use Rattle.race_script.specs.{Bodies.{is_body, is_behind_do, is_exit, steps_to_end}, Program.asks_of, Run.ScriptState}
+use Rattle.race_script.{specs.Run.{is_done, next_step, position_after}, proofs.BodyLemmas.behind_do_within}
 
 -- the step behind the end of the function that had run
 module _ (body : List Request) (n behind : ℕ) (answer : Answer) (in_once : is_behind_do (asks_of body) n ≡ true)

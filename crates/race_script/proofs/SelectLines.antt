@@ -1,29 +1,18 @@
 -- The words of a select: what they ask, and that no cause holds of them.
 use Rattle.std.proofs.Common.{◌≡◌, ℕ, ◌<◌, ◌&&◌, Bool, true, false, if◌then◌else◌, nat_le, List, [], ◌∷◌, length, codes}
 use Rattle.std.proofs.Common.{Option, Some, None, Ok, Err, refl, sym, ap, subst, ◌∙◌, arith}
-use Rattle.std.proofs.lemmas.Option.{none-some, same_Some}
-use Rattle.std.proofs.lemmas.Slice.Eq.{bytes_eq-Decides}
-use Rattle.std.specs.List.{list_all}
+use Rattle.std.{proofs.lemmas.{Option.{none-some, same_Some}, Slice.Eq.bytes_eq-Decides}, specs.List.list_all}
 use Rattle.std.specs.Str.{bytes_eq}
-use Rattle.race_records.specs.declared.cases.TheConstants.{MAX_CASES}
-use Rattle.race_records.specs.declared.kind.Kind.{Kind}
-use Rattle.race_records.specs.Declarations.{Declaration, DeclsState, IsWellFormed, count_of, counts_of}
+use Rattle.race_records.specs.{declared.{cases.TheConstants.MAX_CASES, kind.Kind.Kind}, Declarations.Declaration}
+use Rattle.race_records.specs.Declarations.{DeclsState, IsWellFormed, count_of, counts_of}
 use Rattle.race_records.specs.Name.{is_place, is_place_byte}
-use Rattle.race_requests.specs.declared.request.Ask.{Ask}
-use Rattle.race_requests.specs.declared.request.Offer.{Offer}
-use Rattle.race_requests.specs.Possible.{offer_is_in_range}
-use Rattle.race_text.specs.declared.cause.TextCause.{TextCause}
-use Rattle.race_text.specs.Least.{both_say}
-use Rattle.race_text.specs.Meaning.{place_in}
-use Rattle.race_text.proofs.CauseLemmas.{both_are, ok-err, same_Ok}
-use Rattle.race_text.proofs.CleanLemmas.{place_is_visible}
-use Rattle.race_text.proofs.WordLemmas.{both}
+use Rattle.race_requests.specs.{declared.request.{Ask.Ask, Offer.Offer}, Possible.offer_is_in_range}
+use Rattle.race_text.specs.{declared.cause.TextCause.TextCause, Least.both_say, Meaning.place_in}
+use Rattle.race_text.proofs.{CauseLemmas.{both_are, ok-err, same_Ok}, CleanLemmas.place_is_visible, WordLemmas.both}
 use Rattle.race_text.proofs.WordsAgain.{AreVisible}
 use Rattle.race_script.specs.Offers.{SelectWords, select_words, mode_in, offers_in, select_in, offers_text, mode_text}
-use Rattle.race_script.specs.Program.{Instruction, offer_is_limited, ask_fits}
-use Rattle.race_script.specs.Reading.{asked_at, selected_in}
-use Rattle.race_script.proofs.OfferAgain.{offer_is_fine, offers_visible, offers_again}
-use Rattle.race_script.proofs.OfferWords.{are_offered}
+use Rattle.race_script.specs.{Program.{Instruction, offer_is_limited, ask_fits}, Reading.{asked_at, selected_in}}
+use Rattle.race_script.proofs.{OfferAgain.{offer_is_fine, offers_visible, offers_again}, OfferWords.are_offered}
 
 -- three words stand behind `select`, and no more
 select_words_are : (words : List (List ℕ)) (w : SelectWords) → select_words words ≡ Some w → words ≡ w.offers ∷ w.mode ∷ w.place ∷ []

@@ -1,17 +1,11 @@
 -- Where a goroutine is stuck, by its log.
-use Rattle.std.proofs.Common.{◌≡◌, ℕ, zero, suc, List, [], ◌∷◌, length, filter, take, cond, Bool}
-use Rattle.std.proofs.Common.{true, false, slice_get, Option, Some, None, inl, inr, ap, subst}
-use Rattle.std.proofs.Common.{◌∙◌, arith}
-use Rattle.std.proofs.lemmas.List.{take_all}
+use Rattle.std.proofs.Common.{◌≡◌, ℕ, zero, suc, List, [], ◌∷◌, length, filter, take, cond, Bool, true, false}
+use Rattle.std.proofs.{Common.{slice_get, Option, Some, None, inl, inr, ap, subst, ◌∙◌, arith}, lemmas.List.take_all}
 use Rattle.std.proofs.lemmas.Option.{slice_get_within}
-use Rattle.race_records.proofs.ListLemmas.{slice_get-within}
-use Rattle.race_records.specs.declared.event.Event.{Event}
-use Rattle.race_requests.specs.declared.request.Request.{Request}
-use Rattle.race_requests.specs.declared.request.Step.{Step}
+use Rattle.race_records.{proofs.ListLemmas.slice_get-within, specs.declared.event.Event.Event}
+use Rattle.race_requests.specs.{declared.request.{Request.Request, Step.Step}, Table.Fits}
 use Rattle.race_hub.specs.Part.{part_of, IsPart}
-use Rattle.race_requests.specs.Table.{Fits}
-use Rattle.race_script.specs.Certificate.{behind, Follows, WaitsAt, IsRun, IsStuckAt}
-use Rattle.race_script.specs.Course.{IsPassed, IsStop}
+use Rattle.race_script.specs.{Certificate.{behind, Follows, WaitsAt, IsRun, IsStuckAt}, Course.{IsPassed, IsStop}}
 use Rattle.race_script.specs.Program.{Instruction, asked_by, spelled}
 
 -- what passes a test stood in the list

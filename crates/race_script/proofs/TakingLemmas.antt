@@ -1,42 +1,24 @@
 -- One more request of the body that has not ended.
 use Rattle.std.proofs.Common.{◌≡◌, ℕ, ◌+◌, ◌<◌, ◌≤◌, ◌==◌, ◌&&◌, ◌||◌, Bool, true, false, true≢false, not, nat_lt}
-use Rattle.std.proofs.Common.{nat_le, if◌then◌else◌, List, [], ◌∷◌, ◌++◌, length, map, fold, unwrap_or, Option}
-use Rattle.std.proofs.Common.{Some, None, IfSome, refl, sym, ap, subst, ◌∙◌, arith, append-nil, append_assoc}
-use Rattle.std.proofs.Common.{is_some, is_none, ◌⊎◌, inl, inr, Ok, Err}
-use Rattle.std.proofs.lemmas.Bool.Decides.{nat_tests}
-use Rattle.std.proofs.lemmas.List.{length-append, length-map, map-append}
-use Rattle.std.proofs.lemmas.List.Folds.{list_all-append}
-use Rattle.std.proofs.lemmas.List.Sums.{fold-append}
-use Rattle.std.proofs.lemmas.Grind.{flat_map-append}
-use Rattle.std.proofs.lemmas.Option.{none-some, same_Some, slice_get_within}
-use Rattle.std.specs.List.{list_all, flat_map}
-use Rattle.std.specs.Prelude.{reverse}
-use Rattle.std.specs.Option.{option_and_then, option_map, option_map_or}
-use Rattle.race_records.specs.declared.declarations.DeclFault.{DeclFault}
-use Rattle.race_records.specs.declared.declarations.TheConstants.{MAX_PLACES}
-use Rattle.race_records.specs.declared.kind.Kind.{Kind}
+use Rattle.std.proofs.Common.{nat_le, if◌then◌else◌, List, [], ◌∷◌, ◌++◌, length, map, fold, unwrap_or, Option, Some}
+use Rattle.std.proofs.Common.{None, IfSome, refl, sym, ap, subst, ◌∙◌, arith, append-nil, append_assoc, is_some}
+use Rattle.std.proofs.{Common.{is_none, ◌⊎◌, inl, inr, Ok, Err}, lemmas.Bool.Decides.nat_tests}
+use Rattle.std.proofs.lemmas.List.{length-append, length-map, map-append, Folds.list_all-append, Sums.fold-append}
+use Rattle.std.proofs.lemmas.{Grind.flat_map-append, Option.{none-some, same_Some, slice_get_within}}
+use Rattle.std.specs.{List.{list_all, flat_map}, Prelude.reverse, Option.{option_and_then, option_map, option_map_or}}
+use Rattle.race_records.specs.declared.{declarations.{DeclFault.DeclFault, TheConstants.MAX_PLACES}, kind.Kind.Kind}
 use Rattle.race_records.specs.Declarations.{DeclsState, IsWellFormed, count_of, is_known, place_fault, place_number}
-use Rattle.race_records.specs.Declarations.{with_place as with_place_in}
-use Rattle.race_records.specs.Name.{is_place}
-use Rattle.race_records.proofs.PlaceLemmas.{with_place_well_formed}
-use Rattle.race_records.specs.Refusal.{Refuses, AllowsUnless}
-use Rattle.race_requests.specs.declared.request.Ask.{Ask}
-use Rattle.race_requests.specs.declared.request.Request.{Request}
-use Rattle.race_requests.specs.Sound.{has_ask}
-use Rattle.race_text.specs.declared.cause.TextCause.{TextCause}
-use Rattle.race_text.proofs.CauseLemmas.{and_then_some}
-use Rattle.race_text.proofs.PlacesAdded.{place_is_there, place_stays, place_grows}
-use Rattle.race_text.proofs.WordLemmas.{both}
-use Rattle.race_script.specs.declared.program.TheConstants.{MAX_STEPS}
-use Rattle.race_script.specs.Bodies.{is_exit, after_ask, onces_after, ends, is_body}
-use Rattle.race_script.specs.Fault.{has_no_room, may_follow, may_begin, asked_cause, said_cause}
-use Rattle.race_script.specs.Program.{Instruction, Draft, asks_of, asked_by, ask_fits}
-use Rattle.race_script.specs.Program.{request_fits, is_body_of, instruction, spelled, bodies_of}
-use Rattle.race_script.specs.Program.{with_place, places_of}
-use Rattle.race_script.specs.Reader.{UnendedState, ReadState, spelled_unended, draft_read, IsUnended, IsSound, TakesSaid}
-use Rattle.race_script.specs.Reading.{with_instruction, with_said}
-use Rattle.race_script.specs.Text.{Begins, Asks}
-use Rattle.race_script.proofs.LineLemmas.{grown}
+use Rattle.race_records.specs.{Declarations.{with_place as with_place_in}, Name.is_place}
+use Rattle.race_records.{specs.Refusal.{Refuses, AllowsUnless}, proofs.PlaceLemmas.with_place_well_formed}
+use Rattle.race_requests.specs.{declared.request.{Ask.Ask, Request.Request}, Sound.has_ask}
+use Rattle.race_text.{specs.declared.cause.TextCause.TextCause, proofs.CauseLemmas.and_then_some}
+use Rattle.race_text.proofs.{PlacesAdded.{place_is_there, place_stays, place_grows}, WordLemmas.both}
+use Rattle.race_script.specs.{declared.program.TheConstants.MAX_STEPS, Bodies.{is_exit, after_ask, onces_after, ends}}
+use Rattle.race_script.specs.{Bodies.is_body, Fault.{has_no_room, may_follow, may_begin, asked_cause, said_cause}}
+use Rattle.race_script.specs.Program.{Instruction, Draft, asks_of, asked_by, ask_fits, request_fits, is_body_of}
+use Rattle.race_script.specs.{Program.{instruction, spelled, bodies_of, with_place, places_of}, Reader.UnendedState}
+use Rattle.race_script.specs.Reader.{ReadState, spelled_unended, draft_read, IsUnended, IsSound, TakesSaid}
+use Rattle.race_script.{specs.{Reading.{with_instruction, with_said}, Text.{Begins, Asks}}, proofs.LineLemmas.grown}
 
 -- the asks go on where others left
 pub onces_more : (onces : List ℕ) (asks : List Ask) (ask : Ask)

@@ -1,61 +1,34 @@
 -- The text of a program has no fault, and says the program.
-use Rattle.std.proofs.Common.{◌≡◌, ◌≢◌, ℕ, suc, ◌+◌, ◌<◌, ◌≤◌, ◌==◌, ◌&&◌, ◌||◌, Bool, true}
-use Rattle.std.proofs.Common.{false, true≢false, not, nat_lt, nat_le, if◌then◌else◌, is_some, List, []}
-use Rattle.std.proofs.Common.{◌∷◌, ◌++◌, length, map, fold, get_or, Some, None, refl, sym, ap, subst, ◌∙◌}
-use Rattle.std.proofs.Common.{arith, append-nil, append_assoc}
-use Rattle.std.proofs.lemmas.Bool.Decides.{nat_tests}
-use Rattle.std.proofs.lemmas.List.{length-append, length-map, map-append}
-use Rattle.std.proofs.lemmas.List.{append_cancel_right}
-use Rattle.std.specs.List.{list_all, flat_map, AllByRecursion}
-use Rattle.std.specs.Option.{option_map_or}
-use Rattle.race_records.specs.declared.declarations.TheConstants.{MAX_PLACES}
-use Rattle.race_records.specs.declared.kind.Kind.{Kind}
-use Rattle.race_records.specs.declared.version.Version.{Version}
-use Rattle.race_records.specs.Declarations.{Declaration, DeclsState, IsWellFormed, count_of}
+use Rattle.std.proofs.Common.{◌≡◌, ◌≢◌, ℕ, suc, ◌+◌, ◌<◌, ◌≤◌, ◌==◌, ◌&&◌, ◌||◌, Bool, true, false, true≢false, not}
+use Rattle.std.proofs.Common.{nat_lt, nat_le, if◌then◌else◌, is_some, List, [], ◌∷◌, ◌++◌, length, map, fold, get_or}
+use Rattle.std.proofs.Common.{Some, None, refl, sym, ap, subst, ◌∙◌, arith, append-nil, append_assoc}
+use Rattle.std.proofs.lemmas.{Bool.Decides.nat_tests, List.{length-append, length-map, map-append, append_cancel_right}}
+use Rattle.std.proofs.lemmas.{List.{Concat.flat_map-cons, Sums.fold-append}, Grind.flat_map-append}
+use Rattle.std.{proofs.Math.ListN.get_or-append, specs.List.{list_all, flat_map, AllByRecursion}}
+use Rattle.std.specs.Option.{option_map_or, option_and_then}
+use Rattle.race_records.specs.declared.{declarations.TheConstants.MAX_PLACES, kind.Kind.Kind, version.Version.Version}
+use Rattle.race_records.specs.Declarations.{Declaration, DeclsState, IsWellFormed, count_of, is_known}
 use Rattle.race_records.specs.Equality.{Declared, declared}
-use Rattle.race_requests.specs.declared.request.Request.{Request}
-use Rattle.race_requests.specs.Sound.{has_ask}
-use Rattle.race_text.specs.declared.cause.TextCause.{TextCause}
-use Rattle.race_text.specs.declared.cause.TextFault.{TextFault}
-use Rattle.race_text.specs.Lines.{fault_after, first_fault}
-use Rattle.race_text.specs.Text.{declaration_line}
-use Rattle.race_text.specs.Words.{parts_of, has_bad_byte}
-use Rattle.race_text.proofs.ParseLemmas.{AreFine, fine_both, fine_lines, only_memory}
-use Rattle.race_text.proofs.WordLemmas.{both}
-use Rattle.race_text.proofs.WordsAgain.{parts_again}
-use Rattle.race_script.specs.declared.program.TheConstants.{MAX_STEPS}
-use Rattle.race_script.specs.Bodies.{is_exit, after_ask, onces_after, ends, is_body}
-use Rattle.race_script.specs.Fault.{said_cause, line_cause, cause, program_causes, text_fault, is_whole, has_no_room, may_follow}
-use Rattle.race_script.specs.Program.{Instruction, Draft, ProgramState, IsProgram, draft_of, declared_by, with_place, places_of, ask_fits}
-use Rattle.race_script.specs.Reading.{with_said, seen}
-use Rattle.race_script.specs.Text.{header, Said, Asks, said_line, saids, lines, draft_text, program_text, IsProgramText}
-use Rattle.std.specs.Option.{option_and_then}
-use Rattle.std.proofs.Math.ListN.{get_or-append}
-use Rattle.std.proofs.lemmas.Grind.{flat_map-append}
-use Rattle.std.proofs.lemmas.List.Concat.{flat_map-cons}
-use Rattle.std.proofs.lemmas.List.Sums.{fold-append}
-use Rattle.race_text.specs.Fault.{seen_so_far, header_cause}
-use Rattle.race_text.specs.Fault.{word_cause as text_cause}
-use Rattle.race_text.specs.Form.{first_word, arguments}
-use Rattle.race_text.specs.Words.{words_of}
-use Rattle.race_text.proofs.EventsAgain.{place_again}
-use Rattle.race_text.proofs.TextFine.{here, no_cause}
-use Rattle.race_text.proofs.TextFine.{within as within_all}
-use Rattle.race_text.proofs.TextLaws.{IsDeclarationLine}
-use Rattle.race_text.proofs.TraceLemmas.{clean_line}
-use Rattle.race_text.proofs.WordTable.{word_of_version}
-use Rattle.race_script.specs.Fault.{word_cause, may_begin}
-use Rattle.race_script.specs.Form.{line_word_in}
-use Rattle.race_script.specs.Program.{asks_of, request_fits, is_body_of, instruction, spelled}
-use Rattle.race_script.proofs.AskTable.{noun_word_in}
-use Rattle.race_script.proofs.ReadLemmas.{declaration_lines, header_said, nothing_but, seen_by_lines, seen_declared, lines_declared, end_behind}
-use Rattle.race_script.proofs.TakingLemmas.{asks_spelled}
-use Rattle.race_records.specs.Declarations.{is_known}
-use Rattle.race_script.specs.Program.{asked_by}
-use Rattle.race_script.proofs.BodyLemmas.{exit_is_last}
-use Rattle.race_script.proofs.SaidAgain.{said_again}
-use Rattle.race_script.proofs.TakingLemmas.{onces_more, places_grown}
-use Rattle.race_script.proofs.LineLemmas.{grown, SaidFits, IsSaidLine, said_keeps, seen_said, lines_said, cause_behind}
+use Rattle.race_requests.specs.{declared.request.Request.Request, Sound.has_ask}
+use Rattle.race_text.specs.{declared.cause.{TextCause.TextCause, TextFault.TextFault}, Lines.{fault_after, first_fault}}
+use Rattle.race_text.specs.{Text.declaration_line, Words.{parts_of, has_bad_byte, words_of}}
+use Rattle.race_text.specs.{Fault.{seen_so_far, header_cause, word_cause as text_cause}, Form.{first_word, arguments}}
+use Rattle.race_text.proofs.{ParseLemmas.{AreFine, fine_both, fine_lines, only_memory}, WordLemmas.both}
+use Rattle.race_text.proofs.{WordsAgain.parts_again, EventsAgain.place_again}
+use Rattle.race_text.proofs.{TextFine.{here, no_cause, within as within_all}, TextLaws.IsDeclarationLine}
+use Rattle.race_text.proofs.{TraceLemmas.clean_line, WordTable.word_of_version}
+use Rattle.race_script.specs.{declared.program.TheConstants.MAX_STEPS, Bodies.{is_exit, after_ask, onces_after, ends}}
+use Rattle.race_script.specs.{Bodies.is_body, Fault.{said_cause, line_cause, cause, program_causes, text_fault}}
+use Rattle.race_script.specs.{Fault.{is_whole, has_no_room, may_follow, word_cause, may_begin}, Program.Instruction}
+use Rattle.race_script.specs.Program.{Draft, ProgramState, IsProgram, draft_of, declared_by, with_place, places_of}
+use Rattle.race_script.specs.Program.{ask_fits, asks_of, request_fits, is_body_of, instruction, spelled, asked_by}
+use Rattle.race_script.specs.{Reading.{with_said, seen}, Text.{header, Said, Asks, said_line, saids, lines, draft_text}}
+use Rattle.race_script.{specs.{Text.{program_text, IsProgramText}, Form.line_word_in}, proofs.AskTable.noun_word_in}
+use Rattle.race_script.proofs.ReadLemmas.{declaration_lines, header_said, nothing_but, seen_by_lines, seen_declared}
+use Rattle.race_script.proofs.ReadLemmas.{lines_declared, end_behind}
+use Rattle.race_script.proofs.{TakingLemmas.{asks_spelled, onces_more, places_grown}, BodyLemmas.exit_is_last}
+use Rattle.race_script.proofs.{SaidAgain.said_again, LineLemmas.{grown, SaidFits, IsSaidLine, said_keeps, seen_said}}
+use Rattle.race_script.proofs.LineLemmas.{lines_said, cause_behind}
 
 -- each of what is said may stand behind the others
 abbrev Stand : Draft → List Said → Type 0

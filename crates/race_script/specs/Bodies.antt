@@ -1,7 +1,7 @@
 -- Which asks are a body's: its exit is the last and only the last, and it ends the functions of onces in the order of their nesting.
 -- (Our own; compare package sync, "Once")
-use Rattle.std.specs.Prelude.{ℕ, ◌+◌, ◌-◌, ◌==◌, ◌&&◌, Bool, true, false, if◌then◌else◌, List, [], ◌∷◌, length, slice_get, nat_lt, Option, Some, None}
-use Rattle.std.specs.Option.{option_and_then, option_map_or}
+use Rattle.std.specs.Prelude.{ℕ, ◌+◌, ◌-◌, ◌==◌, ◌&&◌, Bool, true, false, if◌then◌else◌, List, [], ◌∷◌, length}
+use Rattle.std.specs.{Prelude.{slice_get, nat_lt, Option, Some, None}, Option.{option_and_then, option_map_or}}
 use Rattle.race_requests.specs.declared.request.Ask.{Ask}
 
 -- the ask is an exit

@@ -1,22 +1,13 @@
 -- When a recording is a run of a program. (The Go Memory Model, "Memory Model", requirement 1: the operations in each goroutine
 -- correspond to a correct sequential execution of that goroutine)
 use Rattle.std.specs.Prelude.{ℕ, ◌≡◌, ◌<◌, ◌+◌, ◌==◌, ◌⊎◌, List, take, drop, fold, slice_get, Option, Some, IfSome}
-use Rattle.std.specs.List.{find}
-use Rattle.std.specs.Option.{option_map}
-use Rattle.race_records.specs.declared.event.Event.{Event}
-use Rattle.race_records.specs.declared.event.Op.{Op}
-use Rattle.race_records.specs.declared.event.Op.TheVariants.{OnceDone}
-use Rattle.race_records.specs.Equality.{declared}
-use Rattle.race_requests.specs.declared.request.Ask.{Ask}
-use Rattle.race_requests.specs.declared.request.Request.{Request}
-use Rattle.race_requests.specs.declared.request.Waiter.{Waiter}
-use Rattle.race_hub.specs.Part.{part_of}
-use Rattle.race_hub.specs.Recording.{RecordingState}
-use Rattle.race_requests.specs.Table.{place_of, CanMake}
+use Rattle.std.specs.{List.find, Option.option_map}
+use Rattle.race_records.specs.{declared.event.{Event.Event, Op.{Op, TheVariants.OnceDone}}, Equality.declared}
+use Rattle.race_requests.specs.{declared.request.{Ask.Ask, Request.Request, Waiter.Waiter}, Table.{place_of, CanMake}}
+use Rattle.race_hub.specs.{Part.part_of, Recording.RecordingState}
 use Rattle.race_text.specs.Text.{place_text}
-use Rattle.race_script.specs.declared.certificate.NotARun.{NotARun}
-use Rattle.race_script.specs.Bodies.{steps_to_end}
-use Rattle.race_script.specs.Program.{Instruction, ProgramState, asked_by, instruction, spelled}
+use Rattle.race_script.specs.{declared.certificate.NotARun.NotARun, Bodies.steps_to_end, Program.Instruction}
+use Rattle.race_script.specs.Program.{ProgramState, asked_by, instruction, spelled}
 
 -- the position behind the event: one further, or behind the end of a once's function that had run
 abbrev pub after_event : List Ask → ℕ → Op → ℕ

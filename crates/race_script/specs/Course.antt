@@ -1,22 +1,14 @@
 -- How a goroutine's log goes along its body, and what was done in a step of the log.
-use Rattle.std.specs.Prelude.{ℕ, ◌≡◌, ◌==◌, ◌&&◌, Bool, true, false, if◌then◌else◌, List, map, slice_get, Option, Some, None}
-use Rattle.std.specs.Bool.{beq}
-use Rattle.std.specs.Option.{option_map, option_and_then}
-use Rattle.race_records.specs.Cases.{same_chan}
-use Rattle.race_records.specs.declared.event.Cause.{Cause}
-use Rattle.race_records.specs.declared.event.Event.{Event}
-use Rattle.race_records.specs.declared.event.Op.{Op}
-use Rattle.race_records.specs.declared.event.Op.TheVariants.{Go, Exit, Read, Write, Send, Recv, RecvClosed, Close, Default, Lock, Unlock, RLock, RUnlock}
-use Rattle.race_records.specs.declared.event.Op.TheVariants.{TryLock, TryRLock, TryFail, OnceBegin, OnceEnd, OnceDone, Fault}
-use Rattle.race_requests.specs.declared.request.Answer.{Answer}
-use Rattle.race_requests.specs.declared.request.Ask.{Ask}
-use Rattle.race_requests.specs.declared.request.Offer.{Offer}
-use Rattle.race_requests.specs.declared.request.Request.{Request}
+use Rattle.std.specs.Prelude.{ℕ, ◌≡◌, ◌==◌, ◌&&◌, Bool, true, false, if◌then◌else◌, List, map, slice_get, Option, Some}
+use Rattle.std.specs.{Prelude.None, Bool.beq, Option.{option_map, option_and_then}}
+use Rattle.race_records.specs.{Cases.same_chan, declared.event.{Cause.Cause, Event.Event, Op.{Op, TheVariants.Go}}}
+use Rattle.race_records.specs.declared.event.Op.TheVariants.{Exit, Read, Write, Send, Recv, RecvClosed, Close, Default}
+use Rattle.race_records.specs.declared.event.Op.TheVariants.{Lock, Unlock, RLock, RUnlock, TryLock, TryRLock, TryFail}
+use Rattle.race_records.specs.declared.event.Op.TheVariants.{OnceBegin, OnceEnd, OnceDone, Fault}
+use Rattle.race_requests.specs.declared.request.{Answer.Answer, Ask.Ask, Offer.Offer, Request.Request}
 use Rattle.race_requests.specs.Offers.{case_of, same_offers}
-use Rattle.race_script.specs.Bodies.{is_exit}
-use Rattle.race_script.specs.Certificate.{FitsAt, IsStuckAt, IsRun, after_event}
-use Rattle.race_script.specs.Program.{Instruction, asked_by}
-use Rattle.race_script.specs.Run.{is_done}
+use Rattle.race_script.specs.{Bodies.is_exit, Certificate.{FitsAt, IsStuckAt, IsRun, after_event}}
+use Rattle.race_script.specs.{Program.{Instruction, asked_by}, Run.is_done}
 
 -- the same is asked
 abbrev pub same_ask : Ask → Ask → Bool

@@ -1,30 +1,18 @@
 -- The first fault of a program's text: the first line at which a cause holds, and the least cause that holds there.
-use Rattle.std.specs.Prelude.{ℕ, ◌==◌, ◌&&◌, ◌||◌, Bool, true, false, not, if◌then◌else◌}
-use Rattle.std.specs.Prelude.{nat_le, nat_lt, List, [], ◌∷◌, length, Option, Some, None}
-use Rattle.std.specs.Prelude.{is_some, is_none}
-use Rattle.std.specs.Option.{option_and_then}
-use Rattle.std.specs.Result.{result_err}
-use Rattle.race_records.specs.declared.declarations.TheConstants.{MAX_PLACES}
-use Rattle.race_records.specs.declared.kind.Kind.{Kind}
+use Rattle.std.specs.Prelude.{ℕ, ◌==◌, ◌&&◌, ◌||◌, Bool, true, false, not, if◌then◌else◌, nat_le, nat_lt, List, [], ◌∷◌}
+use Rattle.std.specs.{Prelude.{length, Option, Some, None, is_some, is_none}, Option.option_and_then, Result.result_err}
+use Rattle.race_records.specs.declared.{declarations.TheConstants.MAX_PLACES, kind.Kind.Kind}
 use Rattle.race_records.specs.Declarations.{Declaration, count_of, is_known}
 use Rattle.race_requests.specs.declared.request.Ask.{Ask}
-use Rattle.race_text.specs.declared.cause.TextCause.{TextCause}
-use Rattle.race_text.specs.declared.cause.TextFault.{TextFault}
-use Rattle.race_text.specs.declared.form.Field.{Field}
-use Rattle.race_text.specs.declared.form.Word.{Word}
+use Rattle.race_text.specs.declared.{cause.{TextCause.TextCause, TextFault.TextFault}, form.{Field.Field, Word.Word}}
+use Rattle.race_text.specs.{Fault.{or_else, seen_so_far, fields_cause, header_cause}, Form.{first_word, arguments}}
+use Rattle.race_text.specs.{Lines.{Causes, first_fault}, Words.{words_of, has_bad_byte}}
+use Rattle.race_script.specs.declared.{form.LineWord.LineWord, program.TheConstants.MAX_STEPS}
+use Rattle.race_script.specs.{Bodies.{is_exit, after_ask, onces_after}, Form.{line_word_in, AskedWords, on_nil}}
+use Rattle.race_script.specs.{Form.{ask_fields, begin_fields}, Offers.select_words, Program.{Instruction, Draft}}
+use Rattle.race_script.specs.{Program.{asked_by, bodies_of, places_of}, Reading.{version_said, selected_in, said_by}}
+use Rattle.race_script.specs.{Reading.{asks_by, seen}, Text.{Said, Begins, Asks}}
 use Rattle.race_text.specs.Fault as text
-use Rattle.race_text.specs.Fault.{or_else, seen_so_far, fields_cause, header_cause}
-use Rattle.race_text.specs.Form.{first_word, arguments}
-use Rattle.race_text.specs.Lines.{Causes, first_fault}
-use Rattle.race_text.specs.Words.{words_of, has_bad_byte}
-use Rattle.race_script.specs.declared.form.LineWord.{LineWord}
-use Rattle.race_script.specs.declared.program.TheConstants.{MAX_STEPS}
-use Rattle.race_script.specs.Bodies.{is_exit, after_ask, onces_after}
-use Rattle.race_script.specs.Form.{line_word_in, AskedWords, on_nil, ask_fields, begin_fields}
-use Rattle.race_script.specs.Offers.{select_words}
-use Rattle.race_script.specs.Program.{Instruction, Draft, asked_by, bodies_of, places_of}
-use Rattle.race_script.specs.Reading.{version_said, selected_in, said_by, asks_by, seen}
-use Rattle.race_script.specs.Text.{Said, Begins, Asks}
 
 -- the least cause of the words behind the first, by what they have to be: of how many there are, and of each
 abbrev pub words_cause : List Declaration → List Field → List (List ℕ) → Option TextCause

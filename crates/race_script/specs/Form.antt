@@ -1,21 +1,11 @@
 -- The words that a line of a program may begin with, and what each wants behind it.
 use Rattle.std.specs.Prelude.{ℕ, Bool, true, if◌then◌else◌, List, [], ◌∷◌, ◌++◌, map, Option, Some, None, option_map}
-use Rattle.std.specs.Option.{option_and_then, option_map_or}
-use Rattle.std.specs.Str.{bytes_eq}
-use Rattle.race_records.specs.declared.kind.Kind.{Kind}
-use Rattle.race_records.specs.declared.parts.Part.{Part}
-use Rattle.race_records.specs.declared.parts.PartKind.{PartKind}
-use Rattle.race_records.specs.declared.parts.Verb.{Verb}
-use Rattle.race_records.specs.declared.version.Version.{Version}
-use Rattle.race_records.specs.Parts.{has_verb, object_alone, object_value}
+use Rattle.std.specs.{Option.{option_and_then, option_map_or}, Str.bytes_eq}
+use Rattle.race_records.specs.declared.{kind.Kind.Kind, parts.{Part.Part, PartKind.PartKind, Verb.Verb}}
+use Rattle.race_records.specs.{declared.version.Version.Version, Parts.{has_verb, object_alone, object_value}}
 use Rattle.race_requests.specs.declared.request.Ask.{Ask}
-use Rattle.race_text.specs.declared.form.Field.{Field}
-use Rattle.race_text.specs.declared.form.Word.{Word}
-use Rattle.race_text.specs.Form.{word_named}
-use Rattle.race_text.specs.Select.{nil}
-use Rattle.race_script.specs.declared.form.AskWord.{AskWord}
-use Rattle.race_script.specs.declared.form.LineWord.{LineWord}
-use Rattle.race_script.specs.declared.form.TheConstants.{BODY_WORDS}
+use Rattle.race_text.specs.{declared.form.{Field.Field, Word.Word}, Form.word_named, Select.nil}
+use Rattle.race_script.specs.declared.form.{AskWord.AskWord, LineWord.LineWord, TheConstants.BODY_WORDS}
 
 -- what the table has at a word
 abbrev pub lookup : List (List ℕ × LineWord) → List ℕ → Option LineWord

@@ -1,19 +1,11 @@
 -- The laws of program text, which functions of src/laws.rt that do nothing have as their contracts.
 use Rattle.std.specs.Prelude.{◌≡◌, ℕ, List, [], ◌∷◌, ◌++◌, codes, Some, None, is_some}
-use Rattle.race_records.specs.declared.event.Op.TheVariants.{Exit}
-use Rattle.race_records.specs.declared.version.Version.{Version}
-use Rattle.race_records.specs.Declarations.{Declaration}
+use Rattle.race_records.specs.{declared.{event.Op.TheVariants.Exit, version.Version.Version}, Declarations.Declaration}
 use Rattle.race_model.specs.Examples.{does}
-use Rattle.race_requests.specs.declared.request.Ask.{Ask}
-use Rattle.race_requests.specs.Sound.{has_ask}
-use Rattle.race_text.specs.declared.cause.TextFault.{TextFault}
-use Rattle.race_text.specs.Fed.{ended_fault}
-use Rattle.race_text.specs.Form.{first_word}
-use Rattle.race_script.specs.Fault.{program_causes, text_fault}
-use Rattle.race_script.specs.Certificate.{FitsAt}
-use Rattle.race_script.specs.Form.{line_word_in}
-use Rattle.race_script.specs.Program.{Instruction, ProgramState, IsProgram, draft_of}
-use Rattle.race_script.specs.Reading.{version_said}
+use Rattle.race_requests.specs.{declared.request.Ask.Ask, Sound.has_ask}
+use Rattle.race_text.specs.{declared.cause.TextFault.TextFault, Fed.ended_fault, Form.first_word}
+use Rattle.race_script.specs.{Fault.{program_causes, text_fault}, Certificate.FitsAt, Form.line_word_in}
+use Rattle.race_script.specs.{Program.{Instruction, ProgramState, IsProgram, draft_of}, Reading.version_said}
 use Rattle.race_script.specs.Text.{header, ask_words, program_text, IsTextOf, IsProgramText}
 
 -- every program whose text the bytes are is the same as p, with its version and the texts of its places; that p is one isn't said

@@ -1,17 +1,11 @@
 -- The line of a select: its offers, its mode and its place. How they are spelled, what they say or what is wrong with them, and how they are printed.
-use Rattle.std.specs.Prelude.{ℕ, ◌==◌, Bool, true, false, if◌then◌else◌, List, [], ◌∷◌, codes, Option, Some, None, ok_or, Result, Ok, Err}
-use Rattle.std.specs.Fmt.{decimal}
-use Rattle.std.specs.List.{slice_split, join_with_byte}
-use Rattle.std.specs.Option.{option_map}
-use Rattle.std.specs.Borrow.{Bor}
-use Rattle.std.specs.Str.{bytes_eq}
+use Rattle.std.specs.Prelude.{ℕ, ◌==◌, Bool, true, false, if◌then◌else◌, List, [], ◌∷◌, codes, Option, Some, None}
+use Rattle.std.specs.{Prelude.{ok_or, Result, Ok, Err}, Fmt.decimal, List.{slice_split, join_with_byte}}
+use Rattle.std.specs.{Option.option_map, Borrow.Bor, Str.bytes_eq}
 use Rattle.race_records.specs.Declarations.{Declaration}
-use Rattle.race_requests.specs.declared.request.Ask.{Ask}
-use Rattle.race_requests.specs.declared.request.Offer.{Offer}
-use Rattle.race_text.specs.declared.cause.TextCause.{TextCause}
-use Rattle.race_text.specs.Least.{then_says, says_by, both_say}
-use Rattle.race_text.specs.Meaning.{value_in, chan_in, pieces_in}
-use Rattle.race_text.specs.Text.{chan_text, pieces_text}
+use Rattle.race_requests.specs.declared.request.{Ask.Ask, Offer.Offer}
+use Rattle.race_text.specs.{declared.cause.TextCause.TextCause, Least.{then_says, says_by, both_say}}
+use Rattle.race_text.specs.{Meaning.{value_in, chan_in, pieces_in}, Text.{chan_text, pieces_text}}
 use Rattle.race_script.specs.declared.offers.SelectWords.{SelectWords as ReadWords}
 
 -- the words behind `select`

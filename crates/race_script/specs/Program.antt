@@ -1,20 +1,13 @@
 -- Programs: declarations, and the body of each goroutine.
-use Rattle.std.specs.Prelude.{◌≡◌, ℕ, ◌^◌, ◌≤◌, ◌&&◌, Bool, true, nat_lt, nat_le, List, [], ◌∷◌, ◌++◌, length, map, fold, if◌then◌else◌, Option, None}
-use Rattle.std.specs.List.{list_all, flat_map}
-use Rattle.std.specs.Option.{option_map_or}
-use Rattle.race_records.specs.declared.declarations.TheConstants.{MAX_PLACES}
-use Rattle.race_records.specs.declared.kind.Kind.{Kind}
-use Rattle.race_records.specs.declared.version.Version.{Version}
+use Rattle.std.specs.Prelude.{◌≡◌, ℕ, ◌^◌, ◌≤◌, ◌&&◌, Bool, true, nat_lt, nat_le, List, [], ◌∷◌, ◌++◌, length, map}
+use Rattle.std.specs.{Prelude.{fold, if◌then◌else◌, Option, None}, List.{list_all, flat_map}, Option.option_map_or}
+use Rattle.race_records.specs.declared.{declarations.TheConstants.MAX_PLACES, kind.Kind.Kind, version.Version.Version}
 use Rattle.race_records.specs.Declarations.{Declaration, DeclsState, IsWellFormed, count_of, counts_of, is_known, is_rw}
 use Rattle.race_records.specs.Equality.{Declared}
-use Rattle.race_requests.specs.declared.request.Ask.{Ask}
-use Rattle.race_requests.specs.declared.request.Offer.{Offer}
-use Rattle.race_requests.specs.declared.request.Request.{Request}
-use Rattle.race_requests.specs.Possible.{ask_is_in_range}
+use Rattle.race_requests.specs.{declared.request.{Ask.Ask, Offer.Offer, Request.Request}, Possible.ask_is_in_range}
 use Rattle.race_requests.specs.Sound.{has_ask, rwmutex_asked}
 use Rattle.race_text.specs.Text.{place_text}
-use Rattle.race_script.specs.declared.program.TheConstants.{MAX_STEPS}
-use Rattle.race_script.specs.Bodies.{is_body}
+use Rattle.race_script.specs.{declared.program.TheConstants.MAX_STEPS, Bodies.is_body}
 
 -- a `Program` as its callers see it: the declarations with the version and the table of places, and the body of each goroutine
 pub record ProgramState : Type 0 where

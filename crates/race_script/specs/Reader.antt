@@ -1,26 +1,16 @@
 -- How far a program is read, line by line.
-use Rattle.std.specs.Prelude.{◌≡◌, ℕ, ◌≤◌, Result, Ok, Err, Bool, true, false, List, [], ◌∷◌, ◌++◌, length, map, reverse, Option, Some, None, IfSome}
-use Rattle.std.specs.List.{list_all}
-use Rattle.std.specs.Option.{option_map}
-use Rattle.race_records.specs.declared.kind.Kind.{Kind}
-use Rattle.race_records.specs.declared.version.Version.{Version}
+use Rattle.std.specs.Prelude.{◌≡◌, ℕ, ◌≤◌, Result, Ok, Err, Bool, true, false, List, [], ◌∷◌, ◌++◌, length, map}
+use Rattle.std.specs.{Prelude.{reverse, Option, Some, None, IfSome}, List.list_all, Option.option_map}
+use Rattle.race_records.specs.declared.{kind.Kind.Kind, version.Version.Version}
 use Rattle.race_records.specs.Declarations.{DeclsState, IsWellFormed, count_of}
 use Rattle.race_requests.specs.declared.request.Request.{Request}
-use Rattle.race_script.specs.declared.program.TheConstants.{MAX_STEPS}
-use Rattle.race_text.specs.declared.cause.TextCause.{TextCause}
-use Rattle.race_text.specs.Form.{first_word}
-use Rattle.race_text.specs.Grammar.{AreThese}
-use Rattle.race_text.specs.Lines.{GoesOn}
-use Rattle.race_text.specs.Owed.{owed}
-use Rattle.race_text.specs.Reader.{nothing_in}
-use Rattle.race_text.specs.Words.{words_of, has_bad_byte}
-use Rattle.race_script.specs.declared.form.LineWord.{LineWord}
-use Rattle.race_script.specs.Bodies.{is_exit, after_ask, onces_after}
-use Rattle.race_script.specs.Form.{line_word_in}
-use Rattle.race_script.specs.Fault.{cause, program_causes, said_cause, may_follow}
-use Rattle.race_script.specs.Program.{Instruction, Draft, ProgramState, asks_of, request_fits, is_body_of, spelled, bodies_of, places_of}
-use Rattle.race_script.specs.Reading.{seen, with_said}
-use Rattle.race_script.specs.Text.{Said, lines}
+use Rattle.race_script.specs.declared.{program.TheConstants.MAX_STEPS, form.LineWord.LineWord}
+use Rattle.race_script.specs.{Bodies.{is_exit, after_ask, onces_after}, Form.line_word_in, Fault.cause}
+use Rattle.race_script.specs.{Fault.{program_causes, said_cause, may_follow}, Program.{Instruction, Draft}}
+use Rattle.race_script.specs.Program.{ProgramState, asks_of, request_fits, is_body_of, spelled, bodies_of, places_of}
+use Rattle.race_script.specs.{Reading.{seen, with_said}, Text.{Said, lines}}
+use Rattle.race_text.specs.{declared.cause.TextCause.TextCause, Form.first_word, Grammar.AreThese, Lines.GoesOn}
+use Rattle.race_text.specs.{Owed.owed, Reader.nothing_in, Words.{words_of, has_bad_byte}}
 
 -- the body that has not ended, and the onces whose functions are open in it, the innermost last
 pub record UnendedState : Type 0 where

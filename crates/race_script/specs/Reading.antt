@@ -1,30 +1,17 @@
 -- What the lines of a program say, each looked at alone, and together.
-use Rattle.std.specs.Prelude.{ℕ, List, [], ◌∷◌, ◌++◌, fold, unwrap_or, Option, Some, None, Result, Ok, Err, if◌then◌else◌}
-use Rattle.std.specs.Borrow.{Bor}
-use Rattle.std.specs.List.{filter_map}
-use Rattle.std.specs.Option.{option_and_then, option_map}
-use Rattle.std.specs.Result.{result_ok}
-use Rattle.std.specs.Str.{bytes_eq}
-use Rattle.race_records.specs.declared.kind.Kind.{Kind}
-use Rattle.race_records.specs.declared.parts.PartKind.{PartKind}
-use Rattle.race_records.specs.declared.version.Version.{Version}
-use Rattle.race_records.specs.Declarations.{Declaration}
-use Rattle.race_records.specs.Equality.{Declared}
+use Rattle.std.specs.Prelude.{ℕ, List, [], ◌∷◌, ◌++◌, fold, unwrap_or, Option, Some, None, Result, Ok, Err}
+use Rattle.std.specs.{Prelude.if◌then◌else◌, Borrow.Bor, List.filter_map, Option.{option_and_then, option_map}}
+use Rattle.std.specs.{Result.result_ok, Str.bytes_eq}
+use Rattle.race_records.specs.declared.{kind.Kind.Kind, parts.PartKind.PartKind, version.Version.Version}
+use Rattle.race_records.specs.{Declarations.Declaration, Equality.Declared}
 use Rattle.race_requests.specs.declared.request.Ask.{Ask}
-use Rattle.race_text.specs.declared.cause.TextCause.{TextCause}
-use Rattle.race_text.specs.Fault.{declaration_in}
-use Rattle.race_text.specs.Form.{first_word, arguments}
-use Rattle.race_text.specs.Least.{both_say}
-use Rattle.race_text.specs.Meaning.{place_in, part_in}
-use Rattle.race_text.specs.Reading.{ReadParts, parts_on, last_place, goroutine_of}
-use Rattle.race_text.specs.Words.{words_of}
-use Rattle.race_script.specs.declared.form.AskWord.{AskWord}
-use Rattle.race_script.specs.declared.form.LineWord.{LineWord}
-use Rattle.race_script.specs.Bodies.{is_exit}
-use Rattle.race_script.specs.Form.{line_word_in, AskedWords, on_nil, ask_kinds, ask_by}
-use Rattle.race_script.specs.Offers.{SelectWords, select_words, select_in}
-use Rattle.race_script.specs.Program.{Instruction, Draft}
-use Rattle.race_script.specs.Text.{header, Said, Begins, Asks}
+use Rattle.race_text.specs.{declared.cause.TextCause.TextCause, Fault.declaration_in, Form.{first_word, arguments}}
+use Rattle.race_text.specs.{Least.both_say, Meaning.{place_in, part_in}, Reading.{ReadParts, parts_on, last_place}}
+use Rattle.race_text.specs.{Reading.goroutine_of, Words.words_of}
+use Rattle.race_script.specs.{declared.form.{AskWord.AskWord, LineWord.LineWord}, Bodies.is_exit, Form.line_word_in}
+use Rattle.race_script.specs.Form.{AskedWords, on_nil, ask_kinds, ask_by}
+use Rattle.race_script.specs.{Offers.{SelectWords, select_words, select_in}, Program.{Instruction, Draft}, Text.header}
+use Rattle.race_script.specs.Text.{Said, Begins, Asks}
 
 -- the version that the first line says, where it is a header
 abbrev pub version_said : List ℕ → Option Version

@@ -1,10 +1,7 @@
 -- A goroutine that runs its body: which step it asks after which answer. (Our own; compare package sync, "Once.Do")
 use Rattle.std.specs.Prelude.{◌≡◌, ℕ, ◌+◌, ◌&&◌, Bool, true, false, if◌then◌else◌, List, drop, slice_get, Some}
-use Rattle.race_requests.specs.declared.request.Answer.{Answer}
-use Rattle.race_requests.specs.declared.request.Ask.{Ask}
-use Rattle.race_requests.specs.declared.request.Request.{Request}
-use Rattle.race_script.specs.Bodies.{is_exit, is_behind_do, steps_to_end}
-use Rattle.race_script.specs.Program.{asks_of}
+use Rattle.race_requests.specs.declared.request.{Answer.Answer, Ask.Ask, Request.Request}
+use Rattle.race_script.specs.{Bodies.{is_exit, is_behind_do, steps_to_end}, Program.asks_of}
 
 -- a `Script` as its callers see it: the whole body, and the index of the step that comes next unless a function of a once was done
 pub record ScriptState : Type 0 where

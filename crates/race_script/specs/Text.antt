@@ -1,13 +1,11 @@
 -- The text of a program. It prints: nothing here reads.
-use Rattle.std.specs.Prelude.{◌≡◌, ℕ, ◌+◌, List, [], ◌∷◌, ◌++◌, map, codes}
-use Rattle.std.specs.Fmt.{decimal}
-use Rattle.std.specs.List.{flat_map}
-use Rattle.race_records.specs.declared.version.Version.{Version}
-use Rattle.race_records.specs.Declarations.{Declaration}
+use Rattle.std.specs.{Prelude.{◌≡◌, ℕ, ◌+◌, List, [], ◌∷◌, ◌++◌, map, codes}, Fmt.decimal, List.flat_map}
+use Rattle.race_records.specs.{declared.version.Version.Version, Declarations.Declaration}
 use Rattle.race_requests.specs.declared.request.Ask.{Ask}
-use Rattle.race_text.specs.Text.{line_of, declaration_line, goroutine_name, var_name, chan_text, lock_name, once_name, ended}
-use Rattle.race_script.specs.Offers.{offers_text, mode_text}
-use Rattle.race_script.specs.Program.{Instruction, Draft, ProgramState, IsProgram, bodies_of, draft_of}
+use Rattle.race_text.specs.Text.{line_of, declaration_line, goroutine_name, var_name, chan_text, lock_name, once_name}
+use Rattle.race_text.specs.Text.{ended}
+use Rattle.race_script.specs.{Offers.{offers_text, mode_text}, Program.{Instruction, Draft, ProgramState, IsProgram}}
+use Rattle.race_script.specs.Program.{bodies_of, draft_of}
 
 -- the first line, by the version
 abbrev pub header : Version → List ℕ

@@ -1,6 +1,5 @@
 //! What the words of a line of a body say.
-ghost use Rattle.std.specs.Prelude.{◌≡◌, ◌==◌, length};
-ghost use Rattle.std.specs.Option.{option_map};
+ghost use Rattle.std.specs.{Prelude.{◌≡◌, ◌==◌, length}, Option.option_map};
 ghost use Rattle.race_records.specs.Declarations.{IsWellFormed};
 ghost use Rattle.race_text.specs.Words.{parts_left};
 ghost use Rattle.race_script.specs.Fault as fault;

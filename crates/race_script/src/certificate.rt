@@ -1,11 +1,9 @@
 //! Whether a recording is a run of a program.
 ghost use Rattle.std.specs.Prelude.{◌≡◌, ◌<◌, ◌↔◌, IsOk, IfErr, List, Some, slice_get};
-ghost use Rattle.race_records.specs.declared.kind.Kind.{Kind as KindValue};
-ghost use Rattle.race_records.specs.Declarations.{count_of};
+ghost use Rattle.race_records.specs.{declared.{kind.{Kind.{Kind as KindValue}}}, Declarations.count_of};
 ghost use Rattle.race_requests.specs.declared.request.Request.{Request as RequestValue};
 ghost use Rattle.race_hub.specs.Part.{part_of};
-ghost use Rattle.race_script.specs.Certificate.{IsCertified, LeavesProgram, waiting_of};
-ghost use Rattle.race_script.specs.Course.{IsStop};
+ghost use Rattle.race_script.specs.{Certificate.{IsCertified, LeavesProgram, waiting_of}, Course.IsStop};
 ghost use Rattle.race_script.specs.Program.{spelled};
 
 use crate::Program;

@@ -1,15 +1,13 @@
 //! A goroutine's body, and how the steps of its log go along it.
 ghost use Rattle.std.specs.Prelude.{ℕ, ◌≡◌, ◌<◌, ◌↔◌, if◌then◌else◌, IsTrue, Some, length, slice_get};
-ghost use Rattle.race_records.specs.Declarations.{capacity_of};
-ghost use Rattle.race_records.specs.declared.event.Event.{Event as EventValue};
+ghost use Rattle.race_records.specs.{Declarations.capacity_of, declared.{event.{Event.{Event as EventValue}}}};
 ghost use Rattle.race_records.specs.declared.event.Op.TheVariants.{TryLock, TryRLock, TryFail};
 ghost use Rattle.race_model.specs.Legal.{IsLegal};
 ghost use Rattle.race_requests.specs.Table.{Fits};
+ghost use Rattle.race_script.specs.{Course.{FailsBy, IsPassed}, Program.{asks_of, instruction, spelled}};
 ghost use Rattle.race_text.specs.Text as text;
 ghost use Rattle.race_script.specs.Certificate as spec;
 ghost use Rattle.race_script.specs.Course as course;
-ghost use Rattle.race_script.specs.Course.{FailsBy, IsPassed};
-ghost use Rattle.race_script.specs.Program.{asks_of, instruction, spelled};
 
 use crate::script::{behind_end, is_done, is_exit};
 use race_hub::{Answer, Ask, Offer, Offers, Request, Step, can_make};

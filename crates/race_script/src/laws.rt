@@ -1,12 +1,6 @@
 //! The laws of program text. Each function does nothing, and its contract is the law.
-ghost use Rattle.race_script.specs.Laws.{
-  EndedFaultsStay,
-  EqualTextsAreOfEqualPrograms,
-  FaultlessBytesAreTexts,
-  PlacesCount,
-  TextsHaveNoFault,
-  WordsFollowTheVersion,
-};
+ghost use Rattle.race_script.specs.Laws.{EndedFaultsStay, EqualTextsAreOfEqualPrograms, FaultlessBytesAreTexts};
+ghost use Rattle.race_script.specs.Laws.{PlacesCount, TextsHaveNoFault, WordsFollowTheVersion};
 
 /// The text of a program has no fault.
 pub fn texts_have_no_fault()

@@ -1,10 +1,7 @@
 //! The line of a select: its offers, its mode and its place.
-ghost use Rattle.std.specs.Prelude.{◌≡◌, ◌<◌, IfOk, IfSome};
-ghost use Rattle.std.specs.Option.{option_map};
+ghost use Rattle.std.specs.{Prelude.{◌≡◌, ◌<◌, IfOk, IfSome}, Option.option_map};
 ghost use Rattle.race_requests.specs.Offers.{chan_of};
-ghost use Rattle.race_text.specs.Least.{says_by, both_say};
-ghost use Rattle.race_text.specs.Meaning.{with_piece};
-ghost use Rattle.race_text.specs.Words.{parts_left};
+ghost use Rattle.race_text.specs.{Least.{says_by, both_say}, Meaning.with_piece, Words.parts_left};
 ghost use Rattle.race_script.specs.Offers as spec;
 ghost use Rattle.race_script.specs.Reading as reading;
 

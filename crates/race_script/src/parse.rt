@@ -1,11 +1,8 @@
 //! A program from its bytes.
 ghost use Rattle.std.specs.Prelude.{◌≡◌, ◌≢◌, Some, IfOk, IfErr};
-ghost use Rattle.race_script.specs.Text.{IsTextOf, IsProgramText};
-ghost use Rattle.race_script.specs.Fault.{program_causes, text_fault};
-ghost use Rattle.race_text.specs.Fed.{ended_fault};
+ghost use Rattle.race_script.specs.{Text.{IsTextOf, IsProgramText}, Fault.{program_causes, text_fault}};
 ghost use Rattle.race_script.specs.Laws.{IsOnlyProgramOf};
-ghost use Rattle.race_text.specs.Lines.{IsLineOf, IsNoneBefore};
-ghost use Rattle.race_text.specs.Owed.{HidesNone};
+ghost use Rattle.race_text.specs.{Fed.ended_fault, Lines.{IsLineOf, IsNoneBefore}, Owed.HidesNone};
 
 use crate::program::Program;
 use crate::reader::Reader;

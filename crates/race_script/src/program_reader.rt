@@ -1,10 +1,8 @@
 //! A program from its bytes, piece by piece.
 ghost use Rattle.std.specs.Prelude.{◌≡◌, ◌≢◌, ◌++◌, [], Some, None, IfOk, IfErr};
-ghost use Rattle.race_script.specs.Text.{IsTextOf, IsProgramText};
-ghost use Rattle.race_script.specs.Fault.{program_causes, text_fault};
+ghost use Rattle.race_script.specs.{Text.{IsTextOf, IsProgramText}, Fault.{program_causes, text_fault}};
 ghost use Rattle.race_script.specs.Laws.{IsOnlyProgramOf};
-ghost use Rattle.race_text.specs.Lines.{IsLineOf, IsNoneBefore};
-ghost use Rattle.race_text.specs.Owed.{HidesNone};
+ghost use Rattle.race_text.specs.{Lines.{IsLineOf, IsNoneBefore}, Owed.HidesNone};
 ghost use Rattle.race_text.specs.Fed as spec;
 
 use crate::program::Program;

@@ -1,20 +1,15 @@
 //! A program that is read line by line.
-ghost use Rattle.std.specs.Prelude.{◌≡◌, ◌≢◌, ◌+◌, ◌^◌, ◌<◌, [], length, sum_by, reverse};
-ghost use Rattle.std.specs.Prelude.{true, false, Some, None, Ok, is_some, IfOk, IfSome};
-ghost use Rattle.std.specs.Prelude.{MatchResult, OnOk, OnErr};
-ghost use Rattle.race_records.specs.Declarations.{IsWellFormed};
-ghost use Rattle.race_records.specs.Name.{is_place};
+ghost use Rattle.std.specs.Prelude.{◌≡◌, ◌≢◌, ◌+◌, ◌^◌, ◌<◌, [], length, sum_by, reverse, true, false, Some, None, Ok};
+ghost use Rattle.std.specs.Prelude.{is_some, IfOk, IfSome, MatchResult, OnOk, OnErr};
+ghost use Rattle.race_records.specs.{Declarations.IsWellFormed, Name.is_place};
 ghost use Rattle.race_requests.specs.Sound.{has_ask};
-ghost use Rattle.race_text.specs.Lines.{GoesOn};
-ghost use Rattle.race_text.specs.Owed.{owed};
-ghost use Rattle.race_text.specs.Declaring.{cause_of as place_cause};
-ghost use Rattle.race_text.specs.Words.{parts_left};
+ghost use Rattle.race_text.specs.{Lines.GoesOn, Owed.owed, Declaring.{cause_of as place_cause}, Words.parts_left};
+ghost use Rattle.race_script.specs.Text.{Asks};
 ghost use Rattle.race_script.specs.Bodies as bodies;
 ghost use Rattle.race_script.specs.Fault as fault;
 ghost use Rattle.race_script.specs.Form as form;
 ghost use Rattle.race_script.specs.Program as program;
 ghost use Rattle.race_script.specs.Reading as reading;
-ghost use Rattle.race_script.specs.Text.{Asks};
 ghost use Rattle.race_script.specs.Reader as spec;
 
 use crate::asks::{asked_in, begun_in, words_cause};
@@ -64,8 +59,7 @@ impl<A: Allocator> Drop for Reader<A> {
 }
 
 impl<A: Allocator> Model for Reader<A> {
-    ghost use Rattle.std.specs.Prelude.{map};
-    ghost use Rattle.std.specs.Option.{option_map};
+    ghost use Rattle.std.specs.{Prelude.map, Option.option_map};
     ghost use Rattle.race_script.specs.Reader.{ReadState};
 
     ghost Value = { ReadState };
@@ -82,9 +76,7 @@ impl<A: Allocator> Model for Reader<A> {
 static BEGIN_FIELDS: [Field; 1] = [Field::Part(PartKind::Object(Kind::Goroutine))];
 
 impl<A: Allocator + Copy> Grammar for Reader<A> {
-    ghost use Rattle.race_script.specs.Fault.{program_causes};
-    ghost use Rattle.race_script.specs.Reader.{StandsFor};
-    ghost use Rattle.race_script.specs.Text.{IsTextOf};
+    ghost use Rattle.race_script.specs.{Fault.program_causes, Reader.StandsFor, Text.IsTextOf};
 
     type Whole = Program<A>;
 

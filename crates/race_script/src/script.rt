@@ -21,9 +21,7 @@ pub struct Script<A: Allocator = Global> {
 
 impl<A: Allocator> Model for Script<A> {
     ghost use Rattle.std.specs.Prelude.{◌≡◌, ◌<◌, true, length};
-    ghost use Rattle.race_script.specs.Bodies.{is_body};
-    ghost use Rattle.race_script.specs.Program.{asks_of};
-    ghost use Rattle.race_script.specs.Run.{ScriptState};
+    ghost use Rattle.race_script.specs.{Bodies.is_body, Program.asks_of, Run.ScriptState};
 
     ghost Value = { ScriptState };
 

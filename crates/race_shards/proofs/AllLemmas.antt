@@ -1,7 +1,6 @@
 -- All numbers of which something holds, up to a number.
-use Rattle.std.proofs.Common.{◌≡◌, ◌⊎◌, ℕ, ◌+◌, ◌<◌, List, [], ◌∷◌, ◌++◌, Some, length, slice_get, sym, ap, ◌∙◌, subst, inl, inr, arith}
-use Rattle.std.proofs.lemmas.Bool.{cases_eq}
-use Rattle.std.proofs.lemmas.Option.{slice_get_within}
+use Rattle.std.proofs.Common.{◌≡◌, ◌⊎◌, ℕ, ◌+◌, ◌<◌, List, [], ◌∷◌, ◌++◌, Some, length, slice_get, sym, ap, ◌∙◌, subst}
+use Rattle.std.proofs.{Common.{inl, inr, arith}, lemmas.{Bool.cases_eq, Option.slice_get_within}}
 use Rattle.race_model.proofs.Indexes.{append_at_old, slice_get-push, push_at}
 use Rattle.race_shards.specs.Witness.{AreAll}
 

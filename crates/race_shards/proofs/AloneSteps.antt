@@ -1,29 +1,18 @@
 -- One shard takes each event as soon as it was found legal.
-use Rattle.std.proofs.Common.{◌≡◌, ℕ, zero, suc, ◌+◌, ◌<◌, List, [], ◌∷◌, ◌++◌, All, Some, None, take, length, slice_get, refl, sym, ap, ◌∙◌, subst, arith}
-use Rattle.std.proofs.Common.{append_assoc, length-append}
-use Rattle.std.proofs.lemmas.Option.{slice_get_within}
-use Rattle.std.proofs.lemmas.List.{length-take-le}
-use Rattle.race_records.specs.declared.event.Event.{Event}
-use Rattle.race_records.specs.declared.kind.Kind.{Kind}
-use Rattle.race_records.specs.Declarations.{count_of, counts_of, capacity_of}
-use Rattle.race_records.specs.Events.{TraceState, IsTrace}
-use Rattle.race_model.specs.Legal.{IsLegal, IsIllegalAt}
-use Rattle.race_model.specs.Verdict.{Verdict, IsVerdict}
-use Rattle.race_legal.specs.declared.listing.Illegal.{Illegal}
-use Rattle.race_legal.specs.Rules.{number_of}
-use Rattle.race_legal.specs.ReplayState.{ReplayState, IsInRange}
-use Rattle.race_legal.specs.StandsFor as legal
+use Rattle.std.proofs.Common.{◌≡◌, ℕ, zero, suc, ◌+◌, ◌<◌, List, [], ◌∷◌, ◌++◌, All, Some, None, take, length}
+use Rattle.std.proofs.Common.{slice_get, refl, sym, ap, ◌∙◌, subst, arith, append_assoc, length-append}
+use Rattle.std.proofs.lemmas.{Option.slice_get_within, List.length-take-le}
+use Rattle.race_records.specs.declared.{event.Event.Event, kind.Kind.Kind}
+use Rattle.race_records.specs.{Declarations.{count_of, counts_of, capacity_of}, Events.{TraceState, IsTrace}}
+use Rattle.race_model.specs.{Legal.{IsLegal, IsIllegalAt}, Verdict.{Verdict, IsVerdict}}
+use Rattle.race_legal.specs.{declared.listing.Illegal.Illegal, Rules.number_of, ReplayState.{ReplayState, IsInRange}}
 use Rattle.race_legal.proofs.Fronts.{take_next}
-use Rattle.race_verdict.specs.declared.races.Race.{Race}
-use Rattle.race_verdict.specs.Races.{AreRaces, races_of}
-use Rattle.race_verdict.specs.Traces.{HasVerdict}
+use Rattle.race_verdict.specs.{declared.races.Race.Race, Races.{AreRaces, races_of}, Traces.HasVerdict}
 use Rattle.race_shards.specs.Shards.{ShardState, ShardStandsFor, ShardsStandFor, IsNextBlock, Takes}
-use Rattle.race_shards.specs.Telling.{told_below, HavePlaces}
-use Rattle.race_shards.specs.Judging.{AreFed, Accepts, Judges, CanJudge}
-use Rattle.race_shards.proofs.ShardSteps.{all_one, all_at}
-use Rattle.race_shards.proofs.ListSteps.{all_none, all_push}
-use Rattle.race_shards.proofs.TellSteps.{have_places, told_races}
-use Rattle.race_shards.proofs.JudgeSteps.{judges_legal, in_range_all}
+use Rattle.race_shards.specs.{Telling.{told_below, HavePlaces}, Judging.{AreFed, Accepts, Judges, CanJudge}}
+use Rattle.race_shards.proofs.{ShardSteps.{all_one, all_at}, ListSteps.{all_none, all_push}}
+use Rattle.race_shards.proofs.{TellSteps.{have_places, told_races}, JudgeSteps.{judges_legal, in_range_all}}
+use Rattle.race_legal.specs.StandsFor as legal
 
 module _ (old : ReplayState) (s : ShardState) (block : List Event) where
   -- an event that was found legal may go to the shard

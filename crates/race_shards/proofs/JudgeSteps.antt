@@ -1,37 +1,25 @@
 -- A judge takes a block.
-use Rattle.std.proofs.Common.{◌≡◌, ℕ, ◌+◌, ◌<◌, ◌≤◌, false, List, [], ◌∷◌, ◌++◌, All, Option, Some, None, take, drop, take_all, length, slice_get, refl, sym, ap, ◌∙◌, ◌-◌, subst, inl, inr, arith}
-use Rattle.std.proofs.Common.{append_assoc, append-nil, length-append, length-drop, true, ◌==◌, eqb-true, Result, Err, slice_index_or}
-use Rattle.std.proofs.lemmas.Option.{slice_get_within}
-use Rattle.std.proofs.lemmas.Bool.{cases_lt}
-use Rattle.std.proofs.lemmas.Bool.Decides.{nat_tests}
-use Rattle.std.specs.Prelude.{IsTrue}
-use Rattle.race_shards.specs.Limits.{is_shards}
-use Rattle.std.proofs.lemmas.List.{take-append-drop, take-append-le, length-take-le, get_or_append_left, get_or-append_right}
-use Rattle.race_records.specs.declared.event.Event.{Event}
-use Rattle.race_records.specs.declared.kind.Kind.{Kind}
-use Rattle.race_records.specs.Declarations.{Declaration, count_of, counts_of, capacity_of}
-use Rattle.race_model.specs.Legal.{broken, IsLegal, IsIllegalAt}
-use Rattle.race_model.proofs.Indexes.{append_at_old, at_below}
-use Rattle.race_model.proofs.LegalSteps.{illegal_push}
-use Rattle.race_legal.specs.declared.listing.Illegal.{Illegal}
-use Rattle.race_legal.specs.Rules.{number_of}
-use Rattle.race_legal.specs.ReplayState.{ReplayState, IsInRange, counts_in}
-use Rattle.race_legal.specs.StandsFor as legal
-use Rattle.race_legal.proofs.Fronts.{take_next}
-use Rattle.race_legal.proofs.RangeLemmas.{range_from_fits}
-use Rattle.race_records.specs.Events.{TraceState, IsTrace}
-use Rattle.race_shards.specs.declared.fault.JudgeFault.{JudgeFault}
-use Rattle.race_shards.specs.declared.judge.Judge.TheInside.{Inside}
-use Rattle.std.specs.Option.{is_some}
-use Rattle.std.proofs.Math.Seq.{take-add}
-use Rattle.std.proofs.lemmas.List.Elements.{All-take, All-drop}
-use Rattle.race_model.specs.Verdict.{Verdict, IsVerdict}
-use Rattle.race_verdict.specs.declared.races.Race.{Race}
-use Rattle.race_verdict.specs.Races.{AreRaces, races_of}
-use Rattle.race_shards.specs.Telling.{told_below, HavePlaces}
+use Rattle.std.proofs.Common.{◌≡◌, ℕ, ◌+◌, ◌<◌, ◌≤◌, false, List, [], ◌∷◌, ◌++◌, All, Option, Some, None, take, drop}
+use Rattle.std.proofs.Common.{take_all, length, slice_get, refl, sym, ap, ◌∙◌, ◌-◌, subst, inl, inr, arith}
+use Rattle.std.proofs.Common.{append_assoc, append-nil, length-append, length-drop, true, ◌==◌, eqb-true, Result, Err}
+use Rattle.std.proofs.{Common.slice_index_or, lemmas.{Option.slice_get_within, Bool.{cases_lt, Decides.nat_tests}}}
+use Rattle.std.proofs.lemmas.List.{take-append-drop, take-append-le, length-take-le, get_or_append_left}
+use Rattle.std.proofs.{lemmas.List.{get_or-append_right, Elements.{All-take, All-drop}}, Math.Seq.take-add}
+use Rattle.std.specs.{Prelude.IsTrue, Option.is_some}
+use Rattle.race_shards.specs.{Limits.is_shards, declared.{fault.JudgeFault.JudgeFault, judge.Judge.TheInside.Inside}}
+use Rattle.race_shards.specs.{Telling.{told_below, HavePlaces}, Shards.{ShardState, ShardStandsFor, ShardsStandFor}}
+use Rattle.race_shards.specs.{Shards.{AllTake, AreNextBlock}, Judging.{JudgeState, StandsFor, StandsForSome, IsSound}}
+use Rattle.race_shards.specs.Judging.{CanTake, GoesOn, Tells, AreFed, IsJudged, Accepts, Judges, CanJudge}
 use Rattle.race_shards.proofs.TellSteps.{have_places, told_races}
-use Rattle.race_shards.specs.Shards.{ShardState, ShardStandsFor, ShardsStandFor, AllTake, AreNextBlock}
-use Rattle.race_shards.specs.Judging.{JudgeState, StandsFor, StandsForSome, IsSound, CanTake, GoesOn, Tells, AreFed, IsJudged, Accepts, Judges, CanJudge}
+use Rattle.race_records.specs.{declared.{event.Event.Event, kind.Kind.Kind}, Declarations.{Declaration, count_of}}
+use Rattle.race_records.specs.{Declarations.{counts_of, capacity_of}, Events.{TraceState, IsTrace}}
+use Rattle.race_model.specs.{Legal.{broken, IsLegal, IsIllegalAt}, Verdict.{Verdict, IsVerdict}}
+use Rattle.race_model.proofs.{Indexes.{append_at_old, at_below}, LegalSteps.illegal_push}
+use Rattle.race_legal.specs.{declared.listing.Illegal.Illegal, Rules.number_of}
+use Rattle.race_legal.{specs.ReplayState.{ReplayState, IsInRange, counts_in}, proofs.Fronts.take_next}
+use Rattle.race_legal.proofs.RangeLemmas.{range_from_fits}
+use Rattle.race_verdict.specs.{declared.races.Race.Race, Races.{AreRaces, races_of}}
+use Rattle.race_legal.specs.StandsFor as legal
 
 -- a judge as its callers see it, from its inside
 abbrev pub seen : {A : Type 0} → Inside A → JudgeState

@@ -1,17 +1,11 @@
 -- What a judge notes with its verdict is right.
-use Rattle.std.proofs.Common.{◌≡◌, ◌<◌, List, All, None, length, get_or, subst}
-use Rattle.std.proofs.lemmas.Option.{slice_get-get_or}
+use Rattle.std.proofs.{Common.{◌≡◌, ◌<◌, List, All, None, length, get_or, subst}, lemmas.Option.slice_get-get_or}
 use Rattle.std.proofs.lemmas.List.Elements.{All-weaker}
-use Rattle.race_records.specs.declared.event.Event.{Event}
-use Rattle.race_records.specs.Declarations.{Declaration}
+use Rattle.race_records.specs.{declared.event.Event.Event, Declarations.Declaration}
 use Rattle.race_model.specs.Events.{count, is_access}
-use Rattle.race_verdict.specs.declared.notes.NotedRace.{NotedRace}
-use Rattle.race_verdict.specs.Notes.{IsNotedRaceOf}
-use Rattle.race_shards.specs.Shards.{ShardState}
-use Rattle.race_shards.specs.Telling.{IsNotedBy}
-use Rattle.race_shards.specs.Judging.{JudgeState, StandsFor}
-use Rattle.race_shards.proofs.JudgeSteps.{some_of, stand_of}
-use Rattle.race_shards.proofs.TellSteps.{noted_is}
+use Rattle.race_verdict.specs.{declared.notes.NotedRace.NotedRace, Notes.IsNotedRaceOf}
+use Rattle.race_shards.specs.{Shards.ShardState, Telling.IsNotedBy, Judging.{JudgeState, StandsFor}}
+use Rattle.race_shards.proofs.{JudgeSteps.{some_of, stand_of}, TellSteps.noted_is}
 
 module _ (j : JudgeState) (going : j.illegal ≡ None) (declarations : List Declaration) (past : List Event) (S : StandsFor declarations j past) where
   -- both accesses of each race are noted of the events

@@ -1,24 +1,15 @@
 -- The parts of a witness's order are put together.
-use Rattle.std.proofs.Common.{◌≡◌, ◌↔◌, ℕ, ◌+◌, ◌<◌, ◌≤◌, ◌==◌, ◌&&◌, not, Bool, true, false, cond, List, [], ◌∷◌, ◌++◌, Option, Some, None, length, refl, sym, ap, ◌∙◌, subst, arith, IsTrue}
-use Rattle.std.proofs.Common.{eqb-true, eq-eqb, append_assoc, append-nil}
-use Rattle.std.proofs.lemmas.Option.{slice_get_within}
-use Rattle.race_records.specs.declared.event.Event.{Event}
-use Rattle.race_records.specs.Events.{TraceState}
-use Rattle.race_model.specs.Events.{is_access}
-use Rattle.race_model.specs.Reorder.{IsAccess, IsReordering}
-use Rattle.race_model.proofs.ReorderLemmas.{passes_at}
-use Rattle.race_verdict.specs.Traces.{capacities}
-use Rattle.race_verdict.specs.declared.races.Race.{Race}
-use Rattle.race_clock.specs.declared.stamp.Stamp.{Stamp}
-use Rattle.race_clock.specs.Laws.{IsStampIn}
-use Rattle.race_clock.specs.StamperState.{StamperState}
-use Rattle.race_shards.specs.declared.order.Part.{Part}
-use Rattle.race_shards.specs.Witness.{IsOther, IsWitnessList, IsWitness, StandsNext}
-use Rattle.race_shards.specs.Walking.{IsStampAt}
-use Rattle.race_shards.specs.Pairs.{PairState, is_early, IsPairIn, IsPairOf}
-use Rattle.race_shards.specs.Listing.{IsOfPart, belongs, listed_of, Adds}
-use Rattle.race_shards.proofs.AllLemmas.{Below, all_none, all_more, all_passed, all_whole}
-use Rattle.race_shards.proofs.PairSteps.{stamp_is_access, early_says}
+use Rattle.std.proofs.Common.{◌≡◌, ◌↔◌, ℕ, ◌+◌, ◌<◌, ◌≤◌, ◌==◌, ◌&&◌, not, Bool, true, false, cond, List, [], ◌∷◌, ◌++◌}
+use Rattle.std.proofs.Common.{Option, Some, None, length, refl, sym, ap, ◌∙◌, subst, arith, IsTrue, eqb-true, eq-eqb}
+use Rattle.std.proofs.{Common.{append_assoc, append-nil}, lemmas.Option.slice_get_within}
+use Rattle.race_records.specs.{declared.event.Event.Event, Events.TraceState}
+use Rattle.race_model.{specs.{Events.is_access, Reorder.{IsAccess, IsReordering}}, proofs.ReorderLemmas.passes_at}
+use Rattle.race_verdict.specs.{Traces.capacities, declared.races.Race.Race}
+use Rattle.race_clock.specs.{declared.stamp.Stamp.Stamp, Laws.IsStampIn, StamperState.StamperState}
+use Rattle.race_shards.specs.{declared.order.Part.Part, Witness.{IsOther, IsWitnessList, IsWitness, StandsNext}}
+use Rattle.race_shards.specs.{Walking.IsStampAt, Pairs.{PairState, is_early, IsPairIn, IsPairOf}, Listing.IsOfPart}
+use Rattle.race_shards.{specs.Listing.{belongs, listed_of, Adds}, proofs.AllLemmas.{Below, all_none, all_more}}
+use Rattle.race_shards.proofs.{AllLemmas.{all_passed, all_whole}, PairSteps.{stamp_is_access, early_says}}
 use Rattle.race_shards.proofs.WitnessLaws.{list_is_reordering}
 
 -- three tests that fail together

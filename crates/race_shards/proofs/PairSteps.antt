@@ -1,24 +1,18 @@
 -- What two stamps with their clocks say of a race.
-use Rattle.std.proofs.Common.{◌≡◌, ◌↔◌, ℕ, ◌+◌, ◌<◌, ◌==◌, ◌&&◌, ◌||◌, not, nat_lt, Bool, true, false, List, take, length, refl, sym, ◌∙◌, subst, inl, inr, arith, IsTrue}
-use Rattle.std.proofs.Common.{eqb-true, eq-eqb}
+use Rattle.std.proofs.Common.{◌≡◌, ◌↔◌, ℕ, ◌+◌, ◌<◌, ◌==◌, ◌&&◌, ◌||◌, not, nat_lt, Bool, true, false, List, take}
+use Rattle.std.proofs.Common.{length, refl, sym, ◌∙◌, subst, inl, inr, arith, IsTrue, eqb-true, eq-eqb}
 use Rattle.std.proofs.lemmas.Bool.{or_cases, or_left, or_right, le-leb, leb-true, ltb-true, lt-ltb}
 use Rattle.race_records.specs.declared.event.Event.{Event}
-use Rattle.race_model.specs.Events.{is_access, accesses, writes}
-use Rattle.race_model.specs.Order.{HappensBefore}
-use Rattle.race_model.specs.Race.{IsAccessOf, IsWriteOf, IsRace}
-use Rattle.race_model.specs.Reorder.{IsAccess}
-use Rattle.race_model.specs.Clocks.{participations}
-use Rattle.race_model.specs.Legal.{IsLegal}
-use Rattle.race_model.proofs.Indexes.{at_same}
-use Rattle.race_model.proofs.Ranks.{happens_before_up}
+use Rattle.race_model.specs.{Events.{is_access, accesses, writes}, Order.HappensBefore}
+use Rattle.race_model.specs.{Race.{IsAccessOf, IsWriteOf, IsRace}, Reorder.IsAccess, Clocks.participations}
+use Rattle.race_model.{specs.Legal.IsLegal, proofs.{Indexes.at_same, Ranks.happens_before_up}}
 use Rattle.race_model.proofs.ReorderLemmas.{passes_from}
 use Rattle.race_verdict.specs.declared.races.Race.{Race}
-use Rattle.race_clock.specs.declared.stamp.Stamp.{Stamp}
-use Rattle.race_clock.specs.Laws.{IsStampIn}
+use Rattle.race_clock.specs.{declared.stamp.Stamp.Stamp, Laws.IsStampIn}
 use Rattle.race_clock.proofs.StampLaws.{says, known_is_happens_before}
 use Rattle.race_access.proofs.StampSteps.{accessed, accesses_one}
-use Rattle.race_shards.specs.Witness.{IsBeforeEither, RacesInOrder}
-use Rattle.race_shards.specs.Pairs.{SeenState, PairState, is_known, is_early, races_on, IsTouchAt, IsPairIn, IsPairOf}
+use Rattle.race_shards.specs.{Witness.{IsBeforeEither, RacesInOrder}, Pairs.{SeenState, PairState, is_known, is_early}}
+use Rattle.race_shards.specs.Pairs.{races_on, IsTouchAt, IsPairIn, IsPairOf}
 
 -- five tests that pass together, the last of which is to fail
 record AllPass (p q r w k : Bool) : Type 0 where

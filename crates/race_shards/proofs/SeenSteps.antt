@@ -1,22 +1,15 @@
 -- What a clock counts of a goroutine's parts is what was seen of them, and the last that was seen is the part with that number.
-use Rattle.std.proofs.Common.{◌≡◌, ℕ, ◌+◌, ◌<◌, ◌≤◌, true, false, List, Option, Some, None, take, length, sym, ap, ◌∙◌, subst, inl, inr, arith}
-use Rattle.std.proofs.Common.{take-take}
-use Rattle.std.proofs.lemmas.Bool.{cases_order}
+use Rattle.std.proofs.Common.{◌≡◌, ℕ, ◌+◌, ◌<◌, ◌≤◌, true, false, List, Option, Some, None, take, length, sym, ap, ◌∙◌}
+use Rattle.std.proofs.{Common.{subst, inl, inr, arith, take-take}, lemmas.Bool.cases_order}
 use Rattle.std.proofs.lemmas.List.Sums.{sum_by-take-le, count_by_more_yes, count_by_more_no}
 use Rattle.std.proofs.lemmas.Option.{slice_get_within, get_or_from_slice_get}
 use Rattle.race_records.specs.declared.event.Event.{Event}
-use Rattle.race_model.specs.Events.{At, takes_part, TakesPart}
-use Rattle.race_model.specs.Order.{Begin, Reaches}
-use Rattle.race_model.specs.Clocks.{participations}
-use Rattle.race_model.proofs.BeforeSeen.{front_reaches, front_grow}
-use Rattle.race_model.proofs.Indexes.{slice_get-take}
-use Rattle.race_model.proofs.Ranks.{reaches_up}
+use Rattle.race_model.specs.{Events.{At, takes_part, TakesPart}, Order.{Begin, Reaches}, Clocks.participations}
+use Rattle.race_model.proofs.{BeforeSeen.{front_reaches, front_grow}, Indexes.slice_get-take, Ranks.reaches_up}
 use Rattle.race_model.proofs.StampsLawful.{IsStamped}
 use Rattle.race_verdict.specs.declared.races.Race.{Race}
-use Rattle.race_clock.specs.ClockState.{knows}
-use Rattle.race_clock.proofs.StampLaws.{stamped}
-use Rattle.race_shards.specs.Pairs.{PairState, IsPairOf}
-use Rattle.race_shards.specs.Seen.{who_at, HasSeen, IsLastSeen, IsPart}
+use Rattle.race_clock.{specs.ClockState.knows, proofs.StampLaws.stamped}
+use Rattle.race_shards.specs.{Pairs.{PairState, IsPairOf}, Seen.{who_at, HasSeen, IsLastSeen, IsPart}}
 
 module _ (events : List Event) (g : ℕ) where
   -- an event more, in which g takes part or not

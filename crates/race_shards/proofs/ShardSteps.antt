@@ -1,34 +1,22 @@
 -- A shard takes a block event by event.
-use Rattle.std.proofs.Common.{◌≡◌, ℕ, zero, suc, ◌+◌, ◌/◌, ◌^◌, ◌<◌, ◌≤◌, refl, List, [], ◌∷◌, ◌++◌, Some, None, All, take, length, slice_get, sym, ap, ◌∙◌, subst, arith}
-use Rattle.std.proofs.Common.{append_assoc, append-nil, length-append}
-use Rattle.std.proofs.Math.Seq.{take-append-add, take-append_seam}
-use Rattle.std.proofs.lemmas.Option.{slice_get_within, get_or_from_slice_get}
-use Rattle.std.proofs.lemmas.List.{length-take-le}
+use Rattle.std.proofs.Common.{◌≡◌, ℕ, zero, suc, ◌+◌, ◌/◌, ◌^◌, ◌<◌, ◌≤◌, refl, List, [], ◌∷◌, ◌++◌, Some, None, All}
+use Rattle.std.proofs.Common.{take, length, slice_get, sym, ap, ◌∙◌, subst, arith, append_assoc, append-nil}
+use Rattle.std.proofs.{Common.length-append, Math.Seq.{take-append-add, take-append_seam}}
+use Rattle.std.proofs.lemmas.{Option.{slice_get_within, get_or_from_slice_get}, List.length-take-le}
 use Rattle.std.proofs.lemmas.List.Sums.{count_by-le-length}
-use Rattle.race_records.specs.declared.event.Event.{Event}
-use Rattle.race_records.specs.declared.kind.Kind.{Kind}
+use Rattle.race_records.specs.declared.{event.Event.Event, kind.Kind.Kind}
 use Rattle.race_records.specs.Declarations.{count_of, counts_of, capacity_of}
-use Rattle.race_model.specs.Events.{count, is_access}
-use Rattle.race_model.specs.Legal.{IsLegal}
-use Rattle.race_model.specs.Clocks.{participations}
-use Rattle.race_model.proofs.LegalSteps.{legal_take}
-use Rattle.race_model.proofs.CountSteps.{as_number, count_push}
-use Rattle.race_legal.specs.ReplayState.{IsInRange}
-use Rattle.race_legal.proofs.Fronts.{take_next}
-use Rattle.race_clock.specs.declared.stamp.Stamp.{Stamp}
-use Rattle.race_clock.specs.StamperState.{StamperState}
-use Rattle.race_clock.specs.Stamps.{stamp_of}
-use Rattle.race_clock.specs.ClocksState.{clock_of}
-use Rattle.race_clock.specs.StandsFor.{IsNext, CountsReaching, CountsAtAccess}
-use Rattle.race_clock.specs.StandsFor as clock
-use Rattle.race_clock.proofs.NextFrom.{allowed_last}
-use Rattle.race_clock.proofs.StampLaws.{Says, says}
-use Rattle.race_access.proofs.StampSteps.{accessed}
-use Rattle.race_access.proofs.NoteSteps.{no_access}
+use Rattle.race_model.specs.{Events.{count, is_access}, Legal.IsLegal, Clocks.participations}
+use Rattle.race_model.proofs.{LegalSteps.legal_take, CountSteps.{as_number, count_push}}
+use Rattle.race_legal.{specs.ReplayState.IsInRange, proofs.Fronts.take_next}
+use Rattle.race_clock.specs.{declared.stamp.Stamp.Stamp, StamperState.StamperState, Stamps.stamp_of}
+use Rattle.race_clock.specs.{ClocksState.clock_of, StandsFor.{IsNext, CountsReaching, CountsAtAccess}}
+use Rattle.race_clock.proofs.{NextFrom.allowed_last, StampLaws.{Says, says}}
+use Rattle.race_access.proofs.{StampSteps.accessed, NoteSteps.no_access}
 use Rattle.race_verdict.proofs.RangeLemmas.{accessed_in_range, accessed_below}
-use Rattle.race_shards.specs.Variables.{VariablesState, IsShapedAs, GoesOn}
-use Rattle.race_shards.specs.Shards.{ShardState, ShardStandsFor, IsNextBlock, Takes}
-use Rattle.race_shards.proofs.VariableSteps.{kept_other}
+use Rattle.race_shards.specs.{Variables.{VariablesState, IsShapedAs, GoesOn}, Shards.{ShardState, ShardStandsFor}}
+use Rattle.race_shards.{specs.Shards.{IsNextBlock, Takes}, proofs.VariableSteps.kept_other}
+use Rattle.race_clock.specs.StandsFor as clock
 
 -- of one event, and of one among others
 pub all_one : (P : Event → Type 0) (e : Event) → P e → All P (e ∷ [])

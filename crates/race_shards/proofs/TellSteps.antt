@@ -1,34 +1,22 @@
 -- What the shards tell of each variable is right.
-use Rattle.std.proofs.Common.{◌≡◌, ℕ, zero, suc, ◌+◌, ◌/◌, ◌%◌, ◌<◌, List, [], ◌∷◌, ◌++◌, All, length, map, Option, Some, None, get_or, slice_get, refl, sym, ap, ◌∙◌, subst, inl, inr, arith}
-use Rattle.std.proofs.Common.{length-append, append-nil}
+use Rattle.std.proofs.Common.{◌≡◌, ℕ, zero, suc, ◌+◌, ◌/◌, ◌%◌, ◌<◌, List, [], ◌∷◌, ◌++◌, All, length, map, Option}
+use Rattle.std.proofs.Common.{Some, None, get_or, slice_get, refl, sym, ap, ◌∙◌, subst, inl, inr, arith, length-append}
+use Rattle.std.proofs.{Common.append-nil, Math.Seq.get_or-append_seam, lemmas.{Bool.cases_lt, Nat.mod_below}}
+use Rattle.std.proofs.lemmas.List.{get_or_append_left, map-append, Elements.filter_map-append}
 use Rattle.std.specs.Option.{option_map}
-use Rattle.std.proofs.Math.Seq.{get_or-append_seam}
-use Rattle.std.proofs.lemmas.Bool.{cases_lt}
-use Rattle.std.proofs.lemmas.Nat.{mod_below}
-use Rattle.std.proofs.lemmas.List.{get_or_append_left, map-append}
-use Rattle.std.proofs.lemmas.List.Elements.{filter_map-append}
-use Rattle.race_records.specs.declared.event.Event.{Event}
-use Rattle.race_records.specs.declared.kind.Kind.{Kind}
-use Rattle.race_records.specs.Declarations.{Declaration, count_of, counts_of, capacity_of}
-use Rattle.race_model.specs.Race.{IsAccessOf, IsRace}
-use Rattle.race_model.proofs.Indexes.{at_below}
+use Rattle.race_records.specs.{declared.{event.Event.Event, kind.Kind.Kind}, Declarations.{Declaration, count_of}}
+use Rattle.race_records.specs.Declarations.{counts_of, capacity_of}
+use Rattle.race_model.{specs.Race.{IsAccessOf, IsRace}, proofs.Indexes.at_below}
 use Rattle.race_legal.specs.ReplayState.{IsInRange}
-use Rattle.race_access.specs.Kept.{Kept}
-use Rattle.race_access.specs.StampsOf.{IsReportedOn}
-use Rattle.race_access.proofs.StampSteps.{reported_on}
-use Rattle.race_access.proofs.StandSteps.{stands_reports}
-use Rattle.race_access.proofs.NoteSteps.{notes_are}
-use Rattle.race_verdict.specs.declared.notes.NotedRace.{NotedRace}
-use Rattle.race_verdict.specs.declared.races.Race.{Race}
-use Rattle.race_verdict.specs.Notes.{race_noted, IsNotedRaceOf}
-use Rattle.race_verdict.specs.Races as tool
-use Rattle.race_verdict.specs.Races.{IsFound, AreFound, AreRaces, races_of}
-use Rattle.race_verdict.proofs.RaceLists.{are_races}
+use Rattle.race_access.{specs.{Kept.Kept, StampsOf.IsReportedOn}, proofs.StampSteps.reported_on}
+use Rattle.race_access.proofs.{StandSteps.stands_reports, NoteSteps.notes_are}
+use Rattle.race_verdict.specs.{declared.{notes.NotedRace.NotedRace, races.Race.Race}, Notes.{race_noted, IsNotedRaceOf}}
+use Rattle.race_verdict.{specs.Races.{IsFound, AreFound, AreRaces, races_of}, proofs.RaceLists.are_races}
 use Rattle.race_verdict.proofs.RangeLemmas.{accessed_in_range, accessed_below}
-use Rattle.race_shards.specs.Variables.{IsKeptOf, kept_of}
-use Rattle.race_shards.specs.Shards.{ShardState, ShardsStandFor}
-use Rattle.race_shards.specs.Telling.{race_with, race_of, race_in, race_told, noted_in, told_below, HavePlaces, IsNotedBy}
+use Rattle.race_shards.specs.{Variables.{IsKeptOf, kept_of}, Shards.{ShardState, ShardsStandFor}, Telling.race_with}
+use Rattle.race_shards.specs.Telling.{race_of, race_in, race_told, noted_in, told_below, HavePlaces, IsNotedBy}
 use Rattle.race_shards.proofs.ShardSteps.{all_at}
+use Rattle.race_verdict.specs.Races as tool
 
 -- what is kept of a variable tells its race
 found_is : (caps : ℕ → ℕ) (events : List Event) (x : ℕ) (kept : Kept) → IsKeptOf caps events x kept → IsFound caps events x (race_of x kept)

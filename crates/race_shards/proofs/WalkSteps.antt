@@ -1,28 +1,19 @@
 -- A stamper takes the next event of a legal trace.
-use Rattle.std.proofs.Common.{◌≡◌, ℕ, ◌+◌, ◌<◌, List, [], ◌∷◌, ◌++◌, Option, Some, None, Result, Ok, Err, OnOk, IfOk, take, length, slice_get, get_or, sym, ap, ◌∙◌, subst, arith, IsTrue}
-use Rattle.std.proofs.lemmas.List.{length-take-le}
-use Rattle.std.proofs.lemmas.Option.{slice_get_within, get_or_from_slice_get, slice_get-get_or}
-use Rattle.race_records.specs.declared.event.Event.{Event}
-use Rattle.race_records.specs.declared.event.Op.{Op}
-use Rattle.race_records.specs.declared.event.Op.TheVariants.{Read, Write}
+use Rattle.std.proofs.Common.{◌≡◌, ℕ, ◌+◌, ◌<◌, List, [], ◌∷◌, ◌++◌, Option, Some, None, Result, Ok, Err, OnOk, IfOk}
+use Rattle.std.proofs.Common.{take, length, slice_get, get_or, sym, ap, ◌∙◌, subst, arith, IsTrue}
+use Rattle.std.proofs.lemmas.{List.length-take-le, Option.{slice_get_within, get_or_from_slice_get, slice_get-get_or}}
+use Rattle.race_records.specs.declared.event.{Event.Event, Op.{Op, TheVariants.{Read, Write}}}
 use Rattle.race_records.specs.Events.{TraceState, IsTrace, fits}
-use Rattle.race_model.specs.Events.{At, is_access}
-use Rattle.race_model.specs.Legal.{IsLegal}
-use Rattle.race_model.specs.Clocks.{participations}
-use Rattle.race_model.proofs.Indexes.{at_same}
-use Rattle.race_model.proofs.LegalSteps.{legal_take}
-use Rattle.race_model.proofs.ReorderLemmas.{passes_at}
+use Rattle.race_model.{specs.{Events.{At, is_access}, Legal.IsLegal, Clocks.participations}, proofs.Indexes.at_same}
+use Rattle.race_model.proofs.{LegalSteps.legal_take, ReorderLemmas.passes_at}
 use Rattle.race_legal.proofs.Fronts.{take_next}
 use Rattle.race_verdict.specs.Traces.{capacities}
-use Rattle.race_clock.specs.declared.stamp.Stamp.{Stamp}
-use Rattle.race_clock.specs.ClocksState.{clock_of}
-use Rattle.race_clock.specs.StamperState.{StamperState}
-use Rattle.race_clock.specs.Stamps.{stamp_with, stamp_of}
-use Rattle.race_clock.specs.StandsFor as clock
-use Rattle.race_clock.specs.StandsFor.{IsNext, GoesOn, ForEachPast, CountsReaching, CountsAtAccess}
-use Rattle.race_clock.proofs.NextFrom.{may_come, room_at, allowed_last, has_clock}
+use Rattle.race_clock.specs.{declared.stamp.Stamp.Stamp, ClocksState.clock_of, StamperState.StamperState}
+use Rattle.race_clock.specs.{Stamps.{stamp_with, stamp_of}, StandsFor.{IsNext, GoesOn, ForEachPast, CountsReaching}}
+use Rattle.race_clock.{specs.StandsFor.CountsAtAccess, proofs.NextFrom.{may_come, room_at, allowed_last, has_clock}}
 use Rattle.race_clock.proofs.StampLaws.{Says, says}
 use Rattle.race_shards.specs.Walking.{StandsAt, IsStampAt}
+use Rattle.race_clock.specs.StandsFor as clock
 
 -- an operation without a stamp is no access
 no_access : (at who count : ℕ) (o : Op) → stamp_with at who count o ≡ None → ¬ IsTrue (is_access o)

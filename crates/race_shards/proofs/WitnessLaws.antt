@@ -1,14 +1,10 @@
 -- The list of a race is a reordering.
-use Rattle.std.proofs.Common.{◌≡◌, ◌≢◌, ◌⊎◌, ℕ, zero, suc, ◌+◌, ◌<◌, List, [], ◌∷◌, ◌++◌, Some, length, slice_get, refl, sym, ap, ◌∙◌, subst, inl, inr, arith}
-use Rattle.std.proofs.lemmas.Bool.{cases_order, cases_eq}
+use Rattle.std.proofs.Common.{◌≡◌, ◌≢◌, ◌⊎◌, ℕ, zero, suc, ◌+◌, ◌<◌, List, [], ◌∷◌, ◌++◌, Some, length, slice_get, refl}
+use Rattle.std.proofs.{Common.{sym, ap, ◌∙◌, subst, inl, inr, arith}, lemmas.Bool.{cases_order, cases_eq}}
 use Rattle.std.proofs.lemmas.Option.{slice_get_within}
 use Rattle.race_records.specs.declared.event.Event.{Event}
-use Rattle.race_model.specs.Order.{HappensBefore}
-use Rattle.race_model.specs.Race.{IsRace}
-use Rattle.race_model.specs.Reorder.{IsAccess, IsReordering, StandsBefore}
-use Rattle.race_model.proofs.Indexes.{at_same, append_at_old}
-use Rattle.race_model.proofs.Ranks.{happens_before_up}
-use Rattle.race_model.proofs.BeforeSeen.{happens_before_on}
+use Rattle.race_model.specs.{Order.HappensBefore, Race.IsRace, Reorder.{IsAccess, IsReordering, StandsBefore}}
+use Rattle.race_model.proofs.{Indexes.{at_same, append_at_old}, Ranks.happens_before_up, BeforeSeen.happens_before_on}
 use Rattle.race_model.proofs.ReorderLemmas.{access_passes}
 use Rattle.race_shards.specs.Witness.{IsBeforeEither, IsEarly, IsOther, AreAll, IsWitnessList, StandsNext}
 

@@ -1,7 +1,6 @@
 -- How many shards there may be, how many events they may be handed at a time, and when they are refused something.
 use Rattle.std.specs.Prelude.{ℕ, ◌≡◌, ◌⊎◌, ◌&&◌, nat_le, Bool}
-use Rattle.race_shards.specs.declared.fault.JudgeFault.{JudgeFault}
-use Rattle.race_shards.specs.declared.fault.TheConstants.{MAX_SHARDS, MAX_BLOCK}
+use Rattle.race_shards.specs.declared.fault.{JudgeFault.JudgeFault, TheConstants.{MAX_SHARDS, MAX_BLOCK}}
 
 -- so many shards there may be
 abbrev pub is_shards : ℕ → Bool

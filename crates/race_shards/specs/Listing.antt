@@ -2,9 +2,7 @@
 use Rattle.std.specs.Prelude.{ℕ, if◌then◌else◌, ◌≡◌, ◌==◌, ◌&&◌, not, Bool, List, [], ◌∷◌, ◌++◌, Option, Some, None}
 use Rattle.race_records.specs.declared.event.Event.{Event}
 use Rattle.race_clock.specs.declared.stamp.Stamp.{Stamp}
-use Rattle.race_shards.specs.declared.order.Part.{Part}
-use Rattle.race_shards.specs.Pairs.{PairState, is_early}
-use Rattle.race_shards.specs.Witness.{IsEarly, IsOther, AreAll}
+use Rattle.race_shards.specs.{declared.order.Part.Part, Pairs.{PairState, is_early}, Witness.{IsEarly, IsOther, AreAll}}
 
 -- of the accesses i and j: a belongs to the part
 abbrev pub IsOfPart : Part → (ℕ → ℕ) → List Event → ℕ → ℕ → ℕ → Type 0

@@ -3,9 +3,7 @@ use Rattle.std.specs.Prelude.{ℕ, ◌≡◌, ◌==◌, ◌&&◌, ◌||◌, not,
 use Rattle.race_records.specs.declared.event.Event.{Event}
 use Rattle.race_model.specs.Reorder.{IsAccess}
 use Rattle.race_verdict.specs.declared.races.Race.{Race}
-use Rattle.race_clock.specs.declared.stamp.Stamp.{Stamp}
-use Rattle.race_clock.specs.ClockState.{knows}
-use Rattle.race_clock.specs.Laws.{IsStampIn}
+use Rattle.race_clock.specs.{declared.stamp.Stamp.Stamp, ClockState.knows, Laws.IsStampIn}
 use Rattle.race_shards.specs.Witness.{RacesInOrder}
 
 -- a stamp and its clock

@@ -1,9 +1,7 @@
 -- What the second access of a race has seen of the first one's goroutine. (The Go Memory Model, "Memory Model": happens before)
 use Rattle.std.specs.Prelude.{ℕ, ◌≡◌, ◌<◌, ◌+◌, ◌⊎◌, List, Option, Some, None, take, slice_get}
 use Rattle.race_records.specs.declared.event.Event.{Event}
-use Rattle.race_model.specs.Clocks.{participations}
-use Rattle.race_model.specs.Events.{TakesPart}
-use Rattle.race_model.specs.Order.{Begin, Reaches}
+use Rattle.race_model.specs.{Clocks.participations, Events.TakesPart, Order.{Begin, Reaches}}
 use Rattle.race_verdict.specs.declared.races.Race.{Race}
 
 -- the goroutine whose event stands at index i

@@ -1,12 +1,9 @@
 -- The races that shards tell.
-use Rattle.std.specs.Prelude.{ℕ, ◌≡◌, ◌<◌, ◌/◌, ◌%◌, zero, suc, List, [], ◌∷◌, ◌++◌, length, Option, Some, None, slice_get}
-use Rattle.std.specs.Option.{option_map}
+use Rattle.std.specs.Prelude.{ℕ, ◌≡◌, ◌<◌, ◌/◌, ◌%◌, zero, suc, List, [], ◌∷◌, ◌++◌, length, Option, Some, None}
+use Rattle.std.specs.{Prelude.slice_get, Option.option_map}
 use Rattle.race_access.specs.Kept.{Kept}
-use Rattle.race_verdict.specs.declared.notes.Noted.{Noted}
-use Rattle.race_verdict.specs.declared.notes.NotedRace.{NotedRace}
-use Rattle.race_verdict.specs.declared.races.Race.{Race}
-use Rattle.race_shards.specs.Variables.{kept_of}
-use Rattle.race_shards.specs.Shards.{ShardState}
+use Rattle.race_verdict.specs.declared.{notes.{Noted.Noted, NotedRace.NotedRace}, races.Race.Race}
+use Rattle.race_shards.specs.{Variables.kept_of, Shards.ShardState}
 
 -- a race on x
 abbrev pub race_with : ℕ → ℕ × ℕ → Race

@@ -3,11 +3,8 @@ use Rattle.std.specs.Prelude.{ℕ, ◌≡◌, ◌<◌, length, take, Option, Som
 use Rattle.race_records.specs.Events.{TraceState}
 use Rattle.race_model.specs.Reorder.{IsAccess}
 use Rattle.race_verdict.specs.Traces.{capacities}
-use Rattle.race_clock.specs.declared.stamp.Stamp.{Stamp}
-use Rattle.race_clock.specs.ClocksState.{clock_of}
-use Rattle.race_clock.specs.Laws.{IsStampIn}
-use Rattle.race_clock.specs.StamperState.{StamperState}
-use Rattle.race_clock.specs.StandsFor.{StandsFor}
+use Rattle.race_clock.specs.{declared.stamp.Stamp.Stamp, ClocksState.clock_of, Laws.IsStampIn}
+use Rattle.race_clock.specs.{StamperState.StamperState, StandsFor.StandsFor}
 
 -- it stands for the first n events
 abbrev pub StandsAt : TraceState → ℕ → StamperState → Type 0

@@ -2,10 +2,7 @@
 -- Model, "Memory Model": data race)
 use Rattle.std.specs.Prelude.{ℕ, ◌≡◌, ◌≢◌, ◌<◌, ◌+◌, ◌⊎◌, List, ◌∷◌, ◌++◌, Some, slice_get}
 use Rattle.race_records.specs.declared.event.Event.{Event}
-use Rattle.race_model.specs.Legal.{IsLegal}
-use Rattle.race_model.specs.Order.{HappensBefore}
-use Rattle.race_model.specs.Race.{IsRace}
-use Rattle.race_model.specs.Reorder.{IsAccess, IsReordering}
+use Rattle.race_model.specs.{Legal.IsLegal, Order.HappensBefore, Race.IsRace, Reorder.{IsAccess, IsReordering}}
 use Rattle.race_verdict.specs.declared.races.Race.{Race}
 
 -- a happens before i or before j

@@ -3,8 +3,7 @@
 //! Each event goes to the shard as soon as it was found legal: it is read once, and no block stands between.
 ghost use Rattle.std.specs.Prelude.{◌≡◌, [], ◌∷◌, IfOk};
 ghost use Rattle.race_legal.specs.ReplayState.{counts_in};
-ghost use Rattle.race_verdict.specs.Traces.{HasVerdict};
-ghost use Rattle.race_verdict.specs.Verdicts.{verdict_of};
+ghost use Rattle.race_verdict.specs.{Traces.HasVerdict, Verdicts.verdict_of};
 ghost use Rattle.race_shards.specs.Judging.{CanJudge, Judges};
 
 use crate::accepting::accept_next;

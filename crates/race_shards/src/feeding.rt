@@ -2,8 +2,7 @@
 //!
 //! A shard moves into its thread and comes back, and the order of the shards is the list's, whichever is ready first.
 ghost use Rattle.std.specs.Prelude.{◌≡◌, ◌≢◌, ◌↔◌, ◌++◌, ◌∷◌, [], IfOk, vec_len};
-ghost use Rattle.race_shards.specs.Limits.{IsRefused};
-ghost use Rattle.race_shards.specs.Shards.{IsNextBlock, AreNextBlock, Takes, AllTake};
+ghost use Rattle.race_shards.specs.{Limits.IsRefused, Shards.{IsNextBlock, AreNextBlock, Takes, AllTake}};
 
 use crate::fault::JudgeFault;
 use crate::gate::Gate;
@@ -68,8 +67,7 @@ struct Fed<'b, A: Allocator> {
 
 impl<'b, A: Allocator> Promise<Result<Shard<A>, AllocError>> for Fed<'b, A> {
     ghost use Rattle.std.specs.Prelude.{IfOk};
-    ghost use Rattle.race_shards.specs.Limits.{IsRefused};
-    ghost use Rattle.race_shards.specs.Shards.{Takes};
+    ghost use Rattle.race_shards.specs.{Limits.IsRefused, Shards.Takes};
 
     ghost kept_by = { λ p r. IfOk r (λ after. Takes p.shard.value p.block.now after) };
 }

@@ -2,13 +2,12 @@
 //!
 //! The caller's thread tests a block for legality before the shards see it. Each shard takes all events with a stamper of
 //! its own and touches the variables that belong to it, so the shards share nothing but the block.
-ghost use Rattle.std.specs.Prelude.{◌≡◌, ◌≢◌, ◌↔◌, ◌+◌, ◌<◌, ◌≤◌, ◌==◌, [], true, false, length, vec_len, IsTrue, IfOk, IfErr, OnOk, OnErr};
+ghost use Rattle.std.specs.Prelude.{◌≡◌, ◌≢◌, ◌↔◌, ◌+◌, ◌<◌, ◌≤◌, ◌==◌, [], true, false, length, vec_len, IsTrue, IfOk};
+ghost use Rattle.std.specs.Prelude.{IfErr, OnOk, OnErr};
 ghost use Rattle.race_legal.specs.ReplayState.{counts_in};
-ghost use Rattle.race_verdict.specs.Notes.{verdict_noted};
-ghost use Rattle.race_verdict.specs.Verdicts.{verdict_of};
-ghost use Rattle.race_shards.specs.Limits.{is_shards, is_block, IsRefused};
-ghost use Rattle.race_shards.specs.Shards.{ShardsStandFor};
-ghost use Rattle.race_shards.specs.Judging.{StandsFor, GoesOn, CanTake, Judges, Tells, Notes, CanJudge};
+ghost use Rattle.race_verdict.specs.{Notes.verdict_noted, Verdicts.verdict_of};
+ghost use Rattle.race_shards.specs.{Limits.{is_shards, is_block, IsRefused}, Shards.ShardsStandFor, Judging.StandsFor};
+ghost use Rattle.race_shards.specs.Judging.{GoesOn, CanTake, Judges, Tells, Notes, CanJudge};
 
 use crate::accepting::accept_all;
 use crate::fault::{JudgeFault, MAX_SHARDS};

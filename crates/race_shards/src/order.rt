@@ -1,11 +1,9 @@
 //! The order of a witness: what happens before either of the two, then the second, the first, and all others.
 ghost use Rattle.std.specs.Prelude.{◌≡◌, ◌++◌, IfOk, OnOk};
-ghost use Rattle.race_model.specs.Events.{is_access};
-ghost use Rattle.race_model.specs.Legal.{IsLegal};
+ghost use Rattle.race_model.specs.{Events.is_access, Legal.IsLegal};
 ghost use Rattle.race_verdict.specs.Traces.{capacities};
-ghost use Rattle.race_shards.specs.Pairs.{IsPairIn};
-ghost use Rattle.race_shards.specs.Witness.{IsWitnessList};
-ghost use Rattle.race_shards.specs.Listing.{belongs, listed_of, IsOfPart, Adds};
+ghost use Rattle.race_shards.specs.{Pairs.IsPairIn, Witness.IsWitnessList, Listing.{belongs, listed_of, IsOfPart}};
+ghost use Rattle.race_shards.specs.Listing.{Adds};
 
 use crate::pair::Pair;
 use crate::walking::step;

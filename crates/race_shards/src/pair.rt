@@ -3,8 +3,7 @@ ghost use Rattle.std.specs.Prelude.{◌≡◌, ◌+◌, ◌<◌, ◌≤◌, leng
 ghost use Rattle.race_model.specs.Legal.{IsLegal};
 ghost use Rattle.race_verdict.specs.Traces.{capacities};
 ghost use Rattle.race_clock.specs.ClockState.{knows};
-ghost use Rattle.race_shards.specs.Walking.{StandsAt};
-ghost use Rattle.race_shards.specs.Pairs.{is_known, is_early, races_on, IsSeenAt, IsFound};
+ghost use Rattle.race_shards.specs.{Walking.StandsAt, Pairs.{is_known, is_early, races_on, IsSeenAt, IsFound}};
 
 use crate::walking::step;
 use race_clock::{Clock, Stamp, Stamper};

@@ -2,8 +2,7 @@
 ghost use Rattle.std.specs.Prelude.{◌≡◌, IfOk};
 ghost use Rattle.race_model.specs.Events.{takes_part};
 ghost use Rattle.race_verdict.specs.Traces.{capacities};
-ghost use Rattle.race_shards.specs.Witness.{RacesInOrder};
-ghost use Rattle.race_shards.specs.Seen.{IsLastSeen, IsPart};
+ghost use Rattle.race_shards.specs.{Witness.RacesInOrder, Seen.{IsLastSeen, IsPart}};
 
 use crate::pair::Pair;
 use race_records::{Event, Op, Trace};

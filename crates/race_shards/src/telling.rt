@@ -1,10 +1,9 @@
 //! The races that the shards tell.
-ghost use Rattle.std.specs.Prelude.{◌≡◌, ◌<◌, All, length, map, IfOk};
+ghost use Rattle.std.specs.{Prelude.{◌≡◌, ◌<◌, All, length, map, IfOk}, Option.option_map};
 ghost use Rattle.race_access.specs.Touches.{pair_noted};
-ghost use Rattle.race_verdict.specs.Notes.{race_noted};
-ghost use Rattle.race_verdict.specs.Races.{race_of, races_of};
-ghost use Rattle.race_shards.specs.Telling.{HavePlace, HavePlaces, race_told, noted_told, told_below, race_with, IsNotedBy};
-ghost use Rattle.std.specs.Option.{option_map};
+ghost use Rattle.race_verdict.specs.{Notes.race_noted, Races.{race_of, races_of}};
+ghost use Rattle.race_shards.specs.Telling.{HavePlace, HavePlaces, race_told, noted_told, told_below, race_with};
+ghost use Rattle.race_shards.specs.Telling.{IsNotedBy};
 
 use crate::shard::Shard;
 use race_verdict::{Noted, NotedRace, Race, RaceList};

@@ -1,6 +1,5 @@
 //! What is kept of the variables of a shard.
-ghost use Rattle.std.specs.Prelude.{ℕ, ◌≡◌, ◌<◌, ◌≤◌, ◌/◌, ◌%◌, [], length, IfOk, OnOk};
-ghost use Rattle.std.specs.Option.{option_map};
+ghost use Rattle.std.specs.{Prelude.{ℕ, ◌≡◌, ◌<◌, ◌≤◌, ◌/◌, ◌%◌, [], length, IfOk, OnOk}, Option.option_map};
 ghost use Rattle.race_access.specs.Touches.{pair_noted};
 ghost use Rattle.race_shards.specs.Variables.{AreKept, GoesOn, HasPlaces, IsShapedAs, kept_of};
 

@@ -1,7 +1,6 @@
 //! The judge of a whole trace.
 ghost use Rattle.std.specs.Prelude.{◌≡◌, ◌≢◌, ◌↔◌, true, false, IfOk, IfErr};
-ghost use Rattle.race_verdict.specs.Traces.{HasVerdict};
-ghost use Rattle.race_verdict.specs.Verdicts.{verdict_of};
+ghost use Rattle.race_verdict.specs.{Traces.HasVerdict, Verdicts.verdict_of};
 ghost use Rattle.race_shards.specs.Limits.{is_shards, is_block, IsRefused};
 
 use crate::fault::{JudgeFault, MAX_BLOCK, MAX_SHARDS};

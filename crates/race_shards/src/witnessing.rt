@@ -5,8 +5,7 @@
 //! kept of an access but its place in the answer.
 ghost use Rattle.std.specs.Prelude.{◌≡◌, Some, None, IfOk, IfErr};
 ghost use Rattle.race_verdict.specs.Traces.{capacities};
-ghost use Rattle.race_shards.specs.Pairs.{IsFound};
-ghost use Rattle.race_shards.specs.Witness.{RacesInOrder, IsWitness};
+ghost use Rattle.race_shards.specs.{Pairs.IsFound, Witness.{RacesInOrder, IsWitness}};
 
 use crate::fault::WitnessFault;
 use crate::order::order_of;

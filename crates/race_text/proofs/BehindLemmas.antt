@@ -1,15 +1,11 @@
 -- What is appended to a trace is appended behind the events before it, too.
-use Rattle.std.proofs.Common.{◌≡◌, ℕ, zero, suc, ◌+◌, ◌*◌, ◌<◌, ◌≤◌, Bool, true, false, List, ◌∷◌, [], ◌++◌, length, Result, Ok, Err, MatchResult}
-use Rattle.std.proofs.Common.{refl, sym, ap, ◌∙◌, arith, true≢false, append_assoc}
+use Rattle.std.proofs.Common.{◌≡◌, ℕ, zero, suc, ◌+◌, ◌*◌, ◌<◌, ◌≤◌, Bool, true, false, List, ◌∷◌, [], ◌++◌, length}
+use Rattle.std.proofs.Common.{Result, Ok, Err, MatchResult, refl, sym, ap, ◌∙◌, arith, true≢false, append_assoc}
 use Rattle.std.proofs.lemmas.List.{length-append}
-use Rattle.race_records.specs.declared.event.Event.{Event}
-use Rattle.race_records.specs.Events.{TraceState}
-use Rattle.race_text.specs.declared.cause.TextCause.{TextCause}
-use Rattle.race_text.specs.Reading.{Occurrence}
-use Rattle.race_text.specs.Taking.{IsRead, IsReadBehind, behind, event_of, AppendsEvent, TellsOfRoom, TakesOrTells}
-use Rattle.race_text.specs.Text.{lines}
-use Rattle.race_text.proofs.EventLines.{IsEventLine}
-use Rattle.race_text.proofs.TraceLemmas.{event_answered}
+use Rattle.race_records.specs.{declared.event.Event.Event, Events.TraceState}
+use Rattle.race_text.specs.{declared.cause.TextCause.TextCause, Reading.Occurrence, Taking.{IsRead, IsReadBehind}}
+use Rattle.race_text.specs.{Taking.{behind, event_of, AppendsEvent, TellsOfRoom, TakesOrTells}, Text.lines}
+use Rattle.race_text.proofs.{EventLines.IsEventLine, TraceLemmas.event_answered}
 
 -- how many events there are with those before
 pub count_behind : (before : ℕ) (past : List Event) (t : TraceState) → length past ≡ before → length (behind past t).events ≡ before + length t.events

@@ -1,11 +1,9 @@
 -- The cases of a select, printed one after another.
-use Rattle.std.proofs.Common.{◌≡◌, ℕ, zero, suc, ◌<◌, false, IsTrue, List, [], ◌∷◌, ◌++◌, length, map, get_or, refl, ap, ◌∙◌, arith, append-nil}
-use Rattle.std.proofs.lemmas.List.Concat.{flat_map-cons}
+use Rattle.std.proofs.Common.{◌≡◌, ℕ, zero, suc, ◌<◌, false, IsTrue, List, [], ◌∷◌, ◌++◌, length, map, get_or, refl, ap}
+use Rattle.std.proofs.{Common.{◌∙◌, arith, append-nil}, lemmas.List.Concat.flat_map-cons}
 use Rattle.std.specs.List.{flat_map, join_with_byte}
-use Rattle.race_records.specs.declared.cases.Case.{Case}
-use Rattle.race_records.specs.Declarations.{Declaration}
-use Rattle.race_text.specs.Text.{case_text, cases_text}
-use Rattle.race_text.specs.Writing.{separator}
+use Rattle.race_records.specs.{declared.cases.Case.Case, Declarations.Declaration}
+use Rattle.race_text.specs.{Text.{case_text, cases_text}, Writing.separator}
 
 -- what is printed of each case: it stands behind this byte, and each later one behind a comma
 abbrev pub pieces_behind : List Declaration → ℕ → List Case → List (List ℕ)

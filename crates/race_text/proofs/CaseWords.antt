@@ -1,30 +1,20 @@
 -- What the word of a select's cases says, piece by piece.
-use Rattle.std.proofs.Common.{◌≡◌, ℕ, ◌<◌, Bool, true, false, true≢false, if◌then◌else◌, nat_le, List, [], ◌∷◌, ◌++◌, length, take, drop, codes}
-use Rattle.std.proofs.Common.{Option, Some, None, ok_or, Ok, refl, sym, ap, subst, ◌∙◌, arith}
-use Rattle.std.proofs.lemmas.Bool.Decides.{nat_tests}
-use Rattle.std.proofs.lemmas.List.{take-append-drop}
-use Rattle.std.proofs.lemmas.Option.{none-some, same_Some}
-use Rattle.std.proofs.lemmas.Slice.Eq.{bytes_eq-Decides}
-use Rattle.std.specs.List.{list_all, join_with_byte}
-use Rattle.std.specs.Str.{bytes_eq}
-use Rattle.race_records.specs.declared.cases.Case.{Case}
-use Rattle.race_records.specs.declared.cases.Dir.{Dir}
-use Rattle.race_records.specs.declared.cases.TheConstants.{MAX_CASES}
-use Rattle.race_records.specs.declared.kind.Kind.{Kind}
-use Rattle.race_records.specs.declared.kind.Named.{Named}
-use Rattle.race_records.specs.declared.parts.PartKind.{PartKind}
-use Rattle.race_records.specs.Name.{is_name, is_name_byte, is_place_byte}
-use Rattle.race_records.specs.Declarations.{Declaration, DeclsState, IsWellFormed, count_of, number_of}
+use Rattle.std.proofs.Common.{◌≡◌, ℕ, ◌<◌, Bool, true, false, true≢false, if◌then◌else◌, nat_le, List, [], ◌∷◌, ◌++◌}
+use Rattle.std.proofs.Common.{length, take, drop, codes, Option, Some, None, ok_or, Ok, refl, sym, ap, subst, ◌∙◌}
+use Rattle.std.proofs.{Common.arith, lemmas.{Bool.Decides.nat_tests, List.take-append-drop}}
+use Rattle.std.proofs.lemmas.{Option.{none-some, same_Some}, Slice.Eq.bytes_eq-Decides}
+use Rattle.std.specs.{List.{list_all, join_with_byte}, Str.bytes_eq}
+use Rattle.race_records.specs.declared.{cases.{Case.Case, Dir.Dir, TheConstants.MAX_CASES}, kind.Kind.Kind}
+use Rattle.race_records.specs.declared.{kind.Named.Named, parts.PartKind.PartKind}
+use Rattle.race_records.specs.{Name.{is_name, is_name_byte, is_place_byte}, Declarations.{Declaration, DeclsState}}
+use Rattle.race_records.specs.Declarations.{IsWellFormed, count_of, number_of}
 use Rattle.race_records.specs.Parts.{chan_is_in_range, case_is_in_range}
-use Rattle.race_text.specs.declared.cause.TextCause.{TextCause}
-use Rattle.race_text.specs.Least.{then_says, says_by}
-use Rattle.race_text.specs.Meaning.{named_in, chan_of, chan_in, case_with, spelled_case_in, case_in, cases_in}
-use Rattle.race_text.specs.Select.{no_cases, nil, behind, SpelledCase, case_by, case_spelled}
-use Rattle.race_text.specs.Text.{chan_name, chan_text, dir_text, case_text, cases_text}
-use Rattle.race_text.proofs.CauseLemmas.{same_Ok, then_is, with_is, ok_or_is}
+use Rattle.race_text.specs.{declared.cause.TextCause.TextCause, Least.{then_says, says_by}, Meaning.{named_in, chan_of}}
+use Rattle.race_text.specs.{Meaning.{chan_in, case_with, spelled_case_in, case_in, cases_in}, Select.{no_cases, nil}}
+use Rattle.race_text.specs.{Select.{behind, SpelledCase, case_by, case_spelled}, Text.{chan_name, chan_text, dir_text}}
+use Rattle.race_text.{specs.Text.{case_text, cases_text}, proofs.CauseLemmas.{same_Ok, then_is, with_is, ok_or_is}}
 use Rattle.race_text.proofs.PieceWords.{is_case_byte, IsWord, is_word, word_visible, word_again}
-use Rattle.race_text.proofs.UsedNames.{IsUsed, is_used, used_again}
-use Rattle.race_text.proofs.WordLemmas.{all_weaken, name_bytes}
+use Rattle.race_text.proofs.{UsedNames.{IsUsed, is_used, used_again}, WordLemmas.{all_weaken, name_bytes}}
 
 -- a word that begins with a front
 pub behind_is : (front word rest : List ℕ) → behind front word ≡ Some rest → word ≡ front ++ rest

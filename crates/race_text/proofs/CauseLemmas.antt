@@ -1,20 +1,12 @@
 -- The least cause of the words behind the first, one word after another.
-use Rattle.std.proofs.Common.{◌≡◌, ℕ, ◌==◌, is_none, Bor, ◌+◌, ◌<◌, ◌≤◌, List, [], ◌∷◌, length, get_or, drop, fold, Option}
-use Rattle.std.proofs.Common.{Some, None, refl, sym, ◌∙◌, arith, add-one}
-use Rattle.std.proofs.Common.{ok_or, Result, Ok, Err, ap}
-use Rattle.std.proofs.Math.Seq.{drop-cons}
-use Rattle.std.proofs.lemmas.Bool.Decides.{nat_tests}
-use Rattle.std.proofs.lemmas.List.Splits.{length-slice_split}
-use Rattle.std.proofs.lemmas.Option.{none-some, same_Some}
-use Rattle.std.specs.List.{zip}
-use Rattle.std.specs.Option.{option_and_then, option_map}
+use Rattle.std.proofs.Common.{◌≡◌, ℕ, ◌==◌, is_none, Bor, ◌+◌, ◌<◌, ◌≤◌, List, [], ◌∷◌, length, get_or, drop, fold}
+use Rattle.std.proofs.Common.{Option, Some, None, refl, sym, ◌∙◌, arith, add-one, ok_or, Result, Ok, Err, ap}
+use Rattle.std.proofs.{Math.Seq.drop-cons, lemmas.{Bool.Decides.nat_tests, List.Splits.length-slice_split}}
+use Rattle.std.{proofs.lemmas.Option.{none-some, same_Some}, specs.{List.zip, Option.{option_and_then, option_map}}}
 use Rattle.std.specs.Result.{result_ok, result_err}
 use Rattle.race_records.specs.Declarations.{Declaration}
-use Rattle.race_text.specs.declared.cause.TextCause.{TextCause}
-use Rattle.race_text.specs.declared.form.Field.{Field}
-use Rattle.race_text.specs.Fault.{field_cause}
-use Rattle.race_text.specs.Least.{then_says, says_by, both_say, lesser}
-use Rattle.race_text.specs.Words.{parts_left}
+use Rattle.race_text.specs.{declared.{cause.TextCause.TextCause, form.Field.Field}, Fault.field_cause, Least.then_says}
+use Rattle.race_text.specs.{Least.{says_by, both_say, lesser}, Words.parts_left}
 
 -- a chain that gives something did so at each step
 pub and_then_some : {A B : Type 0} (f : A → Option B) (o : Option A) (y : B) → option_and_then f o ≡ Some y → (x : A) × (o ≡ Some x) × (f x ≡ Some y)

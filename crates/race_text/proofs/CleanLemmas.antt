@@ -1,18 +1,11 @@
 -- A line whose words fit has no bad byte.
-use Rattle.std.proofs.Common.{◌≡◌, ℕ, ◌<◌, ◌^◌, ◌&&◌, ◌||◌, Bool, true, false, if◌then◌else◌, nat_le, List, [], ◌∷◌, Some, None, refl, sym, subst, ◌∙◌, arith}
-use Rattle.std.proofs.lemmas.Bool.Decides.{nat_tests}
-use Rattle.std.proofs.lemmas.Fmt.{decimal_is_IsNumeral}
-use Rattle.std.proofs.lemmas.List.Folds.{list_any-append}
-use Rattle.std.proofs.lemmas.Option.{none-some}
-use Rattle.std.proofs.lemmas.Str.Parse.{digit_from_value}
-use Rattle.std.proofs.lemmas.Slice.Eq.{bytes_eq-Decides}
-use Rattle.std.specs.Fmt.{decimal}
-use Rattle.std.specs.List.{list_all, AllByRecursion}
-use Rattle.std.specs.Str.{bytes_eq}
-use Rattle.std.specs.Str.Parse.{AllDigits, digits_value}
+use Rattle.std.proofs.Common.{◌≡◌, ℕ, ◌<◌, ◌^◌, ◌&&◌, ◌||◌, Bool, true, false, if◌then◌else◌, nat_le, List, [], ◌∷◌}
+use Rattle.std.proofs.{Common.{Some, None, refl, sym, subst, ◌∙◌, arith}, lemmas.Bool.Decides.nat_tests}
+use Rattle.std.proofs.lemmas.{Fmt.decimal_is_IsNumeral, List.Folds.list_any-append, Option.none-some}
+use Rattle.std.{proofs.lemmas.{Str.Parse.digit_from_value, Slice.Eq.bytes_eq-Decides}, specs.Fmt.decimal}
+use Rattle.std.specs.{List.{list_all, AllByRecursion}, Str.{bytes_eq, Parse.{AllDigits, digits_value}}}
 use Rattle.race_records.specs.Name.{is_name, is_place, is_place_byte}
-use Rattle.race_text.specs.Words.{is_bad_byte, has_bad_byte, number}
-use Rattle.race_text.specs.Text.{line_of}
+use Rattle.race_text.specs.{Words.{is_bad_byte, has_bad_byte, number}, Text.line_of}
 use Rattle.race_text.proofs.WordLemmas.{both, name_is_visible}
 
 -- words without bad bytes, with single spaces between them

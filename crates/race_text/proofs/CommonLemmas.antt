@@ -1,37 +1,21 @@
 -- A line of a common word says its event.
-use Rattle.std.proofs.Common.{◌≡◌, ◌≢◌, ℕ, ◌+◌, ◌<◌, ◌≤◌, ◌-◌, ◌==◌, ◌&&◌, nat_le, not, if◌then◌else◌, length}
-use Rattle.std.proofs.Common.{take, drop, get_or, arith, Bool, true, false, true≢false, sym, List, [], ◌∷◌, ◌++◌, Some, None, Ok}
-use Rattle.std.proofs.Common.{ap, ◌∙◌}
-use Rattle.std.proofs.Common.{Option}
-use Rattle.std.proofs.lemmas.Bool.Decides.{nat_tests}
-use Rattle.std.proofs.lemmas.List.{length-take-le}
-use Rattle.std.proofs.lemmas.Nat.{trailing_le}
-use Rattle.std.specs.List.{list_all}
-use Rattle.std.specs.Option.{option_and_then, option_map}
+use Rattle.std.proofs.Common.{◌≡◌, ◌≢◌, ℕ, ◌+◌, ◌<◌, ◌≤◌, ◌-◌, ◌==◌, ◌&&◌, nat_le, not, if◌then◌else◌, length, take}
+use Rattle.std.proofs.Common.{drop, get_or, arith, Bool, true, false, true≢false, sym, List, [], ◌∷◌, ◌++◌, Some, None}
+use Rattle.std.proofs.{Common.{Ok, ap, ◌∙◌, Option}, lemmas.{Bool.Decides.nat_tests, List.length-take-le}}
+use Rattle.std.{proofs.lemmas.Nat.trailing_le, specs.{List.list_all, Option.{option_and_then, option_map}}}
 use Rattle.std.specs.Result.{result_ok}
-use Rattle.race_records.specs.declared.event.Op.{Op}
-use Rattle.race_records.specs.declared.kind.Kind.{Kind}
-use Rattle.race_records.specs.declared.kind.Named.{Named}
-use Rattle.race_records.specs.declared.parts.Part.{Part}
-use Rattle.race_records.specs.declared.parts.PartKind.{PartKind}
-use Rattle.race_records.specs.declared.parts.Verb.{Verb}
-use Rattle.race_records.specs.declared.version.Version.{Version}
-use Rattle.race_records.specs.Declarations.{Declaration}
-use Rattle.race_records.specs.Name.{is_place, is_place_byte}
-use Rattle.race_records.specs.declared.name.TheConstants.{MAX_PLACE_LEN}
+use Rattle.race_records.specs.declared.{event.Op.Op, kind.{Kind.Kind, Named.Named}, parts.Part.Part}
+use Rattle.race_records.specs.declared.{parts.{PartKind.PartKind, Verb.Verb}, version.Version.Version}
+use Rattle.race_records.specs.{declared.name.TheConstants.MAX_PLACE_LEN, Declarations.Declaration}
+use Rattle.race_records.specs.{Name.{is_place, is_place_byte}, Parts.{op_by, part_kinds, has_two_places}}
 use lib.Count.{count_trailing_zeros}
-use Rattle.race_records.specs.Parts.{op_by, part_kinds, has_two_places}
-use Rattle.race_text.specs.Words.{parts_of}
-use Rattle.race_text.specs.declared.form.Word.{Word}
-use Rattle.race_text.specs.Form.{has_word, word_named, first_word}
-use Rattle.race_text.specs.Least.{says_by}
-use Rattle.race_text.specs.Meaning.{named_in, part_in}
-use Rattle.race_text.specs.Reading.{ReadPart, ReadParts, ReadOp, occurrence, with_rest, first_part, parts_on}
-use Rattle.race_text.specs.Reading.{goroutine_of, with_no_rest, last_place, op_before, op_in}
-use Rattle.race_text.specs.Reading.{last_places, event_of, event_by, event_in}
-use Rattle.race_text.specs.Common.{IsMarked, words_in, CutsWord, SaysVerb, SaysObject, SaysValue, SaysDeed, SaysPlace, SaysEvent, names_object, value_kinds, value_parts}
-use Rattle.race_text.proofs.MarkLemmas.{first_part_is, within_line, word_is_seen, cuts_last}
-use Rattle.race_text.proofs.WordTable.{word_of_version}
+use Rattle.race_text.specs.{Words.parts_of, declared.form.Word.Word, Form.{has_word, word_named, first_word}}
+use Rattle.race_text.specs.{Least.says_by, Meaning.{named_in, part_in}, Reading.{ReadPart, ReadParts, ReadOp}}
+use Rattle.race_text.specs.Reading.{occurrence, with_rest, first_part, parts_on, goroutine_of, with_no_rest, last_place}
+use Rattle.race_text.specs.{Reading.{op_before, op_in, last_places, event_of, event_by, event_in}, Common.IsMarked}
+use Rattle.race_text.specs.Common.{words_in, CutsWord, SaysVerb, SaysObject, SaysValue, SaysDeed, SaysPlace, SaysEvent}
+use Rattle.race_text.{specs.Common.{names_object, value_kinds, value_parts}, proofs.MarkLemmas.first_part_is}
+use Rattle.race_text.proofs.{MarkLemmas.{within_line, word_is_seen, cuts_last}, WordTable.word_of_version}
 
 -- a word of each version is one of the line
 pub says_verb : (bytes : List ℕ) (len : ℕ) (rest : List ℕ) (verb : Verb) → CutsWord bytes len rest → word_named (take len bytes) ≡ Some (Word.Does verb)

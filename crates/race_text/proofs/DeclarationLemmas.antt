@@ -1,44 +1,25 @@
 -- What the words of a line say of the declaration that it is.
-use Rattle.std.proofs.Common.{◌≡◌, ℕ, ◌^◌, ◌==◌, ◌<◌, ◌≤◌, ◌&&◌, Bool, true, false, not, if◌then◌else◌, nat_le, List, [], ◌∷◌}
-use Rattle.std.proofs.Common.{length, Option, Some, None, is_some, ok_or, option_map, Err, refl, sym, ap, subst, ◌∙◌, arith}
-use Rattle.std.proofs.Common.{true≢false}
-use Rattle.std.proofs.lemmas.Bool.Decides.{nat_tests}
-use Rattle.std.proofs.lemmas.List.Splits.{join_with_byte-slice_split}
-use Rattle.std.proofs.lemmas.Option.{none-some, same_Some}
-use Rattle.std.proofs.lemmas.Fmt.{decimal_is_IsNumeral}
-use Rattle.std.proofs.lemmas.List.Splits.{length-slice_split}
-use Rattle.std.specs.Borrow.{Bor}
-use Rattle.std.specs.List.{join_with_byte, list_all}
-use Rattle.std.specs.Str.{bytes_eq}
-use Rattle.race_records.specs.Refusal.{Refuses, AllowsUnless}
-use Rattle.std.specs.Fmt.{decimal}
-use Rattle.std.specs.Option.{option_and_then}
-use Rattle.std.specs.Result.{result_err}
-use Rattle.std.specs.Str.Parse.{digits_value}
-use Rattle.race_records.specs.declared.declarations.DeclFault.{DeclFault}
-use Rattle.race_records.specs.declared.kind.Kind.{Kind}
-use Rattle.race_records.specs.declared.kind.Object.{Object}
-use Rattle.race_records.specs.declared.nouns.Noun.{Noun}
-use Rattle.race_records.specs.Name.{is_name, is_place_byte}
-use Rattle.race_records.specs.Declarations.{Declaration, decl_fault, find_name, kind_of, count_of, limit_of, is_too_wide}
-use Rattle.race_records.specs.Nouns.{object_says, object_by, number_limit, kind_of_noun}
-use Rattle.race_records.proofs.NounLaws.{IsWanted, object_is_there, object_by_says, kind_of_says, says_wanted, object_says_again}
-use Rattle.race_text.specs.declared.cause.TextCause.{TextCause}
-use Rattle.race_text.specs.declared.form.Field.{Field}
-use Rattle.race_text.specs.declared.form.Word.{Word}
-use Rattle.race_text.specs.Words.{words_of, number, parts_left}
-use Rattle.race_text.specs.Form.{word_named, first_word, arguments, number_fields}
-use Rattle.race_text.specs.Fault.{or_else, field_cause, fields_cause, new_name_cause}
-use Rattle.race_text.specs.Least.{lesser}
-use Rattle.race_text.specs.Meaning.{number_in}
-use Rattle.race_text.specs.Fault.{number_behind, room_cause, word_cause, seen_so_far, declaration}
-use Rattle.race_text.specs.Fault.{declaration_in, declared_as}
-use Rattle.race_text.specs.Declaring.{is_declaration_word, is_declaration_line, declaration_cause, noun_cause, object_read}
-use Rattle.race_text.specs.Writing.{number_words}
-use Rattle.race_text.proofs.WordLemmas.{name_is_visible}
-use Rattle.race_text.proofs.NumberLemmas.{number-some}
-use Rattle.race_text.proofs.PartWords.{number_spelled}
-use Rattle.race_text.proofs.CauseLemmas.{lesser_none, fine_is_ok, ok_or_is}
+use Rattle.std.proofs.Common.{◌≡◌, ℕ, ◌^◌, ◌==◌, ◌<◌, ◌≤◌, ◌&&◌, Bool, true, false, not, if◌then◌else◌, nat_le, List}
+use Rattle.std.proofs.Common.{[], ◌∷◌, length, Option, Some, None, is_some, ok_or, option_map, Err, refl, sym, ap}
+use Rattle.std.proofs.{Common.{subst, ◌∙◌, arith, true≢false}, lemmas.Bool.Decides.nat_tests}
+use Rattle.std.proofs.lemmas.List.Splits.{join_with_byte-slice_split, length-slice_split}
+use Rattle.std.{proofs.lemmas.{Option.{none-some, same_Some}, Fmt.decimal_is_IsNumeral}, specs.Borrow.Bor}
+use Rattle.std.specs.{List.{join_with_byte, list_all}, Str.{bytes_eq, Parse.digits_value}, Fmt.decimal}
+use Rattle.std.specs.{Option.option_and_then, Result.result_err}
+use Rattle.race_records.specs.{Refusal.{Refuses, AllowsUnless}, declared.declarations.DeclFault.DeclFault}
+use Rattle.race_records.specs.declared.{kind.{Kind.Kind, Object.Object}, nouns.Noun.Noun}
+use Rattle.race_records.specs.{Name.{is_name, is_place_byte}, Declarations.{Declaration, decl_fault, find_name}}
+use Rattle.race_records.specs.{Declarations.{kind_of, count_of, limit_of, is_too_wide}, Nouns.{object_says, object_by}}
+use Rattle.race_records.{specs.Nouns.{number_limit, kind_of_noun}, proofs.NounLaws.{IsWanted, object_is_there}}
+use Rattle.race_records.proofs.NounLaws.{object_by_says, kind_of_says, says_wanted, object_says_again}
+use Rattle.race_text.specs.declared.{cause.TextCause.TextCause, form.{Field.Field, Word.Word}}
+use Rattle.race_text.specs.{Words.{words_of, number, parts_left}, Form.{word_named, first_word, arguments}}
+use Rattle.race_text.specs.{Form.number_fields, Fault.{or_else, field_cause, fields_cause, new_name_cause}}
+use Rattle.race_text.specs.Fault.{number_behind, room_cause, word_cause, seen_so_far, declaration, declaration_in}
+use Rattle.race_text.specs.{Fault.declared_as, Least.lesser, Meaning.number_in, Declaring.is_declaration_word}
+use Rattle.race_text.specs.Declaring.{is_declaration_line, declaration_cause, noun_cause, object_read}
+use Rattle.race_text.{specs.Writing.number_words, proofs.{WordLemmas.name_is_visible, NumberLemmas.number-some}}
+use Rattle.race_text.proofs.{PartWords.number_spelled, CauseLemmas.{lesser_none, fine_is_ok, ok_or_is}}
 
 -- a line, by its first word and the others
 module _ (line first : List ℕ) (args : List (List ℕ)) (word : Option Word) (words : words_of line ≡ first ∷ args) (named : word ≡ word_named first) where

@@ -1,28 +1,18 @@
 -- A line that says an event: it is the event's text, no cause holds of its words, and it declares nothing.
-use Rattle.std.proofs.Common.{◌≡◌, ℕ, ◌<◌, true, false, List, [], ◌∷◌, ◌++◌, Option, Some, None, refl, sym, ap, subst, ◌∙◌, arith}
-use Rattle.std.proofs.lemmas.Bool.Decides.{nat_tests}
-use Rattle.std.proofs.lemmas.List.Splits.{join_with_byte-slice_split}
-use Rattle.std.proofs.lemmas.Option.{none-some}
-use Rattle.std.specs.List.{list_all, AllByRecursion}
-use Rattle.race_records.specs.declared.event.Op.{Op}
-use Rattle.race_records.specs.declared.event.Op.TheVariants.{Go}
-use Rattle.race_records.specs.declared.kind.Kind.{Kind}
-use Rattle.race_records.specs.declared.parts.Verb.{Verb}
-use Rattle.race_records.specs.declared.parts.Part.{Part}
-use Rattle.race_records.specs.Declarations.{Declaration, DeclsState, IsWellFormed, count_of}
-use Rattle.race_records.specs.Events.{op_fits, has_op, lock_fits, op_is_limited}
-use Rattle.race_records.specs.Parts.{says, has_verb, has_two_places, part_kinds, part_fits, part_is_limited}
-use Rattle.race_text.specs.declared.form.Word.{Word}
-use Rattle.race_text.specs.Words.{words_of, has_bad_byte}
-use Rattle.race_text.specs.Text.{line_of, op_words, goroutine_name, place_words}
-use Rattle.race_text.specs.Form.{word_named, word_in, first_word, arguments}
-use Rattle.race_text.specs.Fault.{seen_so_far, room_cause, word_cause, declaration_in, declared_as, is_event_line, is_event_word}
-use Rattle.race_text.specs.Reading.{Occurrence, event_by, event_in}
-use Rattle.race_text.specs.Writing.{verb_text, said_words}
-use Rattle.race_text.proofs.CleanLemmas.{joined_clean, visible_clean}
-use Rattle.race_text.proofs.EventWords.{is_said, said_fine}
-use Rattle.race_text.proofs.PartWords.{texts_are, parts_fit, parts_are_limited, parts_are_wanted, words_clean}
-use Rattle.race_text.proofs.PlaceWords.{ArePlaces, places_clean}
+use Rattle.std.proofs.Common.{◌≡◌, ℕ, ◌<◌, true, false, List, [], ◌∷◌, ◌++◌, Option, Some, None, refl, sym, ap, subst}
+use Rattle.std.proofs.{Common.{◌∙◌, arith}, lemmas.{Bool.Decides.nat_tests, List.Splits.join_with_byte-slice_split}}
+use Rattle.std.{proofs.lemmas.Option.none-some, specs.List.{list_all, AllByRecursion}}
+use Rattle.race_records.specs.declared.{event.Op.{Op, TheVariants.Go}, kind.Kind.Kind, parts.{Verb.Verb, Part.Part}}
+use Rattle.race_records.specs.{Declarations.{Declaration, DeclsState, IsWellFormed, count_of}, Events.{op_fits, has_op}}
+use Rattle.race_records.specs.{Events.{lock_fits, op_is_limited}, Parts.{says, has_verb, has_two_places, part_kinds}}
+use Rattle.race_records.specs.Parts.{part_fits, part_is_limited}
+use Rattle.race_text.specs.{declared.form.Word.Word, Words.{words_of, has_bad_byte}, Text.{line_of, op_words}}
+use Rattle.race_text.specs.{Text.{goroutine_name, place_words}, Form.{word_named, word_in, first_word, arguments}}
+use Rattle.race_text.specs.Fault.{seen_so_far, room_cause, word_cause, declaration_in, declared_as, is_event_line}
+use Rattle.race_text.specs.{Fault.is_event_word, Reading.{Occurrence, event_by, event_in}}
+use Rattle.race_text.{specs.Writing.{verb_text, said_words}, proofs.CleanLemmas.{joined_clean, visible_clean}}
+use Rattle.race_text.proofs.{EventWords.{is_said, said_fine}, PartWords.{texts_are, parts_fit, parts_are_limited}}
+use Rattle.race_text.proofs.{PartWords.{parts_are_wanted, words_clean}, PlaceWords.{ArePlaces, places_clean}}
 use Rattle.race_text.proofs.WantedParts.{are_wanted, wanted_by_op}
 use Rattle.race_text.proofs.WordTable.{word_spelled, word_is_seen, word_of_table}
 

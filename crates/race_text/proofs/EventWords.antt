@@ -1,33 +1,21 @@
 -- What the words of an event line say: a goroutine, the parts of an operation, and its places.
-use Rattle.std.proofs.Common.{◌≡◌, ℕ, ◌==◌, Bool, true, false, not, if◌then◌else◌, List, [], ◌∷◌, ◌++◌}
-use Rattle.std.proofs.Common.{length, map, suc, Option, Some, None, Ok, refl, sym, ap, subst, ◌∙◌, arith}
-use Rattle.std.proofs.Common.{true≢false}
-use Rattle.std.proofs.lemmas.Bool.Decides.{nat_tests, Decides-eqb}
-use Rattle.std.proofs.lemmas.Option.{none-some, same_Some}
-use Rattle.std.specs.Option.{option_and_then, option_map}
-use Rattle.std.specs.Result.{result_ok, result_err}
-use Rattle.race_records.specs.declared.event.Op.{Op}
-use Rattle.race_records.specs.declared.kind.Kind.{Kind}
-use Rattle.race_records.specs.declared.kind.Named.{Named}
-use Rattle.race_records.specs.declared.parts.Part.{Part}
-use Rattle.race_records.specs.declared.parts.PartKind.{PartKind}
-use Rattle.race_records.specs.declared.parts.Verb.{Verb}
-use Rattle.race_records.specs.Declarations.{Declaration, DeclsState, IsWellFormed}
-use Rattle.race_records.specs.Parts.{says, op_by, part_kinds, has_two_places, suits}
-use Rattle.race_records.proofs.PartLaws.{op_by_says, op_is_there}
-use Rattle.race_text.specs.declared.cause.TextCause.{TextCause}
-use Rattle.race_text.specs.declared.form.Field.{Field}
-use Rattle.race_text.specs.declared.form.Word.{Word}
-use Rattle.race_text.specs.Text.{place_words}
-use Rattle.race_text.specs.Form.{place_fields, fields_of, kind_declared}
-use Rattle.race_text.specs.Fault.{or_else, seen_so_far, field_cause, fields_cause, room_cause, word_cause}
-use Rattle.race_text.specs.Reading.{Occurrence, Places, occurrence, ReadPart, ReadParts, with_rest}
-use Rattle.race_text.specs.Meaning.{part_in}
-use Rattle.race_text.specs.Reading.{first_part, parts_on, last_places, goroutine_of, ReadOp, op_before}
-use Rattle.race_text.specs.Reading.{event_of, event_behind}
-use Rattle.race_text.proofs.CauseLemmas.{and_then_some, map_some, cause_on, fine_is_ok}
-use Rattle.race_text.proofs.PartWords.{first_part_is, read_suits, IsPart, is_part, AreParts, are_read, words_count, words_fine, are_there}
-use Rattle.race_text.proofs.PlaceWords.{ArePlaces, places_read, are_places, places_count, places_fine, places_are_there}
+use Rattle.std.proofs.Common.{◌≡◌, ℕ, ◌==◌, Bool, true, false, not, if◌then◌else◌, List, [], ◌∷◌, ◌++◌, length, map}
+use Rattle.std.proofs.Common.{suc, Option, Some, None, Ok, refl, sym, ap, subst, ◌∙◌, arith, true≢false}
+use Rattle.std.proofs.lemmas.{Bool.Decides.{nat_tests, Decides-eqb}, Option.{none-some, same_Some}}
+use Rattle.std.specs.{Option.{option_and_then, option_map}, Result.{result_ok, result_err}}
+use Rattle.race_records.specs.declared.{event.Op.Op, kind.{Kind.Kind, Named.Named}, parts.Part.Part}
+use Rattle.race_records.specs.declared.parts.{PartKind.PartKind, Verb.Verb}
+use Rattle.race_records.specs.{Declarations.{Declaration, DeclsState, IsWellFormed}, Parts.{says, op_by, part_kinds}}
+use Rattle.race_records.{specs.Parts.{has_two_places, suits}, proofs.PartLaws.{op_by_says, op_is_there}}
+use Rattle.race_text.specs.{declared.{cause.TextCause.TextCause, form.{Field.Field, Word.Word}}, Text.place_words}
+use Rattle.race_text.specs.{Form.{place_fields, fields_of, kind_declared}, Fault.{or_else, seen_so_far, field_cause}}
+use Rattle.race_text.specs.{Fault.{fields_cause, room_cause, word_cause}, Reading.{Occurrence, Places, occurrence}}
+use Rattle.race_text.specs.Reading.{ReadPart, ReadParts, with_rest, first_part, parts_on, last_places, goroutine_of}
+use Rattle.race_text.specs.{Reading.{ReadOp, op_before, event_of, event_behind}, Meaning.part_in}
+use Rattle.race_text.proofs.{CauseLemmas.{and_then_some, map_some, cause_on, fine_is_ok}, PartWords.first_part_is}
+use Rattle.race_text.proofs.PartWords.{read_suits, IsPart, is_part, AreParts, are_read, words_count, words_fine}
+use Rattle.race_text.proofs.{PartWords.are_there, PlaceWords.{ArePlaces, places_read, are_places, places_count}}
+use Rattle.race_text.proofs.PlaceWords.{places_fine, places_are_there}
 
 pub goroutine_is : (part : Part) (n : ℕ) → goroutine_of part ≡ Some n → part ≡ Part.Object (Named.Goroutine n)
 goroutine_is (Part.Object (Named.Goroutine m)) n h = ap (λ k. Part.Object (Named.Goroutine k)) (same_Some m n h)

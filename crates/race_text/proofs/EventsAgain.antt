@@ -1,45 +1,23 @@
 -- The line of an event says the event.
 use Rattle.std.proofs.Common.{◌≡◌, ℕ, ◌-◌, ◌^◌, ◌<◌, Bool, true, false, true≢false, List, [], ◌∷◌, ◌++◌, length, map}
-use Rattle.std.proofs.Common.{unwrap_or, Option, Some, None, Ok, ok_or, option_map, refl, sym, ap, ◌∙◌, arith, append-nil}
-use Rattle.std.proofs.Common.{append_assoc}
-use Rattle.std.proofs.lemmas.Bool.Decides.{nat_tests}
-use Rattle.std.proofs.lemmas.Option.{slice_get-get_or}
-use Rattle.std.specs.Fmt.{decimal}
-use Rattle.std.specs.List.{list_all}
-use Rattle.std.specs.Option.{option_and_then}
-use Rattle.std.specs.Result.{result_ok}
-use Rattle.race_records.specs.declared.event.Event.{Event}
-use Rattle.race_records.specs.declared.event.Op.{Op}
-use Rattle.race_records.specs.declared.kind.Kind.{Kind}
-use Rattle.race_records.specs.declared.kind.Named.{Named}
-use Rattle.race_records.specs.declared.parts.Part.{Part}
-use Rattle.race_records.specs.declared.parts.PartKind.{PartKind}
-use Rattle.race_records.specs.Name.{is_place, is_place_byte}
-use Rattle.race_records.specs.Declarations.{Declaration, DeclsState, IsWellFormed, count_of}
-use Rattle.race_records.specs.Events.{fits, op_fits, has_op, lock_fits, op_is_limited, second_place_fits}
-use Rattle.race_records.specs.Parts.{says, has_two_places, part_fits, part_is_limited, part_kinds}
+use Rattle.std.proofs.Common.{unwrap_or, Option, Some, None, Ok, ok_or, option_map, refl, sym, ap, ◌∙◌, arith}
+use Rattle.std.proofs.{Common.{append-nil, append_assoc}, lemmas.{Bool.Decides.nat_tests, Option.slice_get-get_or}}
+use Rattle.std.specs.{Fmt.decimal, List.list_all, Option.option_and_then, Result.result_ok}
+use Rattle.race_records.specs.declared.{event.{Event.Event, Op.Op}, kind.{Kind.Kind, Named.Named}, parts.Part.Part}
+use Rattle.race_records.specs.{declared.parts.PartKind.PartKind, Name.{is_place, is_place_byte}}
+use Rattle.race_records.specs.{Declarations.{Declaration, DeclsState, IsWellFormed, count_of}, Events.{fits, op_fits}}
+use Rattle.race_records.specs.{Events.{has_op, lock_fits, op_is_limited, second_place_fits}, Parts.says}
+use Rattle.race_records.specs.Parts.{has_two_places, part_fits, part_is_limited, part_kinds}
 use Rattle.race_records.proofs.PartLaws.{says_again}
-use Rattle.race_text.specs.declared.cause.TextCause.{TextCause}
-use Rattle.race_text.specs.declared.form.Word.{Word}
-use Rattle.race_text.specs.Words.{words_of}
-use Rattle.race_text.specs.Form.{is_wanted}
+use Rattle.race_text.specs.{declared.{cause.TextCause.TextCause, form.Word.Word}, Words.words_of, Form.is_wanted}
 use Rattle.race_text.specs.Text.{line_of, goroutine_name, place_text, second_text, place_words, op_words, event_line}
 use Rattle.race_text.specs.Reading.{Occurrence, Places, occurrence, ReadPart, parts_on, with_rest, event_by, event_in}
-use Rattle.race_text.specs.Least.{says_by}
-use Rattle.race_text.specs.Meaning.{named_in, part_in}
-use Rattle.race_text.specs.Writing.{verb_text, part_text}
-use Rattle.race_text.proofs.CaseWords.{cases_again, cases_visible}
-use Rattle.race_text.proofs.FailureWords.{failure_again}
-use Rattle.race_text.proofs.CleanLemmas.{number_is_visible}
-use Rattle.race_text.proofs.EventLines.{op_words_are}
-use Rattle.race_text.proofs.EventWords.{said_by}
-use Rattle.race_text.proofs.UsedNames.{used_again}
-use Rattle.race_text.proofs.WantedParts.{part_is_wanted, are_wanted, wanted_by_op}
-use Rattle.race_text.proofs.PlaceWords.{ArePlaces, places_visible}
-use Rattle.race_text.proofs.PlacesAdded.{is_fit}
-use Rattle.race_text.proofs.NumberLemmas.{number-some}
-use Rattle.race_text.proofs.WordLemmas.{both, name_is_visible}
-use Rattle.race_text.proofs.WordsAgain.{AreVisible, words_again}
+use Rattle.race_text.specs.{Least.says_by, Meaning.{named_in, part_in}, Writing.{verb_text, part_text}}
+use Rattle.race_text.proofs.{CaseWords.{cases_again, cases_visible}, FailureWords.failure_again}
+use Rattle.race_text.proofs.{CleanLemmas.number_is_visible, EventLines.op_words_are, EventWords.said_by}
+use Rattle.race_text.proofs.{UsedNames.used_again, WantedParts.{part_is_wanted, are_wanted, wanted_by_op}}
+use Rattle.race_text.proofs.{PlaceWords.{ArePlaces, places_visible}, PlacesAdded.is_fit, NumberLemmas.number-some}
+use Rattle.race_text.proofs.{WordLemmas.{both, name_is_visible}, WordsAgain.{AreVisible, words_again}}
 use Rattle.race_text.proofs.WordTable.{verb_again, verb_known, word_is_seen}
 
 -- what an event's line says

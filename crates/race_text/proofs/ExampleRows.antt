@@ -1,15 +1,11 @@
 -- The first faults of the examples: they compute.
-use Rattle.std.proofs.Common.{◌≡◌, [], Some, None, refl}
-use Rattle.std.specs.Fmt.{digits}
-use Rattle.race_text.specs.declared.cause.TextCause.{TextCause}
-use Rattle.race_text.specs.Words.{number}
-use Rattle.race_text.specs.Form.{word_named, word_in}
-use Rattle.race_text.specs.Lines.{fault_after, first_fault}
-use Rattle.race_text.specs.Fault.{seen, field_cause, line_cause, cause, text_fault}
-use Rattle.race_text.specs.Examples.{fault_at, fine, no_newline, leading_zero, two_spaces}
-use Rattle.race_text.specs.Examples.{late_declaration, long_name, unknown_word, unknown_name}
-use Rattle.race_text.specs.Examples.{wrong_kind, mutex_for_rwmutex, no_newline_2, no_version, tries}
-use Rattle.race_text.specs.Examples.{early_try, early_try_to_read, early_failure, mutex_tried_for_rwmutex}
+use Rattle.std.{proofs.Common.{◌≡◌, [], Some, None, refl}, specs.Fmt.digits}
+use Rattle.race_text.specs.{declared.cause.TextCause.TextCause, Words.number, Form.{word_named, word_in}}
+use Rattle.race_text.specs.{Lines.{fault_after, first_fault}, Fault.{seen, field_cause, line_cause, cause, text_fault}}
+use Rattle.race_text.specs.Examples.{fault_at, fine, no_newline, leading_zero, two_spaces, late_declaration, long_name}
+use Rattle.race_text.specs.Examples.{unknown_word, unknown_name, wrong_kind, mutex_for_rwmutex, no_newline_2}
+use Rattle.race_text.specs.Examples.{no_version, tries, early_try, early_try_to_read, early_failure}
+use Rattle.race_text.specs.Examples.{mutex_tried_for_rwmutex}
 
 pub fine_row : text_fault fine ≡ None
 unfolding first_fault fault_after cause line_cause seen word_in word_named field_cause number digits

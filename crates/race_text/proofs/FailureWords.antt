@@ -1,34 +1,19 @@
 -- What the word says that tells why a run failed.
-use Rattle.std.proofs.Common.{◌≡◌, ℕ, Bool, true, false, true≢false, if◌then◌else◌, List, [], ◌∷◌}
-use Rattle.std.proofs.Common.{◌++◌, map, codes, unwrap_or, Option, Some, None, ok_or, Ok, refl, sym, ap, subst}
-use Rattle.std.proofs.Common.{◌∙◌, arith}
-use Rattle.std.proofs.lemmas.Bool.Decides.{nat_tests}
-use Rattle.std.proofs.lemmas.Option.{none-some, same_Some}
-use Rattle.std.proofs.lemmas.Slice.Eq.{bytes_eq-Decides}
-use Rattle.std.specs.List.{list_all}
-use Rattle.std.specs.Option.{option_map_or}
-use Rattle.std.specs.Str.{bytes_eq}
-use Rattle.race_records.specs.declared.event.Cause.{Cause}
-use Rattle.race_records.specs.declared.event.Cause.TheVariants.{SendClosed, CloseClosed, CloseNil, UnlockFree, RUnlockFree}
-use Rattle.race_records.specs.declared.event.Op.TheVariants.{Fault}
-use Rattle.race_records.specs.declared.kind.Named.{Named}
-use Rattle.race_records.specs.declared.parts.Part.{Part}
-use Rattle.race_records.specs.Name.{is_name, is_place_byte}
-use Rattle.race_records.specs.Declarations.{Declaration, DeclsState, IsWellFormed, IsDeclared, counts_of, name_of}
-use Rattle.race_records.specs.Events.{lock_fits}
-use Rattle.race_records.specs.Parts.{failed_at, named_is_in_range, part_fits}
-use Rattle.race_text.specs.declared.cause.TextCause.{TextCause}
-use Rattle.race_text.specs.declared.select.Attempt.{Attempt}
-use Rattle.race_text.specs.declared.select.TheConstants.{ATTEMPTS}
-use Rattle.race_text.specs.Form.{is_wanted}
-use Rattle.race_text.specs.Select.{close_nil, behind, SpelledFailure, failure_by, failure_among, failure_spelled, kind_tried, cause_by}
-use Rattle.race_text.specs.Text.{failure_text}
-use Rattle.race_text.specs.Least.{then_says, says_by}
-use Rattle.race_text.specs.Meaning.{named_in, spelled_failure_in, failure_in}
-use Rattle.race_text.proofs.CaseWords.{behind_is, not_nil}
-use Rattle.race_text.proofs.CauseLemmas.{same_Ok, then_is, with_is, ok_or_is}
-use Rattle.race_text.proofs.UsedNames.{is_used, used_again}
-use Rattle.race_text.proofs.WordLemmas.{both, name_is_visible}
+use Rattle.std.proofs.Common.{◌≡◌, ℕ, Bool, true, false, true≢false, if◌then◌else◌, List, [], ◌∷◌, ◌++◌, map, codes}
+use Rattle.std.proofs.Common.{unwrap_or, Option, Some, None, ok_or, Ok, refl, sym, ap, subst, ◌∙◌, arith}
+use Rattle.std.proofs.lemmas.{Bool.Decides.nat_tests, Option.{none-some, same_Some}, Slice.Eq.bytes_eq-Decides}
+use Rattle.std.specs.{List.list_all, Option.option_map_or, Str.bytes_eq}
+use Rattle.race_records.specs.declared.event.Cause.{Cause, TheVariants.{SendClosed, CloseClosed, CloseNil, UnlockFree}}
+use Rattle.race_records.specs.declared.{event.{Cause.TheVariants.RUnlockFree, Op.TheVariants.Fault}, kind.Named.Named}
+use Rattle.race_records.specs.{declared.parts.Part.Part, Name.{is_name, is_place_byte}, Declarations.Declaration}
+use Rattle.race_records.specs.Declarations.{DeclsState, IsWellFormed, IsDeclared, counts_of, name_of}
+use Rattle.race_records.specs.{Events.lock_fits, Parts.{failed_at, named_is_in_range, part_fits}}
+use Rattle.race_text.specs.declared.{cause.TextCause.TextCause, select.{Attempt.Attempt, TheConstants.ATTEMPTS}}
+use Rattle.race_text.specs.{Form.is_wanted, Select.{close_nil, behind, SpelledFailure, failure_by, failure_among}}
+use Rattle.race_text.specs.{Select.{failure_spelled, kind_tried, cause_by}, Text.failure_text}
+use Rattle.race_text.specs.{Least.{then_says, says_by}, Meaning.{named_in, spelled_failure_in, failure_in}}
+use Rattle.race_text.proofs.{CaseWords.{behind_is, not_nil}, CauseLemmas.{same_Ok, then_is, with_is, ok_or_is}}
+use Rattle.race_text.proofs.{UsedNames.{is_used, used_again}, WordLemmas.{both, name_is_visible}}
 
 -- the front of the word
 abbrev attempt_text : Attempt → List ℕ

@@ -1,24 +1,16 @@
 -- A text that is cut into pieces: its parts, and its first fault behind the lines that were taken.
-use Rattle.std.proofs.Common.{◌≡◌, ◌≢◌, ℕ, ◌+◌, ◌<◌, ◌≤◌, ◌==◌, Bool, true, false, List, [], ◌∷◌, ◌++◌, length, Option, Some}
-use Rattle.std.proofs.Common.{None, Result, Ok, Err, IsErrAnd, MatchResult, refl, sym, ap, subst, ◌∙◌, arith, append-nil}
-use Rattle.std.proofs.Common.{append_assoc}
-use Rattle.std.proofs.lemmas.List.{length-append}
-use Rattle.std.proofs.lemmas.List.Splits.{join_with_byte-slice_split, length-slice_split, slice_split-cons_yes, slice_split-cons_no}
-use Rattle.std.proofs.lemmas.Grind.{flat_map-append}
-use Rattle.std.proofs.lemmas.Option.{none-some, same_Some}
+use Rattle.std.proofs.Common.{◌≡◌, ◌≢◌, ℕ, ◌+◌, ◌<◌, ◌≤◌, ◌==◌, Bool, true, false, List, [], ◌∷◌, ◌++◌, length, Option}
+use Rattle.std.proofs.Common.{Some, None, Result, Ok, Err, IsErrAnd, MatchResult, refl, sym, ap, subst, ◌∙◌, arith}
+use Rattle.std.proofs.{Common.{append-nil, append_assoc}, lemmas.List.length-append}
+use Rattle.std.proofs.lemmas.List.Splits.{join_with_byte-slice_split, length-slice_split, slice_split-cons_yes}
+use Rattle.std.proofs.lemmas.{List.Splits.slice_split-cons_no, Grind.flat_map-append, Option.{none-some, same_Some}}
 use Rattle.std.specs.List.{flat_map, join_with_byte, onto_first}
-use Rattle.race_text.specs.declared.cause.TextCause.{TextCause}
-use Rattle.race_text.specs.declared.cause.TextFault.{TextFault}
-use Rattle.race_text.specs.Words.{parts_of}
-use Rattle.race_text.specs.Text.{ended}
-use Rattle.race_text.specs.Lines.{Causes, or_later, fault_after, first_fault, IsLineOf, IsNoneBefore}
-use Rattle.race_text.specs.Owed.{owed, HidesNone}
-use Rattle.race_text.specs.declared.fed.Fed.{Fed}
-use Rattle.race_text.specs.Grammar.{StandsForSome, ForEachLines, Takes}
-use Rattle.race_text.specs.Fed.{ended_after, ended_fault, IsTaken, IsUnended, IsTold, TellsOfLine, TakesSome, IsFed}
-use Rattle.race_text.specs.Fed.{TellsOfMemory, TakesBytes, TellsOfBytes, LinesState, StandsFor}
-use Rattle.race_text.specs.Fed.{HidesNoneOf}
-use Rattle.race_text.proofs.ParseLemmas.{told, or_later_from, fault_step, fault_end, fault_from, cut_joined}
+use Rattle.race_text.specs.{declared.{cause.{TextCause.TextCause, TextFault.TextFault}, fed.Fed.Fed}, Words.parts_of}
+use Rattle.race_text.specs.{Text.ended, Lines.{Causes, or_later, fault_after, first_fault, IsLineOf, IsNoneBefore}}
+use Rattle.race_text.specs.{Owed.{owed, HidesNone}, Grammar.{StandsForSome, ForEachLines, Takes}, Fed.ended_after}
+use Rattle.race_text.specs.Fed.{ended_fault, IsTaken, IsUnended, IsTold, TellsOfLine, TakesSome, IsFed, TellsOfMemory}
+use Rattle.race_text.{specs.Fed.{TakesBytes, TellsOfBytes, LinesState, StandsFor, HidesNoneOf}, proofs.ParseLemmas.told}
+use Rattle.race_text.proofs.ParseLemmas.{or_later_from, fault_step, fault_end, fault_from, cut_joined}
 
 -- two lists of parts, of which the last one of the first list goes on in the first one of the second
 unfoldable pub onto : List ℕ → List (List ℕ) → List (List ℕ)

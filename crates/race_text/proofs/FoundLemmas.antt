@@ -1,20 +1,13 @@
 -- What a name that is found stands for: its form, its number, and that the number leads back to it.
-use Rattle.std.proofs.Common.{◌≡◌, ℕ, zero, suc, ◌-◌, ◌<◌, ◌==◌, ◌⊎◌, inl, inr, Bool, true, false, cond, if◌then◌else◌, List, [], ◌∷◌}
-use Rattle.std.proofs.Common.{length, filter, take, position, get_or, slice_get, Option, Some, None, refl, sym, ap, subst, ◌∙◌, arith}
-use Rattle.std.proofs.Common.{true≢false}
-use Rattle.std.proofs.lemmas.Bool.Decides.{nat_tests}
-use Rattle.std.proofs.lemmas.List.Quantifiers.{position-Some}
-use Rattle.std.proofs.lemmas.Option.{none-some, same_Some, slice_get-get_or, slice_get_within}
-use Rattle.std.proofs.lemmas.Slice.Eq.{bytes_eq-Decides}
-use Rattle.std.specs.Option.{option_and_then, option_map}
-use Rattle.std.specs.Str.{bytes_eq}
-use Rattle.race_records.specs.declared.kind.Kind.{Kind}
-use Rattle.race_records.specs.declared.kind.Named.{Named}
-use Rattle.race_records.specs.declared.kind.Object.{Object}
-use Rattle.race_records.specs.Name.{main, is_name}
-use Rattle.race_records.specs.Declarations.{Declaration, DeclsState, IsWellFormed, find_name}
-use Rattle.race_records.specs.Declarations.{declared_at, named, kind_of, is_of_kind, of_kind, count_of}
-use Rattle.race_records.specs.Declarations.{name_of, nth_name, IsDeclared}
+use Rattle.std.proofs.Common.{◌≡◌, ℕ, zero, suc, ◌-◌, ◌<◌, ◌==◌, ◌⊎◌, inl, inr, Bool, true, false, cond, if◌then◌else◌}
+use Rattle.std.proofs.Common.{List, [], ◌∷◌, length, filter, take, position, get_or, slice_get, Option, Some, None}
+use Rattle.std.proofs.{Common.{refl, sym, ap, subst, ◌∙◌, arith, true≢false}, lemmas.Bool.Decides.nat_tests}
+use Rattle.std.proofs.lemmas.{List.Quantifiers.position-Some, Option.{none-some, same_Some, slice_get-get_or}}
+use Rattle.std.proofs.lemmas.{Option.slice_get_within, Slice.Eq.bytes_eq-Decides}
+use Rattle.std.specs.{Option.{option_and_then, option_map}, Str.bytes_eq}
+use Rattle.race_records.specs.{declared.kind.{Kind.Kind, Named.Named, Object.Object}, Name.{main, is_name}}
+use Rattle.race_records.specs.Declarations.{Declaration, DeclsState, IsWellFormed, find_name, declared_at, named}
+use Rattle.race_records.specs.Declarations.{kind_of, is_of_kind, of_kind, count_of, name_of, nth_name, IsDeclared}
 
 -- declaration i has the name, and declares what it stands for
 pub record IsFoundAt (ds : List Declaration) (word : List ℕ) (what : Named) : Type 0 where

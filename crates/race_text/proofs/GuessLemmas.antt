@@ -1,11 +1,8 @@
 -- A place that stands in the table has the number of where it stands, and is added by nothing.
-use Rattle.std.proofs.Common.{◌≡◌, ℕ, Bool, true, false, if◌then◌else◌, List, [], ◌∷◌, ◌++◌, get_or, Some, refl, sym, ap, ◌∙◌, arith}
-use Rattle.std.proofs.lemmas.List.Sums.{position_or_len_is}
-use Rattle.std.proofs.lemmas.Map.Keys.{any_passes_from_place}
-use Rattle.std.proofs.lemmas.Option.{get_or_from_slice_get, slice_get_within}
-use Rattle.std.proofs.lemmas.Slice.Eq.{bytes_eq-Decides}
-use Rattle.std.specs.List.{slice_get}
-use Rattle.std.specs.Str.{bytes_eq}
+use Rattle.std.proofs.Common.{◌≡◌, ℕ, Bool, true, false, if◌then◌else◌, List, [], ◌∷◌, ◌++◌, get_or, Some, refl, sym}
+use Rattle.std.proofs.{Common.{ap, ◌∙◌, arith}, lemmas.{List.Sums.position_or_len_is, Map.Keys.any_passes_from_place}}
+use Rattle.std.proofs.lemmas.{Option.{get_or_from_slice_get, slice_get_within}, Slice.Eq.bytes_eq-Decides}
+use Rattle.std.specs.{List.slice_get, Str.bytes_eq}
 use Rattle.race_records.specs.Declarations.{DeclsState, IsWellFormed, is_known, place_number, with_place}
 
 is_known_at : (decls : DeclsState) (n : ℕ) (word : List ℕ) → slice_get decls.places n ≡ Some word → is_known decls.places word ≡ true

@@ -1,11 +1,8 @@
 -- The headers: each says its version, and nothing else says one.
 use Rattle.std.proofs.Common.{◌≡◌, ℕ, Bool, true, false, if◌then◌else◌, List, Some, None, length, refl, sym, ap, ◌∙◌}
-use Rattle.std.proofs.lemmas.Option.{none-some, same_Some}
-use Rattle.std.proofs.lemmas.Slice.Eq.{bytes_eq-Decides}
-use Rattle.std.specs.Str.{bytes_eq}
+use Rattle.std.{proofs.lemmas.{Option.{none-some, same_Some}, Slice.Eq.bytes_eq-Decides}, specs.Str.bytes_eq}
 use Rattle.race_records.specs.declared.version.Version.{Version}
-use Rattle.race_text.specs.Text.{header, ended}
-use Rattle.race_text.specs.Fault.{version_said}
+use Rattle.race_text.specs.{Text.{header, ended}, Fault.version_said}
 
 pub version_again : (version : Version) → version_said (header version) ≡ Some version
 version_again Version.One = refl

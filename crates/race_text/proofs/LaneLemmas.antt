@@ -1,16 +1,11 @@
 -- From the bits of a vector to the first element of a list that passes a test.
-use Rattle.std.proofs.Common.{◌≡◌, ℕ, ◌+◌, ◌-◌, ◌*◌, ◌<◌, ◌≤◌, ◌^◌, ◌%◌, Bool, true, false, not, cond, nat_lt, List, [], ◌∷◌, inl}
-use Rattle.std.proofs.Common.{inr, length, drop, get_or, map, position, Some, None, refl, sym, ap, ap₂, ◌∙◌, arith, Fits, w8}
-use Rattle.std.proofs.Common.{length-drop}
-use Rattle.std.proofs.lemmas.Bool.{agree_below, agree_below_at, cases_lt}
-use Rattle.std.proofs.lemmas.Bool.Decides.{nat_tests}
-use Rattle.std.proofs.lemmas.List.{get_or-drop, length-map}
-use Rattle.std.proofs.lemmas.List.Quantifiers.{position-Some}
+use Rattle.std.proofs.Common.{◌≡◌, ℕ, ◌+◌, ◌-◌, ◌*◌, ◌<◌, ◌≤◌, ◌^◌, ◌%◌, Bool, true, false, not, cond, nat_lt, List, []}
+use Rattle.std.proofs.Common.{◌∷◌, inl, inr, length, drop, get_or, map, position, Some, None, refl, sym, ap, ap₂, ◌∙◌}
+use Rattle.std.proofs.{Common.{arith, Fits, w8, length-drop}, lemmas.Bool.{agree_below, agree_below_at, cases_lt}}
+use Rattle.std.proofs.lemmas.{Bool.Decides.nat_tests, List.{get_or-drop, length-map, Quantifiers.position-Some}}
 use Rattle.std.proofs.lemmas.List.Sums.{position_or_len_is, fails_before_first, prefix_len-le-length}
-use Rattle.std.proofs.lemmas.Option.{none-some}
-use Rattle.std.proofs.lemmas.Simd.{trailing_mask_l, length-chunk, map-map, mask_l-mod}
-use Rattle.std.proofs.lemmas.Simd.{run_in_chunk_le, run_in_chunk_fails, run_in_chunk_stops}
-use Rattle.std.proofs.lemmas.Simd.{none_from_empty_mask}
+use Rattle.std.proofs.lemmas.{Option.none-some, Simd.{trailing_mask_l, length-chunk, map-map, mask_l-mod}}
+use Rattle.std.proofs.lemmas.Simd.{run_in_chunk_le, run_in_chunk_fails, run_in_chunk_stops, none_from_empty_mask}
 use Rattle.std.specs.List.{position_or_len, prefix_len}
 use lib.Count.{count_trailing_zeros}
 use lib.Lanes.{chunk, mask_l, top, Each1}

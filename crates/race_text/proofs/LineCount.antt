@@ -1,13 +1,9 @@
 -- How many lines a trace has, and that there are few.
-use Rattle.std.proofs.Common.{◌≡◌, ℕ, ◌+◌, ◌<◌, ◌^◌, Bool, true, List, [], ◌∷◌, length, map, Option, Some, None, refl, ◌∙◌, arith}
-use Rattle.std.proofs.lemmas.List.{length-append, length-map}
-use Rattle.race_records.specs.declared.kind.Kind.{Kind}
-use Rattle.race_records.specs.declared.kind.Object.{Object}
-use Rattle.race_records.specs.Declarations.{Declaration, DeclsState, IsWellFormed, of_kind}
-use Rattle.race_records.specs.Events.{TraceState}
-use Rattle.race_text.specs.Text.{lines, declaration_line, event_line}
-use Rattle.race_text.specs.Taking.{begun}
-use Rattle.race_text.specs.Reader.{lines_read}
+use Rattle.std.proofs.Common.{◌≡◌, ℕ, ◌+◌, ◌<◌, ◌^◌, Bool, true, List, [], ◌∷◌, length, map, Option, Some, None, refl}
+use Rattle.std.proofs.{Common.{◌∙◌, arith}, lemmas.List.{length-append, length-map}}
+use Rattle.race_records.specs.{declared.kind.{Kind.Kind, Object.Object}, Declarations.{Declaration, DeclsState}}
+use Rattle.race_records.specs.{Declarations.{IsWellFormed, of_kind}, Events.TraceState}
+use Rattle.race_text.specs.{Text.{lines, declaration_line, event_line}, Taking.begun, Reader.lines_read}
 
 -- how many declarations there are, kind by kind
 abbrev by_kind : List Declaration → ℕ

@@ -1,23 +1,16 @@
 -- Marks of the bytes in front that can't be seen, and the word that ends at the first of them.
-use Rattle.std.proofs.Common.{◌≡◌, ◌≢◌, ℕ, zero, suc, ◌+◌, ◌-◌, ◌*◌, ◌/◌, ◌^◌, ◌<◌, ◌==◌, Bool, true, false, not}
-use Rattle.std.proofs.Common.{cond, List, [], ◌∷◌, length, map, take, drop, get_or, position, Some, refl, sym, ap}
-use Rattle.std.proofs.Common.{◌∙◌, arith}
-use Rattle.std.proofs.Math.Nat.{div-div-eq-div-mul, two-pow-succ}
-use Rattle.std.proofs.Math.Numerals.{add-one}
-use Rattle.std.proofs.lemmas.Bool.Decides.{nat_tests}
-use Rattle.std.proofs.lemmas.List.{drop-map, length-drop}
-use Rattle.std.proofs.lemmas.List.Quantifiers.{position-Some}
+use Rattle.std.proofs.Common.{◌≡◌, ◌≢◌, ℕ, zero, suc, ◌+◌, ◌-◌, ◌*◌, ◌/◌, ◌^◌, ◌<◌, ◌==◌, Bool, true, false, not, cond}
+use Rattle.std.proofs.Common.{List, [], ◌∷◌, length, map, take, drop, get_or, position, Some, refl, sym, ap, ◌∙◌, arith}
+use Rattle.std.proofs.{Math.{Nat.{div-div-eq-div-mul, two-pow-succ}, Numerals.add-one}, lemmas.Bool.Decides.nat_tests}
+use Rattle.std.proofs.lemmas.List.{drop-map, length-drop, Quantifiers.position-Some}
 use Rattle.std.proofs.lemmas.List.Splits.{slice_split-cons_yes, slice_split-cons_no, length-slice_split}
 use Rattle.std.specs.List.{list_all, onto_first}
 use lib.Count.{count_trailing_zeros}
 use lib.Lanes.{chunk, mask_l}
 use Rattle.race_records.specs.Name.{is_place_byte}
-use Rattle.race_text.specs.Words.{parts_of, words_of}
-use Rattle.race_text.specs.Form.{first_word, arguments}
-use Rattle.race_text.specs.Common.{IsMarked, line_in, words_in, parts_behind, CutsWord}
-use Rattle.race_text.proofs.LaneLemmas.{first_in_lanes}
-use Rattle.race_text.proofs.CutLemmas.{rest_is}
-use Rattle.race_text.proofs.SeenLemmas.{seen_front, is_seen, first_onto}
+use Rattle.race_text.specs.{Words.{parts_of, words_of}, Form.{first_word, arguments}, Common.{IsMarked, line_in}}
+use Rattle.race_text.{specs.Common.{words_in, parts_behind, CutsWord}, proofs.LaneLemmas.first_in_lanes}
+use Rattle.race_text.proofs.{CutLemmas.rest_is, SeenLemmas.{seen_front, is_seen, first_onto}}
 
 -- the first bit shifted out
 halved : (b : Bool) (m : ℕ) → (cond b 1 0 + 2 * m) / 2 ≡ m

@@ -1,21 +1,14 @@
 -- The name by which a number is printed leads back to the number.
-use Rattle.std.proofs.Common.{◌≡◌, ◌≢◌, ℕ, zero, suc, ◌+◌, ◌-◌, ◌<◌, ◌==◌, Bool, true, false, nat_lt, cond, if◌then◌else◌, List, [], ◌∷◌}
-use Rattle.std.proofs.Common.{length, position, take, get_or, slice_get, unwrap_or, Some, None, option_map, refl, sym, ap, ◌∙◌, arith}
-use Rattle.std.proofs.Common.{true≢false}
-use Rattle.std.proofs.lemmas.Bool.Decides.{nat_tests}
-use Rattle.std.proofs.lemmas.List.Sums.{position_or_len_is}
-use Rattle.std.proofs.lemmas.Option.{none-some, same_Some, slice_get_within, get_or_from_slice_get}
-use Rattle.std.proofs.lemmas.Slice.Eq.{bytes_eq-Decides}
-use Rattle.std.specs.Option.{option_and_then}
+use Rattle.std.proofs.Common.{◌≡◌, ◌≢◌, ℕ, zero, suc, ◌+◌, ◌-◌, ◌<◌, ◌==◌, Bool, true, false, nat_lt, cond}
+use Rattle.std.proofs.Common.{if◌then◌else◌, List, [], ◌∷◌, length, position, take, get_or, slice_get, unwrap_or, Some}
+use Rattle.std.proofs.{Common.{None, option_map, refl, sym, ap, ◌∙◌, arith, true≢false}, lemmas.Bool.Decides.nat_tests}
+use Rattle.std.proofs.lemmas.{List.Sums.position_or_len_is, Option.{none-some, same_Some, slice_get_within}}
+use Rattle.std.{proofs.lemmas.{Option.get_or_from_slice_get, Slice.Eq.bytes_eq-Decides}, specs.Option.option_and_then}
 use Rattle.std.specs.Str.{bytes_eq}
-use Rattle.race_records.specs.declared.kind.Kind.{Kind}
-use Rattle.race_records.specs.declared.kind.Named.{Named}
-use Rattle.race_records.specs.declared.kind.Object.{Object}
-use Rattle.race_records.specs.Name.{main}
-use Rattle.race_records.specs.Declarations.{Declaration, DeclsState, IsWellFormed, is_of_kind, of_kind}
-use Rattle.race_records.specs.Declarations.{kind_of, count_of, named, declared_at, find_name, name_of}
-use Rattle.race_records.specs.Declarations.{nth_name, first_number, IsDeclared}
-use Rattle.race_records.proofs.ListLemmas.{slice_get-within}
+use Rattle.race_records.specs.{declared.kind.{Kind.Kind, Named.Named, Object.Object}, Name.main}
+use Rattle.race_records.specs.Declarations.{Declaration, DeclsState, IsWellFormed, is_of_kind, of_kind, kind_of}
+use Rattle.race_records.specs.Declarations.{count_of, named, declared_at, find_name, name_of, nth_name, first_number}
+use Rattle.race_records.{specs.Declarations.IsDeclared, proofs.ListLemmas.slice_get-within}
 
 pub differ : (a b : List ℕ) → a ≢ b → bytes_eq a b ≡ false
 differ a b other = by (bytes_eq a b) refl

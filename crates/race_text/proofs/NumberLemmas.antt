@@ -1,18 +1,12 @@
 -- Which words are numbers.
-use Rattle.std.proofs.Common.{◌≡◌, ℕ, zero, suc, ◌⊎◌, inl, inr, ◌≢◌, ◌+◌, ◌-◌, ◌*◌, ◌<◌, ◌≤◌, ◌^◌, Bool, true, false, ◌&&◌}
-use Rattle.std.proofs.Common.{if◌then◌else◌, nat_le, List, length, take, get_or, Option, Some, None, refl, sym, ap, subst, ◌∙◌}
-use Rattle.std.proofs.Common.{arith, true≢false}
-use Rattle.std.proofs.lemmas.Bool.Decides.{nat_tests}
-use Rattle.std.proofs.lemmas.Fmt.{decimal_is_IsNumeral, decimal_digit, first_decimal, decimal_nonempty, decimal-digits_value}
-use Rattle.std.proofs.lemmas.Int.Digits.{digits_more, digits_value_more}
-use Rattle.std.proofs.lemmas.List.{length-take}
-use Rattle.std.proofs.lemmas.Slice.Eq.{bytes_eq-Decides}
-use Rattle.std.proofs.lemmas.Str.{digit_value_digit}
-use Rattle.std.proofs.lemmas.Str.Parse.{digit_at, numerals_by_value, tells_digits, digits_value_short, digits_value-take-le}
-use Rattle.std.specs.Fmt.{decimal}
-use Rattle.std.specs.Int.{IsInRange}
-use Rattle.std.specs.Str.{bytes_eq}
-use Rattle.std.specs.Str.Parse.{AllDigits, IsNumeral, digits_value}
+use Rattle.std.proofs.Common.{◌≡◌, ℕ, zero, suc, ◌⊎◌, inl, inr, ◌≢◌, ◌+◌, ◌-◌, ◌*◌, ◌<◌, ◌≤◌, ◌^◌, Bool, true, false}
+use Rattle.std.proofs.Common.{◌&&◌, if◌then◌else◌, nat_le, List, length, take, get_or, Option, Some, None, refl, sym}
+use Rattle.std.proofs.{Common.{ap, subst, ◌∙◌, arith, true≢false}, lemmas.Bool.Decides.nat_tests}
+use Rattle.std.proofs.lemmas.Fmt.{decimal_is_IsNumeral, decimal_digit, first_decimal, decimal_nonempty}
+use Rattle.std.proofs.lemmas.{Fmt.decimal-digits_value, Int.Digits.{digits_more, digits_value_more}, List.length-take}
+use Rattle.std.proofs.lemmas.{Slice.Eq.bytes_eq-Decides, Str.{digit_value_digit, Parse.{digit_at, numerals_by_value}}}
+use Rattle.std.{proofs.lemmas.Str.Parse.{tells_digits, digits_value_short, digits_value-take-le}, specs.Fmt.decimal}
+use Rattle.std.specs.{Int.IsInRange, Str.{bytes_eq, Parse.{AllDigits, IsNumeral, digits_value}}}
 use Rattle.race_text.specs.Words.{number}
 
 -- what is no number's text is no number

@@ -1,11 +1,9 @@
 -- What was printed on a page of its own is written.
-use Rattle.std.proofs.Common.{◌≡◌, ℕ, List, [], Option, Result, Ok, Err, OnOk, OnErr, IfErr, ap, ◌∙◌}
-use Rattle.std.specs.Bool.{⊤}
-use Rattle.race_records.specs.declared.sink.Sink.{Sink}
-use Rattle.race_records.specs.declared.sink.WriteFault.{WriteFault}
-use Rattle.race_records.specs.Devices.{written, sink_failures, one_more}
-use Rattle.race_records.specs.Page.{PageState, IsPrinted, IsCutOff, Printing}
-use Rattle.race_records.proofs.PageLemmas.{flushed, cut_off, broken_off, OnOk-map, OnErr-map, IfErr-map}
+use Rattle.std.{proofs.Common.{◌≡◌, ℕ, List, [], Option, Result, Ok, Err, OnOk, OnErr, IfErr, ap, ◌∙◌}, specs.Bool.⊤}
+use Rattle.race_records.specs.declared.sink.{Sink.Sink, WriteFault.WriteFault}
+use Rattle.race_records.specs.{Devices.{written, sink_failures, one_more}, Page.{PageState, IsPrinted, IsCutOff}}
+use Rattle.race_records.{specs.Page.Printing, proofs.PageLemmas.{flushed, cut_off, broken_off, OnOk-map, OnErr-map}}
+use Rattle.race_records.proofs.PageLemmas.{IfErr-map}
 use Rattle.race_text.specs.Output.{Writes}
 
 module _ {W : Type 0} {contents : W → Option (List ℕ)} {before middle : Sink W} {page_now : PageState} {text : List ℕ}

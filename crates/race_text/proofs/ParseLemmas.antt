@@ -1,23 +1,13 @@
 -- A text that is read part by part: what is left of it, and its first fault.
 use Rattle.std.proofs.Common.{◌≡◌, ◌≢◌, ◌⊎◌, inl, inr, ℕ, ◌+◌, ◌<◌, ◌≤◌, ◌==◌, ◌&&◌, nat_lt, Bool, true, false}
-use Rattle.std.proofs.Common.{if◌then◌else◌, List, [], ◌∷◌, ◌++◌, length, Option, Some, None, refl, sym}
-use Rattle.std.proofs.Common.{ap, subst, ◌∙◌, arith, append-nil, append_assoc}
-use Rattle.std.proofs.lemmas.Bool.Decides.{nat_tests}
-use Rattle.std.proofs.lemmas.List.{length-append}
+use Rattle.std.proofs.Common.{if◌then◌else◌, List, [], ◌∷◌, ◌++◌, length, Option, Some, None, refl, sym, ap, subst, ◌∙◌}
+use Rattle.std.proofs.{Common.{arith, append-nil, append_assoc}, lemmas.{Bool.Decides.nat_tests, List.length-append}}
 use Rattle.std.proofs.lemmas.List.Splits.{join_with_byte-slice_split, length-slice_split}
-use Rattle.std.proofs.lemmas.Option.{none-some, same_Some}
-use Rattle.std.specs.List.{join_with_byte}
-use Rattle.race_records.specs.declared.version.Version.{Version}
-use Rattle.race_records.specs.Declarations.{DeclsState}
-use Rattle.race_records.specs.Events.{TraceState}
-use Rattle.race_text.specs.declared.cause.TextCause.{TextCause}
-use Rattle.race_text.specs.declared.cause.TextFault.{TextFault}
-use Rattle.race_text.specs.Words.{parts_of}
-use Rattle.race_text.specs.Text.{lines}
-use Rattle.race_text.specs.Lines.{Causes, or_later, fault_after}
-use Rattle.race_text.specs.Fault.{version_said, header_cause, cause, end_cause}
-use Rattle.race_text.specs.Reader.{lines_read}
-use Rattle.race_text.proofs.WordLemmas.{both}
+use Rattle.std.{proofs.lemmas.Option.{none-some, same_Some}, specs.List.join_with_byte}
+use Rattle.race_records.specs.{declared.version.Version.Version, Declarations.DeclsState, Events.TraceState}
+use Rattle.race_text.specs.{declared.cause.{TextCause.TextCause, TextFault.TextFault}, Words.parts_of, Text.lines}
+use Rattle.race_text.specs.{Lines.{Causes, or_later, fault_after}, Fault.{version_said, header_cause, cause, end_cause}}
+use Rattle.race_text.{specs.Reader.lines_read, proofs.WordLemmas.both}
 
 abbrev pub told : ℕ → TextCause → TextFault
 told line c = record { line = line; cause = c }

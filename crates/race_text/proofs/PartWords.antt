@@ -1,37 +1,21 @@
 -- What the words of an operation's parts say, word by word.
-use Rattle.std.proofs.Common.{◌≡◌, ℕ, suc, ◌<◌, ◌-◌, ◌^◌, ◌&&◌, Bool, true, false, if◌then◌else◌, nat_lt, nat_le, List, [], ◌∷◌}
-use Rattle.std.proofs.Common.{◌++◌, length, map, Option, Some, None, Ok, refl, sym, ap, subst, ◌∙◌, arith, append-nil}
-use Rattle.std.proofs.Common.{append_assoc}
-use Rattle.std.proofs.lemmas.Bool.Decides.{nat_tests}
-use Rattle.std.proofs.lemmas.Option.{none-some, same_Some}
-use Rattle.std.proofs.lemmas.Slice.Eq.{bytes_eq-Decides}
-use Rattle.std.specs.Fmt.{decimal}
-use Rattle.std.specs.List.{list_all, AllByRecursion}
-use Rattle.std.specs.Option.{option_and_then, option_map}
-use Rattle.std.specs.Result.{result_ok, result_err}
-use Rattle.std.specs.Str.{bytes_eq}
-use Rattle.std.specs.Str.Parse.{digits_value}
-use Rattle.race_records.specs.declared.kind.Named.{Named}
-use Rattle.race_records.specs.declared.parts.Part.{Part}
-use Rattle.race_records.specs.declared.parts.PartKind.{PartKind}
-use Rattle.race_records.specs.Declarations.{Declaration, DeclsState, IsWellFormed}
-use Rattle.race_records.specs.Parts.{suits, suit, part_fits, part_is_limited}
-use Rattle.race_text.specs.declared.cause.TextCause.{TextCause}
-use Rattle.race_text.specs.declared.form.Field.{Field}
-use Rattle.race_text.specs.Words.{has_bad_byte, number}
-use Rattle.race_text.specs.Form.{is_wanted}
-use Rattle.race_text.specs.Fault.{field_cause}
-use Rattle.race_text.specs.Least.{lesser, says_by}
-use Rattle.race_text.specs.Meaning.{named_in, value_in, cases_in, failure_in, part_in}
-use Rattle.race_text.specs.Text.{cases_text, failure_text}
-use Rattle.race_text.specs.Reading.{ReadPart, ReadParts, with_rest, first_part, parts_on}
-use Rattle.race_text.specs.Writing.{part_text}
-use Rattle.race_text.proofs.CaseWords.{is_cases, cases_visible}
-use Rattle.race_text.proofs.FailureWords.{is_failure, failure_again}
-use Rattle.race_text.proofs.CauseLemmas.{and_then_some, map_some, lesser_none, cause_on, ok_is, fine_is_ok, ok_or_is, with_is}
-use Rattle.race_text.proofs.CleanLemmas.{name_clean, visible_clean, number_is_visible}
-use Rattle.race_text.proofs.UsedNames.{rwmutex_is_lock, is_used}
-use Rattle.race_text.proofs.WantedParts.{part_is_wanted, are_wanted}
+use Rattle.std.proofs.Common.{◌≡◌, ℕ, suc, ◌<◌, ◌-◌, ◌^◌, ◌&&◌, Bool, true, false, if◌then◌else◌, nat_lt, nat_le, List}
+use Rattle.std.proofs.Common.{[], ◌∷◌, ◌++◌, length, map, Option, Some, None, Ok, refl, sym, ap, subst, ◌∙◌, arith}
+use Rattle.std.proofs.{Common.{append-nil, append_assoc}, lemmas.Bool.Decides.nat_tests}
+use Rattle.std.{proofs.lemmas.{Option.{none-some, same_Some}, Slice.Eq.bytes_eq-Decides}, specs.Fmt.decimal}
+use Rattle.std.specs.{List.{list_all, AllByRecursion}, Option.{option_and_then, option_map}}
+use Rattle.std.specs.{Result.{result_ok, result_err}, Str.{bytes_eq, Parse.digits_value}}
+use Rattle.race_records.specs.declared.{kind.Named.Named, parts.{Part.Part, PartKind.PartKind}}
+use Rattle.race_records.specs.{Declarations.{Declaration, DeclsState, IsWellFormed}, Parts.{suits, suit, part_fits}}
+use Rattle.race_records.specs.Parts.{part_is_limited}
+use Rattle.race_text.specs.{declared.{cause.TextCause.TextCause, form.Field.Field}, Words.{has_bad_byte, number}}
+use Rattle.race_text.specs.{Form.is_wanted, Fault.field_cause, Least.{lesser, says_by}, Meaning.{named_in, value_in}}
+use Rattle.race_text.specs.{Meaning.{cases_in, failure_in, part_in}, Text.{cases_text, failure_text}, Reading.ReadPart}
+use Rattle.race_text.specs.{Reading.{ReadParts, with_rest, first_part, parts_on}, Writing.part_text}
+use Rattle.race_text.proofs.{CaseWords.{is_cases, cases_visible}, FailureWords.{is_failure, failure_again}}
+use Rattle.race_text.proofs.CauseLemmas.{and_then_some, map_some, lesser_none, cause_on, ok_is, fine_is_ok, ok_or_is}
+use Rattle.race_text.proofs.{CauseLemmas.with_is, CleanLemmas.{name_clean, visible_clean, number_is_visible}}
+use Rattle.race_text.proofs.{UsedNames.{rwmutex_is_lock, is_used}, WantedParts.{part_is_wanted, are_wanted}}
 
 -- a number that was read is spelled as it is printed, and is in its limit
 pub number_spelled : (limit : ℕ) (w : List ℕ) (n : ℕ) → number limit w ≡ Some n → w ≡ decimal n

@@ -1,7 +1,6 @@
 -- Where a text is cut off that is short enough to be counted.
-use Rattle.std.proofs.Common.{◌≡◌, ℕ, ◌+◌, ◌^◌, ◌<◌, List, length, take, Option, sym, ap, subst, ◌∙◌, length-append, arith}
-use Rattle.std.proofs.Math.Seq.{take-append_seam}
-use Rattle.std.specs.Io.KnownBytes.{Appends}
+use Rattle.std.proofs.Common.{◌≡◌, ℕ, ◌+◌, ◌^◌, ◌<◌, List, length, take, Option, sym, ap, subst, ◌∙◌, length-append}
+use Rattle.std.{proofs.{Common.arith, Math.Seq.take-append_seam}, specs.Io.KnownBytes.Appends}
 use Rattle.race_records.specs.Page.{IsCutOff}
 
 -- a text that is short enough to be counted is cut off just behind the bytes that were sent

@@ -1,23 +1,14 @@
 -- What a word of pieces says, with commas between them: cases of a select, or offers of one.
-use Rattle.std.proofs.Common.{◌≡◌, ℕ, ◌+◌, ◌<◌, ◌≤◌, ◌==◌, ◌&&◌, Bool, true, false, not, if◌then◌else◌, nat_le}
-use Rattle.std.proofs.Common.{List, [], ◌∷◌, ◌++◌, length, map, Result, Ok, Err, refl, sym, ap, subst, ◌∙◌, arith, append-nil, append_assoc}
-use Rattle.std.proofs.lemmas.Bool.Decides.{nat_tests}
-use Rattle.std.proofs.lemmas.List.{length-append}
-use Rattle.std.proofs.lemmas.List.Folds.{list_all-append}
-use Rattle.std.proofs.lemmas.List.Splits.{join_with_byte-slice_split, length-slice_split}
-use Rattle.std.proofs.lemmas.List.Sums.{AllPass-from_list_all}
-use Rattle.std.proofs.lemmas.Slice.Eq.{bytes_eq-Decides}
-use Rattle.std.specs.List.{list_all, AllByRecursion, join_with_byte}
-use Rattle.std.specs.Str.{bytes_eq}
-use Rattle.race_records.specs.declared.cases.TheConstants.{MAX_CASES}
-use Rattle.race_records.specs.Name.{is_place_byte}
-use Rattle.race_text.specs.declared.cause.TextCause.{TextCause}
-use Rattle.race_text.specs.Least.{least, both_say}
-use Rattle.race_text.specs.Meaning.{with_piece, pieces_on, pieces_in}
-use Rattle.race_text.specs.Select.{no_cases, pieces_of}
-use Rattle.race_text.specs.Text.{pieces_text}
-use Rattle.race_text.proofs.CauseLemmas.{ok-err, same_Ok}
-use Rattle.race_text.proofs.WordLemmas.{both, all_weaken}
+use Rattle.std.proofs.Common.{◌≡◌, ℕ, ◌+◌, ◌<◌, ◌≤◌, ◌==◌, ◌&&◌, Bool, true, false, not, if◌then◌else◌, nat_le, List}
+use Rattle.std.proofs.Common.{[], ◌∷◌, ◌++◌, length, map, Result, Ok, Err, refl, sym, ap, subst, ◌∙◌, arith, append-nil}
+use Rattle.std.proofs.{Common.append_assoc, lemmas.{Bool.Decides.nat_tests, List.length-append}}
+use Rattle.std.proofs.lemmas.List.{Folds.list_all-append, Splits.{join_with_byte-slice_split, length-slice_split}}
+use Rattle.std.proofs.lemmas.{List.Sums.AllPass-from_list_all, Slice.Eq.bytes_eq-Decides}
+use Rattle.std.specs.{List.{list_all, AllByRecursion, join_with_byte}, Str.bytes_eq}
+use Rattle.race_records.specs.{declared.cases.TheConstants.MAX_CASES, Name.is_place_byte}
+use Rattle.race_text.specs.{declared.cause.TextCause.TextCause, Least.{least, both_say}}
+use Rattle.race_text.specs.{Meaning.{with_piece, pieces_on, pieces_in}, Select.{no_cases, pieces_of}, Text.pieces_text}
+use Rattle.race_text.proofs.{CauseLemmas.{ok-err, same_Ok}, WordLemmas.{both, all_weaken}}
 use Rattle.race_text.proofs.WordsAgain.{IsWithout, split_again}
 
 -- a byte of a piece: one that can be seen, and no comma

@@ -1,23 +1,14 @@
 -- What the words of an event's places say: one place, or a first and a second.
-use Rattle.std.proofs.Common.{◌≡◌, ℕ, ◌<◌, Bool, true, false, true≢false, if◌then◌else◌, List, []}
-use Rattle.std.proofs.Common.{◌∷◌, length, Option, Some, None, Ok, Err, is_some, IfSome, refl, sym, ap, subst}
-use Rattle.std.proofs.Common.{◌∙◌, arith}
-use Rattle.std.proofs.lemmas.Option.{none-some, same_Some}
-use Rattle.std.specs.List.{AllByRecursion}
-use Rattle.std.specs.Option.{option_and_then, option_map}
-use Rattle.std.specs.Result.{result_err}
-use Rattle.race_records.specs.Name.{is_place}
-use Rattle.race_records.specs.Declarations.{Declaration}
-use Rattle.race_text.specs.declared.cause.TextCause.{TextCause}
-use Rattle.race_text.specs.Words.{has_bad_byte}
-use Rattle.race_text.specs.Text.{place_words}
-use Rattle.race_text.specs.Form.{place_fields}
-use Rattle.race_text.specs.Fault.{field_cause}
-use Rattle.race_text.specs.Least.{lesser}
-use Rattle.race_text.specs.Reading.{Places, ReadPlace, first_place, with_no_rest, last_place, alone, before_second, last_places}
-use Rattle.race_text.proofs.CauseLemmas.{and_then_some, map_some, lesser_none, cause_on}
-use Rattle.race_text.proofs.CleanLemmas.{visible_clean, place_is_visible}
-use Rattle.race_text.proofs.WordsAgain.{AreVisible}
+use Rattle.std.proofs.Common.{◌≡◌, ℕ, ◌<◌, Bool, true, false, true≢false, if◌then◌else◌, List, [], ◌∷◌, length, Option}
+use Rattle.std.proofs.Common.{Some, None, Ok, Err, is_some, IfSome, refl, sym, ap, subst, ◌∙◌, arith}
+use Rattle.std.{proofs.lemmas.Option.{none-some, same_Some}, specs.List.AllByRecursion}
+use Rattle.std.specs.{Option.{option_and_then, option_map}, Result.result_err}
+use Rattle.race_records.specs.{Name.is_place, Declarations.Declaration}
+use Rattle.race_text.specs.{declared.cause.TextCause.TextCause, Words.has_bad_byte, Text.place_words, Form.place_fields}
+use Rattle.race_text.specs.{Fault.field_cause, Least.lesser, Reading.{Places, ReadPlace, first_place, with_no_rest}}
+use Rattle.race_text.{specs.Reading.{last_place, alone, before_second, last_places}, proofs.CauseLemmas.and_then_some}
+use Rattle.race_text.proofs.CauseLemmas.{map_some, lesser_none, cause_on}
+use Rattle.race_text.proofs.{CleanLemmas.{visible_clean, place_is_visible}, WordsAgain.AreVisible}
 
 -- places that a line can have at its end, of which there have to be two or one
 pub record ArePlaces (two : Bool) (places : Places) : Type 0 where

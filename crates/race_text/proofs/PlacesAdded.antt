@@ -1,29 +1,19 @@
 -- The table of places with an event's places: the old ones stay, and the new ones are there.
-use Rattle.std.proofs.Common.{◌≡◌, ℕ, suc, ◌+◌, ◌<◌, ◌≤◌, ◌&&◌, ◌||◌, Bool, true, false, not, if◌then◌else◌, nat_lt, nat_le, cond, List, [], ◌∷◌}
-use Rattle.std.proofs.Common.{◌++◌, length, slice_get, unwrap_or, Option, Some, None, option_map, IfSome, is_some, refl, sym, ap, ◌∙◌, arith}
-use Rattle.std.proofs.Common.{true≢false}
-use Rattle.std.proofs.lemmas.Bool.Decides.{nat_tests}
-use Rattle.std.proofs.lemmas.List.{length-append}
-use Rattle.std.proofs.lemmas.Option.{slice_get_within}
-use Rattle.std.proofs.lemmas.Slice.Eq.{bytes_eq-Decides}
-use Rattle.std.specs.List.{position_or_len, list_any}
-use Rattle.std.specs.Str.{bytes_eq}
-use Rattle.race_records.specs.declared.event.Event.{Event}
-use Rattle.race_records.specs.declared.declarations.DeclFault.{DeclFault}
-use Rattle.race_records.specs.declared.declarations.TheConstants.{MAX_PLACES}
-use Rattle.race_records.specs.declared.kind.Kind.{Kind}
-use Rattle.race_records.specs.Name.{is_place}
-use Rattle.race_records.specs.Declarations.{DeclsState, is_known, place_number, with_place, place_fault, IsWellFormed, count_of}
-use Rattle.race_records.specs.Events.{TraceState, IsTrace, fits, is_in_range, is_right_kind, has_op, lock_fits, op_fits, second_place_fits}
-use Rattle.race_records.specs.Parts.{says, has_two_places}
+use Rattle.std.proofs.Common.{◌≡◌, ℕ, suc, ◌+◌, ◌<◌, ◌≤◌, ◌&&◌, ◌||◌, Bool, true, false, not, if◌then◌else◌, nat_lt}
+use Rattle.std.proofs.Common.{nat_le, cond, List, [], ◌∷◌, ◌++◌, length, slice_get, unwrap_or, Option, Some, None}
+use Rattle.std.proofs.Common.{option_map, IfSome, is_some, refl, sym, ap, ◌∙◌, arith, true≢false}
+use Rattle.std.proofs.lemmas.{Bool.Decides.nat_tests, List.length-append, Option.slice_get_within}
+use Rattle.std.{proofs.lemmas.Slice.Eq.bytes_eq-Decides, specs.{List.{position_or_len, list_any}, Str.bytes_eq}}
+use Rattle.race_records.specs.declared.{event.Event.Event, declarations.{DeclFault.DeclFault, TheConstants.MAX_PLACES}}
+use Rattle.race_records.specs.{declared.kind.Kind.Kind, Name.is_place, Declarations.{DeclsState, is_known}}
+use Rattle.race_records.specs.Declarations.{place_number, with_place, place_fault, IsWellFormed, count_of}
+use Rattle.race_records.specs.Events.{TraceState, IsTrace, fits, is_in_range, is_right_kind, has_op, lock_fits, op_fits}
+use Rattle.race_records.specs.{Events.second_place_fits, Parts.{says, has_two_places}}
 use Rattle.race_records.proofs.EventLemmas.{with_place_is_trace}
 use Rattle.race_records.proofs.ListLemmas.{slice_get-push_within, slice_get-push_last}
-use Rattle.race_records.proofs.PlaceLemmas.{with_place_well_formed}
-use Rattle.race_records.proofs.TextLemmas.{position_or_len-absent}
-use Rattle.race_text.specs.Text.{place_text, second_text, place_words}
-use Rattle.race_text.specs.Reading.{Occurrence}
-use Rattle.race_text.specs.Taking.{with_second, with_places, event_of}
-use Rattle.race_text.proofs.WordLemmas.{both}
+use Rattle.race_records.proofs.{PlaceLemmas.with_place_well_formed, TextLemmas.position_or_len-absent}
+use Rattle.race_text.specs.{Text.{place_text, second_text, place_words}, Reading.Occurrence}
+use Rattle.race_text.{specs.Taking.{with_second, with_places, event_of}, proofs.WordLemmas.both}
 
 -- the number of a place leads to it
 known_at : (places : List (List ℕ)) (word : List ℕ) → list_any (bytes_eq word) places ≡ true

@@ -1,33 +1,24 @@
 -- The header, and lines that declare.
-use Rattle.std.proofs.Common.{◌≡◌, ℕ, ◌≤◌, length, Bool, true, false, if◌then◌else◌, List, [], ◌∷◌}
-use Rattle.std.proofs.Common.{◌++◌, Option, Some, None, Result, Ok, Err, IfOk, refl, sym, ap, subst, ◌∙◌, arith}
-use Rattle.std.proofs.Common.{true≢false}
-use Rattle.std.proofs.lemmas.List.Splits.{join_with_byte-slice_split}
-use Rattle.std.proofs.lemmas.Option.{none-some}
-use Rattle.race_records.specs.declared.version.Version.{Version}
-use Rattle.race_records.specs.Declarations.{Declaration, DeclsState, decl_fault, with_declaration}
-use Rattle.race_records.specs.Events.{TraceState, IsTrace}
-use Rattle.race_records.specs.Refusal.{Refuses, AllowsUnless}
-use Rattle.race_records.proofs.DeclFaultLemmas.{allowed_from_no_fault}
-use Rattle.race_records.proofs.DeclsKept.{empty_well_formed, push_well_formed}
-use Rattle.race_text.specs.declared.cause.TextCause.{TextCause}
-use Rattle.race_text.specs.declared.form.Word.{Word}
-use Rattle.race_text.specs.Words.{words_of, has_bad_byte}
+use Rattle.std.proofs.Common.{◌≡◌, ℕ, ◌≤◌, length, Bool, true, false, if◌then◌else◌, List, [], ◌∷◌, ◌++◌, Option, Some}
+use Rattle.std.proofs.Common.{None, Result, Ok, Err, IfOk, refl, sym, ap, subst, ◌∙◌, arith, true≢false}
+use Rattle.std.proofs.lemmas.{List.Splits.join_with_byte-slice_split, Option.none-some}
+use Rattle.race_records.specs.{declared.version.Version.Version, Declarations.{Declaration, DeclsState, decl_fault}}
+use Rattle.race_records.specs.{Declarations.with_declaration, Events.{TraceState, IsTrace}}
+use Rattle.race_records.specs.{Refusal.{Refuses, AllowsUnless}, Nouns.object_says}
+use Rattle.race_records.proofs.{DeclFaultLemmas.allowed_from_no_fault, DeclsKept.{empty_well_formed, push_well_formed}}
+use Rattle.race_text.specs.{declared.{cause.TextCause.TextCause, form.Word.Word}, Words.{words_of, has_bad_byte}}
 use Rattle.race_text.specs.Text.{header, line_of, declaration_line, lines, HasText}
-use Rattle.race_text.specs.Form.{word_named, first_word, arguments}
-use Rattle.race_text.specs.Fault.{seen, seen_so_far, version_said, header_cause, cause, trace_causes, word_cause}
-use Rattle.race_text.specs.Fault.{declaration, declaration_in, is_event_line, is_event_word}
-use Rattle.race_text.specs.Lines.{GoesOn}
-use Rattle.race_text.specs.Owed.{owed}
-use Rattle.race_text.specs.Writing.{noun_text, number_words}
-use Rattle.race_records.specs.Nouns.{object_says}
-use Rattle.race_text.specs.Declaring.{is_declaration_line, is_declaration_word, declaration_cause, with_declared, with_declaration_in}
-use Rattle.race_text.specs.Taking.{state_of, IsRead, TakesLine, begun}
-use Rattle.race_text.specs.Reader.{nothing_in, trace_read, lines_read, IsReading, TakesIfDeclared, TakesDeclaration}
-use Rattle.race_text.proofs.DeclarationLemmas.{declaration_cause-words, declaration_in-words, is_there, declared_there, spelled_there}
-use Rattle.race_text.proofs.HeaderLemmas.{said_by_header}
-use Rattle.race_text.proofs.WordTable.{word_spelled, declares_in, object_words_are}
-use Rattle.race_text.proofs.TraceLemmas.{cause_behind, clean_line, lines_declaration, seen_declaration, no_word}
+use Rattle.race_text.specs.{Form.{word_named, first_word, arguments}, Fault.{seen, seen_so_far, version_said}}
+use Rattle.race_text.specs.Fault.{header_cause, cause, trace_causes, word_cause, declaration, declaration_in}
+use Rattle.race_text.specs.{Fault.{is_event_line, is_event_word}, Lines.GoesOn, Owed.owed}
+use Rattle.race_text.specs.{Writing.{noun_text, number_words}, Declaring.{is_declaration_line, is_declaration_word}}
+use Rattle.race_text.specs.{Declaring.{declaration_cause, with_declared, with_declaration_in}, Taking.state_of}
+use Rattle.race_text.specs.{Taking.{IsRead, TakesLine, begun}, Reader.{nothing_in, trace_read, lines_read, IsReading}}
+use Rattle.race_text.specs.Reader.{TakesIfDeclared, TakesDeclaration}
+use Rattle.race_text.proofs.DeclarationLemmas.{declaration_cause-words, declaration_in-words, is_there, declared_there}
+use Rattle.race_text.proofs.{DeclarationLemmas.spelled_there, HeaderLemmas.said_by_header}
+use Rattle.race_text.proofs.{WordTable.{word_spelled, declares_in, object_words_are}, TraceLemmas.cause_behind}
+use Rattle.race_text.proofs.TraceLemmas.{clean_line, lines_declaration, seen_declaration, no_word}
 
 -- a trace without events
 pub no_events : (decls : DeclsState) → IsTrace (begun decls)

@@ -1,32 +1,21 @@
 -- Bytes without a fault are some trace's text: line by line, each is taken into a trace.
 use Rattle.std.proofs.Common.{◌≡◌, ℕ, ◌*◌, ◌<◌, ◌≤◌, Bool, true, false, nat_le, ◌==◌, if◌then◌else◌, List, [], ◌∷◌}
-use Rattle.std.proofs.Common.{◌++◌, length, Option, Some, None, refl, sym, ap, subst, ◌∙◌, arith, true≢false, append-nil}
-use Rattle.std.proofs.Common.{append_assoc}
-use Rattle.std.proofs.lemmas.Bool.Decides.{nat_tests}
-use Rattle.std.proofs.lemmas.Grind.{flat_map-append}
-use Rattle.std.proofs.lemmas.List.Splits.{join_with_byte-slice_split, length-slice_split}
-use Rattle.std.proofs.lemmas.Option.{none-some}
+use Rattle.std.proofs.Common.{◌++◌, length, Option, Some, None, refl, sym, ap, subst, ◌∙◌, arith, true≢false}
+use Rattle.std.proofs.{Common.{append-nil, append_assoc}, lemmas.{Bool.Decides.nat_tests, Grind.flat_map-append}}
+use Rattle.std.proofs.lemmas.{List.Splits.{join_with_byte-slice_split, length-slice_split}, Option.none-some}
 use Rattle.std.specs.List.{flat_map, join_with_byte}
-use Rattle.race_records.specs.declared.version.Version.{Version}
-use Rattle.race_records.specs.declared.event.Event.{Event}
-use Rattle.race_records.specs.declared.trace.TheConstants.{MAX_EVENTS}
-use Rattle.race_records.specs.Declarations.{Declaration, with_declaration}
-use Rattle.race_records.specs.Events.{TraceState}
-use Rattle.race_text.specs.declared.cause.TextCause.{TextCause}
-use Rattle.race_text.specs.Words.{parts_of, words_of, has_bad_byte}
-use Rattle.race_text.specs.Text.{header, ended, lines, text}
-use Rattle.race_text.specs.Lines.{fault_after, first_fault}
-use Rattle.race_text.specs.Fault.{seen, seen_so_far, version_said, header_cause, line_cause, cause, trace_causes, text_fault}
-use Rattle.race_text.specs.Declaring.{is_declaration_line, with_declared}
-use Rattle.race_text.specs.Text.{HasText, IsTraceText}
-use Rattle.race_text.specs.Reading.{Occurrence, event_in}
-use Rattle.race_text.specs.Reader.{nothing_in}
-use Rattle.race_text.specs.Taking.{state_of, IsRead, begun, with_places, event_of}
-use Rattle.race_text.proofs.EventLines.{event_line as event_line_of}
-use Rattle.race_text.proofs.HeaderLemmas.{said_by_header}
-use Rattle.race_text.proofs.ParseLemmas.{none_step, none_end, end_empty, no_bytes}
-use Rattle.race_text.proofs.ReaderLemmas.{header_lines, empty_is_read, no_events, declaration_of_line, cause_of_line, taken_declaration}
-use Rattle.race_text.proofs.TraceLemmas.{cause_behind, bad_byte_is_told, no_event_is_told, event_cause, event_taken}
+use Rattle.race_records.specs.declared.{version.Version.Version, event.Event.Event, trace.TheConstants.MAX_EVENTS}
+use Rattle.race_records.specs.{Declarations.{Declaration, with_declaration}, Events.TraceState}
+use Rattle.race_text.specs.{declared.cause.TextCause.TextCause, Words.{parts_of, words_of, has_bad_byte}, Text.header}
+use Rattle.race_text.specs.{Text.{ended, lines, text, HasText, IsTraceText}, Lines.{fault_after, first_fault}}
+use Rattle.race_text.specs.Fault.{seen, seen_so_far, version_said, header_cause, line_cause, cause, trace_causes}
+use Rattle.race_text.specs.{Fault.text_fault, Declaring.{is_declaration_line, with_declared}}
+use Rattle.race_text.specs.{Reading.{Occurrence, event_in}, Reader.nothing_in, Taking.{state_of, IsRead, begun}}
+use Rattle.race_text.{specs.Taking.{with_places, event_of}, proofs.{EventLines.{event_line as event_line_of}}}
+use Rattle.race_text.proofs.{HeaderLemmas.said_by_header, ParseLemmas.{none_step, none_end, end_empty, no_bytes}}
+use Rattle.race_text.proofs.ReaderLemmas.{header_lines, empty_is_read, no_events, declaration_of_line, cause_of_line}
+use Rattle.race_text.proofs.{ReaderLemmas.taken_declaration, TraceLemmas.{cause_behind, bad_byte_is_told}}
+use Rattle.race_text.proofs.TraceLemmas.{no_event_is_told, event_cause, event_taken}
 
 -- a trace with one more line
 record IsNext (t : TraceState) (line : List ℕ) : Type 0 where

@@ -1,17 +1,11 @@
 -- A word that is cut at the first byte that can't be seen.
-use Rattle.std.proofs.Common.{◌≡◌, ℕ, zero, suc, ◌+◌, ◌<◌, ◌≤◌, ◌==◌, ◌-◌, ◌≢◌, nat_lt, drop, ◌&&◌, ◌||◌, Bool, true, false, not}
-use Rattle.std.proofs.Common.{cond, List, [], ◌∷◌, length, take, get_or, position, Some, None, is_some, refl, sym, ap, ◌∙◌, arith}
-use Rattle.std.proofs.Common.{true≢false}
-use Rattle.std.proofs.lemmas.Bool.Decides.{nat_tests}
-use Rattle.std.proofs.lemmas.List.Quantifiers.{position-Some}
-use Rattle.std.proofs.lemmas.List.Splits.{slice_split-cons_no}
-use Rattle.std.proofs.lemmas.List.Sums.{position_or_len_is}
+use Rattle.std.proofs.Common.{◌≡◌, ℕ, zero, suc, ◌+◌, ◌<◌, ◌≤◌, ◌==◌, ◌-◌, ◌≢◌, nat_lt, drop, ◌&&◌, ◌||◌, Bool, true}
+use Rattle.std.proofs.Common.{false, not, cond, List, [], ◌∷◌, length, take, get_or, position, Some, None, is_some}
+use Rattle.std.proofs.{Common.{refl, sym, ap, ◌∙◌, arith, true≢false}, lemmas.Bool.Decides.nat_tests}
+use Rattle.std.proofs.lemmas.List.{Quantifiers.position-Some, Splits.slice_split-cons_no, Sums.position_or_len_is}
 use Rattle.std.specs.List.{list_all, list_any, onto_first, position_or_len}
-use Rattle.race_records.specs.Name.{is_place_byte}
-use Rattle.race_records.proofs.TextLemmas.{list_any-absent}
-use Rattle.race_text.specs.Words.{words_of}
-use Rattle.race_text.specs.Form.{first_word}
-use Rattle.race_text.proofs.CutLemmas.{slice_split-found}
+use Rattle.race_records.{specs.Name.is_place_byte, proofs.TextLemmas.list_any-absent}
+use Rattle.race_text.{specs.{Words.words_of, Form.first_word}, proofs.CutLemmas.slice_split-found}
 
 not_space : (b : ℕ) → is_place_byte b ≡ true → (b == 32) ≡ false
 not_space b h = grind (arith, nat_tests)

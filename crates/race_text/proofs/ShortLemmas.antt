@@ -1,44 +1,24 @@
 -- How long a trace's text can be.
-use Rattle.std.proofs.Common.{◌≡◌, ℕ, suc, ◌+◌, ◌-◌, ◌*◌, ◌^◌, ◌<◌, ◌≤◌, ◌==◌, ◌&&◌, not, Bool, true, false}
-use Rattle.std.proofs.Common.{IsTrue, nat_le, nat_lt, if◌then◌else◌, List, [], ◌∷◌, ◌++◌, length, slice_get}
-use Rattle.std.proofs.Common.{unwrap_or, Option, Some, None, option_map, All, map, codes, decimal, refl, sym, ap}
-use Rattle.std.proofs.Common.{subst, ◌∙◌, arith, length-append}
-use Rattle.std.proofs.lemmas.Bool.Decides.{nat_tests}
-use Rattle.std.proofs.lemmas.Fmt.{length-decimal-le}
-use Rattle.std.proofs.lemmas.List.Concat.{flat_map-cons}
-use Rattle.std.proofs.lemmas.Option.{slice_get_within, get_or_from_slice_get}
-use Rattle.std.specs.List.{flat_map, list_all, join_with_byte}
-use Rattle.std.specs.Str.{bytes_eq}
-use Rattle.race_records.specs.declared.cases.Case.{Case}
-use Rattle.race_records.specs.declared.cases.Dir.{Dir}
-use Rattle.race_records.specs.declared.cases.TheConstants.{MAX_CASES}
-use Rattle.race_records.specs.declared.event.Cause.TheVariants.{SendClosed, CloseClosed, CloseNil, UnlockFree, RUnlockFree}
-use Rattle.race_records.specs.declared.event.Event.{Event}
-use Rattle.race_records.specs.declared.event.Op.{Op}
-use Rattle.race_records.specs.declared.event.Op.TheVariants.{Go}
-use Rattle.race_records.specs.declared.kind.Named.{Named}
-use Rattle.race_records.specs.declared.parts.Part.{Part}
-use Rattle.race_records.specs.declared.parts.Verb.{Verb}
-use Rattle.race_records.specs.Parts.{says, part_is_limited}
-use Rattle.race_text.specs.Writing.{noun_text, number_words, verb_text, part_text}
-use Rattle.race_text.proofs.EventLines.{op_words_are}
-use Rattle.race_text.proofs.WordLemmas.{both}
-use Rattle.race_records.specs.declared.kind.Kind.{Kind}
-use Rattle.race_records.specs.declared.kind.Object.{Object}
-use Rattle.race_records.specs.Name.{main, is_name, is_name_byte, is_place, is_place_byte}
-use Rattle.race_records.specs.Declarations.{Declaration, DeclsState, is_of_kind, of_kind, nth_name, is_too_wide, IsWellFormed}
-use Rattle.race_records.specs.declared.nouns.Noun.{Noun}
-use Rattle.race_records.specs.Nouns.{object_says, number_limit}
+use Rattle.std.proofs.Common.{◌≡◌, ℕ, suc, ◌+◌, ◌-◌, ◌*◌, ◌^◌, ◌<◌, ◌≤◌, ◌==◌, ◌&&◌, not, Bool, true, false, IsTrue}
+use Rattle.std.proofs.Common.{nat_le, nat_lt, if◌then◌else◌, List, [], ◌∷◌, ◌++◌, length, slice_get, unwrap_or, Option}
+use Rattle.std.proofs.Common.{Some, None, option_map, All, map, codes, decimal, refl, sym, ap, subst, ◌∙◌, arith}
+use Rattle.std.proofs.{Common.length-append, lemmas.{Bool.Decides.nat_tests, Fmt.length-decimal-le}}
+use Rattle.std.proofs.lemmas.{List.Concat.flat_map-cons, Option.{slice_get_within, get_or_from_slice_get}}
+use Rattle.std.specs.{List.{flat_map, list_all, join_with_byte}, Str.bytes_eq}
+use Rattle.race_records.specs.declared.cases.{Case.Case, Dir.Dir, TheConstants.MAX_CASES}
+use Rattle.race_records.specs.declared.event.Cause.TheVariants.{SendClosed, CloseClosed, CloseNil, UnlockFree}
+use Rattle.race_records.specs.declared.event.{Cause.TheVariants.RUnlockFree, Event.Event, Op.{Op, TheVariants.Go}}
+use Rattle.race_records.specs.declared.{kind.{Named.Named, Kind.Kind, Object.Object}, parts.{Part.Part, Verb.Verb}}
+use Rattle.race_records.specs.{declared.nouns.Noun.Noun, Parts.{says, part_is_limited}, Name.{main, is_name}}
+use Rattle.race_records.specs.{Name.{is_name_byte, is_place, is_place_byte}, Declarations.{Declaration, DeclsState}}
+use Rattle.race_records.specs.Declarations.{is_of_kind, of_kind, nth_name, is_too_wide, IsWellFormed}
+use Rattle.race_records.specs.{Nouns.{object_says, number_limit}, Events.{TraceState, IsTrace, op_is_limited}}
 use Rattle.race_records.proofs.NounLaws.{IsWanted, says_wanted}
-use Rattle.race_text.proofs.DeclarationLemmas.{small_limit}
-use Rattle.race_text.proofs.WordTable.{object_words_are}
-use Rattle.race_records.specs.Events.{TraceState, IsTrace, op_is_limited}
-use Rattle.race_text.specs.Text.{text, header, ended, line_of, declaration_line, goroutine_name, chan_text}
-use Rattle.race_text.specs.Text.{dir_text, case_text, cases_text, place_text, second_text, place_words}
-use Rattle.race_text.specs.Text.{event_line}
-use Rattle.race_text.specs.Writing.{declarations_text, events_text, body}
-use Rattle.race_text.proofs.NamesAgain.{stands_at}
-use Rattle.race_text.proofs.HeaderLemmas.{header_len}
+use Rattle.race_text.specs.Writing.{noun_text, number_words, verb_text, part_text, declarations_text, events_text, body}
+use Rattle.race_text.specs.Text.{text, header, ended, line_of, declaration_line, goroutine_name, chan_text, dir_text}
+use Rattle.race_text.specs.Text.{case_text, cases_text, place_text, second_text, place_words, event_line}
+use Rattle.race_text.proofs.{EventLines.op_words_are, WordLemmas.both, DeclarationLemmas.small_limit}
+use Rattle.race_text.proofs.{WordTable.object_words_are, NamesAgain.stands_at, HeaderLemmas.header_len}
 use Rattle.race_text.proofs.WritingLemmas.{ended_more, line_of_2, text_is}
 
 -- what holds of all elements holds of the one at an index

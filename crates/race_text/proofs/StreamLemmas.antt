@@ -1,27 +1,16 @@
 -- What a stream of events has read, whatever was handed on.
-use Rattle.std.proofs.Common.{◌≡◌, ℕ, ◌+◌, ◌<◌, ◌==◌, Bool, true, false, List, [], ◌∷◌, ◌++◌, length, Option, Some, None, map, Result, Ok, Err}
-use Rattle.std.proofs.Common.{OnOk, MatchResult}
-use Rattle.std.proofs.Common.{◌≤◌, refl, sym, ap, subst, ◌∙◌, arith, append-nil}
-use Rattle.std.proofs.lemmas.List.{length-append, nil_from_length}
-use Rattle.std.proofs.lemmas.Option.{none-some}
-use Rattle.std.specs.List.{flat_map}
-use Rattle.std.specs.Option.{option_map}
-use Rattle.race_records.specs.declared.event.Event.{Event}
-use Rattle.race_records.specs.Declarations.{DeclsState}
-use Rattle.race_records.specs.Events.{TraceState}
-use Rattle.race_text.specs.declared.cause.TextCause.{TextCause}
-use Rattle.race_text.specs.declared.stream.EventStream.{EventStream}
-use Rattle.race_text.specs.Fault.{trace_causes, end_cause, seen}
-use Rattle.race_text.specs.Grammar.{TakesBehind, Takes, Tells}
-use Rattle.race_text.specs.Lines.{GoesOn}
-use Rattle.race_text.specs.Owed.{owed}
-use Rattle.race_text.specs.Text.{lines, text, ended, header, declaration_line, event_line}
-use Rattle.race_text.specs.Taking.{IsRead, IsReadBehind, behind, begun, TakesLine, TakesOrTells}
-use Rattle.race_text.specs.Reader.{IsReading, lines_read, trace_read}
-use Rattle.race_text.specs.Stream.{StandsWith, StandsForSome, events_of, IsTextAtEnd}
-use Rattle.race_text.proofs.LineCount.{lines_len, few_declared}
-use Rattle.race_text.proofs.ParseLemmas.{end_behind, end_empty, header_before_end, no_bytes}
-use Rattle.race_text.proofs.ReaderLemmas.{read_of}
+use Rattle.std.proofs.Common.{◌≡◌, ℕ, ◌+◌, ◌<◌, ◌==◌, Bool, true, false, List, [], ◌∷◌, ◌++◌, length, Option, Some}
+use Rattle.std.proofs.Common.{None, map, Result, Ok, Err, OnOk, MatchResult, ◌≤◌, refl, sym, ap, subst, ◌∙◌, arith}
+use Rattle.std.proofs.{Common.append-nil, lemmas.{List.{length-append, nil_from_length}, Option.none-some}}
+use Rattle.std.specs.{List.flat_map, Option.option_map}
+use Rattle.race_records.specs.{declared.event.Event.Event, Declarations.DeclsState, Events.TraceState}
+use Rattle.race_text.specs.declared.{cause.TextCause.TextCause, stream.EventStream.EventStream}
+use Rattle.race_text.specs.{Fault.{trace_causes, end_cause, seen}, Grammar.{TakesBehind, Takes, Tells}, Lines.GoesOn}
+use Rattle.race_text.specs.{Owed.owed, Text.{lines, text, ended, header, declaration_line, event_line}, Taking.IsRead}
+use Rattle.race_text.specs.Taking.{IsReadBehind, behind, begun, TakesLine, TakesOrTells}
+use Rattle.race_text.specs.{Reader.{IsReading, lines_read, trace_read}, Stream.{StandsWith, StandsForSome, events_of}}
+use Rattle.race_text.{specs.Stream.IsTextAtEnd, proofs.{LineCount.{lines_len, few_declared}, ParseLemmas.end_behind}}
+use Rattle.race_text.proofs.{ParseLemmas.{end_empty, header_before_end, no_bytes}, ReaderLemmas.read_of}
 
 -- where nothing was handed on, the trace is as it stands
 pub plain : (past : List Event) (trace : Option TraceState) → past ≡ [] → option_map (behind past) trace ≡ trace

@@ -1,43 +1,23 @@
 -- The text of a trace has no fault.
-use Rattle.std.proofs.Common.{◌≡◌, ◌≢◌, ℕ, suc, ◌+◌, ◌<◌, Bool, true, false, nat_le, nat_lt, cond, if◌then◌else◌, List, [], ◌∷◌, ◌++◌, length}
-use Rattle.std.proofs.Common.{map, get_or, Some, None, is_some, refl, sym, ap, subst, ◌∙◌, arith, true≢false, append-nil}
-use Rattle.std.proofs.Common.{append_assoc}
-use Rattle.std.proofs.lemmas.Bool.Decides.{nat_tests}
-use Rattle.std.proofs.lemmas.List.{length-append, map-append}
-use Rattle.std.proofs.lemmas.List.Elements.{filter-append}
-use Rattle.std.proofs.lemmas.List.Sums.{position_or_len_is}
-use Rattle.std.proofs.Math.ListN.{get_or-append}
-use Rattle.std.proofs.Math.Seq.{get_or-append_seam}
-use Rattle.std.specs.Option.{option_and_then}
-use Rattle.std.specs.Str.{bytes_eq}
-use Rattle.race_records.specs.declared.event.Event.{Event}
-use Rattle.race_records.specs.declared.kind.Named.{Named}
-use Rattle.race_records.specs.declared.kind.Object.{Object}
-use Rattle.race_records.specs.declared.trace.TheConstants.{MAX_EVENTS}
-use Rattle.race_records.specs.declared.version.Version.{Version}
-use Rattle.race_records.specs.Name.{main, is_name}
-use Rattle.race_records.specs.Declarations.{Declaration, DeclsState, IsWellFormed, kind_of}
-use Rattle.race_records.specs.Declarations.{is_of_kind, of_kind, count_of, limit_of, is_too_wide}
-use Rattle.race_records.specs.Declarations.{declared_at, find_name, decl_fault}
-use Rattle.race_records.specs.Events.{TraceState}
-use Rattle.race_text.specs.declared.cause.TextCause.{TextCause}
-use Rattle.race_text.specs.declared.cause.TextFault.{TextFault}
-use Rattle.race_text.specs.Text.{header, declaration_line, event_line, lines, text}
-use Rattle.race_text.specs.declared.form.Word.{Word}
-use Rattle.race_text.specs.Words.{words_of}
-use Rattle.race_records.specs.Nouns.{object_says}
-use Rattle.race_text.specs.Form.{first_word, arguments}
-use Rattle.race_text.specs.Lines.{fault_after, first_fault}
-use Rattle.race_text.specs.Fault.{Seen, seen, seen_so_far, header_cause, line_cause, word_cause, cause, end_cause, trace_causes, text_fault}
-use Rattle.race_text.specs.Text.{HasText, IsTraceText}
-use Rattle.race_text.proofs.DeclarationLemmas.{fault_by, said_fine}
-use Rattle.race_text.proofs.HeaderLemmas.{version_again}
-use Rattle.race_text.proofs.NamesAgain.{differ}
-use Rattle.race_text.proofs.ParseLemmas.{AreFine, fine_both, fine_lines, only_memory}
-use Rattle.race_text.proofs.ReaderLemmas.{header_says}
+use Rattle.std.proofs.Common.{◌≡◌, ◌≢◌, ℕ, suc, ◌+◌, ◌<◌, Bool, true, false, nat_le, nat_lt, cond, if◌then◌else◌, List}
+use Rattle.std.proofs.Common.{[], ◌∷◌, ◌++◌, length, map, get_or, Some, None, is_some, refl, sym, ap, subst, ◌∙◌, arith}
+use Rattle.std.proofs.{Common.{true≢false, append-nil, append_assoc}, lemmas.Bool.Decides.nat_tests}
+use Rattle.std.proofs.lemmas.List.{length-append, map-append, Elements.filter-append, Sums.position_or_len_is}
+use Rattle.std.{proofs.Math.{ListN.get_or-append, Seq.get_or-append_seam}, specs.{Option.option_and_then, Str.bytes_eq}}
+use Rattle.race_records.specs.declared.{event.Event.Event, kind.{Named.Named, Object.Object}}
+use Rattle.race_records.specs.{declared.{trace.TheConstants.MAX_EVENTS, version.Version.Version}, Name.{main, is_name}}
+use Rattle.race_records.specs.Declarations.{Declaration, DeclsState, IsWellFormed, kind_of, is_of_kind, of_kind}
+use Rattle.race_records.specs.Declarations.{count_of, limit_of, is_too_wide, declared_at, find_name, decl_fault}
+use Rattle.race_records.specs.{Events.TraceState, Nouns.object_says}
+use Rattle.race_text.specs.{declared.{cause.{TextCause.TextCause, TextFault.TextFault}, form.Word.Word}, Text.header}
+use Rattle.race_text.specs.{Text.{declaration_line, event_line, lines, text, HasText, IsTraceText}, Words.words_of}
+use Rattle.race_text.specs.{Form.{first_word, arguments}, Lines.{fault_after, first_fault}, Fault.{Seen, seen}}
+use Rattle.race_text.specs.Fault.{seen_so_far, header_cause, line_cause, word_cause, cause, end_cause, trace_causes}
+use Rattle.race_text.{specs.Fault.text_fault, proofs.DeclarationLemmas.{fault_by, said_fine}}
+use Rattle.race_text.proofs.{HeaderLemmas.version_again, NamesAgain.differ, ParseLemmas.{AreFine, fine_both}}
+use Rattle.race_text.proofs.{ParseLemmas.{fine_lines, only_memory}, ReaderLemmas.header_says}
 use Rattle.race_text.proofs.TextLaws.{declaration_again, is_no_event, event_at, lines_again}
-use Rattle.race_text.proofs.TraceLemmas.{clean_line, seen_declaration, seen_event}
-use Rattle.race_text.proofs.WordTable.{word_of_version}
+use Rattle.race_text.proofs.{TraceLemmas.{clean_line, seen_declaration, seen_event}, WordTable.word_of_version}
 
 no_end_cause : (before : List (List ℕ)) → 0 < length before → end_cause before [] ≡ None
 no_end_cause before some = by (nat_lt 0 (length before)) (grind (arith, nat_tests, some))

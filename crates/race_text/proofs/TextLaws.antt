@@ -1,40 +1,23 @@
 -- What the lines of a trace say: its declarations, and its events.
-use Rattle.std.proofs.Common.{◌≡◌, ℕ, suc, ◌<◌, ◌^◌, Bool, true, false, true≢false, List, [], ◌∷◌, ◌++◌, length}
-use Rattle.std.proofs.Common.{map, get_or, slice_get, unwrap_or, Option, Some, None, refl, sym, ap, ◌∙◌, arith}
-use Rattle.std.proofs.Common.{append-nil}
-use Rattle.std.proofs.lemmas.List.{append_cancel_right}
-use Rattle.std.proofs.lemmas.List.Elements.{filter_map-append}
-use Rattle.std.proofs.lemmas.Option.{slice_get-get_or}
-use Rattle.std.specs.Fmt.{decimal}
-use Rattle.std.specs.List.{filter_map, cons_option, AllByRecursion}
-use Rattle.std.specs.Option.{option_and_then}
-use Rattle.race_records.specs.declared.event.Event.{Event}
-use Rattle.race_records.specs.declared.version.Version.{Version}
-use Rattle.race_records.specs.Name.{is_name}
-use Rattle.race_records.specs.Declarations.{Declaration, is_too_wide}
-use Rattle.race_records.specs.Nouns.{object_says, number_limit}
-use Rattle.race_records.proofs.NounLaws.{IsWanted, says_wanted}
-use Rattle.race_records.specs.Events.{TraceState, fits, second_place_fits}
-use Rattle.race_records.specs.Parts.{says, has_two_places}
-use Rattle.std.proofs.lemmas.Bool.Decides.{nat_tests}
+use Rattle.std.proofs.Common.{◌≡◌, ℕ, suc, ◌<◌, ◌^◌, Bool, true, false, true≢false, List, [], ◌∷◌, ◌++◌, length, map}
+use Rattle.std.proofs.Common.{get_or, slice_get, unwrap_or, Option, Some, None, refl, sym, ap, ◌∙◌, arith, append-nil}
+use Rattle.std.proofs.lemmas.{List.{append_cancel_right, Elements.filter_map-append}, Option.slice_get-get_or}
+use Rattle.std.{proofs.lemmas.Bool.Decides.nat_tests, specs.Fmt.decimal}
+use Rattle.std.specs.{List.{filter_map, cons_option, AllByRecursion}, Option.option_and_then}
+use Rattle.race_records.specs.{declared.{event.Event.Event, version.Version.Version}, Name.is_name}
+use Rattle.race_records.specs.{Declarations.{Declaration, is_too_wide}, Nouns.{object_says, number_limit}}
+use Rattle.race_records.specs.{Events.{TraceState, fits, second_place_fits}, Parts.{says, has_two_places}}
 use Rattle.race_records.specs.TraceEquality.{PlacedEvent, placed, placed_events, recorded}
-use Rattle.race_text.specs.declared.form.Word.{Word}
-use Rattle.race_text.specs.Words.{parts_of, words_of, has_bad_byte}
-use Rattle.race_text.specs.Text.{header, line_of, second_text, declaration_line, event_line, lines, text}
-use Rattle.race_text.specs.Form.{word_named, word_in, first_word, arguments}
-use Rattle.race_text.specs.Fault.{declaration_in, declared_as, is_event_line, is_event_word}
-use Rattle.race_text.specs.Text.{HasText}
-use Rattle.race_text.specs.Reading.{Occurrence, event_by, event_in}
-use Rattle.race_text.specs.Writing.{noun_text, number_words}
-use Rattle.race_text.proofs.CleanLemmas.{number_is_visible}
-use Rattle.race_text.proofs.DeclarationLemmas.{small_limit, said_again}
-use Rattle.race_text.proofs.NumberLemmas.{number-some}
-use Rattle.race_text.proofs.EventLines.{IsEventLine, event_line as event_line_of}
-use Rattle.race_text.proofs.EventsAgain.{said, event_again}
-use Rattle.race_text.proofs.HeaderLemmas.{same_version}
-use Rattle.race_text.proofs.PlacesAdded.{is_fit}
-use Rattle.race_text.proofs.WordTable.{word_is_seen, word_of_version, object_words_are, noun_again}
-use Rattle.race_text.proofs.WordLemmas.{name_is_visible}
+use Rattle.race_records.proofs.NounLaws.{IsWanted, says_wanted}
+use Rattle.race_text.specs.{declared.form.Word.Word, Words.{parts_of, words_of, has_bad_byte}, Text.{header, line_of}}
+use Rattle.race_text.specs.{Text.{second_text, declaration_line, event_line, lines, text, HasText}, Form.word_named}
+use Rattle.race_text.specs.{Form.{word_in, first_word, arguments}, Fault.{declaration_in, declared_as, is_event_line}}
+use Rattle.race_text.specs.{Fault.is_event_word, Reading.{Occurrence, event_by, event_in}}
+use Rattle.race_text.{specs.Writing.{noun_text, number_words}, proofs.CleanLemmas.number_is_visible}
+use Rattle.race_text.proofs.{DeclarationLemmas.{small_limit, said_again}, NumberLemmas.number-some}
+use Rattle.race_text.proofs.{EventLines.{IsEventLine, event_line as event_line_of}, EventsAgain.{said, event_again}}
+use Rattle.race_text.proofs.{HeaderLemmas.same_version, PlacesAdded.is_fit, WordTable.{word_is_seen, word_of_version}}
+use Rattle.race_text.proofs.{WordTable.{object_words_are, noun_again}, WordLemmas.name_is_visible}
 use Rattle.race_text.proofs.WordsAgain.{AreVisible, words_again, visible_line_clean, parts_again}
 
 -- what holds of the line of a declaration, whose name has a name's form

@@ -1,40 +1,28 @@
 -- One more event, or one more declaration: the lines of a trace, and what they say to the next one.
-use Rattle.std.proofs.Common.{◌≡◌, ℕ, suc, ◌+◌, ◌<◌, ◌==◌, ◌&&◌, Bool, true, false, not, if◌then◌else◌, nat_lt}
-use Rattle.std.proofs.Common.{nat_le, cond, List, [], ◌∷◌, ◌++◌, length, map, get_or, Option, Some, None, Result}
-use Rattle.std.proofs.Common.{Ok, Err, MatchResult, IsOkUnless, IsSome, OnOk, refl, sym, ap, subst, ◌∙◌, arith}
-use Rattle.std.proofs.Common.{true≢false, append-nil, append_assoc}
-use Rattle.std.proofs.lemmas.Bool.Decides.{nat_tests}
-use Rattle.std.proofs.lemmas.List.{length-append, map-append}
-use Rattle.std.proofs.lemmas.List.Elements.{filter_map-append}
-use Rattle.std.proofs.lemmas.List.Sums.{sum_by-append}
-use Rattle.std.proofs.lemmas.Option.{none-some}
-use Rattle.std.specs.List.{filter_map, cons_option, count_by}
+use Rattle.std.proofs.Common.{◌≡◌, ℕ, suc, ◌+◌, ◌<◌, ◌==◌, ◌&&◌, Bool, true, false, not, if◌then◌else◌, nat_lt, nat_le}
+use Rattle.std.proofs.Common.{cond, List, [], ◌∷◌, ◌++◌, length, map, get_or, Option, Some, None, Result, Ok, Err}
+use Rattle.std.proofs.Common.{MatchResult, IsOkUnless, IsSome, OnOk, refl, sym, ap, subst, ◌∙◌, arith, true≢false}
+use Rattle.std.proofs.{Common.{append-nil, append_assoc}, lemmas.Bool.Decides.nat_tests}
+use Rattle.std.proofs.lemmas.List.{length-append, map-append, Elements.filter_map-append, Sums.sum_by-append}
+use Rattle.std.{proofs.lemmas.Option.none-some, specs.List.{filter_map, cons_option, count_by}}
 use Rattle.std.specs.Option.{option_and_then}
-use Rattle.race_records.specs.declared.event.Event.{Event}
-use Rattle.race_records.specs.declared.trace.PushFault.{PushFault}
-use Rattle.race_records.specs.declared.trace.TheConstants.{MAX_EVENTS}
-use Rattle.race_records.specs.declared.version.Version.{Version}
-use Rattle.race_records.specs.Declarations.{Declaration, DeclsState, place_number, with_declaration, IsWellFormed, count_of, limit_of}
-use Rattle.race_records.specs.declared.kind.Kind.{Kind}
-use Rattle.race_records.specs.Nouns.{kind_of_noun}
-use Rattle.race_records.specs.Events.{TraceState, IsTrace, fits, is_in_range, is_right_kind, push_fault}
-use Rattle.race_records.specs.Parts.{says, has_two_places}
+use Rattle.race_records.specs.declared.{event.Event.Event, trace.{PushFault.PushFault, TheConstants.MAX_EVENTS}}
+use Rattle.race_records.specs.{declared.{version.Version.Version, kind.Kind.Kind}, Declarations.Declaration}
+use Rattle.race_records.specs.Declarations.{DeclsState, place_number, with_declaration, IsWellFormed, count_of}
+use Rattle.race_records.specs.{Declarations.limit_of, Nouns.kind_of_noun, Events.{TraceState, IsTrace, fits}}
+use Rattle.race_records.specs.{Events.{is_in_range, is_right_kind, push_fault}, Parts.{says, has_two_places}}
 use Rattle.race_records.proofs.EventLemmas.{push_is_trace}
-use Rattle.race_text.specs.declared.cause.TextCause.{TextCause}
-use Rattle.race_text.specs.declared.form.Word.{Word}
-use Rattle.race_text.specs.Words.{words_of, has_bad_byte}
+use Rattle.race_text.specs.{declared.{cause.TextCause.TextCause, form.Word.Word}, Words.{words_of, has_bad_byte}}
 use Rattle.race_text.specs.Form.{word_named, as_had, word_in, fields_of, kind_declared, first_word, arguments}
-use Rattle.race_text.specs.Declaring.{is_declaration_word, is_declaration_line}
-use Rattle.race_text.specs.Text.{header, declaration_line, event_line, op_words, goroutine_name, line_of, lines, HasText}
-use Rattle.race_text.specs.Owed.{owed}
-use Rattle.race_text.specs.Fault.{Seen, seen, seen_so_far, declaration_in, is_event_line, or_else, fields_cause, room_cause, line_cause, cause, word_cause}
-use Rattle.race_text.specs.Reading.{Occurrence, event_by, event_in}
-use Rattle.race_text.specs.Taking.{state_of, IsRead, begun, IsFitting, with_places, event_of, AppendsEvent, TellsOfRoom, TakesLine, TakesOrTells}
-use Rattle.race_text.proofs.EventWords.{event_is_there}
-use Rattle.race_text.proofs.HeaderLemmas.{version_again}
-use Rattle.race_text.proofs.WordTable.{declares_named}
-use Rattle.race_text.proofs.EventLines.{IsEventLine, event_line as event_line_of}
-use Rattle.race_text.proofs.PlacesAdded.{words_are_there, words_stay, places_grow, places_well_formed, places_are_trace, both_fit}
+use Rattle.race_text.specs.{Declaring.{is_declaration_word, is_declaration_line}, Text.{header, declaration_line}}
+use Rattle.race_text.specs.{Text.{event_line, op_words, goroutine_name, line_of, lines, HasText}, Owed.owed, Fault.Seen}
+use Rattle.race_text.specs.Fault.{seen, seen_so_far, declaration_in, is_event_line, or_else, fields_cause, room_cause}
+use Rattle.race_text.specs.{Fault.{line_cause, cause, word_cause}, Reading.{Occurrence, event_by, event_in}}
+use Rattle.race_text.specs.Taking.{state_of, IsRead, begun, IsFitting, with_places, event_of, AppendsEvent, TellsOfRoom}
+use Rattle.race_text.{specs.Taking.{TakesLine, TakesOrTells}, proofs.EventWords.event_is_there}
+use Rattle.race_text.proofs.{HeaderLemmas.version_again, WordTable.declares_named}
+use Rattle.race_text.proofs.{EventLines.{IsEventLine, event_line as event_line_of}, PlacesAdded.words_are_there}
+use Rattle.race_text.proofs.PlacesAdded.{words_stay, places_grow, places_well_formed, places_are_trace, both_fit}
 
 map_same : {X Y : Type 0} (f g : X → Y) (xs : List X) → ((k : ℕ) (d : X) → k < length xs → f (get_or xs k d) ≡ g (get_or xs k d)) → map f xs ≡ map g xs
 map_same f g [] h = refl

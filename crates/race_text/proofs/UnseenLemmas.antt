@@ -1,27 +1,16 @@
 -- A word with a byte that can't be seen says nothing.
-use Rattle.std.proofs.Common.{◌≡◌, ℕ, ◌-◌, ◌^◌, Bool, true, false, not, if◌then◌else◌, List, [], ◌∷◌, Option, Some, None}
-use Rattle.std.proofs.Common.{ok_or, Result, Ok, Err, refl, sym, ap, ◌∙◌, arith, true≢false}
-use Rattle.std.specs.List.{list_all}
-use Rattle.std.specs.Option.{option_map}
-use Rattle.std.specs.Result.{result_ok}
-use Rattle.race_records.specs.declared.cases.Case.{Case}
-use Rattle.race_records.specs.declared.event.Cause.{Cause}
-use Rattle.race_records.specs.declared.parts.Part.{Part}
-use Rattle.race_records.specs.declared.parts.PartKind.{PartKind}
-use Rattle.race_records.specs.declared.version.Version.{Version}
-use Rattle.race_records.specs.Name.{is_name, is_place, is_place_byte}
+use Rattle.std.proofs.Common.{◌≡◌, ℕ, ◌-◌, ◌^◌, Bool, true, false, not, if◌then◌else◌, List, [], ◌∷◌, Option, Some}
+use Rattle.std.proofs.Common.{None, ok_or, Result, Ok, Err, refl, sym, ap, ◌∙◌, arith, true≢false}
+use Rattle.std.specs.{List.list_all, Option.option_map, Result.result_ok}
+use Rattle.race_records.specs.declared.{cases.Case.Case, event.Cause.Cause, parts.{Part.Part, PartKind.PartKind}}
+use Rattle.race_records.specs.{declared.version.Version.Version, Name.{is_name, is_place, is_place_byte}}
 use Rattle.race_records.specs.Declarations.{Declaration, DeclsState, IsWellFormed, find_name}
-use Rattle.race_text.specs.declared.cause.TextCause.{TextCause}
-use Rattle.race_text.specs.declared.form.Word.{Word}
-use Rattle.race_text.specs.Words.{number}
-use Rattle.race_text.specs.Form.{word_in, first_word}
-use Rattle.race_text.specs.Least.{then_says, says_by}
-use Rattle.race_text.specs.Meaning.{as_wanted, named_in, cases_in, failure_in}
-use Rattle.race_text.specs.Reading.{with_rest, first_part, first_place, event_by, event_in}
-use Rattle.race_text.proofs.CaseWords.{is_cases, cases_visible}
+use Rattle.race_text.specs.{declared.{cause.TextCause.TextCause, form.Word.Word}, Words.number}
+use Rattle.race_text.specs.{Form.{word_in, first_word}, Least.{then_says, says_by}, Meaning.{as_wanted, named_in}}
+use Rattle.race_text.specs.{Meaning.{cases_in, failure_in}, Reading.{with_rest, first_part, first_place, event_by}}
+use Rattle.race_text.{specs.Reading.event_in, proofs.CaseWords.{is_cases, cases_visible}}
 use Rattle.race_text.proofs.FailureWords.{is_failure, failure_again}
-use Rattle.race_text.proofs.CleanLemmas.{place_is_visible, number_is_visible}
-use Rattle.race_text.proofs.WordTable.{word_is_seen, word_of_table}
+use Rattle.race_text.proofs.{CleanLemmas.{place_is_visible, number_is_visible}, WordTable.{word_is_seen, word_of_table}}
 use Rattle.race_text.proofs.WordLemmas.{name_is_visible}
 
 is_false : (b seen : Bool) → (b ≡ true → seen ≡ true) → seen ≡ false → b ≡ false

@@ -1,18 +1,12 @@
 -- What a used name stands for in its place: an object that is wanted there.
-use Rattle.std.proofs.Common.{◌≡◌, ℕ, Bool, true, false, true≢false, not, if◌then◌else◌, List, [], unwrap_or, Some, ok_or, Ok, Err}
-use Rattle.std.proofs.Common.{refl, sym, ap, subst, ◌∙◌}
-use Rattle.race_records.specs.declared.kind.Kind.{Kind}
-use Rattle.race_records.specs.declared.kind.Named.{Named}
-use Rattle.race_records.specs.declared.parts.PartKind.{PartKind}
-use Rattle.race_records.specs.Name.{is_name}
-use Rattle.race_records.specs.Declarations.{Declaration, DeclsState, IsWellFormed, IsDeclared, find_name, is_named, name_of}
-use Rattle.race_text.specs.declared.cause.TextCause.{TextCause}
-use Rattle.race_text.specs.Form.{is_wanted}
-use Rattle.race_text.specs.Least.{then_says}
-use Rattle.race_text.specs.Meaning.{as_wanted, named_in}
-use Rattle.race_text.proofs.CauseLemmas.{ok-err, same_Ok, then_is, ok_or_is}
-use Rattle.race_text.proofs.FoundLemmas.{found_is_name, found_is_declared, name_of_found}
-use Rattle.race_text.proofs.NamesAgain.{name_again}
+use Rattle.std.proofs.Common.{◌≡◌, ℕ, Bool, true, false, true≢false, not, if◌then◌else◌, List, [], unwrap_or, Some}
+use Rattle.std.proofs.Common.{ok_or, Ok, Err, refl, sym, ap, subst, ◌∙◌}
+use Rattle.race_records.specs.{declared.{kind.{Kind.Kind, Named.Named}, parts.PartKind.PartKind}, Name.is_name}
+use Rattle.race_records.specs.Declarations.{Declaration, DeclsState, IsWellFormed, IsDeclared, find_name, is_named}
+use Rattle.race_records.specs.Declarations.{name_of}
+use Rattle.race_text.specs.{declared.cause.TextCause.TextCause, Form.is_wanted, Least.then_says}
+use Rattle.race_text.{specs.Meaning.{as_wanted, named_in}, proofs.CauseLemmas.{ok-err, same_Ok, then_is, ok_or_is}}
+use Rattle.race_text.proofs.{FoundLemmas.{found_is_name, found_is_declared, name_of_found}, NamesAgain.name_again}
 
 module _ (ds : List Declaration) where
   -- what holds of a used name

@@ -1,11 +1,7 @@
 -- The parts of an operation are what is wanted just where its lock is an rwmutex that has to be one.
 use Rattle.std.proofs.Common.{◌≡◌, ◌&&◌, Bool, true, false, List, [], ◌∷◌, refl}
-use Rattle.race_records.specs.declared.event.Op.{Op}
-use Rattle.race_records.specs.declared.event.Op.TheVariants.{RLock, RUnlock, TryRLock, Fault}
-use Rattle.race_records.specs.declared.parts.Part.{Part}
-use Rattle.race_records.specs.declared.parts.PartKind.{PartKind}
-use Rattle.race_records.specs.Declarations.{Declaration, is_rw}
-use Rattle.race_records.specs.Events.{lock_fits}
+use Rattle.race_records.specs.declared.{event.Op.{Op, TheVariants.{RLock, RUnlock, TryRLock, Fault}}, parts.Part.Part}
+use Rattle.race_records.specs.{declared.parts.PartKind.PartKind, Declarations.{Declaration, is_rw}, Events.lock_fits}
 use Rattle.race_records.specs.Parts.{says, part_kinds}
 use Rattle.race_text.specs.Form.{is_wanted}
 

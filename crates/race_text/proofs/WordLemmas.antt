@@ -1,7 +1,6 @@
 -- Words of bytes that can be seen: names and places are such.
 use Rattle.std.proofs.Common.{◌≡◌, ℕ, ◌&&◌, Bool, true, false, List, [], ◌∷◌, refl, sym, arith, true≢false}
-use Rattle.std.proofs.lemmas.Bool.Decides.{nat_tests}
-use Rattle.std.specs.List.{list_all}
+use Rattle.std.{proofs.lemmas.Bool.Decides.nat_tests, specs.List.list_all}
 use Rattle.race_records.specs.Name.{is_name, is_name_byte, is_place_byte}
 
 -- both parts of a conjunction

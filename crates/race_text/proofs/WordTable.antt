@@ -1,24 +1,12 @@
 -- The table of words, and its way back.
-use Rattle.std.proofs.Common.{◌≡◌, ℕ, Bool, true, false, if◌then◌else◌, List, [], ◌∷◌, map, Option, Some, None, refl, sym, ap, ◌∙◌, true≢false}
-use Rattle.std.proofs.lemmas.Option.{none-some, same_Some}
-use Rattle.std.proofs.lemmas.Slice.Eq.{bytes_eq-Decides}
-use Rattle.std.specs.List.{list_all}
-use Rattle.std.specs.Option.{option_and_then}
-use Rattle.std.specs.Str.{bytes_eq}
-use Rattle.race_records.specs.declared.kind.Object.{Object}
-use Rattle.race_records.specs.declared.nouns.Noun.{Noun}
-use Rattle.race_records.specs.declared.parts.Verb.{Verb}
-use Rattle.race_records.specs.declared.version.Version.{Version}
-use Rattle.race_records.specs.Name.{is_place_byte}
-use Rattle.race_records.specs.Nouns.{object_says}
-use Rattle.race_records.specs.Parts.{since, has_verb, is_in}
-use Rattle.race_text.specs.declared.form.Word.{Word}
-use Rattle.race_text.specs.declared.form.TheConstants.{WORDS}
-use Rattle.race_text.specs.Declaring.{is_declaration_word}
-use Rattle.race_text.specs.Form.{lookup, word_named, has_word, as_had, word_in}
-use Rattle.race_text.specs.Text.{object_words}
-use Rattle.race_text.specs.Writing.{noun_text, number_words, verb_text}
-use Rattle.race_text.proofs.WordLemmas.{both}
+use Rattle.std.proofs.Common.{◌≡◌, ℕ, Bool, true, false, if◌then◌else◌, List, [], ◌∷◌, map, Option, Some, None, refl}
+use Rattle.std.proofs.{Common.{sym, ap, ◌∙◌, true≢false}, lemmas.Option.{none-some, same_Some}}
+use Rattle.std.{proofs.lemmas.Slice.Eq.bytes_eq-Decides, specs.{List.list_all, Option.option_and_then, Str.bytes_eq}}
+use Rattle.race_records.specs.declared.{kind.Object.Object, nouns.Noun.Noun, parts.Verb.Verb, version.Version.Version}
+use Rattle.race_records.specs.{Name.is_place_byte, Nouns.object_says, Parts.{since, has_verb, is_in}}
+use Rattle.race_text.specs.{declared.form.{Word.Word, TheConstants.WORDS}, Declaring.is_declaration_word, Form.lookup}
+use Rattle.race_text.specs.{Form.{word_named, has_word, as_had, word_in}, Text.object_words}
+use Rattle.race_text.{specs.Writing.{noun_text, number_words, verb_text}, proofs.WordLemmas.both}
 
 -- the bytes of a word
 abbrev pub spelled : Word → List ℕ

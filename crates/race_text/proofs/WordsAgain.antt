@@ -1,14 +1,11 @@
 -- What was joined is cut again: the words of a line, and the lines of a text.
-use Rattle.std.proofs.Common.{◌≡◌, ℕ, ◌==◌, Bool, true, false, List, [], ◌∷◌, ◌++◌, get_or, All, refl, sym, ap, ◌∙◌, arith, true≢false, append_assoc}
-use Rattle.std.proofs.lemmas.Bool.Decides.{nat_tests}
-use Rattle.std.proofs.lemmas.List.Concat.{flat_map-cons}
-use Rattle.std.proofs.lemmas.List.Folds.{list_any_at}
-use Rattle.std.proofs.lemmas.List.Splits.{slice_split_none, slice_split_at}
-use Rattle.std.proofs.lemmas.List.Sums.{AllPass-from_list_all}
-use Rattle.std.specs.List.{list_all, AllByRecursion, flat_map, slice_split, join_with_byte}
+use Rattle.std.proofs.Common.{◌≡◌, ℕ, ◌==◌, Bool, true, false, List, [], ◌∷◌, ◌++◌, get_or, All, refl, sym, ap, ◌∙◌}
+use Rattle.std.proofs.{Common.{arith, true≢false, append_assoc}, lemmas.Bool.Decides.nat_tests}
+use Rattle.std.proofs.lemmas.List.{Concat.flat_map-cons, Folds.list_any_at, Splits.{slice_split_none, slice_split_at}}
+use Rattle.std.{proofs.lemmas.List.Sums.AllPass-from_list_all, specs.List.{list_all, AllByRecursion, flat_map}}
+use Rattle.std.specs.List.{slice_split, join_with_byte}
 use Rattle.race_records.specs.Name.{is_place_byte}
-use Rattle.race_text.specs.Words.{parts_of, words_of, is_bad_byte, has_bad_byte}
-use Rattle.race_text.specs.Text.{line_of, ended}
+use Rattle.race_text.specs.{Words.{parts_of, words_of, is_bad_byte, has_bad_byte}, Text.{line_of, ended}}
 use Rattle.race_text.proofs.CleanLemmas.{joined_clean, visible_clean}
 
 -- the byte is nowhere in the list

@@ -1,29 +1,16 @@
 -- The lines of a trace, piece by piece.
-use Rattle.std.proofs.Common.{◌≡◌, ℕ, List, [], ◌∷◌, ◌++◌, append_assoc, map, slice_get, unwrap_or, Option, Some, None, sym, ap, ◌∙◌}
-use Rattle.std.proofs.Common.{◌<◌, true, length, IsTrue, arith}
-use Rattle.std.proofs.lemmas.Bool.Decides.{nat_tests}
-use Rattle.std.proofs.lemmas.Grind.{flat_map-append}
-use Rattle.std.specs.List.{list_all}
-use Rattle.std.proofs.lemmas.List.Concat.{flat_map-cons}
-use Rattle.race_records.specs.declared.event.Event.{Event}
-use Rattle.race_records.specs.declared.kind.Named.{Named}
-use Rattle.race_records.specs.declared.kind.Object.{Object}
-use Rattle.race_records.specs.Events.{TraceState, fits}
-use Rattle.race_records.specs.declared.parts.Part.{Part}
-use Rattle.race_records.specs.declared.parts.Verb.{Verb}
-use Rattle.race_records.specs.declared.kind.Kind.{Kind}
-use Rattle.race_records.specs.Parts.{says, part_fits}
-use Rattle.race_records.specs.Declarations.{Declaration, DeclsState, name_of, count_of}
-use Rattle.race_records.proofs.ListLemmas.{flat_map-map}
-use Rattle.race_text.specs.Text.{goroutine_name, place_text, second_text, place_words, text, lines, header, ended, line_of, declaration_line, event_line}
-use Rattle.race_text.specs.Writing.{body, text_of, declaration_text, noun_text, number_words}
-use Rattle.race_text.specs.Writing.{number_end, verb_text, part_text, said_words, behind_space}
-use Rattle.race_text.specs.Writing.{parts_text, place_end}
-use Rattle.race_text.proofs.EventLines.{op_words_are}
+use Rattle.std.proofs.Common.{◌≡◌, ℕ, List, [], ◌∷◌, ◌++◌, append_assoc, map, slice_get, unwrap_or, Option, Some, None}
+use Rattle.std.proofs.{Common.{sym, ap, ◌∙◌, ◌<◌, true, length, IsTrue, arith}, lemmas.Bool.Decides.nat_tests}
+use Rattle.std.{proofs.lemmas.{Grind.flat_map-append, List.Concat.flat_map-cons}, specs.{List.list_all, Fmt.decimal}}
+use Rattle.race_records.specs.declared.{event.Event.Event, kind.{Named.Named, Object.Object, Kind.Kind}}
+use Rattle.race_records.specs.{declared.{parts.{Part.Part, Verb.Verb}, nouns.Noun.Noun}, Events.{TraceState, fits}}
+use Rattle.race_records.specs.{Parts.{says, part_fits}, Declarations.{Declaration, DeclsState, name_of, count_of}}
+use Rattle.race_records.{specs.Nouns.object_says, proofs.ListLemmas.flat_map-map}
+use Rattle.race_text.specs.Text.{goroutine_name, place_text, second_text, place_words, text, lines, header, ended}
+use Rattle.race_text.specs.{Text.{line_of, declaration_line, event_line}, Writing.{body, text_of, declaration_text}}
+use Rattle.race_text.specs.Writing.{noun_text, number_words, number_end, verb_text, part_text, said_words, behind_space}
+use Rattle.race_text.{specs.Writing.{parts_text, place_end}, proofs.EventLines.op_words_are}
 use Rattle.race_text.proofs.WordTable.{object_words_are}
-use Rattle.race_records.specs.declared.nouns.Noun.{Noun}
-use Rattle.race_records.specs.Nouns.{object_says}
-use Rattle.std.specs.Fmt.{decimal}
 
 -- a line with its newline, word by word
 pub ended_more : (a b : List ℕ) (rest : List (List ℕ)) → ended (line_of (a ∷ b ∷ rest)) ≡ a ++ 32 ∷ ended (line_of (b ∷ rest))

@@ -1,28 +1,13 @@
 -- A line of a common word, read from the bytes from it on.
-use Rattle.std.specs.Prelude.{◌≡◌, ℕ, ◌≤◌, Bool, true, false, not, List, [], ◌∷◌, ◌++◌, length, take, map, Option, Some, None}
-use Rattle.std.specs.Borrow.{Bor}
-use Rattle.std.specs.List.{list_all}
-use Rattle.std.specs.Simd.Lanes.{chunk, mask_l}
-use Rattle.race_records.specs.declared.event.Event.{Event}
-use Rattle.race_records.specs.declared.event.Op.{Op}
-use Rattle.race_records.specs.declared.kind.Kind.{Kind}
-use Rattle.race_records.specs.declared.kind.Named.{Named}
-use Rattle.race_records.specs.declared.parts.Part.{Part}
-use Rattle.race_records.specs.declared.parts.PartKind.{PartKind}
-use Rattle.race_records.specs.declared.parts.Verb.{Verb}
-use Rattle.race_records.specs.declared.version.Version.{Version}
-use Rattle.race_records.specs.Name.{is_place_byte}
-use Rattle.race_records.specs.Declarations.{Declaration}
-use Rattle.race_records.specs.Parts.{part_kinds, has_two_places}
-use Rattle.race_text.specs.declared.cause.TextCause.{TextCause}
-use Rattle.race_text.specs.declared.common.Deed.{Deed}
-use Rattle.race_text.specs.declared.common.Said.{Said}
-use Rattle.race_text.specs.Words.{parts_of, words_of}
-use Rattle.race_text.specs.Form.{first_word, arguments}
-use Rattle.race_text.specs.Lines.{GoesOn}
-use Rattle.race_text.specs.Owed.{owed}
-use Rattle.race_text.specs.Fault.{cause, trace_causes}
-use Rattle.race_text.specs.Reading.{Occurrence, occurrence, first_part, parts_on, op_in, last_place, event_behind, event_in}
+use Rattle.std.specs.Prelude.{◌≡◌, ℕ, ◌≤◌, Bool, true, false, not, List, [], ◌∷◌, ◌++◌, length, take, map, Option, Some}
+use Rattle.std.specs.{Prelude.None, Borrow.Bor, List.list_all, Simd.Lanes.{chunk, mask_l}}
+use Rattle.race_records.specs.declared.{event.{Event.Event, Op.Op}, kind.{Kind.Kind, Named.Named}, parts.Part.Part}
+use Rattle.race_records.specs.declared.{parts.{PartKind.PartKind, Verb.Verb}, version.Version.Version}
+use Rattle.race_records.specs.{Name.is_place_byte, Declarations.Declaration, Parts.{part_kinds, has_two_places}}
+use Rattle.race_text.specs.declared.{cause.TextCause.TextCause, common.{Deed.Deed, Said.Said}}
+use Rattle.race_text.specs.{Words.{parts_of, words_of}, Form.{first_word, arguments}, Lines.GoesOn, Owed.owed}
+use Rattle.race_text.specs.{Fault.{cause, trace_causes}, Reading.{Occurrence, occurrence, first_part, parts_on, op_in}}
+use Rattle.race_text.specs.Reading.{last_place, event_behind, event_in}
 
 -- so many bytes in front are marked: a bit for each, which is set where the byte can't be seen
 pub record IsMarked (marks : ℕ) (bytes : List ℕ) : Type 0 where

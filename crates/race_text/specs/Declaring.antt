@@ -1,14 +1,9 @@
 -- Lines that declare: what they add, and why they are refused where no event stands before them.
 use Rattle.std.specs.Prelude.{ℕ, Bool, false, if◌then◌else◌, List, Option, Some, None, is_some}
 use Rattle.std.specs.Option.{option_and_then}
-use Rattle.race_records.specs.declared.declarations.DeclFault.{DeclFault}
-use Rattle.race_records.specs.declared.kind.Object.{Object}
-use Rattle.race_records.specs.declared.nouns.Noun.{Noun}
-use Rattle.race_records.specs.Declarations.{Declaration, DeclsState, with_declaration}
-use Rattle.race_records.specs.Nouns.{object_by}
-use Rattle.race_text.specs.declared.cause.TextCause.{TextCause}
-use Rattle.race_text.specs.declared.form.Word.{Word}
-use Rattle.race_text.specs.Words.{words_of, number}
+use Rattle.race_records.specs.declared.{declarations.DeclFault.DeclFault, kind.Object.Object, nouns.Noun.Noun}
+use Rattle.race_records.specs.{Declarations.{Declaration, DeclsState, with_declaration}, Nouns.object_by}
+use Rattle.race_text.specs.{declared.{cause.TextCause.TextCause, form.Word.Word}, Words.{words_of, number}}
 use Rattle.race_text.specs.Form.{word_named, kind_declared, first_word, arguments}
 use Rattle.race_text.specs.Fault.{seen_so_far, declaration_in, word_cause}
 

@@ -1,7 +1,6 @@
 -- Small texts, whose first faults are proved in src/examples.rt.
 use Rattle.std.specs.Prelude.{ℕ, List, codes}
-use Rattle.race_text.specs.declared.cause.TextCause.{TextCause}
-use Rattle.race_text.specs.declared.cause.TextFault.{TextFault}
+use Rattle.race_text.specs.declared.cause.{TextCause.TextCause, TextFault.TextFault}
 
 -- a fault by its line and its cause
 abbrev pub fault_at : ℕ → TextCause → TextFault

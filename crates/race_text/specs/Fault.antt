@@ -1,28 +1,13 @@
 -- The first fault of a trace's text: the first line at which a cause holds, and the least cause that holds there.
-use Rattle.std.specs.Prelude.{ℕ, ◌==◌, ◌&&◌, Bool, true, false, not, if◌then◌else◌, nat_le}
-use Rattle.std.specs.Prelude.{nat_lt, List, [], ◌∷◌, length, count_by, fold, Option, Some, None}
-use Rattle.std.specs.Prelude.{is_some, is_none}
-use Rattle.std.specs.List.{filter_map, zip}
-use Rattle.std.specs.Option.{option_and_then, option_map}
-use Rattle.std.specs.Result.{result_err}
-use Rattle.std.specs.Str.{bytes_eq}
-use Rattle.std.specs.Str.Parse.{digits_value}
-use Rattle.race_records.specs.declared.kind.Kind.{Kind}
-use Rattle.race_records.specs.declared.kind.Object.{Object}
-use Rattle.race_records.specs.declared.trace.TheConstants.{MAX_EVENTS}
-use Rattle.race_records.specs.declared.version.Version.{Version}
-use Rattle.race_records.specs.Name.{is_name}
-use Rattle.race_records.specs.Declarations.{Declaration, find_name, count_of, limit_of}
-use Rattle.race_records.specs.Nouns.{object_by}
-use Rattle.race_text.specs.declared.cause.TextCause.{TextCause}
-use Rattle.race_text.specs.declared.cause.TextFault.{TextFault}
-use Rattle.race_text.specs.declared.form.Word.{Word}
-use Rattle.race_text.specs.declared.form.Field.{Field}
-use Rattle.race_text.specs.Words.{words_of, has_bad_byte}
-use Rattle.race_text.specs.Lines.{Causes, first_fault}
-use Rattle.race_text.specs.Text.{header}
-use Rattle.race_text.specs.Form.{word_named, word_in, fields_of, kind_declared, first_word, arguments}
-use Rattle.race_text.specs.Least.{lesser}
+use Rattle.std.specs.Prelude.{ℕ, ◌==◌, ◌&&◌, Bool, true, false, not, if◌then◌else◌, nat_le, nat_lt, List, [], ◌∷◌}
+use Rattle.std.specs.{Prelude.{length, count_by, fold, Option, Some, None, is_some, is_none}, List.{filter_map, zip}}
+use Rattle.std.specs.{Option.{option_and_then, option_map}, Result.result_err, Str.{bytes_eq, Parse.digits_value}}
+use Rattle.race_records.specs.declared.{kind.{Kind.Kind, Object.Object}, trace.TheConstants.MAX_EVENTS}
+use Rattle.race_records.specs.{declared.version.Version.Version, Name.is_name, Declarations.{Declaration, find_name}}
+use Rattle.race_records.specs.{Declarations.{count_of, limit_of}, Nouns.object_by}
+use Rattle.race_text.specs.declared.{cause.{TextCause.TextCause, TextFault.TextFault}, form.{Word.Word, Field.Field}}
+use Rattle.race_text.specs.{Words.{words_of, has_bad_byte}, Lines.{Causes, first_fault}, Text.header, Form.word_named}
+use Rattle.race_text.specs.{Form.{word_in, fields_of, kind_declared, first_word, arguments}, Least.lesser}
 use Rattle.race_text.specs.Meaning.{number_in, place_in, part_in}
 
 -- a later cause, looked at where no earlier one holds

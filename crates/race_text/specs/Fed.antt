@@ -1,15 +1,9 @@
 -- A text that is fed in pieces: which fault its ended lines have, and what a reader of lines says of it.
-use Rattle.std.specs.Prelude.{◌≡◌, ◌≢◌, ℕ, ◌+◌, List, [], ◌∷◌, ◌++◌, length, Option, Some, None}
-use Rattle.std.specs.Borrow.{Bor}
+use Rattle.std.specs.{Prelude.{◌≡◌, ◌≢◌, ℕ, ◌+◌, List, [], ◌∷◌, ◌++◌, length, Option, Some, None}, Borrow.Bor}
 use Rattle.std.specs.List.{flat_map}
-use Rattle.race_text.specs.declared.cause.TextCause.{TextCause}
-use Rattle.race_text.specs.declared.cause.TextFault.{TextFault}
-use Rattle.race_text.specs.declared.fed.Fed.{Fed}
-use Rattle.race_text.specs.Words.{parts_of}
-use Rattle.race_text.specs.Text.{ended}
-use Rattle.race_text.specs.Lines.{Causes, or_later, fault_after, first_fault, IsLineOf, IsNoneBefore}
-use Rattle.race_text.specs.Owed.{owed, HidesNone}
-use Rattle.race_text.specs.Common.{line_in, EndsLine}
+use Rattle.race_text.specs.{declared.{cause.{TextCause.TextCause, TextFault.TextFault}, fed.Fed.Fed}, Words.parts_of}
+use Rattle.race_text.specs.{Text.ended, Lines.{Causes, or_later, fault_after, first_fault, IsLineOf, IsNoneBefore}}
+use Rattle.race_text.specs.{Owed.{owed, HidesNone}, Common.{line_in, EndsLine}}
 use Rattle.race_text.specs.Grammar.{StandsForSome, ForEachLines, Takes}
 
 -- a reader of lines: those that it took, the bytes behind them, and the fault that it told

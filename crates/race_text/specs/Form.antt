@@ -1,17 +1,10 @@
 -- The words that a line may begin with, which versions have them, and what each wants behind it.
 use Rattle.std.specs.Prelude.{ℕ, Bool, true, false, if◌then◌else◌, List, [], ◌∷◌, ◌++◌, map, Option, Some, None}
-use Rattle.std.specs.Option.{option_and_then}
-use Rattle.std.specs.Str.{bytes_eq}
-use Rattle.race_records.specs.declared.kind.Kind.{Kind}
-use Rattle.race_records.specs.declared.kind.Named.{Named}
-use Rattle.race_records.specs.declared.parts.PartKind.{PartKind}
-use Rattle.race_records.specs.declared.version.Version.{Version}
-use Rattle.race_records.specs.Declarations.{Declaration, is_named, is_rw}
-use Rattle.race_records.specs.Nouns.{number_limit, kind_of_noun}
+use Rattle.std.specs.{Option.option_and_then, Str.bytes_eq}
+use Rattle.race_records.specs.declared.{kind.{Kind.Kind, Named.Named}, parts.PartKind.PartKind, version.Version.Version}
+use Rattle.race_records.specs.{Declarations.{Declaration, is_named, is_rw}, Nouns.{number_limit, kind_of_noun}}
 use Rattle.race_records.specs.Parts.{has_verb, part_kinds, has_two_places}
-use Rattle.race_text.specs.declared.form.Word.{Word}
-use Rattle.race_text.specs.declared.form.Field.{Field}
-use Rattle.race_text.specs.declared.form.TheConstants.{WORDS}
+use Rattle.race_text.specs.declared.form.{Word.Word, Field.Field, TheConstants.WORDS}
 
 -- what the table has at a word
 abbrev pub lookup : List (List ℕ × Word) → List ℕ → Option Word

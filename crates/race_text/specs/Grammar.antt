@@ -1,11 +1,6 @@
 -- What a grammar answers, by the lines that it took. Those are known to proofs alone: it need not keep them.
-use Rattle.std.specs.Prelude.{◌≡◌, ◌≢◌, ℕ, List, ◌∷◌, [], ◌++◌, Option, Some, None}
-use Rattle.std.specs.Borrow.{Bor}
-use Rattle.std.specs.List.{flat_map}
-use Rattle.race_text.specs.declared.cause.TextCause.{TextCause}
-use Rattle.race_text.specs.Text.{ended}
-use Rattle.race_text.specs.Lines.{Causes}
-use Rattle.race_text.specs.Owed.{owed}
+use Rattle.std.specs.{Prelude.{◌≡◌, ◌≢◌, ℕ, List, ◌∷◌, [], ◌++◌, Option, Some, None}, Borrow.Bor, List.flat_map}
+use Rattle.race_text.specs.{declared.cause.TextCause.TextCause, Text.ended, Lines.Causes, Owed.owed}
 use Rattle.race_text.specs.Common.{line_in, EndsLine}
 
 -- it stands for some lines

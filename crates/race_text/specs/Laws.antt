@@ -1,21 +1,11 @@
 -- The laws of trace text, which functions of src/laws.rt that do nothing have as their contracts.
 use Rattle.std.specs.Prelude.{◌≡◌, ℕ, true, false, List, ◌∷◌, ◌++◌, Some, None}
-use Rattle.race_records.specs.declared.event.Op.{Op}
-use Rattle.race_records.specs.declared.kind.Object.{Object}
-use Rattle.race_records.specs.declared.nouns.Noun.{Noun}
-use Rattle.race_records.specs.declared.parts.Verb.{Verb}
-use Rattle.race_records.specs.declared.version.Version.{Version}
-use Rattle.race_records.specs.Declarations.{Declaration}
-use Rattle.race_records.specs.Events.{TraceState}
-use Rattle.race_records.specs.Nouns.{object_says}
-use Rattle.race_records.specs.Parts.{says, has_verb}
-use Rattle.race_records.specs.TraceEquality.{recorded}
-use Rattle.race_text.specs.declared.cause.TextFault.{TextFault}
-use Rattle.race_text.specs.declared.form.Word.{Word}
-use Rattle.race_text.specs.Form.{word_in}
-use Rattle.race_text.specs.Writing.{noun_text, number_words, verb_text, said_words}
-use Rattle.race_text.specs.Text.{header, object_words, op_words, text, HasText, IsTextOf, IsTraceText}
-use Rattle.race_text.specs.Fault.{version_said, trace_causes, text_fault}
+use Rattle.race_records.specs.declared.{event.Op.Op, kind.Object.Object, nouns.Noun.Noun, parts.Verb.Verb}
+use Rattle.race_records.specs.{declared.version.Version.Version, Declarations.Declaration, Events.TraceState}
+use Rattle.race_records.specs.{Nouns.object_says, Parts.{says, has_verb}, TraceEquality.recorded}
+use Rattle.race_text.specs.{declared.{cause.TextFault.TextFault, form.Word.Word}, Form.word_in, Writing.noun_text}
+use Rattle.race_text.specs.{Writing.{number_words, verb_text, said_words}, Text.{header, object_words, op_words, text}}
+use Rattle.race_text.specs.{Text.{HasText, IsTextOf, IsTraceText}, Fault.{version_said, trace_causes, text_fault}}
 use Rattle.race_text.specs.Fed.{ended_fault}
 
 -- every trace whose text the bytes are records what t records; that t is one isn't said

@@ -1,8 +1,6 @@
 -- The first fault of a text that is read line by line, by the causes of its kind.
 use Rattle.std.specs.Prelude.{◌≡◌, ℕ, ◌+◌, ◌≤◌, List, [], ◌∷◌, ◌++◌, length, Option, Some, None}
-use Rattle.race_text.specs.declared.cause.TextCause.{TextCause}
-use Rattle.race_text.specs.declared.cause.TextFault.{TextFault}
-use Rattle.race_text.specs.Words.{parts_of}
+use Rattle.race_text.specs.{declared.cause.{TextCause.TextCause, TextFault.TextFault}, Words.parts_of}
 
 -- the causes of a kind of text: the least one of a line that a newline ends, and of what stands behind the last newline. Both
 -- go by the lines before

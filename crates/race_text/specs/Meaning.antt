@@ -1,21 +1,12 @@
 -- What one word of a line says, or the least cause that it says nothing.
-use Rattle.std.specs.Prelude.{ℕ, ◌-◌, ◌^◌, not, nat_le, List, [], ◌∷◌, ◌++◌, length, fold, if◌then◌else◌, Option, Some, None, ok_or, Result, Ok, Err}
-use Rattle.std.specs.Str.{bytes_eq}
-use Rattle.race_records.specs.declared.cases.Case.{Case}
-use Rattle.race_records.specs.declared.cases.Dir.{Dir}
-use Rattle.race_records.specs.declared.cases.TheConstants.{MAX_CASES}
-use Rattle.race_records.specs.declared.event.Cause.{Cause}
-use Rattle.race_records.specs.declared.kind.Kind.{Kind}
-use Rattle.race_records.specs.declared.kind.Named.{Named}
-use Rattle.race_records.specs.declared.parts.Part.{Part}
-use Rattle.race_records.specs.declared.parts.PartKind.{PartKind}
-use Rattle.race_records.specs.Name.{is_name, is_place}
-use Rattle.race_records.specs.Declarations.{Declaration, find_name, number_of}
-use Rattle.race_text.specs.declared.cause.TextCause.{TextCause}
-use Rattle.race_text.specs.Words.{number}
-use Rattle.race_text.specs.Form.{is_wanted}
-use Rattle.race_text.specs.Least.{then_says, says_by, both_say}
-use Rattle.race_text.specs.Select.{no_cases, nil, close_nil, pieces_of, SpelledCase, case_spelled, SpelledFailure, failure_spelled, kind_tried, cause_by}
+use Rattle.std.specs.Prelude.{ℕ, ◌-◌, ◌^◌, not, nat_le, List, [], ◌∷◌, ◌++◌, length, fold, if◌then◌else◌, Option, Some}
+use Rattle.std.specs.{Prelude.{None, ok_or, Result, Ok, Err}, Str.bytes_eq}
+use Rattle.race_records.specs.declared.{cases.{Case.Case, Dir.Dir, TheConstants.MAX_CASES}, event.Cause.Cause}
+use Rattle.race_records.specs.declared.{kind.{Kind.Kind, Named.Named}, parts.{Part.Part, PartKind.PartKind}}
+use Rattle.race_records.specs.{Name.{is_name, is_place}, Declarations.{Declaration, find_name, number_of}}
+use Rattle.race_text.specs.{declared.cause.TextCause.TextCause, Words.number, Form.is_wanted}
+use Rattle.race_text.specs.{Least.{then_says, says_by, both_say}, Select.{no_cases, nil, close_nil, pieces_of}}
+use Rattle.race_text.specs.Select.{SpelledCase, case_spelled, SpelledFailure, failure_spelled, kind_tried, cause_by}
 
 -- a number of at most this limit
 abbrev pub number_in : ℕ → List ℕ → Result ℕ TextCause

@@ -1,11 +1,7 @@
 -- How a text was written.
-use Rattle.std.specs.Prelude.{◌≡◌, ℕ, List, Option, Result, OnOk, OnErr, IfErr}
-use Rattle.std.specs.Bool.{⊤}
-use Rattle.std.specs.Io.KnownBytes.{Appends}
-use Rattle.race_records.specs.declared.sink.Sink.{Sink}
-use Rattle.race_records.specs.declared.sink.WriteFault.{WriteFault}
-use Rattle.race_records.specs.Devices.{written, sink_failures, one_more}
-use Rattle.race_records.specs.Page.{IsCutOff}
+use Rattle.std.specs.{Prelude.{◌≡◌, ℕ, List, Option, Result, OnOk, OnErr, IfErr}, Bool.⊤, Io.KnownBytes.Appends}
+use Rattle.race_records.specs.declared.sink.{Sink.Sink, WriteFault.WriteFault}
+use Rattle.race_records.specs.{Devices.{written, sink_failures, one_more}, Page.IsCutOff}
 
 -- how a call ended that was to write the text: all of it is out and no write failed, or a write failed and only a front is out, whose length
 -- the fault tells

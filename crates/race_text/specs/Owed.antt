@@ -1,7 +1,6 @@
 -- What is owed where a line isn't taken. A cause is told without memory, so want of memory hides none.
 use Rattle.std.specs.Prelude.{◌≡◌, Option, Some, None}
-use Rattle.race_text.specs.declared.cause.TextCause.{TextCause}
-use Rattle.race_text.specs.declared.cause.TextFault.{TextFault}
+use Rattle.race_text.specs.declared.cause.{TextCause.TextCause, TextFault.TextFault}
 
 -- what is told of the line, by its least cause: the cause, and want of memory only where none holds
 abbrev pub owed : Option TextCause → TextCause

@@ -1,15 +1,8 @@
 -- How far a trace is read, line by line.
 use Rattle.std.specs.Prelude.{◌≡◌, ℕ, ◌<◌, Bool, true, false, List, [], length, Option, Some, None, Result, Ok, Err}
-use Rattle.race_records.specs.declared.version.Version.{Version}
-use Rattle.race_records.specs.Declarations.{DeclsState}
-use Rattle.race_records.specs.Events.{TraceState}
-use Rattle.race_text.specs.declared.cause.TextCause.{TextCause}
-use Rattle.race_text.specs.declared.reader.Reader.{Reader}
-use Rattle.race_text.specs.Owed.{owed}
-use Rattle.race_text.specs.Text.{lines}
-use Rattle.race_text.specs.Fault.{cause}
-use Rattle.race_text.specs.Grammar.{AreThese}
-use Rattle.race_text.specs.Declaring.{is_declaration_line}
+use Rattle.race_records.specs.{declared.version.Version.Version, Declarations.DeclsState, Events.TraceState}
+use Rattle.race_text.specs.{declared.{cause.TextCause.TextCause, reader.Reader.Reader}, Owed.owed, Text.lines}
+use Rattle.race_text.specs.{Fault.cause, Grammar.AreThese, Declaring.is_declaration_line}
 use Rattle.race_text.specs.Taking.{IsRead, TakesLine, begun}
 
 -- nothing is declared, in a text of this version

@@ -1,23 +1,11 @@
 -- What the words of a line say of an event, one word after another.
 use Rattle.std.specs.Prelude.{ℕ, Bool, true, false, List, [], ◌∷◌, ◌++◌, if◌then◌else◌, Option, Some, None}
-use Rattle.std.specs.Borrow.{Bor}
+use Rattle.std.specs.{Borrow.Bor, Option.{option_and_then, option_map}, Result.result_ok}
 use Rattle.arrayvec.specs.ArrayVec.{ArrayVec}
-use Rattle.std.specs.Option.{option_and_then, option_map}
-use Rattle.std.specs.Result.{result_ok}
-use Rattle.race_records.specs.declared.event.Op.{Op}
-use Rattle.race_records.specs.declared.kind.Kind.{Kind}
-use Rattle.race_records.specs.declared.kind.Named.{Named}
-use Rattle.race_records.specs.declared.parts.Part.{Part}
-use Rattle.race_records.specs.declared.parts.PartKind.{PartKind}
-use Rattle.race_records.specs.declared.parts.Verb.{Verb}
-use Rattle.race_records.specs.declared.version.Version.{Version}
-use Rattle.race_records.specs.Name.{is_place}
-use Rattle.race_records.specs.Declarations.{Declaration}
-use Rattle.race_records.specs.Parts.{op_by, part_kinds, has_two_places}
-use Rattle.race_text.specs.declared.event.Draft.{Draft}
-use Rattle.race_text.specs.declared.form.Word.{Word}
-use Rattle.race_text.specs.Words.{parts_left}
-use Rattle.race_text.specs.Form.{word_in}
+use Rattle.race_records.specs.declared.{event.Op.Op, kind.{Kind.Kind, Named.Named}, parts.Part.Part}
+use Rattle.race_records.specs.{declared.{parts.{PartKind.PartKind, Verb.Verb}, version.Version.Version}, Name.is_place}
+use Rattle.race_records.specs.{Declarations.Declaration, Parts.{op_by, part_kinds, has_two_places}}
+use Rattle.race_text.specs.{declared.{event.Draft.Draft, form.Word.Word}, Words.parts_left, Form.word_in}
 use Rattle.race_text.specs.Meaning.{part_in}
 
 -- an event with its places as they are spelled

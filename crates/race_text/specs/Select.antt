@@ -1,16 +1,10 @@
 -- The words of the cases of a select, and of why a run failed: how they are spelled, before any name is looked up.
 use Rattle.std.specs.Prelude.{ℕ, ◌==◌, if◌then◌else◌, List, [], ◌∷◌, length, map, take, drop, codes, Option, Some, None}
-use Rattle.std.specs.List.{slice_split}
-use Rattle.std.specs.Str.{bytes_eq}
-use Rattle.race_records.specs.declared.cases.Dir.{Dir}
-use Rattle.race_records.specs.declared.event.Cause.{Cause}
-use Rattle.race_records.specs.declared.event.Cause.TheVariants.{SendClosed, CloseClosed, UnlockFree, RUnlockFree}
-use Rattle.race_records.specs.declared.kind.Kind.{Kind}
-use Rattle.race_records.specs.declared.kind.Named.{Named}
-use Rattle.race_records.specs.declared.parts.PartKind.{PartKind}
-use Rattle.race_records.specs.Declarations.{number_of}
-use Rattle.race_text.specs.declared.select.Attempt.{Attempt}
-use Rattle.race_text.specs.declared.select.TheConstants.{ATTEMPTS}
+use Rattle.std.specs.{List.slice_split, Str.bytes_eq}
+use Rattle.race_records.specs.declared.{cases.Dir.Dir, event.Cause.{Cause, TheVariants.{SendClosed, CloseClosed}}}
+use Rattle.race_records.specs.declared.{event.Cause.TheVariants.{UnlockFree, RUnlockFree}, kind.Kind.Kind}
+use Rattle.race_records.specs.{declared.{kind.Named.Named, parts.PartKind.PartKind}, Declarations.number_of}
+use Rattle.race_text.specs.declared.select.{Attempt.Attempt, TheConstants.ATTEMPTS}
 
 -- the word of no case
 abbrev pub no_cases : List ℕ

@@ -1,15 +1,9 @@
 -- What a stream of events has read: the lines of a trace of which the first events were handed on.
-use Rattle.std.specs.Prelude.{◌≡◌, ℕ, Bool, IsTrue, List, [], ◌++◌, length, None}
-use Rattle.std.specs.List.{flat_map}
+use Rattle.std.specs.{Prelude.{◌≡◌, ℕ, Bool, IsTrue, List, [], ◌++◌, length, None}, List.flat_map}
 use Rattle.std.specs.Option.{option_map, is_some}
-use Rattle.race_records.specs.declared.event.Event.{Event}
-use Rattle.race_records.specs.Declarations.{DeclsState}
-use Rattle.race_records.specs.Events.{TraceState}
-use Rattle.race_text.specs.declared.stream.EventStream.{EventStream}
-use Rattle.race_text.specs.Text.{IsTextOf, ended}
-use Rattle.race_text.specs.Fault.{trace_causes}
-use Rattle.race_text.specs.Taking.{behind}
-use Rattle.race_text.specs.Reader.{IsReading, lines_read, trace_read}
+use Rattle.race_records.specs.{declared.event.Event.Event, Declarations.DeclsState, Events.TraceState}
+use Rattle.race_text.specs.{declared.stream.EventStream.EventStream, Text.{IsTextOf, ended}, Fault.trace_causes}
+use Rattle.race_text.specs.{Taking.behind, Reader.{IsReading, lines_read, trace_read}}
 
 module _ {A : Type 0} where
   -- the trace that was read, if these events were handed on

@@ -1,20 +1,12 @@
 -- A line that is taken into a trace.
-use Rattle.std.specs.Prelude.{◌≡◌, ℕ, ◌+◌, ◌*◌, ◌<◌, ◌≤◌, List, [], ◌∷◌, ◌++◌, length, true, Option, Some, None, is_some, IfSome, Result, Ok, Err}
-use Rattle.std.specs.Borrow.{Bor}
-use Rattle.std.specs.Option.{option_map}
-use Rattle.race_records.specs.declared.event.Event.{Event}
-use Rattle.race_records.specs.declared.kind.Kind.{Kind}
-use Rattle.race_records.specs.declared.trace.TheConstants.{MAX_EVENTS}
-use Rattle.race_records.specs.Name.{is_place}
-use Rattle.race_records.specs.Declarations.{DeclsState, count_of, place_number, with_place}
+use Rattle.std.specs.Prelude.{◌≡◌, ℕ, ◌+◌, ◌*◌, ◌<◌, ◌≤◌, List, [], ◌∷◌, ◌++◌, length, true, Option, Some, None}
+use Rattle.std.specs.{Prelude.{is_some, IfSome, Result, Ok, Err}, Borrow.Bor, Option.option_map}
+use Rattle.race_records.specs.declared.{event.Event.Event, kind.Kind.Kind, trace.TheConstants.MAX_EVENTS}
+use Rattle.race_records.specs.{Name.is_place, Declarations.{DeclsState, count_of, place_number, with_place}}
 use Rattle.race_records.specs.Events.{TraceState, op_fits, has_op, lock_fits, op_is_limited}
 use Rattle.race_records.specs.Parts.{says, has_two_places}
-use Rattle.race_text.specs.declared.cause.TextCause.{TextCause}
-use Rattle.race_text.specs.Owed.{owed}
-use Rattle.race_text.specs.Text.{HasText, lines}
-use Rattle.race_text.specs.Fault.{Seen, seen_so_far, seen, cause}
-use Rattle.race_text.specs.Reading.{Occurrence}
-use Rattle.race_text.specs.Common.{GoesOnIfTold, TellsOfCommon}
+use Rattle.race_text.specs.{declared.cause.TextCause.TextCause, Owed.owed, Text.{HasText, lines}, Fault.Seen}
+use Rattle.race_text.specs.{Fault.{seen_so_far, seen, cause}, Reading.Occurrence, Common.{GoesOnIfTold, TellsOfCommon}}
 
 -- what a trace says to the lines behind it
 abbrev pub state_of : TraceState → Seen

@@ -1,22 +1,14 @@
 -- The text of a trace. It prints: nothing here reads.
-use Rattle.std.specs.Prelude.{ℕ, true, false, List, [], ◌∷◌, ◌++◌, map, codes, slice_get, unwrap_or, Option, Some, None, ◌≡◌}
-use Rattle.std.specs.List.{flat_map, join_with_byte}
-use Rattle.std.specs.Fmt.{decimal}
-use Rattle.std.specs.Option.{option_map}
-use Rattle.race_records.specs.declared.event.Event.{Event}
-use Rattle.race_records.specs.declared.event.Op.{Op}
-use Rattle.race_records.specs.declared.event.Op.TheVariants.{Go, Exit, Read, Write, Send, Recv, Meet}
-use Rattle.race_records.specs.declared.event.Op.TheVariants.{RecvClosed, Close, Default, Lock, Unlock, RLock}
-use Rattle.race_records.specs.declared.event.Op.TheVariants.{RUnlock, TryLock, TryRLock, TryFail, OnceBegin, OnceEnd, OnceDone, Fault}
-use Rattle.race_records.specs.declared.event.Cause.{Cause}
-use Rattle.race_records.specs.declared.event.Cause.TheVariants.{SendClosed, CloseClosed, CloseNil, UnlockFree, RUnlockFree}
-use Rattle.race_records.specs.declared.cases.Case.{Case}
-use Rattle.race_records.specs.declared.cases.Dir.{Dir}
-use Rattle.race_records.specs.declared.kind.Named.{Named}
-use Rattle.race_records.specs.declared.kind.Object.{Object}
-use Rattle.race_records.specs.declared.version.Version.{Version}
-use Rattle.race_records.specs.Declarations.{Declaration, DeclsState, IsWellFormed, name_of}
-use Rattle.race_records.specs.Events.{TraceState, IsTrace}
+use Rattle.std.specs.Prelude.{ℕ, true, false, List, [], ◌∷◌, ◌++◌, map, codes, slice_get, unwrap_or, Option, Some, None}
+use Rattle.std.specs.{Prelude.◌≡◌, List.{flat_map, join_with_byte}, Fmt.decimal, Option.option_map}
+use Rattle.race_records.specs.declared.event.{Event.Event, Op.{Op, TheVariants.{Go, Exit, Read, Write, Send, Recv}}}
+use Rattle.race_records.specs.declared.event.Op.TheVariants.{Meet, RecvClosed, Close, Default, Lock, Unlock, RLock}
+use Rattle.race_records.specs.declared.event.Op.TheVariants.{RUnlock, TryLock, TryRLock, TryFail, OnceBegin, OnceEnd}
+use Rattle.race_records.specs.declared.event.{Op.TheVariants.{OnceDone, Fault}, Cause.{Cause, TheVariants.SendClosed}}
+use Rattle.race_records.specs.declared.event.Cause.TheVariants.{CloseClosed, CloseNil, UnlockFree, RUnlockFree}
+use Rattle.race_records.specs.declared.{cases.{Case.Case, Dir.Dir}, kind.{Named.Named, Object.Object}}
+use Rattle.race_records.specs.{declared.version.Version.Version, Declarations.{Declaration, DeclsState, IsWellFormed}}
+use Rattle.race_records.specs.{Declarations.name_of, Events.{TraceState, IsTrace}}
 
 -- the first line, which says the version
 abbrev pub header : Version → List ℕ

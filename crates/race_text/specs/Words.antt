@@ -1,10 +1,6 @@
 -- Lines, their words, and the numbers among them.
 use Rattle.std.specs.Prelude.{ℕ, ◌==◌, ◌&&◌, not, Bool, if◌then◌else◌, nat_le, List, [], Option, Some, None}
-use Rattle.std.specs.List.{list_any, slice_split}
-use Rattle.std.specs.Str.{bytes_eq}
-use Rattle.std.specs.Str.Parse.{digits_value}
-use Rattle.std.specs.Fmt.{decimal}
-use Rattle.std.specs.Borrow.{Bor}
+use Rattle.std.specs.{List.{list_any, slice_split}, Str.{bytes_eq, Parse.digits_value}, Fmt.decimal, Borrow.Bor}
 
 -- the parts of a text: it is cut at every newline, and the last part is what stands behind the last one
 abbrev pub parts_of : List ℕ → List (List ℕ)

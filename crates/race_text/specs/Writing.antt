@@ -1,11 +1,7 @@
 -- Pieces of a trace's text.
 use Rattle.std.specs.Prelude.{ℕ, zero, suc, List, [], ◌∷◌, ◌++◌, map, codes, slice_get, unwrap_or, Option, Some, None}
-use Rattle.std.specs.Fmt.{decimal}
-use Rattle.std.specs.List.{flat_map}
-use Rattle.race_records.specs.declared.event.Event.{Event}
-use Rattle.race_records.specs.declared.nouns.Noun.{Noun}
-use Rattle.race_records.specs.declared.parts.Part.{Part}
-use Rattle.race_records.specs.declared.parts.Verb.{Verb}
+use Rattle.std.specs.{Fmt.decimal, List.flat_map}
+use Rattle.race_records.specs.declared.{event.Event.Event, nouns.Noun.Noun, parts.{Part.Part, Verb.Verb}}
 use Rattle.race_records.specs.Declarations.{Declaration, DeclsState, name_of}
 use Rattle.race_text.specs.Text.{ended, cases_text, failure_text, declaration_line, event_line}
 

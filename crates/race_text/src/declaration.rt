@@ -1,7 +1,6 @@
 //! Lines that declare.
 ghost use Rattle.std.specs.Prelude.{◌≡◌, true, false, Some, Ok, IfOk, OnOk, OnErr, option_map};
-ghost use Rattle.race_records.specs.Nouns.{number_limit};
-ghost use Rattle.race_records.specs.Refusal.{Refuses, AllowsUnless};
+ghost use Rattle.race_records.specs.{Nouns.number_limit, Refusal.{Refuses, AllowsUnless}};
 ghost use Rattle.race_text.specs.Words.{parts_left};
 ghost use Rattle.race_text.specs.Fault as fault;
 ghost use Rattle.race_text.specs.Declaring as spec;

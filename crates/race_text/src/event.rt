@@ -1,14 +1,9 @@
 //! Lines that are events. Slices and parts go through memory at a call, so the path of the common
 //! words is one function, and what a select or a fault says is read by others.
-ghost use Rattle.std.specs.Prelude.{◌≡◌, ◌≤◌, [], ◌∷◌, length, take, true};
-ghost use Rattle.std.specs.List.{list_all};
-ghost use Rattle.std.specs.Option.{option_map};
+ghost use Rattle.std.specs.{Prelude.{◌≡◌, ◌≤◌, [], ◌∷◌, length, take, true}, List.list_all, Option.option_map};
 ghost use Rattle.std.specs.Result.{result_ok};
-ghost use Rattle.race_records.specs.Name.{is_place_byte};
-ghost use Rattle.race_records.specs.Declarations.{IsWellFormed};
-ghost use Rattle.race_records.specs.Parts.{op_by};
-ghost use Rattle.race_text.specs.Words.{parts_left, words_of};
-ghost use Rattle.race_text.specs.Meaning.{named_in, part_in};
+ghost use Rattle.race_records.specs.{Name.is_place_byte, Declarations.IsWellFormed, Parts.op_by};
+ghost use Rattle.race_text.specs.{Words.{parts_left, words_of}, Meaning.{named_in, part_in}};
 ghost use Rattle.race_text.specs.Reading as spec;
 
 use crate::cut::cut_word;

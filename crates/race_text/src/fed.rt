@@ -1,8 +1,7 @@
 //! A text of any kind from its bytes, piece by piece.
 ghost use Rattle.std.specs.Prelude.{◌≡◌, ◌≢◌, ◌++◌, ◌↔◌, [], IsTrue, Some, None, IfOk, IfErr, OnOk, MatchResult};
 ghost use Rattle.race_text.specs.Lines.{first_fault, IsLineOf, IsNoneBefore};
-ghost use Rattle.race_text.specs.Grammar.{StandsForSome, ForEachLines, Takes};
-ghost use Rattle.race_text.specs.Owed.{HidesNone};
+ghost use Rattle.race_text.specs.{Grammar.{StandsForSome, ForEachLines, Takes}, Owed.HidesNone};
 ghost use Rattle.race_text.specs.Fed as spec;
 
 use crate::cause::{TextCause, TextFault};

@@ -1,6 +1,5 @@
 //! Where a byte stands first. Many bytes are tested at once, as lanes of a vector.
-ghost use Rattle.std.specs.Prelude.{◌≡◌, ◌==◌, ◌+◌, ◌<◌, ◌≤◌, position, not, map, length};
-ghost use Rattle.std.specs.Simd.Lanes.{chunk, mask_l};
+ghost use Rattle.std.specs.{Prelude.{◌≡◌, ◌==◌, ◌+◌, ◌<◌, ◌≤◌, position, not, map, length}, Simd.Lanes.{chunk, mask_l}};
 ghost use Rattle.race_records.specs.Name.{is_place_byte};
 
 use std::simd::prelude::*;

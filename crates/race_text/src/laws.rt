@@ -1,11 +1,6 @@
 //! The laws of trace text. Each function does nothing, and its contract is the law.
-ghost use Rattle.race_text.specs.Laws.{
-  EndedFaultsStay,
-  EqualTextsAreOfEqualTraces,
-  FaultlessBytesAreTexts,
-  LinesFollowTheTables,
-  TextsHaveNoFault,
-};
+ghost use Rattle.race_text.specs.Laws.{EndedFaultsStay, EqualTextsAreOfEqualTraces, FaultlessBytesAreTexts};
+ghost use Rattle.race_text.specs.Laws.{LinesFollowTheTables, TextsHaveNoFault};
 
 /// Each line has the words of the tables from which it is read and printed.
 pub fn lines_follow_the_tables()

@@ -1,10 +1,7 @@
 //! A trace from its bytes, piece by piece.
 ghost use Rattle.std.specs.Prelude.{◌≡◌, ◌≢◌, ◌++◌, [], Some, None, IfOk, IfErr};
-ghost use Rattle.race_text.specs.Text.{IsTextOf, IsTraceText};
-ghost use Rattle.race_text.specs.Fault.{trace_causes, text_fault};
-ghost use Rattle.race_text.specs.Laws.{IsOnlyTraceOf};
-ghost use Rattle.race_text.specs.Lines.{IsLineOf, IsNoneBefore};
-ghost use Rattle.race_text.specs.Owed.{HidesNone};
+ghost use Rattle.race_text.specs.{Text.{IsTextOf, IsTraceText}, Fault.{trace_causes, text_fault}, Laws.IsOnlyTraceOf};
+ghost use Rattle.race_text.specs.{Lines.{IsLineOf, IsNoneBefore}, Owed.HidesNone};
 ghost use Rattle.race_text.specs.Fed as spec;
 
 use crate::cause::{TextCause, TextFault};
@@ -28,8 +25,7 @@ impl<A: Allocator> Drop for LineReader<A> {
 
 impl<A: Allocator> Model for LineReader<A> {
     ghost use Rattle.std.specs.Prelude.{◌≡◌, None};
-    ghost use Rattle.race_text.specs.Reader.{IsReading, lines_read};
-    ghost use Rattle.race_text.specs.Fed.{LinesState, IsUnended};
+    ghost use Rattle.race_text.specs.{Reader.{IsReading, lines_read}, Fed.{LinesState, IsUnended}};
 
     ghost Value = { LinesState };
 

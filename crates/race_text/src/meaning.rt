@@ -1,9 +1,8 @@
 //! What one word of a line says, or the least cause that it says nothing.
 ghost use Rattle.std.specs.Prelude.{◌≡◌, ◌<◌, true, Ok, IfOk, IfSome};
-ghost use Rattle.race_records.specs.Name as name;
 ghost use Rattle.race_records.specs.Declarations.{IsDeclared, find_name};
-ghost use Rattle.race_text.specs.Form.{is_wanted};
-ghost use Rattle.race_text.specs.Least.{says_by, both_say};
+ghost use Rattle.race_text.specs.{Form.is_wanted, Least.{says_by, both_say}};
+ghost use Rattle.race_records.specs.Name as name;
 ghost use Rattle.race_text.specs.Meaning as spec;
 
 use crate::cause::TextCause;

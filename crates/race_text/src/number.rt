@@ -1,7 +1,6 @@
 //! Numbers in a text.
 ghost use Rattle.std.specs.Prelude.{◌≡◌, ◌+◌, ◌-◌, ◌*◌, ◌^◌, ◌<◌, ℕ, None, length, IfNone, IfSome, SomeIff};
-ghost use Rattle.std.specs.Int.{IsInRange};
-ghost use Rattle.std.specs.Str.Parse.{AllDigits, digits_value};
+ghost use Rattle.std.specs.{Int.IsInRange, Str.Parse.{AllDigits, digits_value}};
 ghost use Rattle.race_text.specs.Words as spec;
 
 /// Reads a number: `0`, or digits without a leading zero, of at most `max`.

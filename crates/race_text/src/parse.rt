@@ -1,11 +1,7 @@
 //! A text from its bytes, which are there at once.
 ghost use Rattle.std.specs.Prelude.{◌≡◌, ◌≢◌, [], Some, IfOk, IfErr};
-ghost use Rattle.race_text.specs.Text.{IsTextOf, IsTraceText};
-ghost use Rattle.race_text.specs.Fault.{trace_causes, text_fault};
-ghost use Rattle.race_text.specs.Fed.{ended_fault};
-ghost use Rattle.race_text.specs.Laws.{IsOnlyTraceOf};
-ghost use Rattle.race_text.specs.Lines.{first_fault, IsLineOf, IsNoneBefore};
-ghost use Rattle.race_text.specs.Owed.{HidesNone};
+ghost use Rattle.race_text.specs.{Text.{IsTextOf, IsTraceText}, Fault.{trace_causes, text_fault}, Fed.ended_fault};
+ghost use Rattle.race_text.specs.{Laws.IsOnlyTraceOf, Lines.{first_fault, IsLineOf, IsNoneBefore}, Owed.HidesNone};
 
 use crate::cause::{TextCause, TextFault};
 use crate::fed::Fed;

@@ -1,11 +1,8 @@
 //! A trace that is read line by line.
 ghost use Rattle.std.specs.Prelude.{◌≡◌, ◌+◌, [], length, true, false, Some, None, MatchResult, OnOk};
-ghost use Rattle.race_text.specs.Fault as fault;
-ghost use Rattle.race_text.specs.Lines.{GoesOn};
-ghost use Rattle.race_text.specs.Owed.{owed};
-ghost use Rattle.race_text.specs.Text.{HasText, lines};
-ghost use Rattle.race_text.specs.Taking.{IsRead, begun};
+ghost use Rattle.race_text.specs.{Lines.GoesOn, Owed.owed, Text.{HasText, lines}, Taking.{IsRead, begun}};
 ghost use Rattle.race_text.specs.Common.{GoesOnIfTold, TellsOfCommon};
+ghost use Rattle.race_text.specs.Fault as fault;
 ghost use Rattle.race_text.specs.Reader as spec;
 
 use crate::cause::TextCause;
@@ -46,9 +43,7 @@ impl<A: Allocator> Drop for Reader<A> {
 }
 
 impl<A: Allocator + Copy> Grammar for Reader<A> {
-    ghost use Rattle.race_text.specs.Fault.{trace_causes};
-    ghost use Rattle.race_text.specs.Reader.{StandsFor};
-    ghost use Rattle.race_text.specs.Text.{IsTextOf};
+    ghost use Rattle.race_text.specs.{Fault.trace_causes, Reader.StandsFor, Text.IsTextOf};
 
     type Whole = Trace<A>;
 

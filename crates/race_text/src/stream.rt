@@ -1,9 +1,7 @@
 //! A trace that is read line by line, and whose events are handed on.
 ghost use Rattle.std.specs.Prelude.{◌≡◌, ◌+◌, ◌++◌, List, [], length, true, IsOk, MatchResult, OnOk};
-ghost use Rattle.race_records.specs.declared.event.Event.{Event};
-ghost use Rattle.race_records.specs.Events.{IsTrace};
-ghost use Rattle.race_text.specs.Fault.{trace_causes};
-ghost use Rattle.race_text.specs.Grammar.{ForEachLines, Takes, Tells, TakesIfTold, TellsOfFront};
+ghost use Rattle.race_records.specs.{declared.event.Event.Event, Events.IsTrace};
+ghost use Rattle.race_text.specs.{Fault.trace_causes, Grammar.{ForEachLines, Takes, Tells, TakesIfTold, TellsOfFront}};
 ghost use Rattle.race_text.specs.Stream as spec;
 
 use crate::cause::TextCause;

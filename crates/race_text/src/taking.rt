@@ -1,14 +1,10 @@
 //! Lines behind the first event.
-ghost use Rattle.std.specs.Prelude.{◌≡◌, ◌+◌, ◌*◌, ◌<◌, ◌≤◌, ◌++◌, List, [], ◌∷◌, true, false, length, None, IsTrue, IfSome, IfOk, IfErr, MatchResult, OnOk};
-ghost use Rattle.std.specs.Option.{option_map};
-ghost use Rattle.race_records.specs.declared.event.Event.{Event};
-ghost use Rattle.race_records.specs.Name.{is_place};
-ghost use Rattle.race_records.specs.Declarations.{place_number, with_place};
-ghost use Rattle.race_text.specs.Declaring.{is_declaration_line};
-ghost use Rattle.race_text.specs.Reading.{drafted};
-ghost use Rattle.race_text.specs.Text.{lines};
-ghost use Rattle.race_records.specs.Events.{push_fault, op_is_limited};
-ghost use Rattle.race_text.specs.Common.{GoesOnIfTold, TellsOfCommon, op_of, said_of, event_at};
+ghost use Rattle.std.specs.Prelude.{◌≡◌, ◌+◌, ◌*◌, ◌<◌, ◌≤◌, ◌++◌, List, [], ◌∷◌, true, false, length, None, IsTrue};
+ghost use Rattle.std.specs.{Prelude.{IfSome, IfOk, IfErr, MatchResult, OnOk}, Option.option_map};
+ghost use Rattle.race_records.specs.{declared.event.Event.Event, Name.is_place};
+ghost use Rattle.race_records.specs.{Declarations.{place_number, with_place}, Events.{push_fault, op_is_limited}};
+ghost use Rattle.race_text.specs.{Declaring.is_declaration_line, Reading.drafted, Text.lines, Common.GoesOnIfTold};
+ghost use Rattle.race_text.specs.Common.{TellsOfCommon, op_of, said_of, event_at};
 ghost use Rattle.race_text.specs.Taking as spec;
 
 use crate::cause::TextCause;

@@ -1,17 +1,11 @@
 //! A trace's text, written.
 ghost use Rattle.std.specs.Prelude.{◌≡◌, ◌<◌, [], ◌∷◌, ◌++◌, true, length, take, All, IsTrue, IfSome, IfErr};
-ghost use Rattle.std.specs.Io.KnownBytes.{Appends};
-ghost use Rattle.race_records.specs.Devices.{written};
-ghost use Rattle.race_records.specs.Events.{fits};
-ghost use Rattle.race_records.specs.Page.{Printing};
-ghost use Rattle.race_text.specs.Output.{Writes};
+ghost use Rattle.std.specs.{Io.KnownBytes.Appends, List.list_all, Option.option_map};
+ghost use Rattle.race_records.specs.{Devices.written, Events.fits, Page.Printing, Parts.{part_fits, chan_is_in_range}};
+ghost use Rattle.race_records.specs.Declarations.{count_of};
+ghost use Rattle.race_text.specs.{Output.Writes, Writing.{body, declarations_text, declaration_text, events_text}};
 ghost use Rattle.race_text.specs.Text as text;
 ghost use Rattle.race_text.specs.Writing as spec;
-ghost use Rattle.race_text.specs.Writing.{body, declarations_text, declaration_text, events_text};
-ghost use Rattle.race_records.specs.Parts.{part_fits, chan_is_in_range};
-ghost use Rattle.race_records.specs.Declarations.{count_of};
-ghost use Rattle.std.specs.List.{list_all};
-ghost use Rattle.std.specs.Option.{option_map};
 
 use crate::header::header_line;
 use itoa::Buffer;

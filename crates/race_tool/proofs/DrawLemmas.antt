@@ -1,25 +1,20 @@
 -- What a verdict says of the races that are asked for, and what a right drawing's status is.
-use Rattle.std.proofs.Common.{◌≡◌, ℕ, Bool, true, false, List, [], ◌∷◌, All, Option, Some, None, slice_get, get_or, length, IsTrue, inl, inr, refl, sym, ap, ◌∙◌, subst, arith}
+use Rattle.std.proofs.Common.{◌≡◌, ℕ, Bool, true, false, List, [], ◌∷◌, All, Option, Some, None, slice_get, get_or}
+use Rattle.std.proofs.Common.{length, IsTrue, inl, inr, refl, sym, ap, ◌∙◌, subst, arith}
+use Rattle.std.proofs.lemmas.{List.Elements.All-push, Option.{slice_get-map, slice_get-get_or}}
 use Rattle.std.specs.Option.{option_map}
-use Rattle.std.proofs.lemmas.List.Elements.{All-push}
-use Rattle.std.proofs.lemmas.Option.{slice_get-map, slice_get-get_or}
 use Rattle.race_records.specs.Events.{TraceState}
-use Rattle.race_model.specs.Legal.{IsLegal}
-use Rattle.race_model.specs.Race.{IsReportedRace}
+use Rattle.race_model.specs.{Legal.IsLegal, Race.IsReportedRace}
 use Rattle.race_text.specs.Text.{IsTextOf}
-use Rattle.race_model.specs.Verdict as model
-use Rattle.race_verdict.specs.declared.races.Race.{Race}
-use Rattle.race_verdict.specs.Races.{race_of}
-use Rattle.race_verdict.specs.Traces.{capacities, HasVerdict}
+use Rattle.race_verdict.specs.{declared.races.Race.Race, Races.race_of, Traces.{capacities, HasVerdict}}
 use Rattle.race_shards.specs.Witness.{RacesInOrder}
 use Rattle.race_draw.specs.Text.{drawings_text}
+use Rattle.race_tool.specs.{Outcome.IsOfAFinding, Draw.{Drawing, NoText, Breaks, NoRace, Clean, Drawn, Pictured}}
+use Rattle.race_tool.specs.Draw.{AreAsked, IsDrawnText, IsChartOf, IsDrawing, has_chart, shown, drawing_status}
+use Rattle.race_tool.specs.{Drawings.{IsDrawingOn, AreRacesOf, AreDrawnOf}, Witnesses.IsPickedOf}
+use Rattle.race_tool.proofs.{StatusLemmas.{small, middle}, WitnessLemmas.{none_shows, picked_races}}
+use Rattle.race_model.specs.Verdict as model
 use Rattle.race_tool.specs.declared.status.TheConstants as status
-use Rattle.race_tool.specs.Outcome.{IsOfAFinding}
-use Rattle.race_tool.specs.Draw.{Drawing, NoText, Breaks, NoRace, Clean, Drawn, Pictured, AreAsked, IsDrawnText, IsChartOf, IsDrawing, has_chart, shown, drawing_status}
-use Rattle.race_tool.specs.Drawings.{IsDrawingOn, AreRacesOf, AreDrawnOf}
-use Rattle.race_tool.specs.Witnesses.{IsPickedOf}
-use Rattle.race_tool.proofs.StatusLemmas.{small, middle}
-use Rattle.race_tool.proofs.WitnessLemmas.{none_shows, picked_races}
 
 module _ (trace : TraceState) where
   -- in a clean trace no variable has a race

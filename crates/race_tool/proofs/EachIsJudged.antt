@@ -1,13 +1,10 @@
 -- Every list of bytes has a finding: its fault, or its trace with the verdict.
-use Rattle.std.proofs.Common.{◌≡◌, ◌≤◌, ℕ, IsTrue, sym, ◌∙◌, Bool, true, false, nat_lt, List, length, Option, Some, None, refl, arith}
-use Rattle.std.proofs.lemmas.Bool.Decides.{nat_tests}
+use Rattle.std.proofs.Common.{◌≡◌, ◌≤◌, ℕ, IsTrue, sym, ◌∙◌, Bool, true, false, nat_lt, List, length, Option, Some}
+use Rattle.std.proofs.{Common.{None, refl, arith}, lemmas.Bool.Decides.nat_tests}
 use Rattle.race_records.specs.Events.{TraceState}
-use Rattle.race_text.specs.declared.cause.TextFault.{TextFault}
-use Rattle.race_text.specs.Fault.{text_fault}
-use Rattle.race_text.specs.Text.{IsTextOf}
+use Rattle.race_text.specs.{declared.cause.TextFault.TextFault, Fault.text_fault, Text.IsTextOf}
 use Rattle.race_text.proofs.Scanning.{faultless_is_text}
-use Rattle.race_edges.specs.declared.fault.TheConstants.{MAX_PLAIN_EVENTS}
-use Rattle.race_edges.proofs.EachHasAVerdict.{judged}
+use Rattle.race_edges.{specs.declared.fault.TheConstants.MAX_PLAIN_EVENTS, proofs.EachHasAVerdict.judged}
 use Rattle.race_tool.specs.Finding.{Finding, Faulty, TooLong, Judged, IsFinding}
 
 pub a_finding : (plain : Bool) (bytes : List ℕ) → (f : Finding) × IsFinding plain bytes f

@@ -1,17 +1,13 @@
 -- What an engine promises, by how it ends.
-use Rattle.std.proofs.Common.{ℕ, ◌≡◌, inl, inr, Bool, true, false, IsTrue, List, [], Option, Some, None, Result, Ok, Err}
-use Rattle.std.proofs.Common.{refl, sym, ap, ◌∙◌, arith, append-nil}
-use Rattle.std.proofs.lemmas.Option.{none-some}
-use Rattle.race_records.specs.declared.sink.Sink.{Sink}
-use Rattle.race_records.specs.declared.source.Source.{Source}
+use Rattle.std.proofs.Common.{ℕ, ◌≡◌, inl, inr, Bool, true, false, IsTrue, List, [], Option, Some, None, Result, Ok}
+use Rattle.std.proofs.{Common.{Err, refl, sym, ap, ◌∙◌, arith, append-nil}, lemmas.Option.none-some}
+use Rattle.race_records.specs.declared.{sink.Sink.Sink, source.Source.Source}
 use Rattle.race_records.specs.Devices.{unread, written, source_failures}
-use Rattle.race_text.specs.declared.cause.TextFault.{TextFault}
-use Rattle.race_text.specs.Lines.{Causes, first_fault}
+use Rattle.race_text.specs.{declared.cause.TextFault.TextFault, Lines.{Causes, first_fault}}
 use Rattle.race_text.proofs.FedLemmas.{ended_fault_stays}
+use Rattle.race_tool.specs.{Input.{Reads, ReadsBy}, Outcome.{IsOfAFinding, IsTextOnly, ReadsAndWrites, ReadsWhere}}
+use Rattle.race_tool.{specs.Outcome.Answers, proofs.InputLemmas.itself}
 use Rattle.race_tool.specs.declared.status.TheConstants as status
-use Rattle.race_tool.specs.Input.{Reads, ReadsBy}
-use Rattle.race_tool.specs.Outcome.{IsOfAFinding, IsTextOnly, ReadsAndWrites, ReadsWhere, Answers}
-use Rattle.race_tool.proofs.InputLemmas.{itself}
 
 module _ {F R W : Type 0} (causes : Causes) (IsRight : List ℕ → F → Type 0) (text_of : F → List ℕ) (status_for : F → ℕ) (IsUnrecorded : List ℕ → Type 0)
     (remaining : R → Option (List ℕ)) (contents : W → Option (List ℕ)) (source source_now : Source R) (sink : Sink W) where

@@ -1,14 +1,11 @@
 -- How reading an input block by block ends, where it stood for what was fed so far and no read had failed.
-use Rattle.std.proofs.Common.{◌≡◌, ◌≢◌, ℕ, ◌+◌, Bool, true, false, List, Option, Some, Result, Ok, Err, IfOk, IfErr, IsErrAnd, ap, subst, ◌∙◌}
-use Rattle.std.specs.Io.KnownBytes.{Keeps}
-use Rattle.race_records.specs.declared.source.Source.{Source}
-use Rattle.race_records.specs.Devices.{unread, source_failures, one_more}
-use Rattle.race_text.specs.declared.cause.TextCause.{TextCause}
-use Rattle.race_text.specs.declared.cause.TextFault.{TextFault}
-use Rattle.race_text.specs.Lines.{Causes, first_fault}
-use Rattle.race_tool.specs.declared.input.ReadFault.{ReadFault}
-use Rattle.race_tool.specs.Input.{HasRead, FeedsMore, ReadsInput}
-use Rattle.race_tool.proofs.InputLemmas.{fed_more, fine_before, fault_read, end_answered, err, err_same, err_other, out_of_memory_alone}
+use Rattle.std.proofs.Common.{◌≡◌, ◌≢◌, ℕ, ◌+◌, Bool, true, false, List, Option, Some, Result, Ok, Err, IfOk, IfErr}
+use Rattle.std.{proofs.Common.{IsErrAnd, ap, subst, ◌∙◌}, specs.Io.KnownBytes.Keeps}
+use Rattle.race_records.specs.{declared.source.Source.Source, Devices.{unread, source_failures, one_more}}
+use Rattle.race_text.specs.{declared.cause.{TextCause.TextCause, TextFault.TextFault}, Lines.{Causes, first_fault}}
+use Rattle.race_tool.specs.{declared.input.ReadFault.ReadFault, Input.{HasRead, FeedsMore, ReadsInput}}
+use Rattle.race_tool.proofs.InputLemmas.{fed_more, fine_before, fault_read, end_answered, err, err_same, err_other}
+use Rattle.race_tool.proofs.InputLemmas.{out_of_memory_alone}
 
 -- an error is no text
 no_text : {T E : Type 0} (r : Result T E) (e : E) → IsErrAnd r (λ f. f ≡ e) → (P : T → Type 0) → IfOk r P

@@ -1,17 +1,13 @@
 -- One more block of an input.
 use Rattle.std.proofs.Common.{◌≡◌, ◌≢◌, ℕ, zero, suc, ◌+◌, ◌<◌, Bool, true, false, IsTrue, List, [], ◌++◌, Option, Some}
-use Rattle.std.proofs.Common.{None, Result, Ok, Err, IfOk, IfErr, IsErrAnd, OnOk, refl, sym, ap, subst, ◌∙◌, arith, append-nil}
-use Rattle.std.proofs.Common.{length-append}
-use Rattle.std.proofs.KnownBytes.{Consumes-nil, Consumes-trans, Consumes-kept}
+use Rattle.std.proofs.Common.{None, Result, Ok, Err, IfOk, IfErr, IsErrAnd, OnOk, refl, sym, ap, subst, ◌∙◌, arith}
+use Rattle.std.proofs.{Common.{append-nil, length-append}, KnownBytes.{Consumes-nil, Consumes-trans, Consumes-kept}}
 use Rattle.std.specs.Io.KnownBytes.{Keeps}
 use Rattle.race_records.specs.Devices.{more_by, one_more}
-use Rattle.race_text.specs.declared.cause.TextCause.{TextCause}
-use Rattle.race_text.specs.declared.cause.TextFault.{TextFault}
-use Rattle.race_text.specs.Lines.{Causes, first_fault}
-use Rattle.race_text.specs.Fed.{ended_after, ended_fault}
-use Rattle.race_text.proofs.FedLemmas.{ended_fault_stays}
-use Rattle.race_tool.specs.declared.input.ReadFault.{ReadFault}
-use Rattle.race_tool.specs.Input.{HasRead, HasReadAll, IsInput, IsReadBy, ReadsBy, ReadsFine, FeedsMore}
+use Rattle.race_text.specs.{declared.cause.{TextCause.TextCause, TextFault.TextFault}, Lines.{Causes, first_fault}}
+use Rattle.race_text.{specs.Fed.{ended_after, ended_fault}, proofs.FedLemmas.ended_fault_stays}
+use Rattle.race_tool.specs.{declared.input.ReadFault.ReadFault, Input.{HasRead, HasReadAll, IsInput, IsReadBy, ReadsBy}}
+use Rattle.race_tool.specs.Input.{ReadsFine, FeedsMore}
 
 -- where nothing was fed no line is at fault
 nothing_ended : (causes : Causes) → ended_fault causes [] ≡ None

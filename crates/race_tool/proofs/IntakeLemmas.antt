@@ -1,21 +1,13 @@
 -- How a trace is read on that is judged meanwhile.
-use Rattle.std.proofs.Common.{◌≡◌, ℕ, ◌+◌, Bool, true, false, IsTrue, ◌≤◌, ◌<◌, List, [], Option, Result, Ok, Err, IfOk, IfErr, OnOk, OnErr, refl, sym, ◌∙◌, subst, arith}
-use Rattle.race_records.specs.declared.source.Source.{Source}
-use Rattle.race_records.specs.Devices.{unread, source_reads, source_failures, one_more}
-use Rattle.race_text.specs.declared.cause.TextFault.{TextFault}
-use Rattle.race_text.specs.declared.fed.Fed.{Fed}
-use Rattle.race_text.specs.declared.stream.EventStream.{EventStream}
-use Rattle.race_text.specs.Fault.{trace_causes}
-use Rattle.race_text.specs.Fed.{IsFed}
-use Rattle.race_text.specs.Stream.{decls_of, has_events}
-use Rattle.race_tool.specs.declared.judged_stream.JudgedStream.{JudgedStream}
-use Rattle.race_tool.specs.Input.{HasReadAll, FeedsMore, ReadsBy}
-use Rattle.race_tool.specs.declared.handed.Handed.{Handed}
-use Rattle.race_tool.specs.declared.input.ReadFault.{ReadFault}
-use Rattle.race_tool.specs.declared.intake.Intake.{Intake}
-use Rattle.race_text.specs.Grammar.{ForEachLines}
-use Rattle.race_tool.specs.Intake.{HasTaken, GoesOnTo, IsReadable, IsReadOn, ReadsOn}
-use Rattle.race_tool.specs.Streams.{IsReadText, StandsAfter, JudgesAll, HasNoneLeft}
+use Rattle.std.proofs.Common.{◌≡◌, ℕ, ◌+◌, Bool, true, false, IsTrue, ◌≤◌, ◌<◌, List, [], Option, Result, Ok, Err, IfOk}
+use Rattle.std.proofs.Common.{IfErr, OnOk, OnErr, refl, sym, ◌∙◌, subst, arith}
+use Rattle.race_records.specs.{declared.source.Source.Source, Devices.{unread, source_reads, source_failures, one_more}}
+use Rattle.race_text.specs.declared.{cause.TextFault.TextFault, fed.Fed.Fed, stream.EventStream.EventStream}
+use Rattle.race_text.specs.{Fault.trace_causes, Fed.IsFed, Stream.{decls_of, has_events}, Grammar.ForEachLines}
+use Rattle.race_tool.specs.declared.{judged_stream.JudgedStream.JudgedStream, handed.Handed.Handed}
+use Rattle.race_tool.specs.declared.{input.ReadFault.ReadFault, intake.Intake.Intake}
+use Rattle.race_tool.specs.{Input.{HasReadAll, FeedsMore, ReadsBy}, Intake.{HasTaken, GoesOnTo, IsReadable, IsReadOn}}
+use Rattle.race_tool.specs.{Intake.ReadsOn, Streams.{IsReadText, StandsAfter, JudgesAll, HasNoneLeft}}
 use Rattle.race_tool.proofs.InputLemmas.{fed_none, fed_more, fed_all, fault_read, read_as, read_more}
 use Rattle.race_tool.proofs.StreamedReading.{fed_as, fine_as}
 

@@ -1,22 +1,13 @@
 -- The turns of a trace that is judged while it is read: the first one, and the next.
-use Rattle.std.proofs.Common.{◌≡◌, ℕ, ◌<◌, Bool, true, List, [], Option, None, Result, Ok, IfOk, refl, sym, subst, arith}
-use Rattle.std.proofs.lemmas.Bool.Decides.{nat_tests}
+use Rattle.std.proofs.Common.{◌≡◌, ℕ, ◌<◌, Bool, true, List, [], Option, None, Result, Ok, IfOk, refl, sym, subst}
+use Rattle.std.proofs.{Common.arith, lemmas.Bool.Decides.nat_tests}
 use Rattle.race_records.specs.declared.source.Source.{Source}
-use Rattle.race_shards.specs.Judging.{JudgeState}
-use Rattle.race_shards.specs.Limits.{is_block}
-use Rattle.race_text.specs.declared.cause.TextFault.{TextFault}
-use Rattle.race_text.specs.declared.fed.Fed.{Fed}
-use Rattle.race_text.specs.declared.stream.EventStream.{EventStream}
-use Rattle.race_text.specs.Fault.{trace_causes}
-use Rattle.race_text.specs.Fed.{IsUnended}
-use Rattle.race_text.specs.Grammar.{ForEachLines}
-use Rattle.race_text.proofs.FedLemmas.{fed_at_start}
-use Rattle.race_tool.specs.declared.handed.Handed.{Handed}
-use Rattle.race_tool.specs.declared.intake.Intake.{Intake}
-use Rattle.race_tool.specs.Input.{IsBetweenFine}
-use Rattle.race_tool.specs.Intake.{HasTaken, GoesOnTo, IsReadable, IsReadOn}
-use Rattle.race_tool.specs.Streams.{CanJudgeAll, CanTakeNext, StandsAfter, StandsBehind}
-use Rattle.race_tool.proofs.IntakeLemmas.{taken_none, taken_as}
+use Rattle.race_shards.specs.{Judging.JudgeState, Limits.is_block}
+use Rattle.race_text.specs.declared.{cause.TextFault.TextFault, fed.Fed.Fed, stream.EventStream.EventStream}
+use Rattle.race_text.{specs.{Fault.trace_causes, Fed.IsUnended, Grammar.ForEachLines}, proofs.FedLemmas.fed_at_start}
+use Rattle.race_tool.specs.{declared.{handed.Handed.Handed, intake.Intake.Intake}, Input.IsBetweenFine, Intake.HasTaken}
+use Rattle.race_tool.specs.{Intake.{GoesOnTo, IsReadable, IsReadOn}, Streams.{CanJudgeAll, CanTakeNext, StandsAfter}}
+use Rattle.race_tool.{specs.Streams.StandsBehind, proofs.IntakeLemmas.{taken_none, taken_as}}
 use Rattle.race_tool.proofs.StreamedReading.{fed_as, fine_as}
 
 -- a block has an event

@@ -1,29 +1,19 @@
 -- Whichever finding is right for a list of bytes, the report is the same.
-use Rattle.std.proofs.Common.{◌≡◌, ℕ, ◌+◌, Bool, IsTrue, List, [], ◌∷◌, ◌++◌, length, map, slice_get}
-use Rattle.std.proofs.Common.{unwrap_or, codes, decimal, Option, Some, None, option_map, refl, sym, ap, ◌∙◌}
-use Rattle.std.proofs.Common.{subst, arith}
-use Rattle.std.proofs.lemmas.List.{length-map}
-use Rattle.std.proofs.lemmas.Option.{none-some, same_Some, slice_get-map}
-use Rattle.std.proofs.lemmas.Simd.{map-map}
+use Rattle.std.proofs.Common.{◌≡◌, ℕ, ◌+◌, Bool, IsTrue, List, [], ◌∷◌, ◌++◌, length, map, slice_get, unwrap_or, codes}
+use Rattle.std.proofs.Common.{decimal, Option, Some, None, option_map, refl, sym, ap, ◌∙◌, subst, arith}
+use Rattle.std.proofs.lemmas.{List.length-map, Option.{none-some, same_Some, slice_get-map}, Simd.map-map}
 use Rattle.std.specs.List.{flat_map, concat}
-use Rattle.race_records.specs.declared.event.Event.{Event}
-use Rattle.race_records.specs.declared.event.Op.{Op}
-use Rattle.race_records.specs.Declarations.{capacity_of}
-use Rattle.race_records.specs.Events.{TraceState}
+use Rattle.race_records.specs.{declared.event.{Event.Event, Op.Op}, Declarations.capacity_of, Events.TraceState}
 use Rattle.race_records.specs.TraceEquality.{PlacedEvent, placed, placed_events, Recorded, recorded}
-use Rattle.race_model.specs.Events.{operations, count, is_access}
-use Rattle.race_model.specs.Verdict.{Race, Verdict, Illegal, Clean, Races, IsVerdict}
-use Rattle.race_model.proofs.PlacesAside.{counted_alike, verdict_alike}
+use Rattle.race_model.specs.{Events.{operations, count, is_access}, Verdict.{Race, Verdict, Illegal, Clean, Races}}
+use Rattle.race_model.{specs.Verdict.IsVerdict, proofs.PlacesAside.{counted_alike, verdict_alike}}
 use Rattle.race_model.proofs.Uniqueness.{verdict_unique}
-use Rattle.race_text.specs.declared.cause.TextFault.{TextFault}
-use Rattle.race_text.specs.Fault.{text_fault}
-use Rattle.race_text.specs.Text.{goroutine_name, var_name, place_text, IsTextOf}
-use Rattle.race_text.proofs.TextFine.{text_has_no_fault}
-use Rattle.race_text.proofs.TextLaws.{equal_texts}
+use Rattle.race_text.specs.{declared.cause.TextFault.TextFault, Fault.text_fault, Text.{goroutine_name, var_name}}
+use Rattle.race_text.{specs.Text.{place_text, IsTextOf}, proofs.{TextFine.text_has_no_fault, TextLaws.equal_texts}}
 use Rattle.race_report.specs.Report.{newline, clean_line, access_word, access_text, race_line, races_line, report}
 use Rattle.race_verdict.specs.Traces.{capacities, HasVerdict}
-use Rattle.race_tool.specs.declared.status.TheConstants as status
 use Rattle.race_tool.specs.Finding.{Finding, Faulty, TooLong, Judged, IsFinding, report_of, status_of}
+use Rattle.race_tool.specs.declared.status.TheConstants as status
 
 -- two traces that record the same
 module _ (t u : TraceState) (same : recorded t ≡ recorded u) where

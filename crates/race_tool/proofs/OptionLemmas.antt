@@ -1,10 +1,8 @@
 -- What is promised of a recording, told of the options by which it is made.
 use Rattle.std.proofs.Common.{ℕ, ◌≡◌, List, Option, Some, None, Result, Ok, Err, IfOk, sym, subst}
 use Rattle.std.specs.Prelude.{IfSome}
-use Rattle.race_requests.specs.declared.request.Answer.{Answer}
-use Rattle.race_requests.specs.declared.request.Request.{Request}
-use Rattle.race_hub.specs.Hub.{HubState}
-use Rattle.race_hub.specs.Recording.{RecordingState}
+use Rattle.race_requests.specs.declared.request.{Answer.Answer, Request.Request}
+use Rattle.race_hub.specs.{Hub.HubState, Recording.RecordingState}
 use Rattle.race_record.specs.Serial.{IsSerial}
 
 module _ {R : Type 0} (asks : R → Answer → Request → R → Type 0) (hub : HubState R) {E : Type 0} (answer : Result RecordingState E) (asked : Option (List ℕ)) where

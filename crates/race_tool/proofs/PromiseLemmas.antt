@@ -1,19 +1,15 @@
 -- What a check and a judged run promise of their status, by what each engine promises.
 use Rattle.std.proofs.Common.{ℕ, Bool, List, Option, arith}
-use Rattle.race_records.specs.declared.source.Source.{Source}
-use Rattle.race_records.specs.declared.sink.Sink.{Sink}
+use Rattle.race_records.specs.declared.{source.Source.Source, sink.Sink.Sink}
 use Rattle.race_text.specs.Fault.{trace_causes}
 use Rattle.race_script.specs.Fault.{program_causes}
 use Rattle.race_verdict.specs.Traces.{IsClean, IsRacy, IsIllegal}
-use Rattle.race_tool.specs.declared.status.TheConstants as status
-use Rattle.race_tool.specs.Engines.{Never, Checks, Judges}
-use Rattle.race_tool.specs.Finding.{IsFinding, IsTextWhere, report_of, status_of}
-use Rattle.race_tool.specs.Outcome.{Answers}
-use Rattle.race_tool.specs.Race.{IsJudgedRun, HasRunWhere, judged_text, judged_status}
-use Rattle.race_tool.specs.Run.{IsRefusedRun, IsProgramWhere}
-use Rattle.race_tool.proofs.EngineLemmas.{right_finding, reads_where}
-use Rattle.race_tool.proofs.RaceLemmas as race
+use Rattle.race_tool.specs.{Engines.{Never, Checks, Judges}, Finding.{IsFinding, IsTextWhere, report_of, status_of}}
+use Rattle.race_tool.specs.{Outcome.Answers, Race.{IsJudgedRun, HasRunWhere, judged_text, judged_status}}
+use Rattle.race_tool.{specs.Run.{IsRefusedRun, IsProgramWhere}, proofs.EngineLemmas.{right_finding, reads_where}}
 use Rattle.race_tool.proofs.StatusLemmas.{small, large, no_fault_where, clean_text, racy_text, illegal_text}
+use Rattle.race_tool.specs.declared.status.TheConstants as status
+use Rattle.race_tool.proofs.RaceLemmas as race
 
 module _ {R W : Type 0} (remaining : R → Option (List ℕ)) (contents : W → Option (List ℕ))
     (source source_now : Source R) (sink sink_now : Sink W) (answer : ℕ) where

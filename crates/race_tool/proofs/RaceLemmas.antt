@@ -1,34 +1,22 @@
 -- What is found of a judged run, by what is known of its parts.
-use Rattle.std.proofs.Common.{ℕ, ◌≡◌, ◌≢◌, ◌<◌, ◌≤◌, ◌++◌, List, map, length, Bool, Option, Some, None, sym, ap, subst, ◌∙◌, arith}
-use Rattle.race_records.specs.declared.event.Event.{Event}
-use Rattle.race_records.specs.Declarations.{DeclsState, capacity_of}
-use Rattle.race_records.specs.Equality.{declared}
-use Rattle.race_records.specs.Events.{TraceState}
-use Rattle.race_records.specs.TraceEquality.{placed, recorded}
-use Rattle.race_model.specs.Legal.{IsLegal}
-use Rattle.race_model.specs.Verdict.{Verdict, IsVerdict, Illegal, Clean, Races}
+use Rattle.std.proofs.Common.{ℕ, ◌≡◌, ◌≢◌, ◌<◌, ◌≤◌, ◌++◌, List, map, length, Bool, Option, Some, None, sym, ap, subst}
+use Rattle.std.proofs.Common.{◌∙◌, arith}
+use Rattle.race_records.specs.{declared.event.Event.Event, Declarations.{DeclsState, capacity_of}, Equality.declared}
+use Rattle.race_records.specs.{Events.TraceState, TraceEquality.{placed, recorded}}
+use Rattle.race_model.specs.{Legal.IsLegal, Verdict.{Verdict, IsVerdict, Illegal, Clean, Races}}
 use Rattle.race_model.proofs.Uniqueness.{illegal_not_legal}
 use Rattle.race_edges.specs.declared.fault.TheConstants.{MAX_PLAIN_EVENTS}
-use Rattle.race_verdict.specs.Traces.{capacities, IsClean, IsRacy}
-use Rattle.race_verdict.specs.Verdicts.{verdict_of}
-use Rattle.race_hub.specs.declared.ending.End.{End}
-use Rattle.race_hub.specs.Recording.{RecordingState}
-use Rattle.race_script.specs.Fault.{text_fault}
-use Rattle.race_script.specs.Program.{ProgramState}
-use Rattle.race_script.proofs.TextFine.{text_has_no_fault}
-use Rattle.race_report.specs.Report.{report}
-use Rattle.race_report.proofs.PrintableLemmas.{races_are_of}
-use Rattle.race_tool.specs.declared.race_found.JudgedRun.{JudgedRun as Found}
+use Rattle.race_verdict.specs.{Traces.{capacities, IsClean, IsRacy}, Verdicts.verdict_of}
+use Rattle.race_hub.specs.{declared.ending.End.End, Recording.RecordingState}
+use Rattle.race_script.{specs.{Fault.text_fault, Program.ProgramState}, proofs.TextFine.text_has_no_fault}
+use Rattle.race_report.{specs.Report.report, proofs.PrintableLemmas.races_are_of}
+use Rattle.race_tool.specs.{declared.{race_found.{JudgedRun.{JudgedRun as Found}}}, Finding.IsVerdictOn}
+use Rattle.race_tool.specs.{Outcome.IsOfAFinding, Race.{JudgedRun, NoProgram, Ran, HasRunWhere, IsJudgedRun}}
+use Rattle.race_tool.specs.{Race.{verdict_text, judged_status}, Recorded.{trace_of, judged_run_of, CanBePrinted}}
+use Rattle.race_tool.specs.{Report.end_line, Run.{status_of_end, IsProgramWhere, IsRunOf, IsTraceOf}}
+use Rattle.race_tool.proofs.{OneReport.report_same, RunLemmas.{trace_stays, end_own}, StatusLemmas.{is_clean, is_racy}}
+use Rattle.race_tool.proofs.StatusLemmas.{small, large}
 use Rattle.race_tool.specs.declared.status.TheConstants as status
-use Rattle.race_tool.specs.Finding.{IsVerdictOn}
-use Rattle.race_tool.specs.Outcome.{IsOfAFinding}
-use Rattle.race_tool.specs.Race.{JudgedRun, NoProgram, Ran, HasRunWhere, IsJudgedRun, verdict_text, judged_status}
-use Rattle.race_tool.specs.Recorded.{trace_of, judged_run_of, CanBePrinted}
-use Rattle.race_tool.specs.Report.{end_line}
-use Rattle.race_tool.specs.Run.{status_of_end, IsProgramWhere, IsRunOf, IsTraceOf}
-use Rattle.race_tool.proofs.OneReport.{report_same}
-use Rattle.race_tool.proofs.RunLemmas.{trace_stays, end_own}
-use Rattle.race_tool.proofs.StatusLemmas.{is_clean, is_racy, small, large}
 
 -- a verdict on a trace is one on each that has the same declarations and events
 pub verdict_stays : (plain : Bool) (t u : TraceState) (verdict : Option Verdict) → t.decls ≡ u.decls → t.events ≡ u.events

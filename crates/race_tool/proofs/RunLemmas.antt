@@ -1,30 +1,20 @@
 -- What a run is, by what is known of its parts.
-use Rattle.std.proofs.Common.{ℕ, ◌≡◌, ◌⊎◌, inl, inr, ◌+◌, ◌≤◌, ◌++◌, List, [], ◌∷◌, length, map, take, All}
-use Rattle.std.proofs.Common.{IsTrue, Option, Some, None, Result, Ok, Err, IfOk, IfErr, refl, sym, ap, subst, ◌∙◌, arith, slice_get}
-use Rattle.std.specs.Prelude.{IfSome}
-use Rattle.std.proofs.lemmas.List.{map-append, take_all}
+use Rattle.std.proofs.Common.{ℕ, ◌≡◌, ◌⊎◌, inl, inr, ◌+◌, ◌≤◌, ◌++◌, List, [], ◌∷◌, length, map, take, All, IsTrue}
+use Rattle.std.proofs.Common.{Option, Some, None, Result, Ok, Err, IfOk, IfErr, refl, sym, ap, subst, ◌∙◌, arith}
+use Rattle.std.{proofs.{Common.slice_get, lemmas.List.{map-append, take_all}}, specs.Prelude.IfSome}
 use Rattle.race_legal.proofs.Fronts.{take_next}
-use Rattle.race_records.specs.declared.event.Event.{Event}
-use Rattle.race_records.specs.declared.trace.TheConstants.{MAX_EVENTS}
-use Rattle.race_records.specs.Declarations.{DeclsState, IsWellFormed}
-use Rattle.race_records.specs.Events.{TraceState, IsTrace, fits, op_is_limited}
-use Rattle.race_text.specs.Text.{text}
-use Rattle.race_text.proofs.WritingLemmas.{printed_is}
-use Rattle.race_hub.specs.declared.ending.End.{End}
+use Rattle.race_records.specs.declared.{event.Event.Event, trace.TheConstants.MAX_EVENTS}
+use Rattle.race_records.specs.{Declarations.{DeclsState, IsWellFormed}, Events.{TraceState, IsTrace, fits}}
+use Rattle.race_records.specs.Events.{op_is_limited}
+use Rattle.race_text.{specs.Text.text, proofs.WritingLemmas.printed_is}
+use Rattle.race_hub.specs.{declared.ending.End.End, Hub.HubState, Opening.IsOpening, Recording.RecordingState}
 use Rattle.race_requests.specs.declared.request.Request.{Request}
-use Rattle.race_hub.specs.Hub.{HubState}
-use Rattle.race_hub.specs.Opening.{IsOpening}
-use Rattle.race_hub.specs.Recording.{RecordingState}
-use Rattle.race_script.specs.Certificate.{IsCertified}
-use Rattle.race_script.specs.Program.{ProgramState}
-use Rattle.race_script.specs.Run.{ScriptState, Asks}
-use Rattle.race_record.specs.Recorded.{IsRecordingOf}
-use Rattle.race_record.specs.Serial.{IsSerial, IsTurnedAway}
-use Rattle.race_tool.specs.declared.status.TheConstants as status
-use Rattle.race_tool.specs.Outcome.{IsOfAFinding}
-use Rattle.race_tool.specs.Recorded.{trace_of}
-use Rattle.race_tool.specs.Run.{scripts_of, status_of_end, IsRunOf, IsUncertified, IsRefusedRun, IsTraceOf, Run, NoProgram, Ran, run_status}
+use Rattle.race_script.specs.{Certificate.IsCertified, Program.ProgramState, Run.{ScriptState, Asks}}
+use Rattle.race_record.specs.{Recorded.IsRecordingOf, Serial.{IsSerial, IsTurnedAway}}
+use Rattle.race_tool.specs.{Outcome.IsOfAFinding, Recorded.trace_of, Run.{scripts_of, status_of_end, IsRunOf}}
+use Rattle.race_tool.specs.Run.{IsUncertified, IsRefusedRun, IsTraceOf, Run, NoProgram, Ran, run_status}
 use Rattle.race_tool.proofs.StatusLemmas.{small, middle}
+use Rattle.race_tool.specs.declared.status.TheConstants as status
 
 -- so many scripts are made
 abbrev pub AreScripts : List (List Request) → ℕ → List ScriptState → Type 0

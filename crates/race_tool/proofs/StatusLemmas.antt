@@ -1,17 +1,13 @@
 -- What the status of a right finding of a trace says of the bytes.
 use Rattle.std.proofs.Common.{◌≡◌, ◌<◌, ℕ, Bool, List, [], ◌∷◌, None, refl, ap, ◌∙◌, arith}
-use Rattle.race_model.specs.Reorder.{own_order}
-use Rattle.race_model.specs.Verdict.{Race, Illegal, Clean, Races}
+use Rattle.race_model.specs.{Reorder.own_order, Verdict.{Race, Illegal, Clean, Races}}
+use Rattle.race_model.proofs.{OwnOrder.own_is_reordering, ReorderLemmas.same_finds}
 use Rattle.race_records.specs.Events.{TraceState}
-use Rattle.race_model.proofs.OwnOrder.{own_is_reordering}
-use Rattle.race_model.proofs.ReorderLemmas.{same_finds}
-use Rattle.race_text.specs.Fault.{text_fault}
-use Rattle.race_text.proofs.TextFine.{text_has_no_fault}
-use Rattle.race_tool.specs.declared.status.TheConstants as status
+use Rattle.race_text.{specs.Fault.text_fault, proofs.TextFine.text_has_no_fault}
 use Rattle.race_verdict.specs.Traces.{capacities, HasVerdict, IsClean, IsRacy, IsIllegal}
 use Rattle.race_tool.specs.Finding.{Finding, Faulty, TooLong, Judged, IsFinding, IsTextWhere, status_of}
-use Rattle.race_tool.specs.Listing.{Listing, NoTrace, TooMany, Broken, Listed, listing_status}
-use Rattle.race_tool.specs.Outcome.{IsOfAFinding}
+use Rattle.race_tool.specs.{Listing.{Listing, NoTrace, TooMany, Broken, Listed, listing_status}, Outcome.IsOfAFinding}
+use Rattle.race_tool.specs.declared.status.TheConstants as status
 
 -- clean: no race, so each read finds the same write in every reordering
 pub is_clean : (trace : TraceState) → HasVerdict trace Clean → IsClean trace

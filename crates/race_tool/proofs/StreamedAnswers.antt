@@ -1,34 +1,20 @@
 -- What is found of a trace that was judged while it was read is a right finding, and is printed so.
-use Rattle.std.proofs.Common.{◌≡◌, ℕ, Bool, true, false, inl, inr, List, [], Option, Some, Result, Ok, Err, IfOk, refl, sym, ap, ◌∙◌, append-nil, arith}
-use Rattle.std.proofs.lemmas.Option.{none-some}
-use Rattle.race_records.specs.declared.sink.Sink.{Sink}
-use Rattle.race_records.specs.declared.source.Source.{Source}
-use Rattle.race_records.specs.declared.sink.WriteFault.{WriteFault}
-use Rattle.race_records.specs.Devices.{unread, source_failures}
-use Rattle.race_records.specs.Events.{TraceState}
-use Rattle.race_verdict.specs.declared.notes.NotedVerdict.{NotedVerdict}
-use Rattle.race_verdict.specs.Notes.{verdict_noted, IsNotedOf}
-use Rattle.race_report.specs.Printable.{AreNamed}
-use Rattle.race_report.specs.Noted.{report_noted}
-use Rattle.race_report.proofs.NotedLemmas.{report_is}
+use Rattle.std.proofs.Common.{◌≡◌, ℕ, Bool, true, false, inl, inr, List, [], Option, Some, Result, Ok, Err, IfOk, refl}
+use Rattle.std.proofs.{Common.{sym, ap, ◌∙◌, append-nil, arith}, lemmas.Option.none-some}
+use Rattle.race_records.specs.declared.{sink.{Sink.Sink, WriteFault.WriteFault}, source.Source.Source}
+use Rattle.race_records.specs.{Devices.{unread, source_failures}, Events.TraceState}
+use Rattle.race_verdict.specs.{declared.notes.NotedVerdict.NotedVerdict, Notes.{verdict_noted, IsNotedOf}}
+use Rattle.race_report.{specs.{Printable.AreNamed, Noted.report_noted}, proofs.NotedLemmas.report_is}
 use Rattle.race_report.proofs.PrintableLemmas.{notes_are_named}
-use Rattle.race_text.specs.Fault.{trace_causes, text_fault}
-use Rattle.race_text.specs.Lines.{first_fault}
-use Rattle.race_text.specs.Output.{Writes}
-use Rattle.race_text.proofs.FedLemmas.{ended_fault_stays}
-use Rattle.race_text.proofs.TextFine.{text_has_no_fault}
-use Rattle.race_text.specs.declared.stream.EventStream.{EventStream}
-use Rattle.race_text.specs.declared.cause.TextFault.{TextFault}
-use Rattle.race_tool.specs.declared.judged_stream.JudgedStream.{JudgedStream}
-use Rattle.race_tool.specs.declared.stream_found.Found.{Found}
-use Rattle.race_tool.specs.declared.status.TheConstants as status
-use Rattle.race_tool.specs.Engines.{Never}
+use Rattle.race_text.specs.{Fault.{trace_causes, text_fault}, Lines.first_fault, Output.Writes}
+use Rattle.race_text.specs.declared.{stream.EventStream.EventStream, cause.TextFault.TextFault}
+use Rattle.race_text.proofs.{FedLemmas.ended_fault_stays, TextFine.text_has_no_fault}
+use Rattle.race_tool.specs.{declared.{judged_stream.JudgedStream.JudgedStream, stream_found.Found.Found}, Engines.Never}
 use Rattle.race_tool.specs.Finding.{Finding, Faulty, Judged, IsFinding, report_of, status_of}
-use Rattle.race_tool.specs.Input.{Reads, IsReadBy, ReadsBy}
-use Rattle.race_tool.specs.Outcome.{Answers, IsOfAFinding, IsRightFor}
-use Rattle.race_tool.specs.Streams.{HandsOnSome, IsReadText, IsJudgedText, IsFoundOf, found_text, found_status, status_noted}
-use Rattle.race_tool.proofs.InputLemmas.{itself}
-use Rattle.race_tool.proofs.StatusLemmas.{small, large}
+use Rattle.race_tool.specs.{Input.{Reads, IsReadBy, ReadsBy}, Outcome.{Answers, IsOfAFinding, IsRightFor}}
+use Rattle.race_tool.specs.Streams.{HandsOnSome, IsReadText, IsJudgedText, IsFoundOf, found_text, found_status}
+use Rattle.race_tool.{specs.Streams.status_noted, proofs.{InputLemmas.itself, StatusLemmas.{small, large}}}
+use Rattle.race_tool.specs.declared.status.TheConstants as status
 
 pub status_is : {A : Type 0} (trace : TraceState) (verdict : NotedVerdict A) → status_of (Judged trace (verdict_noted verdict)) ≡ status_noted verdict
 status_is trace (NotedVerdict.Illegal illegal) = refl

@@ -1,33 +1,23 @@
 -- A trace that is judged while it is read: its lines, its judge, and what is found of it.
-use Rattle.std.proofs.Common.{◌≡◌, ℕ, ◌+◌, ◌<◌, ◌≤◌, true, IsTrue, All, List, [], ◌∷◌, ◌++◌, length, Option, Some, None, Result, Ok, Err, OnOk, MatchResult}
-use Rattle.std.proofs.Common.{refl, sym, ap, ◌∙◌, subst, arith, append-nil, length-append}
-use Rattle.std.specs.Borrow.{Bor}
-use Rattle.std.specs.Option.{option_map, is_some}
-use Rattle.race_records.specs.declared.event.Event.{Event}
-use Rattle.race_records.specs.declared.kind.Kind.{Kind}
-use Rattle.race_records.specs.declared.trace.TheConstants.{MAX_EVENTS}
-use Rattle.race_records.specs.Declarations.{Declaration, DeclsState, capacity_of}
-use Rattle.race_records.specs.Events.{TraceState, IsTrace}
+use Rattle.std.proofs.Common.{◌≡◌, ℕ, ◌+◌, ◌<◌, ◌≤◌, true, IsTrue, All, List, [], ◌∷◌, ◌++◌, length, Option, Some, None}
+use Rattle.std.proofs.Common.{Result, Ok, Err, OnOk, MatchResult, refl, sym, ap, ◌∙◌, subst, arith, append-nil}
+use Rattle.std.{proofs.Common.{length-append, slice_index_or}, specs.{Borrow.Bor, Option.{option_map, is_some}}}
+use Rattle.race_records.specs.declared.{event.Event.Event, kind.Kind.Kind, trace.TheConstants.MAX_EVENTS}
+use Rattle.race_records.specs.{Declarations.{Declaration, DeclsState, capacity_of}, Events.{TraceState, IsTrace}}
 use Rattle.race_model.specs.Verdict.{IsVerdict}
-use Rattle.race_legal.specs.ReplayState.{IsInRange}
-use Rattle.race_legal.proofs.RangeLemmas.{range_from_fits}
-use Rattle.std.proofs.Common.{slice_index_or}
-use Rattle.race_verdict.specs.declared.notes.NotedVerdict.{NotedVerdict}
-use Rattle.race_verdict.specs.Notes.{verdict_noted, IsNotedOf}
+use Rattle.race_legal.{specs.ReplayState.IsInRange, proofs.RangeLemmas.range_from_fits}
+use Rattle.race_verdict.specs.{declared.notes.NotedVerdict.NotedVerdict, Notes.{verdict_noted, IsNotedOf}}
 use Rattle.race_shards.specs.Judging.{JudgeState, CanTake, GoesOn, Tells, Notes}
-use Rattle.race_shards.specs.Judging as judging
-use Rattle.race_text.specs.declared.cause.TextCause.{TextCause}
-use Rattle.race_text.specs.declared.stream.EventStream.{EventStream}
-use Rattle.race_text.specs.Common.{line_in}
-use Rattle.race_text.specs.Fault.{trace_causes}
-use Rattle.race_text.specs.Grammar.{ForEachLines, Takes, TakesBehind, TakesIfTold, TellsOfFront, IsWhole}
-use Rattle.race_text.specs.Grammar as grammar
-use Rattle.race_text.specs.Reader.{trace_read}
-use Rattle.race_text.specs.Stream.{StandsWith, DeclaresNothing, IsTextAtEnd, trace_with, decls_of, events_of, has_events}
-use Rattle.race_text.specs.Stream as stream
-use Rattle.race_text.specs.Taking.{behind, begun}
+use Rattle.race_text.specs.{declared.{cause.TextCause.TextCause, stream.EventStream.EventStream}, Common.line_in}
+use Rattle.race_text.specs.{Fault.trace_causes, Grammar.{ForEachLines, Takes, TakesBehind, TakesIfTold, TellsOfFront}}
+use Rattle.race_text.specs.{Grammar.IsWhole, Reader.trace_read, Stream.{StandsWith, DeclaresNothing, IsTextAtEnd}}
+use Rattle.race_text.specs.{Stream.{trace_with, decls_of, events_of, has_events}, Taking.{behind, begun}}
 use Rattle.race_text.proofs.StreamLemmas.{nothing_past, read_behind}
-use Rattle.race_tool.specs.Streams.{IsJudgeOf, IsHanded, HandsOnSome, StandsBehind, IsReadText, IsTextBehind, IsNotedVerdict}
+use Rattle.race_tool.specs.Streams.{IsJudgeOf, IsHanded, HandsOnSome, StandsBehind, IsReadText, IsTextBehind}
+use Rattle.race_tool.specs.Streams.{IsNotedVerdict}
+use Rattle.race_shards.specs.Judging as judging
+use Rattle.race_text.specs.Grammar as grammar
+use Rattle.race_text.specs.Stream as stream
 
 -- what was handed on changes no declaration
 pub decls_with : {A : Type 0} (s : EventStream A) (past : List Event) → (trace_with past s).decls ≡ decls_of s

@@ -1,14 +1,9 @@
 -- A reader that is seen by another grammar, or whose grammar has settled, stands for the same bytes.
-use Rattle.std.proofs.Common.{◌≡◌, ℕ, ◌++◌, Bool, false, List, Option, Some, None, Result, Ok, Err, OnOk, refl, sym, subst}
-use Rattle.std.specs.Option.{is_some}
-use Rattle.race_text.specs.declared.cause.TextFault.{TextFault}
-use Rattle.race_text.specs.declared.fed.Fed.{Fed}
-use Rattle.race_text.specs.Fault.{trace_causes}
-use Rattle.race_text.specs.Fed.{IsFed, IsBetween, IsReady, ForEachFedTo}
-use Rattle.race_text.specs.Grammar.{ForEachLines}
-use Rattle.race_text.specs.Lines.{Causes}
-use Rattle.race_tool.specs.declared.judged_stream.JudgedStream.{JudgedStream}
-use Rattle.race_tool.specs.Streams.{StandsFor}
+use Rattle.std.proofs.Common.{◌≡◌, ℕ, ◌++◌, Bool, false, List, Option, Some, None, Result, Ok, Err, OnOk, refl, sym}
+use Rattle.std.{proofs.Common.subst, specs.Option.is_some}
+use Rattle.race_text.specs.{declared.{cause.TextFault.TextFault, fed.Fed.Fed}, Fault.trace_causes, Fed.IsFed}
+use Rattle.race_text.specs.{Fed.{IsBetween, IsReady, ForEachFedTo}, Grammar.ForEachLines, Lines.Causes}
+use Rattle.race_tool.specs.{declared.judged_stream.JudgedStream.JudgedStream, Streams.StandsFor}
 use Rattle.race_tool.specs.Input.{FeedsMore, IsBetweenFine, IsToldOf}
 
 -- a block was fed, by whatever it stood for before and stands for now

@@ -1,24 +1,18 @@
 -- What a verdict says of the variable of a name, and what a right showing's status is.
-use Rattle.std.proofs.Common.{◌≡◌, ℕ, List, Option, Some, None, map, slice_get, get_or, refl, sym, ap, ◌∙◌, subst, arith}
+use Rattle.std.proofs.Common.{◌≡◌, ℕ, List, Option, Some, None, map, slice_get, get_or, refl, sym, ap, ◌∙◌, subst}
+use Rattle.std.proofs.{Common.arith, lemmas.Option.{slice_get_within, slice_get-map, slice_get-get_or}}
 use Rattle.std.specs.Option.{option_map}
-use Rattle.std.proofs.lemmas.Option.{slice_get_within, slice_get-map, slice_get-get_or}
 use Rattle.race_records.specs.Events.{TraceState}
-use Rattle.race_model.specs.Race.{IsReportedRace}
-use Rattle.race_model.specs.Events.{is_access}
-use Rattle.race_model.specs.Verdict as model
-use Rattle.race_model.proofs.ReorderLemmas.{passes_at}
-use Rattle.race_verdict.specs.declared.races.Race.{Race}
-use Rattle.race_verdict.specs.declared.verdict.Verdict.{Verdict}
-use Rattle.race_verdict.specs.Races.{race_of}
-use Rattle.race_verdict.specs.Traces.{capacities, HasVerdict}
-use Rattle.race_verdict.specs.Verdicts.{verdict_of}
+use Rattle.race_model.{specs.{Race.IsReportedRace, Events.is_access}, proofs.ReorderLemmas.passes_at}
+use Rattle.race_verdict.specs.{declared.{races.Race.Race, verdict.Verdict.Verdict}, Races.race_of}
+use Rattle.race_verdict.specs.{Traces.{capacities, HasVerdict}, Verdicts.verdict_of}
 use Rattle.race_shards.specs.Witness.{RacesInOrder}
-use Rattle.race_tool.specs.declared.status.TheConstants as status
-use Rattle.race_tool.specs.declared.witness_found.Found.{Found}
-use Rattle.race_tool.specs.Outcome.{IsOfAFinding}
-use Rattle.race_tool.specs.Witness.{Showing, NoText, Breaks, NoRace, Shown, HasNoRace, IsVar, IsShowing, showing_status}
-use Rattle.race_tool.specs.Witnesses.{showing_of, IsShowingOn, IsPickedOf, IsShownOf, CanBeShown}
+use Rattle.race_tool.specs.{declared.witness_found.Found.Found, Outcome.IsOfAFinding, Witness.{Showing, NoText, Breaks}}
+use Rattle.race_tool.specs.{Witness.{NoRace, Shown, HasNoRace, IsVar, IsShowing, showing_status}, Witnesses.showing_of}
+use Rattle.race_tool.specs.Witnesses.{IsShowingOn, IsPickedOf, IsShownOf, CanBeShown}
 use Rattle.race_tool.proofs.StatusLemmas.{small, middle}
+use Rattle.race_model.specs.Verdict as model
+use Rattle.race_tool.specs.declared.status.TheConstants as status
 
 -- what a verdict of the code says, by its variant
 pub clean_right : {A : Type 0} (trace : TraceState) (v : Verdict A) → v ≡ Verdict.Clean → HasVerdict trace (verdict_of v) → HasVerdict trace model.Clean

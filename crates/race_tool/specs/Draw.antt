@@ -1,24 +1,17 @@
 -- What there is to draw of a list of bytes, what is printed of it, and with which status.
-use Rattle.std.specs.Prelude.{ℕ, ◌≡◌, ◌⊎◌, ◌&&◌, nat_lt, nat_le, Bool, true, false, IsTrue, List, [], ◌∷◌, map, length, Option, Some, None}
+use Rattle.std.specs.Prelude.{ℕ, ◌≡◌, ◌⊎◌, ◌&&◌, nat_lt, nat_le, Bool, true, false, IsTrue, List, [], ◌∷◌, map, length}
+use Rattle.std.specs.Prelude.{Option, Some, None}
 use Rattle.race_records.specs.Events.{TraceState}
-use Rattle.race_model.specs.Legal.{IsLegal, IsIllegalAt}
-use Rattle.race_model.specs.Race.{IsReportedRace}
-use Rattle.race_model.specs.Verdict as model
-use Rattle.race_text.specs.declared.cause.TextFault.{TextFault}
-use Rattle.race_text.specs.Fault.{text_fault}
-use Rattle.race_text.specs.Text.{IsTextOf}
-use Rattle.race_verdict.specs.declared.races.Race.{Race}
-use Rattle.race_verdict.specs.Races.{race_of}
-use Rattle.race_verdict.specs.Traces.{capacities, HasVerdict}
+use Rattle.race_model.specs.{Legal.{IsLegal, IsIllegalAt}, Race.IsReportedRace}
+use Rattle.race_text.specs.{declared.cause.TextFault.TextFault, Fault.text_fault, Text.IsTextOf}
+use Rattle.race_verdict.specs.{declared.races.Race.Race, Races.race_of, Traces.{capacities, HasVerdict}}
 use Rattle.race_report.specs.Report.{fault_line, illegal_line, report}
-use Rattle.race_draw.specs.Layout.{LayoutState, AreLayoutsOf}
-use Rattle.race_draw.specs.Text.{drawings_text}
-use Rattle.race_draw.specs.declared.clean.TheConstants.{MAX_CLEAN_EVENTS}
-use Rattle.race_draw.specs.Clean.{CleanState, IsCleanLayoutOf}
-use Rattle.race_draw.specs.Chart.{chart_text}
-use Rattle.race_draw.specs.Svg.{svg_text}
-use Rattle.race_tool.specs.declared.status.TheConstants as status
+use Rattle.race_draw.specs.{Layout.{LayoutState, AreLayoutsOf}, Text.drawings_text}
+use Rattle.race_draw.specs.{declared.clean.TheConstants.MAX_CLEAN_EVENTS, Clean.{CleanState, IsCleanLayoutOf}}
+use Rattle.race_draw.specs.{Chart.chart_text, Svg.svg_text}
 use Rattle.race_tool.specs.Witness.{IsVar, HasNoRace, no_race_line}
+use Rattle.race_model.specs.Verdict as model
+use Rattle.race_tool.specs.declared.status.TheConstants as status
 
 -- what there is to draw of a list of bytes and a name, or of a list of bytes alone
 pub data Drawing : Type 0 where

@@ -1,21 +1,12 @@
 -- What the code has to draw as the definition has it, and what the engine of drawings promises.
-use Rattle.std.specs.Prelude.{ℕ, ◌≡◌, Bool, List, Option, Some, None, map}
-use Rattle.std.specs.Borrow.{Bor}
-use Rattle.race_records.specs.declared.source.Source.{Source}
-use Rattle.race_records.specs.declared.sink.Sink.{Sink}
-use Rattle.race_records.specs.Events.{TraceState}
-use Rattle.race_model.specs.Verdict as model
-use Rattle.race_text.specs.Fault.{trace_causes}
-use Rattle.race_text.specs.Text.{IsTextOf}
+use Rattle.std.specs.{Prelude.{ℕ, ◌≡◌, Bool, List, Option, Some, None, map}, Borrow.Bor}
+use Rattle.race_records.specs.{declared.{source.Source.Source, sink.Sink.Sink}, Events.TraceState}
+use Rattle.race_text.specs.{Fault.trace_causes, Text.IsTextOf}
 use Rattle.race_legal.specs.Rules.{number_of}
-use Rattle.race_verdict.specs.declared.races.Race.{Race}
-use Rattle.race_verdict.specs.Races.{race_of}
-use Rattle.race_verdict.specs.Traces.{HasVerdict}
-use Rattle.race_draw.specs.Layout.{LayoutState, AreLayoutsOf}
-use Rattle.race_draw.specs.Text.{drawings_text}
-use Rattle.race_tool.specs.declared.draw_found.Found.{Found}
-use Rattle.race_tool.specs.Engines.{Never}
-use Rattle.race_tool.specs.Outcome.{Answers}
+use Rattle.race_verdict.specs.{declared.races.Race.Race, Races.race_of, Traces.HasVerdict}
+use Rattle.race_draw.specs.{Layout.{LayoutState, AreLayoutsOf}, Text.drawings_text}
+use Rattle.race_tool.specs.{declared.draw_found.Found.Found, Engines.Never, Outcome.Answers}
+use Rattle.race_model.specs.Verdict as model
 use Rattle.race_tool.specs.Draw as spec
 
 -- the bytes of the name, where there is one

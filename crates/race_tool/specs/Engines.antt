@@ -1,17 +1,14 @@
 -- What each engine promises of its answer.
 use Rattle.std.specs.Prelude.{ℕ, ◌≡◌, ◌≢◌, Bool, List, Option}
-use Rattle.race_records.specs.declared.source.Source.{Source}
-use Rattle.race_records.specs.declared.sink.Sink.{Sink}
-use Rattle.race_records.specs.Devices.{unread}
+use Rattle.race_records.specs.{declared.{source.Source.Source, sink.Sink.Sink}, Devices.unread}
 use Rattle.race_text.specs.Fault.{trace_causes}
 use Rattle.race_script.specs.Fault.{program_causes}
 use Rattle.race_verdict.specs.Traces.{IsClean, IsRacy, IsIllegal}
-use Rattle.race_tool.specs.declared.status.TheConstants as status
 use Rattle.race_tool.specs.Finding.{IsFinding, IsTextWhere, report_of, status_of}
-use Rattle.race_tool.specs.Listing.{IsListing, listing_text, listing_status}
-use Rattle.race_tool.specs.Outcome.{Answers, ReadsWhere}
-use Rattle.race_tool.specs.Race.{IsJudgedRun, HasRunWhere, judged_text, judged_status}
-use Rattle.race_tool.specs.Run.{IsRun, IsRefusedRun, IsProgramWhere, run_text, run_status}
+use Rattle.race_tool.specs.{Listing.{IsListing, listing_text, listing_status}, Outcome.{Answers, ReadsWhere}}
+use Rattle.race_tool.specs.{Race.{IsJudgedRun, HasRunWhere, judged_text, judged_status}, Run.{IsRun, IsRefusedRun}}
+use Rattle.race_tool.specs.Run.{IsProgramWhere, run_text, run_status}
+use Rattle.race_tool.specs.declared.status.TheConstants as status
 
 -- of a trace there is nothing to record
 abbrev pub Never : List ℕ → Type 0

@@ -2,14 +2,12 @@
 use Rattle.std.specs.Prelude.{ℕ, ◌≡◌, ◌<◌, ◌≤◌, Bool, IsTrue, List, length, Option, Some, None}
 use Rattle.race_records.specs.Events.{TraceState}
 use Rattle.race_model.specs.Verdict.{Verdict, Illegal, Clean, Races}
-use Rattle.race_text.specs.declared.cause.TextFault.{TextFault}
-use Rattle.race_text.specs.Fault.{text_fault}
-use Rattle.race_text.specs.Text.{IsTextOf}
+use Rattle.race_text.specs.{declared.cause.TextFault.TextFault, Fault.text_fault, Text.IsTextOf}
 use Rattle.race_edges.specs.declared.fault.TheConstants.{MAX_PLAIN_EVENTS}
-use Rattle.race_tool.specs.declared.status.TheConstants as status
 use Rattle.race_verdict.specs.Traces.{HasVerdict}
 use Rattle.race_report.specs.Report.{fault_line, report}
 use Rattle.race_tool.specs.Report.{too_long_line}
+use Rattle.race_tool.specs.declared.status.TheConstants as status
 
 -- what there is to say of a list of bytes
 pub data Finding : Type 0 where

@@ -1,19 +1,11 @@
 -- How an input was read: block by block, to its end or to its first faulty line, by the causes of its kind of text.
-use Rattle.std.specs.Prelude.{◌≡◌, ◌≢◌, ℕ, ◌<◌, ◌≤◌, Bool, true, false, IsTrue, List, ◌++◌}
-use Rattle.std.specs.Prelude.{length, Option, Some, None, Result, Ok, Err, IfOk, OnOk, MatchBool}
-use Rattle.std.specs.Prelude.{MatchResult}
-use Rattle.std.specs.Io.KnownBytes.{Consumes, IsAtEnd}
-use Rattle.race_records.specs.declared.source.Source.{Source}
-use Rattle.race_records.specs.Devices.{unread, source_reads, source_failures, more_by, one_more}
-use Rattle.race_records.specs.Events.{TraceState}
-use Rattle.race_text.specs.declared.cause.TextFault.{TextFault}
-use Rattle.race_text.specs.Text.{IsTextOf}
-use Rattle.race_text.specs.Lines.{Causes, first_fault}
-use Rattle.race_text.specs.Fault.{trace_causes}
-use Rattle.race_text.specs.declared.fed.Fed.{Fed}
-use Rattle.race_text.specs.Fed.{IsBetween, ended_fault}
-use Rattle.race_tool.specs.declared.input.ReadFault.{ReadFault}
-use Rattle.race_tool.specs.declared.input.TheConstants.{BLOCK, MAX_TURNS}
+use Rattle.std.specs.Prelude.{◌≡◌, ◌≢◌, ℕ, ◌<◌, ◌≤◌, Bool, true, false, IsTrue, List, ◌++◌, length, Option, Some, None}
+use Rattle.std.specs.{Prelude.{Result, Ok, Err, IfOk, OnOk, MatchBool, MatchResult}, Io.KnownBytes.{Consumes, IsAtEnd}}
+use Rattle.race_records.specs.{declared.source.Source.Source, Devices.{unread, source_reads, source_failures, more_by}}
+use Rattle.race_records.specs.{Devices.one_more, Events.TraceState}
+use Rattle.race_text.specs.{declared.{cause.TextFault.TextFault, fed.Fed.Fed}, Text.IsTextOf}
+use Rattle.race_text.specs.{Lines.{Causes, first_fault}, Fault.trace_causes, Fed.{IsBetween, ended_fault}}
+use Rattle.race_tool.specs.declared.input.{ReadFault.ReadFault, TheConstants.{BLOCK, MAX_TURNS}}
 
 -- the first faulty line ends in the last bytes that were read, as many as a block has at most
 pub record StopsAtFault (causes : Causes) (bytes : List ℕ) : Type 0 where

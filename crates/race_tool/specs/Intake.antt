@@ -1,20 +1,14 @@
 -- How far a trace was read that is judged meanwhile.
-use Rattle.std.specs.Prelude.{◌≡◌, ◌≢◌, IfOk, ℕ, ◌<◌, ◌≤◌, Bool, true, IsTrue, List, vec_len, Option, Result, Err, MatchBool, MatchResult}
-use Rattle.race_records.specs.declared.source.Source.{Source}
-use Rattle.race_records.specs.Devices.{unread, source_reads, source_failures, more_by, one_more}
-use Rattle.race_text.specs.declared.cause.TextFault.{TextFault}
-use Rattle.race_text.specs.declared.fed.Fed.{Fed}
-use Rattle.race_text.specs.declared.stream.EventStream.{EventStream}
-use Rattle.race_text.specs.Fault.{trace_causes}
-use Rattle.race_text.specs.Fed.{IsFed}
-use Rattle.race_text.specs.Stream.{has_events}
-use Rattle.race_tool.specs.declared.gathered.Gathered.{Gathered}
-use Rattle.race_tool.specs.declared.input.ReadFault.{ReadFault}
-use Rattle.race_tool.specs.declared.input.TheConstants.{BLOCK, MAX_TURNS}
-use Rattle.race_tool.specs.declared.judged_stream.JudgedStream.{JudgedStream}
-use Rattle.race_tool.specs.declared.intake.Intake.{Intake}
-use Rattle.race_tool.specs.Input.{HasRead, HasReadAll, IsBetweenFine, ReadsBy, ReadsFine, ReadsMany}
-use Rattle.race_tool.specs.Streams.{IsReadText}
+use Rattle.std.specs.Prelude.{◌≡◌, ◌≢◌, IfOk, ℕ, ◌<◌, ◌≤◌, Bool, true, IsTrue, List, vec_len, Option, Result, Err}
+use Rattle.std.specs.Prelude.{MatchBool, MatchResult}
+use Rattle.race_records.specs.{declared.source.Source.Source, Devices.{unread, source_reads, source_failures, more_by}}
+use Rattle.race_records.specs.Devices.{one_more}
+use Rattle.race_text.specs.declared.{cause.TextFault.TextFault, fed.Fed.Fed, stream.EventStream.EventStream}
+use Rattle.race_text.specs.{Fault.trace_causes, Fed.IsFed, Stream.has_events}
+use Rattle.race_tool.specs.declared.{gathered.Gathered.Gathered, input.ReadFault.ReadFault}
+use Rattle.race_tool.specs.declared.{input.TheConstants.{BLOCK, MAX_TURNS}, judged_stream.JudgedStream.JudgedStream}
+use Rattle.race_tool.specs.{declared.intake.Intake.Intake, Input.{HasRead, HasReadAll, IsBetweenFine, ReadsBy}}
+use Rattle.race_tool.specs.{Input.{ReadsFine, ReadsMany}, Streams.IsReadText}
 
 -- a reader by the grammar over a stream, as one of the stream itself
 abbrev pub of_stream : {L A : Type 0} → Fed (Gathered L A) A → Fed (EventStream A) A

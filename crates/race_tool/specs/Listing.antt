@@ -2,12 +2,8 @@
 use Rattle.std.specs.Prelude.{ℕ, ◌≡◌, ◌<◌, ◌≤◌, List, length, Some}
 use Rattle.race_records.specs.Events.{TraceState}
 use Rattle.race_model.specs.Legal.{IsLegal, IsIllegalAt}
-use Rattle.race_text.specs.declared.cause.TextFault.{TextFault}
-use Rattle.race_text.specs.Fault.{text_fault}
-use Rattle.race_text.specs.Text.{IsTextOf}
-use Rattle.race_edges.specs.declared.fault.TheConstants.{MAX_PLAIN_EVENTS}
-use Rattle.race_edges.specs.declared.listing.Edge.{Edge}
-use Rattle.race_edges.specs.Edges.{AreEdges}
+use Rattle.race_text.specs.{declared.cause.TextFault.TextFault, Fault.text_fault, Text.IsTextOf}
+use Rattle.race_edges.specs.{declared.{fault.TheConstants.MAX_PLAIN_EVENTS, listing.Edge.Edge}, Edges.AreEdges}
 use Rattle.race_verdict.specs.Traces.{capacities}
 use Rattle.race_report.specs.Report.{fault_line, illegal_line, edges_text}
 use Rattle.race_tool.specs.Report.{too_long_line}

@@ -1,18 +1,14 @@
 -- How an engine ends: what was read, what was written, and which device failed.
 use Rattle.std.specs.Prelude.{ℕ, ◌≡◌, ◌≢◌, ◌⊎◌, ◌&&◌, nat_le, Bool, List, Option, Result, Ok, Err, IfOk}
 use Rattle.std.specs.Io.KnownBytes.{Appends}
-use Rattle.race_records.specs.declared.source.Source.{Source}
-use Rattle.race_records.specs.declared.sink.Sink.{Sink}
-use Rattle.race_records.specs.Devices.{unread, written, source_failures, sink_failures, one_more}
-use Rattle.race_records.specs.Page.{IsCutOff}
-use Rattle.race_tool.specs.declared.check.CheckOptions.{CheckOptions}
-use Rattle.race_tool.specs.declared.engine.NoFinding.{NoFinding}
+use Rattle.race_records.specs.{declared.{source.Source.Source, sink.Sink.Sink}, Devices.{unread, written}}
+use Rattle.race_records.specs.{Devices.{source_failures, sink_failures, one_more}, Page.IsCutOff}
+use Rattle.race_tool.specs.declared.{check.CheckOptions.CheckOptions, engine.NoFinding.NoFinding}
+use Rattle.race_tool.specs.{declared.input.ReadFault.ReadFault, Input.{Reads, ReadsAll, ReadsFine, ReadsMany, IsInput}}
+use Rattle.race_tool.specs.Input.{IsReadBy}
 use Rattle.race_shards.specs.declared.fault.TheConstants.{MAX_SHARDS, MAX_BLOCK}
-use Rattle.race_tool.specs.declared.input.ReadFault.{ReadFault}
+use Rattle.race_text.specs.{declared.cause.TextFault.TextFault, Lines.Causes}
 use Rattle.race_tool.specs.declared.status.TheConstants as status
-use Rattle.race_text.specs.declared.cause.TextFault.{TextFault}
-use Rattle.race_text.specs.Lines.{Causes}
-use Rattle.race_tool.specs.Input.{Reads, ReadsAll, ReadsFine, ReadsMany, IsInput, IsReadBy}
 
 -- each option is in its limits
 abbrev pub are_in_limits : CheckOptions → Bool

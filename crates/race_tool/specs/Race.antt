@@ -3,16 +3,12 @@ use Rattle.std.specs.Prelude.{ℕ, ◌≡◌, ◌++◌, Bool, List, length, Opti
 use Rattle.race_records.specs.Events.{TraceState}
 use Rattle.race_model.specs.Verdict.{Verdict, Illegal, Clean, Races}
 use Rattle.race_text.specs.declared.cause.TextFault.{TextFault}
-use Rattle.race_hub.specs.declared.ending.End.{End}
-use Rattle.race_hub.specs.Recording.{RecordingState}
-use Rattle.race_script.specs.Fault.{text_fault}
-use Rattle.race_script.specs.Program.{ProgramState}
-use Rattle.race_script.specs.Text.{IsTextOf}
+use Rattle.race_hub.specs.{declared.ending.End.End, Recording.RecordingState}
+use Rattle.race_script.specs.{Fault.text_fault, Program.ProgramState, Text.IsTextOf}
 use Rattle.race_report.specs.Report.{fault_line, report}
-use Rattle.race_tool.specs.declared.status.TheConstants as status
-use Rattle.race_tool.specs.Finding.{IsVerdictOn}
-use Rattle.race_tool.specs.Report.{too_long_line, end_line}
+use Rattle.race_tool.specs.{Finding.IsVerdictOn, Report.{too_long_line, end_line}}
 use Rattle.race_tool.specs.Run.{IsRunOf, IsTraceOf, status_of_end}
+use Rattle.race_tool.specs.declared.status.TheConstants as status
 
 -- what there is to say of a list of bytes
 pub data JudgedRun : Type 0 where

@@ -1,12 +1,10 @@
 -- A run of the code as the definition has it.
 use Rattle.std.specs.Prelude.{◌≡◌, IfSome, option_map, ⊤}
 use Rattle.race_records.specs.Events.{TraceState}
-use Rattle.race_verdict.specs.declared.verdict.Verdict.{Verdict}
-use Rattle.race_verdict.specs.Verdicts.{verdict_of}
+use Rattle.race_verdict.specs.{declared.verdict.Verdict.Verdict, Verdicts.verdict_of}
 use Rattle.race_hub.specs.Recording.{RecordingState}
 use Rattle.race_report.specs.Printable.{RacesAreOf}
-use Rattle.race_tool.specs.declared.race_found.JudgedRun.{JudgedRun}
-use Rattle.race_tool.specs.declared.run_found.Run.{Run}
+use Rattle.race_tool.specs.declared.{race_found.JudgedRun.JudgedRun, run_found.Run.Run}
 use Rattle.race_tool.specs.Race as race
 use Rattle.race_tool.specs.Run as run
 

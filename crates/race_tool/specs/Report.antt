@@ -1,6 +1,5 @@
 -- What an engine prints beside the reports of race_report.
-use Rattle.std.specs.Prelude.{ℕ, List, [], ◌∷◌, codes}
-use Rattle.std.specs.List.{concat}
+use Rattle.std.specs.{Prelude.{ℕ, List, [], ◌∷◌, codes}, List.concat}
 use Rattle.race_records.specs.Declarations.{Declaration}
 use Rattle.race_hub.specs.declared.ending.End.{End}
 use Rattle.race_text.specs.Text.{goroutine_name}

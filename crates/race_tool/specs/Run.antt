@@ -1,20 +1,11 @@
 -- What a run finds of a list of bytes, what it prints of it, and with which status.
 use Rattle.std.specs.Prelude.{ℕ, ◌≡◌, ◌&&◌, ◌⊎◌, nat_le, Bool, List, map, Option, Some, IfSome}
-use Rattle.race_records.specs.declared.trace.TheConstants.{MAX_EVENTS}
-use Rattle.race_records.specs.Events.{TraceState}
-use Rattle.race_text.specs.declared.cause.TextFault.{TextFault}
-use Rattle.race_text.specs.Text.{HasText, text}
-use Rattle.race_hub.specs.declared.ending.End.{End}
-use Rattle.race_hub.specs.Hub.{HubState}
-use Rattle.race_hub.specs.Opening.{IsOpening}
-use Rattle.race_hub.specs.Recording.{RecordingState}
-use Rattle.race_script.specs.Certificate.{IsCertified}
-use Rattle.race_script.specs.Fault.{text_fault}
-use Rattle.race_script.specs.Program.{ProgramState}
-use Rattle.race_script.specs.Run.{ScriptState, Asks}
+use Rattle.race_records.specs.{declared.trace.TheConstants.MAX_EVENTS, Events.TraceState}
+use Rattle.race_text.specs.{declared.cause.TextFault.TextFault, Text.{HasText, text}}
+use Rattle.race_hub.specs.{declared.ending.End.End, Hub.HubState, Opening.IsOpening, Recording.RecordingState}
+use Rattle.race_script.specs.{Certificate.IsCertified, Fault.text_fault, Program.ProgramState, Run.{ScriptState, Asks}}
 use Rattle.race_script.specs.Text.{IsTextOf}
-use Rattle.race_record.specs.Recorded.{IsRecordingOf}
-use Rattle.race_record.specs.Serial.{IsSerial, IsTurnedAway}
+use Rattle.race_record.specs.{Recorded.IsRecordingOf, Serial.{IsSerial, IsTurnedAway}}
 use Rattle.race_report.specs.Report.{fault_line}
 use Rattle.race_tool.specs.declared.status.TheConstants as status
 

@@ -1,24 +1,15 @@
 -- A trace that is judged while it is read: its events are handed on to a judge, and forgotten.
-use Rattle.std.specs.Prelude.{◌≡◌, ℕ, true, IsTrue, List, [], ◌++◌, Option, Some, None}
-use Rattle.std.specs.Option.{is_some}
-use Rattle.race_records.specs.declared.event.Event.{Event}
-use Rattle.race_records.specs.Declarations.{DeclsState}
-use Rattle.race_records.specs.Events.{TraceState}
-use Rattle.race_verdict.specs.declared.notes.NotedVerdict.{NotedVerdict}
-use Rattle.race_verdict.specs.Notes.{verdict_noted, IsNotedOf}
+use Rattle.std.specs.{Prelude.{◌≡◌, ℕ, true, IsTrue, List, [], ◌++◌, Option, Some, None}, Option.is_some}
+use Rattle.race_records.specs.{declared.event.Event.Event, Declarations.DeclsState, Events.TraceState}
+use Rattle.race_verdict.specs.{declared.notes.NotedVerdict.NotedVerdict, Notes.{verdict_noted, IsNotedOf}}
 use Rattle.race_verdict.specs.Traces.{HasVerdict}
-use Rattle.race_shards.specs.Judging.{JudgeState}
-use Rattle.race_shards.specs.Limits.{is_block}
-use Rattle.race_shards.specs.Judging as judging
-use Rattle.race_text.specs.declared.stream.EventStream.{EventStream}
-use Rattle.race_text.specs.Fault.{text_fault}
-use Rattle.race_text.specs.Stream.{StandsWith, decls_of, has_events, trace_with}
-use Rattle.race_text.specs.Text.{IsTextOf}
-use Rattle.race_report.specs.Noted.{report_noted}
-use Rattle.race_report.specs.Report.{fault_line}
-use Rattle.race_tool.specs.declared.handed.Handed.{Handed}
-use Rattle.race_tool.specs.declared.judged_stream.JudgedStream.{JudgedStream}
+use Rattle.race_shards.specs.{Judging.JudgeState, Limits.is_block}
+use Rattle.race_text.specs.{declared.stream.EventStream.EventStream, Fault.text_fault, Stream.{StandsWith, decls_of}}
+use Rattle.race_text.specs.{Stream.{has_events, trace_with}, Text.IsTextOf}
+use Rattle.race_report.specs.{Noted.report_noted, Report.fault_line}
+use Rattle.race_tool.specs.declared.{handed.Handed.Handed, judged_stream.JudgedStream.JudgedStream}
 use Rattle.race_tool.specs.declared.stream_found.Found.{Found}
+use Rattle.race_shards.specs.Judging as judging
 use Rattle.race_tool.specs.declared.status.TheConstants as status
 
 -- the judge stands for these events; before the first one there is no judge

@@ -1,19 +1,11 @@
 -- What there is to show of a list of bytes where the witness of a variable's race is asked for, what is printed of it, and with which status.
-use Rattle.std.specs.Prelude.{ℕ, ◌≡◌, List, [], ◌∷◌, Some, codes}
-use Rattle.std.specs.List.{concat}
-use Rattle.race_records.specs.declared.kind.Named.{Named}
-use Rattle.race_records.specs.Declarations.{find_name}
-use Rattle.race_records.specs.Events.{TraceState}
-use Rattle.race_model.specs.Legal.{IsLegal, IsIllegalAt}
-use Rattle.race_model.specs.Race.{IsRace, IsReportedRace}
-use Rattle.race_text.specs.declared.cause.TextFault.{TextFault}
-use Rattle.race_text.specs.Fault.{text_fault}
-use Rattle.race_text.specs.Text.{IsTextOf}
-use Rattle.race_verdict.specs.declared.races.Race.{Race}
-use Rattle.race_verdict.specs.Traces.{capacities}
+use Rattle.std.specs.{Prelude.{ℕ, ◌≡◌, List, [], ◌∷◌, Some, codes}, List.concat}
+use Rattle.race_records.specs.{declared.kind.Named.Named, Declarations.find_name, Events.TraceState}
+use Rattle.race_model.specs.{Legal.{IsLegal, IsIllegalAt}, Race.{IsRace, IsReportedRace}}
+use Rattle.race_text.specs.{declared.cause.TextFault.TextFault, Fault.text_fault, Text.IsTextOf}
+use Rattle.race_verdict.specs.{declared.races.Race.Race, Traces.capacities}
 use Rattle.race_shards.specs.Witness.{IsWitness}
-use Rattle.race_report.specs.Report.{newline, fault_line, illegal_line}
-use Rattle.race_report.specs.Witness.{witness_text}
+use Rattle.race_report.specs.{Report.{newline, fault_line, illegal_line}, Witness.witness_text}
 use Rattle.race_tool.specs.declared.status.TheConstants as status
 
 -- what there is to show of a list of bytes and a name

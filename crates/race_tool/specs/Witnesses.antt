@@ -1,17 +1,11 @@
 -- What the code has to show as the definition has it, and what the engine of witnesses promises.
 use Rattle.std.specs.Prelude.{ℕ, ◌≡◌, ◌<◌, List, All, Option, Some, None, length, slice_get, ⊤}
-use Rattle.race_records.specs.declared.source.Source.{Source}
-use Rattle.race_records.specs.declared.sink.Sink.{Sink}
-use Rattle.race_records.specs.Events.{TraceState}
-use Rattle.race_text.specs.Fault.{trace_causes}
-use Rattle.race_text.specs.Text.{IsTextOf}
+use Rattle.race_records.specs.{declared.{source.Source.Source, sink.Sink.Sink}, Events.TraceState}
+use Rattle.race_text.specs.{Fault.trace_causes, Text.IsTextOf}
 use Rattle.race_legal.specs.Rules.{number_of}
-use Rattle.race_verdict.specs.declared.races.Race.{Race}
-use Rattle.race_verdict.specs.Traces.{capacities}
+use Rattle.race_verdict.specs.{declared.races.Race.Race, Traces.capacities}
 use Rattle.race_shards.specs.Witness.{IsWitness}
-use Rattle.race_tool.specs.declared.witness_found.Found.{Found}
-use Rattle.race_tool.specs.Engines.{Never}
-use Rattle.race_tool.specs.Outcome.{Answers}
+use Rattle.race_tool.specs.{declared.witness_found.Found.Found, Engines.Never, Outcome.Answers}
 use Rattle.race_tool.specs.Witness as spec
 
 -- what was found

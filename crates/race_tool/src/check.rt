@@ -1,8 +1,7 @@
 //! The engine of `gorace check`: a trace's text in, its report out.
 ghost use Rattle.std.specs.Prelude.{◌≡◌, true, false};
 ghost use Rattle.race_text.specs.Fault.{trace_causes};
-ghost use Rattle.race_tool.specs.Engines.{Checks, Never};
-ghost use Rattle.race_tool.specs.Outcome.{are_in_limits, Answers};
+ghost use Rattle.race_tool.specs.{Engines.{Checks, Never}, Outcome.{are_in_limits, Answers}};
 ghost use Rattle.race_tool.specs.Streams as spec;
 ghost use Rattle.race_tool.specs.declared.status.TheConstants as status;
 
@@ -136,8 +135,7 @@ struct Plain<A: Allocator + Copy> {
 }
 
 impl<A: Allocator + Copy> Engine for Plain<A> {
-    ghost use Rattle.race_tool.specs.Finding.{IsFinding, report_of, status_of};
-    ghost use Rattle.race_tool.specs.Findings.{finding_of};
+    ghost use Rattle.race_tool.specs.{Finding.{IsFinding, report_of, status_of}, Findings.finding_of};
 
     type Reader = Reader<A>;
 

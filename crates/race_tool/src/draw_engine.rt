@@ -92,8 +92,7 @@ struct Drawing<'a, A: Allocator + Copy> {
 }
 
 impl<'a, A: Allocator + Copy> Engine for Drawing<'a, A> {
-    ghost use Rattle.race_tool.specs.Engines.{Never};
-    ghost use Rattle.race_tool.specs.Draw.{IsDrawing, drawing_text, drawing_status};
+    ghost use Rattle.race_tool.specs.{Engines.Never, Draw.{IsDrawing, drawing_text, drawing_status}};
     ghost use Rattle.race_tool.specs.Drawings.{drawing_of, name_in};
 
     type Reader = Reader<A>;

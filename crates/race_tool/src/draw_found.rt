@@ -1,16 +1,13 @@
 //! What there is to draw of a list of bytes.
 ghost use Rattle.std.specs.Prelude.{◌≡◌, All, Some, None, IfOk};
 ghost use Rattle.race_model.specs.Legal.{IsLegal};
-ghost use Rattle.race_model.specs.Verdict as model;
-ghost use Rattle.race_text.specs.Fault.{trace_causes};
-ghost use Rattle.race_text.specs.Output.{Writes};
-ghost use Rattle.race_text.specs.Text.{IsTextOf};
+ghost use Rattle.race_text.specs.{Fault.trace_causes, Output.Writes, Text.IsTextOf};
 ghost use Rattle.race_verdict.specs.Traces.{capacities, HasVerdict};
 ghost use Rattle.race_shards.specs.Witness.{RacesInOrder};
-ghost use Rattle.race_tool.specs.Engines.{Never};
-ghost use Rattle.race_tool.specs.Outcome.{Finds};
+ghost use Rattle.race_tool.specs.{Engines.Never, Outcome.Finds, Drawings.{drawing_of, name_in, IsDrawingOn}};
+ghost use Rattle.race_tool.specs.Drawings.{AreDrawnOf, AreRacesOf};
+ghost use Rattle.race_model.specs.Verdict as model;
 ghost use Rattle.race_tool.specs.Draw as spec;
-ghost use Rattle.race_tool.specs.Drawings.{drawing_of, name_in, IsDrawingOn, AreDrawnOf, AreRacesOf};
 
 use crate::engine::NoFinding;
 use crate::no_race::write_no_race;

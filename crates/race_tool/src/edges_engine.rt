@@ -38,8 +38,7 @@ struct Listing<A: Allocator + Copy> {
 }
 
 impl<A: Allocator + Copy> Engine for Listing<A> {
-    ghost use Rattle.race_tool.specs.Engines.{Never};
-    ghost use Rattle.race_tool.specs.Listing.{IsListing, listing_text, listing_status};
+    ghost use Rattle.race_tool.specs.{Engines.Never, Listing.{IsListing, listing_text, listing_status}};
     ghost use Rattle.race_tool.specs.Listings.{listing_of};
 
     type Reader = Reader<A>;

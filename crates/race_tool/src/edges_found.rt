@@ -1,14 +1,10 @@
 //! What there is to list of a list of bytes.
 ghost use Rattle.std.specs.Prelude.{◌≡◌, ◌≤◌, length, IfOk};
-ghost use Rattle.race_text.specs.Fault.{trace_causes};
-ghost use Rattle.race_text.specs.Output.{Writes};
-ghost use Rattle.race_text.specs.Text.{IsTextOf};
+ghost use Rattle.race_text.specs.{Fault.trace_causes, Output.Writes, Text.IsTextOf};
 ghost use Rattle.race_edges.specs.declared.fault.TheConstants.{MAX_PLAIN_EVENTS};
 ghost use Rattle.race_verdict.specs.Traces.{IsIllegal};
-ghost use Rattle.race_tool.specs.Engines.{Never};
+ghost use Rattle.race_tool.specs.{Engines.Never, Listings.{listing_of, IsListingOn, CanBeListed}, Outcome.Finds};
 ghost use Rattle.race_tool.specs.Listing as spec;
-ghost use Rattle.race_tool.specs.Listings.{listing_of, IsListingOn, CanBeListed};
-ghost use Rattle.race_tool.specs.Outcome.{Finds};
 
 use crate::engine::NoFinding;
 use crate::printing::write_too_long;

@@ -1,13 +1,9 @@
 //! What there is to say of a list of bytes.
 ghost use Rattle.std.specs.Prelude.{◌≡◌, true, IfOk, option_map};
-ghost use Rattle.race_verdict.specs.Traces.{HasVerdict};
-ghost use Rattle.race_verdict.specs.Verdicts.{verdict_of};
-ghost use Rattle.race_text.specs.Fault.{trace_causes};
-ghost use Rattle.race_text.specs.Text.{IsTextOf};
-ghost use Rattle.race_tool.specs.Engines.{Never};
+ghost use Rattle.race_verdict.specs.{Traces.HasVerdict, Verdicts.verdict_of};
+ghost use Rattle.race_text.specs.{Fault.trace_causes, Text.IsTextOf};
+ghost use Rattle.race_tool.specs.{Engines.Never, Findings.{finding_of, IsFindingOn}, Outcome.Finds};
 ghost use Rattle.race_tool.specs.Finding as spec;
-ghost use Rattle.race_tool.specs.Findings.{finding_of, IsFindingOn};
-ghost use Rattle.race_tool.specs.Outcome.{Finds};
 
 use crate::check::CheckOptions;
 use crate::engine::NoFinding;

@@ -1,13 +1,9 @@
 //! A stream of events as the grammar of a text, of which some events were handed on.
-ghost use Rattle.std.specs.Prelude.{◌≡◌, ◌≢◌, [], length, Some, None, IfOk, IfErr, OnOk};
-ghost use Rattle.std.specs.Io.KnownBytes.{Keeps};
+ghost use Rattle.std.specs.{Prelude.{◌≡◌, ◌≢◌, [], length, Some, None, IfOk, IfErr, OnOk}, Io.KnownBytes.Keeps};
 ghost use Rattle.race_records.specs.Devices.{unread, source_reads, source_failures, one_more};
-ghost use Rattle.race_text.specs.declared.cause.TextCause.{TextCause as Cause};
-ghost use Rattle.race_text.specs.Fault.{trace_causes};
-ghost use Rattle.race_text.specs.Fed.{ForEachFedTo, IsFed, IsReady};
-ghost use Rattle.race_text.specs.Lines.{first_fault};
-ghost use Rattle.race_tool.specs.Input.{FeedsMore, IsBetweenFine};
-ghost use Rattle.race_tool.specs.Intake.{of_stream};
+ghost use Rattle.race_text.specs.{declared.{cause.{TextCause.{TextCause as Cause}}}, Fault.trace_causes};
+ghost use Rattle.race_text.specs.{Fed.{ForEachFedTo, IsFed, IsReady}, Lines.first_fault};
+ghost use Rattle.race_tool.specs.{Input.{FeedsMore, IsBetweenFine}, Intake.of_stream};
 ghost use Rattle.race_tool.specs.Streams.{StandsBehind, IsTextBehind};
 
 use crate::handed::Handed;

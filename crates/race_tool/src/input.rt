@@ -1,9 +1,7 @@
 //! Reading an input block by block, to its end or to its first faulty line.
-ghost use Rattle.std.specs.Prelude.{◌≡◌, ◌≢◌, [], length, vec_len, None, IfOk, IfErr, OnOk};
-ghost use Rattle.std.specs.Io.KnownBytes.{Keeps};
+ghost use Rattle.std.specs.{Prelude.{◌≡◌, ◌≢◌, [], length, vec_len, None, IfOk, IfErr, OnOk}, Io.KnownBytes.Keeps};
 ghost use Rattle.race_records.specs.Devices.{unread, source_reads, source_failures, one_more};
-ghost use Rattle.race_text.specs.declared.cause.TextCause.{TextCause as Cause};
-ghost use Rattle.race_text.specs.Fed.{IsFed, IsReady};
+ghost use Rattle.race_text.specs.{declared.{cause.{TextCause.{TextCause as Cause}}}, Fed.{IsFed, IsReady}};
 ghost use Rattle.race_tool.specs.Input.{ReadsInput, FeedsMore};
 
 use race_records::Source;

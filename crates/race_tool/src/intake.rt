@@ -2,12 +2,9 @@
 ghost use Rattle.std.specs.Prelude.{◌≡◌, ◌≢◌, ◌<◌, true, [], Some, IfOk, IfErr, OnOk, OnErr};
 ghost use Rattle.race_records.specs.Devices.{unread, source_failures, one_more};
 ghost use Rattle.race_shards.specs.Limits.{is_block};
-ghost use Rattle.race_text.specs.declared.cause.TextCause.{TextCause as Cause};
-ghost use Rattle.race_text.specs.Fault.{trace_causes};
-ghost use Rattle.race_text.specs.Fed.{ForEachFedTo};
-ghost use Rattle.race_text.specs.Lines.{first_fault};
-ghost use Rattle.race_tool.specs.Input.{ReadsInput};
-ghost use Rattle.race_tool.specs.Intake.{IsReadable, ReadsOn, of_stream, with_reader};
+ghost use Rattle.race_text.specs.{declared.{cause.{TextCause.{TextCause as Cause}}}, Fault.trace_causes};
+ghost use Rattle.race_text.specs.{Fed.ForEachFedTo, Lines.first_fault};
+ghost use Rattle.race_tool.specs.{Input.ReadsInput, Intake.{IsReadable, ReadsOn, of_stream, with_reader}};
 ghost use Rattle.race_tool.specs.Streams as spec;
 
 use crate::gathered::{

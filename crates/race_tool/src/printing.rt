@@ -1,8 +1,6 @@
 //! What an engine prints: a report, or that there are too many events.
 ghost use Rattle.race_text.specs.Output.{Writes};
-ghost use Rattle.race_tool.specs.Finding.{report_of};
-ghost use Rattle.race_tool.specs.Findings.{finding_of, IsPrintable};
-ghost use Rattle.race_tool.specs.Report.{too_long_line};
+ghost use Rattle.race_tool.specs.{Finding.report_of, Findings.{finding_of, IsPrintable}, Report.too_long_line};
 
 use crate::finding::Finding;
 use race_records::{Page, Sink, WriteFault};

@@ -1,8 +1,6 @@
 //! The engine of `gorace race`: a program's text in, the report of a run of it and its end out.
 ghost use Rattle.std.specs.Prelude.{◌≡◌, ◌&&◌, true, false};
-ghost use Rattle.race_tool.specs.Engines.{Judges};
-ghost use Rattle.race_tool.specs.Outcome.{are_in_limits};
-ghost use Rattle.race_tool.specs.Options.{are_run_limits, picks_asked};
+ghost use Rattle.race_tool.specs.{Engines.Judges, Outcome.are_in_limits, Options.{are_run_limits, picks_asked}};
 ghost use Rattle.race_tool.specs.declared.status.TheConstants as status;
 
 use crate::check::CheckOptions;
@@ -70,8 +68,7 @@ struct Judging<'a, A: Allocator + Copy> {
 }
 
 impl<A: Allocator + Copy> Engine for Judging<'_, A> {
-    ghost use Rattle.race_tool.specs.Race.{IsJudgedRun, judged_text, judged_status};
-    ghost use Rattle.race_tool.specs.Recorded.{judged_run_of};
+    ghost use Rattle.race_tool.specs.{Race.{IsJudgedRun, judged_text, judged_status}, Recorded.judged_run_of};
     ghost use Rattle.race_tool.specs.Run.{IsProgramWhere, IsRefusedRun};
 
     type Reader = Reader<A>;

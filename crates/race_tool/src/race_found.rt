@@ -1,14 +1,11 @@
 //! What a judged run of a program comes to.
 ghost use Rattle.std.specs.Prelude.{◌≡◌, IfSome, option_map};
 ghost use Rattle.race_verdict.specs.Verdicts.{verdict_of};
-ghost use Rattle.race_script.specs.Fault.{program_causes};
-ghost use Rattle.race_script.specs.Text.{IsTextOf};
+ghost use Rattle.race_script.specs.{Fault.program_causes, Text.IsTextOf};
 ghost use Rattle.race_text.specs.Output.{Writes};
-ghost use Rattle.race_tool.specs.Outcome.{Finds};
-ghost use Rattle.race_tool.specs.Options.{picks_asked};
+ghost use Rattle.race_tool.specs.{Outcome.Finds, Options.picks_asked, Recorded.{trace_of, judged_run_of}};
+ghost use Rattle.race_tool.specs.{Recorded.{RacesAreOfRun, CanBePrinted}, Run.{IsProgramWhere, IsRefusedRun}};
 ghost use Rattle.race_tool.specs.Race as spec;
-ghost use Rattle.race_tool.specs.Recorded.{trace_of, judged_run_of, RacesAreOfRun, CanBePrinted};
-ghost use Rattle.race_tool.specs.Run.{IsProgramWhere, IsRefusedRun};
 
 use crate::check::CheckOptions;
 use crate::engine::NoFinding;

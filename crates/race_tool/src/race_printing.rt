@@ -1,11 +1,9 @@
 //! What is printed of a judged run: the report of its trace, and how it ended.
 ghost use Rattle.std.specs.Prelude.{◌≡◌, ◌++◌};
 ghost use Rattle.race_records.specs.Page.{Printing};
-ghost use Rattle.race_text.specs.Output.{Writes};
+ghost use Rattle.race_text.specs.{Output.Writes, Text.goroutine_name};
 ghost use Rattle.race_verdict.specs.Verdicts.{verdict_of};
-ghost use Rattle.race_text.specs.Text.{goroutine_name};
-ghost use Rattle.race_report.specs.Printable.{RacesAreOf};
-ghost use Rattle.race_report.specs.Report.{report};
+ghost use Rattle.race_report.specs.{Printable.RacesAreOf, Report.report};
 ghost use Rattle.race_tool.specs.Report as spec;
 
 use race_hub::End;

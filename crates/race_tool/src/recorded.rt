@@ -1,11 +1,9 @@
 //! A program's run.
 ghost use Rattle.std.specs.Prelude.{◌≡◌, ◌↔◌, length, Err, IfOk, IfErr, IfSome};
 ghost use Rattle.race_script.specs.Certificate.{IsCertified};
-ghost use Rattle.race_record.specs.Recorded.{IsRecordingOf};
-ghost use Rattle.race_record.specs.Serial.{IsSerial, IsTurnedAway};
-ghost use Rattle.race_tool.specs.Options.{picks_asked};
-ghost use Rattle.race_tool.specs.Recorded.{trace_of};
-ghost use Rattle.race_tool.specs.Run.{scripts_of, IsRunOf, IsRefusedRun, IsTraceOf};
+ghost use Rattle.race_record.specs.{Recorded.IsRecordingOf, Serial.{IsSerial, IsTurnedAway}};
+ghost use Rattle.race_tool.specs.{Options.picks_asked, Recorded.trace_of, Run.{scripts_of, IsRunOf, IsRefusedRun}};
+ghost use Rattle.race_tool.specs.Run.{IsTraceOf};
 
 use crate::engine::NoFinding;
 use crate::run_engine::RunOptions;

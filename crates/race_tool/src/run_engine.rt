@@ -104,8 +104,7 @@ struct Running<'a, A: Allocator + Copy> {
 }
 
 impl<A: Allocator + Copy> Engine for Running<'_, A> {
-    ghost use Rattle.race_tool.specs.Recorded.{run_of};
-    ghost use Rattle.race_tool.specs.Run.{IsProgramWhere, IsRefusedRun, IsRun, run_text, run_status};
+    ghost use Rattle.race_tool.specs.{Recorded.run_of, Run.{IsProgramWhere, IsRefusedRun, IsRun, run_text, run_status}};
 
     type Reader = Reader<A>;
 

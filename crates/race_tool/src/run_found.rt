@@ -1,11 +1,8 @@
 //! What a run of a program comes to.
 ghost use Rattle.std.specs.Prelude.{◌≡◌};
-ghost use Rattle.race_script.specs.Fault.{program_causes};
-ghost use Rattle.race_script.specs.Text.{IsTextOf};
+ghost use Rattle.race_script.specs.{Fault.program_causes, Text.IsTextOf};
 ghost use Rattle.race_text.specs.Output.{Writes};
-ghost use Rattle.race_tool.specs.Outcome.{Finds};
-ghost use Rattle.race_tool.specs.Options.{picks_asked};
-ghost use Rattle.race_tool.specs.Recorded.{run_of};
+ghost use Rattle.race_tool.specs.{Outcome.Finds, Options.picks_asked, Recorded.run_of};
 ghost use Rattle.race_tool.specs.Run as spec;
 
 use crate::engine::NoFinding;

@@ -1,8 +1,7 @@
 //! What there is to say of a list of bytes of which each event was judged as it was read.
 ghost use Rattle.std.specs.Prelude.{◌≡◌, ℕ, true, List, IfOk};
 ghost use Rattle.race_shards.specs.Limits.{is_block};
-ghost use Rattle.race_text.specs.Fault.{trace_causes};
-ghost use Rattle.race_text.specs.Output.{Writes};
+ghost use Rattle.race_text.specs.{Fault.trace_causes, Output.Writes};
 ghost use Rattle.race_tool.specs.Input.{IsReadBy};
 ghost use Rattle.race_tool.specs.Streams as spec;
 

@@ -1,8 +1,7 @@
 //! Reading a trace that is judged meanwhile.
 ghost use Rattle.std.specs.Prelude.{◌≡◌, true, OnOk};
 ghost use Rattle.race_shards.specs.Limits.{is_block};
-ghost use Rattle.race_text.specs.Fault.{trace_causes};
-ghost use Rattle.race_text.specs.Fed.{ForEachFedTo, IsFed, IsReady};
+ghost use Rattle.race_text.specs.{Fault.trace_causes, Fed.{ForEachFedTo, IsFed, IsReady}};
 ghost use Rattle.race_tool.specs.Input.{ReadsInput};
 ghost use Rattle.race_tool.specs.Streams as spec;
 

@@ -43,8 +43,7 @@ struct Showing<'a, A: Allocator + Copy> {
 }
 
 impl<'a, A: Allocator + Copy> Engine for Showing<'a, A> {
-    ghost use Rattle.race_tool.specs.Engines.{Never};
-    ghost use Rattle.race_tool.specs.Witness.{IsShowing, showing_text, showing_status};
+    ghost use Rattle.race_tool.specs.{Engines.Never, Witness.{IsShowing, showing_text, showing_status}};
     ghost use Rattle.race_tool.specs.Witnesses.{showing_of};
 
     type Reader = Reader<A>;

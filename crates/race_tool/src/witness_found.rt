@@ -1,14 +1,11 @@
 //! What there is to show of a list of bytes where the witness of a variable's race is asked for.
 ghost use Rattle.std.specs.Prelude.{◌≡◌, IfOk};
-ghost use Rattle.race_text.specs.Fault.{trace_causes};
-ghost use Rattle.race_text.specs.Output.{Writes};
-ghost use Rattle.race_text.specs.Text.{IsTextOf};
+ghost use Rattle.race_text.specs.{Fault.trace_causes, Output.Writes, Text.IsTextOf};
 ghost use Rattle.race_verdict.specs.Traces.{capacities};
 ghost use Rattle.race_shards.specs.Witness.{RacesInOrder};
-ghost use Rattle.race_tool.specs.Engines.{Never};
-ghost use Rattle.race_tool.specs.Outcome.{Finds};
+ghost use Rattle.race_tool.specs.{Engines.Never, Outcome.Finds, Witnesses.{showing_of, IsShowingOn, IsPickedOf}};
+ghost use Rattle.race_tool.specs.Witnesses.{IsShownOf, CanBeShown};
 ghost use Rattle.race_tool.specs.Witness as spec;
-ghost use Rattle.race_tool.specs.Witnesses.{showing_of, IsShowingOn, IsPickedOf, IsShownOf, CanBeShown};
 
 use crate::engine::NoFinding;
 use crate::no_race::write_no_race;

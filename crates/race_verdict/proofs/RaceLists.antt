@@ -1,17 +1,13 @@
 -- The list of the races that are noted.
 use Rattle.std.proofs.Common.{◌≡◌, ◌≢◌, ◌==◌, ℕ, zero, suc, ◌+◌, ◌<◌, true, false, eqb-true, List, [], ◌∷◌, length, map}
-use Rattle.std.proofs.Common.{Option, Some, None, slice_get, get_or, refl, sym, ap, ◌∙◌}
-use Rattle.std.proofs.Common.{subst, arith}
-use Rattle.std.specs.Option.{option_map}
+use Rattle.std.proofs.Common.{Option, Some, None, slice_get, get_or, refl, sym, ap, ◌∙◌, subst, arith}
 use Rattle.std.proofs.lemmas.Option.{slice_get-map, slice_get_within, slice_get-get_or, get_or_from_slice_get}
+use Rattle.std.specs.Option.{option_map}
 use Rattle.race_records.specs.declared.event.Event.{Event}
-use Rattle.race_model.specs.Race.{IsRace, IsDataRaceFree, IsReportedRace}
-use Rattle.race_model.specs.Verdict.{AreReportedRaces}
+use Rattle.race_model.specs.{Race.{IsRace, IsDataRaceFree, IsReportedRace}, Verdict.AreReportedRaces}
+use Rattle.race_verdict.specs.{declared.{notes.NotedRace.NotedRace, races.Race.Race}, Notes.race_noted, Races.race_of}
+use Rattle.race_verdict.specs.Races.{IsFound, AreFound, races_of, AreRaces}
 use Rattle.race_model.specs.Verdict as model
-use Rattle.race_verdict.specs.declared.notes.NotedRace.{NotedRace}
-use Rattle.race_verdict.specs.declared.races.Race.{Race}
-use Rattle.race_verdict.specs.Notes.{race_noted}
-use Rattle.race_verdict.specs.Races.{race_of, IsFound, AreFound, races_of, AreRaces}
 
 -- the race that is noted at index k is on variable n + k
 abbrev pub AreNumbered : ℕ → List (Option Race) → Type 0

@@ -1,19 +1,12 @@
 -- Which numbers an event of a trace may name: those of its declarations.
-use Rattle.std.proofs.Common.{◌≡◌, ℕ, ◌<◌, ◌==◌, true, Option, Some, None, slice_get, IfSome, sym, ◌∙◌, subst, refl, arith, IsTrue, eqb-true}
-use Rattle.std.proofs.lemmas.Bool.Decides.{nat_tests}
-use Rattle.std.proofs.lemmas.Option.{slice_get_within, get_or_from_slice_get}
-use Rattle.std.proofs.Math.Bool.{or-false}
-use Rattle.race_records.specs.declared.event.Event.{Event}
-use Rattle.race_records.specs.declared.event.Op.{Op}
-use Rattle.race_records.specs.declared.event.Op.TheVariants.{Go, Read, Write, Meet}
-use Rattle.race_records.specs.declared.kind.Kind.{Kind}
-use Rattle.race_records.specs.Declarations.{count_of, counts_of}
-use Rattle.race_records.specs.Events.{TraceState, IsTrace, fits}
-use Rattle.race_records.specs.Parts.{op_is_in_range}
-use Rattle.race_legal.specs.ReplayState.{IsInRange}
-use Rattle.race_legal.proofs.RangeLemmas.{range_from_fits}
-use Rattle.race_model.specs.Events.{partner, gives, accesses}
-use Rattle.race_model.specs.Race.{IsAccessOf, IsRace}
+use Rattle.std.proofs.Common.{◌≡◌, ℕ, ◌<◌, ◌==◌, true, Option, Some, None, slice_get, IfSome, sym, ◌∙◌, subst, refl}
+use Rattle.std.proofs.{Common.{arith, IsTrue, eqb-true}, lemmas.Bool.Decides.nat_tests}
+use Rattle.std.proofs.{lemmas.Option.{slice_get_within, get_or_from_slice_get}, Math.Bool.or-false}
+use Rattle.race_records.specs.declared.event.{Event.Event, Op.{Op, TheVariants.{Go, Read, Write, Meet}}}
+use Rattle.race_records.specs.{declared.kind.Kind.Kind, Declarations.{count_of, counts_of}}
+use Rattle.race_records.specs.{Events.{TraceState, IsTrace, fits}, Parts.op_is_in_range}
+use Rattle.race_legal.{specs.ReplayState.IsInRange, proofs.RangeLemmas.range_from_fits}
+use Rattle.race_model.specs.{Events.{partner, gives, accesses}, Race.{IsAccessOf, IsRace}}
 use Rattle.race_verdict.specs.Accesses.{accessed}
 
 -- each event of a trace is in range of its declarations

@@ -1,7 +1,6 @@
 -- Accesses of variables.
 use Rattle.std.specs.Prelude.{ℕ, Bool, true, false, Option, Some, None}
-use Rattle.race_records.specs.declared.event.Op.{Op}
-use Rattle.race_records.specs.declared.event.Op.TheVariants.{Read, Write}
+use Rattle.race_records.specs.declared.event.Op.{Op, TheVariants.{Read, Write}}
 
 -- the variable that the operation accesses
 abbrev pub accessed : Op → Option ℕ

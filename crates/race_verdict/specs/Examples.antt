@@ -1,8 +1,6 @@
 -- A small list of events, and what is noted of it: src/examples.rt proves it.
 use Rattle.std.specs.Prelude.{ℕ, Bool, List, [], ◌∷◌, None}
-use Rattle.race_records.specs.declared.event.Event.{Event}
-use Rattle.race_records.specs.declared.event.Op.{Op}
-use Rattle.race_records.specs.declared.event.Op.TheVariants.{Go, Read, Write}
+use Rattle.race_records.specs.declared.event.{Event.Event, Op.{Op, TheVariants.{Go, Read, Write}}}
 use Rattle.race_verdict.specs.declared.notes.Noted.{Noted}
 
 -- an event of goroutine g at a place

@@ -2,12 +2,10 @@
 use Rattle.std.specs.Prelude.{◌≡◌, ⊤, All, IsTrue, List, length, map}
 use Rattle.race_records.specs.declared.event.Event.{Event}
 use Rattle.race_model.specs.Events.{At, count, is_access}
-use Rattle.race_model.specs.Verdict as model
 use Rattle.race_legal.specs.Rules.{number_of}
-use Rattle.race_verdict.specs.declared.notes.Noted.{Noted}
-use Rattle.race_verdict.specs.declared.notes.NotedRace.{NotedRace}
-use Rattle.race_verdict.specs.declared.notes.NotedVerdict.{NotedVerdict}
+use Rattle.race_verdict.specs.declared.notes.{Noted.Noted, NotedRace.NotedRace, NotedVerdict.NotedVerdict}
 use Rattle.race_verdict.specs.Accesses.{is_write}
+use Rattle.race_model.specs.Verdict as model
 
 -- event n.at of the list is an access by goroutine n.who at place n.place, a write just where n.write
 pub record IsNoteOf (events : List Event) (n : Noted) : Type 0 where

@@ -1,11 +1,9 @@
 -- What a list of races says of a list of events. (The Go Memory Model, "Memory Model": data race)
-use Rattle.std.specs.Prelude.{ℕ, ◌≡◌, ◌<◌, List, length, map, Option, Some, None}
-use Rattle.std.specs.List.{filter_map, slice_index_or}
+use Rattle.std.specs.{Prelude.{ℕ, ◌≡◌, ◌<◌, List, length, map, Option, Some, None}, List.{filter_map, slice_index_or}}
 use Rattle.race_records.specs.declared.event.Event.{Event}
-use Rattle.race_model.specs.Race.{IsRace, IsReportedRace}
-use Rattle.race_model.specs.Verdict.{AreReportedRaces}
-use Rattle.race_model.specs.Verdict as model
+use Rattle.race_model.specs.{Race.{IsRace, IsReportedRace}, Verdict.AreReportedRaces}
 use Rattle.race_verdict.specs.declared.races.Race.{Race}
+use Rattle.race_model.specs.Verdict as model
 
 -- the race as the model has it
 abbrev pub race_of : Race → model.Race

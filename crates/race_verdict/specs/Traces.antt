@@ -1,10 +1,7 @@
 -- The memory model's words on a trace: over its events, with the capacities that it declares.
 use Rattle.std.specs.Prelude.{ℕ}
-use Rattle.race_records.specs.Declarations.{capacity_of}
-use Rattle.race_records.specs.Events.{TraceState}
-use Rattle.race_model.specs.Legal.{IsLegal, IsIllegalAt}
-use Rattle.race_model.specs.Race.{IsRace, IsDataRaceFree}
-use Rattle.race_model.specs.Reorder.{EachReadFindsTheSame}
+use Rattle.race_records.specs.{Declarations.capacity_of, Events.TraceState}
+use Rattle.race_model.specs.{Legal.{IsLegal, IsIllegalAt}, Race.{IsRace, IsDataRaceFree}, Reorder.EachReadFindsTheSame}
 use Rattle.race_model.specs.Verdict.{Verdict, IsVerdict}
 
 -- the capacity of each channel of the trace

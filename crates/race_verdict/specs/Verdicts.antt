@@ -1,9 +1,8 @@
 -- The judge's verdict as the memory model has it.
 use Rattle.std.specs.Prelude.{map}
-use Rattle.race_model.specs.Verdict as model
-use Rattle.race_verdict.specs.declared.verdict.Verdict.{Verdict}
+use Rattle.race_verdict.specs.{declared.verdict.Verdict.Verdict, Races.race_of}
 use Rattle.race_legal.specs.Rules.{number_of}
-use Rattle.race_verdict.specs.Races.{race_of}
+use Rattle.race_model.specs.Verdict as model
 
 -- what the verdict says
 abbrev pub verdict_of : {A : Type 0} → Verdict A → model.Verdict

@@ -1,7 +1,6 @@
 //! What is noted of a small list of events, and what isn't. Each function does nothing, and its contract is the example.
 ghost use Rattle.std.specs.Prelude.{true, false};
-ghost use Rattle.race_verdict.specs.Notes.{IsNoteOf};
-ghost use Rattle.race_verdict.specs.Examples.{write_and_read, note};
+ghost use Rattle.race_verdict.specs.{Notes.IsNoteOf, Examples.{write_and_read, note}};
 
 /// Both accesses are noted, each by its index, its goroutine, whether it is a write, and its place.
 pub fn accesses_are_noted()

@@ -1,11 +1,9 @@
 //! What is printed of a verdict, kept with it, so that no event is looked up when it is printed.
 ghost use Rattle.std.specs.Prelude.{ℕ, ◌≡◌, ◌≢◌, All, List, [], length, map};
 ghost use Rattle.race_records.specs.declared.event.Event.{Event};
-ghost use Rattle.race_model.specs.Events.{count, is_access};
-ghost use Rattle.race_model.specs.Legal.{IsLegal};
-ghost use Rattle.race_model.specs.Verdict.{AreReportedRaces, IsVerdict};
-ghost use Rattle.race_verdict.specs.declared.notes.NotedVerdict.{NotedVerdict};
-ghost use Rattle.race_verdict.specs.Notes.{race_noted, verdict_noted, IsNotedRaceOf, IsNotedOf};
+ghost use Rattle.race_model.specs.{Events.{count, is_access}, Legal.IsLegal, Verdict.{AreReportedRaces, IsVerdict}};
+ghost use Rattle.race_verdict.specs.{declared.notes.NotedVerdict.NotedVerdict, Notes.{race_noted, verdict_noted}};
+ghost use Rattle.race_verdict.specs.Notes.{IsNotedRaceOf, IsNotedOf};
 
 use race_legal::Illegal;
 use std::alloc::{Allocator, Global};

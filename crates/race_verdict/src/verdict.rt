@@ -1,11 +1,8 @@
 //! What can be said of a trace.
 ghost use Rattle.std.specs.Prelude.{◌≡◌, ◌≢◌, ℕ, List, []};
 ghost use Rattle.race_records.specs.declared.event.Event.{Event};
-ghost use Rattle.race_model.specs.Legal.{IsLegal};
-ghost use Rattle.race_model.specs.Verdict.{IsVerdict};
-ghost use Rattle.race_verdict.specs.declared.verdict.Verdict.{Verdict};
-ghost use Rattle.race_verdict.specs.Races.{AreRaces};
-ghost use Rattle.race_verdict.specs.Verdicts.{verdict_of};
+ghost use Rattle.race_model.specs.{Legal.IsLegal, Verdict.IsVerdict};
+ghost use Rattle.race_verdict.specs.{declared.verdict.Verdict.Verdict, Races.AreRaces, Verdicts.verdict_of};
 
 use crate::races::RaceList;
 use race_legal::Illegal;

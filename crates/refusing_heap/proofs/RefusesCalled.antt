@@ -8,13 +8,12 @@ use prog.Memory.{Memory}
 use prog.Routine.{Routine}
 use types.Logic.{Logic, sem}
 use contract.Monad.{Fun}
-use types.Kit.{‵, ◌⊛◌, some, later, ◌$◌, ◌∵◌, !, qed, move, keep, use1, split, join, pick}
-use types.Kit.{fjoin, feq_i, feq_l, check, show, await, updating, now as at_once, done}
+use types.Kit.{‵, ◌⊛◌, some, later, ◌$◌, ◌∵◌, !, qed, move, keep, use1, split, join, pick, fjoin, feq_i, feq_l, check}
+use types.Kit.{show, await, updating, now as at_once, done}
 use denote.Memory.{hidden_shr}
 use denote.Builtin.{bool}
 use denote.Steps.{nothing, only}
-use denote.Triple.Statement.{Contract}
-use denote.Triple.Spec.{triple_of}
+use denote.Triple.{Statement.Contract, Spec.triple_of}
 use Rattle.std.specs.contracts.sync.atomic.AtomicU64 as counter
 use Rattle.refusing_heap.specs.contracts.heap.refuses as F
 

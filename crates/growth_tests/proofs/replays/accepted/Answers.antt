@@ -1,10 +1,8 @@
 -- An event of a trace is in range of a replay that was made for its declarations, which knows of as many objects of each
 -- kind as these.
 use Rattle.std.proofs.Common.{[], ℕ, ap, sym, subst}
-use Rattle.race_records.specs.declared.kind.Kind.{Kind}
-use Rattle.race_records.specs.Declarations.{DeclsState}
-use Rattle.race_legal.specs.StandsFor.{StandsFor}
-use Rattle.race_legal.proofs.RangeLemmas.{in_range}
+use Rattle.race_records.specs.{declared.kind.Kind.Kind, Declarations.DeclsState}
+use Rattle.race_legal.{specs.StandsFor.StandsFor, proofs.RangeLemmas.in_range}
 use Rattle.growth_tests.proofs.replays.accepted.Goals as goal
 
 pub accept-requires-clause-range : goal.accept-requires-clause-range

@@ -1,11 +1,9 @@
 -- The events of a legal trace may come one after another.
 use Rattle.std.proofs.Common.{◌+◌, List, ◌∷◌, ◌++◌, [], sym, subst, take}
 use Rattle.race_records.specs.declared.event.Event.{Event}
-use Rattle.race_model.specs.Legal.{IsLegal}
-use Rattle.race_model.proofs.LegalSteps.{legal_take}
+use Rattle.race_model.{specs.Legal.IsLegal, proofs.LegalSteps.legal_take}
 use Rattle.race_legal.proofs.Fronts.{take_next}
-use Rattle.race_clock.specs.StandsFor.{StandsFor}
-use Rattle.race_clock.proofs.NextFrom.{allowed_last, may_come, room_at}
+use Rattle.race_clock.{specs.StandsFor.StandsFor, proofs.NextFrom.{allowed_last, may_come, room_at}}
 use Rattle.race_verdict.specs.Traces.{capacities}
 use Rattle.growth_tests.proofs.stamps.step_each.Goals as goal
 

@@ -1,9 +1,6 @@
-use Rattle.std.proofs.Common.{◌≡◌, ◌<◌, not, rules, sym, subst}
+use Rattle.std.proofs.{Common.{◌≡◌, ◌<◌, not, rules, sym, subst}, lemmas.{Fn.filter_same, List.Kept.AllPairs-filter}}
 use Rattle.std.specs.List.{filter}
-use Rattle.std.proofs.lemmas.Fn.{filter_same}
-use Rattle.std.proofs.lemmas.List.Kept.{AllPairs-filter}
-use Rattle.race_access.specs.declared.access.Access.{Access}
-use Rattle.race_access.specs.Kept.{is_known, AreRising}
+use Rattle.race_access.specs.{declared.access.Access.Access, Kept.{is_known, AreRising}}
 use Rattle.race_access.proofs.KeepSteps.{drops_by_filter, known_or_kept}
 use Rattle.race_access.proofs.accesses.drop_known.Goals as goal
 

@@ -1,7 +1,6 @@
 use Rattle.std.proofs.Common.{[], ◌∷◌, take, get_or, subst, arith, ◌<◌, ◌≤◌, length}
 use Rattle.std.proofs.lemmas.List.{take_more, take_all}
-use Rattle.race_access.specs.Kept.{IsGreatestUnknown, note_found, no_access}
-use Rattle.race_access.proofs.KeepSteps.{greatest_of_both}
+use Rattle.race_access.{specs.Kept.{IsGreatestUnknown, note_found, no_access}, proofs.KeepSteps.greatest_of_both}
 use Rattle.race_access.proofs.accesses.greatest_unknown.Goals as goal
 
 pub loop-access-preserved : goal.loop-access-preserved

@@ -1,9 +1,6 @@
-use Rattle.std.proofs.Common.{◌≡◌, ◌≤◌, ◌∙◌, List, arith, length, subst}
+use Rattle.std.proofs.{Common.{◌≡◌, ◌≤◌, ◌∙◌, List, arith, length, subst}, lemmas.Result.MatchResult-from_err}
 use Rattle.std.specs.Prelude.{⊤}
-use Rattle.std.proofs.lemmas.Result.{MatchResult-from_err}
-use Rattle.race_access.specs.declared.access.Access.{Access}
-use Rattle.race_access.specs.Kept.{IsPlaceOf}
-use Rattle.race_access.proofs.KeepSteps.{keeps_inserted}
+use Rattle.race_access.{specs.{declared.access.Access.Access, Kept.IsPlaceOf}, proofs.KeepSteps.keeps_inserted}
 use Rattle.race_access.proofs.RisingSteps.{still_none, insert_rises}
 use Rattle.race_access.proofs.accesses.keep_first.Goals as goal
 

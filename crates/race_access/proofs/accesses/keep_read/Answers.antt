@@ -1,12 +1,10 @@
-use Rattle.std.proofs.lemmas.Grind.{common_steps, elements}
-use Rattle.std.proofs.Common.{◌∙◌, List, arith, ap, subst}
-use Rattle.std.proofs.lemmas.List.{get_or_default}
-use Rattle.race_access.specs.declared.access.Access.{Access}
-use Rattle.race_access.specs.Kept.{IsPlaceOf}
-use Rattle.race_access.proofs.KeepSteps.{drops_none, keeps_inserted}
-use Rattle.race_access.proofs.RisingSteps.{has_none, insert_rises}
+use Rattle.std.proofs.{lemmas.{Grind.{common_steps, elements}, List.get_or_default}, Common.{◌∙◌, List, arith, ap}}
+use Rattle.std.proofs.Common.{subst}
+use Rattle.race_access.specs.{declared.access.Access.Access, Kept.IsPlaceOf}
+use Rattle.race_access.proofs.{KeepSteps.{drops_none, keeps_inserted}, RisingSteps.{has_none, insert_rises}}
+use Rattle.race_access.proofs.accesses.keep_read.Goals.{else-place-len-via-then-place-len+else-index-access}
+use Rattle.race_access.proofs.accesses.keep_read.Goals.{else-place-len-via-else-place-len}
 use Rattle.race_access.proofs.accesses.keep_read.Goals as goal
-use Rattle.race_access.proofs.accesses.keep_read.Goals.{else-place-len-via-then-place-len+else-index-access, else-place-len-via-else-place-len}
 
 pub index-requires : goal.index-requires
 index-requires c = grind (arith, common_steps) steps 300000

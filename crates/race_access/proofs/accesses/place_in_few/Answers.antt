@@ -1,7 +1,5 @@
-use Rattle.std.proofs.Common.{false, arith, ap}
-use Rattle.std.proofs.lemmas.List.{get_or_default}
-use Rattle.race_access.specs.declared.access.Access.{Access}
-use Rattle.race_access.proofs.RisingSteps.{never_fall}
+use Rattle.std.proofs.{Common.{false, arith, ap}, lemmas.List.get_or_default}
+use Rattle.race_access.{specs.declared.access.Access.Access, proofs.RisingSteps.never_fall}
 use Rattle.race_access.proofs.accesses.place_in_few.Goals as goal
 
 pub returns-else-reads-place : goal.returns-else-reads-place

@@ -1,5 +1,4 @@
-use Rattle.std.proofs.Common.{◌<◌, ◌≤◌, ◌-◌, length}
-use Rattle.std.specs.List.{AllWithin}
+use Rattle.std.{proofs.Common.{◌<◌, ◌≤◌, ◌-◌, length}, specs.List.AllWithin}
 use Rattle.race_access.specs.declared.access.Access.{Access}
 use Rattle.race_access.proofs.accesses.place_in_few.Given as goal
 

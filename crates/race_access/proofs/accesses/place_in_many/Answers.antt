@@ -1,8 +1,6 @@
-use Rattle.std.proofs.Common.{rules, ltb, ltb-true}
-use Rattle.std.proofs.lemmas.Bool.{ltb-false}
+use Rattle.std.proofs.{Common.{rules, ltb, ltb-true}, lemmas.Bool.ltb-false}
 use Rattle.std.proofs.lemmas.List.Sorted.{IsPartitionPoint-from_clause, IsPartitionedBy-ltb}
-use Rattle.race_access.specs.declared.access.Access.{Access}
-use Rattle.race_access.proofs.RisingSteps.{never_fall}
+use Rattle.race_access.{specs.declared.access.Access.Access, proofs.RisingSteps.never_fall}
 use Rattle.race_access.proofs.accesses.place_in_many.Goals as goal
 
 pub returns : goal.returns

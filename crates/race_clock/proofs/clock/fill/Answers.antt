@@ -1,5 +1,6 @@
 -- A block is at most what is missing, so there is room for it, and it is written out.
-use Rattle.std.proofs.Common.{◌≡◌, ℕ, ◌+◌, ◌≤◌, max, true, false, Result, Ok, Err, OnOk, IsOk, List, ◌++◌, take, length, replicate, ap, ◌∙◌, arith, length-append}
+use Rattle.std.proofs.Common.{◌≡◌, ℕ, ◌+◌, ◌≤◌, max, true, false, Result, Ok, Err, OnOk, IsOk, List, ◌++◌, take, length}
+use Rattle.std.proofs.Common.{replicate, ap, ◌∙◌, arith, length-append}
 use Rattle.std.proofs.lemmas.List.{length-replicate, take-replicate}
 use Rattle.race_clock.proofs.JoinLemmas.{padded_on}
 use Rattle.race_clock.proofs.clock.fill.Goals as goal

@@ -1,7 +1,6 @@
 use Rattle.std.proofs.Common.{List, ◌+◌, ◌∷◌, [], length, ap, ◌∙◌, length-append}
 use Rattle.race_records.specs.Declarations.{capacity_of}
-use Rattle.race_clock.specs.ClocksState.{ChannelState, channel_of, first_channel}
-use Rattle.race_clock.proofs.Opening.{each_more}
+use Rattle.race_clock.{specs.ClocksState.{ChannelState, channel_of, first_channel}, proofs.Opening.each_more}
 use Rattle.race_clock.proofs.clocks.first_channels.Goals as goal
 
 pub loop-chan-preserved : goal.loop-chan-preserved

@@ -1,6 +1,5 @@
 -- At the end the loop has counted to the count.
-use Rattle.std.proofs.Common.{◌≡◌, ◌∙◌, [], ◌∷◌, ◌++◌, ap, add-one, arith}
-use Rattle.std.proofs.lemmas.Result.{IfOk-from_err}
+use Rattle.std.proofs.{Common.{◌≡◌, ◌∙◌, [], ◌∷◌, ◌++◌, ap, add-one, arith}, lemmas.Result.IfOk-from_err}
 use Rattle.race_clock.specs.ClocksState.{SlotState, first_slots}
 use Rattle.race_clock.proofs.clocks.first_slots.Goals as goal
 

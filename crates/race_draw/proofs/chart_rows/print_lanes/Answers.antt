@@ -1,8 +1,5 @@
-use Rattle.std.proofs.Common.{◌≡◌, Ok, ℕ, List, take, subst}
-use Rattle.std.specs.List.{flat_map}
-use Rattle.std.proofs.lemmas.List.{take_all}
-use Rattle.race_records.specs.Page.{Printing}
-use Rattle.race_records.proofs.PageLemmas.{piece_breaks_off}
+use Rattle.std.{proofs.{Common.{◌≡◌, Ok, ℕ, List, take, subst}, lemmas.List.take_all}, specs.List.flat_map}
+use Rattle.race_records.{specs.Page.Printing, proofs.PageLemmas.piece_breaks_off}
 use Rattle.race_draw.specs.Strokes.{lane_cell}
 use Rattle.race_draw.proofs.chart_rows.print_lanes.Goals as goal
 

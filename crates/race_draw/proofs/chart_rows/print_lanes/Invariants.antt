@@ -1,5 +1,4 @@
-use Rattle.std.proofs.Common.{Ok, take}
-use Rattle.std.specs.List.{flat_map}
+use Rattle.std.{proofs.Common.{Ok, take}, specs.List.flat_map}
 use Rattle.race_records.specs.Page.{Printing}
 use Rattle.race_draw.specs.Strokes.{lane_cell}
 use Rattle.race_draw.proofs.chart_rows.print_lanes.Given as goal

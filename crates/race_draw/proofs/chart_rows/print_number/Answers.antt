@@ -1,7 +1,6 @@
 use Rattle.std.proofs.Common.{◌≡◌, ℕ, ◌+◌, ◌-◌, List, [], ◌∷◌, ◌++◌, length, decimal, subst, ap, ◌∙◌}
 use Rattle.race_records.specs.Page.{Printing, joined}
-use Rattle.race_draw.specs.Text.{blanks}
-use Rattle.race_draw.specs.Chart.{number_text}
+use Rattle.race_draw.specs.{Text.blanks, Chart.number_text}
 use Rattle.race_draw.proofs.chart_rows.print_number.Goals as goal
 
 pub returns : goal.returns

@@ -1,8 +1,6 @@
 use Rattle.std.proofs.Common.{Err, ◌++◌, subst}
-use Rattle.race_records.specs.Page.{Printing}
-use Rattle.race_records.proofs.PageLemmas.{prints_behind, breaks_off_before}
-use Rattle.race_draw.specs.declared.strokes.Row.{Row}
-use Rattle.race_draw.specs.Chart.{cells_text, words_text}
+use Rattle.race_records.{specs.Page.Printing, proofs.PageLemmas.{prints_behind, breaks_off_before}}
+use Rattle.race_draw.specs.{declared.strokes.Row.Row, Chart.{cells_text, words_text}}
 use Rattle.race_draw.proofs.chart_rows.print_row.Goals as goal
 
 pub returns-in-Ok : goal.returns-in-Ok

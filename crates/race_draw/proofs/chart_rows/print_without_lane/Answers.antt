@@ -1,10 +1,6 @@
-use Rattle.std.proofs.Common.{◌≡◌, Ok, List, take, subst}
-use Rattle.std.specs.List.{flat_map}
-use Rattle.std.proofs.lemmas.List.{take_all}
-use Rattle.race_records.specs.Page.{Printing}
-use Rattle.race_records.proofs.PageLemmas.{piece_breaks_off}
-use Rattle.race_draw.specs.Chart.{told_if}
-use Rattle.race_draw.specs.declared.clean.Strand.{Strand}
+use Rattle.std.{proofs.{Common.{◌≡◌, Ok, List, take, subst}, lemmas.List.take_all}, specs.List.flat_map}
+use Rattle.race_records.{specs.Page.Printing, proofs.PageLemmas.piece_breaks_off}
+use Rattle.race_draw.specs.{Chart.told_if, declared.clean.Strand.Strand}
 use Rattle.race_draw.proofs.chart_rows.print_without_lane.Goals as goal
 
 pub returns-in-Err : goal.returns-in-Err

@@ -1,8 +1,6 @@
 use Rattle.race_records.proofs.PageLemmas.{prints_behind, breaks_off_before}
-use Rattle.std.proofs.Common.{◌++◌}
-use Rattle.std.specs.List.{flat_map}
-use Rattle.race_draw.specs.Chart.{told_if}
-use Rattle.race_draw.specs.Words.{event_text}
+use Rattle.std.{proofs.Common.◌++◌, specs.List.flat_map}
+use Rattle.race_draw.specs.{Chart.told_if, Words.event_text}
 use Rattle.race_draw.proofs.chart_rows.print_words.Goals as goal
 
 pub returns-in-Ok : goal.returns-in-Ok

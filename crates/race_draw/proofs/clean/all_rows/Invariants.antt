@@ -1,5 +1,4 @@
-use Rattle.std.proofs.Common.{◌≡◌}
-use Rattle.std.specs.List.{range_with_len}
+use Rattle.std.{proofs.Common.◌≡◌, specs.List.range_with_len}
 use Rattle.race_draw.proofs.clean.all_rows.Given as goal
 
 -- the events before this one are there

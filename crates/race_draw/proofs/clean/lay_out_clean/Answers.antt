@@ -1,10 +1,7 @@
-use Rattle.std.proofs.Common.{◌≡◌, nat_lt, length, take, ap, ◌∙◌}
-use Rattle.std.specs.List.{range_with_len}
-use Rattle.race_records.specs.declared.kind.Kind.{Kind}
-use Rattle.race_records.specs.Declarations.{count_of}
-use Rattle.race_draw.specs.declared.clean.TheConstants.{MAX_COLUMNS}
-use Rattle.race_draw.specs.Clean.{kept, strands, taking_part, takes_part, used_lanes}
-use Rattle.race_draw.proofs.CleanLemmas.{can_be_charted}
+use Rattle.std.{proofs.Common.{◌≡◌, nat_lt, length, take, ap, ◌∙◌}, specs.List.range_with_len}
+use Rattle.race_records.specs.{declared.kind.Kind.Kind, Declarations.count_of}
+use Rattle.race_draw.specs.{declared.clean.TheConstants.MAX_COLUMNS, Clean.{kept, strands, taking_part, takes_part}}
+use Rattle.race_draw.{specs.Clean.used_lanes, proofs.CleanLemmas.can_be_charted}
 use Rattle.race_draw.proofs.clean.lay_out_clean.Goals as goal
 
 pub returns-clause-laid_out : goal.returns-clause-laid_out

@@ -1,7 +1,6 @@
 use Rattle.std.proofs.Common.{◌≡◌, ◌+◌, ◌*◌, ◌-◌, length, take, drop, get_or, ap, ◌∙◌, arith, length-drop}
 use Rattle.std.proofs.lemmas.List.{take_all}
-use Rattle.race_draw.specs.Fold.{folds}
-use Rattle.race_draw.proofs.FoldLemmas.{one_more}
+use Rattle.race_draw.{specs.Fold.folds, proofs.FoldLemmas.one_more}
 use Rattle.race_draw.proofs.fold.folded.Goals as goal
 
 pub loop-index-preserved : goal.loop-index-preserved

@@ -1,7 +1,6 @@
 use Rattle.std.proofs.Common.{◌≡◌, ℕ, List, [], ◌∷◌, ◌++◌, length, subst, ap, ◌∙◌}
 use Rattle.race_records.specs.Page.{Printing, joined}
-use Rattle.race_draw.specs.Layout.{missing}
-use Rattle.race_draw.specs.Text.{heads, others_head, has_others, legend, tells_apart, note_of_size}
+use Rattle.race_draw.specs.{Layout.missing, Text.{heads, others_head, has_others, legend, tells_apart, note_of_size}}
 use Rattle.race_draw.proofs.heads.print_heads.Goals as goal
 
 pub returns : goal.returns

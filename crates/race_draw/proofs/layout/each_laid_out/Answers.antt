@@ -1,9 +1,6 @@
 use Rattle.std.proofs.Common.{◌≡◌, ◌+◌, List, All, Some, length, slice_get, ap, ◌∙◌, sym, subst, arith, length-append}
-use Rattle.std.proofs.lemmas.List.Elements.{All-push}
-use Rattle.std.proofs.lemmas.Option.{slice_get-get_or}
-use Rattle.race_draw.specs.Layout.{LayoutState}
-use Rattle.race_draw.specs.Text.{CanBeDrawn}
-use Rattle.race_draw.proofs.LayoutLemmas.{laid_more}
+use Rattle.std.proofs.lemmas.{List.Elements.All-push, Option.slice_get-get_or}
+use Rattle.race_draw.{specs.{Layout.LayoutState, Text.CanBeDrawn}, proofs.LayoutLemmas.laid_more}
 use Rattle.race_draw.proofs.layout.each_laid_out.Goals as goal
 
 pub loop-race-preserved : goal.loop-race-preserved

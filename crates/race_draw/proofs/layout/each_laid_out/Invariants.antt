@@ -1,7 +1,6 @@
 use Rattle.std.proofs.Common.{◌≡◌, ℕ, All, Some, length, slice_get}
 use Rattle.race_verdict.specs.declared.races.Race.{Race}
-use Rattle.race_draw.specs.Layout.{LayoutState, IsLayoutOf}
-use Rattle.race_draw.specs.Text.{CanBeDrawn}
+use Rattle.race_draw.specs.{Layout.{LayoutState, IsLayoutOf}, Text.CanBeDrawn}
 use Rattle.race_draw.proofs.layout.each_laid_out.Given as goal
 
 -- the races before the index are laid out

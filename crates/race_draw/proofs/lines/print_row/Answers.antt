@@ -1,5 +1,4 @@
-use Rattle.std.proofs.Common.{true}
-use Rattle.std.specs.List.{flat_map}
+use Rattle.std.{proofs.Common.true, specs.List.flat_map}
 use Rattle.race_records.proofs.PageLemmas.{prints_behind, breaks_off_before}
 use Rattle.race_draw.specs.Text.{end_text}
 use Rattle.race_draw.proofs.lines.print_row.Goals as goal

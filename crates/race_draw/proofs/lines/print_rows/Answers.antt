@@ -1,8 +1,6 @@
-use Rattle.std.proofs.Common.{◌≡◌, Ok, Err, ℕ, List, take, ap, ◌∙◌, subst}
+use Rattle.std.proofs.{Common.{◌≡◌, Ok, Err, ℕ, List, take, ap, ◌∙◌, subst}, lemmas.List.take_all}
 use Rattle.std.specs.List.{flat_map}
-use Rattle.std.proofs.lemmas.List.{take_all}
-use Rattle.race_records.specs.Page.{Printing}
-use Rattle.race_records.proofs.PageLemmas.{piece_breaks_off}
+use Rattle.race_records.{specs.Page.Printing, proofs.PageLemmas.piece_breaks_off}
 use Rattle.race_draw.specs.Text.{row_text}
 use Rattle.race_draw.proofs.lines.print_rows.Goals as goal
 

@@ -1,5 +1,4 @@
-use Rattle.std.proofs.Common.{Ok, take}
-use Rattle.std.specs.List.{flat_map}
+use Rattle.std.{proofs.Common.{Ok, take}, specs.List.flat_map}
 use Rattle.race_records.specs.Page.{Printing}
 use Rattle.race_draw.specs.Text.{row_text}
 use Rattle.race_draw.proofs.lines.print_rows.Given as goal

@@ -1,9 +1,6 @@
-use Rattle.std.proofs.Common.{◌++◌, Err, subst}
-use Rattle.std.specs.List.{flat_map}
-use Rattle.race_records.specs.Page.{Printing}
-use Rattle.race_records.proofs.PageLemmas.{prints_behind, breaks_off_before}
-use Rattle.race_draw.specs.declared.svg.Size.{Size}
-use Rattle.race_draw.specs.Svg.{in_svg, svg_head, svg_end}
+use Rattle.std.{proofs.Common.{◌++◌, Err, subst}, specs.List.flat_map}
+use Rattle.race_records.{specs.Page.Printing, proofs.PageLemmas.{prints_behind, breaks_off_before}}
+use Rattle.race_draw.specs.{declared.svg.Size.Size, Svg.{in_svg, svg_head, svg_end}}
 use Rattle.race_draw.proofs.svg.print_svg.Goals as goal
 
 pub returns-in-Ok : goal.returns-in-Ok

@@ -1,8 +1,6 @@
-use Rattle.std.proofs.Common.{◌++◌, Err, subst}
-use Rattle.race_records.specs.Page.{Printing}
-use Rattle.race_records.proofs.PageLemmas.{prints_behind, breaks_off_before}
+use Rattle.std.{proofs.Common.{◌++◌, Err, subst}, specs.List.flat_map}
+use Rattle.race_records.{specs.Page.Printing, proofs.PageLemmas.{prints_behind, breaks_off_before}}
 use Rattle.race_edges.specs.declared.listing.Edge.{Edge}
-use Rattle.std.specs.List.{flat_map}
 use Rattle.race_draw.specs.Text.{row_text, sentence, width_of}
 use Rattle.race_draw.proofs.text.print_below.Goals as goal
 

@@ -1,10 +1,6 @@
-use Rattle.std.proofs.Common.{◌≡◌, Ok, Err, List, take, subst}
-use Rattle.std.specs.List.{flat_map}
-use Rattle.std.proofs.lemmas.List.{take_all}
-use Rattle.race_records.specs.Page.{Printing}
-use Rattle.race_records.proofs.PageLemmas.{piece_behind, piece_breaks_off}
-use Rattle.race_draw.specs.Layout.{LayoutState}
-use Rattle.race_draw.specs.Text.{drawing_text}
+use Rattle.std.{proofs.{Common.{◌≡◌, Ok, Err, List, take, subst}, lemmas.List.take_all}, specs.List.flat_map}
+use Rattle.race_records.{specs.Page.Printing, proofs.PageLemmas.{piece_behind, piece_breaks_off}}
+use Rattle.race_draw.specs.{Layout.LayoutState, Text.drawing_text}
 use Rattle.race_draw.proofs.text.print_each.Goals as goal
 
 pub returns-in-Err : goal.returns-in-Err

@@ -1,5 +1,4 @@
-use Rattle.std.proofs.Common.{Ok, take}
-use Rattle.std.specs.List.{flat_map}
+use Rattle.std.{proofs.Common.{Ok, take}, specs.List.flat_map}
 use Rattle.race_records.specs.Page.{Printing}
 use Rattle.race_draw.specs.Text.{drawing_text}
 use Rattle.race_draw.proofs.text.print_each.Given as goal

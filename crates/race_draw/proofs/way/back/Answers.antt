@@ -2,8 +2,7 @@
 use Rattle.std.proofs.Common.{List, [], ◌∷◌, ◌++◌, inr, sym, subst}
 use Rattle.race_edges.specs.declared.listing.Edge.{Edge}
 use Rattle.race_verdict.specs.Traces.{capacities}
-use Rattle.race_draw.specs.Layout.{IsWay}
-use Rattle.race_draw.proofs.WaySteps.{edge_is, longer, ended}
+use Rattle.race_draw.{specs.Layout.IsWay, proofs.WaySteps.{edge_is, longer, ended}}
 use Rattle.race_draw.proofs.way.back.Goals as goal
 
 pub loop-preserved : goal.loop-preserved

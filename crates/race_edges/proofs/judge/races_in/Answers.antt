@@ -1,16 +1,11 @@
 -- Behind each event the tables are right for the front up to it; at the end they are for all events.
-use Rattle.std.proofs.lemmas.Grind.{common_steps}
+use Rattle.std.proofs.lemmas.{Grind.common_steps, List.{take_all, length-take-le}, Result.{IfOk-weaker, IfOk-from_err}}
 use Rattle.std.proofs.Common.{◌≡◌, ◌∙◌, List, length, sym, subst, arith, rules}
-use Rattle.std.proofs.lemmas.List.{take_all, length-take-le}
-use Rattle.std.proofs.lemmas.Result.{IfOk-weaker, IfOk-from_err}
 use Rattle.race_records.specs.declared.event.Event.{Event}
-use Rattle.race_edges.specs.Synchronized.{source_at}
-use Rattle.race_edges.specs.TableState.{HasRows, table_after}
-use Rattle.race_verdict.specs.Races.{AreFound, AreRaces, races_of}
-use Rattle.race_verdict.specs.Traces.{capacities}
-use Rattle.race_edges.proofs.JudgeSteps.{said_of, said_from, has_rows, has_place, table_next, found_next, noted_of_trace}
-use Rattle.race_verdict.proofs.RangeLemmas.{race_declared}
-use Rattle.race_verdict.proofs.RaceLists.{are_races}
+use Rattle.race_edges.{specs.{Synchronized.source_at, TableState.{HasRows, table_after}}, proofs.JudgeSteps.said_of}
+use Rattle.race_edges.proofs.JudgeSteps.{said_from, has_rows, has_place, table_next, found_next, noted_of_trace}
+use Rattle.race_verdict.specs.{Races.{AreFound, AreRaces, races_of}, Traces.capacities}
+use Rattle.race_verdict.proofs.{RangeLemmas.race_declared, RaceLists.are_races}
 use Rattle.race_edges.proofs.judge.races_in.Goals as goal
 
 pub look-requires-clause-row : goal.look-requires-clause-row

@@ -1,9 +1,7 @@
 use Rattle.std.proofs.Common.{◌≡◌, length, take}
-use Rattle.race_records.specs.declared.kind.Kind.{Kind}
-use Rattle.race_records.specs.Declarations.{count_of}
+use Rattle.race_records.specs.{declared.kind.Kind.Kind, Declarations.count_of}
 use Rattle.race_edges.proofs.IsTable.{IsTable}
-use Rattle.race_verdict.specs.Races.{AreFound}
-use Rattle.race_verdict.specs.Traces.{capacities}
+use Rattle.race_verdict.specs.{Races.AreFound, Traces.capacities}
 use Rattle.race_edges.proofs.judge.races_in.Given as goal
 
 abbrev pub invariant-loop-at : goal.invariant-loop-at

@@ -1,10 +1,9 @@
 -- The edges inside the event are those between its participants.
 use Rattle.std.proofs.Common.{◌+◌, List, ◌∙◌, sym, ap, subst}
-use Rattle.race_edges.specs.declared.listing.Edge.{Edge}
-use Rattle.race_model.specs.Synchronized.{joins}
-use Rattle.race_edges.specs.EdgesSoFar.{AreEdgesBefore, with_edge, edge_inside}
-use Rattle.race_verdict.specs.Traces.{capacities}
+use Rattle.race_edges.specs.{declared.listing.Edge.Edge, EdgesSoFar.{AreEdgesBefore, with_edge, edge_inside}}
 use Rattle.race_edges.proofs.EdgeLemmas.{as_told, none_inside, both_added, one_added}
+use Rattle.race_model.specs.Synchronized.{joins}
+use Rattle.race_verdict.specs.Traces.{capacities}
 use Rattle.race_edges.proofs.listing.add_inside.Goals as goal
 
 pub returns-in_default : goal.returns-in_default

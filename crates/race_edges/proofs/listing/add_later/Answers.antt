@@ -1,9 +1,7 @@
 use Rattle.std.proofs.Common.{◌+◌, List, refl, sym, subst, arith}
-use Rattle.race_edges.specs.declared.listing.Edge.{Edge}
-use Rattle.race_edges.specs.Synchronized.{source_at}
-use Rattle.race_edges.specs.EdgesSoFar.{AreEdgesBefore}
-use Rattle.race_verdict.specs.Traces.{capacities}
+use Rattle.race_edges.specs.{declared.listing.Edge.Edge, Synchronized.source_at, EdgesSoFar.AreEdgesBefore}
 use Rattle.race_edges.proofs.EdgeLemmas.{as_told, later_added, event_done}
+use Rattle.race_verdict.specs.Traces.{capacities}
 use Rattle.race_edges.proofs.listing.add_later.Goals as goal
 
 pub loop-to-preserved : goal.loop-to-preserved

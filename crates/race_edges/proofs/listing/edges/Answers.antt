@@ -1,7 +1,5 @@
-use Rattle.std.proofs.lemmas.Grind.{common_steps}
-use Rattle.std.proofs.Common.{subst, arith}
-use Rattle.race_legal.specs.Rules.{number_of}
-use Rattle.race_legal.specs.Judged.{IsJudged}
+use Rattle.std.proofs.{lemmas.Grind.common_steps, Common.{subst, arith}}
+use Rattle.race_legal.specs.{Rules.number_of, Judged.IsJudged}
 use Rattle.race_verdict.specs.Traces.{capacities}
 use Rattle.race_edges.proofs.listing.edges.Goals as goal
 

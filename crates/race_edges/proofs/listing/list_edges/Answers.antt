@@ -1,5 +1,4 @@
-use Rattle.std.proofs.lemmas.Grind.{common_steps}
-use Rattle.std.proofs.Common.{arith}
+use Rattle.std.proofs.{lemmas.Grind.common_steps, Common.arith}
 use Rattle.race_verdict.specs.Traces.{capacities}
 use Rattle.race_edges.proofs.EdgeLemmas.{are_all}
 use Rattle.race_edges.proofs.listing.list_edges.Goals as goal

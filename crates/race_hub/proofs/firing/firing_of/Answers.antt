@@ -1,5 +1,4 @@
-use Rattle.std.proofs.lemmas.Grind.{elements}
-use Rattle.std.proofs.Common.{arith}
+use Rattle.std.proofs.{lemmas.Grind.elements, Common.arith}
 use Rattle.race_hub.proofs.firing.firing_of.Goals as goal
 
 pub unreachable-requires : goal.unreachable-requires

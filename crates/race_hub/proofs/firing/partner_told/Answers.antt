@@ -1,10 +1,7 @@
-use Rattle.std.proofs.Common.{◌≡◌, ◌==◌, ◌-◌, ◌<◌, false, ℕ, Option, Some, None, if◌then◌else◌, refl, sym, subst, ◌∙◌, ap, slice_get, length, arith}
-use Rattle.std.proofs.lemmas.Bool.Decides.{nat_tests}
-use Rattle.std.proofs.lemmas.Option.{slice_get_read}
+use Rattle.std.proofs.Common.{◌≡◌, ◌==◌, ◌-◌, ◌<◌, false, ℕ, Option, Some, None, if◌then◌else◌, refl, sym, subst, ◌∙◌}
+use Rattle.std.proofs.{Common.{ap, slice_get, length, arith}, lemmas.{Bool.Decides.nat_tests, Option.slice_get_read}}
 use Rattle.race_records.specs.declared.event.Op.{Op}
-use Rattle.race_requests.specs.declared.request.Answer.{Answer}
-use Rattle.race_requests.specs.declared.request.Waiter.{Waiter}
-use Rattle.race_requests.specs.Table.{done_by, told_at}
+use Rattle.race_requests.specs.{declared.request.{Answer.Answer, Waiter.Waiter}, Table.{done_by, told_at}}
 use Rattle.race_requests.proofs.ChoiceLemmas.{some_is}
 use Rattle.race_hub.specs.Fires.{IsPartnerRow, partner_of}
 use Rattle.race_hub.proofs.firing.partner_told.Goals as goal

@@ -1,6 +1,5 @@
 use Rattle.std.proofs.Common.{◌<◌, IsTrue, subst, sym, length}
-use Rattle.race_records.specs.declared.trace.TheConstants.{MAX_EVENTS}
-use Rattle.race_records.specs.Events.{fits}
+use Rattle.race_records.specs.{declared.trace.TheConstants.MAX_EVENTS, Events.fits}
 use Rattle.race_hub.proofs.PerformLemmas.{fit_is_taken, not_both}
 use Rattle.race_hub.proofs.hub.append.Goals as goal
 

@@ -1,5 +1,4 @@
-use Rattle.std.proofs.lemmas.Grind.{common_steps}
-use Rattle.std.proofs.Common.{arith}
+use Rattle.std.proofs.{lemmas.Grind.common_steps, Common.arith}
 use Rattle.race_hub.proofs.moves.is_among.Goals as goal
 
 pub loop-at-preserved : goal.loop-at-preserved

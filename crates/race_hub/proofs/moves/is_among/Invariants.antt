@@ -1,5 +1,4 @@
-use Rattle.std.proofs.Common.{◌≡◌, ◌==◌, false, take}
-use Rattle.std.specs.List.{list_any}
+use Rattle.std.{proofs.Common.{◌≡◌, ◌==◌, false, take}, specs.List.list_any}
 use Rattle.race_hub.proofs.moves.is_among.Given as goal
 
 abbrev pub invariant-loop-at : goal.invariant-loop-at

@@ -1,6 +1,5 @@
-use Rattle.std.proofs.lemmas.Grind.{common_steps}
-use Rattle.std.proofs.Common.{◌<◌, ◌==◌, sym, get_or, length, arith, eq-eqb}
-use Rattle.std.proofs.lemmas.List.Sums.{position_or_len_is}
+use Rattle.std.proofs.{lemmas.{Grind.common_steps, List.Sums.position_or_len_is}, Common.{◌<◌, ◌==◌, sym, get_or}}
+use Rattle.std.proofs.Common.{length, arith, eq-eqb}
 use Rattle.race_hub.proofs.AmongLemmas.{none_before, none_at_all}
 use Rattle.race_hub.proofs.moves.place_of.Goals as goal
 

@@ -1,6 +1,5 @@
-use Rattle.std.proofs.lemmas.Grind.{common_steps, elements}
-use Rattle.std.proofs.Common.{ℕ, ◌≡◌, ◌<◌, List, [], Option, Some, None, IfSome, ◌∙◌, sym, subst, ap, append-nil, length, get_or, arith}
-use Rattle.std.proofs.lemmas.Option.{slice_get_read}
+use Rattle.std.proofs.{lemmas.{Grind.{common_steps, elements}, Option.slice_get_read}, Common.{ℕ, ◌≡◌, ◌<◌, List, []}}
+use Rattle.std.proofs.Common.{Option, Some, None, IfSome, ◌∙◌, sym, subst, ap, append-nil, length, get_or, arith}
 use Rattle.race_hub.specs.Fires.{born_of, begins}
 use Rattle.race_hub.proofs.moves.start.Goals as goal
 

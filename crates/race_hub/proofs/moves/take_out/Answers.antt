@@ -1,5 +1,4 @@
-use Rattle.std.proofs.lemmas.Grind.{elements, common_steps}
-use Rattle.std.proofs.Common.{arith}
+use Rattle.std.proofs.{lemmas.Grind.{elements, common_steps}, Common.arith}
 use Rattle.race_hub.proofs.moves.take_out.Goals as goal
 
 pub returns-then-choice-eq0-clause-first : goal.returns-then-choice-eq0-clause-first

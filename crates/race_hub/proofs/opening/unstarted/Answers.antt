@@ -1,6 +1,4 @@
-use Rattle.std.proofs.lemmas.Grind.{common_steps}
-use Rattle.std.proofs.lemmas.Iterator.Adapters.{YieldsList-from_vec}
-use Rattle.std.proofs.lemmas.Iterator.Consumers.{YieldsList-end}
+use Rattle.std.proofs.lemmas.{Grind.common_steps, Iterator.{Adapters.YieldsList-from_vec, Consumers.YieldsList-end}}
 use Rattle.std.proofs.Common.{arith, map-id, rules}
 use Rattle.race_hub.proofs.opening.unstarted.Goals as goal
 

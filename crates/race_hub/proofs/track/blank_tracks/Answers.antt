@@ -1,6 +1,5 @@
 use Rattle.std.proofs.Common.{◌≡◌, ◌∙◌, ◌+◌, sym, ap, subst, arith}
-use Rattle.race_hub.specs.Tracks.{AreBlank, fresh}
-use Rattle.race_hub.proofs.TrackLemmas.{blank_none, blank_more}
+use Rattle.race_hub.{specs.Tracks.{AreBlank, fresh}, proofs.TrackLemmas.{blank_none, blank_more}}
 use Rattle.race_hub.proofs.track.blank_tracks.Goals as goal
 
 pub loop-init : goal.loop-init

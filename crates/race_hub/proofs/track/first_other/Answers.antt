@@ -1,9 +1,8 @@
-use Rattle.std.proofs.Common.{◌≡◌, ◌∙◌, ◌==◌, ◌<◌, ◌+◌, ℕ, refl, Bool, true, false, sym, ap, arith, true≢false, eq-eqb, slice_get, Some}
-use Rattle.std.proofs.lemmas.Bool.Decides.{nat_tests}
+use Rattle.std.proofs.Common.{◌≡◌, ◌∙◌, ◌==◌, ◌<◌, ◌+◌, ℕ, refl, Bool, true, false, sym, ap, arith, true≢false, eq-eqb}
+use Rattle.std.proofs.{Common.{slice_get, Some}, lemmas.Bool.Decides.nat_tests}
 use Rattle.std.proofs.lemmas.Option.{slice_get-get_or, slice_get_within}
-use Rattle.race_hub.specs.Tracks.{TrackState, is_through}
+use Rattle.race_hub.{specs.Tracks.{TrackState, is_through}, proofs.TrackLemmas.{through_is_part, other_is_no_part}}
 use Rattle.race_requests.proofs.ChoiceLemmas.{some_is}
-use Rattle.race_hub.proofs.TrackLemmas.{through_is_part, other_is_no_part}
 use Rattle.race_hub.proofs.track.first_other.Goals as goal
 
 pub loop-goroutine-init : goal.loop-goroutine-init

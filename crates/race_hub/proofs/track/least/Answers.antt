@@ -1,5 +1,4 @@
-use Rattle.std.proofs.lemmas.Grind.{common_steps, elements}
-use Rattle.std.proofs.Common.{arith}
+use Rattle.std.proofs.{lemmas.Grind.{common_steps, elements}, Common.arith}
 use Rattle.race_hub.proofs.track.least.Goals as goal
 
 pub returns-clause-some : goal.returns-clause-some

@@ -1,6 +1,5 @@
 use Rattle.std.proofs.Common.{subst}
-use Rattle.race_hub.specs.Tracks.{OneHasPassed}
-use Rattle.race_hub.proofs.TrackLemmas.{all_pass}
+use Rattle.race_hub.{specs.Tracks.OneHasPassed, proofs.TrackLemmas.all_pass}
 use Rattle.race_hub.proofs.track.pass.Goals as goal
 
 pub returns : goal.returns

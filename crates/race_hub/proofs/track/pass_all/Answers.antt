@@ -1,9 +1,7 @@
-use Rattle.std.proofs.lemmas.Grind.{common_steps}
-use Rattle.std.proofs.Common.{◌≡◌, ◌∙◌, ◌+◌, ◌∷◌, [], suc, take, sym, ap, subst, arith, Some}
-use Rattle.std.proofs.lemmas.Option.{slice_get-get_or}
+use Rattle.std.proofs.{lemmas.{Grind.common_steps, Option.slice_get-get_or}, Common.{◌≡◌, ◌∙◌, ◌+◌, ◌∷◌, [], suc, take}}
+use Rattle.std.proofs.Common.{sym, ap, subst, arith, Some}
 use Rattle.race_model.proofs.Indexes.{take_suc}
-use Rattle.race_hub.specs.Tracks.{HavePassed}
-use Rattle.race_hub.proofs.TrackLemmas.{passed_more}
+use Rattle.race_hub.{specs.Tracks.HavePassed, proofs.TrackLemmas.passed_more}
 use Rattle.race_hub.proofs.track.pass_all.Goals as goal
 
 pub loop-event-preserved : goal.loop-event-preserved

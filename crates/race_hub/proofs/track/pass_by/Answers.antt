@@ -1,9 +1,7 @@
 use Rattle.std.proofs.Common.{◌≡◌, ◌∙◌, ◌==◌, ◌<◌, length, false, sym, ap, subst, arith, Some, slice_set}
-use Rattle.std.proofs.lemmas.Bool.Decides.{nat_tests}
-use Rattle.std.proofs.lemmas.Option.{slice_get-get_or, slice_get_within}
+use Rattle.std.proofs.lemmas.{Bool.Decides.nat_tests, Option.{slice_get-get_or, slice_get_within}}
 use Rattle.race_model.specs.Events.{gives}
-use Rattle.race_hub.specs.Tracks.{OneHasPassed}
-use Rattle.race_hub.proofs.TrackLemmas.{one_passes, nobody_passes}
+use Rattle.race_hub.{specs.Tracks.OneHasPassed, proofs.TrackLemmas.{one_passes, nobody_passes}}
 use Rattle.race_hub.proofs.track.pass_by.Goals as goal
 
 pub returns-then-goroutine-len : goal.returns-then-goroutine-len

@@ -1,8 +1,6 @@
-use Rattle.std.proofs.lemmas.Iterator.Adapters.{YieldsList-from_vec}
-use Rattle.std.proofs.lemmas.Iterator.Consumers.{YieldsList-end}
-use Rattle.std.proofs.Common.{◌∙◌, sym, slice_set, map-id, rules}
-use Rattle.race_hub.specs.Tracks.{fresh}
-use Rattle.race_hub.proofs.TrackLemmas.{placed_one}
+use Rattle.std.proofs.{lemmas.Iterator.{Adapters.YieldsList-from_vec, Consumers.YieldsList-end}, Common.{◌∙◌, sym}}
+use Rattle.std.proofs.Common.{slice_set, map-id, rules}
+use Rattle.race_hub.{specs.Tracks.fresh, proofs.TrackLemmas.placed_one}
 use Rattle.race_hub.proofs.track.put_ended.Goals as goal
 
 pub loop-through-preserved : goal.loop-through-preserved

@@ -1,12 +1,9 @@
-use Rattle.std.proofs.lemmas.Iterator.Adapters.{YieldsList-from_vec}
-use Rattle.std.proofs.lemmas.Iterator.Consumers.{YieldsList-end}
-use Rattle.std.proofs.lemmas.Grind.{common_steps}
-use Rattle.std.proofs.Common.{◌≡◌, ◌∙◌, ◌∷◌, [], ◌++◌, sym, ap, slice_set, slice_get, length, length-append, arith, get_or, map-id, rules}
-use Rattle.std.proofs.lemmas.Option.{slice_get-get_or}
+use Rattle.std.proofs.lemmas.{Iterator.{Adapters.YieldsList-from_vec, Consumers.YieldsList-end}, Grind.common_steps}
+use Rattle.std.proofs.{lemmas.Option.slice_get-get_or, Common.{◌≡◌, ◌∙◌, ◌∷◌, [], ◌++◌, sym, ap, slice_set, slice_get}}
+use Rattle.std.proofs.Common.{length, length-append, arith, get_or, map-id, rules}
 use Rattle.race_requests.specs.declared.request.Waiter.{Waiter}
-use Rattle.race_hub.specs.Finish.{placed, logs_behind}
-use Rattle.race_hub.specs.Tracks.{fresh}
-use Rattle.race_hub.proofs.TrackLemmas.{placed_one, none_behind, behind_next, behind_all}
+use Rattle.race_hub.{specs.{Finish.{placed, logs_behind}, Tracks.fresh}, proofs.TrackLemmas.{placed_one, none_behind}}
+use Rattle.race_hub.proofs.TrackLemmas.{behind_next, behind_all}
 use Rattle.race_hub.proofs.track.put_parked.Goals as goal
 
 pub loop-behind-init : goal.loop-behind-init

@@ -1,6 +1,5 @@
 -- The logs behind the requests so far are in their places.
-use Rattle.std.proofs.Common.{◌≡◌, length}
-use Rattle.std.specs.Prelude.{min}
+use Rattle.std.{proofs.Common.{◌≡◌, length}, specs.Prelude.min}
 use Rattle.race_hub.specs.Finish.{placed, logs_behind}
 use Rattle.race_hub.proofs.track.put_parked.Given as goal
 

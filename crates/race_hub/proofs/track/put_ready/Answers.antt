@@ -1,9 +1,6 @@
-use Rattle.std.proofs.lemmas.Iterator.Adapters.{YieldsList-from_vec}
-use Rattle.std.proofs.lemmas.Iterator.Consumers.{YieldsList-end}
-use Rattle.std.proofs.Common.{◌∙◌, sym, ap, slice_set, map-id, rules}
-use Rattle.race_hub.specs.Finish.{placed, logs_of_jobs}
-use Rattle.race_hub.specs.Tracks.{fresh}
-use Rattle.race_hub.proofs.TrackLemmas.{placed_one, jobs_one}
+use Rattle.std.proofs.{lemmas.Iterator.{Adapters.YieldsList-from_vec, Consumers.YieldsList-end}, Common.{◌∙◌, sym, ap}}
+use Rattle.std.proofs.Common.{slice_set, map-id, rules}
+use Rattle.race_hub.{specs.{Finish.{placed, logs_of_jobs}, Tracks.fresh}, proofs.TrackLemmas.{placed_one, jobs_one}}
 use Rattle.race_hub.proofs.track.put_ready.Goals as goal
 
 pub loop-job-preserved : goal.loop-job-preserved

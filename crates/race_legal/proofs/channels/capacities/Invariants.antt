@@ -1,5 +1,4 @@
-use Rattle.std.proofs.Common.{◌≡◌, ℕ, ◌<◌, length}
-use Rattle.std.specs.List.{slice_index_or}
+use Rattle.std.{proofs.Common.{◌≡◌, ℕ, ◌<◌, length}, specs.List.slice_index_or}
 use Rattle.race_records.specs.Declarations.{capacity_of}
 use Rattle.race_legal.proofs.channels.capacities.Given as goal
 

@@ -1,11 +1,8 @@
 -- The front of the events up to the index is legal; at the end it is all of them.
 use Rattle.std.proofs.Common.{◌≤◌, List, length, Err, ap, sym, subst, take, take_all, arith}
-use Rattle.race_records.specs.declared.event.Event.{Event}
-use Rattle.race_records.specs.Declarations.{capacity_of}
+use Rattle.race_records.specs.{declared.event.Event.Event, Declarations.capacity_of}
 use Rattle.race_model.specs.Legal.{IsLegal}
-use Rattle.race_legal.specs.StandsFor.{StandsFor}
-use Rattle.race_legal.proofs.Fronts.{take_next}
-use Rattle.race_legal.proofs.RangeLemmas.{in_range}
+use Rattle.race_legal.{specs.StandsFor.StandsFor, proofs.{Fronts.take_next, RangeLemmas.in_range}}
 use Rattle.race_legal.proofs.listing.legal.Goals as goal
 
 pub accept-requires-clause-range : goal.accept-requires-clause-range

@@ -1,8 +1,7 @@
-use Rattle.race_model.proofs.examples.a_buffer_is_a_queue.Goals as goal
 use Rattle.std.proofs.Common.{[], refl}
 use Rattle.race_model.specs.Examples.{capacities, one_received, one_sent, second_sent, two_waiting}
-use Rattle.race_model.proofs.LegalSteps.{legal_none, legal_by}
-use Rattle.race_model.proofs.ExampleLemmas.{illegal_by}
+use Rattle.race_model.proofs.{LegalSteps.{legal_none, legal_by}, ExampleLemmas.illegal_by}
+use Rattle.race_model.proofs.examples.a_buffer_is_a_queue.Goals as goal
 
 pub returns-clause-room : goal.returns-clause-room
 returns-clause-room c = legal_by capacities [] _ (legal_none capacities) (refl, tt)

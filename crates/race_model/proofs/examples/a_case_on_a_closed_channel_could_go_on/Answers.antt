@@ -1,8 +1,7 @@
-use Rattle.race_model.proofs.examples.a_case_on_a_closed_channel_could_go_on.Goals as goal
 use Rattle.std.proofs.Common.{[], refl}
 use Rattle.race_model.specs.Examples.{capacities, closed, closed_and_emptied, sent_and_closed, unbuffered_closed}
-use Rattle.race_model.proofs.LegalSteps.{legal_none, legal_by}
-use Rattle.race_model.proofs.ExampleLemmas.{illegal_by}
+use Rattle.race_model.proofs.{LegalSteps.{legal_none, legal_by}, ExampleLemmas.illegal_by}
+use Rattle.race_model.proofs.examples.a_case_on_a_closed_channel_could_go_on.Goals as goal
 
 pub returns-clause-send : goal.returns-clause-send
 returns-clause-send c = illegal_by capacities closed _ 22 (refl, tt) refl

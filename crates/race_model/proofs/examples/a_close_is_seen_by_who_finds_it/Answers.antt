@@ -1,7 +1,8 @@
-use Rattle.race_model.proofs.examples.a_close_is_seen_by_who_finds_it.Goals as goal
 use Rattle.std.proofs.Common.{refl, arith}
-use Rattle.race_model.specs.Examples.{x, capacities, write_then_close, close_then_write, another_channel_closed, value_behind_close, close_behind_value}
+use Rattle.race_model.specs.Examples.{x, capacities, write_then_close, close_then_write, another_channel_closed}
+use Rattle.race_model.specs.Examples.{value_behind_close, close_behind_value}
 use Rattle.race_model.proofs.ExampleLemmas.{before_by, clean_by, races_by}
+use Rattle.race_model.proofs.examples.a_close_is_seen_by_who_finds_it.Goals as goal
 
 pub returns-clause-first : goal.returns-clause-first
 returns-clause-first c = before_by capacities write_then_close refl refl refl refl

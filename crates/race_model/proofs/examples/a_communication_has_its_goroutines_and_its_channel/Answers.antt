@@ -1,8 +1,7 @@
-use Rattle.race_model.proofs.examples.a_communication_has_its_goroutines_and_its_channel.Goals as goal
 use Rattle.std.proofs.Common.{[], refl}
-use Rattle.race_model.specs.Examples.{capacities, gone, started}
-use Rattle.race_model.proofs.LegalSteps.{legal_none, legal_by}
+use Rattle.race_model.{specs.Examples.{capacities, gone, started}, proofs.LegalSteps.{legal_none, legal_by}}
 use Rattle.race_model.proofs.ExampleLemmas.{illegal_by}
+use Rattle.race_model.proofs.examples.a_communication_has_its_goroutines_and_its_channel.Goals as goal
 
 pub returns-clause-receiver_unstarted : goal.returns-clause-receiver_unstarted
 returns-clause-receiver_unstarted c = illegal_by capacities [] _ 2 tt refl

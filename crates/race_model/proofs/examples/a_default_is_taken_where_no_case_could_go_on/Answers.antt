@@ -1,8 +1,7 @@
-use Rattle.race_model.proofs.examples.a_default_is_taken_where_no_case_could_go_on.Goals as goal
 use Rattle.std.proofs.Common.{[], refl}
 use Rattle.race_model.specs.Examples.{capacities, gone, one_of_two_sent, one_received, one_sent, two_waiting}
-use Rattle.race_model.proofs.LegalSteps.{legal_none, legal_by}
-use Rattle.race_model.proofs.ExampleLemmas.{illegal_by}
+use Rattle.race_model.proofs.{LegalSteps.{legal_none, legal_by}, ExampleLemmas.illegal_by}
+use Rattle.race_model.proofs.examples.a_default_is_taken_where_no_case_could_go_on.Goals as goal
 
 pub returns-clause-send_with_room : goal.returns-clause-send_with_room
 returns-clause-send_with_room c = illegal_by capacities [] _ 22 tt refl

@@ -1,7 +1,8 @@
-use Rattle.race_model.proofs.examples.a_default_orders_nothing.Goals as goal
 use Rattle.std.proofs.Common.{refl, arith}
-use Rattle.race_model.specs.Examples.{x, capacities, defaults_between, finds_it_closed_and_fails, finds_it_empty, finds_it_full, nobody_meets, reads_and_fails}
+use Rattle.race_model.specs.Examples.{x, capacities, defaults_between, finds_it_closed_and_fails, finds_it_empty}
+use Rattle.race_model.specs.Examples.{finds_it_full, nobody_meets, reads_and_fails}
 use Rattle.race_model.proofs.ExampleLemmas.{clean_by, races_by}
+use Rattle.race_model.proofs.examples.a_default_orders_nothing.Goals as goal
 
 pub returns-clause-nobody_meets : goal.returns-clause-nobody_meets
 returns-clause-nobody_meets c = races_by capacities nobody_meets x (refl, (refl, (refl, (refl, (refl, tt))))) refl refl refl (omega arith) refl refl refl refl

@@ -1,8 +1,7 @@
-use Rattle.race_model.proofs.examples.a_fault_ends_the_run.Goals as goal
 use Rattle.std.proofs.Common.{[], refl}
 use Rattle.race_model.specs.Examples.{capacities, full_and_passed, main_failed, w_failed}
-use Rattle.race_model.proofs.LegalSteps.{legal_none, legal_by}
-use Rattle.race_model.proofs.ExampleLemmas.{illegal_by}
+use Rattle.race_model.proofs.{LegalSteps.{legal_none, legal_by}, ExampleLemmas.illegal_by}
+use Rattle.race_model.proofs.examples.a_fault_ends_the_run.Goals as goal
 
 pub returns-clause-main_after_main : goal.returns-clause-main_after_main
 returns-clause-main_after_main c = illegal_by capacities main_failed _ 1 (refl, (refl, tt)) refl

@@ -1,8 +1,7 @@
-use Rattle.race_model.proofs.examples.a_fault_has_its_cause.Goals as goal
 use Rattle.std.proofs.Common.{[], refl}
-use Rattle.race_model.specs.Examples.{capacities, closed, one_sent}
-use Rattle.race_model.proofs.LegalSteps.{legal_none, legal_by}
+use Rattle.race_model.{specs.Examples.{capacities, closed, one_sent}, proofs.LegalSteps.{legal_none, legal_by}}
 use Rattle.race_model.proofs.ExampleLemmas.{illegal_by}
+use Rattle.race_model.proofs.examples.a_fault_has_its_cause.Goals as goal
 
 pub returns-clause-send : goal.returns-clause-send
 returns-clause-send c = legal_by capacities [] _ (legal_none capacities) (refl, (refl, tt))

@@ -1,7 +1,8 @@
-use Rattle.race_model.proofs.examples.a_meet_orders_both_ways.Goals as goal
 use Rattle.std.proofs.Common.{refl, arith}
-use Rattle.race_model.specs.Examples.{x, capacities, sender_writes, receiver_writes, sender_writes_behind, receiver_writes_behind, another_reads}
+use Rattle.race_model.specs.Examples.{x, capacities, sender_writes, receiver_writes, sender_writes_behind}
+use Rattle.race_model.specs.Examples.{receiver_writes_behind, another_reads}
 use Rattle.race_model.proofs.ExampleLemmas.{clean_by, races_by}
+use Rattle.race_model.proofs.examples.a_meet_orders_both_ways.Goals as goal
 
 pub returns-clause-sent : goal.returns-clause-sent
 returns-clause-sent c = clean_by capacities sender_writes (refl, (refl, (refl, (refl, tt)))) refl

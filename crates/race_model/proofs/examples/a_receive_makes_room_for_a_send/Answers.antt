@@ -1,7 +1,8 @@
-use Rattle.race_model.proofs.examples.a_receive_makes_room_for_a_send.Goals as goal
 use Rattle.std.proofs.Common.{refl, arith}
-use Rattle.race_model.specs.Examples.{x, capacities, room_then_read, read_then_no_send, room_then_write, room_for_two, room_for_a_third, send_as_lock}
+use Rattle.race_model.specs.Examples.{x, capacities, room_then_read, read_then_no_send, room_then_write, room_for_two}
+use Rattle.race_model.specs.Examples.{room_for_a_third, send_as_lock}
 use Rattle.race_model.proofs.ExampleLemmas.{before_by, clean_by, races_by}
+use Rattle.race_model.proofs.examples.a_receive_makes_room_for_a_send.Goals as goal
 
 pub returns-clause-ordered : goal.returns-clause-ordered
 returns-clause-ordered c = before_by capacities room_then_read refl refl refl refl

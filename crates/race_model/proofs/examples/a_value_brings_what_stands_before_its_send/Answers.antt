@@ -1,7 +1,7 @@
-use Rattle.race_model.proofs.examples.a_value_brings_what_stands_before_its_send.Goals as goal
 use Rattle.std.proofs.Common.{refl, arith}
-use Rattle.race_model.specs.Examples.{x, capacities, write_then_send, send_then_write, first_received, second_received, another_channel_sent}
-use Rattle.race_model.proofs.ExampleLemmas.{before_by, clean_by, races_by}
+use Rattle.race_model.specs.Examples.{x, capacities, write_then_send, send_then_write, first_received, second_received}
+use Rattle.race_model.{specs.Examples.another_channel_sent, proofs.ExampleLemmas.{before_by, clean_by, races_by}}
+use Rattle.race_model.proofs.examples.a_value_brings_what_stands_before_its_send.Goals as goal
 
 pub returns-clause-ordered : goal.returns-clause-ordered
 returns-clause-ordered c = before_by capacities write_then_send refl refl refl refl

@@ -1,8 +1,7 @@
-use Rattle.race_model.proofs.examples.each_case_of_a_select_counts.Goals as goal
 use Rattle.std.proofs.Common.{[], refl}
-use Rattle.race_model.specs.Examples.{capacities, one_sent}
-use Rattle.race_model.proofs.LegalSteps.{legal_none, legal_by}
+use Rattle.race_model.{specs.Examples.{capacities, one_sent}, proofs.LegalSteps.{legal_none, legal_by}}
 use Rattle.race_model.proofs.ExampleLemmas.{illegal_by}
+use Rattle.race_model.proofs.examples.each_case_of_a_select_counts.Goals as goal
 
 pub returns-clause-none : goal.returns-clause-none
 returns-clause-none c = legal_by capacities [] _ (legal_none capacities) (refl, (refl, tt))

@@ -1,5 +1,6 @@
+use Rattle.race_model.proofs.ExampleVerdicts.{exit_twice_illegal, write_unstarted_illegal, go_main_illegal}
+use Rattle.race_model.proofs.ExampleVerdicts.{read_unwritten_illegal}
 use Rattle.race_model.proofs.examples.first_broken_rules.Goals as goal
-use Rattle.race_model.proofs.ExampleVerdicts.{exit_twice_illegal, write_unstarted_illegal, go_main_illegal, read_unwritten_illegal}
 
 pub returns-clause-after_end : goal.returns-clause-after_end
 returns-clause-after_end c = exit_twice_illegal

@@ -1,5 +1,6 @@
+use Rattle.race_model.proofs.ExampleVerdicts.{write_exited_illegal, go_twice_illegal, read_overwritten_illegal}
+use Rattle.race_model.proofs.ExampleVerdicts.{read_the_first_illegal}
 use Rattle.race_model.proofs.examples.rules_look_back.Goals as goal
-use Rattle.race_model.proofs.ExampleVerdicts.{write_exited_illegal, go_twice_illegal, read_overwritten_illegal, read_the_first_illegal}
 
 pub returns-clause-exited : goal.returns-clause-exited
 returns-clause-exited c = write_exited_illegal

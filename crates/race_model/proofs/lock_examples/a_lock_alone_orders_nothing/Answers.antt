@@ -1,16 +1,9 @@
-use Rattle.race_model.proofs.lock_examples.a_lock_alone_orders_nothing.Goals as goal
 use Rattle.std.proofs.Common.{arith, refl}
-use Rattle.race_model.specs.Examples.{capacities, x}
-use Rattle.race_model.specs.LockExamples.{
-  reader_after_reader,
-  readers_side_by_side,
-  write_then_lock,
-  write_then_lock_then_lock,
-  write_then_lock_then_rlock,
-  write_then_rlock_then_lock,
-  write_then_rlocks_alone,
-}
+use Rattle.race_model.specs.{Examples.{capacities, x}, LockExamples.{reader_after_reader, readers_side_by_side}}
+use Rattle.race_model.specs.LockExamples.{write_then_lock, write_then_lock_then_lock, write_then_lock_then_rlock}
+use Rattle.race_model.specs.LockExamples.{write_then_rlock_then_lock, write_then_rlocks_alone}
 use Rattle.race_model.proofs.ExampleLemmas.{races_by}
+use Rattle.race_model.proofs.lock_examples.a_lock_alone_orders_nothing.Goals as goal
 
 pub returns-clause-readers_side_by_side : goal.returns-clause-readers_side_by_side
 returns-clause-readers_side_by_side c =

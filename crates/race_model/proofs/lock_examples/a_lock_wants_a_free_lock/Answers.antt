@@ -1,9 +1,8 @@
-use Rattle.race_model.proofs.lock_examples.a_lock_wants_a_free_lock.Goals as goal
 use Rattle.std.proofs.Common.{[], refl}
-use Rattle.race_model.specs.Examples.{capacities}
-use Rattle.race_model.specs.LockExamples.{left_locked, locked, locked_again, one_reader, one_reader_left, two_readers}
-use Rattle.race_model.proofs.LegalSteps.{legal_none, legal_by}
+use Rattle.race_model.specs.{Examples.capacities, LockExamples.{left_locked, locked, locked_again, one_reader}}
+use Rattle.race_model.{specs.LockExamples.{one_reader_left, two_readers}, proofs.LegalSteps.{legal_none, legal_by}}
 use Rattle.race_model.proofs.ExampleLemmas.{illegal_by}
+use Rattle.race_model.proofs.lock_examples.a_lock_wants_a_free_lock.Goals as goal
 
 pub returns-clause-free : goal.returns-clause-free
 returns-clause-free c = legal_by capacities [] _ (legal_none capacities) (refl, (refl, tt))

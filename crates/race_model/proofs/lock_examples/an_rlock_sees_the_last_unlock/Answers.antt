@@ -1,8 +1,8 @@
-use Rattle.race_model.proofs.lock_examples.an_rlock_sees_the_last_unlock.Goals as goal
 use Rattle.std.proofs.Common.{arith, refl}
-use Rattle.race_model.specs.Examples.{capacities, x}
-use Rattle.race_model.specs.LockExamples.{another_unlocked_then_rlock, earlier_unlock, no_rlock, second_unlock, unlock_then_write_then_rlock, write_then_rlocks}
+use Rattle.race_model.specs.{Examples.{capacities, x}, LockExamples.{another_unlocked_then_rlock, earlier_unlock}}
+use Rattle.race_model.specs.LockExamples.{no_rlock, second_unlock, unlock_then_write_then_rlock, write_then_rlocks}
 use Rattle.race_model.proofs.ExampleLemmas.{before_by, clean_by, races_by}
+use Rattle.race_model.proofs.lock_examples.an_rlock_sees_the_last_unlock.Goals as goal
 
 pub returns-clause-ordered : goal.returns-clause-ordered
 returns-clause-ordered c = before_by capacities write_then_rlocks refl refl refl refl

@@ -1,10 +1,8 @@
-use Rattle.race_model.proofs.lock_examples.an_runlock_is_seen_by_the_next_lock.Goals as goal
 use Rattle.std.proofs.Common.{arith, refl}
-use Rattle.race_model.specs.Examples.{capacities, x}
-use Rattle.race_model.specs.LockExamples.{another_runlocked, others_between}
-use Rattle.race_model.specs.LockExamples.{read_then_runlock, runlock_then_read}
-use Rattle.race_model.specs.LockExamples.{two_locks_on_from_read, two_read_then_runlock}
-use Rattle.race_model.proofs.ExampleLemmas.{before_by, clean_by, races_by}
+use Rattle.race_model.specs.{Examples.{capacities, x}, LockExamples.{another_runlocked, others_between}}
+use Rattle.race_model.specs.LockExamples.{read_then_runlock, runlock_then_read, two_locks_on_from_read}
+use Rattle.race_model.{specs.LockExamples.two_read_then_runlock, proofs.ExampleLemmas.{before_by, clean_by, races_by}}
+use Rattle.race_model.proofs.lock_examples.an_runlock_is_seen_by_the_next_lock.Goals as goal
 
 pub returns-clause-ordered : goal.returns-clause-ordered
 returns-clause-ordered c = before_by capacities read_then_runlock refl refl refl refl

@@ -1,9 +1,7 @@
-use Rattle.race_model.proofs.lock_examples.an_runlock_wants_an_rlock.Goals as goal
 use Rattle.std.proofs.Common.{[], refl}
-use Rattle.race_model.specs.Examples.{capacities, started}
-use Rattle.race_model.specs.LockExamples.{locked, no_reader_left, one_reader}
-use Rattle.race_model.proofs.LegalSteps.{legal_none, legal_by}
-use Rattle.race_model.proofs.ExampleLemmas.{illegal_by}
+use Rattle.race_model.specs.{Examples.{capacities, started}, LockExamples.{locked, no_reader_left, one_reader}}
+use Rattle.race_model.proofs.{LegalSteps.{legal_none, legal_by}, ExampleLemmas.illegal_by}
+use Rattle.race_model.proofs.lock_examples.an_runlock_wants_an_rlock.Goals as goal
 
 pub returns-clause-free : goal.returns-clause-free
 returns-clause-free c = illegal_by capacities started _ 16 (refl, tt) refl

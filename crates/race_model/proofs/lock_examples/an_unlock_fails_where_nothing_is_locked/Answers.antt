@@ -1,9 +1,7 @@
-use Rattle.race_model.proofs.lock_examples.an_unlock_fails_where_nothing_is_locked.Goals as goal
 use Rattle.std.proofs.Common.{[], refl}
-use Rattle.race_model.specs.Examples.{capacities}
-use Rattle.race_model.specs.LockExamples.{locked, one_reader, one_reader_left}
-use Rattle.race_model.proofs.LegalSteps.{legal_none, legal_by}
-use Rattle.race_model.proofs.ExampleLemmas.{illegal_by}
+use Rattle.race_model.specs.{Examples.capacities, LockExamples.{locked, one_reader, one_reader_left}}
+use Rattle.race_model.proofs.{LegalSteps.{legal_none, legal_by}, ExampleLemmas.illegal_by}
+use Rattle.race_model.proofs.lock_examples.an_unlock_fails_where_nothing_is_locked.Goals as goal
 
 pub returns-clause-unlock : goal.returns-clause-unlock
 returns-clause-unlock c = legal_by capacities [] _ (legal_none capacities) (refl, (refl, tt))

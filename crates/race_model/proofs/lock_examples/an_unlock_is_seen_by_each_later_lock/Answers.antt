@@ -1,10 +1,8 @@
-use Rattle.race_model.proofs.lock_examples.an_unlock_is_seen_by_each_later_lock.Goals as goal
 use Rattle.std.proofs.Common.{arith, refl}
-use Rattle.race_model.specs.Examples.{capacities, x}
-use Rattle.race_model.specs.LockExamples.{another_unlocked, both_locked, no_second_lock}
-use Rattle.race_model.specs.LockExamples.{two_locks_on, unlock_then_write}
-use Rattle.race_model.specs.LockExamples.{unlocked_by_another, write_then_unlock}
+use Rattle.race_model.specs.{Examples.{capacities, x}, LockExamples.{another_unlocked, both_locked, no_second_lock}}
+use Rattle.race_model.specs.LockExamples.{two_locks_on, unlock_then_write, unlocked_by_another, write_then_unlock}
 use Rattle.race_model.proofs.ExampleLemmas.{before_by, clean_by, races_by}
+use Rattle.race_model.proofs.lock_examples.an_unlock_is_seen_by_each_later_lock.Goals as goal
 
 pub returns-clause-ordered : goal.returns-clause-ordered
 returns-clause-ordered c = before_by capacities write_then_unlock refl refl refl refl

@@ -1,9 +1,7 @@
-use Rattle.race_model.proofs.lock_examples.an_unlock_wants_a_lock.Goals as goal
 use Rattle.std.proofs.Common.{[], refl}
-use Rattle.race_model.specs.Examples.{capacities, started}
-use Rattle.race_model.specs.LockExamples.{locked, one_reader, unlocked}
-use Rattle.race_model.proofs.LegalSteps.{legal_none, legal_by}
-use Rattle.race_model.proofs.ExampleLemmas.{illegal_by}
+use Rattle.race_model.specs.{Examples.{capacities, started}, LockExamples.{locked, one_reader, unlocked}}
+use Rattle.race_model.proofs.{LegalSteps.{legal_none, legal_by}, ExampleLemmas.illegal_by}
+use Rattle.race_model.proofs.lock_examples.an_unlock_wants_a_lock.Goals as goal
 
 pub returns-clause-free : goal.returns-clause-free
 returns-clause-free c = illegal_by capacities started _ 15 (refl, tt) refl

@@ -1,9 +1,7 @@
-use Rattle.race_model.proofs.lock_examples.readers_share_a_lock.Goals as goal
 use Rattle.std.proofs.Common.{[], refl}
-use Rattle.race_model.specs.Examples.{capacities}
-use Rattle.race_model.specs.LockExamples.{locked}
-use Rattle.race_model.proofs.LegalSteps.{legal_none, legal_by}
+use Rattle.race_model.{specs.{Examples.capacities, LockExamples.locked}, proofs.LegalSteps.{legal_none, legal_by}}
 use Rattle.race_model.proofs.ExampleLemmas.{illegal_by}
+use Rattle.race_model.proofs.lock_examples.readers_share_a_lock.Goals as goal
 
 pub returns-clause-free : goal.returns-clause-free
 returns-clause-free c = legal_by capacities [] _ (legal_none capacities) (refl, (refl, tt))

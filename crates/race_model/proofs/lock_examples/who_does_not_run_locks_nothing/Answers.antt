@@ -1,9 +1,7 @@
-use Rattle.race_model.proofs.lock_examples.who_does_not_run_locks_nothing.Goals as goal
 use Rattle.std.proofs.Common.{[], refl}
-use Rattle.race_model.specs.Examples.{capacities}
-use Rattle.race_model.specs.LockExamples.{left_locked, left_read_locked, locked_by_main_alone}
-use Rattle.race_model.proofs.LegalSteps.{legal_none, legal_by}
-use Rattle.race_model.proofs.ExampleLemmas.{illegal_by}
+use Rattle.race_model.specs.{Examples.capacities, LockExamples.{left_locked, left_read_locked, locked_by_main_alone}}
+use Rattle.race_model.proofs.{LegalSteps.{legal_none, legal_by}, ExampleLemmas.illegal_by}
+use Rattle.race_model.proofs.lock_examples.who_does_not_run_locks_nothing.Goals as goal
 
 pub returns-clause-unstarted : goal.returns-clause-unstarted
 returns-clause-unstarted c = illegal_by capacities locked_by_main_alone _ 2 (refl, tt) refl

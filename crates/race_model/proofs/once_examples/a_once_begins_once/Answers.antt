@@ -1,9 +1,7 @@
-use Rattle.race_model.proofs.once_examples.a_once_begins_once.Goals as goal
 use Rattle.std.proofs.Common.{[], refl}
-use Rattle.race_model.specs.Examples.{capacities}
-use Rattle.race_model.specs.OnceExamples.{begun, ended}
-use Rattle.race_model.proofs.LegalSteps.{legal_none, legal_by}
-use Rattle.race_model.proofs.ExampleLemmas.{illegal_by}
+use Rattle.race_model.specs.{Examples.capacities, OnceExamples.{begun, ended}}
+use Rattle.race_model.proofs.{LegalSteps.{legal_none, legal_by}, ExampleLemmas.illegal_by}
+use Rattle.race_model.proofs.once_examples.a_once_begins_once.Goals as goal
 
 pub returns-clause-first : goal.returns-clause-first
 returns-clause-first c = legal_by capacities [] _ (legal_none capacities) (refl, (refl, tt))

@@ -1,9 +1,8 @@
-use Rattle.race_model.proofs.once_examples.a_once_ends_where_it_began.Goals as goal
 use Rattle.std.proofs.Common.{[], refl}
-use Rattle.race_model.specs.Examples.{capacities, started}
-use Rattle.race_model.specs.OnceExamples.{begun, ended, inner_ended, nested, side_by_side}
-use Rattle.race_model.proofs.LegalSteps.{legal_none, legal_by}
+use Rattle.race_model.specs.{Examples.{capacities, started}, OnceExamples.{begun, ended, inner_ended, nested}}
+use Rattle.race_model.{specs.OnceExamples.side_by_side, proofs.LegalSteps.{legal_none, legal_by}}
 use Rattle.race_model.proofs.ExampleLemmas.{illegal_by}
+use Rattle.race_model.proofs.once_examples.a_once_ends_where_it_began.Goals as goal
 
 pub returns-clause-began : goal.returns-clause-began
 returns-clause-began c = legal_by capacities [] _ (legal_none capacities) (refl, (refl, (refl, tt)))

@@ -1,9 +1,7 @@
-use Rattle.race_model.proofs.once_examples.a_once_is_done_when_it_ended.Goals as goal
 use Rattle.std.proofs.Common.{[], refl}
-use Rattle.race_model.specs.Examples.{capacities, started}
-use Rattle.race_model.specs.OnceExamples.{begun, ended, inner_ended}
-use Rattle.race_model.proofs.LegalSteps.{legal_none, legal_by}
-use Rattle.race_model.proofs.ExampleLemmas.{illegal_by}
+use Rattle.race_model.specs.{Examples.{capacities, started}, OnceExamples.{begun, ended, inner_ended}}
+use Rattle.race_model.proofs.{LegalSteps.{legal_none, legal_by}, ExampleLemmas.illegal_by}
+use Rattle.race_model.proofs.once_examples.a_once_is_done_when_it_ended.Goals as goal
 
 pub returns-clause-not_begun : goal.returns-clause-not_begun
 returns-clause-not_begun c = illegal_by capacities started _ 19 (refl, tt) refl

@@ -1,9 +1,7 @@
-use Rattle.race_model.proofs.once_examples.a_once_is_left_before_the_exit.Goals as goal
 use Rattle.std.proofs.Common.{[], refl}
-use Rattle.race_model.specs.Examples.{capacities}
-use Rattle.race_model.specs.OnceExamples.{begun, begun_by_w, inner_ended, left_begun}
-use Rattle.race_model.proofs.LegalSteps.{legal_none, legal_by}
-use Rattle.race_model.proofs.ExampleLemmas.{illegal_by}
+use Rattle.race_model.specs.{Examples.capacities, OnceExamples.{begun, begun_by_w, inner_ended, left_begun}}
+use Rattle.race_model.proofs.{LegalSteps.{legal_none, legal_by}, ExampleLemmas.illegal_by}
+use Rattle.race_model.proofs.once_examples.a_once_is_left_before_the_exit.Goals as goal
 
 pub returns-clause-inside : goal.returns-clause-inside
 returns-clause-inside c = illegal_by capacities begun _ 20 (refl, (refl, tt)) refl

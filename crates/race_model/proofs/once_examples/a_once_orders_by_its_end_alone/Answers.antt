@@ -1,8 +1,7 @@
-use Rattle.race_model.proofs.once_examples.a_once_orders_by_its_end_alone.Goals as goal
 use Rattle.std.proofs.Common.{arith, refl}
-use Rattle.race_model.specs.Examples.{capacities, x}
-use Rattle.race_model.specs.OnceExamples.{done_then_done, once_then_begin, once_then_end}
+use Rattle.race_model.specs.{Examples.{capacities, x}, OnceExamples.{done_then_done, once_then_begin, once_then_end}}
 use Rattle.race_model.proofs.ExampleLemmas.{races_by}
+use Rattle.race_model.proofs.once_examples.a_once_orders_by_its_end_alone.Goals as goal
 
 pub returns-clause-once_then_begin : goal.returns-clause-once_then_begin
 returns-clause-once_then_begin c =

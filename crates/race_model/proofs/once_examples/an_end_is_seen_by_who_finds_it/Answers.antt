@@ -1,8 +1,8 @@
-use Rattle.race_model.proofs.once_examples.an_end_is_seen_by_who_finds_it.Goals as goal
 use Rattle.std.proofs.Common.{arith, refl}
-use Rattle.race_model.specs.Examples.{capacities, x}
-use Rattle.race_model.specs.OnceExamples.{another_ended, both_done, inner_done, outer_done, read_without_do, write_behind_function, write_in_function}
+use Rattle.race_model.specs.{Examples.{capacities, x}, OnceExamples.{another_ended, both_done, inner_done, outer_done}}
+use Rattle.race_model.specs.OnceExamples.{read_without_do, write_behind_function, write_in_function}
 use Rattle.race_model.proofs.ExampleLemmas.{before_by, clean_by, races_by}
+use Rattle.race_model.proofs.once_examples.an_end_is_seen_by_who_finds_it.Goals as goal
 
 pub returns-clause-ordered : goal.returns-clause-ordered
 returns-clause-ordered c = before_by capacities write_in_function refl refl refl refl

@@ -1,8 +1,7 @@
-use Rattle.race_model.proofs.try_examples.a_failed_try_orders_nothing.Goals as goal
 use Rattle.std.proofs.Common.{arith, refl}
-use Rattle.race_model.specs.Examples.{capacities, x}
-use Rattle.race_model.specs.TryExamples.{reader_then_try_to_read, write_then_failed_try, write_then_own_failed_try, write_then_own_try}
-use Rattle.race_model.proofs.ExampleLemmas.{races_by}
+use Rattle.race_model.specs.{Examples.{capacities, x}, TryExamples.{reader_then_try_to_read, write_then_failed_try}}
+use Rattle.race_model.{specs.TryExamples.{write_then_own_failed_try, write_then_own_try}, proofs.ExampleLemmas.races_by}
+use Rattle.race_model.proofs.try_examples.a_failed_try_orders_nothing.Goals as goal
 
 pub returns-clause-into : goal.returns-clause-into
 returns-clause-into c =

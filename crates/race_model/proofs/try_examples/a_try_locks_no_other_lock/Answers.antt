@@ -1,9 +1,8 @@
-use Rattle.race_model.proofs.try_examples.a_try_locks_no_other_lock.Goals as goal
 use Rattle.std.proofs.Common.{[], refl}
 use Rattle.race_model.specs.Examples.{capacities}
 use Rattle.race_model.specs.TryExamples.{try_failed_on_another, try_locked, try_locked_for_reading}
-use Rattle.race_model.proofs.LegalSteps.{legal_none, legal_by}
-use Rattle.race_model.proofs.ExampleLemmas.{illegal_by}
+use Rattle.race_model.proofs.{LegalSteps.{legal_none, legal_by}, ExampleLemmas.illegal_by}
+use Rattle.race_model.proofs.try_examples.a_try_locks_no_other_lock.Goals as goal
 
 pub returns-clause-lock : goal.returns-clause-lock
 returns-clause-lock c = legal_by capacities [] _ (legal_none capacities) (refl, (refl, (refl, tt)))

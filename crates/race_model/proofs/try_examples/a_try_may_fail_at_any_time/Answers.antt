@@ -1,10 +1,8 @@
-use Rattle.race_model.proofs.try_examples.a_try_may_fail_at_any_time.Goals as goal
 use Rattle.std.proofs.Common.{[], refl}
-use Rattle.race_model.specs.Examples.{capacities}
-use Rattle.race_model.specs.LockExamples.{left_read_locked, locked_by_main_alone}
+use Rattle.race_model.specs.{Examples.capacities, LockExamples.{left_read_locked, locked_by_main_alone}}
 use Rattle.race_model.specs.TryExamples.{try_failed, try_failed_beside_a_reader, try_failed_on_held}
-use Rattle.race_model.proofs.LegalSteps.{legal_none, legal_by}
-use Rattle.race_model.proofs.ExampleLemmas.{illegal_by}
+use Rattle.race_model.proofs.{LegalSteps.{legal_none, legal_by}, ExampleLemmas.illegal_by}
+use Rattle.race_model.proofs.try_examples.a_try_may_fail_at_any_time.Goals as goal
 
 pub returns-clause-free : goal.returns-clause-free
 returns-clause-free c = legal_by capacities [] _ (legal_none capacities) (refl, (refl, tt))

@@ -1,9 +1,7 @@
-use Rattle.race_model.proofs.try_examples.a_try_succeeds_where_the_lock_could_be_locked.Goals as goal
 use Rattle.std.proofs.Common.{[], refl}
-use Rattle.race_model.specs.Examples.{capacities}
-use Rattle.race_model.specs.LockExamples.{locked, one_reader}
-use Rattle.race_model.proofs.LegalSteps.{legal_none, legal_by}
-use Rattle.race_model.proofs.ExampleLemmas.{illegal_by}
+use Rattle.race_model.specs.{Examples.capacities, LockExamples.{locked, one_reader}}
+use Rattle.race_model.proofs.{LegalSteps.{legal_none, legal_by}, ExampleLemmas.illegal_by}
+use Rattle.race_model.proofs.try_examples.a_try_succeeds_where_the_lock_could_be_locked.Goals as goal
 
 pub returns-clause-free : goal.returns-clause-free
 returns-clause-free c = legal_by capacities [] _ (legal_none capacities) (refl, (refl, tt))

@@ -1,9 +1,7 @@
-use Rattle.race_model.proofs.try_examples.a_try_that_succeeds_locks.Goals as goal
 use Rattle.std.proofs.Common.{[], refl}
-use Rattle.race_model.specs.Examples.{capacities}
-use Rattle.race_model.specs.TryExamples.{try_locked, try_locked_for_reading}
-use Rattle.race_model.proofs.LegalSteps.{legal_none, legal_by}
-use Rattle.race_model.proofs.ExampleLemmas.{illegal_by}
+use Rattle.race_model.specs.{Examples.capacities, TryExamples.{try_locked, try_locked_for_reading}}
+use Rattle.race_model.proofs.{LegalSteps.{legal_none, legal_by}, ExampleLemmas.illegal_by}
+use Rattle.race_model.proofs.try_examples.a_try_that_succeeds_locks.Goals as goal
 
 pub returns-clause-held : goal.returns-clause-held
 returns-clause-held c = illegal_by capacities try_locked _ 13 (refl, (refl, tt)) refl

@@ -1,9 +1,11 @@
-use Rattle.race_model.proofs.try_examples.a_try_that_succeeds_sees_what_a_lock_would.Goals as goal
 use Rattle.std.proofs.Common.{arith, refl}
-use Rattle.race_model.specs.Examples.{capacities, x}
-use Rattle.race_model.specs.TryExamples.{earlier_unlock_then_try, failed_try_between, read_then_try, try_between, try_of_another_writes_then_lock}
-use Rattle.race_model.specs.TryExamples.{try_reads_then_lock, try_writes_then_lock, write_then_try, write_then_try_of_another, write_then_try_to_read, write_then_try_to_read_another}
+use Rattle.race_model.specs.{Examples.{capacities, x}, TryExamples.{earlier_unlock_then_try, failed_try_between}}
+use Rattle.race_model.specs.TryExamples.{read_then_try, try_between, try_of_another_writes_then_lock}
+use Rattle.race_model.specs.TryExamples.{try_reads_then_lock, try_writes_then_lock, write_then_try}
+use Rattle.race_model.specs.TryExamples.{write_then_try_of_another, write_then_try_to_read}
+use Rattle.race_model.specs.TryExamples.{write_then_try_to_read_another}
 use Rattle.race_model.proofs.ExampleLemmas.{before_by, clean_by, races_by}
+use Rattle.race_model.proofs.try_examples.a_try_that_succeeds_sees_what_a_lock_would.Goals as goal
 
 pub returns-clause-try_ordered : goal.returns-clause-try_ordered
 returns-clause-try_ordered c = before_by capacities write_then_try refl refl refl refl

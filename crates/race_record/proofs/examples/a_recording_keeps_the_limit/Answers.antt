@@ -1,14 +1,9 @@
 use Rattle.std.proofs.Common.{◌≡◌, ℕ, zero, suc, List, [], ◌∷◌, Some, None, slice_get, refl, subst, arith}
 use Rattle.std.proofs.lemmas.Option.{none-some}
-use Rattle.race_records.specs.declared.event.Event.{Event}
-use Rattle.race_records.specs.declared.event.Op.TheVariants.{Exit}
-use Rattle.race_records.specs.Declarations.{capacity_of}
-use Rattle.race_model.specs.Examples.{does}
-use Rattle.race_model.proofs.LegalSteps.{legal_none, legal_by}
-use Rattle.race_requests.specs.declared.request.Step.{Step}
-use Rattle.race_requests.specs.Table.{Fits}
-use Rattle.race_hub.specs.Part.{IsPart, part_of}
-use Rattle.race_hub.specs.Hub.{stop_by}
+use Rattle.race_records.specs.{declared.event.{Event.Event, Op.TheVariants.Exit}, Declarations.capacity_of}
+use Rattle.race_model.{specs.Examples.does, proofs.LegalSteps.{legal_none, legal_by}}
+use Rattle.race_requests.specs.{declared.request.Step.Step, Table.Fits}
+use Rattle.race_hub.specs.{Part.{IsPart, part_of}, Hub.stop_by}
 use Rattle.race_record.specs.Examples.{exits, main_returns}
 use Rattle.race_record.proofs.examples.a_recording_keeps_the_limit.Goals as goal
 

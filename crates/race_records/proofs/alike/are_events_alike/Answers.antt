@@ -1,7 +1,5 @@
-use Rattle.std.proofs.Common.{◌≡◌, length, refl, sym, ◌∙◌, arith}
-use Rattle.std.proofs.lemmas.List.{length-map}
-use Rattle.race_records.specs.TraceEquality.{placed, placed_events}
-use Rattle.race_records.proofs.ListLemmas.{same_elements}
+use Rattle.std.proofs.{Common.{◌≡◌, length, refl, sym, ◌∙◌, arith}, lemmas.List.length-map}
+use Rattle.race_records.{specs.TraceEquality.{placed, placed_events}, proofs.ListLemmas.same_elements}
 use Rattle.race_records.proofs.alike.are_events_alike.Goals as goal
 
 pub returns : goal.returns

@@ -1,8 +1,5 @@
-use Rattle.std.proofs.Common.{◌∙◌, option_map, Some, sym, ap}
-use Rattle.std.proofs.lemmas.Option.{slice_get-get_or}
-use Rattle.std.specs.Int.{bit_at}
-use Rattle.race_records.specs.Cases.{case_of}
-use Rattle.race_records.proofs.CaseLemmas.{case_at}
+use Rattle.std.{proofs.{Common.{◌∙◌, option_map, Some, sym, ap}, lemmas.Option.slice_get-get_or}, specs.Int.bit_at}
+use Rattle.race_records.{specs.Cases.case_of, proofs.CaseLemmas.case_at}
 use Rattle.race_records.proofs.cases.case_in.Goals as goal
 
 pub returns : goal.returns

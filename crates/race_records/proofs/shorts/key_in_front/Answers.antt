@@ -1,7 +1,5 @@
-use Rattle.std.proofs.Common.{◌^◌, ◌*◌, ◌-◌, min, ap, ◌∙◌, w64}
-use Rattle.std.proofs.lemmas.List.{take_rest}
+use Rattle.std.proofs.{Common.{◌^◌, ◌*◌, ◌-◌, min, ap, ◌∙◌, w64}, lemmas.List.take_rest, Math.Facts.Fits-lt-pow}
 use Rattle.std.specs.Int.{from_le_bytes}
-use Rattle.std.proofs.Math.Facts.{Fits-lt-pow}
 use Rattle.race_records.proofs.ShortLemmas.{key_cut}
 use Rattle.race_records.proofs.shorts.key_in_front.Goals as goal
 

@@ -1,5 +1,4 @@
-use Rattle.std.proofs.Common.{refl, ◌∙◌}
-use Rattle.std.proofs.lemmas.List.Elements.{All-get_or}
+use Rattle.std.proofs.{Common.{refl, ◌∙◌}, lemmas.List.Elements.All-get_or}
 use Rattle.race_records.specs.Shorts.{IsNoted}
 use Rattle.race_records.proofs.shorts.put_each.Goals as goal
 

@@ -1,6 +1,5 @@
 use Rattle.std.proofs.Common.{◌≡◌, List, length}
-use Rattle.race_records.specs.Tables.{Row}
-use Rattle.race_records.specs.Shorts.{AreNoted}
+use Rattle.race_records.specs.{Tables.Row, Shorts.AreNoted}
 use Rattle.race_records.proofs.shorts.put_each.Given as goal
 
 -- there are as many slots, and what was noted still is

@@ -1,8 +1,5 @@
-use Rattle.std.proofs.Common.{◌≡◌, Ok, List, take, length, subst}
-use Rattle.std.specs.List.{flat_map}
-use Rattle.std.proofs.lemmas.List.{take_all}
-use Rattle.race_records.specs.Page.{Printing}
-use Rattle.race_records.proofs.PageLemmas.{piece_breaks_off, breaks_off_before, prints_behind}
+use Rattle.std.{proofs.{Common.{◌≡◌, Ok, List, take, length, subst}, lemmas.List.take_all}, specs.List.flat_map}
+use Rattle.race_records.{specs.Page.Printing, proofs.PageLemmas.{piece_breaks_off, breaks_off_before, prints_behind}}
 use Rattle.race_edges.specs.declared.listing.Edge.{Edge}
 use Rattle.race_report.specs.Report.{edge_line, edges_line}
 use Rattle.race_report.proofs.edge_lines.print_edges.Goals as goal

@@ -1,7 +1,6 @@
 use Rattle.std.proofs.Common.{◌≡◌, [], unwrap_or, sym, ap, ◌∙◌}
 use Rattle.race_text.specs.Text.{goroutine_name, place_text}
-use Rattle.race_report.specs.Report.{access_told}
-use Rattle.race_report.specs.Noted.{noted_word}
+use Rattle.race_report.specs.{Report.access_told, Noted.noted_word}
 use Rattle.race_report.proofs.noted.noted_words.Goals as goal
 
 pub returns : goal.returns

@@ -1,8 +1,7 @@
 use Rattle.std.proofs.Common.{◌≡◌, ℕ, List, [], unwrap_or, sym, ap, ◌∙◌, subst}
 use Rattle.race_records.specs.Page.{Printing}
 use Rattle.race_text.specs.Text.{var_name}
-use Rattle.race_report.specs.Report.{access_told, race_told}
-use Rattle.race_report.specs.Noted.{race_noted_line}
+use Rattle.race_report.specs.{Report.{access_told, race_told}, Noted.race_noted_line}
 use Rattle.race_report.proofs.noted.print_noted_race.Goals as goal
 
 pub returns : goal.returns

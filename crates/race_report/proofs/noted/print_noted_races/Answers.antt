@@ -1,11 +1,7 @@
-use Rattle.std.proofs.Common.{◌≡◌, Ok, List, take, length, subst}
-use Rattle.std.specs.List.{flat_map}
-use Rattle.std.proofs.lemmas.List.{take_all}
-use Rattle.race_records.specs.Page.{Printing}
-use Rattle.race_records.proofs.PageLemmas.{piece_breaks_off, breaks_off_before, prints_behind}
+use Rattle.std.{proofs.{Common.{◌≡◌, Ok, List, take, length, subst}, lemmas.List.take_all}, specs.List.flat_map}
+use Rattle.race_records.{specs.Page.Printing, proofs.PageLemmas.{piece_breaks_off, breaks_off_before, prints_behind}}
 use Rattle.race_verdict.specs.declared.notes.NotedRace.{NotedRace}
-use Rattle.race_report.specs.Report.{races_line}
-use Rattle.race_report.specs.Noted.{race_noted_line}
+use Rattle.race_report.specs.{Report.races_line, Noted.race_noted_line}
 use Rattle.race_report.proofs.noted.print_noted_races.Goals as goal
 
 pub returns-in-Err : goal.returns-in-Err

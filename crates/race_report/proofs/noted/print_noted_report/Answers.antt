@@ -1,7 +1,6 @@
 use Rattle.std.proofs.Common.{ℕ, List, sym, subst}
 use Rattle.race_records.specs.Page.{Printing}
-use Rattle.race_report.specs.Noted.{races_noted_text, report_noted}
-use Rattle.race_report.proofs.NotedLemmas.{report_by}
+use Rattle.race_report.{specs.Noted.{races_noted_text, report_noted}, proofs.NotedLemmas.report_by}
 use Rattle.race_report.proofs.noted.print_noted_report.Goals as goal
 
 pub returns-in-Illegal-clause-noted : goal.returns-in-Illegal-clause-noted

@@ -1,11 +1,8 @@
 use Rattle.std.proofs.Common.{◌≡◌, ◌<◌, [], unwrap_or, sym, ap, ◌∙◌, subst}
-use Rattle.race_records.specs.declared.event.Event.{Event}
-use Rattle.race_records.specs.declared.kind.Kind.{Kind}
-use Rattle.race_records.specs.Declarations.{DeclsState, count_of}
+use Rattle.race_records.specs.{declared.{event.Event.Event, kind.Kind.Kind}, Declarations.{DeclsState, count_of}}
 use Rattle.race_legal.proofs.RangeLemmas.{range_from_fits}
 use Rattle.race_text.specs.Text.{goroutine_name, place_text}
-use Rattle.race_report.proofs.ReportLemmas.{access_text_is}
-use Rattle.race_report.proofs.PrintableLemmas.{place_from_fits}
+use Rattle.race_report.proofs.{ReportLemmas.access_text_is, PrintableLemmas.place_from_fits}
 use Rattle.race_report.proofs.verdict.access_words.Goals as goal
 
 pub name-requires : goal.name-requires

@@ -1,6 +1,5 @@
 use Rattle.std.proofs.Common.{◌≡◌, ℕ, List, [], unwrap_or, subst, sym, ap, ◌∙◌}
-use Rattle.race_records.specs.Declarations.{DeclsState}
-use Rattle.race_records.specs.Page.{Printing}
+use Rattle.race_records.specs.{Declarations.DeclsState, Page.Printing}
 use Rattle.race_verdict.specs.Races.{race_of}
 use Rattle.race_text.specs.Text.{var_name}
 use Rattle.race_report.proofs.ReportLemmas.{race_line_is}

@@ -1,11 +1,8 @@
 use Rattle.std.proofs.Common.{All, ◌≡◌, ℕ, ◌≤◌, ◌++◌, Ok, Err, List, take, length, sym, subst, ◌∙◌, ap}
 use Rattle.std.specs.List.{flat_map}
-use Rattle.race_records.specs.Page.{Printing}
-use Rattle.race_records.proofs.PageLemmas.{piece_breaks_off, breaks_off_before, prints_behind}
-use Rattle.race_verdict.specs.declared.races.Race.{Race}
-use Rattle.race_verdict.specs.Races.{race_of}
-use Rattle.race_report.specs.Printable.{IsOf}
-use Rattle.race_report.specs.Report.{race_line, races_line}
+use Rattle.race_records.{specs.Page.Printing, proofs.PageLemmas.{piece_breaks_off, breaks_off_before, prints_behind}}
+use Rattle.race_verdict.specs.{declared.races.Race.Race, Races.race_of}
+use Rattle.race_report.specs.{Printable.IsOf, Report.{race_line, races_line}}
 use Rattle.race_report.proofs.ReportLemmas.{races_text_is, take_all}
 use Rattle.race_report.proofs.verdict.print_races.Goals as goal
 

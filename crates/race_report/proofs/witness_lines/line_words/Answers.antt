@@ -1,6 +1,5 @@
 use Rattle.std.proofs.Common.{◌<◌, sym, subst}
-use Rattle.race_records.specs.declared.kind.Kind.{Kind}
-use Rattle.race_records.specs.Declarations.{DeclsState, count_of, counts_of}
+use Rattle.race_records.specs.{declared.kind.Kind.Kind, Declarations.{DeclsState, count_of, counts_of}}
 use Rattle.race_legal.proofs.RangeLemmas.{range_from_fits}
 use Rattle.race_verdict.proofs.RangeLemmas.{accessed_in_range}
 use Rattle.race_report.proofs.witness_lines.line_words.Goals as goal

@@ -1,8 +1,5 @@
-use Rattle.std.proofs.Common.{◌≡◌, Ok, ℕ, List, take, length, subst}
-use Rattle.std.specs.List.{flat_map}
-use Rattle.std.proofs.lemmas.List.{take_all}
-use Rattle.race_records.specs.Page.{Printing}
-use Rattle.race_records.proofs.PageLemmas.{piece_breaks_off, breaks_off_before, prints_behind}
+use Rattle.std.{proofs.{Common.{◌≡◌, Ok, ℕ, List, take, length, subst}, lemmas.List.take_all}, specs.List.flat_map}
+use Rattle.race_records.{specs.Page.Printing, proofs.PageLemmas.{piece_breaks_off, breaks_off_before, prints_behind}}
 use Rattle.race_report.specs.Witness.{access_line, witness_line}
 use Rattle.race_report.proofs.witness_lines.print_witness.Goals as goal
 

@@ -1,5 +1,4 @@
-use Rattle.std.proofs.Common.{Ok, take}
-use Rattle.std.specs.List.{flat_map}
+use Rattle.std.{proofs.Common.{Ok, take}, specs.List.flat_map}
 use Rattle.race_records.specs.Page.{Printing}
 use Rattle.race_report.specs.Witness.{access_line}
 use Rattle.race_report.proofs.witness_lines.print_witness.Given as goal

@@ -1,6 +1,5 @@
 -- none of the offers before number k receives from the channel
-use Rattle.std.proofs.Common.{◌≡◌, false, take}
-use Rattle.std.specs.List.{list_any}
+use Rattle.std.{proofs.Common.{◌≡◌, false, take}, specs.List.list_any}
 use Rattle.race_requests.specs.Waiting.{receives_from}
 use Rattle.race_requests.proofs.board.one_receives.Given as goal
 

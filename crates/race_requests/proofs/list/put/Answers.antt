@@ -1,8 +1,6 @@
 use Rattle.std.proofs.Common.{◌≡◌, ◌≤◌, ◌++◌, ◌∙◌, List, sym, ap, subst, length, length-append, map, arith}
-use Rattle.race_requests.specs.declared.list.Brief.{Brief}
-use Rattle.race_requests.specs.declared.request.Offer.{Offer}
-use Rattle.race_requests.specs.List.{ask_of, request_of, offers_in, AreWithin}
-use Rattle.race_requests.proofs.ListLemmas.{requests_pushed, within_pushed}
+use Rattle.race_requests.specs.{declared.{list.Brief.Brief, request.Offer.Offer}, List.{ask_of, request_of, offers_in}}
+use Rattle.race_requests.{specs.List.AreWithin, proofs.ListLemmas.{requests_pushed, within_pushed}}
 use Rattle.race_requests.proofs.list.put.Goals as goal
 
 pub returns-clause-within : goal.returns-clause-within

@@ -1,7 +1,6 @@
 -- The event is made of the operation.
 use Rattle.std.proofs.Common.{Option, Some, None, ap, ◌∙◌}
-use Rattle.race_records.specs.declared.event.Event.{Event}
-use Rattle.race_records.specs.declared.event.Op.{Op}
+use Rattle.race_records.specs.declared.event.{Event.Event, Op.Op}
 use Rattle.race_requests.proofs.making.lone_event.Goals as goal
 
 pub returns-in-Some : goal.returns-in-Some

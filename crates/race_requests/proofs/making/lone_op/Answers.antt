@@ -1,14 +1,11 @@
 -- Each reader answers the word of the run so far.
 use Rattle.std.proofs.Common.{ℕ, ◌==◌, cond, Bool, Some, IsTrue, sym, ap, subst, ◌∙◌}
-use Rattle.race_records.specs.declared.event.Cause.TheVariants.{UnlockFree, RUnlockFree}
-use Rattle.race_records.specs.declared.event.Op.{Op}
-use Rattle.race_records.specs.declared.event.Op.TheVariants.{Read, Unlock, RUnlock, TryLock, TryRLock, TryFail, OnceBegin, OnceDone, Fault}
-use Rattle.race_requests.specs.declared.request.Ask.{Ask}
+use Rattle.race_records.specs.declared.event.{Cause.TheVariants.{UnlockFree, RUnlockFree}, Op.{Op, TheVariants.Read}}
+use Rattle.race_records.specs.declared.event.Op.TheVariants.{Unlock, RUnlock, TryLock, TryRLock, TryFail, OnceBegin}
+use Rattle.race_records.specs.declared.event.Op.TheVariants.{OnceDone, Fault}
+use Rattle.race_requests.specs.{declared.request.Ask.Ask, Choices.op_of, Possible.ask_is_in_range}
+use Rattle.race_requests.proofs.{OfferLemmas.offers_in_range, RangeLemmas.{alone, either}}
 use Rattle.race_legal.specs.ReplayState.{counts_in}
-use Rattle.race_requests.specs.Choices.{op_of}
-use Rattle.race_requests.specs.Possible.{ask_is_in_range}
-use Rattle.race_requests.proofs.OfferLemmas.{offers_in_range}
-use Rattle.race_requests.proofs.RangeLemmas.{alone, either}
 use Rattle.race_requests.proofs.making.lone_op.Goals as goal
 
 pub returns-in-Read-clause-op : goal.returns-in-Read-clause-op

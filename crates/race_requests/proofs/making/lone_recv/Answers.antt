@@ -1,13 +1,9 @@
 -- The reader answers the word of the run so far.
 use Rattle.std.proofs.Common.{ℕ, Option, Some, None, IsTrue, sym, ap, subst, ◌∙◌}
-use Rattle.race_records.specs.declared.event.Op.{Op}
-use Rattle.race_records.specs.declared.event.Op.TheVariants.{Recv, RecvClosed}
-use Rattle.race_records.specs.declared.kind.Kind.{Kind}
+use Rattle.race_records.specs.declared.{event.Op.{Op, TheVariants.{Recv, RecvClosed}}, kind.Kind.Kind}
 use Rattle.race_records.specs.Parts.{chan_is_in_range}
 use Rattle.race_legal.specs.ReplayState.{counts_in}
-use Rattle.race_requests.specs.declared.request.Ask.{Ask}
-use Rattle.race_requests.specs.Choices.{op_of}
-use Rattle.race_requests.proofs.RangeLemmas.{received}
+use Rattle.race_requests.{specs.{declared.request.Ask.Ask, Choices.op_of}, proofs.RangeLemmas.received}
 use Rattle.race_requests.proofs.making.lone_recv.Goals as goal
 
 pub returns-clause-op : goal.returns-clause-op

@@ -1,17 +1,11 @@
 -- An offer makes what a send or a receive does.
-use Rattle.std.proofs.lemmas.Grind.{elements}
-use Rattle.std.proofs.Common.{◌==◌, ◌&&◌, List, map, length, Option, Some, None, sym, ap, ◌∙◌, arith}
-use Rattle.std.specs.List.{list_all}
-use Rattle.race_records.specs.declared.event.Op.TheVariants.{Default}
-use Rattle.race_records.specs.declared.cases.Case.{Case}
-use Rattle.race_records.specs.declared.kind.Kind.{Kind}
+use Rattle.std.proofs.{lemmas.Grind.elements, Common.{◌==◌, ◌&&◌, List, map, length, Option, Some, None, sym, ap, ◌∙◌}}
+use Rattle.std.{proofs.Common.arith, specs.List.list_all}
+use Rattle.race_records.specs.declared.{event.Op.TheVariants.Default, cases.Case.Case, kind.Kind.Kind}
 use Rattle.race_records.specs.Parts.{case_is_in_range}
 use Rattle.race_legal.specs.ReplayState.{counts_in}
-use Rattle.race_requests.specs.declared.request.Offer.{Offer}
-use Rattle.race_requests.specs.Choices.{lone_op}
-use Rattle.race_requests.specs.Offers.{case_of}
-use Rattle.race_requests.proofs.OfferLemmas.{by_offer_at, chan_in_range, cases_in_range}
-use Rattle.race_requests.proofs.RangeLemmas.{alone}
+use Rattle.race_requests.specs.{declared.request.Offer.Offer, Choices.lone_op, Offers.case_of}
+use Rattle.race_requests.proofs.{OfferLemmas.{by_offer_at, chan_in_range, cases_in_range}, RangeLemmas.alone}
 use Rattle.race_requests.proofs.making.lone_select.Goals as goal
 
 pub lone_send-requires : goal.lone_send-requires

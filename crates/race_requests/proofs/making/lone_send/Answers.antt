@@ -1,14 +1,9 @@
 -- The reader answers the word of the run so far.
 use Rattle.std.proofs.Common.{ℕ, cond, Bool, Option, Some, IsTrue, sym, ap, subst, ◌∙◌}
-use Rattle.race_records.specs.declared.event.Cause.TheVariants.{SendClosed}
-use Rattle.race_records.specs.declared.event.Op.{Op}
-use Rattle.race_records.specs.declared.event.Op.TheVariants.{Send, Fault}
-use Rattle.race_records.specs.declared.kind.Kind.{Kind}
-use Rattle.race_records.specs.Parts.{chan_is_in_range}
+use Rattle.race_records.specs.declared.event.{Cause.TheVariants.SendClosed, Op.{Op, TheVariants.{Send, Fault}}}
+use Rattle.race_records.specs.{declared.kind.Kind.Kind, Parts.chan_is_in_range}
 use Rattle.race_legal.specs.ReplayState.{counts_in}
-use Rattle.race_requests.specs.declared.request.Ask.{Ask}
-use Rattle.race_requests.specs.Choices.{op_of}
-use Rattle.race_requests.proofs.RangeLemmas.{alone, either}
+use Rattle.race_requests.{specs.{declared.request.Ask.Ask, Choices.op_of}, proofs.RangeLemmas.{alone, either}}
 use Rattle.race_requests.proofs.making.lone_send.Goals as goal
 
 pub returns-clause-op : goal.returns-clause-op

@@ -2,9 +2,7 @@
 use Rattle.std.proofs.Common.{is_none, sym, ap, ◌∙◌}
 use Rattle.race_records.specs.Declarations.{capacity_of}
 use Rattle.race_legal.specs.ReplayState.{counts_in}
-use Rattle.race_requests.specs.Choices.{is_legal_next}
-use Rattle.race_requests.proofs.PossibleLemmas.{none_is_told}
-use Rattle.race_requests.proofs.RangeLemmas.{meeting}
+use Rattle.race_requests.{specs.Choices.is_legal_next, proofs.{PossibleLemmas.none_is_told, RangeLemmas.meeting}}
 use Rattle.race_requests.proofs.meet.can_meet.Goals as goal
 
 pub breaks-requires : goal.breaks-requires

@@ -1,9 +1,6 @@
-use Rattle.std.proofs.Common.{IsTrue, slice_get, refl, sym, subst, ap, ◌∙◌, arith}
-use Rattle.std.proofs.lemmas.Option.{slice_get_past}
+use Rattle.std.proofs.{Common.{IsTrue, slice_get, refl, sym, subst, ap, ◌∙◌, arith}, lemmas.Option.slice_get_past}
 use Rattle.race_records.specs.declared.kind.Kind.{Kind}
-use Rattle.race_requests.specs.declared.request.Ask.{Ask}
-use Rattle.race_requests.specs.Possible.{ask_is_in_range}
-use Rattle.race_requests.specs.Table.{offers_of}
+use Rattle.race_requests.specs.{declared.request.Ask.Ask, Possible.ask_is_in_range, Table.offers_of}
 use Rattle.race_requests.proofs.OfferLemmas.{chan_in_range, offers_in_range}
 use Rattle.race_requests.proofs.meet.offer_at.Goals as goal
 

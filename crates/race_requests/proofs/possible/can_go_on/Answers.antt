@@ -1,11 +1,8 @@
 -- The event of the request alone breaks no rule just where none is told.
 use Rattle.std.proofs.Common.{Option, Some, None, is_none, sym, ap, subst, ◌∙◌}
-use Rattle.race_records.specs.declared.event.Event.{Event}
-use Rattle.race_records.specs.declared.event.Op.{Op}
-use Rattle.race_records.specs.Declarations.{capacity_of}
+use Rattle.race_records.specs.{declared.event.{Event.Event, Op.Op}, Declarations.capacity_of}
 use Rattle.race_legal.specs.ReplayState.{IsInRange, counts_in}
-use Rattle.race_requests.specs.Choices.{is_legal_next}
-use Rattle.race_requests.proofs.PossibleLemmas.{none_is_told}
+use Rattle.race_requests.{specs.Choices.is_legal_next, proofs.PossibleLemmas.none_is_told}
 use Rattle.race_requests.proofs.possible.can_go_on.Goals as goal
 
 pub breaks-requires : goal.breaks-requires

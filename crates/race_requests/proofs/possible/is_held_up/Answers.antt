@@ -1,8 +1,7 @@
 -- Each reader answers the word of the run so far.
 use Rattle.std.proofs.Common.{◌≡◌, ◌||◌, ◌&&◌, not, Bool, true, false, true≢false, refl, sym, ap, ◌∙◌}
 use Rattle.race_records.specs.Declarations.{capacity_of}
-use Rattle.race_requests.specs.declared.request.Ask.{Ask}
-use Rattle.race_requests.specs.Possible.{goes_on}
+use Rattle.race_requests.specs.{declared.request.Ask.Ask, Possible.goes_on}
 use Rattle.race_requests.proofs.possible.is_held_up.Goals as goal
 
 off : (b : Bool) → not b ≡ true → b ≡ false

@@ -1,7 +1,6 @@
 -- What isn't found in the parts before is looked for in the next one.
 use Rattle.std.proofs.Common.{◌<◌, ap, length, arith}
-use Rattle.race_requests.specs.Choices.{below, of_way}
-use Rattle.race_requests.proofs.FoundLemmas.{found_step, found_at, none_of_stuck}
+use Rattle.race_requests.{specs.Choices.{below, of_way}, proofs.FoundLemmas.{found_step, found_at, none_of_stuck}}
 use Rattle.race_requests.proofs.search.by_request.Goals as goal
 
 pub returns-in-At : goal.returns-in-At

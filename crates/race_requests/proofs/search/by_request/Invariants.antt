@@ -1,8 +1,6 @@
 -- What was passed by so far.
 use Rattle.std.proofs.Common.{filter, flat_map}
-use Rattle.race_requests.specs.declared.search.Found.TheVariants.{Left}
-use Rattle.race_requests.specs.Choices.{below, of_way}
-use Rattle.race_requests.specs.Search.{IsFound}
+use Rattle.race_requests.specs.{declared.search.Found.TheVariants.Left, Choices.{below, of_way}, Search.IsFound}
 use Rattle.race_requests.proofs.search.by_request.Given as goal
 
 abbrev pub invariant-loop-way : goal.invariant-loop-way

@@ -1,7 +1,6 @@
 -- What isn't found in the parts before is looked for in the next one.
 use Rattle.std.proofs.Common.{◌<◌, arith, flat_map}
-use Rattle.race_requests.specs.Choices.{below, of_way}
-use Rattle.race_requests.proofs.FoundLemmas.{found_step, found_at}
+use Rattle.race_requests.{specs.Choices.{below, of_way}, proofs.FoundLemmas.{found_step, found_at}}
 use Rattle.race_requests.proofs.search.find.Goals as goal
 
 pub returns-in-At : goal.returns-in-At

@@ -1,6 +1,5 @@
 -- A number that is found is below the count.
-use Rattle.std.proofs.Common.{◌∙◌, ap, sym, filter, slice_get, rules}
-use Rattle.std.proofs.Math.Nat.{mod-eq_of_lt}
+use Rattle.std.proofs.{Common.{◌∙◌, ap, sym, filter, slice_get, rules}, Math.Nat.mod-eq_of_lt}
 use Rattle.std.proofs.lemmas.Option.{slice_get_within}
 use Rattle.race_requests.specs.Choices.{tuples}
 use Rattle.race_requests.proofs.search.pick_choice.Goals as goal

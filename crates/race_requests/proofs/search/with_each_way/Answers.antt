@@ -1,8 +1,7 @@
 -- What isn't found in the parts before is looked for in the next one.
 use Rattle.std.proofs.Common.{◌≡◌, ◌+◌, ◌<◌, List, [], ◌∷◌, filter, slice_get, Some, subst, arith}
 use Rattle.std.proofs.lemmas.List.Concat.{flat_map_single}
-use Rattle.race_requests.specs.declared.choice.Choice.{Choice}
-use Rattle.race_requests.specs.Choices.{below, choice}
+use Rattle.race_requests.specs.{declared.choice.Choice.Choice, Choices.{below, choice}}
 use Rattle.race_requests.proofs.FoundLemmas.{found_step, found_at}
 use Rattle.race_requests.proofs.search.with_each_way.Goals as goal
 

@@ -1,8 +1,6 @@
 -- What was passed by so far.
 use Rattle.std.proofs.Common.{filter, flat_map, ◌+◌, [], ◌∷◌}
-use Rattle.race_requests.specs.declared.search.Found.TheVariants.{Left}
-use Rattle.race_requests.specs.Choices.{below, choice}
-use Rattle.race_requests.specs.Search.{IsFound}
+use Rattle.race_requests.specs.{declared.search.Found.TheVariants.Left, Choices.{below, choice}, Search.IsFound}
 use Rattle.race_requests.proofs.search.with_each_way.Given as goal
 
 abbrev pub invariant-loop-other : goal.invariant-loop-other

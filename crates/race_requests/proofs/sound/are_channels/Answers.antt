@@ -1,12 +1,8 @@
 -- The first offer whose channel isn't declared is found.
 use Rattle.std.proofs.Common.{◌≡◌, ◌<◌, ◌≤◌, ◌&&◌, ◌∙◌, nat_le, Bool, true, false, length, refl, sym, ap, arith}
+use Rattle.std.proofs.lemmas.{Bool.Decides.nat_tests, List.{take_all, Folds.{list_all_at, list_all_more}}}
 use Rattle.std.specs.List.{list_all}
-use Rattle.std.proofs.lemmas.Bool.Decides.{nat_tests}
-use Rattle.std.proofs.lemmas.List.{take_all}
-use Rattle.std.proofs.lemmas.List.Folds.{list_all_at, list_all_more}
-use Rattle.race_records.specs.declared.cases.TheConstants.{MAX_CASES}
-use Rattle.race_records.specs.declared.kind.Kind.{Kind}
-use Rattle.race_records.specs.Declarations.{count_of}
+use Rattle.race_records.specs.{declared.{cases.TheConstants.MAX_CASES, kind.Kind.Kind}, Declarations.count_of}
 use Rattle.race_legal.proofs.Searches.{passes_at}
 use Rattle.race_requests.specs.Possible.{offer_is_in_range}
 use Rattle.race_requests.proofs.sound.are_channels.Goals as goal

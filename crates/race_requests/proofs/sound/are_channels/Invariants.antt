@@ -1,8 +1,6 @@
 -- the channels of the offers before number k are declared
-use Rattle.std.proofs.Common.{◌≡◌, true, take}
-use Rattle.std.specs.List.{list_all}
-use Rattle.race_records.specs.declared.kind.Kind.{Kind}
-use Rattle.race_records.specs.Declarations.{count_of}
+use Rattle.std.{proofs.Common.{◌≡◌, true, take}, specs.List.list_all}
+use Rattle.race_records.specs.{declared.kind.Kind.Kind, Declarations.count_of}
 use Rattle.race_requests.specs.Possible.{offer_is_in_range}
 use Rattle.race_requests.proofs.sound.are_channels.Given as goal
 

@@ -1,5 +1,4 @@
-use Rattle.std.proofs.Common.{◌≡◌, false, take}
-use Rattle.std.specs.List.{list_any}
+use Rattle.std.{proofs.Common.{◌≡◌, false, take}, specs.List.list_any}
 use Rattle.race_requests.specs.Sound.{asks_to_start}
 use Rattle.race_requests.proofs.sound.is_asked_for.Given as goal
 

@@ -1,10 +1,8 @@
 -- A row that holds by some way holds by one of those that are tried.
-use Rattle.std.proofs.Common.{◌≡◌, ◌∙◌, ℕ, true, true≢false, Option, Some, None, is_some, inl, inr, refl, sym, ap, subst, arith}
-use Rattle.std.proofs.lemmas.Bool.{cases_lt}
+use Rattle.std.proofs.Common.{◌≡◌, ◌∙◌, ℕ, true, true≢false, Option, Some, None, is_some, inl, inr, refl, sym, ap}
+use Rattle.std.proofs.{Common.{subst, arith}, lemmas.Bool.cases_lt}
 use Rattle.race_records.specs.declared.event.Op.{Op}
-use Rattle.race_requests.specs.declared.request.Answer.{Answer}
-use Rattle.race_requests.specs.declared.request.Ask.{Ask}
-use Rattle.race_requests.specs.Table.{IsRow, done_by, told_at}
+use Rattle.race_requests.specs.{declared.request.{Answer.Answer, Ask.Ask}, Table.{IsRow, done_by, told_at}}
 use Rattle.race_requests.proofs.RowLemmas.{way_within}
 use Rattle.race_requests.proofs.table.can_make.Goals as goal
 

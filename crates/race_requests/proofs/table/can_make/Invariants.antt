@@ -1,6 +1,5 @@
 use Rattle.std.proofs.Common.{ℕ, ◌<◌, Option}
-use Rattle.race_requests.specs.declared.request.Answer.{Answer}
-use Rattle.race_requests.specs.Table.{done_by, IsRow}
+use Rattle.race_requests.specs.{declared.request.Answer.Answer, Table.{done_by, IsRow}}
 use Rattle.race_requests.proofs.table.can_make.Given as goal
 
 -- no way before has a row

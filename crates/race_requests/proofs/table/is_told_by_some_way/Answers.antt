@@ -1,8 +1,6 @@
 -- A row that holds by some way holds by one of those that are tried.
-use Rattle.std.proofs.Common.{◌≡◌, inl, inr, true≢false, refl, sym, subst, ◌∙◌, arith}
-use Rattle.std.proofs.lemmas.Bool.{cases_lt}
-use Rattle.race_requests.specs.Table.{done_by, IsRow}
-use Rattle.race_requests.proofs.RowLemmas.{way_within}
+use Rattle.std.proofs.{Common.{◌≡◌, inl, inr, true≢false, refl, sym, subst, ◌∙◌, arith}, lemmas.Bool.cases_lt}
+use Rattle.race_requests.{specs.Table.{done_by, IsRow}, proofs.RowLemmas.way_within}
 use Rattle.race_requests.proofs.table.is_told_by_some_way.Goals as goal
 
 pub loop-way-preserved : goal.loop-way-preserved

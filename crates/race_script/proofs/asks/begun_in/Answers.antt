@@ -1,14 +1,10 @@
 use Rattle.std.proofs.Common.{◌≡◌, ◌==◌, List, [], ◌∷◌, ℕ, length, Option, Some, None, true, false, true≢false}
-use Rattle.std.proofs.Common.{option_map, option_and_then, refl, sym, ap, ◌∙◌, arith}
-use Rattle.std.proofs.lemmas.Bool.Decides.{nat_tests}
-use Rattle.race_records.specs.declared.kind.Kind.{Kind}
-use Rattle.race_records.specs.declared.parts.Part.{Part}
-use Rattle.race_records.specs.declared.parts.PartKind.{PartKind}
-use Rattle.race_records.specs.Declarations.{Declaration}
-use Rattle.race_text.specs.Reading.{ReadPart, part_so_far, first_part, with_rest, goroutine_of}
-use Rattle.race_text.specs.Meaning.{part_in}
-use Rattle.race_text.specs.Words.{parts_left}
+use Rattle.std.proofs.{Common.{option_map, option_and_then, refl, sym, ap, ◌∙◌, arith}, lemmas.Bool.Decides.nat_tests}
 use Rattle.std.specs.Result.{result_ok}
+use Rattle.race_records.specs.declared.{kind.Kind.Kind, parts.{Part.Part, PartKind.PartKind}}
+use Rattle.race_records.specs.Declarations.{Declaration}
+use Rattle.race_text.specs.{Reading.{ReadPart, part_so_far, first_part, with_rest, goroutine_of}, Meaning.part_in}
+use Rattle.race_text.specs.Words.{parts_left}
 use Rattle.race_script.specs.Reading.{begun_in}
 use Rattle.race_script.proofs.asks.begun_in.Goals as goal
 

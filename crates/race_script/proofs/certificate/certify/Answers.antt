@@ -1,13 +1,11 @@
-use Rattle.std.proofs.lemmas.Grind.{common_steps}
-use Rattle.std.proofs.Common.{◌≡◌, not, false, inl, inr, refl, sym, ap, subst, ◌∙◌, arith, true≢false}
-use Rattle.race_records.specs.declared.kind.Kind.{Kind}
-use Rattle.race_records.specs.Declarations.{DeclsState, count_of}
-use Rattle.race_records.specs.Equality.{Declared, declared, same_decls}
-use Rattle.race_records.specs.Events.{TraceState}
+use Rattle.std.proofs.{lemmas.Grind.common_steps, Common.{◌≡◌, not, false, inl, inr, refl, sym, ap, subst, ◌∙◌, arith}}
+use Rattle.std.proofs.Common.{true≢false}
+use Rattle.race_records.specs.{declared.kind.Kind.Kind, Declarations.{DeclsState, count_of}}
+use Rattle.race_records.specs.{Equality.{Declared, declared, same_decls}, Events.TraceState}
 use Rattle.race_hub.specs.Recording.{RecordingState}
-use Rattle.race_script.specs.Certificate.{IsStuck}
-use Rattle.race_script.specs.Program.{ProgramState}
-use Rattle.race_script.proofs.CertifyLemmas.{others_declared, alike_declared, Stops, one_runs, all_run, one_is_stuck, stuck_is_uncertified}
+use Rattle.race_script.{specs.{Certificate.IsStuck, Program.ProgramState}, proofs.CertifyLemmas.others_declared}
+use Rattle.race_script.proofs.CertifyLemmas.{alike_declared, Stops, one_runs, all_run, one_is_stuck}
+use Rattle.race_script.proofs.CertifyLemmas.{stuck_is_uncertified}
 use Rattle.race_script.proofs.certificate.certify.Goals as goal
 
 module _ (g : _) (c : goal.Then-ne g) where

@@ -1,17 +1,11 @@
-use Rattle.std.proofs.lemmas.Grind.{common_steps}
-use Rattle.std.proofs.Common.{◌≡◌, ◌&&◌, not, List, length}
-use Rattle.std.proofs.Common.{slice_get, Some, None, refl, sym, ap, subst, ◌∙◌}
-use Rattle.std.proofs.Common.{arith, true≢false}
-use Rattle.std.specs.Option.{option_copied}
-use Rattle.race_records.specs.Declarations.{DeclsState}
-use Rattle.race_records.specs.declared.event.Event.{Event}
+use Rattle.std.proofs.{lemmas.Grind.common_steps, Common.{◌≡◌, ◌&&◌, not, List, length, slice_get, Some, None, refl}}
+use Rattle.std.{proofs.Common.{sym, ap, subst, ◌∙◌, arith, true≢false}, specs.Option.option_copied}
+use Rattle.race_records.specs.{Declarations.DeclsState, declared.event.Event.Event}
 use Rattle.race_model.specs.Events.{takes_part, starts}
 use Rattle.race_hub.specs.Part.{part_of}
-use Rattle.race_script.specs.Certificate.{WaitsAt, waiting_of}
-use Rattle.race_script.specs.Course.{IsPassed}
-use Rattle.race_script.specs.Program.{spelled}
-use Rattle.race_script.proofs.CourseLemmas.{follows_next}
-use Rattle.race_script.proofs.StuckLemmas.{in_list, event_of, stuck_inside, stuck_behind, runs, same_stop}
+use Rattle.race_script.specs.{Certificate.{WaitsAt, waiting_of}, Course.IsPassed, Program.spelled}
+use Rattle.race_script.proofs.{CourseLemmas.follows_next, StuckLemmas.{in_list, event_of, stuck_inside, stuck_behind}}
+use Rattle.race_script.proofs.StuckLemmas.{runs, same_stop}
 use Rattle.race_script.proofs.certificate.stuck_at.Goals as goal
 
 pub returns-in-None : goal.returns-in-None

@@ -1,8 +1,7 @@
 -- So many events of the goroutine's part follow its body, up to the position.
 use Rattle.std.proofs.Common.{◌≡◌, take}
 use Rattle.race_hub.specs.Part.{part_of}
-use Rattle.race_script.specs.Certificate.{behind, Follows}
-use Rattle.race_script.specs.Program.{asked_by, spelled}
+use Rattle.race_script.specs.{Certificate.{behind, Follows}, Program.{asked_by, spelled}}
 use Rattle.race_script.proofs.certificate.stuck_at.Given as goal
 
 abbrev pub invariant-loop-k : goal.invariant-loop-k

@@ -1,7 +1,6 @@
 use Rattle.std.proofs.Common.{ap, sym, ◌∙◌}
 use Rattle.race_records.specs.declared.event.Op.{Op}
-use Rattle.race_script.specs.Certificate.{after_event}
-use Rattle.race_script.specs.Program.{asks_of}
+use Rattle.race_script.specs.{Certificate.after_event, Program.asks_of}
 use Rattle.race_script.proofs.course.behind.Goals as goal
 
 pub returns-in-OnceDone : goal.returns-in-OnceDone

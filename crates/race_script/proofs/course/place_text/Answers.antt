@@ -1,5 +1,4 @@
-use Rattle.std.proofs.lemmas.Grind.{elements}
-use Rattle.std.proofs.Common.{arith}
+use Rattle.std.proofs.{lemmas.Grind.elements, Common.arith}
 use Rattle.race_script.proofs.course.place_text.Goals as goal
 
 pub returns-else-place-place_count : goal.returns-else-place-place_count

@@ -1,5 +1,4 @@
-use Rattle.std.proofs.Common.{◌≡◌, ◌∙◌, List, ℕ, codes, get_or, None, refl, sym, ap, arith}
-use Rattle.std.proofs.lemmas.Option.{same_Some}
+use Rattle.std.proofs.{Common.{◌≡◌, ◌∙◌, List, ℕ, codes, get_or, None, refl, sym, ap, arith}, lemmas.Option.same_Some}
 use Rattle.race_requests.specs.declared.request.Ask.{Ask}
 use Rattle.race_script.specs.Program.{Instruction}
 use Rattle.race_script.proofs.laws.places_count.Goals as goal

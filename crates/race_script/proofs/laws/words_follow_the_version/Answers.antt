@@ -1,5 +1,4 @@
-use Rattle.race_script.proofs.ReadLemmas.{header_said}
-use Rattle.race_script.proofs.SaidAgain.{ask_known}
+use Rattle.race_script.proofs.{ReadLemmas.header_said, SaidAgain.ask_known}
 use Rattle.race_script.proofs.laws.words_follow_the_version.Goals as goal
 
 pub returns : goal.returns

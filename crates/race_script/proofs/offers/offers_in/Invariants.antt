@@ -1,7 +1,5 @@
 use Rattle.std.proofs.Common.{◌≡◌, [], Ok, length}
-use Rattle.race_text.specs.Meaning.{pieces_on}
-use Rattle.race_text.specs.Select.{pieces_of}
-use Rattle.race_text.specs.Words.{parts_left}
+use Rattle.race_text.specs.{Meaning.pieces_on, Select.pieces_of, Words.parts_left}
 use Rattle.race_script.specs.Offers.{offer_in}
 use Rattle.race_script.proofs.offers.offers_in.Given as goal
 

@@ -1,8 +1,6 @@
 use Rattle.std.proofs.Common.{◌∷◌, sym, ap, ◌∙◌}
-use Rattle.race_text.specs.Words.{parts_left}
-use Rattle.race_text.proofs.CutLemmas.{some_part}
-use Rattle.race_script.specs.Offers.{select_words}
-use Rattle.race_script.proofs.SelectLines.{words_are_over}
+use Rattle.race_text.{specs.Words.parts_left, proofs.CutLemmas.some_part}
+use Rattle.race_script.{specs.Offers.select_words, proofs.SelectLines.words_are_over}
 use Rattle.race_script.proofs.offers.select_words.Goals as goal
 
 pub returns-in_default-Some : goal.returns-in_default-Some

@@ -1,6 +1,5 @@
 -- A program's text is read as one program alone, and refused for memory alone.
-use Rattle.std.proofs.Common.{sym, ◌∙◌}
-use Rattle.std.proofs.lemmas.Result.{IfOk-weaker, IfErr-weaker}
+use Rattle.std.proofs.{Common.{sym, ◌∙◌}, lemmas.Result.{IfOk-weaker, IfErr-weaker}}
 use Rattle.race_script.proofs.TextFine.{equal_texts, text_is_accepted}
 use Rattle.race_script.proofs.parse.parse_program.Goals as goal
 

@@ -1,5 +1,4 @@
-use Rattle.std.proofs.lemmas.Grind.{common_steps}
-use Rattle.std.proofs.Common.{arith}
+use Rattle.std.proofs.{lemmas.Grind.common_steps, Common.arith}
 use Rattle.race_script.proofs.reader.count_lines.Goals as goal
 
 pub overflow_add-count-in-loop-body : goal.overflow_add-count-in-loop-body

@@ -1,6 +1,5 @@
-use Rattle.std.proofs.lemmas.Grind.{common_steps}
-use Rattle.std.proofs.Common.{Some, IsErr, true≢false, ap, sym, subst, reverse, arith}
-use Rattle.std.proofs.lemmas.Result.{IfOk-from_err}
+use Rattle.std.proofs.{lemmas.{Grind.common_steps, Result.IfOk-from_err}, Common.{Some, IsErr, true≢false, ap, sym}}
+use Rattle.std.proofs.Common.{subst, reverse, arith}
 use Rattle.race_script.specs.Fault.{may_follow}
 use Rattle.race_script.proofs.reader.enter.Goals as goal
 

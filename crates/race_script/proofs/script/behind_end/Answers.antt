@@ -1,11 +1,10 @@
 -- One more step is passed, at the depth before it.
 use Rattle.std.proofs.Common.{◌≡◌, ◌+◌, ◌-◌, ◌==◌, true, false, drop, sym, ap, ◌∙◌, arith, if◌then◌else◌}
 use Rattle.std.proofs.lemmas.Bool.Decides.{nat_tests}
-use Rattle.race_script.specs.Bodies.{steps_to_end}
-use Rattle.race_script.specs.Program.{asks_of}
-use Rattle.race_script.proofs.BodyLemmas.{asks_at, steps_do, steps_end, steps_other, none_behind}
+use Rattle.race_script.{specs.{Bodies.steps_to_end, Program.asks_of}, proofs.BodyLemmas.{asks_at, steps_do, steps_end}}
+use Rattle.race_script.proofs.{BodyLemmas.{steps_other, none_behind}, script.behind_end.Goals.then-is_do}
+use Rattle.race_script.proofs.script.behind_end.Goals.{else-is_do+then-is_end+else-depth-eq0, else-is_do+else-is_end}
 use Rattle.race_script.proofs.script.behind_end.Goals as goal
-use Rattle.race_script.proofs.script.behind_end.Goals.{then-is_do, else-is_do+then-is_end+else-depth-eq0, else-is_do+else-is_end}
 
 pub returns-then-depth-eq0-clause-end : goal.returns-then-depth-eq0-clause-end
 returns-then-depth-eq0-clause-end g c =

@@ -1,7 +1,6 @@
 -- The function's end stands where it did, seen from here.
 use Rattle.std.proofs.Common.{◌≡◌, ◌+◌, ◌≤◌, drop}
-use Rattle.race_script.specs.Bodies.{steps_to_end}
-use Rattle.race_script.specs.Program.{asks_of}
+use Rattle.race_script.specs.{Bodies.steps_to_end, Program.asks_of}
 use Rattle.race_script.proofs.script.behind_end.Given as goal
 
 abbrev pub invariant-loop-at : goal.invariant-loop-at

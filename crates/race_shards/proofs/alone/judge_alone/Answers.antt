@@ -1,17 +1,12 @@
 -- Replay and shard stand for no event before the first, and for all behind the last.
 use Rattle.std.proofs.Common.{◌≡◌, ◌∙◌, ◌++◌, ◌∷◌, [], List, Option, Some, None, sym, ap, subst}
-use Rattle.race_records.specs.declared.event.Event.{Event}
-use Rattle.race_records.specs.declared.kind.Kind.{Kind}
-use Rattle.race_records.specs.Declarations.{DeclsState, count_of}
+use Rattle.race_records.specs.{declared.{event.Event.Event, kind.Kind.Kind}, Declarations.{DeclsState, count_of}}
 use Rattle.race_legal.specs.declared.listing.Illegal.{Illegal}
+use Rattle.race_verdict.specs.{declared.races.Race.Race, Races.races_of, Verdicts.verdict_of}
+use Rattle.race_shards.specs.{Shards.{ShardState, ShardStandsFor}, Telling.{told_below, HavePlaces}}
+use Rattle.race_shards.{specs.Judging.{CanJudge, Judges}, proofs.AloneSteps.{can_judge_alone, illegal_alone}}
+use Rattle.race_shards.proofs.AloneSteps.{places_alone, verdict_alone}
 use Rattle.race_legal.specs.StandsFor as legal
-use Rattle.race_verdict.specs.declared.races.Race.{Race}
-use Rattle.race_verdict.specs.Races.{races_of}
-use Rattle.race_verdict.specs.Verdicts.{verdict_of}
-use Rattle.race_shards.specs.Shards.{ShardState, ShardStandsFor}
-use Rattle.race_shards.specs.Telling.{told_below, HavePlaces}
-use Rattle.race_shards.specs.Judging.{CanJudge, Judges}
-use Rattle.race_shards.proofs.AloneSteps.{can_judge_alone, illegal_alone, places_alone, verdict_alone}
 use Rattle.race_shards.proofs.alone.judge_alone.Goals as goal
 
 pub judge_each-requires : goal.judge_each-requires

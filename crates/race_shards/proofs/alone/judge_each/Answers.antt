@@ -3,9 +3,7 @@ use Rattle.std.proofs.Common.{◌≡◌, ◌∙◌, [], ◌∷◌, Some, None, t
 use Rattle.std.proofs.lemmas.Option.{slice_get_read}
 use Rattle.race_records.specs.declared.event.Event.{Event}
 use Rattle.race_legal.specs.ReplayState.{IsInRange, counts_in}
-use Rattle.race_shards.specs.Judging.{Accepts}
-use Rattle.race_shards.specs.Shards.{Takes}
-use Rattle.race_shards.proofs.ShardSteps.{takes_none, takes_more}
+use Rattle.race_shards.{specs.{Judging.Accepts, Shards.Takes}, proofs.ShardSteps.{takes_none, takes_more}}
 use Rattle.race_shards.proofs.JudgeSteps.{accepts_none, accepts_more, breaks, judges_illegal}
 use Rattle.race_shards.proofs.AloneSteps.{next_alone, judges_alone}
 use Rattle.race_shards.proofs.alone.judge_each.Goals as goal

@@ -1,7 +1,6 @@
 use Rattle.std.proofs.Common.{◌≡◌, ◌+◌, ◌≤◌, None, take}
 use Rattle.race_legal.specs.ReplayState.{counts_in}
-use Rattle.race_shards.specs.Judging.{Accepts}
-use Rattle.race_shards.specs.Shards.{Takes}
+use Rattle.race_shards.specs.{Judging.Accepts, Shards.Takes}
 use Rattle.race_shards.proofs.alone.judge_each.Given as goal
 
 abbrev pub invariant-loop-event : goal.invariant-loop-event

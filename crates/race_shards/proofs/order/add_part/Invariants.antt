@@ -1,7 +1,5 @@
 use Rattle.race_verdict.specs.Traces.{capacities}
-use Rattle.race_shards.specs.Walking.{StandsAt}
-use Rattle.race_shards.specs.Listing.{IsOfPart, Adds}
-use Rattle.race_shards.proofs.AllLemmas.{Below}
+use Rattle.race_shards.{specs.{Walking.StandsAt, Listing.{IsOfPart, Adds}}, proofs.AllLemmas.Below}
 use Rattle.race_shards.proofs.order.add_part.Given as goal
 
 -- of the events before the index the accesses of the part are put behind the order

@@ -1,9 +1,7 @@
 -- The clock of the second access counts what it has seen of the first one's goroutine.
 use Rattle.std.proofs.Common.{subst}
 use Rattle.race_verdict.specs.Traces.{capacities}
-use Rattle.race_shards.specs.Pairs.{PairState, IsFound}
-use Rattle.race_shards.specs.Seen.{IsPart}
-use Rattle.race_shards.proofs.SeenSteps.{last_is}
+use Rattle.race_shards.{specs.{Pairs.{PairState, IsFound}, Seen.IsPart}, proofs.SeenSteps.last_is}
 use Rattle.race_shards.proofs.seen.last_seen.Goals as goal
 
 pub returns : goal.returns

@@ -1,10 +1,7 @@
 use Rattle.std.proofs.Common.{◌≡◌, ◌<◌, All, Some, None, map, sym, ap, ◌∙◌, subst, arith}
 use Rattle.std.proofs.lemmas.List.Elements.{All-push}
-use Rattle.race_verdict.specs.declared.notes.NotedRace.{NotedRace}
-use Rattle.race_verdict.specs.Notes.{race_noted}
-use Rattle.race_verdict.specs.Races.{race_of, races_of}
-use Rattle.race_shards.specs.Telling.{race_told, told_below, IsNotedBy}
-use Rattle.race_shards.proofs.TellSteps.{noted_some, told_none}
+use Rattle.race_verdict.specs.{declared.notes.NotedRace.NotedRace, Notes.race_noted, Races.{race_of, races_of}}
+use Rattle.race_shards.{specs.Telling.{race_told, told_below, IsNotedBy}, proofs.TellSteps.{noted_some, told_none}}
 use Rattle.race_shards.proofs.telling.noted_races.Goals.{in-Some+in_ok-push, in_default}
 use Rattle.race_shards.proofs.telling.noted_races.Goals as goal
 

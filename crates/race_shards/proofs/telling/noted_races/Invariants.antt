@@ -1,6 +1,5 @@
 use Rattle.std.proofs.Common.{◌≡◌, All, map}
-use Rattle.race_verdict.specs.Notes.{race_noted}
-use Rattle.race_verdict.specs.Races.{race_of, races_of}
+use Rattle.race_verdict.specs.{Notes.race_noted, Races.{race_of, races_of}}
 use Rattle.race_shards.specs.Telling.{told_below, IsNotedBy}
 use Rattle.race_shards.proofs.telling.noted_races.Given as goal
 

@@ -1,7 +1,6 @@
 use Rattle.std.proofs.Common.{◌≡◌, ◌++◌, ◌∷◌, [], Some, None, sym, ap, ◌∙◌}
 use Rattle.race_verdict.specs.declared.races.Race.{Race}
-use Rattle.race_shards.specs.Telling.{race_told}
-use Rattle.race_shards.proofs.TellSteps.{told_some, told_none}
+use Rattle.race_shards.{specs.Telling.race_told, proofs.TellSteps.{told_some, told_none}}
 use Rattle.race_shards.proofs.telling.races.Goals.{in-Some+in_ok-push, in_default}
 use Rattle.race_shards.proofs.telling.races.Goals as goal
 

@@ -1,11 +1,7 @@
-use Rattle.std.proofs.Common.{◌≡◌, [], List, inr, sym, subst}
-use Rattle.std.proofs.lemmas.Result.{IfOk-weaker, IfErr-weaker}
-use Rattle.race_records.specs.declared.event.Event.{Event}
-use Rattle.race_records.specs.Declarations.{DeclsState}
-use Rattle.race_shards.specs.declared.fault.JudgeFault.{JudgeFault}
-use Rattle.race_shards.specs.Limits.{IsRefused}
-use Rattle.race_shards.specs.Judging.{StandsFor, CanTake, GoesOn}
-use Rattle.race_shards.proofs.JudgeSteps.{can_take_all}
+use Rattle.std.proofs.{Common.{◌≡◌, [], List, inr, sym, subst}, lemmas.Result.{IfOk-weaker, IfErr-weaker}}
+use Rattle.race_records.specs.{declared.event.Event.Event, Declarations.DeclsState}
+use Rattle.race_shards.specs.{declared.fault.JudgeFault.JudgeFault, Limits.IsRefused}
+use Rattle.race_shards.{specs.Judging.{StandsFor, CanTake, GoesOn}, proofs.JudgeSteps.can_take_all}
 use Rattle.race_shards.proofs.whole.judge_whole.Goals as goal
 
 pub feed_in_blocks-requires-clause-can : goal.feed_in_blocks-requires-clause-can

@@ -1,7 +1,6 @@
 use Rattle.std.proofs.Common.{subst}
 use Rattle.race_verdict.specs.Traces.{capacities}
-use Rattle.race_shards.specs.Pairs.{IsFound}
-use Rattle.race_shards.proofs.OrderSteps.{order_is_witness}
+use Rattle.race_shards.{specs.Pairs.IsFound, proofs.OrderSteps.order_is_witness}
 use Rattle.race_shards.proofs.witnessing.witness.Goals as goal
 
 pub returns-clause-witness : goal.returns-clause-witness

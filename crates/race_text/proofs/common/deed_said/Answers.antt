@@ -1,5 +1,4 @@
-use Rattle.std.proofs.lemmas.Grind.{common_steps}
-use Rattle.std.proofs.Common.{rules, arith}
+use Rattle.std.proofs.{lemmas.Grind.common_steps, Common.{rules, arith}}
 use Rattle.race_text.proofs.common.deed_said.Goals as goal
 
 pub returns-in-Read-Var-Some-clause-op : goal.returns-in-Read-Var-Some-clause-op

@@ -1,5 +1,4 @@
-use Rattle.race_text.proofs.MarkLemmas.{within_line}
-use Rattle.race_text.proofs.CommonLemmas.{says_place}
+use Rattle.race_text.proofs.{MarkLemmas.within_line, CommonLemmas.says_place}
 use Rattle.race_text.proofs.common.last_place.Goals as goal
 
 pub bounds-front-len : goal.bounds-front-len

@@ -1,5 +1,4 @@
-use Rattle.race_text.specs.Common.{op_of, object_kind}
-use Rattle.race_text.proofs.CommonLemmas.{says_deed}
+use Rattle.race_text.{specs.Common.{op_of, object_kind}, proofs.CommonLemmas.says_deed}
 use Rattle.race_text.proofs.common.next_deed.Goals as goal
 
 pub next_named-requires-clause-decls : goal.next_named-requires-clause-decls

@@ -1,7 +1,5 @@
 use Rattle.std.proofs.Common.{take, sym}
-use Rattle.race_text.proofs.FoundLemmas.{found_is_declared}
-use Rattle.race_text.proofs.CommonLemmas.{says_named}
-use Rattle.race_text.proofs.UsedNames.{named_by_found}
+use Rattle.race_text.proofs.{FoundLemmas.found_is_declared, CommonLemmas.says_named, UsedNames.named_by_found}
 use Rattle.race_text.proofs.common.next_named.Goals as goal
 
 pub next_word-requires : goal.next_word-requires

@@ -1,7 +1,5 @@
 use Rattle.std.proofs.Common.{take, sym}
-use Rattle.race_text.specs.Meaning.{named_in}
-use Rattle.race_text.proofs.CauseLemmas.{ok_is}
-use Rattle.race_text.proofs.CommonLemmas.{says_named}
+use Rattle.race_text.{specs.Meaning.named_in, proofs.{CauseLemmas.ok_is, CommonLemmas.says_named}}
 use Rattle.race_text.proofs.common.next_object.Goals as goal
 
 pub next_word-requires : goal.next_word-requires

@@ -1,6 +1,5 @@
 use Rattle.std.proofs.Common.{Some, sym, ap, ◌∙◌}
-use Rattle.race_text.specs.Form.{has_word}
-use Rattle.race_text.proofs.CommonLemmas.{says_verb}
+use Rattle.race_text.{specs.Form.has_word, proofs.CommonLemmas.says_verb}
 use Rattle.race_text.proofs.common.next_verb.Goals as goal
 
 pub next_word-requires : goal.next_word-requires

@@ -1,6 +1,5 @@
 use Rattle.std.proofs.Common.{sym}
-use Rattle.race_text.specs.Common.{op_of}
-use Rattle.race_text.proofs.CommonLemmas.{says_event}
+use Rattle.race_text.{specs.Common.op_of, proofs.CommonLemmas.says_event}
 use Rattle.race_text.proofs.common.read_common.Goals as goal
 
 pub returns : goal.returns

@@ -1,7 +1,5 @@
-use Rattle.std.proofs.Common.{not, [], ◌∷◌, sym, ap, ◌∙◌, arith}
-use Rattle.std.proofs.Math.Seq.{take-length}
-use Rattle.std.proofs.lemmas.List.Quantifiers.{position-Some}
-use Rattle.std.specs.List.{list_all}
+use Rattle.std.proofs.{Common.{not, [], ◌∷◌, sym, ap, ◌∙◌, arith}, Math.Seq.take-length}
+use Rattle.std.{proofs.lemmas.List.Quantifiers.position-Some, specs.List.list_all}
 use Rattle.race_records.specs.Name.{is_place_byte}
 use Rattle.race_text.proofs.SeenLemmas.{whole_is_word, word_before_space, word_is_unseen}
 use Rattle.race_text.proofs.cut.cut_word.Goals as goal

@@ -1,8 +1,7 @@
 use Rattle.std.proofs.Common.{◌∙◌, sym, ap, rules}
-use Rattle.race_text.specs.Words.{parts_left}
-use Rattle.race_records.specs.Declarations.{with_declaration, decl_fault}
-use Rattle.race_text.specs.Declaring.{with_declared, cause_of}
+use Rattle.race_text.specs.{Words.parts_left, Declaring.{with_declared, cause_of}}
 use Rattle.race_text.proofs.DeclarationLemmas.{in_hand, made_in_hand}
+use Rattle.race_records.specs.Declarations.{with_declaration, decl_fault}
 use Rattle.race_text.proofs.declaration.declare.Goals as goal
 
 pub unwrap-object-requires : goal.unwrap-object-requires

@@ -1,7 +1,5 @@
 use Rattle.std.proofs.Common.{sym}
-use Rattle.race_text.specs.Words.{parts_left}
-use Rattle.race_text.proofs.CutLemmas.{some_part}
-use Rattle.race_text.proofs.PlaceWords.{not_last}
+use Rattle.race_text.{specs.Words.parts_left, proofs.{CutLemmas.some_part, PlaceWords.not_last}}
 use Rattle.race_text.proofs.event.last_place.Goals as goal
 
 pub returns-in-Some-behind : goal.returns-in-Some-behind

@@ -1,7 +1,5 @@
 use Rattle.std.proofs.Common.{sym, ap, ◌∙◌}
-use Rattle.race_text.specs.Words.{words_of, parts_left}
-use Rattle.race_text.specs.Reading.{first_part}
-use Rattle.race_text.proofs.UnseenLemmas.{unseen_part}
+use Rattle.race_text.{specs.{Words.{words_of, parts_left}, Reading.first_part}, proofs.UnseenLemmas.unseen_part}
 use Rattle.race_text.proofs.event.next_part.Goals as goal
 
 pub returns-in-None-cut_word : goal.returns-in-None-cut_word

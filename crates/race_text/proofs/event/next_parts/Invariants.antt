@@ -1,7 +1,6 @@
 use Rattle.std.proofs.Common.{◌≡◌, ◌+◌, ◌≤◌, [], length}
 use Rattle.arrayvec.specs.ArrayVec.{array_vec_len}
-use Rattle.race_text.specs.Words.{parts_left}
-use Rattle.race_text.specs.Reading.{parts_on}
+use Rattle.race_text.specs.{Words.parts_left, Reading.parts_on}
 use Rattle.race_text.proofs.event.next_parts.Given as goal
 
 abbrev pub invariant-loop-kinds : goal.invariant-loop-kinds

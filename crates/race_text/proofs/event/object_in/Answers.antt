@@ -1,7 +1,5 @@
-use Rattle.std.proofs.Common.{take, sym, ap, ◌∙◌}
-use Rattle.std.specs.Result.{result_ok}
-use Rattle.race_text.proofs.FoundLemmas.{found_is_declared}
-use Rattle.race_text.proofs.UsedNames.{named_by_found}
+use Rattle.std.{proofs.Common.{take, sym, ap, ◌∙◌}, specs.Result.result_ok}
+use Rattle.race_text.proofs.{FoundLemmas.found_is_declared, UsedNames.named_by_found}
 use Rattle.race_text.proofs.event.object_in.Goals as goal
 
 pub is_wanted-requires : goal.is_wanted-requires

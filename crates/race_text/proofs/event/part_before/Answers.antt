@@ -1,14 +1,8 @@
 use Rattle.std.proofs.Common.{◌≡◌, ℕ, ◌⊎◌, inl, inr, List, Result, Ok, Err, Some, take, sym, ap, ◌∙◌}
-use Rattle.std.specs.Option.{option_map}
-use Rattle.std.specs.Result.{result_ok}
-use Rattle.race_records.specs.declared.kind.Kind.{Kind}
-use Rattle.race_records.specs.declared.kind.Named.{Named}
-use Rattle.race_records.specs.declared.parts.Part.{Part}
-use Rattle.race_records.specs.declared.parts.PartKind.{PartKind}
+use Rattle.std.specs.{Option.option_map, Result.result_ok}
+use Rattle.race_records.specs.declared.{kind.{Kind.Kind, Named.Named}, parts.{Part.Part, PartKind.PartKind}}
 use Rattle.race_records.specs.Declarations.{Declaration}
-use Rattle.race_text.specs.declared.cause.TextCause.{TextCause}
-use Rattle.race_text.specs.Least.{says_by}
-use Rattle.race_text.specs.Meaning.{named_in, part_in}
+use Rattle.race_text.specs.{declared.cause.TextCause.TextCause, Least.says_by, Meaning.{named_in, part_in}}
 use Rattle.race_text.proofs.event.part_before.Goals as goal
 
 -- what is said of what a word says

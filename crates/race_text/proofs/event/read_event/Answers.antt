@@ -1,6 +1,5 @@
 use Rattle.std.proofs.Common.{sym}
-use Rattle.race_text.specs.Words.{words_of}
-use Rattle.race_text.proofs.UnseenLemmas.{unseen_event}
+use Rattle.race_text.{specs.Words.words_of, proofs.UnseenLemmas.unseen_event}
 use Rattle.race_text.proofs.event.read_event.Goals as goal
 
 pub returns-in-None : goal.returns-in-None

@@ -1,4 +1,5 @@
-use Rattle.race_text.proofs.ExampleRows.{late_declaration_row, unknown_word_row, unknown_name_row, wrong_kind_row, mutex_for_rwmutex_row}
+use Rattle.race_text.proofs.ExampleRows.{late_declaration_row, unknown_word_row, unknown_name_row, wrong_kind_row}
+use Rattle.race_text.proofs.ExampleRows.{mutex_for_rwmutex_row}
 use Rattle.race_text.proofs.examples.names_are_declared_first.Goals as goal
 
 pub returns-clause-late : goal.returns-clause-late

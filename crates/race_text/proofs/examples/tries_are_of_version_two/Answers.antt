@@ -1,4 +1,5 @@
-use Rattle.race_text.proofs.ExampleRows.{tries_row, early_try_row, early_try_to_read_row, early_failure_row, mutex_tried_for_rwmutex_row}
+use Rattle.race_text.proofs.ExampleRows.{tries_row, early_try_row, early_try_to_read_row, early_failure_row}
+use Rattle.race_text.proofs.ExampleRows.{mutex_tried_for_rwmutex_row}
 use Rattle.race_text.proofs.examples.tries_are_of_version_two.Goals as goal
 
 pub returns-clause-two : goal.returns-clause-two

@@ -1,10 +1,6 @@
 use Rattle.std.proofs.Common.{◌≡◌, ◌∷◌, [], sym, ap, subst, ◌∙◌}
-use Rattle.race_text.specs.Words.{parts_of, parts_left}
-use Rattle.race_text.specs.Form.{first_word}
-use Rattle.race_text.specs.Grammar.{ForEachLines}
-use Rattle.race_text.specs.Fed.{TellsOfLine}
-use Rattle.race_text.specs.Common.{line_in}
-use Rattle.race_text.proofs.FedLemmas.{last_is}
+use Rattle.race_text.specs.{Words.{parts_of, parts_left}, Form.first_word, Grammar.ForEachLines, Fed.TellsOfLine}
+use Rattle.race_text.{specs.Common.line_in, proofs.FedLemmas.last_is}
 use Rattle.race_text.proofs.fed.take_other.Goals as goal
 
 pub returns-in-None : goal.returns-in-None

@@ -1,7 +1,5 @@
 use Rattle.std.proofs.Common.{sym, ap, ◌∙◌, drop, ◌+◌}
-use Rattle.race_text.specs.Words.{parts_left}
-use Rattle.race_text.specs.Least.{lesser}
-use Rattle.race_text.specs.declared.form.Field.TheVariants.{NewName}
+use Rattle.race_text.specs.{Words.parts_left, Least.lesser, declared.form.Field.TheVariants.NewName}
 use Rattle.race_text.proofs.CauseLemmas.{cause_on, cause_on-more, cause_on-no_words}
 use Rattle.race_text.proofs.fields.fields_cause.Goals as goal
 

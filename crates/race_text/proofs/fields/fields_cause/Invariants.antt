@@ -1,6 +1,5 @@
 use Rattle.std.proofs.Common.{◌≡◌, drop, None}
-use Rattle.race_text.specs.Words.{parts_left}
-use Rattle.race_text.proofs.CauseLemmas.{cause_on}
+use Rattle.race_text.{specs.Words.parts_left, proofs.CauseLemmas.cause_on}
 use Rattle.race_text.proofs.fields.fields_cause.Given as goal
 
 abbrev pub invariant-loop-field : goal.invariant-loop-field

@@ -1,7 +1,6 @@
 use Rattle.std.proofs.Common.{◌≡◌, ◌+◌, ◌∷◌, map, take}
 use Rattle.arrayvec.specs.ArrayVec.{array_vec_len}
-use Rattle.race_records.specs.declared.kind.Kind.{Kind}
-use Rattle.race_records.specs.declared.parts.PartKind.{PartKind}
+use Rattle.race_records.specs.declared.{kind.Kind.Kind, parts.PartKind.PartKind}
 use Rattle.race_text.specs.declared.form.Field.{Field}
 use Rattle.race_text.proofs.form.fields_of.Given as goal
 

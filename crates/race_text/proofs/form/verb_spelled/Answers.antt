@@ -1,7 +1,5 @@
-use Rattle.std.proofs.Common.{ap, ◌∙◌, arith}
-use Rattle.std.proofs.lemmas.Grind.{same_number_lists}
-use Rattle.race_text.specs.Form.{word_named}
-use Rattle.race_text.proofs.WordTable.{early}
+use Rattle.std.proofs.{Common.{ap, ◌∙◌, arith}, lemmas.Grind.same_number_lists}
+use Rattle.race_text.{specs.Form.word_named, proofs.WordTable.early}
 use Rattle.race_text.proofs.form.verb_spelled.Goals as goal
 
 pub returns-clause-named : goal.returns-clause-named

@@ -1,5 +1,4 @@
-use Rattle.std.proofs.Common.{eqb, w8, arith}
-use Rattle.std.proofs.lemmas.Simd.{bitmask_splat, length-chunk}
+use Rattle.std.proofs.{Common.{eqb, w8, arith}, lemmas.Simd.{bitmask_splat, length-chunk}}
 use lib.Lanes.{chunk}
 use Rattle.race_text.proofs.lanes.equal_in.Goals as goal
 

@@ -1,7 +1,6 @@
 use Rattle.std.proofs.Common.{ℕ, ◌+◌, ◌==◌, Some, position, sym, ap, ◌∙◌, arith}
 use lib.Count.{count_trailing_zeros}
-use Rattle.race_text.proofs.CutLemmas.{rest_is}
-use Rattle.race_text.proofs.LaneLemmas.{first_in_lanes, none_in_lanes, first_behind, none_behind}
+use Rattle.race_text.proofs.{CutLemmas.rest_is, LaneLemmas.{first_in_lanes, none_in_lanes, first_behind, none_behind}}
 use Rattle.race_text.proofs.lanes.first_index.Goals as goal
 
 pub returns-then-found-ne0 : goal.returns-then-found-ne0

@@ -1,7 +1,5 @@
 use Rattle.std.proofs.Common.{◌≡◌, [], Ok, length}
-use Rattle.race_text.specs.Words.{parts_left}
-use Rattle.race_text.specs.Select.{pieces_of}
-use Rattle.race_text.specs.Meaning.{case_in, pieces_on}
+use Rattle.race_text.specs.{Words.parts_left, Select.pieces_of, Meaning.{case_in, pieces_on}}
 use Rattle.race_text.proofs.meaning.cases_in.Given as goal
 
 abbrev pub invariant-loop-left : goal.invariant-loop-left

@@ -1,8 +1,5 @@
-use Rattle.std.proofs.Common.{ap, ◌∙◌}
-use Rattle.std.proofs.Math.Seq.{take-length}
-use Rattle.std.specs.List.{list_all}
-use Rattle.race_records.specs.Declarations.{find_name}
-use Rattle.race_records.specs.Name.{is_place_byte}
+use Rattle.std.{proofs.{Common.{ap, ◌∙◌}, Math.Seq.take-length}, specs.List.list_all}
+use Rattle.race_records.specs.{Declarations.find_name, Name.is_place_byte}
 use Rattle.race_text.proofs.WordLemmas.{name_is_visible}
 use Rattle.race_text.proofs.meaning.look_up.Goals as goal
 

@@ -1,5 +1,4 @@
-use Rattle.std.proofs.Common.{◌≡◌, take}
-use Rattle.std.specs.Str.Parse.{AllDigits, digits_value}
+use Rattle.std.{proofs.Common.{◌≡◌, take}, specs.Str.Parse.{AllDigits, digits_value}}
 use Rattle.race_text.proofs.number.many_digits.Given as goal
 
 abbrev pub invariant-loop-byte : goal.invariant-loop-byte

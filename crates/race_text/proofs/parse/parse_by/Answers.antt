@@ -1,13 +1,9 @@
 -- What the reader by the grammar says of the bytes that it was fed at once.
-use Rattle.std.proofs.Common.{◌≡◌, ◌≢◌, [], Some, sym, ◌∙◌}
-use Rattle.std.proofs.lemmas.Option.{none-some}
+use Rattle.std.proofs.{Common.{◌≡◌, ◌≢◌, [], Some, sym, ◌∙◌}, lemmas.Option.none-some}
 use Rattle.std.proofs.lemmas.Result.{IfOk-weaker, IfErr-weaker}
-use Rattle.race_text.specs.declared.cause.TextCause.{TextCause}
-use Rattle.race_text.specs.declared.cause.TextFault.{TextFault}
-use Rattle.race_text.specs.Lines.{first_fault, IsLineOf, IsNoneBefore}
-use Rattle.race_text.specs.Owed.{HidesNone}
-use Rattle.race_text.specs.Fed.{IsFed, IsTold, ended_fault}
-use Rattle.race_text.proofs.FedLemmas.{match_err}
+use Rattle.race_text.specs.declared.cause.{TextCause.TextCause, TextFault.TextFault}
+use Rattle.race_text.specs.{Lines.{first_fault, IsLineOf, IsNoneBefore}, Owed.HidesNone}
+use Rattle.race_text.{specs.Fed.{IsFed, IsTold, ended_fault}, proofs.FedLemmas.match_err}
 use Rattle.race_text.proofs.parse.parse_by.Goals as goal
 
 module _ (g : _) (c : goal.After-drop-fed-in_err-feed g) where

@@ -1,8 +1,6 @@
 -- A trace's text is read as one trace alone, and refused for memory alone.
-use Rattle.std.proofs.Common.{sym, ◌∙◌}
-use Rattle.std.proofs.lemmas.Result.{IfOk-weaker, IfErr-weaker}
-use Rattle.race_text.proofs.TextFine.{text_is_accepted}
-use Rattle.race_text.proofs.TextLaws.{equal_texts}
+use Rattle.std.proofs.{Common.{sym, ◌∙◌}, lemmas.Result.{IfOk-weaker, IfErr-weaker}}
+use Rattle.race_text.proofs.{TextFine.text_is_accepted, TextLaws.equal_texts}
 use Rattle.race_text.proofs.parse.parse_trace.Goals as goal
 
 pub returns-clause-only : goal.returns-clause-only

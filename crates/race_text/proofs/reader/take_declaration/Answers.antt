@@ -1,7 +1,5 @@
 use Rattle.std.proofs.Common.{sym, ap, ◌∙◌}
-use Rattle.race_text.specs.Owed.{owed}
-use Rattle.race_text.specs.Taking.{state_of, begun}
-use Rattle.race_text.proofs.ReaderLemmas.{declaration_answered}
+use Rattle.race_text.{specs.{Owed.owed, Taking.{state_of, begun}}, proofs.ReaderLemmas.declaration_answered}
 use Rattle.race_text.proofs.TraceLemmas.{cause_behind, bad_byte_is_told}
 use Rattle.race_text.proofs.reader.take_declaration.Goals as goal
 

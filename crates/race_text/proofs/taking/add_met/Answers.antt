@@ -1,5 +1,4 @@
-use Rattle.std.proofs.Common.{sym, subst, ap, ◌∙◌, Some}
-use Rattle.std.specs.List.{slice_get}
+use Rattle.std.{proofs.Common.{sym, subst, ap, ◌∙◌, Some}, specs.List.slice_get}
 use Rattle.race_records.specs.Declarations.{IsWellFormed}
 use Rattle.race_text.proofs.GuessLemmas.{adds_nothing, number_is}
 use Rattle.race_text.proofs.taking.add_met.Goals as goal

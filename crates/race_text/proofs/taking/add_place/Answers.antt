@@ -1,9 +1,6 @@
 use Rattle.std.proofs.Common.{ap, ◌∙◌}
-use Rattle.race_records.specs.declared.declarations.DeclFault.{DeclFault}
-use Rattle.race_records.specs.Name.{is_place}
-use Rattle.race_text.specs.Declaring.{cause_of}
-use Rattle.race_text.proofs.PlacesAdded.{place_has_room}
-use Rattle.race_text.proofs.TraceLemmas.{memory_alone}
+use Rattle.race_records.specs.{declared.declarations.DeclFault.DeclFault, Name.is_place}
+use Rattle.race_text.{specs.Declaring.cause_of, proofs.{PlacesAdded.place_has_room, TraceLemmas.memory_alone}}
 use Rattle.race_text.proofs.taking.add_place.Goals as goal
 
 pub returns-in-Err-clause-err : goal.returns-in-Err-clause-err

@@ -1,9 +1,6 @@
-use Rattle.std.proofs.Common.{ap, ◌∙◌, arith}
-use Rattle.std.specs.Option.{option_map}
+use Rattle.std.{proofs.Common.{ap, ◌∙◌, arith}, specs.Option.option_map}
 use Rattle.race_records.specs.Declarations.{DeclsState, place_number}
-use Rattle.race_text.specs.Reading.{drafted}
-use Rattle.race_text.specs.Taking.{with_second}
-use Rattle.race_text.proofs.TraceLemmas.{draft_has_room}
+use Rattle.race_text.{specs.{Reading.drafted, Taking.with_second}, proofs.TraceLemmas.draft_has_room}
 use Rattle.race_text.proofs.taking.append.Goals as goal
 
 pub append-requires-clause-allowed : goal.append-requires-clause-allowed

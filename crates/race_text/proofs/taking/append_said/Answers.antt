@@ -1,6 +1,5 @@
 use Rattle.std.proofs.Common.{None, arith}
-use Rattle.race_text.specs.Common.{said_of, op_of}
-use Rattle.race_text.proofs.TraceLemmas.{draft_has_room}
+use Rattle.race_text.{specs.Common.{said_of, op_of}, proofs.TraceLemmas.draft_has_room}
 use Rattle.race_text.proofs.taking.append_said.Goals as goal
 
 pub append_deed-requires : goal.append_deed-requires

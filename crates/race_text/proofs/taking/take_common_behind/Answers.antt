@@ -1,6 +1,5 @@
 use Rattle.std.proofs.Common.{Ok, Err}
-use Rattle.race_text.specs.Common.{line_in, said_of}
-use Rattle.race_text.proofs.BehindLemmas.{event_answered_behind, few_behind}
+use Rattle.race_text.{specs.Common.{line_in, said_of}, proofs.BehindLemmas.{event_answered_behind, few_behind}}
 use Rattle.race_text.proofs.TraceLemmas.{fitting, says_event}
 use Rattle.race_text.proofs.taking.take_common_behind.Goals as goal
 

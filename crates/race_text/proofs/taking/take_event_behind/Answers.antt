@@ -1,8 +1,5 @@
 use Rattle.std.proofs.Common.{◌≡◌, ◌+◌, length, rules, sym, ap, ◌∙◌}
-use Rattle.race_text.specs.Owed.{owed}
-use Rattle.race_text.specs.Fault.{seen_so_far, line_cause}
-use Rattle.race_text.specs.Reading.{drafted}
-use Rattle.race_text.specs.Taking.{behind}
+use Rattle.race_text.specs.{Owed.owed, Fault.{seen_so_far, line_cause}, Reading.drafted, Taking.behind}
 use Rattle.race_text.proofs.BehindLemmas.{count_behind, event_answered_behind, some_before, few_behind}
 use Rattle.race_text.proofs.TraceLemmas.{cause_behind, fitting, event_grown, no_event_is_told, is_there, says_event}
 use Rattle.race_text.proofs.taking.take_event_behind.Goals as goal

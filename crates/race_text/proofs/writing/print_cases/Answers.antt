@@ -1,17 +1,10 @@
 use Rattle.std.proofs.Common.{◌≡◌, ◌<◌, ◌≤◌, ◌∙◌, ◌∷◌, ℕ, List, [], length, get_or, Ok, Err, sym, ap, subst, arith}
-use Rattle.std.proofs.lemmas.List.{take_all}
+use Rattle.std.proofs.lemmas.{List.{take_all, Sums.AllPass-from_list_all}, Option.get_or_from_slice_get}
 use Rattle.std.specs.List.{flat_map}
-use Rattle.std.proofs.lemmas.List.Sums.{AllPass-from_list_all}
-use Rattle.std.proofs.lemmas.Option.{get_or_from_slice_get}
-use Rattle.race_records.specs.declared.cases.Case.{Case}
-use Rattle.race_records.specs.declared.kind.Kind.{Kind}
-use Rattle.race_records.specs.Declarations.{count_of}
-use Rattle.race_records.specs.Page.{Printing}
-use Rattle.race_records.specs.Parts.{case_is_in_range}
-use Rattle.race_records.proofs.PageLemmas.{piece_behind, piece_breaks_off}
-use Rattle.race_text.specs.Text.{case_text}
-use Rattle.race_text.specs.Writing.{separator}
-use Rattle.race_text.proofs.CasePieces.{all_pieces, pieces_len, piece_at, pieces_printed, some_case}
+use Rattle.race_records.specs.{declared.{cases.Case.Case, kind.Kind.Kind}, Declarations.count_of, Page.Printing}
+use Rattle.race_records.{specs.Parts.case_is_in_range, proofs.PageLemmas.{piece_behind, piece_breaks_off}}
+use Rattle.race_text.{specs.{Text.case_text, Writing.separator}, proofs.CasePieces.{all_pieces, pieces_len, piece_at}}
+use Rattle.race_text.proofs.CasePieces.{pieces_printed, some_case}
 use Rattle.race_text.proofs.writing.print_cases.Goals as goal
 
 pub print_case-requires : goal.print_case-requires

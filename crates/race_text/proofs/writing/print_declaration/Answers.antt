@@ -1,8 +1,6 @@
 use Rattle.std.proofs.Common.{ℕ, List, Err, subst}
-use Rattle.race_records.specs.Page.{Printing}
-use Rattle.race_records.proofs.PageLemmas.{prints_behind, breaks_off_before}
-use Rattle.race_text.specs.Writing.{number_end}
-use Rattle.race_text.proofs.WritingLemmas.{declaration_printed}
+use Rattle.race_records.{specs.Page.Printing, proofs.PageLemmas.{prints_behind, breaks_off_before}}
+use Rattle.race_text.{specs.Writing.number_end, proofs.WritingLemmas.declaration_printed}
 use Rattle.race_text.proofs.writing.print_declaration.Goals as goal
 
 pub returns-in-Ok : goal.returns-in-Ok

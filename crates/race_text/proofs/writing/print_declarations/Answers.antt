@@ -1,11 +1,8 @@
 use Rattle.std.proofs.Common.{◌<◌, Ok, Err, ℕ, List, ap, subst, sym, ◌∙◌, arith, length}
 use Rattle.std.proofs.lemmas.Option.{get_or_from_slice_get}
-use Rattle.race_records.specs.Declarations.{Declaration}
-use Rattle.race_records.specs.Page.{Printing}
-use Rattle.race_records.proofs.ListLemmas.{slice_get-within}
+use Rattle.race_records.{specs.{Declarations.Declaration, Page.Printing}, proofs.ListLemmas.slice_get-within}
 use Rattle.race_records.proofs.PageLemmas.{piece_behind, piece_breaks_off}
-use Rattle.race_text.specs.Text.{ended, declaration_line}
-use Rattle.race_text.specs.Writing.{text_of}
+use Rattle.race_text.specs.{Text.{ended, declaration_line}, Writing.text_of}
 use Rattle.race_text.proofs.writing.print_declarations.Goals as goal
 
 pub returns-in-Err : goal.returns-in-Err

@@ -1,12 +1,8 @@
-use Rattle.std.proofs.Common.{ℕ, List, ◌++◌, ap, ◌∙◌, Err, subst}
-use Rattle.std.specs.List.{list_all}
-use Rattle.std.specs.Option.{option_map}
-use Rattle.race_records.specs.Parts.{part_fits}
-use Rattle.race_records.proofs.EventLemmas.{second_in_range}
-use Rattle.race_records.specs.Page.{Printing}
+use Rattle.std.{proofs.Common.{ℕ, List, ◌++◌, ap, ◌∙◌, Err, subst}, specs.{List.list_all, Option.option_map}}
+use Rattle.race_records.{specs.{Parts.part_fits, Page.Printing}, proofs.EventLemmas.second_in_range}
 use Rattle.race_records.proofs.PageLemmas.{prints_behind, breaks_off_before}
-use Rattle.race_text.specs.Writing.{parts_text, place_end}
-use Rattle.race_text.proofs.WritingLemmas.{event_text, who_is_declared, place_in_range, parts_fit}
+use Rattle.race_text.{specs.Writing.{parts_text, place_end}, proofs.WritingLemmas.{event_text, who_is_declared}}
+use Rattle.race_text.proofs.WritingLemmas.{place_in_range, parts_fit}
 use Rattle.race_text.proofs.writing.print_event.Goals as goal
 
 pub returns-in-Ok : goal.returns-in-Ok

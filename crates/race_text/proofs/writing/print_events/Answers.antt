@@ -1,8 +1,5 @@
-use Rattle.std.proofs.lemmas.Grind.{common_steps}
-use Rattle.race_records.specs.declared.event.Event.{Event}
-use Rattle.std.proofs.Common.{Err, IsTrue, subst, sym, arith}
-use Rattle.race_records.specs.Events.{fits}
-use Rattle.race_records.specs.Page.{Printing}
+use Rattle.std.proofs.{lemmas.Grind.common_steps, Common.{Err, IsTrue, subst, sym, arith}}
+use Rattle.race_records.specs.{declared.event.Event.Event, Events.fits, Page.Printing}
 use Rattle.race_records.proofs.PageLemmas.{piece_breaks_off}
 use Rattle.race_text.specs.Text.{ended, event_line}
 use Rattle.race_text.proofs.writing.print_events.Goals as goal

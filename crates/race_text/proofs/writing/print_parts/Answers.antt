@@ -1,8 +1,5 @@
-use Rattle.std.proofs.lemmas.Grind.{common_steps}
-use Rattle.std.proofs.Common.{Err, subst, arith}
-use Rattle.race_records.specs.declared.parts.Part.{Part}
-use Rattle.race_records.specs.Page.{Printing}
-use Rattle.race_records.proofs.PageLemmas.{piece_breaks_off}
+use Rattle.std.proofs.{lemmas.Grind.common_steps, Common.{Err, subst, arith}}
+use Rattle.race_records.{specs.{declared.parts.Part.Part, Page.Printing}, proofs.PageLemmas.piece_breaks_off}
 use Rattle.race_text.specs.Writing.{behind_space}
 use Rattle.race_text.proofs.writing.print_parts.Goals as goal
 

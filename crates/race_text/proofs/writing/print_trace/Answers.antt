@@ -1,8 +1,6 @@
 use Rattle.std.proofs.Common.{◌++◌, ℕ, List, Err, ap, ◌∙◌, subst}
-use Rattle.race_records.specs.Page.{Printing}
-use Rattle.race_records.proofs.PageLemmas.{prints_behind, breaks_off_before}
-use Rattle.race_text.specs.Text.{header, ended}
-use Rattle.race_text.specs.Writing.{body}
+use Rattle.race_records.{specs.Page.Printing, proofs.PageLemmas.{prints_behind, breaks_off_before}}
+use Rattle.race_text.specs.{Text.{header, ended}, Writing.body}
 use Rattle.race_text.proofs.writing.print_trace.Goals as goal
 
 pub returns-in-Ok : goal.returns-in-Ok

@@ -1,15 +1,8 @@
-use Rattle.std.proofs.Common.{◌<◌, ℕ, List, Ok, Err, length, take, subst}
-use Rattle.std.specs.Io.KnownBytes.{Appends}
-use Rattle.race_records.specs.declared.sink.WriteFault.{WriteFault}
-use Rattle.race_records.specs.Declarations.{IsWellFormed}
-use Rattle.race_records.specs.Devices.{written}
-use Rattle.race_records.specs.Page.{Printing}
-use Rattle.race_records.proofs.PageLemmas.{IfErr-map}
-use Rattle.race_text.specs.Text.{text}
-use Rattle.race_text.proofs.OutputLemmas.{writes_flushed, writes_broken}
-use Rattle.race_text.proofs.PieceLemmas.{cut_is_exact}
-use Rattle.race_text.proofs.ShortLemmas.{text_short}
-use Rattle.race_text.proofs.WritingLemmas.{printed_is}
+use Rattle.std.{proofs.Common.{◌<◌, ℕ, List, Ok, Err, length, take, subst}, specs.Io.KnownBytes.Appends}
+use Rattle.race_records.specs.{declared.sink.WriteFault.WriteFault, Declarations.IsWellFormed, Devices.written}
+use Rattle.race_records.{specs.Page.Printing, proofs.PageLemmas.IfErr-map}
+use Rattle.race_text.{specs.Text.text, proofs.{OutputLemmas.{writes_flushed, writes_broken}, PieceLemmas.cut_is_exact}}
+use Rattle.race_text.proofs.{ShortLemmas.text_short, WritingLemmas.printed_is}
 use Rattle.race_text.proofs.writing.write_trace.Goals as goal
 
 pub returns-in-Ok : goal.returns-in-Ok

@@ -1,12 +1,8 @@
 use Rattle.std.proofs.Common.{ℕ, Result, sym, subst}
 use Rattle.race_records.specs.declared.sink.WriteFault.{WriteFault}
-use Rattle.race_text.specs.Fault.{trace_causes}
-use Rattle.race_text.specs.Output.{Writes}
-use Rattle.race_tool.specs.declared.stream_found.Found.{Found}
-use Rattle.race_tool.specs.Engines.{Never}
-use Rattle.race_tool.specs.Outcome.{Answers}
-use Rattle.race_tool.specs.Streams.{IsFoundOf, found_text, found_status}
-use Rattle.race_tool.proofs.InputLemmas.{itself}
+use Rattle.race_text.specs.{Fault.trace_causes, Output.Writes}
+use Rattle.race_tool.specs.{declared.stream_found.Found.Found, Engines.Never, Outcome.Answers}
+use Rattle.race_tool.{specs.Streams.{IsFoundOf, found_text, found_status}, proofs.InputLemmas.itself}
 use Rattle.race_tool.proofs.StreamedAnswers.{some_read, answers_written, answers_cut_off}
 use Rattle.race_tool.proofs.check.check_as_read.Goals as goal
 

@@ -1,11 +1,7 @@
 use Rattle.std.proofs.Common.{Bool, true, false, sym, subst}
 use Rattle.race_text.specs.Fault.{trace_causes}
-use Rattle.race_tool.specs.Engines.{Never, Checks}
-use Rattle.race_tool.specs.Finding.{IsFinding, report_of, status_of}
-use Rattle.race_tool.specs.Findings.{finding_of}
-use Rattle.race_tool.proofs.EngineLemmas.{answers_as}
-use Rattle.race_tool.proofs.PromiseLemmas.{checks}
-use Rattle.race_tool.proofs.StreamedAnswers.{answers_found}
+use Rattle.race_tool.specs.{Engines.{Never, Checks}, Finding.{IsFinding, report_of, status_of}, Findings.finding_of}
+use Rattle.race_tool.proofs.{EngineLemmas.answers_as, PromiseLemmas.checks, StreamedAnswers.answers_found}
 use Rattle.race_tool.proofs.check.run_check.Goals as goal
 
 pub returns-then-options-clause-checks : goal.returns-then-options-clause-checks

@@ -1,8 +1,6 @@
 use Rattle.std.proofs.Common.{None}
 use Rattle.race_text.specs.Fault.{trace_causes}
-use Rattle.race_tool.specs.Engines.{Never}
-use Rattle.race_tool.specs.Draw.{IsDrawing, drawing_text, drawing_status}
-use Rattle.race_tool.specs.Drawings.{drawing_of}
+use Rattle.race_tool.specs.{Engines.Never, Draw.{IsDrawing, drawing_text, drawing_status}, Drawings.drawing_of}
 use Rattle.race_tool.proofs.EngineLemmas.{answers_as}
 use Rattle.race_tool.proofs.draw_engine.draw_all.Goals as goal
 

@@ -1,5 +1,4 @@
-use Rattle.std.proofs.Common.{ℕ, List, Option, sym, subst}
-use Rattle.std.specs.Borrow.{Bor}
+use Rattle.std.{proofs.Common.{ℕ, List, Option, sym, subst}, specs.Borrow.Bor}
 use Rattle.race_tool.specs.Drawings.{Draws, name_in}
 use Rattle.race_tool.proofs.draw_engine.run_draw.Goals as goal
 

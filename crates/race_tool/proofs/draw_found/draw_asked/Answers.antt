@@ -1,8 +1,5 @@
-use Rattle.std.proofs.Common.{ℕ, List, Option, None, IfOk, sym, subst}
-use Rattle.std.specs.Borrow.{Bor}
-use Rattle.std.proofs.lemmas.Result.{IfOk-weaker}
-use Rattle.race_tool.specs.Drawings.{drawing_of, IsDrawingOn, name_in}
-use Rattle.race_tool.proofs.DrawLemmas.{all_in_order, asked_drawn}
+use Rattle.std.{proofs.{Common.{ℕ, List, Option, None, IfOk, sym, subst}, lemmas.Result.IfOk-weaker}, specs.Borrow.Bor}
+use Rattle.race_tool.{specs.Drawings.{drawing_of, IsDrawingOn, name_in}, proofs.DrawLemmas.{all_in_order, asked_drawn}}
 use Rattle.race_tool.proofs.draw_found.draw_asked.Goals as goal
 
 pub draw-requires-clause-races : goal.draw-requires-clause-races

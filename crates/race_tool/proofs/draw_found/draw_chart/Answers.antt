@@ -1,6 +1,5 @@
 use Rattle.std.proofs.Common.{◌≡◌, None, length, false, true, sym, ap, ◌∙◌, subst}
-use Rattle.race_tool.specs.Draw.{Drawing, has_chart}
-use Rattle.race_tool.specs.Drawings.{IsDrawingOn}
+use Rattle.race_tool.specs.{Draw.{Drawing, has_chart}, Drawings.IsDrawingOn}
 use Rattle.race_tool.proofs.DrawLemmas.{clean_told, chart_right}
 use Rattle.race_tool.proofs.draw_found.draw_chart.Goals as goal
 

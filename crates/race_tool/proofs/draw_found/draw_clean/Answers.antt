@@ -1,8 +1,5 @@
-use Rattle.std.proofs.Common.{ℕ, List, Option, IfOk, sym, subst}
-use Rattle.std.specs.Borrow.{Bor}
-use Rattle.race_tool.specs.Draw.{NoRace}
-use Rattle.race_tool.specs.Drawings.{drawing_of, IsDrawingOn, name_in}
-use Rattle.race_tool.proofs.DrawLemmas.{clean_named}
+use Rattle.std.{proofs.Common.{ℕ, List, Option, IfOk, sym, subst}, specs.Borrow.Bor}
+use Rattle.race_tool.{specs.{Draw.NoRace, Drawings.{drawing_of, IsDrawingOn, name_in}}, proofs.DrawLemmas.clean_named}
 use Rattle.race_tool.proofs.draw_found.draw_clean.Goals as goal
 
 pub returns-in-Some : goal.returns-in-Some

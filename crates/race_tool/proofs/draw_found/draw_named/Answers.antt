@@ -1,7 +1,6 @@
-use Rattle.std.proofs.Common.{Some}
-use Rattle.std.proofs.lemmas.Result.{IfOk-weaker}
-use Rattle.race_tool.specs.Drawings.{drawing_of}
-use Rattle.race_tool.proofs.DrawLemmas.{picked_in_order, picked_asked, asked_drawn, none_named}
+use Rattle.std.proofs.{Common.Some, lemmas.Result.IfOk-weaker}
+use Rattle.race_tool.{specs.Drawings.drawing_of, proofs.DrawLemmas.{picked_in_order, picked_asked, asked_drawn}}
+use Rattle.race_tool.proofs.DrawLemmas.{none_named}
 use Rattle.race_tool.proofs.draw_found.draw_named.Goals as goal
 
 pub draw-requires-clause-races : goal.draw-requires-clause-races

@@ -1,8 +1,7 @@
 -- The verdict says which races there are.
 use Rattle.std.proofs.Common.{List, sym, subst}
 use Rattle.race_verdict.specs.declared.races.Race.{Race}
-use Rattle.race_tool.specs.Drawings.{AreRacesOf}
-use Rattle.race_tool.proofs.WitnessLemmas.{clean_right, races_right}
+use Rattle.race_tool.{specs.Drawings.AreRacesOf, proofs.WitnessLemmas.{clean_right, races_right}}
 use Rattle.race_tool.proofs.draw_found.find_drawing_of.Goals as goal
 
 pub draw_clean-requires : goal.draw_clean-requires

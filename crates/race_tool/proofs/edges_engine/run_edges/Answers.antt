@@ -1,7 +1,5 @@
 use Rattle.race_text.specs.Fault.{trace_causes}
-use Rattle.race_tool.specs.Engines.{Never}
-use Rattle.race_tool.specs.Listing.{IsListing, listing_text, listing_status}
-use Rattle.race_tool.specs.Listings.{listing_of}
+use Rattle.race_tool.specs.{Engines.Never, Listing.{IsListing, listing_text, listing_status}, Listings.listing_of}
 use Rattle.race_tool.proofs.EngineLemmas.{answers_as}
 use Rattle.race_tool.proofs.edges_engine.run_edges.Goals as goal
 

@@ -1,7 +1,5 @@
-use Rattle.std.proofs.Common.{◌∙◌, Option, sym, subst}
-use Rattle.std.proofs.lemmas.Option.{none-some}
-use Rattle.race_legal.specs.declared.listing.Illegal.{Illegal}
-use Rattle.race_legal.specs.Judged.{IsJudged}
+use Rattle.std.proofs.{Common.{◌∙◌, Option, sym, subst}, lemmas.Option.none-some}
+use Rattle.race_legal.specs.{declared.listing.Illegal.Illegal, Judged.IsJudged}
 use Rattle.race_verdict.specs.Traces.{capacities}
 use Rattle.race_tool.proofs.edges_found.find_broken.Goals as goal
 

@@ -1,6 +1,5 @@
 use Rattle.std.proofs.Common.{Err, ap}
-use Rattle.race_tool.specs.declared.engine.NoFinding.{NoFinding}
-use Rattle.race_tool.proofs.EngineLemmas.{answers_unrecorded}
+use Rattle.race_tool.{specs.declared.engine.NoFinding.NoFinding, proofs.EngineLemmas.answers_unrecorded}
 use Rattle.race_tool.proofs.InputLemmas.{itself}
 use Rattle.race_tool.proofs.engine.answer.Goals as goal
 

@@ -1,10 +1,7 @@
 use Rattle.std.proofs.lemmas.Result.{IfOk-weaker}
 use Rattle.race_records.specs.Devices.{unread}
-use Rattle.race_text.specs.Fault.{trace_causes}
-use Rattle.race_text.specs.Fed.{IsFed}
-use Rattle.race_tool.specs.Intake.{of_stream}
-use Rattle.race_tool.specs.Streams.{StandsBehind}
-use Rattle.race_tool.proofs.StreamedReading.{fed_as, feeds_as}
+use Rattle.race_text.specs.{Fault.trace_causes, Fed.IsFed}
+use Rattle.race_tool.{specs.{Intake.of_stream, Streams.StandsBehind}, proofs.StreamedReading.{fed_as, feeds_as}}
 use Rattle.race_tool.proofs.gathered.feed_behind.Goals as goal
 
 -- what the reader stands for by the grammar is what it stands for as one of the stream

@@ -1,7 +1,5 @@
-use Rattle.std.proofs.Common.{sym, ap, subst}
-use Rattle.std.proofs.lemmas.Result.{IfOk-weaker, IfErr-weaker}
-use Rattle.race_tool.specs.Streams.{StandsBehind}
-use Rattle.race_tool.proofs.StreamedReading.{fed_alike, ready_alike}
+use Rattle.std.proofs.{Common.{sym, ap, subst}, lemmas.Result.{IfOk-weaker, IfErr-weaker}}
+use Rattle.race_tool.{specs.Streams.StandsBehind, proofs.StreamedReading.{fed_alike, ready_alike}}
 use Rattle.race_tool.proofs.gathered.finish_behind.Goals as goal
 
 pub finish-requires : goal.finish-requires

@@ -1,6 +1,5 @@
 -- A fault that isn't want of memory is the first one of the lines that are ended.
-use Rattle.std.proofs.Common.{take, sym, rules, ◌∙◌}
-use Rattle.std.proofs.lemmas.Result.{IfErr-at_err}
+use Rattle.std.proofs.{Common.{take, sym, rules, ◌∙◌}, lemmas.Result.IfErr-at_err}
 use Rattle.race_tool.proofs.input.feed_block.Goals as goal
 
 pub returns-in-Ok-Err-clause-ok : goal.returns-in-Ok-Err-clause-ok

@@ -1,17 +1,12 @@
 -- What was read is fed behind what was handed on, turn by turn.
-use Rattle.std.proofs.Common.{Bool, Result, Ok, refl, ap, subst, ◌∙◌, arith}
-use Rattle.std.proofs.lemmas.Result.{IfOk-from_err}
+use Rattle.std.proofs.{Common.{Bool, Result, Ok, refl, ap, subst, ◌∙◌, arith}, lemmas.Result.IfOk-from_err}
 use Rattle.race_records.specs.Devices.{unread, one_more}
 use Rattle.race_shards.specs.Limits.{is_block}
-use Rattle.race_text.specs.declared.cause.TextFault.{TextFault}
-use Rattle.race_text.specs.Fault.{trace_causes}
-use Rattle.race_text.specs.Fed.{IsFed}
-use Rattle.race_tool.specs.declared.judged_stream.Judging.{Judging}
-use Rattle.race_tool.specs.declared.input.ReadFault.{ReadFault}
-use Rattle.race_tool.specs.Intake.{GoesOnTo}
-use Rattle.race_tool.specs.Streams.{IsReadText, StandsAfter}
-use Rattle.race_tool.proofs.InputLemmas.{all_answered, err_same, err_other, out_of_memory_alone}
-use Rattle.race_tool.proofs.IntakeTurns.{is_some_block, can_at_start, taken_at_start, fine_at_start, taken_behind, readable_behind}
+use Rattle.race_text.specs.{declared.cause.TextFault.TextFault, Fault.trace_causes, Fed.IsFed}
+use Rattle.race_tool.specs.{declared.{judged_stream.Judging.Judging, input.ReadFault.ReadFault}, Intake.GoesOnTo}
+use Rattle.race_tool.{specs.Streams.{IsReadText, StandsAfter}, proofs.InputLemmas.{all_answered, err_same, err_other}}
+use Rattle.race_tool.proofs.{InputLemmas.out_of_memory_alone, IntakeTurns.{is_some_block, can_at_start, taken_at_start}}
+use Rattle.race_tool.proofs.IntakeTurns.{fine_at_start, taken_behind, readable_behind}
 use Rattle.race_tool.proofs.intake.read_beside.Goals as goal
 
 pub loop-intake-init : goal.loop-intake-init

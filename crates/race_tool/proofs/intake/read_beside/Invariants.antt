@@ -1,7 +1,6 @@
 use Rattle.std.proofs.Common.{◌≡◌, ◌-◌}
 use Rattle.race_records.specs.Devices.{source_failures}
-use Rattle.race_tool.specs.declared.input.TheConstants.{MAX_TURNS}
-use Rattle.race_tool.specs.Intake.{IsReadable, HasTaken}
+use Rattle.race_tool.specs.{declared.input.TheConstants.MAX_TURNS, Intake.{IsReadable, HasTaken}}
 use Rattle.race_tool.specs.Streams.{StandsAfter, CanJudgeAll}
 use Rattle.race_tool.proofs.intake.read_beside.Given as goal
 

@@ -1,10 +1,8 @@
 use Rattle.std.proofs.Common.{List, sym, subst}
-use Rattle.race_records.specs.declared.event.Event.{Event}
-use Rattle.race_records.specs.Declarations.{DeclsState}
+use Rattle.race_records.specs.{declared.event.Event.Event, Declarations.DeclsState}
 use Rattle.race_shards.specs.Judging.{CanTake, GoesOn}
+use Rattle.race_tool.{specs.Streams.IsJudgeOf, proofs.StreamedLemmas.{can_take_some, takes_more}}
 use Rattle.race_shards.specs.Judging as judging
-use Rattle.race_tool.specs.Streams.{IsJudgeOf}
-use Rattle.race_tool.proofs.StreamedLemmas.{can_take_some, takes_more}
 use Rattle.race_tool.proofs.judged_stream.judge_more.Goals as goal
 
 pub feed_gathered-requires-clause-can : goal.feed_gathered-requires-clause-can

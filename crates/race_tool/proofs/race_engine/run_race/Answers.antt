@@ -1,10 +1,6 @@
 use Rattle.race_script.specs.Fault.{program_causes}
-use Rattle.race_tool.specs.Options.{picks_asked}
-use Rattle.race_tool.specs.Race.{IsJudgedRun, judged_text, judged_status}
-use Rattle.race_tool.specs.Recorded.{judged_run_of}
-use Rattle.race_tool.specs.Run.{IsProgramWhere, IsRefusedRun}
-use Rattle.race_tool.proofs.EngineLemmas.{answers_as}
-use Rattle.race_tool.proofs.PromiseLemmas.{judges}
+use Rattle.race_tool.specs.{Options.picks_asked, Race.{IsJudgedRun, judged_text, judged_status}, Recorded.judged_run_of}
+use Rattle.race_tool.{specs.Run.{IsProgramWhere, IsRefusedRun}, proofs.{EngineLemmas.answers_as, PromiseLemmas.judges}}
 use Rattle.race_tool.proofs.race_engine.run_race.Goals as goal
 
 pub returns-clause-judges : goal.returns-clause-judges

@@ -1,18 +1,10 @@
-use Rattle.std.proofs.Common.{List, ℕ, Result, sym, subst}
-use Rattle.std.specs.Prelude.{option_map}
+use Rattle.std.{proofs.Common.{List, ℕ, Result, sym, subst}, specs.Prelude.option_map}
 use Rattle.race_verdict.specs.Verdicts.{verdict_of}
-use Rattle.race_script.specs.Fault.{program_causes}
-use Rattle.race_script.specs.Program.{ProgramState}
-use Rattle.race_script.specs.Text.{IsTextOf}
+use Rattle.race_script.specs.{Fault.program_causes, Program.ProgramState, Text.IsTextOf}
 use Rattle.race_text.specs.declared.cause.TextFault.{TextFault}
-use Rattle.race_tool.specs.Input.{IsReadBy}
-use Rattle.race_tool.specs.Outcome.{IsTextOnly}
-use Rattle.race_tool.specs.declared.engine.NoFinding.{NoFinding}
-use Rattle.race_tool.specs.Options.{picks_asked}
-use Rattle.race_tool.specs.Recorded.{trace_of}
-use Rattle.race_tool.specs.Run.{IsProgramWhere, IsRefusedRun}
-use Rattle.race_tool.proofs.InputLemmas.{err_again}
-use Rattle.race_tool.proofs.RaceLemmas.{verdict_stays}
+use Rattle.race_tool.specs.{Input.IsReadBy, Outcome.IsTextOnly, declared.engine.NoFinding.NoFinding}
+use Rattle.race_tool.specs.{Options.picks_asked, Recorded.trace_of, Run.{IsProgramWhere, IsRefusedRun}}
+use Rattle.race_tool.proofs.{InputLemmas.err_again, RaceLemmas.verdict_stays}
 use Rattle.race_tool.proofs.race_found.find_judged_run.Goals as goal
 
 pub returns-in-Ok-judge : goal.returns-in-Ok-judge

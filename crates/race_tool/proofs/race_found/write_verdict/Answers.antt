@@ -1,8 +1,7 @@
 use Rattle.std.proofs.Common.{List, ℕ, ap, subst, ◌∙◌, length}
 use Rattle.race_verdict.specs.Verdicts.{verdict_of}
 use Rattle.race_text.specs.Output.{Writes}
-use Rattle.race_tool.specs.Report.{too_long_line}
-use Rattle.race_tool.proofs.RaceLemmas.{same_report}
+use Rattle.race_tool.{specs.Report.too_long_line, proofs.RaceLemmas.same_report}
 use Rattle.race_tool.proofs.race_found.write_verdict.Goals as goal
 
 pub write_judged-requires : goal.write_judged-requires

@@ -1,6 +1,5 @@
 use Rattle.std.proofs.Common.{◌++◌, subst}
-use Rattle.race_records.specs.Declarations.{DeclsState}
-use Rattle.race_records.specs.Page.{Printing}
+use Rattle.race_records.specs.{Declarations.DeclsState, Page.Printing}
 use Rattle.race_records.proofs.PageLemmas.{breaks_off_before, prints_behind}
 use Rattle.race_verdict.specs.Verdicts.{verdict_of}
 use Rattle.race_report.specs.Report.{report}

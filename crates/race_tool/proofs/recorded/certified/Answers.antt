@@ -1,6 +1,5 @@
 use Rattle.std.proofs.Common.{◌≡◌, List, refl, sym, subst, true≢false}
-use Rattle.race_records.specs.declared.event.Event.{Event}
-use Rattle.race_records.specs.Declarations.{DeclsState, IsWellFormed}
+use Rattle.race_records.specs.{declared.event.Event.Event, Declarations.{DeclsState, IsWellFormed}}
 use Rattle.race_records.specs.Events.{TraceState, IsTrace}
 use Rattle.race_text.specs.Text.{HasText}
 use Rattle.race_tool.proofs.recorded.certified.Goals as goal

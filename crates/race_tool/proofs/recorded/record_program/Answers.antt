@@ -1,7 +1,6 @@
 use Rattle.std.proofs.Common.{◌≡◌, ◌∙◌, Err, ap}
 use Rattle.race_record.specs.declared.fault.RecordFault.{RecordFault}
-use Rattle.race_tool.specs.Options.{picks_asked}
-use Rattle.race_tool.specs.declared.engine.NoFinding.{NoFinding}
+use Rattle.race_tool.specs.{Options.picks_asked, declared.engine.NoFinding.NoFinding}
 use Rattle.race_tool.proofs.RunLemmas.{turned_away, certified_run, uncertified_run}
 use Rattle.race_tool.proofs.recorded.record_program.Goals as goal
 

@@ -1,7 +1,5 @@
-use Rattle.std.proofs.Common.{ap, sym, ◌∙◌, Some}
-use Rattle.std.specs.Option.{option_map}
-use Rattle.race_tool.specs.Options.{picks_asked}
-use Rattle.race_tool.proofs.OptionLemmas.{by_picks, without_picks}
+use Rattle.std.{proofs.Common.{ap, sym, ◌∙◌, Some}, specs.Option.option_map}
+use Rattle.race_tool.{specs.Options.picks_asked, proofs.OptionLemmas.{by_picks, without_picks}}
 use Rattle.race_tool.proofs.recorded.recorded.Goals as goal
 
 pub returns-in-Some-clause-serial : goal.returns-in-Some-clause-serial

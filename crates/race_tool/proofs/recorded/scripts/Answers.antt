@@ -1,5 +1,4 @@
-use Rattle.std.proofs.lemmas.Grind.{common_steps}
-use Rattle.std.proofs.Common.{◌∙◌, arith}
+use Rattle.std.proofs.{lemmas.Grind.common_steps, Common.{◌∙◌, arith}}
 use Rattle.race_tool.proofs.RunLemmas.{one_more_script}
 use Rattle.race_tool.proofs.recorded.scripts.Goals as goal
 

@@ -1,8 +1,6 @@
 use Rattle.race_script.specs.Fault.{program_causes}
-use Rattle.race_tool.specs.Options.{picks_asked}
-use Rattle.race_tool.specs.Recorded.{run_of}
-use Rattle.race_tool.specs.Run.{IsProgramWhere, IsRefusedRun, IsRun, run_text, run_status}
-use Rattle.race_tool.proofs.EngineLemmas.{answers_as}
+use Rattle.race_tool.specs.{Options.picks_asked, Recorded.run_of, Run.{IsProgramWhere, IsRefusedRun, IsRun, run_text}}
+use Rattle.race_tool.{specs.Run.run_status, proofs.EngineLemmas.answers_as}
 use Rattle.race_tool.proofs.run_engine.run_run.Goals as goal
 
 pub returns-clause-runs : goal.returns-clause-runs

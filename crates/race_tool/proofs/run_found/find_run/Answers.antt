@@ -1,14 +1,8 @@
 use Rattle.std.proofs.Common.{List, ℕ, Result, sym, subst}
-use Rattle.race_script.specs.Fault.{program_causes}
-use Rattle.race_script.specs.Program.{ProgramState}
-use Rattle.race_script.specs.Text.{IsTextOf}
+use Rattle.race_script.specs.{Fault.program_causes, Program.ProgramState, Text.IsTextOf}
 use Rattle.race_text.specs.declared.cause.TextFault.{TextFault}
-use Rattle.race_tool.specs.Input.{IsReadBy}
-use Rattle.race_tool.specs.Outcome.{IsTextOnly}
-use Rattle.race_tool.specs.declared.engine.NoFinding.{NoFinding}
-use Rattle.race_tool.specs.Options.{picks_asked}
-use Rattle.race_tool.specs.Run.{IsProgramWhere, IsRefusedRun}
-use Rattle.race_tool.proofs.InputLemmas.{err_again}
+use Rattle.race_tool.specs.{Input.IsReadBy, Outcome.IsTextOnly, declared.engine.NoFinding.NoFinding}
+use Rattle.race_tool.{specs.{Options.picks_asked, Run.{IsProgramWhere, IsRefusedRun}}, proofs.InputLemmas.err_again}
 use Rattle.race_tool.proofs.run_found.find_run.Goals as goal
 
 pub returns-in-Ok-record_program : goal.returns-in-Ok-record_program

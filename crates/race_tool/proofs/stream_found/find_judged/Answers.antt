@@ -1,8 +1,6 @@
-use Rattle.std.proofs.Common.{IfOk, subst}
-use Rattle.std.proofs.lemmas.Result.{IfOk-weaker}
+use Rattle.std.proofs.{Common.{IfOk, subst}, lemmas.Result.IfOk-weaker}
 use Rattle.race_text.specs.Fault.{trace_causes}
-use Rattle.race_tool.specs.Input.{IsReadBy}
-use Rattle.race_tool.specs.Streams.{HandsOnSome, IsReadText}
+use Rattle.race_tool.specs.{Input.IsReadBy, Streams.{HandsOnSome, IsReadText}}
 use Rattle.race_tool.proofs.stream_found.find_judged.Goals as goal
 
 pub find_verdict-requires-clause-some : goal.find_verdict-requires-clause-some

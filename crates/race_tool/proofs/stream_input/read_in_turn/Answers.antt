@@ -1,10 +1,8 @@
 -- A block is fed, and the reader of lines stands for all that was read.
 use Rattle.std.proofs.Common.{Bool, Ok, refl, ap, ◌+◌, ◌∙◌, arith}
 use Rattle.race_records.specs.Devices.{unread, source_reads}
-use Rattle.race_text.specs.Fault.{trace_causes}
-use Rattle.race_text.specs.Fed.{IsFed as Stands}
-use Rattle.race_tool.specs.Streams.{StandsFor, IsReadText}
-use Rattle.race_tool.proofs.InputLemmas.{fed_none, read_as, read_more}
+use Rattle.race_text.specs.{Fault.trace_causes, Fed.{IsFed as Stands}}
+use Rattle.race_tool.{specs.Streams.{StandsFor, IsReadText}, proofs.InputLemmas.{fed_none, read_as, read_more}}
 use Rattle.race_tool.proofs.InputEnds.{reads_failed, reads_on, reads_ended, reads_faulty}
 use Rattle.race_tool.proofs.stream_input.read_in_turn.Goals as goal
 

@@ -1,10 +1,7 @@
 use Rattle.std.proofs.Common.{◌≡◌, ◌<◌, vec_len}
 use Rattle.race_records.specs.Devices.{unread, source_reads, source_failures, more_by}
-use Rattle.race_tool.specs.declared.input.TheConstants.{BLOCK}
-use Rattle.race_text.specs.Fault.{trace_causes}
-use Rattle.race_tool.specs.Streams.{StandsFor}
-use Rattle.race_text.specs.Fed.{IsFed as Stands, IsReady}
-use Rattle.race_tool.specs.Input.{HasRead}
+use Rattle.race_tool.specs.{declared.input.TheConstants.BLOCK, Streams.StandsFor, Input.HasRead}
+use Rattle.race_text.specs.{Fault.trace_causes, Fed.{IsFed as Stands, IsReady}}
 use Rattle.race_tool.proofs.stream_input.read_in_turn.Given as goal
 
 -- the blocks so far were fed, one read a turn, and no read failed

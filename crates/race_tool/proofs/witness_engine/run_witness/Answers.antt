@@ -1,7 +1,5 @@
 use Rattle.race_text.specs.Fault.{trace_causes}
-use Rattle.race_tool.specs.Engines.{Never}
-use Rattle.race_tool.specs.Witness.{IsShowing, showing_text, showing_status}
-use Rattle.race_tool.specs.Witnesses.{showing_of}
+use Rattle.race_tool.specs.{Engines.Never, Witness.{IsShowing, showing_text, showing_status}, Witnesses.showing_of}
 use Rattle.race_tool.proofs.EngineLemmas.{answers_as}
 use Rattle.race_tool.proofs.witness_engine.run_witness.Goals as goal
 

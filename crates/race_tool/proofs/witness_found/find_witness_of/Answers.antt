@@ -1,9 +1,8 @@
 -- The verdict says which race is reported on a variable, and where none is.
-use Rattle.std.proofs.Common.{List, Some, None, subst}
-use Rattle.std.proofs.lemmas.Result.{IfOk-weaker}
+use Rattle.std.proofs.{Common.{List, Some, None, subst}, lemmas.Result.IfOk-weaker}
 use Rattle.race_verdict.specs.declared.races.Race.{Race}
-use Rattle.race_tool.specs.Witnesses.{showing_of, IsPickedOf}
-use Rattle.race_tool.proofs.WitnessLemmas.{clean_right, races_right, clean_shows, picked_races, picked_shows, none_shows}
+use Rattle.race_tool.{specs.Witnesses.{showing_of, IsPickedOf}, proofs.WitnessLemmas.{clean_right, races_right}}
+use Rattle.race_tool.proofs.WitnessLemmas.{clean_shows, picked_races, picked_shows, none_shows}
 use Rattle.race_tool.proofs.witness_found.find_witness_of.Goals as goal
 
 pub show-requires : goal.show-requires

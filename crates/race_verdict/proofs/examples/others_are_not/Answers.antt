@@ -1,9 +1,7 @@
 use Rattle.std.proofs.Common.{◌≡◌, ℕ, false, true, ap, ◌∙◌}
-use Rattle.race_records.specs.declared.event.Event.{Event}
-use Rattle.race_records.specs.declared.event.Op.TheVariants.{Go, Write}
+use Rattle.race_records.specs.declared.event.{Event.Event, Op.TheVariants.{Go, Write}}
 use Rattle.race_model.specs.Events.{is_access}
-use Rattle.race_verdict.specs.Accesses.{is_write}
-use Rattle.race_verdict.specs.Examples.{does}
+use Rattle.race_verdict.specs.{Accesses.is_write, Examples.does}
 use Rattle.race_verdict.proofs.examples.others_are_not.Goals as goal
 
 pub returns-clause-another_goroutine : goal.returns-clause-another_goroutine

@@ -1,12 +1,9 @@
 -- The events of a legal trace may come one after another.
 use Rattle.std.proofs.Common.{◌+◌, List, [], ◌∷◌, ◌++◌, sym, subst, take}
-use Rattle.race_records.specs.declared.event.Event.{Event}
-use Rattle.race_records.specs.Declarations.{capacity_of}
-use Rattle.race_model.specs.Legal.{IsLegal}
-use Rattle.race_model.proofs.LegalSteps.{legal_take}
+use Rattle.race_records.specs.{declared.event.Event.Event, Declarations.capacity_of}
+use Rattle.race_model.{specs.Legal.IsLegal, proofs.LegalSteps.legal_take}
 use Rattle.race_legal.proofs.Fronts.{take_next}
-use Rattle.race_clock.specs.StandsFor.{StandsFor}
-use Rattle.race_clock.proofs.NextFrom.{allowed_last, may_come, has_clock, room_at}
+use Rattle.race_clock.{specs.StandsFor.StandsFor, proofs.NextFrom.{allowed_last, may_come, has_clock, room_at}}
 use Rattle.race_verdict.specs.Traces.{capacities}
 use Rattle.judging_tests.proofs.clock.stamps.stamps.Goals as goal
 

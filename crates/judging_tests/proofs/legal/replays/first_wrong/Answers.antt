@@ -1,9 +1,7 @@
 -- The replay has as many objects of each kind as the trace declares.
 use Rattle.std.proofs.Common.{ℕ, ◌<◌, ◌∙◌, sym, subst, arith, rules, ap}
-use Rattle.race_records.specs.declared.kind.Kind.{Kind}
-use Rattle.race_records.specs.Declarations.{DeclsState, counts_of}
-use Rattle.race_legal.specs.ReplayState.{IsInRange}
-use Rattle.race_legal.proofs.RangeLemmas.{range_from_fits}
+use Rattle.race_records.specs.{declared.kind.Kind.Kind, Declarations.{DeclsState, counts_of}}
+use Rattle.race_legal.{specs.ReplayState.IsInRange, proofs.RangeLemmas.range_from_fits}
 use Rattle.judging_tests.proofs.legal.replays.first_wrong.Goals as goal
 
 pub loop-at-init : goal.loop-at-init

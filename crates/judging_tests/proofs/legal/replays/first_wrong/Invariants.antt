@@ -1,6 +1,5 @@
 use Rattle.std.proofs.Common.{◌≡◌, ◌<◌, ◌≤◌}
-use Rattle.race_records.specs.declared.kind.Kind.{Kind}
-use Rattle.race_records.specs.Declarations.{counts_of}
+use Rattle.race_records.specs.{declared.kind.Kind.Kind, Declarations.counts_of}
 use Rattle.race_legal.specs.ReplayState.{counts_in}
 use Rattle.judging_tests.proofs.legal.replays.first_wrong.Given as goal
 

@@ -1,5 +1,4 @@
-use Rattle.std.proofs.lemmas.Grind.{common_steps}
-use Rattle.std.proofs.Common.{arith, Result, Ok, Err, OnErr, sym, ◌∙◌, true≢false}
+use Rattle.std.proofs.{lemmas.Grind.common_steps, Common.{arith, Result, Ok, Err, OnErr, sym, ◌∙◌, true≢false}}
 use Rattle.race_access.proofs.accesses.Accesses.keep.Goals as goal
 
 -- what holds in any case holds where the call failed

@@ -1,6 +1,5 @@
 use Rattle.std.proofs.Common.{[], ◌∷◌}
-use Rattle.race_access.specs.Kept.{note_found}
-use Rattle.race_access.proofs.KeepSteps.{greatest_of_both}
+use Rattle.race_access.{specs.Kept.note_found, proofs.KeepSteps.greatest_of_both}
 use Rattle.race_access.proofs.accesses.Accesses.partner.Goals as goal
 
 pub returns-then-next : goal.returns-then-next

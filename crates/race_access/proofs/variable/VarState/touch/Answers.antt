@@ -1,11 +1,7 @@
-use Rattle.std.proofs.Common.{◌≡◌, Some, None, [], ◌∷◌, ◌++◌, sym, ap, ◌∙◌, subst}
-use Rattle.std.proofs.lemmas.Result.{on_ok_weaker}
+use Rattle.std.proofs.{Common.{◌≡◌, Some, None, [], ◌∷◌, ◌++◌, sym, ap, ◌∙◌, subst}, lemmas.Result.on_ok_weaker}
 use Rattle.race_verdict.specs.declared.notes.Noted.{Noted}
-use Rattle.race_access.specs.declared.access.Access.{Access}
-use Rattle.race_access.specs.Kept.{no_access, note_of, IsGreatestUnknown, candidates, IsKeptOn}
-use Rattle.race_access.specs.KeptOf.{kept_of}
-use Rattle.race_access.specs.Touches.{Touch}
-use Rattle.race_access.specs.TouchHolds.{StandsFor}
+use Rattle.race_access.specs.{declared.access.Access.Access, Kept.{no_access, note_of, IsGreatestUnknown, candidates}}
+use Rattle.race_access.specs.{Kept.IsKeptOn, KeptOf.kept_of, Touches.Touch, TouchHolds.StandsFor}
 use Rattle.race_access.proofs.StandSteps.{stands_raced, stands_first, stands_on}
 use Rattle.race_access.proofs.variable.VarState.touch.Goals as goal
 

@@ -1,5 +1,4 @@
-use Rattle.std.proofs.Common.{arith}
-use Rattle.std.proofs.lemmas.Grind.{common_steps, elements}
+use Rattle.std.proofs.{Common.arith, lemmas.Grind.{common_steps, elements}}
 use Rattle.race_clock.proofs.JoinLemmas.{joined_front_none}
 use Rattle.race_clock.proofs.channel.Queue.join_front.Goals as goal
 

@@ -1,6 +1,4 @@
-use Rattle.std.proofs.Common.{arith}
-use Rattle.std.proofs.lemmas.Grind.{common_steps}
-use Rattle.std.proofs.lemmas.Result.{IfOk-from_err}
+use Rattle.std.proofs.{Common.arith, lemmas.{Grind.common_steps, Result.IfOk-from_err}}
 use Rattle.race_clock.proofs.clocks.Clocks.lock.Goals as goal
 
 pub returns-in_err-lock-clause-ok : goal.returns-in_err-lock-clause-ok

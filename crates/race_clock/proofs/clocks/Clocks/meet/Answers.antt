@@ -1,6 +1,4 @@
-use Rattle.std.proofs.lemmas.Grind.{common_steps}
-use Rattle.std.proofs.Common.{arith}
-use Rattle.std.proofs.lemmas.Result.{IfOk-from_err}
+use Rattle.std.proofs.{lemmas.{Grind.common_steps, Result.IfOk-from_err}, Common.arith}
 use Rattle.race_clock.proofs.clocks.Clocks.meet.Goals as goal
 
 pub returns-clause-ok : goal.returns-clause-ok

@@ -1,6 +1,5 @@
 -- Each list is made in turn.
-use Rattle.std.proofs.Common.{arith}
-use Rattle.std.proofs.lemmas.Result.{IfOk-from_err}
+use Rattle.std.proofs.{Common.arith, lemmas.Result.IfOk-from_err}
 use Rattle.race_clock.proofs.clocks.Clocks.new.Goals as goal
 
 pub returns-in_err-first_slots : goal.returns-in_err-first_slots

@@ -1,6 +1,4 @@
-use Rattle.std.proofs.Common.{arith}
-use Rattle.std.proofs.lemmas.Grind.{common_steps}
-use Rattle.std.proofs.lemmas.Result.{IfOk-from_err}
+use Rattle.std.proofs.{Common.arith, lemmas.{Grind.common_steps, Result.IfOk-from_err}}
 use Rattle.race_clock.proofs.JoinLemmas.{fill_opened}
 use Rattle.race_clock.proofs.clocks.Clocks.receive.Goals as goal
 

@@ -1,5 +1,4 @@
-use Rattle.std.proofs.Common.{arith}
-use Rattle.std.proofs.lemmas.Grind.{common_steps}
+use Rattle.std.proofs.{Common.arith, lemmas.Grind.common_steps}
 use Rattle.race_clock.proofs.clocks.Clocks.take.Goals as goal
 
 pub meet-requires-clause-other : goal.meet-requires-clause-other

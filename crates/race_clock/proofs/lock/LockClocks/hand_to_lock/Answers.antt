@@ -1,7 +1,5 @@
-use Rattle.std.proofs.Common.{◌≡◌, length, max, ap, arith}
-use Rattle.std.proofs.lemmas.Grind.{common_steps}
-use Rattle.race_clock.specs.ClockState.{joined, padded}
-use Rattle.race_clock.specs.ClocksState.{LockState}
+use Rattle.std.proofs.{Common.{◌≡◌, length, max, ap, arith}, lemmas.Grind.common_steps}
+use Rattle.race_clock.specs.{ClockState.{joined, padded}, ClocksState.LockState}
 use Rattle.race_clock.proofs.JoinLemmas.{both_fit, joined_both}
 use Rattle.race_clock.proofs.lock.LockClocks.hand_to_lock.Goals as goal
 

@@ -1,10 +1,7 @@
 -- That the event may come next gives what the step needs, and the next state stands for the longer list.
 use Rattle.std.proofs.Common.{◌+◌, ◌∙◌, ap, sym, subst}
-use Rattle.race_clock.specs.ClocksState.{after}
-use Rattle.race_clock.specs.StamperState.{StamperState}
-use Rattle.race_clock.specs.Needs.{HasClocks, CountsFit}
-use Rattle.race_clock.proofs.NextLemmas.{is_apart, has_clocks, counts_fit}
-use Rattle.race_clock.proofs.StamperSteps.{next_stands, next_counts}
+use Rattle.race_clock.specs.{ClocksState.after, StamperState.StamperState, Needs.{HasClocks, CountsFit}}
+use Rattle.race_clock.proofs.{NextLemmas.{is_apart, has_clocks, counts_fit}, StamperSteps.{next_stands, next_counts}}
 use Rattle.race_clock.proofs.stamper.Stamper.step.Goals as goal
 
 pub take-requires-clause-range : goal.take-requires-clause-range

@@ -1,5 +1,4 @@
-use Rattle.std.proofs.Common.{◌≡◌, ℕ, ◌<◌, length}
-use Rattle.std.specs.List.{slice_index_or}
+use Rattle.std.{proofs.Common.{◌≡◌, ℕ, ◌<◌, length}, specs.List.slice_index_or}
 use Rattle.race_edges.specs.Numbers.{number_at}
 use Rattle.race_edges.proofs.numbers.Numbers.new.Given as goal
 

@@ -1,5 +1,4 @@
-use Rattle.std.proofs.lemmas.Grind.{common_steps}
-use Rattle.std.proofs.Common.{arith, refl}
+use Rattle.std.proofs.{lemmas.Grind.common_steps, Common.{arith, refl}}
 use Rattle.race_edges.proofs.races.Found.note.Goals as goal
 
 pub returns-then-is_some-clause-noted : goal.returns-then-is_some-clause-noted

@@ -1,6 +1,5 @@
 -- At the end the loop has counted to the count.
-use Rattle.std.proofs.Common.{◌≡◌, ◌∙◌, ℕ, Bool, false, replicate, ap, arith}
-use Rattle.std.proofs.lemmas.Grind.{common_steps}
+use Rattle.std.proofs.{Common.{◌≡◌, ◌∙◌, ℕ, Bool, false, replicate, ap, arith}, lemmas.Grind.common_steps}
 use Rattle.std.proofs.lemmas.Result.{IfOk-from_err}
 use Rattle.race_edges.proofs.table.Table.new.Goals as goal
 

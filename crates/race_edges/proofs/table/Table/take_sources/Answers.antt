@@ -1,12 +1,11 @@
 use Rattle.std.proofs.Common.{◌≡◌, ℕ, ◌-◌, zero, true, false, subst, refl, sym, ◌∙◌, arith}
 use Rattle.race_records.specs.declared.event.Event.{Event}
-use Rattle.race_edges.specs.Synchronized.{source_at}
-use Rattle.race_edges.specs.TableState.{row_of, with_row, taken}
+use Rattle.race_edges.specs.{Synchronized.source_at, TableState.{row_of, with_row, taken}}
+use Rattle.race_edges.proofs.{JudgeSteps.said_from, RowLemmas.taken_down}
+use Rattle.race_edges.proofs.table.Table.take_sources.Goals.{else-not-sees-via-then-not-sees+else-is_source}
+use Rattle.race_edges.proofs.table.Table.take_sources.Goals.{else-not-sees-via-else-not-sees}
 use Rattle.race_verdict.specs.Traces.{capacities}
-use Rattle.race_edges.proofs.JudgeSteps.{said_from}
-use Rattle.race_edges.proofs.RowLemmas.{taken_down}
 use Rattle.race_edges.proofs.table.Table.take_sources.Goals as goal
-use Rattle.race_edges.proofs.table.Table.take_sources.Goals.{else-not-sees-via-then-not-sees+else-is_source, else-not-sees-via-else-not-sees}
 
 pub returns-clause-taken : goal.returns-clause-taken
 returns-clause-taken g c =

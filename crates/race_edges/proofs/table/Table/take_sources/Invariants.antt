@@ -1,6 +1,5 @@
 use Rattle.std.proofs.Common.{◌≡◌, length}
-use Rattle.race_edges.specs.Synchronized.{source_at}
-use Rattle.race_edges.specs.TableState.{taken}
+use Rattle.race_edges.specs.{Synchronized.source_at, TableState.taken}
 use Rattle.race_verdict.specs.Traces.{capacities}
 use Rattle.race_edges.proofs.table.Table.take_sources.Given as goal
 

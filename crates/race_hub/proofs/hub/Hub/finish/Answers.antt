@@ -1,11 +1,7 @@
-use Rattle.std.proofs.lemmas.Grind.{common_steps}
-use Rattle.std.proofs.Common.{◌≡◌, ◌∙◌, ◌<◌, length, sym, ap, subst, arith, refl, Some, None}
-use Rattle.std.specs.Prelude.{is_some}
-use Rattle.race_hub.specs.Hub.{HubState, end_of}
-use Rattle.race_hub.specs.HubHolds.{hub_state}
-use Rattle.race_hub.specs.Recording.{HasEnded}
-use Rattle.race_hub.specs.Finish.{IsRecorded, IsLeast, IsMismatch}
-use Rattle.race_hub.specs.declared.recording.Mismatch.{Mismatch}
+use Rattle.std.proofs.{lemmas.Grind.common_steps, Common.{◌≡◌, ◌∙◌, ◌<◌, length, sym, ap, subst, arith, refl, Some}}
+use Rattle.std.{proofs.Common.None, specs.Prelude.is_some}
+use Rattle.race_hub.specs.{Hub.{HubState, end_of}, HubHolds.hub_state, Recording.HasEnded}
+use Rattle.race_hub.specs.{Finish.{IsRecorded, IsLeast, IsMismatch}, declared.recording.Mismatch.Mismatch}
 use Rattle.race_hub.proofs.FinishLemmas.{right_of, told_of, parts_are, logs_are, other_is, end_is}
 use Rattle.race_hub.proofs.hub.Hub.finish.Goals as goal
 

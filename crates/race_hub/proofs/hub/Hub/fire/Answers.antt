@@ -1,8 +1,6 @@
-use Rattle.std.proofs.lemmas.Grind.{common_steps}
-use Rattle.std.proofs.Common.{◌≡◌, false, Option, Some, None, refl, sym, ◌∙◌, arith, rules}
+use Rattle.std.proofs.{lemmas.Grind.common_steps, Common.{◌≡◌, false, Option, Some, None, refl, sym, ◌∙◌, arith, rules}}
 use Rattle.std.specs.Prelude.{is_some}
-use Rattle.race_hub.specs.Hub.{stop_of}
-use Rattle.race_hub.proofs.EndLemmas.{runs_on}
+use Rattle.race_hub.{specs.Hub.stop_of, proofs.EndLemmas.runs_on}
 use Rattle.race_hub.proofs.hub.Hub.fire.Goals as goal
 
 none_of : {X : Type 0} (o : Option X) → is_some o ≡ false → o ≡ None

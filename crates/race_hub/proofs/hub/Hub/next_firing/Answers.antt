@@ -1,11 +1,8 @@
-use Rattle.std.proofs.Common.{◌≡◌, ◌∙◌, ap, sym, Some, None, subst}
-use Rattle.std.proofs.lemmas.Option.{none-some}
-use Rattle.race_requests.specs.Choices.{event_of}
-use Rattle.race_hub.specs.Firing.{HasSomeRows, HasRows}
-use Rattle.race_hub.specs.Hub.{choices_of}
-use Rattle.race_requests.specs.Search.{picked}
+use Rattle.std.proofs.{Common.{◌≡◌, ◌∙◌, ap, sym, Some, None, subst}, lemmas.Option.none-some}
+use Rattle.race_requests.specs.{Choices.event_of, Search.picked}
+use Rattle.race_hub.{specs.{Firing.{HasSomeRows, HasRows}, Hub.choices_of}, proofs.FiringLemmas.nothing_by}
+use Rattle.race_hub.proofs.FiringLemmas.{picked_is_possible, picked_rows, picked_firing}
 use Rattle.race_requests.specs.Waiting as list
-use Rattle.race_hub.proofs.FiringLemmas.{nothing_by, picked_is_possible, picked_rows, picked_firing}
 use Rattle.race_hub.proofs.hub.Hub.next_firing.Goals as goal
 
 pub returns-in_default-clause-none : goal.returns-in_default-clause-none

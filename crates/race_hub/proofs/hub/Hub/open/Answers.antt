@@ -1,8 +1,6 @@
 use Rattle.std.proofs.Common.{◌≡◌, ◌∷◌, [], ◌++◌, ◌∙◌, ap, sym, subst, arith, length, map, Some, None}
 use Rattle.std.specs.List.{remove}
-use Rattle.race_hub.specs.Hub.{HubState, opening}
-use Rattle.race_hub.specs.Holds.{Holds}
-use Rattle.race_hub.specs.Tracks.{AreBlank}
+use Rattle.race_hub.specs.{Hub.{HubState, opening}, Holds.Holds, Tracks.AreBlank}
 use Rattle.race_hub.proofs.OpeningLemmas.{holds_opening, first_of}
 use Rattle.race_hub.proofs.hub.Hub.open.Given as given
 use Rattle.race_hub.proofs.hub.Hub.open.Goals as goal

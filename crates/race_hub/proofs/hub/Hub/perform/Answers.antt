@@ -1,14 +1,9 @@
-use Rattle.std.proofs.lemmas.Grind.{common_steps}
-use Rattle.std.proofs.Common.{◌≡◌, ◌<◌, None, ◌∙◌, sym, subst, ap, refl, arith, length, IfSome}
-use Rattle.race_hub.specs.Hub.{HubState, stop_of}
-use Rattle.race_hub.specs.HubHolds.{hub_state}
-use Rattle.race_hub.specs.Holds.{Holds}
-use Rattle.race_hub.specs.Firing.{IsFiring}
-use Rattle.race_hub.specs.Fires.{Fires, started_by}
-use Rattle.race_hub.specs.Tracks.{AreBlank}
-use Rattle.race_requests.specs.Table.{IsRow, done_by}
-use Rattle.race_hub.proofs.PerformLemmas.{fit_is_in_range, below_limit, started_fits, holds_after, boxes_len, lists_same, Moves}
-use Rattle.race_requests.proofs.ChoiceLemmas.{some_is}
+use Rattle.std.proofs.{lemmas.Grind.common_steps, Common.{◌≡◌, ◌<◌, None, ◌∙◌, sym, subst, ap, refl, arith, length}}
+use Rattle.std.proofs.Common.{IfSome}
+use Rattle.race_hub.specs.{Hub.{HubState, stop_of}, HubHolds.hub_state, Holds.Holds, Firing.IsFiring}
+use Rattle.race_hub.{specs.{Fires.{Fires, started_by}, Tracks.AreBlank}, proofs.PerformLemmas.fit_is_in_range}
+use Rattle.race_hub.proofs.PerformLemmas.{below_limit, started_fits, holds_after, boxes_len, lists_same, Moves}
+use Rattle.race_requests.{specs.Table.{IsRow, done_by}, proofs.ChoiceLemmas.some_is}
 use Rattle.race_hub.proofs.hub.Hub.perform.Given as given
 use Rattle.race_hub.proofs.hub.Hub.perform.Goals as goal
 

@@ -1,8 +1,7 @@
 use Rattle.std.proofs.Common.{◌∙◌, ap}
-use Rattle.race_hub.specs.Hub.{choices_of}
+use Rattle.race_hub.{specs.Hub.choices_of, proofs.FiringLemmas.none_by}
 use Rattle.race_requests.specs.Search.{picked}
 use Rattle.race_requests.specs.Waiting as list
-use Rattle.race_hub.proofs.FiringLemmas.{none_by}
 use Rattle.race_hub.proofs.hub.Hub.pick.Goals as goal
 
 pub returns-clause-none : goal.returns-clause-none

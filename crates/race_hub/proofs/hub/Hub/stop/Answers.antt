@@ -1,5 +1,4 @@
-use Rattle.std.proofs.lemmas.Grind.{common_steps}
-use Rattle.std.proofs.Common.{arith}
+use Rattle.std.proofs.{lemmas.Grind.common_steps, Common.arith}
 use Rattle.race_hub.specs.Hub.{stop_by}
 use Rattle.race_hub.proofs.hub.Hub.stop.Goals as goal
 

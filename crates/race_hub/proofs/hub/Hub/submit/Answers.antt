@@ -1,9 +1,8 @@
-use Rattle.std.proofs.lemmas.Grind.{common_steps, elements}
-use Rattle.std.proofs.Common.{◌≡◌, ◌++◌, ◌∷◌, [], ◌∙◌, ap, subst, refl, arith, sym, Some, true, if◌then◌else◌}
-use Rattle.race_hub.specs.Hub.{HubState}
-use Rattle.race_hub.specs.HubHolds.{hub_state}
-use Rattle.race_hub.specs.Submits.{is_back, ends_hub, without_first, Submits}
-use Rattle.race_hub.proofs.SubmitLemmas.{put_back, joins_by, joined_well, joined_badly, back_was_out, test_same, ends_by}
+use Rattle.std.proofs.{lemmas.Grind.{common_steps, elements}, Common.{◌≡◌, ◌++◌, ◌∷◌, [], ◌∙◌, ap, subst, refl, arith}}
+use Rattle.std.proofs.Common.{sym, Some, true, if◌then◌else◌}
+use Rattle.race_hub.specs.{Hub.HubState, HubHolds.hub_state, Submits.{is_back, ends_hub, without_first, Submits}}
+use Rattle.race_hub.proofs.SubmitLemmas.{put_back, joins_by, joined_well, joined_badly, back_was_out, test_same}
+use Rattle.race_hub.proofs.SubmitLemmas.{ends_by}
 use Rattle.race_hub.proofs.hub.Hub.submit.Goals as goal
 
 pub invariant_of-self-then-bad : goal.invariant_of-self-then-bad

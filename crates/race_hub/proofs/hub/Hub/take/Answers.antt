@@ -1,5 +1,4 @@
-use Rattle.std.proofs.lemmas.Grind.{common_steps}
-use Rattle.std.proofs.Common.{arith, rules}
+use Rattle.std.proofs.{lemmas.Grind.common_steps, Common.{arith, rules}}
 use Rattle.race_hub.proofs.hub.Hub.take.Goals as goal
 
 pub invariant_of-self : goal.invariant_of-self

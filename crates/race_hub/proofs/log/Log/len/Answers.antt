@@ -1,6 +1,5 @@
 use Rattle.std.proofs.Common.{length, ap, arith}
-use Rattle.race_hub.specs.Log.{LogState}
-use Rattle.race_hub.proofs.LogLemmas.{steps_len}
+use Rattle.race_hub.{specs.Log.LogState, proofs.LogLemmas.steps_len}
 use Rattle.race_hub.proofs.log.Log.len.Goals as goal
 
 pub returns : goal.returns

@@ -1,6 +1,5 @@
 use Rattle.std.proofs.Common.{◌≡◌, ◌++◌, ◌∷◌, [], ◌∙◌, ap}
-use Rattle.race_hub.specs.Log.{LogState, steps_of}
-use Rattle.race_hub.proofs.LogLemmas.{steps_pushed}
+use Rattle.race_hub.{specs.Log.{LogState, steps_of}, proofs.LogLemmas.steps_pushed}
 use Rattle.race_hub.proofs.log.Log.push_reserved.Goals as goal
 
 pub returns : goal.returns

@@ -1,8 +1,5 @@
-use Rattle.std.proofs.Common.{◌<◌, ◌∙◌, Some, length, slice_get, sym, ap, arith}
-use Rattle.std.proofs.lemmas.Option.{slice_get-get_or}
-use Rattle.race_hub.specs.declared.log.Told.{Told}
-use Rattle.race_hub.specs.Log.{LogState}
-use Rattle.race_hub.proofs.LogLemmas.{steps_len, step_at}
+use Rattle.std.proofs.{Common.{◌<◌, ◌∙◌, Some, length, slice_get, sym, ap, arith}, lemmas.Option.slice_get-get_or}
+use Rattle.race_hub.{specs.{declared.log.Told.Told, Log.LogState}, proofs.LogLemmas.{steps_len, step_at}}
 use Rattle.race_hub.proofs.log.Log.step.Goals as goal
 
 pub get-requires : goal.get-requires

@@ -1,13 +1,7 @@
-use Rattle.std.proofs.lemmas.Grind.{elements}
-use Rattle.std.proofs.Common.{◌≡◌, ◌∙◌, ◌<◌, ℕ, sym, ap, subst, length, arith, Some}
-use Rattle.std.specs.Option.{option_map}
-use Rattle.std.proofs.lemmas.Option.{slice_get-get_or, slice_get-map}
-use Rattle.race_records.specs.declared.kind.Kind.{Kind}
-use Rattle.race_records.specs.Declarations.{count_of}
-use Rattle.race_hub.specs.Part.{IsPart}
-use Rattle.race_hub.specs.RecordingHolds.{recording_state}
-use Rattle.race_hub.specs.Recording.{RecordingState}
-use Rattle.race_hub.specs.Tracks.{TrackState}
+use Rattle.std.proofs.{lemmas.{Grind.elements, Option.{slice_get-get_or, slice_get-map}}, Common.{◌≡◌, ◌∙◌, ◌<◌, ℕ}}
+use Rattle.std.{proofs.Common.{sym, ap, subst, length, arith, Some}, specs.Option.option_map}
+use Rattle.race_records.specs.{declared.kind.Kind.Kind, Declarations.count_of}
+use Rattle.race_hub.specs.{Part.IsPart, RecordingHolds.recording_state, Recording.RecordingState, Tracks.TrackState}
 use Rattle.race_hub.proofs.recording.Recording.logs.Goals as goal
 
 within_tracks : (n g : ℕ) (r s : RecordingState) → r ≡ s → n ≡ count_of Kind.Goroutine r.decls.declarations

@@ -1,8 +1,9 @@
 use Rattle.std.proofs.Common.{◌≡◌, ◌∙◌, ◌++◌, ◌∷◌, [], length, sym, ap, subst, arith, true≢false, slice_get, Some, None}
-use Rattle.race_hub.specs.Tracks.{TrackState, IsPassed}
-use Rattle.race_hub.proofs.TrackLemmas.{passes_one, passes_no_step, passes_no_fit, passes_never}
+use Rattle.race_hub.{specs.Tracks.{TrackState, IsPassed}, proofs.TrackLemmas.{passes_one, passes_no_step}}
+use Rattle.race_hub.proofs.TrackLemmas.{passes_no_fit, passes_never}
+use Rattle.race_hub.proofs.track.Track.passed_with.Goals.{else-at-len-via-then-at-len+else-fits_step}
+use Rattle.race_hub.proofs.track.Track.passed_with.Goals.{else-at-len-via-else-at-len}
 use Rattle.race_hub.proofs.track.Track.passed_with.Goals as goal
-use Rattle.race_hub.proofs.track.Track.passed_with.Goals.{else-at-len-via-then-at-len+else-fits_step, else-at-len-via-else-at-len}
 
 pub returns-in_err-at : goal.returns-in_err-at
 returns-in_err-at g c past tracked =

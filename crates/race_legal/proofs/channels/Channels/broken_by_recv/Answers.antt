@@ -1,5 +1,4 @@
-use Rattle.std.proofs.lemmas.Grind.{common_steps}
-use Rattle.std.proofs.Common.{arith}
+use Rattle.std.proofs.{lemmas.Grind.common_steps, Common.arith}
 use Rattle.race_legal.proofs.channels.Channels.broken_by_recv.Goals as goal
 
 pub returns-in-Some : goal.returns-in-Some

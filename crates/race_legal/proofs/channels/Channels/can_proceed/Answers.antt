@@ -1,5 +1,4 @@
-use Rattle.std.proofs.lemmas.Grind.{common_steps}
-use Rattle.std.proofs.Common.{arith}
+use Rattle.std.proofs.{lemmas.Grind.common_steps, Common.arith}
 use Rattle.race_legal.proofs.channels.Channels.can_proceed.Goals as goal
 
 pub returns-then-capacity-gt0 : goal.returns-then-capacity-gt0

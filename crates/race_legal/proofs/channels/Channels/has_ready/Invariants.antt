@@ -1,5 +1,4 @@
-use Rattle.std.proofs.Common.{◌≡◌, false, take}
-use Rattle.std.specs.List.{list_any}
+use Rattle.std.{proofs.Common.{◌≡◌, false, take}, specs.List.list_any}
 use Rattle.race_legal.specs.RulesKept.{is_ready_in}
 use Rattle.race_legal.proofs.channels.Channels.has_ready.Given as goal
 

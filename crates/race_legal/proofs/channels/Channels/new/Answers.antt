@@ -1,7 +1,4 @@
-use Rattle.std.proofs.Common.{arith}
-use Rattle.std.proofs.lemmas.Grind.{common_steps}
-use Rattle.std.proofs.lemmas.List.{length-replicate}
-use Rattle.std.proofs.lemmas.Result.{IfOk-from_err}
+use Rattle.std.proofs.{Common.arith, lemmas.{Grind.common_steps, List.length-replicate, Result.IfOk-from_err}}
 use Rattle.race_legal.proofs.channels.Channels.new.Goals as goal
 
 pub returns-in_err-capacities : goal.returns-in_err-capacities

@@ -1,6 +1,4 @@
-use Rattle.std.proofs.Common.{rules}
-use Rattle.std.proofs.lemmas.List.{length-replicate}
-use Rattle.std.proofs.lemmas.Result.{IfOk-from_err}
+use Rattle.std.proofs.{Common.rules, lemmas.{List.length-replicate, Result.IfOk-from_err}}
 use Rattle.race_legal.proofs.goroutines.Goroutines.new.Goals as goal
 
 pub returns-in_err-vec : goal.returns-in_err-vec

@@ -1,11 +1,7 @@
 -- The state behind the event stands for the longer list.
 use Rattle.std.proofs.Common.{◌≡◌, [], ◌∷◌, ◌++◌, refl, sym, ap, ◌∙◌, subst, Some, Result, Ok, Err}
-use Rattle.race_legal.specs.ReplayState.{ReplayState, counts_in}
-use Rattle.race_legal.specs.declared.replay.Broken.{Broken}
-use Rattle.race_legal.specs.declared.rule.Rule.{Rule}
-use Rattle.race_legal.specs.Rules.{number_of}
-use Rattle.race_legal.specs.StandsFor.{StandsFor}
-use Rattle.race_legal.proofs.ReplayLemmas.{broken_is, stands_after}
+use Rattle.race_legal.specs.{ReplayState.{ReplayState, counts_in}, declared.{replay.Broken.Broken, rule.Rule.Rule}}
+use Rattle.race_legal.{specs.{Rules.number_of, StandsFor.StandsFor}, proofs.ReplayLemmas.{broken_is, stands_after}}
 use Rattle.race_legal.proofs.Shape.{counts_after}
 use Rattle.race_legal.proofs.replay.Replay.accept.Goals as goal
 

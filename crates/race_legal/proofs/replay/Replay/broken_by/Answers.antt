@@ -1,5 +1,4 @@
-use Rattle.std.proofs.lemmas.Grind.{common_steps}
-use Rattle.std.proofs.Common.{arith}
+use Rattle.std.proofs.{lemmas.Grind.common_steps, Common.arith}
 use Rattle.race_legal.proofs.replay.Replay.broken_by.Goals as goal
 
 pub is_started-requires : goal.is_started-requires

@@ -1,7 +1,6 @@
 -- The queue is as long as the word says.
 use Rattle.std.proofs.Common.{◌∙◌, sym, ap, length}
-use Rattle.race_legal.specs.ReplayState.{ReplayState, queue_in}
-use Rattle.race_legal.proofs.ChannelWords.{buffered_is}
+use Rattle.race_legal.{specs.ReplayState.{ReplayState, queue_in}, proofs.ChannelWords.buffered_is}
 use Rattle.race_legal.proofs.replay.Replay.buffered.Goals as goal
 
 pub returns : goal.returns

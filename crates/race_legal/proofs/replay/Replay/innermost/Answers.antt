@@ -1,7 +1,6 @@
 -- The last of the stack is the once that the word says.
 use Rattle.std.proofs.Common.{◌∙◌, sym, ap}
-use Rattle.race_legal.specs.ReplayState.{ReplayState, innermost_in}
-use Rattle.race_legal.proofs.OnceWords.{innermost_is}
+use Rattle.race_legal.{specs.ReplayState.{ReplayState, innermost_in}, proofs.OnceWords.innermost_is}
 use Rattle.race_legal.proofs.replay.Replay.innermost.Goals as goal
 
 pub returns : goal.returns

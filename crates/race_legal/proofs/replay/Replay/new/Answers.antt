@@ -1,7 +1,5 @@
-use Rattle.std.proofs.Common.{◌≤◌, subst, sym, arith}
-use Rattle.std.proofs.lemmas.Result.{IfOk-from_err}
-use Rattle.race_legal.specs.ReplayState.{LocksState, readers_in}
-use Rattle.race_legal.proofs.FirstState.{none_reads, stands_first}
+use Rattle.std.proofs.{Common.{◌≤◌, subst, sym, arith}, lemmas.Result.IfOk-from_err}
+use Rattle.race_legal.{specs.ReplayState.{LocksState, readers_in}, proofs.FirstState.{none_reads, stands_first}}
 use Rattle.race_legal.proofs.replay.Replay.new.Goals as goal
 
 pub overflow_cast-count : goal.overflow_cast-count

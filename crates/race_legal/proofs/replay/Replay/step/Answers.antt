@@ -1,14 +1,12 @@
 -- Each arm on its own: all of them are too many for one search.
-use Rattle.std.proofs.lemmas.Grind.{common_steps}
-use Rattle.std.proofs.Common.{rules, arith}
-use Rattle.std.proofs.Math.Bool.{and-true, and-false, or-false, or-true}
-use Rattle.race_legal.proofs.replay.Replay.step.Goals as goal
-use Rattle.race_legal.proofs.replay.Replay.step.Goals.{in-Go, in-Exit, in-Read, in-Write}
-use Rattle.race_legal.proofs.replay.Replay.step.Goals.{in-Send+in_ok-send-in-Send, in-Recv, in-Meet}
-use Rattle.race_legal.proofs.replay.Replay.step.Goals.{in-RecvClosed, in-Close, in-Default, in-Lock}
-use Rattle.race_legal.proofs.replay.Replay.step.Goals.{in-Unlock, in-RLock, in-RUnlock, in-TryLock, in-TryRLock, in-TryFail}
-use Rattle.race_legal.proofs.replay.Replay.step.Goals.{in-OnceBegin+in_ok-enter-in-OnceBegin, in-OnceEnd}
+use Rattle.std.proofs.{lemmas.Grind.common_steps, Common.{rules, arith}, Math.Bool.{and-true, and-false, or-false}}
+use Rattle.std.proofs.Math.Bool.{or-true}
+use Rattle.race_legal.proofs.replay.Replay.step.Goals.{in-Go, in-Exit, in-Read, in-Write, in-Send+in_ok-send-in-Send}
+use Rattle.race_legal.proofs.replay.Replay.step.Goals.{in-Recv, in-Meet, in-RecvClosed, in-Close, in-Default, in-Lock}
+use Rattle.race_legal.proofs.replay.Replay.step.Goals.{in-Unlock, in-RLock, in-RUnlock, in-TryLock, in-TryRLock}
+use Rattle.race_legal.proofs.replay.Replay.step.Goals.{in-TryFail, in-OnceBegin+in_ok-enter-in-OnceBegin, in-OnceEnd}
 use Rattle.race_legal.proofs.replay.Replay.step.Goals.{in-OnceDone, in-Fault}
+use Rattle.race_legal.proofs.replay.Replay.step.Goals as goal
 
 pub returns : goal.returns
 returns g c = elim c.match-event.branch [

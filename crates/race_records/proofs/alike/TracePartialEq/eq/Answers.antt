@@ -1,7 +1,6 @@
-use Rattle.std.proofs.Common.{◌≡◌, sym, ap, ◌∙◌, true≢false}
-use Rattle.std.proofs.lemmas.Bool.Decides.{same_from_decides}
-use Rattle.race_records.specs.Equality.{declared, same_declared-Decides}
-use Rattle.race_records.specs.TraceEquality.{Recorded, recorded, same_traces, same_recorded-Decides}
+use Rattle.std.proofs.{Common.{◌≡◌, sym, ap, ◌∙◌, true≢false}, lemmas.Bool.Decides.same_from_decides}
+use Rattle.race_records.specs.{Equality.{declared, same_declared-Decides}, TraceEquality.{Recorded, recorded}}
+use Rattle.race_records.specs.TraceEquality.{same_traces, same_recorded-Decides}
 use Rattle.race_records.proofs.alike.TracePartialEq.eq.Goals as goal
 
 pub returns-then-eq-clause-same : goal.returns-then-eq-clause-same

@@ -1,7 +1,5 @@
 use Rattle.std.proofs.Common.{◌≡◌, length, take, List, slice_get, sym, ap, ◌∙◌}
-use Rattle.race_records.specs.declared.cases.Case.{Case}
-use Rattle.race_records.specs.Cases.{cases_of}
-use Rattle.race_records.proofs.CaseLemmas.{counted_len}
+use Rattle.race_records.{specs.{declared.cases.Case.Case, Cases.cases_of}, proofs.CaseLemmas.counted_len}
 use Rattle.race_records.proofs.cases.Cases.get.Goals as goal
 
 pub returns : goal.returns

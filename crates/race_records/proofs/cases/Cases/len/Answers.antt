@@ -1,6 +1,5 @@
 use Rattle.std.proofs.Common.{length, List, sym, ap, ◌∙◌}
-use Rattle.race_records.specs.declared.cases.Case.{Case}
-use Rattle.race_records.proofs.CaseLemmas.{counted_len}
+use Rattle.race_records.{specs.declared.cases.Case.Case, proofs.CaseLemmas.counted_len}
 use Rattle.race_records.proofs.cases.Cases.len.Goals as goal
 
 pub returns-clause-len : goal.returns-clause-len

@@ -1,7 +1,6 @@
 use Rattle.std.proofs.Common.{◌≡◌, ◌≤◌, ◌+◌, ◌++◌, ◌∷◌, [], length, take, set, List, sym, ap, ◌∙◌, arith}
-use Rattle.race_records.specs.declared.cases.Case.{Case}
-use Rattle.race_records.specs.Cases.{cases_of}
-use Rattle.race_records.proofs.CaseLemmas.{counted_len, counted_push, shifted, shifted_below, kept_whole}
+use Rattle.race_records.{specs.{declared.cases.Case.Case, Cases.cases_of}, proofs.CaseLemmas.counted_len}
+use Rattle.race_records.proofs.CaseLemmas.{counted_push, shifted, shifted_below, kept_whole}
 use Rattle.race_records.proofs.cases.Cases.push.Goals as goal
 
 pub invariant_of-self : goal.invariant_of-self

@@ -1,5 +1,4 @@
-use Rattle.std.proofs.Common.{◌≡◌}
-use Rattle.std.proofs.lemmas.Bool.Decides.{same_from_decides}
+use Rattle.std.proofs.{Common.◌≡◌, lemmas.Bool.Decides.same_from_decides}
 use Rattle.race_records.specs.Cases.{same_cases, same_cases-Decides}
 use Rattle.race_records.proofs.cases.CasesPartialEq.eq.Goals as goal
 

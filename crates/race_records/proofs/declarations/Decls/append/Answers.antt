@@ -1,11 +1,7 @@
-use Rattle.std.proofs.Common.{◌≡◌, None, IsNone, position, refl, sym, subst, ◌∙◌}
-use Rattle.std.specs.Str.{bytes_eq}
+use Rattle.std.{proofs.Common.{◌≡◌, None, IsNone, position, refl, sym, subst, ◌∙◌}, specs.Str.bytes_eq}
 use Rattle.race_records.specs.Declarations.{Declaration, DeclsState, decl_fault, count_of, kind_of}
-use Rattle.race_records.specs.Rows.{declarations_of}
-use Rattle.race_records.specs.Tables.{with_index}
-use Rattle.race_records.proofs.DeclFaultLemmas.{allowed_from_no_fault}
-use Rattle.race_records.proofs.DeclsKept.{push_holds}
-use Rattle.race_records.proofs.DeclsLemmas.{position-names}
+use Rattle.race_records.{specs.{Rows.declarations_of, Tables.with_index}, proofs.DeclFaultLemmas.allowed_from_no_fault}
+use Rattle.race_records.proofs.{DeclsKept.push_holds, DeclsLemmas.position-names}
 use Rattle.race_records.proofs.declarations.Decls.append.Goals as goal
 
 pub push-requires-2 : goal.push-requires-2

@@ -1,7 +1,5 @@
-use Rattle.std.proofs.Common.{◌≡◌, ℕ, List, None, false, sym, subst, ◌∙◌}
-use Rattle.std.specs.Str.{bytes_eq}
-use Rattle.race_records.specs.Declarations.{DeclsState, IsWellFormed, is_known, place_fault}
-use Rattle.race_records.specs.DeclsHold.{decls_state}
+use Rattle.std.{proofs.Common.{◌≡◌, ℕ, List, None, false, sym, subst, ◌∙◌}, specs.Str.bytes_eq}
+use Rattle.race_records.specs.{Declarations.{DeclsState, IsWellFormed, is_known, place_fault}, DeclsHold.decls_state}
 use Rattle.race_records.proofs.PlaceLemmas.{allowed_from_no_place_fault, place_well_formed}
 use Rattle.race_records.proofs.TextLemmas.{position-absent, position_or_len-absent}
 use Rattle.race_records.proofs.declarations.Decls.append_place.Goals as goal

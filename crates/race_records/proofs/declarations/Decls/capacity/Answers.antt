@@ -1,7 +1,6 @@
 use Rattle.std.proofs.Common.{◌<◌, length, sym, subst, ◌∙◌, arith}
-use Rattle.race_records.specs.declared.kind.Kind.{Kind}
+use Rattle.race_records.{specs.declared.kind.Kind.Kind, proofs.DeclsLemmas.{object-indexed, index_within}}
 use Rattle.race_records.specs.Declarations as spec
-use Rattle.race_records.proofs.DeclsLemmas.{object-indexed, index_within}
 use Rattle.race_records.proofs.declarations.Decls.capacity.Goals as goal
 
 pub slot-requires : goal.slot-requires

@@ -1,6 +1,5 @@
 use Rattle.std.proofs.Common.{Some, option_map, sym, ap, ◌∙◌, rules}
-use Rattle.race_records.specs.Declarations.{DeclsState}
-use Rattle.race_records.proofs.DeclsLemmas.{slot_stands, find_name-found}
+use Rattle.race_records.{specs.Declarations.DeclsState, proofs.DeclsLemmas.{slot_stands, find_name-found}}
 use Rattle.race_records.proofs.declarations.Decls.find.Goals as goal
 
 pub returns-in-Some : goal.returns-in-Some

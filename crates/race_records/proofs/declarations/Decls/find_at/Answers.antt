@@ -1,6 +1,5 @@
 use Rattle.std.proofs.Common.{Some, take, sym, ap, ◌∙◌}
-use Rattle.race_records.specs.Declarations.{DeclsState}
-use Rattle.race_records.proofs.DeclsLemmas.{find_name-found, named_is_not_main}
+use Rattle.race_records.{specs.Declarations.DeclsState, proofs.DeclsLemmas.{find_name-found, named_is_not_main}}
 use Rattle.race_records.proofs.declarations.Decls.find_at.Goals as goal
 
 pub returns-in-Some : goal.returns-in-Some

@@ -1,7 +1,5 @@
-use Rattle.std.proofs.Common.{IsNone, if◌then◌else◌, sym, subst, refl, ◌∙◌, ◌++◌, ◌∷◌, []}
-use Rattle.std.specs.Str.{bytes_eq}
-use Rattle.race_records.specs.Declarations.{IsWellFormed, is_known}
-use Rattle.race_records.proofs.PlaceLemmas.{known_is_allowed}
+use Rattle.std.{proofs.Common.{IsNone, if◌then◌else◌, sym, subst, refl, ◌∙◌, ◌++◌, ◌∷◌, []}, specs.Str.bytes_eq}
+use Rattle.race_records.{specs.Declarations.{IsWellFormed, is_known}, proofs.PlaceLemmas.known_is_allowed}
 use Rattle.race_records.proofs.TextLemmas.{list_any-found, list_any-absent}
 use Rattle.race_records.proofs.declarations.Decls.known_place.Goals as goal
 

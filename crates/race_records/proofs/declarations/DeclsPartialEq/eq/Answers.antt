@@ -1,5 +1,4 @@
-use Rattle.std.proofs.Common.{◌≡◌, ◌&&◌, true, sym, ap, ◌∙◌}
-use Rattle.std.proofs.lemmas.Bool.Decides.{same_from_decides}
+use Rattle.std.proofs.{Common.{◌≡◌, ◌&&◌, true, sym, ap, ◌∙◌}, lemmas.Bool.Decides.same_from_decides}
 use Rattle.race_records.specs.Declarations.{DeclsState}
 use Rattle.race_records.specs.Equality.{same_version, same_declarations, same_declarations-Decides}
 use Rattle.race_records.proofs.declarations.DeclsPartialEq.eq.Goals as goal

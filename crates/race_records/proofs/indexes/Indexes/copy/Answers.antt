@@ -1,6 +1,4 @@
-use Rattle.std.proofs.Common.{◌∙◌}
-use Rattle.std.specs.List.{each_same}
-use Rattle.std.proofs.lemmas.Result.{IfOk-from_err}
+use Rattle.std.{proofs.{Common.◌∙◌, lemmas.Result.IfOk-from_err}, specs.List.each_same}
 use Rattle.race_records.proofs.indexes.Indexes.copy.Goals as goal
 
 pub returns-in_err-clone : goal.returns-in_err-clone

@@ -1,7 +1,5 @@
-use Rattle.std.proofs.Common.{◌≡◌, length, refl, sym, ◌∙◌, arith}
-use Rattle.std.proofs.lemmas.List.{length-map}
-use Rattle.race_records.specs.Rows.{declaration_of, declarations_of}
-use Rattle.race_records.proofs.ListLemmas.{same_elements}
+use Rattle.std.proofs.{Common.{◌≡◌, length, refl, sym, ◌∙◌, arith}, lemmas.List.length-map}
+use Rattle.race_records.{specs.Rows.{declaration_of, declarations_of}, proofs.ListLemmas.same_elements}
 use Rattle.race_records.proofs.names.Names.declare_alike.Goals as goal
 
 pub returns : goal.returns

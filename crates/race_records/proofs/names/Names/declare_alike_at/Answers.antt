@@ -1,8 +1,6 @@
-use Rattle.std.proofs.Common.{◌≡◌, Some, option_map, sym, ap, ◌∙◌, true≢false}
-use Rattle.std.proofs.lemmas.Option.{same_Some}
+use Rattle.std.proofs.{Common.{◌≡◌, Some, option_map, sym, ap, ◌∙◌, true≢false}, lemmas.Option.same_Some}
 use Rattle.std.proofs.lemmas.Slice.Eq.{bytes_eq-Decides}
-use Rattle.race_records.specs.Declarations.{Declaration}
-use Rattle.race_records.proofs.NameLemmas.{declaration_at, name_at}
+use Rattle.race_records.{specs.Declarations.Declaration, proofs.NameLemmas.{declaration_at, name_at}}
 use Rattle.race_records.proofs.names.Names.declare_alike_at.Goals as goal
 
 pub returns-then-eq : goal.returns-then-eq

@@ -1,5 +1,4 @@
-use Rattle.std.proofs.Common.{◌≡◌, List, Some, take, subst}
-use Rattle.std.proofs.lemmas.Option.{IfSome_then}
+use Rattle.std.proofs.{Common.{◌≡◌, List, Some, take, subst}, lemmas.Option.IfSome_then}
 use Rattle.race_records.specs.Tables.{Row, slot_named}
 use Rattle.race_records.proofs.names.Names.find_short.Goals as goal
 

@@ -1,8 +1,5 @@
-use Rattle.std.proofs.Common.{position, sym, ap, ◌∙◌}
-use Rattle.std.specs.Str.{bytes_eq}
-use Rattle.std.specs.String.{string_bytes}
-use Rattle.race_records.specs.Tables.{Row, row}
-use Rattle.race_records.proofs.TextLemmas.{position-map}
+use Rattle.std.{proofs.Common.{position, sym, ap, ◌∙◌}, specs.{Str.bytes_eq, String.string_bytes}}
+use Rattle.race_records.{specs.Tables.{Row, row}, proofs.TextLemmas.position-map}
 use Rattle.race_records.proofs.names.Names.index_of.Goals as goal
 
 pub returns : goal.returns

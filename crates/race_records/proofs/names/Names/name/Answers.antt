@@ -1,6 +1,5 @@
 use Rattle.std.proofs.Common.{sym, ap, option_map, ◌∙◌, Some}
-use Rattle.race_records.specs.Tables.{Row}
-use Rattle.race_records.proofs.NameLemmas.{slice_get-rows}
+use Rattle.race_records.{specs.Tables.Row, proofs.NameLemmas.slice_get-rows}
 use Rattle.race_records.proofs.names.Names.name.Goals as goal
 
 pub returns : goal.returns

@@ -1,11 +1,8 @@
 use Rattle.std.proofs.Common.{◌≡◌, List, [], ◌∷◌, ◌++◌, Some, ap, map, sym, subst, ◌∙◌}
-use Rattle.race_records.specs.Tables.{Row, row, slot_named}
-use Rattle.race_records.specs.Shorts.{AreNoted}
-use Rattle.race_records.proofs.NameLemmas.{row_of, insert_entry-new}
-use Rattle.race_records.proofs.ShortLemmas.{noted_before, slot_last}
+use Rattle.race_records.specs.{Tables.{Row, row, slot_named}, Shorts.AreNoted}
+use Rattle.race_records.proofs.{NameLemmas.{row_of, insert_entry-new}, ShortLemmas.{noted_before, slot_last}}
+use Rattle.race_records.proofs.names.Names.push.{Goals.After-note, Given.Over}
 use Rattle.race_records.proofs.names.Names.push.Goals as goal
-use Rattle.race_records.proofs.names.Names.push.Goals.{After-note}
-use Rattle.race_records.proofs.names.Names.push.Given.{Over}
 
 -- the table has one more row
 pushed : (g : Over) (c : After-note g) → map row_of c.insert.new.self.entries ≡ c.args.self.now ++ row c.args.name.now c.args.slot ∷ []

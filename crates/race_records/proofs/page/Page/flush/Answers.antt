@@ -1,7 +1,6 @@
 use Rattle.std.proofs.Common.{◌≡◌, ℕ, ◌+◌, ◌<◌, min, List, length, take, sym, ap, subst, ◌∙◌}
 use Rattle.std.specs.Io.KnownBytes.{Appends}
-use Rattle.race_records.specs.Page.{PageState, IsPrinted}
-use Rattle.race_records.proofs.PageLemmas.{all_out, part_out}
+use Rattle.race_records.{specs.Page.{PageState, IsPrinted}, proofs.PageLemmas.{all_out, part_out}}
 use Rattle.race_records.proofs.page.Page.flush.Goals as goal
 
 pub returns-in-Ok-clause-ok : goal.returns-in-Ok-clause-ok

@@ -1,5 +1,4 @@
-use Rattle.std.proofs.Common.{arith}
-use Rattle.std.proofs.lemmas.Grind.{common_steps}
+use Rattle.std.proofs.{Common.arith, lemmas.Grind.common_steps}
 use Rattle.race_records.proofs.PageLemmas.{cut_off_more}
 use Rattle.race_records.proofs.page.Page.put.Goals as goal
 

@@ -1,5 +1,4 @@
-use Rattle.std.proofs.Common.{ℕ, List}
-use Rattle.std.specs.Borrow.{Bor}
+use Rattle.std.{proofs.Common.{ℕ, List}, specs.Borrow.Bor}
 use Rattle.race_records.proofs.PageLemmas.{piece_breaks_off}
 use Rattle.race_records.proofs.page.Page.put_all.Goals as goal
 

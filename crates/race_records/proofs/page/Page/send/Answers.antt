@@ -1,6 +1,5 @@
 use Rattle.std.proofs.Common.{arith, ◌≡◌, ℕ, ◌+◌, min, List, [], ◌++◌, length, sym, ap, subst, ◌∙◌}
-use Rattle.race_records.specs.Page.{PageState, IsPrinted}
-use Rattle.race_records.proofs.PageLemmas.{all_sent, part_sent}
+use Rattle.race_records.{specs.Page.{PageState, IsPrinted}, proofs.PageLemmas.{all_sent, part_sent}}
 use Rattle.race_records.proofs.page.Page.send.Goals as goal
 
 pub returns-in-Ok : goal.returns-in-Ok

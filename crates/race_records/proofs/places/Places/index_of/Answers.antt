@@ -1,6 +1,4 @@
-use Rattle.std.proofs.Common.{position, sym, ap, ◌∙◌}
-use Rattle.std.specs.Str.{bytes_eq}
-use Rattle.std.specs.String.{string_bytes}
+use Rattle.std.{proofs.Common.{position, sym, ap, ◌∙◌}, specs.{Str.bytes_eq, String.string_bytes}}
 use Rattle.race_records.proofs.TextLemmas.{position-map}
 use Rattle.race_records.proofs.places.Places.index_of.Goals as goal
 

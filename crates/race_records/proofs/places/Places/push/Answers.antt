@@ -1,5 +1,4 @@
-use Rattle.std.proofs.Common.{ap, map, ◌∙◌}
-use Rattle.std.specs.String.{string_bytes}
+use Rattle.std.{proofs.Common.{ap, map, ◌∙◌}, specs.String.string_bytes}
 use Rattle.race_records.proofs.TextLemmas.{insert_key-new}
 use Rattle.race_records.proofs.places.Places.push.Goals as goal
 

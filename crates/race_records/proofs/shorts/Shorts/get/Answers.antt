@@ -1,8 +1,5 @@
-use Rattle.std.proofs.Common.{take, sym, subst, ◌∙◌}
-use Rattle.std.proofs.Math.Facts.{Fits-lt-pow}
-use Rattle.std.proofs.lemmas.Option.{IfSome_then}
-use Rattle.race_records.specs.Shorts.{AreNoted}
-use Rattle.race_records.proofs.ShortLemmas.{bytes_in_take}
+use Rattle.std.proofs.{Common.{take, sym, subst, ◌∙◌}, Math.Facts.Fits-lt-pow, lemmas.Option.IfSome_then}
+use Rattle.race_records.{specs.Shorts.AreNoted, proofs.ShortLemmas.bytes_in_take}
 use Rattle.race_records.proofs.shorts.Shorts.get.Goals as goal
 
 pub returns : goal.returns

@@ -1,7 +1,5 @@
-use Rattle.std.proofs.Common.{sym, subst, ◌∙◌, refl}
-use Rattle.std.proofs.lemmas.List.Elements.{All-replicate}
-use Rattle.race_records.specs.Shorts.{AreNoted, IsNoted}
-use Rattle.race_records.proofs.ShortLemmas.{blank_noted}
+use Rattle.std.proofs.{Common.{sym, subst, ◌∙◌, refl}, lemmas.List.Elements.All-replicate}
+use Rattle.race_records.{specs.Shorts.{AreNoted, IsNoted}, proofs.ShortLemmas.blank_noted}
 use Rattle.race_records.proofs.shorts.Shorts.make_room.Goals as goal
 
 pub returns : goal.returns

@@ -1,8 +1,5 @@
-use Rattle.std.proofs.Common.{◌≡◌, ℕ, sym, subst, ◌∙◌}
-use Rattle.std.specs.Prelude.{Some}
-use Rattle.std.proofs.Math.Facts.{Fits-lt-pow}
-use Rattle.race_records.specs.Shorts.{AreNoted, short_key}
-use Rattle.race_records.proofs.ShortLemmas.{short_noted}
+use Rattle.std.{proofs.{Common.{◌≡◌, ℕ, sym, subst, ◌∙◌}, Math.Facts.Fits-lt-pow}, specs.Prelude.Some}
+use Rattle.race_records.{specs.Shorts.{AreNoted, short_key}, proofs.ShortLemmas.short_noted}
 use Rattle.race_records.proofs.shorts.Shorts.note.Goals as goal
 
 pub returns : goal.returns

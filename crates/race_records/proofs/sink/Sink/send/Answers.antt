@@ -1,6 +1,5 @@
 use Rattle.std.proofs.Common.{◌-◌, ◌==◌, not, length, take, drop, ◌∙◌, arith, length-drop, length-take}
-use Rattle.race_records.specs.Devices.{writer_of, sink_failures}
-use Rattle.race_records.proofs.DeviceLemmas.{Appends-sent, counted-taken}
+use Rattle.race_records.{specs.Devices.{writer_of, sink_failures}, proofs.DeviceLemmas.{Appends-sent, counted-taken}}
 use Rattle.race_records.proofs.sink.Sink.send.Goals as goal
 
 pub loop-sent-preserved : goal.loop-sent-preserved

@@ -1,9 +1,6 @@
 use Rattle.std.proofs.Common.{◌≡◌, ◌⊎◌, inl, inr, Option, Some, None, Result, Ok, Err, OnOk, OnErr, refl, sym, subst}
-use Rattle.race_records.specs.Declarations.{DeclsState, IsWellFormed}
-use Rattle.race_records.specs.Events.{IsTrace}
-use Rattle.race_records.specs.Refusal.{Refuses}
-use Rattle.race_records.specs.TraceHolds.{trace_state}
-use Rattle.race_records.proofs.EventLemmas.{with_place_is_trace}
+use Rattle.race_records.specs.{Declarations.{DeclsState, IsWellFormed}, Events.IsTrace, Refusal.Refuses}
+use Rattle.race_records.{specs.TraceHolds.trace_state, proofs.EventLemmas.with_place_is_trace}
 use Rattle.race_records.proofs.PlaceLemmas.{with_place_well_formed}
 use Rattle.race_records.proofs.trace.Trace.add_place.Goals as goal
 

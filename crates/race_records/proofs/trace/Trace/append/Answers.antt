@@ -1,6 +1,5 @@
 use Rattle.std.proofs.Common.{◌≡◌, ◌-◌, None, sym, subst, arith}
-use Rattle.race_records.specs.Events.{TraceState, push_fault}
-use Rattle.race_records.specs.TraceHolds.{trace_state}
+use Rattle.race_records.specs.{Events.{TraceState, push_fault}, TraceHolds.trace_state}
 use Rattle.race_records.proofs.EventLemmas.{push_is_trace}
 use Rattle.race_records.proofs.trace.Trace.append.Goals as goal
 

@@ -1,5 +1,4 @@
-use Rattle.std.proofs.lemmas.Grind.{elements}
-use Rattle.std.proofs.Common.{arith}
+use Rattle.std.proofs.{lemmas.Grind.elements, Common.arith}
 use Rattle.race_requests.proofs.board.WaitingList.at.Goals as goal
 
 pub returns-clause-found : goal.returns-clause-found

@@ -1,7 +1,6 @@
 use Rattle.std.proofs.Common.{sym, arith}
 use Rattle.race_records.specs.Declarations.{capacity_of}
-use Rattle.race_requests.specs.Choices.{is_move, stands_in, tuples_of}
-use Rattle.race_requests.proofs.MoveLemmas.{some_of_both, none_of_both}
+use Rattle.race_requests.{specs.Choices.{is_move, stands_in, tuples_of}, proofs.MoveLemmas.{some_of_both, none_of_both}}
 use Rattle.race_requests.proofs.board.WaitingList.can_move.Goals as goal
 
 pub returns-in-At : goal.returns-in-At

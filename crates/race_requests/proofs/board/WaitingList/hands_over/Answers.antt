@@ -1,8 +1,7 @@
 -- The channel is declared, and each reader answers the word of the run so far.
 use Rattle.std.proofs.Common.{◌==◌, ◌&&◌, not, false, Option, Some, None, arith, ap, ◌∙◌}
 use Rattle.std.proofs.lemmas.Bool.Decides.{nat_tests}
-use Rattle.race_records.specs.declared.kind.Kind.{Kind}
-use Rattle.race_records.specs.Declarations.{capacity_of, count_of}
+use Rattle.race_records.specs.{declared.kind.Kind.Kind, Declarations.{capacity_of, count_of}}
 use Rattle.race_model.specs.State.{is_closed}
 use Rattle.race_requests.proofs.WaitingLemmas.{same_channels, sent_is_in_range}
 use Rattle.race_requests.proofs.board.WaitingList.hands_over.Goals as goal

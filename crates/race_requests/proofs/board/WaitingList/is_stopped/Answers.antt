@@ -1,8 +1,7 @@
 -- The replay stands for the events so far.
 use Rattle.std.proofs.Common.{◌≡◌, false, subst}
 use Rattle.race_records.specs.Declarations.{capacity_of}
-use Rattle.race_requests.specs.Choices.{is_legal_next, lone_event}
-use Rattle.race_requests.proofs.IdleLemmas.{none_goes_on}
+use Rattle.race_requests.{specs.Choices.{is_legal_next, lone_event}, proofs.IdleLemmas.none_goes_on}
 use Rattle.race_requests.proofs.WaitingLemmas.{same_channels, ask_is}
 use Rattle.race_requests.proofs.board.WaitingList.is_stopped.Goals as goal
 

@@ -1,8 +1,6 @@
-use Rattle.std.proofs.lemmas.Grind.{common_steps}
-use Rattle.std.proofs.Common.{◌∙◌, ap, arith}
+use Rattle.std.proofs.{lemmas.Grind.common_steps, Common.{◌∙◌, ap, arith}}
 use Rattle.race_records.specs.Declarations.{capacity_of}
-use Rattle.race_requests.specs.Waiting.{sent_on}
-use Rattle.race_requests.proofs.MoveLemmas.{passed_over}
+use Rattle.race_requests.{specs.Waiting.sent_on, proofs.MoveLemmas.passed_over}
 use Rattle.race_requests.proofs.board.WaitingList.next_partner_of.Goals as goal
 
 pub hands_over-requires : goal.hands_over-requires

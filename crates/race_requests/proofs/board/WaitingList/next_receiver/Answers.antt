@@ -1,5 +1,4 @@
-use Rattle.std.proofs.lemmas.Grind.{common_steps, elements}
-use Rattle.std.proofs.Common.{arith}
+use Rattle.std.proofs.{lemmas.Grind.{common_steps, elements}, Common.arith}
 use Rattle.race_requests.proofs.board.WaitingList.next_receiver.Goals as goal
 
 pub bounds-waiting-place : goal.bounds-waiting-place

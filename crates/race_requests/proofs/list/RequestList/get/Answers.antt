@@ -1,8 +1,6 @@
-use Rattle.std.proofs.Common.{◌<◌, ◌∙◌, List, Some, length, slice_get, sym, ap, subst, arith}
-use Rattle.std.proofs.lemmas.List.{length-map}
+use Rattle.std.proofs.{Common.{◌<◌, ◌∙◌, List, Some, length, slice_get, sym, ap, subst, arith}, lemmas.List.length-map}
 use Rattle.std.proofs.lemmas.Option.{slice_get-get_or}
-use Rattle.race_requests.specs.declared.list.Brief.{Brief}
-use Rattle.race_requests.specs.declared.request.Offer.{Offer}
+use Rattle.race_requests.specs.declared.{list.Brief.Brief, request.Offer.Offer}
 use Rattle.race_requests.specs.List.{RequestListState, request_of, IsWithin}
 use Rattle.race_requests.proofs.ListLemmas.{within_at, request_at}
 use Rattle.race_requests.proofs.list.RequestList.get.Goals as goal

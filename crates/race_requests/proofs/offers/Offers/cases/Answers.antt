@@ -1,6 +1,5 @@
 use Rattle.std.proofs.Common.{map, ap, ◌∙◌, arith}
-use Rattle.race_requests.specs.Offers.{case_of}
-use Rattle.race_requests.proofs.OfferLemmas.{cases_again}
+use Rattle.race_requests.{specs.Offers.case_of, proofs.OfferLemmas.cases_again}
 use Rattle.race_requests.proofs.offers.Offers.cases.Goals as goal
 
 pub returns : goal.returns

@@ -1,6 +1,5 @@
 use Rattle.std.proofs.Common.{length, List, Some, slice_get, sym, ap, ◌∙◌, arith}
-use Rattle.race_requests.specs.declared.request.Offer.{Offer}
-use Rattle.race_requests.proofs.OfferLemmas.{offers_len, offer_at_is}
+use Rattle.race_requests.{specs.declared.request.Offer.Offer, proofs.OfferLemmas.{offers_len, offer_at_is}}
 use Rattle.race_requests.proofs.offers.Offers.get.Goals as goal
 
 pub get-requires : goal.get-requires

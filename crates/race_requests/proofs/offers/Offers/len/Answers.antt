@@ -1,6 +1,5 @@
 use Rattle.std.proofs.Common.{length, List, sym, ap, ◌∙◌, arith}
-use Rattle.race_requests.specs.declared.request.Offer.{Offer}
-use Rattle.race_requests.proofs.OfferLemmas.{offers_len}
+use Rattle.race_requests.{specs.declared.request.Offer.Offer, proofs.OfferLemmas.offers_len}
 use Rattle.race_requests.proofs.offers.Offers.len.Goals as goal
 
 pub returns-clause-len : goal.returns-clause-len

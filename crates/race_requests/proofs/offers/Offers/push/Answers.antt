@@ -1,9 +1,8 @@
-use Rattle.std.proofs.lemmas.Grind.{common_steps}
-use Rattle.std.proofs.Common.{◌≡◌, ◌++◌, ◌∷◌, [], length, set, List, true≢false, refl, sym, ap, ◌∙◌, arith}
-use Rattle.race_requests.specs.declared.request.Offer.{Offer}
+use Rattle.std.proofs.{lemmas.Grind.common_steps, Common.{◌≡◌, ◌++◌, ◌∷◌, [], length, set, List, true≢false, refl, sym}}
+use Rattle.std.proofs.Common.{ap, ◌∙◌, arith}
+use Rattle.race_requests.{specs.{declared.request.Offer.Offer, Offers.{offers_with, kept}}, proofs.OfferLemmas.below_if}
+use Rattle.race_requests.proofs.OfferLemmas.{offers_len, offers_push, kept_offer, kept_whole_offer}
 use Rattle.race_records.specs.Cases.{kept as kept_case}
-use Rattle.race_requests.specs.Offers.{offers_with, kept}
-use Rattle.race_requests.proofs.OfferLemmas.{below_if, offers_len, offers_push, kept_offer, kept_whole_offer}
 use Rattle.race_requests.proofs.offers.Offers.push.Goals as goal
 
 pub returns-in_default-clause-full : goal.returns-in_default-clause-full

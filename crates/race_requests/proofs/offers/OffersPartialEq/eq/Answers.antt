@@ -1,5 +1,4 @@
-use Rattle.std.proofs.Common.{◌≡◌}
-use Rattle.std.proofs.lemmas.Bool.Decides.{same_from_decides}
+use Rattle.std.proofs.{Common.◌≡◌, lemmas.Bool.Decides.same_from_decides}
 use Rattle.race_requests.specs.Offers.{same_offers, same_offers-Decides}
 use Rattle.race_requests.proofs.offers.OffersPartialEq.eq.Goals as goal
 

@@ -1,9 +1,7 @@
 -- An ask that receives from a channel has an offer that does, and all were looked at.
-use Rattle.std.proofs.Common.{◌≡◌, Some, ap, ◌∙◌, inl, inr, slice_get, arith}
-use Rattle.std.proofs.lemmas.Bool.{cases_lt}
+use Rattle.std.proofs.{Common.{◌≡◌, Some, ap, ◌∙◌, inl, inr, slice_get, arith}, lemmas.Bool.cases_lt}
 use Rattle.std.proofs.lemmas.Option.{slice_get_within}
-use Rattle.race_requests.specs.Table.{offers_of}
-use Rattle.race_requests.specs.Waiting.{receives_from}
+use Rattle.race_requests.specs.{Table.offers_of, Waiting.receives_from}
 use Rattle.race_requests.proofs.ReceiverLemmas.{any_found, received_is}
 use Rattle.race_requests.proofs.receivers.Receivers.mark_offers.Goals as goal
 

@@ -1,8 +1,6 @@
 -- The place stands in the spans of the offers so far, and what stood in a span still does.
 use Rattle.std.proofs.Common.{◌≡◌, ℕ, ◌<◌, ◌+◌, slice_get, Some}
-use Rattle.race_requests.specs.declared.request.Offer.{Offer}
-use Rattle.race_requests.specs.Receivers.{IsInSpan, ReachTo}
-use Rattle.race_requests.specs.Table.{offers_of}
+use Rattle.race_requests.specs.{declared.request.Offer.Offer, Receivers.{IsInSpan, ReachTo}, Table.offers_of}
 use Rattle.race_requests.proofs.receivers.Receivers.mark_offers.Given as goal
 
 abbrev pub invariant-loop-way : goal.invariant-loop-way

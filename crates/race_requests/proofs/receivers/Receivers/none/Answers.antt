@@ -1,6 +1,5 @@
 -- Each span is 0.
-use Rattle.std.proofs.Common.{ℕ, ◌≤◌, ◌<◌, ◌%◌, get_or, subst, sym, arith}
-use Rattle.std.proofs.Math.ListN.{replicate}
+use Rattle.std.proofs.{Common.{ℕ, ◌≤◌, ◌<◌, ◌%◌, get_or, subst, sym, arith}, Math.ListN.replicate}
 use Rattle.std.proofs.lemmas.List.{get_or-replicate}
 use Rattle.race_requests.proofs.receivers.Receivers.none.Goals as goal
 

@@ -1,7 +1,5 @@
-use Rattle.std.proofs.Common.{◌≡◌, ◌≤◌, ◌+◌, inl, inr, arith, sym, ap, ◌∙◌, subst}
-use Rattle.std.proofs.lemmas.Bool.{cases_lt}
-use Rattle.race_requests.specs.Receivers.{first_of, end_of, IsInSpan}
-use Rattle.race_requests.specs.Waiting.{receives_at}
+use Rattle.std.proofs.{Common.{◌≡◌, ◌≤◌, ◌+◌, inl, inr, arith, sym, ap, ◌∙◌, subst}, lemmas.Bool.cases_lt}
+use Rattle.race_requests.specs.{Receivers.{first_of, end_of, IsInSpan}, Waiting.receives_at}
 use Rattle.race_requests.proofs.ReceiverLemmas.{receiver_asks, receiver_within, in_spans}
 use Rattle.race_requests.proofs.receivers.Receivers.of.Goals as goal
 

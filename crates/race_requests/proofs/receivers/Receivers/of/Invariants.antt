@@ -1,7 +1,6 @@
 -- The requests so far stand in their spans, and no span reaches further.
 use Rattle.std.proofs.Common.{◌≡◌, ℕ, ◌<◌, true}
-use Rattle.race_requests.specs.Receivers.{IsInSpan, ReachTo}
-use Rattle.race_requests.specs.Waiting.{receives_at}
+use Rattle.race_requests.specs.{Receivers.{IsInSpan, ReachTo}, Waiting.receives_at}
 use Rattle.race_requests.proofs.receivers.Receivers.of.Given as goal
 
 abbrev pub invariant-loop-place : goal.invariant-loop-place

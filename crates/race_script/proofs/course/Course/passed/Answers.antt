@@ -1,12 +1,11 @@
 use Rattle.std.proofs.Common.{◌≡◌, ℕ, Option, Some, is_some, slice_get, ap, sym, subst, ◌∙◌, true≢false}
-use Rattle.std.proofs.lemmas.Option.{slice_get_within}
-use Rattle.std.specs.Option.{unwrap_or}
+use Rattle.std.{proofs.lemmas.Option.slice_get_within, specs.Option.unwrap_or}
 use Rattle.race_requests.specs.Table.{done_by}
-use Rattle.race_script.specs.Course.{IsPassed}
-use Rattle.race_script.specs.Program.{spelled}
-use Rattle.race_script.proofs.PassedLemmas.{made_is, passes_no_step, passes_step, passes_no_fit}
+use Rattle.race_script.{specs.{Course.IsPassed, Program.spelled}, proofs.PassedLemmas.{made_is, passes_no_step}}
+use Rattle.race_script.proofs.PassedLemmas.{passes_step, passes_no_fit}
+use Rattle.race_script.proofs.course.Course.passed.Goals.{else-can_make-via-then-can_make+else-stand_alike}
+use Rattle.race_script.proofs.course.Course.passed.Goals.{else-can_make-via-else-can_make}
 use Rattle.race_script.proofs.course.Course.passed.Goals as goal
-use Rattle.race_script.proofs.course.Course.passed.Goals.{else-can_make-via-then-can_make+else-stand_alike, else-can_make-via-else-can_make}
 
 -- what is told twice is the same
 told_twice : {X : Type 0} (o : Option X) (x y : X) → o ≡ Some x → o ≡ Some y → x ≡ y

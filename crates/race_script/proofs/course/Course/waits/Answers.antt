@@ -1,6 +1,5 @@
 use Rattle.std.proofs.Common.{◌≡◌, Some, None, slice_get, sym, ◌∙◌, true≢false}
-use Rattle.race_script.proofs.PassedLemmas.{waits_here, waits_not, waits_past}
-use Rattle.race_script.proofs.SameAsks.{same_ask-Decides}
+use Rattle.race_script.proofs.{PassedLemmas.{waits_here, waits_not, waits_past}, SameAsks.same_ask-Decides}
 use Rattle.race_script.proofs.course.Course.waits.Goals as goal
 
 pub returns-then-is_same : goal.returns-then-is_same

@@ -1,10 +1,7 @@
 -- What is seen of the reader is what it was fed.
-use Rattle.std.proofs.Common.{ℕ, List, ◌++◌, refl, sym, ap, subst, ◌∙◌}
-use Rattle.std.proofs.lemmas.Result.{IfOk-weaker, IfErr-weaker}
-use Rattle.race_script.specs.Fault.{program_causes}
-use Rattle.race_script.specs.Reader.{lines_read, StandsFor as Stands}
-use Rattle.race_text.specs.Fed.{LinesState, StandsFor, IsFed}
-use Rattle.race_text.proofs.FedLemmas.{fed_of, stands_of}
+use Rattle.std.proofs.{Common.{ℕ, List, ◌++◌, refl, sym, ap, subst, ◌∙◌}, lemmas.Result.{IfOk-weaker, IfErr-weaker}}
+use Rattle.race_script.specs.{Fault.program_causes, Reader.{lines_read, StandsFor as Stands}}
+use Rattle.race_text.{specs.Fed.{LinesState, StandsFor, IsFed}, proofs.FedLemmas.{fed_of, stands_of}}
 use Rattle.race_script.proofs.program_reader.ProgramReader.feed.Goals as goal
 
 module _ (g : _) (c : goal.After-feed g) where

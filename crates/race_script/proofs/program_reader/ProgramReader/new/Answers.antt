@@ -1,7 +1,6 @@
 -- Nothing is fed, and nothing is taken.
 use Rattle.std.proofs.Common.{[]}
-use Rattle.race_script.specs.Fault.{program_causes}
-use Rattle.race_script.specs.Reader.{lines_read, StandsFor as Stands}
+use Rattle.race_script.specs.{Fault.program_causes, Reader.{lines_read, StandsFor as Stands}}
 use Rattle.race_text.proofs.FedLemmas.{stands_of}
 use Rattle.race_script.proofs.program_reader.ProgramReader.new.Goals as goal
 

@@ -1,14 +1,11 @@
-use Rattle.std.proofs.Common.{◌≡◌, ◌++◌, ◌∷◌, [], ℕ, List, Some, None, Err, inl, inr, true, false, sym, ap, subst, refl, ◌∙◌, arith}
-use Rattle.std.proofs.lemmas.Bool.Decides.{nat_tests}
+use Rattle.std.proofs.Common.{◌≡◌, ◌++◌, ◌∷◌, [], ℕ, List, Some, None, Err, inl, inr, true, false, sym, ap, subst, refl}
+use Rattle.std.proofs.{Common.{◌∙◌, arith}, lemmas.Bool.Decides.nat_tests}
 use Rattle.race_records.specs.declared.declarations.DeclFault.{DeclFault}
-use Rattle.race_records.specs.Declarations.{with_place, place_number, place_fault}
-use Rattle.race_records.specs.Refusal.{Refuses, AllowsUnless}
-use Rattle.race_text.specs.Declaring.{cause_of}
-use Rattle.race_text.specs.Owed.{owed}
-use Rattle.race_text.proofs.FedLemmas.{match_err}
-use Rattle.race_script.specs.Reader.{ReadState, UnendedState}
-use Rattle.race_script.specs.Reading.{asked_at}
-use Rattle.race_script.proofs.TakingLemmas.{room_is, asked_cause_is, ended_taken, more_taken, place_told, not_refused, some_viewed, none_viewed, pushed_viewed}
+use Rattle.race_records.specs.{Declarations.{with_place, place_number, place_fault}, Refusal.{Refuses, AllowsUnless}}
+use Rattle.race_text.{specs.{Declaring.cause_of, Owed.owed}, proofs.FedLemmas.match_err}
+use Rattle.race_script.{specs.{Reader.{ReadState, UnendedState}, Reading.asked_at}, proofs.TakingLemmas.room_is}
+use Rattle.race_script.proofs.TakingLemmas.{asked_cause_is, ended_taken, more_taken, place_told, not_refused}
+use Rattle.race_script.proofs.TakingLemmas.{some_viewed, none_viewed, pushed_viewed}
 use Rattle.race_script.proofs.reader.Reader.add.Goals as goal
 
 pub returns-in-Err : goal.returns-in-Err

@@ -1,6 +1,5 @@
 use Rattle.std.proofs.Common.{◌≡◌, ◌==◌, length, true, false, sym, ap, subst, ◌∙◌, refl, rules}
-use Rattle.race_script.specs.Fault.{end_cause}
-use Rattle.race_script.specs.Reader.{ReadState, draft_read, lines_by, IsRead, IsReadBy}
+use Rattle.race_script.specs.{Fault.end_cause, Reader.{ReadState, draft_read, lines_by, IsRead, IsReadBy}}
 use Rattle.race_script.proofs.ReadLemmas.{end_header, end_behind}
 use Rattle.race_script.proofs.reader.Reader.end_cause.Goals as goal
 

@@ -1,6 +1,5 @@
 use Rattle.std.proofs.Common.{sym, subst}
-use Rattle.race_script.specs.Program.{IsProgram}
-use Rattle.race_script.specs.Reader.{IsRead, IsReadBy, program_read}
+use Rattle.race_script.specs.{Program.IsProgram, Reader.{IsRead, IsReadBy, program_read}}
 use Rattle.race_script.proofs.ReadLemmas.{whole_program}
 use Rattle.race_script.proofs.reader.Reader.into_program.Goals as goal
 

@@ -1,5 +1,4 @@
-use Rattle.std.proofs.lemmas.Grind.{common_steps}
-use Rattle.std.proofs.Common.{arith}
+use Rattle.std.proofs.{lemmas.Grind.common_steps, Common.arith}
 use Rattle.race_script.proofs.reader.Reader.may_begin.Goals as goal
 
 pub returns-then-is_none : goal.returns-then-is_none

@@ -2,16 +2,10 @@ use Rattle.std.proofs.Common.{◌≡◌, List, ℕ, Option, Bor, Some, None, tru
 use Rattle.std.proofs.lemmas.Option.{none-some}
 use Rattle.race_records.specs.Equality.{declared}
 use Rattle.race_requests.specs.declared.request.Ask.{Ask}
-use Rattle.race_text.specs.Owed.{owed}
-use Rattle.race_text.specs.Words.{parts_left}
-use Rattle.race_script.specs.Fault.{words_cause}
-use Rattle.race_script.specs.Form.{on_nil, ask_fields}
-use Rattle.race_script.specs.Program.{Instruction}
-use Rattle.race_script.specs.Reading.{asked_read, asked_in}
-use Rattle.race_script.specs.Text.{Asks}
-use Rattle.race_script.proofs.ReadLemmas.{asks_told, said_answered}
-use Rattle.race_script.proofs.SaidLines.{asked_is_there}
-use Rattle.race_script.proofs.LineLemmas.{IsSaidLine, asks_line}
+use Rattle.race_text.specs.{Owed.owed, Words.parts_left}
+use Rattle.race_script.specs.{Fault.words_cause, Form.{on_nil, ask_fields}, Program.Instruction}
+use Rattle.race_script.{specs.{Reading.{asked_read, asked_in}, Text.Asks}, proofs.ReadLemmas.{asks_told, said_answered}}
+use Rattle.race_script.proofs.{SaidLines.asked_is_there, LineLemmas.{IsSaidLine, asks_line}}
 use Rattle.race_script.proofs.reader.Reader.take_asks.Goals as goal
 
 -- what gives an instruction is there

@@ -1,16 +1,8 @@
 use Rattle.std.proofs.Common.{◌≡◌, Some, None, true, is_some, sym, ap, subst, refl, ◌∙◌, if◌then◌else◌}
-use Rattle.race_text.specs.declared.cause.TextCause.{TextCause}
-use Rattle.race_text.specs.Owed.{owed}
-use Rattle.race_text.specs.Words.{parts_left}
-use Rattle.race_script.specs.Fault.{words_cause}
-use Rattle.race_script.specs.Form.{begin_fields}
-use Rattle.race_script.specs.Reader.{ReadState}
-use Rattle.race_script.specs.Reading.{begun_in}
-use Rattle.race_script.specs.Text.{Begins}
-use Rattle.race_script.proofs.ReadLemmas.{begin_told, said_told, said_taken}
-use Rattle.race_script.proofs.SaidLines.{begun_is_there, is_begun}
-use Rattle.race_script.proofs.LineLemmas.{begins_line}
-use Rattle.race_script.proofs.TakingLemmas.{begin_taken}
+use Rattle.race_text.specs.{declared.cause.TextCause.TextCause, Owed.owed, Words.parts_left}
+use Rattle.race_script.specs.{Fault.words_cause, Form.begin_fields, Reader.ReadState, Reading.begun_in, Text.Begins}
+use Rattle.race_script.proofs.{ReadLemmas.{begin_told, said_told, said_taken}, SaidLines.{begun_is_there, is_begun}}
+use Rattle.race_script.proofs.{LineLemmas.begins_line, TakingLemmas.begin_taken}
 use Rattle.race_script.proofs.reader.Reader.take_begin.Goals as goal
 
 pub returns-in-Some : goal.returns-in-Some

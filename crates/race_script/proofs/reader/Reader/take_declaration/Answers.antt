@@ -1,18 +1,12 @@
 use Rattle.std.proofs.Common.{◌≡◌, Some, Ok, Err, length, sym, ap, subst, ◌∙◌, arith, MatchResult}
-use Rattle.race_text.specs.declared.form.Word.{Word}
-use Rattle.race_text.specs.Fault.{seen_so_far}
-use Rattle.race_text.specs.Fault.{word_cause as text_cause}
-use Rattle.race_text.specs.Owed.{owed}
-use Rattle.race_text.specs.Words.{parts_left}
-use Rattle.race_records.specs.Declarations.{DeclsState}
-use Rattle.race_records.specs.Refusal.{Refuses, AllowsUnless}
-use Rattle.race_text.specs.declared.cause.TextCause.{TextCause}
+use Rattle.race_text.specs.declared.{form.Word.Word, cause.TextCause.TextCause}
+use Rattle.race_text.specs.{Fault.{seen_so_far, word_cause as text_cause}, Owed.owed, Words.parts_left}
 use Rattle.race_text.specs.Declaring.{declaration_cause, with_declaration_in}
-use Rattle.race_script.specs.Program.{bodies_of}
-use Rattle.race_script.specs.Reader.{ReadState, draft_read}
+use Rattle.race_records.specs.{Declarations.DeclsState, Refusal.{Refuses, AllowsUnless}}
+use Rattle.race_script.specs.{Program.bodies_of, Reader.{ReadState, draft_read}}
 use Rattle.race_script.proofs.ReadLemmas.{declares_cause, declared_answered}
-use Rattle.race_script.proofs.reader.Reader.take_declaration.Goals as goal
 use Rattle.race_script.proofs.reader.Reader.take_declaration.Goals.{in-Ok, in-Err}
+use Rattle.race_script.proofs.reader.Reader.take_declaration.Goals as goal
 
 pub returns-then-begun-gt0 : goal.returns-then-begun-gt0
 returns-then-begun-gt0 g c = record {

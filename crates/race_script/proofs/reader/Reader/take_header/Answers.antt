@@ -1,8 +1,7 @@
 use Rattle.std.proofs.Common.{Some, refl, sym, ap, subst, ◌∙◌}
 use Rattle.race_records.specs.declared.version.Version.{Version}
 use Rattle.race_text.specs.Owed.{owed}
-use Rattle.race_script.specs.Reader.{IsEmpty, IsReadBy}
-use Rattle.race_script.proofs.ReadLemmas.{header_read, header_taken, header_told}
+use Rattle.race_script.{specs.Reader.{IsEmpty, IsReadBy}, proofs.ReadLemmas.{header_read, header_taken, header_told}}
 use Rattle.race_script.proofs.reader.Reader.take_header.Goals as goal
 
 pub returns-in-None-clause-taken : goal.returns-in-None-clause-taken

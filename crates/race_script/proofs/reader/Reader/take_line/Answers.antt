@@ -1,13 +1,8 @@
-use Rattle.std.proofs.lemmas.Grind.{common_steps}
-use Rattle.std.proofs.Common.{◌≡◌, ℕ, List, true, Result, Ok, Err, OnOk, MatchResult, sym, ap, subst, ◌∙◌, arith}
-use Rattle.race_text.specs.declared.cause.TextCause.{TextCause}
-use Rattle.race_text.specs.Form.{first_word}
-use Rattle.race_text.specs.Lines.{GoesOn}
-use Rattle.race_text.specs.Owed.{owed}
-use Rattle.race_script.specs.Fault.{cause, program_causes}
-use Rattle.race_script.specs.Form.{line_word_in}
-use Rattle.race_script.specs.Reader.{ReadState, draft_read, lines_read, lines_by, IsRead, IsReading, IsReadBy, TakesOrTells}
-use Rattle.race_script.specs.Text.{lines}
+use Rattle.std.proofs.{lemmas.Grind.common_steps, Common.{◌≡◌, ℕ, List, true, Result, Ok, Err, OnOk, MatchResult, sym}}
+use Rattle.std.proofs.Common.{ap, subst, ◌∙◌, arith}
+use Rattle.race_text.specs.{declared.cause.TextCause.TextCause, Form.first_word, Lines.GoesOn, Owed.owed}
+use Rattle.race_script.specs.{Fault.{cause, program_causes}, Form.line_word_in, Reader.{ReadState, draft_read}}
+use Rattle.race_script.specs.{Reader.{lines_read, lines_by, IsRead, IsReading, IsReadBy, TakesOrTells}, Text.lines}
 use Rattle.race_script.proofs.ReadLemmas.{bad_byte_told, unknown_told}
 use Rattle.race_script.proofs.reader.Reader.take_line.Goals as goal
 

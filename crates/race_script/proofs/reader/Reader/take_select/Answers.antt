@@ -1,13 +1,8 @@
-use Rattle.std.proofs.Common.{sym, ap, ◌∙◌}
-use Rattle.std.specs.Result.{result_err}
+use Rattle.std.{proofs.Common.{sym, ap, ◌∙◌}, specs.Result.result_err}
 use Rattle.race_records.specs.Equality.{declared}
-use Rattle.race_text.specs.Owed.{owed}
-use Rattle.race_text.specs.Words.{parts_left}
-use Rattle.race_script.specs.Program.{Instruction}
-use Rattle.race_script.specs.Reading.{asked_at, selected_in}
-use Rattle.race_script.specs.Text.{Asks}
-use Rattle.race_script.proofs.ReadLemmas.{selects_told, said_answered}
-use Rattle.race_script.proofs.LineLemmas.{IsSaidLine, selects_line}
+use Rattle.race_text.specs.{Owed.owed, Words.parts_left}
+use Rattle.race_script.specs.{Program.Instruction, Reading.{asked_at, selected_in}, Text.Asks}
+use Rattle.race_script.proofs.{ReadLemmas.{selects_told, said_answered}, LineLemmas.{IsSaidLine, selects_line}}
 use Rattle.race_script.proofs.reader.Reader.take_select.Goals as goal
 
 pub returns-in-Err : goal.returns-in-Err

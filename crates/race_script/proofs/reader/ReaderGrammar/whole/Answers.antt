@@ -1,12 +1,7 @@
 -- No cause at the end: the header was read, all bodies have ended, and nothing stands behind the last newline.
-use Rattle.std.proofs.Common.{◌≡◌, [], ◌++◌, sym, ap, subst, ◌∙◌, append-nil}
-use Rattle.std.specs.List.{flat_map}
-use Rattle.race_text.specs.Text.{ended}
-use Rattle.race_text.proofs.ParseLemmas.{no_bytes}
-use Rattle.race_script.specs.Fault.{end_cause}
-use Rattle.race_script.specs.Reader.{lines_read}
-use Rattle.race_script.specs.Text.{IsTextOf}
-use Rattle.race_script.proofs.ParseLemmas.{end_empty}
+use Rattle.std.{proofs.Common.{◌≡◌, [], ◌++◌, sym, ap, subst, ◌∙◌, append-nil}, specs.List.flat_map}
+use Rattle.race_text.{specs.Text.ended, proofs.ParseLemmas.no_bytes}
+use Rattle.race_script.{specs.{Fault.end_cause, Reader.lines_read, Text.IsTextOf}, proofs.ParseLemmas.end_empty}
 use Rattle.race_script.proofs.ReadLemmas.{all_read}
 use Rattle.race_script.proofs.reader.ReaderGrammar.whole.Goals as goal
 

@@ -1,11 +1,7 @@
-use Rattle.std.proofs.Common.{◌≡◌, ◌++◌, ◌∷◌, [], take, Some, refl, ap, sym, ◌∙◌, arith}
-use Rattle.std.proofs.lemmas.Result.{IfOk-from_err}
-use Rattle.std.proofs.lemmas.List.{take_all, take_more}
-use Rattle.std.proofs.lemmas.Option.{slice_get_within, get_or_from_slice_get}
+use Rattle.std.proofs.{Common.{◌≡◌, ◌++◌, ◌∷◌, [], take, Some, refl, ap, sym, ◌∙◌, arith}, lemmas.Result.IfOk-from_err}
+use Rattle.std.proofs.lemmas.{List.{take_all, take_more}, Option.{slice_get_within, get_or_from_slice_get}}
 use Rattle.race_requests.specs.declared.request.Request.{Request}
-use Rattle.race_script.specs.Bodies.{is_body}
-use Rattle.race_script.specs.Program.{asks_of}
-use Rattle.race_script.proofs.BodyLemmas.{body_is, script_begins}
+use Rattle.race_script.{specs.{Bodies.is_body, Program.asks_of}, proofs.BodyLemmas.{body_is, script_begins}}
 use Rattle.race_script.proofs.script.Script.new.Goals as goal
 
 pub invariant_of-result : goal.invariant_of-result

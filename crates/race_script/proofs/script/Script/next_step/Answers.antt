@@ -1,7 +1,5 @@
 use Rattle.std.proofs.Common.{◌≡◌, true, sym, ap, ◌∙◌, arith, length}
-use Rattle.race_script.specs.Bodies.{is_behind_do}
-use Rattle.race_script.specs.Program.{asks_of}
-use Rattle.race_script.specs.Run.{ScriptState, next_step}
+use Rattle.race_script.specs.{Bodies.is_behind_do, Program.asks_of, Run.{ScriptState, next_step}}
 use Rattle.race_script.proofs.ScriptLemmas.{done_step, done_step_within}
 use Rattle.race_script.proofs.script.Script.next_step.Goals as goal
 

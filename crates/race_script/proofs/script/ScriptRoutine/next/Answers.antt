@@ -1,8 +1,6 @@
 -- The step that is asked, and the position behind it.
-use Rattle.std.proofs.Common.{◌≡◌, length, get_or, sym, ap, ◌∙◌, arith}
-use Rattle.std.proofs.lemmas.Option.{get_or_from_slice_get}
-use Rattle.race_script.specs.Run.{ScriptState}
-use Rattle.race_script.proofs.BodyLemmas.{script_goes_on}
+use Rattle.std.proofs.{Common.{◌≡◌, length, get_or, sym, ap, ◌∙◌, arith}, lemmas.Option.get_or_from_slice_get}
+use Rattle.race_script.{specs.Run.ScriptState, proofs.BodyLemmas.script_goes_on}
 use Rattle.race_script.proofs.ScriptLemmas.{step_asked, position_more, position_stays}
 use Rattle.race_script.proofs.script.ScriptRoutine.next.Goals as goal
 

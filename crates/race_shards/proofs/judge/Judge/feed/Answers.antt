@@ -1,10 +1,11 @@
 -- The judge hasn't failed, so it stands for a list; where its verdict is settled, or the block is empty, only the length grows.
 use Rattle.std.proofs.Common.{◌≡◌, Err, vec_len, None, List, [], length, sym, ap, ◌∙◌, subst, rules}
 use Rattle.race_records.specs.declared.event.Event.{Event}
-use Rattle.race_shards.specs.declared.fault.JudgeFault.{JudgeFault}
-use Rattle.race_shards.specs.Judging.{JudgeState, CanTake, GoesOn}
-use Rattle.race_shards.proofs.JudgeSteps.{seen, can_judge, counts_on, judges_on, sound_on, counted, judged, none_of, settled, empty_of, same_fault, count_of_shards}
-use Rattle.race_shards.proofs.judge.Judge.feed.Goals.{then-is_some-via-then-is_some, then-is_some-via-else-is_some+then-is_empty}
+use Rattle.race_shards.specs.{declared.fault.JudgeFault.JudgeFault, Judging.{JudgeState, CanTake, GoesOn}}
+use Rattle.race_shards.proofs.JudgeSteps.{seen, can_judge, counts_on, judges_on, sound_on, counted, judged, none_of}
+use Rattle.race_shards.proofs.JudgeSteps.{settled, empty_of, same_fault, count_of_shards}
+use Rattle.race_shards.proofs.judge.Judge.feed.Goals.{then-is_some-via-then-is_some}
+use Rattle.race_shards.proofs.judge.Judge.feed.Goals.{then-is_some-via-else-is_some+then-is_empty}
 use Rattle.race_shards.proofs.judge.Judge.feed.Goals as goal
 
 pub judge_block-requires-after_bounds : goal.judge_block-requires-after_bounds

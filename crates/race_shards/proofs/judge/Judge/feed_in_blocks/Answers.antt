@@ -1,8 +1,7 @@
 -- The judge has taken the events up to the index, and so can take those behind it.
-use Rattle.std.proofs.Common.{◌≡◌, ◌+◌, ◌-◌, take, refl, ◌∙◌, subst, arith}
-use Rattle.std.proofs.lemmas.Result.{err_from_is_err_and}
-use Rattle.race_shards.specs.Judging.{JudgeState, StandsForSome, GoesOn}
-use Rattle.race_shards.proofs.JudgeSteps.{can_take_next, took_none, took_next, took_all, well_taken, len_taken}
+use Rattle.std.proofs.{Common.{◌≡◌, ◌+◌, ◌-◌, take, refl, ◌∙◌, subst, arith}, lemmas.Result.err_from_is_err_and}
+use Rattle.race_shards.{specs.Judging.{JudgeState, StandsForSome, GoesOn}, proofs.JudgeSteps.{can_take_next, took_none}}
+use Rattle.race_shards.proofs.JudgeSteps.{took_next, took_all, well_taken, len_taken}
 use Rattle.race_shards.proofs.judge.Judge.feed_in_blocks.Goals as goal
 
 pub loop-at-init : goal.loop-at-init

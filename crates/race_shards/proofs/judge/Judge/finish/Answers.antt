@@ -1,11 +1,7 @@
 -- The judge hasn't failed, so it stands for a list, and no event of it breaks a rule.
 use Rattle.std.proofs.Common.{◌≡◌, ◌<◌, List, length, sym, subst}
-use Rattle.race_verdict.specs.declared.races.Race.{Race}
-use Rattle.race_verdict.specs.Races.{races_of}
-use Rattle.race_verdict.specs.Verdicts.{verdict_of}
-use Rattle.race_shards.specs.Shards.{ShardState}
-use Rattle.race_shards.specs.Telling.{told_below, HavePlaces}
-use Rattle.race_shards.specs.Judging.{JudgeState, Tells}
+use Rattle.race_verdict.specs.{declared.races.Race.Race, Races.races_of, Verdicts.verdict_of}
+use Rattle.race_shards.specs.{Shards.ShardState, Telling.{told_below, HavePlaces}, Judging.{JudgeState, Tells}}
 use Rattle.race_shards.proofs.JudgeSteps.{seen, has_shard, places_of, tells_races}
 use Rattle.race_shards.proofs.judge.Judge.finish.Goals as goal
 

@@ -1,14 +1,11 @@
 -- The judge hasn't failed, so it stands for a list, and no event of it breaks a rule.
 use Rattle.std.proofs.Common.{◌≡◌, ◌<◌, ◌∙◌, List, All, length, arith, map, refl, sym, ap, subst}
 use Rattle.race_model.specs.Verdict.{AreReportedRaces}
-use Rattle.race_verdict.specs.declared.notes.NotedRace.{NotedRace}
-use Rattle.race_verdict.specs.Notes.{race_noted, verdict_noted}
+use Rattle.race_verdict.specs.{declared.notes.NotedRace.NotedRace, Notes.{race_noted, verdict_noted}}
 use Rattle.race_verdict.specs.Races.{race_of, races_of}
-use Rattle.race_shards.specs.Shards.{ShardState}
-use Rattle.race_shards.specs.Telling.{told_below, HavePlaces, IsNotedBy}
-use Rattle.race_shards.specs.Judging.{JudgeState, Tells, Notes}
-use Rattle.race_shards.proofs.JudgeSteps.{seen, has_shard, places_of, tells_races}
-use Rattle.race_shards.proofs.NotedSteps.{notes_right, accesses_right}
+use Rattle.race_shards.specs.{Shards.ShardState, Telling.{told_below, HavePlaces, IsNotedBy}}
+use Rattle.race_shards.{specs.Judging.{JudgeState, Tells, Notes}, proofs.JudgeSteps.{seen, has_shard, places_of}}
+use Rattle.race_shards.proofs.{JudgeSteps.tells_races, NotedSteps.{notes_right, accesses_right}}
 use Rattle.race_shards.proofs.judge.Judge.finish_noted.Goals as goal
 
 pub index-requires : goal.index-requires

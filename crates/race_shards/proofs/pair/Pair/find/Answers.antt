@@ -1,8 +1,7 @@
 use Rattle.std.proofs.Common.{sym, ◌∙◌, subst}
 use Rattle.race_model.proofs.ReorderLemmas.{access_passes}
 use Rattle.race_verdict.specs.Traces.{capacities}
-use Rattle.race_shards.specs.Pairs.{PairState, IsSeenAt}
-use Rattle.race_shards.proofs.PairSteps.{no_race, is_pair_of}
+use Rattle.race_shards.{specs.Pairs.{PairState, IsSeenAt}, proofs.PairSteps.{no_race, is_pair_of}}
 use Rattle.race_shards.proofs.pair.Pair.find.Goals as goal
 
 pub returns-then-not-races_on : goal.returns-then-not-races_on

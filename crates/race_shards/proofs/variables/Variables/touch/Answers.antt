@@ -1,11 +1,9 @@
 use Rattle.std.proofs.Common.{◌≢◌, ℕ, ◌<◌, ◌/◌, ◌%◌, ◌++◌, [], ◌∷◌, length, slice_set, get_or, sym, ap, ◌∙◌, subst}
-use Rattle.std.proofs.lemmas.List.{get_or_default}
-use Rattle.std.proofs.lemmas.Result.{on_ok_weaker}
-use Rattle.race_access.specs.Kept.{Kept}
-use Rattle.race_access.specs.Touches.{Touch}
-use Rattle.race_access.specs.TouchHolds as touch
+use Rattle.std.proofs.lemmas.{List.get_or_default, Result.on_ok_weaker}
+use Rattle.race_access.specs.{Kept.Kept, Touches.Touch}
 use Rattle.race_shards.specs.Variables.{VariablesState, AreKept, nothing_kept}
 use Rattle.race_shards.proofs.VariableSteps.{kept_passed, kept_next}
+use Rattle.race_access.specs.TouchHolds as touch
 use Rattle.race_shards.proofs.variables.Variables.touch.Goals as goal
 
 pub returns-then-shard_of-self-clause-goes_on : goal.returns-then-shard_of-self-clause-goes_on

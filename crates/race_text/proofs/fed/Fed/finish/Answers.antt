@@ -1,9 +1,7 @@
 -- The fault that was told, or that of the bytes that are left behind the lines.
-use Rattle.std.proofs.Common.{ℕ, List, ◌++◌, sym, ap, subst, ◌∙◌}
-use Rattle.std.specs.List.{flat_map}
-use Rattle.race_text.specs.Text.{ended}
-use Rattle.race_text.specs.Fed.{IsFed, IsTold}
-use Rattle.race_text.proofs.FedLemmas.{told_of, taken_of, end_told, end_is_line, end_none_before}
+use Rattle.std.{proofs.Common.{ℕ, List, ◌++◌, sym, ap, subst, ◌∙◌}, specs.List.flat_map}
+use Rattle.race_text.{specs.{Text.ended, Fed.{IsFed, IsTold}}, proofs.FedLemmas.{told_of, taken_of, end_told}}
+use Rattle.race_text.proofs.FedLemmas.{end_is_line, end_none_before}
 use Rattle.race_text.proofs.fed.Fed.finish.Goals as goal
 
 module _ (g : _) (c : goal.After-drop-reader g) where

@@ -1,9 +1,8 @@
 -- What was kept of a line goes on in the first part of the piece.
 use Rattle.std.proofs.Common.{◌≡◌, ℕ, List, [], ◌∷◌, ◌++◌, ap, sym, subst, ◌∙◌}
-use Rattle.race_text.specs.Words.{parts_of, parts_left}
-use Rattle.race_text.specs.Grammar.{StandsForSome, ForEachLines, Takes}
-use Rattle.race_text.specs.Fed.{TakesSome, IsUnended, TellsOfLine}
-use Rattle.race_text.proofs.FedLemmas.{seam_line, seam_part, last_is, kept_unended, memory_told, line_told, line_taken, match_err, match_map}
+use Rattle.race_text.specs.{Words.{parts_of, parts_left}, Grammar.{StandsForSome, ForEachLines, Takes}}
+use Rattle.race_text.{specs.Fed.{TakesSome, IsUnended, TellsOfLine}, proofs.FedLemmas.{seam_line, seam_part, last_is}}
+use Rattle.race_text.proofs.FedLemmas.{kept_unended, memory_told, line_told, line_taken, match_err, match_map}
 use Rattle.race_text.proofs.fed.Lines.take.Goals as goal
 
 pub returns-in_err-keep-clause-taken : goal.returns-in_err-keep-clause-taken

@@ -1,10 +1,8 @@
 -- Each line is taken where it lies, and the last part is kept.
-use Rattle.std.proofs.Common.{◌++◌, None, Some, sym, subst, ◌∙◌}
-use Rattle.std.proofs.lemmas.Option.{none-some}
-use Rattle.race_text.specs.Fed.{TakesNext}
-use Rattle.race_text.specs.Common.{line_in}
-use Rattle.race_text.proofs.FedLemmas.{seam_line, memory_told, line_told, line_owed, line_taken, none_ended, takes_all, shorter, match_err}
-use Rattle.race_text.proofs.FedLemmas.{still_taken, some_taken}
+use Rattle.std.proofs.{Common.{◌++◌, None, Some, sym, subst, ◌∙◌}, lemmas.Option.none-some}
+use Rattle.race_text.{specs.{Fed.TakesNext, Common.line_in}, proofs.FedLemmas.{seam_line, memory_told, line_told}}
+use Rattle.race_text.proofs.FedLemmas.{line_owed, line_taken, none_ended, takes_all, shorter, match_err, still_taken}
+use Rattle.race_text.proofs.FedLemmas.{some_taken}
 use Rattle.race_text.proofs.fed.Lines.take_whole.Goals as goal
 
 pub returns-in_err-take_next-clause-taken : goal.returns-in_err-take_next-clause-taken

@@ -1,7 +1,6 @@
 -- What is left behind the lines that were taken.
 use Rattle.std.proofs.Common.{◌≡◌, [], length}
-use Rattle.race_text.specs.Grammar.{StandsForSome}
-use Rattle.race_text.specs.Fed.{TakesBytes}
+use Rattle.race_text.specs.{Grammar.StandsForSome, Fed.TakesBytes}
 use Rattle.race_text.proofs.fed.Lines.take_whole.Given as goal
 
 abbrev pub invariant-loop-self : goal.invariant-loop-self

@@ -1,12 +1,8 @@
 -- The trace that was read is the one whose text was fed.
-use Rattle.std.proofs.Common.{ℕ, List, refl, sym, ap, subst, ◌∙◌}
-use Rattle.std.proofs.lemmas.Result.{IfOk-weaker, IfErr-weaker}
-use Rattle.race_text.specs.Fault.{trace_causes}
-use Rattle.race_text.specs.Reader.{lines_read, StandsFor as Stands}
-use Rattle.race_text.specs.Fed.{LinesState, StandsFor, IsFed}
-use Rattle.race_text.proofs.TextFine.{text_is_accepted}
-use Rattle.race_text.proofs.TextLaws.{equal_texts}
-use Rattle.race_text.proofs.FedLemmas.{fed_of}
+use Rattle.std.proofs.{Common.{ℕ, List, refl, sym, ap, subst, ◌∙◌}, lemmas.Result.{IfOk-weaker, IfErr-weaker}}
+use Rattle.race_text.specs.{Fault.trace_causes, Reader.{lines_read, StandsFor as Stands}}
+use Rattle.race_text.{specs.Fed.{LinesState, StandsFor, IsFed}, proofs.TextFine.text_is_accepted}
+use Rattle.race_text.proofs.{TextLaws.equal_texts, FedLemmas.fed_of}
 use Rattle.race_text.proofs.line_reader.LineReader.finish.Goals as goal
 
 module _ (g : _) (c : goal.After-finish g) where

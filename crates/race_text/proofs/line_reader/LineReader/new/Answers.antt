@@ -1,8 +1,6 @@
 -- Nothing is fed, and nothing is taken.
 use Rattle.std.proofs.Common.{[]}
-use Rattle.race_text.specs.Fault.{trace_causes}
-use Rattle.race_text.specs.Reader.{lines_read, StandsFor as Stands}
-use Rattle.race_text.proofs.FedLemmas.{stands_of}
+use Rattle.race_text.{specs.{Fault.trace_causes, Reader.{lines_read, StandsFor as Stands}}, proofs.FedLemmas.stands_of}
 use Rattle.race_text.proofs.line_reader.LineReader.new.Goals as goal
 
 pub returns-clause-stands : goal.returns-clause-stands

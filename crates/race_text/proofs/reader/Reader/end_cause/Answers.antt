@@ -1,6 +1,5 @@
 use Rattle.std.proofs.Common.{◌≡◌, ◌==◌, length, true, false, sym, ap, ◌∙◌, rules}
-use Rattle.race_text.specs.Fault.{end_cause}
-use Rattle.race_text.specs.Reader.{trace_read, lines_read}
+use Rattle.race_text.specs.{Fault.end_cause, Reader.{trace_read, lines_read}}
 use Rattle.race_text.proofs.ParseLemmas.{end_behind, end_header, end_other}
 use Rattle.race_text.proofs.reader.Reader.end_cause.Goals as goal
 

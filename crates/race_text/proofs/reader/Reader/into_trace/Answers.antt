@@ -1,7 +1,5 @@
 use Rattle.std.proofs.Common.{sym, subst, ap, ◌∙◌}
-use Rattle.race_text.specs.Text.{HasText}
-use Rattle.race_text.specs.Reader.{IsReading, trace_read}
-use Rattle.race_text.proofs.ReaderLemmas.{fresh, read_of}
+use Rattle.race_text.{specs.{Text.HasText, Reader.{IsReading, trace_read}}, proofs.ReaderLemmas.{fresh, read_of}}
 use Rattle.race_text.proofs.reader.Reader.into_trace.Goals as goal
 
 pub returns-in-Some-clause-has_text : goal.returns-in-Some-clause-has_text

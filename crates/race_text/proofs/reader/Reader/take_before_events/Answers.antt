@@ -1,9 +1,5 @@
-use Rattle.std.proofs.Common.{sym, subst, ◌∙◌, true, arith}
-use Rattle.std.proofs.lemmas.Grind.{common_steps}
-use Rattle.race_text.specs.Owed.{owed}
-use Rattle.race_text.specs.Taking.{IsRead}
-use Rattle.race_text.specs.Text.{lines}
-use Rattle.race_text.specs.Fault.{cause}
+use Rattle.std.proofs.{Common.{sym, subst, ◌∙◌, true, arith}, lemmas.Grind.common_steps}
+use Rattle.race_text.specs.{Owed.owed, Taking.IsRead, Text.lines, Fault.cause}
 use Rattle.race_text.proofs.ReaderLemmas.{not_declared, fresh}
 use Rattle.race_text.proofs.reader.Reader.take_before_events.Goals as goal
 

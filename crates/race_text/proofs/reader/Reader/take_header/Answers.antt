@@ -1,7 +1,6 @@
 use Rattle.std.proofs.Common.{◌≡◌, false, sym, subst, ap, ◌∙◌, Some}
 use Rattle.race_records.specs.declared.version.Version.{Version}
-use Rattle.race_text.specs.Owed.{owed}
-use Rattle.race_text.specs.Reader.{nothing_in, IsReading}
+use Rattle.race_text.specs.{Owed.owed, Reader.{nothing_in, IsReading}}
 use Rattle.race_text.proofs.ReaderLemmas.{header_told, header_taken, header_reading}
 use Rattle.race_text.proofs.reader.Reader.take_header.Goals as goal
 

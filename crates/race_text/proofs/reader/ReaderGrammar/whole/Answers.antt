@@ -1,9 +1,6 @@
 -- No cause at the end: the header was read, and nothing stands behind the last newline.
-use Rattle.std.proofs.Common.{◌≡◌, [], ◌++◌, sym, ap, ◌∙◌, append-nil}
-use Rattle.std.specs.List.{flat_map}
-use Rattle.race_text.specs.Text.{text, ended}
-use Rattle.race_text.specs.Fault.{end_cause}
-use Rattle.race_text.specs.Reader.{lines_read}
+use Rattle.std.{proofs.Common.{◌≡◌, [], ◌++◌, sym, ap, ◌∙◌, append-nil}, specs.List.flat_map}
+use Rattle.race_text.specs.{Text.{text, ended}, Fault.end_cause, Reader.lines_read}
 use Rattle.race_text.proofs.ParseLemmas.{end_empty, header_before_end, no_bytes}
 use Rattle.race_text.proofs.reader.ReaderGrammar.whole.Goals as goal
 

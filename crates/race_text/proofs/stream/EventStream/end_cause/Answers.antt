@@ -1,6 +1,5 @@
 use Rattle.std.proofs.Common.{sym, ap, ◌∙◌}
-use Rattle.race_text.specs.Fault.{end_cause}
-use Rattle.race_text.proofs.StreamLemmas.{end_same, text_at_end}
+use Rattle.race_text.{specs.Fault.end_cause, proofs.StreamLemmas.{end_same, text_at_end}}
 use Rattle.race_text.proofs.stream.EventStream.end_cause.Goals as goal
 
 pub returns-clause-cause : goal.returns-clause-cause

@@ -1,7 +1,5 @@
 use Rattle.std.proofs.Common.{sym, subst}
-use Rattle.race_tool.specs.Outcome.{IsOfAFinding}
-use Rattle.race_tool.specs.Findings.{finding_of}
-use Rattle.race_tool.proofs.StatusLemmas.{finding_own}
+use Rattle.race_tool.{specs.{Outcome.IsOfAFinding, Findings.finding_of}, proofs.StatusLemmas.finding_own}
 use Rattle.race_tool.proofs.check.PlainEngine.status.Goals as goal
 
 pub returns-clause-of_a_finding : goal.returns-clause-of_a_finding

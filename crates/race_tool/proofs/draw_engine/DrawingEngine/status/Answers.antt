@@ -1,7 +1,5 @@
 use Rattle.std.proofs.Common.{sym, subst}
-use Rattle.race_tool.specs.Outcome.{IsOfAFinding}
-use Rattle.race_tool.specs.Drawings.{drawing_of}
-use Rattle.race_tool.proofs.DrawLemmas.{drawing_own}
+use Rattle.race_tool.{specs.{Outcome.IsOfAFinding, Drawings.drawing_of}, proofs.DrawLemmas.drawing_own}
 use Rattle.race_tool.proofs.draw_engine.DrawingEngine.status.Goals as goal
 
 pub returns-clause-of_a_finding : goal.returns-clause-of_a_finding

@@ -1,7 +1,5 @@
 use Rattle.std.proofs.Common.{sym, subst}
-use Rattle.race_tool.specs.Outcome.{IsOfAFinding}
-use Rattle.race_tool.specs.Listings.{listing_of}
-use Rattle.race_tool.proofs.StatusLemmas.{listing_own}
+use Rattle.race_tool.{specs.{Outcome.IsOfAFinding, Listings.listing_of}, proofs.StatusLemmas.listing_own}
 use Rattle.race_tool.proofs.edges_engine.ListingEngine.status.Goals as goal
 
 pub returns-clause-of_a_finding : goal.returns-clause-of_a_finding

@@ -1,11 +1,10 @@
 use Rattle.std.proofs.Common.{◌≡◌, ◌++◌, List, Option, Some, sym, subst, rules}
-use Rattle.race_records.specs.declared.event.Event.{Event}
-use Rattle.race_records.specs.Declarations.{DeclsState}
+use Rattle.race_records.specs.{declared.event.Event.Event, Declarations.DeclsState}
 use Rattle.race_shards.specs.Judging.{JudgeState}
-use Rattle.race_shards.specs.Judging as judging
 use Rattle.race_text.specs.Stream.{decls_of, events_of}
-use Rattle.race_tool.specs.Streams.{IsJudgeOf, IsHanded}
-use Rattle.race_tool.proofs.StreamedLemmas.{some_hands_on, some_stream, handed_on, last_left, can_take_some}
+use Rattle.race_tool.{specs.Streams.{IsJudgeOf, IsHanded}, proofs.StreamedLemmas.{some_hands_on, some_stream}}
+use Rattle.race_tool.proofs.StreamedLemmas.{handed_on, last_left, can_take_some}
+use Rattle.race_shards.specs.Judging as judging
 use Rattle.race_tool.proofs.handed.Handed.take.Goals as goal
 
 -- the judge that was begun stands for what the one before stood for

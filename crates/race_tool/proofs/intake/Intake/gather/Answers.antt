@@ -1,11 +1,8 @@
 -- A block is fed behind what was handed on, and the reader stands for all that was read.
 use Rattle.std.proofs.Common.{length, Bool, Result, Ok, OnOk, refl, ap, subst, ◌∙◌, arith}
 use Rattle.race_text.specs.declared.cause.TextFault.{TextFault}
-use Rattle.race_tool.specs.Input.{IsBetweenFine}
-use Rattle.race_tool.specs.Intake.{of_stream, with_reader}
-use Rattle.race_tool.specs.Streams.{StandsBehind}
-use Rattle.race_tool.proofs.IntakeLemmas.{at_fault, at_end, at_enough, taken_next}
-use Rattle.race_tool.proofs.StreamedLemmas.{some_begun}
+use Rattle.race_tool.specs.{Input.IsBetweenFine, Intake.{of_stream, with_reader}, Streams.StandsBehind}
+use Rattle.race_tool.proofs.{IntakeLemmas.{at_fault, at_end, at_enough, taken_next}, StreamedLemmas.some_begun}
 use Rattle.race_tool.proofs.intake.Intake.gather.Goals as goal
 
 pub returns-in-Ok-Ok-false : goal.returns-in-Ok-Ok-false

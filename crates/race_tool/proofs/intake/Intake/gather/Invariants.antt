@@ -1,9 +1,7 @@
 use Rattle.std.proofs.Common.{◌≡◌, ◌≤◌, ◌-◌}
-use Rattle.race_records.specs.declared.source.Source.{Source}
-use Rattle.race_records.specs.Devices.{source_failures}
-use Rattle.race_tool.specs.declared.input.TheConstants.{MAX_TURNS}
-use Rattle.race_tool.specs.Intake.{IsReadable, HasTaken, of_stream, with_reader}
-use Rattle.race_tool.specs.Streams.{StandsBehind}
+use Rattle.race_records.specs.{declared.source.Source.Source, Devices.source_failures}
+use Rattle.race_tool.specs.{declared.input.TheConstants.MAX_TURNS, Intake.{IsReadable, HasTaken, of_stream}}
+use Rattle.race_tool.specs.{Intake.with_reader, Streams.StandsBehind}
 use Rattle.race_tool.proofs.intake.Intake.gather.Given as goal
 
 -- what was taken since any time before is taken still, with the blocks that were read here, and no read failed

@@ -1,9 +1,7 @@
 -- The reader is the same, by whatever grammar.
 use Rattle.std.proofs.Common.{sym, subst, ◌∙◌}
-use Rattle.race_text.specs.declared.fed.Fed.{Fed}
-use Rattle.race_text.specs.declared.stream.EventStream.{EventStream}
-use Rattle.race_tool.specs.Intake.{IsReadable, ReadsOn, of_stream, with_reader}
-use Rattle.race_tool.specs.Streams.{StandsBehind}
+use Rattle.race_text.specs.declared.{fed.Fed.Fed, stream.EventStream.EventStream}
+use Rattle.race_tool.specs.{Intake.{IsReadable, ReadsOn, of_stream, with_reader}, Streams.StandsBehind}
 use Rattle.race_tool.proofs.intake.Intake.read_behind.Goals as goal
 
 pub gather-answer-requires : goal.gather-answer-requires

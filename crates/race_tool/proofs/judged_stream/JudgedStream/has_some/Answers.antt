@@ -1,5 +1,4 @@
-use Rattle.std.proofs.Common.{◌≡◌, length, ap, arith}
-use Rattle.std.proofs.lemmas.Bool.Decides.{nat_tests}
+use Rattle.std.proofs.{Common.{◌≡◌, length, ap, arith}, lemmas.Bool.Decides.nat_tests}
 use Rattle.race_text.specs.Stream.{events_of}
 use Rattle.race_tool.proofs.StreamedLemmas.{some_begun}
 use Rattle.race_tool.proofs.judged_stream.JudgedStream.has_some.Goals as goal

@@ -1,7 +1,5 @@
 use Rattle.std.proofs.Common.{sym, subst}
-use Rattle.race_tool.specs.Outcome.{IsOfAFinding}
-use Rattle.race_tool.specs.Recorded.{judged_run_of}
-use Rattle.race_tool.proofs.RaceLemmas.{judged_own}
+use Rattle.race_tool.{specs.{Outcome.IsOfAFinding, Recorded.judged_run_of}, proofs.RaceLemmas.judged_own}
 use Rattle.race_tool.proofs.race_engine.JudgingEngine.status.Goals as goal
 
 pub returns-clause-of_a_finding : goal.returns-clause-of_a_finding

@@ -1,5 +1,4 @@
-use Rattle.race_tool.specs.Options.{picks_asked}
-use Rattle.race_tool.proofs.RaceLemmas.{can_be_printed}
+use Rattle.race_tool.{specs.Options.picks_asked, proofs.RaceLemmas.can_be_printed}
 use Rattle.race_tool.proofs.race_engine.JudgingEngine.write.Goals as goal
 
 pub write-requires : goal.write-requires

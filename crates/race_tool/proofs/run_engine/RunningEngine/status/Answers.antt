@@ -1,7 +1,5 @@
 use Rattle.std.proofs.Common.{sym, subst}
-use Rattle.race_tool.specs.Outcome.{IsOfAFinding}
-use Rattle.race_tool.specs.Recorded.{run_of}
-use Rattle.race_tool.proofs.RunLemmas.{run_own}
+use Rattle.race_tool.{specs.{Outcome.IsOfAFinding, Recorded.run_of}, proofs.RunLemmas.run_own}
 use Rattle.race_tool.proofs.run_engine.RunningEngine.status.Goals as goal
 
 pub returns-clause-of_a_finding : goal.returns-clause-of_a_finding

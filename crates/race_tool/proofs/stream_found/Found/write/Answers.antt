@@ -1,9 +1,7 @@
 use Rattle.std.proofs.Common.{sym, ◌∙◌, subst}
-use Rattle.race_report.specs.Noted.{report_noted}
-use Rattle.race_report.specs.Printable.{AreNamed}
+use Rattle.race_report.specs.{Noted.report_noted, Printable.AreNamed}
 use Rattle.race_text.specs.Output.{Writes}
-use Rattle.race_tool.specs.Streams.{IsFoundOf, IsJudgedText, found_text}
-use Rattle.race_tool.proofs.StreamedAnswers.{is_named}
+use Rattle.race_tool.{specs.Streams.{IsFoundOf, IsJudgedText, found_text}, proofs.StreamedAnswers.is_named}
 use Rattle.race_tool.proofs.stream_found.Found.write.Goals as goal
 
 pub write_noted_report-requires : goal.write_noted_report-requires

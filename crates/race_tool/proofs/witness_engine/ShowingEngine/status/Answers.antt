@@ -1,7 +1,5 @@
 use Rattle.std.proofs.Common.{sym, subst}
-use Rattle.race_tool.specs.Outcome.{IsOfAFinding}
-use Rattle.race_tool.specs.Witnesses.{showing_of}
-use Rattle.race_tool.proofs.WitnessLemmas.{showing_own}
+use Rattle.race_tool.{specs.{Outcome.IsOfAFinding, Witnesses.showing_of}, proofs.WitnessLemmas.showing_own}
 use Rattle.race_tool.proofs.witness_engine.ShowingEngine.status.Goals as goal
 
 pub returns-clause-of_a_finding : goal.returns-clause-of_a_finding

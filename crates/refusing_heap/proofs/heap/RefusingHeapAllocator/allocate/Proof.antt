@@ -1,5 +1,7 @@
 -- It refuses where `refuses` says so, and else answers what the inner allocator answers. Assumes `Logic`.
 use Rattle.std.proofs.Common.{◌≡◌, ℕ, ◌+◌, ◌^◌, ◌<◌, Bool, true, false, List, [], ◌∷◌, Ok, Err, refl, w64, Bor}
+use Rattle.std.proofs.alloc.Calls.{Al, α, seen, Answer, answer_val, Answer-typed, Answer-Ok, Answer-err, takes_key}
+use Rattle.std.proofs.{alloc.Calls.{Takes, at_takes, Answered, Takes-goes, Takes-gives, answers}, VecSteps.Shapes.after}
 use seplogic.Ra.Ura.{Ura}
 use mir.Syntax.{Ty, Args, Fn, a_type, dnil, dcons}
 use mir.Val.{Val, vbool, vint, vptr}
@@ -24,21 +26,13 @@ use denote.Param.{bounded, param}
 use denote.Plain.{uint_vals, uint_Tells}
 use denote.Signature.{Slot, plain, types_at}
 use denote.Steps.{heard, nothing}
-use denote.Triple.Clauses.{Ended, Clauses}
-use denote.Triple.Spec.{triple_of}
-use denote.Triple.Statement.{Triple}
-use denote.Triple.Table.{entered, cited}
-use denote.Triple.Walked.{Stays, stay_dropped, walk_of, ends_at, walked, Goes-dropped, walk_Meets}
-use types.Kit.{‵, raw, ◌⊛◌, some, later, given, at_ret, pick, learn, ◌$◌, ◌∵◌, !, qed, move, keep}
-use types.Kit.{drop, use0, use1, use2, split, join, fsplit, fjoin, suffices, await, done}
+use denote.Triple.{Clauses.{Ended, Clauses}, Spec.triple_of, Statement.Triple, Table.{entered, cited}, Walked.Stays}
+use denote.Triple.{Walked.{stay_dropped, walk_of, ends_at, walked, Goes-dropped, walk_Meets}, Call.calls_at}
+use types.Kit.{‵, raw, ◌⊛◌, some, later, given, at_ret, pick, learn, ◌$◌, ◌∵◌, !, qed, move, keep, drop, use0, use1}
+use types.Kit.{use2, split, join, fsplit, fjoin, suffices, await, done}
 use types.ByLocal.{alloc_all, pass_all, free_all, look_at, get, through, sets, lands_as, env}
 use denote.RawPtr.{block_ptr}
 use denote.Builtin.{usize, RefOf}
-use denote.Triple.Call.{calls_at}
-use Rattle.std.proofs.alloc.Calls.{Al, α, seen, Answer, answer_val, Answer-typed, Answer-Ok}
-use Rattle.std.proofs.alloc.Calls.{Answer-err, takes_key, Takes, at_takes, Answered, Takes-goes}
-use Rattle.std.proofs.alloc.Calls.{Takes-gives, answers}
-use Rattle.std.proofs.VecSteps.Shapes.{after}
 use Rattle.refusing_heap.proofs.RefusesCalled.{Refuses, at_refuses, Refuses-goes, Refuses-gives}
 use Rattle.refusing_heap.proofs.heap.refuses.Symbol as c_sym
 use Rattle.refusing_heap.proofs.heap.refuses.Met as c_met

@@ -1,5 +1,8 @@
 -- It answers what the inner allocator answers. Assumes `Logic`.
-use Rattle.std.proofs.Common.{◌≡◌, ℕ, ◌+◌, ◌^◌, ◌<◌, Bool, List, [], ◌∷◌, refl, w64, Bor}
+use Rattle.std.proofs.{Common.{◌≡◌, ℕ, ◌+◌, ◌^◌, ◌<◌, Bool, List, [], ◌∷◌, refl, w64, Bor}, alloc.Calls.{Al, α, seen}}
+use Rattle.std.proofs.alloc.{Calls.{token, Answer, answer_val, Answer-typed}, Resizes.{Shrinks, resize_key, Resizes}}
+use Rattle.std.proofs.alloc.Resizes.{at_resizes, left_by, Resizes-goes, Resizes-gives, result_of, result_own, asked}
+use Rattle.std.{proofs.alloc.Resizes.heard_all, specs.Allocator.block_with_items}
 use seplogic.Ra.Ura.{Ura}
 use mir.Syntax.{Args, Fn, a_type, dnil, dcons}
 use mir.Val.{Val, vint, vptr}
@@ -14,8 +17,8 @@ use contract.BorrowLft.{◌⊑◌, ⊑_trans}
 use contract.Monad.{Fun}
 use contract.Running.{tables, tables_of}
 use sound.WpLaws.{fm_of, WpFn-mono}
-use types.Kit.{Item, ‵, raw, ◌⊛◌, some, later, given, ◌$◌, ◌∵◌, !, qed, by, move, keep, use0}
-use types.Kit.{use1, split, split3, join, pick, learn, fsplit, fjoin, suffices, await, done}
+use types.Kit.{Item, ‵, raw, ◌⊛◌, some, later, given, ◌$◌, ◌∵◌, !, qed, by, move, keep, use0, use1, split, split3, join}
+use types.Kit.{pick, learn, fsplit, fjoin, suffices, await, done}
 use types.Run.{stop, fld, addr, no_more, and_then, returns, enter}
 use types.ByLocal.{alloc_all, pass_all, free_all, look_at, get, through, sets, lands_as}
 use denote.Exit.{yes}
@@ -28,15 +31,8 @@ use denote.Signature.{Slot, plain, types_at}
 use denote.Steps.{nothing}
 use denote.RawPtr.{Ptr, block_ptr, null_ptr, ptr_val, rawptr_vals, rawptr_Tells}
 use denote.Builtin.{usize, RawPtr, RefOf}
-use denote.Triple.Call.{calls_at}
-use denote.Triple.Clauses.{Ended, Clauses}
-use denote.Triple.Spec.{triple_of}
-use denote.Triple.Statement.{Triple, Contract}
-use denote.Triple.Table.{entered}
+use denote.Triple.{Call.calls_at, Clauses.{Ended, Clauses}, Spec.triple_of, Statement.{Triple, Contract}, Table.entered}
 use denote.Triple.Walked.{Stays, stay_dropped, walk_of, ends_at, walked, Goes-dropped, walk_Meets}
-use Rattle.std.specs.Allocator.{block_with_items}
-use Rattle.std.proofs.alloc.Calls.{Al, α, seen, token, Answer, answer_val, Answer-typed}
-use Rattle.std.proofs.alloc.Resizes.{Shrinks, resize_key, Resizes, at_resizes, left_by, Resizes-goes, Resizes-gives, result_of, result_own, asked, heard_all}
 use Rattle.refusing_heap.specs.contracts.heap.RefusingHeap as wrapper
 use Rattle.refusing_heap.specs.contracts.heap.RefusingHeapAllocator.shrink as F
 use Rattle.refusing_heap.specs.contracts.heap.RefusingHeapAllocator.shrink.Key as key

@@ -1,9 +1,7 @@
 -- The events up to the index are accepted.
 use Rattle.std.proofs.Common.{List, sym, subst, take}
 use Rattle.race_records.specs.declared.event.Event.{Event}
-use Rattle.race_legal.specs.StandsFor.{StandsFor}
-use Rattle.race_legal.proofs.Fronts.{take_next}
-use Rattle.race_legal.proofs.RangeLemmas.{in_range}
+use Rattle.race_legal.{specs.StandsFor.StandsFor, proofs.{Fronts.take_next, RangeLemmas.in_range}}
 use Rattle.running_tests.proofs.hub.board.replayed.Goals as goal
 
 pub accept-requires-clause-range : goal.accept-requires-clause-range

@@ -147,15 +147,7 @@ impl<A: Allocator + Copy> Clocks<A> {
     {
         match op {
             Op::Go(goroutine) => self.start(who, *goroutine),
-            Op::Exit => {
-                self.pass(who);
-                Ok(())
-            }
-            Op::Read(var, value) => {
-                self.access(who, *var, *value);
-                Ok(())
-            }
-            Op::Write(var, value) => {
+            Op::Read(var, value) | Op::Write(var, value) => {
                 self.access(who, *var, *value);
                 Ok(())
             }
@@ -164,28 +156,14 @@ impl<A: Allocator + Copy> Clocks<A> {
             Op::Meet(receiver, chan, value) => self.meet(who, *receiver, *chan, *value),
             Op::RecvClosed(chan) => self.receive_closed(who, *chan),
             Op::Close(chan) => self.close(who, *chan),
-            Op::Lock(lock) => self.lock(who, *lock),
+            Op::Lock(lock) | Op::TryLock(lock) => self.lock(who, *lock),
             Op::Unlock(lock) => self.unlock(who, *lock),
-            Op::RLock(lock) => self.read_lock(who, *lock),
+            Op::RLock(lock) | Op::TryRLock(lock) => self.read_lock(who, *lock),
             Op::RUnlock(lock) => self.read_unlock(who, *lock),
-            Op::TryLock(lock) => self.lock(who, *lock),
-            Op::TryRLock(lock) => self.read_lock(who, *lock),
             Op::OnceEnd(once) => self.end_once(who, *once),
             Op::OnceDone(once) => self.find_done(who, *once),
-            // These hand nothing over.
-            Op::Default(_) => {
-                self.pass(who);
-                Ok(())
-            }
-            Op::TryFail(_) => {
-                self.pass(who);
-                Ok(())
-            }
-            Op::OnceBegin(_) => {
-                self.pass(who);
-                Ok(())
-            }
-            Op::Fault(_) => {
+            // The others hand nothing over.
+            _ => {
                 self.pass(who);
                 Ok(())
             }

@@ -67,25 +67,9 @@ fn counts(op: &Op, earlier: &Op) -> bool
     match op {
         Op::Send(chan, _) => is_send(*chan, earlier),
         Op::Recv(chan, _) => is_receive(*chan, earlier),
-        Op::Lock(lock) => is_lock(*lock, earlier),
-        Op::TryLock(lock) => is_lock(*lock, earlier),
-        Op::RUnlock(lock) => is_lock(*lock, earlier),
-        Op::Unlock(lock) => is_unlock(*lock, earlier),
-        Op::RLock(lock) => is_unlock(*lock, earlier),
-        Op::TryRLock(lock) => is_unlock(*lock, earlier),
+        Op::Lock(lock) | Op::TryLock(lock) | Op::RUnlock(lock) => is_lock(*lock, earlier),
+        Op::Unlock(lock) | Op::RLock(lock) | Op::TryRLock(lock) => is_unlock(*lock, earlier),
         // The others need no number.
-        Op::Go(_) => false,
-        Op::Exit => false,
-        Op::Read(_, _) => false,
-        Op::Write(_, _) => false,
-        Op::Meet(_, _, _) => false,
-        Op::RecvClosed(_) => false,
-        Op::Close(_) => false,
-        Op::Default(_) => false,
-        Op::TryFail(_) => false,
-        Op::OnceBegin(_) => false,
-        Op::OnceEnd(_) => false,
-        Op::OnceDone(_) => false,
-        Op::Fault(_) => false,
+        _ => false,
     }
 }

@@ -18,26 +18,8 @@ pub(crate) fn partner(op: &Op) -> Option<u32>
 {
     match op {
         Op::Go(goroutine) => Some(*goroutine),
-        Op::Exit => None,
-        Op::Read(_, _) => None,
-        Op::Write(_, _) => None,
-        Op::Send(_, _) => None,
-        Op::Recv(_, _) => None,
         Op::Meet(receiver, _, _) => Some(*receiver),
-        Op::RecvClosed(_) => None,
-        Op::Close(_) => None,
-        Op::Default(_) => None,
-        Op::Lock(_) => None,
-        Op::Unlock(_) => None,
-        Op::RLock(_) => None,
-        Op::RUnlock(_) => None,
-        Op::TryLock(_) => None,
-        Op::TryRLock(_) => None,
-        Op::TryFail(_) => None,
-        Op::OnceBegin(_) => None,
-        Op::OnceEnd(_) => None,
-        Op::OnceDone(_) => None,
-        Op::Fault(_) => None,
+        _ => None,
     }
 }
 
@@ -48,29 +30,11 @@ pub(crate) fn joins(who: u32, op: &Op, from: u32, to: u32) -> bool
     match op {
         // A go statement before the start of the new goroutine.
         Op::Go(goroutine) => who == from && *goroutine == to,
-        Op::Exit => false,
-        Op::Read(_, _) => false,
-        Op::Write(_, _) => false,
-        Op::Send(_, _) => false,
-        Op::Recv(_, _) => false,
         // A send before the completion of the receive, and the receive before that of the send.
         Op::Meet(receiver, _, _) => {
             (who == from && *receiver == to) || (*receiver == from && who == to)
         }
-        Op::RecvClosed(_) => false,
-        Op::Close(_) => false,
-        Op::Default(_) => false,
-        Op::Lock(_) => false,
-        Op::Unlock(_) => false,
-        Op::RLock(_) => false,
-        Op::RUnlock(_) => false,
-        Op::TryLock(_) => false,
-        Op::TryRLock(_) => false,
-        Op::TryFail(_) => false,
-        Op::OnceBegin(_) => false,
-        Op::OnceEnd(_) => false,
-        Op::OnceDone(_) => false,
-        Op::Fault(_) => false,
+        _ => false,
     }
 }
 
@@ -78,29 +42,15 @@ pub(crate) fn joins(who: u32, op: &Op, from: u32, to: u32) -> bool
 pub(crate) fn can_be_source(op: &Op) -> bool
     ensures { result ≡ spec.can_be_source op.now }
 {
-    match op {
-        Op::Go(_) => false,
-        Op::Exit => false,
-        Op::Read(_, _) => false,
-        Op::Write(_, _) => false,
-        Op::Send(_, _) => true,
-        Op::Recv(_, _) => true,
-        Op::Meet(_, _, _) => false,
-        Op::RecvClosed(_) => false,
-        Op::Close(_) => true,
-        Op::Default(_) => false,
-        Op::Lock(_) => false,
-        Op::Unlock(_) => true,
-        Op::RLock(_) => false,
-        Op::RUnlock(_) => true,
-        Op::TryLock(_) => false,
-        Op::TryRLock(_) => false,
-        Op::TryFail(_) => false,
-        Op::OnceBegin(_) => false,
-        Op::OnceEnd(_) => true,
-        Op::OnceDone(_) => false,
-        Op::Fault(_) => false,
-    }
+    matches!(
+        op,
+        Op::Send(_, _)
+            | Op::Recv(_, _)
+            | Op::Close(_)
+            | Op::Unlock(_)
+            | Op::RUnlock(_)
+            | Op::OnceEnd(_)
+    )
 }
 
 /// Whether the event at `from` is synchronized before the completion of the event at `to`. The
@@ -119,10 +69,6 @@ pub(crate) fn is_source<A: Allocator, B: Allocator>(
     let source = trace.event(from);
     let target = trace.event(to);
     match &target.op {
-        Op::Go(_) => false,
-        Op::Exit => false,
-        Op::Read(_, _) => false,
-        Op::Write(_, _) => false,
         // The kth receive from a channel before the completion of the send numbered k plus the
         // capacity.
         Op::Send(chan, _) => {
@@ -132,23 +78,15 @@ pub(crate) fn is_source<A: Allocator, B: Allocator>(
         }
         // The kth send before the completion of the kth receive.
         Op::Recv(chan, _) => { is_send(*chan, &source.op) && numbers.get(from) == numbers.get(to) }
-        Op::Meet(_, _, _) => false,
         // The closing of a channel before each receive that finds it closed.
         Op::RecvClosed(chan) => is_close(*chan, &source.op),
-        Op::Close(_) => false,
-        Op::Default(_) => false,
         Op::Lock(lock) => is_before_lock(*lock, &source.op, numbers, from, to),
-        Op::Unlock(_) => false,
-        Op::RLock(lock) => is_last_unlock(*lock, &source.op, numbers, from, to),
-        Op::RUnlock(_) => false,
         Op::TryLock(lock) => is_before_lock(*lock, &source.op, numbers, from, to),
+        Op::RLock(lock) => is_last_unlock(*lock, &source.op, numbers, from, to),
         Op::TryRLock(lock) => is_last_unlock(*lock, &source.op, numbers, from, to),
-        Op::TryFail(_) => false,
-        Op::OnceBegin(_) => false,
-        Op::OnceEnd(_) => false,
         // The end of a once's function before each return that finds it ended.
         Op::OnceDone(once) => is_once_end(*once, &source.op),
-        Op::Fault(_) => false,
+        _ => false,
     }
 }
 

@@ -36,10 +36,7 @@ impl Kind {
     {
         match self {
             Kind::Goroutine => MAX_GOROUTINES,
-            Kind::Var => MAX_OBJECTS,
-            Kind::Chan => MAX_OBJECTS,
-            Kind::Lock => MAX_OBJECTS,
-            Kind::Once => MAX_OBJECTS,
+            _ => MAX_OBJECTS,
         }
     }
 
@@ -49,10 +46,7 @@ impl Kind {
     {
         match self {
             Kind::Goroutine => 1,
-            Kind::Var => 0,
-            Kind::Chan => 0,
-            Kind::Lock => 0,
-            Kind::Once => 0,
+            _ => 0,
         }
     }
 }

@@ -66,27 +66,8 @@ impl Verb {
         ensures { result ≡ spec.since self }
     {
         match self {
-            Verb::Go => Version::One,
-            Verb::Exit => Version::One,
-            Verb::Read => Version::One,
-            Verb::Write => Version::One,
-            Verb::Send => Version::One,
-            Verb::Recv => Version::One,
-            Verb::Meet => Version::One,
-            Verb::RecvClosed => Version::One,
-            Verb::Close => Version::One,
-            Verb::Default => Version::One,
-            Verb::Lock => Version::One,
-            Verb::Unlock => Version::One,
-            Verb::RLock => Version::One,
-            Verb::RUnlock => Version::One,
-            Verb::TryLock => Version::Two,
-            Verb::TryRLock => Version::Two,
-            Verb::TryFail => Version::Two,
-            Verb::OnceBegin => Version::One,
-            Verb::OnceEnd => Version::One,
-            Verb::OnceDone => Version::One,
-            Verb::Fault => Version::One,
+            Verb::TryLock | Verb::TryRLock | Verb::TryFail => Version::Two,
+            _ => Version::One,
         }
     }
 }

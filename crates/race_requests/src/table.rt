@@ -193,9 +193,7 @@ fn tells_by(ask: &Ask, done: &Op) -> Option<Option<Answer>>
             Op::OnceEnd(ended) => tells(*ended == *once, Some(Answer::Unit)),
             _ => None,
         },
-        Ask::Select(_, _) => None,
-        Ask::TryLock(_) => None,
-        Ask::TryRLock(_) => None,
+        _ => None,
     }
 }
 

@@ -1,8 +1,5 @@
 use Rattle.std.proofs.Common.{rules}
 use Rattle.race_edges.proofs.synchronized.joins.Goals as goal
 
-pub returns-in-Exit : goal.returns-in-Exit
-returns-in-Exit c = cc
-
 pub returns-then-receiver-from : goal.returns-then-receiver-from
 returns-then-receiver-from c = search rules steps 300000

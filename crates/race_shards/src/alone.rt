@@ -8,10 +8,10 @@ ghost use Rattle.race_shards.specs.Judging.{CanJudge, Judges};
 
 use crate::accepting::accept_next;
 use crate::shard::Shard;
-use crate::telling::races;
+use crate::telling::noted_races;
 use race_legal::{Illegal, Replay};
 use race_records::{Event, Kind, Trace};
-use race_verdict::Verdict;
+use race_verdict::{NotedVerdict, Verdict};
 use std::alloc::{AllocError, Allocator};
 
 /// The verdict on a trace, by one shard on the caller's thread: as [`Judge::judge`](crate::Judge::judge) gives it, and a
@@ -27,10 +27,11 @@ pub fn judge_alone<A: Allocator + Copy, B: Allocator>(
     if let Some(illegal) = judge_each(&mut replay, &mut shard, trace.events())? {
         return Ok(Verdict::Illegal(illegal));
     }
+    let accesses = shard.accesses();
     let mut shards = Vec::with_capacity(alloc, 1)?;
     shards.push(shard)?;
-    let vars = trace.decls().count(Kind::Var);
-    Ok(Verdict::of_races(races(alloc, shards.as_slice(), vars)?))
+    let races = noted_races(alloc, shards.as_slice(), trace.decls().count(Kind::Var))?;
+    NotedVerdict::of_races(trace.len(), accesses, races).verdict(alloc)
 }
 
 // Judges the events one by one. The first that breaks a rule is told, and the rest isn't looked at.

@@ -14,7 +14,7 @@ use crate::fault::{JudgeFault, MAX_SHARDS};
 use crate::feeding::{FeedFault, feed_all};
 use crate::gate::Gate;
 use crate::shard::Shard;
-use crate::telling::{noted_races, races};
+use crate::telling::noted_races;
 use race_legal::{Illegal, Replay};
 use race_records::{Decls, Event, Kind};
 use race_verdict::{NotedVerdict, Verdict};
@@ -257,14 +257,9 @@ impl<A: Allocator + Copy> Judge<A> {
         ensures failed { self.failed ≡ true → result ≡ Err JudgeFault.Failed }
         ensures others { self.failed ≡ false → IfErr result (λ fault. fault ≡ JudgeFault.OutOfMemory) }
     {
-        if self.failed {
-            return Err(JudgeFault::Failed);
-        }
-        if let Some(illegal) = self.illegal {
-            return Ok(Verdict::Illegal(illegal));
-        }
-        match races(self.alloc, self.shards.as_slice(), self.vars) {
-            Ok(races) => Ok(Verdict::of_races(races)),
+        let alloc = self.alloc;
+        match self.finish_noted()?.verdict(alloc) {
+            Ok(verdict) => Ok(verdict),
             Err(_) => Err(JudgeFault::OutOfMemory),
         }
     }

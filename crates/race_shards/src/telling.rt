@@ -6,38 +6,10 @@ ghost use Rattle.race_shards.specs.Telling.{HavePlace, HavePlaces, race_told, no
 ghost use Rattle.race_shards.specs.Telling.{IsNotedBy};
 
 use crate::shard::Shard;
-use race_verdict::{Noted, NotedRace, Race, RaceList};
+use race_verdict::{Noted, NotedRace};
 use std::alloc::{AllocError, Allocator};
 
 // The race of a variable, from the shard to which it belongs.
-fn raced<A: Allocator + Copy>(shards: &[Shard<A>], var: u32) -> Option<(u32, u32)>
-    requires some { 0 < length shards.now }
-    requires place { HavePlace shards.now var }
-    ensures { option_map (race_with var) result ≡ race_told shards.now var }
-{
-    shards[var as usize % shards.len()].raced(var)
-}
-
-/// The race of each variable that has one, in rising order of the variables.
-pub(crate) fn races<A: Allocator + Copy, B: Allocator>(
-    alloc: B,
-    shards: &[Shard<A>],
-    vars: u32,
-) -> Result<RaceList<B>, AllocError>
-    requires some { 0 < length shards.now }
-    requires places { HavePlaces shards.now vars }
-    ensures { IfOk result (λ races. races ≡ races_of (told_below shards.now vars)) }
-{
-    let mut races = RaceList::new(alloc);
-    for var in 0..vars {
-        if let Some((first, second)) = raced(shards, var) {
-            races.push(Race { var, first, second })?;
-        }
-    }
-    Ok(races)
-}
-
-// The same, with what is printed of both accesses.
 fn noted<A: Allocator + Copy>(shards: &[Shard<A>], var: u32) -> Option<(Noted, Noted)>
     requires some { 0 < length shards.now }
     requires place { HavePlace shards.now var }
@@ -47,7 +19,7 @@ fn noted<A: Allocator + Copy>(shards: &[Shard<A>], var: u32) -> Option<(Noted, N
     shards[var as usize % shards.len()].noted(var)
 }
 
-/// The same races, with what is printed of both accesses of each.
+/// The race of each variable that has one, in rising order of the variables, with what is printed of both accesses.
 pub(crate) fn noted_races<A: Allocator + Copy, B: Allocator>(
     alloc: B,
     shards: &[Shard<A>],

@@ -102,15 +102,7 @@ impl<A: Allocator + Copy> Variables<A> {
         self.states[place_of(stamp.var, self.count)].touch(stamp, place, clock)
     }
 
-    /// The race of a variable of the shard.
-    pub(crate) fn raced(&self, var: u32) -> Option<(u32, u32)>
-        requires { var / self.now.count < length self.now.kept }
-        ensures { result ≡ (kept_of self.now var).pair }
-    {
-        self.states[place_of(var, self.count)].raced()
-    }
-
-    /// The same, with what is printed of both accesses.
+    /// The race of a variable of the shard, with what is printed of both accesses.
     pub(crate) fn noted(&self, var: u32) -> Option<(Noted, Noted)>
         requires { var / self.now.count < length self.now.kept }
         ensures noted { result ≡ (kept_of self.now var).noted }

@@ -1,12 +1,14 @@
 //! What is printed of a verdict, kept with it, so that no event is looked up when it is printed.
-ghost use Rattle.std.specs.Prelude.{ℕ, ◌≡◌, ◌≢◌, All, List, [], length, map};
+ghost use Rattle.std.specs.Prelude.{ℕ, ◌≡◌, ◌≢◌, All, List, [], length, map, IfOk};
 ghost use Rattle.race_records.specs.declared.event.Event.{Event};
 ghost use Rattle.race_model.specs.{Events.{count, is_access}, Legal.IsLegal, Verdict.{AreReportedRaces, IsVerdict}};
 ghost use Rattle.race_verdict.specs.{declared.notes.NotedVerdict.NotedVerdict, Notes.{race_noted, verdict_noted}};
-ghost use Rattle.race_verdict.specs.Notes.{IsNotedRaceOf, IsNotedOf};
+ghost use Rattle.race_verdict.specs.{Notes.{IsNotedRaceOf, IsNotedOf}, Races.race_of, Verdicts.verdict_of};
 
+use crate::races::{Race, RaceList};
+use crate::verdict::Verdict;
 use race_legal::Illegal;
-use std::alloc::{Allocator, Global};
+use std::alloc::{AllocError, Allocator, Global};
 
 /// What is printed of an access.
 #[derive(Clone, Copy, Debug, PartialEq, Eq)]
@@ -30,6 +32,19 @@ pub struct NotedRace {
     pub first: Noted,
     /// The later one.
     pub second: Noted,
+}
+
+impl NotedRace {
+    /// The race alone.
+    pub fn race(&self) -> Race
+        ensures { race_of result ≡ race_noted self.now }
+    {
+        Race {
+            var: self.var,
+            first: self.first.at,
+            second: self.second.at,
+        }
+    }
 }
 
 /// What can be said of a trace, with all that is printed of it but names.
@@ -62,6 +77,23 @@ impl<A: Allocator> NotedVerdict<A> {
             NotedVerdict::Clean { events, accesses }
         } else {
             NotedVerdict::Races(races)
+        }
+    }
+
+    /// The verdict alone.
+    pub fn verdict<B: Allocator>(&self, alloc: B) -> Result<Verdict<B>, AllocError>
+        ensures { IfOk result (λ verdict. verdict_of verdict ≡ verdict_noted self.now) }
+    {
+        match self {
+            NotedVerdict::Illegal(illegal) => Ok(Verdict::Illegal(*illegal)),
+            NotedVerdict::Clean { .. } => Ok(Verdict::Clean),
+            NotedVerdict::Races(noted) => {
+                let mut races = Vec::with_capacity(alloc, noted.len())?;
+                for race in noted {
+                    races.push(race.race())?;
+                }
+                Ok(Verdict::Races(RaceList::from_vec(races)))
+            }
         }
     }
 }

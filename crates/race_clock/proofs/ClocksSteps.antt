@@ -34,6 +34,26 @@ FindsRoom caps past _ = Unit {0}
 max_above : (m n : ℕ) → m ≤ n → max m n ≡ n
 max_above m n le = let up : max m n ≤ n = max_within m n n le (omega arith) in let down : n ≤ max m n = le-max_right m n in omega (arith, up, down)
 
+-- What holds of each entry by its number holds after one was replaced, where it holds of the new one.
+replaced : {A : Type 0} (P : ℕ → A → Type 0) (xs : List A) (d : ℕ) (v z : A) → (d < length xs → P d v)
+    → ((g : ℕ) → g < length xs → d ≢ g → P g (get_or xs g z)) → (g : ℕ) → g < length (set xs d v) → P g (get_or (set xs d v) g z)
+replaced P xs d v z here others g less = elim (cases_eq d g) [
+  | inl same ↦ subst (λ g. P g (get_or (set xs d v) g z)) same (subst (P d) (sym (get_or-set_same xs d v z (at same))) (here (at same)))
+  | inr differ ↦ subst (P g) (sym (get_or-set_other xs d g v z (λ e. differ (sym e)))) (others g within differ)
+]
+  where
+    within : g < length xs
+    within = omega (arith, less, length-set xs d v)
+
+    at : d ≡ g → d < length xs
+    at same = omega (arith, same, within)
+
+-- a goroutine's clock and count are right
+record IsSlot (caps : ℕ → ℕ) (past : List Event) (g : ℕ) (s : SlotState) : Type 0 where
+  wide : g < length s.clock
+  parts : s.parts ≡ participations g past
+  clock : CountsSeen caps past g (knows s.clock)
+
 module _ (caps : ℕ → ℕ) (k : ClocksState) (past : List Event) (S : ClocksStandFor caps k past) where
   -- what the objects hand to an operation
   pub handed_counts : (o : Op) → OpHasClocks k o → FindsRoom caps past o → CountsFrom caps past (λ i s. IsSource caps past i s o) (knows (handed k o))
@@ -105,163 +125,97 @@ module _ (caps : ℕ → ℕ) (k : ClocksState) (past : List Event) (S : ClocksS
         omega (arith, all, zero, old)
 
     -- the objects
-    channels_next : (c : ℕ) (b : List ℕ) (o : Op) → e.op ≡ o → c < length k.channels
-        → FindsRoom caps past o → CountsAt caps (past ++ e ∷ []) (length past) e.who (knows b)
-        → StandsForChannel caps (past ++ e ∷ []) c (channel_of (channels_after k.channels o b) c)
-    channels_next c b (Send d v) is less room own = elim (cases_eq d c) [
-      | inl same ↦
-          subst (λ d. StandsForChannel caps (past ++ e ∷ []) c (channel_of (set k.channels d (channel_sent (channel_of k.channels d) b)) c)) (sym same)
-          (subst (StandsForChannel caps (past ++ e ∷ []) c) (sym (get_or-set_same k.channels c (channel_sent (channel_of k.channels c) b) no_channel less))
-          (channel_send caps past c (channel_of k.channels c) (S.all_channels c less) e b
-          (ap (sends c) is ∙ eq-eqb d c same) (ap (receives c) is) (ap (closes c) is)
-          (subst (λ d. count (sends d) past < count (receives d) past + caps d) same room) own))
-      | inr differ ↦
-          subst (StandsForChannel caps (past ++ e ∷ []) c)
-          (sym (get_or-set_other k.channels d c (channel_sent (channel_of k.channels d) b) no_channel (λ e. differ (sym e))))
-          (channel_same caps past c (channel_of k.channels c) (S.all_channels c less) e
-          (ap (sends c) is ∙ ne_eqb d c differ) (ap (receives c) is) (ap (closes c) is))
-    ]
-    channels_next c b (Recv d v) is less room own = elim (cases_eq d c) [
-      | inl same ↦
-          subst (λ d. StandsForChannel caps (past ++ e ∷ []) c (channel_of (set k.channels d (channel_received (channel_of k.channels d) b)) c)) (sym same)
-          (subst (StandsForChannel caps (past ++ e ∷ []) c) (sym (get_or-set_same k.channels c (channel_received (channel_of k.channels c) b) no_channel less))
-          (channel_receive caps past c (channel_of k.channels c) (S.all_channels c less) e b
-          (ap (receives c) is ∙ eq-eqb d c same) (ap (sends c) is) (ap (closes c) is)
-          (subst (λ d. count (receives d) past < count (sends d) past) same room) own))
-      | inr differ ↦
-          subst (StandsForChannel caps (past ++ e ∷ []) c)
-          (sym (get_or-set_other k.channels d c (channel_received (channel_of k.channels d) b) no_channel (λ e. differ (sym e))))
-          (channel_same caps past c (channel_of k.channels c) (S.all_channels c less) e
-          (ap (sends c) is) (ap (receives c) is ∙ ne_eqb d c differ) (ap (closes c) is))
-    ]
-    channels_next c b (Close d) is less room own = elim (cases_eq d c) [
-      | inl same ↦
-          subst (λ d. StandsForChannel caps (past ++ e ∷ []) c (channel_of (set k.channels d (channel_closed (channel_of k.channels d) b)) c)) (sym same)
-          (subst (StandsForChannel caps (past ++ e ∷ []) c) (sym (get_or-set_same k.channels c (channel_closed (channel_of k.channels c) b) no_channel less))
-          (channel_close caps past c (channel_of k.channels c) (S.all_channels c less) e b
-          (ap (closes c) is ∙ eq-eqb d c same) (ap (sends c) is) (ap (receives c) is) own))
-      | inr differ ↦
-          subst (StandsForChannel caps (past ++ e ∷ []) c)
-          (sym (get_or-set_other k.channels d c (channel_closed (channel_of k.channels d) b) no_channel (λ e. differ (sym e))))
-          (channel_same caps past c (channel_of k.channels c) (S.all_channels c less) e
-          (ap (sends c) is) (ap (receives c) is) (ap (closes c) is ∙ ne_eqb d c differ))
-    ]
-    channels_next c b o is less room own =
+    channels_next : (o : Op) (b : List ℕ) → e.op ≡ o → FindsRoom caps past o → CountsAt caps (past ++ e ∷ []) (length past) e.who (knows b)
+        → (c : ℕ) → c < length (channels_after k.channels o b) → StandsForChannel caps (past ++ e ∷ []) c (channel_of (channels_after k.channels o b) c)
+    channels_next (Send d v) b is room own c less =
+        replaced (StandsForChannel caps (past ++ e ∷ [])) k.channels d (channel_sent (channel_of k.channels d) b) no_channel
+        (λ less. channel_send caps past d (channel_of k.channels d) (S.all_channels d less) e b
+        (ap (sends d) is ∙ eq-eqb d d refl) (ap (receives d) is) (ap (closes d) is) room own)
+        (λ c less differ. channel_same caps past c (channel_of k.channels c) (S.all_channels c less) e
+        (ap (sends c) is ∙ ne_eqb d c differ) (ap (receives c) is) (ap (closes c) is)) c less
+    channels_next (Recv d v) b is room own c less =
+        replaced (StandsForChannel caps (past ++ e ∷ [])) k.channels d (channel_received (channel_of k.channels d) b) no_channel
+        (λ less. channel_receive caps past d (channel_of k.channels d) (S.all_channels d less) e b
+        (ap (receives d) is ∙ eq-eqb d d refl) (ap (sends d) is) (ap (closes d) is) room own)
+        (λ c less differ. channel_same caps past c (channel_of k.channels c) (S.all_channels c less) e
+        (ap (sends c) is) (ap (receives c) is ∙ ne_eqb d c differ) (ap (closes c) is)) c less
+    channels_next (Close d) b is room own c less =
+        replaced (StandsForChannel caps (past ++ e ∷ [])) k.channels d (channel_closed (channel_of k.channels d) b) no_channel
+        (λ less. channel_close caps past d (channel_of k.channels d) (S.all_channels d less) e b
+        (ap (closes d) is ∙ eq-eqb d d refl) (ap (sends d) is) (ap (receives d) is) own)
+        (λ c less differ. channel_same caps past c (channel_of k.channels c) (S.all_channels c less) e
+        (ap (sends c) is) (ap (receives c) is) (ap (closes c) is ∙ ne_eqb d c differ)) c less
+    channels_next o b is room own c less =
         channel_same caps past c (channel_of k.channels c) (S.all_channels c less) e (ap (sends c) is) (ap (receives c) is) (ap (closes c) is)
 
     -- behind a lock of m
-    lock_next : (l m : ℕ) → locks l e.op ≡ (m == l) → unlocks l e.op ≡ false → runlocks l e.op ≡ false → l < length k.locks
+    lock_next : (m : ℕ) → ((l : ℕ) → locks l e.op ≡ (m == l)) → ((l : ℕ) → unlocks l e.op ≡ false) → ((l : ℕ) → runlocks l e.op ≡ false)
+        → (l : ℕ) → l < length (set k.locks m (lock_locked (lock_of k.locks m)))
         → StandsForLock caps (past ++ e ∷ []) l (lock_of (set k.locks m (lock_locked (lock_of k.locks m))) l)
-    lock_next l m is no_unlock no_runlock less = elim (cases_eq m l) [
-      | inl same ↦
-          subst (λ m. StandsForLock caps (past ++ e ∷ []) l (lock_of (set k.locks m (lock_locked (lock_of k.locks m))) l)) (sym same)
-          (subst (StandsForLock caps (past ++ e ∷ []) l) (sym (get_or-set_same k.locks l (lock_locked (lock_of k.locks l)) no_lock less))
-          (lock_lock caps past l (lock_of k.locks l) (S.all_locks l less) e no_unlock (is ∙ eq-eqb m l same)))
-      | inr differ ↦
-          subst (StandsForLock caps (past ++ e ∷ []) l) (sym (get_or-set_other k.locks m l (lock_locked (lock_of k.locks m)) no_lock (λ e. differ (sym e))))
-          (lock_same caps past l (lock_of k.locks l) (S.all_locks l less) e no_unlock (is ∙ ne_eqb m l differ) no_runlock)
-    ]
+    lock_next m is no_unlock no_runlock = replaced (StandsForLock caps (past ++ e ∷ [])) k.locks m (lock_locked (lock_of k.locks m)) no_lock
+        (λ less. lock_lock caps past m (lock_of k.locks m) (S.all_locks m less) e (no_unlock m) (is m ∙ eq-eqb m m refl))
+        (λ l less differ. lock_same caps past l (lock_of k.locks l) (S.all_locks l less) e (no_unlock l) (is l ∙ ne_eqb m l differ) (no_runlock l))
 
-    locks_next : (l : ℕ) (b : List ℕ) (o : Op) → e.op ≡ o → l < length k.locks → CountsAt caps (past ++ e ∷ []) (length past) e.who (knows b)
-        → StandsForLock caps (past ++ e ∷ []) l (lock_of (locks_after k.locks o b) l)
-    locks_next l b (Lock m) is less own = lock_next l m (ap (locks l) is) (ap (unlocks l) is) (ap (runlocks l) is) less
-    locks_next l b (TryLock m) is less own = lock_next l m (ap (locks l) is) (ap (unlocks l) is) (ap (runlocks l) is) less
-    locks_next l b (Unlock m) is less own = elim (cases_eq m l) [
-      | inl same ↦
-          subst (λ m. StandsForLock caps (past ++ e ∷ []) l (lock_of (set k.locks m (lock_unlocked (lock_of k.locks m) b)) l)) (sym same)
-          (subst (StandsForLock caps (past ++ e ∷ []) l) (sym (get_or-set_same k.locks l (lock_unlocked (lock_of k.locks l) b) no_lock less))
-          (lock_unlock caps past l (lock_of k.locks l) (S.all_locks l less) e b
-          (ap (unlocks l) is ∙ eq-eqb m l same) (ap (locks l) is) (ap (runlocks l) is) own))
-      | inr differ ↦
-          subst (StandsForLock caps (past ++ e ∷ []) l) (sym (get_or-set_other k.locks m l (lock_unlocked (lock_of k.locks m) b) no_lock (λ e. differ (sym e))))
-          (lock_same caps past l (lock_of k.locks l) (S.all_locks l less) e (ap (unlocks l) is ∙ ne_eqb m l differ) (ap (locks l) is) (ap (runlocks l) is))
-    ]
-    locks_next l b (RUnlock m) is less own = elim (cases_eq m l) [
-      | inl same ↦
-          subst (λ m. StandsForLock caps (past ++ e ∷ []) l (lock_of (set k.locks m (lock_read_unlocked (lock_of k.locks m) b)) l)) (sym same)
-          (subst (StandsForLock caps (past ++ e ∷ []) l) (sym (get_or-set_same k.locks l (lock_read_unlocked (lock_of k.locks l) b) no_lock less))
-          (lock_runlock caps past l (lock_of k.locks l) (S.all_locks l less) e b
-          (ap (unlocks l) is) (ap (locks l) is) (ap (runlocks l) is ∙ eq-eqb m l same) own))
-      | inr differ ↦
-          subst (StandsForLock caps (past ++ e ∷ []) l)
-          (sym (get_or-set_other k.locks m l (lock_read_unlocked (lock_of k.locks m) b) no_lock (λ e. differ (sym e))))
-          (lock_same caps past l (lock_of k.locks l) (S.all_locks l less) e (ap (unlocks l) is) (ap (locks l) is) (ap (runlocks l) is ∙ ne_eqb m l differ))
-    ]
-    locks_next l b o is less own = lock_same caps past l (lock_of k.locks l) (S.all_locks l less) e (ap (unlocks l) is) (ap (locks l) is) (ap (runlocks l) is)
+    locks_next : (o : Op) (b : List ℕ) → e.op ≡ o → CountsAt caps (past ++ e ∷ []) (length past) e.who (knows b)
+        → (l : ℕ) → l < length (locks_after k.locks o b) → StandsForLock caps (past ++ e ∷ []) l (lock_of (locks_after k.locks o b) l)
+    locks_next (Lock m) b is own l less = lock_next m (λ l. ap (locks l) is) (λ l. ap (unlocks l) is) (λ l. ap (runlocks l) is) l less
+    locks_next (TryLock m) b is own l less = lock_next m (λ l. ap (locks l) is) (λ l. ap (unlocks l) is) (λ l. ap (runlocks l) is) l less
+    locks_next (Unlock m) b is own l less =
+        replaced (StandsForLock caps (past ++ e ∷ [])) k.locks m (lock_unlocked (lock_of k.locks m) b) no_lock
+        (λ less. lock_unlock caps past m (lock_of k.locks m) (S.all_locks m less) e b
+        (ap (unlocks m) is ∙ eq-eqb m m refl) (ap (locks m) is) (ap (runlocks m) is) own)
+        (λ l less differ. lock_same caps past l (lock_of k.locks l) (S.all_locks l less) e
+        (ap (unlocks l) is ∙ ne_eqb m l differ) (ap (locks l) is) (ap (runlocks l) is)) l less
+    locks_next (RUnlock m) b is own l less =
+        replaced (StandsForLock caps (past ++ e ∷ [])) k.locks m (lock_read_unlocked (lock_of k.locks m) b) no_lock
+        (λ less. lock_runlock caps past m (lock_of k.locks m) (S.all_locks m less) e b
+        (ap (unlocks m) is) (ap (locks m) is) (ap (runlocks m) is ∙ eq-eqb m m refl) own)
+        (λ l less differ. lock_same caps past l (lock_of k.locks l) (S.all_locks l less) e
+        (ap (unlocks l) is) (ap (locks l) is) (ap (runlocks l) is ∙ ne_eqb m l differ)) l less
+    locks_next o b is own l less =
+        lock_same caps past l (lock_of k.locks l) (S.all_locks l less) e (ap (unlocks l) is) (ap (locks l) is) (ap (runlocks l) is)
 
-    ends_next : (p : ℕ) (b : List ℕ) (o : Op) → e.op ≡ o → p < length k.ends → CountsAt caps (past ++ e ∷ []) (length past) e.who (knows b)
+    ends_next : (o : Op) (b : List ℕ) → e.op ≡ o → CountsAt caps (past ++ e ∷ []) (length past) e.who (knows b) → (p : ℕ) → p < length (ends_after k.ends o b)
         → CountsFrom caps (past ++ e ∷ []) (λ i s. IsTrue (once_ends p s)) (knows (end_of (ends_after k.ends o b) p))
-    ends_next p b (OnceEnd q) is less own = elim (cases_eq q p) [
-      | inl same ↦
-          subst (λ q. CountsFrom caps (past ++ e ∷ []) (λ i s. IsTrue (once_ends p s)) (knows (end_of (set k.ends q (joined (end_of k.ends q) b)) p)))
-          (sym same)
-          (subst (λ c. CountsFrom caps (past ++ e ∷ []) (λ i s. IsTrue (once_ends p s)) (knows c))
-          (sym (get_or-set_same k.ends p (joined (end_of k.ends p) b) [] less))
-          (all_more caps past e (once_ends p) (end_of k.ends p) (S.all_ends p less) b (ap (once_ends p) is ∙ eq-eqb q p same) own))
-      | inr differ ↦
-          subst (λ c. CountsFrom caps (past ++ e ∷ []) (λ i s. IsTrue (once_ends p s)) (knows c))
-          (sym (get_or-set_other k.ends q p (joined (end_of k.ends q) b) [] (λ e. differ (sym e))))
-          (all_same caps past e (once_ends p) (end_of k.ends p) (S.all_ends p less) (ap (once_ends p) is ∙ ne_eqb q p differ))
-    ]
-    ends_next p b o is less own = all_same caps past e (once_ends p) (end_of k.ends p) (S.all_ends p less) (ap (once_ends p) is)
-
-    length_channels : (o : Op) (b : List ℕ) → length (channels_after k.channels o b) ≡ length k.channels
-    length_channels (Send c v) b = length-set k.channels c (channel_sent (channel_of k.channels c) b)
-    length_channels (Recv c v) b = length-set k.channels c (channel_received (channel_of k.channels c) b)
-    length_channels (Close c) b = length-set k.channels c (channel_closed (channel_of k.channels c) b)
-    length_channels _ b = refl
-
-    length_locks : (o : Op) (b : List ℕ) → length (locks_after k.locks o b) ≡ length k.locks
-    length_locks (Lock l) b = length-set k.locks l (lock_locked (lock_of k.locks l))
-    length_locks (TryLock l) b = length-set k.locks l (lock_locked (lock_of k.locks l))
-    length_locks (Unlock l) b = length-set k.locks l (lock_unlocked (lock_of k.locks l) b)
-    length_locks (RUnlock l) b = length-set k.locks l (lock_read_unlocked (lock_of k.locks l) b)
-    length_locks _ b = refl
-
-    length_ends : (o : Op) (b : List ℕ) → length (ends_after k.ends o b) ≡ length k.ends
-    length_ends (OnceEnd p) b = length-set k.ends p (joined (end_of k.ends p) b)
-    length_ends _ b = refl
+    ends_next (OnceEnd q) b is own p less =
+        replaced (λ p c. CountsFrom caps (past ++ e ∷ []) (λ i s. IsTrue (once_ends p s)) (knows c)) k.ends q (joined (end_of k.ends q) b) []
+        (λ less. all_more caps past e (once_ends q) (end_of k.ends q) (S.all_ends q less) b (ap (once_ends q) is ∙ eq-eqb q q refl) own)
+        (λ p less differ. all_same caps past e (once_ends p) (end_of k.ends p) (S.all_ends p less) (ap (once_ends p) is ∙ ne_eqb q p differ)) p less
+    ends_next o b is own p less = all_same caps past e (once_ends p) (end_of k.ends p) (S.all_ends p less) (ap (once_ends p) is)
 
     -- who takes part in an operation without a partner
     sole_part : (g : ℕ) → partner e.op ≡ None → e.who ≢ g → takes_part g e ≡ false
     sole_part g none differ = ap (λ b. b || gives (partner e.op) g) (ne_eqb e.who g differ) ∙ ap (λ o. gives o g) none
+
+    -- a goroutine that takes part, with the clock that it gets, and one that doesn't
+    slot_next : (g : ℕ) (c : List ℕ) → g < length k.slots → IsTrue (takes_part g e) → g < length c → CountsSeen caps (past ++ e ∷ []) g (knows c)
+        → IsSlot caps (past ++ e ∷ []) g (next_slot k g c)
+    slot_next g c less is long seen = record { wide = long; parts = parts_more g less is; clock = seen }
+
+    slot_same : (g : ℕ) → g < length k.slots → takes_part g e ≡ false → IsSlot caps (past ++ e ∷ []) g (slot_of k g)
+    slot_same g less none = record {
+      wide = S.wide g less;
+      parts = parts_same g less none;
+      clock = counts_other caps past e g (knows (clock_of k g)) none (S.all_clocks g less);
+    }
 
     -- one goroutine acts
     acted_stands : (c : List ℕ) → partner e.op ≡ None → e.who < length k.slots
         → FindsRoom caps past e.op → e.who < length c → CountsSeen caps (past ++ e ∷ []) e.who (knows c)
         → ClocksStandFor caps (acted k e.who e.op c) (past ++ e ∷ [])
     acted_stands c none within room long new = record {
-      wide = λ g less. elim (cases_eq e.who g) [
-        | inl same ↦ subst (λ g. g < length (slot_at g).clock) same (subst (λ (s : SlotState). e.who < length s.clock) (sym here) long)
-        | inr differ ↦ subst (λ (s : SlotState). g < length s.clock) (sym (apart g differ)) (S.wide g (old g less))
-      ];
-      all_parts = λ g less. elim (cases_eq e.who g) [
-        | inl same ↦ subst (λ g. (slot_at g).parts ≡ participations g (past ++ e ∷ [])) same
-            (ap (λ (s : SlotState). s.parts) here ∙ parts_more e.who within (who_takes_part e))
-        | inr differ ↦ ap (λ (s : SlotState). s.parts) (apart g differ) ∙ parts_same g (old g less) (sole_part g none differ)
-      ];
-      all_clocks = λ g less. elim (cases_eq e.who g) [
-        | inl same ↦ subst (λ g. CountsSeen caps (past ++ e ∷ []) g (knows (slot_at g).clock)) same
-            (subst (λ (s : SlotState). CountsSeen caps (past ++ e ∷ []) e.who (knows s.clock)) (sym here) new)
-        | inr differ ↦ subst (λ (s : SlotState). CountsSeen caps (past ++ e ∷ []) g (knows s.clock)) (sym (apart g differ))
-            (counts_other caps past e g (knows (clock_of k g)) (sole_part g none differ) (S.all_clocks g (old g less)))
-      ];
-      all_channels = λ c less. channels_next c (begin_of k e.who) e.op refl (omega (arith, less, length_channels e.op (begin_of k e.who))) room own;
-      all_locks = λ l less. locks_next l (begin_of k e.who) e.op refl (omega (arith, less, length_locks e.op (begin_of k e.who))) own;
-      all_ends = λ p less. ends_next p (begin_of k e.who) e.op refl (omega (arith, less, length_ends e.op (begin_of k e.who))) own;
+      wide = λ g less. (slots g less).wide;
+      all_parts = λ g less. (slots g less).parts;
+      all_clocks = λ g less. (slots g less).clock;
+      all_channels = channels_next e.op (begin_of k e.who) refl room own;
+      all_locks = locks_next e.op (begin_of k e.who) refl own;
+      all_ends = ends_next e.op (begin_of k e.who) refl own;
     }
       where
-        slot_at : ℕ → SlotState
-        slot_at g = get_or (set k.slots e.who (next_slot k e.who c)) g no_slot
-
-        here : get_or (set k.slots e.who (next_slot k e.who c)) e.who no_slot ≡ next_slot k e.who c
-        here = get_or-set_same k.slots e.who (next_slot k e.who c) no_slot within
-
-        apart : (g : ℕ) → e.who ≢ g → get_or (set k.slots e.who (next_slot k e.who c)) g no_slot ≡ slot_of k g
-        apart g differ = get_or-set_other k.slots e.who g (next_slot k e.who c) no_slot (λ e. differ (sym e))
-
-        old : (g : ℕ) → g < length (set k.slots e.who (next_slot k e.who c)) → g < length k.slots
-        old g less = omega (arith, less, length-set k.slots e.who (next_slot k e.who c))
+        slots : (g : ℕ) → g < length (set k.slots e.who (next_slot k e.who c))
+            → IsSlot caps (past ++ e ∷ []) g (get_or (set k.slots e.who (next_slot k e.who c)) g no_slot)
+        slots = replaced (IsSlot caps (past ++ e ∷ [])) k.slots e.who (next_slot k e.who c) no_slot
+            (λ less. slot_next e.who c less (who_takes_part e) long new) (λ g less differ. slot_same g less (sole_part g none differ))
 
         own : CountsAt caps (past ++ e ∷ []) (length past) e.who (knows (begin_of k e.who))
         own = begin_counts e.who within (who_takes_part e)
@@ -281,65 +235,25 @@ module _ (caps : ℕ → ℕ) (k : ClocksState) (past : List Event) (S : ClocksS
         → ((o : ℕ) → o < length k.ends → CountsFrom caps (past ++ e ∷ []) (λ i s. IsTrue (once_ends o s)) (knows (end_of k.ends o)))
         → ClocksStandFor caps (paired k e.who h c d) (past ++ e ∷ [])
     paired_stands h c d two within beside long wide_enough first second channels locks ends = record {
-      wide = λ g less. elim (cases_eq h g) [
-        | inl same ↦ subst (λ g. g < length (slot_at g).clock) same (subst (λ (s : SlotState). h < length s.clock) (sym there) wide_enough)
-        | inr apart ↦ elim (cases_eq e.who g) [
-          | inl same ↦ subst (λ (s : SlotState). g < length s.clock) (sym (off_second g apart))
-              (subst (λ g. g < length (get_or (set k.slots e.who (next_slot k e.who c)) g no_slot).clock) same
-              (subst (λ (s : SlotState). e.who < length s.clock) (sym here) long))
-          | inr differ ↦ subst (λ (s : SlotState). g < length s.clock) (sym (off_both g apart differ)) (S.wide g (old g less))
-        ]
-      ];
-      all_parts = λ g less. elim (cases_eq h g) [
-        | inl same ↦ subst (λ g. (slot_at g).parts ≡ participations g (past ++ e ∷ [])) same
-            (ap (λ (s : SlotState). s.parts) there ∙ parts_more h beside (second_part h two))
-        | inr apart ↦ elim (cases_eq e.who g) [
-          | inl same ↦ ap (λ (s : SlotState). s.parts) (off_second g apart)
-              ∙ subst (λ g. (get_or (set k.slots e.who (next_slot k e.who c)) g no_slot).parts ≡ participations g (past ++ e ∷ [])) same
-              (ap (λ (s : SlotState). s.parts) here ∙ parts_more e.who within (who_takes_part e))
-          | inr differ ↦ ap (λ (s : SlotState). s.parts) (off_both g apart differ) ∙ parts_same g (old g less) (others_part h g two differ apart)
-        ]
-      ];
-      all_clocks = λ g less. elim (cases_eq h g) [
-        | inl same ↦ subst (λ g. CountsSeen caps (past ++ e ∷ []) g (knows (slot_at g).clock)) same
-            (subst (λ (s : SlotState). CountsSeen caps (past ++ e ∷ []) h (knows s.clock)) (sym there) second)
-        | inr apart ↦ elim (cases_eq e.who g) [
-          | inl same ↦ subst (λ (s : SlotState). CountsSeen caps (past ++ e ∷ []) g (knows s.clock)) (sym (off_second g apart))
-              (subst (λ g. CountsSeen caps (past ++ e ∷ []) g (knows (get_or (set k.slots e.who (next_slot k e.who c)) g no_slot).clock)) same
-              (subst (λ (s : SlotState). CountsSeen caps (past ++ e ∷ []) e.who (knows s.clock)) (sym here) (first (λ is. apart (is ∙ same)))))
-          | inr differ ↦ subst (λ (s : SlotState). CountsSeen caps (past ++ e ∷ []) g (knows s.clock)) (sym (off_both g apart differ))
-              (counts_other caps past e g (knows (clock_of k g)) (others_part h g two differ apart) (S.all_clocks g (old g less)))
-        ]
-      ];
+      wide = λ g less. (slots g less).wide;
+      all_parts = λ g less. (slots g less).parts;
+      all_clocks = λ g less. (slots g less).clock;
       all_channels = channels;
       all_locks = locks;
       all_ends = ends;
     }
       where
-        slot_at : ℕ → SlotState
-        slot_at g = get_or (set (set k.slots e.who (next_slot k e.who c)) h (next_slot k h d)) g no_slot
+        -- all but the second
+        first_slots : (g : ℕ) → g < length (set k.slots e.who (next_slot k e.who c)) → h ≢ g
+            → IsSlot caps (past ++ e ∷ []) g (get_or (set k.slots e.who (next_slot k e.who c)) g no_slot)
+        first_slots = replaced (λ g s. h ≢ g → IsSlot caps (past ++ e ∷ []) g s) k.slots e.who (next_slot k e.who c) no_slot
+            (λ less apart. slot_next e.who c less (who_takes_part e) long (first apart))
+            (λ g less differ apart. slot_same g less (others_part h g two differ apart))
 
-        there : get_or (set (set k.slots e.who (next_slot k e.who c)) h (next_slot k h d)) h no_slot ≡ next_slot k h d
-        there = get_or-set_same (set k.slots e.who (next_slot k e.who c)) h (next_slot k h d)
-            no_slot (omega (arith, beside, length-set k.slots e.who (next_slot k e.who c)))
-
-        here : get_or (set k.slots e.who (next_slot k e.who c)) e.who no_slot ≡ next_slot k e.who c
-        here = get_or-set_same k.slots e.who (next_slot k e.who c) no_slot within
-
-        off_second : (g : ℕ) → h ≢ g
-            → get_or (set (set k.slots e.who (next_slot k e.who c)) h (next_slot k h d)) g no_slot ≡ get_or (set k.slots e.who (next_slot k e.who c)) g no_slot
-        off_second g apart = get_or-set_other (set k.slots e.who (next_slot k e.who c)) h g (next_slot k h d) no_slot (λ e. apart (sym e))
-
-        off_both : (g : ℕ) → h ≢ g → e.who ≢ g → get_or (set (set k.slots e.who (next_slot k e.who c)) h (next_slot k h d)) g no_slot ≡ slot_of k g
-        off_both g apart differ = off_second g apart ∙ get_or-set_other k.slots e.who g (next_slot k e.who c) no_slot (λ e. differ (sym e))
-
-        old : (g : ℕ) → g < length (set (set k.slots e.who (next_slot k e.who c)) h (next_slot k h d)) → g < length k.slots
-        old g less = omega (
-          arith,
-          less,
-          length-set (set k.slots e.who (next_slot k e.who c)) h (next_slot k h d),
-          length-set k.slots e.who (next_slot k e.who c),
-        )
+        slots : (g : ℕ) → g < length (set (set k.slots e.who (next_slot k e.who c)) h (next_slot k h d))
+            → IsSlot caps (past ++ e ∷ []) g (get_or (set (set k.slots e.who (next_slot k e.who c)) h (next_slot k h d)) g no_slot)
+        slots = replaced (IsSlot caps (past ++ e ∷ [])) (set k.slots e.who (next_slot k e.who c)) h (next_slot k h d) no_slot
+            (λ less. slot_next h d beside (second_part h two) wide_enough second) first_slots
 
     -- the clock of a goroutine that acts alone: right where it is, of all others, what the begin knew or the objects hand over
     alone_seen : (c : List ℕ) → e.who < length k.slots → OpHasClocks k e.op → FindsRoom caps past e.op → ((f : ℕ) → SynchronizedInside e.who e.op f e.who → ⊥)
@@ -470,9 +384,9 @@ module _ (caps : ℕ → ℕ) (k : ClocksState) (past : List Event) (S : ClocksS
             (λ x inside. let ends : (e.who ≡ x) × (h ≡ h) = subst (λ o. SynchronizedInside e.who o x h) is inside in sym ends.0)
             (λ i g by. unhanded by.0 by.1 by.3)
             (λ x differ. both_seen_knows h e.who x within))
-            (λ c less. channels_next c (begin_of k e.who) (Go h) is less tt own)
-            (λ l less. locks_next l (begin_of k e.who) (Go h) is less own)
-            (λ p less. ends_next p (begin_of k e.who) (Go h) is less own)
+            (channels_next (Go h) (begin_of k e.who) is tt own)
+            (locks_next (Go h) (begin_of k e.who) is own)
+            (ends_next (Go h) (begin_of k e.who) is own)
           where
             two : partner e.op ≡ Some h
             two = ap partner is
@@ -501,9 +415,9 @@ module _ (caps : ℕ → ℕ) (k : ClocksState) (past : List Event) (S : ClocksS
             (λ b. if b then parts_of k r + 1 else owning e.who (parts_of k e.who + 1)
             (λ x. max (knows (clock_of k e.who) x) (knows (clock_of k r) x)) x) (ne_eqb x r differ)
             ∙ ap (λ n. if x == e.who then parts_of k e.who + 1 else n) (max_comm (knows (clock_of k e.who) x) (knows (clock_of k r) x))))
-            (λ d less. channels_next d (begin_of k e.who) (Meet r c v) is less tt own)
-            (λ l less. locks_next l (begin_of k e.who) (Meet r c v) is less own)
-            (λ p less. ends_next p (begin_of k e.who) (Meet r c v) is less own)
+            (channels_next (Meet r c v) (begin_of k e.who) is tt own)
+            (locks_next (Meet r c v) (begin_of k e.who) is own)
+            (ends_next (Meet r c v) (begin_of k e.who) is own)
           where
             two : partner e.op ≡ Some r
             two = ap partner is

@@ -5,7 +5,7 @@
 ghost use Rattle.std.specs.Prelude.{◌≡◌, ◌+◌, ◌<◌, ◌≤◌, ◌^◌, ℕ, max, List, [], length, slice_set, IsTrue, IsOk, IfOk};
 ghost use Rattle.std.specs.Prelude.{OnOk, OnErr};
 ghost use Rattle.race_model.specs.Clocks.{owning};
-ghost use Rattle.race_clock.specs.{ClockFits.FitsInClock, ClockState.{knows, joined, padded}};
+ghost use Rattle.race_clock.specs.{ClockFits.{FitsInClock, ClockOrNoneFits}, ClockState.{knows, joined, padded}};
 
 use crate::fits::Fits;
 use smallvec::SmallVec;
@@ -36,10 +36,11 @@ impl<A: Allocator + Copy> Clock<A> {
     /// Nothing is known. An error says that a clock is larger than memory, which it is for no allocator that there is.
     pub fn new(alloc: A) -> Result<Clock<A>, AllocError>
         ensures nothing { IfOk result (λ clock. clock ≡ []) }
-        ensures fits { FitsInClock A.row A.Allocator → IsOk result }
+        ensures fits { ClockOrNoneFits A.row A.Allocator → IsOk result }
     {
+        let none: Option<SmallVec<u32, 8, A>> = None;
         // It is known at compile time, and tells the proof that the type fits in memory.
-        if mem::size_of::<SmallVec<u32, 8, A>>() <= isize::MAX as usize {
+        if mem::size_of_val(&none) <= isize::MAX as usize {
             return Ok(Clock {
                 counts: SmallVec::new(alloc),
             });

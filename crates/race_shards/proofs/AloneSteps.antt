@@ -1,15 +1,15 @@
 -- One shard takes each event as soon as it was found legal.
-use Rattle.std.proofs.Common.{◌≡◌, ℕ, zero, suc, ◌+◌, ◌<◌, List, [], ◌∷◌, ◌++◌, All, Some, None, take, length}
+use Rattle.std.proofs.Common.{◌≡◌, ℕ, zero, suc, ◌+◌, ◌<◌, List, [], ◌∷◌, ◌++◌, All, Option, Some, None, map, take, length}
 use Rattle.std.proofs.Common.{slice_get, refl, sym, ap, ◌∙◌, subst, arith, append_assoc, length-append}
 use Rattle.std.proofs.lemmas.{Option.slice_get_within, List.length-take-le}
 use Rattle.race_records.specs.declared.{event.Event.Event, kind.Kind.Kind}
 use Rattle.race_records.specs.{Declarations.{count_of, counts_of, capacity_of}, Events.{TraceState, IsTrace}}
-use Rattle.race_model.specs.{Legal.{IsLegal, IsIllegalAt}, Verdict.{Verdict, IsVerdict}}
-use Rattle.race_legal.specs.{declared.listing.Illegal.Illegal, Rules.number_of, ReplayState.{ReplayState, IsInRange}}
+use Rattle.race_model.specs.{Legal.IsLegal, Verdict.{Race, Verdict, IsVerdict, AreReportedRaces}}
+use Rattle.race_legal.specs.{declared.listing.Illegal.Illegal, ReplayState.{ReplayState, IsInRange}}
 use Rattle.race_legal.proofs.Fronts.{take_next}
-use Rattle.race_verdict.specs.{declared.races.Race.Race, Races.{AreRaces, races_of}, Traces.HasVerdict}
+use Rattle.race_verdict.specs.{Races.{race_of, races_of}, Traces.HasVerdict}
 use Rattle.race_shards.specs.Shards.{ShardState, ShardStandsFor, ShardsStandFor, IsNextBlock, Takes}
-use Rattle.race_shards.specs.{Telling.{told_below, HavePlaces}, Judging.{AreFed, Accepts, Judges, CanJudge}}
+use Rattle.race_shards.specs.{Telling.{told_below, HavePlaces}, Judging.{AreFed, IsJudged, Accepts, Judges, CanJudge}}
 use Rattle.race_shards.proofs.{ShardSteps.{all_one, all_at}, ListSteps.{all_none, all_push}}
 use Rattle.race_shards.proofs.{TellSteps.{have_places, told_races}, JudgeSteps.{judges_legal, in_range_all}}
 use Rattle.race_legal.specs.StandsFor as legal
@@ -61,23 +61,21 @@ module _ (trace : TraceState) (holds : IsTrace trace) (old : ReplayState) (s : S
     room = let len = replayed.len in let limited = holds.limited in omega (arith, len, limited);
   }
 
-  -- an event breaks a rule
-  pub illegal_alone : (new : ReplayState) (t : ShardState) (illegal : Illegal) → Judges old (s ∷ []) trace.events (Some illegal) new (t ∷ [])
-      → IsIllegalAt (capacity_of trace.decls.declarations) trace.events illegal.at (number_of illegal.rule)
-  illegal_alone new t illegal judges = judges trace.decls.declarations 1 [] fed
+  -- behind all its events
+  pub judged_alone : (new : ReplayState) (t : ShardState) (illegal : Option Illegal) → Judges old (s ∷ []) trace.events illegal new (t ∷ [])
+      → IsJudged trace.decls.declarations 1 new (t ∷ []) trace.events illegal
+  judged_alone new t illegal judges = judges trace.decls.declarations 1 [] fed
 
-  -- behind its last
-  module _ (new : ReplayState) (t : ShardState) (judges : Judges old (s ∷ []) trace.events None new (t ∷ [])) where
-    done : AreFed trace.decls.declarations 1 new (t ∷ []) trace.events
-    done = judges trace.decls.declarations 1 [] fed
+-- behind a legal trace
+module _ (trace : TraceState) (new : ReplayState) (t : ShardState) (done : AreFed trace.decls.declarations 1 new (t ∷ []) trace.events) where
+  pub places_alone : (vars : ℕ) → vars ≡ count_of Kind.Var trace.decls.declarations → HavePlaces (t ∷ []) vars
+  places_alone vars is = subst (HavePlaces (t ∷ [])) (sym is) (have_places trace.decls.declarations (t ∷ []) trace.events (omega arith) done.stand)
 
-    pub places_alone : (vars : ℕ) → vars ≡ count_of Kind.Var trace.decls.declarations → HavePlaces (t ∷ []) vars
-    places_alone vars is = subst (HavePlaces (t ∷ [])) (sym is) (have_places trace.decls.declarations (t ∷ []) trace.events (omega arith) done.stand)
-
-    pub verdict_alone : (vars : ℕ) → vars ≡ count_of Kind.Var trace.decls.declarations → (verdict : Verdict) (races : List Race)
-        → races ≡ races_of (told_below (t ∷ []) vars)
-        → ((caps : ℕ → ℕ) (events : List Event) → IsLegal caps events → AreRaces caps events races → IsVerdict caps events verdict) → HasVerdict trace verdict
-    verdict_alone vars declared verdict races is right =
-        right (capacity_of trace.decls.declarations) trace.events done.replayed.legal
-        (subst (AreRaces (capacity_of trace.decls.declarations) trace.events) (sym (is ∙ ap (λ n. races_of (told_below (t ∷ []) n)) declared))
-        (told_races trace.decls.declarations (t ∷ []) trace.events (omega arith) done.stand (in_range_all trace holds)))
+  pub verdict_alone : IsTrace trace → (vars : ℕ) → vars ≡ count_of Kind.Var trace.decls.declarations → (verdict : Verdict) (races : List Race)
+      → races ≡ map race_of (races_of (told_below (t ∷ []) vars))
+      → ((caps : ℕ → ℕ) (events : List Event) → IsLegal caps events → AreReportedRaces caps events races → IsVerdict caps events verdict) → HasVerdict trace verdict
+  verdict_alone holds vars declared verdict races is right =
+      right (capacity_of trace.decls.declarations) trace.events done.replayed.legal
+      (subst (AreReportedRaces (capacity_of trace.decls.declarations) trace.events)
+      (sym (is ∙ ap (λ n. map race_of (races_of (told_below (t ∷ []) n))) declared))
+      (told_races trace.decls.declarations (t ∷ []) trace.events (omega arith) done.stand (in_range_all trace holds)))

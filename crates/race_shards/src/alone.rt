@@ -2,9 +2,9 @@
 //!
 //! Each event goes to the shard as soon as it was found legal: it is read once, and no block stands between.
 ghost use Rattle.std.specs.Prelude.{◌≡◌, [], ◌∷◌, IfOk};
-ghost use Rattle.race_legal.specs.ReplayState.{counts_in};
+ghost use Rattle.race_legal.specs.ReplayState.{counts_in, ReplayState};
 ghost use Rattle.race_verdict.specs.{Traces.HasVerdict, Verdicts.verdict_of};
-ghost use Rattle.race_shards.specs.Judging.{CanJudge, Judges};
+ghost use Rattle.race_shards.specs.Judging.{AreFed, CanJudge, Judges};
 
 use crate::accepting::accept_next;
 use crate::shard::Shard;
@@ -24,9 +24,21 @@ pub fn judge_alone<A: Allocator + Copy, B: Allocator>(
 {
     let mut replay = Replay::new(alloc, trace.decls())?;
     let mut shard = Shard::new(alloc, trace.decls(), 0, 1)?;
-    if let Some(illegal) = judge_each(&mut replay, &mut shard, trace.events())? {
-        return Ok(Verdict::Illegal(illegal));
+    match judge_each(&mut replay, &mut shard, trace.events())? {
+        Some(illegal) => Ok(Verdict::Illegal(illegal)),
+        None => verdict_on(alloc, trace, shard),
     }
+}
+
+// The verdict on a legal trace, whose events the shard took.
+fn verdict_on<A: Allocator + Copy, B: Allocator>(
+    alloc: A,
+    trace: &Trace<B>,
+    shard: Shard<A>,
+) -> Result<Verdict<A>, AllocError>
+    requires { (replay : ReplayState) × AreFed trace.now.decls.declarations 1 replay (shard ∷ []) trace.now.events }
+    ensures { IfOk result (λ verdict. HasVerdict trace.now (verdict_of verdict)) }
+{
     let accesses = shard.accesses();
     let mut shards = Vec::with_capacity(alloc, 1)?;
     shards.push(shard)?;

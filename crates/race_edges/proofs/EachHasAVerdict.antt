@@ -4,25 +4,17 @@ use Rattle.std.proofs.Common.{take, replicate, slice_set, Option, Some, None, is
 use Rattle.std.proofs.{Common.{subst, inl, inr, ◌⊎◌, arith, take-take}, lemmas.Bool.Decides.nat_tests}
 use Rattle.std.proofs.lemmas.{List.{length-replicate, length-set, take_all}, Option.slice_get_within}
 use Rattle.std.specs.List.{slice_index_or}
-use Rattle.race_records.specs.{declared.{event.{Event.Event, Op.Op}, kind.Kind.Kind}, Declarations.count_of}
+use Rattle.race_records.specs.{declared.{event.{Event.Event}, kind.Kind.Kind}, Declarations.count_of}
 use Rattle.race_records.specs.Events.{TraceState, IsTrace}
 use Rattle.race_model.specs.{Events.At, Legal.{broken, IsLegal, IsIllegalAt}, Verdict.{Verdict, Illegal, Clean, Races}}
 use Rattle.race_model.proofs.Indexes.{at_below, at_same, take_within, take_at_old}
 use Rattle.race_verdict.specs.{declared.races.Race.Race, Accesses.accessed, Races.{race_of, AreFound, races_of}}
 use Rattle.race_verdict.{specs.{Races.AreRaces, Traces.{capacities, HasVerdict}}, proofs.RangeLemmas.race_declared}
 use Rattle.race_verdict.proofs.RaceLists.{are_races, free_from_none, listed_some}
-use Rattle.race_edges.specs.{Synchronized.source_at, TableState.{TableState, with_seen, inside, table_after}}
+use Rattle.race_edges.specs.{Synchronized.source_at, TableState.{TableState, table_after}}
 use Rattle.race_edges.{specs.Partners.{noted, found_after, race_at}, proofs.IsTable.IsTable}
-use Rattle.race_edges.proofs.{RowLemmas.{shape_with_seen, shape_inside, shape_taken}, TableSteps.table_none}
+use Rattle.race_edges.proofs.{RowLemmas.shape_after, TableSteps.table_none}
 use Rattle.race_edges.proofs.{FoundSteps.found_none, JudgeSteps.{has_rows, has_place, table_next, found_next}}
-
--- the tables keep their sizes
-rows_kept : (is : ℕ → Bool) (table : TableState) (n who : ℕ) (o : Op) → length (table_after is table n who o).rows ≡ length table.rows
-rows_kept is table n who o =
-    let a = shape_with_seen table.rows who n in
-    let b = shape_inside (with_seen table.rows who n) who o in
-    let c = shape_taken is table.heard (inside (with_seen table.rows who n) who o) who n in
-    c.count ∙ b.count ∙ a.count
 
 found_kept : (rows : List (List Bool)) (events : List Event) (n : ℕ) (e : Event) (found : List (Option Race))
     → length (found_after rows events n e found) ≡ length found
@@ -105,7 +97,7 @@ module _ (trace : TraceState) (holds : IsTrace trace) where
       record {
         table = table;
         found = found;
-        goroutines = rows_kept (λ k. source_at (capacities trace) trace.events k n) so_far.table n e.who e.op ∙ so_far.goroutines;
+        goroutines = (shape_after (λ k. source_at (capacities trace) trace.events k n) so_far.table n e.who e.op).count ∙ so_far.goroutines;
         vars = found_kept so_far.table.rows (take n trace.events) (length (take n trace.events)) e so_far.found ∙ so_far.vars;
         is_table = subst (λ m. IsTable (capacities trace) table (length trace.events) (take m trace.events)) next
             (table_next (capacities trace) trace.events n e here.1 so_far.table (length trace.events) so_far.is_table table refl (omega (arith, less)) rows);

@@ -1,7 +1,7 @@
 -- The list of edges, one edge on.
-use Rattle.std.proofs.Common.{◌≡◌, ◌⊎◌, ◌↔◌, ℕ, ◌+◌, ◌<◌, ◌≤◌, Bool, true, false, List, [], ◌∷◌, ◌++◌, length, take}
+use Rattle.std.proofs.Common.{◌≡◌, ◌⊎◌, ◌↔◌, ℕ, ◌+◌, ◌<◌, ◌≤◌, Bool, true, false, List, [], ◌∷◌, ◌++◌, length, length-append, take}
 use Rattle.std.proofs.Common.{Some, None, slice_get, refl, sym, ap, ◌∙◌, subst, inl, inr, arith, IsTrue}
-use Rattle.std.proofs.lemmas.{Option.{none-some, same_Some, slice_get_within}, Bool.cases_eq}
+use Rattle.std.proofs.lemmas.{Option.{slice_get_within}, Bool.cases_eq}
 use Rattle.race_records.specs.declared.event.Event.{Event}
 use Rattle.race_model.specs.{Events.{At, partner}, Order.{SynchronizedInside, IsSource}, Synchronized.joins}
 use Rattle.race_model.proofs.Indexes.{at_same, slice_get-take, slice_get-push, push_at, append_at_old, take_within}
@@ -44,13 +44,13 @@ module _ (caps : ℕ → ℕ) (events : List Event) where
         ]
 
         rising : (k m : ℕ) (c d : Edge) → k < m → slice_get (edges ++ e ∷ []) k ≡ Some c → slice_get (edges ++ e ∷ []) m ≡ Some d → ComesBefore c d
-        rising k m c d less atc atd = go (push_at edges e k c atc) (push_at edges e m d atd)
-          where
-            go : (slice_get edges k ≡ Some c) ⊎ ((k ≡ length edges) × (e ≡ c)) → (slice_get edges m ≡ Some d) ⊎ ((m ≡ length edges) × (e ≡ d)) → ComesBefore c d
-            go (inl oldc) (inl oldd) = are.rising k m c d less oldc oldd
-            go (inl oldc) (inr (here, new)) = subst (ComesBefore c) new (last c (are.each k c oldc).1)
-            go (inr (here, new)) (inl oldd) = let within : m < length edges = slice_get_within edges m d oldd in absurd (omega (arith, within, here, less))
-            go (inr (here, new)) (inr (there, newd)) = absurd (omega (arith, here, there, less))
+        rising k m c d less atc atd = elim (push_at edges e k c atc) [
+          | inl old ↦ elim (push_at edges e m d atd) [
+            | inl oldd ↦ are.rising k m c d less old oldd
+            | inr new ↦ subst (ComesBefore c) new.1 (last c (are.each k c old).1)
+          ]
+          | inr new ↦ let within = slice_get_within (edges ++ e ∷ []) m d atd in absurd (omega (arith, within, new.0, less, length-append edges (e ∷ [])))
+        ]
 
         every : (d : Edge) → IsEdge caps events d → P d ⊎ (d ≡ e) → (k : ℕ) × (slice_get (edges ++ e ∷ []) k ≡ Some d)
         every d is (inl holds) = let place = are.every d is holds in (place.0, append_at_old edges (e ∷ []) place.0 d place.1)
@@ -94,17 +94,13 @@ module _ (caps : ℕ → ℕ) (events : List Event) where
 
   -- behind the last event an event's edges are all there
   pub event_done : (i n : ℕ) (edges : List Edge) → length events ≤ n → AreEdgesBefore i n caps events edges → AreEdgesBefore (i + 1) (i + 1) caps events edges
-  event_done i n edges whole are = same_where (LeadsBefore i n) (LeadsBefore (i + 1) (i + 1)) edges there back are
+  event_done i n edges whole are = same_where (LeadsBefore i n) (LeadsBefore (i + 1) (i + 1)) edges (λ d is leads. grind arith) back are
     where
-      there : (d : Edge) → IsEdge caps events d → LeadsBefore i n d → LeadsBefore (i + 1) (i + 1) d
-      there d is (inl less) = inl (omega (arith, less))
-      there d is (inr (same, less)) = inl (omega (arith, same))
-
       back : (d : Edge) → IsEdge caps events d → LeadsBefore (i + 1) (i + 1) d → LeadsBefore i n d
-      back d (e, at, by) (inl less) =
-          let below : d.to < length events = slice_get_within events d.to e at in
-          elim (cases_eq d.from i) [ inl same ↦ inr (same, omega (arith, below, whole)) | inr other ↦ inl (omega (arith, less, other)) ]
-      back d is (inr (same, less)) = let up = edge_up d is in absurd (omega (arith, same, less, up))
+      back d is leads =
+          let below = slice_get_within events d.to is.0 is.1 in
+          let up = edge_up d is in
+          grind arith
 
   -- an edge between two events leads from the one's goroutine to the other's
   module _ (i j : ℕ) (s e : Event) (less : i < j) (ats : At events i s) (at : At events j e) where
@@ -145,18 +141,9 @@ module _ (caps : ℕ → ℕ) (events : List Event) where
     pub later_added : (edges : List Edge) → AreEdgesBefore i j caps events edges
         → AreEdgesBefore i (j + 1) caps events (with_edge (source_at caps events i j) edge_between edges)
     later_added edges are = same_where (λ d. LeadsBefore i j d ⊎ (d ≡ edge_between))
-        (LeadsBefore i (j + 1)) (with_edge (source_at caps events i j) edge_between edges) there back
-        (added (LeadsBefore i j) edges edge_between are (source_at caps events i j) between_is last)
+        (LeadsBefore i (j + 1)) (with_edge (source_at caps events i j) edge_between edges) (λ d is leads. grind arith) back
+        (added (LeadsBefore i j) edges edge_between are (source_at caps events i j) between_is (λ d leads. grind arith))
       where
-        last : (d : Edge) → LeadsBefore i j d → ComesBefore d edge_between
-        last d (inl below) = inl below
-        last d (inr (same, below)) = inr (same, inl below)
-
-        there : (d : Edge) → IsEdge caps events d → LeadsBefore i j d ⊎ (d ≡ edge_between) → LeadsBefore i (j + 1) d
-        there d is (inl (inl below)) = inl below
-        there d is (inl (inr (same, below))) = inr (same, omega (arith, below))
-        there d is (inr same) = inr (ap (λ (d : Edge). d.from) same, let to : d.to ≡ j = ap (λ (d : Edge). d.to) same in omega (arith, to))
-
         back : (d : Edge) → IsEdge caps events d → LeadsBefore i (j + 1) d → LeadsBefore i j d ⊎ (d ≡ edge_between)
         back d is (inl below) = inl (inl below)
         back d is (inr (same, below)) = elim (cases_eq d.to j) [
@@ -187,61 +174,24 @@ module _ (caps : ℕ → ℕ) (events : List Event) where
 
     -- an event with one participant has none inside
     pub none_inside : partner e.op ≡ None → (edges : List Edge) → AreEdgesBefore i i caps events edges → AreEdgesBefore i (i + 1) caps events edges
-    none_inside alone edges are = same_where (LeadsBefore i i) (LeadsBefore i (i + 1)) edges there back are
+    none_inside alone edges are = same_where (LeadsBefore i i) (LeadsBefore i (i + 1)) edges (λ d is leads. grind arith) back are
       where
-        there : (d : Edge) → IsEdge caps events d → LeadsBefore i i d → LeadsBefore i (i + 1) d
-        there d is (inl below) = inl below
-        there d is (inr (same, below)) = inr (same, omega (arith, below))
-
         back : (d : Edge) → IsEdge caps events d → LeadsBefore i (i + 1) d → LeadsBefore i i d
-        back d is (inl below) = inl below
-        back d is (inr (same, below)) = elim (cases_eq d.to i) [
-          | inl here ↦ elim (pair_of d is same here) [
-            | inl pair ↦ absurd (none-some d.to_who (sym alone ∙ pair.1))
-            | inr pair ↦ absurd (none-some d.from_who (sym alone ∙ pair.0))
-          ]
-          | inr other ↦ inr (same, omega (arith, below, other))
-        ]
+        back d is leads = let pair = pair_of d is in grind arith
 
     -- one with two has those between them, the lesser goroutine's first
     module _ (p : ℕ) (second : partner e.op ≡ Some p) (low high : ℕ) (pair : ((low ≡ e.who) × (high ≡ p)) ⊎ ((low ≡ p) × (high ≡ e.who)))
         (edges : List Edge) (are : AreEdgesBefore i i caps events edges) where
-      -- an edge inside is one of the two
-      one_of : (d : Edge) → IsEdge caps events d → d.from ≡ i → d.to ≡ i → (d ≡ edge_inside i low high) ⊎ (d ≡ edge_inside i high low)
-      one_of d is from to = by pair (pair_of d is from to)
-        where
-          known : (g : ℕ) → partner e.op ≡ Some g → p ≡ g
-          known g is = same_Some p g (sym second ∙ is)
-
-          by : ((low ≡ e.who) × (high ≡ p)) ⊎ ((low ≡ p) × (high ≡ e.who))
-              → ((e.who ≡ d.from_who) × (partner e.op ≡ Some d.to_who)) ⊎ ((partner e.op ≡ Some d.from_who) × (e.who ≡ d.to_who))
-              → (d ≡ edge_inside i low high) ⊎ (d ≡ edge_inside i high low)
-          by (inl (l, h)) (inl (f, t)) = inl (same_edge d (edge_inside i low high) from to (sym (l ∙ f)) (sym (h ∙ known d.to_who t)))
-          by (inl (l, h)) (inr (f, t)) = inr (same_edge d (edge_inside i high low) from to (sym (h ∙ known d.from_who f)) (sym (l ∙ t)))
-          by (inr (l, h)) (inl (f, t)) = inr (same_edge d (edge_inside i high low) from to (sym (h ∙ f)) (sym (l ∙ known d.to_who t)))
-          by (inr (l, h)) (inr (f, t)) = inl (same_edge d (edge_inside i low high) from to (sym (l ∙ known d.from_who f)) (sym (h ∙ t)))
-
       -- the first
       abbrev First : Edge → Type 0
       First d = LeadsBefore i i d ⊎ (d ≡ edge_inside i low high)
 
       after_first : AreEdgesWhere First caps events (with_edge (joins e.who e.op low high) (edge_inside i low high) edges)
-      after_first = added (LeadsBefore i i) edges (edge_inside i low high) are (joins e.who e.op low high) (inside_is low high)
-          (λ d before. elim before [ inl below ↦ inl below | inr same ↦ inr (same.0, inl same.1) ])
+      after_first = added (LeadsBefore i i) edges (edge_inside i low high) are (joins e.who e.op low high) (inside_is low high) (λ d leads. grind arith)
 
-      in_front : (d : Edge) → IsEdge caps events d → LeadsBefore i (i + 1) d → LeadsBefore i i d ⊎ ((d ≡ edge_inside i low high) ⊎ (d ≡ edge_inside i high low))
-      in_front d is (inl below) = inl (inl below)
-      in_front d is (inr (same, below)) = elim (cases_eq d.to i) [
-        | inl here ↦ inr (one_of d is same here)
-        | inr other ↦ inl (inr (same, omega (arith, below, other)))
-      ]
-
-      within : (d : Edge) (g h : ℕ) → d ≡ edge_inside i g h → LeadsBefore i (i + 1) d
-      within d g h same = inr (ap (λ (d : Edge). d.from) same, let to : d.to ≡ i = ap (λ (d : Edge). d.to) same in omega (arith, to))
-
-      sooner : (d : Edge) → LeadsBefore i i d → LeadsBefore i (i + 1) d
-      sooner d (inl below) = inl below
-      sooner d (inr (same, below)) = inr (same, omega (arith, below))
+      -- an edge inside is one of the two
+      one_of : (d : Edge) → IsEdge caps events d → LeadsBefore i (i + 1) d → First d ⊎ (d ≡ edge_inside i high low)
+      one_of d is leads = let pairs = pair_of d is in grind (arith, same_edge)
 
       pub both_added : low < high
           → AreEdgesBefore i (i + 1) caps events
@@ -249,41 +199,11 @@ module _ (caps : ℕ → ℕ) (events : List Event) where
       both_added less =
           same_where (λ d. First d ⊎ (d ≡ edge_inside i high low)) (LeadsBefore i (i + 1))
           (with_edge (joins e.who e.op high low) (edge_inside i high low) (with_edge (joins e.who e.op low high) (edge_inside i low high) edges))
-          (λ d is. there d) back
+          (λ d is leads. grind arith) one_of
           (added First (with_edge (joins e.who e.op low high) (edge_inside i low high) edges)
-          (edge_inside i high low) after_first (joins e.who e.op high low) (inside_is high low) last)
-        where
-          last : (d : Edge) → First d → ComesBefore d (edge_inside i high low)
-          last d (inl (inl below)) = inl below
-          last d (inl (inr (same, below))) = inr (same, inl below)
-          last d (inr same) =
-              let who : d.from_who ≡ low = ap (λ (d : Edge). d.from_who) same in
-              inr (ap (λ (d : Edge). d.from) same, inr (ap (λ (d : Edge). d.to) same, inl (omega (arith, who, less))))
-
-          there : (d : Edge) → First d ⊎ (d ≡ edge_inside i high low) → LeadsBefore i (i + 1) d
-          there d (inl (inl before)) = sooner d before
-          there d (inl (inr same)) = within d low high same
-          there d (inr same) = within d high low same
-
-          back : (d : Edge) → IsEdge caps events d → LeadsBefore i (i + 1) d → First d ⊎ (d ≡ edge_inside i high low)
-          back d is leads = elim (in_front d is leads) [
-            | inl before ↦ inl (inl before)
-            | inr here ↦ elim here [ inl one ↦ inl (inr one) | inr other ↦ inr other ]
-          ]
+          (edge_inside i high low) after_first (joins e.who e.op high low) (inside_is high low) (λ d first. grind arith))
 
       pub one_added : low ≤ high → high ≤ low → AreEdgesBefore i (i + 1) caps events (with_edge (joins e.who e.op low high) (edge_inside i low high) edges)
       one_added up down = same_where First (LeadsBefore i (i + 1))
-          (with_edge (joins e.who e.op low high) (edge_inside i low high) edges) (λ d is. there d) back after_first
-        where
-          alike : low ≡ high
-          alike = omega (arith, up, down)
-
-          there : (d : Edge) → First d → LeadsBefore i (i + 1) d
-          there d (inl before) = sooner d before
-          there d (inr same) = within d low high same
-
-          back : (d : Edge) → IsEdge caps events d → LeadsBefore i (i + 1) d → First d
-          back d is leads = elim (in_front d is leads) [
-            | inl before ↦ inl before
-            | inr here ↦ elim here [ inl one ↦ inr one | inr other ↦ inr (other ∙ (λ k. edge_inside i (sym alike k) (alike k))) ]
-          ]
+          (with_edge (joins e.who e.op low high) (edge_inside i low high) edges) (λ d is leads. grind arith)
+          (λ d is leads. let one = one_of d is leads in grind arith) after_first

@@ -12,8 +12,8 @@ use Rattle.race_model.proofs.Reaching.{reaches_on, who_takes_part, inside_to}
 use Rattle.race_edges.specs.{Synchronized.can_be_source, TableState.{TableState, row_of, sees, with_seen, inside, kept}}
 use Rattle.race_edges.{specs.TableState.{table_after, HasRows}, proofs.IsTable.{HasSeen, HadSeen, IsTable}}
 use Rattle.race_edges.proofs.{SynchronizedLemmas.{source_can_be, inside_pair}, RowLemmas.shape_with_seen}
-use Rattle.race_edges.proofs.RowLemmas.{sees_with_seen, shape_inside, sees_inside, SeesInside, shape_taken, sees_taken}
-use Rattle.race_edges.proofs.RowLemmas.{SeesTaken, HoldsSeen, HeldSeen}
+use Rattle.race_edges.proofs.RowLemmas.{sees_with_seen, shape_inside, sees_inside, sees_taken}
+use Rattle.race_edges.proofs.RowLemmas.{AreShaped, shape_on, shape_after, SeesTaken, HoldsSeen, HeldSeen}
 
 -- only events of the list are seen
 pub seen_within : (caps : ℕ → ℕ) (past : List Event) (i h g : ℕ) → SeenBy caps past i h g → i < length past
@@ -79,21 +79,36 @@ module _ (caps : ℕ → ℕ) (table : TableState) (limit : ℕ) (past : List Ev
   at_old : (i : ℕ) (s : Event) → At (past ++ e ∷ []) i s → i < length past → At past i s
   at_old i s at below = sym (slice_get-append past (e ∷ []) i below) ∙ at
 
-  sees_own : (g i : ℕ) → g < length table.rows → i < limit → IsTrue (sees (with_seen table.rows e.who (length past)) g i) ↔ Knows g i
-  sees_own g i less within = (there, back)
-    where
-      bits : IsTrue (sees (with_seen table.rows e.who (length past)) g i) ↔ (IsTrue (sees table.rows g i) ⊎ ((e.who ≡ g) × (length past ≡ i)))
-      bits = sees_with_seen table.rows e.who (length past) g i less (let wide = is_table.wide g less in omega (arith, within, wide))
+  -- the rows where the event's goroutine has seen its begin, and then what the edges inside it bring
+  abbrev own : List (List Bool)
+  own = with_seen table.rows e.who (length past)
 
-      there : IsTrue (sees (with_seen table.rows e.who (length past)) g i) → Knows g i
-      there s = elim (bits.0 s) [
-        | inl old ↦ let seen = (is_table.seen g i less within).0 old in (seen.0, append_at_old past (e ∷ []) i seen.0 seen.1, inr seen.2)
-        | inr (who, here) ↦ (e, subst (λ i. At (past ++ e ∷ []) i e) here (slice_get-push past e), inl (sym here, who))
-      ]
+  abbrev rows_inside : List (List Bool)
+  rows_inside = inside own e.who e.op
 
-      back : Knows g i → IsTrue (sees (with_seen table.rows e.who (length past)) g i)
-      back (s, at, inl (here, who)) = bits.1 (inr (ap (λ (s : Event). s.who) (at_last i s at here) ∙ who, sym here))
-      back (s, at, inr seen) = bits.1 (inl ((is_table.seen g i less within).1 (s, at_old i s at (seen_within caps past i s.who g seen), seen)))
+  shape_own : AreShaped table.rows own
+  shape_own = shape_with_seen table.rows e.who (length past)
+
+  shape_in : AreShaped table.rows rows_inside
+  shape_in = shape_on table.rows own rows_inside shape_own (shape_inside own e.who e.op)
+
+  wide_own : (g : ℕ) → g < length own → length (row_of own g) ≡ limit
+  wide_own g less = let below : g < length table.rows = omega (arith, less, shape_own.count) in shape_own.wide g below ∙ is_table.wide g below
+
+  wide_inside : (g : ℕ) → g < length rows_inside → length (row_of rows_inside g) ≡ limit
+  wide_inside g less = let below : g < length table.rows = omega (arith, less, shape_in.count) in shape_in.wide g below ∙ is_table.wide g below
+
+  sees_own : (g i : ℕ) → g < length table.rows → i < limit → IsTrue (sees own g i) ↔ Knows g i
+  sees_own g i less within =
+      let bits = sees_with_seen table.rows e.who (length past) g i less (let wide = is_table.wide g less in omega (arith, within, wide)) in
+      let seen = is_table.seen g i less within in
+      let last = slice_get-push past e in (
+        (λ s. elim (bits.0 s) [ inl old ↦ let had = seen.0 old in (had.0, append_at_old past (e ∷ []) i had.0 had.1, inr had.2) | inr own ↦ (e, cc, inl (sym own.1, own.0)) ]),
+        (λ (s, at, knows). elim knows [
+          | inl (here, who) ↦ bits.1 (inr (ap (λ (s : Event). s.who) (at_last i s at here) ∙ who, sym here))
+          | inr old ↦ bits.1 (inl (seen.1 (s, at_old i s at (seen_within caps past i s.who g old), old)))
+        ]),
+      )
 
   -- whose begin is synchronized before an end of the event has a row
   row_inside : (f g : ℕ) → SynchronizedInside e.who e.op f g → f < length table.rows
@@ -106,47 +121,13 @@ module _ (caps : ℕ → ℕ) (table : TableState) (limit : ℕ) (past : List Ev
   abbrev KnowsInside : ℕ → ℕ → Type 0
   KnowsInside g i = Knows g i ⊎ ((f : ℕ) × SynchronizedInside e.who e.op f g × Knows f i)
 
-  -- the rows behind the edges inside the event
-  abbrev rows_inside : List (List Bool)
-  rows_inside = inside (with_seen table.rows e.who (length past)) e.who e.op
-
-  count_inside : length rows_inside ≡ length table.rows
-  count_inside =
-      let own = shape_with_seen table.rows e.who (length past) in
-      let more = shape_inside (with_seen table.rows e.who (length past)) e.who e.op in
-      more.count ∙ own.count
-
-  wide_inside : (g : ℕ) → g < length table.rows → length (row_of rows_inside g) ≡ limit
-  wide_inside g less =
-      let own = shape_with_seen table.rows e.who (length past) in
-      let more = shape_inside (with_seen table.rows e.who (length past)) e.who e.op in
-      more.wide g (omega (arith, less, own.count)) ∙ own.wide g less ∙ is_table.wide g less
-
   sees_known : (g i : ℕ) → g < length table.rows → i < limit → IsTrue (sees rows_inside g i) ↔ KnowsInside g i
-  sees_known g i less within = ((λ s. there (brought.0 s)), (λ s. brought.1 (back s)))
-    where
-      wide : (g : ℕ) → g < length (with_seen table.rows e.who (length past)) → length (row_of (with_seen table.rows e.who (length past)) g) ≡ limit
-      wide g below =
-          let shape = shape_with_seen table.rows e.who (length past) in
-          let old : g < length table.rows = omega (arith, below, shape.count) in
-          shape.wide g old ∙ is_table.wide g old
-
-      in_own : (h : ℕ) → h < length table.rows → h < length (with_seen table.rows e.who (length past))
-      in_own h below = let shape = shape_with_seen table.rows e.who (length past) in omega (arith, below, shape.count)
-
-      partner_row : IfSome (partner e.op) (λ p. p < length (with_seen table.rows e.who (length past)))
-      partner_row = let shape = shape_with_seen table.rows e.who (length past) in subst (λ m. IfSome (partner e.op) (λ p. p < m)) (sym shape.count) has.1
-
-      brought : IsTrue (sees rows_inside g i) ↔ SeesInside (with_seen table.rows e.who (length past)) e.who e.op g i
-      brought = sees_inside (with_seen table.rows e.who (length past)) limit e.who e.op wide (in_own e.who has.0) partner_row g i (in_own g less) within
-
-      there : SeesInside (with_seen table.rows e.who (length past)) e.who e.op g i → KnowsInside g i
-      there (inl old) = inl ((sees_own g i less within).0 old)
-      there (inr (f, edge, seen)) = inr (f, edge, (sees_own f i (row_inside f g edge) within).0 seen)
-
-      back : KnowsInside g i → SeesInside (with_seen table.rows e.who (length past)) e.who e.op g i
-      back (inl old) = inl ((sees_own g i less within).1 old)
-      back (inr (f, edge, knows)) = inr (f, edge, (sees_own f i (row_inside f g edge) within).1 knows)
+  sees_known g i less within =
+      let partner_row = subst (λ m. IfSome (partner e.op) (λ p. p < m)) (sym shape_own.count) has.1 in
+      let brought = sees_inside own e.who e.op limit wide_own partner_row g i (omega (arith, less, shape_own.count)) within in
+      let mine = sees_own g i less within in
+      let others = λ (f : ℕ) (edge : SynchronizedInside e.who e.op f g). sees_own f i (row_inside f g edge) within in
+      grind (arith, others)
 
   -- what is kept of a source tells what its goroutine had seen
   heard_is : (k i : ℕ) (s : Event) → At past k s → IsTrue (is k) → i < limit → IsTrue (sees table.heard k i) ↔ HadSeen caps past i k s.who
@@ -190,15 +171,12 @@ module _ (caps : ℕ → ℕ) (table : TableState) (limit : ℕ) (past : List Ev
   sees_after : (g i : ℕ) → g < length table.rows → i < limit → IsTrue (sees (table_after is table (length past) e.who e.op).rows g i) ↔ Sees g i
   sees_after g i less within = (there, back)
     where
-      heard : IsTrue (sees (table_after is table (length past) e.who e.op).rows g i) ↔ SeesTaken is table.heard rows_inside e.who (length past) g i
-      heard =
-          let wide = wide_inside g less in
-          sees_taken is table.heard rows_inside e.who (length past) g i (omega (arith, room, wide))
-          (omega (arith, less, count_inside)) (omega (arith, within, wide))
-          (holds_seen i within) (held_seen i within)
+      all : IsTrue (sees (table_after is table (length past) e.who e.op).rows g i) ↔ SeesTaken is table.heard rows_inside e.who (length past) g i
+      all = sees_taken is table.heard e.who limit i within (length past) rows_inside wide_inside (omega (arith, has.0, shape_in.count))
+          (omega (arith, room)) (holds_seen i within) (held_seen i within) g (omega (arith, less, shape_in.count))
 
       there : IsTrue (sees (table_after is table (length past) e.who e.op).rows g i) → Sees g i
-      there s = elim (heard.0 s) [
+      there s = elim (all.0 s) [
         | inl old ↦ inl ((sees_known g i less within).0 old)
         | inr (who, (k, below, test, seen)) ↦
             let s = at_below past k below in
@@ -206,10 +184,10 @@ module _ (caps : ℕ → ℕ) (table : TableState) (limit : ℕ) (past : List Ev
       ]
 
       back : Sees g i → IsTrue (sees (table_after is table (length past) e.who e.op).rows g i)
-      back (inl old) = heard.1 (inl ((sees_known g i less within).1 old))
+      back (inl old) = all.1 (inl ((sees_known g i less within).1 old))
       back (inr (who, (k, s, at, source, had))) =
           let test = (sources k s at).1 source in
-          heard.1 (inr (who, (k, slice_get_within past k s at, test, (heard_is k i s at test within).1 had)))
+          all.1 (inr (who, (k, slice_get_within past k s at, test, (heard_is k i s at test within).1 had)))
 
   -- and that is what the memory model says
   sees_is : (g i : ℕ) → Sees g i ↔ HasSeen caps (past ++ e ∷ []) i g
@@ -261,39 +239,30 @@ module _ (caps : ℕ → ℕ) (table : TableState) (limit : ℕ) (past : List Ev
   pub table_step : IsTable caps (table_after is table (length past) e.who e.op) limit (past ++ e ∷ [])
   table_step = record { seen = seen; heard = heard; wide = wide; long = long; room = let more = length-append past (e ∷ []) in omega (arith, more, room) }
     where
-      count : length (table_after is table (length past) e.who e.op).rows ≡ length table.rows
-      count =
-          let a = shape_with_seen table.rows e.who (length past) in
-          let b = shape_inside (with_seen table.rows e.who (length past)) e.who e.op in
-          let c = shape_taken is table.heard (inside (with_seen table.rows e.who (length past)) e.who e.op) e.who (length past) in
-          c.count ∙ b.count ∙ a.count
+      shape : AreShaped table.rows (table_after is table (length past) e.who e.op).rows
+      shape = shape_after is table (length past) e.who e.op
 
       seen : (g i : ℕ) → g < length (table_after is table (length past) e.who e.op).rows → i < limit
           → IsTrue (sees (table_after is table (length past) e.who e.op).rows g i) ↔ HasSeen caps (past ++ e ∷ []) i g
       seen g i less within =
-          let told = sees_after g i (omega (arith, less, count)) within in
+          let told = sees_after g i (omega (arith, less, shape.count)) within in
           let is = sees_is g i in
           ((λ s. is.0 (told.0 s)), (λ s. told.1 (is.1 s)))
 
       wide : (g : ℕ) → g < length (table_after is table (length past) e.who e.op).rows
           → length (row_of (table_after is table (length past) e.who e.op).rows g) ≡ limit
-      wide g less =
-          let a = shape_with_seen table.rows e.who (length past) in
-          let b = shape_inside (with_seen table.rows e.who (length past)) e.who e.op in
-          let c = shape_taken is table.heard (inside (with_seen table.rows e.who (length past)) e.who e.op) e.who (length past) in
-          let old : g < length table.rows = omega (arith, less, count) in
-          c.wide g (omega (arith, old, a.count, b.count)) ∙ b.wide g (omega (arith, old, a.count)) ∙ a.wide g old ∙ is_table.wide g old
+      wide g less = let old : g < length table.rows = omega (arith, less, shape.count) in shape.wide g old ∙ is_table.wide g old
 
-      long : length (table.heard ++ kept (with_seen table.rows e.who (length past)) e.who e.op ∷ []) ≡ length (past ++ e ∷ [])
-      long = length-append table.heard (kept (with_seen table.rows e.who (length past)) e.who e.op ∷ [])
+      long : length (table.heard ++ kept own e.who e.op ∷ []) ≡ length (past ++ e ∷ [])
+      long = length-append table.heard (kept own e.who e.op ∷ [])
           ∙ ap (λ m. m + 1) is_table.long ∙ sym (length-append past (e ∷ []))
 
       heard : (k i : ℕ) (s : Event) → At (past ++ e ∷ []) k s → IsTrue (can_be_source s.op) → i < limit
-          → IsTrue (sees (table.heard ++ kept (with_seen table.rows e.who (length past)) e.who e.op ∷ []) k i) ↔ HadSeen caps (past ++ e ∷ []) i k s.who
+          → IsTrue (sees (table.heard ++ kept own e.who e.op ∷ []) k i) ↔ HadSeen caps (past ++ e ∷ []) i k s.who
       heard k i s at source within = elim (push_at past e k s at) [
         | inl old ↦
             let below : k < length past = slice_get_within past k s old in
-            let same = get_or_append_left table.heard (kept (with_seen table.rows e.who (length past)) e.who e.op ∷ [])
+            let same = get_or_append_left table.heard (kept own e.who e.op ∷ [])
             [] k (let long = is_table.long in omega (arith, below, long)) in
             let told = is_table.heard k i s old source within in
             let stays = had_old i k s.who below in (
@@ -301,12 +270,12 @@ module _ (caps : ℕ → ℕ) (table : TableState) (limit : ℕ) (past : List Ev
               (λ had. ap (λ r. get_or r i false) same ∙ told.1 (stays.1 had)),
             )
         | inr (here, new) ↦
-            let row = kept (with_seen table.rows e.who (length past)) e.who e.op in
+            let row = kept own e.who e.op in
             let last : row_of (table.heard ++ row ∷ []) k ≡ row =
             ap (row_of (table.heard ++ row ∷ [])) (here ∙ sym is_table.long) ∙ get_or-append_seam table.heard row [] [] in
             let test : can_be_source e.op ≡ true = subst (λ (s : Event). IsTrue (can_be_source s.op)) (sym new) source in
-            let is_row : row ≡ row_of (with_seen table.rows e.who (length past)) e.who =
-            ap (λ b. if b then row_of (with_seen table.rows e.who (length past)) e.who else []) test in
+            let is_row : row ≡ row_of own e.who =
+            ap (λ b. if b then row_of own e.who else []) test in
             let told = sees_own e.who i has.0 within in
             let had = had_new i in
             let moved : HadSeen caps (past ++ e ∷ []) i (length past) e.who ≡ HadSeen caps (past ++ e ∷ []) i k s.who =

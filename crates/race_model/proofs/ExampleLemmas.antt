@@ -1,14 +1,14 @@
 -- Verdicts on small lists, by tests that compute: on a list that is written out, refl answers.
-use Rattle.std.proofs.Common.{◌≡◌, ◌⊎◌, ℕ, zero, suc, ◌<◌, ◌||◌, ◌&&◌, not, Bool, true, false, Option, List, [], ◌∷◌}
-use Rattle.std.proofs.Common.{◌++◌, length, append-nil, Some, slice_get, refl, sym, ap, ◌∙◌, subst, inl, inr, arith}
+use Rattle.std.proofs.Common.{◌≡◌, ◌⊎◌, ℕ, zero, suc, ◌<◌, ◌||◌, ◌&&◌, not, nat_lt, ◌≢◌, Bool, true, false, Option, List, [], ◌∷◌}
+use Rattle.std.proofs.Common.{◌++◌, length, take, Some, None, is_none, slice_get, refl, sym, ap, ◌∙◌, subst, inl, inr, arith}
 use Rattle.std.proofs.{Common.{eqb-true, IsTrue}, lemmas.Bool.{cases_order, or_left, or_right, or_cases, and_parts}}
-use Rattle.std.proofs.lemmas.{Bool.Decides.not_from_Decides, Option.slice_get_within}
+use Rattle.std.proofs.lemmas.{Bool.Decides.{not_from_Decides, nat_tests}, Option.slice_get_within}
 use Rattle.race_records.specs.declared.event.{Event.Event, Op.{Op, TheVariants.{Read, Write}}}
-use Rattle.race_model.specs.{Events.{At, writes, accesses, is_access}, Order.HappensBefore, Legal.{broken, IsIllegalAt}}
-use Rattle.race_model.specs.{Race.{IsAccessOf, IsWriteOf, IsRace, IsReportedRace}, Reorder.{StandsBefore, own_order}}
-use Rattle.race_model.{specs.Verdict.{Race, AreReportedRaces, IsVerdict, Clean, Races, Illegal}, proofs.Indexes.at_same}
+use Rattle.race_model.specs.{Events.{At, writes, accesses, is_access}, Order.HappensBefore, Legal.{broken, IsLegal, IsIllegalAt}}
+use Rattle.race_model.specs.{Race.{IsAccessOf, IsWriteOf, IsRace, IsReportedRace, IsDataRaceFree}, Reorder.{StandsBefore, own_order}}
+use Rattle.race_model.{specs.Verdict.{Race, AreReportedRaces}, proofs.Indexes.at_same}
 use Rattle.race_model.proofs.{ReorderLemmas.{passes_from, is_access_from}, OwnOrder.{own_each, own_stands_before}}
-use Rattle.race_model.proofs.{LegalSteps.{AllKept, legal_none, legal_by, illegal_push}, RaceSteps.race_turned}
+use Rattle.race_model.proofs.{LegalSteps.{AllKept, legal_none, legal_by}, RaceSteps.race_turned}
 use Rattle.race_model.proofs.{SeenByComputing.{has_seen, Decides-seen}, BeforeSeen.{before_from_seen, race_from_unseen}}
 
 -- a Write of any variable
@@ -51,12 +51,39 @@ abbrev pub all_ordered : (ℕ → ℕ) → List Event → List ℕ → Bool
 all_ordered caps events [] = true
 all_ordered caps events (p ∷ rest) = keeps_behind caps events p rest && all_ordered caps events rest
 
--- behind a list that breaks no rule the next event breaks one
-pub illegal_by : (caps : ℕ → ℕ) (past : List Event) (e : Event) (n : ℕ) → AllKept caps [] past → broken caps past e ≡ Some n
-    → IsVerdict caps (past ++ e ∷ []) (Illegal (length past) n)
-illegal_by caps past e n kept is =
-    subst (λ es. IsIllegalAt caps es (length past) n) (append-nil (past ++ e ∷ []))
-    (illegal_push caps past [] e n (legal_by caps [] past (legal_none caps) kept) is)
+-- no event of rest breaks a rule behind past and those before it
+abbrev pub all_kept : (ℕ → ℕ) → List Event → List Event → Bool
+all_kept caps past [] = true
+all_kept caps past (e ∷ rest) = is_none (broken caps past e) && all_kept caps (past ++ e ∷ []) rest
+
+kept_by : (caps : ℕ → ℕ) (past rest : List Event) → IsTrue (all_kept caps past rest) → AllKept caps past rest
+kept_by caps past [] is = tt
+kept_by caps past (e ∷ rest) is = (none_is (broken caps past e) (and_parts _ _ is).0, kept_by caps (past ++ e ∷ []) rest (and_parts _ _ is).1)
+  where
+    none_is : (o : Option ℕ) → IsTrue (is_none o) → o ≡ None
+    none_is None is = refl
+    none_is (Some n) is = cc
+
+pub legal_from : (caps : ℕ → ℕ) (events : List Event) → IsTrue (all_kept caps [] events) → IsLegal caps events
+legal_from caps events is = legal_by caps [] events (legal_none caps) (kept_by caps [] events is)
+
+-- behind a front that breaks no rule the event at its end breaks one
+pub illegal_from : (caps : ℕ → ℕ) (events : List Event) (i n : ℕ) → IsTrue (all_kept caps [] (take i events))
+    → elim (slice_get events i) [ Some e ↦ broken caps (take i events) e | None ↦ None ] ≡ Some n → IsIllegalAt caps events i n
+illegal_from caps events i n kept breaks = by (slice_get events i) refl breaks
+  where
+    by : (o : Option Event) → slice_get events i ≡ o → elim o [ Some e ↦ broken caps (take i events) e | None ↦ None ] ≡ Some n → IsIllegalAt caps events i n
+    by (Some e) at is = (e, at, is, legal_from caps (take i events) kept)
+    by None at is = cc
+
+-- a test of the two events
+abbrev of_both : (Event → Event → Bool) → Option Event → Option Event → Bool
+of_both test (Some a) (Some b) = test a b
+of_both test _ _ = false
+
+both_from : (test : Event → Event → Bool) (o r : Option Event) → IsTrue (of_both test o r) → (a : Event) × (b : Event) × (o ≡ Some a) × (r ≡ Some b) × IsTrue (test a b)
+both_from test (Some a) (Some b) is = (a, b, refl, refl, is)
+both_from test _ _ is = cc
 
 module _ (caps : ℕ → ℕ) (events : List Event) where
   behind_at : (p : ℕ) (order : List ℕ) (n j : ℕ) → IsTrue (keeps_behind caps events p order) → slice_get order n ≡ Some j → IsTrue (keeps_order caps events p j)
@@ -78,16 +105,21 @@ module _ (caps : ℕ → ℕ) (events : List Event) where
       let within : q < length events = slice_get_within events q b atq in
       before_from_seen caps events p q a b atp atq is ((Decides-seen caps events p a.who q q b.who (omega arith) (omega arith)).0 seen)
 
+  -- by a test of the two
+  pub before_from : (p q : ℕ) → IsTrue (of_both (λ a b. is_access a.op && sees caps events p q a b) (slice_get events p) (slice_get events q))
+      → HappensBefore caps events p q
+  before_from p q is =
+      let two = both_from _ _ _ is in
+      let tests = and_parts _ _ two.4 in
+      before_by two.2 two.3 tests.0 tests.1
+
   -- where each pair of accesses keeps order, nothing races
-  pub clean_by : AllKept caps [] events → IsTrue (all_ordered caps events (own_order events)) → IsVerdict caps events Clean
-  clean_by kept is = (
-    legal_by caps [] events (legal_none caps) kept,
-    λ y i j r. elim (cases_order i j) [
-      | inl same ↦ r.conflict.0 same
-      | inr (inl less) ↦ none y i j less r
-      | inr (inr more) ↦ none y j i more (race_turned caps events y i j r)
-    ],
-  )
+  pub free_from : IsTrue (all_ordered caps events (own_order events)) → IsDataRaceFree caps events
+  free_from is y i j r = elim (cases_order i j) [
+    | inl same ↦ r.conflict.0 same
+    | inr (inl less) ↦ none y i j less r
+    | inr (inr more) ↦ none y j i more (race_turned caps events y i j r)
+  ]
     where
       none : (y i j : ℕ) → i < j → IsRace caps events y i j → ⊥
       none y i j less r = go r.conflict.1 r.conflict.2 r.conflict.3
@@ -153,28 +185,42 @@ module _ (caps : ℕ → ℕ) (events : List Event) where
         only_first k zero r s less atk atm = absurd (omega arith)
         only_first k (suc m) r s less atk atm = cc
 
-  -- the two accesses of the list race
-  pub races_by : (x : ℕ) {p q : ℕ} {a b : Event} → AllKept caps [] events → own_order events ≡ p ∷ q ∷ [] → At events p a → At events q b → p < q
-      → IsTrue (accesses x a.op) → IsTrue (accesses x b.op)
-      → IsTrue (writes x a.op || writes x b.op) → sees caps events p q a b ≡ false
-      → IsVerdict caps events (Races (record { var = x; first = p; second = q } ∷ []))
-  races_by x {p} {q} {a} {b} kept own atp atq up is_a is_b write unseen =
-      (legal_by caps [] events (legal_none caps) kept, (λ none. cc), two_race x p q only up (race_by x atp atq up is_a is_b write unseen))
-    where
-      at_two : (i k : ℕ) → slice_get (p ∷ q ∷ []) k ≡ Some i → (i ≡ p) ⊎ (i ≡ q)
-      at_two i zero at = inl cc
-      at_two i (suc zero) at = inr cc
-      at_two i (suc (suc k)) at = cc
+  -- two accesses of x, of which one writes and the earlier one isn't seen
+  abbrev apart : ℕ → ℕ → ℕ → Event → Event → Bool
+  apart x p q a b = nat_lt p q && (accesses x a.op && (accesses x b.op && ((writes x a.op || writes x b.op) && not (sees caps events p q a b))))
 
-      variable : (y i : ℕ) (e : Event) → At events i e → IsTrue (accesses y e.op) → (i ≡ p) ⊎ (i ≡ q) → x ≡ y
-      variable y i e at is (inl same) =
-          one_variable x y e.op (subst (λ (a : Event). IsTrue (accesses x a.op)) (at_same events p a e atp (ap (slice_get events) (sym same) ∙ at)) is_a) is
-      variable y i e at is (inr same) =
-          one_variable x y e.op (subst (λ (b : Event). IsTrue (accesses x b.op)) (at_same events q b e atq (ap (slice_get events) (sym same) ∙ at)) is_b) is
+  apart_is : (x p q : ℕ) (a b : Event) → IsTrue (apart x p q a b)
+      → (p < q) × IsTrue (accesses x a.op) × IsTrue (accesses x b.op) × IsTrue (writes x a.op || writes x b.op) × (sees caps events p q a b ≡ false)
+  apart_is x p q a b is = grind (arith, nat_tests)
 
-      only : (y i : ℕ) → IsAccessOf events y i → ((i ≡ p) ⊎ (i ≡ q)) × (x ≡ y)
-      only y i (e, at, is) =
-          let found : (k : ℕ) × (slice_get (own_order events) k ≡ Some i) =
-          own_each events i (passes_from is_access events i e at (is_access_from y e.op is)) in
-          let one : (i ≡ p) ⊎ (i ≡ q) = at_two i found.0 (ap (λ o. slice_get o found.0) (sym own) ∙ found.1) in
-          (one, variable y i e at is one)
+  module _ (x p q : ℕ) (a b : Event) (own : own_order events ≡ p ∷ q ∷ []) (atp : At events p a) (atq : At events q b)
+      (is_a : IsTrue (accesses x a.op)) (is_b : IsTrue (accesses x b.op)) where
+    at_two : (i k : ℕ) → slice_get (p ∷ q ∷ []) k ≡ Some i → (i ≡ p) ⊎ (i ≡ q)
+    at_two i zero at = inl cc
+    at_two i (suc zero) at = inr cc
+    at_two i (suc (suc k)) at = cc
+
+    variable : (y i : ℕ) (e : Event) → At events i e → IsTrue (accesses y e.op) → (i ≡ p) ⊎ (i ≡ q) → x ≡ y
+    variable y i e at is (inl same) = let here : a ≡ e = cc in one_variable x y e.op (subst (λ (a : Event). IsTrue (accesses x a.op)) here is_a) is
+    variable y i e at is (inr same) = let here : b ≡ e = cc in one_variable x y e.op (subst (λ (b : Event). IsTrue (accesses x b.op)) here is_b) is
+
+    only_two : (y i : ℕ) → IsAccessOf events y i → ((i ≡ p) ⊎ (i ≡ q)) × (x ≡ y)
+    only_two y i (e, at, is) =
+        let found : (k : ℕ) × (slice_get (own_order events) k ≡ Some i) =
+        own_each events i (passes_from is_access events i e at (is_access_from y e.op is)) in
+        let one : (i ≡ p) ⊎ (i ≡ q) = at_two i found.0 (ap (λ o. slice_get o found.0) (sym own) ∙ found.1) in
+        (one, variable y i e at is one)
+
+  -- where these are the only accesses, their race is what is reported
+  pub races_from : (x p q : ℕ) → own_order events ≡ p ∷ q ∷ [] → IsTrue (of_both (apart x p q) (slice_get events p) (slice_get events q))
+      → AreReportedRaces caps events (record { var = x; first = p; second = q } ∷ [])
+  races_from x p q own is =
+      let (a, b, atp, atq, test) = both_from (apart x p q) _ _ is in
+      let (up, is_a, is_b, write, unseen) = apart_is x p q a b test in
+      two_race x p q (only_two x p q a b own atp atq is_a is_b) up (race_by x atp atq up is_a is_b write unseen)
+
+pub some_races : (r : Race) (rs : List Race) → r ∷ rs ≢ []
+some_races r rs none = cc
+
+-- what a verdict on a list that is written out is made of, each part by a test that computes
+pub ruleset verdicts = (legal_from, illegal_from, free_from, before_from, races_from, some_races)

@@ -23,4 +23,4 @@ pub mod OwnOrder
 pub mod Uniqueness
 pub mod PlacesAside
 pub mod ExampleLemmas
-pub mod ExampleVerdicts
+pub mod ReadFirst

@@ -1,5 +1,5 @@
+use Rattle.race_model.proofs.ExampleLemmas.{verdicts}
 use Rattle.race_model.proofs.examples.reads_do_not_race.Goals as goal
-use Rattle.race_model.proofs.ExampleVerdicts.{two_reads_clean}
 
 pub returns : goal.returns
-returns c = two_reads_clean
+returns c = search verdicts

@@ -38,19 +38,15 @@ pub fn write_noted_report<W: Write, A: Allocator, B: Allocator>(
     }
 }
 
-/// Prints the report of the verdict on a page, behind whatever was printed on it before. Takes no memory.
-///
-/// What is noted is declared, as a judge gives it. After a fault the page is of no more use.
-pub fn print_noted_report<W: Write, A: Allocator, B: Allocator>(
+// Prints the report of the verdict.
+fn print_noted_report<W: Write, A: Allocator, B: Allocator>(
     page: &mut Page,
     sink: &mut Sink<W>,
     decls: &Decls<A>,
     verdict: &NotedVerdict<B>,
 ) -> Result<(), WriteFault>
     requires { AreNamed decls.now verdict.now }
-    ensures noted { Printing W.contents result sink.old sink.new page.old page.new (report_noted decls.now verdict.now) }
-    ensures report { (trace : TraceState) → trace.decls ≡ decls.now → IsNotedOf trace.events verdict.now
-        → Printing W.contents result sink.old sink.new page.old page.new (spec.report trace (verdict_noted verdict.now)) }
+    ensures { Printing W.contents result sink.old sink.new page.old page.new (report_noted decls.now verdict.now) }
 {
     match verdict {
         NotedVerdict::Illegal(illegal) => print_illegal(page, sink, *illegal),

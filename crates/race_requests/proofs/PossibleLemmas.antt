@@ -1,17 +1,17 @@
 -- For each row: its event breaks no rule just where the words of the run so far let it go on.
-use Rattle.std.proofs.Common.{◌≡◌, ℕ, ◌<◌, ◌≤◌, ◌==◌, ◌||◌, ◌&&◌, not, nat_lt, cond, Bool, true, false, List, [], ◌∷◌}
-use Rattle.std.proofs.Common.{length, map, slice_get, filter_map, Option, Some, None, is_none, is_some, refl, sym, ap}
-use Rattle.std.proofs.{Common.{◌∙◌, arith}, lemmas.{Bool.Decides.{nat_tests, Decides-eqb}, Option.slice_get_within}}
+use Rattle.std.proofs.Common.{◌≡◌, ℕ, ◌<◌, ◌==◌, ◌||◌, ◌&&◌, not, nat_lt, cond, Bool, true, false, List, ◌∷◌}
+use Rattle.std.proofs.Common.{length, map, slice_get, filter_map, Option, Some, None, is_none, is_some, refl, sym}
+use Rattle.std.proofs.{Common.{◌∙◌, arith}, lemmas.{Bool.Decides.{nat_tests}, Option.slice_get_within}}
 use Rattle.std.specs.{List.list_any, Option.option_map}
 use Rattle.race_records.specs.declared.{cases.Case.Case, event.{Event.Event, Cause.TheVariants.SendClosed}}
-use Rattle.race_records.specs.declared.event.{Cause.TheVariants.{CloseClosed, CloseNil, UnlockFree, RUnlockFree}, Op.Op}
-use Rattle.race_records.specs.declared.event.Op.TheVariants.{Go, Exit, Read, Lock, RLock, OnceEnd, Send, Recv, Meet}
+use Rattle.race_records.specs.declared.event.{Cause.TheVariants.{CloseClosed, UnlockFree, RUnlockFree}, Op.Op}
+use Rattle.race_records.specs.declared.event.Op.TheVariants.{Send, Recv, Meet}
 use Rattle.race_records.specs.declared.event.Op.TheVariants.{RecvClosed, Close, Default, Unlock, RUnlock, TryLock}
 use Rattle.race_records.specs.declared.event.Op.TheVariants.{TryRLock, TryFail, OnceBegin, OnceDone, Fault}
 use Rattle.race_records.proofs.ListLemmas.{slice_get-within}
-use Rattle.race_model.specs.{Events.{gives, sends, receives, count}, State.{over, runs, is_closed, buffered, front}}
-use Rattle.race_model.specs.State.{sent, is_held, is_read_held, is_begun, is_ended, innermost, started, last_value}
-use Rattle.race_model.{specs.Legal.{least_broken, broken, op_rules, is_ready}, proofs.StateSteps.sent_count}
+use Rattle.race_model.specs.{Events.{sends, receives, count}, State.{over, runs, is_closed, buffered, front}}
+use Rattle.race_model.specs.State.{sent, is_held, is_read_held, is_begun, is_ended}
+use Rattle.race_model.{specs.Legal.{least_broken, broken, is_ready}, proofs.StateSteps.sent_count}
 use Rattle.race_legal.specs.{declared.rule.Rule.Rule, Rules.number_of}
 use Rattle.race_requests.specs.{declared.request.{Ask.Ask, Offer.Offer, Waiter.Waiter}, Offers.case_of}
 use Rattle.race_requests.specs.Choices.{is_legal_next, lone_event, lone_op, offer_at}

@@ -1,5 +1,5 @@
 -- Each reader answers the word of the run so far.
-use Rattle.std.proofs.Common.{◌≡◌, ℕ, ◌==◌, List, Option, Some, sym, ap, ◌∙◌}
+use Rattle.std.proofs.Common.{◌≡◌, ℕ, ◌==◌, List, Option, sym, ap, ◌∙◌}
 use Rattle.race_records.specs.declared.event.{Cause.TheVariants.{UnlockFree, RUnlockFree}, Event.Event, Op.Op}
 use Rattle.race_records.specs.declared.event.Op.TheVariants.{Unlock, RUnlock, TryLock, TryRLock, TryFail, OnceBegin}
 use Rattle.race_records.specs.declared.event.Op.TheVariants.{OnceDone, Fault}

@@ -13,20 +13,7 @@ use Rattle.race_verdict.{specs.{Races.AreRaces, Traces.{capacities, HasVerdict}}
 use Rattle.race_verdict.proofs.RaceLists.{are_races, free_from_none, listed_some}
 use Rattle.race_edges.specs.{Synchronized.source_at, TableState.{TableState, table_after}}
 use Rattle.race_edges.{specs.Partners.{noted, found_after, race_at}, proofs.IsTable.IsTable}
-use Rattle.race_edges.proofs.{RowLemmas.shape_after, TableSteps.table_none}
-use Rattle.race_edges.proofs.{FoundSteps.found_none, JudgeSteps.{has_rows, has_place, table_next, found_next}}
-
-found_kept : (rows : List (List Bool)) (events : List Event) (n : ℕ) (e : Event) (found : List (Option Race))
-    → length (found_after rows events n e found) ≡ length found
-found_kept rows events n e found = by (accessed e.op)
-  where
-    one : (x : ℕ) (b : Bool) → length (if b then found else slice_set found x (race_at rows events n e x)) ≡ length found
-    one x true = refl
-    one x false = length-set found x (race_at rows events n e x)
-
-    by : (a : Option ℕ) → length (elim a as (λ _. List (Option Race)) [ Some x ↦ noted rows events n e x found | None ↦ found ]) ≡ length found
-    by None = refl
-    by (Some x) = one x (is_some (slice_index_or found x None))
+use Rattle.race_edges.proofs.JudgeSteps.{AreTables, tables_none, tables_next, races_listed}
 
 module _ (caps : ℕ → ℕ) (events : List Event) where
   -- the events below n break no rule
@@ -67,54 +54,23 @@ module _ (caps : ℕ → ℕ) (events : List Event) where
       by (inr found) = inr found
       by (inl fine) = next fine (broken caps (take n events) here.0) refl
 
--- tables that are right for the first n events
-record AreTables (trace : TraceState) (n : ℕ) : Type 0 where
-  table : TableState
-  found : List (Option Race)
-  goroutines : length table.rows ≡ count_of Kind.Goroutine trace.decls.declarations
-  vars : length found ≡ count_of Kind.Var trace.decls.declarations
-  is_table : IsTable (capacities trace) table (length trace.events) (take n trace.events)
-  right : AreFound (capacities trace) (take n trace.events) found
+at_next : {trace : TraceState} {n m : ℕ} {table : TableState} {found : List (Option Race)} → AreTables trace n table found → n ≡ m → AreTables trace m table found
+at_next {trace} {n} {m} {table} {found} are same = subst (λ m. AreTables trace m table found) same are
 
 module _ (trace : TraceState) (holds : IsTrace trace) where
-  tables : (n : ℕ) → n ≤ length trace.events → AreTables trace n
-  tables zero less = record {
-    table = record { rows = replicate (count_of Kind.Goroutine trace.decls.declarations) (replicate (length trace.events) false); heard = [] };
-    found = replicate (count_of Kind.Var trace.decls.declarations) None;
-    goroutines = length-replicate (count_of Kind.Goroutine trace.decls.declarations) (replicate (length trace.events) false);
-    vars = length-replicate (count_of Kind.Var trace.decls.declarations) None;
-    is_table = table_none (capacities trace) (count_of Kind.Goroutine trace.decls.declarations) (length trace.events);
-    right = found_none (capacities trace) (count_of Kind.Var trace.decls.declarations);
-  }
+  -- tables that are right for the first n events
+  tables : (n : ℕ) → n ≤ length trace.events → (table : TableState) × (found : List (Option Race)) × AreTables trace n table found
+  tables zero less = (_, _, tables_none trace)
   tables (suc n) less =
-      let so_far = tables n (omega (arith, less)) in
-      let here = at_below trace.events n (omega (arith, less)) in
-      let e = here.0 in
-      let rows = has_rows trace n e so_far.table.rows holds here.1 so_far.goroutines in
-      let table = table_after (λ k. source_at (capacities trace) trace.events k n) so_far.table n e.who e.op in
-      let found = found_after so_far.table.rows (take n trace.events) (length (take n trace.events)) e so_far.found in
-      let next : n + 1 ≡ suc n = omega arith in
-      record {
-        table = table;
-        found = found;
-        goroutines = (shape_after (λ k. source_at (capacities trace) trace.events k n) so_far.table n e.who e.op).count ∙ so_far.goroutines;
-        vars = found_kept so_far.table.rows (take n trace.events) (length (take n trace.events)) e so_far.found ∙ so_far.vars;
-        is_table = subst (λ m. IsTable (capacities trace) table (length trace.events) (take m trace.events)) next
-            (table_next (capacities trace) trace.events n e here.1 so_far.table (length trace.events) so_far.is_table table refl (omega (arith, less)) rows);
-        right = subst (λ m. AreFound (capacities trace) (take m trace.events) found) next
-            (found_next (capacities trace) trace.events n e here.1 so_far.table (length trace.events)
-            so_far.is_table so_far.found found refl rows.0 (has_place trace n e so_far.found holds here.1 so_far.vars) so_far.right);
-      }
+      let (table, found, are) = tables n (omega (arith, less)) in
+      let (e, here) = at_below trace.events n (omega (arith, less)) in
+      (_, _, at_next (tables_next trace n e table found holds here are) (omega arith))
 
   -- the races of the trace
   listed : (races : List Race) × AreRaces (capacities trace) trace.events races
   listed =
-      let all = tables (length trace.events) (omega arith) in (
-        races_of all.found,
-        are_races (capacities trace) trace.events all.found
-            (subst (λ es. AreFound (capacities trace) es all.found) (take_all (length trace.events) trace.events (omega arith)) all.right)
-            (λ x i j race. let below = race_declared (capacities trace) trace x i j holds race in let vars = all.vars in omega (arith, below, vars)),
-      )
+      let (table, found, are) = tables (length trace.events) (omega arith) in
+      (races_of found, races_listed trace (length trace.events) table found holds are (omega arith))
 
   -- the verdict on it
   pub judged : (v : Verdict) × HasVerdict trace v

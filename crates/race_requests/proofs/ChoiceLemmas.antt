@@ -1,6 +1,6 @@
 -- What a listed choice is: what each who takes part in its event is told.
 use Rattle.std.proofs.Common.{◌≡◌, ◌==◌, ℕ, zero, suc, ◌<◌, ◌≤◌, ◌+◌, ◌%◌, ◌++◌, ◌&&◌, Bool, true, false, cond, List}
-use Rattle.std.proofs.Common.{[], ◌∷◌, map, filter, flat_map, length, option_map, All, Option, Some, None, is_none}
+use Rattle.std.proofs.Common.{[], ◌∷◌, map, filter, flat_map, length, option_map, All, Option, Some, None, IfSome, is_none}
 use Rattle.std.proofs.Common.{refl, sym, ap, ◌∙◌, subst, arith, slice_get, eqb-true, eq-eqb}
 use Rattle.std.proofs.lemmas.{Bool.Decides.nat_tests, Option.{none-some, slice_get_within, get_or_from_slice_get}}
 use Rattle.std.{proofs.lemmas.List.Elements.filter_passes, specs.List.range_with_len}
@@ -15,10 +15,15 @@ use Rattle.race_requests.specs.{declared.request.Waiter.Waiter, Offers.{chan_of,
 use Rattle.race_requests.specs.{Table.{told_sender, told_receiver, chosen, told_plain, IsRow}, Choices.choice}
 use Rattle.race_requests.specs.Choices.{lone_op, offer_at, op_of, meet_op, event_of, is_legal_next, is_choice, ways}
 use Rattle.race_requests.specs.Choices.{below, with_partner, of_way, tuples, ways_at, tuples_of, choices}
-use Rattle.race_requests.proofs.RowLemmas.{told_same, told_both, told_same_two, at_first, at_offer, at_default}
+use Rattle.race_requests.proofs.RowLemmas.{told_same, told_both, told_same_two, at_offer, at_default}
 
 pub some_is : {X : Type 0} {x y : X} → Some x ≡ Some y → x ≡ y
 some_is is = cc
+
+-- what is shown of a value, where there is one
+if_some : {X : Type 0} {P : X → Type 0} (o : Option X) → ((x : X) → o ≡ Some x → P x) → IfSome o P
+if_some (Some x) is = is x refl
+if_some None is = tt
 
 -- what holds of each element holds of the one at an index
 pub all_at : {X : Type 0} (P : X → Type 0) (xs : List X) (i : ℕ) (x : X) → All P xs → slice_get xs i ≡ Some x → P x
@@ -121,26 +126,6 @@ second_way : (k : ℕ) → (k == 0) ≡ false → k < 2 → k ≡ 1
 second_way k later less = grind (arith, nat_tests)
 
 module _ (past : List Event) (g k : ℕ) where
-  sent_told : (c v : ℕ) (closed : Bool) → k ≡ 0 → HasTold (Ask.Send (Some c) v) k g (cond closed (Fault (SendClosed c)) (Send c v))
-  sent_told c v true first = record { told = None; row = at_first k _ None first (told_same c None) }
-  sent_told c v false first = record { told = Some Answer.Unit; row = at_first k _ _ first (told_same_two c v (Some Answer.Unit)) }
-
-  received_told : (c : ℕ) (waits : Option ℕ) → k ≡ 0 → HasTold (Ask.Recv (Some c)) k g (elim waits [ Some v ↦ Recv c v | None ↦ RecvClosed c ])
-  received_told c (Some v) first = record { told = Some (Answer.Value v); row = at_first k _ _ first (told_same c (Some (Answer.Value v))) }
-  received_told c None first = record { told = Some Answer.Closed; row = at_first k _ _ first (told_same c (Some Answer.Closed)) }
-
-  closed_told : (c : ℕ) (closed : Bool) → k ≡ 0 → HasTold (Ask.Close (Some c)) k g (cond closed (Fault (CloseClosed c)) (Close c))
-  closed_told c true first = record { told = None; row = at_first k _ None first (told_same c None) }
-  closed_told c false first = record { told = Some Answer.Unit; row = at_first k _ _ first (told_same c (Some Answer.Unit)) }
-
-  unlocked_told : (l : ℕ) (held : Bool) → k ≡ 0 → HasTold (Ask.Unlock l) k g (cond held (Unlock l) (Fault (UnlockFree l)))
-  unlocked_told l true first = record { told = Some Answer.Unit; row = at_first k _ _ first (told_same l (Some Answer.Unit)) }
-  unlocked_told l false first = record { told = None; row = at_first k _ None first (told_same l None) }
-
-  runlocked_told : (l : ℕ) (held : Bool) → k ≡ 0 → HasTold (Ask.RUnlock l) k g (cond held (RUnlock l) (Fault (RUnlockFree l)))
-  runlocked_told l true first = record { told = Some Answer.Unit; row = at_first k _ _ first (told_same l (Some Answer.Unit)) }
-  runlocked_told l false first = record { told = None; row = at_first k _ None first (told_same l None) }
-
   tried_told : (l : ℕ) (first : Bool) → (k == 0) ≡ first → k < 2 → HasTold (Ask.TryLock l) k g (cond first (TryLock l) (TryFail l))
   tried_told l true first less =
       record { told = Some (Answer.Tried true); row = told_both (k == 0) (l == l) (Some (Answer.Tried true)) first (eq-eqb l l refl) }
@@ -159,45 +144,65 @@ module _ (past : List Event) (g k : ℕ) where
         row = told_both (k == 1) (l == l) (Some (Answer.Tried false)) (ap (λ n. n == 1) (second_way k first less)) (eq-eqb l l refl);
       }
 
-  did_told : (o : ℕ) (begun : Bool) → k ≡ 0 → HasTold (Ask.Do o) k g (cond begun (OnceDone o) (OnceBegin o))
-  did_told o true first = record { told = Some Answer.AlreadyDone; row = at_first k _ _ first (told_same o (Some Answer.AlreadyDone)) }
-  did_told o false first = record { told = Some Answer.Run; row = at_first k _ _ first (told_same o (Some Answer.Run)) }
+-- what a request without another way does alone has a row
+module _ (past : List Event) (g : ℕ) where
+  sent_told : (c v : ℕ) (closed : Bool) → HasTold (Ask.Send (Some c) v) 0 g (cond closed (Fault (SendClosed c)) (Send c v))
+  sent_told c v true = record { told = None; row = told_same c None }
+  sent_told c v false = record { told = Some Answer.Unit; row = told_same_two c v (Some Answer.Unit) }
+
+  received_told : (c : ℕ) (waits : Option ℕ) → HasTold (Ask.Recv (Some c)) 0 g (elim waits [ Some v ↦ Recv c v | None ↦ RecvClosed c ])
+  received_told c (Some v) = record { told = Some (Answer.Value v); row = told_same c (Some (Answer.Value v)) }
+  received_told c None = record { told = Some Answer.Closed; row = told_same c (Some Answer.Closed) }
+
+  closed_told : (c : ℕ) (closed : Bool) → HasTold (Ask.Close (Some c)) 0 g (cond closed (Fault (CloseClosed c)) (Close c))
+  closed_told c true = record { told = None; row = told_same c None }
+  closed_told c false = record { told = Some Answer.Unit; row = told_same c (Some Answer.Unit) }
+
+  unlocked_told : (l : ℕ) (held : Bool) → HasTold (Ask.Unlock l) 0 g (cond held (Unlock l) (Fault (UnlockFree l)))
+  unlocked_told l true = record { told = Some Answer.Unit; row = told_same l (Some Answer.Unit) }
+  unlocked_told l false = record { told = None; row = told_same l None }
+
+  runlocked_told : (l : ℕ) (held : Bool) → HasTold (Ask.RUnlock l) 0 g (cond held (RUnlock l) (Fault (RUnlockFree l)))
+  runlocked_told l true = record { told = Some Answer.Unit; row = told_same l (Some Answer.Unit) }
+  runlocked_told l false = record { told = None; row = told_same l None }
+
+  did_told : (o : ℕ) (begun : Bool) → HasTold (Ask.Do o) 0 g (cond begun (OnceDone o) (OnceBegin o))
+  did_told o true = record { told = Some Answer.AlreadyDone; row = told_same o (Some Answer.AlreadyDone) }
+  did_told o false = record { told = Some Answer.Run; row = told_same o (Some Answer.Run) }
+
+  first_told : (ask : Ask) → IfSome (op_of past ask 0) (HasTold ask 0 g)
+  first_told (Ask.Go h) = record { told = Some Answer.Unit; row = told_same h (Some Answer.Unit) }
+  first_told Ask.Exit = record { told = None; row = refl }
+  first_told (Ask.Read x) = let value = Some (Answer.Value (last_value x past)) in record { told = value; row = told_same x value }
+  first_told (Ask.Write x v) = record { told = Some Answer.Unit; row = told_same_two x v (Some Answer.Unit) }
+  first_told (Ask.Send None v) = tt
+  first_told (Ask.Send (Some c) v) = sent_told c v (is_closed c past)
+  first_told (Ask.Recv None) = tt
+  first_told (Ask.Recv (Some c)) = received_told c (front c past)
+  first_told (Ask.Close None) = record { told = None; row = refl }
+  first_told (Ask.Close (Some c)) = closed_told c (is_closed c past)
+  first_told (Ask.Select offers has_default) =
+      if_some (op_of past (Ask.Select offers has_default) 0) (λ op. select_told past g 0 offers has_default (has_default && (0 == length offers)) op refl)
+  first_told (Ask.Lock l) = record { told = Some Answer.Unit; row = told_same l (Some Answer.Unit) }
+  first_told (Ask.RLock l) = record { told = Some Answer.Unit; row = told_same l (Some Answer.Unit) }
+  first_told (Ask.Unlock l) = unlocked_told l (is_held l past)
+  first_told (Ask.RUnlock l) = runlocked_told l (is_read_held l past)
+  first_told (Ask.TryLock l) = tried_told past g 0 l true refl (omega arith)
+  first_told (Ask.TryRLock l) = rtried_told past g 0 l true refl (omega arith)
+  first_told (Ask.Do o) = did_told o (is_begun o past)
+  first_told (Ask.EndDo o) = record { told = Some Answer.Unit; row = told_same o (Some Answer.Unit) }
+
+  way_told : (ask : Ask) (k : ℕ) → k < ways ask → IfSome (op_of past ask k) (HasTold ask k g)
+  way_told ask zero less = first_told ask
+  way_told (Ask.Select offers has_default) k less =
+      if_some (op_of past (Ask.Select offers has_default) k) (λ op. select_told past g k offers has_default (has_default && (k == length offers)) op refl)
+  way_told (Ask.TryLock l) k less = tried_told past g k l (k == 0) refl less
+  way_told (Ask.TryRLock l) k less = rtried_told past g k l (k == 0) refl less
+  way_told _ (suc k) less = absurd (omega arith)
 
   -- what a request does alone has a row
-  pub lone_told : (ask : Ask) (op : Op) → k < ways ask → op_of past ask k ≡ Some op → HasTold ask k g op
-  lone_told (Ask.Go h) op less is =
-      subst (HasTold (Ask.Go h) k g) (some_is is)
-      (record { told = Some Answer.Unit; row = at_first k _ _ (omega (arith, less)) (told_same h (Some Answer.Unit)) })
-  lone_told Ask.Exit op less is =
-      subst (HasTold Ask.Exit k g) (some_is is) (record { told = None; row = at_first k (Some None) None (omega (arith, less)) refl })
-  lone_told (Ask.Read x) op less is =
-      let value = Some (Answer.Value (last_value x past)) in
-      subst (HasTold (Ask.Read x) k g) (some_is is) (record { told = value; row = at_first k _ _ (omega (arith, less)) (told_same x value) })
-  lone_told (Ask.Write x v) op less is =
-      subst (HasTold (Ask.Write x v) k g) (some_is is)
-      (record { told = Some Answer.Unit; row = at_first k _ _ (omega (arith, less)) (told_same_two x v (Some Answer.Unit)) })
-  lone_told (Ask.Send None v) op less is = absurd (none-some op is)
-  lone_told (Ask.Send (Some c) v) op less is = subst (HasTold (Ask.Send (Some c) v) k g) (some_is is) (sent_told c v (is_closed c past) (omega (arith, less)))
-  lone_told (Ask.Recv None) op less is = absurd (none-some op is)
-  lone_told (Ask.Recv (Some c)) op less is = subst (HasTold (Ask.Recv (Some c)) k g) (some_is is) (received_told c (front c past) (omega (arith, less)))
-  lone_told (Ask.Close None) op less is =
-      subst (HasTold (Ask.Close None) k g) (some_is is) (record { told = None; row = at_first k (Some None) None (omega (arith, less)) refl })
-  lone_told (Ask.Close (Some c)) op less is = subst (HasTold (Ask.Close (Some c)) k g) (some_is is) (closed_told c (is_closed c past) (omega (arith, less)))
-  lone_told (Ask.Select offers has_default) op less is = select_told past g k offers has_default (has_default && (k == length offers)) op refl is
-  lone_told (Ask.Lock l) op less is =
-      subst (HasTold (Ask.Lock l) k g) (some_is is)
-      (record { told = Some Answer.Unit; row = at_first k _ _ (omega (arith, less)) (told_same l (Some Answer.Unit)) })
-  lone_told (Ask.RLock l) op less is =
-      subst (HasTold (Ask.RLock l) k g) (some_is is)
-      (record { told = Some Answer.Unit; row = at_first k _ _ (omega (arith, less)) (told_same l (Some Answer.Unit)) })
-  lone_told (Ask.Unlock l) op less is = subst (HasTold (Ask.Unlock l) k g) (some_is is) (unlocked_told l (is_held l past) (omega (arith, less)))
-  lone_told (Ask.RUnlock l) op less is = subst (HasTold (Ask.RUnlock l) k g) (some_is is) (runlocked_told l (is_read_held l past) (omega (arith, less)))
-  lone_told (Ask.TryLock l) op less is = subst (HasTold (Ask.TryLock l) k g) (some_is is) (tried_told l (k == 0) refl less)
-  lone_told (Ask.TryRLock l) op less is = subst (HasTold (Ask.TryRLock l) k g) (some_is is) (rtried_told l (k == 0) refl less)
-  lone_told (Ask.Do o) op less is = subst (HasTold (Ask.Do o) k g) (some_is is) (did_told o (is_begun o past) (omega (arith, less)))
-  lone_told (Ask.EndDo o) op less is =
-      subst (HasTold (Ask.EndDo o) k g) (some_is is)
-      (record { told = Some Answer.Unit; row = at_first k _ _ (omega (arith, less)) (told_same o (Some Answer.Unit)) })
+  pub lone_told : (k : ℕ) (ask : Ask) (op : Op) → k < ways ask → op_of past ask k ≡ Some op → HasTold ask k g op
+  lone_told k ask op less is = subst (λ o. IfSome o (HasTold ask k g)) is (way_told ask k less)
 
 -- the operation of two offers, where there are both
 abbrev pub meets_by : ℕ → Option Offer → Option Offer → Option Op
@@ -217,16 +222,14 @@ met_on r c d v op false test is = absurd (none-some op is)
 met_on r c d v op true test is =
     record { chan = c; value = v; sends = refl; receives = ap (λ e. Some (Offer.Recv (Some e))) (sym (eqb-true c d test)); op_is = sym (some_is is) }
 
+met_by : (r : ℕ) (a b : Offer) (op : Op) → meet_op r a b ≡ Some op → IsMeet r (Some a) (Some b) op
+met_by r (Offer.Send (Some c) v) (Offer.Recv (Some d)) op is = met_on r c d v op (c == d) refl is
+met_by r _ _ op is = absurd (none-some op is)
+
 pub is_meet : (r : ℕ) (x y : Option Offer) (op : Op) → meets_by r x y ≡ Some op → IsMeet r x y op
-is_meet r (Some (Offer.Send (Some c) v)) (Some (Offer.Recv (Some d))) op is = met_on r c d v op (c == d) refl is
+is_meet r (Some a) (Some b) op is = met_by r a b op is
+is_meet r (Some a) None op is = absurd (none-some op is)
 is_meet r None y op is = absurd (none-some op is)
-is_meet r (Some (Offer.Send None v)) None op is = absurd (none-some op is)
-is_meet r (Some (Offer.Send None v)) (Some b) op is = absurd (none-some op is)
-is_meet r (Some (Offer.Send (Some c) v)) None op is = absurd (none-some op is)
-is_meet r (Some (Offer.Send (Some c) v)) (Some (Offer.Send d u)) op is = absurd (none-some op is)
-is_meet r (Some (Offer.Send (Some c) v)) (Some (Offer.Recv None)) op is = absurd (none-some op is)
-is_meet r (Some (Offer.Recv c)) None op is = absurd (none-some op is)
-is_meet r (Some (Offer.Recv c)) (Some b) op is = absurd (none-some op is)
 
 -- who offers to send is told by its row that it did
 pub record HasAnswer (ask : Ask) (k : ℕ) (op : Op) : Type 0 where
@@ -247,8 +250,6 @@ sender_has (Ask.Send d u) zero c v is =
     value_of (Offer.Send c v) = v
     value_of (Offer.Recv c) = 0
 sender_has (Ask.Recv d) zero c v is = absurd cc
-sender_has (Ask.Send d u) (suc k) c v is = absurd (none-some _ is)
-sender_has (Ask.Recv d) (suc k) c v is = absurd (none-some _ is)
 sender_has _ k c v is = absurd (none-some _ is)
 
 -- so is who offers to receive
@@ -264,8 +265,6 @@ receiver_has (Ask.Recv d) zero c v is =
       row = ap (λ e. told_receiver e (Recv c v)) (ap chan_of (some_is is)) ∙ told_same c (Some (Answer.Value v));
     }
 receiver_has (Ask.Send d u) zero c v is = absurd cc
-receiver_has (Ask.Send d u) (suc k) c v is = absurd (none-some _ is)
-receiver_has (Ask.Recv d) (suc k) c v is = absurd (none-some _ is)
 receiver_has _ k c v is = absurd (none-some _ is)
 
 -- a possible tuple makes an event, which is legal

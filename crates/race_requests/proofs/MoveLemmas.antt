@@ -1,5 +1,5 @@
 -- Who meets nobody by an offer, and which default stands back.
-use Rattle.std.proofs.Common.{◌≡◌, ℕ, ◌+◌, ◌-◌, ◌==◌, ◌&&◌, ◌||◌, cond, Bool, true, false, true≢false, List, [], ◌∷◌}
+use Rattle.std.proofs.Common.{◌≡◌, ℕ, ◌+◌, ◌-◌, ◌==◌, ◌&&◌, cond, Bool, true, false, true≢false, List, [], ◌∷◌}
 use Rattle.std.proofs.Common.{length, filter, slice_get, Option, Some, None, refl, sym, ap, ◌∙◌, arith}
 use Rattle.std.proofs.lemmas.{Bool.Decides.nat_tests, List.Folds.list_any_at}
 use Rattle.std.{proofs.lemmas.Option.{none-some, slice_get_within, get_or_from_slice_get}, specs.List.list_any}
@@ -32,10 +32,8 @@ record IsSent (c : ℕ) (x : Option Offer) : Type 0 where
   offer : x ≡ Some (Offer.Send (Some c) value)
 
 sent_is : (c : ℕ) (x : Option Offer) → Some c ≡ sent_on x → IsSent c x
-sent_is c None is = absurd (let no : Some c ≡ None = is in cc)
-sent_is c (Some (Offer.Recv d)) is = absurd (let no : Some c ≡ None = is in cc)
-sent_is c (Some (Offer.Send None v)) is = absurd (let no : Some c ≡ None = is in cc)
 sent_is c (Some (Offer.Send (Some d) v)) is = record { value = v; offer = ap (λ e. Some (Offer.Send e v)) (sym is) }
+sent_is c _ is = absurd (let no : Some c ≡ None = is in cc)
 
 module _ (caps : ℕ → ℕ) (past : List Event) (waiting : List Waiter) (w : Waiter) (place way p q c : ℕ) (there : slice_get waiting place ≡ Some w) where
   -- the event of the two
@@ -82,22 +80,16 @@ module _ (p q : Choice → Bool) where
 
   pub some_of_both : (xs : List Choice) (t : Choice) → slice_get (filter (λ x. p x && q x) xs) 0 ≡ Some t → list_any q (filter p xs) ≡ true
   some_of_both [] t is = absurd (none-some t is)
-  some_of_both (x ∷ xs) t is = by (p x) (q x) refl refl is (some_of_both xs t)
+  some_of_both (x ∷ xs) t is = on (p x) is (some_of_both xs t)
     where
-      by : (a b : Bool) → p x ≡ a → q x ≡ b → slice_get (cond (a && b) (x ∷ both_pass xs) (both_pass xs)) 0 ≡ Some t
-          → (slice_get (both_pass xs) 0 ≡ Some t → list_any q (filter p xs) ≡ true) → list_any q (cond (p x) (x ∷ filter p xs) (filter p xs)) ≡ true
-      by true true m n is rest = ap (λ b. list_any q (cond b (x ∷ filter p xs) (filter p xs))) m ∙ ap (λ b. b || list_any q (filter p xs)) n
-      by true false m n is rest =
-          ap (λ b. list_any q (cond b (x ∷ filter p xs) (filter p xs))) m ∙ ap (λ b. b || list_any q (filter p xs)) n ∙ rest is
-      by false b m n is rest = ap (λ b. list_any q (cond b (x ∷ filter p xs) (filter p xs))) m ∙ rest is
+      on : (a : Bool) → slice_get (cond (a && q x) (x ∷ both_pass xs) (both_pass xs)) 0 ≡ Some t
+          → (slice_get (both_pass xs) 0 ≡ Some t → list_any q (filter p xs) ≡ true) → list_any q (cond a (x ∷ filter p xs) (filter p xs)) ≡ true
+      on a is rest = grind arith
 
   pub none_of_both : (xs : List Choice) → length (filter (λ x. p x && q x) xs) ≡ 0 → list_any q (filter p xs) ≡ false
   none_of_both [] is = refl
-  none_of_both (x ∷ xs) is = by (p x) (q x) refl refl is (none_of_both xs)
+  none_of_both (x ∷ xs) is = on (p x) is (none_of_both xs)
     where
-      by : (a b : Bool) → p x ≡ a → q x ≡ b → length (cond (a && b) (x ∷ both_pass xs) (both_pass xs)) ≡ 0
-          → (length (both_pass xs) ≡ 0 → list_any q (filter p xs) ≡ false) → list_any q (cond (p x) (x ∷ filter p xs) (filter p xs)) ≡ false
-      by true true m n is rest = absurd (omega (arith, is))
-      by true false m n is rest =
-          ap (λ b. list_any q (cond b (x ∷ filter p xs) (filter p xs))) m ∙ ap (λ b. b || list_any q (filter p xs)) n ∙ rest is
-      by false b m n is rest = ap (λ b. list_any q (cond b (x ∷ filter p xs) (filter p xs))) m ∙ rest is
+      on : (a : Bool) → length (cond (a && q x) (x ∷ both_pass xs) (both_pass xs)) ≡ 0
+          → (length (both_pass xs) ≡ 0 → list_any q (filter p xs) ≡ false) → list_any q (cond a (x ∷ filter p xs) (filter p xs)) ≡ false
+      on a is rest = grind arith

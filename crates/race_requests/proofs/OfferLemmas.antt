@@ -1,7 +1,7 @@
 -- A list of offers, read and made longer by its cases and values.
 use Rattle.std.proofs.Common.{◌≡◌, ℕ, zero, suc, ◌<◌, ◌≤◌, ◌&&◌, cond, nat_lt, nat_le, Bool, true, false, List, [], ◌∷◌}
 use Rattle.std.proofs.Common.{◌++◌, length, map, set, get_or, Option, Some, None, IfSome, IsTrue, slice_get, true≢false}
-use Rattle.std.proofs.{Common.{refl, sym, ap, ◌∙◌, arith}, lemmas.{Bool.Decides.nat_tests, Option.none-some}}
+use Rattle.std.proofs.{Common.{refl, sym, ap, ◌∙◌, arith}, lemmas.{Bool.{and_parts, Decides.nat_tests}, Option.none-some}}
 use Rattle.std.specs.List.{list_all}
 use Rattle.race_records.specs.declared.{cases.{TheConstants.MAX_CASES, Case.Case, Dir.Dir}, kind.Kind.Kind}
 use Rattle.race_records.specs.{Cases.{kept_chan, kept as kept_case}, Parts.{case_is_in_range, chan_is_in_range}}
@@ -44,14 +44,8 @@ case_of_offer : (case : Case) (value : ℕ) → case_of (offer_of case value) �
 case_of_offer case value = by case.dir refl
   where
     by : (d : Dir) → case.dir ≡ d → case_of (elim d [ Dir.Send ↦ Offer.Send case.chan value | Dir.Recv ↦ Offer.Recv case.chan ]) ≡ case
-    by Dir.Send is = λ i. record { dir = sym_is i; chan = case.chan }
-      where
-        sym_is : Dir.Send ≡ case.dir
-        sym_is = cc
-    by Dir.Recv is = λ i. record { dir = sym_is i; chan = case.chan }
-      where
-        sym_is : Dir.Recv ≡ case.dir
-        sym_is = cc
+    by Dir.Send is = λ i. record { dir = sym is i; chan = case.chan }
+    by Dir.Recv is = λ i. record { dir = sym is i; chan = case.chan }
 
 -- what is kept of an offer is the offer of what is kept of its case
 pub kept_offer : (case : Case) (value : ℕ) → offer_of (kept_case case) value ≡ kept (offer_of case value)
@@ -82,24 +76,13 @@ kept_offer_range chans (Offer.Recv c) few = kept_chan_range chans c few
 pub cases_again : (cases : List Case) (values : List ℕ) → length cases ≤ length values → cases ≡ map case_of (offers_with cases values)
 cases_again [] values few = refl
 cases_again (c ∷ cases) [] few = absurd (omega (arith, few))
-cases_again (c ∷ cases) (v ∷ values) few = again (case_of_offer c v) (cases_again cases values (omega (arith, few)))
-  where
-    again : case_of (offer_of c v) ≡ c → cases ≡ map case_of (offers_with cases values)
-        → c ∷ cases ≡ case_of (offer_of c v) ∷ map case_of (offers_with cases values)
-    again one rest = λ i. one_back i ∷ rest i
-      where
-        one_back : c ≡ case_of (offer_of c v)
-        one_back = cc
+cases_again (c ∷ cases) (v ∷ values) few = λ i. sym (case_of_offer c v) i ∷ cases_again cases values (omega (arith, few)) i
 
 -- Which channels offers name.
 
-both : (a b : Bool) → (a && b) ≡ true → (a ≡ true) × (b ≡ true)
-both true b is = (refl, is)
-both false b is = absurd cc
-
 pub offers_in_range : (counts : Kind → ℕ) (offers : List Offer) (has_default : Bool) → ask_is_in_range counts (Ask.Select offers has_default) ≡ true
     → list_all (offer_is_in_range (counts Kind.Chan)) offers ≡ true
-offers_in_range counts offers has_default is = (both (nat_le (length offers) MAX_CASES) _ is).1
+offers_in_range counts offers has_default is = (and_parts (nat_le (length offers) MAX_CASES) _ is).1
 
 -- each offer's channel is in range
 pub offer_in_range : (chans : ℕ) (offers : List Offer) (k : ℕ) → list_all (offer_is_in_range chans) offers ≡ true
@@ -118,7 +101,7 @@ pub cases_in_range : (chans : ℕ) (offers : List Offer) → list_all (offer_is_
     → list_all (case_is_in_range chans) (map case_of offers) ≡ true
 cases_in_range chans [] is = refl
 cases_in_range chans (o ∷ offers) is =
-    let parts = both (offer_is_in_range chans o) (list_all (offer_is_in_range chans) offers) is in
+    let parts = and_parts (offer_is_in_range chans o) (list_all (offer_is_in_range chans) offers) is in
     λ i. (case_in_range chans o parts.0 ∙ refl) i && cases_in_range chans offers parts.1 i
 
 -- so is that on which an ask offers to send
@@ -135,7 +118,7 @@ sent_in_range counts _ k c v is there = absurd (none-some _ there)
 
 -- an ask in range has at most sixteen offers, and one way more
 pub few_ways : (counts : Kind → ℕ) (ask : Ask) → ask_is_in_range counts ask ≡ true → ways ask ≤ 17
-few_ways counts (Ask.Select offers has_default) is = by has_default (few (both (nat_le (length offers) MAX_CASES) _ is).0)
+few_ways counts (Ask.Select offers has_default) is = by has_default (few (and_parts (nat_le (length offers) MAX_CASES) _ is).0)
   where
     few : nat_le (length offers) 16 ≡ true → length offers ≤ 16
     few test = grind (arith, nat_tests)

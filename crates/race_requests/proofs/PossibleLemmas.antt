@@ -1,17 +1,17 @@
 -- For each row: its event breaks no rule just where the words of the run so far let it go on.
-use Rattle.std.proofs.Common.{◌≡◌, ℕ, ◌<◌, ◌≤◌, ◌==◌, ◌||◌, ◌&&◌, not, nat_lt, cond, Bool, true, false, List, [], ◌∷◌}
-use Rattle.std.proofs.Common.{length, map, slice_get, filter_map, Option, Some, None, is_none, is_some, refl, sym, ap}
-use Rattle.std.proofs.{Common.{◌∙◌, arith}, lemmas.{Bool.Decides.{nat_tests, Decides-eqb}, Option.slice_get_within}}
+use Rattle.std.proofs.Common.{◌≡◌, ℕ, ◌<◌, ◌==◌, ◌||◌, ◌&&◌, not, nat_lt, cond, Bool, true, false, List, ◌∷◌}
+use Rattle.std.proofs.Common.{length, map, slice_get, filter_map, Option, Some, None, is_none, is_some, refl, sym}
+use Rattle.std.proofs.{Common.{◌∙◌, arith}, lemmas.{Bool.Decides.{nat_tests}, Option.slice_get_within}}
 use Rattle.std.specs.{List.list_any, Option.option_map}
 use Rattle.race_records.specs.declared.{cases.Case.Case, event.{Event.Event, Cause.TheVariants.SendClosed}}
-use Rattle.race_records.specs.declared.event.{Cause.TheVariants.{CloseClosed, CloseNil, UnlockFree, RUnlockFree}, Op.Op}
-use Rattle.race_records.specs.declared.event.Op.TheVariants.{Go, Exit, Read, Lock, RLock, OnceEnd, Send, Recv, Meet}
+use Rattle.race_records.specs.declared.event.{Cause.TheVariants.{CloseClosed, UnlockFree, RUnlockFree}, Op.Op}
+use Rattle.race_records.specs.declared.event.Op.TheVariants.{Send, Recv, Meet}
 use Rattle.race_records.specs.declared.event.Op.TheVariants.{RecvClosed, Close, Default, Unlock, RUnlock, TryLock}
 use Rattle.race_records.specs.declared.event.Op.TheVariants.{TryRLock, TryFail, OnceBegin, OnceDone, Fault}
 use Rattle.race_records.proofs.ListLemmas.{slice_get-within}
-use Rattle.race_model.specs.{Events.{gives, sends, receives, count}, State.{over, runs, is_closed, buffered, front}}
-use Rattle.race_model.specs.State.{sent, is_held, is_read_held, is_begun, is_ended, innermost, started, last_value}
-use Rattle.race_model.{specs.Legal.{least_broken, broken, op_rules, is_ready}, proofs.StateSteps.sent_count}
+use Rattle.race_model.specs.{Events.{sends, receives, count}, State.{over, runs, is_closed, buffered, front}}
+use Rattle.race_model.specs.State.{sent, is_held, is_read_held, is_begun, is_ended}
+use Rattle.race_model.{specs.Legal.{least_broken, broken, is_ready}, proofs.StateSteps.sent_count}
 use Rattle.race_legal.specs.{declared.rule.Rule.Rule, Rules.number_of}
 use Rattle.race_requests.specs.{declared.request.{Ask.Ask, Offer.Offer, Waiter.Waiter}, Offers.case_of}
 use Rattle.race_requests.specs.Choices.{is_legal_next, lone_event, lone_op, offer_at}
@@ -28,48 +28,9 @@ none_is_told (Some rule) false is = refl
 abbrev clean : List (ℕ × Bool) → Bool
 clean rules = is_none (least_broken rules)
 
-one : (i : ℕ) (a : Bool) → clean ((i, a) ∷ []) ≡ not a
-one i true = refl
-one i false = refl
-
-two : (i j : ℕ) (a b : Bool) → clean ((i, a) ∷ (j, b) ∷ []) ≡ (not a && not b)
-two i j true b = refl
-two i j false b = one j b
-
-three : (i j k : ℕ) (a b c : Bool) → clean ((i, a) ∷ (j, b) ∷ (k, c) ∷ []) ≡ (not a && (not b && not c))
-three i j k true b c = refl
-three i j k false b c = two j k b c
-
-twice : (a : Bool) → not (not a) ≡ a
-twice true = refl
-twice false = refl
-
-neither_is : (a b : Bool) → not (a || b) ≡ (not a && not b)
-neither_is true b = refl
-neither_is false b = refl
-
-some_none : (o : Option ℕ) → not (is_some o) ≡ is_none o
-some_none None = refl
-some_none (Some x) = refl
-
--- a capacity isn't 0 where it is positive
-positive : (n : ℕ) → not (n == 0) ≡ nat_lt 0 n
-positive n = grind (arith, nat_tests)
-
-unpositive : (n : ℕ) → not (nat_lt 0 n) ≡ (n == 0)
-unpositive n = grind (arith, nat_tests)
-
-unequal : (m n : ℕ) → n < m → (m == n) ≡ false
-unequal m n less = grind (arith, nat_tests)
-
-no_more : (m n : ℕ) → n ≤ m → nat_lt m n ≡ false
-no_more m n le = grind (arith, nat_tests)
-
 -- the two rules on every event, and then those on the operation
 head : (o r t : Bool) (rules : List (ℕ × Bool)) → clean rules ≡ t → clean ((1, o) ∷ (2, not (r && true)) ∷ rules) ≡ (not o && (r && t))
-head true r t rules e = refl
-head false true t rules e = e
-head false false t rules e = refl
+head o r t rules e = grind arith
 
 module _ (caps : ℕ → ℕ) (past : List Event) (g place : ℕ) where
   -- the event in which g does that breaks no rule
@@ -82,13 +43,7 @@ module _ (caps : ℕ → ℕ) (past : List Event) (g place : ℕ) where
 
   send_row : (c v : ℕ) (closed : Bool) → is_closed c past ≡ closed
       → fits (cond closed (Fault (SendClosed c)) (Send c v)) ≡ and_acts (closed || (nat_lt 0 (caps c) && not (buffered c past == caps c)))
-  send_row c v true is =
-      head (over past) (runs g past) true (op_rules caps past g (Fault (SendClosed c)))
-      (one 23 (not (is_closed c past)) ∙ twice (is_closed c past) ∙ is)
-  send_row c v false is =
-      head (over past) (runs g past) _ (op_rules caps past g (Send c v))
-      (three 5 6 7 (caps c == 0) (is_closed c past) (buffered c past == caps c)
-      ∙ (λ i. positive (caps c) i && (not (is i) && not (buffered c past == caps c))))
+  send_row c v closed is = grind (arith, nat_tests)
 
   -- a value that waits was sent and isn't received
   more_sent : (c v : ℕ) → front c past ≡ Some v → count (receives c) past < count (sends c) past
@@ -109,57 +64,35 @@ module _ (caps : ℕ → ℕ) (past : List Event) (g place : ℕ) where
           let x = slice_get-within (filter_map (λ e. sent c e.op) past) (count (receives c) past) less in
           absurd (let e : Some x.0 ≡ None = sym x.1 ∙ is in cc)
 
+  value_row : (c v : ℕ) → front c past ≡ Some v → count (receives c) past < count (sends c) past → fits (Recv c v) ≡ and_acts (nat_lt 0 (caps c))
+  value_row c v is more = grind (arith, nat_tests)
+
+  closed_row : (c : ℕ) → nat_lt (count (receives c) past) (count (sends c) past) ≡ false → fits (RecvClosed c) ≡ and_acts (is_closed c past)
+  closed_row c none = grind arith
+
   recv_row : (c : ℕ) (first : Option ℕ) → front c past ≡ first
       → fits (elim first [ Some v ↦ Recv c v | None ↦ RecvClosed c ]) ≡ and_acts (elim first [ Some v ↦ nat_lt 0 (caps c) | None ↦ is_closed c past ])
-  recv_row c (Some v) is =
-      head (over past) (runs g past) _ (op_rules caps past g (Recv c v))
-      (three 5 8 9 (caps c == 0) (count (sends c) past == count (receives c) past) (not (gives (front c past) v))
-      ∙ (λ i. positive (caps c) i
-      && (not (unequal (count (sends c) past) (count (receives c) past) (more_sent c v is) i) && twice (gives (is i) v) i))
-      ∙ ap (λ b. nat_lt 0 (caps c) && b) ((Decides-eqb v v).1 refl) ∙ and_true (nat_lt 0 (caps c)))
-    where
-      and_true : (b : Bool) → (b && true) ≡ b
-      and_true true = refl
-      and_true false = refl
-  recv_row c None is =
-      head (over past) (runs g past) _ (op_rules caps past g (RecvClosed c))
-      (two 10 11 (not (is_closed c past)) (nat_lt (count (receives c) past) (count (sends c) past))
-      ∙ (λ i. twice (is_closed c past) i && not (none_left c is i)) ∙ and_true (is_closed c past))
-    where
-      and_true : (b : Bool) → (b && true) ≡ b
-      and_true true = refl
-      and_true false = refl
+  recv_row c (Some v) is = value_row c v is (more_sent c v is)
+  recv_row c None is = closed_row c (none_left c is)
 
   close_row : (c : ℕ) (closed : Bool) → is_closed c past ≡ closed → fits (cond closed (Fault (CloseClosed c)) (Close c)) ≡ and_acts true
-  close_row c true is =
-      head (over past) (runs g past) true (op_rules caps past g (Fault (CloseClosed c)))
-      (one 23 (not (is_closed c past)) ∙ twice (is_closed c past) ∙ is)
-  close_row c false is = head (over past) (runs g past) true (op_rules caps past g (Close c)) (one 12 (is_closed c past) ∙ ap not is)
+  close_row c closed is = grind arith
 
   unlock_row : (l : ℕ) (held : Bool) → is_held l past ≡ held → fits (cond held (Unlock l) (Fault (UnlockFree l))) ≡ and_acts true
-  unlock_row l true is = head (over past) (runs g past) true (op_rules caps past g (Unlock l)) (one 15 (not (is_held l past)) ∙ twice (is_held l past) ∙ is)
-  unlock_row l false is = head (over past) (runs g past) true (op_rules caps past g (Fault (UnlockFree l)))
-      (one 23 (not (not (is_held l past))) ∙ ap (λ b. not (not (not b))) is)
+  unlock_row l held is = grind arith
 
   runlock_row : (l : ℕ) (held : Bool) → is_read_held l past ≡ held → fits (cond held (RUnlock l) (Fault (RUnlockFree l))) ≡ and_acts true
-  runlock_row l true is =
-      head (over past) (runs g past) true (op_rules caps past g (RUnlock l))
-      (one 16 (not (is_read_held l past)) ∙ twice (is_read_held l past) ∙ is)
-  runlock_row l false is = head (over past) (runs g past) true (op_rules caps past g (Fault (RUnlockFree l)))
-      (one 23 (not (not (is_read_held l past))) ∙ ap (λ b. not (not (not b))) is)
+  runlock_row l held is = grind arith
 
   -- a failed try stands under the two rules on every event alone
   try_row : (l : ℕ) (first : Bool) → fits (cond first (TryLock l) (TryFail l)) ≡ and_acts (not first || (not (is_held l past) && not (is_read_held l past)))
-  try_row l true = head (over past) (runs g past) _ (op_rules caps past g (TryLock l)) (two 13 14 (is_held l past) (is_read_held l past))
-  try_row l false = head (over past) (runs g past) true [] refl
+  try_row l first = grind arith
 
   tryr_row : (l : ℕ) (first : Bool) → fits (cond first (TryRLock l) (TryFail l)) ≡ and_acts (not first || not (is_held l past))
-  tryr_row l true = head (over past) (runs g past) _ (op_rules caps past g (TryRLock l)) (one 13 (is_held l past))
-  tryr_row l false = head (over past) (runs g past) true [] refl
+  tryr_row l first = grind arith
 
   do_row : (o : ℕ) (begun : Bool) → is_begun o past ≡ begun → fits (cond begun (OnceDone o) (OnceBegin o)) ≡ and_acts (not begun || is_ended o past)
-  do_row o true is = head (over past) (runs g past) _ (op_rules caps past g (OnceDone o)) (one 19 (not (is_ended o past)) ∙ twice (is_ended o past))
-  do_row o false is = head (over past) (runs g past) true (op_rules caps past g (OnceBegin o)) (one 17 (is_begun o past) ∙ ap not is)
+  do_row o begun is = grind arith
 
   -- the event of what g does, if it does anything
   abbrev made : Option Op → Option Event
@@ -167,9 +100,7 @@ module _ (caps : ℕ → ℕ) (past : List Event) (g place : ℕ) where
 
   -- an offer on nil makes no event
   nothing : (o r : Bool) → false ≡ (not o && (r && false))
-  nothing true r = refl
-  nothing false true = refl
-  nothing false false = refl
+  nothing o r = grind arith
 
   -- so does a number behind the last offer
   offer_row : (o : Option Offer) → is_legal_next caps past (made (elim o [ Some o ↦ lone_op past o | None ↦ None ]))
@@ -182,7 +113,7 @@ module _ (caps : ℕ → ℕ) (past : List Event) (g place : ℕ) where
 
   -- a default breaks no rule where no case is ready
   default_row : (cases : List Case) → fits (Default cases) ≡ and_acts (not (list_any (is_ready caps past) cases))
-  default_row cases = head (over past) (runs g past) _ (op_rules caps past g (Default cases)) (one 22 (list_any (is_ready caps past) cases))
+  default_row cases = grind arith
 
   select_row : (offers : List Offer) (k : ℕ) (by_default : Bool)
       → is_legal_next caps past (made (cond by_default (Some (Default (map case_of offers))) (offer_at offers k (lone_op past))))
@@ -192,31 +123,25 @@ module _ (caps : ℕ → ℕ) (past : List Event) (g place : ℕ) where
 
   row_goes_on : (ask : Ask) (k : ℕ)
       → is_legal_next caps past (lone_event past (record { who = g; asked = record { ask = ask; place = place } }) k) ≡ and_acts (goes_on caps past g ask k)
-  row_goes_on (Ask.Go h) k =
-      head (over past) (runs g past) _ (op_rules caps past g (Go h))
-      (one 3 (h == 0 || started h past) ∙ neither_is (h == 0) (started h past))
-  row_goes_on Ask.Exit k = head (over past) (runs g past) _ (op_rules caps past g (Exit)) (one 20 (is_some (innermost g past)) ∙ some_none (innermost g past))
-  row_goes_on (Ask.Read x) k = head (over past) (runs g past) true
-      (op_rules caps past g (Read x (last_value x past)))
-      (one 21 (not (last_value x past == last_value x past)) ∙ twice (last_value x past == last_value x past)
-      ∙ (Decides-eqb (last_value x past) (last_value x past)).1 refl)
-  row_goes_on (Ask.Write x v) k = head (over past) (runs g past) true [] refl
+  row_goes_on (Ask.Go h) k = grind arith
+  row_goes_on Ask.Exit k = grind arith
+  row_goes_on (Ask.Read x) k = grind (arith, nat_tests)
+  row_goes_on (Ask.Write x v) k = grind arith
   row_goes_on (Ask.Send None v) k = nothing (over past) (runs g past)
   row_goes_on (Ask.Send (Some c) v) k = send_row c v (is_closed c past) refl
   row_goes_on (Ask.Recv None) k = nothing (over past) (runs g past)
   row_goes_on (Ask.Recv (Some c)) k = recv_row c (front c past) refl
-  row_goes_on (Ask.Close None) k = head (over past) (runs g past) true (op_rules caps past g (Fault CloseNil)) (one 23 false)
+  row_goes_on (Ask.Close None) k = grind arith
   row_goes_on (Ask.Close (Some c)) k = close_row c (is_closed c past) refl
   row_goes_on (Ask.Select offers has_default) k = select_row offers k (has_default && (k == length offers))
-  row_goes_on (Ask.Lock l) k = head (over past) (runs g past) _ (op_rules caps past g (Lock l)) (two 13 14 (is_held l past) (is_read_held l past))
-  row_goes_on (Ask.RLock l) k = head (over past) (runs g past) _ (op_rules caps past g (RLock l)) (one 13 (is_held l past))
+  row_goes_on (Ask.Lock l) k = grind arith
+  row_goes_on (Ask.RLock l) k = grind arith
   row_goes_on (Ask.Unlock l) k = unlock_row l (is_held l past) refl
   row_goes_on (Ask.RUnlock l) k = runlock_row l (is_read_held l past) refl
   row_goes_on (Ask.TryLock l) k = try_row l (k == 0)
   row_goes_on (Ask.TryRLock l) k = tryr_row l (k == 0)
   row_goes_on (Ask.Do o) k = do_row o (is_begun o past) refl
-  row_goes_on (Ask.EndDo o) k = head (over past) (runs g past) _ (op_rules caps past g (OnceEnd o))
-      (one 18 (not (gives (innermost g past) o)) ∙ twice (gives (innermost g past) o))
+  row_goes_on (Ask.EndDo o) k = grind arith
 
 -- each request goes on alone just where the words of the run so far say so
 pub each_row : (caps : ℕ → ℕ) (past : List Event) (w : Waiter) (k : ℕ)
@@ -227,11 +152,4 @@ each_row caps past w k = row_goes_on caps past w.who w.asked.place w.asked.ask k
 pub each_meet : (caps : ℕ → ℕ) (past : List Event) (sender receiver place place2 c v : ℕ)
     → is_legal_next caps past (Some (record { who = sender; op = Meet receiver c v; place = place; place2 = Some place2 }))
     ≡ (not (over past) && ((runs sender past && runs receiver past) && meet_goes_on caps past sender receiver c))
-each_meet caps past s r place place2 c v =
-    by (over past) (runs s past && runs r past) (meet_goes_on caps past s r c) (op_rules caps past s (Meet r c v))
-    (three 4 5 6 (r == s) (nat_lt 0 (caps c)) (is_closed c past) ∙ ap (λ b. not (r == s) && (b && not (is_closed c past))) (unpositive (caps c)))
-  where
-    by : (o a t : Bool) (rules : List (ℕ × Bool)) → clean rules ≡ t → clean ((1, o) ∷ (2, not a) ∷ rules) ≡ (not o && (a && t))
-    by true a t rules e = refl
-    by false true t rules e = e
-    by false false t rules e = refl
+each_meet caps past s r place place2 c v = grind (arith, nat_tests)

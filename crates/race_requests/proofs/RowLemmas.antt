@@ -1,7 +1,7 @@
 -- Rows of the table: how one is made, and what one says.
 use Rattle.std.proofs.Common.{◌≡◌, ℕ, ◌+◌, ◌<◌, ◌==◌, ◌&&◌, ◌⊎◌, cond, if◌then◌else◌, Bool, true, false, List, length}
 use Rattle.std.proofs.Common.{map, slice_get, Option, Some, None, option_map, inl, inr, refl, sym, subst, ap, ◌∙◌}
-use Rattle.std.proofs.{Common.arith, lemmas.{Option.slice_get_within, Bool.Decides.Decides-eqb}}
+use Rattle.std.proofs.{Common.arith, lemmas.{Option.slice_get_within, Bool.{and_parts, Decides.{Decides-eqb}}}}
 use Rattle.race_records.specs.{Cases.{same_cases, same_cases-Decides}, declared.{cases.Case.Case, event.Op.Op}}
 use Rattle.race_records.specs.declared.event.Op.TheVariants.{Default, TryLock, TryRLock, TryFail}
 use Rattle.race_requests.specs.{declared.request.{Answer.Answer, Ask.Ask, Offer.Offer}, Offers.case_of, Choices.ways}
@@ -26,14 +26,10 @@ passed false a told e = absurd cc
 pub wanted : (m n : ℕ) (a told : Option Answer) → told_if (m == n) a ≡ Some told → (m ≡ n) × (told ≡ a)
 wanted m n a told e = let p = passed (m == n) a told e in ((Decides-eqb m n).0 p.0, p.1)
 
-both_true : (a b : Bool) → (a && b) ≡ true → (a ≡ true) × (b ≡ true)
-both_true true b e = (refl, e)
-both_true false b e = absurd cc
-
 pub wanted_two : (m n k l : ℕ) (a told : Option Answer) → told_if ((m == n) && (k == l)) a ≡ Some told → (m ≡ n) × (k ≡ l) × (told ≡ a)
 wanted_two m n k l a told e =
     let p = passed ((m == n) && (k == l)) a told e in
-    let q = both_true (m == n) (k == l) p.0 in
+    let q = and_parts (m == n) (k == l) p.0 in
     ((Decides-eqb m n).0 q.0, (Decides-eqb k l).0 q.1, p.1)
 
 -- a row of an ask that is no select and no try is by way 0
@@ -114,8 +110,8 @@ module _ (offers : List Offer) (has_default : Bool) (k : ℕ) where
       → IsByDefault (Default cases) told
   by_default cases told e =
       let p = passed ((has_default && (k == length offers)) && same_cases cases (map case_of offers)) (Some Answer.DefaultTaken) told e in
-      let q = both_true (has_default && (k == length offers)) (same_cases cases (map case_of offers)) p.0 in
-      let r = both_true has_default (k == length offers) q.0 in
+      let q = and_parts (has_default && (k == length offers)) (same_cases cases (map case_of offers)) p.0 in
+      let r = and_parts has_default (k == length offers) q.0 in
       record {
         has = r.0;
         behind = (Decides-eqb k (length offers)).0 r.1;
@@ -131,14 +127,17 @@ module _ (offers : List Offer) (has_default : Bool) (k : ℕ) where
       by (Default cases) true is row = inr (by_default cases told row)
       by _ true is row = absurd cc
 
+try_way : (k way m l : ℕ) (a told : Option Answer) → told_if ((k == way) && (m == l)) a ≡ Some told → way < 2 → k < 2
+try_way k way m l a told row less = let is = wanted_two k way m l a told row in omega (arith, is.0, less)
+
 trier_way : (l k : ℕ) (op : Op) (told : Option Answer) → told_trier l k op ≡ Some told → k < 2
-trier_way l k (TryLock m) told row = let way = (wanted_two k 0 m l (Some (Answer.Tried true)) told row).0 in omega (arith, way)
-trier_way l k (TryFail m) told row = let way = (wanted_two k 1 m l (Some (Answer.Tried false)) told row).0 in omega (arith, way)
+trier_way l k (TryLock m) told row = try_way k 0 m l _ told row (omega arith)
+trier_way l k (TryFail m) told row = try_way k 1 m l _ told row (omega arith)
 trier_way l k _ told row = absurd cc
 
 rtrier_way : (l k : ℕ) (op : Op) (told : Option Answer) → told_rtrier l k op ≡ Some told → k < 2
-rtrier_way l k (TryRLock m) told row = let way = (wanted_two k 0 m l (Some (Answer.Tried true)) told row).0 in omega (arith, way)
-rtrier_way l k (TryFail m) told row = let way = (wanted_two k 1 m l (Some (Answer.Tried false)) told row).0 in omega (arith, way)
+rtrier_way l k (TryRLock m) told row = try_way k 0 m l _ told row (omega arith)
+rtrier_way l k (TryFail m) told row = try_way k 1 m l _ told row (omega arith)
 rtrier_way l k _ told row = absurd cc
 
 -- a row is by one of the ways of its ask

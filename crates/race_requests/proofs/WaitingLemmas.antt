@@ -1,6 +1,6 @@
 -- What a waiting list names has a row in the tables of a replay that stands for its events.
-use Rattle.std.proofs.Common.{ℕ, ◌≡◌, ◌<◌, ◌≤◌, All, slice_get, ◌&&◌, nat_lt, Bool, true, false, IfSome, List, Option}
-use Rattle.std.proofs.{Common.{Some, None, IsTrue, refl, sym, ap, subst, arith}, lemmas.Bool.Decides.nat_tests}
+use Rattle.std.proofs.Common.{ℕ, ◌≡◌, ◌<◌, ◌≤◌, All, slice_get, nat_lt, true, IfSome, List, Option}
+use Rattle.std.proofs.{Common.{Some, None, IsTrue, refl, sym, ap, subst, arith}, lemmas.Bool.{and_parts, Decides.nat_tests}}
 use Rattle.race_records.specs.declared.{event.Event.Event, kind.Kind.Kind}
 use Rattle.race_records.specs.Declarations.{Declaration, count_of, counts_of}
 use Rattle.race_legal.specs.{ReplayState.{ReplayState, counts_in}, StandsFor.StandsFor}
@@ -16,42 +16,28 @@ module _ (declarations : List Declaration) (k : ReplayState) (past : List Event)
   pub who_is_in_range : (w : Waiter) → IsTrue (is_declared declarations w) → w.who < counts_in k Kind.Goroutine
   who_is_in_range w is =
       let e = ap (λ (f : Kind → ℕ). f Kind.Goroutine) stands.counts in
-      let less = first (nat_lt w.who (counts_of declarations Kind.Goroutine)) (ask_is_in_range (counts_of declarations) w.asked.ask) is in
+      let less = (and_parts (nat_lt w.who (counts_of declarations Kind.Goroutine)) (ask_is_in_range (counts_of declarations) w.asked.ask) is).0 in
       grind (arith, nat_tests)
-    where
-      first : (a b : Bool) → IsTrue (a && b) → a ≡ true
-      first true b is = refl
-      first false b is = is
 
   pub ask_is : (w : Waiter) → IsTrue (is_declared declarations w) → IsTrue (ask_is_in_range (counts_in k) w.asked.ask)
   ask_is w is =
       subst (λ (f : Kind → ℕ). IsTrue (ask_is_in_range f w.asked.ask)) (sym stands.counts)
-      (second (nat_lt w.who (counts_of declarations Kind.Goroutine)) (ask_is_in_range (counts_of declarations) w.asked.ask) is)
-    where
-      second : (a b : Bool) → IsTrue (a && b) → IsTrue b
-      second true b is = is
-      second false b is = absurd (let e : false ≡ true = is in cc)
+      (and_parts (nat_lt w.who (counts_of declarations Kind.Goroutine)) (ask_is_in_range (counts_of declarations) w.asked.ask) is).1
 
 -- the channel of an offer in range is one
 pub sent_is_in_range : (chans : ℕ) (offer : Option Offer) (c : ℕ) → Some c ≡ sent_on offer
     → IfSome offer (λ o. IsTrue (offer_is_in_range chans o)) → nat_lt c chans ≡ true
-sent_is_in_range chans None c e is = absurd (let no : Some c ≡ None = e in cc)
-sent_is_in_range chans (Some (Offer.Recv d)) c e is = absurd (let no : Some c ≡ None = e in cc)
-sent_is_in_range chans (Some (Offer.Send None v)) c e is = absurd (let no : Some c ≡ None = e in cc)
 sent_is_in_range chans (Some (Offer.Send (Some d) v)) c e is = subst (λ n. nat_lt n chans ≡ true) (let same : Some c ≡ Some d = e in cc) is
+sent_is_in_range chans _ c e is = absurd (let no : Some c ≡ None = e in cc)
 
 -- each request of a list of declared ones has few ways
 pub few_at : (declarations : List Declaration) (waiting : List Waiter) (i : ℕ) → All (λ w. IsTrue (is_declared declarations w)) waiting
     → ways_at waiting i ≤ 17
 few_at declarations waiting i all = by (slice_get waiting i) refl
   where
-    second : (a b : Bool) → IsTrue (a && b) → b ≡ true
-    second true b is = is
-    second false b is = absurd (let e : false ≡ true = is in cc)
-
     by : (w : Option Waiter) → slice_get waiting i ≡ w → elim w [ Some w ↦ ways w.asked.ask | None ↦ 0 ] ≤ 17
     by None there = omega arith
     by (Some w) there =
         few_ways (counts_of declarations) w.asked.ask
-        (second (nat_lt w.who (counts_of declarations Kind.Goroutine)) (ask_is_in_range (counts_of declarations) w.asked.ask)
-        (all_at (λ w. IsTrue (is_declared declarations w)) waiting i w all there))
+        (and_parts (nat_lt w.who (counts_of declarations Kind.Goroutine)) (ask_is_in_range (counts_of declarations) w.asked.ask)
+        (all_at (λ w. IsTrue (is_declared declarations w)) waiting i w all there)).1

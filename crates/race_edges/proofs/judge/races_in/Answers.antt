@@ -1,61 +1,36 @@
 -- Behind each event the tables are right for the front up to it; at the end they are for all events.
-use Rattle.std.proofs.lemmas.{Grind.common_steps, List.{take_all, length-take-le}, Result.{IfOk-weaker, IfOk-from_err}}
-use Rattle.std.proofs.Common.{◌≡◌, ◌∙◌, List, length, sym, subst, arith, rules}
+use Rattle.std.proofs.lemmas.{Grind.common_steps, List.length-take-le, Result.{IfOk-weaker, IfOk-from_err}}
+use Rattle.std.proofs.Common.{◌≡◌, ◌∙◌, List, length, take, subst, arith, rules}
 use Rattle.race_records.specs.declared.event.Event.{Event}
-use Rattle.race_edges.{specs.{Synchronized.source_at, TableState.{HasRows, table_after}}, proofs.JudgeSteps.said_of}
-use Rattle.race_edges.proofs.JudgeSteps.{said_from, has_rows, has_place, table_next, found_next, noted_of_trace}
-use Rattle.race_verdict.specs.{Races.{AreFound, AreRaces, races_of}, Traces.capacities}
-use Rattle.race_verdict.proofs.{RangeLemmas.race_declared, RaceLists.are_races}
+use Rattle.race_edges.specs.Partners.{found_after}
+use Rattle.race_edges.proofs.JudgeSteps.{has_tables, tables_none, tables_next, races_listed}
 use Rattle.race_edges.proofs.judge.races_in.Goals as goal
 
 pub look-requires-clause-row : goal.look-requires-clause-row
-look-requires-clause-row g c =
-    (has_rows c.args.trace.now c.loop-at.at c.event.result.now c.loop-at.table.rows c.len.ensures.is_trace c.event.ensures.event c.loop-at.invariant.rows).0
+look-requires-clause-row g c = (has_tables c.len.ensures.is_trace c.loop-at.invariant c.event.ensures.event).0.0
 
 pub look-requires-clause-var : goal.look-requires-clause-var
-look-requires-clause-var g c =
-    has_place c.args.trace.now c.loop-at.at c.event.result.now c.loop-at.found c.len.ensures.is_trace c.event.ensures.event c.loop-at.invariant.vars
+look-requires-clause-var g c = (has_tables c.len.ensures.is_trace c.loop-at.invariant c.event.ensures.event).1
 
 pub step-requires-clause-rows : goal.step-requires-clause-rows
-step-requires-clause-rows g c =
-    said_from c.args.trace.now.events c.loop-at.at c.event.result.now (HasRows c.loop-at.table.rows) c.event.ensures.event
-    (has_rows c.args.trace.now c.loop-at.at c.event.result.now c.loop-at.table.rows c.len.ensures.is_trace c.event.ensures.event c.loop-at.invariant.rows)
+step-requires-clause-rows g c = rw c.event.ensures.event (has_tables c.len.ensures.is_trace c.loop-at.invariant c.event.ensures.event).0
 
 pub step-requires-clause-heard : goal.step-requires-clause-heard
-step-requires-clause-heard g c = c.loop-at.invariant.table.long ∙ length-take-le c.loop-at.at c.args.trace.now.events (omega arith)
+step-requires-clause-heard g c = c.loop-at.invariant.is_table.long ∙ length-take-le c.loop-at.at c.args.trace.now.events (omega arith)
 
 pub loop-at-preserved : goal.loop-at-preserved
 loop-at-preserved g c =
-    let trace = c.args.trace.now in
-    let caps = capacities trace in
-    let at = c.loop-at.at in
-    let e = c.event.result.now in
-    let here = c.event.ensures.event in
-    let table = c.loop-at.table in
-    let rows = has_rows trace at e table.rows c.len.ensures.is_trace here c.loop-at.invariant.rows in
-    let after : c.step.new.self ≡ table_after (λ k. source_at caps trace.events k at) table at e.who e.op =
-    said_of trace.events at e (λ e. c.step.new.self ≡ table_after (λ k. source_at caps trace.events k at) table at e.who e.op)
-    here c.in_ok-step.ensures.after in
-    record {
-      rows = c.step.ensures.len ∙ c.loop-at.invariant.rows;
-      vars = c.look.ensures.len ∙ c.loop-at.invariant.vars;
-      table = table_next caps trace.events at e here table (length trace.events) c.loop-at.invariant.table c.step.new.self after (omega arith) rows;
-      found =
-          found_next caps trace.events at e here table (length trace.events) c.loop-at.invariant.table c.loop-at.found c.look.new.self
-          (noted_of_trace c.events.result.now trace.events at e table.rows c.loop-at.found c.look.new.self c.events.ensures.events c.look.ensures.found)
-          rows.0 (has_place trace at e c.loop-at.found c.len.ensures.is_trace here c.loop-at.invariant.vars) c.loop-at.invariant.found;
-    }
+    let after = rw c.event.ensures.event at c.in_ok-step.ensures.after in
+    let noted = subst (λ (es : List Event). c.look.new.self
+        ≡ found_after c.loop-at.table.rows (take c.loop-at.at es) (length (take c.loop-at.at es)) c.event.result.now c.loop-at.found)
+        c.events.ensures.events c.look.ensures.found in
+    rw (after, noted) (tables_next c.args.trace.now c.loop-at.at c.event.result.now c.loop-at.table c.loop-at.found
+    c.len.ensures.is_trace c.event.ensures.event c.loop-at.invariant)
 
 pub returns : goal.returns
 returns g c =
-    IfOk-weaker c.list.result (λ races. races ≡ races_of c.loop-at.found) (AreRaces (capacities c.args.trace.now) c.args.trace.now.events)
-    (λ races is.
-    subst (AreRaces (capacities c.args.trace.now) c.args.trace.now.events) (sym is)
-    (are_races (capacities c.args.trace.now) c.args.trace.now.events c.loop-at.found
-    (subst (λ (es : List Event). AreFound (capacities c.args.trace.now) es c.loop-at.found)
-    (take_all c.loop-at.at c.args.trace.now.events (omega arith)) c.loop-at.invariant.found)
-    (λ x i j race. let below = race_declared (capacities c.args.trace.now) c.args.trace.now x i j c.len.ensures.is_trace race in
-    omega (arith, below, c.loop-at.invariant.vars))))
+    IfOk-weaker c.list.result _ _ (λ races is.
+    rw is (races_listed c.args.trace.now c.loop-at.at c.loop-at.table c.loop-at.found c.len.ensures.is_trace c.loop-at.invariant (omega arith)))
     c.list.ensures
 
 pub returns-in_err-numbers : goal.returns-in_err-numbers

@@ -1,12 +1,12 @@
 -- The chart of a clean trace: its report, the heads of the columns, and a row for each event.
-use Rattle.std.specs.Prelude.{ℕ, if◌then◌else◌, ◌<◌, nat_lt, ◌==◌, ◌+◌, ◌-◌, ◌&&◌, Bool, false, All, List, []}
-use Rattle.std.specs.{Prelude.{◌++◌, length, slice_get, codes, decimal, unwrap_or, Some, None}, List.flat_map}
+use Rattle.std.specs.Prelude.{ℕ, if◌then◌else◌, ◌<◌, nat_lt, ◌==◌, ◌-◌, ◌&&◌, Bool, false, All, List, []}
+use Rattle.std.specs.{Prelude.{◌++◌, length, slice_get, codes, unwrap_or, Some, None}, List.flat_map}
 use Rattle.race_records.specs.{declared.kind.Kind.Kind, Declarations.count_of, Events.TraceState}
 use Rattle.race_text.specs.Text.{goroutine_name}
 use Rattle.race_shards.specs.Seen.{who_at}
 use Rattle.race_report.specs.Report.{newline, report}
 use Rattle.race_draw.specs.{declared.{clean.Strand.Strand, strokes.Row.Row}, Clean.CleanState}
-use Rattle.race_draw.specs.{Strokes.{row_of, column_cell, lane_cell}, Words.{aligned, event_text}, Fold.{folded, line_start}}
+use Rattle.race_draw.specs.{Strokes.{row_of, column_cell, lane_cell}, Words.{aligned, event_text, number_in}, Fold.{folded, line_start}}
 use Rattle.race_model.specs.Verdict as model
 
 -- the last column
@@ -42,8 +42,8 @@ abbrev pub has_no_lane : ℕ → Strand → Bool
 has_no_lane k s = elim s.lane [ Some lane ↦ false | None ↦ (s.edge.to == k) && nat_lt s.edge.from k ]
 
 -- so it is told
-unfoldable pub told : ℕ → List ℕ
-told from = codes "(also after event " ++ decimal (from + 1) ++ codes ") "
+abbrev pub told : ℕ → List ℕ
+told from = number_in (codes "(also after event ") from (codes ") ")
 
 abbrev pub told_if : ℕ → Strand → List ℕ
 told_if k s = if has_no_lane k s then told s.edge.from else []

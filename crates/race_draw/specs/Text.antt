@@ -1,7 +1,7 @@
 -- The text of drawings. Events are printed as the trace has them. A tab in it marks where the text of a line begins
 -- (Fold).
-use Rattle.std.specs.Prelude.{ℕ, if◌then◌else◌, ◌<◌, nat_lt, ◌==◌, ◌+◌, ◌&&◌, ◌||◌, not, Bool, true, false, All}
-use Rattle.std.specs.Prelude.{List, [], ◌++◌, length, codes, decimal, Option, Some, None, IfSome}
+use Rattle.std.specs.Prelude.{ℕ, if◌then◌else◌, ◌<◌, nat_lt, ◌==◌, ◌&&◌, ◌||◌, not, Bool, true, false, All}
+use Rattle.std.specs.Prelude.{List, [], ◌++◌, length, codes, Option, Some, None, IfSome}
 use Rattle.std.specs.List.{flat_map, list_any}
 use Rattle.race_records.specs.Events.{TraceState}
 use Rattle.race_text.specs.Text.{ended}
@@ -10,7 +10,7 @@ use Rattle.race_edges.specs.declared.{fault.TheConstants.MAX_PLAIN_EVENTS, listi
 use Rattle.race_report.specs.{Printable.IsOf, Report.{newline, access_word, race_line, races_line}}
 use Rattle.race_draw.specs.declared.{arrow.{Arrow.Arrow, Lane.Lane}, cells.{Column.Column, Line.Line}}
 use Rattle.race_draw.specs.{Layout.{LayoutState, missing}, Cells.{end_at, line_at, cell, lane_cell}}
-use Rattle.race_draw.specs.{Words.{event_text, name_at, op_at, aligned}, Fold.{folded, line_start}}
+use Rattle.race_draw.specs.{Words.{event_text, name_at, op_at, aligned, number_in}, Fold.{folded, line_start}}
 
 -- the cells of a line, and the number of its event
 unfoldable pub line_front : LayoutState → Line → List ℕ
@@ -92,18 +92,18 @@ heads trace l =
 unfoldable pub sentence_front : TraceState → Race → List ℕ
 sentence_front trace r =
     codes "\n\t" ++ name_at trace r.first ++ codes "'s " ++ access_word (op_at trace.events r.first)
-    ++ codes " is event " ++ decimal (r.first + 1) ++ codes ", and " ++ name_at trace r.second ++ codes " has seen "
+    ++ number_in (codes " is event ") r.first (codes ", and ") ++ name_at trace r.second ++ codes " has seen "
 
 -- nothing, or all up to an event
-unfoldable pub none_seen : TraceState → Race → List ℕ
+abbrev pub none_seen : TraceState → Race → List ℕ
 none_seen trace r = codes "nothing of " ++ name_at trace r.first ++ newline
 
-unfoldable pub some_seen : TraceState → Race → ℕ → List ℕ
-some_seen trace r p = name_at trace r.first ++ codes " up to event " ++ decimal (p + 1) ++ codes ": " ++ event_text trace p
+abbrev pub some_seen : TraceState → Race → ℕ → List ℕ
+some_seen trace r p = name_at trace r.first ++ number_in (codes " up to event ") p (codes ": ")
 
 abbrev pub sentence_end : TraceState → Race → Option ℕ → List ℕ
 sentence_end trace r None = none_seen trace r
-sentence_end trace r (Some p) = some_seen trace r p
+sentence_end trace r (Some p) = some_seen trace r p ++ event_text trace p
 
 abbrev pub sentence : TraceState → Race → Option ℕ → List ℕ
 sentence trace r seen = sentence_front trace r ++ sentence_end trace r seen

@@ -16,6 +16,10 @@ name_at trace i = goroutine_name trace.decls.declarations (who_at trace.events i
 abbrev pub op_at : List Event → ℕ → Op
 op_at events i = elim (slice_get events i) [ Some e ↦ e.op | None ↦ Exit ]
 
+-- the number of event k between these words
+abbrev pub number_in : List ℕ → ℕ → List ℕ → List ℕ
+number_in before k behind = before ++ decimal (k + 1) ++ behind
+
 -- as many blanks, up to ten
 abbrev pub blanks : ℕ → List ℕ
 blanks n = take n (codes "          ")

@@ -8,7 +8,7 @@ use crate::chart::last_of;
 use crate::clean::{CleanLayout, Strand};
 use crate::printed::put_event;
 use crate::strokes::{Row, column_cell, lane_cell, row_of};
-use crate::words::{put_aligned, put_number};
+use crate::words::{put_aligned, put_number_in};
 use race_records::Trace;
 use std::alloc::{AllocError, Allocator};
 
@@ -109,7 +109,6 @@ fn has_no_lane(at: u32, strand: &Strand) -> bool
 }
 
 // Puts where the strand comes from, if so.
-#[tactic(auto, unfolding(crate::specs::Chart::told))]
 fn put_if_told<A: Allocator>(
     out: &mut Vec<u8, A>,
     at: u32,
@@ -120,7 +119,5 @@ fn put_if_told<A: Allocator>(
     if !has_no_lane(at, strand) {
         return Ok(());
     }
-    out.extend_from_slice(b"(also after event ")?;
-    put_number(out, strand.edge.from)?;
-    out.extend_from_slice(b") ")
+    put_number_in(out, b"(also after event ", strand.edge.from, b") ")
 }

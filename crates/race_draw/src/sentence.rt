@@ -3,7 +3,7 @@ ghost use Rattle.std.specs.Prelude.{◌≡◌, ◌<◌, ◌++◌, length, IfSome
 ghost use Rattle.race_draw.specs.Text as spec;
 
 use crate::printed::put_event;
-use crate::words::{name_at, op_at, put_number};
+use crate::words::{name_at, op_at, put_number_in};
 use race_records::Trace;
 use race_report::access_word;
 use race_verdict::Race;
@@ -24,7 +24,10 @@ pub(crate) fn put_sentence<A: Allocator + Copy, B: Allocator>(
     put_access(out, trace, race)?;
     match seen {
         None => put_none(out, trace, race),
-        Some(at) => put_last(out, trace, race, at),
+        Some(at) => {
+            put_some(out, trace, race, at)?;
+            put_event(out, trace, at)
+        }
     }
 }
 
@@ -43,15 +46,12 @@ fn put_access<A: Allocator, B: Allocator>(
     out.extend_from_slice(name_at(trace, race.first).as_bytes())?;
     out.extend_from_slice(b"'s ")?;
     out.extend_from_slice(access_word(op_at(trace, race.first)).as_bytes())?;
-    out.extend_from_slice(b" is event ")?;
-    put_number(out, race.first)?;
-    out.extend_from_slice(b", and ")?;
+    put_number_in(out, b" is event ", race.first, b", and ")?;
     out.extend_from_slice(name_at(trace, race.second).as_bytes())?;
     out.extend_from_slice(b" has seen ")
 }
 
 // Puts that nothing was seen.
-#[tactic(auto, unfolding(crate::specs::Text::none_seen))]
 fn put_none<A: Allocator, B: Allocator>(
     out: &mut Vec<u8, A>,
     trace: &Trace<B>,
@@ -65,21 +65,16 @@ fn put_none<A: Allocator, B: Allocator>(
     out.extend_from_slice(b"\n")
 }
 
-// Puts which event was the last.
-#[tactic(auto, unfolding(crate::specs::Text::some_seen))]
-fn put_last<A: Allocator + Copy, B: Allocator>(
+// Puts up to which event all was.
+fn put_some<A: Allocator, B: Allocator>(
     out: &mut Vec<u8, A>,
     trace: &Trace<B>,
     race: &Race,
     at: u32,
 ) -> Result<(), AllocError>
-    requires first { race.now.first < length trace.now.events }
-    requires at { at < length trace.now.events }
+    requires { race.now.first < length trace.now.events }
     ensures { OnOk result (out.new.items ≡ out.old.items ++ spec.some_seen trace.now race.now at) }
 {
     out.extend_from_slice(name_at(trace, race.first).as_bytes())?;
-    out.extend_from_slice(b" up to event ")?;
-    put_number(out, at)?;
-    out.extend_from_slice(b": ")?;
-    put_event(out, trace, at)
+    put_number_in(out, b" up to event ", at, b": ")
 }

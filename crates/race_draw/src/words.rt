@@ -23,14 +23,28 @@ pub(crate) fn op_at<A: Allocator>(trace: &Trace<A>, index: u32) -> &Op
     &trace.event(index as usize).op
 }
 
-/// Puts the number of an event, counted from 1.
-pub(crate) fn put_number<A: Allocator>(
+// Puts the number of an event, counted from 1.
+fn put_number<A: Allocator>(
     out: &mut Vec<u8, A>,
     event: u32,
 ) -> Result<(), AllocError>
     ensures { OnOk result (out.new.items ≡ out.old.items ++ decimal (event + 1)) }
 {
     out.extend_from_slice(Buffer::new().format(u64::from(event) + 1).as_bytes())
+}
+
+/// Puts it between these words.
+pub(crate) fn put_number_in<A: Allocator>(
+    out: &mut Vec<u8, A>,
+    before: &[u8],
+    event: u32,
+    behind: &[u8],
+) -> Result<(), AllocError>
+    ensures { OnOk result (out.new.items ≡ out.old.items ++ spec.number_in before.now event behind.now) }
+{
+    out.extend_from_slice(before)?;
+    put_number(out, event)?;
+    out.extend_from_slice(behind)
 }
 
 /// Puts it behind two spaces, as wide as any number of these rows.

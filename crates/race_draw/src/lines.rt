@@ -1,5 +1,5 @@
 //! The lines of a drawing: for each event that is shown one for each arrow that leaves it, and for each that enters it.
-ghost use Rattle.std.specs.{Prelude.{◌≡◌, ◌<◌, ◌++◌, All, length, OnOk}, List.flat_map};
+ghost use Rattle.std.specs.Prelude.{◌≡◌, ◌<◌, ◌++◌, length, OnOk};
 ghost use Rattle.race_draw.specs.Text.{CanBeDrawn};
 ghost use Rattle.race_draw.specs.Text as spec;
 

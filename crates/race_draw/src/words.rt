@@ -24,10 +24,7 @@ pub(crate) fn op_at<A: Allocator>(trace: &Trace<A>, index: u32) -> &Op
 }
 
 // Puts the number of an event, counted from 1.
-fn put_number<A: Allocator>(
-    out: &mut Vec<u8, A>,
-    event: u32,
-) -> Result<(), AllocError>
+fn put_number<A: Allocator>(out: &mut Vec<u8, A>, event: u32) -> Result<(), AllocError>
     ensures { OnOk result (out.new.items ≡ out.old.items ++ decimal (event + 1)) }
 {
     out.extend_from_slice(Buffer::new().format(u64::from(event) + 1).as_bytes())

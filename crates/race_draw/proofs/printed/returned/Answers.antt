@@ -1,4 +1,4 @@
-use Rattle.std.proofs.Common.{◌≡◌, ◌++◌, Some, Ok, ap, ◌∙◌}
+use Rattle.std.proofs.Common.{Some, Ok, ap, ◌∙◌}
 use Rattle.race_records.{specs.declared.sink.WriteFault.WriteFault, proofs.PageLemmas.flushed}
 use Rattle.race_draw.proofs.printed.returned.Goals as goal
 

@@ -9,7 +9,7 @@ use crate::chart_rows::put_rows;
 use crate::clean::CleanLayout;
 use crate::fold::folded;
 use crate::printed::put_clean;
-use race_records::{Named, Trace};
+use race_records::{BLOCK, Named, Trace};
 use std::alloc::{AllocError, Allocator};
 
 /// The chart of a clean trace as a text, in lines of at most 100 columns.
@@ -23,7 +23,7 @@ pub fn chart_in_memory<A: Allocator + Copy, B: Allocator, C: Allocator>(
     requires { CanBeCharted trace.now layout.now }
     ensures { IfOk result (λ text. text.items ≡ spec.chart_text trace.now layout.now) }
 {
-    let mut text = Vec::new(alloc);
+    let mut text = Vec::with_capacity(alloc, BLOCK)?;
     put_clean(&mut text, trace)?;
     text.extend_from_slice(b"\n")?;
     put_heads(&mut text, trace, layout)?;

@@ -9,7 +9,7 @@ use crate::layout::Layout;
 use crate::lines::put_rows;
 use crate::printed::{put_race, put_race_count};
 use crate::sentence::put_sentence;
-use race_records::Trace;
+use race_records::{BLOCK, Trace};
 use std::alloc::{AllocError, Allocator};
 
 /// How many drawings there are, and each of them as a text, in lines of at most 100 columns.
@@ -23,7 +23,7 @@ pub fn drawings_in_memory<A: Allocator + Copy, B: Allocator, C: Allocator>(
     requires { All (CanBeDrawn trace.now) layouts.now }
     ensures { IfOk result (λ text. text.items ≡ spec.drawings_text trace.now layouts.now) }
 {
-    let mut text = Vec::new(alloc);
+    let mut text = Vec::with_capacity(alloc, BLOCK)?;
     put_race_count(&mut text, layouts.len())?;
     put_drawings(&mut text, trace, layouts)?;
     folded(alloc, text.as_slice())
